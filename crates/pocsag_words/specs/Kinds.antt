@@ -1,0 +1,17 @@
+-- What a codeword says.
+use Rattle.std.specs.Prelude.{ℕ, ◌+◌, ◌*◌, ◌/◌, ◌%◌, ◌^◌, ◌==◌, nat_lt, if◌then◌else◌}
+use Rattle.pocsag_words.specs.declared.codeword.Kind.{Kind}
+use Rattle.pocsag_words.specs.declared.codeword.Kind.TheVariants.{Idle, Address, Message}
+
+-- The kind of a codeword that is not idle, by the 21 bits that are sent first: the first of them is
+-- 0 in an address codeword and 1 in a message codeword (a rule of Annex 1).
+abbrev pub kind_of_bits : ℕ → Kind
+kind_of_bits d = if nat_lt d (2 ^ 20) then Address (d / 4) (d % 4) else Message (d % 2 ^ 20)
+
+-- *Kind*, a rule of Annex 1: 7A89C197 is idle, and any other codeword goes by its first 21 bits.
+abbrev pub kind_of : ℕ → Kind
+kind_of w = if w == 0x7a89c197 then Idle else kind_of_bits (w / 2048)
+
+-- The kind of the codeword with these high bits and this function: 250958 with 0 is idle.
+abbrev pub address_kind : ℕ → ℕ → Kind
+address_kind h f = if 4 * h + f == 0x0f5138 then Idle else Address h f

@@ -1,0 +1,4 @@
+pub mod Carryless
+pub mod Codeword
+pub mod Devices
+pub mod Kinds

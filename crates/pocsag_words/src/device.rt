@@ -1,0 +1,70 @@
+ghost use Rattle.std.specs.Prelude.{◌≡◌, ℕ, ◌<◌, ◌≤◌, List, [], ◌++◌, length, take, IfOk, OnOk, OnErr};
+ghost use Rattle.pocsag_words.specs.Devices.{one_more, HasFailed, TookPrefix};
+
+/// A device failed in a call; the call moved no byte.
+#[derive(Clone, Copy, PartialEq, Eq, Debug)]
+pub struct DeviceFault;
+
+/// A reader. `read` fills the front of the buffer and answers how many bytes it put there, which
+/// is 0 for a non-empty buffer only at the end.
+pub trait Source {
+    // Whether contracts know the bytes.
+    ghost tells: { Type 0 };
+
+    // The bytes that are still held, up to the end.
+    ghost held: { Self → List ℕ };
+
+    // How many calls there were, and how many of them failed; each stays at its greatest value.
+    ghost calls: { Self → ℕ };
+
+    ghost failures: { Self → ℕ };
+
+    fn read(&mut self, buffer: &mut [u8]) -> Result<usize, DeviceFault>
+        ensures within { IfOk result (λ n. n ≤ length buffer.old) }
+        ensures moved { tells → IfOk result (λ n. held self.old ≡ take n buffer.new ++ held self.new) }
+        ensures end { tells → IfOk result (λ n. n ≡ 0 → 0 < length buffer.old → held self.old ≡ []) }
+        ensures kept { tells → OnErr result (held self.new ≡ held self.old) }
+        ensures called { calls self.new ≡ one_more (calls self.old) }
+        ensures succeeded { OnOk result (failures self.new ≡ failures self.old) }
+        ensures failed { OnErr result (failures self.new ≡ one_more (failures self.old)) };
+}
+
+/// A writer. `write` takes some bytes of the front of the piece, at least 1 of a non-empty piece,
+/// and answers how many.
+pub trait Sink {
+    // Whether contracts know the bytes.
+    ghost tells: { Type 0 };
+
+    // The bytes that were taken.
+    ghost taken: { Self → List ℕ };
+
+    // How many calls there were, and how many of them failed; each stays at its greatest value.
+    ghost calls: { Self → ℕ };
+
+    ghost failures: { Self → ℕ };
+
+    fn write(&mut self, piece: &[u8]) -> Result<usize, DeviceFault>
+        ensures within { IfOk result (λ n. n ≤ length piece.now) }
+        ensures some { IfOk result (λ n. 0 < length piece.now → 0 < n) }
+        ensures moved { tells → IfOk result (λ n. taken self.new ≡ taken self.old ++ take n piece.now) }
+        ensures kept { tells → OnErr result (taken self.new ≡ taken self.old) }
+        ensures called { calls self.new ≡ one_more (calls self.old) }
+        ensures succeeded { OnOk result (failures self.new ≡ failures self.old) }
+        ensures failed { OnErr result (failures self.new ≡ one_more (failures self.old)) };
+}
+
+/// Writes the bytes whole, by as many single writes as it takes. After a fault a prefix of them was
+/// taken.
+pub fn write_all<S: Sink>(sink: &mut S, bytes: &[u8]) -> Result<(), DeviceFault>
+    ensures whole { S.tells → OnOk result (S.taken sink.new ≡ S.taken sink.old ++ bytes.now) }
+    ensures part { S.tells → OnErr result (TookPrefix (S.taken sink.old) (S.taken sink.new) bytes.now) }
+    ensures succeeded { OnOk result (S.failures sink.new ≡ S.failures sink.old) }
+    ensures failed { OnErr result (HasFailed (S.failures sink.old) (S.failures sink.new)) }
+{
+    let mut rest = bytes;
+    while !rest.is_empty() {
+        let count = sink.write(rest)?;
+        rest = &rest[count..];
+    }
+    Ok(())
+}
