@@ -1,0 +1,38 @@
+-- Which pages may stand in a round (this project's own limits).
+use Rattle.std.specs.Prelude.{◌≡◌, ◌==◌, ◌&&◌, ◌||◌, ℕ, ◌^◌, ◌<◌, ◌≤◌, List, length, map, Bool, not, nat_lt, nat_le, if◌then◌else◌, Option, Some, None, All, nat_eq}
+use Rattle.std.specs.List.{list_any, IsDistinct}
+use Rattle.pocsag_pages.specs.declared.page.Page.{Page}
+use Rattle.pocsag_pages.specs.declared.page.TheConstants.{LAST_ADDRESS}
+use Rattle.pocsag_pages.specs.declared.rule.TheConstants.{ITEM_LIMIT}
+use Rattle.pocsag_pages.specs.declared.round.TheConstants.{PAGE_LIMIT}
+use Rattle.pocsag_pages.specs.declared.fault.PageFault.{PageFault}
+use Rattle.pocsag_pages.specs.declared.fault.PageFault.TheVariants as fault
+
+-- The addresses that the idle codeword and the synchronisation codeword would be read as, in each
+-- of the eight frames: they are refused with every function (this project's own).
+unfoldable pub is_reserved : ℕ → Bool
+is_reserved a = (nat_le 2007664 a && nat_le a 2007671) || (nat_le 2045056 a && nat_le a 2045063)
+
+-- A function above 3, a message for function 1 or 2, too many items, or an item of over 20 bits.
+unfoldable pub is_bad_payload : ℕ → List ℕ → Bool
+is_bad_payload function items =
+    nat_lt 3 function || ((function == 1 || function == 2) && not (length items == 0))
+    || nat_lt ITEM_LIMIT (length items) || list_any (nat_le (2 ^ 20)) items
+
+-- The first rule that a page breaks.
+abbrev pub page_fault_of : Page → Option PageFault
+page_fault_of p =
+    if nat_lt LAST_ADDRESS p.address then Some fault.BadAddress
+    else if is_reserved p.address then Some fault.ReservedAddress
+    else if is_bad_payload p.function p.payload then Some fault.BadPayload else None
+
+-- Pages that break no rule, with distinct addresses.
+pub record AreGood (ps : List Page) : Type 0 where
+  pub each : All (λ p. page_fault_of p ≡ None) ps
+  pub apart : IsDistinct nat_eq (map (λ p. p.address) ps)
+
+-- What a round keeps.
+pub record IsRound (ps : List Page) : Type 0 where
+  pub some : 0 < length ps
+  pub few : length ps ≤ PAGE_LIMIT
+  pub good : AreGood ps

@@ -1,0 +1,15 @@
+#![tactic(auto)]
+//! Pages, rounds of pages and page files; and, in `specs/`, what a transmission says: readings,
+//! legal transmissions and their bytes (Recommendation ITU-R M.584-2, Annex 1).
+
+mod fault;
+mod laws;
+mod page;
+mod round;
+mod rule;
+
+pub use fault::PageFault;
+pub use laws::{readings_are_one, readings_are_plain};
+pub use page::{LAST_ADDRESS, Page, Payload};
+pub use round::{PAGE_LIMIT, Round};
+pub use rule::{ITEM_LIMIT, page_fault};

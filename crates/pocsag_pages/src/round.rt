@@ -1,0 +1,36 @@
+ghost use Rattle.std.specs.Prelude.{◌≡◌};
+ghost use Rattle.pocsag_pages.specs.Pages.{IsRound};
+
+use crate::page::Page;
+use std::marker::Model;
+
+/// The greatest number of pages of a round.
+pub const PAGE_LIMIT: usize = 20_000;
+
+/// One round of pages: 1 to 20,000 pages that break no rule, with distinct addresses.
+#[derive(Debug, Drop)]
+pub struct Round {
+    pages: Vec<Page>,
+}
+
+impl Model for Round {
+    ghost use Rattle.std.specs.Prelude.{List};
+    ghost use Rattle.pocsag_pages.specs.declared.page.Page.{Page};
+    ghost use Rattle.pocsag_pages.specs.Pages.{IsRound};
+
+    ghost Value = { List Page };
+
+    ghost view = { λ r. r.pages.items };
+
+    ghost invariant = { λ r. IsRound r.pages.items };
+}
+
+impl Round {
+    /// The pages in order.
+    pub fn pages(&self) -> &[Page]
+        ensures pages { result.now ≡ self.now }
+        ensures round { IsRound self.now }
+    {
+        self.pages.as_slice()
+    }
+}

@@ -1,0 +1,64 @@
+ghost use Rattle.std.specs.Prelude.{◌≡◌, ◌==◌, ◌&&◌, ◌||◌, ◌^◌, length, nat_le, not};
+ghost use Rattle.std.specs.List.{list_any};
+ghost use Rattle.pocsag_pages.specs.Pages.{is_bad_payload, is_reserved, page_fault_of};
+
+use crate::fault::PageFault;
+use crate::page::{LAST_ADDRESS, Page};
+
+/// The greatest number of items of a message, which 4,000 characters of seven bits fill.
+pub const ITEM_LIMIT: usize = 1400;
+
+// Whether the address would be read as the idle or as the synchronisation codeword.
+#[tactic(auto, unfolding(crate::specs::Pages::is_reserved))]
+pub(crate) fn is_reserved_address(address: u32) -> bool
+    ensures { result ≡ is_reserved address }
+{
+    matches!(address, 2_007_664..=2_007_671 | 2_045_056..=2_045_063)
+}
+
+// A message where the function takes none.
+fn is_unwanted_message(function: u8, items: &[u32]) -> bool
+    ensures { result ≡ ((function == 1 || function == 2) && not (length items.now == 0)) }
+{
+    (function == 1 || function == 2) && !items.is_empty()
+}
+
+fn has_large_item(items: &[u32]) -> bool
+    ensures { result ≡ list_any (nat_le (2 ^ 20)) items.now }
+{
+    items.iter().any(|item| 1_048_576 <= *item)
+}
+
+#[tactic(auto, unfolding(crate::specs::Pages::is_bad_payload))]
+fn has_bad_payload(function: u8, items: &[u32]) -> bool
+    ensures { result ≡ is_bad_payload function items.now }
+{
+    if function > 3 {
+        return true;
+    }
+    if is_unwanted_message(function, items) {
+        return true;
+    }
+    if items.len() > ITEM_LIMIT {
+        return true;
+    }
+    has_large_item(items)
+}
+
+/// The first rule that the page breaks, if it breaks one: its address is at most 2,097,151 and not
+/// reserved, its function at most 3, its message empty for functions 1 and 2 and of at most 1,400
+/// items below 2^20.
+pub fn page_fault(page: &Page) -> Option<PageFault>
+    ensures { result ≡ page_fault_of page.now }
+{
+    if page.address > LAST_ADDRESS {
+        return Some(PageFault::BadAddress);
+    }
+    if is_reserved_address(page.address) {
+        return Some(PageFault::ReservedAddress);
+    }
+    if has_bad_payload(page.function, page.payload.as_slice()) {
+        return Some(PageFault::BadPayload);
+    }
+    None
+}
