@@ -73,3 +73,11 @@ IsLegalList end T batches R = All IsCodeword T × IsLegalFor end (map kind_of T)
 -- The addresses of the pages are distinct.
 abbrev pub AreApart : List Page → Type 0
 AreApart R = (j k : ℕ) (d : Page) → j < k → k < length R → (slice_index_or R j d).address ≢ (slice_index_or R k d).address
+
+-- The codewords of a page, and how many they are: its address codeword and then its message
+-- codewords (rules of Annex 1).
+abbrev pub page_words : Page → List Kind
+page_words p = Address (p.address / 8) p.function ∷ map Message p.payload
+
+abbrev pub page_length : Page → ℕ
+page_length p = 1 + length p.payload

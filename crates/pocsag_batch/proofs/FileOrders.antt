@@ -1,0 +1,141 @@
+-- File order: that it is legal, that there is one, and no other.
+use Rattle.std.proofs.Common.{◌≡◌, ℕ, zero, suc, ◌+◌, ◌-◌, ◌*◌, ◌/◌, ◌%◌, ◌<◌, ◌≤◌, List, [], ◌∷◌, ◌++◌, length, map, replicate, refl, sym, ap, subst, ◌∙◌, arith, length-append, inl, inr}
+use Rattle.std.proofs.lemmas.Bool.{cases_eq}
+use Rattle.std.proofs.lemmas.List.Elements.{All-contains_itself}
+use Rattle.pocsag_words.specs.declared.codeword.Kind.{Kind}
+use Rattle.pocsag_words.specs.declared.codeword.Kind.TheVariants.{Idle, Message}
+use Rattle.pocsag_words.specs.declared.ending.End.TheVariants.{Open}
+use Rattle.pocsag_pages.specs.declared.page.Page.{Page}
+use Rattle.pocsag_pages.specs.Reading.{Reads, at_end as no_words, past_idle, past_page as page_read, BeginsNoMessage, frame_at, page_words, page_length, IsLegalFor}
+use Rattle.pocsag_batch.specs.FileOrder.{IsLeastFrom, IsInFrame, IsWhole, InOrder, at_end, past_page, IsFileOrder}
+
+at_index : (ws : List Kind) (ps : List Page) (i j : ℕ) → i ≡ j → Reads ws i ps → Reads ws j ps
+at_index ws ps i j e r = subst (λ (k : ℕ). Reads ws k ps) e r
+
+reads_idles : (gap i : ℕ) (ws : List Kind) (ps : List Page) → Reads ws (i + gap) ps → Reads (replicate gap Idle ++ ws) i ps
+reads_idles zero i ws ps r = at_index ws ps (i + 0) i (omega arith) r
+reads_idles (suc gap) i ws ps r = past_idle (reads_idles gap (i + 1) ws ps (at_index ws ps (i + suc gap) (i + 1 + gap) (omega arith) r))
+
+reads_all_idles : (gap i : ℕ) → Reads (replicate gap Idle) i []
+reads_all_idles zero i = no_words
+reads_all_idles (suc gap) i = past_idle (reads_all_idles gap (i + 1))
+
+idles_begin : (gap : ℕ) (ws : List Kind) → BeginsNoMessage ws → BeginsNoMessage (replicate gap Idle ++ ws)
+idles_begin zero ws b = b
+idles_begin (suc gap) ws b = tt
+
+all_idles_begin : (gap : ℕ) → BeginsNoMessage (replicate gap Idle)
+all_idles_begin zero = tt
+all_idles_begin (suc gap) = tt
+
+pub begins : {i : ℕ} {R : List Page} {ws : List Kind} → InOrder i R ws → BeginsNoMessage ws
+begins (at_end gap least is) = subst (λ (v : List Kind). BeginsNoMessage v) (sym is) (all_idles_begin gap)
+begins (past_page {p = p} gap rest least is left) =
+    subst (λ (v : List Kind). BeginsNoMessage v) (sym is) (idles_begin gap (page_words p ++ rest) tt)
+
+page_at : (p : Page) (i : ℕ) → frame_at i ≡ p.address % 8 →
+    (let q : Page = record { address = 8 * (p.address / 8) + frame_at i; function = p.function; payload = p.payload } in q) ≡ p
+page_at p i e =
+    let a : 8 * (p.address / 8) + frame_at i ≡ p.address = omega arith in
+    ap (λ (n : ℕ). let q : Page = record { address = n; function = p.function; payload = p.payload } in q) a
+
+pub reads_in_order : {i : ℕ} {R : List Page} {ws : List Kind} → InOrder i R ws → Reads ws i R
+reads_in_order {i = i} (at_end gap least is) =
+    subst (λ (v : List Kind). Reads v i []) (sym is) (reads_all_idles gap i)
+reads_in_order {i = i} (past_page {p = p} {R = R} gap rest least is left) =
+    let here : Reads (page_words p ++ rest) (i + gap) (p ∷ R) =
+      subst (λ (q : Page). Reads (page_words p ++ rest) (i + gap) (q ∷ R)) (page_at p (i + gap) least.fit)
+      (page_read p.payload rest refl (begins left)
+        (at_index rest R (i + gap + page_length p) (i + gap + 1 + length p.payload) (omega arith) (reads_in_order left))) in
+    subst (λ (v : List Kind). Reads v i (p ∷ R)) (sym is) (reads_idles gap i (page_words p ++ rest) (p ∷ R) here)
+
+length_replicate : (gap : ℕ) → length (replicate gap Idle) ≡ gap
+length_replicate zero = refl
+length_replicate (suc gap) = let e : length (replicate gap Idle) ≡ gap = length_replicate gap in omega arith
+
+length_messages : (items : List ℕ) → length (map Message items) ≡ length items
+length_messages [] = refl
+length_messages (b ∷ items) = let e : length (map Message items) ≡ length items = length_messages items in omega arith
+
+placed_length : (gap : ℕ) (p : Page) (rest : List Kind) →
+    length (replicate gap Idle ++ (page_words p ++ rest)) ≡ gap + page_length p + length rest
+placed_length gap p rest =
+    omega (arith, length-append (replicate gap Idle) (page_words p ++ rest), length-append (page_words p) rest, length_replicate gap, length_messages p.payload)
+
+pub whole_in_order : {i : ℕ} {R : List Page} {ws : List Kind} → InOrder i R ws → (i + length ws) % 16 ≡ 0
+whole_in_order {i = i} (at_end gap least is) =
+    let long : length (replicate gap Idle) ≡ gap = length_replicate gap in
+    subst (λ (v : List Kind). (i + length v) % 16 ≡ 0) (sym is)
+    (subst (λ (n : ℕ). (i + n) % 16 ≡ 0) (sym long) least.fit)
+whole_in_order {i = i} (past_page {p = p} gap rest least is left) =
+    let whole : (i + gap + page_length p + length rest) % 16 ≡ 0 = whole_in_order left in
+    let long : length (replicate gap Idle ++ (page_words p ++ rest)) ≡ gap + page_length p + length rest = placed_length gap p rest in
+    subst (λ (v : List Kind). (i + length v) % 16 ≡ 0) (sym is)
+    (subst (λ (n : ℕ). (i + n) % 16 ≡ 0) (sym long) (subst (λ (n : ℕ). n % 16 ≡ 0) (omega arith) whole))
+
+pub some_words : {i : ℕ} {p : Page} {R : List Page} {ws : List Kind} → InOrder i (p ∷ R) ws → 0 < length ws
+some_words (past_page {p = p} gap rest least is left) =
+    let long : length (replicate gap Idle ++ (page_words p ++ rest)) ≡ gap + page_length p + length rest = placed_length gap p rest in
+    subst (λ (v : List Kind). 0 < length v) (sym is) (omega arith)
+
+pub legal_in_order : (R : List Page) (T : List Kind) → 0 < length R → IsFileOrder R T → IsLegalFor Open T (length T / 16) R
+legal_in_order [] T some f = absurd (omega arith)
+legal_in_order (p ∷ R) T some f =
+    let whole : (0 + length T) % 16 ≡ 0 = whole_in_order f in
+    let long : 0 < length T = some_words f in
+    (record {
+      whole = (omega arith, omega arith);
+      ps = p ∷ R;
+      reads = reads_in_order f;
+      as_many = refl;
+      each = All-contains_itself (p ∷ R)
+    }, tt)
+
+one_gap : {i : ℕ} {P : ℕ → Type 0} (a b : ℕ) → IsLeastFrom i P (i + a) → IsLeastFrom i P (i + b) → a ≡ b
+one_gap {i = i} a b first second =
+    let l : i + a ≤ i + b = first.least (i + b) second.after second.fit in
+    let r : i + b ≤ i + a = second.least (i + a) first.after first.fit in
+    omega arith
+
+pub one_order : {i : ℕ} {R : List Page} {ws vs : List Kind} → InOrder i R ws → InOrder i R vs → ws ≡ vs
+one_order {i = i} (at_end gap least is) (at_end gap' least' is') =
+    let same : gap ≡ gap' = one_gap gap gap' least least' in
+    is ∙ (ap (λ (n : ℕ). replicate n Idle) same ∙ sym is')
+one_order {i = i} (past_page {p = p} {R = R} gap rest least is left) (past_page gap' rest' least' is' left') =
+    let same : gap ≡ gap' = one_gap gap gap' least least' in
+    let moved : InOrder (i + gap + page_length p) R rest' =
+      subst (λ (n : ℕ). InOrder (i + n + page_length p) R rest') (sym same) left' in
+    let rests : rest ≡ rest' = one_order left moved in
+    let tails : page_words p ++ rest ≡ page_words p ++ rest' = ap (λ (v : List Kind). page_words p ++ v) rests in
+    let gaps : replicate gap Idle ≡ replicate gap' Idle = ap (λ (n : ℕ). replicate n Idle) same in
+    is ∙ (ap (λ (v : List Kind). replicate gap Idle ++ v) tails
+      ∙ (ap (λ (v : List Kind). v ++ (page_words p ++ rest')) gaps ∙ sym is'))
+
+-- the gap up to the least index of the frame, and up to whole batches
+record HasLeast (i : ℕ) (IsFit : ℕ → Type 0) : Type 0 where
+  gap : ℕ
+  least : IsLeastFrom i IsFit (i + gap)
+
+some_frame : (i frame : ℕ) → frame < 8 → HasLeast i (IsInFrame frame)
+some_frame i frame small =
+    elim (cases_eq (i % 16 / 2) frame) [
+      inl same ↦ record { gap = 0; least = record { after = omega arith; fit = omega arith; least = λ j after fit. omega arith } }
+    | inr other ↦ record { gap = (2 * frame + 16 - i % 16) % 16; least = record { after = omega arith; fit = omega arith; least = λ j after fit. omega arith } }
+    ]
+
+some_whole : (i : ℕ) → HasLeast i IsWhole
+some_whole i = record { gap = (16 - i % 16) % 16; least = record { after = omega arith; fit = omega arith; least = λ j after fit. omega arith } }
+
+pub record HasOrder (i : ℕ) (R : List Page) : Type 0 where
+  pub words : List Kind
+  pub order : InOrder i R words
+
+pub some_order : (R : List Page) (i : ℕ) → HasOrder i R
+some_order [] i = let w = some_whole i in record { words = replicate w.gap Idle; order = at_end w.gap w.least refl }
+some_order (p ∷ R) i =
+    let g = some_frame i (p.address % 8) (omega arith) in
+    let left = some_order R (i + g.gap + page_length p) in
+    record {
+      words = replicate g.gap Idle ++ (page_words p ++ left.words);
+      order = past_page g.gap left.words g.least refl left.order
+    }
