@@ -1,1 +1,3 @@
 pub mod FileOrder
+pub mod Sending
+pub mod WordLists

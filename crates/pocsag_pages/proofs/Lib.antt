@@ -1,1 +1,2 @@
+pub mod GoodPages
 pub mod Readings

@@ -9,7 +9,7 @@ mod round;
 mod rule;
 
 pub use fault::PageFault;
-pub use laws::{readings_are_one, readings_are_plain};
+pub use laws::{readings_are_one, readings_are_plain, rounds_are_apart, rounds_are_good};
 pub use page::{LAST_ADDRESS, Page, Payload};
 pub use round::{PAGE_LIMIT, Round};
 pub use rule::{ITEM_LIMIT, page_fault};
