@@ -24,12 +24,13 @@ fn plan_command<'a>(alloc: Global) -> Result<Command<'a>, AllocError> {
 
 fn command<'a>(alloc: Global) -> Result<Command<'a>, AllocError> {
     Command::new(alloc, "pocsag")
+        .bin_name("pocsag")?
         .about("Plans POCSAG transmissions. With no words: reads a page file from standard input and tells its pages and batches")
         .subcommand(plan_command(alloc)?)
 }
 
 /// Reads the words of the command line, the program's own name first.
-pub fn order_of<'a>(alloc: Global, words: &'a [&'a str]) -> Result<Order<'a>, Error> {
+pub fn order_of<'a>(alloc: Global, words: &'a [String]) -> Result<Order<'a>, Error> {
     let matches = command(alloc)?.try_get_matches_from(words)?;
     let Some((name, found)) = matches.subcommand() else {
         return Ok(Order::Input);
