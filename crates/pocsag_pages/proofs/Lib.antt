@@ -1,1 +1,4 @@
+pub mod GoodPages
+pub mod Growing
+pub mod PageLists
 pub mod Readings

@@ -1,4 +1,7 @@
 pub mod Bytes
+pub mod Drafts
+pub mod PageList
 pub mod Pages
 pub mod Plain
 pub mod Reading
+pub mod Rows
