@@ -1,11 +1,11 @@
 -- *Codeword*, both ways: a number is a codeword exactly where its low 11 bits are the check bits of its data.
-use Rattle.std.proofs.Common.{◌≡◌, ℕ, zero, suc, ◌+◌, ◌*◌, ◌/◌, ◌%◌, ◌^◌, ◌<◌, ◌⊎◌, Bool, true, ltb, ◌&&◌, List, [], ◌∷◌, bit_xor, count_ones, map, replicate, refl, sym, ap, ap₂, ◌∙◌, inl, inr, subst, ◌↔◌, IsTrue, nat_eq, eq-eqb, arith, zero-mul, one-mul, mul-zero}
+use Rattle.std.proofs.Common.{◌≡◌, ℕ, zero, suc, ◌+◌, ◌*◌, ◌/◌, ◌%◌, ◌^◌, ◌<◌, ◌⊎◌, Bool, true, ltb, ◌&&◌, List, [], ◌∷◌, bit_xor, count_ones, map, replicate, refl, sym, ap, ap₂, ◌∙◌, inl, inr, subst, arith, zero-mul, one-mul, mul-zero}
 use Rattle.std.specs.Int.Bits.{xor_shifted}
 use Rattle.std.specs.Int.Count.{ones_step}
 use Rattle.std.proofs.Math.Nat.{pow-suc}
 use Rattle.std.proofs.lemmas.Nat.{xor_comm, xor_lt, pow_pos, ones_le_self}
 use Rattle.std.proofs.lemmas.Bool.{and_parts}
-use borrow.Author.Tests.{ltb-true, eqb-true}
+use borrow.Author.Tests.{ltb-true}
 use Rattle.pocsag_words.specs.Carryless.{carryless}
 use Rattle.pocsag_words.specs.Codeword.{IsCodeword}
 use Rattle.pocsag_words.specs.Columns.{combine, columns, check_of}
@@ -215,11 +215,6 @@ IsCodeword-encoded d h =
 pub same_from_data : (v w : ℕ) → IsCodeword v → IsCodeword w → v / 2048 ≡ w / 2048 → v ≡ w
 same_from_data v w p q e =
     omega (arith, IsCodeword-low v p, IsCodeword-low w q, e, ap check_of e)
-
--- the test that the code makes
-pub codeword_test : (w r : ℕ) → w < 2 ^ 32 → r ≡ check_of (w / 2048) → IsTrue (nat_eq (w % 2048) r) ↔ IsCodeword w
-codeword_test w r h e =
-    (λ t. IsCodeword-from_low w h (eqb-true _ _ t ∙ e), λ is. eq-eqb _ _ (IsCodeword-low w is ∙ sym e))
 
 pub IsCodeword-encode : (d r : ℕ) → d < 2 ^ 21 → r ≡ check_of d → IsCodeword (2048 * d + r)
 IsCodeword-encode d r h e =
