@@ -24,6 +24,9 @@ neither false b e = (refl, e)
 not_above : (limit n : ℕ) → nat_lt limit n ≡ false → n ≤ limit
 not_above limit n e = grind (arith, nat_tests)
 
+below_next : (limit n : ℕ) → n ≤ limit → n < limit + 1
+below_next limit n h = omega arith
+
 not_reached : (limit n : ℕ) → nat_le limit n ≡ false → n < limit
 not_reached limit n e = grind (arith, nat_tests)
 
@@ -54,9 +57,9 @@ good_page p e =
     let g = neither (nat_lt 3 p.function || ((nat_eq p.function 1 || nat_eq p.function 2) && not (nat_eq (length p.payload) 0))) (nat_lt 1400 (length p.payload)) f.0 in
     let h = neither (nat_lt 3 p.function) ((nat_eq p.function 1 || nat_eq p.function 2) && not (nat_eq (length p.payload) 0)) g.0 in
     record {
-      address = omega (arith, not_above 2097151 p.address a.0);
+      address = below_next 2097151 p.address (not_above 2097151 p.address a.0);
       unreserved = r.0;
-      function = omega (arith, not_above 3 p.function h.0);
+      function = below_next 3 p.function (not_above 3 p.function h.0);
       few = not_above 1400 (length p.payload) g.1;
       small = none_large p.payload f.1;
       silent = λ w. empty_where_unwanted _ p.payload h.1 (unwanted p.function w);

@@ -1,3 +1,4 @@
+pub mod CsvRecords
 pub mod GoodPages
 pub mod Growing
 pub mod PageLists
