@@ -1,5 +1,5 @@
 -- Reading one record of csv, by the records that are left.
-use Rattle.std.proofs.Common.{◌≡◌, ℕ, zero, suc, ◌+◌, ◌<◌, ◌≤◌, Bool, true, false, ◌⊎◌, inl, inr, cond, List, [], ◌∷◌, ◌++◌, length, refl, sym, ap, subst, ◌∙◌, arith, add-one}
+use Rattle.std.proofs.Common.{◌≡◌, ℕ, zero, suc, ◌+◌, ◌<◌, Bool, true, false, ◌⊎◌, inl, inr, cond, List, [], ◌∷◌, ◌++◌, length, refl, sym, ap, ◌∙◌, arith, add-one}
 use Rattle.std.specs.Prelude.{Option, Some, None, IsSome}
 use Rattle.csv.specs.Machine.{Read, next_record, ends_at_end, is_end, step, fields_after, field_after}
 use Rattle.csv.specs.Reading.{default_config, records_from, records_next, pending_of, source_of, ReadsNext, NextIs}
@@ -40,9 +40,9 @@ same_later : (cfg : Config) (n m : ℕ) (xs : List ℕ) (o : Option Read)
     → length xs < suc n → length xs < suc m → records_next (records_from cfg n) o ≡ records_next (records_from cfg m) o
 same_later cfg n m xs None less same h k = refl
 same_later cfg n m xs (Some p) less same h k = ap (λ rows. p.0 ∷ rows) (elim (less p refl) [
-    inl l ↦ same p.1 p.2 (omega arith) (omega arith)
+  | inl l ↦ same p.1 p.2 (omega arith) (omega arith)
   | inr r ↦ rw (r.0, r.1) (no_more cfg n ∙ sym (no_more cfg m))
-  ])
+])
 
 enough : (cfg : Config) (n m : ℕ) (s : State) (xs : List ℕ) → length xs < n → length xs < m → records_from cfg n s xs ≡ records_from cfg m s xs
 unfolding records_from
@@ -54,9 +54,9 @@ enough cfg (suc n) (suc m) s xs h k =
 -- what a read says of the records that are left
 rows_after : (cfg : Config) (n : ℕ) (xs : List ℕ) (p : Read) → LeavesLess xs p → n ≡ length xs → records_from cfg n p.1 p.2 ≡ records_from cfg (length p.2 + 1) p.1 p.2
 rows_after cfg n xs p less e = elim less [
-    inl l ↦ enough cfg n (length p.2 + 1) p.1 p.2 (omega arith) (omega arith)
+  | inl l ↦ enough cfg n (length p.2 + 1) p.1 p.2 (omega arith) (omega arith)
   | inr r ↦ rw (r.0, r.1) (no_more cfg n ∙ sym (no_more cfg (length {A = ℕ} [] + 1)))
-  ]
+]
 
 one_record : (cfg : Config) (s : State) (xs : List ℕ) (o : Option Read) → next_record cfg s [] [] xs ≡ o → records_from cfg (length xs + 1) s xs ≡ records_next (records_from cfg (length xs)) o
 unfolding records_from

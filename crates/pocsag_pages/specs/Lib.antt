@@ -1,5 +1,6 @@
 pub mod Bytes
 pub mod Drafts
+pub mod PageFile
 pub mod PageList
 pub mod Pages
 pub mod Plain

@@ -1,7 +1,10 @@
-ghost use Rattle.std.specs.Prelude.{◌≡◌, [], ◌∷◌, ◌++◌, ◌<◌, length, true, false, IfOk, IfErr, nat_le, if◌then◌else◌};
-ghost use Rattle.pocsag_pages.specs.Pages.{AreGood, has_address, page_fault_of};
+ghost use Rattle.std.specs.Prelude.{◌≡◌, ◌≤◌, [], ◌∷◌, ◌++◌, length, false, IfOk};
+ghost use Rattle.pocsag_pages.specs.Pages.{has_address, page_fault_of};
+ghost use Rattle.pocsag_pages.specs.PageList.{unless_empty};
 
+use crate::fault::RoundFault;
 use crate::page::Page;
+use crate::round::{PAGE_LIMIT, Round};
 use pocsag_words::OutOfMemory;
 use std::alloc::Global;
 use std::collections::BTreeSet;
@@ -62,11 +65,15 @@ impl Draft {
         Ok(Draft { pages, seen })
     }
 
-    pub(crate) fn into_pages(self) -> Vec<Page>
-        ensures same { result.items ≡ self }
-        ensures good { AreGood self }
+    // The round of the pages, of which there must be one at least.
+    pub(crate) fn into_round(self) -> Result<Round, RoundFault>
+        requires { length self ≤ PAGE_LIMIT }
+        ensures { result ≡ unless_empty self }
     {
         let Draft { pages, seen: _ } = self;
-        pages
+        if pages.is_empty() {
+            return Err(RoundFault::NoPages);
+        }
+        Ok(Round::of(pages))
     }
 }

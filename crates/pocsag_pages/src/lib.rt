@@ -5,14 +5,17 @@
 mod csv_row;
 mod draft;
 mod fault;
+mod file;
 mod laws;
 mod list;
 mod page;
+mod record;
 mod round;
 mod rule;
 mod whole;
 
 pub use fault::{PageFault, RoundFault, WholeFault};
+pub use file::{FILE_LIMIT, read_round};
 pub use laws::{readings_are_one, readings_are_plain, rounds_are_apart, rounds_are_good};
 pub use page::{LAST_ADDRESS, Page, Payload};
 pub use round::{PAGE_LIMIT, Round};

@@ -1,4 +1,3 @@
-use Rattle.std.proofs.Common.{◌≡◌, Bool, true, false, List, []}
 use Rattle.pocsag_pages.specs.Rows.{bytes_left}
 use Rattle.pocsag_pages.proofs.CsvRecords.{rows_read, rows_over, unread_is}
 use Rattle.pocsag_pages.proofs.csv_row.next_row.Goals as goal

@@ -1,9 +1,7 @@
-use Rattle.std.proofs.Common.{◌≡◌, ◌∙◌, ◌≤◌, ◌^◌, [], ◌∷◌, true, false, sym, ap, refl, inr, arith, drop, take, length, not, get_or}
-use Rattle.std.specs.Prelude.{Option, Some, None}
-use Rattle.std.proofs.lemmas.List.{drop_all, take_all}
-use Rattle.pocsag_pages.specs.declared.fault.PageFault.{PageFault}
-use Rattle.pocsag_pages.specs.declared.page.Page.{Page}
-use Rattle.pocsag_pages.specs.Pages.{page_fault_of, has_address}
+use Rattle.std.proofs.Common.{◌≡◌, ◌∙◌, ◌≤◌, sym, refl, inr, arith, take, length}
+use Rattle.std.specs.Prelude.{None}
+use Rattle.std.proofs.lemmas.List.{drop_all}
+use Rattle.pocsag_pages.specs.Pages.{page_fault_of}
 use Rattle.pocsag_pages.specs.PageList.{first_page_fault}
 use Rattle.pocsag_pages.proofs.Growing.{draft_none, draft_push, was_new, was_there}
 use Rattle.pocsag_pages.proofs.PageLists.{fault_here, fault_later, taken, left, few, broken, again, fine}
