@@ -1,1 +1,6 @@
-
+pub mod BitLists
+pub mod Cuts
+pub mod Trims
+pub mod Mirrors
+pub mod Codes
+pub mod Packs

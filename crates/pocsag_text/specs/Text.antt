@@ -11,7 +11,7 @@ use Rattle.pocsag_text.specs.Characters.{character_of, code_or_space, space_code
 abbrev pub is_bad_byte : ℕ → Bool
 is_bad_byte b = b == 0 || nat_lt 127 b
 
--- The fault of a text that is not empty, of its first bad character and its length.
+-- The fault of a text that is not empty, by the place of its first bad character and its length.
 abbrev pub fault_of_place : Option ℕ → ℕ → Option TextFault
 fault_of_place (Some place) count = Some (fault.BadCharacter place)
 fault_of_place None count = if nat_lt CHARACTER_LIMIT count then Some fault.TooLong else None
@@ -19,8 +19,8 @@ fault_of_place None count = if nat_lt CHARACTER_LIMIT count then Some fault.TooL
 -- The fault of a text, if it has one, by the test of a bad character: that it is empty, else the
 -- place of the first bad character, else that it is too long.
 unfoldable pub text_fault : (ℕ → Bool) → List ℕ → Option TextFault
-text_fault is_bad [] = Some fault.EmptyMessage
-text_fault is_bad (b ∷ rest) = fault_of_place (position is_bad (b ∷ rest)) (length (b ∷ rest))
+text_fault is_bad text =
+    if length text == 0 then Some fault.EmptyMessage else fault_of_place (position is_bad text) (length text)
 
 -- The items, unless there is a fault.
 abbrev pub unless : Option TextFault → List ℕ → Result (List ℕ) TextFault

@@ -4,6 +4,7 @@
 mod character;
 mod fault;
 mod pack;
+mod packer;
 mod unpack;
 
 pub use fault::TextFault;

@@ -1,0 +1,35 @@
+-- The codes of the numeric characters.
+use Rattle.std.proofs.Common.{◌≡◌, ◌≢◌, ℕ, zero, suc, ◌+◌, ◌-◌, ◌<◌, ◌≤◌, Some, None, eqb, true, false, get_or, length, ◌⊎◌, ⊎_elim, lit<, refl, sym, ap, ◌∙◌, arith}
+use Rattle.std.proofs.lemmas.Bool.{eqb-true, ne_eqb}
+use Rattle.std.proofs.lemmas.List.Quantifiers.{position-Some}
+use Rattle.pocsag_text.specs.Characters.{numeric_characters, code_of, code_or_space, character_of}
+
+-- the code of a digit
+pub code_of-digit : (d : ℕ) → d < 10 → code_of (48 + d) ≡ Some d
+unfolding numeric_characters
+code_of-digit zero h = refl
+code_of-digit (suc zero) h = refl
+code_of-digit (suc (suc zero)) h = refl
+code_of-digit (suc (suc (suc zero))) h = refl
+code_of-digit (suc (suc (suc (suc zero)))) h = refl
+code_of-digit (suc (suc (suc (suc (suc zero))))) h = refl
+code_of-digit (suc (suc (suc (suc (suc (suc zero)))))) h = refl
+code_of-digit (suc (suc (suc (suc (suc (suc (suc zero))))))) h = refl
+code_of-digit (suc (suc (suc (suc (suc (suc (suc (suc zero)))))))) h = refl
+code_of-digit (suc (suc (suc (suc (suc (suc (suc (suc (suc zero))))))))) h = refl
+code_of-digit (suc (suc (suc (suc (suc (suc (suc (suc (suc (suc d)))))))))) h = absurd (omega arith)
+
+-- the character of a code
+pub character_of-code_of : (b k : ℕ) → code_of b ≡ Some k → (k < 16) × (character_of k ≡ b)
+unfolding numeric_characters
+character_of-code_of b k h =
+    let p = position-Some (λ c. eqb c b) numeric_characters k 0 h in
+    (p.0, eqb-true (character_of k) b p.1)
+
+-- whether a byte is no numeric character
+pub code_of-none : (b : ℕ) → (b < 48) ⊎ (57 < b) → b ≢ 42 → b ≢ 85 → b ≢ 32 → b ≢ 45 → b ≢ 93 → b ≢ 91 → code_of b ≡ None
+unfolding numeric_characters
+code_of-none b range n42 n85 n32 n45 n93 n91 =
+    let out : (d : ℕ) → d < 10 → eqb (48 + d) b ≡ false = λ d h. ne_eqb (48 + d) b (⊎_elim (λ low e. omega arith) (λ high e. omega arith) range) in
+    let s : (n : ℕ) → b ≢ n → eqb n b ≡ false = λ n h. ne_eqb n b (λ e. h (sym e)) in
+    simp (out 0 (lit< tt), out 1 (lit< tt), out 2 (lit< tt), out 3 (lit< tt), out 4 (lit< tt), out 5 (lit< tt), out 6 (lit< tt), out 7 (lit< tt), out 8 (lit< tt), out 9 (lit< tt), s 42 n42, s 85 n85, s 32 n32, s 45 n45, s 93 n93, s 91 n91)
