@@ -4,3 +4,5 @@ pub mod Trims
 pub mod Mirrors
 pub mod Codes
 pub mod Packs
+pub mod Payloads
+pub mod Unpacks

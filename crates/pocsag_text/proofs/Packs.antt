@@ -1,9 +1,9 @@
 -- What the packer's steps do to its bits.
-use Rattle.std.proofs.Common.{◌≡◌, ℕ, zero, suc, ◌+◌, ◌-◌, ◌*◌, ◌/◌, ◌%◌, ◌^◌, ◌<◌, ◌≤◌, List, [], ◌∷◌, ◌++◌, length, All, bit_or, bit_and, refl, sym, ap, ◌∙◌, arith}
+use Rattle.std.proofs.Common.{◌≡◌, ℕ, zero, suc, ◌+◌, ◌-◌, ◌*◌, ◌/◌, ◌%◌, ◌^◌, ◌<◌, ◌≤◌, List, [], ◌∷◌, ◌++◌, length, replicate, All, bit_or, bit_and, refl, sym, ap, ◌∙◌, arith}
 use Rattle.std.proofs.Math.Nat.{mul_comm}
 use Rattle.std.specs.List.{flat_map}
 use Rattle.std.proofs.lemmas.Nat.{pow-add, or_shifted, shl_whole, one_shl, and_mask, mul-add-lt, shr_below, mod_below, pow_pos}
-use Rattle.std.proofs.lemmas.List.{append_assoc, append-nil, length-append}
+use Rattle.std.proofs.lemmas.List.{append_assoc, append-nil, length-append, flat_map_more, replicate_more}
 use Rattle.std.proofs.lemmas.List.Concat.{flat_map-append}
 use Rattle.std.proofs.lemmas.List.Elements.{All-push, All-weaker}
 use Rattle.pocsag_text.specs.Bits.{high_first, high_number, item_bits}
@@ -65,3 +65,8 @@ twenties-packed_bits items count held h whole =
   where
     item-back : (x : ℕ) → x < 2 ^ 20 → high_number 0 (high_first 20 x) ≡ x
     item-back x lt = high_number-high_first 0 20 x ∙ omega arith
+
+-- one code more of many
+pub times_more : (f : ℕ → List ℕ) (before now after : List ℕ) (n code : ℕ) → now ≡ before ++ flat_map f (replicate n code) → after ≡ now ++ f code → after ≡ before ++ flat_map f (replicate (n + 1) code)
+times_more f before now after n code was is =
+    is ∙ ap (λ bits. bits ++ f code) was ∙ flat_map_more f before (replicate n code) code ∙ ap (λ codes. before ++ flat_map f codes) (replicate_more n code)

@@ -16,11 +16,14 @@ abbrev pub fault_of_place : Option ℕ → ℕ → Option TextFault
 fault_of_place (Some place) count = Some (fault.BadCharacter place)
 fault_of_place None count = if nat_lt CHARACTER_LIMIT count then Some fault.TooLong else None
 
--- The fault of a text, if it has one, by the test of a bad character: that it is empty, else the
--- place of the first bad character, else that it is too long.
+-- The fault of a text, by the place of its first bad character and its length: that it is empty,
+-- else that place, else that it is too long.
+abbrev pub fault_of : Option ℕ → ℕ → Option TextFault
+fault_of first_bad count = if count == 0 then Some fault.EmptyMessage else fault_of_place first_bad count
+
+-- The fault of a text, if it has one, by the test of a bad character.
 unfoldable pub text_fault : (ℕ → Bool) → List ℕ → Option TextFault
-text_fault is_bad text =
-    if length text == 0 then Some fault.EmptyMessage else fault_of_place (position is_bad text) (length text)
+text_fault is_bad text = fault_of (position is_bad text) (length text)
 
 -- The items, unless there is a fault.
 abbrev pub unless : Option TextFault → List ℕ → Result (List ℕ) TextFault

@@ -11,6 +11,9 @@ pub const ALPHA_WIDTH: u32 = 7;
 /// The numeric characters, each at the place of its code.
 const NUMERIC_CHARACTERS: [u8; 16] = *b"0123456789*U -][";
 
+/// The code of the space, with which a numeric message is filled.
+pub const SPACE_CODE: u8 = 12;
+
 /// The code of a byte, if it is a numeric character.
 pub fn code_of(byte: u8) -> Option<u8>
     ensures { result ≡ numeric.code_of byte }
@@ -25,6 +28,14 @@ pub fn code_of(byte: u8) -> Option<u8>
         b'[' => Some(15),
         _ => None,
     }
+}
+
+/// The code of a byte, which is that of the space where it is no numeric character.
+pub fn code_or_space(byte: u8) -> u8
+    ensures code { result ≡ numeric.code_or_space byte }
+    ensures small { result < 16 }
+{
+    code_of(byte).unwrap_or(SPACE_CODE)
 }
 
 /// The numeric character of a code.

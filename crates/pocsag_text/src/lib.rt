@@ -6,6 +6,7 @@ mod fault;
 mod pack;
 mod packer;
 mod unpack;
+mod unpacker;
 
 pub use fault::TextFault;
 pub use pack::{pack_alpha, pack_numeric};

@@ -1,8 +1,14 @@
-ghost use Rattle.std.specs.Prelude.{◌≡◌, ℕ, ◌^◌, ◌<◌, ◌≤◌, ◌⊎◌, length, All, IfOk, IfErr, IsOk};
-ghost use Rattle.pocsag_text.specs.Text.{numeric_payload, alpha_payload};
+ghost use Rattle.std.specs.Prelude.{◌≡◌, ℕ, ◌^◌, ◌<◌, ◌≤◌, ◌⊎◌, length, map, position, All, IfOk, IfErr, IsOk};
+ghost use Rattle.std.specs.List.{flat_map};
+ghost use Rattle.pocsag_text.specs.Bits.{low_first};
+ghost use Rattle.pocsag_text.specs.Characters as numeric;
+ghost use Rattle.pocsag_text.specs.Text.{numeric_payload, alpha_payload, numeric_bits, alpha_bits, twenties, is_bad_byte, text_fault, fault_of as fault_by};
 
-use crate::ITEM_LIMIT;
+use crate::character::{ALPHA_WIDTH, NUMERIC_WIDTH, SPACE_CODE, code_of, code_or_space};
 use crate::fault::TextFault;
+use crate::packer::Packer;
+use crate::{CHARACTER_LIMIT, ITEM_LIMIT};
+use pocsag_words::OutOfMemory;
 use std::alloc::Global;
 
 /// The payload of a numeric text: items of twenty bits, each below 1,048,576. The characters are
@@ -17,7 +23,13 @@ pub fn pack_numeric(alloc: Global, text: &[u8]) -> Result<Vec<u32>, TextFault>
     // Memory is wanted only by a text that has a payload.
     ensures memory { result ≡ Err TextFault.OutOfMemory → IsOk (numeric_payload text.now) }
 {
-    Err(TextFault::OutOfMemory)
+    if let Some(fault) = numeric_fault(text) {
+        return Err(fault);
+    }
+    match numeric_items(alloc, text) {
+        Ok(items) => Ok(items),
+        Err(OutOfMemory) => Err(TextFault::OutOfMemory),
+    }
 }
 
 /// The payload of an alphanumeric text: items of twenty bits, each below 1,048,576. The characters
@@ -32,5 +44,105 @@ pub fn pack_alpha(alloc: Global, text: &[u8]) -> Result<Vec<u32>, TextFault>
     // Memory is wanted only by a text that has a payload.
     ensures memory { result ≡ Err TextFault.OutOfMemory → IsOk (alpha_payload text.now) }
 {
-    Err(TextFault::OutOfMemory)
+    if let Some(fault) = alpha_fault(text) {
+        return Err(fault);
+    }
+    match alpha_items(alloc, text) {
+        Ok(items) => Ok(items),
+        Err(OutOfMemory) => Err(TextFault::OutOfMemory),
+    }
+}
+
+/// The fault of a numeric text, if it has one.
+#[tactic(auto, unfolding(crate::specs::Text::text_fault))]
+fn numeric_fault(text: &[u8]) -> Option<TextFault>
+    ensures { result ≡ text_fault numeric.is_bad_digit text.now }
+{
+    fault_of(first_bad_digit(text), text.len())
+}
+
+/// The place of the first byte that is no numeric character.
+fn first_bad_digit(text: &[u8]) -> Option<usize>
+    ensures { result ≡ position numeric.is_bad_digit text.now }
+{
+    text.iter().position(|byte| code_of(*byte).is_none())
+}
+
+/// The fault of an alphanumeric text, if it has one.
+#[tactic(auto, unfolding(crate::specs::Text::text_fault))]
+fn alpha_fault(text: &[u8]) -> Option<TextFault>
+    ensures { result ≡ text_fault is_bad_byte text.now }
+{
+    fault_of(first_bad_byte(text), text.len())
+}
+
+/// The place of the first byte that is no alphanumeric character.
+fn first_bad_byte(text: &[u8]) -> Option<usize>
+    ensures { result ≡ position is_bad_byte text.now }
+{
+    text.iter().position(|byte| *byte == 0 || *byte > 127)
+}
+
+/// The fault of a text, by the place of its first bad character and its length.
+fn fault_of(first_bad: Option<usize>, count: usize) -> Option<TextFault>
+    ensures { result ≡ fault_by first_bad count }
+{
+    if count == 0 {
+        return Some(TextFault::EmptyMessage);
+    }
+    if let Some(place) = first_bad {
+        return Some(TextFault::BadCharacter(place));
+    }
+    if count > CHARACTER_LIMIT {
+        return Some(TextFault::TooLong);
+    }
+    None
+}
+
+/// The items of a numeric text.
+fn numeric_items(alloc: Global, text: &[u8]) -> Result<Vec<u32>, OutOfMemory>
+    requires { length text.now ≤ CHARACTER_LIMIT }
+    ensures items { IfOk result (λ v. v.items ≡ twenties (numeric_bits text.now)) }
+    ensures small { IfOk result (λ v. All (λ item. item < 2 ^ 20) v.items) }
+{
+    let mut packer = numeric_packer(alloc, text)?;
+    packer.push_times(NUMERIC_WIDTH, SPACE_CODE, (5 - text.len() % 5) % 5)?;
+    Ok(packer.into_items())
+}
+
+/// The bits of the characters of a numeric text.
+fn numeric_packer(alloc: Global, text: &[u8]) -> Result<Packer, OutOfMemory>
+    requires { length text.now ≤ CHARACTER_LIMIT }
+    ensures { IfOk result (λ p. p ≡ flat_map (low_first 4) (map numeric.code_or_space text.now)) }
+{
+    let mut packer = Packer::with_room(alloc, text.len().div_ceil(5))?;
+    for byte in text {
+        packer.push(NUMERIC_WIDTH, code_or_space(*byte))?;
+    }
+    Ok(packer)
+}
+
+/// The items of an alphanumeric text.
+fn alpha_items(alloc: Global, text: &[u8]) -> Result<Vec<u32>, OutOfMemory>
+    requires few { length text.now ≤ CHARACTER_LIMIT }
+    requires small { All (λ byte. byte < 128) text.now }
+    ensures items { IfOk result (λ v. v.items ≡ twenties (alpha_bits text.now)) }
+    ensures small { IfOk result (λ v. All (λ item. item < 2 ^ 20) v.items) }
+{
+    let mut packer = alpha_packer(alloc, text)?;
+    packer.push_times(1, 0, (20 - 7 * text.len() % 20) % 20)?;
+    Ok(packer.into_items())
+}
+
+/// The bits of the characters of an alphanumeric text.
+fn alpha_packer(alloc: Global, text: &[u8]) -> Result<Packer, OutOfMemory>
+    requires few { length text.now ≤ CHARACTER_LIMIT }
+    requires small { All (λ byte. byte < 128) text.now }
+    ensures { IfOk result (λ p. p ≡ flat_map (low_first 7) text.now) }
+{
+    let mut packer = Packer::with_room(alloc, (7 * text.len()).div_ceil(20))?;
+    for byte in text {
+        packer.push(ALPHA_WIDTH, *byte)?;
+    }
+    Ok(packer)
 }

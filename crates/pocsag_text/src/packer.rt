@@ -1,5 +1,6 @@
-ghost use Rattle.std.specs.Prelude.{◌≡◌, ℕ, ◌+◌, ◌*◌, ◌%◌, ◌^◌, ◌<◌, ◌≤◌, [], ◌++◌, length, All, IfOk, OnOk};
-ghost use Rattle.pocsag_text.specs.Bits.{low_first, high_first, item_bits};
+ghost use Rattle.std.specs.Prelude.{◌≡◌, ℕ, ◌+◌, ◌*◌, ◌%◌, ◌^◌, ◌<◌, ◌≤◌, [], ◌++◌, length, replicate, All, IfOk, OnOk};
+ghost use Rattle.std.specs.List.{flat_map};
+ghost use Rattle.pocsag_text.specs.Bits.{low_first};
 ghost use Rattle.pocsag_text.specs.Text.{twenties};
 
 use crate::character::mirrored;
@@ -65,6 +66,20 @@ impl Packer {
         };
         self.held = held & ((1 << rest) - 1);
         self.count = rest;
+        Ok(())
+    }
+
+    /// Puts the lowest bits of a code behind the others so many times.
+    pub fn push_times(&mut self, width: u32, code: u8, times: usize) -> Result<(), OutOfMemory>
+        requires wide { 0 < width }
+        requires narrow { width ≤ 8 }
+        requires fits { code < 2 ^ width }
+        ensures { OnOk result
+            (self.new ≡ self.old ++ flat_map (low_first width) (replicate times code)) }
+    {
+        for _time in 0..times {
+            self.push(width, code)?;
+        }
         Ok(())
     }
 
