@@ -1,23 +1,37 @@
 -- The codes of the numeric characters.
-use Rattle.std.proofs.Common.{◌≡◌, ◌≢◌, ℕ, zero, suc, ◌+◌, ◌-◌, ◌<◌, ◌≤◌, Option, Some, None, unwrap_or, eqb, true, false, get_or, length, ◌⊎◌, ⊎_elim, lit<, refl, sym, ap, ◌∙◌, arith}
+use Rattle.std.proofs.Common.{◌≡◌, ◌≢◌, ℕ, zero, suc, ◌+◌, ◌-◌, ◌<◌, ◌≤◌, Option, Some, None, unwrap_or, is_none, Bool, eqb, true, false, get_or, length, ◌⊎◌, ⊎_elim, lit<, refl, sym, ap, ◌∙◌, arith}
 use Rattle.std.proofs.lemmas.Bool.{eqb-true, ne_eqb}
 use Rattle.std.proofs.lemmas.List.Quantifiers.{position-Some}
-use Rattle.pocsag_text.specs.Characters.{numeric_characters, code_of, code_or_space, character_of}
+use Rattle.pocsag_text.proofs.Below.{all_below, passes}
+use Rattle.pocsag_text.specs.Characters.{numeric_characters, code_of, code_or_space, character_of, is_bad_digit}
+
+-- whether there is this code
+is_code : Option ℕ → ℕ → Bool
+is_code (Some k) code = eqb k code
+is_code None code = false
+
+is_code-true : (o : Option ℕ) (code : ℕ) → is_code o code ≡ true → o ≡ Some code
+unfolding is_code
+is_code-true (Some k) code h = ap Some (eqb-true k code h)
+is_code-true None code h = cc
 
 -- the code of a digit
+digits_pass : all_below 10 (λ d. is_code (code_of (48 + d)) d) ≡ true
+unfolding all_below is_code numeric_characters
+digits_pass = refl
+
 pub code_of-digit : (d : ℕ) → d < 10 → code_of (48 + d) ≡ Some d
-unfolding numeric_characters
-code_of-digit zero h = refl
-code_of-digit (suc zero) h = refl
-code_of-digit (suc (suc zero)) h = refl
-code_of-digit (suc (suc (suc zero))) h = refl
-code_of-digit (suc (suc (suc (suc zero)))) h = refl
-code_of-digit (suc (suc (suc (suc (suc zero))))) h = refl
-code_of-digit (suc (suc (suc (suc (suc (suc zero)))))) h = refl
-code_of-digit (suc (suc (suc (suc (suc (suc (suc zero))))))) h = refl
-code_of-digit (suc (suc (suc (suc (suc (suc (suc (suc zero)))))))) h = refl
-code_of-digit (suc (suc (suc (suc (suc (suc (suc (suc (suc zero))))))))) h = refl
-code_of-digit (suc (suc (suc (suc (suc (suc (suc (suc (suc (suc d)))))))))) h = absurd (omega arith)
+code_of-digit d h =
+    is_code-true (code_of (48 + d)) d (passes 10 (λ k. is_code (code_of (48 + k)) k) digits_pass d h)
+
+-- the code of a code's character
+characters_pass : all_below 16 (λ k. is_code (code_of (character_of k)) k) ≡ true
+unfolding all_below is_code numeric_characters
+characters_pass = refl
+
+pub code_of-character_of : (k : ℕ) → k < 16 → code_of (character_of k) ≡ Some k
+code_of-character_of k h =
+    is_code-true (code_of (character_of k)) k (passes 16 (λ j. is_code (code_of (character_of j)) j) characters_pass k h)
 
 -- the character of a code
 pub character_of-code_of : (b k : ℕ) → code_of b ≡ Some k → (k < 16) × (character_of k ≡ b)
@@ -41,3 +55,21 @@ unwrapped (Some k) h = h k refl
 -- each code has four bits
 pub code_or_space-lt : (b : ℕ) → code_or_space b < 16
 code_or_space-lt b = unwrapped (code_of b) (λ k e. (character_of-code_of b k e).0)
+
+unwrapped_back : (b : ℕ) (o : Option ℕ) → o ≢ None → ((k : ℕ) → o ≡ Some k → character_of k ≡ b) → character_of (unwrap_or o 12) ≡ b
+unwrapped_back b None n h = absurd (n refl)
+unwrapped_back b (Some k) n h = h k refl
+
+-- a numeric character comes back from its code
+pub character_of-code_or_space : (b : ℕ) → is_bad_digit b ≡ false → character_of (code_or_space b) ≡ b
+character_of-code_or_space b h =
+    unwrapped_back b (code_of b) (some_from (code_of b) h) (λ k e. (character_of-code_of b k e).1)
+  where
+    some_from : (o : Option ℕ) → is_none o ≡ false → o ≢ None
+    some_from None h e = cc
+    some_from (Some k) h e = cc
+
+-- the code of the space is that of its character
+pub space_is : character_of 12 ≡ 32
+unfolding numeric_characters
+space_is = refl

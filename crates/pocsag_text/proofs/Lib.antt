@@ -1,3 +1,4 @@
+pub mod Below
 pub mod BitLists
 pub mod Cuts
 pub mod Trims
@@ -6,3 +7,4 @@ pub mod Codes
 pub mod Packs
 pub mod Payloads
 pub mod Unpacks
+pub mod RoundTrips

@@ -1,28 +1,10 @@
 -- Codes with their bits reversed.
 use Rattle.std.proofs.Common.{◌≡◌, ℕ, zero, suc, ◌+◌, ◌-◌, ◌*◌, ◌/◌, ◌%◌, ◌^◌, ◌<◌, ◌≤◌, List, [], length, ◌++◌, Bool, true, false, ◌&&◌, eqb, refl, sym, ap, ◌∙◌, arith, inl, inr, ◌⊎◌, ⊎_elim, subst}
 use Rattle.std.specs.Int.{w8, reverse_bits, reverse_bits_onto}
-use Rattle.std.proofs.lemmas.Bool.{eqb-true, cases_lt}
+use Rattle.std.proofs.lemmas.Bool.{eqb-true}
 use Rattle.pocsag_text.specs.Bits.{low_first, high_first, low_number, high_number}
+use Rattle.pocsag_text.proofs.Below.{all_below, passes, and_left, and_right}
 use Rattle.pocsag_text.proofs.BitLists.{AreBits, length-low_first, length-high_first, AreBits-low_first, AreBits-high_first, low_first-low_number, high_first-high_number, high_number-lt}
-
--- whether each number below n passes
-all_below : ℕ → (ℕ → Bool) → Bool
-all_below zero p = true
-all_below (suc n) p = p n && all_below n p
-
-and_left : (a b : Bool) → (a && b) ≡ true → a ≡ true
-and_left true b h = refl
-and_left false b h = h
-
-and_right : (a b : Bool) → (a && b) ≡ true → b ≡ true
-and_right true b h = h
-and_right false b h = cc
-
-passes : (n : ℕ) (p : ℕ → Bool) → all_below n p ≡ true → (k : ℕ) → k < n → p k ≡ true
-unfolding all_below
-passes zero p h k lt = absurd (omega arith)
-passes (suc n) p h k lt =
-    ⊎_elim (λ below. passes n p (and_right (p n) (all_below n p) h) k below) (λ above. let e : n ≡ k = omega arith in let P : ℕ → Type 0 = λ j. p j ≡ true in subst P e (and_left (p n) (all_below n p) h)) (cases_lt k n)
 
 -- a code whose bits are reversed
 abbrev mirrored : ℕ → ℕ → ℕ

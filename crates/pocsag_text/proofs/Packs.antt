@@ -13,9 +13,9 @@ use Rattle.pocsag_text.proofs.BitLists.{high_first-join, high_first-split, lengt
 use Rattle.pocsag_text.proofs.Cuts.{cut-flat_map, length-flat_map-wide}
 
 -- the bits that wait, and a code behind them
-pub held_with : (count held width low : ℕ) → count < 20 → width ≤ 8 → held < 2 ^ count → low < 2 ^ width → bit_or (held * 2 ^ width % 4294967296) low ≡ held * 2 ^ width + low
-held_with count held width low few narrow fits lt =
-    ap (λ h. bit_or h low) (shl_whole held count width 32 fits (omega arith)) ∙ or_shifted held width low lt
+pub held_with : (count held width low : ℕ) → count + width ≤ 32 → held < 2 ^ count → low < 2 ^ width → bit_or (held * 2 ^ width % 4294967296) low ≡ held * 2 ^ width + low
+held_with count held width low few fits lt =
+    ap (λ h. bit_or h low) (shl_whole held count width 32 fits few) ∙ or_shifted held width low lt
 
 pub held_with-lt : (count held width low : ℕ) → held < 2 ^ count → low < 2 ^ width → held * 2 ^ width + low < 2 ^ (count + width)
 held_with-lt count held width low fits lt =

@@ -45,7 +45,7 @@ impl<const W: u32> Unpacker<W> {
     /// Puts the bits of an item behind the others.
     pub fn with(self, item: u32) -> Result<Unpacker<W>, OutOfMemory>
         requires { item < 2 ^ 20 }
-        ensures { IfOk result (λ u. u ≡ self ++ high_first 20 item) }
+        ensures { IfOk result (λ u. u ≡ self.entry ++ high_first 20 item) }
     {
         let mut codes = self.codes;
         let mut held = self.held << ITEM_WIDTH | item;
@@ -62,7 +62,7 @@ impl<const W: u32> Unpacker<W> {
 
     /// The codes, without the bits that wait.
     pub fn into_codes(self) -> Vec<u8>
-        ensures codes { result.items ≡ cut W low_number (length self / W) self }
+        ensures codes { result.items ≡ cut W low_number (length self.entry / W) self.entry }
         ensures small { All (λ code. code < 2 ^ W) result.items }
     {
         self.codes

@@ -8,14 +8,14 @@ pub invariant_of-self : goal.invariant_of-self
 invariant_of-self c =
     let p = c.self.inside in
     let lt : c.from.result < 2 ^ c.args.width = omega arith in
-    let held = held_with p.count p.held c.args.width c.from.result c.self.invariant.few c.requires.narrow c.self.invariant.fits lt in
+    let held = held_with p.count p.held c.args.width c.from.result (omega arith) c.self.invariant.fits lt in
     rw held (IsPacked-more p.items.items p.count p.held c.args.width c.from.result c.self.invariant lt c.if-count-lt-ITEM_WIDTH.true)
 
 pub returns-then-count-lt-ITEM_WIDTH : goal.returns-then-count-lt-ITEM_WIDTH
 returns-then-count-lt-ITEM_WIDTH c =
     let p = c.self.inside in
     let lt : c.from.result < 2 ^ c.args.width = omega arith in
-    let held = held_with p.count p.held c.args.width c.from.result c.self.invariant.few c.requires.narrow c.self.invariant.fits lt in
+    let held = held_with p.count p.held c.args.width c.from.result (omega arith) c.self.invariant.fits lt in
     let bits : high_first c.args.width c.from.result ≡ low_first c.args.width c.args.code = ap (high_first c.args.width) c.from.ensures ∙ c.mirrored.ensures.packed in
     rw (held, ← c.self.view_is, ← bits) (packed_bits-more p.items.items p.count p.held c.args.width c.from.result lt)
 
@@ -25,7 +25,7 @@ invariant_of-self-2 c =
     let rest = p.count + c.args.width - 20 in
     let h = p.held * 2 ^ c.args.width + c.from.result in
     let lt : c.from.result < 2 ^ c.args.width = omega arith in
-    let held = held_with p.count p.held c.args.width c.from.result c.self.invariant.few c.requires.narrow c.self.invariant.fits lt in
+    let held = held_with p.count p.held c.args.width c.from.result (omega arith) c.self.invariant.fits lt in
     let few : rest < 20 = omega arith in
     let whole : p.count + c.args.width ≡ 20 + rest = omega arith in
     let below : h < 2 ^ (20 + rest) = rw whole at (held_with-lt p.count p.held c.args.width c.from.result c.self.invariant.fits lt) in
@@ -37,7 +37,7 @@ returns c =
     let rest = p.count + c.args.width - 20 in
     let h = p.held * 2 ^ c.args.width + c.from.result in
     let lt : c.from.result < 2 ^ c.args.width = omega arith in
-    let held = held_with p.count p.held c.args.width c.from.result c.self.invariant.few c.requires.narrow c.self.invariant.fits lt in
+    let held = held_with p.count p.held c.args.width c.from.result (omega arith) c.self.invariant.fits lt in
     let bits : high_first c.args.width c.from.result ≡ low_first c.args.width c.args.code = ap (high_first c.args.width) c.from.ensures ∙ c.mirrored.ensures.packed in
     let few : rest < 20 = omega arith in
     let whole : 20 + rest ≡ p.count + c.args.width = omega arith in
