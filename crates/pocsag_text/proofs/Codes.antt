@@ -1,5 +1,5 @@
 -- The codes of the numeric characters.
-use Rattle.std.proofs.Common.{◌≡◌, ◌≢◌, ℕ, zero, suc, ◌+◌, ◌-◌, ◌<◌, ◌≤◌, Option, Some, None, unwrap_or, is_none, Bool, eqb, true, false, get_or, length, ◌⊎◌, ⊎_elim, lit<, refl, sym, ap, ◌∙◌, arith}
+use Rattle.std.proofs.Common.{◌≡◌, ◌≢◌, ℕ, ◌+◌, ◌<◌, Option, Some, None, unwrap_or, is_none, Bool, eqb, true, false, ◌⊎◌, ⊎_elim, lit<, refl, sym, ap, arith}
 use Rattle.std.proofs.lemmas.Bool.{eqb-true, ne_eqb}
 use Rattle.std.proofs.lemmas.List.Quantifiers.{position-Some}
 use Rattle.pocsag_text.proofs.Below.{all_below, passes}

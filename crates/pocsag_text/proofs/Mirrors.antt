@@ -1,10 +1,10 @@
 -- Codes with their bits reversed.
-use Rattle.std.proofs.Common.{◌≡◌, ℕ, zero, suc, ◌+◌, ◌-◌, ◌*◌, ◌/◌, ◌%◌, ◌^◌, ◌<◌, ◌≤◌, List, [], length, ◌++◌, Bool, true, false, ◌&&◌, eqb, refl, sym, ap, ◌∙◌, arith, inl, inr, ◌⊎◌, ⊎_elim, subst}
+use Rattle.std.proofs.Common.{◌≡◌, ℕ, ◌+◌, ◌-◌, ◌/◌, ◌^◌, ◌<◌, ◌≤◌, length, ◌++◌, Bool, true, ◌&&◌, eqb, refl, ap, ◌∙◌, arith}
 use Rattle.std.specs.Int.{w8, reverse_bits, reverse_bits_onto}
 use Rattle.std.proofs.lemmas.Bool.{eqb-true}
 use Rattle.pocsag_text.specs.Bits.{low_first, high_first, low_number, high_number}
 use Rattle.pocsag_text.proofs.Below.{all_below, passes, and_left, and_right}
-use Rattle.pocsag_text.proofs.BitLists.{AreBits, length-low_first, length-high_first, AreBits-low_first, AreBits-high_first, low_first-low_number, high_first-high_number, high_number-lt}
+use Rattle.pocsag_text.proofs.BitLists.{length-low_first, length-high_first, AreBits-low_first, AreBits-high_first, low_first-low_number, high_first-high_number, high_number-lt}
 
 -- a code whose bits are reversed
 abbrev mirrored : ℕ → ℕ → ℕ

@@ -1,7 +1,6 @@
 -- When a text has a payload, and which one.
-use Rattle.std.proofs.Common.{◌≡◌, ◌≢◌, ℕ, zero, suc, ◌+◌, ◌-◌, ◌*◌, ◌/◌, ◌%◌, ◌<◌, ◌≤◌, Bool, true, false, cond, eqb, ltb, ◌||◌, List, [], ◌∷◌, ◌++◌, length, map, replicate, position, Option, Some, None, Result, Ok, Err, All, refl, sym, ap, ◌∙◌, subst, arith}
+use Rattle.std.proofs.Common.{◌≡◌, ◌≢◌, ℕ, zero, suc, ◌+◌, ◌*◌, ◌/◌, ◌%◌, ◌<◌, ◌≤◌, Bool, true, false, cond, eqb, ltb, List, ◌∷◌, ◌++◌, length, map, replicate, position, Option, Some, None, Ok, Err, All, refl, sym, ap, ◌∙◌, arith}
 use Rattle.std.specs.List.{flat_map, position_or_len}
-use Rattle.std.proofs.lemmas.Bool.{false≢true, eqb-false}
 use Rattle.std.proofs.lemmas.Bool.Decides.{nat_tests}
 use Rattle.std.proofs.lemmas.List.{length-append, length-map, length-replicate}
 use Rattle.std.proofs.lemmas.List.Concat.{flat_map-append}
@@ -11,7 +10,7 @@ use Rattle.pocsag_text.specs.declared.fault.TextFault.{TextFault}
 use Rattle.pocsag_text.specs.declared.fault.TextFault.TheVariants as fault
 use Rattle.pocsag_text.specs.Bits.{low_first}
 use Rattle.pocsag_text.specs.Characters.{code_or_space, is_bad_digit}
-use Rattle.pocsag_text.specs.Text.{fault_of_place, fault_of, text_fault, unless, short_of, twenties, is_bad_byte, numeric_bits, alpha_bits, numeric_payload, alpha_payload}
+use Rattle.pocsag_text.specs.Text.{fault_of_place, text_fault, unless, short_of, twenties, is_bad_byte, numeric_bits, alpha_bits, numeric_payload, alpha_payload}
 use Rattle.pocsag_text.proofs.BitLists.{length-low_first}
 use Rattle.pocsag_text.proofs.Cuts.{length-cut, length-flat_map-wide}
 

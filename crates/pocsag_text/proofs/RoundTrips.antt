@@ -1,16 +1,16 @@
 -- A text that was packed comes back.
-use Rattle.std.proofs.Common.{◌≡◌, ◌≢◌, ℕ, zero, suc, ◌+◌, ◌-◌, ◌*◌, ◌/◌, ◌%◌, ◌^◌, ◌<◌, ◌≤◌, List, [], ◌∷◌, ◌++◌, length, map, replicate, take, drop, None, Ok, All, false, refl, sym, ap, ◌∙◌, arith, lit<}
+use Rattle.std.proofs.Common.{◌≡◌, ◌≢◌, ℕ, zero, suc, ◌+◌, ◌*◌, ◌/◌, ◌%◌, ◌^◌, ◌<◌, List, [], ◌∷◌, ◌++◌, length, map, replicate, take, drop, Ok, All, false, refl, sym, ap, ◌∙◌, arith, lit<}
 use Rattle.std.specs.List.{flat_map}
 use Rattle.std.proofs.Math.Nat.{mod-eq_of_lt}
-use Rattle.std.proofs.lemmas.List.{append-nil, map-append, length-append, length-map, length-replicate}
+use Rattle.std.proofs.lemmas.List.{append-nil, map-append}
 use Rattle.std.proofs.lemmas.List.Elements.{All-nil, All-cons, All-head, All-tail, All-append, All-map, All-replicate, All-take, All-drop, All-weaker}
 use Rattle.pocsag_text.specs.Bits.{low_first, high_first, low_number, high_number, cut, item_bits}
 use Rattle.pocsag_text.specs.Characters.{code_or_space, character_of, is_bad_digit}
-use Rattle.pocsag_text.specs.Text.{text_fault, unless, short_of, twenties, is_bad_byte, numeric_bits, alpha_bits, numeric_payload, alpha_payload, codes_of, numeric_text, alpha_text, trim_end}
-use Rattle.pocsag_text.proofs.BitLists.{AreBits, AreBits-low_first, length-low_first, length-high_first, high_first-high_number, low_number-low_first}
+use Rattle.pocsag_text.specs.Text.{text_fault, short_of, twenties, is_bad_byte, numeric_bits, alpha_bits, numeric_payload, alpha_payload, codes_of, numeric_text, alpha_text, trim_end}
+use Rattle.pocsag_text.proofs.BitLists.{AreBits, AreBits-low_first, length-low_first, high_first-high_number, low_number-low_first}
 use Rattle.pocsag_text.proofs.Codes.{character_of-code_or_space, code_or_space-lt, space_is}
 use Rattle.pocsag_text.proofs.Cuts.{cut-append, cut-flat_map, flat_map-cut, length-flat_map-wide}
-use Rattle.pocsag_text.proofs.Payloads.{fault_none, good_byte, unless_ok, whole_numeric, whole_alpha, length-numeric_bits, length-alpha_bits}
+use Rattle.pocsag_text.proofs.Payloads.{alpha_bytes, fault_none, good_byte, unless_ok, whole_numeric, whole_alpha, length-alpha_bits}
 use Rattle.pocsag_text.proofs.Trims.{trim_end-append, trim_end-none}
 
 AreBits-flat_map : (width : ℕ) (xs : List ℕ) → AreBits (flat_map (low_first width) xs)
@@ -69,7 +69,7 @@ unfolding alpha_text alpha_payload
 alpha_text-back text items h =
     let p = unless_ok (text_fault is_bad_byte text) (twenties (alpha_bits text)) items h in
     let good = (fault_none is_bad_byte text p.0).1 in
-    let small : All (λ b. b < 128) text = All-weaker (λ b. is_bad_byte b ≡ false) (λ b. b < 128) (λ b g. (good_byte b g).1) text good in
+    let small : All (λ b. b < 128) text = alpha_bytes text p.0 in
     let some : All (λ b. b ≢ 0) text = All-weaker (λ b. is_bad_byte b ≡ false) (λ b. b ≢ 0) (λ b g. (good_byte b g).0) text good in
     let s = short_of 20 (7 * length text) in
     let zeros : All (λ z. z ≡ 0) (cut 7 low_number (s / 7) (replicate s 0)) = cut-zeros 7 (s / 7) (replicate s 0) (All-replicate (λ b. b ≡ 0) s 0 refl) in

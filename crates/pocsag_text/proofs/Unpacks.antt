@@ -1,5 +1,5 @@
 -- What the unpacker's steps do to its bits.
-use Rattle.std.proofs.Common.{◌≡◌, ℕ, zero, suc, ◌+◌, ◌-◌, ◌*◌, ◌/◌, ◌%◌, ◌^◌, ◌<◌, ◌≤◌, List, [], ◌∷◌, ◌++◌, length, All, refl, sym, ap, ◌∙◌, arith}
+use Rattle.std.proofs.Common.{◌≡◌, ℕ, ◌+◌, ◌-◌, ◌*◌, ◌/◌, ◌%◌, ◌^◌, ◌<◌, ◌≤◌, List, [], ◌∷◌, ◌++◌, length, All, refl, sym, ap, ◌∙◌, arith}
 use Rattle.std.specs.List.{flat_map}
 use Rattle.std.proofs.lemmas.Nat.{shr_below, mod_below, pow_pos, div-mul-add}
 use Rattle.std.proofs.Math.Nat.{mul_comm, mod-eq_of_lt}
@@ -48,10 +48,13 @@ IsTaking-more width codes count held code bits h enough lt is = record {
   where
     whole : width + (count - width) ≡ count
     whole = omega arith
+
     one : flat_map (low_first width) (codes ++ code ∷ []) ≡ flat_map (low_first width) codes ++ high_first width (held / 2 ^ (count - width))
     one = flat_map-append (low_first width) codes (code ∷ []) ∙ ap (λ x. flat_map (low_first width) codes ++ x) (append-nil (low_first width code) ∙ is)
+
     split : high_first width (held / 2 ^ (count - width)) ++ high_first (count - width) (held % 2 ^ (count - width)) ≡ high_first count held
     split = sym (high_first-split width (count - width) held) ∙ ap (λ n. high_first n held) whole
+
     joined : flat_map (low_first width) (codes ++ code ∷ []) ++ high_first (count - width) (held % 2 ^ (count - width)) ≡ flat_map (low_first width) codes ++ high_first count held
     joined =
         ap (λ x. x ++ high_first (count - width) (held % 2 ^ (count - width))) one ∙ append_assoc (flat_map (low_first width) codes) (high_first width (held / 2 ^ (count - width))) (high_first (count - width) (held % 2 ^ (count - width))) ∙ ap (λ x. flat_map (low_first width) codes ++ x) split
@@ -79,11 +82,15 @@ codes-unpacked_bits width codes count held h =
   where
     len : length (flat_map (low_first width) codes ++ high_first count held) ≡ width * length codes + count
     len = length-append (flat_map (low_first width) codes) (high_first count held) ∙ (rw (length-flat_map-wide width (low_first width) codes (length-low_first width), length-high_first count held) refl)
+
     turned : width * length codes + count ≡ length codes * width + count
     turned = omega (arith, mul_comm width (length codes))
+
     number : length (flat_map (low_first width) codes ++ high_first count held) / width ≡ length codes
     number = ap (λ n. n / width) (len ∙ turned) ∙ div-mul-add (length codes) width count h.few
+
     code-back : (x : ℕ) → x < 2 ^ width → low_number (low_first width x) ≡ x
     code-back x lt = low_number-low_first width x ∙ mod-eq_of_lt lt
+
     back : All (λ x. low_number (low_first width x) ≡ x) codes
     back = All-weaker (λ x. x < 2 ^ width) (λ x. low_number (low_first width x) ≡ x) code-back codes h.small

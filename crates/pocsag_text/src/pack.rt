@@ -146,3 +146,51 @@ fn alpha_packer(alloc: Global, text: &[u8]) -> Result<Packer, OutOfMemory>
     }
     Ok(packer)
 }
+
+#[cfg(test)]
+mod tests {
+    use super::*;
+    use std::test::Fail;
+
+    #[test]
+    fn five_digits(rt: HostRuntime) -> Result<(), Fail> {
+        let items = pack_numeric(rt.alloc(), b"12345")?;
+        assert_eq!(rt; items.as_slice(), [0x84C2A].as_slice());
+        Ok(())
+    }
+
+    #[test]
+    fn trailing_spaces(rt: HostRuntime) -> Result<(), Fail> {
+        let items = pack_numeric(rt.alloc(), b"12  ")?;
+        assert_eq!(rt; items.as_slice(), [0x84333].as_slice());
+        let items = pack_numeric(rt.alloc(), b"12")?;
+        assert_eq!(rt; items.as_slice(), [0x84333].as_slice());
+        Ok(())
+    }
+
+    #[test]
+    fn numeric_symbols(rt: HostRuntime) -> Result<(), Fail> {
+        let items = pack_numeric(rt.alloc(), b"*U -][")?;
+        assert_eq!(rt; items.as_slice(), [0x5D3B7, 0xF3333].as_slice());
+        Ok(())
+    }
+
+    #[test]
+    fn alpha_packing(rt: HostRuntime) -> Result<(), Fail> {
+        let items = pack_alpha(rt.alloc(), b"ABC")?;
+        assert_eq!(rt; items.as_slice(), [0x82870, 0x80000].as_slice());
+        let items = pack_alpha(rt.alloc(), &[b'A'; 20])?;
+        assert_eq!(rt; items.len(), 7);
+        Ok(())
+    }
+
+    #[test]
+    fn bad_records(rt: HostRuntime) {
+        let fault = pack_alpha(rt.alloc(), b"").err();
+        assert_eq!(rt; fault, Some(TextFault::EmptyMessage));
+        let fault = pack_numeric(rt.alloc(), b"12a").err();
+        assert_eq!(rt; fault, Some(TextFault::BadCharacter(2)));
+        let fault = pack_numeric(rt.alloc(), &[b'1'; 4001]).err();
+        assert_eq!(rt; fault, Some(TextFault::TooLong));
+    }
+}

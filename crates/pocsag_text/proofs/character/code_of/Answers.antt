@@ -1,4 +1,4 @@
-use Rattle.std.proofs.Common.{arith, inl, inr, sym, ap, ◌∙◌, ◌≡◌, ◌+◌, ◌-◌, ◌<◌, ◌≤◌, Some}
+use Rattle.std.proofs.Common.{arith, inl, inr, sym, ap, ◌∙◌, ◌≡◌, ◌+◌, ◌-◌}
 use Rattle.pocsag_text.specs.Characters.{numeric_characters, code_of}
 use Rattle.pocsag_text.proofs.Codes.{code_of-digit, code_of-none}
 use Rattle.pocsag_text.proofs.character.code_of.Goals as goal

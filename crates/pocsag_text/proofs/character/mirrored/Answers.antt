@@ -1,7 +1,4 @@
 use Rattle.pocsag_text.proofs.Mirrors.{high_first-mirrored, low_first-mirrored, mirrored-lt}
-use Rattle.pocsag_text.proofs.Trims.{trim_end-none}
-use Rattle.pocsag_text.proofs.Cuts.{cut-append}
-use Rattle.std.proofs.Common.{ap, sym}
 use Rattle.pocsag_text.proofs.character.mirrored.Goals as goal
 
 pub returns-clause-fits : goal.returns-clause-fits

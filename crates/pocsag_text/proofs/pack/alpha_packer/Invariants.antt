@@ -1,7 +1,6 @@
-use Rattle.std.proofs.Common.{◌≡◌, take, map}
+use Rattle.std.proofs.Common.{◌≡◌, take}
 use Rattle.std.specs.List.{flat_map}
 use Rattle.pocsag_text.specs.Bits.{low_first}
-use Rattle.pocsag_text.specs.Characters.{code_or_space}
 use Rattle.pocsag_text.proofs.pack.alpha_packer.Given as goal
 
 abbrev pub invariant-loop-byte : goal.invariant-loop-byte

@@ -1,5 +1,4 @@
-use Rattle.std.proofs.Common.{◌≡◌, Ok, Err, None, Some, IsOk, refl, sym, ap, ◌∙◌, inr}
-use Rattle.pocsag_text.specs.Text.{text_fault, alpha_payload, alpha_bits, twenties, is_bad_byte}
+use Rattle.std.proofs.Common.{Ok, refl, sym, ap, ◌∙◌, inr}
 use Rattle.pocsag_text.proofs.Payloads.{fault_none, fault_not_memory, alpha_payload-good, alpha_payload-bad, few_alpha, alpha_bytes}
 use Rattle.pocsag_text.proofs.pack.pack_alpha.Goals as goal
 

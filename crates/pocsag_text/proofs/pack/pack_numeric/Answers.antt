@@ -1,5 +1,4 @@
-use Rattle.std.proofs.Common.{◌≡◌, Ok, Err, None, Some, IsOk, refl, sym, ap, ◌∙◌, inr}
-use Rattle.pocsag_text.specs.Text.{text_fault, numeric_payload, numeric_bits, twenties}
+use Rattle.std.proofs.Common.{Ok, refl, sym, ap, ◌∙◌, inr}
 use Rattle.pocsag_text.proofs.Payloads.{fault_none, fault_not_memory, numeric_payload-good, numeric_payload-bad, few_numeric}
 use Rattle.pocsag_text.proofs.pack.pack_numeric.Goals as goal
 

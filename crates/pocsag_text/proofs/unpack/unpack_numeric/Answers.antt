@@ -1,5 +1,5 @@
 use Rattle.std.proofs.Common.{◌≡◌, ◌<◌, List, ℕ, IsSome, All, take, map, refl, sym, ap, ◌∙◌}
-use Rattle.std.proofs.lemmas.List.Elements.{All-map, All-take, All-weaker, All-same}
+use Rattle.std.proofs.lemmas.List.Elements.{All-map, All-take, All-weaker}
 use Rattle.pocsag_text.specs.Text.{numeric_text, trim_end, codes_of}
 use Rattle.pocsag_text.specs.Characters.{character_of, code_of}
 use Rattle.pocsag_text.proofs.Codes.{code_of-character_of}

@@ -1,8 +1,7 @@
-use Rattle.std.proofs.Common.{◌≡◌, ◌+◌, ◌-◌, ◌*◌, ◌/◌, ◌^◌, ◌<◌, ◌≤◌, ◌++◌, bit_or, lit≤, Fits, w8, arith}
+use Rattle.std.proofs.Common.{◌-◌, ◌^◌, ◌<◌, ◌≤◌, lit≤, arith}
 use Rattle.std.proofs.Math.Nat.{pow-le-pow_right}
-use Rattle.pocsag_text.specs.Bits.{high_first}
 use Rattle.pocsag_text.proofs.Packs.{held_with, lowest}
-use Rattle.pocsag_text.proofs.Unpacks.{IsTaking-start, IsTaking-more, IsUnpacked-end, next-lt}
+use Rattle.pocsag_text.proofs.Unpacks.{IsTaking-start, IsTaking-more, next-lt}
 use Rattle.pocsag_text.proofs.unpacker.Unpacker.with.Goals as goal
 
 pub loop-count-init : goal.loop-count-init
@@ -28,4 +27,4 @@ loop-count-preserved g c =
     let l = c.loop-count in
     let few : l.count - g.row.W < 20 = omega arith in
     rw (c.in-Ok.ensures.items, lowest l.held (l.count - g.row.W) few)
-        (IsTaking-more g.row.W l.codes.items l.count l.held c.mirrored.result _ l.invariant c.loop-count-test.true c.mirrored.ensures.fits c.mirrored.ensures.unpacked)
+    (IsTaking-more g.row.W l.codes.items l.count l.held c.mirrored.result _ l.invariant c.loop-count-test.true c.mirrored.ensures.fits c.mirrored.ensures.unpacked)
