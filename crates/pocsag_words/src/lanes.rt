@@ -48,8 +48,8 @@ fn checks_at(numbers: &[u32], start: usize) -> [u32; LANES]
 }
 
 // Eleven sums of bits of each number, which are all 0 where it is a codeword and nowhere else: the
-// product by the check polynomial, x^20 + x^17 + x^16 + x^13 + x^11 + x^7 + x^6 + x^5 + x^2 + x + 1,
-// has no high bits there but those that the parity turns.
+// high bits of the product, without carry, by x^31 + 1 divided by x + 1 and by the generator. Where
+// the parity bit is set it turns each of them.
 #[inline(always)]
 fn checks(numbers: u32x8) -> u32x8
     requires { length numbers ≡ 8 }

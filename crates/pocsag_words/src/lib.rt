@@ -12,6 +12,8 @@ mod laws;
 mod memory_sink;
 mod memory_source;
 mod refusal;
+#[cfg(test)]
+mod tests;
 
 pub use codeword::{Kind, Word, address_word, from_raw, message_word};
 pub use correction::repair;
