@@ -12,7 +12,7 @@ use Rattle.pocsag_words.specs.Columns.{combine, columns, check_of}
 use Rattle.pocsag_words.proofs.Linear.{IsLinear-combine, IsLinear-mod, IsLinear-div, combine_image, bit_cases}
 
 -- a, and each number the double of the one before
-unfoldable doublings : ℕ → ℕ → List ℕ
+unfoldable pub doublings : ℕ → ℕ → List ℕ
 doublings zero a = []
 doublings (suc k) a = a ∷ doublings k (2 * a)
 
@@ -35,7 +35,7 @@ twice_lt (suc zero) p r h k e = simp one-mul (omega arith)
 twice_lt (suc (suc x)) p r h k e = absurd (omega arith)
 
 -- the number itself is the sum of the powers at its set bits
-combine_powers : (k a n : ℕ) → n < 2 ^ k → combine (doublings k (2 ^ a)) n ≡ n * 2 ^ a
+pub combine_powers : (k a n : ℕ) → n < 2 ^ k → combine (doublings k (2 ^ a)) n ≡ n * 2 ^ a
 unfolding combine doublings
 combine_powers zero a n h = let e : n ≡ 0 = omega arith in rw e (sym (zero-mul (2 ^ a)))
 combine_powers (suc k) a n h =

@@ -1,8 +1,7 @@
 //! The check bits and the parity bit of a codeword from its 21 data bits, by tables.
-ghost use Rattle.std.specs.Prelude.{◌≡◌, ◌*◌, ◌+◌, ◌^◌, ◌<◌, ◌↔◌, IsTrue, length, slice_index};
+ghost use Rattle.std.specs.Prelude.{◌≡◌, ◌*◌, ◌+◌, ◌^◌, ◌<◌, ◌↔◌, IsTrue, slice_index};
 ghost use Rattle.pocsag_words.specs.Codeword.{IsCodeword};
 ghost use Rattle.pocsag_words.specs.Columns.{check_of, syndrome_of};
-ghost use Rattle.pocsag_words.specs.Flags.{TellCodewords};
 
 // What each number of the lowest seven data bits adds, without carry.
 const LOW_CHECKS: [u32; 128] = [
@@ -79,14 +78,4 @@ pub(crate) fn is_codeword(number: u32) -> bool
     ensures { IsTrue result ↔ IsCodeword number }
 {
     syndrome(number) == 0
-}
-
-/// Says of each number whether it is a codeword.
-pub fn check_all(numbers: &[u32], flags: &mut [bool])
-    requires { length numbers.now ≡ length flags.old }
-    ensures { TellCodewords numbers.now flags.new }
-{
-    for (i, number) in numbers.iter().enumerate() {
-        flags[i] = is_codeword(*number);
-    }
 }
