@@ -1,7 +1,7 @@
 -- What the absence of a fault says of a page, and of the pages of a round.
-use Rattle.std.proofs.Common.{◌≡◌, ◌≢◌, ℕ, ◌+◌, ◌^◌, ◌<◌, ◌≤◌, Bool, true, false, not, ◌||◌, ◌&&◌, ◌⊎◌, inl, inr, cond, List, [], ◌∷◌, length, map, get_or, All, nat_eq, nat_lt, nat_le, refl, sym, ap, ◌∙◌, arith, rules, tests}
-use Rattle.std.specs.Prelude.{Option, Some, None, slice_index_or}
-use Rattle.std.specs.List.{list_any, IsDistinct}
+use Rattle.std.proofs.Common.{◌≡◌, ◌≢◌, ℕ, ◌+◌, ◌^◌, ◌<◌, ◌≤◌, Bool, true, false, not, ◌||◌, ◌&&◌, ◌⊎◌, inl, inr, cond, List, [], ◌∷◌, length, All, nat_eq, nat_lt, nat_le, refl, arith}
+use Rattle.std.specs.Prelude.{Option, Some, None}
+use Rattle.std.specs.List.{list_any}
 use Rattle.std.proofs.lemmas.Bool.Decides.{nat_tests}
 use Rattle.std.proofs.Math.ListN.{get_or-map}
 use Rattle.std.proofs.lemmas.List.{length-map}
@@ -9,8 +9,7 @@ use Rattle.std.proofs.lemmas.List.Elements.{All-cons, All-nil, All-head, All-tai
 use Rattle.std.proofs.lemmas.Map.Keys.{apart_from_distinct}
 use Rattle.std.proofs.lemmas.Map.Steps.{length-le_from_distinct_below}
 use Rattle.pocsag_pages.specs.declared.page.Page.{Page}
-use Rattle.pocsag_pages.specs.declared.fault.PageFault.{PageFault}
-use Rattle.pocsag_pages.specs.Pages.{AreGood, IsGoodPage, IsRound, addresses_of, is_bad_payload, is_reserved, page_fault_of}
+use Rattle.pocsag_pages.specs.Pages.{AreGood, IsGoodPage, addresses_of, is_bad_payload, page_fault_of}
 use Rattle.pocsag_pages.specs.Reading.{AreApart}
 
 if_none : {X : Type 0} (b : Bool) (x : X) (rest : Option X) → cond b (Some x) rest ≡ None → (b ≡ false) × (rest ≡ None)
@@ -23,6 +22,9 @@ neither false b e = (refl, e)
 
 not_above : (limit n : ℕ) → nat_lt limit n ≡ false → n ≤ limit
 not_above limit n e = grind (arith, nat_tests)
+
+below_next : (limit n : ℕ) → n ≤ limit → n < limit + 1
+below_next limit n h = omega arith
 
 not_reached : (limit n : ℕ) → nat_le limit n ≡ false → n < limit
 not_reached limit n e = grind (arith, nat_tests)
@@ -54,9 +56,9 @@ good_page p e =
     let g = neither (nat_lt 3 p.function || ((nat_eq p.function 1 || nat_eq p.function 2) && not (nat_eq (length p.payload) 0))) (nat_lt 1400 (length p.payload)) f.0 in
     let h = neither (nat_lt 3 p.function) ((nat_eq p.function 1 || nat_eq p.function 2) && not (nat_eq (length p.payload) 0)) g.0 in
     record {
-      address = omega (arith, not_above 2097151 p.address a.0);
+      address = below_next 2097151 p.address (not_above 2097151 p.address a.0);
       unreserved = r.0;
-      function = omega (arith, not_above 3 p.function h.0);
+      function = below_next 3 p.function (not_above 3 p.function h.0);
       few = not_above 1400 (length p.payload) g.1;
       small = none_large p.payload f.1;
       silent = λ w. empty_where_unwanted _ p.payload h.1 (unwanted p.function w);
@@ -80,8 +82,8 @@ has_low [] fine q h = absurd (cc)
 has_low (p ∷ ps) fine q h =
     let low : p.address < 2 ^ 21 = (good_page p (All-head (λ r. page_fault_of r ≡ None) p ps fine)).address in
     elim (either_is (nat_eq q p.address) (list_any (nat_eq q) (addresses_of ps)) h) [
-      inl e ↦ low_same q p.address e low
-    | inr e ↦ has_low ps (All-tail (λ r. page_fault_of r ≡ None) p ps fine) q e
+      | inl e ↦ low_same q p.address e low
+      | inr e ↦ has_low ps (All-tail (λ r. page_fault_of r ≡ None) p ps fine) q e
     ]
 
 -- there are no more pages than addresses

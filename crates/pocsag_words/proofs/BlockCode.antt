@@ -1,18 +1,18 @@
 -- *Codeword*, both ways: a number is a codeword exactly where its low 11 bits are the check bits of its data.
-use Rattle.std.proofs.Common.{◌≡◌, ℕ, zero, suc, ◌+◌, ◌*◌, ◌/◌, ◌%◌, ◌^◌, ◌<◌, ◌⊎◌, Bool, true, ltb, ◌&&◌, List, [], ◌∷◌, bit_xor, count_ones, map, replicate, refl, sym, ap, ap₂, ◌∙◌, inl, inr, subst, ◌↔◌, IsTrue, nat_eq, eq-eqb, arith, zero-mul, one-mul, mul-zero}
+use Rattle.std.proofs.Common.{◌≡◌, ℕ, zero, suc, ◌+◌, ◌*◌, ◌/◌, ◌%◌, ◌^◌, ◌<◌, ◌⊎◌, Bool, true, ltb, ◌&&◌, List, [], ◌∷◌, bit_xor, count_ones, map, replicate, refl, sym, ap, ap₂, ◌∙◌, inl, inr, subst, arith, zero-mul, one-mul, mul-zero}
 use Rattle.std.specs.Int.Bits.{xor_shifted}
 use Rattle.std.specs.Int.Count.{ones_step}
 use Rattle.std.proofs.Math.Nat.{pow-suc}
 use Rattle.std.proofs.lemmas.Nat.{xor_comm, xor_lt, pow_pos, ones_le_self}
 use Rattle.std.proofs.lemmas.Bool.{and_parts}
-use borrow.Author.Tests.{ltb-true, eqb-true}
+use borrow.Author.Tests.{ltb-true}
 use Rattle.pocsag_words.specs.Carryless.{carryless}
 use Rattle.pocsag_words.specs.Codeword.{IsCodeword}
 use Rattle.pocsag_words.specs.Columns.{combine, columns, check_of}
 use Rattle.pocsag_words.proofs.Linear.{IsLinear-combine, IsLinear-mod, IsLinear-div, combine_image, bit_cases}
 
 -- a, and each number the double of the one before
-unfoldable doublings : ℕ → ℕ → List ℕ
+unfoldable pub doublings : ℕ → ℕ → List ℕ
 doublings zero a = []
 doublings (suc k) a = a ∷ doublings k (2 * a)
 
@@ -35,7 +35,7 @@ twice_lt (suc zero) p r h k e = simp one-mul (omega arith)
 twice_lt (suc (suc x)) p r h k e = absurd (omega arith)
 
 -- the number itself is the sum of the powers at its set bits
-combine_powers : (k a n : ℕ) → n < 2 ^ k → combine (doublings k (2 ^ a)) n ≡ n * 2 ^ a
+pub combine_powers : (k a n : ℕ) → n < 2 ^ k → combine (doublings k (2 ^ a)) n ≡ n * 2 ^ a
 unfolding combine doublings
 combine_powers zero a n h = let e : n ≡ 0 = omega arith in rw e (sym (zero-mul (2 ^ a)))
 combine_powers (suc k) a n h =
@@ -215,11 +215,6 @@ IsCodeword-encoded d h =
 pub same_from_data : (v w : ℕ) → IsCodeword v → IsCodeword w → v / 2048 ≡ w / 2048 → v ≡ w
 same_from_data v w p q e =
     omega (arith, IsCodeword-low v p, IsCodeword-low w q, e, ap check_of e)
-
--- the test that the code makes
-pub codeword_test : (w r : ℕ) → w < 2 ^ 32 → r ≡ check_of (w / 2048) → IsTrue (nat_eq (w % 2048) r) ↔ IsCodeword w
-codeword_test w r h e =
-    (λ t. IsCodeword-from_low w h (eqb-true _ _ t ∙ e), λ is. eq-eqb _ _ (IsCodeword-low w is ∙ sym e))
 
 pub IsCodeword-encode : (d r : ℕ) → d < 2 ^ 21 → r ≡ check_of d → IsCodeword (2048 * d + r)
 IsCodeword-encode d r h e =

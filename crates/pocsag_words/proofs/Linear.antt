@@ -26,7 +26,7 @@ same_from_xor a b h =
 pub xor_cancel : (a b : ℕ) → bit_xor (bit_xor a b) b ≡ a
 xor_cancel a b = xor_assoc a b b ∙ ap (bit_xor a) (xor_self b) ∙ xor_zero_r a
 
-xor_scaled : (x y t : ℕ) → (x ≡ 0) ⊎ (x ≡ 1) → (y ≡ 0) ⊎ (y ≡ 1) → bit_xor x y * t ≡ bit_xor (x * t) (y * t)
+pub xor_scaled : (x y t : ℕ) → (x ≡ 0) ⊎ (x ≡ 1) → (y ≡ 0) ⊎ (y ≡ 1) → bit_xor x y * t ≡ bit_xor (x * t) (y * t)
 xor_scaled x y t (inl p) (inl q) = rw (p, q, zero-mul) refl
 xor_scaled x y t (inl p) (inr q) = rw (p, q, zero-mul, one-mul) refl
 xor_scaled x y t (inr p) (inl q) = rw (p, q, zero-mul, one-mul) (sym (xor_zero_r t))

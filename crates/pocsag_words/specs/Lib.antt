@@ -1,4 +1,5 @@
 pub mod Carryless
+pub mod Checks
 pub mod Codeword
 pub mod Columns
 pub mod Devices

@@ -1,6 +1,17 @@
--- The limits of a memory sink.
-use Rattle.std.specs.Prelude.{ℕ}
+-- What contracts see of a memory sink.
+use Rattle.std.specs.Prelude.{ℕ, List, take}
 use Rattle.pocsag_words.specs.declared.memory_sink.MemorySink.{MemorySink}
+
+-- The bytes that were taken.
+abbrev pub taken_of : {N : ℕ} → MemorySink N → List ℕ
+taken_of s = take s.len s.bytes
+
+-- How many calls there were, and how many of them failed.
+abbrev pub calls_of : {N : ℕ} → MemorySink N → ℕ
+calls_of s = s.calls
+
+abbrev pub failures_of : {N : ℕ} → MemorySink N → ℕ
+failures_of s = s.failures
 
 -- The most bytes that one call moves.
 abbrev pub step_of : {N : ℕ} → MemorySink N → ℕ

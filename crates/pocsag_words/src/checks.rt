@@ -1,8 +1,7 @@
 //! The check bits and the parity bit of a codeword from its 21 data bits, by tables.
-ghost use Rattle.std.specs.Prelude.{◌≡◌, ◌*◌, ◌+◌, ◌^◌, ◌<◌, ◌↔◌, IsTrue, length, slice_index};
+ghost use Rattle.std.specs.Prelude.{◌≡◌, ◌*◌, ◌+◌, ◌^◌, ◌<◌, ◌↔◌, IsTrue, slice_index};
 ghost use Rattle.pocsag_words.specs.Codeword.{IsCodeword};
-ghost use Rattle.pocsag_words.specs.Columns.{check_of};
-ghost use Rattle.pocsag_words.specs.Flags.{TellCodewords};
+ghost use Rattle.pocsag_words.specs.Columns.{check_of, syndrome_of};
 
 // What each number of the lowest seven data bits adds, without carry.
 const LOW_CHECKS: [u32; 128] = [
@@ -66,19 +65,17 @@ fn entry(table: &[u32; 128], place: u32) -> u32
     table[place as usize]
 }
 
-/// Whether the number is a codeword: its low bits are the check bits of its data.
+/// What differs, without carry, between the low 11 bits of the number and the check bits of its data.
+pub(crate) fn syndrome(number: u32) -> u32
+    ensures value { result ≡ syndrome_of number }
+    ensures small { result < 2048 }
+{
+    number % 2048 ^ check_bits(number / 2048)
+}
+
+/// Whether the number is a codeword.
 pub(crate) fn is_codeword(number: u32) -> bool
     ensures { IsTrue result ↔ IsCodeword number }
 {
-    number % 2048 == check_bits(number / 2048)
-}
-
-/// Says of each number whether it is a codeword.
-pub fn check_all(numbers: &[u32], flags: &mut [bool])
-    requires { length numbers.now ≡ length flags.old }
-    ensures { TellCodewords numbers.now flags.new }
-{
-    for (i, number) in numbers.iter().enumerate() {
-        flags[i] = is_codeword(*number);
-    }
+    syndrome(number) == 0
 }

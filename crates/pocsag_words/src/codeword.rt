@@ -48,6 +48,14 @@ impl Word {
     ghost use Rattle.pocsag_words.specs.Codeword.{IsCodeword};
     ghost use Rattle.pocsag_words.specs.Kinds.{kind_of, IsInRange};
 
+    // The number as a codeword.
+    pub(crate) fn new(number: u32) -> Word
+        requires { IsCodeword number }
+        ensures { result ≡ number }
+    {
+        Word { number }
+    }
+
     /// The codeword as a number.
     pub fn raw(self) -> u32
         ensures same { result ≡ self }

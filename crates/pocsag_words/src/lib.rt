@@ -4,18 +4,23 @@
 
 mod checks;
 mod codeword;
+mod correction;
 mod device;
 mod ending;
+mod lanes;
 mod laws;
 mod memory_sink;
 mod memory_source;
 mod refusal;
+#[cfg(test)]
+mod tests;
 
-pub use checks::check_all;
 pub use codeword::{Kind, Word, address_word, from_raw, message_word};
+pub use correction::repair;
 pub use device::{DeviceFault, Sink, Source, write_all};
 pub use ending::End;
-pub use laws::same_from_kind;
+pub use lanes::check_all;
+pub use laws::{codewords_differ, same_from_kind};
 pub use memory_sink::MemorySink;
 pub use memory_source::MemorySource;
 pub use refusal::{OutOfMemory, WriteFault};
