@@ -1,6 +1,6 @@
 ghost use Rattle.std.specs.Prelude.{◌≡◌, IfOk, IfErr};
 ghost use Rattle.pocsag_words.specs.Devices.{HasFailed};
-ghost use Rattle.pocsag_pages.specs.File.{verdict};
+ghost use Rattle.pocsag_pages.specs.PageFile.{verdict};
 ghost use Rattle.pocsag_pages.specs.declared.fault.RoundFault.TheVariants as round;
 ghost use Rattle.pocsag_batch.specs.Streams.{ExplainsFault, IsBeforeWriting, LeavesPrefix, WritesInOrder};
 ghost use Rattle.pocsag_batch.specs.declared.stream.FirstFault.TheVariants as fault;
