@@ -54,7 +54,7 @@ ROUNDS = {
     "five-digits": (b"0,numeric,12345\n", 1, transmission(["00000000", "C261572C"] + 14 * [IDLE])),
     "trailing-spaces": (b"0,numeric,12  \n", 1, transmission(["00000000", "C2199DEA"] + 14 * [IDLE])),
     "no-spaces": (b"0,numeric,12\n", 1, transmission(["00000000", "C2199DEA"] + 14 * [IDLE])),
-    "alpha": (b"0,alpha,ABC\n", 1, transmission(["00000000", "C14387B8", "C00004DC"] + 13 * [IDLE])),
+    "alpha": (b"0,alpha,ABC\n", 1, transmission(["00001DA5", "C14387B8", "C00004DC"] + 13 * [IDLE])),
     "three-tones-one-frame": (
         b"5,tone0,\n13,tone0,\n21,tone0,\n",
         2,

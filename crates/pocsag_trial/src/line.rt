@@ -1,0 +1,59 @@
+use std::fmt::{Display, Write};
+
+use arrayvec::ArrayString;
+use pocsag_pages::Page;
+use pocsag_words::Word;
+
+/// The text of an answer, which takes no memory. What goes past its end is left out.
+#[derive(Drop)]
+pub struct Line {
+    text: ArrayString<600>,
+}
+
+impl Line {
+    pub fn new() -> Line {
+        Line {
+            text: ArrayString::new(),
+        }
+    }
+
+    pub fn as_str(&self) -> &str {
+        self.text.as_str()
+    }
+
+    pub fn put<D: Display + Drop>(&mut self, part: D) {
+        let _ = write!(self.text, " {part}");
+    }
+
+    pub fn put_items(&mut self, items: &[u32]) {
+        for item in items {
+            let _ = write!(self.text, " {item:05X}");
+        }
+    }
+
+    pub fn put_bytes(&mut self, bytes: &[u8]) {
+        for byte in bytes {
+            let _ = write!(self.text, " {byte:02X}");
+        }
+    }
+
+    pub fn put_words(&mut self, words: &[Word]) {
+        for word in words {
+            let number = word.raw();
+            let _ = write!(self.text, " {number:08X}");
+        }
+    }
+
+    pub fn put_page(&mut self, page: &Page) {
+        let address = page.address;
+        let function = page.function;
+        let _ = write!(self.text, " page {address}/{function}");
+        self.put_items(page.payload.as_slice());
+    }
+
+    pub fn put_pages(&mut self, pages: &[Page]) {
+        for page in pages {
+            self.put_page(page);
+        }
+    }
+}

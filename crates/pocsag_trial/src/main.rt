@@ -1,0 +1,96 @@
+#![tactic(auto)]
+//! Makes each public call that may lack memory once, on a worked example, and prints a line for each:
+//! its answer, or that memory was wanting. The tests run it with each growth refused in turn.
+
+mod line;
+mod packing;
+mod pages;
+mod rounds;
+
+use std::alloc::Global;
+use std::io;
+
+use pocsag_words::OutOfMemory;
+
+use crate::line::Line;
+
+// One call on one example.
+#[derive(Clone, Copy)]
+enum Trial {
+    PackNumeric,
+    PackAlpha,
+    UnpackNumeric,
+    UnpackAlpha,
+    ReadWhole,
+    ReadRound,
+    CopyTone,
+    CopyNumeric,
+    FromPages,
+    FromTightPages,
+    LayInOrder,
+    FirstStream,
+}
+
+const TRIALS: [Trial; 12] = [
+    Trial::PackNumeric,
+    Trial::PackAlpha,
+    Trial::UnpackNumeric,
+    Trial::UnpackAlpha,
+    Trial::ReadWhole,
+    Trial::ReadRound,
+    Trial::CopyTone,
+    Trial::CopyNumeric,
+    Trial::FromPages,
+    Trial::FromTightPages,
+    Trial::LayInOrder,
+    Trial::FirstStream,
+];
+
+fn name_of(trial: Trial) -> &'static str {
+    match trial {
+        Trial::PackNumeric => "pack_numeric of five-digits",
+        Trial::PackAlpha => "pack_alpha of alpha-packing",
+        Trial::UnpackNumeric => "unpack_numeric of numeric-symbols",
+        Trial::UnpackAlpha => "unpack_alpha of alpha-packing",
+        Trial::ReadWhole => "read_whole of lone-tone",
+        Trial::ReadRound => "read_round of lone-tone",
+        Trial::CopyTone => "Page::copy of lone-tone",
+        Trial::CopyNumeric => "Page::copy of five-digits",
+        Trial::FromPages => "Round::from_pages of open-round",
+        Trial::FromTightPages => "Round::from_pages of three-pages-tight",
+        Trial::LayInOrder => "lay_in_order of lone-tone",
+        Trial::FirstStream => "first_stream of lone-tone",
+    }
+}
+
+fn run(alloc: Global, trial: Trial, line: &mut Line) -> Result<(), OutOfMemory> {
+    match trial {
+        Trial::PackNumeric => packing::pack_five_digits(alloc, line),
+        Trial::PackAlpha => packing::pack_three_letters(alloc, line),
+        Trial::UnpackNumeric => packing::unpack_symbols(alloc, line),
+        Trial::UnpackAlpha => packing::unpack_three_letters(alloc, line),
+        Trial::ReadWhole => pages::read_lone_tone_whole(alloc, line),
+        Trial::ReadRound => pages::read_lone_tone(alloc, line),
+        Trial::CopyTone => pages::copy_lone_tone(alloc, line),
+        Trial::CopyNumeric => pages::copy_five_digits(alloc, line),
+        Trial::FromPages => pages::round_of_open_round(alloc, line),
+        Trial::FromTightPages => pages::round_of_tight_pages(alloc, line),
+        Trial::LayInOrder => rounds::lay_lone_tone(alloc, line),
+        Trial::FirstStream => rounds::stream_lone_tone(alloc, line),
+    }
+}
+
+fn main(rt: HostRuntime) -> io::Result<()> {
+    for trial in TRIALS {
+        let mut line = Line::new();
+        let name = name_of(trial);
+        match run(rt.alloc(), trial, &mut line) {
+            Ok(()) => {
+                let text = line.as_str();
+                println!(rt; "{name}:{text}")?;
+            }
+            Err(OutOfMemory) => println!(rt; "{name}: out of memory")?,
+        }
+    }
+    Ok(())
+}
