@@ -90,7 +90,7 @@ def try_trial(tally, library):
         told = done.stdout.splitlines()
         holds = done.returncode == 0 and len(told) == len(lines)
         for answer, wanted in zip(told, lines):
-            name = wanted.split(b":")[0]
+            name = wanted.split(b": ")[0]
             if answer != wanted:
                 lacking += 1
                 holds = holds and answer == name + b": out of memory"
