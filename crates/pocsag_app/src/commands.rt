@@ -1,11 +1,13 @@
-use std::alloc::Global;
-
-use pocsag_batch::{first_stream, in_order_batches};
-use pocsag_pages::read_round;
-use pocsag_words::{Sink, Source};
+ghost use Rattle.std.specs.Prelude.{◌≡◌, ℕ, OnOk};
+ghost use Rattle.pocsag_pages.specs.PageFile.{verdict};
+ghost use Rattle.pocsag_batch.specs.Streams.{WritesInOrder};
 
 use crate::fault::Fault;
 use crate::tell::{tell, tell_fault};
+use pocsag_batch::{first_stream, in_order_batches};
+use pocsag_pages::read_round;
+use pocsag_words::{Sink, Source};
+use std::alloc::Global;
 
 /// With no words: reads a page file and tells its pages and batches. Answers the exit status.
 pub fn run_input<I: Source, O: Sink, E: Sink>(
@@ -39,7 +41,10 @@ pub fn run_plan<P: Source, T: Sink, O: Sink, E: Sink>(
     tx: &mut T,
     out: &mut O,
     err: &mut E,
-) -> u8 {
+) -> u8
+    ensures written { P.tells → T.tells → result ≡ 0 →
+        (n : ℕ) × WritesInOrder (verdict (P.held pages.old)) (T.taken tx.old) (T.taken tx.new) n }
+{
     match plan(alloc, pages, tx, out) {
         Ok(()) => 0,
         Err(fault) => tell_fault(err, fault),
@@ -51,7 +56,10 @@ fn plan<P: Source, T: Sink, O: Sink>(
     pages: &mut P,
     tx: &mut T,
     out: &mut O,
-) -> Result<(), Fault> {
+) -> Result<(), Fault>
+    ensures written { P.tells → T.tells → OnOk result
+        ((n : ℕ) × WritesInOrder (verdict (P.held pages.old)) (T.taken tx.old) (T.taken tx.new) n) }
+{
     match first_stream(alloc, pages, tx) {
         Ok(batches) => tell(out, format_args!("batches {batches}")),
         Err(fault) => Err(Fault::of_first(fault)),

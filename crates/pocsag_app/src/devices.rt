@@ -1,8 +1,7 @@
 ghost use Rattle.std.specs.Prelude.{◌≡◌, []};
 
-use std::io::{Read, Write};
-
 use pocsag_words::{DeviceFault, Sink, Source};
+use std::io::{Read, Write};
 
 /// A reader of the system as a source. Any error, an interruption included, is a failure. Nothing is
 /// known of its bytes.

@@ -1,7 +1,8 @@
-use thiserror::Error;
+ghost use Rattle.std.specs.Prelude.{◌≡◌, ◌⊎◌};
 
 use pocsag_batch::FirstFault;
 use pocsag_pages::RoundFault;
+use thiserror::Error;
 
 /// Why a command did not do what it was asked.
 #[derive(Clone, Copy, PartialEq, Eq, Debug, Error)]
@@ -20,7 +21,9 @@ pub enum Fault {
 
 impl Fault {
     /// The exit status: 1 for what was refused, 3 for a device or memory.
-    pub fn status(self) -> u8 {
+    pub fn status(self) -> u8
+        ensures { (result ≡ 1) ⊎ (result ≡ 3) }
+    {
         match self {
             Fault::EqualPaths => 1,
             Fault::Device | Fault::Write | Fault::OutOfMemory => 3,

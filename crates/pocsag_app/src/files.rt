@@ -1,10 +1,9 @@
-use std::fs::{self, File};
-use std::io::{self, ErrorKind};
-use std::rt::Files;
-
 use crate::devices::{ReaderSource, WriterSink};
 use crate::fault::Fault;
 use crate::paths::Named;
+use std::fs::{self, File};
+use std::io::{self, ErrorKind};
+use std::rt::Files;
 
 // What a refusal to open or to make a file is told as: want of memory is told as such.
 fn fault_of(error: io::Error) -> Fault {

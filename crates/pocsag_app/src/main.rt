@@ -7,15 +7,9 @@ mod fault;
 mod files;
 mod paths;
 mod tell;
+#[cfg(test)]
+mod tests;
 mod words;
-
-use std::alloc::Global;
-use std::env;
-use std::io::ErrorKind as IoErrorKind;
-use std::process::ExitCode;
-
-use clap::Error;
-use clap::error::ErrorKind;
 
 use crate::commands::{run_input, run_plan};
 use crate::devices::{ReaderSource, WriterSink};
@@ -24,6 +18,12 @@ use crate::files::{make_sink, open_source};
 use crate::paths::{Named, equal_paths};
 use crate::tell::tell_fault;
 use crate::words::{Order, order_of};
+use clap::Error;
+use clap::error::ErrorKind;
+use std::alloc::Global;
+use std::env;
+use std::io::ErrorKind as IoErrorKind;
+use std::process::ExitCode;
 
 fn main(rt: HostRuntime) -> ExitCode {
     ExitCode::from(run(&rt))
@@ -70,7 +70,12 @@ fn refuse<E: pocsag_words::Sink>(rt: &HostRuntime, error: Error, err: &mut E) ->
     }
 }
 
-fn obey<E: pocsag_words::Sink>(rt: &HostRuntime, alloc: Global, order: Order<'_>, err: &mut E) -> u8 {
+fn obey<E: pocsag_words::Sink>(
+    rt: &HostRuntime,
+    alloc: Global,
+    order: Order<'_>,
+    err: &mut E,
+) -> u8 {
     let mut out = WriterSink::new(rt.stdout());
     match order {
         Order::Input => {

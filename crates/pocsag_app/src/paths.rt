@@ -1,13 +1,29 @@
-ghost use Rattle.std.specs.Prelude.{◌↔◌, IsTrue};
+ghost use Rattle.std.specs.Prelude.{◌↔◌, ◌<◌, IsTrue, length, map};
+ghost use Rattle.pocsag_app.specs.Paths.{HasEqual, IsNamedBefore};
 
 use std::fs::{self, Metadata};
 use std::os::unix::fs::MetadataExt;
 use std::rt::Files;
 
+// Whether one of the paths before the place is equal to that at the place.
+fn is_named_before(paths: &[&str], place: usize) -> bool
+    requires { place < length paths.now }
+    ensures { IsTrue result ↔ IsNamedBefore (map (λ path. path.now) paths.now) place }
+{
+    for earlier in 0..place {
+        if paths[earlier] == paths[place] {
+            return true;
+        }
+    }
+    false
+}
+
 /// Whether two of the paths are equal texts.
-pub fn equal_paths(paths: &[&str]) -> bool {
-    for (place, path) in paths.iter().enumerate() {
-        if paths[..place].iter().any(|earlier| *earlier == *path) {
+pub fn equal_paths(paths: &[&str]) -> bool
+    ensures { IsTrue result ↔ HasEqual (map (λ path. path.now) paths.now) }
+{
+    for place in 0..paths.len() {
+        if is_named_before(paths, place) {
             return true;
         }
     }

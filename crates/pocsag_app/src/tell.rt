@@ -1,9 +1,9 @@
-use std::fmt::{Display, Write};
-
-use arrayvec::ArrayString;
-use pocsag_words::{Sink, write_all};
+ghost use Rattle.std.specs.Prelude.{◌≡◌, ◌⊎◌};
 
 use crate::fault::Fault;
+use arrayvec::ArrayString;
+use pocsag_words::{Sink, write_all};
+use std::fmt::{Display, Write};
 
 // The longest line that is told, with its line feed.
 const LINE: usize = 120;
@@ -21,7 +21,9 @@ pub fn tell<S: Sink, D: Display + Drop>(sink: &mut S, line: D) -> Result<(), Fau
 }
 
 /// Tells a fault on standard error and answers its status. That standard error fails changes nothing.
-pub fn tell_fault<S: Sink>(err: &mut S, fault: Fault) -> u8 {
+pub fn tell_fault<S: Sink>(err: &mut S, fault: Fault) -> u8
+    ensures { (result ≡ 1) ⊎ (result ≡ 3) }
+{
     let _ = tell(err, format_args!("pocsag: {fault}"));
     fault.status()
 }

@@ -1,6 +1,5 @@
-use std::alloc::{AllocError, Global};
-
 use clap::{Arg, Command, Error};
+use std::alloc::{AllocError, Global};
 
 /// What the command line asks for.
 #[derive(Clone, Copy, PartialEq, Eq, Debug)]
@@ -18,14 +17,24 @@ fn positional<'a>(alloc: Global, id: &'a str, help: &'a str) -> Arg<'a> {
 fn plan_command<'a>(alloc: Global) -> Result<Command<'a>, AllocError> {
     Command::new(alloc, "plan")
         .about("Writes the transmission of a page file")
-        .arg(positional(alloc, "PAGES", "The page file, CSV with the header address,kind,message"))?
-        .arg(positional(alloc, "TX", "The transmission, which is made or emptied first"))
+        .arg(positional(
+            alloc,
+            "PAGES",
+            "The page file, CSV with the header address,kind,message",
+        ))?
+        .arg(positional(
+            alloc,
+            "TX",
+            "The transmission, which is made or emptied first",
+        ))
 }
 
 fn command<'a>(alloc: Global) -> Result<Command<'a>, AllocError> {
     Command::new(alloc, "pocsag")
         .bin_name("pocsag")?
-        .about("Plans POCSAG transmissions. With no words: reads a page file from standard input and tells its pages and batches")
+        .about(
+            "Plans POCSAG transmissions. With no words: reads a page file from standard input and tells its pages and batches",
+        )
         .subcommand(plan_command(alloc)?)
 }
 

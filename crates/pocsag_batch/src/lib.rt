@@ -14,3 +14,6 @@ pub use laws::{file_order_exists, file_order_is_legal, file_order_is_one};
 pub use order::{in_order_batches, lay_in_order};
 pub use stream::{FirstFault, first_stream};
 pub use writing::write;
+
+#[cfg(test)]
+mod tests;

@@ -1,0 +1,14 @@
+-- Paths as texts.
+use Rattle.std.specs.Prelude.{◌≡◌, ℕ, ◌<◌, List, [], length, slice_index_or}
+
+-- One of the texts before the place is that at the place.
+pub record IsNamedBefore (texts : List (List ℕ)) (later : ℕ) : Type 0 where
+  pub earlier : ℕ
+  pub order : earlier < later
+  pub equal : slice_index_or texts earlier [] ≡ slice_index_or texts later []
+
+-- Two of the texts are equal.
+pub record HasEqual (texts : List (List ℕ)) : Type 0 where
+  pub later : ℕ
+  pub within : later < length texts
+  pub before : IsNamedBefore texts later
