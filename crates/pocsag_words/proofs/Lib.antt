@@ -1,0 +1,4 @@
+pub mod BlockCode
+pub mod KindLemmas
+pub mod Linear
+pub mod Tables
