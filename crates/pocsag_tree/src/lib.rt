@@ -7,6 +7,7 @@ mod limits;
 mod reading;
 mod refusals;
 mod shape;
+mod writing;
 
 pub use counting::{depth, nodes};
 pub use limits::{CLASSES, DEPTH_LIMIT, FIRST, NODE_LIMIT, OPEN_CLASSES, Ranges, SECOND};
