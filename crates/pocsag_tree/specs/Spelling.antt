@@ -33,14 +33,24 @@ pub record HasText (r : Ranges) (batches : ℕ) (tree : Bound) : Type 0 where
   pub depth : depth_of tree ≤ DEPTH_LIMIT
   pub nodes : all_nodes tree ≤ NODE_LIMIT
 
+-- The tag and the fields of a `Split`, a `Cut` and a `Close` of so many children.
+abbrev pub split_head : (class m : ℕ) → List ℕ
+split_head class m = 1 ∷ class ∷ to_be_bytes w16 m
+
+abbrev pub cut_head : (set needed children : ℕ) → List ℕ
+cut_head set needed children = 2 ∷ to_be_bytes w16 set ++ needed ∷ to_be_bytes w16 children
+
+abbrev pub close_head : (children : ℕ) → List ℕ
+close_head children = 4 ∷ children ∷ []
+
 abbrev mutual
   -- The bytes of a tree: each node's tag and fields, and then its children in order.
   pub node : Bound → List ℕ
   node (overload set) = 0 ∷ to_be_bytes w16 set
-  node (split class m below above) = 1 ∷ class ∷ to_be_bytes w16 m ++ (node below ++ node above)
-  node (cut set needed children) = 2 ∷ to_be_bytes w16 set ++ (needed ∷ to_be_bytes w16 (count_of children) ++ row children)
+  node (split class m below above) = split_head class m ++ (node below ++ node above)
+  node (cut set needed children) = cut_head set needed (count_of children) ++ row children
   node unexamined = 3 ∷ []
-  node (close children) = 4 ∷ count_of children ∷ row children
+  node (close children) = close_head (count_of children) ++ row children
   pub row : Bounds → List ℕ
   row none = []
   row (more t ts) = node t ++ row ts
@@ -50,13 +60,19 @@ abbrev pub end_byte : End → ℕ
 end_byte ends.Open = 0
 end_byte ends.Closed = 1
 
--- The text in version PCB2.
-abbrev pub second_text : End → ℕ → Bound → List ℕ
-second_text end batches tree = 0x50 ∷ 0x43 ∷ 0x42 ∷ 0x32 ∷ end_byte end ∷ to_be_bytes w32 batches ++ node tree
+-- The text in version PCB2: the mark 50 43 42 and 32, the end, the batches, and the tree.
+abbrev pub second_head : End → ℕ → List ℕ
+second_head end batches = 0x50 ∷ 0x43 ∷ 0x42 ∷ 0x32 ∷ end_byte end ∷ to_be_bytes w32 batches
 
--- The text in version PCB1, for the open end alone.
+abbrev pub second_text : End → ℕ → Bound → List ℕ
+second_text end batches tree = second_head end batches ++ node tree
+
+-- The text in version PCB1, for the open end alone: the mark and 31, the batches, and the tree.
+abbrev pub first_head : ℕ → List ℕ
+first_head batches = 0x50 ∷ 0x43 ∷ 0x42 ∷ 0x31 ∷ to_be_bytes w32 batches
+
 abbrev pub first_text : ℕ → Bound → List ℕ
-first_text batches tree = 0x50 ∷ 0x43 ∷ 0x42 ∷ 0x31 ∷ to_be_bytes w32 batches ++ node tree
+first_text batches tree = first_head batches ++ node tree
 
 -- The bytes are the text in PCB2 of something that has one.
 pub record IsSecondText (end : End) (batches : ℕ) (tree : Bound) (bytes : List ℕ) : Type 0 where

@@ -13,3 +13,4 @@ pub use counting::{depth, nodes};
 pub use limits::{CLASSES, DEPTH_LIMIT, FIRST, NODE_LIMIT, OPEN_CLASSES, Ranges, SECOND};
 pub use refusals::{CertificateFault, TreeWriteFault};
 pub use shape::{Certificate, Tree};
+pub use writing::write_certificate;
