@@ -6,7 +6,7 @@ use Rattle.std.proofs.lemmas.Bool.{cases_Bool, ltb-true, leb-true, lt-ltb, le-le
 use Rattle.std.proofs.lemmas.Nat.{be_bytes_2, be_bytes_4}
 use Rattle.pocsag_tree.specs.declared.refusals.CertificateFault.{CertificateFault}
 use Rattle.pocsag_tree.specs.declared.refusals.CertificateFault.TheVariants as fault
-use Rattle.pocsag_tree.specs.Reading.{◌>>=◌, byte_at, number_at, small_at, large_at, batches_at}
+use Rattle.pocsag_tree.specs.Reading.{◌>>=◌, byte_at, number_at, small_at, large_at, long_number_at, batches_at}
 
 -- ---- steps that may fail
 
@@ -206,14 +206,35 @@ four_from_twos bytes middle rest h l p q =
           small = omega (arith, p.high_small, p.low_small, q.high_small, q.low_small);
         })
 
+pub long_number_is : (bytes : List ℕ) (x : ℕ × List ℕ) → long_number_at bytes ≡ Ok x → FourIs bytes x.0 x.1
+unfolding long_number_at
+long_number_is bytes x e =
+    let a = bind_ok (number_at bytes) (λ high. number_at high.1 >>= λ low. Ok (high.0 * 65536 + low.0, low.1)) x e in
+    let b = bind_ok (number_at a.0.1) (λ low. Ok (a.0.0 * 65536 + low.0, low.1)) x a.2 in
+    let built : ℕ × List ℕ = (a.0.0 * 65536 + b.0.0, b.0.1) in
+    subst (λ (y : ℕ × List ℕ). FourIs bytes y.0 y.1) (ok_is built x b.2)
+        (four_from_twos bytes a.0.1 b.0.1 a.0.0 b.0.0 (number_is bytes a.0 a.1) (number_is a.0.1 b.0 b.1))
+
+pub long_number_short : (bytes : List ℕ) (f : CertificateFault) → long_number_at bytes ≡ Err f → (f ≡ fault.ReadFault → ⊥) → IsShort w32 bytes f
+unfolding long_number_at
+long_number_short bytes f e given =
+    elim (bind_err (number_at bytes) (λ high. number_at high.1 >>= λ low. Ok (high.0 * 65536 + low.0, low.1)) f e) [
+      | inl h ↦ let s = number_short bytes f h given in record { truncated = s.truncated; short = omega (arith, s.short) }
+      | inr h ↦ elim (bind_err (number_at h.0.1) (λ low. Ok (h.0.0 * 65536 + low.0, low.1)) f h.2) [
+        | inl k ↦
+            let s = number_short h.0.1 f k given in
+            let first = number_is bytes h.0 h.1 in
+            record { truncated = s.truncated; short = omega (arith, s.short, ap length first.parts) }
+        | inr k ↦ absurd (let no = k.2 in cc)
+      ]
+    ]
+
 pub batches_takes : (bytes : List ℕ) (x : ℕ × List ℕ) → batches_at bytes ≡ Ok x → FourIs bytes x.0 x.1 × (1 ≤ x.0)
 unfolding batches_at
 batches_takes bytes x e =
-    let a = bind_ok (number_at bytes) (λ high. number_at high.1 >>= λ low. cond (leb 1 (high.0 * 65536 + low.0)) (Ok (high.0 * 65536 + low.0, low.1)) (Err fault.BadField)) x e in
-    let b = bind_ok (number_at a.0.1) (λ low. cond (leb 1 (a.0.0 * 65536 + low.0)) (Ok (a.0.0 * 65536 + low.0, low.1)) (Err fault.BadField)) x a.2 in
-    let g = guard_ok (leb 1 (a.0.0 * 65536 + b.0.0)) (a.0.0 * 65536 + b.0.0, b.0.1) x fault.BadField b.2 in
-    subst (λ (y : ℕ × List ℕ). FourIs bytes y.0 y.1 × (1 ≤ y.0)) g.1
-        (four_from_twos bytes a.0.1 b.0.1 a.0.0 b.0.0 (number_is bytes a.0 a.1) (number_is a.0.1 b.0 b.1), leb-true _ _ g.0)
+    let a = bind_ok (long_number_at bytes) (λ n. cond (leb 1 n.0) (Ok n) (Err fault.BadField)) x e in
+    let g = guard_ok (leb 1 a.0.0) a.0 x fault.BadField a.2 in
+    subst (λ (y : ℕ × List ℕ). FourIs bytes y.0 y.1 × (1 ≤ y.0)) g.1 (long_number_is bytes a.0 a.1, leb-true _ _ g.0)
 
 pair_again : (h l : ℕ) (rest : List ℕ) → h < 256 → l < 256 → number_at (h ∷ l ∷ rest) ≡ Ok (h * 256 + l, rest)
 unfolding number_at
@@ -223,7 +244,7 @@ four_whole : (n : ℕ) → n < 2 ^ 32 → (n / 16777216 % 256 * 256 + n / 65536 
 four_whole n lt = omega arith
 
 four_again : (h l : ℕ) (bytes middle rest : List ℕ) → number_at bytes ≡ Ok (h, middle) → number_at middle ≡ Ok (l, rest) → 1 ≤ h * 65536 + l → batches_at bytes ≡ Ok (h * 65536 + l, rest)
-unfolding batches_at
+unfolding batches_at long_number_at
 four_again h l bytes middle rest p q some = rw (p, q, le-leb 1 (h * 65536 + l) some) refl
 
 pub batches_again : (n : ℕ) (rest : List ℕ) → 1 ≤ n → n < 2 ^ 32 → batches_at (to_be_bytes w32 n ++ rest) ≡ Ok (n, rest)

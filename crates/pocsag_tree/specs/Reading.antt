@@ -122,11 +122,16 @@ version_at bytes = do
   byte ← byte_at bytes
   if byte.0 == 0x31 then Ok (FIRST, ends.Open, byte.1) else if byte.0 == 0x32 then (small_at 0 1 byte.1 >>= λ end. Ok (SECOND, end_of end.0, end.1)) else Err fault.Version
 
-unfoldable pub batches_at : List ℕ → Result (ℕ × List ℕ) CertificateFault
-batches_at bytes = do
+unfoldable pub long_number_at : List ℕ → Result (ℕ × List ℕ) CertificateFault
+long_number_at bytes = do
   high ← number_at bytes
   low ← number_at high.1
-  if nat_le 1 (high.0 * 65536 + low.0) then Ok (high.0 * 65536 + low.0, low.1) else Err fault.BadField
+  Ok (high.0 * 65536 + low.0, low.1)
+
+unfoldable pub batches_at : List ℕ → Result (ℕ × List ℕ) CertificateFault
+batches_at bytes = do
+  n ← long_number_at bytes
+  if nat_le 1 n.0 then Ok n else Err fault.BadField
 
 -- What stands at the end of the input.
 unfoldable pub end_at : List ℕ → Result (Unit {0}) CertificateFault

@@ -3,7 +3,7 @@ ghost use Rattle.pocsag_words.specs.declared.ending.End.{End};
 ghost use Rattle.pocsag_words.specs.Devices.{HasFailed};
 ghost use Rattle.pocsag_tree.specs.Bounds.{Bound, all_nodes, all_nodes_in, depth_of, deepest};
 ghost use Rattle.pocsag_tree.specs.Views.{bound_of, bounds_of};
-ghost use Rattle.pocsag_tree.specs.Reading.{Gives, failed_after, byte_at, number_at, small_at, large_at, row_at, overload_at, split_at, cut_at, close_at, body_at, tagged_at, node_at, mark_at, version_at, batches_at, end_at, end_of, certificate_at, all_of};
+ghost use Rattle.pocsag_tree.specs.Reading.{Gives, failed_after, byte_at, number_at, small_at, large_at, row_at, overload_at, split_at, cut_at, close_at, body_at, tagged_at, node_at, mark_at, version_at, long_number_at, batches_at, end_at, end_of, certificate_at, all_of};
 
 use crate::limits::{DEPTH_LIMIT, FIRST, NODE_LIMIT, Ranges, SECOND};
 use crate::refusals::CertificateFault;
@@ -112,14 +112,23 @@ fn version<S: Source>(source: &mut S) -> Result<(Ranges, End), CertificateFault>
     Err(CertificateFault::Version)
 }
 
+// A number of four bytes.
+#[tactic(auto, unfolding(crate::specs::Reading::long_number_at))]
+fn next_long_number<S: Source>(source: &mut S) -> Result<u32, CertificateFault>
+    ensures failures { S.failures source.new ≡ failed_after result (S.failures source.old) }
+    ensures bytes { S.tells → Gives (λ n. (n, S.held source.new)) result (long_number_at (S.held source.old)) }
+{
+    let high = next_number(source)?;
+    let low = next_number(source)?;
+    Ok(u32::from(high) * 65536 + u32::from(low))
+}
+
 #[tactic(auto, unfolding(crate::specs::Reading::batches_at))]
 fn batches<S: Source>(source: &mut S) -> Result<u32, CertificateFault>
     ensures failures { S.failures source.new ≡ failed_after result (S.failures source.old) }
     ensures bytes { S.tells → Gives (λ n. (n, S.held source.new)) result (batches_at (S.held source.old)) }
 {
-    let high = next_number(source)?;
-    let low = next_number(source)?;
-    let number = u32::from(high) * 65536 + u32::from(low);
+    let number = next_long_number(source)?;
     if 1 <= number {
         Ok(number)
     } else {
