@@ -1,7 +1,6 @@
 -- What `read_certificate` answers for the bytes that its reader held.
 use Rattle.std.specs.Prelude.{◌≡◌, ℕ, ◌⊎◌, List, Result, Ok, Err}
 use Rattle.pocsag_words.specs.declared.ending.End.{End}
-use Rattle.pocsag_words.specs.Devices.{one_more}
 use Rattle.pocsag_tree.specs.declared.shape.Certificate.{Certificate}
 use Rattle.pocsag_tree.specs.declared.refusals.CertificateFault.{CertificateFault}
 use Rattle.pocsag_tree.specs.declared.refusals.CertificateFault.TheVariants as fault
@@ -29,10 +28,8 @@ AnswersTriple (Err e) end batches tree = IsRefusal e
 -- The answer is this fault, unless reader or memory refused.
 abbrev pub AnswersFault : Result Certificate CertificateFault → CertificateFault → Type 0
 AnswersFault (Ok c) f = ⊥
-AnswersFault (Err e) f = (e ≡ f) ⊎ IsRefusal e
+AnswersFault (Err e) f = IsRefusal e ⊎ (e ≡ f)
 
--- The fault is the first of the bytes, or reader or memory refused.
+-- Reader or memory refused, or the fault is the first of the bytes.
 abbrev pub IsFault : CertificateFault → List ℕ → Type 0
-IsFault fault.ReadFault bytes = Unit {0}
-IsFault fault.OutOfMemory bytes = Unit {0}
-IsFault f bytes = HasFirst f bytes
+IsFault e bytes = IsRefusal e ⊎ HasFirst e bytes

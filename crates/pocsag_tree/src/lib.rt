@@ -3,6 +3,7 @@
 //! as bytes.
 
 mod counting;
+mod laws;
 mod limits;
 mod reading;
 mod refusals;
@@ -10,7 +11,9 @@ mod shape;
 mod writing;
 
 pub use counting::{depth, nodes};
+pub use laws::{no_text_begins_another, one_certificate, one_fault};
 pub use limits::{CLASSES, DEPTH_LIMIT, FIRST, NODE_LIMIT, OPEN_CLASSES, Ranges, SECOND};
+pub use reading::read_certificate;
 pub use refusals::{CertificateFault, TreeWriteFault};
 pub use shape::{Certificate, Tree};
 pub use writing::write_certificate;

@@ -1,8 +1,12 @@
-ghost use Rattle.std.specs.Prelude.{◌≡◌, ℕ, ◌+◌, ◌<◌, ◌≤◌, List, [], ◌∷◌, IfOk, IfErr, IsErrOf, MatchOption};
+ghost use Rattle.std.specs.Prelude.{◌≡◌, ℕ, ◌+◌, ◌<◌, ◌≤◌, List, [], ◌∷◌, IfOk, IfErr, OnOk, IsErrOf, MatchOption};
 ghost use Rattle.pocsag_words.specs.declared.ending.End.{End};
 ghost use Rattle.pocsag_words.specs.Devices.{HasFailed};
 ghost use Rattle.pocsag_tree.specs.Bounds.{Bound, all_nodes, all_nodes_in, depth_of, deepest};
 ghost use Rattle.pocsag_tree.specs.Views.{bound_of, bounds_of};
+ghost use Rattle.pocsag_tree.specs.Spelling.{IsText};
+ghost use Rattle.pocsag_tree.specs.Parts.{HasFirst};
+ghost use Rattle.pocsag_tree.specs.Answers.{AnswersTriple, AnswersFault, IsFault};
+ghost use Rattle.pocsag_tree.specs.declared.refusals.CertificateFault.{CertificateFault};
 ghost use Rattle.pocsag_tree.specs.Reading.{Gives, failed_after, byte_at, number_at, small_at, large_at, row_at, overload_at, split_at, cut_at, close_at, body_at, tagged_at, node_at, mark_at, version_at, long_number_at, batches_at, end_at, end_of, certificate_at, all_of};
 
 use crate::limits::{DEPTH_LIMIT, FIRST, NODE_LIMIT, Ranges, SECOND};
@@ -292,4 +296,57 @@ fn row<S: Source>(alloc: Global, ranges: Ranges, depth: u32, made: u32, count: u
         reached = after;
     }
     Ok((children, reached))
+}
+
+// A certificate, whatever comes after it.
+#[tactic(auto, unfolding(crate::specs::Reading::certificate_at))]
+fn certificate<S: Source>(alloc: Global, source: &mut S) -> Result<Certificate, CertificateFault>
+    ensures deep { IfOk result (λ c. depth_of (bound_of c.tree) ≤ 300) }
+    ensures few { IfOk result (λ c. all_nodes (bound_of c.tree) ≤ 1000000) }
+    ensures failures { S.failures source.new ≡ failed_after result (S.failures source.old) }
+    ensures bytes { S.tells → Gives (λ c. (c.end, c.batches, bound_of c.tree, S.held source.new)) result
+        (certificate_at (S.held source.old)) }
+{
+    mark(0x50, source)?;
+    mark(0x43, source)?;
+    mark(0x42, source)?;
+    let (ranges, end) = version(source)?;
+    let batches = batches(source)?;
+    let (tree, _) = node(alloc, ranges, DEPTH_LIMIT, 0, source)?;
+    Ok(Certificate { end, batches, tree })
+}
+
+// A certificate, and then the end.
+#[tactic(auto, unfolding(crate::specs::Reading::all_of))]
+fn all<S: Source>(alloc: Global, source: &mut S) -> Result<Certificate, CertificateFault>
+    ensures deep { IfOk result (λ c. depth_of (bound_of c.tree) ≤ 300) }
+    ensures few { IfOk result (λ c. all_nodes (bound_of c.tree) ≤ 1000000) }
+    ensures failures { S.failures source.new ≡ failed_after result (S.failures source.old) }
+    ensures bytes { S.tells → Gives (λ c. (c.end, c.batches, bound_of c.tree)) result (all_of (S.held source.old)) }
+{
+    let certificate = certificate(alloc, source)?;
+    end(source)?;
+    Ok(certificate)
+}
+
+/// Reads a certificate, in version PCB2 or PCB1, up to the end of the input.
+///
+/// The fault is the first from left to right. It reads no node deeper than `DEPTH_LIMIT` and no more
+/// than `NODE_LIMIT` nodes, whatever the bytes are; time and memory are linear in the bytes read.
+pub fn read_certificate<S: Source>(alloc: Global, reader: &mut S) -> Result<Certificate, CertificateFault>
+    // What is read is what all the bytes are a text of, and what they are a text of is read.
+    ensures found { S.tells → IfOk result (λ c. IsText c.end c.batches (bound_of c.tree) (S.held reader.old)) }
+    ensures only { S.tells → (end : End) (batches : ℕ) (tree : Bound)
+        → IsText end batches tree (S.held reader.old) → AnswersTriple result end batches tree }
+    // A fault is the first of the bytes, and the first of the bytes is answered.
+    ensures fault { S.tells → IfErr result (λ e. IsFault e (S.held reader.old)) }
+    ensures first { S.tells → (f : CertificateFault) → HasFirst f (S.held reader.old) → AnswersFault result f }
+    // What is read is small enough to be read again, also where the reader tells nothing.
+    ensures deep { IfOk result (λ c. depth_of (bound_of c.tree) ≤ DEPTH_LIMIT) }
+    ensures few { IfOk result (λ c. all_nodes (bound_of c.tree) ≤ NODE_LIMIT) }
+    // The reader failed in this call exactly where that is answered.
+    ensures succeeded { ¬ IsErrOf result CertificateFault.ReadFault → S.failures reader.new ≡ S.failures reader.old }
+    ensures failed { IsErrOf result CertificateFault.ReadFault → HasFailed (S.failures reader.old) (S.failures reader.new) }
+{
+    all(alloc, reader)
 }
