@@ -112,7 +112,7 @@ number_is bytes x e =
     let low = byte_is a.0.1 b.0 b.1 in
     let made : ℕ × List ℕ = (a.0.0 * 256 + b.0.0, b.0.1) in
     subst (λ (y : ℕ × List ℕ). TwoIs bytes y.0 y.1) (ok_is made x b.2)
-        (record { high = a.0.0; low = b.0.0; high_small = high.small; low_small = low.small; parts = high.parts ∙ ap (λ (t : List ℕ). a.0.0 ∷ t) low.parts; value = refl })
+    (record { high = a.0.0; low = b.0.0; high_small = high.small; low_small = low.small; parts = high.parts ∙ ap (λ (t : List ℕ). a.0.0 ∷ t) low.parts; value = refl })
 
 pub number_value : (bytes : List ℕ) (x : ℕ × List ℕ) → number_at bytes ≡ Ok x → NumberIs w16 bytes x.0 x.1
 number_value bytes x e =
@@ -200,11 +200,11 @@ four_from_twos bytes middle rest h l p q =
     let value : n ≡ h * 65536 + l = omega (arith, p.value, q.value) in
     let text : to_be_bytes w32 n ≡ p.high ∷ p.low ∷ q.high ∷ q.low ∷ [] = be_bytes_4 (p.high ∷ p.low ∷ q.high ∷ q.low ∷ []) n refl (four_small p.high p.low q.high q.low p.high_small p.low_small q.high_small q.low_small) (omega arith) in
     subst (λ (m : ℕ). FourIs bytes m rest) value
-        (record {
-          number = rw shape (four_is p.high p.low q.high q.low rest);
-          parts = shape ∙ ap (λ (t : List ℕ). t ++ rest) (sym text);
-          small = omega (arith, p.high_small, p.low_small, q.high_small, q.low_small);
-        })
+    (record {
+      number = rw shape (four_is p.high p.low q.high q.low rest);
+      parts = shape ∙ ap (λ (t : List ℕ). t ++ rest) (sym text);
+      small = omega (arith, p.high_small, p.low_small, q.high_small, q.low_small);
+    })
 
 pub long_number_is : (bytes : List ℕ) (x : ℕ × List ℕ) → long_number_at bytes ≡ Ok x → FourIs bytes x.0 x.1
 unfolding long_number_at
@@ -213,7 +213,7 @@ long_number_is bytes x e =
     let b = bind_ok (number_at a.0.1) (λ low. Ok (a.0.0 * 65536 + low.0, low.1)) x a.2 in
     let built : ℕ × List ℕ = (a.0.0 * 65536 + b.0.0, b.0.1) in
     subst (λ (y : ℕ × List ℕ). FourIs bytes y.0 y.1) (ok_is built x b.2)
-        (four_from_twos bytes a.0.1 b.0.1 a.0.0 b.0.0 (number_is bytes a.0 a.1) (number_is a.0.1 b.0 b.1))
+    (four_from_twos bytes a.0.1 b.0.1 a.0.0 b.0.0 (number_is bytes a.0 a.1) (number_is a.0.1 b.0 b.1))
 
 pub long_number_short : (bytes : List ℕ) (f : CertificateFault) → long_number_at bytes ≡ Err f → (f ≡ fault.ReadFault → ⊥) → IsShort w32 bytes f
 unfolding long_number_at

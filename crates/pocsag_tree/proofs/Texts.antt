@@ -135,7 +135,7 @@ mutual
   node_again r (overload set) zero made nodes rest v in_range deep few is = absurd (omega arith)
   node_again r (overload set) (suc d) made nodes rest v in_range deep few is =
       subst (λ (n : ℕ). node_at r (suc d) made (node (overload set) ++ rest) ≡ Ok (overload set, n, rest)) (sym is)
-          (node_step r d made (node (overload set) ++ rest) _ (omega arith) (tagged_again r (node_at r d) (overload set) made (made + 1) rest v in_range (overload_again r (node_at r d) set (made + 1) rest in_range.0 in_range.1)))
+      (node_step r d made (node (overload set) ++ rest) _ (omega arith) (tagged_again r (node_at r d) (overload set) made (made + 1) rest v in_range (overload_again r (node_at r d) set (made + 1) rest in_range.0 in_range.1)))
   node_again r (split class m below above) zero made nodes rest v in_range deep few is = absurd (omega arith)
   node_again r (split class m below above) (suc d) made nodes rest v in_range deep few is =
       let first = made + 1 + all_nodes below in
@@ -153,7 +153,8 @@ mutual
   node_again r unexamined zero made nodes rest v in_range deep few is = absurd (omega arith)
   node_again r unexamined (suc d) made nodes rest v in_range deep few is =
       subst (λ (n : ℕ). node_at r (suc d) made (node unexamined ++ rest) ≡ Ok (unexamined, n, rest)) (sym is)
-          (node_step r d made (node unexamined ++ rest) _ (omega arith) (tagged_again r (node_at r d) unexamined made (made + 1) rest v in_range (open_again r (node_at r d) (made + 1) rest)))
+      (node_step r d made (node unexamined ++ rest) _ (omega arith) (tagged_again r (node_at r d) unexamined made (made + 1) rest v in_range (open_again r (node_at r d) (made + 1) rest)))
+
   row_again : (r : Ranges) (ts : Bounds) (d made nodes : ℕ) (rest : List ℕ) → IsVersion r → AreInRange r ts → deepest ts ≤ d → nodes ≤ NODE_LIMIT → nodes ≡ made + all_nodes_in ts → row_at (node_at r d) (count_of ts) made (row ts ++ rest) ≡ Ok (ts, nodes, rest)
   row_again r none d made nodes rest v in_range deep few is =
       let same : made ≡ nodes = omega arith in
@@ -207,14 +208,14 @@ row_takes r d child takes (suc n) made bytes x few e =
     let q = row_takes r d child takes n a.0.1 a.0.2 b.0 p.few b.1 in
     let built : Read Bounds = (more a.0.0 b.0.0, b.0.1, b.0.2) in
     subst (λ (y : Read Bounds). TakesRow r d made (suc n) bytes y) (ok_is built x b.2)
-        (record {
-          parts = p.parts ∙ ap (λ (t : List ℕ). node a.0.0 ++ t) q.parts ∙ sym (append_assoc (node a.0.0) (row b.0.0) b.0.2);
-          in_range = (p.in_range, q.in_range);
-          deep = omega (arith, p.deep, q.deep);
-          counted = omega (arith, p.counted, q.counted);
-          few = q.few;
-          count = omega (arith, q.count);
-        })
+    (record {
+      parts = p.parts ∙ ap (λ (t : List ℕ). node a.0.0 ++ t) q.parts ∙ sym (append_assoc (node a.0.0) (row b.0.0) b.0.2);
+      in_range = (p.in_range, q.in_range);
+      deep = omega (arith, p.deep, q.deep);
+      counted = omega (arith, p.counted, q.counted);
+      few = q.few;
+      count = omega (arith, q.count);
+    })
 
 -- a node from behind its tag
 record TakesBody (r : Ranges) (d made tag : ℕ) (bytes : List ℕ) (x : Read Bound) : Type 0 where
@@ -232,7 +233,7 @@ overload_takes r d made bytes x few e =
     let p = large_takes 1 65535 bytes a.0 a.1 in
     let built : Read Bound = (overload a.0.0, made, a.0.1) in
     subst (λ (y : Read Bound). TakesBody r d made 0 bytes y) (ok_is built x a.2)
-        (record { parts = p.0; same_tag = refl; in_range = (p.2.least, p.1); deep = omega arith; counted = refl; few = few })
+    (record { parts = p.0; same_tag = refl; in_range = (p.2.least, p.1); deep = omega arith; counted = refl; few = few })
 
 split_takes : (r : Ranges) (d : ℕ) (child : Reader) → TakesAll r d child → (made : ℕ) (bytes : List ℕ) (x : Read Bound) → split_at r child made bytes ≡ Ok x → TakesBody r d made 1 bytes x
 unfolding split_at
@@ -253,14 +254,14 @@ split_takes r d child takes made bytes x e =
     let whole : bytes ≡ behind (split class.0 m.0 below.0 above.0) ++ above.2 = p.0.parts ∙ ap (λ (y : List ℕ). class.0 ∷ y) q.0 ∙ ap (λ (y : List ℕ). class.0 ∷ to_be_bytes w16 m.0 ++ y) children in
     let built : Read Bound = (split class.0 m.0 below.0 above.0, above.1, above.2) in
     subst (λ (y : Read Bound). TakesBody r d made 1 bytes y) (ok_is built x f.2)
-        (record {
-          parts = whole;
-          same_tag = refl;
-          in_range = (p.1.most, q.2.least, q.2.most, s.in_range, t.in_range);
-          deep = omega (arith, s.deep, t.deep);
-          counted = omega (arith, s.counted, t.counted);
-          few = t.few;
-        })
+    (record {
+      parts = whole;
+      same_tag = refl;
+      in_range = (p.1.most, q.2.least, q.2.most, s.in_range, t.in_range);
+      deep = omega (arith, s.deep, t.deep);
+      counted = omega (arith, s.counted, t.counted);
+      few = t.few;
+    })
 
 cut_takes : (r : Ranges) (d : ℕ) (child : Reader) → TakesAll r d child → (made : ℕ) (bytes : List ℕ) (x : Read Bound) → made ≤ NODE_LIMIT → cut_at r child made bytes ≡ Ok x → TakesBody r d made 2 bytes x
 unfolding cut_at
@@ -281,14 +282,14 @@ cut_takes r d child takes made bytes x few e =
     let whole : bytes ≡ behind (cut set.0 needed.0 children.0) ++ children.2 = p.0 ∙ ap (λ (y : List ℕ). to_be_bytes w16 set.0 ++ y) (q.0.parts ∙ ap (λ (y : List ℕ). needed.0 ∷ y) (number ∙ ap (λ (y : List ℕ). to_be_bytes w16 (count_of children.0) ++ y) t.parts)) in
     let built : Read Bound = (cut set.0 needed.0 children.0, children.1, children.2) in
     subst (λ (y : Read Bound). TakesBody r d made 2 bytes y) (ok_is built x f.2)
-        (record {
-          parts = whole;
-          same_tag = refl;
-          in_range = ((p.2.least, p.1), q.1.most, omega (arith, s.2.least, t.count), omega (arith, s.2.most, t.count), t.in_range);
-          deep = omega (arith, t.deep);
-          counted = omega (arith, t.counted);
-          few = t.few;
-        })
+    (record {
+      parts = whole;
+      same_tag = refl;
+      in_range = ((p.2.least, p.1), q.1.most, omega (arith, s.2.least, t.count), omega (arith, s.2.most, t.count), t.in_range);
+      deep = omega (arith, t.deep);
+      counted = omega (arith, t.counted);
+      few = t.few;
+    })
 
 close_takes : (r : Ranges) (d : ℕ) (child : Reader) → TakesAll r d child → (made : ℕ) (bytes : List ℕ) (x : Read Bound) → 4 ≤ r.tag → made ≤ NODE_LIMIT → close_at child made bytes ≡ Ok x → TakesBody r d made 4 bytes x
 unfolding close_at
@@ -302,20 +303,20 @@ close_takes r d child takes made bytes x four few e =
     let whole : bytes ≡ behind (close children.0) ++ children.2 = p.0.parts ∙ ap (λ (n : ℕ). n ∷ count.1) (sym t.count) ∙ ap (λ (y : List ℕ). count_of children.0 ∷ y) t.parts in
     let built : Read Bound = (close children.0, children.1, children.2) in
     subst (λ (y : Read Bound). TakesBody r d made 4 bytes y) (ok_is built x b.2)
-        (record {
-          parts = whole;
-          same_tag = refl;
-          in_range = (four, omega (arith, p.1.least, t.count), omega (arith, p.1.most, t.count), t.in_range);
-          deep = omega (arith, t.deep);
-          counted = omega (arith, t.counted);
-          few = t.few;
-        })
+    (record {
+      parts = whole;
+      same_tag = refl;
+      in_range = (four, omega (arith, p.1.least, t.count), omega (arith, p.1.most, t.count), t.in_range);
+      deep = omega (arith, t.deep);
+      counted = omega (arith, t.counted);
+      few = t.few;
+    })
 
 open_takes : (r : Ranges) (d made : ℕ) (bytes : List ℕ) (x : Read Bound) → made ≤ NODE_LIMIT → done (unexamined, made, bytes) ≡ Ok x → TakesBody r d made 3 bytes x
 open_takes r d made bytes x few e =
     let built : Read Bound = (unexamined, made, bytes) in
     subst (λ (y : Read Bound). TakesBody r d made 3 bytes y) (ok_is built x e)
-        (record { parts = refl; same_tag = refl; in_range = tt; deep = omega arith; counted = refl; few = few })
+    (record { parts = refl; same_tag = refl; in_range = tt; deep = omega arith; counted = refl; few = few })
 
 body_takes : (r : Ranges) (d : ℕ) (child : Reader) → TakesAll r d child → IsVersion r → (tag made : ℕ) (bytes : List ℕ) (x : Read Bound) → tag ≤ r.tag → made ≤ NODE_LIMIT → body_at r child tag made bytes ≡ Ok x → TakesBody r d made tag bytes x
 unfolding body_at
@@ -445,16 +446,16 @@ certificate_takes bytes x e =
     let mark : bytes ≡ 0x50 ∷ 0x43 ∷ 0x42 ∷ c.0 = mark_takes 0x50 bytes a.0 a.1 ∙ ap (λ (y : List ℕ). 0x50 ∷ y) (mark_takes 0x43 a.0 b.0 b.1) ∙ ap (λ (y : List ℕ). 0x50 ∷ 0x43 ∷ y) (mark_takes 0x42 b.0 c.0 c.1) in
     let built : End × ℕ × Bound × List ℕ = (version.1, batches.0, tree.0, tree.2) in
     subst (λ (y : End × ℕ × Bound × List ℕ). IsTextThen y.0 y.1 y.2 bytes y.3) (ok_is built x g.2)
-        (elim (version_takes c.0 version d.1) [
-          | inl h ↦
-              let t = rest_takes FIRST FIRST-is version.2 batches tree f.1 (subst (λ (r : Ranges). node_at r DEPTH_LIMIT 0 batches.1 ≡ Ok tree) h.0 g.1) in
-              let parts : bytes ≡ first_text batches.0 tree.0 ++ tree.2 = mark ∙ ap (λ (y : List ℕ). 0x50 ∷ 0x43 ∷ 0x42 ∷ y) (h.2 ∙ ap (λ (y : List ℕ). 0x31 ∷ y) t.parts) ∙ sym (append_assoc (first_head batches.0) (node tree.0) tree.2) in
-              (first_text batches.0 tree.0, inr (record { open_end = h.1; has_text = t.has_text; text = refl }), parts)
-          | inr h ↦
-              let t = rest_takes SECOND SECOND-is version.2 batches tree f.1 (subst (λ (r : Ranges). node_at r DEPTH_LIMIT 0 batches.1 ≡ Ok tree) h.0 g.1) in
-              let parts : bytes ≡ second_text version.1 batches.0 tree.0 ++ tree.2 = mark ∙ ap (λ (y : List ℕ). 0x50 ∷ 0x43 ∷ 0x42 ∷ y) (h.1 ∙ ap (λ (y : List ℕ). 0x32 ∷ end_byte version.1 ∷ y) t.parts) ∙ sym (append_assoc (second_head version.1 batches.0) (node tree.0) tree.2) in
-              (second_text version.1 batches.0 tree.0, inl (record { has_text = t.has_text; text = refl }), parts)
-        ])
+    (elim (version_takes c.0 version d.1) [
+      | inl h ↦
+          let t = rest_takes FIRST FIRST-is version.2 batches tree f.1 (subst (λ (r : Ranges). node_at r DEPTH_LIMIT 0 batches.1 ≡ Ok tree) h.0 g.1) in
+          let parts : bytes ≡ first_text batches.0 tree.0 ++ tree.2 = mark ∙ ap (λ (y : List ℕ). 0x50 ∷ 0x43 ∷ 0x42 ∷ y) (h.2 ∙ ap (λ (y : List ℕ). 0x31 ∷ y) t.parts) ∙ sym (append_assoc (first_head batches.0) (node tree.0) tree.2) in
+          (first_text batches.0 tree.0, inr (record { open_end = h.1; has_text = t.has_text; text = refl }), parts)
+      | inr h ↦
+          let t = rest_takes SECOND SECOND-is version.2 batches tree f.1 (subst (λ (r : Ranges). node_at r DEPTH_LIMIT 0 batches.1 ≡ Ok tree) h.0 g.1) in
+          let parts : bytes ≡ second_text version.1 batches.0 tree.0 ++ tree.2 = mark ∙ ap (λ (y : List ℕ). 0x50 ∷ 0x43 ∷ 0x42 ∷ y) (h.1 ∙ ap (λ (y : List ℕ). 0x32 ∷ end_byte version.1 ∷ y) t.parts) ∙ sym (append_assoc (second_head version.1 batches.0) (node tree.0) tree.2) in
+          (second_text version.1 batches.0 tree.0, inl (record { has_text = t.has_text; text = refl }), parts)
+    ])
 
 -- a certificate behind its version
 rest_again : (r : Ranges) (end : End) (batches : ℕ) (tree : Bound) (bytes rest : List ℕ) → IsVersion r → HasText r batches tree

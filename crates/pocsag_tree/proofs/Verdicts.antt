@@ -102,9 +102,9 @@ ranged : (part : Part) (asked : ℕ → List Part) (low high nodes : ℕ) (parts
 ranged part asked low high nodes parts bytes (Err f) fine same judges reads = λ given. short_part part parts nodes bytes f fine (reads.ends f refl given)
 ranged part asked low high nodes parts bytes (Ok x) fine same judges reads =
     cond_both (leb low x.0 && leb x.0 high) (Ok x) (Err fault.BadField)
-        (Leads (record { wanted = part ∷ parts; nodes = nodes; bytes = bytes }) (λ (y : ℕ × List ℕ). record { wanted = asked y.0 ++ parts; nodes = nodes; bytes = y.1 }))
-        (λ t. λ v m. right_part part (asked x.0) parts nodes x.0 bytes x.1 v fine (reads.value x refl) (judges x.0 ∙ rw t refl) (subst (λ (n : ℕ). Meets (asked x.0 ++ parts) n x.1 v) (sym same) m))
-        (λ t. λ given. wrong_part part parts nodes x.0 bytes x.1 fault.BadField fine (reads.value x refl) (judges x.0 ∙ rw t refl))
+    (Leads (record { wanted = part ∷ parts; nodes = nodes; bytes = bytes }) (λ (y : ℕ × List ℕ). record { wanted = asked y.0 ++ parts; nodes = nodes; bytes = y.1 }))
+    (λ t. λ v m. right_part part (asked x.0) parts nodes x.0 bytes x.1 v fine (reads.value x refl) (judges x.0 ∙ rw t refl) (subst (λ (n : ℕ). Meets (asked x.0 ++ parts) n x.1 v) (sym same) m))
+    (λ t. λ given. wrong_part part parts nodes x.0 bytes x.1 fault.BadField fine (reads.value x refl) (judges x.0 ∙ rw t refl))
 
 small_leads : (low high nodes : ℕ) (parts : List Part) (bytes : List ℕ)
     → Leads (record { wanted = field w8 low high ∷ parts; nodes = nodes; bytes = bytes }) (λ x. record { wanted = parts; nodes = nodes; bytes = x.1 }) (small_at low high bytes)
@@ -149,10 +149,10 @@ unfolding row_at
 row_leads r depth child leads zero parts nodes bytes = λ v m. m
 row_leads r depth child leads (suc n) parts nodes bytes =
     then_leads (at (replicate (suc n) (node r depth) ++ parts) nodes bytes) (past (replicate n (node r depth) ++ parts)) (past parts) (child nodes bytes) (λ first. row_at child n first.1 first.2 >>= λ others. Ok (more first.0 others.0, others.1, others.2))
-        (leads (replicate n (node r depth) ++ parts) nodes bytes)
-        (λ first is. then_leads (at (replicate n (node r depth) ++ parts) first.1 first.2) (past parts) (past parts) (row_at child n first.1 first.2) (λ others. Ok (more first.0 others.0, others.1, others.2))
-            (row_leads r depth child leads n parts first.1 first.2)
-            (λ others same. λ v m. m))
+    (leads (replicate n (node r depth) ++ parts) nodes bytes)
+    (λ first is. then_leads (at (replicate n (node r depth) ++ parts) first.1 first.2) (past parts) (past parts) (row_at child n first.1 first.2) (λ others. Ok (more first.0 others.0, others.1, others.2))
+    (row_leads r depth child leads n parts first.1 first.2)
+    (λ others same. λ v m. m))
 
 overload_leads : (parts : List Part) (nodes : ℕ) (bytes : List ℕ) → Leads (at (field w16 1 65535 ∷ parts) nodes bytes) (past parts) (overload_at nodes bytes)
 unfolding overload_at
@@ -164,28 +164,28 @@ split_leads : (r : Ranges) (depth : ℕ) (child : Reader) → NodeLeads r depth 
 unfolding split_at
 split_leads r depth child leads parts nodes bytes =
     then_leads (at (field w8 0 r.class ∷ field w16 1 r.m ∷ node r depth ∷ node r depth ∷ parts) nodes bytes) (λ x. at (field w16 1 r.m ∷ node r depth ∷ node r depth ∷ parts) nodes x.1) (past parts) (small_at 0 r.class bytes) _ (small_leads 0 r.class nodes (field w16 1 r.m ∷ node r depth ∷ node r depth ∷ parts) bytes)
-        (λ class is. then_leads (at (field w16 1 r.m ∷ node r depth ∷ node r depth ∷ parts) nodes class.1) (λ x. at (node r depth ∷ node r depth ∷ parts) nodes x.1) (past parts) (large_at 1 r.m class.1) _ (large_leads 1 r.m nodes (node r depth ∷ node r depth ∷ parts) class.1)
-            (λ m is. then_leads (at (node r depth ∷ node r depth ∷ parts) nodes m.1) (past (node r depth ∷ parts)) (past parts) (child nodes m.1) _ (leads (node r depth ∷ parts) nodes m.1)
-                (λ below is. then_leads (at (node r depth ∷ parts) below.1 below.2) (past parts) (past parts) (child below.1 below.2) _ (leads parts below.1 below.2)
-                    (λ above is. λ v m. m))))
+    (λ class is. then_leads (at (field w16 1 r.m ∷ node r depth ∷ node r depth ∷ parts) nodes class.1) (λ x. at (node r depth ∷ node r depth ∷ parts) nodes x.1) (past parts) (large_at 1 r.m class.1) _ (large_leads 1 r.m nodes (node r depth ∷ node r depth ∷ parts) class.1)
+    (λ m is. then_leads (at (node r depth ∷ node r depth ∷ parts) nodes m.1) (past (node r depth ∷ parts)) (past parts) (child nodes m.1) _ (leads (node r depth ∷ parts) nodes m.1)
+    (λ below is. then_leads (at (node r depth ∷ parts) below.1 below.2) (past parts) (past parts) (child below.1 below.2) _ (leads parts below.1 below.2)
+    (λ above is. λ v m. m))))
 
 cut_leads : (r : Ranges) (depth : ℕ) (child : Reader) → NodeLeads r depth child → (parts : List Part) (nodes : ℕ) (bytes : List ℕ)
     → Leads (at (field w16 1 65535 ∷ field w8 0 r.class ∷ children r depth w16 2 r.children ∷ parts) nodes bytes) (past parts) (cut_at r child nodes bytes)
 unfolding cut_at
 cut_leads r depth child leads parts nodes bytes =
     then_leads (at (field w16 1 65535 ∷ field w8 0 r.class ∷ children r depth w16 2 r.children ∷ parts) nodes bytes) (λ x. at (field w8 0 r.class ∷ children r depth w16 2 r.children ∷ parts) nodes x.1) (past parts) (large_at 1 65535 bytes) _ (large_leads 1 65535 nodes (field w8 0 r.class ∷ children r depth w16 2 r.children ∷ parts) bytes)
-        (λ set is. then_leads (at (field w8 0 r.class ∷ children r depth w16 2 r.children ∷ parts) nodes set.1) (λ x. at (children r depth w16 2 r.children ∷ parts) nodes x.1) (past parts) (small_at 0 r.class set.1) _ (small_leads 0 r.class nodes (children r depth w16 2 r.children ∷ parts) set.1)
-            (λ needed is. then_leads (at (children r depth w16 2 r.children ∷ parts) nodes needed.1) (λ x. at (replicate x.0 (node r depth) ++ parts) nodes x.1) (past parts) (large_at 2 r.children needed.1) _ (many_leads r depth 2 r.children nodes parts needed.1)
-                (λ count is. then_leads (at (replicate count.0 (node r depth) ++ parts) nodes count.1) (past parts) (past parts) (row_at child count.0 nodes count.1) _ (row_leads r depth child leads count.0 parts nodes count.1)
-                    (λ children is. λ v m. m))))
+    (λ set is. then_leads (at (field w8 0 r.class ∷ children r depth w16 2 r.children ∷ parts) nodes set.1) (λ x. at (children r depth w16 2 r.children ∷ parts) nodes x.1) (past parts) (small_at 0 r.class set.1) _ (small_leads 0 r.class nodes (children r depth w16 2 r.children ∷ parts) set.1)
+    (λ needed is. then_leads (at (children r depth w16 2 r.children ∷ parts) nodes needed.1) (λ x. at (replicate x.0 (node r depth) ++ parts) nodes x.1) (past parts) (large_at 2 r.children needed.1) _ (many_leads r depth 2 r.children nodes parts needed.1)
+    (λ count is. then_leads (at (replicate count.0 (node r depth) ++ parts) nodes count.1) (past parts) (past parts) (row_at child count.0 nodes count.1) _ (row_leads r depth child leads count.0 parts nodes count.1)
+    (λ children is. λ v m. m))))
 
 close_leads : (r : Ranges) (depth : ℕ) (child : Reader) → NodeLeads r depth child → (parts : List Part) (nodes : ℕ) (bytes : List ℕ)
     → Leads (at (children r depth w8 1 2 ∷ parts) nodes bytes) (past parts) (close_at child nodes bytes)
 unfolding close_at
 close_leads r depth child leads parts nodes bytes =
     then_leads (at (children r depth w8 1 2 ∷ parts) nodes bytes) (λ x. at (replicate x.0 (node r depth) ++ parts) nodes x.1) (past parts) (small_at 1 2 bytes) _ (few_leads r depth 1 2 nodes parts bytes)
-        (λ count is. then_leads (at (replicate count.0 (node r depth) ++ parts) nodes count.1) (past parts) (past parts) (row_at child count.0 nodes count.1) _ (row_leads r depth child leads count.0 parts nodes count.1)
-            (λ children is. λ v m. m))
+    (λ count is. then_leads (at (replicate count.0 (node r depth) ++ parts) nodes count.1) (past parts) (past parts) (row_at child count.0 nodes count.1) _ (row_leads r depth child leads count.0 parts nodes count.1)
+    (λ children is. λ v m. m))
 
 -- the same test on both sides
 same_way : {A B : Type 0} (b : Bool) (x y : A) (s t : B) (P : A → B → Type 0) → P x s → P y t → P (cond b x y) (cond b s t)
@@ -198,10 +198,10 @@ unfolding body_at
 body_leads r depth child leads tag parts nodes bytes =
     let P : List Part → Result (Read Bound) CertificateFault → Type 0 = λ asked read. Leads (at (asked ++ parts) nodes bytes) (past parts) read in
     same_way (eqb tag 0) _ _ _ _ P (overload_leads parts nodes bytes)
-        (same_way (eqb tag 1) _ _ _ _ P (split_leads r depth child leads parts nodes bytes)
-            (same_way (eqb tag 2) _ _ _ _ P (cut_leads r depth child leads parts nodes bytes)
-                (same_way (eqb tag 3) _ _ _ _ P (λ v m. m)
-                    (close_leads r depth child leads parts nodes bytes))))
+    (same_way (eqb tag 1) _ _ _ _ P (split_leads r depth child leads parts nodes bytes)
+    (same_way (eqb tag 2) _ _ _ _ P (cut_leads r depth child leads parts nodes bytes)
+    (same_way (eqb tag 3) _ _ _ _ P (λ v m. m)
+    (close_leads r depth child leads parts nodes bytes))))
 
 node_fine : (r : Ranges) (depth nodes : ℕ) → depth ≤ DEPTH_LIMIT → nodes < NODE_LIMIT → early_fault (node r depth) nodes ≡ None
 node_fine r depth nodes shallow few = rw (le-ltb DEPTH_LIMIT depth shallow, lt-ltb nodes NODE_LIMIT few) refl
@@ -211,10 +211,10 @@ tag_leads : (r : Ranges) (depth : ℕ) (child : Reader) → NodeLeads r (depth +
 tag_leads r depth child leads parts nodes bytes (Err f) reads fine = λ given. short_part (node r depth) parts nodes bytes f fine (reads.ends f refl given)
 tag_leads r depth child leads parts nodes bytes (Ok tag) reads fine =
     cond_both (ltb r.tag tag.0) (Err fault.BadTag) (body_at r child tag.0 (nodes + 1) tag.1) (Leads (at (node r depth ∷ parts) nodes bytes) (past parts))
-        (λ t. λ given. wrong_part (node r depth) parts nodes tag.0 bytes tag.1 fault.BadTag fine (reads.value tag refl) (rw t refl))
-        (λ t. along (at (node r depth ∷ parts) nodes bytes) (at (asked_by r (depth + 1) tag.0 ++ parts) (nodes + 1) tag.1) (past parts) (body_at r child tag.0 (nodes + 1) tag.1)
-            (λ v m. right_part (node r depth) (asked_by r (depth + 1) tag.0) parts nodes tag.0 bytes tag.1 v fine (reads.value tag refl) (rw t refl) m)
-            (body_leads r (depth + 1) child leads tag.0 parts (nodes + 1) tag.1))
+    (λ t. λ given. wrong_part (node r depth) parts nodes tag.0 bytes tag.1 fault.BadTag fine (reads.value tag refl) (rw t refl))
+    (λ t. along (at (node r depth ∷ parts) nodes bytes) (at (asked_by r (depth + 1) tag.0 ++ parts) (nodes + 1) tag.1) (past parts) (body_at r child tag.0 (nodes + 1) tag.1)
+    (λ v m. right_part (node r depth) (asked_by r (depth + 1) tag.0) parts nodes tag.0 bytes tag.1 v fine (reads.value tag refl) (rw t refl) m)
+    (body_leads r (depth + 1) child leads tag.0 parts (nodes + 1) tag.1))
 
 tagged_leads : (r : Ranges) (depth : ℕ) (child : Reader) → NodeLeads r (depth + 1) child → (parts : List Part) (nodes : ℕ) (bytes : List ℕ) → depth ≤ DEPTH_LIMIT → nodes < NODE_LIMIT
     → Leads (at (node r depth ∷ parts) nodes bytes) (past parts) (tagged_at r child nodes bytes)
@@ -228,8 +228,8 @@ unfolding node_at
 node_leads r zero depth is parts nodes bytes = λ given. early (rw (lt-ltb DEPTH_LIMIT depth (omega arith)) refl)
 node_leads r (suc left) depth is parts nodes bytes =
     cond_both (ltb nodes NODE_LIMIT) (tagged_at r (node_at r left) nodes bytes) (Err fault.TooMany) (Leads (at (node r depth ∷ parts) nodes bytes) (past parts))
-        (λ t. tagged_leads r depth (node_at r left) (node_leads r left (depth + 1) (omega arith)) parts nodes bytes (omega arith) (ltb-true _ _ t))
-        (λ t. λ given. early (rw (le-ltb DEPTH_LIMIT depth (omega arith), t) refl))
+    (λ t. tagged_leads r depth (node_at r left) (node_leads r left (depth + 1) (omega arith)) parts nodes bytes (omega arith) (ltb-true _ _ t))
+    (λ t. λ given. early (rw (le-ltb DEPTH_LIMIT depth (omega arith), t) refl))
 
 -- ---- certificates
 
@@ -242,8 +242,8 @@ mark_leads byte parts bytes = marked byte parts bytes (byte_at bytes) (one_byte 
     marked byte parts bytes (Err f) reads = λ given. short_part (mark byte) parts 0 bytes f refl (reads.ends f refl given)
     marked byte parts bytes (Ok x) reads =
         cond_both (eqb x.0 byte) (Ok x.1) (Err fault.NotCertificate) (Leads (at (mark byte ∷ parts) 0 bytes) (λ (rest : List ℕ). at parts 0 rest))
-            (λ t. λ v m. right_part (mark byte) [] parts 0 x.0 bytes x.1 v refl (reads.value x refl) (rw t refl) m)
-            (λ t. λ given. wrong_part (mark byte) parts 0 x.0 bytes x.1 fault.NotCertificate refl (reads.value x refl) (rw t refl))
+        (λ t. λ v m. right_part (mark byte) [] parts 0 x.0 bytes x.1 v refl (reads.value x refl) (rw t refl) m)
+        (λ t. λ given. wrong_part (mark byte) parts 0 x.0 bytes x.1 fault.NotCertificate refl (reads.value x refl) (rw t refl))
 
 abbrev behind_version : List Part → Ranges × End × List ℕ → Place
 behind_version parts x = at (field w32 1 (2 ^ 32 - 1) ∷ node x.0 1 ∷ parts) 0 x.2
@@ -257,13 +257,13 @@ version_leads parts bytes = of_byte parts bytes (byte_at bytes) (one_byte bytes)
     of_byte parts bytes (Err f) reads = λ given. short_part version parts 0 bytes f refl (reads.ends f refl given)
     of_byte parts bytes (Ok x) reads =
         cond_both (eqb x.0 0x31) (Ok (FIRST, ends.Open, x.1)) (cond (eqb x.0 0x32) (small_at 0 1 x.1 >>= λ end. Ok (SECOND, end_of end.0, end.1)) (Err fault.Version)) (Leads (at (version ∷ parts) 0 bytes) (behind_version parts))
-            (λ t. λ v m. right_part version (field w32 1 (2 ^ 32 - 1) ∷ node FIRST 1 ∷ []) parts 0 x.0 bytes x.1 v refl (reads.value x refl) (rw t refl) m)
-            (λ s. cond_both (eqb x.0 0x32) (small_at 0 1 x.1 >>= λ end. Ok (SECOND, end_of end.0, end.1)) (Err fault.Version) (Leads (at (version ∷ parts) 0 bytes) (behind_version parts))
-                (λ t. along (at (version ∷ parts) 0 bytes) (at (field w8 0 1 ∷ field w32 1 (2 ^ 32 - 1) ∷ node SECOND 1 ∷ parts) 0 x.1) (behind_version parts) (small_at 0 1 x.1 >>= λ end. Ok (SECOND, end_of end.0, end.1))
-                    (λ v m. right_part version (field w8 0 1 ∷ field w32 1 (2 ^ 32 - 1) ∷ node SECOND 1 ∷ []) parts 0 x.0 bytes x.1 v refl (reads.value x refl) (rw (s, t) refl) m)
-                    (then_leads (at (field w8 0 1 ∷ field w32 1 (2 ^ 32 - 1) ∷ node SECOND 1 ∷ parts) 0 x.1) (λ y. at (field w32 1 (2 ^ 32 - 1) ∷ node SECOND 1 ∷ parts) 0 y.1) (behind_version parts) (small_at 0 1 x.1) (λ end. Ok (SECOND, end_of end.0, end.1))
-                        (small_leads 0 1 0 (field w32 1 (2 ^ 32 - 1) ∷ node SECOND 1 ∷ parts) x.1) (λ y is. λ v m. m)))
-                (λ t. λ given. wrong_part version parts 0 x.0 bytes x.1 fault.Version refl (reads.value x refl) (rw (s, t) refl)))
+        (λ t. λ v m. right_part version (field w32 1 (2 ^ 32 - 1) ∷ node FIRST 1 ∷ []) parts 0 x.0 bytes x.1 v refl (reads.value x refl) (rw t refl) m)
+        (λ s. cond_both (eqb x.0 0x32) (small_at 0 1 x.1 >>= λ end. Ok (SECOND, end_of end.0, end.1)) (Err fault.Version) (Leads (at (version ∷ parts) 0 bytes) (behind_version parts))
+        (λ t. along (at (version ∷ parts) 0 bytes) (at (field w8 0 1 ∷ field w32 1 (2 ^ 32 - 1) ∷ node SECOND 1 ∷ parts) 0 x.1) (behind_version parts) (small_at 0 1 x.1 >>= λ end. Ok (SECOND, end_of end.0, end.1))
+        (λ v m. right_part version (field w8 0 1 ∷ field w32 1 (2 ^ 32 - 1) ∷ node SECOND 1 ∷ []) parts 0 x.0 bytes x.1 v refl (reads.value x refl) (rw (s, t) refl) m)
+        (then_leads (at (field w8 0 1 ∷ field w32 1 (2 ^ 32 - 1) ∷ node SECOND 1 ∷ parts) 0 x.1) (λ y. at (field w32 1 (2 ^ 32 - 1) ∷ node SECOND 1 ∷ parts) 0 y.1) (behind_version parts) (small_at 0 1 x.1) (λ end. Ok (SECOND, end_of end.0, end.1))
+        (small_leads 0 1 0 (field w32 1 (2 ^ 32 - 1) ∷ node SECOND 1 ∷ parts) x.1) (λ y is. λ v m. m)))
+        (λ t. λ given. wrong_part version parts 0 x.0 bytes x.1 fault.Version refl (reads.value x refl) (rw (s, t) refl)))
 
 batches_leads : (nodes : ℕ) (parts : List Part) (bytes : List ℕ) → Leads (at (field w32 1 (2 ^ 32 - 1) ∷ parts) nodes bytes) (λ x. at parts nodes x.1) (batches_at bytes)
 unfolding batches_at
@@ -277,8 +277,8 @@ batches_leads nodes parts bytes = of_number nodes parts bytes (long_number_at by
         let four = value x refl in
         let most : leb x.0 (2 ^ 32 - 1) ≡ true = le-leb x.0 (2 ^ 32 - 1) (omega (arith, four.small)) in
         cond_both (leb 1 x.0) (Ok x) (Err fault.BadField) (Leads (at (field w32 1 (2 ^ 32 - 1) ∷ parts) nodes bytes) (λ (y : ℕ × List ℕ). at parts nodes y.1))
-            (λ t. λ v m. right_part (field w32 1 (2 ^ 32 - 1)) [] parts nodes x.0 bytes x.1 v refl four.number (rw (and_from (leb 1 x.0) (leb x.0 (2 ^ 32 - 1)) t most) refl) m)
-            (λ t. λ given. wrong_part (field w32 1 (2 ^ 32 - 1)) parts nodes x.0 bytes x.1 fault.BadField refl four.number (rw (and_left (leb 1 x.0) (leb x.0 (2 ^ 32 - 1)) t) refl))
+        (λ t. λ v m. right_part (field w32 1 (2 ^ 32 - 1)) [] parts nodes x.0 bytes x.1 v refl four.number (rw (and_from (leb 1 x.0) (leb x.0 (2 ^ 32 - 1)) t most) refl) m)
+        (λ t. λ given. wrong_part (field w32 1 (2 ^ 32 - 1)) parts nodes x.0 bytes x.1 fault.BadField refl four.number (rw (and_left (leb 1 x.0) (leb x.0 (2 ^ 32 - 1)) t) refl))
 
 -- where nothing is wanted, the nodes do not matter
 any_nodes : {nodes : ℕ} {bytes : List ℕ} {v : Option CertificateFault} (other : ℕ) → Meets [] nodes bytes v → Meets [] other bytes v
@@ -290,12 +290,12 @@ unfolding certificate_at
 certificate_leads bytes =
     let last : End × ℕ × Bound × List ℕ → Place = λ x. at [] 0 x.3 in
     then_leads (at certificate 0 bytes) (λ a. at (mark 0x43 ∷ mark 0x42 ∷ version ∷ []) 0 a) last (mark_at 0x50 bytes) _ (mark_leads 0x50 (mark 0x43 ∷ mark 0x42 ∷ version ∷ []) bytes)
-        (λ a is. then_leads (at (mark 0x43 ∷ mark 0x42 ∷ version ∷ []) 0 a) (λ b. at (mark 0x42 ∷ version ∷ []) 0 b) last (mark_at 0x43 a) _ (mark_leads 0x43 (mark 0x42 ∷ version ∷ []) a)
-            (λ b is. then_leads (at (mark 0x42 ∷ version ∷ []) 0 b) (λ c. at (version ∷ []) 0 c) last (mark_at 0x42 b) _ (mark_leads 0x42 (version ∷ []) b)
-                (λ c is. then_leads (at (version ∷ []) 0 c) (behind_version []) last (version_at c) _ (version_leads [] c)
-                    (λ x is. then_leads (behind_version [] x) (λ y. at (node x.0 1 ∷ []) 0 y.1) last (batches_at x.2) _ (batches_leads 0 (node x.0 1 ∷ []) x.2)
-                        (λ y is. then_leads (at (node x.0 1 ∷ []) 0 y.1) (past []) last (node_at x.0 DEPTH_LIMIT 0 y.1) _ (node_leads x.0 DEPTH_LIMIT 1 refl [] 0 y.1)
-                            (λ tree is. λ v m. any_nodes tree.1 m))))))
+    (λ a is. then_leads (at (mark 0x43 ∷ mark 0x42 ∷ version ∷ []) 0 a) (λ b. at (mark 0x42 ∷ version ∷ []) 0 b) last (mark_at 0x43 a) _ (mark_leads 0x43 (mark 0x42 ∷ version ∷ []) a)
+    (λ b is. then_leads (at (mark 0x42 ∷ version ∷ []) 0 b) (λ c. at (version ∷ []) 0 c) last (mark_at 0x42 b) _ (mark_leads 0x42 (version ∷ []) b)
+    (λ c is. then_leads (at (version ∷ []) 0 c) (behind_version []) last (version_at c) _ (version_leads [] c)
+    (λ x is. then_leads (behind_version [] x) (λ y. at (node x.0 1 ∷ []) 0 y.1) last (batches_at x.2) _ (batches_leads 0 (node x.0 1 ∷ []) x.2)
+    (λ y is. then_leads (at (node x.0 1 ∷ []) 0 y.1) (past []) last (node_at x.0 DEPTH_LIMIT 0 y.1) _ (node_leads x.0 DEPTH_LIMIT 1 refl [] 0 y.1)
+    (λ tree is. λ v m. any_nodes tree.1 m))))))
 
 end_verdict : (bytes : List ℕ) (nodes : ℕ) (r : Result (Unit {0}) CertificateFault) → end_at bytes ≡ r → Leads (at [] nodes bytes) (λ _. at [] 0 []) r
 unfolding end_at
@@ -317,5 +317,5 @@ pub all_verdict : (bytes : List ℕ) → HasVerdict bytes (all_of bytes)
 unfolding all_of
 all_verdict bytes =
     verdict_from bytes (certificate_at bytes >>= λ x. end_at x.3 >>= λ finished. Ok (x.0, x.1, x.2))
-        (then_leads (at certificate 0 bytes) (λ x. at [] 0 x.3) (λ _. at [] 0 []) (certificate_at bytes) (λ x. end_at x.3 >>= λ finished. Ok (x.0, x.1, x.2)) (certificate_leads bytes)
-            (λ x is. then_leads (at [] 0 x.3) (λ _. at [] 0 []) (λ _. at [] 0 []) (end_at x.3) (λ finished. Ok (x.0, x.1, x.2)) (end_verdict x.3 0 (end_at x.3) refl) (λ finished same. λ v m. m)))
+    (then_leads (at certificate 0 bytes) (λ x. at [] 0 x.3) (λ _. at [] 0 []) (certificate_at bytes) (λ x. end_at x.3 >>= λ finished. Ok (x.0, x.1, x.2)) (certificate_leads bytes)
+    (λ x is. then_leads (at [] 0 x.3) (λ _. at [] 0 []) (λ _. at [] 0 []) (end_at x.3) (λ finished. Ok (x.0, x.1, x.2)) (end_verdict x.3 0 (end_at x.3) refl) (λ finished same. λ v m. m)))

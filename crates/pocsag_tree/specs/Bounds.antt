@@ -9,6 +9,7 @@ mutual
     cut : (set needed : ℕ) → (children : Bounds) → Bound
     close : (children : Bounds) → Bound
     unexamined : Bound
+
   -- A row of children.
   pub data Bounds : Type 0 where
     none : Bounds
@@ -27,6 +28,7 @@ abbrev mutual
   closed_nodes (cut set needed children) = 1 + closed_nodes_in children
   closed_nodes (close children) = 1 + closed_nodes_in children
   closed_nodes unexamined = 0
+
   pub closed_nodes_in : Bounds → ℕ
   closed_nodes_in none = 0
   closed_nodes_in (more t ts) = closed_nodes t + closed_nodes_in ts
@@ -39,6 +41,7 @@ abbrev mutual
   all_nodes (cut set needed children) = 1 + all_nodes_in children
   all_nodes (close children) = 1 + all_nodes_in children
   all_nodes unexamined = 1
+
   pub all_nodes_in : Bounds → ℕ
   all_nodes_in none = 0
   all_nodes_in (more t ts) = all_nodes t + all_nodes_in ts
@@ -51,6 +54,7 @@ abbrev mutual
   depth_of (cut set needed children) = 1 + deepest children
   depth_of (close children) = 1 + deepest children
   depth_of unexamined = 1
+
   pub deepest : Bounds → ℕ
   deepest none = 0
   deepest (more t ts) = max (depth_of t) (deepest ts)

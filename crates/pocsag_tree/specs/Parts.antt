@@ -11,11 +11,11 @@ use Rattle.pocsag_tree.specs.declared.refusals.CertificateFault.TheVariants as f
 
 -- What may be wanted at a place.
 pub data Part : Type 0 where
-  mark : (byte : ℕ) → Part                                        -- this very byte, of the first three
-  version : Part                                                  -- the byte of a version
-  field : (width : Width) → (low high : ℕ) → Part                 -- a number in this range
-  children : Ranges → (depth : ℕ) → (width : Width) → (low high : ℕ) → Part   -- such a number, and so many nodes at this depth
-  node : Ranges → (depth : ℕ) → Part                              -- the tag of a node at this depth, and what the node asks for
+  mark : (byte : ℕ) → Part  -- this very byte, of the first three
+  version : Part  -- the byte of a version
+  field : (width : Width) → (low high : ℕ) → Part  -- a number in this range
+  children : Ranges → (depth : ℕ) → (width : Width) → (low high : ℕ) → Part  -- such a number, and so many nodes at this depth
+  node : Ranges → (depth : ℕ) → Part  -- the tag of a node at this depth, and what the node asks for
 
 -- How many bytes the number of a part has.
 abbrev pub width_of : Part → Width

@@ -20,6 +20,7 @@ abbrev mutual
   IsInRange r (cut set needed children) = IsSet set × (needed ≤ r.class) × (2 ≤ count_of children) × (count_of children ≤ r.children) × AreInRange r children
   IsInRange r (close children) = (4 ≤ r.tag) × (1 ≤ count_of children) × (count_of children ≤ 2) × AreInRange r children
   IsInRange r unexamined = Unit {0}
+
   pub AreInRange : Ranges → Bounds → Type 0
   AreInRange r none = Unit {0}
   AreInRange r (more t ts) = IsInRange r t × AreInRange r ts
@@ -51,6 +52,7 @@ abbrev mutual
   node (cut set needed children) = cut_head set needed (count_of children) ++ row children
   node unexamined = 3 ∷ []
   node (close children) = close_head (count_of children) ++ row children
+
   pub row : Bounds → List ℕ
   row none = []
   row (more t ts) = node t ++ row ts

@@ -153,7 +153,13 @@ fn end<S: Source>(source: &mut S) -> Result<(), CertificateFault>
 
 #[cycle(node)]
 #[tactic(auto, unfolding(crate::specs::Reading::node_at))]
-fn node<S: Source>(alloc: Global, ranges: Ranges, depth: u32, made: u32, source: &mut S) -> Result<(Tree, u32), CertificateFault>
+fn node<S: Source>(
+    alloc: Global,
+    ranges: Ranges,
+    depth: u32,
+    made: u32,
+    source: &mut S,
+) -> Result<(Tree, u32), CertificateFault>
     requires { made ≤ 1000000 }
     ensures deep { IfOk result (λ x. depth_of (bound_of x.0) ≤ depth) }
     ensures counted { IfOk result (λ x. made + all_nodes (bound_of x.0) ≡ x.1) }
@@ -173,7 +179,13 @@ fn node<S: Source>(alloc: Global, ranges: Ranges, depth: u32, made: u32, source:
 
 #[cycle(node)]
 #[tactic(auto, unfolding(crate::specs::Reading::tagged_at))]
-fn tagged<S: Source>(alloc: Global, ranges: Ranges, depth: u32, made: u32, source: &mut S) -> Result<(Tree, u32), CertificateFault>
+fn tagged<S: Source>(
+    alloc: Global,
+    ranges: Ranges,
+    depth: u32,
+    made: u32,
+    source: &mut S,
+) -> Result<(Tree, u32), CertificateFault>
     requires { made < 1000000 }
     ensures deep { IfOk result (λ x. depth_of (bound_of x.0) ≤ depth + 1) }
     ensures counted { IfOk result (λ x. made + all_nodes (bound_of x.0) ≡ x.1) }
@@ -191,7 +203,14 @@ fn tagged<S: Source>(alloc: Global, ranges: Ranges, depth: u32, made: u32, sourc
 
 #[cycle(node)]
 #[tactic(auto, unfolding(crate::specs::Reading::body_at))]
-fn body<S: Source>(alloc: Global, ranges: Ranges, tag: u8, depth: u32, made: u32, source: &mut S) -> Result<(Tree, u32), CertificateFault>
+fn body<S: Source>(
+    alloc: Global,
+    ranges: Ranges,
+    tag: u8,
+    depth: u32,
+    made: u32,
+    source: &mut S,
+) -> Result<(Tree, u32), CertificateFault>
     requires { made ≤ 1000000 }
     ensures deep { IfOk result (λ x. depth_of (bound_of x.0) ≤ depth + 1) }
     ensures counted { IfOk result (λ x. made + all_nodes (bound_of x.0) ≡ x.1 + 1) }
@@ -225,7 +244,13 @@ fn overload<S: Source>(made: u32, source: &mut S) -> Result<(Tree, u32), Certifi
 
 #[cycle(node)]
 #[tactic(auto, unfolding(crate::specs::Reading::split_at))]
-fn split<S: Source>(alloc: Global, ranges: Ranges, depth: u32, made: u32, source: &mut S) -> Result<(Tree, u32), CertificateFault>
+fn split<S: Source>(
+    alloc: Global,
+    ranges: Ranges,
+    depth: u32,
+    made: u32,
+    source: &mut S,
+) -> Result<(Tree, u32), CertificateFault>
     requires { made ≤ 1000000 }
     ensures deep { IfOk result (λ x. depth_of (bound_of x.0) ≤ depth + 1) }
     ensures counted { IfOk result (λ x. made + all_nodes (bound_of x.0) ≡ x.1 + 1) }
@@ -240,12 +265,26 @@ fn split<S: Source>(alloc: Global, ranges: Ranges, depth: u32, made: u32, source
     let (from, made) = node(alloc, ranges, depth, made, source)?;
     let below = Box::new(alloc, below)?;
     let from = Box::new(alloc, from)?;
-    Ok((Tree::Split { class, m, below, from }, made))
+    Ok((
+        Tree::Split {
+            class,
+            m,
+            below,
+            from,
+        },
+        made,
+    ))
 }
 
 #[cycle(node)]
 #[tactic(auto, unfolding(crate::specs::Reading::cut_at))]
-fn cut<S: Source>(alloc: Global, ranges: Ranges, depth: u32, made: u32, source: &mut S) -> Result<(Tree, u32), CertificateFault>
+fn cut<S: Source>(
+    alloc: Global,
+    ranges: Ranges,
+    depth: u32,
+    made: u32,
+    source: &mut S,
+) -> Result<(Tree, u32), CertificateFault>
     requires { made ≤ 1000000 }
     ensures deep { IfOk result (λ x. depth_of (bound_of x.0) ≤ depth + 1) }
     ensures counted { IfOk result (λ x. made + all_nodes (bound_of x.0) ≡ x.1 + 1) }
@@ -258,12 +297,25 @@ fn cut<S: Source>(alloc: Global, ranges: Ranges, depth: u32, made: u32, source: 
     let needed = small(0, ranges.class, source)?;
     let count = large(2, ranges.children, source)?;
     let (children, made) = row(alloc, ranges, depth, made, count, source)?;
-    Ok((Tree::Cut { set, needed, children }, made))
+    Ok((
+        Tree::Cut {
+            set,
+            needed,
+            children,
+        },
+        made,
+    ))
 }
 
 #[cycle(node)]
 #[tactic(auto, unfolding(crate::specs::Reading::close_at))]
-fn close<S: Source>(alloc: Global, ranges: Ranges, depth: u32, made: u32, source: &mut S) -> Result<(Tree, u32), CertificateFault>
+fn close<S: Source>(
+    alloc: Global,
+    ranges: Ranges,
+    depth: u32,
+    made: u32,
+    source: &mut S,
+) -> Result<(Tree, u32), CertificateFault>
     requires { made ≤ 1000000 }
     ensures deep { IfOk result (λ x. depth_of (bound_of x.0) ≤ depth + 1) }
     ensures counted { IfOk result (λ x. made + all_nodes (bound_of x.0) ≡ x.1 + 1) }
@@ -279,7 +331,14 @@ fn close<S: Source>(alloc: Global, ranges: Ranges, depth: u32, made: u32, source
 
 // So many nodes, one after the other.
 #[cycle(node)]
-fn row<S: Source>(alloc: Global, ranges: Ranges, depth: u32, made: u32, count: u16, source: &mut S) -> Result<(Vec<Tree>, u32), CertificateFault>
+fn row<S: Source>(
+    alloc: Global,
+    ranges: Ranges,
+    depth: u32,
+    made: u32,
+    count: u16,
+    source: &mut S,
+) -> Result<(Vec<Tree>, u32), CertificateFault>
     requires { made ≤ 1000000 }
     ensures deep { IfOk result (λ x. deepest (bounds_of x.0.items) ≤ depth) }
     ensures counted { IfOk result (λ x. made + all_nodes_in (bounds_of x.0.items) ≡ x.1) }
@@ -333,7 +392,10 @@ fn all<S: Source>(alloc: Global, source: &mut S) -> Result<Certificate, Certific
 ///
 /// The fault is the first from left to right. It reads no node deeper than `DEPTH_LIMIT` and no more
 /// than `NODE_LIMIT` nodes, whatever the bytes are; time and memory are linear in the bytes read.
-pub fn read_certificate<S: Source>(alloc: Global, reader: &mut S) -> Result<Certificate, CertificateFault>
+pub fn read_certificate<S: Source>(
+    alloc: Global,
+    reader: &mut S,
+) -> Result<Certificate, CertificateFault>
     // What is read is what all the bytes are a text of, and what they are a text of is read.
     ensures found { S.tells → IfOk result (λ c. IsText c.end c.batches (bound_of c.tree) (S.held reader.old)) }
     ensures only { S.tells → (end : End) (batches : ℕ) (tree : Bound)

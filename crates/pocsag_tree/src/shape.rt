@@ -22,7 +22,9 @@ pub enum Tree {
         children: Vec<Tree>,
     },
     /// The transmission has to end somehow: one child for each way to close it.
-    Close { children: Vec<Tree> },
+    Close {
+        children: Vec<Tree>,
+    },
     /// Not examined.
     Open,
 }

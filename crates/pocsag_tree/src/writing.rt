@@ -124,7 +124,12 @@ fn write_split_head<S: Sink>(class: u8, m: u16, writer: &mut S) -> Result<(), De
     write_all(writer, &[1, class, m[0], m[1]])
 }
 
-fn write_cut_head<S: Sink>(set: u16, needed: u8, children: usize, writer: &mut S) -> Result<(), DeviceFault>
+fn write_cut_head<S: Sink>(
+    set: u16,
+    needed: u8,
+    children: usize,
+    writer: &mut S,
+) -> Result<(), DeviceFault>
     requires { children ≤ 288 }
     ensures whole { S.tells → OnOk result (S.taken writer.new ≡ S.taken writer.old ++ cut_head set needed children) }
     ensures part { S.tells → OnErr result (TookPrefix (S.taken writer.old) (S.taken writer.new) (cut_head set needed children)) }
@@ -165,7 +170,9 @@ fn write_head<S: Sink>(end: End, batches: u32, writer: &mut S) -> Result<(), Dev
     let batches = batches.to_be_bytes();
     write_all(
         writer,
-        &[0x50, 0x43, 0x42, 0x32, end, batches[0], batches[1], batches[2], batches[3]],
+        &[
+            0x50, 0x43, 0x42, 0x32, end, batches[0], batches[1], batches[2], batches[3],
+        ],
     )
 }
 
@@ -223,7 +230,12 @@ fn write_row<S: Sink>(trees: &[Tree], writer: &mut S) -> Result<(), DeviceFault>
     Ok(())
 }
 
-fn write_text<S: Sink>(end: End, batches: u32, tree: &Tree, writer: &mut S) -> Result<(), DeviceFault>
+fn write_text<S: Sink>(
+    end: End,
+    batches: u32,
+    tree: &Tree,
+    writer: &mut S,
+) -> Result<(), DeviceFault>
     requires { IsInRange SECOND (bound_of tree.now) }
     ensures whole { S.tells → OnOk result (S.taken writer.new ≡ S.taken writer.old ++ second_text end batches (bound_of tree.now)) }
     ensures part { S.tells → OnErr result (TookPrefix (S.taken writer.old) (S.taken writer.new) (second_text end batches (bound_of tree.now))) }

@@ -8,4 +8,4 @@ abbrev pub invariant-deepest_of-loop-tree : goal.invariant-deepest_of-loop-tree
 invariant-deepest_of-loop-tree l =
     (l.most ≤ greatest_count)
     × (min (max l.most (deepest (bounds_of (drop l.tree-index l.trees)))) greatest_count
-        ≡ min (deepest (bounds_of l.trees)) greatest_count)
+    ≡ min (deepest (bounds_of l.trees)) greatest_count)

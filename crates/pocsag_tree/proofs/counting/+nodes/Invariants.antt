@@ -8,4 +8,4 @@ abbrev pub invariant-nodes_in-loop-tree : goal.invariant-nodes_in-loop-tree
 invariant-nodes_in-loop-tree l =
     (l.sum ≤ greatest_count)
     × (min (l.sum + closed_nodes_in (bounds_of (drop l.tree-index l.trees))) greatest_count
-        ≡ min (closed_nodes_in (bounds_of l.trees)) greatest_count)
+    ≡ min (closed_nodes_in (bounds_of l.trees)) greatest_count)

@@ -19,19 +19,19 @@ pub write_node-returns-in_err-write_node-in-Split-clause-part : goal.write_node-
 write_node-returns-in_err-write_node-in-Split-clause-part g t c = λ tells.
     let is = bound_of-split c.args.tree.now c.in-Split.class c.in-Split.m c.in-Split.below c.in-Split.from c.in-Split.is in
     on_err c.from_residual-in_err-write_node-in-Split.result (took_then _ _ _ (node (bound_of c.args.tree.now)) (split_head c.in-Split.class c.in-Split.m) (node (bound_of c.in-Split.below.value) ++ node (bound_of c.in-Split.from.value)) (ap node is) (c.in_ok-write_split_head-in-Split.ensures.whole tells)
-        (took_first _ _ _ (node (bound_of c.in-Split.below.value)) (node (bound_of c.in-Split.from.value)) refl (rw c.deref.ensures at (c.in_err-write_node-in-Split.ensures.part tells))))
+    (took_first _ _ _ (node (bound_of c.in-Split.below.value)) (node (bound_of c.in-Split.from.value)) refl (rw c.deref.ensures at (c.in_err-write_node-in-Split.ensures.part tells))))
 
 pub write_node-returns-in_ok-write_node-in-Split-clause-part : goal.write_node-returns-in_ok-write_node-in-Split-clause-part
 write_node-returns-in_ok-write_node-in-Split-clause-part g t c = λ tells.
     let is = bound_of-split c.args.tree.now c.in-Split.class c.in-Split.m c.in-Split.below c.in-Split.from c.in-Split.is in
     last_part c.write_node-in-Split.result _ _ _ (node (bound_of c.args.tree.now)) (split_head c.in-Split.class c.in-Split.m) (node (bound_of c.in-Split.below.value) ++ node (bound_of c.in-Split.from.value)) (ap node is) (c.in_ok-write_split_head-in-Split.ensures.whole tells)
-        (last_part c.write_node-in-Split.result _ _ _ _ (node (bound_of c.in-Split.below.value)) (node (bound_of c.in-Split.from.value)) refl (rw c.deref.ensures at (c.in_ok-write_node-in-Split.ensures.whole tells)) (rw c.deref-in-Split.ensures at (c.write_node-in-Split.ensures.part tells)))
+    (last_part c.write_node-in-Split.result _ _ _ _ (node (bound_of c.in-Split.below.value)) (node (bound_of c.in-Split.from.value)) refl (rw c.deref.ensures at (c.in_ok-write_node-in-Split.ensures.whole tells)) (rw c.deref-in-Split.ensures at (c.write_node-in-Split.ensures.part tells)))
 
 pub write_node-returns-in_ok-write_node-in-Split-clause-whole : goal.write_node-returns-in_ok-write_node-in-Split-clause-whole
 write_node-returns-in_ok-write_node-in-Split-clause-whole g t c = λ tells.
     let is = bound_of-split c.args.tree.now c.in-Split.class c.in-Split.m c.in-Split.below c.in-Split.from c.in-Split.is in
     last_whole c.write_node-in-Split.result _ _ _ (node (bound_of c.args.tree.now)) (split_head c.in-Split.class c.in-Split.m) (node (bound_of c.in-Split.below.value) ++ node (bound_of c.in-Split.from.value)) (ap node is) (c.in_ok-write_split_head-in-Split.ensures.whole tells)
-        (last_whole c.write_node-in-Split.result _ _ _ _ (node (bound_of c.in-Split.below.value)) (node (bound_of c.in-Split.from.value)) refl (rw c.deref.ensures at (c.in_ok-write_node-in-Split.ensures.whole tells)) (rw c.deref-in-Split.ensures at (c.write_node-in-Split.ensures.whole tells)))
+    (last_whole c.write_node-in-Split.result _ _ _ _ (node (bound_of c.in-Split.below.value)) (node (bound_of c.in-Split.from.value)) refl (rw c.deref.ensures at (c.in_ok-write_node-in-Split.ensures.whole tells)) (rw c.deref-in-Split.ensures at (c.write_node-in-Split.ensures.whole tells)))
 
 -- ---- a `Cut`: what is written names the number of its children
 
