@@ -1,0 +1,16 @@
+/// How many classes of pages there are.
+pub const CLASSES: usize = 136;
+
+/// The pages of a round by classes: how many pages are in each class, and how many whole turns they
+/// take together.
+#[derive(Clone, Copy, PartialEq, Eq, Debug)]
+pub struct Classes {
+    pub count: [u32; 136],
+    pub turns: [u32; 136],
+}
+
+/// How many pages of each class start early; the others start late.
+#[derive(Clone, Copy, PartialEq, Eq, Debug)]
+pub struct Choice {
+    pub early: [u32; 136],
+}
