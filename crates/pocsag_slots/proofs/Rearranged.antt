@@ -1,9 +1,8 @@
 -- The pages of a legal transmission are those of the round, in some order.
-use Rattle.std.proofs.Common.{◌≡◌, ◌≢◌, ℕ, zero, suc, ◌+◌, ◌-◌, ◌<◌, ◌≤◌, List, [], ◌∷◌, length, get_or, refl, sym, ap, subst, ◌∙◌, arith, All, Contains, ◌⊎◌, inl, inr, remove}
+use Rattle.std.proofs.Common.{◌≡◌, ℕ, zero, suc, ◌<◌, List, [], ◌∷◌, length, get_or, sym, ap, subst, arith, All, Contains, ◌⊎◌, inl, inr, remove}
 use Rattle.std.specs.Prelude.{IsPermutation}
 use Rattle.std.proofs.lemmas.List.{nil_from_length}
-use Rattle.std.proofs.lemmas.List.Sorted.{IsPermutation-cons, IsPermutation-refl, IsPermutation-remove, IsPermutation-sym, IsPermutation-trans, Contains-permutation, sum_by-IsPermutation, length_permutation}
-use Rattle.pocsag_words.specs.declared.ending.End.{End}
+use Rattle.std.proofs.lemmas.List.Sorted.{IsPermutation-cons, IsPermutation-refl, IsPermutation-remove, IsPermutation-sym, IsPermutation-trans, Contains-permutation, length_permutation}
 use Rattle.pocsag_pages.specs.declared.page.Page.{Page}
 use Rattle.pocsag_pages.specs.Reading.{AreApart}
 
@@ -23,13 +22,13 @@ rearranged (r ∷ R) ps a long each =
     let moved : IsPermutation ps (r ∷ remove ps first.0) = IsPermutation-remove ps first.0 r first.1 (sym first.2) in
     let lengths : length (r ∷ remove ps first.0) ≡ length ps = length_permutation ps (r ∷ remove ps first.0) moved in
     let others : All (Contains (remove ps first.0)) R =
-      λ j d h.
-        let x : Page = get_or R j d in
-        let there : Contains (r ∷ remove ps first.0) x = Contains-permutation ps (r ∷ remove ps first.0) x moved (each (suc j) d (omega arith)) in
-        elim (tail_or_head r x (remove ps first.0) there.0 there.1 there.2) [
-          inl same ↦ absurd (a 0 (suc j) d (omega arith) (omega arith) (ap (λ (p : Page). p.address) same))
-        | inr found ↦ found
-        ] in
+    λ j d h.
+    let x : Page = get_or R j d in
+    let there : Contains (r ∷ remove ps first.0) x = Contains-permutation ps (r ∷ remove ps first.0) x moved (each (suc j) d (omega arith)) in
+    elim (tail_or_head r x (remove ps first.0) there.0 there.1 there.2) [
+      | inl same ↦ absurd (a 0 (suc j) d (omega arith) (omega arith) (ap (λ (p : Page). p.address) same))
+      | inr found ↦ found
+    ] in
     IsPermutation-trans (r ∷ R) (r ∷ remove ps first.0) ps
     (IsPermutation-cons r R (remove ps first.0) (rearranged R (remove ps first.0) (apart_tail r R a) (omega arith) others))
     (IsPermutation-sym ps (r ∷ remove ps first.0) moved)

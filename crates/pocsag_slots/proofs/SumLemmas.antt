@@ -1,5 +1,5 @@
 -- Sums over the numbers below a number.
-use Rattle.std.proofs.Common.{◌≡◌, ◌≢◌, ℕ, zero, suc, ◌+◌, ◌*◌, ◌<◌, ◌≤◌, refl, sym, ap, subst, ◌∙◌, arith, inl, inr}
+use Rattle.std.proofs.Common.{◌≡◌, ◌≢◌, ℕ, zero, suc, ◌+◌, ◌<◌, ◌≤◌, refl, sym, subst, arith, inl, inr}
 use Rattle.std.proofs.lemmas.Bool.{cases_eq}
 use Rattle.pocsag_slots.specs.Sums.{sum_below}
 
@@ -27,14 +27,14 @@ unfolding sum_below
 sum_below-bump zero k x f g h e o = absurd (omega arith)
 sum_below-bump (suc n) k x f g h e o =
     elim (cases_eq k n) [
-      inl same ↦
-        let rest : sum_below n g ≡ sum_below n f = sum_below-same n g f (λ j l. o j (omega arith) (omega arith)) in
-        let here : g n ≡ f n + x = subst (λ (j : ℕ). g j ≡ f j + x) same e in
-        omega arith
-    | inr other ↦
-        let rest : sum_below n g ≡ sum_below n f + x = sum_below-bump n k x f g (omega arith) e (λ j l ne. o j (omega arith) ne) in
-        let here : g n ≡ f n = o n (omega arith) (λ same. other (sym same)) in
-        omega arith
+      | inl same ↦
+          let rest : sum_below n g ≡ sum_below n f = sum_below-same n g f (λ j l. o j (omega arith) (omega arith)) in
+          let here : g n ≡ f n + x = subst (λ (j : ℕ). g j ≡ f j + x) same e in
+          omega arith
+      | inr other ↦
+          let rest : sum_below n g ≡ sum_below n f + x = sum_below-bump n k x f g (omega arith) e (λ j l ne. o j (omega arith) ne) in
+          let here : g n ≡ f n = o n (omega arith) (λ same. other (sym same)) in
+          omega arith
     ]
 
 pub sum_below-add : (n : ℕ) (f g : ℕ → ℕ) → sum_below n (λ k. f k + g k) ≡ sum_below n f + sum_below n g

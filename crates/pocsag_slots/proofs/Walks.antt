@@ -1,8 +1,6 @@
 -- The arcs of a transmission lead along it, and cover its slots.
-use Rattle.std.proofs.Common.{◌≡◌, ◌≢◌, ℕ, zero, suc, ◌+◌, ◌*◌, ◌/◌, ◌%◌, ◌<◌, ◌≤◌, ◌==◌, ◌&&◌, Bool, true, false, not, cond, List, [], ◌∷◌, ◌++◌, length, map, refl, sym, ap, subst, ◌∙◌, arith, count_by, length-append, eq-eqb, add-zero}
-use Rattle.std.specs.Prelude.{sum_by}
+use Rattle.std.proofs.Common.{◌≡◌, ℕ, suc, ◌+◌, ◌*◌, ◌/◌, ◌%◌, ◌<◌, ◌≤◌, ◌==◌, ◌&&◌, Bool, true, false, not, cond, List, [], ◌∷◌, ◌++◌, length, map, refl, sym, ap, subst, ◌∙◌, arith, length-append, eq-eqb, add-zero}
 use Rattle.std.proofs.lemmas.Bool.{ne_eqb}
-use Rattle.std.proofs.lemmas.Bool.Decides.{nat_tests}
 use Rattle.std.proofs.lemmas.List.{length-map}
 use Rattle.std.proofs.lemmas.List.Sums.{sum_by-cons}
 use Rattle.pocsag_words.specs.declared.codeword.Kind.{Kind}
@@ -18,7 +16,7 @@ use Rattle.pocsag_slots.specs.Tours.{Leads, idles}
 use Rattle.pocsag_slots.specs.declared.step.Step.{Step}
 use Rattle.pocsag_slots.specs.declared.step.Step.TheVariants.{Idle as Stay, Run}
 use Rattle.pocsag_slots.proofs.CoverLemmas.{class_below, class_rest_is, start_is, finish_is, covered_split, covered_turns}
-use Rattle.pocsag_slots.proofs.SumLemmas.{sum_below-same, sum_below-zero, sum_below-bump}
+use Rattle.pocsag_slots.proofs.SumLemmas.{sum_below-zero, sum_below-bump}
 
 -- a run of message codewords is no arc
 pub arcs_past_run : (end : End) (items : List ℕ) (rest : List Kind) (i : ℕ) → arcs end i (map Message items ++ rest) ≡ arcs end (i + length items) rest
@@ -57,8 +55,8 @@ walk_end end i = record {
   counts = λ c. refl;
   none = λ c e h. refl;
   covers = λ slot h.
-    let none : sum_below 136 (class_cover end [] [] slot) ≡ 0 = sum_below-zero 136 (class_cover end [] [] slot) (λ c l. omega arith) in
-    omega arith
+      let none : sum_below 136 (class_cover end [] [] slot) ≡ 0 = sum_below-zero 136 (class_cover end [] [] slot) (λ c l. omega arith) in
+      omega arith;
 }
 
 leads_from : (p q n : ℕ) (ss : List Step) → p ≡ q → Leads p ss n → Leads q ss n
@@ -73,18 +71,18 @@ walk_idle end i n ps ss w =
     let next : (i + 1) % 16 ≡ (i % 16 + 1) % 16 = omega arith in
     record {
       leads = leads_from ((i + 1) % 16) ((i % 16 + 1) % 16) ((i + suc n) % 16) ss next
-        (leads_to ((i + 1) % 16) ((i + 1 + n) % 16) ((i + suc n) % 16) ss (omega arith) w.leads);
+          (leads_to ((i + 1) % 16) ((i + 1 + n) % 16) ((i + suc n) % 16) ss (omega arith) w.leads);
       counts = w.counts;
       none = w.none;
       covers = λ slot h.
-        let c : idles slot ((i + 1) % 16) ss + cover_of end ps ss slot ≡ covered (i + 1) n slot = w.covers slot h in
-        let d : idles slot ((i % 16 + 1) % 16) ss + cover_of end ps ss slot ≡ covered (i + 1) n slot =
+          let c : idles slot ((i + 1) % 16) ss + cover_of end ps ss slot ≡ covered (i + 1) n slot = w.covers slot h in
+          let d : idles slot ((i % 16 + 1) % 16) ss + cover_of end ps ss slot ≡ covered (i + 1) n slot =
           subst (λ (m : ℕ). idles slot m ss + cover_of end ps ss slot ≡ covered (i + 1) n slot) next c in
-        omega arith
+          omega arith;
     }
 
 -- one run more, of a class that is this one or not
-run_counts : (b e : Bool) → cond (b && cond true e (not e)) 1 0 + cond (b && cond false e (not e)) 1 0 ≡ cond b 1 0
+pub run_counts : (b e : Bool) → cond (b && cond true e (not e)) 1 0 + cond (b && cond false e (not e)) 1 0 ≡ cond b 1 0
 run_counts true true = refl
 run_counts true false = refl
 run_counts false e = refl
@@ -116,19 +114,19 @@ cover_of-cons : (end : End) (p : Page) (ps : List Page) (ss : List Step) (d : �
 unfolding cover_of
 cover_of-cons end p ps ss d e slot small is =
     let term : (c : ℕ) → class_cover end (p ∷ ps) (Run d e ∷ ss) slot c
-        ≡ class_cover end ps ss slot c
-          + cond (d == c) (page_length p / 16 + cond e (covered (start_of c true) (class_rest c) slot) (covered (start_of c false) (class_rest c) slot)) 0 =
-      λ c.
-        let turns : turns_of end (p ∷ ps) c ≡ cond (d == c) (page_length p / 16) 0 + turns_of end ps c =
-          subst (λ (k : ℕ). turns_of end (p ∷ ps) c ≡ cond (k == c) (page_length p / 16) 0 + turns_of end ps c) is (turns_of-cons end p ps c) in
-        rw turns (run_covers (d == c) e (page_length p / 16) (turns_of end ps c) (runs c true ss) (runs c false ss)
-          (covered (start_of c true) (class_rest c) slot) (covered (start_of c false) (class_rest c) slot)) in
+    ≡ class_cover end ps ss slot c
+    + cond (d == c) (page_length p / 16 + cond e (covered (start_of c true) (class_rest c) slot) (covered (start_of c false) (class_rest c) slot)) 0 =
+    λ c.
+    let turns : turns_of end (p ∷ ps) c ≡ cond (d == c) (page_length p / 16) 0 + turns_of end ps c =
+    subst (λ (k : ℕ). turns_of end (p ∷ ps) c ≡ cond (k == c) (page_length p / 16) 0 + turns_of end ps c) is (turns_of-cons end p ps c) in
+    rw turns (run_covers (d == c) e (page_length p / 16) (turns_of end ps c) (runs c true ss) (runs c false ss)
+    (covered (start_of c true) (class_rest c) slot) (covered (start_of c false) (class_rest c) slot)) in
     sum_below-bump 136 d (page_length p / 16 + covered (start_of d e) (class_rest d) slot) (class_cover end ps ss slot) (class_cover end (p ∷ ps) (Run d e ∷ ss) slot) small
     (let same : (d == d) ≡ true = eq-eqb d d refl in
-      term d ∙ rw (same, choose_start e d (class_rest d) slot) refl)
+    term d ∙ rw (same, choose_start e d (class_rest d) slot) refl)
     (λ c l ne.
-      let other : (d == c) ≡ false = ne_eqb d c (λ h. ne (sym h)) in
-      term c ∙ rw (other, add-zero) refl)
+    let other : (d == c) ≡ false = ne_eqb d c (λ h. ne (sym h)) in
+    term c ∙ rw (other, add-zero) refl)
 
 walk_page : (end : End) (i m : ℕ) (p : Page) (ps : List Page) (ss : List Step) (d : ℕ) →
     d ≡ class_of end (frame_at i) (page_length p) → p.address % 8 ≡ frame_at i →
@@ -142,19 +140,22 @@ walk_page end i m p ps ss d d_is frame w =
     let finish : finish_of d e ≡ (i + n) % 16 = subst (λ (k : ℕ). finish_of k e ≡ (i + n) % 16) (sym d_is) (finish_is end i n) in
     let rest : class_rest d ≡ n % 16 = subst (λ (k : ℕ). class_rest k ≡ n % 16) (sym d_is) (class_rest_is end (frame_at i) n (omega arith)) in
     record {
-      leads = (sym start, leads_from ((i + n) % 16) (finish_of d e) ((i + (n + m)) % 16) ss (sym finish)
-        (leads_to ((i + n) % 16) ((i + n + m) % 16) ((i + (n + m)) % 16) ss (omega arith) w.leads));
+      leads = (
+        sym start,
+        leads_from ((i + n) % 16) (finish_of d e) ((i + (n + m)) % 16) ss (sym finish)
+            (leads_to ((i + n) % 16) ((i + n + m) % 16) ((i + (n + m)) % 16) ss (omega arith) w.leads),
+      );
       counts = λ c.
-        let more : count_of end (p ∷ ps) c ≡ cond (d == c) 1 0 + count_of end ps c =
+          let more : count_of end (p ∷ ps) c ≡ cond (d == c) 1 0 + count_of end ps c =
           subst (λ (k : ℕ). count_of end (p ∷ ps) c ≡ cond (k == c) 1 0 + count_of end ps c) class_is (count_of-cons end p ps c) in
-        omega (arith, run_counts (d == c) e, w.counts c);
+          omega (arith, run_counts (d == c) e, w.counts c);
       none = λ c f h. run_none (d == c) e f (runs c f ss) (ne_eqb d c (λ same. absurd (omega arith))) (w.none c f h);
       covers = λ slot h.
-        let left : idles slot (finish_of d e) ss + cover_of end ps ss slot ≡ covered (i + n) m slot =
+          let left : idles slot (finish_of d e) ss + cover_of end ps ss slot ≡ covered (i + n) m slot =
           subst (λ (q : ℕ). idles slot q ss + cover_of end ps ss slot ≡ covered (i + n) m slot) (sym finish) (w.covers slot h) in
-        let own : covered (start_of d e) (class_rest d) slot ≡ covered (i % 16) (n % 16) slot =
+          let own : covered (start_of d e) (class_rest d) slot ≡ covered (i % 16) (n % 16) slot =
           ap (λ (q : ℕ). covered q (class_rest d) slot) start ∙ ap (λ (q : ℕ). covered (i % 16) q slot) rest in
-        omega (arith, cover_of-cons end p ps ss d e slot small class_is, covered_split i n m slot h, covered_turns i n slot h)
+          omega (arith, cover_of-cons end p ps ss d e slot small class_is, covered_split i n m slot h, covered_turns i n slot h);
     }
 
 -- the arcs of what reads as these pages
@@ -165,13 +166,13 @@ walk end {i = i} (past_page {high = high} {function = function} {ws = ws} {ps = 
     let p : Page = record { address = 8 * high + frame_at i; function = function; payload = items } in
     let long : run_length ws ≡ length items = ap run_length e ∙ run_length_is items rest b in
     let left : arcs end (i + 1) ws ≡ arcs end (i + page_length p) rest =
-      ap (arcs end (i + 1)) e ∙ (arcs_past_run end items rest (i + 1) ∙ (let f : i + 1 + length items ≡ i + page_length p = omega arith in ap (λ (n : ℕ). arcs end n rest) f)) in
+    ap (arcs end (i + 1)) e ∙ (arcs_past_run end items rest (i + 1) ∙ (let f : i + 1 + length items ≡ i + page_length p = omega arith in ap (λ (n : ℕ). arcs end n rest) f)) in
     let all : length (Address high function ∷ ws) ≡ page_length p + length rest =
-      omega (arith, ap length e, length-append (map Message items) rest, length-map items Message) in
+    omega (arith, ap length e, length-append (map Message items) rest, length-map items Message) in
     let class_is : class_of end (frame_at i) (1 + run_length ws) ≡ class_of end (frame_at i) (page_length p) =
-      ap (λ (n : ℕ). class_of end (frame_at i) (1 + n)) long in
+    ap (λ (n : ℕ). class_of end (frame_at i) (1 + n)) long in
     let rest_walks : IsWalk end (i + page_length p) (length rest) ps (arcs end (i + page_length p) rest) =
-      subst (λ (n : ℕ). IsWalk end n (length rest) ps (arcs end n rest)) (omega arith) (walk end r) in
+    subst (λ (n : ℕ). IsWalk end n (length rest) ps (arcs end n rest)) (omega arith) (walk end r) in
     let walks = walk_page end i (length rest) p ps (arcs end (i + page_length p) rest) (class_of end (frame_at i) (1 + run_length ws)) class_is (omega arith) rest_walks in
     subst (λ (ss : List Step). IsWalk end i (length (Address high function ∷ ws)) (p ∷ ps) (Run (class_of end (frame_at i) (1 + run_length ws)) (i % 2 == 0) ∷ ss)) (sym left)
     (subst (λ (n : ℕ). IsWalk end i n (p ∷ ps) (Run (class_of end (frame_at i) (1 + run_length ws)) (i % 2 == 0) ∷ arcs end (i + page_length p) rest)) (sym all) walks)

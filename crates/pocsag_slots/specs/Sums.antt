@@ -1,5 +1,5 @@
 -- Sums and lists over the numbers below a number, and sets as numbers.
-use Rattle.std.specs.Prelude.{◌≡◌, ℕ, zero, suc, ◌+◌, ◌/◌, ◌%◌, ◌^◌, ◌==◌, Bool, cond, List, [], ◌++◌}
+use Rattle.std.specs.Prelude.{ℕ, zero, suc, ◌+◌, ◌/◌, ◌%◌, ◌^◌, ◌==◌, Bool, cond, List, [], ◌++◌}
 
 -- f 0 + .. + f (n - 1)
 unfoldable pub sum_below : ℕ → (ℕ → ℕ) → ℕ

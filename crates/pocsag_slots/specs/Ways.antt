@@ -1,5 +1,5 @@
 -- The ways out of a set of boundaries, and what each leaves of the limits (this project's own).
-use Rattle.std.specs.Prelude.{◌≡◌, ℕ, ◌+◌, ◌-◌, ◌%◌, ◌<◌, ◌&&◌, ◌||◌, nat_lt, min, max, Bool, true, false, not, cond, List, [], ◌∷◌, ◌++◌, slice_index, slice_set}
+use Rattle.std.specs.Prelude.{ℕ, ◌+◌, ◌-◌, ◌%◌, ◌<◌, ◌&&◌, ◌||◌, nat_lt, min, max, Bool, true, false, not, cond, List, [], ◌∷◌, ◌++◌, slice_index, slice_set}
 use Rattle.pocsag_slots.specs.declared.class.Classes.{Classes}
 use Rattle.pocsag_slots.specs.declared.limit.Limits.{Limits}
 use Rattle.pocsag_slots.specs.declared.way.Way.{Way}
@@ -25,8 +25,8 @@ unfoldable pub class_certain : Classes → Limits → ℕ → ℕ → Bool
 class_certain k l set c =
     nat_lt 0 (slice_index k.count c)
     && ((run_touches c true set && run_touches c false set)
-      || (run_touches c true set && nat_lt 0 (slice_index l.lo c))
-      || (run_touches c false set && nat_lt (slice_index l.hi c) (slice_index k.count c)))
+    || (run_touches c true set && nat_lt 0 (slice_index l.lo c))
+    || (run_touches c false set && nat_lt (slice_index l.hi c) (slice_index k.count c)))
 
 -- The ways out of a set: an idle of a crossing slot, slots in order, and then a run of a crossing
 -- class that the limits allow, early before late, classes in order.

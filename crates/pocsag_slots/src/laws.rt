@@ -15,12 +15,10 @@ ghost use Rattle.pocsag_slots.specs.Tours.{IsTour};
 pub fn transmissions_are_tours()
     ensures { (k : Table) (end : Ending) (T : List Kind) (R : List Page) (b : ℕ) → AreApart R → AreClassesOf k end R →
         IsLegalFor end T b R → IsTour k end (early_in end T) b (arcs end 0 T) }
-{
-}
+{}
 
 /// The codewords of a tour's steps, in order, are a legal transmission, whose arcs are the steps.
 pub fn tours_are_transmissions()
     ensures { (k : Table) (end : Ending) (choice : ℕ → ℕ) (b : ℕ) (steps : List Arc) (R : List Page) → 0 < b → AreClassesOf k end R →
         IsTour k end choice b steps → IsLegalFor end (laid end R steps) b R × (arcs end 0 (laid end R steps) ≡ steps) }
-{
-}
+{}
