@@ -44,18 +44,21 @@ reads_in_order {i = i} (at_end gap least is) =
     subst (λ (v : List Kind). Reads v i []) (sym is) (reads_all_idles gap i)
 reads_in_order {i = i} (past_page {p = p} {R = R} gap rest least is left) =
     let here : Reads (page_words p ++ rest) (i + gap) (p ∷ R) =
-      subst (λ (q : Page). Reads (page_words p ++ rest) (i + gap) (q ∷ R)) (page_at p (i + gap) least.fit)
-      (page_read p.payload rest refl (begins left)
-        (at_index rest R (i + gap + page_length p) (i + gap + 1 + length p.payload) (omega arith) (reads_in_order left))) in
+    subst (λ (q : Page). Reads (page_words p ++ rest) (i + gap) (q ∷ R)) (page_at p (i + gap) least.fit)
+    (page_read p.payload rest refl (begins left)
+    (at_index rest R (i + gap + page_length p) (i + gap + 1 + length p.payload) (omega arith) (reads_in_order left))) in
     subst (λ (v : List Kind). Reads v i (p ∷ R)) (sym is) (reads_idles gap i (page_words p ++ rest) (p ∷ R) here)
 
-length_replicate : (gap : ℕ) → length (replicate gap Idle) ≡ gap
+pub length_replicate : (gap : ℕ) → length (replicate gap Idle) ≡ gap
 length_replicate zero = refl
 length_replicate (suc gap) = let e : length (replicate gap Idle) ≡ gap = length_replicate gap in omega arith
 
 length_messages : (items : List ℕ) → length (map Message items) ≡ length items
 length_messages [] = refl
 length_messages (b ∷ items) = let e : length (map Message items) ≡ length items = length_messages items in omega arith
+
+pub page_words_long : (p : Page) → length (page_words p) ≡ page_length p
+page_words_long p = let e : length (map Message p.payload) ≡ length p.payload = length_messages p.payload in omega arith
 
 placed_length : (gap : ℕ) (p : Page) (rest : List Kind) →
     length (replicate gap Idle ++ (page_words p ++ rest)) ≡ gap + page_length p + length rest
@@ -82,14 +85,16 @@ pub legal_in_order : (R : List Page) (T : List Kind) → 0 < length R → IsFile
 legal_in_order [] T some f = absurd (omega arith)
 legal_in_order (p ∷ R) T some f =
     let whole : (0 + length T) % 16 ≡ 0 = whole_in_order f in
-    let long : 0 < length T = some_words f in
-    (record {
-      whole = (omega arith, omega arith);
-      ps = p ∷ R;
-      reads = reads_in_order f;
-      as_many = refl;
-      each = All-contains_itself (p ∷ R)
-    }, tt)
+    let long : 0 < length T = some_words f in (
+      record {
+        whole = (omega arith, omega arith);
+        ps = p ∷ R;
+        reads = reads_in_order f;
+        as_many = refl;
+        each = All-contains_itself (p ∷ R);
+      },
+      tt,
+    )
 
 one_gap : {i : ℕ} {P : ℕ → Type 0} (a b : ℕ) → IsLeastFrom i P (i + a) → IsLeastFrom i P (i + b) → a ≡ b
 one_gap {i = i} a b first second =
@@ -104,12 +109,12 @@ one_order {i = i} (at_end gap least is) (at_end gap' least' is') =
 one_order {i = i} (past_page {p = p} {R = R} gap rest least is left) (past_page gap' rest' least' is' left') =
     let same : gap ≡ gap' = one_gap gap gap' least least' in
     let moved : InOrder (i + gap + page_length p) R rest' =
-      subst (λ (n : ℕ). InOrder (i + n + page_length p) R rest') (sym same) left' in
+    subst (λ (n : ℕ). InOrder (i + n + page_length p) R rest') (sym same) left' in
     let rests : rest ≡ rest' = one_order left moved in
     let tails : page_words p ++ rest ≡ page_words p ++ rest' = ap (λ (v : List Kind). page_words p ++ v) rests in
     let gaps : replicate gap Idle ≡ replicate gap' Idle = ap (λ (n : ℕ). replicate n Idle) same in
     is ∙ (ap (λ (v : List Kind). replicate gap Idle ++ v) tails
-      ∙ (ap (λ (v : List Kind). v ++ (page_words p ++ rest')) gaps ∙ sym is'))
+    ∙ (ap (λ (v : List Kind). v ++ (page_words p ++ rest')) gaps ∙ sym is'))
 
 -- the gap up to the least index of the frame, and up to whole batches
 record HasLeast (i : ℕ) (IsFit : ℕ → Type 0) : Type 0 where
@@ -119,8 +124,8 @@ record HasLeast (i : ℕ) (IsFit : ℕ → Type 0) : Type 0 where
 some_frame : (i frame : ℕ) → frame < 8 → HasLeast i (IsInFrame frame)
 some_frame i frame small =
     elim (cases_eq (i % 16 / 2) frame) [
-      inl same ↦ record { gap = 0; least = record { after = omega arith; fit = omega arith; least = λ j after fit. omega arith } }
-    | inr other ↦ record { gap = (2 * frame + 16 - i % 16) % 16; least = record { after = omega arith; fit = omega arith; least = λ j after fit. omega arith } }
+      | inl same ↦ record { gap = 0; least = record { after = omega arith; fit = omega arith; least = λ j after fit. omega arith } }
+      | inr other ↦ record { gap = (2 * frame + 16 - i % 16) % 16; least = record { after = omega arith; fit = omega arith; least = λ j after fit. omega arith } }
     ]
 
 some_whole : (i : ℕ) → HasLeast i IsWhole
@@ -137,5 +142,34 @@ some_order (p ∷ R) i =
     let left = some_order R (i + g.gap + page_length p) in
     record {
       words = replicate g.gap Idle ++ (page_words p ++ left.words);
-      order = past_page g.gap left.words g.least refl left.order
+      order = past_page g.gap left.words g.least refl left.order;
     }
+
+-- a list of this length is what stands before index i and the rest in order
+pub record HasLeft (i : ℕ) (R : List Page) (n : ℕ) : Type 0 where
+  pub rest : List Kind
+  pub order : InOrder i R rest
+  pub long : n ≡ i + length rest
+
+-- the next page takes the least place for it
+pub left_step : (i gap n : ℕ) (p : Page) (R : List Page) → IsLeastFrom i (IsInFrame (p.address % 8)) (i + gap) → HasLeft i (p ∷ R) n → HasLeft (i + gap + page_length p) R n
+left_step i gap n p R least h = step h.order
+  where
+    step : InOrder i (p ∷ R) h.rest → HasLeft (i + gap + page_length p) R n
+    step (past_page gap' rest least' is left) =
+        let same : gap' ≡ gap = one_gap gap' gap least' least in
+        let long : length h.rest ≡ gap' + page_length p + length rest = ap length is ∙ placed_length gap' p rest in
+        record {
+          rest = rest;
+          order = subst (λ (g : ℕ). InOrder (i + g + page_length p) R rest) same left;
+          long = omega (arith, h.long);
+        }
+
+pub left_end : (i gap n : ℕ) → IsLeastFrom i IsWhole (i + gap) → HasLeft i [] n → n ≡ i + gap
+left_end i gap n least h = step h.order
+  where
+    step : InOrder i [] h.rest → n ≡ i + gap
+    step (at_end gap' least' is) =
+        let same : gap' ≡ gap = one_gap gap' gap least' least in
+        let long : length h.rest ≡ gap' = ap length is ∙ length_replicate gap' in
+        omega (arith, h.long)

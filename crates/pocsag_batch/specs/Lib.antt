@@ -1,1 +1,4 @@
 pub mod FileOrder
+pub mod Sending
+pub mod Streams
+pub mod WordLists

@@ -1,6 +1,16 @@
 #![tactic(auto)]
 //! Layouts of a round as batches of codewords, and the bytes of a transmission.
 
+mod batches;
 mod laws;
+mod order;
+mod piece;
+mod stream;
+mod word_list;
+mod writing;
 
+pub use batches::Batches;
 pub use laws::{file_order_exists, file_order_is_legal, file_order_is_one};
+pub use order::{in_order_batches, lay_in_order};
+pub use stream::{FirstFault, first_stream};
+pub use writing::write;

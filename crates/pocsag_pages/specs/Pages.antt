@@ -1,5 +1,5 @@
 -- Which pages may stand in a round (this project's own limits).
-use Rattle.std.specs.Prelude.{◌≡◌, ◌==◌, ◌&&◌, ◌||◌, ℕ, ◌^◌, ◌<◌, ◌≤◌, List, length, map, Bool, not, nat_lt, nat_le, if◌then◌else◌, Option, Some, None, All, nat_eq}
+use Rattle.std.specs.Prelude.{◌≡◌, ◌==◌, ◌&&◌, ◌||◌, ◌⊎◌, ℕ, ◌^◌, ◌<◌, ◌≤◌, List, [], length, map, Bool, false, not, nat_lt, nat_le, if◌then◌else◌, Option, Some, None, All, nat_eq}
 use Rattle.std.specs.List.{list_any, IsDistinct}
 use Rattle.pocsag_pages.specs.declared.page.Page.{Page}
 use Rattle.pocsag_pages.specs.declared.page.TheConstants.{LAST_ADDRESS}
@@ -26,13 +26,29 @@ page_fault_of p =
     else if is_reserved p.address then Some fault.ReservedAddress
     else if is_bad_payload p.function p.payload then Some fault.BadPayload else None
 
+abbrev pub addresses_of : List Page → List ℕ
+addresses_of ps = map (λ p. p.address) ps
+
+-- Whether one of the pages has the address.
+abbrev pub has_address : List Page → ℕ → Bool
+has_address ps a = list_any (nat_eq a) (addresses_of ps)
+
 -- Pages that break no rule, with distinct addresses.
 pub record AreGood (ps : List Page) : Type 0 where
   pub each : All (λ p. page_fault_of p ≡ None) ps
-  pub apart : IsDistinct nat_eq (map (λ p. p.address) ps)
+  pub apart : IsDistinct nat_eq (addresses_of ps)
 
 -- What a round keeps.
 pub record IsRound (ps : List Page) : Type 0 where
   pub some : 0 < length ps
   pub few : length ps ≤ PAGE_LIMIT
   pub good : AreGood ps
+
+-- A page that breaks no rule, in plain facts.
+pub record IsGoodPage (p : Page) : Type 0 where
+  pub address : p.address < 2 ^ 21
+  pub unreserved : is_reserved p.address ≡ false
+  pub function : p.function < 4
+  pub few : length p.payload ≤ ITEM_LIMIT
+  pub small : All (λ item. item < 2 ^ 20) p.payload
+  pub silent : (p.function ≡ 1) ⊎ (p.function ≡ 2) → p.payload ≡ []

@@ -14,3 +14,84 @@ pub enum PageFault {
     #[error("bad payload")]
     BadPayload,
 }
+
+/// Why a reader's bytes were not read whole.
+#[derive(Clone, Copy, PartialEq, Eq, Debug, Error)]
+pub enum WholeFault {
+    /// A read failed.
+    #[error("cannot read or open a file")]
+    ReadFault,
+    /// There are more bytes than were allowed.
+    #[error("the file is too large")]
+    TooLarge,
+    #[error("out of memory")]
+    OutOfMemory,
+}
+
+/// Why a page file or a list of pages is no round. A record's or a page's number counts from 1,
+/// the header not counted.
+#[derive(Clone, Copy, PartialEq, Eq, Debug, Error)]
+pub enum RoundFault {
+    /// A read failed.
+    #[error("cannot read or open a file")]
+    ReadFault,
+    /// The file has over 268,435,456 bytes.
+    #[error("the file is too large")]
+    TooLarge,
+    /// The first record is not `address,kind,message`, or there is none.
+    #[error("the header must be address,kind,message")]
+    BadHeader,
+    /// The record has not exactly three fields.
+    #[error("record {0}: three fields are wanted")]
+    FieldCount(u32),
+    /// The address is not one to seven digits, or is above 2,097,151.
+    #[error("record {0}: bad address")]
+    BadAddress(u32),
+    /// The address is one of the sixteen that would read as idle or as synchronisation.
+    #[error("record {0}: reserved address")]
+    ReservedAddress(u32),
+    /// The kind is none of `tone0` to `tone3`, `numeric` and `alpha`.
+    #[error("record {0}: unknown kind")]
+    BadKind(u32),
+    #[error("record {0}: a tone page has no message")]
+    MessageForTone(u32),
+    #[error("record {0}: the message is empty")]
+    EmptyMessage(u32),
+    /// The record's number, and the place in its message, counted from 0, of the first byte that is
+    /// not allowed.
+    #[error("record {0}: bad character at {1}")]
+    BadCharacter(u32, usize),
+    /// The message has over 4,000 bytes.
+    #[error("record {0}: the message is too long")]
+    TooLong(u32),
+    /// A page before this one has the same address.
+    #[error("record {0}: the address is already there")]
+    DuplicateAddress(u32),
+    /// There are over 20,000 pages.
+    #[error("record {0}: too many pages")]
+    TooManyPages(u32),
+    /// The function, the number of items or an item of a page is too large, or a page of function 1
+    /// or 2 has a message. No page file has such a page.
+    #[error("record {0}: bad payload")]
+    BadPayload(u32),
+    #[error("there are no pages")]
+    NoPages,
+    #[error("out of memory")]
+    OutOfMemory,
+}
+
+// Why a record is no page of a round; `RoundFault` without the record's number.
+#[derive(Clone, Copy)]
+pub(crate) enum RecordFault {
+    FieldCount,
+    BadAddress,
+    ReservedAddress,
+    BadKind,
+    MessageForTone,
+    EmptyMessage,
+    BadCharacter(usize),
+    TooLong,
+    DuplicateAddress,
+    TooManyPages,
+    OutOfMemory,
+}

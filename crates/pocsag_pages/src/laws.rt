@@ -1,7 +1,8 @@
-ghost use Rattle.std.specs.Prelude.{◌≡◌, ◌↔◌, ℕ, List, false};
+ghost use Rattle.std.specs.Prelude.{◌≡◌, ◌↔◌, ℕ, List, All, false};
 ghost use Rattle.pocsag_words.specs.declared.codeword.Kind.{Kind};
 ghost use Rattle.pocsag_pages.specs.declared.page.Page.{Page};
-ghost use Rattle.pocsag_pages.specs.Reading.{Reads};
+ghost use Rattle.pocsag_pages.specs.Pages.{IsGoodPage, IsRound};
+ghost use Rattle.pocsag_pages.specs.Reading.{AreApart, Reads};
 ghost use Rattle.pocsag_pages.specs.Plain.{HasNoOrphan, pages_from};
 
 /// A list of codewords has a reading exactly where no message codeword is an orphan, and then it
@@ -13,4 +14,14 @@ pub fn readings_are_plain()
 /// A list of codewords has at most one reading.
 pub fn readings_are_one()
     ensures { (ws : List Kind) (i : ℕ) (ps qs : List Page) → Reads ws i ps → Reads ws i qs → ps ≡ qs }
+{}
+
+/// Each page of a round breaks no rule.
+pub fn rounds_are_good()
+    ensures { (R : List Page) → IsRound R → All IsGoodPage R }
+{}
+
+/// The addresses of a round are distinct.
+pub fn rounds_are_apart()
+    ensures { (R : List Page) → IsRound R → AreApart R }
 {}

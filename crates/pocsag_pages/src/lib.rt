@@ -2,14 +2,22 @@
 //! Pages, rounds of pages and page files; and, in `specs/`, what a transmission says: readings,
 //! legal transmissions and their bytes (Recommendation ITU-R M.584-2, Annex 1).
 
+mod csv_row;
+mod draft;
 mod fault;
+mod file;
 mod laws;
+mod list;
 mod page;
+mod record;
 mod round;
 mod rule;
+mod whole;
 
-pub use fault::PageFault;
-pub use laws::{readings_are_one, readings_are_plain};
+pub use fault::{PageFault, RoundFault, WholeFault};
+pub use file::{FILE_LIMIT, read_round};
+pub use laws::{readings_are_one, readings_are_plain, rounds_are_apart, rounds_are_good};
 pub use page::{LAST_ADDRESS, Page, Payload};
 pub use round::{PAGE_LIMIT, Round};
 pub use rule::{ITEM_LIMIT, page_fault};
+pub use whole::read_whole;

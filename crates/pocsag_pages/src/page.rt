@@ -1,4 +1,7 @@
-ghost use Rattle.std.specs.Prelude.{◌≡◌, [], IfOk};
+ghost use Rattle.std.specs.Prelude.{◌≡◌, ◌==◌, [], IfOk};
+ghost use Rattle.std.specs.Cmp.Lexicographic.{pointwise};
+ghost use Rattle.std.specs.Cmp.Rules.{comparing};
+ghost use Rattle.std.proofs.Common.{rules};
 
 use pocsag_words::OutOfMemory;
 use std::alloc::Global;
@@ -65,8 +68,18 @@ impl Payload {
     }
 }
 
+impl PartialEq for Payload {
+    ghost eq = { pointwise ◌==◌ };
+
+    ghost laws = { Prim.search (comparing, rules) };
+
+    fn eq(&self, other: &Payload) -> bool {
+        self.items.as_slice() == other.items.as_slice()
+    }
+}
+
 /// One page: the message for one pager, as plain data that keeps no rule.
-#[derive(Debug, Drop)]
+#[derive(PartialEq, Debug, Drop)]
 pub struct Page {
     /// The pager's address, 0 to 2,097,151. Its three low bits name the frame.
     pub address: u32,

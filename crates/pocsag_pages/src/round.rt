@@ -26,6 +26,14 @@ impl Model for Round {
 }
 
 impl Round {
+    // The round of pages that may be one.
+    pub(crate) fn of(pages: Vec<Page>) -> Round
+        requires { IsRound pages.items }
+        ensures { result ≡ pages.items }
+    {
+        Round { pages }
+    }
+
     /// The pages in order.
     pub fn pages(&self) -> &[Page]
         ensures pages { result.now ≡ self.now }

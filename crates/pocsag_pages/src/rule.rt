@@ -6,7 +6,7 @@ use crate::fault::PageFault;
 use crate::page::{LAST_ADDRESS, Page};
 
 /// The greatest number of items of a message, which 4,000 characters of seven bits fill.
-pub const ITEM_LIMIT: usize = 1400;
+pub const ITEM_LIMIT: usize = pocsag_text::ITEM_LIMIT;
 
 // Whether the address would be read as the idle or as the synchronisation codeword.
 #[tactic(auto, unfolding(crate::specs::Pages::is_reserved))]

@@ -1,5 +1,5 @@
 -- What a codeword says.
-use Rattle.std.specs.Prelude.{ℕ, ◌+◌, ◌*◌, ◌/◌, ◌%◌, ◌^◌, ◌==◌, nat_lt, if◌then◌else◌}
+use Rattle.std.specs.Prelude.{ℕ, ◌+◌, ◌*◌, ◌/◌, ◌%◌, ◌^◌, ◌<◌, ◌==◌, nat_lt, if◌then◌else◌}
 use Rattle.pocsag_words.specs.declared.codeword.Kind.{Kind}
 use Rattle.pocsag_words.specs.declared.codeword.Kind.TheVariants.{Idle, Address, Message}
 
@@ -15,3 +15,9 @@ kind_of w = if w == 0x7a89c197 then Idle else kind_of_bits (w / 2048)
 -- The kind of the codeword with these high bits and this function: 250958 with 0 is idle.
 abbrev pub address_kind : ℕ → ℕ → Kind
 address_kind h f = if 4 * h + f == 0x0f5138 then Idle else Address h f
+
+-- The parts of a kind are in their ranges: 18 high bits, a function of two bits, 20 message bits.
+abbrev pub IsInRange : Kind → Type 0
+IsInRange Idle = Unit {0}
+IsInRange (Address h f) = (h < 2 ^ 18) × (f < 4)
+IsInRange (Message m) = m < 2 ^ 20

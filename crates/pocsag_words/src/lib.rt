@@ -2,12 +2,25 @@
 //! Codewords of Radio Paging Code No. 1 (Recommendation ITU-R M.584-2, Annex 1), and the devices,
 //! ends and faults that the crates above share. Nothing here takes memory.
 
+mod checks;
 mod codeword;
+mod correction;
 mod device;
 mod ending;
+mod lanes;
+mod laws;
+mod memory_sink;
+mod memory_source;
 mod refusal;
+#[cfg(test)]
+mod tests;
 
-pub use codeword::{Kind, Word};
+pub use codeword::{Kind, Word, address_word, from_raw, message_word};
+pub use correction::repair;
 pub use device::{DeviceFault, Sink, Source, write_all};
 pub use ending::End;
+pub use lanes::check_all;
+pub use laws::{codewords_differ, same_from_kind};
+pub use memory_sink::MemorySink;
+pub use memory_source::MemorySource;
 pub use refusal::{OutOfMemory, WriteFault};

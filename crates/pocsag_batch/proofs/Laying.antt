@@ -1,0 +1,62 @@
+-- The loop that lays a round in file order.
+use Rattle.std.proofs.Common.{◌≡◌, ℕ, ◌+◌, ◌/◌, ◌%◌, ◌^◌, ◌<◌, ◌≤◌, List, [], ◌∷◌, ◌++◌, length, map, replicate, drop, refl, sym, ap, ◌∙◌, subst, arith, append_assoc, length-append}
+use Rattle.std.proofs.lemmas.List.{drop_all, length-map}
+use Rattle.pocsag_words.specs.Kinds.{kind_of}
+use Rattle.pocsag_words.specs.declared.codeword.Kind.{Kind}
+use Rattle.pocsag_words.specs.declared.codeword.Kind.TheVariants.{Idle}
+use Rattle.pocsag_words.specs.declared.ending.End.TheVariants.{Open}
+use Rattle.pocsag_pages.specs.declared.page.Page.{Page}
+use Rattle.pocsag_pages.specs.Reading.{page_words, page_length, IsLegalFor}
+use Rattle.pocsag_batch.specs.FileOrder.{IsLeastFrom, IsInFrame, IsWhole, InOrder, at_end, past_page, IsFileOrder}
+use Rattle.pocsag_batch.specs.WordLists.{AreBatches}
+use Rattle.pocsag_batch.proofs.FileOrders.{length_replicate, page_words_long, whole_in_order, some_words, legal_in_order}
+
+pub idled_length : (gap : ℕ) (ws vs : List ℕ) → map kind_of vs ≡ map kind_of ws ++ replicate gap Idle → length vs ≡ length ws + gap
+idled_length gap ws vs idles =
+    omega (arith, ap length idles, length-append (map kind_of ws) (replicate gap Idle), length_replicate gap, length-map ws kind_of, length-map vs kind_of)
+
+pub laid_length : (p : Page) (gap : ℕ) (ws vs us : List ℕ) →
+    map kind_of vs ≡ map kind_of ws ++ replicate gap Idle → map kind_of us ≡ map kind_of vs ++ page_words p →
+    length us ≡ length ws + gap + page_length p
+laid_length p gap ws vs us idles page =
+    let a : length vs ≡ length ws + gap = idled_length gap ws vs idles in
+    omega (arith, ap length page, length-append (map kind_of vs) (page_words p), page_words_long p, length-map us kind_of, length-map vs kind_of)
+
+pub laid_more : (R left : List Page) (p : Page) (gap : ℕ) (ws vs us : List ℕ) →
+    map kind_of vs ≡ map kind_of ws ++ replicate gap Idle → map kind_of us ≡ map kind_of vs ++ page_words p →
+    IsLeastFrom (length ws) (IsInFrame (p.address % 8)) (length ws + gap) →
+    ((U : List Kind) → InOrder (length ws) (p ∷ left) U → IsFileOrder R (map kind_of ws ++ U)) →
+    (U : List Kind) → InOrder (length us) left U → IsFileOrder R (map kind_of us ++ U)
+laid_more R left p gap ws vs us idles page least so_far U order =
+    let long : length us ≡ length ws + gap + page_length p = laid_length p gap ws vs us idles page in
+    let here : InOrder (length ws) (p ∷ left) (replicate gap Idle ++ (page_words p ++ U)) =
+    past_page gap U least refl (subst (λ (n : ℕ). InOrder n left U) long order) in
+    let whole : map kind_of us ++ U ≡ map kind_of ws ++ (replicate gap Idle ++ (page_words p ++ U)) =
+    ap (λ (v : List Kind). v ++ U) page
+    ∙ (ap (λ (v : List Kind). (v ++ page_words p) ++ U) idles
+    ∙ (append_assoc (map kind_of ws ++ replicate gap Idle) (page_words p) U
+    ∙ append_assoc (map kind_of ws) (replicate gap Idle) (page_words p ++ U))) in
+    subst (λ (v : List Kind). IsFileOrder R v) (sym whole) (so_far (replicate gap Idle ++ (page_words p ++ U)) here)
+
+pub laid_last : (R : List Page) (k gap : ℕ) (ws vs : List ℕ) → length R ≤ k →
+    map kind_of vs ≡ map kind_of ws ++ replicate gap Idle →
+    IsLeastFrom (length ws) IsWhole (length ws + gap) →
+    ((U : List Kind) → InOrder (length ws) (drop k R) U → IsFileOrder R (map kind_of ws ++ U)) →
+    IsFileOrder R (map kind_of vs)
+laid_last R k gap ws vs all idles least so_far =
+    let none : drop k R ≡ [] = drop_all k R all in
+    let last : InOrder (length ws) (drop k R) (replicate gap Idle) =
+    subst (λ (left : List Page). InOrder (length ws) left (replicate gap Idle)) (sym none) (at_end gap least refl) in
+    subst (λ (v : List Kind). IsFileOrder R v) (sym idles) (so_far (replicate gap Idle) last)
+
+pub laid_batches : (R : List Page) (vs : List ℕ) → 0 < length R → length vs < 2 ^ 36 → IsFileOrder R (map kind_of vs) → AreBatches vs
+laid_batches [] vs some few f = absurd (omega arith)
+laid_batches (p ∷ R) vs some few f =
+    let whole : (0 + length (map kind_of vs)) % 16 ≡ 0 = whole_in_order f in
+    let long : 0 < length (map kind_of vs) = some_words f in
+    let same : length (map kind_of vs) ≡ length vs = length-map vs kind_of in
+    record { some = omega arith; whole = omega arith; few = few }
+
+pub laid_legal : (R : List Page) (vs : List ℕ) → 0 < length R → IsFileOrder R (map kind_of vs) → IsLegalFor Open (map kind_of vs) (length vs / 16) R
+laid_legal R vs some f =
+    subst (λ (n : ℕ). IsLegalFor Open (map kind_of vs) (n / 16) R) (length-map vs kind_of) (legal_in_order R (map kind_of vs) some f)

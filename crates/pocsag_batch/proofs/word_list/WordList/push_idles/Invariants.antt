@@ -1,0 +1,7 @@
+use Rattle.std.proofs.Common.{◌≡◌, ◌++◌, map, replicate}
+use Rattle.pocsag_words.specs.Kinds.{kind_of}
+use Rattle.pocsag_words.specs.declared.codeword.Kind.TheVariants.{Idle}
+use Rattle.pocsag_batch.proofs.word_list.WordList.push_idles.Given as goal
+
+abbrev pub invariant-loop-done : goal.invariant-loop-done
+invariant-loop-done l = map kind_of l.self ≡ map kind_of l.fn.self ++ replicate l.done Idle

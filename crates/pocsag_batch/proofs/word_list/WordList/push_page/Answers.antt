@@ -1,0 +1,33 @@
+use Rattle.std.proofs.Common.{◌≡◌, ℕ, ◌/◌, ◌<◌, List, ◌∷◌, ◌++◌, length, get_or, map, take, subst, sym, ap, ◌∙◌, All}
+use Rattle.std.proofs.lemmas.List.Elements.{All-get_or}
+use Rattle.pocsag_words.specs.Kinds.{kind_of}
+use Rattle.pocsag_words.specs.declared.codeword.Kind.{Kind}
+use Rattle.pocsag_words.specs.declared.codeword.Kind.TheVariants.{Address, Message}
+use Rattle.pocsag_batch.proofs.Addresses.{kind_unreserved}
+use Rattle.pocsag_batch.proofs.Pushes.{pushed, pushed_more, map_taken}
+use Rattle.pocsag_batch.proofs.word_list.WordList.push_page.Goals as goal
+
+pub loop-item-init : goal.loop-item-init
+loop-item-init c =
+    let p = c.args.page.now in
+    pushed c.args.self.now c.push.new.self c.address_word.result (Address (p.address / 8) p.function) c.in_ok-push.ensures
+    (c.address_word.ensures.kind ∙ kind_unreserved p.address p.function c.requires.address c.requires.function c.requires.unreserved)
+
+pub message_word-requires : goal.message_word-requires
+message_word-requires c =
+    let P : ℕ → Type 0 = λ item. item < 1048576 in
+    All-get_or P c.as_slice-item-items.result.now c.loop-item.item-index 0 c.loop-item-test.true
+    (subst (λ (v : List ℕ). All P v) (sym c.as_slice-item-items.ensures) c.requires.small)
+
+pub loop-item-preserved : goal.loop-item-preserved
+loop-item-preserved c =
+    let p = c.args.page.now in
+    let k = c.loop-item.item-index in
+    let items : c.as_slice-item-items.result.now ≡ p.payload = c.as_slice-item-items.ensures in
+    let within : k < length p.payload = subst (λ (v : List ℕ). k < length v) items c.loop-item-test.true in
+    let kind : kind_of c.message_word.result ≡ Message (get_or p.payload k 0) =
+    c.message_word.ensures.kind ∙ ap (λ (v : List ℕ). Message (get_or v k 0)) items in
+    pushed_more c.loop-item.self c.push-in-loop-item.new.self c.message_word.result (Message (get_or p.payload k 0))
+    (map kind_of c.args.self.now) (Address (p.address / 8) p.function ∷ map Message (take k p.payload))
+    c.in_ok-push-2.ensures kind c.loop-item.invariant
+    ∙ ap (λ (v : List Kind). map kind_of c.args.self.now ++ Address (p.address / 8) p.function ∷ v) (sym (map_taken Message p.payload k within))

@@ -1,0 +1,115 @@
+ghost use Rattle.std.specs.Prelude.{◌≡◌, ◌≤◌, [], ◌++◌, length, replicate, OnOk, OnErr};
+ghost use Rattle.std.specs.Int.{to_be_bytes, w32};
+ghost use Rattle.pocsag_words.specs.Devices.{HasFailed, TookPrefix};
+ghost use Rattle.pocsag_batch.specs.Sending.{slot_bytes};
+
+use pocsag_words::{DeviceFault, Sink, Word, write_all};
+use std::marker::Model;
+
+// The bytes of 64 batches.
+const PIECE: usize = 4_352;
+
+const SYNC_WORD: u32 = 0x7cd2_15d8;
+
+const PREAMBLE: usize = 72;
+
+// A piece of a transmission that is not written yet.
+#[derive(Drop)]
+pub(crate) struct Piece {
+    bytes: [u8; 4_352],
+    len: usize,
+}
+
+impl Model for Piece {
+    ghost use Rattle.std.specs.Prelude.{ℕ, ◌≤◌, List, take};
+
+    ghost Value = { List ℕ };
+
+    ghost view = { λ p. take p.len p.bytes };
+
+    ghost invariant = { λ p. p.len ≤ 4352 };
+}
+
+impl Piece {
+    // The preamble.
+    pub(crate) fn new() -> Piece
+        ensures { result ≡ replicate 72 0xaa }
+    {
+        Piece {
+            bytes: [0xaa; PIECE],
+            len: PREAMBLE,
+        }
+    }
+
+    pub(crate) fn as_slice(&self) -> &[u8]
+        ensures { result.now ≡ self.now }
+    {
+        &self.bytes[..self.len]
+    }
+
+    fn len(&self) -> usize
+        ensures { result ≡ length self.now }
+    {
+        self.len
+    }
+
+    fn clear(&mut self)
+        ensures { self.new ≡ [] }
+    {
+        self.len = 0;
+    }
+
+    fn push(&mut self, number: u32)
+        requires { length self.old ≤ 4348 }
+        ensures { self.new ≡ self.old ++ to_be_bytes w32 number }
+    {
+        let end = self.len + 4;
+        self.bytes[self.len..end].copy_from_slice(&number.to_be_bytes());
+        self.len = end;
+    }
+
+    // The codeword, behind the synchronisation codeword where a batch begins.
+    fn push_slot(&mut self, slot: usize, word: Word)
+        requires { length self.old ≤ 4344 }
+        ensures { self.new ≡ self.old ++ slot_bytes slot word }
+    {
+        if slot == 0 {
+            self.push(SYNC_WORD);
+        }
+        self.push(word.raw());
+    }
+}
+
+// Writes the piece where there is no room left for a slot.
+fn make_room<S: Sink>(piece: &mut Piece, sink: &mut S) -> Result<(), DeviceFault>
+    ensures room { OnOk result (length piece.new ≤ 4344) }
+    ensures same { S.tells → OnOk result (S.taken sink.new ++ piece.new ≡ S.taken sink.old ++ piece.old) }
+    ensures grown { S.tells → OnOk result (length (S.taken sink.old) ≤ length (S.taken sink.new)) }
+    ensures part { S.tells → OnErr result (TookPrefix (S.taken sink.old) (S.taken sink.new) piece.old) }
+    ensures succeeded { OnOk result (S.failures sink.new ≡ S.failures sink.old) }
+    ensures failed { OnErr result (HasFailed (S.failures sink.old) (S.failures sink.new)) }
+{
+    if piece.len() > PIECE - 8 {
+        write_all(sink, piece.as_slice())?;
+        piece.clear();
+    }
+    Ok(())
+}
+
+/// Puts the codeword of a slot behind the piece, which is written first where it is full.
+pub(crate) fn put_word<S: Sink>(
+    piece: &mut Piece,
+    sink: &mut S,
+    slot: usize,
+    word: Word,
+) -> Result<(), DeviceFault>
+    ensures same { S.tells → OnOk result (S.taken sink.new ++ piece.new ≡ (S.taken sink.old ++ piece.old) ++ slot_bytes slot word) }
+    ensures grown { S.tells → OnOk result (length (S.taken sink.old) ≤ length (S.taken sink.new)) }
+    ensures part { S.tells → OnErr result (TookPrefix (S.taken sink.old) (S.taken sink.new) piece.old) }
+    ensures succeeded { OnOk result (S.failures sink.new ≡ S.failures sink.old) }
+    ensures failed { OnErr result (HasFailed (S.failures sink.old) (S.failures sink.new)) }
+{
+    make_room(piece, sink)?;
+    piece.push_slot(slot, word);
+    Ok(())
+}

@@ -1,0 +1,62 @@
+ghost use Rattle.std.specs.Prelude.{◌≡◌, IfOk, IfErr};
+ghost use Rattle.pocsag_words.specs.Devices.{HasFailed};
+ghost use Rattle.pocsag_pages.specs.File.{verdict};
+ghost use Rattle.pocsag_pages.specs.declared.fault.RoundFault.TheVariants as round;
+ghost use Rattle.pocsag_batch.specs.Streams.{ExplainsFault, IsBeforeWriting, LeavesPrefix, WritesInOrder};
+ghost use Rattle.pocsag_batch.specs.declared.stream.FirstFault.TheVariants as fault;
+
+use std::alloc::Global;
+
+use pocsag_pages::{RoundFault, read_round};
+use pocsag_words::{OutOfMemory, Sink, Source, WriteFault};
+use thiserror::Error;
+
+use crate::order::lay_in_order;
+use crate::writing::write;
+
+/// Why a page file was not written in file order.
+#[derive(Clone, Copy, PartialEq, Eq, Debug, Error)]
+pub enum FirstFault {
+    /// The page file gives no round.
+    #[error("{0}")]
+    Round(RoundFault),
+    #[error("out of memory")]
+    OutOfMemory,
+    /// The transmission was not taken whole; what was taken is a prefix of it.
+    #[error("cannot write")]
+    WriteFault,
+}
+
+/// Reads a page file up to its end, writes its round in file order with the open end, and answers how
+/// many batches that are. Nothing is written before the round is read and laid out.
+pub fn first_stream<S: Source, T: Sink>(
+    alloc: Global,
+    source: &mut S,
+    tx: &mut T,
+) -> Result<u32, FirstFault>
+    ensures written { S.tells → T.tells →
+        IfOk result (λ n. WritesInOrder (verdict (S.held source.old)) (T.taken tx.old) (T.taken tx.new) n) }
+
+    // When each fault comes, and what it leaves.
+    ensures explained { S.tells → IfErr result (ExplainsFault (verdict (S.held source.old))) }
+    ensures untouched { IfErr result (λ e. IsBeforeWriting e → tx.new ≡ tx.old) }
+    ensures part { S.tells → T.tells → result ≡ Err fault.WriteFault →
+        LeavesPrefix (verdict (S.held source.old)) (T.taken tx.old) (T.taken tx.new) }
+
+    // A device's fault is answered only where that device failed.
+    ensures read_failed { result ≡ Err (fault.Round round.ReadFault) → HasFailed (S.failures source.old) (S.failures source.new) }
+    ensures write_failed { result ≡ Err fault.WriteFault → HasFailed (T.failures tx.old) (T.failures tx.new) }
+{
+    let round = match read_round(alloc, source) {
+        Ok(round) => round,
+        Err(fault) => return Err(FirstFault::Round(fault)),
+    };
+    let batches = match lay_in_order(alloc, &round) {
+        Ok(batches) => batches,
+        Err(OutOfMemory) => return Err(FirstFault::OutOfMemory),
+    };
+    match write(&batches, tx) {
+        Ok(()) => Ok(batches.count()),
+        Err(WriteFault) => Err(FirstFault::WriteFault),
+    }
+}

@@ -1,0 +1,36 @@
+ghost use Rattle.std.specs.Prelude.{◌≡◌, ◌++◌, OnOk, OnErr};
+ghost use Rattle.pocsag_words.specs.Devices.{HasFailed, TookPrefix};
+ghost use Rattle.pocsag_pages.specs.Bytes.{bytes_of};
+
+use crate::batches::Batches;
+use crate::piece::{Piece, put_word};
+use pocsag_words::{DeviceFault, Sink, WriteFault, write_all};
+
+fn write_words<S: Sink>(batches: &Batches, sink: &mut S) -> Result<(), DeviceFault>
+    ensures whole { S.tells → OnOk result (S.taken sink.new ≡ S.taken sink.old ++ bytes_of batches.now) }
+    ensures part { S.tells → OnErr result (TookPrefix (S.taken sink.old) (S.taken sink.new) (bytes_of batches.now)) }
+    ensures succeeded { OnOk result (S.failures sink.new ≡ S.failures sink.old) }
+    ensures failed { OnErr result (HasFailed (S.failures sink.old) (S.failures sink.new)) }
+{
+    let mut piece = Piece::new();
+    let mut slot = 0;
+    for word in batches.words() {
+        put_word(&mut piece, sink, slot, *word)?;
+        slot = (slot + 1) % 16;
+    }
+    write_all(sink, piece.as_slice())
+}
+
+/// Writes the transmission of the batches: the preamble of 72 bytes AA, and each batch behind its
+/// synchronisation codeword, high byte first. After `WriteFault` a prefix of it was taken.
+pub fn write<S: Sink>(batches: &Batches, sink: &mut S) -> Result<(), WriteFault>
+    ensures whole { S.tells → OnOk result (S.taken sink.new ≡ S.taken sink.old ++ bytes_of batches.now) }
+    ensures part { S.tells → OnErr result (TookPrefix (S.taken sink.old) (S.taken sink.new) (bytes_of batches.now)) }
+    ensures succeeded { OnOk result (S.failures sink.new ≡ S.failures sink.old) }
+    ensures failed { OnErr result (HasFailed (S.failures sink.old) (S.failures sink.new)) }
+{
+    match write_words(batches, sink) {
+        Ok(()) => Ok(()),
+        Err(_) => Err(WriteFault),
+    }
+}

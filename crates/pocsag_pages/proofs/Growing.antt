@@ -1,0 +1,70 @@
+-- A round that grows by one page.
+use Rattle.std.proofs.Common.{◌≡◌, ℕ, Bool, true, false, not, cond, ◌||◌, List, [], ◌∷◌, ◌++◌, nat_eq, refl, sym, ap, ◌∙◌, arith}
+use Rattle.std.specs.BTreeMap.{is_at}
+use Rattle.std.specs.BTreeSet.{BTreeSet, contains, Updates}
+use Rattle.std.specs.Ordering.{nat_cmp}
+use Rattle.std.proofs.lemmas.List.{map-append}
+use Rattle.std.proofs.lemmas.List.Elements.{All-nil, All-push}
+use Rattle.std.proofs.lemmas.List.Folds.{list_any-append}
+use Rattle.std.proofs.lemmas.Cmp.{nat_eq_equiv}
+use Rattle.std.proofs.lemmas.Bool.Decides.{nat_tests}
+use Rattle.std.proofs.lemmas.Map.Keys.{IsDistinct-push}
+use Rattle.std.proofs.lemmas.Map.Made.{IsDistinct-from_count}
+use Rattle.pocsag_pages.specs.declared.page.Page.{Page}
+use Rattle.pocsag_pages.specs.Pages.{AreGood, addresses_of, has_address, page_fault_of}
+use Rattle.pocsag_pages.specs.Drafts.{IsDraft}
+use Rattle.std.specs.Prelude.{None}
+
+or_false : (b : Bool) → (b || false) ≡ b
+or_false true = refl
+or_false false = refl
+
+either : (b c : Bool) → cond b true c ≡ (c || b)
+either true true = refl
+either true false = refl
+either false true = refl
+either false false = refl
+
+was_false : (b : Bool) → not b ≡ true → b ≡ false
+was_false true e = absurd (cc)
+was_false false e = refl
+
+was_true : (b : Bool) → not b ≡ false → b ≡ true
+was_true true e = refl
+was_true false e = absurd (cc)
+
+pub good_none : AreGood []
+good_none = record { each = All-nil _; apart = IsDistinct-from_count nat_eq_equiv [] refl }
+
+pub addresses_push : (ps : List Page) (p : Page) → addresses_of (ps ++ p ∷ []) ≡ addresses_of ps ++ p.address ∷ []
+addresses_push ps p = map-append (λ (q : Page). q.address) ps (p ∷ [])
+
+pub has_push : (ps : List Page) (p : Page) (a : ℕ) → has_address (ps ++ p ∷ []) a ≡ (has_address ps a || nat_eq a p.address)
+has_push ps p a = rw addresses_push (list_any-append (nat_eq a) (addresses_of ps) (p.address ∷ []) ∙ ap (λ b. has_address ps a || b) (or_false (nat_eq a p.address)))
+
+pub good_push : (ps : List Page) (p : Page) → AreGood ps → page_fault_of p ≡ None → has_address ps p.address ≡ false → AreGood (ps ++ p ∷ [])
+good_push ps p good fine another = record {
+  each = All-push (λ q. page_fault_of q ≡ None) ps p good.each fine;
+  apart = rw addresses_push (IsDistinct-push nat_eq_equiv (addresses_of ps) p.address good.apart another);
+}
+
+same_test : (a b : ℕ) → is_at (nat_cmp a) b ≡ nat_eq b a
+same_test a b = grind (arith, nat_tests)
+
+-- what the answer of `insert` says of the pages so far
+module _ (ps : List Page) (seen : BTreeSet ℕ) (a : ℕ) (added : Bool) (d : IsDraft ps seen) (e : added ≡ not (contains nat_cmp seen a)) where
+  pub was_new : added ≡ true → has_address ps a ≡ false
+  was_new h = sym (d.addresses a) ∙ was_false (contains nat_cmp seen a) (sym e ∙ h)
+
+  pub was_there : added ≡ false → has_address ps a ≡ true
+  was_there h = sym (d.addresses a) ∙ was_true (contains nat_cmp seen a) (sym e ∙ h)
+
+pub draft_none : (seen : BTreeSet ℕ) → seen.keys ≡ [] → IsDraft [] seen
+draft_none seen e = record { good = good_none; addresses = λ a. rw e refl }
+
+pub draft_push : (ps : List Page) (seen more : BTreeSet ℕ) (p : Page) → IsDraft ps seen → page_fault_of p ≡ None → has_address ps p.address ≡ false
+    → Updates nat_cmp seen more p.address true → IsDraft (ps ++ p ∷ []) more
+draft_push ps seen more p d fine another u = record {
+  good = good_push ps p d.good fine another;
+  addresses = λ a. u.0 a ∙ (rw (same_test p.address a, d.addresses a, has_push ps p a) (either (nat_eq a p.address) (has_address ps a)));
+}

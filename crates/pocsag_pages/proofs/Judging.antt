@@ -1,0 +1,149 @@
+-- Judging records one at a time, against the pages so far.
+use Rattle.std.proofs.Common.{◌≡◌, ℕ, ◌+◌, ◌<◌, ◌≤◌, nat_lt, Bool, true, false, ◌⊎◌, inr, List, [], ◌∷◌, ◌++◌, length, refl, sym, ap, ◌∙◌, arith}
+use Rattle.std.specs.Prelude.{Option, Some, None, Result, Ok, Err, IfOk, IfErr, if◌then◌else◌}
+use Rattle.std.proofs.Math.Seq.{append_snoc}
+use Rattle.std.proofs.lemmas.Bool.Decides.{nat_tests}
+use Rattle.std.proofs.lemmas.List.{append-nil, length-append}
+use Rattle.pocsag_pages.specs.declared.page.Page.{Page}
+use Rattle.pocsag_pages.specs.declared.fault.RecordFault.{RecordFault}
+use Rattle.pocsag_pages.specs.declared.fault.RecordFault.TheVariants as wrong
+use Rattle.pocsag_pages.specs.declared.fault.RoundFault.{RoundFault}
+use Rattle.pocsag_pages.specs.declared.fault.RoundFault.TheVariants as fault
+use Rattle.pocsag_pages.specs.PageList.{unless_empty}
+use Rattle.pocsag_pages.specs.PageFile.{Row, fault_after, fault_of_row, first_fault, is_header, numbered, page_of, pages_of, pages_unless, round_of_rows, rows_of, verdict, verdict_of_rows, with_page}
+
+-- the fault of record n + 1, or else what is said of the records after it
+abbrev pub or_later : Option RecordFault → ℕ → Result (List Page) RoundFault → Result (List Page) RoundFault
+or_later (Some e) n later = Err (numbered (n + 1) e)
+or_later None n later = later
+
+-- the round of so many records with these pages, and of these records after them
+unfoldable pub grown : List Page → ℕ → List Row → Result (List Page) RoundFault
+grown ps n [] = unless_empty ps
+grown ps n (r ∷ rows) = or_later (fault_after n ps (page_of r)) n (grown (ps ++ pages_of (r ∷ [])) (n + 1) rows)
+
+with_append : (p : Result Page RecordFault) (ps qs : List Page) → with_page p (ps ++ qs) ≡ with_page p ps ++ qs
+with_append (Ok p) ps qs = refl
+with_append (Err e) ps qs = refl
+
+pages_append : (rows more : List Row) → pages_of (rows ++ more) ≡ pages_of rows ++ pages_of more
+unfolding pages_of
+pages_append [] more = refl
+pages_append (r ∷ rows) more = ap (with_page (page_of r)) (pages_append rows more) ∙ with_append (page_of r) (pages_of rows) (pages_of more)
+
+one_page : (n : ℕ) (ps : List Page) (p : Result Page RecordFault) → fault_after n ps p ≡ None → length (with_page p []) ≡ 1
+one_page n ps (Ok p) e = refl
+one_page n ps (Err e) f = absurd (cc)
+
+-- a record more, by the fault that it has
+one_more : (before rows : List Row) (r : Row) (o : Option RecordFault) → fault_of_row before r ≡ o
+    → length (pages_of before) ≡ length before
+    → ((longer : List Row) → length (pages_of longer) ≡ length longer → pages_unless (first_fault longer rows) (longer ++ rows) ≡ grown (pages_of longer) (length longer) rows)
+    → pages_unless (first_fault before (r ∷ rows)) (before ++ r ∷ rows) ≡ or_later o (length before) (grown (pages_of before ++ pages_of (r ∷ [])) (length before + 1) rows)
+unfolding first_fault fault_of_row pages_of
+one_more before rows r (Some e) f even later = rw f refl
+one_more before rows r None f even later =
+    let longer : List Row = before ++ r ∷ [] in
+    let pages : pages_of longer ≡ pages_of before ++ pages_of (r ∷ []) = pages_append before (r ∷ []) in
+    let more : length longer ≡ length before + 1 = length-append before (r ∷ []) in
+    let one : length (pages_of (r ∷ [])) ≡ 1 = one_page (length before) (pages_of before) (page_of r) f in
+    let even_on : length (pages_of longer) ≡ length longer = rw (pages, more, length-append (pages_of before) (pages_of (r ∷ []))) (omega arith) in
+    rw f (rw (append_snoc before r rows, pages, more) at (later longer even_on))
+
+grown_is : (before rows : List Row) → length (pages_of before) ≡ length before → pages_unless (first_fault before rows) (before ++ rows) ≡ grown (pages_of before) (length before) rows
+unfolding first_fault grown fault_of_row
+grown_is before [] even = rw (append-nil before) refl
+grown_is before (r ∷ rows) even = one_more before rows r _ refl even (λ longer e. grown_is longer rows e)
+
+-- the round of records, by judging one at a time
+pub judged : (rows : List Row) → round_of_rows rows ≡ grown [] 0 rows
+unfolding round_of_rows pages_of
+judged rows = grown_is [] rows refl
+
+-- the next step of it
+module _ (ps : List Page) (n : ℕ) where
+  pub grown_end : grown ps n [] ≡ unless_empty ps
+  unfolding grown
+  grown_end = refl
+
+  pub grown_fault : (r : Row) (rows : List Row) (e : RecordFault) → fault_after n ps (page_of r) ≡ Some e → grown ps n (r ∷ rows) ≡ Err (numbered (n + 1) e)
+  unfolding grown
+  grown_fault r rows e f = rw f refl
+
+  pub grown_on : (r : Row) (rows : List Row) → fault_after n ps (page_of r) ≡ None → grown ps n (r ∷ rows) ≡ grown (ps ++ pages_of (r ∷ [])) (n + 1) rows
+  unfolding grown
+  grown_on r rows f = rw f refl
+
+-- a value that is known to be x answers as the two clauses on x say
+pub said_ok : (x y : Result (List Page) RoundFault) → x ≡ y → IfOk y (λ v. x ≡ Ok v)
+said_ok x (Ok v) e = e
+said_ok x (Err f) e = tt
+
+pub said_err : (x y : Result (List Page) RoundFault) → x ≡ y → IfErr y (λ f. (f ≡ fault.OutOfMemory) ⊎ (x ≡ Err f))
+said_err x (Ok v) e = tt
+said_err x (Err f) e = inr e
+
+-- no record is answered by a failed read
+not_numbered : (n : ℕ) (e : RecordFault) → numbered n e ≡ fault.ReadFault → ⊥
+unfolding numbered
+not_numbered n wrong.FieldCount h = cc
+not_numbered n wrong.BadAddress h = cc
+not_numbered n wrong.ReservedAddress h = cc
+not_numbered n wrong.BadKind h = cc
+not_numbered n wrong.MessageForTone h = cc
+not_numbered n wrong.EmptyMessage h = cc
+not_numbered n (wrong.BadCharacter place) h = cc
+not_numbered n wrong.TooLong h = cc
+not_numbered n wrong.DuplicateAddress h = cc
+not_numbered n wrong.TooManyPages h = cc
+not_numbered n wrong.OutOfMemory h = cc
+
+not_empty : (ps : List Page) → unless_empty ps ≡ Err fault.ReadFault → ⊥
+not_empty [] h = cc
+not_empty (p ∷ ps) h = cc
+
+not_later : (o : Option RecordFault) (n : ℕ) (later : Result (List Page) RoundFault) → (later ≡ Err fault.ReadFault → ⊥) → or_later o n later ≡ Err fault.ReadFault → ⊥
+not_later None n later not h = not h
+not_later (Some e) n later not h = not_numbered (n + 1) e cc
+
+not_grown : (ps : List Page) (n : ℕ) (rows : List Row) → grown ps n rows ≡ Err fault.ReadFault → ⊥
+unfolding grown
+not_grown ps n [] h = not_empty ps h
+not_grown ps n (r ∷ rows) h = not_later _ n _ (not_grown (ps ++ pages_of (r ∷ [])) (n + 1) rows) h
+
+not_headed : (b : Bool) (rows : List Row) → (if b then round_of_rows rows else Err fault.BadHeader) ≡ Err fault.ReadFault → ⊥
+not_headed true rows h = not_grown [] 0 rows (sym (judged rows) ∙ h)
+not_headed false rows h = cc
+
+pub never_read : (rows : List Row) → verdict_of_rows rows ≡ Err fault.ReadFault → ⊥
+unfolding verdict_of_rows
+never_read [] h = cc
+never_read (header ∷ rows) h = not_headed (is_header header) rows h
+
+-- the verdict by the header
+pub no_header : verdict_of_rows [] ≡ Err fault.BadHeader
+unfolding verdict_of_rows
+no_header = refl
+
+pub bad_header : (header : Row) (rows : List Row) → is_header header ≡ false → verdict_of_rows (header ∷ rows) ≡ Err fault.BadHeader
+unfolding verdict_of_rows
+bad_header header rows e = rw e refl
+
+pub after_header : (header : Row) (rows : List Row) → is_header header ≡ true → verdict_of_rows (header ∷ rows) ≡ round_of_rows rows
+unfolding verdict_of_rows
+after_header header rows e = rw e refl
+
+-- the verdict by the size
+not_above : (limit n : ℕ) → n ≤ limit → nat_lt limit n ≡ false
+not_above limit n h = grind (arith, nat_tests)
+
+is_above : (limit n : ℕ) → limit < n → nat_lt limit n ≡ true
+is_above limit n h = grind (arith, nat_tests)
+
+pub small_file : (bytes : List ℕ) → length bytes ≤ 268435456 → verdict bytes ≡ verdict_of_rows (rows_of bytes)
+unfolding verdict
+small_file bytes h = rw (not_above 268435456 (length bytes) h) refl
+
+pub large_file : (bytes : List ℕ) → 268435456 < length bytes → verdict bytes ≡ Err fault.TooLarge
+unfolding verdict
+large_file bytes h = rw (is_above 268435456 (length bytes) h) refl

@@ -1,0 +1,17 @@
+use Rattle.std.proofs.Common.{◌≡◌, ◌-◌, ◌≤◌, length}
+use Rattle.pocsag_pages.specs.Rows.{StandsAt, rows_left}
+use Rattle.pocsag_pages.specs.PageFile.{round_of_rows}
+use Rattle.pocsag_pages.proofs.Judging.{grown}
+use Rattle.pocsag_pages.proofs.file.judge_rows.Given as goal
+
+-- the round is that of the pages so far and of the records that are left
+abbrev pub invariant-loop-found : goal.invariant-loop-found
+invariant-loop-found l = record {
+  stands : StandsAt l.reader;
+  even : length l.draft ≡ l.earlier;
+  few : l.earlier ≤ 20000;
+  rest : round_of_rows (rows_left l.fn.reader) ≡ grown l.draft l.earlier (rows_left l.reader);
+}
+
+abbrev pub decreases-loop-found : goal.decreases-loop-found
+decreases-loop-found l = 20000 - l.earlier

@@ -1,0 +1,181 @@
+-- *Verdict of a page file*: the round that a file holds, or its first fault (the format is this
+-- project's own).
+use Rattle.std.specs.Prelude.{◌==◌, ◌&&◌, ◌||◌, ℕ, ◌+◌, ◌-◌, ◌*◌, List, [], ◌∷◌, ◌++◌, length, Bool, false, nat_lt, nat_le, if◌then◌else◌, Option, Some, None, Result, Ok, Err, codes}
+use Rattle.std.specs.Char.{is_ascii_digit}
+use Rattle.std.specs.Str.{bytes_eq}
+use Rattle.csv.specs.Reading.{default_config, records, strip_bom}
+use Rattle.pocsag_text.specs.declared.fault.TextFault.{TextFault}
+use Rattle.pocsag_text.specs.declared.fault.TextFault.TheVariants as text
+use Rattle.pocsag_text.specs.Text.{numeric_payload, alpha_payload}
+use Rattle.pocsag_pages.specs.declared.page.Page.{Page}
+use Rattle.pocsag_pages.specs.declared.page.TheConstants.{LAST_ADDRESS}
+use Rattle.pocsag_pages.specs.declared.round.TheConstants.{PAGE_LIMIT}
+use Rattle.pocsag_pages.specs.declared.file.TheConstants.{FILE_LIMIT}
+use Rattle.pocsag_pages.specs.declared.record.PageKind.{PageKind}
+use Rattle.pocsag_pages.specs.declared.record.PageKind.TheVariants as kind
+use Rattle.pocsag_pages.specs.declared.fault.RecordFault.{RecordFault}
+use Rattle.pocsag_pages.specs.declared.fault.RecordFault.TheVariants as wrong
+use Rattle.pocsag_pages.specs.declared.fault.RoundFault.{RoundFault}
+use Rattle.pocsag_pages.specs.declared.fault.RoundFault.TheVariants as fault
+use Rattle.pocsag_pages.specs.Pages.{is_reserved, has_address}
+use Rattle.pocsag_pages.specs.PageList.{or_else, unless_empty}
+
+-- The fields of one record.
+abbrev pub Row : Type 0
+Row = List (List ℕ)
+
+infixl 10 ◌>>=◌
+abbrev pub ◌>>=◌ : {A B E : Type 0} → Result A E → (A → Result B E) → Result B E
+Ok a >>= f = f a
+Err e >>= f = Err e
+
+-- The value, or the fault where there is none.
+abbrev pub or_fault : {A : Type 0} → Option A → RecordFault → Result A RecordFault
+or_fault None e = Err e
+or_fault (Some a) e = Ok a
+
+-- The fault where the condition is broken.
+abbrev pub unless : Bool → RecordFault → Result (Unit {0}) RecordFault
+unless broken e = if broken then Err e else Ok tt
+
+-- The value of decimal digits after a value; none where a byte is no digit.
+unfoldable pub decimal : ℕ → List ℕ → Option ℕ
+decimal value [] = Some value
+decimal value (b ∷ bytes) = if is_ascii_digit b then decimal (10 * value + (b - 48)) bytes else None
+
+-- The number, if it is at most the limit.
+abbrev pub at_most : ℕ → Option ℕ → Option ℕ
+at_most limit None = None
+at_most limit (Some n) = if nat_le n limit then Some n else None
+
+-- The address that a field spells, in one to seven digits.
+unfoldable pub address_of : List ℕ → Option ℕ
+address_of field =
+    if (length field == 0) || nat_lt 7 (length field) then None else at_most LAST_ADDRESS (decimal 0 field)
+
+-- The kind of page that a field names.
+unfoldable pub kind_of_field : List ℕ → Option PageKind
+kind_of_field field =
+    if bytes_eq field (codes "tone0") then Some (kind.Tone 0)
+    else if bytes_eq field (codes "tone1") then Some (kind.Tone 1)
+    else if bytes_eq field (codes "tone2") then Some (kind.Tone 2)
+    else if bytes_eq field (codes "tone3") then Some (kind.Tone 3)
+    else if bytes_eq field (codes "numeric") then Some kind.Numeric
+    else if bytes_eq field (codes "alpha") then Some kind.Alpha
+    else None
+
+-- The function of a kind: numeric messages have 0 and alphanumeric ones 3, as the Recommendation
+-- pairs them.
+abbrev pub function_of : PageKind → ℕ
+function_of (kind.Tone function) = function
+function_of kind.Numeric = 0
+function_of kind.Alpha = 3
+
+abbrev pub IsTone : PageKind → Type 0
+IsTone (kind.Tone function) = Unit {0}
+IsTone kind.Numeric = ⊥
+IsTone kind.Alpha = ⊥
+
+-- A text's fault as that of its record.
+abbrev pub record_fault_of : TextFault → RecordFault
+record_fault_of text.EmptyMessage = wrong.EmptyMessage
+record_fault_of (text.BadCharacter place) = wrong.BadCharacter place
+record_fault_of text.TooLong = wrong.TooLong
+record_fault_of text.OutOfMemory = wrong.OutOfMemory
+
+-- A text's payload, or its fault.
+abbrev pub of_text : Result (List ℕ) TextFault → Result (List ℕ) RecordFault
+of_text (Ok items) = Ok items
+of_text (Err e) = Err (record_fault_of e)
+
+-- The payload of a page's message.
+unfoldable pub payload_of : PageKind → List ℕ → Result (List ℕ) RecordFault
+payload_of (kind.Tone function) message = if length message == 0 then Ok [] else Err wrong.MessageForTone
+payload_of kind.Numeric message = of_text (numeric_payload message)
+payload_of kind.Alpha message = of_text (alpha_payload message)
+
+-- The page of three fields, or their first fault.
+unfoldable pub page_of_fields : (address_field kind_field message : List ℕ) → Result Page RecordFault
+page_of_fields address_field kind_field message = do
+  address ← or_fault (address_of address_field) wrong.BadAddress
+  _ ← unless (is_reserved address) wrong.ReservedAddress
+  its_kind ← or_fault (kind_of_field kind_field) wrong.BadKind
+  payload ← payload_of its_kind message
+  Ok (record { address = address; function = function_of its_kind; payload = payload })
+
+-- The page of a record, or its first fault, other records aside.
+unfoldable pub page_of : Row → Result Page RecordFault
+page_of (address_field ∷ kind_field ∷ message ∷ []) = page_of_fields address_field kind_field message
+page_of _ = Err wrong.FieldCount
+
+abbrev pub with_page : Result Page RecordFault → List Page → List Page
+with_page (Ok p) ps = p ∷ ps
+with_page (Err e) ps = ps
+
+-- The pages of records, in order; a record with a fault has none.
+unfoldable pub pages_of : List Row → List Page
+pages_of [] = []
+pages_of (r ∷ rows) = with_page (page_of r) (pages_of rows)
+
+-- The fault of a record after so many others with these pages: its own first, then a page that has
+-- its address, and then that it is one too many.
+abbrev pub fault_after : (count : ℕ) → List Page → Result Page RecordFault → Option RecordFault
+fault_after count earlier (Err e) = Some e
+fault_after count earlier (Ok p) =
+    if has_address earlier p.address then Some wrong.DuplicateAddress
+    else if nat_le PAGE_LIMIT count then Some wrong.TooManyPages else None
+
+-- The fault of a record after others.
+unfoldable pub fault_of_row : (before : List Row) → Row → Option RecordFault
+fault_of_row before r = fault_after (length before) (pages_of before) (page_of r)
+
+-- The same with the record's number.
+unfoldable pub numbered : ℕ → RecordFault → RoundFault
+numbered n wrong.FieldCount = fault.FieldCount n
+numbered n wrong.BadAddress = fault.BadAddress n
+numbered n wrong.ReservedAddress = fault.ReservedAddress n
+numbered n wrong.BadKind = fault.BadKind n
+numbered n wrong.MessageForTone = fault.MessageForTone n
+numbered n wrong.EmptyMessage = fault.EmptyMessage n
+numbered n (wrong.BadCharacter place) = fault.BadCharacter n place
+numbered n wrong.TooLong = fault.TooLong n
+numbered n wrong.DuplicateAddress = fault.DuplicateAddress n
+numbered n wrong.TooManyPages = fault.TooManyPages n
+numbered n wrong.OutOfMemory = fault.OutOfMemory
+
+abbrev pub numbered_if : ℕ → Option RecordFault → Option RoundFault
+numbered_if n None = None
+numbered_if n (Some e) = Some (numbered n e)
+
+-- The fault of the least record that has one, of records that follow these.
+unfoldable pub first_fault : (before rows : List Row) → Option RoundFault
+first_fault before [] = None
+first_fault before (r ∷ rows) =
+    or_else (numbered_if (length before + 1) (fault_of_row before r)) (first_fault (before ++ r ∷ []) rows)
+
+-- The pages of records, by the first fault among these, if there is one.
+abbrev pub pages_unless : Option RoundFault → List Row → Result (List Page) RoundFault
+pages_unless (Some f) rows = Err f
+pages_unless None rows = unless_empty (pages_of rows)
+
+-- The round of the records after the header, or their first fault.
+unfoldable pub round_of_rows : List Row → Result (List Page) RoundFault
+round_of_rows rows = pages_unless (first_fault [] rows) rows
+
+-- The header, exactly.
+unfoldable pub is_header : Row → Bool
+is_header (a ∷ k ∷ m ∷ []) = bytes_eq a (codes "address") && bytes_eq k (codes "kind") && bytes_eq m (codes "message")
+is_header _ = false
+
+-- The round of all the records of a file, of which the first is the header.
+unfoldable pub verdict_of_rows : List Row → Result (List Page) RoundFault
+verdict_of_rows [] = Err fault.BadHeader
+verdict_of_rows (header ∷ rows) = if is_header header then round_of_rows rows else Err fault.BadHeader
+
+-- The records that csv gives for the bytes.
+abbrev pub rows_of : List ℕ → List Row
+rows_of bytes = records default_config (strip_bom bytes)
+
+-- *Verdict of a page file*.
+unfoldable pub verdict : List ℕ → Result (List Page) RoundFault
+verdict bytes = if nat_lt FILE_LIMIT (length bytes) then Err fault.TooLarge else verdict_of_rows (rows_of bytes)

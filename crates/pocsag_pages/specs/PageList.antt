@@ -1,0 +1,49 @@
+-- The round of a list of pages, or the list's first fault (this project's own).
+use Rattle.std.specs.Prelude.{ℕ, ◌+◌, List, [], ◌∷◌, ◌++◌, length, nat_lt, if◌then◌else◌, Option, Some, None, Result, Ok, Err}
+use Rattle.pocsag_pages.specs.declared.page.Page.{Page}
+use Rattle.pocsag_pages.specs.declared.round.TheConstants.{PAGE_LIMIT}
+use Rattle.pocsag_pages.specs.declared.fault.PageFault.{PageFault}
+use Rattle.pocsag_pages.specs.declared.fault.PageFault.TheVariants as broken
+use Rattle.pocsag_pages.specs.declared.fault.RoundFault.{RoundFault}
+use Rattle.pocsag_pages.specs.declared.fault.RoundFault.TheVariants as fault
+use Rattle.pocsag_pages.specs.Pages.{has_address, page_fault_of}
+
+-- The fault of the page of this number that breaks a rule.
+unfoldable pub numbered_page : ℕ → PageFault → RoundFault
+numbered_page n broken.BadAddress = fault.BadAddress n
+numbered_page n broken.ReservedAddress = fault.ReservedAddress n
+numbered_page n broken.BadPayload = fault.BadPayload n
+
+-- The fault of the page of this number, which follows these, by the first rule that it breaks, if
+-- it breaks one.
+abbrev pub fault_at : ℕ → List Page → Page → Option PageFault → Option RoundFault
+fault_at n before p (Some broken_rule) = Some (numbered_page n broken_rule)
+fault_at n before p None = if has_address before p.address then Some (fault.DuplicateAddress n) else None
+
+-- The fault of a page after others.
+unfoldable pub fault_of_next : List Page → Page → Option RoundFault
+fault_of_next before p = fault_at (length before + 1) before p (page_fault_of p)
+
+-- The first fault, or else what is told of the pages after it.
+abbrev pub or_else : Option RoundFault → Option RoundFault → Option RoundFault
+or_else (Some f) other = Some f
+or_else None other = other
+
+-- The fault of the least page that has one, of pages that follow these.
+unfoldable pub first_page_fault : List Page → List Page → Option RoundFault
+first_page_fault before [] = None
+first_page_fault before (p ∷ rest) = or_else (fault_of_next before p) (first_page_fault (before ++ p ∷ []) rest)
+
+-- The pages, of which there must be one at least.
+abbrev pub unless_empty : List Page → Result (List Page) RoundFault
+unless_empty [] = Err fault.NoPages
+unless_empty (p ∷ ps) = Ok (p ∷ ps)
+
+-- The pages, unless one has a fault, and then unless they are too many or none.
+abbrev pub unless_fault : Option RoundFault → List Page → Result (List Page) RoundFault
+unless_fault (Some f) ps = Err f
+unless_fault None ps = if nat_lt PAGE_LIMIT (length ps) then Err (fault.TooManyPages (PAGE_LIMIT + 1)) else unless_empty ps
+
+-- The round of a list of pages, or the list's first fault.
+unfoldable pub round_of_pages : List Page → Result (List Page) RoundFault
+round_of_pages ps = unless_fault (first_page_fault [] ps) ps

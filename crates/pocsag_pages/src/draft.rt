@@ -1,0 +1,79 @@
+ghost use Rattle.std.specs.Prelude.{◌≡◌, ◌≤◌, [], ◌∷◌, ◌++◌, length, false, IfOk};
+ghost use Rattle.pocsag_pages.specs.Pages.{has_address, page_fault_of};
+ghost use Rattle.pocsag_pages.specs.PageList.{unless_empty};
+
+use crate::fault::RoundFault;
+use crate::page::Page;
+use crate::round::{PAGE_LIMIT, Round};
+use pocsag_words::OutOfMemory;
+use std::alloc::Global;
+use std::collections::BTreeSet;
+use std::marker::Model;
+
+// A round that grows: its pages so far, and the set of their addresses.
+#[derive(Drop)]
+pub(crate) struct Draft {
+    pages: Vec<Page>,
+    seen: BTreeSet<u32>,
+}
+
+impl Model for Draft {
+    ghost use Rattle.std.specs.Prelude.{List};
+    ghost use Rattle.pocsag_pages.specs.declared.page.Page.{Page};
+    ghost use Rattle.pocsag_pages.specs.Drafts.{IsDraft};
+
+    ghost Value = { List Page };
+
+    ghost view = { λ d. d.pages.items };
+
+    ghost invariant = { λ d. IsDraft d.pages.items d.seen };
+}
+
+impl Draft {
+    pub(crate) fn new(alloc: Global) -> Draft
+        ensures { result ≡ [] }
+    {
+        Draft {
+            pages: Vec::new(alloc),
+            seen: BTreeSet::new(alloc),
+        }
+    }
+
+    // Whether a page has the address.
+    pub(crate) fn has(&self, address: u32) -> bool
+        ensures { result ≡ has_address self.now address }
+    {
+        self.seen.contains(&address)
+    }
+
+    // The pages with one more.
+    pub(crate) fn with(self, page: Page) -> Result<Draft, OutOfMemory>
+        requires good { page_fault_of page ≡ None }
+        requires another { has_address self page.address ≡ false }
+        ensures { IfOk result (λ d. d ≡ self ++ page ∷ []) }
+    {
+        let Draft {
+            mut pages,
+            mut seen,
+        } = self;
+        let Ok(_) = seen.insert(page.address) else {
+            return Err(OutOfMemory);
+        };
+        let Ok(_) = pages.push(page) else {
+            return Err(OutOfMemory);
+        };
+        Ok(Draft { pages, seen })
+    }
+
+    // The round of the pages, of which there must be one at least.
+    pub(crate) fn into_round(self) -> Result<Round, RoundFault>
+        requires { length self ≤ PAGE_LIMIT }
+        ensures { result ≡ unless_empty self }
+    {
+        let Draft { pages, seen: _ } = self;
+        if pages.is_empty() {
+            return Err(RoundFault::NoPages);
+        }
+        Ok(Round::of(pages))
+    }
+}

@@ -1,0 +1,125 @@
+ghost use Rattle.std.specs.Prelude.{◌≡◌, ◌+◌, ◌≤◌, ◌⊎◌, ◌∷◌, ◌++◌, [], None, Some, length, IfOk, IfErr, OnOk};
+ghost use Rattle.csv.specs.Records.{fields_of};
+ghost use Rattle.pocsag_words.specs.Devices.{HasFailed};
+ghost use Rattle.pocsag_pages.specs.Rows.{StandsAt, rows_left};
+ghost use Rattle.pocsag_pages.specs.PageFile.{fault_after, numbered, page_of, pages_of, round_of_rows, rows_of, verdict, verdict_of_rows};
+
+use crate::csv_row::{next_row, rows_reader};
+use crate::draft::Draft;
+use crate::fault::{RecordFault, RoundFault, WholeFault};
+use crate::record::{is_header_row, page_of_row};
+use crate::round::{PAGE_LIMIT, Round};
+use crate::whole::read_whole;
+use csv::{ByteRecord, Reader};
+use pocsag_words::Source;
+use std::alloc::Global;
+
+/// The greatest number of bytes of a page file.
+pub const FILE_LIMIT: usize = 268_435_456;
+
+impl RecordFault {
+    #[tactic(auto, unfolding(crate::specs::PageFile::numbered))]
+    fn numbered(self, number: u32) -> RoundFault
+        ensures { result ≡ numbered number self }
+    {
+        match self {
+            RecordFault::FieldCount => RoundFault::FieldCount(number),
+            RecordFault::BadAddress => RoundFault::BadAddress(number),
+            RecordFault::ReservedAddress => RoundFault::ReservedAddress(number),
+            RecordFault::BadKind => RoundFault::BadKind(number),
+            RecordFault::MessageForTone => RoundFault::MessageForTone(number),
+            RecordFault::EmptyMessage => RoundFault::EmptyMessage(number),
+            RecordFault::BadCharacter(place) => RoundFault::BadCharacter(number, place),
+            RecordFault::TooLong => RoundFault::TooLong(number),
+            RecordFault::DuplicateAddress => RoundFault::DuplicateAddress(number),
+            RecordFault::TooManyPages => RoundFault::TooManyPages(number),
+            RecordFault::OutOfMemory => RoundFault::OutOfMemory,
+        }
+    }
+}
+
+// The pages so far, one for each of the earlier records, and that of one record more.
+fn judge(alloc: Global, draft: Draft, earlier: u32, row: &ByteRecord) -> Result<Draft, RecordFault>
+    ensures fine { IfOk result (λ d. fault_after earlier draft (page_of (fields_of row.now)) ≡ None) }
+    ensures longer { IfOk result (λ d. d ≡ draft ++ pages_of (fields_of row.now ∷ [])) }
+    ensures one { IfOk result (λ d. length d ≡ length draft + 1) }
+    ensures few { IfOk result (λ d. earlier + 1 ≤ PAGE_LIMIT) }
+    ensures err { IfErr result
+        (λ e. (e ≡ RecordFault.OutOfMemory) ⊎ (fault_after earlier draft (page_of (fields_of row.now)) ≡ Some e)) }
+{
+    let page = page_of_row(alloc, row)?;
+    if draft.has(page.address) {
+        return Err(RecordFault::DuplicateAddress);
+    }
+    if earlier as usize >= PAGE_LIMIT {
+        return Err(RecordFault::TooManyPages);
+    }
+    match draft.with(page) {
+        Ok(longer) => Ok(longer),
+        Err(_) => Err(RecordFault::OutOfMemory),
+    }
+}
+
+// The round of the records that the reader has left; `row` is where they are read into.
+fn judge_rows(
+    alloc: Global,
+    reader: &mut Reader<&[u8]>,
+    row: &mut ByteRecord,
+) -> Result<Round, RoundFault>
+    requires { StandsAt reader.old }
+    ensures ok { IfOk result (λ r. round_of_rows (rows_left reader.old) ≡ Ok r) }
+    ensures err { IfErr result
+        (λ e. (e ≡ RoundFault.OutOfMemory) ⊎ (round_of_rows (rows_left reader.old) ≡ Err e)) }
+{
+    let mut draft = Draft::new(alloc);
+    let mut earlier = 0;
+    loop {
+        let Ok(found) = next_row(reader, row) else {
+            return Err(RoundFault::OutOfMemory);
+        };
+        if !found {
+            return draft.into_round();
+        }
+        draft = match judge(alloc, draft, earlier, row) {
+            Ok(longer) => longer,
+            Err(fault) => return Err(fault.numbered(earlier + 1)),
+        };
+        earlier += 1;
+    }
+}
+
+// The round of the bytes of a page file that is not too large.
+fn judge_file(alloc: Global, bytes: &[u8]) -> Result<Round, RoundFault>
+    ensures ok { IfOk result (λ r. verdict_of_rows (rows_of bytes.now) ≡ Ok r) }
+    ensures err { IfErr result
+        (λ e. (e ≡ RoundFault.OutOfMemory) ⊎ (verdict_of_rows (rows_of bytes.now) ≡ Err e)) }
+{
+    let mut reader = rows_reader(alloc, bytes);
+    let mut row = ByteRecord::new(alloc);
+    let Ok(found) = next_row(&mut reader, &mut row) else {
+        return Err(RoundFault::OutOfMemory);
+    };
+    if !found {
+        return Err(RoundFault::BadHeader);
+    }
+    if !is_header_row(&row) {
+        return Err(RoundFault::BadHeader);
+    }
+    judge_rows(alloc, &mut reader, &mut row)
+}
+
+/// The round of the page file that a reader holds up to its end, or the file's first fault.
+pub fn read_round<S: Source>(alloc: Global, source: &mut S) -> Result<Round, RoundFault>
+    ensures ok { S.tells → IfOk result (λ r. verdict (S.held source.old) ≡ Ok r) }
+    ensures err { S.tells → IfErr result
+        (λ e. (e ≡ RoundFault.OutOfMemory) ⊎ (e ≡ RoundFault.ReadFault) ⊎ (verdict (S.held source.old) ≡ Err e)) }
+    ensures succeeded { OnOk result (S.failures source.new ≡ S.failures source.old) }
+    ensures failed { result ≡ Err RoundFault.ReadFault → HasFailed (S.failures source.old) (S.failures source.new) }
+{
+    match read_whole(alloc, source, FILE_LIMIT) {
+        Ok(bytes) => judge_file(alloc, bytes.as_slice()),
+        Err(WholeFault::ReadFault) => Err(RoundFault::ReadFault),
+        Err(WholeFault::TooLarge) => Err(RoundFault::TooLarge),
+        Err(WholeFault::OutOfMemory) => Err(RoundFault::OutOfMemory),
+    }
+}

@@ -1,0 +1,200 @@
+ghost use Rattle.std.specs.Prelude.{◌≡◌, ◌≢◌, ◌^◌, ◌<◌, ◌≤◌, ◌⊎◌, ◌∷◌, [], length, None, All, IfErr, IfNone, IfOk, IfSome};
+ghost use Rattle.csv.specs.Records.{fields_of};
+ghost use Rattle.pocsag_pages.specs.Pages.{page_fault_of};
+ghost use Rattle.pocsag_pages.specs.PageFile.{address_of, decimal, function_of, is_header, kind_of_field, page_of, page_of_fields, payload_of, record_fault_of, IsTone};
+
+use crate::fault::RecordFault;
+use crate::page::{LAST_ADDRESS, Page, Payload};
+use crate::rule::{ITEM_LIMIT, is_reserved_address};
+use csv::ByteRecord;
+use pocsag_text::{TextFault, pack_alpha, pack_numeric};
+use std::alloc::Global;
+
+// What a page file calls the kind of a page.
+#[derive(Clone, Copy)]
+pub(crate) enum PageKind {
+    // No message, with this function.
+    Tone(u8),
+    Numeric,
+    Alpha,
+}
+
+// The three fields of a record.
+#[derive(Drop)]
+struct Fields<'a> {
+    address: &'a [u8],
+    kind: &'a [u8],
+    message: &'a [u8],
+}
+
+fn three_fields(row: &ByteRecord) -> Option<Fields<'_>>
+    ensures some { IfSome result (λ f. fields_of row.now ≡ f.address.now ∷ f.kind.now ∷ f.message.now ∷ []) }
+    ensures none { IfNone result (length (fields_of row.now) ≢ 3) }
+{
+    if row.len() != 3 {
+        return None;
+    }
+    Some(Fields {
+        address: row.get(0)?,
+        kind: row.get(1)?,
+        message: row.get(2)?,
+    })
+}
+
+// Whether the record is the header of a page file.
+#[tactic(auto, unfolding(crate::specs::PageFile::is_header))]
+pub(crate) fn is_header_row(row: &ByteRecord) -> bool
+    ensures { result ≡ is_header (fields_of row.now) }
+{
+    let Some(fields) = three_fields(row) else {
+        return false;
+    };
+    fields.address == b"address".as_slice()
+        && fields.kind == b"kind".as_slice()
+        && fields.message == b"message".as_slice()
+}
+
+fn parse_decimal(digits: &[u8]) -> Option<u32>
+    requires { length digits.now ≤ 7 }
+    ensures { result ≡ decimal 0 digits.now }
+{
+    let mut value = 0;
+    for digit in digits {
+        if !digit.is_ascii_digit() {
+            return None;
+        }
+        value = 10 * value + u32::from(*digit - b'0');
+    }
+    Some(value)
+}
+
+#[tactic(auto, unfolding(crate::specs::PageFile::address_of))]
+fn parse_address(field: &[u8]) -> Option<u32>
+    ensures value { result ≡ address_of field.now }
+    ensures low { IfSome result (λ address. address ≤ LAST_ADDRESS) }
+{
+    if field.is_empty() {
+        return None;
+    }
+    if field.len() > 7 {
+        return None;
+    }
+    match parse_decimal(field) {
+        Some(address) if address <= LAST_ADDRESS => Some(address),
+        _ => None,
+    }
+}
+
+#[tactic(auto, unfolding(crate::specs::PageFile::kind_of_field))]
+fn parse_kind(field: &[u8]) -> Option<PageKind>
+    ensures value { result ≡ kind_of_field field.now }
+    ensures known { IfSome result (λ kind. function_of kind < 4) }
+{
+    if field == b"tone0".as_slice() {
+        return Some(PageKind::Tone(0));
+    }
+    if field == b"tone1".as_slice() {
+        return Some(PageKind::Tone(1));
+    }
+    if field == b"tone2".as_slice() {
+        return Some(PageKind::Tone(2));
+    }
+    if field == b"tone3".as_slice() {
+        return Some(PageKind::Tone(3));
+    }
+    if field == b"numeric".as_slice() {
+        return Some(PageKind::Numeric);
+    }
+    if field == b"alpha".as_slice() {
+        return Some(PageKind::Alpha);
+    }
+    None
+}
+
+impl PageKind {
+    fn function(self) -> u8
+        ensures { result ≡ function_of self }
+    {
+        match self {
+            PageKind::Tone(function) => function,
+            PageKind::Numeric => 0,
+            PageKind::Alpha => 3,
+        }
+    }
+}
+
+fn record_fault(fault: TextFault) -> RecordFault
+    ensures { result ≡ record_fault_of fault }
+{
+    match fault {
+        TextFault::EmptyMessage => RecordFault::EmptyMessage,
+        TextFault::BadCharacter(place) => RecordFault::BadCharacter(place),
+        TextFault::TooLong => RecordFault::TooLong,
+        TextFault::OutOfMemory => RecordFault::OutOfMemory,
+    }
+}
+
+// The payload of a page's message.
+#[tactic(auto, unfolding(crate::specs::PageFile::payload_of))]
+fn pack_message(alloc: Global, kind: PageKind, message: &[u8]) -> Result<Payload, RecordFault>
+    ensures ok { IfOk result (λ p. payload_of kind message.now ≡ Ok p) }
+    ensures small { IfOk result (λ p. All (λ item. item < 2 ^ 20) p) }
+    ensures few { IfOk result (λ p. length p ≤ ITEM_LIMIT) }
+    ensures silent { IfOk result (λ p. IsTone kind → p ≡ []) }
+    ensures err { IfErr result
+        (λ e. (e ≡ RecordFault.OutOfMemory) ⊎ (payload_of kind message.now ≡ Err e)) }
+{
+    let packed = match kind {
+        PageKind::Tone(_) => {
+            if message.is_empty() {
+                return Ok(Payload::empty(alloc));
+            }
+            return Err(RecordFault::MessageForTone);
+        }
+        PageKind::Numeric => pack_numeric(alloc, message),
+        PageKind::Alpha => pack_alpha(alloc, message),
+    };
+    match packed {
+        Ok(items) => Ok(Payload::from_vec(items)),
+        Err(fault) => Err(record_fault(fault)),
+    }
+}
+
+// The page of the three fields.
+#[tactic(auto, unfolding(crate::specs::PageFile::page_of_fields))]
+fn page_of_three(alloc: Global, fields: &Fields<'_>) -> Result<Page, RecordFault>
+    ensures ok { IfOk result (λ p. page_of_fields fields.now.address.now fields.now.kind.now fields.now.message.now ≡ Ok p) }
+    ensures good { IfOk result (λ p. page_fault_of p ≡ None) }
+    ensures err { IfErr result
+        (λ e. (e ≡ RecordFault.OutOfMemory) ⊎ (page_of_fields fields.now.address.now fields.now.kind.now fields.now.message.now ≡ Err e)) }
+{
+    let Some(address) = parse_address(fields.address) else {
+        return Err(RecordFault::BadAddress);
+    };
+    if is_reserved_address(address) {
+        return Err(RecordFault::ReservedAddress);
+    }
+    let Some(kind) = parse_kind(fields.kind) else {
+        return Err(RecordFault::BadKind);
+    };
+    let payload = pack_message(alloc, kind, fields.message)?;
+    Ok(Page {
+        address,
+        function: kind.function(),
+        payload,
+    })
+}
+
+// The page of a record, other records aside.
+#[tactic(auto, unfolding(crate::specs::PageFile::page_of))]
+pub(crate) fn page_of_row(alloc: Global, row: &ByteRecord) -> Result<Page, RecordFault>
+    ensures ok { IfOk result (λ p. page_of (fields_of row.now) ≡ Ok p) }
+    ensures good { IfOk result (λ p. page_fault_of p ≡ None) }
+    ensures err { IfErr result
+        (λ e. (e ≡ RecordFault.OutOfMemory) ⊎ (page_of (fields_of row.now) ≡ Err e)) }
+{
+    let Some(fields) = three_fields(row) else {
+        return Err(RecordFault::FieldCount);
+    };
+    page_of_three(alloc, &fields)
+}

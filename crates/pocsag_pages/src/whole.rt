@@ -1,0 +1,41 @@
+ghost use Rattle.std.specs.Prelude.{◌≡◌, ◌+◌, ◌<◌, ◌≤◌, length, IfOk, OnOk};
+ghost use Rattle.pocsag_words.specs.Devices.{HasFailed};
+
+use crate::fault::WholeFault;
+use pocsag_words::Source;
+use std::alloc::Global;
+
+// How many bytes are asked for in one read.
+const PIECE: usize = 8192;
+
+/// All the bytes of a reader up to its end, of which at most `max` are allowed; by at most `max + 2`
+/// reads.
+pub fn read_whole<S: Source>(
+    alloc: Global,
+    source: &mut S,
+    max: usize,
+) -> Result<Vec<u8>, WholeFault>
+    ensures whole { S.tells → IfOk result (λ v. v.items ≡ S.held source.old) }
+    ensures fits { IfOk result (λ v. length v.items ≤ max) }
+    ensures too_large { S.tells → result ≡ Err WholeFault.TooLarge → max < length (S.held source.old) }
+    ensures succeeded { OnOk result (S.failures source.new ≡ S.failures source.old) }
+    ensures failed { result ≡ Err WholeFault.ReadFault → HasFailed (S.failures source.old) (S.failures source.new) }
+    ensures calls { S.calls source.new ≤ S.calls source.old + (max + 2) }
+{
+    let mut bytes = Vec::new(alloc);
+    let mut piece = [0u8; PIECE];
+    loop {
+        let Ok(count) = source.read(&mut piece) else {
+            return Err(WholeFault::ReadFault);
+        };
+        if count == 0 {
+            return Ok(bytes);
+        }
+        if count > max - bytes.len() {
+            return Err(WholeFault::TooLarge);
+        }
+        let Ok(_) = bytes.extend_from_slice(&piece[..count]) else {
+            return Err(WholeFault::OutOfMemory);
+        };
+    }
+}

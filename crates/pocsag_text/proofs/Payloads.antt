@@ -1,0 +1,134 @@
+-- When a text has a payload, and which one.
+use Rattle.std.proofs.Common.{◌≡◌, ◌≢◌, ℕ, zero, suc, ◌+◌, ◌*◌, ◌/◌, ◌%◌, ◌<◌, ◌≤◌, Bool, true, false, cond, eqb, ltb, List, ◌∷◌, ◌++◌, length, map, replicate, position, Option, Some, None, Ok, Err, All, refl, sym, ap, ◌∙◌, arith}
+use Rattle.std.specs.List.{flat_map, position_or_len}
+use Rattle.std.proofs.lemmas.Bool.Decides.{nat_tests}
+use Rattle.std.proofs.lemmas.List.{length-append, length-map, length-replicate}
+use Rattle.std.proofs.lemmas.List.Concat.{flat_map-append}
+use Rattle.std.proofs.lemmas.List.Elements.{All-from_get_or, All-weaker}
+use Rattle.std.proofs.lemmas.List.Sums.{fails_before_first}
+use Rattle.pocsag_text.specs.declared.fault.TextFault.{TextFault}
+use Rattle.pocsag_text.specs.declared.fault.TextFault.TheVariants as fault
+use Rattle.pocsag_text.specs.Bits.{low_first}
+use Rattle.pocsag_text.specs.Characters.{code_or_space, is_bad_digit}
+use Rattle.pocsag_text.specs.Text.{fault_of_place, text_fault, unless, short_of, twenties, is_bad_byte, numeric_bits, alpha_bits, numeric_payload, alpha_payload}
+use Rattle.pocsag_text.proofs.BitLists.{length-low_first}
+use Rattle.pocsag_text.proofs.Cuts.{length-cut, length-flat_map-wide}
+
+none_from_cond : {X : Type 0} (b : Bool) (x : X) (o : Option X) → cond b (Some x) o ≡ None → (b ≡ false) × (o ≡ None)
+none_from_cond true x o h = cc
+none_from_cond false x o h = (refl, h)
+
+place_none : (first_bad : Option ℕ) (count : ℕ) → fault_of_place first_bad count ≡ None → (first_bad ≡ None) × (count ≤ 4000)
+place_none (Some place) count h = cc
+place_none None count h =
+    let t = (none_from_cond (ltb 4000 count) fault.TooLong None h).0 in (refl, grind (arith, nat_tests))
+
+-- a text without a fault is no longer than the limit and has no bad character
+pub fault_none : (is_bad : ℕ → Bool) (text : List ℕ) → text_fault is_bad text ≡ None → (length text ≤ 4000) × All (λ b. is_bad b ≡ false) text
+unfolding text_fault
+fault_none is_bad text h =
+    let p = place_none (position is_bad text) (length text) (none_from_cond (eqb (length text) 0) fault.EmptyMessage _ h).1 in
+    let n : ltb (position_or_len is_bad text) (length text) ≡ false = (none_from_cond (ltb (position_or_len is_bad text) (length text)) (position_or_len is_bad text) None p.0).0 in
+    let past : length text ≤ position_or_len is_bad text = grind (arith, nat_tests) in
+    (p.1, All-from_get_or (λ b. is_bad b ≡ false) text 0 (λ k lt. fails_before_first is_bad text k 0 (omega arith)))
+
+never_memory : (over : Bool) → cond over (Some fault.TooLong) None ≡ Some fault.OutOfMemory → ⊥
+never_memory true h = cc
+never_memory false h = cc
+
+never_at_place : (b : Bool) (first_bad : Option ℕ) (count : ℕ) → cond b (Some fault.EmptyMessage) (fault_of_place first_bad count) ≡ Some fault.OutOfMemory → ⊥
+never_at_place true first_bad count h = cc
+never_at_place false (Some place) count h = cc
+never_at_place false None count h = never_memory (ltb 4000 count) h
+
+-- want of memory is no fault of a text
+pub fault_not_memory : (is_bad : ℕ → Bool) (text : List ℕ) (e : TextFault) → text_fault is_bad text ≡ Some e → e ≢ fault.OutOfMemory
+unfolding text_fault
+fault_not_memory is_bad text e h m =
+    never_at_place (eqb (length text) 0) (position is_bad text) (length text) (h ∙ ap Some m)
+
+pub good_byte : (b : ℕ) → is_bad_byte b ≡ false → (b ≢ 0) × (b < 128)
+good_byte b h = grind (arith, nat_tests)
+
+pub alpha_payload-good : (text : List ℕ) → text_fault is_bad_byte text ≡ None → alpha_payload text ≡ Ok (twenties (alpha_bits text))
+unfolding alpha_payload
+alpha_payload-good text h = ap (λ o. unless o (twenties (alpha_bits text))) h
+
+pub alpha_payload-bad : (text : List ℕ) (e : TextFault) → text_fault is_bad_byte text ≡ Some e → alpha_payload text ≡ Err e
+unfolding alpha_payload
+alpha_payload-bad text e h = ap (λ o. unless o (twenties (alpha_bits text))) h
+
+pub numeric_payload-good : (text : List ℕ) → text_fault is_bad_digit text ≡ None → numeric_payload text ≡ Ok (twenties (numeric_bits text))
+unfolding numeric_payload
+numeric_payload-good text h = ap (λ o. unless o (twenties (numeric_bits text))) h
+
+pub numeric_payload-bad : (text : List ℕ) (e : TextFault) → text_fault is_bad_digit text ≡ Some e → numeric_payload text ≡ Err e
+unfolding numeric_payload
+numeric_payload-bad text e h = ap (λ o. unless o (twenties (numeric_bits text))) h
+
+pub unless_ok : (o : Option TextFault) (items good : List ℕ) → unless o items ≡ Ok good → (o ≡ None) × (items ≡ good)
+unless_ok None items good h = (refl, cc)
+unless_ok (Some e) items good h = cc
+
+-- the fill makes a multiple
+short_five : (n : ℕ) → (n + short_of 5 n) % 5 ≡ 0
+short_five n = omega arith
+
+short_twenty : (n : ℕ) → (n + short_of 20 n) % 20 ≡ 0
+short_twenty n = omega arith
+
+pub length-numeric_bits : (text : List ℕ) → length (numeric_bits text) ≡ 4 * (length text + short_of 5 (length text))
+unfolding numeric_bits
+length-numeric_bits text =
+    let wide : (x : ℕ) → length (low_first 4 x) ≡ 4 = length-low_first 4 in
+    length-flat_map-wide 4 (low_first 4) (map code_or_space text ++ replicate (short_of 5 (length text)) 12) wide ∙ ap (λ n. 4 * n) (length-append (map code_or_space text) (replicate (short_of 5 (length text)) 12) ∙ (rw (length-map text code_or_space, length-replicate {A = ℕ} (short_of 5 (length text)) 12) refl))
+
+pub length-alpha_bits : (text : List ℕ) → length (alpha_bits text) ≡ 7 * length text + short_of 20 (7 * length text)
+unfolding alpha_bits
+length-alpha_bits text =
+    let wide : (x : ℕ) → length (low_first 7 x) ≡ 7 = length-low_first 7 in
+    length-append (flat_map (low_first 7) text) (replicate (short_of 20 (7 * length text)) 0) ∙ (rw (length-flat_map-wide 7 (low_first 7) text wide, length-replicate {A = ℕ} (short_of 20 (7 * length text)) 0) refl)
+
+pub whole_numeric : (text : List ℕ) → length (numeric_bits text) % 20 ≡ 0
+whole_numeric text =
+    rw (length-numeric_bits text) (omega (arith, short_five (length text)))
+
+pub whole_alpha : (text : List ℕ) → length (alpha_bits text) % 20 ≡ 0
+whole_alpha text = rw (length-alpha_bits text) (short_twenty (7 * length text))
+
+pub few_numeric : (text : List ℕ) → length text ≤ 4000 → length (twenties (numeric_bits text)) ≤ 1400
+few_numeric text h =
+    rw (length-cut 20 _ (length (numeric_bits text) / 20) (numeric_bits text), length-numeric_bits text) (omega arith)
+
+pub few_alpha : (text : List ℕ) → length text ≤ 4000 → length (twenties (alpha_bits text)) ≤ 1400
+few_alpha text h =
+    rw (length-cut 20 _ (length (alpha_bits text) / 20) (alpha_bits text), length-alpha_bits text) (omega arith)
+
+-- the bits of the characters and those of the fill
+numeric_bits-parts : (text : List ℕ) → numeric_bits text ≡ flat_map (low_first 4) (map code_or_space text) ++ flat_map (low_first 4) (replicate (short_of 5 (length text)) 12)
+unfolding numeric_bits
+numeric_bits-parts text =
+    flat_map-append (low_first 4) (map code_or_space text) (replicate (short_of 5 (length text)) 12)
+
+zeros : (n : ℕ) → flat_map (low_first 1) (replicate n 0) ≡ replicate n 0
+unfolding low_first
+zeros zero = refl
+zeros (suc n) = ap (λ bits. 0 ∷ bits) (zeros n)
+
+alpha_bits-parts : (text : List ℕ) → alpha_bits text ≡ flat_map (low_first 7) text ++ flat_map (low_first 1) (replicate (short_of 20 (7 * length text)) 0)
+unfolding alpha_bits
+alpha_bits-parts text =
+    ap (λ bits. flat_map (low_first 7) text ++ bits) (sym (zeros (short_of 20 (7 * length text))))
+
+pub filled_numeric : (text packed filled : List ℕ) → packed ≡ flat_map (low_first 4) (map code_or_space text) → filled ≡ packed ++ flat_map (low_first 4) (replicate (short_of 5 (length text)) 12) → filled ≡ numeric_bits text
+filled_numeric text packed filled p f =
+    f ∙ ap (λ bits. bits ++ flat_map (low_first 4) (replicate (short_of 5 (length text)) 12)) p ∙ sym (numeric_bits-parts text)
+
+pub filled_alpha : (text packed filled : List ℕ) → packed ≡ flat_map (low_first 7) text → filled ≡ packed ++ flat_map (low_first 1) (replicate (short_of 20 (7 * length text)) 0) → filled ≡ alpha_bits text
+filled_alpha text packed filled p f =
+    f ∙ ap (λ bits. bits ++ flat_map (low_first 1) (replicate (short_of 20 (7 * length text)) 0)) p ∙ sym (alpha_bits-parts text)
+
+-- what the contracts of the packers say, from what the parts gave
+pub alpha_bytes : (text : List ℕ) → text_fault is_bad_byte text ≡ None → All (λ b. b < 128) text
+alpha_bytes text h =
+    All-weaker (λ b. is_bad_byte b ≡ false) (λ b. b < 128) (λ b g. (good_byte b g).1) text (fault_none is_bad_byte text h).1

@@ -1,0 +1,26 @@
+use Rattle.std.proofs.Common.{Ok, refl, sym, ap, ◌∙◌, inr}
+use Rattle.pocsag_text.proofs.Payloads.{fault_none, fault_not_memory, numeric_payload-good, numeric_payload-bad, few_numeric}
+use Rattle.pocsag_text.proofs.pack.pack_numeric.Goals as goal
+
+pub returns-in-Some-clause-err : goal.returns-in-Some-clause-err
+returns-in-Some-clause-err c =
+    inr (numeric_payload-bad c.args.text.now c.in-Some.fault (sym c.in-Some.ensures))
+
+pub returns-in-Some-clause-memory : goal.returns-in-Some-clause-memory
+returns-in-Some-clause-memory c = λ m.
+    absurd (fault_not_memory _ c.args.text.now c.in-Some.fault (sym c.in-Some.ensures) cc)
+
+pub numeric_items-requires : goal.numeric_items-requires
+numeric_items-requires c = (fault_none _ c.args.text.now (sym c.in_default.ensures)).0
+
+pub returns-in-Ok-clause-ok : goal.returns-in-Ok-clause-ok
+returns-in-Ok-clause-ok c =
+    numeric_payload-good c.args.text.now (sym c.in_default.ensures) ∙ ap Ok (sym c.in-Ok.ensures.items)
+
+pub returns-in-Ok-clause-few : goal.returns-in-Ok-clause-few
+returns-in-Ok-clause-few c =
+    rw c.in-Ok.ensures.items (few_numeric c.args.text.now (fault_none _ c.args.text.now (sym c.in_default.ensures)).0)
+
+pub returns-in-Err-clause-memory : goal.returns-in-Err-clause-memory
+returns-in-Err-clause-memory c = λ m.
+    rw (numeric_payload-good c.args.text.now (sym c.in_default.ensures)) refl

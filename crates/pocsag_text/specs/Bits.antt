@@ -1,0 +1,32 @@
+-- Lists of bits, each 0 or 1, in the order in which they are sent, and the numbers that they make.
+use Rattle.std.specs.Prelude.{ℕ, zero, suc, ◌+◌, ◌*◌, ◌/◌, ◌%◌, ◌^◌, List, [], ◌∷◌, take, drop}
+use Rattle.std.specs.List.{flat_map}
+
+-- The n lowest bits of a number, the lowest one first.
+unfoldable pub low_first : ℕ → ℕ → List ℕ
+low_first zero v = []
+low_first (suc n) v = (v % 2) ∷ low_first n (v / 2)
+
+-- The n lowest bits of a number, the highest of them first.
+unfoldable pub high_first : ℕ → ℕ → List ℕ
+high_first zero v = []
+high_first (suc n) v = (v / 2 ^ n % 2) ∷ high_first n v
+
+-- The number that bits make, read with the lowest first.
+unfoldable pub low_number : List ℕ → ℕ
+low_number [] = 0
+low_number (b ∷ bits) = b + 2 * low_number bits
+
+-- The number that bits make behind those of value, read with the highest first.
+unfoldable pub high_number : ℕ → List ℕ → ℕ
+high_number value [] = value
+high_number value (b ∷ bits) = high_number (2 * value + b) bits
+
+-- The first n pieces of so many bits each, each piece read as a number.
+unfoldable pub cut : ℕ → (List ℕ → ℕ) → ℕ → List ℕ → List ℕ
+cut width read zero bits = []
+cut width read (suc n) bits = read (take width bits) ∷ cut width read n (drop width bits)
+
+-- The bits of message codewords, a rule of Annex 1: twenty of each, the highest first.
+abbrev pub item_bits : List ℕ → List ℕ
+item_bits items = flat_map (high_first 20) items

@@ -1,0 +1,15 @@
+use thiserror::Error;
+
+/// Why a text has no payload.
+#[derive(Clone, Copy, PartialEq, Eq, Debug, Error)]
+pub enum TextFault {
+    #[error("the message is empty")]
+    EmptyMessage,
+    /// The byte at this place, counted from 0, is the first that is not allowed.
+    #[error("bad character at {0}")]
+    BadCharacter(usize),
+    #[error("the message is too long")]
+    TooLong,
+    #[error("out of memory")]
+    OutOfMemory,
+}

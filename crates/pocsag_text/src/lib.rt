@@ -1,0 +1,19 @@
+#![tactic(auto)]
+//! Packing of text messages into message codewords (Recommendation ITU-R M.584-2, Annex 1).
+
+mod character;
+mod fault;
+mod pack;
+mod packer;
+mod unpack;
+mod unpacker;
+
+pub use fault::TextFault;
+pub use pack::{pack_alpha, pack_numeric};
+pub use unpack::{unpack_alpha, unpack_numeric};
+
+/// The most characters that a text may have.
+pub const CHARACTER_LIMIT: usize = 4000;
+
+/// The most items that a text is packed into: 4,000 characters of seven bits.
+pub const ITEM_LIMIT: usize = 1400;

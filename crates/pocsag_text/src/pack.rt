@@ -1,0 +1,196 @@
+ghost use Rattle.std.specs.Prelude.{◌≡◌, ℕ, ◌^◌, ◌<◌, ◌≤◌, ◌⊎◌, length, map, position, All, IfOk, IfErr, IsOk};
+ghost use Rattle.std.specs.List.{flat_map};
+ghost use Rattle.pocsag_text.specs.Bits.{low_first};
+ghost use Rattle.pocsag_text.specs.Characters as numeric;
+ghost use Rattle.pocsag_text.specs.Text.{numeric_payload, alpha_payload, numeric_bits, alpha_bits, twenties, is_bad_byte, text_fault, fault_of as fault_by};
+
+use crate::character::{ALPHA_WIDTH, NUMERIC_WIDTH, SPACE_CODE, code_of, code_or_space};
+use crate::fault::TextFault;
+use crate::packer::Packer;
+use crate::{CHARACTER_LIMIT, ITEM_LIMIT};
+use pocsag_words::OutOfMemory;
+use std::alloc::Global;
+
+/// The payload of a numeric text: items of twenty bits, each below 1,048,576. The characters are
+/// the digits, `*`, `U`, the space, `-`, `]` and `[`.
+pub fn pack_numeric(alloc: Global, text: &[u8]) -> Result<Vec<u32>, TextFault>
+    ensures ok { IfOk result (λ v. numeric_payload text.now ≡ Ok v.items) }
+    ensures small { IfOk result (λ v. All (λ item. item < 2 ^ 20) v.items) }
+    ensures few { IfOk result (λ v. length v.items ≤ ITEM_LIMIT) }
+    ensures err { IfErr result
+        (λ e. (e ≡ TextFault.OutOfMemory) ⊎ (numeric_payload text.now ≡ Err e)) }
+
+    // Memory is wanted only by a text that has a payload.
+    ensures memory { result ≡ Err TextFault.OutOfMemory → IsOk (numeric_payload text.now) }
+{
+    if let Some(fault) = numeric_fault(text) {
+        return Err(fault);
+    }
+    match numeric_items(alloc, text) {
+        Ok(items) => Ok(items),
+        Err(OutOfMemory) => Err(TextFault::OutOfMemory),
+    }
+}
+
+/// The payload of an alphanumeric text: items of twenty bits, each below 1,048,576. The characters
+/// are the bytes 1 to 127.
+pub fn pack_alpha(alloc: Global, text: &[u8]) -> Result<Vec<u32>, TextFault>
+    ensures ok { IfOk result (λ v. alpha_payload text.now ≡ Ok v.items) }
+    ensures small { IfOk result (λ v. All (λ item. item < 2 ^ 20) v.items) }
+    ensures few { IfOk result (λ v. length v.items ≤ ITEM_LIMIT) }
+    ensures err { IfErr result
+        (λ e. (e ≡ TextFault.OutOfMemory) ⊎ (alpha_payload text.now ≡ Err e)) }
+
+    // Memory is wanted only by a text that has a payload.
+    ensures memory { result ≡ Err TextFault.OutOfMemory → IsOk (alpha_payload text.now) }
+{
+    if let Some(fault) = alpha_fault(text) {
+        return Err(fault);
+    }
+    match alpha_items(alloc, text) {
+        Ok(items) => Ok(items),
+        Err(OutOfMemory) => Err(TextFault::OutOfMemory),
+    }
+}
+
+/// The fault of a numeric text, if it has one.
+#[tactic(auto, unfolding(crate::specs::Text::text_fault))]
+fn numeric_fault(text: &[u8]) -> Option<TextFault>
+    ensures { result ≡ text_fault numeric.is_bad_digit text.now }
+{
+    fault_of(first_bad_digit(text), text.len())
+}
+
+/// The place of the first byte that is no numeric character.
+fn first_bad_digit(text: &[u8]) -> Option<usize>
+    ensures { result ≡ position numeric.is_bad_digit text.now }
+{
+    text.iter().position(|byte| code_of(*byte).is_none())
+}
+
+/// The fault of an alphanumeric text, if it has one.
+#[tactic(auto, unfolding(crate::specs::Text::text_fault))]
+fn alpha_fault(text: &[u8]) -> Option<TextFault>
+    ensures { result ≡ text_fault is_bad_byte text.now }
+{
+    fault_of(first_bad_byte(text), text.len())
+}
+
+/// The place of the first byte that is no alphanumeric character.
+fn first_bad_byte(text: &[u8]) -> Option<usize>
+    ensures { result ≡ position is_bad_byte text.now }
+{
+    text.iter().position(|byte| *byte == 0 || *byte > 127)
+}
+
+/// The fault of a text, by the place of its first bad character and its length.
+fn fault_of(first_bad: Option<usize>, count: usize) -> Option<TextFault>
+    ensures { result ≡ fault_by first_bad count }
+{
+    if count == 0 {
+        return Some(TextFault::EmptyMessage);
+    }
+    if let Some(place) = first_bad {
+        return Some(TextFault::BadCharacter(place));
+    }
+    if count > CHARACTER_LIMIT {
+        return Some(TextFault::TooLong);
+    }
+    None
+}
+
+/// The items of a numeric text.
+fn numeric_items(alloc: Global, text: &[u8]) -> Result<Vec<u32>, OutOfMemory>
+    requires { length text.now ≤ CHARACTER_LIMIT }
+    ensures items { IfOk result (λ v. v.items ≡ twenties (numeric_bits text.now)) }
+    ensures small { IfOk result (λ v. All (λ item. item < 2 ^ 20) v.items) }
+{
+    let mut packer = numeric_packer(alloc, text)?;
+    packer.push_times(NUMERIC_WIDTH, SPACE_CODE, (5 - text.len() % 5) % 5)?;
+    Ok(packer.into_items())
+}
+
+/// The bits of the characters of a numeric text.
+fn numeric_packer(alloc: Global, text: &[u8]) -> Result<Packer, OutOfMemory>
+    requires { length text.now ≤ CHARACTER_LIMIT }
+    ensures { IfOk result (λ p. p ≡ flat_map (low_first 4) (map numeric.code_or_space text.now)) }
+{
+    let mut packer = Packer::with_room(alloc, text.len().div_ceil(5))?;
+    for byte in text {
+        packer.push(NUMERIC_WIDTH, code_or_space(*byte))?;
+    }
+    Ok(packer)
+}
+
+/// The items of an alphanumeric text.
+fn alpha_items(alloc: Global, text: &[u8]) -> Result<Vec<u32>, OutOfMemory>
+    requires few { length text.now ≤ CHARACTER_LIMIT }
+    requires small { All (λ byte. byte < 128) text.now }
+    ensures items { IfOk result (λ v. v.items ≡ twenties (alpha_bits text.now)) }
+    ensures small { IfOk result (λ v. All (λ item. item < 2 ^ 20) v.items) }
+{
+    let mut packer = alpha_packer(alloc, text)?;
+    packer.push_times(1, 0, (20 - 7 * text.len() % 20) % 20)?;
+    Ok(packer.into_items())
+}
+
+/// The bits of the characters of an alphanumeric text.
+fn alpha_packer(alloc: Global, text: &[u8]) -> Result<Packer, OutOfMemory>
+    requires few { length text.now ≤ CHARACTER_LIMIT }
+    requires small { All (λ byte. byte < 128) text.now }
+    ensures { IfOk result (λ p. p ≡ flat_map (low_first 7) text.now) }
+{
+    let mut packer = Packer::with_room(alloc, (7 * text.len()).div_ceil(20))?;
+    for byte in text {
+        packer.push(ALPHA_WIDTH, *byte)?;
+    }
+    Ok(packer)
+}
+
+#[cfg(test)]
+mod tests {
+    use super::*;
+    use std::test::Fail;
+
+    #[test]
+    fn five_digits(rt: HostRuntime) -> Result<(), Fail> {
+        let items = pack_numeric(rt.alloc(), b"12345")?;
+        assert_eq!(rt; items.as_slice(), [0x84C2A].as_slice());
+        Ok(())
+    }
+
+    #[test]
+    fn trailing_spaces(rt: HostRuntime) -> Result<(), Fail> {
+        let items = pack_numeric(rt.alloc(), b"12  ")?;
+        assert_eq!(rt; items.as_slice(), [0x84333].as_slice());
+        let items = pack_numeric(rt.alloc(), b"12")?;
+        assert_eq!(rt; items.as_slice(), [0x84333].as_slice());
+        Ok(())
+    }
+
+    #[test]
+    fn numeric_symbols(rt: HostRuntime) -> Result<(), Fail> {
+        let items = pack_numeric(rt.alloc(), b"*U -][")?;
+        assert_eq!(rt; items.as_slice(), [0x5D3B7, 0xF3333].as_slice());
+        Ok(())
+    }
+
+    #[test]
+    fn alpha_packing(rt: HostRuntime) -> Result<(), Fail> {
+        let items = pack_alpha(rt.alloc(), b"ABC")?;
+        assert_eq!(rt; items.as_slice(), [0x82870, 0x80000].as_slice());
+        let items = pack_alpha(rt.alloc(), &[b'A'; 20])?;
+        assert_eq!(rt; items.len(), 7);
+        Ok(())
+    }
+
+    #[test]
+    fn bad_records(rt: HostRuntime) {
+        let fault = pack_alpha(rt.alloc(), b"").err();
+        assert_eq!(rt; fault, Some(TextFault::EmptyMessage));
+        let fault = pack_numeric(rt.alloc(), b"12a").err();
+        assert_eq!(rt; fault, Some(TextFault::BadCharacter(2)));
+        let fault = pack_numeric(rt.alloc(), &[b'1'; 4001]).err();
+        assert_eq!(rt; fault, Some(TextFault::TooLong));
+    }
+}

@@ -1,0 +1,94 @@
+ghost use Rattle.std.specs.Prelude.{◌≡◌, ℕ, ◌+◌, ◌*◌, ◌%◌, ◌^◌, ◌<◌, ◌≤◌, [], ◌++◌, length, replicate, All, IfOk, OnOk};
+ghost use Rattle.std.specs.List.{flat_map};
+ghost use Rattle.pocsag_text.specs.Bits.{low_first};
+ghost use Rattle.pocsag_text.specs.Text.{twenties};
+
+use crate::character::mirrored;
+use pocsag_words::OutOfMemory;
+use std::alloc::Global;
+use std::marker::Model;
+
+/// The bits of an item.
+pub const ITEM_WIDTH: u32 = 20;
+
+/// Bits in the order in which they are sent, as items and fewer than twenty bits that wait.
+#[derive(Drop)]
+pub struct Packer {
+    items: Vec<u32>,
+    // The bits that wait, the first one highest, and their number.
+    held: u32,
+    count: u32,
+}
+
+impl Model for Packer {
+    ghost use Rattle.std.specs.Prelude.{ℕ, List};
+    ghost use Rattle.pocsag_text.specs.Packing.{packed_bits, IsPacked};
+
+    ghost Value = { List ℕ };
+
+    ghost view = { λ p. packed_bits p.items.items p.count p.held };
+
+    ghost invariant = { λ p. IsPacked p.items.items p.count p.held };
+}
+
+impl Packer {
+    /// No bits yet, with room for so many items.
+    pub fn with_room(alloc: Global, items: usize) -> Result<Packer, OutOfMemory>
+        ensures { IfOk result (λ p. p ≡ []) }
+    {
+        let Ok(items) = Vec::with_capacity(alloc, items) else {
+            return Err(OutOfMemory);
+        };
+        Ok(Packer {
+            items,
+            held: 0,
+            count: 0,
+        })
+    }
+
+    /// Puts the lowest bits of a code behind the others, the lowest one first.
+    pub fn push(&mut self, width: u32, code: u8) -> Result<(), OutOfMemory>
+        requires wide { 0 < width }
+        requires narrow { width ≤ 8 }
+        requires fits { code < 2 ^ width }
+        ensures { OnOk result (self.new ≡ self.old ++ low_first width code) }
+    {
+        let held = self.held << width | u32::from(mirrored(width, code));
+        let count = self.count + width;
+        if count < ITEM_WIDTH {
+            self.held = held;
+            self.count = count;
+            return Ok(());
+        }
+        let rest = count - ITEM_WIDTH;
+        let Ok(()) = self.items.push(held >> rest) else {
+            return Err(OutOfMemory);
+        };
+        self.held = held & ((1 << rest) - 1);
+        self.count = rest;
+        Ok(())
+    }
+
+    /// Puts the lowest bits of a code behind the others so many times.
+    pub fn push_times(&mut self, width: u32, code: u8, times: usize) -> Result<(), OutOfMemory>
+        requires wide { 0 < width }
+        requires narrow { width ≤ 8 }
+        requires fits { code < 2 ^ width }
+        ensures { OnOk result
+            (self.new ≡ self.old ++ flat_map (low_first width) (replicate times code)) }
+    {
+        for _time in 0..times {
+            self.push(width, code)?;
+        }
+        Ok(())
+    }
+
+    /// The items, where no bits wait.
+    pub fn into_items(self) -> Vec<u32>
+        requires { length self % 20 ≡ 0 }
+        ensures items { result.items ≡ twenties self }
+        ensures small { All (λ item. item < 2 ^ 20) result.items }
+    {
+        self.items
+    }
+}

@@ -1,0 +1,110 @@
+ghost use Rattle.std.specs.Prelude.{◌≡◌, ℕ, ◌^◌, ◌<◌, ◌≤◌, List, length, map, take, All, IfOk, IsSome};
+ghost use Rattle.pocsag_text.specs.Bits.{item_bits};
+ghost use Rattle.pocsag_text.specs.Characters as numeric;
+ghost use Rattle.pocsag_text.specs.Text.{numeric_payload, alpha_payload, numeric_text, alpha_text, codes_of, trim_end};
+
+use crate::character::{ALPHA_WIDTH, NUMERIC_WIDTH, character_of};
+use crate::unpacker::Unpacker;
+use pocsag_words::OutOfMemory;
+use std::alloc::Global;
+
+/// The text of a numeric payload, whose items are below 1,048,576. Spaces at its end are dropped.
+pub fn unpack_numeric(alloc: Global, items: &[u32]) -> Result<Vec<u8>, OutOfMemory>
+    requires { All (λ item. item < 2 ^ 20) items.now }
+    ensures text { IfOk result (λ v. v.items ≡ numeric_text items.now) }
+
+    // A text that was packed comes back without the spaces at its end.
+    ensures back { IfOk result
+        (λ v. (t : List ℕ) → numeric_payload t ≡ Ok items.now → v.items ≡ trim_end 32 t) }
+    ensures allowed { IfOk result (λ v. All (λ c. IsSome (numeric.code_of c)) v.items) }
+{
+    let codes = codes_of::<NUMERIC_WIDTH>(alloc, items)?;
+    let mut text = characters_of(alloc, &codes)?;
+    let len = trimmed_len(&text, b' ');
+    text.truncate(len);
+    Ok(text)
+}
+
+/// The text of an alphanumeric payload, whose items are below 1,048,576. An incomplete last
+/// character is dropped, and then zero codes at the end; zero codes inside are kept.
+pub fn unpack_alpha(alloc: Global, items: &[u32]) -> Result<Vec<u8>, OutOfMemory>
+    requires { All (λ item. item < 2 ^ 20) items.now }
+    ensures text { IfOk result (λ v. v.items ≡ alpha_text items.now) }
+
+    // A text that was packed comes back.
+    ensures back { IfOk result (λ v. (t : List ℕ) → alpha_payload t ≡ Ok items.now → v.items ≡ t) }
+    ensures allowed { IfOk result (λ v. All (λ c. c < 128) v.items) }
+{
+    let mut text = codes_of::<ALPHA_WIDTH>(alloc, items)?;
+    let len = trimmed_len(&text, 0);
+    text.truncate(len);
+    Ok(text)
+}
+
+/// The codes of W bits each that the items hold, without an incomplete last one.
+fn codes_of<const W: u32>(alloc: Global, items: &[u32]) -> Result<Vec<u8>, OutOfMemory>
+    requires wide { 0 < W }
+    requires narrow { W ≤ 8 }
+    requires small { All (λ item. item < 2 ^ 20) items.now }
+    ensures codes { IfOk result (λ v. v.items ≡ codes_of W items.now) }
+    ensures small { IfOk result (λ v. All (λ code. code < 2 ^ W) v.items) }
+{
+    let mut unpacker = Unpacker::<W>::new(alloc);
+    for item in items {
+        unpacker = unpacker.with(*item)?;
+    }
+    Ok(unpacker.into_codes())
+}
+
+/// The numeric characters of the codes.
+fn characters_of(alloc: Global, codes: &[u8]) -> Result<Vec<u8>, OutOfMemory>
+    requires { All (λ code. code < 16) codes.now }
+    ensures { IfOk result (λ v. v.items ≡ map numeric.character_of codes.now) }
+{
+    let Ok(text) = codes.iter().map(|code| character_of(*code)).collect(alloc) else {
+        return Err(OutOfMemory);
+    };
+    Ok(text)
+}
+
+/// The length of a text without what is unwanted at its end.
+fn trimmed_len(text: &[u8], unwanted: u8) -> usize
+    ensures within { result ≤ length text.now }
+    ensures trimmed { take result text.now ≡ trim_end unwanted text.now }
+{
+    let mut len = text.len();
+    while len > 0 {
+        if text[len - 1] != unwanted {
+            return len;
+        }
+        len -= 1;
+    }
+    0
+}
+
+#[cfg(test)]
+mod tests {
+    use super::*;
+    use std::test::Fail;
+
+    #[test]
+    fn trailing_spaces(rt: HostRuntime) -> Result<(), Fail> {
+        let text = unpack_numeric(rt.alloc(), &[0x84333])?;
+        assert_eq!(rt; text.as_slice(), b"12".as_slice());
+        Ok(())
+    }
+
+    #[test]
+    fn numeric_symbols(rt: HostRuntime) -> Result<(), Fail> {
+        let text = unpack_numeric(rt.alloc(), &[0x5D3B7, 0xF3333])?;
+        assert_eq!(rt; text.as_slice(), b"*U -][".as_slice());
+        Ok(())
+    }
+
+    #[test]
+    fn alpha_packing(rt: HostRuntime) -> Result<(), Fail> {
+        let text = unpack_alpha(rt.alloc(), &[0x82870, 0x80000])?;
+        assert_eq!(rt; text.as_slice(), b"ABC".as_slice());
+        Ok(())
+    }
+}

@@ -1,0 +1,70 @@
+ghost use Rattle.std.specs.Prelude.{◌≡◌, ℕ, ◌/◌, ◌^◌, ◌<◌, ◌≤◌, [], ◌++◌, length, All, IfOk};
+ghost use Rattle.pocsag_text.specs.Bits.{high_first, low_number, cut};
+
+use crate::character::mirrored;
+use crate::packer::ITEM_WIDTH;
+use pocsag_words::OutOfMemory;
+use std::alloc::Global;
+use std::marker::Model;
+
+/// Bits in the order in which they are sent, as codes of W bits each, the lowest first, and fewer
+/// bits that wait.
+#[derive(Drop)]
+pub struct Unpacker<const W: u32> {
+    codes: Vec<u8>,
+    // The bits that wait, the first one highest, and their number.
+    held: u32,
+    count: u32,
+}
+
+impl<const W: u32> Model for Unpacker<W> {
+    ghost use Rattle.std.specs.Prelude.{ℕ, List};
+    ghost use Rattle.pocsag_text.specs.Packing.{unpacked_bits, IsUnpacked};
+
+    ghost Value = { List ℕ };
+
+    ghost view = { λ u. unpacked_bits W u.codes.items u.count u.held };
+
+    ghost invariant = { λ u. IsUnpacked W u.codes.items u.count u.held };
+}
+
+impl<const W: u32> Unpacker<W> {
+    /// No bits yet.
+    pub fn new(alloc: Global) -> Unpacker<W>
+        requires wide { 0 < W }
+        requires narrow { W ≤ 8 }
+        ensures { result ≡ [] }
+    {
+        Unpacker {
+            codes: Vec::new(alloc),
+            held: 0,
+            count: 0,
+        }
+    }
+
+    /// Puts the bits of an item behind the others.
+    pub fn with(self, item: u32) -> Result<Unpacker<W>, OutOfMemory>
+        requires { item < 2 ^ 20 }
+        ensures { IfOk result (λ u. u ≡ self.entry ++ high_first 20 item) }
+    {
+        let mut codes = self.codes;
+        let mut held = self.held << ITEM_WIDTH | item;
+        let mut count = self.count + ITEM_WIDTH;
+        while count >= W {
+            count -= W;
+            let Ok(()) = codes.push(mirrored(W, (held >> count) as u8)) else {
+                return Err(OutOfMemory);
+            };
+            held &= (1 << count) - 1;
+        }
+        Ok(Unpacker { codes, held, count })
+    }
+
+    /// The codes, without the bits that wait.
+    pub fn into_codes(self) -> Vec<u8>
+        ensures codes { result.items ≡ cut W low_number (length self.entry / W) self.entry }
+        ensures small { All (λ code. code < 2 ^ W) result.items }
+    {
+        self.codes
+    }
+}

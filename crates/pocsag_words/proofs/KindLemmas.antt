@@ -1,0 +1,64 @@
+-- A codeword is known by its kind.
+use Rattle.std.proofs.Common.{◌≡◌, ◌≢◌, ℕ, ◌+◌, ◌*◌, ◌/◌, ◌%◌, ◌^◌, ◌<◌, ◌≤◌, ◌⊎◌, refl, sym, ap, ap₂, ◌∙◌, inl, inr, arith, eq-eqb, lit<}
+use Rattle.std.proofs.lemmas.Bool.{cases_eq, cases_lt}
+use borrow.Author.Tests.{lt-ltb, le-ltb, apart_eqb}
+use Rattle.pocsag_words.specs.declared.codeword.Kind.TheVariants.{Idle, Address, Message}
+use Rattle.pocsag_words.specs.Codeword.{IsCodeword}
+use Rattle.pocsag_words.specs.Columns.{combine, columns, check_of}
+use Rattle.pocsag_words.specs.Kinds.{kind_of, address_kind}
+use Rattle.pocsag_words.proofs.BlockCode.{IsCodeword-from_low, same_from_data}
+
+IsCodeword-idle : IsCodeword 0x7a89c197
+unfolding combine columns check_of
+IsCodeword-idle = IsCodeword-from_low 0x7a89c197 (lit< tt) refl
+
+-- the kind, by what the number is
+abbrev HasKind : ℕ → Type 0
+HasKind w =
+    ((w ≡ 0x7a89c197) × (kind_of w ≡ Idle))
+    ⊎ (((w / 2048 < 2 ^ 20) × (kind_of w ≡ Address (w / 2048 / 4) (w / 2048 % 4)))
+    ⊎ ((2 ^ 20 ≤ w / 2048) × (kind_of w ≡ Message (w / 2048 % 2 ^ 20))))
+
+kind_cases : (w : ℕ) → HasKind w
+kind_cases w =
+    elim (cases_eq w 0x7a89c197) [
+      | inl p ↦ inl (p, rw p refl)
+      | inr n ↦ elim (cases_lt (w / 2048) (2 ^ 20)) [
+        | inl p ↦ inr (inl (p, rw (apart_eqb _ _ n, lt-ltb _ _ p) refl))
+        | inr p ↦ inr (inr (p, rw (apart_eqb _ _ n, le-ltb _ _ p) refl))
+      ]
+    ]
+
+same_from_cases : (v w : ℕ) → IsCodeword v → IsCodeword w → HasKind v → HasKind w → kind_of v ≡ kind_of w → v ≡ w
+same_from_cases v w is also (inl p) (inl q) e = p.0 ∙ sym q.0
+same_from_cases v w is also (inl p) (inr (inl q)) e = cc
+same_from_cases v w is also (inl p) (inr (inr q)) e = cc
+same_from_cases v w is also (inr (inl p)) (inl q) e = cc
+same_from_cases v w is also (inr (inl p)) (inr (inl q)) e =
+    let same : Address (v / 2048 / 4) (v / 2048 % 4) ≡ Address (w / 2048 / 4) (w / 2048 % 4) = cc in
+    let high : v / 2048 / 4 ≡ w / 2048 / 4 = cc in
+    let function : v / 2048 % 4 ≡ w / 2048 % 4 = cc in
+    same_from_data v w is also (omega arith)
+same_from_cases v w is also (inr (inl p)) (inr (inr q)) e = cc
+same_from_cases v w is also (inr (inr p)) (inl q) e = cc
+same_from_cases v w is also (inr (inr p)) (inr (inl q)) e = cc
+same_from_cases v w is also (inr (inr p)) (inr (inr q)) e =
+    let bits : v / 2048 % 2 ^ 20 ≡ w / 2048 % 2 ^ 20 = cc in
+    same_from_data v w is also (omega (arith, is.fits, also.fits))
+
+pub same_from_kind_lem : (v w : ℕ) → IsCodeword v → IsCodeword w → kind_of v ≡ kind_of w → v ≡ w
+same_from_kind_lem v w is also e = same_from_cases v w is also (kind_cases v) (kind_cases w) e
+
+pub kind_of-address : (w h f : ℕ) → IsCodeword w → f < 4 → h < 2 ^ 18 → w / 2048 ≡ 4 * h + f → kind_of w ≡ address_kind h f
+kind_of-address w h f is small high e =
+    elim (cases_eq (4 * h + f) 0x0f5138) [
+      | inl p ↦
+          let idle : w ≡ 0x7a89c197 = same_from_data w 0x7a89c197 is IsCodeword-idle (e ∙ p) in
+          rw (eq-eqb _ _ p, idle) refl
+      | inr n ↦
+          let other : w ≢ 0x7a89c197 = λ same. n (sym e ∙ ap (λ (x : ℕ). x / 2048) same) in
+          let low : w / 2048 < 2 ^ 20 = omega arith in
+          let high_part : w / 2048 / 4 ≡ h = omega arith in
+          let low_part : w / 2048 % 4 ≡ f = omega arith in
+          rw (apart_eqb _ _ n, apart_eqb _ _ other, lt-ltb _ _ low) (ap₂ Address high_part low_part)
+    ]

@@ -1,0 +1,14 @@
+//! Laws of codewords: a call of one of them costs nothing, and gives a proof its clause.
+ghost use Rattle.std.specs.Prelude.{◌≡◌, ◌≢◌, ℕ, ◌≤◌, bit_xor, count_ones};
+ghost use Rattle.pocsag_words.specs.Codeword.{IsCodeword};
+ghost use Rattle.pocsag_words.specs.Kinds.{kind_of};
+
+/// Codewords of one kind are one.
+pub fn same_from_kind()
+    ensures { (v w : ℕ) → IsCodeword v → IsCodeword w → kind_of v ≡ kind_of w → v ≡ w }
+{}
+
+/// Two different codewords differ in at least six of their bits.
+pub fn codewords_differ()
+    ensures { (v w : ℕ) → IsCodeword v → IsCodeword w → v ≢ w → 6 ≤ count_ones (bit_xor v w) }
+{}

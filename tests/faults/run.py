@@ -1,0 +1,185 @@
+#!/usr/bin/env python3
+"""Runs the compiled programs with memory and devices refused, one call at a time.
+
+It takes the binaries that the gate left in crates/NAME/out/NAME. For each Nth growth of memory, each
+Nth read and each Nth write, counting upwards until a run ends without a refusal, the answer must be the
+answer with ample memory, or the fault of what was refused, and never another.
+The last line is 'N passed, M failed'.
+"""
+
+import os
+import pathlib
+import subprocess
+import sys
+import tempfile
+
+TOP = pathlib.Path(__file__).resolve().parents[2]
+HERE = pathlib.Path(__file__).resolve().parent
+PROGRAM = TOP / "crates/pocsag_app/out/pocsag_app"
+TRIAL = TOP / "crates/pocsag_trial/out/pocsag_trial"
+MOST = 20_000
+
+OUT_OF_MEMORY = b"pocsag: out of memory\n"
+CANNOT_READ = b"pocsag: cannot read or open a file\n"
+CANNOT_WRITE = b"pocsag: cannot write\n"
+
+
+class Tally:
+    def __init__(self):
+        self.passed = 0
+        self.failed = 0
+
+    def check(self, name, holds, told=""):
+        if holds:
+            self.passed += 1
+        else:
+            self.failed += 1
+            print(f"FAILED {name}: {told}")
+
+
+def build(folder):
+    """The library that refuses, compiled outside the crates."""
+    library = folder / "refuse.so"
+    subprocess.run(
+        ["cc", "-shared", "-fPIC", "-O1", "-o", str(library), str(HERE / "refuse.c")], check=True
+    )
+    return library
+
+
+def run(command, library, kind=None, number=0, stdin=b"", short=False):
+    """Runs the command with one call refused; tells whether that call was reached."""
+    reader, writer = os.pipe()
+    environment = dict(os.environ, LD_PRELOAD=str(library), REFUSE_MARK=str(writer))
+    if kind:
+        environment[f"REFUSE_{kind}"] = str(number)
+    if short:
+        environment["REFUSE_SHORT"] = "1"
+    done = subprocess.run(
+        command, input=stdin, capture_output=True, env=environment, pass_fds=(writer,), timeout=60
+    )
+    os.close(writer)
+    reached = os.read(reader, 1) == b"x"
+    os.close(reader)
+    return done, reached
+
+
+def each_refusal(command, library, kind, stdin, prepare, judge):
+    """Refuses the 1st, the 2nd, .. call of a kind until none is reached, and judges each run."""
+    for number in range(1, MOST):
+        prepare()
+        done, reached = run(command, library, kind, number, stdin)
+        if not reached:
+            return number - 1
+        judge(number, done)
+    raise SystemExit(f"{command}: over {MOST} calls of {kind}")
+
+
+def nothing():
+    pass
+
+
+def try_trial(tally, library):
+    """Each line is the answer with ample memory, or the want of memory."""
+    ample, _ = run([str(TRIAL)], library)
+    lines = ample.stdout.splitlines()
+    tally.check("trial with ample memory", ample.returncode == 0 and len(lines) > 5, ample.stderr)
+    lacking = 0
+
+    def judge(number, done):
+        nonlocal lacking
+        told = done.stdout.splitlines()
+        holds = done.returncode == 0 and len(told) == len(lines)
+        for answer, wanted in zip(told, lines):
+            name = wanted.split(b":")[0]
+            if answer != wanted:
+                lacking += 1
+                holds = holds and answer == name + b": out of memory"
+        tally.check(f"trial without its growth {number}", holds, done.stdout[-400:])
+
+    count = each_refusal([str(TRIAL)], library, "ALLOC", b"", nothing, judge)
+    tally.check("trial: growths were refused", count > 5 and lacking > 5, f"{count}, {lacking}")
+
+
+def try_input(tally, library):
+    """The program with no words, over standard input."""
+    page_file = b"address,kind,message\n0,numeric,12345\n9,alpha,Hello\n8,tone1,\n"
+    command = [str(PROGRAM)]
+    ample, _ = run(command, library, stdin=page_file)
+    tally.check("input", ample.returncode == 0 and ample.stdout.startswith(b"pages 3\nbatches "), ample)
+
+    def judge_alloc(number, done):
+        is_ample = done.returncode == 0 and done.stdout == ample.stdout
+        is_lack = done.returncode == 3 and done.stderr == OUT_OF_MEMORY and done.stdout == b""
+        tally.check(f"input without growth {number}", is_ample or is_lack, done)
+
+    def judge_read(number, done):
+        holds = done.returncode == 3 and done.stderr == CANNOT_READ and done.stdout == b""
+        tally.check(f"input without read {number}", holds, done)
+
+    def judge_write(number, done):
+        holds = (
+            done.returncode == 3
+            and ample.stdout.startswith(done.stdout)
+            and done.stdout != ample.stdout
+            and CANNOT_WRITE.endswith(done.stderr)
+        )
+        tally.check(f"input without write {number}", holds, done)
+
+    tally.check("input: growths", each_refusal(command, library, "ALLOC", page_file, nothing, judge_alloc) > 3)
+    tally.check("input: reads", each_refusal(command, library, "READ", page_file, nothing, judge_read) > 0)
+    tally.check("input: writes", each_refusal(command, library, "WRITE", page_file, nothing, judge_write) == 2)
+    short, _ = run(command, library, stdin=page_file, short=True)
+    tally.check("input one byte at a time", short.stdout == ample.stdout and short.returncode == 0, short)
+
+
+def try_plan(tally, library, folder):
+    """`plan` on files: after a refusal TX holds a prefix, and the page file is never touched."""
+    pages, tx = folder / "pages.csv", folder / "tx.bin"
+    page_file = b"address,kind,message\n" + b"".join(b"%d,numeric,%d\n" % (k, 10**9 + k) for k in range(400))
+    pages.write_bytes(page_file)
+    command = [str(PROGRAM), "plan", str(pages), str(tx)]
+    ample, _ = run(command, library)
+    due = tx.read_bytes()
+    tally.check("plan", ample.returncode == 0 and ample.stdout.startswith(b"batches ") and len(due) > 9000, ample)
+
+    def prepare():
+        tx.write_bytes(b"an older transmission")
+
+    def judge(kind, text):
+        def judge_one(number, done):
+            taken = tx.read_bytes()
+            kept = taken == b"an older transmission"
+            is_ample = done.returncode == 0 and taken == due
+            is_refused = (
+                done.returncode == 3
+                and (done.stderr == text or (kind == "WRITE" and text.endswith(done.stderr)))
+                and (kept or due.startswith(taken))
+                and ample.stdout.startswith(done.stdout)
+            )
+            holds = is_refused or (kind == "ALLOC" and is_ample)
+            tally.check(f"plan without {kind} {number}", holds and pages.read_bytes() == page_file, done)
+
+        return judge_one
+
+    tally.check("plan: growths", each_refusal(command, library, "ALLOC", b"", prepare, judge("ALLOC", OUT_OF_MEMORY)) > 3)
+    tally.check("plan: reads", each_refusal(command, library, "READ", b"", prepare, judge("READ", CANNOT_READ)) > 0)
+    tally.check("plan: writes", each_refusal(command, library, "WRITE", b"", prepare, judge("WRITE", CANNOT_WRITE)) > 2)
+    prepare()
+    short, _ = run(command, library, short=True)
+    tally.check("plan one byte at a time", short.returncode == 0 and tx.read_bytes() == due, short)
+
+
+def main():
+    tally = Tally()
+    with tempfile.TemporaryDirectory() as name:
+        folder = pathlib.Path(name)
+        library = build(folder)
+        for part in (try_trial, try_input):
+            part(tally, library)
+        try_plan(tally, library, folder)
+    print(f"{tally.passed} passed, {tally.failed} failed")
+    return 0 if tally.failed == 0 else 1
+
+
+if __name__ == "__main__":
+    sys.exit(main())

@@ -1,0 +1,191 @@
+#!/usr/bin/env python3
+"""Runs the compiled program on real files as a user would: what it prints, its status, its files.
+
+It takes the binary that the gate left in crates/pocsag_app/out. The last line is 'N passed, M failed'.
+"""
+
+import os
+import pathlib
+import subprocess
+import sys
+import tempfile
+
+TOP = pathlib.Path(__file__).resolve().parents[2]
+PROGRAM = TOP / "crates/pocsag_app/out/pocsag_app"
+HEADER = b"address,kind,message\n"
+PREAMBLE = b"\xaa" * 72
+SYNC = "7CD215D8"
+IDLE = "7A89C197"
+MESSAGE = "C44447B9"
+
+
+class Tally:
+    def __init__(self):
+        self.passed = 0
+        self.failed = 0
+
+    def check(self, name, holds, told=""):
+        if holds:
+            self.passed += 1
+        else:
+            self.failed += 1
+            print(f"FAILED {name}: {told}")
+
+
+def run(words, folder, stdin=b""):
+    return subprocess.run(
+        [str(PROGRAM), *words], input=stdin, capture_output=True, cwd=folder, timeout=110
+    )
+
+
+def transmission(*batches):
+    return PREAMBLE + b"".join(bytes.fromhex("".join([SYNC, *words])) for words in batches)
+
+
+def ones(count):
+    return b"1" * count
+
+
+# The rounds of the worked examples, each with its number of batches in file order, and where it is
+# known the transmission in file order.
+ROUNDS = {
+    "lone-tone": (b"8,tone0,\n", 1, transmission(["000026EC"] + 15 * [IDLE])),
+    "lone-address-7": (b"2007663,tone0,\n", 1, transmission(14 * [IDLE] + ["7A89A470", IDLE])),
+    "five-digits": (b"0,numeric,12345\n", 1, transmission(["00000000", "C261572C"] + 14 * [IDLE])),
+    "trailing-spaces": (b"0,numeric,12  \n", 1, transmission(["00000000", "C2199DEA"] + 14 * [IDLE])),
+    "no-spaces": (b"0,numeric,12\n", 1, transmission(["00000000", "C2199DEA"] + 14 * [IDLE])),
+    "alpha": (b"0,alpha,ABC\n", 1, transmission(["00000000", "C14387B8", "C00004DC"] + 13 * [IDLE])),
+    "three-tones-one-frame": (
+        b"5,tone0,\n13,tone0,\n21,tone0,\n",
+        2,
+        transmission(10 * [IDLE] + ["00000000", "000026EC"] + 4 * [IDLE], 10 * [IDLE] + ["0000430B"] + 5 * [IDLE]),
+    ),
+    "two-numeric-exact": (
+        b"0,numeric," + ones(25) + b"\n3,numeric," + ones(45) + b"\n",
+        1,
+        transmission(["00000000"] + 5 * [MESSAGE] + ["00000000"] + 9 * [MESSAGE]),
+    ),
+    "three-pages-tight": (
+        b"0,numeric," + ones(25) + b"\n3,numeric," + ones(45) + b"\n11,numeric," + ones(75) + b"\n",
+        3,
+        None,
+    ),
+    "two-in-last-frame": (b"7,numeric,12345\n15,numeric,12345\n", 2, None),
+    "file-order-2000": (b"".join(b"%d,tone0,\n" % k for k in range(2000)), 250, None),
+    "round-size": (b"".join(b"%d,tone0,\n" % k for k in range(20000)), 2500, None),
+    "crlf": (b"8,tone0,\r\n", 1, transmission(["000026EC"] + 15 * [IDLE])),
+    "empty-lines": (b"\n\n8,tone0,\n\n", 1, transmission(["000026EC"] + 15 * [IDLE])),
+    "quoted-fields": (b'"8","tone0",""\n', 1, transmission(["000026EC"] + 15 * [IDLE])),
+    "leading-zeros": (b"0000008,tone0,\n", 1, transmission(["000026EC"] + 15 * [IDLE])),
+    "no-last-line-feed": (b"8,tone0,", 1, transmission(["000026EC"] + 15 * [IDLE])),
+}
+
+# Page files that are refused, with the text.
+REFUSED = {
+    "empty-file": (None, b"the header must be address,kind,message"),
+    "zeros": (b"\0" * 4096, b"the header must be address,kind,message"),
+    "header-alone": (HEADER, b"there are no pages"),
+    "other-header": (b"address,kind\n8,tone0\n", b"the header must be address,kind,message"),
+    "duplicate": (HEADER + b"8,tone0,\n0000008,tone1,\n", b"record 2: the address is already there"),
+    "far-duplicate": (HEADER + b"8,tone0,\n9,tone0,\n8,tone1,\n", b"record 3: the address is already there"),
+    "reserved-address": (HEADER + b"2007664,tone0,\n", b"record 1: reserved address"),
+    "reserved-synchronisation": (HEADER + b"8,tone0,\n2045063,tone0,\n", b"record 2: reserved address"),
+    "field-count": (HEADER + b"7,tone0\n", b"record 1: three fields are wanted"),
+    "high-address": (HEADER + b"2097152,tone0,\n", b"record 1: bad address"),
+    "no-address": (HEADER + b",tone0,\n", b"record 1: bad address"),
+    "signed-address": (HEADER + b"+7,tone0,\n", b"record 1: bad address"),
+    "long-address": (HEADER + b"00000008,tone0,\n", b"record 1: bad address"),
+    "kind": (HEADER + b"7,Tone0,\n", b"record 1: unknown kind"),
+    "tone-message": (HEADER + b"7,tone1,x\n", b"record 1: a tone page has no message"),
+    "empty-message": (HEADER + b"7,alpha,\n", b"record 1: the message is empty"),
+    "bad-character": (HEADER + b"7,numeric,12a\n", b"record 1: bad character at 2"),
+    "small-u": (HEADER + b"7,numeric,u\n", b"record 1: bad character at 0"),
+    "eighth-bit": (HEADER + b"7,alpha,a\x80\n", b"record 1: bad character at 1"),
+    "too-long": (HEADER + b"7,numeric," + ones(4001) + b"\n", b"record 1: the message is too long"),
+    "too-long-and-bad": (HEADER + b"7,numeric," + ones(4001) + b"x\n", b"record 1: bad character at 4001"),
+    "too-many": (HEADER + b"".join(b"%d,tone0,\n" % k for k in range(20001)), b"record 20001: too many pages"),
+}
+
+
+def try_rounds(tally, folder):
+    for name, (records, batches, due) in ROUNDS.items():
+        pages, tx = folder / "pages.csv", folder / "tx.bin"
+        pages.write_bytes(HEADER + records)
+        count = len([line for line in records.replace(b"\r", b"").split(b"\n") if line])
+        done = run(["plan", "pages.csv", "tx.bin"], folder)
+        wrote = tx.read_bytes() if tx.exists() else b""
+        holds = done.returncode == 0 and done.stdout == b"batches %d\n" % batches and done.stderr == b""
+        holds = holds and len(wrote) == 72 + 68 * batches and (due is None or wrote == due)
+        tally.check(f"plan {name}", holds, (done, wrote[:200].hex()))
+        done = run([], folder, HEADER + records)
+        holds = done.returncode == 0 and done.stdout == b"pages %d\nbatches %d\n" % (count, batches)
+        tally.check(f"input {name}", holds, done)
+
+
+def try_refused(tally, folder):
+    for name, (text, fault) in REFUSED.items():
+        pages, tx = folder / "pages.csv", folder / "tx.bin"
+        pages.write_bytes(text or b"")
+        tx.write_bytes(b"older")
+        done = run(["plan", "pages.csv", "tx.bin"], folder)
+        told = b"pocsag: " + fault + b"\n"
+        holds = done.returncode == 1 and done.stderr == told and done.stdout == b"" and tx.read_bytes() == b""
+        tally.check(f"refused {name}", holds, (done, tx.read_bytes()[:50]))
+        done = run([], folder, text or b"")
+        tally.check(f"refused input {name}", done.returncode == 1 and done.stderr == told and done.stdout == b"", done)
+
+
+def try_files(tally, folder):
+    pages = folder / "pages.csv"
+    pages.write_bytes(HEADER + b"8,tone0,\n")
+    kept = pages.read_bytes()
+    (folder / "folder").mkdir()
+    (folder / "link.csv").symlink_to("pages.csv")
+    os.link(pages, folder / "hard.csv")
+    cannot_open = b"pocsag: cannot read or open a file\n"
+    named_twice = b"pocsag: the same file is named twice\n"
+    cases = [
+        ("missing page file", ["plan", "none.csv", "tx.bin"], 3, cannot_open),
+        ("folder as page file", ["plan", "folder", "tx.bin"], 3, cannot_open),
+        ("folder as transmission", ["plan", "pages.csv", "folder"], 3, cannot_open),
+        ("transmission in no folder", ["plan", "pages.csv", "none/tx.bin"], 3, cannot_open),
+        ("full device", ["plan", "pages.csv", "/dev/full"], 3, b"pocsag: cannot write\n"),
+        ("equal paths", ["plan", "pages.csv", "pages.csv"], 1, named_twice),
+        ("second spelling", ["plan", "pages.csv", "./pages.csv"], 1, named_twice),
+        ("whole path", ["plan", "pages.csv", str(pages)], 1, named_twice),
+        ("symbolic link", ["plan", "pages.csv", "link.csv"], 1, named_twice),
+        ("hard link", ["plan", "pages.csv", "hard.csv"], 1, named_twice),
+    ]
+    for name, words, status, told in cases:
+        done = run(words, folder)
+        holds = done.returncode == status and done.stderr == told and done.stdout == b""
+        tally.check(name, holds and pages.read_bytes() == kept, done)
+    with open(folder / "huge.csv", "wb") as huge:
+        huge.truncate(300_000_000)
+    done = run(["plan", "huge.csv", "tx.bin"], folder)
+    tally.check("a file of 300 MB", done.returncode == 1 and done.stderr == b"pocsag: the file is too large\n", done)
+    (folder / "huge.csv").unlink()
+
+
+def try_words(tally, folder):
+    usage = [["plan"], ["plan", "pages.csv"], ["bogus"], ["plan", "a", "b", "c"], ["--bogus"]]
+    for words in usage:
+        done = run(words, folder)
+        tally.check(f"usage {words}", done.returncode == 2 and done.stdout == b"" and b"Usage: pocsag" in done.stderr, done)
+    for words in (["--help"], ["-h"], ["help"], ["plan", "--help"], ["help", "plan"]):
+        done = run(words, folder)
+        tally.check(f"help {words}", done.returncode == 0 and done.stderr == b"" and b"Usage: pocsag" in done.stdout, done)
+
+
+def main():
+    tally = Tally()
+    with tempfile.TemporaryDirectory() as name:
+        folder = pathlib.Path(name)
+        for part in (try_rounds, try_refused, try_files, try_words):
+            part(tally, folder)
+    print(f"{tally.passed} passed, {tally.failed} failed")
+    return 0 if tally.failed == 0 else 1
+
+
+if __name__ == "__main__":
+    sys.exit(main())
