@@ -6,3 +6,6 @@ pub mod Taking
 pub mod Touring
 pub mod SumLemmas
 pub mod Walks
+pub mod Fewest
+pub mod LoadLemmas
+pub mod LeastLemmas

@@ -61,3 +61,10 @@ abbrev pub narrowed_limits : Classes → Limits → Way → ℕ → Limits
 narrowed_limits k l (IdleIn slot) batches = record l { cap = slice_set l.cap slot (min (slice_index l.cap slot) (batches - 1)) }
 narrowed_limits k l (Early c) batches = record l { lo = slice_set l.lo c (max (slice_index l.lo c) 1) }
 narrowed_limits k l (Late c) batches = record l { hi = slice_set l.hi c (min (slice_index l.hi c) (slice_index k.count c - 1)) }
+
+-- The limits of a class split at m: fewer than m of its pages start early, or at least m do.
+abbrev pub limits_below : Limits → ℕ → ℕ → Limits
+limits_below l c m = record l { hi = slice_set l.hi c (m - 1) }
+
+abbrev pub limits_from : Limits → ℕ → ℕ → Limits
+limits_from l c m = record l { lo = slice_set l.lo c m }
