@@ -6,6 +6,3 @@ pub mod Taking
 pub mod Touring
 pub mod SumLemmas
 pub mod Walks
-pub mod Fewest
-pub mod LoadLemmas
-pub mod LeastLemmas

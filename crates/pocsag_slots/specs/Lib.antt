@@ -4,6 +4,5 @@ pub mod Layout
 pub mod Loads
 pub mod Numbering
 pub mod Sums
-pub mod Tables
 pub mod Tours
 pub mod Ways

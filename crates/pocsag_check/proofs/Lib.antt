@@ -1,0 +1,5 @@
+pub mod Bounding
+pub mod Crossing
+pub mod Refuted
+pub mod Refuting
+pub mod Taking

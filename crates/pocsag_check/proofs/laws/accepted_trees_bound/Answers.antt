@@ -1,0 +1,5 @@
+use Rattle.pocsag_check.proofs.Bounding.{bounded}
+use Rattle.pocsag_check.proofs.laws.accepted_trees_bound.Goals as goal
+
+pub returns : goal.returns
+returns c = bounded

@@ -1,0 +1,7 @@
+#![tactic(auto)]
+//! The checker of certificates: whoever holds a certificate needs to trust this crate alone. It uses
+//! nothing of the search, and takes no memory.
+
+mod laws;
+
+pub use laws::{accepted_nodes_refute, accepted_trees_bound};
