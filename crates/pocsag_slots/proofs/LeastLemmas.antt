@@ -1,11 +1,12 @@
 -- The least load of a set of slots is attained class by class.
 use Rattle.std.proofs.Common.{◌≡◌, ℕ, zero, suc, ◌+◌, ◌-◌, ◌*◌, ◌%◌, ◌<◌, ◌≤◌, ◌==◌, min, true, false, cond, leb, refl, sym, ap, ◌∙◌, arith, slice_index, inl, inr}
+use Rattle.std.proofs.lemmas.Bool.{cases_lt}
 use Rattle.std.proofs.lemmas.Bool.Decides.{nat_tests}
 use Rattle.std.proofs.Math.Nat.{mul-le-mul_left}
 use Rattle.pocsag_slots.specs.declared.class.Classes.{Classes}
 use Rattle.pocsag_slots.specs.declared.limit.Limits.{Limits}
 use Rattle.pocsag_slots.specs.Cover.{covered}
-use Rattle.pocsag_slots.specs.Loads.{AreInOrder, IsLeastLoad, IsWithin, class_load, class_load_over, least_of_class, load}
+use Rattle.pocsag_slots.specs.Loads.{AreInOrder, IsLeastLoad, IsWithin, Overloads, class_load, class_load_over, least_of_class, load}
 use Rattle.pocsag_slots.specs.Numbering.{class_rest, start_of}
 use Rattle.pocsag_slots.specs.Sums.{holds, sum_below, sum_over}
 use Rattle.pocsag_slots.proofs.CoverLemmas.{covered_batches, covered_split}
@@ -77,10 +78,84 @@ linear_down n a b e d h le =
 between : (n a b lo e hi : ℕ) → lo ≤ e → e ≤ hi → hi ≤ n →
     min (lo * a + (n - lo) * b) (hi * a + (n - hi) * b) ≤ e * a + (n - e) * b
 between n a b lo e hi l h m =
-    elim (le_cases a b) [
-      | inl up ↦
-          let same : hi ≡ e + (hi - e) = omega arith in
-          let step : hi * a + (n - hi) * b ≤ e * a + (n - e) * b = rw same at (linear n a b e (hi - e) (omega arith) up) in
+    elim (cases_lt b a) [
+      | inl down ↦
+          let same : e ≡ lo + (e - lo) = omega arith in
+          let step : lo * a + (n - lo) * b ≤ e * a + (n - e) * b =
+          rw (← same) at (linear_down n a b lo (e - lo) (omega arith) (omega arith)) in
           omega arith
-      | inr down ↦ omega arith
+      | inr up ↦
+          let same : hi ≡ e + (hi - e) = omega arith in
+          let step : hi * a + (n - hi) * b ≤ e * a + (n - e) * b = rw (← same) at (linear n a b e (hi - e) (omega arith) up) in
+          omega arith
     ]
+
+-- the smaller end is the least load of a class, and the classes are added
+least_below : (k : Classes) (l : Limits) (set c e : ℕ) → slice_index l.lo c ≤ e → e ≤ slice_index l.hi c →
+    slice_index l.hi c ≤ slice_index k.count c → least_of_class k l set c ≤ class_load_over k set c e
+unfolding least_of_class
+least_below k l set c e low high counted =
+    let a : ℕ = sum_over set (covered (start_of c true) (class_rest c)) in
+    let b : ℕ = sum_over set (covered (start_of c false) (class_rest c)) in
+    let t : ℕ = slice_index k.turns c * sum_over set (covered 0 16) in
+    let least = between (slice_index k.count c) a b (slice_index l.lo c) e (slice_index l.hi c) low high counted in
+    let at_lo = class_load_over_is k set c (slice_index l.lo c) in
+    let at_hi = class_load_over_is k set c (slice_index l.hi c) in
+    let here = class_load_over_is k set c e in
+    omega arith
+
+-- the early count at which the class loads the set least
+cheapest : Classes → Limits → ℕ → ℕ → ℕ
+cheapest k l set c =
+    cond (leb (class_load_over k set c (slice_index l.lo c)) (class_load_over k set c (slice_index l.hi c)))
+    (slice_index l.lo c) (slice_index l.hi c)
+
+cheapest_is : (k : Classes) (l : Limits) (set c : ℕ) → class_load_over k set c (cheapest k l set c) ≡ least_of_class k l set c
+unfolding cheapest least_of_class
+cheapest_is k l set c =
+    elim (cases_lt (class_load_over k set c (slice_index l.hi c)) (class_load_over k set c (slice_index l.lo c))) [
+      | inl high ↦ grind (arith, nat_tests)
+      | inr low ↦ grind (arith, nat_tests)
+    ]
+
+cheapest_low : (k : Classes) (l : Limits) (set c : ℕ) → slice_index l.lo c ≤ slice_index l.hi c →
+    (slice_index l.lo c ≤ cheapest k l set c) × (cheapest k l set c ≤ slice_index l.hi c)
+unfolding cheapest
+cheapest_low k l set c h = grind (arith, nat_tests)
+
+load_over : (k : Classes) (set : ℕ) (choice : ℕ → ℕ) →
+    sum_over set (load k choice) ≡ sum_below 136 (λ c. class_load_over k set c (choice c))
+unfolding load class_load_over
+load_over k set choice = sum_over-sum_below set 136 (λ slot c. class_load k slot c (choice c))
+
+pub least_is : (k : Classes) (l : Limits) (set : ℕ) → AreInOrder k l → IsLeastLoad k l set (sum_below 136 (least_of_class k l set))
+least_is k l set ordered =
+    record {
+      lower = λ choice within.
+          let each : sum_below 136 (least_of_class k l set) ≤ sum_below 136 (λ c. class_load_over k set c (choice c)) =
+          sum_below-le 136 _ _ (λ c h. least_below k l set c (choice c) (within.least c h) (within.most c h) (ordered.counted c h)) in
+          omega (arith, load_over k set choice);
+      met = (cheapest k l set,
+      record { least = λ c h. (cheapest_low k l set c (ordered.order c h)).0; most = λ c h. (cheapest_low k l set c (ordered.order c h)).1 },
+      load_over k set (cheapest k l set)
+      ∙ sum_below-same 136 _ (least_of_class k l set) (λ c h. cheapest_is k l set c));
+    }
+
+-- a set is overloaded where its least load exceeds its caps
+pub overload_is : (k : Classes) (l : Limits) (set least : ℕ) → IsLeastLoad k l set least →
+    (sum_over set (slice_index l.cap) < least → Overloads k l set) × (Overloads k l set → sum_over set (slice_index l.cap) < least)
+overload_is k l set least is_least =
+    ((λ more choice within. omega (arith, is_least.lower choice within)),
+    (λ all. omega (arith, all is_least.met.0 is_least.met.1, is_least.met.2)))
+
+pub least_of_class_is : (k : Classes) (l : Limits) (set c : ℕ) → least_of_class k l set c ≡
+    slice_index k.turns c * sum_over set (covered 0 16)
+    + min (slice_index l.lo c * sum_over set (covered (start_of c true) (class_rest c))
+    + (slice_index k.count c - slice_index l.lo c) * sum_over set (covered (start_of c false) (class_rest c)))
+    (slice_index l.hi c * sum_over set (covered (start_of c true) (class_rest c))
+    + (slice_index k.count c - slice_index l.hi c) * sum_over set (covered (start_of c false) (class_rest c)))
+unfolding least_of_class
+least_of_class_is k l set c =
+    let at_lo = class_load_over_is k set c (slice_index l.lo c) in
+    let at_hi = class_load_over_is k set c (slice_index l.hi c) in
+    omega arith

@@ -9,3 +9,6 @@ pub mod Walks
 pub mod Fewest
 pub mod LoadLemmas
 pub mod LeastLemmas
+pub mod LimitLemmas
+pub mod WayLemmas
+pub mod CountLemmas

@@ -14,7 +14,7 @@ use Rattle.pocsag_slots.proofs.SumLemmas.{sum_below-le, sum_below-part, sum_belo
 pub covered_once : (first n slot : ℕ) → slot < 16 → n ≤ 16 → covered first n slot ≤ 1
 covered_once first n slot h few = omega (arith, covered_is first n slot h)
 
-pub covered_by : (first n slot : ℕ) → first < 16 → n ≤ 16 → slot < 16 → cond (ltb ((slot + 16 - first) % 16) n) 1 0 ≡ covered first n slot
+pub covered_by : (first n slot : ℕ) → first < 16 → n ≤ 16 → slot < 16 → covered first n slot ≡ cond (ltb ((slot + 16 - first) % 16) n) 1 0
 covered_by first n slot h few l =
     let closed = covered_is first n slot l in
     grind (arith, nat_tests)

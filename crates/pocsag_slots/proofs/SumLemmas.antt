@@ -88,9 +88,9 @@ chosen_times : (b : Bool) (t x : ℕ) → cond b (t * x) 0 ≡ t * cond b x 0
 chosen_times true t x = refl
 chosen_times false t x = omega arith
 
-chosen_none : (b : Bool) → cond b 0 0 ≡ 0
-chosen_none true = refl
-chosen_none false = refl
+chosen_none : (b : Bool) (x : ℕ) → x ≡ 0 → cond b x 0 ≡ 0
+chosen_none true x none = none
+chosen_none false x none = refl
 
 pub sum_over-add : (set : ℕ) (f g : ℕ → ℕ) → sum_over set (λ slot. f slot + g slot) ≡ sum_over set f + sum_over set g
 unfolding sum_over
@@ -106,7 +106,7 @@ sum_over-times set t f =
 
 pub sum_over-none : (set : ℕ) → sum_over set (λ slot. 0) ≡ 0
 unfolding sum_over
-sum_over-none set = sum_below-zero 16 _ (λ slot l. chosen_none (holds set slot))
+sum_over-none set = sum_below-zero 16 _ (λ slot l. chosen_none (holds set slot) 0 refl)
 
 -- a sum over a set of sums is the sum of the sums over the set
 pub sum_over-sum_below : (set n : ℕ) (f : ℕ → ℕ → ℕ) →
@@ -124,6 +124,10 @@ unfolding sum_over
 sum_over-at set at f h here others =
     let grown : sum_below 16 (λ slot. cond (holds set slot) (f slot) 0) ≡ sum_below 16 (λ slot. 0) + cond (holds set at) 1 0 =
     sum_below-bump 16 at (cond (holds set at) 1 0) (λ slot. 0) (λ slot. cond (holds set slot) (f slot) 0) h (rw here (omega arith))
-    (λ slot l other. let none : f slot ≡ 0 = others slot l other in rw none (chosen_none (holds set slot))) in
+    (λ slot l other. chosen_none (holds set slot) (f slot) (others slot l other)) in
     let none : sum_below 16 (λ slot. 0) ≡ 0 = sum_below-zero 16 (λ slot. 0) (λ slot l. refl) in
     omega arith
+
+-- a running sum takes one more term
+pub summed : (f : ℕ → ℕ) (n total more : ℕ) → total ≡ sum_below n f → more ≡ f n → total + more ≡ sum_below (n + 1) f
+summed f n total more so_far here = omega (arith, sum_below_more n f)

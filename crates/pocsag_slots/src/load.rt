@@ -1,7 +1,7 @@
-ghost use Rattle.std.specs.Prelude.{◌≡◌, ℕ, ◌*◌, ◌^◌, ◌<◌, ◌≤◌, ◌↔◌, IsTrue, length, slice_index};
+ghost use Rattle.std.specs.Prelude.{◌≡◌, ℕ, ◌*◌, ◌^◌, ◌<◌, ◌≤◌, ◌↔◌, IsTrue, if◌then◌else◌, length, slice_index};
 ghost use Rattle.pocsag_slots.specs.Cover.{covered};
 ghost use Rattle.pocsag_slots.specs.Loads.{AreInOrder, class_load as load_of_class, IsChoice, IsLeastLoad, least_of_class, load, Overloads};
-ghost use Rattle.pocsag_slots.specs.Sums.{sum_over};
+ghost use Rattle.pocsag_slots.specs.Sums.{holds as is_member, sum_over};
 
 use crate::boundary::{rest, start};
 use crate::class::{CLASSES, Choice, Classes, SLOTS};
@@ -9,6 +9,7 @@ use crate::limit::Limits;
 use crate::set::holds;
 
 // How often so many codewords from a slot on, at most one turn, cover the slot.
+#[tactic(auto, using(crate::proofs::LoadLemmas::covered_by))]
 fn times_covered(first: u8, codewords: u8, slot: u8) -> u32
     requires first { first < 16 }
     requires codewords { codewords ≤ 16 }
@@ -111,14 +112,24 @@ pub fn least_load(classes: &Classes, limits: &Limits, set: u16) -> u64
     least
 }
 
+fn member_cap(limits: &Limits, set: u16, slot: u8) -> u64
+    requires { slot < 16 }
+    ensures value { result ≡ (if is_member set slot then slice_index limits.now.cap slot else 0) }
+    ensures bound { result < 2 ^ 32 }
+{
+    if holds(set, slot) {
+        u64::from(limits.cap[slot as usize])
+    } else {
+        0
+    }
+}
+
 fn total_cap(limits: &Limits, set: u16) -> u64
     ensures { result ≡ sum_over set (slice_index limits.now.cap) }
 {
     let mut total = 0;
     for slot in 0..SLOTS as u8 {
-        if holds(set, slot) {
-            total += u64::from(limits.cap[slot as usize]);
-        }
+        total += member_cap(limits, set, slot);
     }
     total
 }
