@@ -10,7 +10,8 @@ use Rattle.pocsag_slots.specs.Loads.{AreInOrder, IsLeastLoad, IsWithin, Overload
 use Rattle.pocsag_slots.specs.Numbering.{class_rest, start_of}
 use Rattle.pocsag_slots.specs.Sums.{holds, sum_below, sum_over}
 use Rattle.pocsag_slots.proofs.CoverLemmas.{covered_batches, covered_split}
-use Rattle.pocsag_slots.proofs.SumLemmas.{sum_below-le, sum_below-same, sum_over-add, sum_over-at, sum_over-none, sum_over-same, sum_over-sum_below, sum_over-times}
+use Rattle.pocsag_slots.proofs.LoadLemmas.{load_few}
+use Rattle.pocsag_slots.proofs.SumLemmas.{sum_over-most, sum_below-le, sum_below-same, sum_over-add, sum_over-at, sum_over-none, sum_over-same, sum_over-sum_below, sum_over-times}
 
 covered_none : (first slot : ℕ) → covered first 0 slot ≡ 0
 unfolding covered
@@ -159,3 +160,12 @@ least_of_class_is k l set c =
     let at_lo = class_load_over_is k set c (slice_index l.lo c) in
     let at_hi = class_load_over_is k set c (slice_index l.hi c) in
     omega arith
+
+pub least_few : (k : Classes) (l : Limits) (set least : ℕ) → AreInOrder k l → IsLeastLoad k l set least → least ≤ 28160000
+least_few k l set least ordered is_least =
+    let choice : ℕ → ℕ = is_least.met.0 in
+    let among : (c : ℕ) → c < 136 → choice c ≤ slice_index k.count c =
+    λ c h. omega (arith, is_least.met.1.most c h, ordered.counted c h) in
+    let most : sum_over set (load k choice) ≤ 16 * 1760000 =
+    sum_over-most set 1760000 (load k choice) (λ slot h. load_few k choice slot h among) in
+    omega (arith, is_least.met.2)

@@ -131,3 +131,16 @@ sum_over-at set at f h here others =
 -- a running sum takes one more term
 pub summed : (f : ℕ → ℕ) (n total more : ℕ) → total ≡ sum_below n f → more ≡ f n → total + more ≡ sum_below (n + 1) f
 summed f n total more so_far here = omega (arith, sum_below_more n f)
+
+chosen_most : (b : Bool) (x m : ℕ) → x ≤ m → cond b x 0 ≤ m
+chosen_most true x m h = h
+chosen_most false x m h = omega arith
+
+sum_below-most : (n m : ℕ) (f : ℕ → ℕ) → ((k : ℕ) → k < n → f k ≤ m) → sum_below n f ≤ n * m
+unfolding sum_below
+sum_below-most zero m f h = omega arith
+sum_below-most (suc n) m f h = omega (arith, sum_below-most n m f (λ k l. h k (omega arith)), h n (omega arith))
+
+pub sum_over-most : (set m : ℕ) (f : ℕ → ℕ) → ((slot : ℕ) → slot < 16 → f slot ≤ m) → sum_over set f ≤ 16 * m
+unfolding sum_over
+sum_over-most set m f h = sum_below-most 16 m _ (λ slot l. chosen_most (holds set slot) (f slot) m (h slot l))

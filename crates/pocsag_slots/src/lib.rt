@@ -11,6 +11,8 @@ mod limit;
 mod load;
 mod set;
 mod step;
+#[cfg(test)]
+mod tests;
 mod way;
 
 pub use boundary::{finish, frame, rest, start};

@@ -102,7 +102,7 @@ fn class_least(classes: &Classes, limits: &Limits, set: u16, size: u64, class: u
 pub fn least_load(classes: &Classes, limits: &Limits, set: u16) -> u64
     requires { AreInOrder classes.now limits.now }
     ensures least { IsLeastLoad classes.now limits.now set result }
-    ensures bound { result < 2 ^ 48 }
+    ensures bound { result ≤ 28160000 }
 {
     let size = members_covered(set, 0, 16);
     let mut least = 0;
