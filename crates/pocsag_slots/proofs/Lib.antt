@@ -6,3 +6,9 @@ pub mod Taking
 pub mod Touring
 pub mod SumLemmas
 pub mod Walks
+pub mod Fewest
+pub mod LoadLemmas
+pub mod LeastLemmas
+pub mod LimitLemmas
+pub mod WayLemmas
+pub mod CountLemmas

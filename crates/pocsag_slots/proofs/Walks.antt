@@ -102,10 +102,10 @@ choose_start : (e : Bool) (c n slot : ℕ) → cond e (covered (start_of c true)
 choose_start true c n slot = refl
 choose_start false c n slot = refl
 
-count_of-cons : (end : End) (p : Page) (ps : List Page) (c : ℕ) → count_of end (p ∷ ps) c ≡ cond (class_of_page end p == c) 1 0 + count_of end ps c
+pub count_of-cons : (end : End) (p : Page) (ps : List Page) (c : ℕ) → count_of end (p ∷ ps) c ≡ cond (class_of_page end p == c) 1 0 + count_of end ps c
 count_of-cons end p ps c = sum_by-cons (λ q. cond (class_of_page end q == c) 1 0) p ps
 
-turns_of-cons : (end : End) (p : Page) (ps : List Page) (c : ℕ) → turns_of end (p ∷ ps) c ≡ cond (class_of_page end p == c) (page_length p / 16) 0 + turns_of end ps c
+pub turns_of-cons : (end : End) (p : Page) (ps : List Page) (c : ℕ) → turns_of end (p ∷ ps) c ≡ cond (class_of_page end p == c) (page_length p / 16) 0 + turns_of end ps c
 turns_of-cons end p ps c = sum_by-cons (λ q. cond (class_of_page end q == c) (page_length q / 16) 0) p ps
 
 -- the run of a page of class d covers the slots from its start on

@@ -4,5 +4,6 @@ pub mod Layout
 pub mod Loads
 pub mod Numbering
 pub mod Sums
+pub mod Tables
 pub mod Tours
 pub mod Ways

@@ -1,5 +1,5 @@
 -- *Load, limits, least*. A choice says how many pages of each class start early.
-use Rattle.std.specs.Prelude.{◌≡◌, ℕ, ◌+◌, ◌-◌, ◌*◌, ◌<◌, ◌≤◌, true, false, List, slice_index, replicate}
+use Rattle.std.specs.Prelude.{◌≡◌, ℕ, ◌+◌, ◌-◌, ◌*◌, ◌<◌, ◌≤◌, true, false, List, slice_index, replicate, min}
 use Rattle.pocsag_words.specs.declared.ending.End.{End}
 use Rattle.pocsag_pages.specs.declared.page.Page.{Page}
 use Rattle.pocsag_slots.specs.declared.class.Classes.{Classes}
@@ -50,6 +50,15 @@ limits_of_all k batches = record { lo = replicate 136 0; hi = k.count; cap = rep
 pub record IsLeastLoad (k : Classes) (l : Limits) (set least : ℕ) : Type 0 where
   pub lower : (choice : ℕ → ℕ) → IsWithin l choice → least ≤ sum_over set (load k choice)
   pub met : (choice : ℕ → ℕ) × IsWithin l choice × (sum_over set (load k choice) ≡ least)
+
+-- How much the runs of a class load a set of slots, where so many of them start early, and the smaller
+-- of the two amounts at the ends of its limits.
+unfoldable pub class_load_over : Classes → ℕ → ℕ → ℕ → ℕ
+class_load_over k set c early = sum_over set (λ slot. class_load k slot c early)
+
+unfoldable pub least_of_class : Classes → Limits → ℕ → ℕ → ℕ
+least_of_class k l set c =
+    min (class_load_over k set c (slice_index l.lo c)) (class_load_over k set c (slice_index l.hi c))
 
 -- Each choice within the limits loads the set above the sum of its caps.
 abbrev pub Overloads : Classes → Limits → ℕ → Type 0
