@@ -33,7 +33,7 @@ AreBits-high_first (suc n) v =
     All-cons (λ b. b < 2) _ _ (omega arith) (AreBits-high_first n v)
 
 -- the bits of a number in two parts
-pub high_first-add : (a b v : ℕ) → high_first (a + b) v ≡ high_first a (v / 2 ^ b) ++ high_first b v
+high_first-add : (a b v : ℕ) → high_first (a + b) v ≡ high_first a (v / 2 ^ b) ++ high_first b v
 unfolding high_first
 high_first-add zero b v = rw zero-add refl
 high_first-add (suc a) b v =
@@ -49,7 +49,7 @@ mod-two m x =
     rw e (omega arith)
 
 -- only the lowest bits count
-pub high_first-mod : (n m v : ℕ) → high_first n (v % 2 ^ (n + m)) ≡ high_first n v
+high_first-mod : (n m v : ℕ) → high_first n (v % 2 ^ (n + m)) ≡ high_first n v
 unfolding high_first
 high_first-mod zero m v = refl
 high_first-mod (suc n) m v =

@@ -34,7 +34,7 @@ code_of-character_of k h =
     is_code-true (code_of (character_of k)) k (passes 16 (λ j. is_code (code_of (character_of j)) j) characters_pass k h)
 
 -- the character of a code
-pub character_of-code_of : (b k : ℕ) → code_of b ≡ Some k → (k < 16) × (character_of k ≡ b)
+character_of-code_of : (b k : ℕ) → code_of b ≡ Some k → (k < 16) × (character_of k ≡ b)
 unfolding numeric_characters
 character_of-code_of b k h =
     let p = position-Some (λ c. eqb c b) numeric_characters k 0 h in

@@ -77,7 +77,7 @@ short_five n = omega arith
 short_twenty : (n : ℕ) → (n + short_of 20 n) % 20 ≡ 0
 short_twenty n = omega arith
 
-pub length-numeric_bits : (text : List ℕ) → length (numeric_bits text) ≡ 4 * (length text + short_of 5 (length text))
+length-numeric_bits : (text : List ℕ) → length (numeric_bits text) ≡ 4 * (length text + short_of 5 (length text))
 unfolding numeric_bits
 length-numeric_bits text =
     let wide : (x : ℕ) → length (low_first 4 x) ≡ 4 = length-low_first 4 in

@@ -6,7 +6,7 @@ use Rattle.std.proofs.lemmas.Bool.{eq-eqb, ne_eqb}
 use Rattle.pocsag_text.specs.Text.{trim_end, trimmed_onto}
 
 -- nothing but the unwanted
-pub trim_end-all : (c : ℕ) (zs : List ℕ) → All (λ z. z ≡ c) zs → trim_end c zs ≡ []
+trim_end-all : (c : ℕ) (zs : List ℕ) → All (λ z. z ≡ c) zs → trim_end c zs ≡ []
 unfolding trim_end
 trim_end-all c [] h = refl
 trim_end-all c (z ∷ zs) h =
@@ -21,7 +21,7 @@ trim_end-append c [] zs h = trim_end-all c zs h
 trim_end-append c (x ∷ xs) zs h = ap (trimmed_onto c x) (trim_end-append c xs zs h)
 
 -- something wanted behind a list
-pub trim_end-push : (c : ℕ) (xs : List ℕ) (b : ℕ) → b ≢ c → trim_end c (xs ++ b ∷ []) ≡ xs ++ b ∷ []
+trim_end-push : (c : ℕ) (xs : List ℕ) (b : ℕ) → b ≢ c → trim_end c (xs ++ b ∷ []) ≡ xs ++ b ∷ []
 unfolding trim_end
 trim_end-push c [] b h = let e : eqb b c ≡ false = ne_eqb b c h in rw e refl
 trim_end-push c (x ∷ []) b h = ap (trimmed_onto c x) (trim_end-push c [] b h)

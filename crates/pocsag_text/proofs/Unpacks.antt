@@ -66,14 +66,6 @@ next-lt width codes count held bits h enough =
     let below : held < 2 ^ (width + (count - width)) = rw whole h.fits in
     shr_below held width (count - width) below
 
-pub IsUnpacked-end : (width : ℕ) (codes : List ℕ) (count held : ℕ) (bits : List ℕ) → IsTaking width codes count held bits → count < width → IsUnpacked width codes count held
-IsUnpacked-end width codes count held bits h few = record {
-  narrow = h.narrow;
-  small = h.small;
-  few = few;
-  fits = h.fits;
-}
-
 -- the codes are the bits cut in pieces
 pub codes-unpacked_bits : (width : ℕ) (codes : List ℕ) (count held : ℕ) → IsUnpacked width codes count held → codes ≡ cut width low_number (length (unpacked_bits width codes count held) / width) (unpacked_bits width codes count held)
 unfolding unpacked_bits

@@ -6,7 +6,10 @@ use Rattle.std.specs.Prelude.{ℕ, ◌==◌, List, ◌++◌, Option, Bool, is_no
 unfoldable pub numeric_characters : List ℕ
 numeric_characters = codes "0123456789" ++ codes "*U -]["
 
--- The code of the space, with which a numeric message is filled (a rule of Annex 1).
+-- The space, and its code, with which a numeric message is filled (a rule of Annex 1).
+abbrev pub space : ℕ
+space = 32
+
 abbrev pub space_code : ℕ
 space_code = 12
 

@@ -5,9 +5,10 @@ use Rattle.pocsag_text.specs.declared.TheConstants.{CHARACTER_LIMIT}
 use Rattle.pocsag_text.specs.declared.fault.TextFault.{TextFault}
 use Rattle.pocsag_text.specs.declared.fault.TextFault.TheVariants as fault
 use Rattle.pocsag_text.specs.Bits.{low_first, low_number, high_number, cut, item_bits}
-use Rattle.pocsag_text.specs.Characters.{character_of, code_or_space, space_code, is_bad_digit}
+use Rattle.pocsag_text.specs.Characters.{character_of, code_or_space, space, space_code, is_bad_digit}
 
--- A byte that may not stand in an alphanumeric text: it is no code of 1 to 127.
+-- Whether a byte may not stand in an alphanumeric text: it is none of the codes 1 to 127 (this
+-- project's own; 0 would be lost in the fill).
 abbrev pub is_bad_byte : ℕ → Bool
 is_bad_byte b = b == 0 || nat_lt 127 b
 
@@ -16,8 +17,8 @@ abbrev pub fault_of_place : Option ℕ → ℕ → Option TextFault
 fault_of_place (Some place) count = Some (fault.BadCharacter place)
 fault_of_place None count = if nat_lt CHARACTER_LIMIT count then Some fault.TooLong else None
 
--- The fault of a text, by the place of its first bad character and its length: that it is empty,
--- else that place, else that it is too long.
+-- The fault of a text (this project's own), by the place of its first bad character and its
+-- length: that it is empty, else that place, else that it is too long.
 abbrev pub fault_of : Option ℕ → ℕ → Option TextFault
 fault_of first_bad count = if count == 0 then Some fault.EmptyMessage else fault_of_place first_bad count
 
@@ -30,7 +31,7 @@ abbrev pub unless : Option TextFault → List ℕ → Result (List ℕ) TextFaul
 unless (Some e) items = Err e
 unless None items = Ok items
 
--- The least number that makes a multiple of n of count.
+-- The least number that has to be added to count for a multiple of n.
 abbrev pub short_of : ℕ → ℕ → ℕ
 short_of n count = (n - count % n) % n
 
@@ -44,8 +45,8 @@ unfoldable pub numeric_bits : List ℕ → List ℕ
 numeric_bits text =
     flat_map (low_first 4) (map code_or_space text ++ replicate (short_of 5 (length text)) space_code)
 
--- The bits of an alphanumeric text, rules of Annex 1: the seven bits of each character, the lowest
--- first, and as many zeros as fill the last twenty bits.
+-- The bits of an alphanumeric text: the seven bits of each character, the lowest first (a rule of
+-- Annex 1), and as many zeros as fill the last twenty bits.
 unfoldable pub alpha_bits : List ℕ → List ℕ
 alpha_bits text = flat_map (low_first 7) text ++ replicate (short_of 20 (7 * length text)) 0
 
@@ -74,7 +75,7 @@ codes_of width items = cut width low_number (length (item_bits items) / width) (
 
 -- The text of a numeric payload: the characters of all its codes, without the spaces at its end.
 unfoldable pub numeric_text : List ℕ → List ℕ
-numeric_text items = trim_end 32 (map character_of (codes_of 4 items))
+numeric_text items = trim_end space (map character_of (codes_of 4 items))
 
 -- The text of an alphanumeric payload: all its codes, without the zeros at its end.
 unfoldable pub alpha_text : List ℕ → List ℕ

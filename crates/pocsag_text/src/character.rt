@@ -15,6 +15,7 @@ const NUMERIC_CHARACTERS: [u8; 16] = *b"0123456789*U -][";
 pub const SPACE_CODE: u8 = 12;
 
 /// The code of a byte, if it is a numeric character.
+#[tactic(auto, unfolding(crate::specs::Characters::numeric_characters))]
 pub fn code_of(byte: u8) -> Option<u8>
     ensures { result ≡ numeric.code_of byte }
 {

@@ -15,7 +15,7 @@ pub fn unpack_numeric(alloc: Global, items: &[u32]) -> Result<Vec<u8>, OutOfMemo
 
     // A text that was packed comes back without the spaces at its end.
     ensures back { IfOk result
-        (λ v. (t : List ℕ) → numeric_payload t ≡ Ok items.now → v.items ≡ trim_end 32 t) }
+        (λ v. (t : List ℕ) → numeric_payload t ≡ Ok items.now → v.items ≡ trim_end numeric.space t) }
     ensures allowed { IfOk result (λ v. All (λ c. IsSome (numeric.code_of c)) v.items) }
 {
     let codes = codes_of::<NUMERIC_WIDTH>(alloc, items)?;
