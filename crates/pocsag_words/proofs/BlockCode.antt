@@ -127,7 +127,7 @@ unfolding combine doublings columns
 multiples_low = refl
 
 -- the codeword that carries the data
-pub word_of : ℕ → ℕ
+word_of : ℕ → ℕ
 word_of d = combine words d
 
 word_of-data : (d : ℕ) → d < 2 ^ 21 → word_of d / 2 ^ 11 ≡ d
@@ -150,7 +150,7 @@ even_sum ts n small h =
     ∙ combine_image (combine (replicate 32 1)) (IsLinear-combine (replicate 32 1)) ts n
     ∙ ap (λ us. combine us n) h ∙ combine_none 21 n
 
-pub IsCodeword-word_of : (d : ℕ) → IsCodeword (word_of d)
+IsCodeword-word_of : (d : ℕ) → IsCodeword (word_of d)
 unfolding word_of
 IsCodeword-word_of d = record {
   fits = combine-lt 32 words d refl;
@@ -206,7 +206,7 @@ unfolding check_of
 check_of-lt d = combine-lt 11 columns d columns-small
 
 -- the codeword with this data
-pub IsCodeword-encoded : (d : ℕ) → d < 2 ^ 21 → IsCodeword (2048 * d + check_of d)
+IsCodeword-encoded : (d : ℕ) → d < 2 ^ 21 → IsCodeword (2048 * d + check_of d)
 IsCodeword-encoded d h =
     let P : ℕ → Type 0 = λ n. IsCodeword n in
     subst P (word_of-parts d h ∙ omega arith) (IsCodeword-word_of d)

@@ -1,37 +1,66 @@
 -- The sums of bits are 0 exactly where the syndrome is.
-use Rattle.std.proofs.Common.{◌≡◌, ℕ, ◌*◌, ◌/◌, ◌%◌, ◌^◌, ◌<◌, ◌↔◌, List, [], ◌∷◌, IsTrue, nat_eq, bit_xor, map, refl, sym, ap, ap₂, ◌∙◌, arith, eq-eqb, add-zero}
+use Rattle.std.proofs.Common.{◌≡◌, ℕ, ◌*◌, ◌/◌, ◌%◌, ◌^◌, ◌<◌, ◌↔◌, List, [], ◌∷◌, IsTrue, nat_eq, bit_xor, map, refl, sym, ap, ap₂, ◌∙◌, arith, eq-eqb, add-zero, zero-mul}
 use Rattle.std.proofs.lemmas.Bool.{eqb-true}
 use Rattle.std.proofs.lemmas.Nat.{xor_mod, xor_shr, xor_block, pow_pos}
-use Rattle.pocsag_words.specs.Checks.{moved_sum, product_of, checks_of}
+use Rattle.pocsag_words.specs.Checks.{moved, pair_of, spread_of, three_of, product_of, checks_of}
 use Rattle.pocsag_words.specs.Codeword.{IsCodeword}
 use Rattle.pocsag_words.specs.Columns.{combine, columns, check_of, syndrome_of}
 use Rattle.pocsag_words.proofs.Linear.{IsLinear, IsLinear-combine, combine_image, combine-zero, bit_cases, xor_turned, xor_scaled}
 use Rattle.pocsag_words.proofs.BlockCode.{doublings, combine_powers}
 use Rattle.pocsag_words.proofs.ErrorLemmas.{syndrome_of-xor, syndrome_of-codeword, syndrome_of-lt, IsCodeword-from_syndrome}
 
-moved-xor : (k a b : ℕ) → bit_xor a b * 2 ^ k % 2 ^ 32 ≡ bit_xor (a * 2 ^ k % 2 ^ 32) (b * 2 ^ k % 2 ^ 32)
-moved-xor k a b =
-    let block = simp add-zero at (xor_block k a b 0 0 (pow_pos k) (pow_pos k)) in
-    ap (λ (n : ℕ). n % 2 ^ 32) (sym block) ∙ xor_mod (a * 2 ^ k) (b * 2 ^ k) 32
+IsLinear-number : IsLinear (λ n. n)
+IsLinear-number = record { at_zero = refl; at_xor = λ a b. refl }
 
-moved_sum-xor : (ks : List ℕ) (s t a b : ℕ) → moved_sum ks (bit_xor s t) (bit_xor a b) ≡ bit_xor (moved_sum ks s a) (moved_sum ks t b)
-unfolding moved_sum
-moved_sum-xor [] s t a b = refl
-moved_sum-xor (k ∷ ks) s t a b =
-    ap (λ (x : ℕ). moved_sum ks x (bit_xor a b)) (ap (bit_xor (bit_xor s t)) (moved-xor k a b) ∙ xor_turned s t (a * 2 ^ k % 2 ^ 32) (b * 2 ^ k % 2 ^ 32))
-    ∙ moved_sum-xor ks (bit_xor s (a * 2 ^ k % 2 ^ 32)) (bit_xor t (b * 2 ^ k % 2 ^ 32)) a b
+IsLinear-sum : (f g : ℕ → ℕ) → IsLinear f → IsLinear g → IsLinear (λ n. bit_xor (f n) (g n))
+IsLinear-sum f g p q = record {
+  at_zero = ap₂ bit_xor p.at_zero q.at_zero;
+  at_xor = λ a b. ap₂ bit_xor (p.at_xor a b) (q.at_xor a b) ∙ xor_turned (f a) (f b) (g a) (g b);
+}
 
-checks_of-xor : (a b : ℕ) → checks_of (bit_xor a b) ≡ bit_xor (checks_of a) (checks_of b)
-unfolding checks_of product_of
-checks_of-xor a b =
-    ap (λ (n : ℕ). n / 2 ^ 21)
-    (ap₂ bit_xor (moved_sum-xor _ a b a b) (ap (λ (x : ℕ). x * 0xffffffff) (xor_mod a b 1) ∙ xor_scaled (a % 2) (b % 2) 0xffffffff (bit_cases a) (bit_cases b))
-    ∙ xor_turned (product_of a) (product_of b) (a % 2 * 0xffffffff) (b % 2 * 0xffffffff))
-    ∙ xor_shr (bit_xor (product_of a) (a % 2 * 0xffffffff)) (bit_xor (product_of b) (b % 2 * 0xffffffff)) 21
+IsLinear-moved : (k : ℕ) (f : ℕ → ℕ) → IsLinear f → IsLinear (λ n. moved k (f n))
+unfolding moved
+IsLinear-moved k f p = record {
+  at_zero = ap (λ (n : ℕ). n * 2 ^ k % 2 ^ 32) (p.at_zero) ∙ ap (λ (n : ℕ). n % 2 ^ 32) (zero-mul (2 ^ k));
+  at_xor = λ a b.
+      let block = simp add-zero at (xor_block k (f a) (f b) 0 0 (pow_pos k) (pow_pos k)) in
+      ap (λ (n : ℕ). n * 2 ^ k % 2 ^ 32) (p.at_xor a b) ∙ ap (λ (n : ℕ). n % 2 ^ 32) (sym block) ∙ xor_mod (f a * 2 ^ k) (f b * 2 ^ k) 32;
+}
+
+IsLinear-pair_of : IsLinear pair_of
+unfolding pair_of
+IsLinear-pair_of = IsLinear-sum _ _ IsLinear-number (IsLinear-moved 1 _ IsLinear-number)
+
+IsLinear-spread_of : IsLinear spread_of
+unfolding spread_of
+IsLinear-spread_of = IsLinear-sum _ _ IsLinear-number (IsLinear-moved 2 _ IsLinear-number)
+
+IsLinear-three_of : IsLinear three_of
+unfolding three_of
+IsLinear-three_of = IsLinear-sum _ _ IsLinear-pair_of (IsLinear-moved 2 _ IsLinear-number)
+
+IsLinear-product_of : IsLinear product_of
+unfolding product_of
+IsLinear-product_of =
+    let low = IsLinear-sum _ _ IsLinear-three_of (IsLinear-moved 5 _ IsLinear-three_of) in
+    let middle = IsLinear-sum _ _ low (IsLinear-moved 11 _ IsLinear-spread_of) in
+    let high = IsLinear-sum _ _ middle (IsLinear-moved 16 _ IsLinear-pair_of) in
+    IsLinear-sum _ _ high (IsLinear-moved 20 _ IsLinear-number)
+
+IsLinear-turned : IsLinear (λ n. n % 2 * 0xffffffff)
+IsLinear-turned = record {
+  at_zero = refl;
+  at_xor = λ a b. ap (λ (x : ℕ). x * 0xffffffff) (xor_mod a b 1) ∙ xor_scaled (a % 2) (b % 2) 0xffffffff (bit_cases a) (bit_cases b);
+}
 
 IsLinear-checks_of : IsLinear checks_of
-unfolding checks_of product_of moved_sum
-IsLinear-checks_of = record { at_zero = refl; at_xor = checks_of-xor }
+unfolding checks_of
+IsLinear-checks_of =
+    let sum = IsLinear-sum _ _ IsLinear-product_of IsLinear-turned in
+    record {
+      at_zero = ap (λ (n : ℕ). n / 2 ^ 21) sum.at_zero;
+      at_xor = λ a b. ap (λ (n : ℕ). n / 2 ^ 21) (sum.at_xor a b) ∙ xor_shr (bit_xor (product_of a) (a % 2 * 0xffffffff)) (bit_xor (product_of b) (b % 2 * 0xffffffff)) 21;
+    }
 
 IsLinear-syndrome_of : IsLinear syndrome_of
 unfolding syndrome_of check_of combine columns
@@ -51,7 +80,7 @@ abbrev low_bits : List ℕ
 low_bits = 2 ∷ 4 ∷ 8 ∷ 18 ∷ 38 ∷ 76 ∷ 154 ∷ 310 ∷ 622 ∷ 1244 ∷ 1897 ∷ []
 
 checks_columns : map checks_of (doublings 32 1) ≡ map (combine low_checks) (map syndrome_of (doublings 32 1))
-unfolding checks_of product_of moved_sum syndrome_of check_of combine columns doublings
+unfolding checks_of product_of three_of spread_of pair_of moved syndrome_of check_of combine columns doublings
 checks_columns = refl
 
 inverse : map (combine low_bits) low_checks ≡ doublings 11 1

@@ -40,7 +40,7 @@ found_all : all_sparse 32 2 (λ e. eqb (slice_index ERRORS (syndrome_of e)) e) �
 unfolding syndrome_of check_of combine columns
 found_all = refl
 
-pub found : (e : ℕ) → e < 2 ^ 32 → count_ones e ≤ 2 → slice_index ERRORS (syndrome_of e) ≡ e
+found : (e : ℕ) → e < 2 ^ 32 → count_ones e ≤ 2 → slice_index ERRORS (syndrome_of e) ≡ e
 found e small few = eqb-true _ _ (sparse 32 2 (λ n. eqb (slice_index ERRORS (syndrome_of n)) n) found_all e small few)
 
 -- the ones of a number of k bits, by a count that computes
@@ -63,7 +63,7 @@ unfolding syndrome_of check_of combine columns are_sound ones_below
 sound_all = refl
 
 -- the number is an error of at most two bits with this syndrome
-pub record IsError (syndrome e : ℕ) : Type 0 where
+record IsError (syndrome e : ℕ) : Type 0 where
   pub fits : e < 2 ^ 32
   pub few : count_ones e ≤ 2
   pub gives : syndrome_of e ≡ syndrome
@@ -84,7 +84,7 @@ sound_at s (x ∷ xs) (suc i) j all h e far =
     let parts = and_parts (eqb x 0xffffffff || (eqb (syndrome_of x) s && (leb (ones_below 32 x) 2 && ltb x (2 ^ 32)))) (are_sound (s + 1) xs) all in
     sound_at (s + 1) xs i j parts.1 (omega arith) (omega arith) far
 
-pub sound : (s : ℕ) → s < 2048 → slice_index ERRORS s ≢ 0xffffffff → IsError s (slice_index ERRORS s)
+sound : (s : ℕ) → s < 2048 → slice_index ERRORS s ≢ 0xffffffff → IsError s (slice_index ERRORS s)
 sound s h far = sound_at 0 ERRORS s s sound_all h (omega arith) far
 
 -- what differs from a codeword by an error has that error's syndrome
@@ -106,7 +106,7 @@ pub HasNoneNear-from_far : (n : ℕ) → n < 2 ^ 32 → slice_index ERRORS (synd
 HasNoneNear-from_far n small far v is few =
     many (subst (λ (x : ℕ). count_ones x ≤ 2) (sym (found_near v n small is few) ∙ far) few)
 
-pub IsCodeword-mended : (n e : ℕ) → n < 2 ^ 32 → IsError (syndrome_of n) e → IsCodeword (bit_xor n e)
+IsCodeword-mended : (n e : ℕ) → n < 2 ^ 32 → IsError (syndrome_of n) e → IsCodeword (bit_xor n e)
 IsCodeword-mended n e small is =
     IsCodeword-from_syndrome (bit_xor n e) (xor_lt 32 n e small is.fits)
     (syndrome_of-xor n e ∙ ap (bit_xor (syndrome_of n)) is.gives ∙ xor_self (syndrome_of n))

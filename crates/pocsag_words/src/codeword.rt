@@ -70,8 +70,9 @@ impl Word {
         ensures codeword { IsCodeword self }
         ensures ranges { IsInRange result }
     {
-        let bits = self.number / 2048;
-        if self.number == IDLE {
+        let number = self.raw();
+        let bits = number / 2048;
+        if number == IDLE {
             Kind::Idle
         } else if bits < MESSAGE {
             Kind::Address {

@@ -8,7 +8,8 @@ use std::simd::prelude::*;
 
 const LANES: usize = 8;
 
-/// Says of each number whether it is a codeword.
+/// Says of each number whether it is a codeword: flag `k` of number `k`. There are as many flags as
+/// numbers.
 pub fn check_all(numbers: &[u32], flags: &mut [bool])
     requires { length numbers.now ≡ length flags.old }
     ensures { TellCodewords numbers.now flags.new }
@@ -55,16 +56,14 @@ fn checks(numbers: u32x8) -> u32x8
     requires { length numbers ≡ 8 }
     ensures { result ≡ map checks_of numbers }
 {
-    let product = numbers
-        ^ (numbers << u32x8::splat(1))
-        ^ (numbers << u32x8::splat(2))
-        ^ (numbers << u32x8::splat(5))
-        ^ (numbers << u32x8::splat(6))
-        ^ (numbers << u32x8::splat(7))
-        ^ (numbers << u32x8::splat(11))
-        ^ (numbers << u32x8::splat(13))
-        ^ (numbers << u32x8::splat(16))
-        ^ (numbers << u32x8::splat(17))
+    let twice = numbers << u32x8::splat(2);
+    let pair = numbers ^ (numbers << u32x8::splat(1));
+    let spread = numbers ^ twice;
+    let three = pair ^ twice;
+    let product = three
+        ^ (three << u32x8::splat(5))
+        ^ (spread << u32x8::splat(11))
+        ^ (pair << u32x8::splat(16))
         ^ (numbers << u32x8::splat(20));
     let one = u32x8::splat(1);
     let odd = (numbers & one).simd_eq(one);

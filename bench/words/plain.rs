@@ -1,0 +1,162 @@
+//! The benchmark `words` in plain Rust: repairs and checks of a million numbers, by the same tables.
+
+use std::hint::black_box;
+use std::time::{Duration, Instant};
+
+const COUNT: usize = 1_000_000;
+const ROUNDS: u32 = 50;
+const FAR: u32 = u32::MAX;
+
+/// The check bits and the parity bit for data bits, by division.
+const fn divided(data: u32) -> u32 {
+    let mut rest = data << 10;
+    let mut place = 31;
+    while place > 10 {
+        place -= 1;
+        if rest >> place & 1 == 1 {
+            rest ^= 0x769 << (place - 10);
+        }
+    }
+    rest << 1 | (data.count_ones() + rest.count_ones()) & 1
+}
+
+const fn checks_from(shift: u32) -> [u32; 128] {
+    let mut table = [0; 128];
+    let mut i = 0;
+    while i < 128 {
+        table[i] = divided((i as u32) << shift);
+        i += 1;
+    }
+    table
+}
+
+static LOW: [u32; 128] = checks_from(0);
+static MIDDLE: [u32; 128] = checks_from(7);
+static HIGH: [u32; 128] = checks_from(14);
+
+#[inline(always)]
+fn check_bits(data: u32) -> u32 {
+    LOW[(data % 128) as usize] ^ MIDDLE[(data / 128 % 128) as usize] ^ HIGH[(data / 16384) as usize]
+}
+
+#[inline(always)]
+fn syndrome(number: u32) -> u32 {
+    number % 2048 ^ check_bits(number / 2048)
+}
+
+fn errors() -> [u32; 2048] {
+    let mut table = [FAR; 2048];
+    table[0] = 0;
+    for i in 0..32 {
+        for j in 0..=i {
+            let error = 1u32 << i | 1u32 << j;
+            table[syndrome(error) as usize] = error;
+        }
+    }
+    table
+}
+
+#[inline(always)]
+fn repair(errors: &[u32; 2048], number: u32) -> Option<u32> {
+    match errors[syndrome(number) as usize] {
+        FAR => None,
+        error => Some(number ^ error),
+    }
+}
+
+/// One number after the other, by the tables.
+#[inline(never)]
+fn check_all(numbers: &[u32], flags: &mut [bool]) {
+    for (flag, &number) in flags.iter_mut().zip(numbers) {
+        *flag = syndrome(number) == 0;
+    }
+}
+
+/// By the arithmetic of the lanes, which the compiler puts into vectors by itself.
+#[inline(never)]
+fn check_all_lanes(numbers: &[u32], flags: &mut [bool]) {
+    for (flag, &n) in flags.iter_mut().zip(numbers) {
+        let pair = n ^ n << 1;
+        let three = pair ^ n << 2;
+        let product = three ^ three << 5 ^ (n ^ n << 2) << 11 ^ pair << 16 ^ n << 20;
+        let turned = if n & 1 == 1 { u32::MAX } else { 0 };
+        *flag = (product ^ turned) >> 21 == 0;
+    }
+}
+
+#[inline(never)]
+fn repairs(errors: &[u32; 2048], numbers: &[u32], mut sum: u64) -> u64 {
+    for &number in numbers {
+        if let Some(word) = repair(errors, number) {
+            sum = sum.wrapping_add(u64::from(word));
+        }
+    }
+    sum
+}
+
+fn count(flags: &[bool], mut sum: u64) -> u64 {
+    for &flag in flags {
+        sum = sum.wrapping_add(u64::from(flag));
+    }
+    sum
+}
+
+struct Random {
+    state: u64,
+}
+
+impl Random {
+    fn below(&mut self, limit: u32) -> u32 {
+        let state = self.state.wrapping_mul(6_364_136_223_846_793_005);
+        self.state = state.wrapping_add(1_442_695_040_888_963_407);
+        (self.state >> 33) as u32 % limit
+    }
+
+    fn error(&mut self, ones: u32) -> u32 {
+        let mut error = 0;
+        for last in 32 - ones..32 {
+            let bit = 1u32 << self.below(last + 1);
+            error |= if error & bit == 0 { bit } else { 1u32 << last };
+        }
+        error
+    }
+}
+
+fn damaged(wrong: u32, every: usize) -> Vec<u32> {
+    let mut random = Random { state: 1 };
+    let mut numbers = Vec::with_capacity(COUNT);
+    for i in 0..COUNT {
+        let data = 1 << 20 | random.below(1 << 20);
+        let error = if i % every == 0 { random.error(wrong) } else { 0 };
+        numbers.push((data << 11 | check_bits(data)) ^ error);
+    }
+    numbers
+}
+
+fn print_part(part: &str, wrong: u32, time: Duration, sum: u64) {
+    println!("{part}-{wrong} {}.{:06} {sum}", time.as_secs(), time.subsec_micros());
+}
+
+fn main() {
+    let errors = errors();
+    for wrong in 0..4 {
+        let numbers = damaged(wrong, 1);
+        let start = Instant::now();
+        let mut sum = 0;
+        for _ in 0..ROUNDS {
+            sum = repairs(&errors, black_box(&numbers), sum);
+        }
+        print_part("repair", wrong, start.elapsed(), sum);
+    }
+    let numbers = damaged(1, 2);
+    let mut flags = vec![false; COUNT];
+    for (part, check) in [("check", check_all as fn(&[u32], &mut [bool])), ("lanes", check_all_lanes)] {
+        let start = Instant::now();
+        let mut sum = 0;
+        for _ in 0..ROUNDS {
+            check(black_box(&numbers), &mut flags);
+            sum = count(&flags, sum);
+        }
+        print_part(part, 1, start.elapsed(), sum);
+    }
+}

@@ -1,0 +1,16 @@
+#![tactic(auto)]
+//! Benchmarks of the crates. Given the name of one it prints a line for each part: the part, the
+//! seconds that it took, and a sum of its answers, by which another program's can be compared.
+
+mod words;
+
+use std::{env, io};
+
+fn main(rt: HostRuntime) -> io::Result<()> {
+    let mut args = env::args(&rt)?;
+    let _program = args.next();
+    match args.next() {
+        Some(name) if name.as_str() == "words" => words::run(&rt),
+        _ => println!(rt; "benchmarks: words"),
+    }
+}
