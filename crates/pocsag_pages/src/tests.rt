@@ -162,7 +162,7 @@ fn a_read_fails_at_each_place(rt: HostRuntime) -> Result<(), Fail> {
     Ok(())
 }
 
-// The pages of an address each, with this many items.
+// Three pages of 5, 9 and 15 items.
 fn tight(alloc: Global) -> Result<Vec<Page>, Fail> {
     let items = [0x88888u32; 15];
     let mut pages = Vec::new(alloc);
