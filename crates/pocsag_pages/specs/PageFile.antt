@@ -34,11 +34,11 @@ abbrev pub or_fault : {A : Type 0} → Option A → RecordFault → Result A Rec
 or_fault None e = Err e
 or_fault (Some a) e = Ok a
 
--- The fault where the condition is broken.
+-- Nothing, or the fault where a rule is broken.
 abbrev pub unless : Bool → RecordFault → Result (Unit {0}) RecordFault
 unless broken e = if broken then Err e else Ok tt
 
--- The value of decimal digits after a value; none where a byte is no digit.
+-- The value of decimal digits that follow those of a value; none where a byte is no digit.
 unfoldable pub decimal : ℕ → List ℕ → Option ℕ
 decimal value [] = Some value
 decimal value (b ∷ bytes) = if is_ascii_digit b then decimal (10 * value + (b - 48)) bytes else None
@@ -71,12 +71,13 @@ function_of (kind.Tone function) = function
 function_of kind.Numeric = 0
 function_of kind.Alpha = 3
 
+-- A kind that has no message.
 abbrev pub IsTone : PageKind → Type 0
 IsTone (kind.Tone function) = Unit {0}
 IsTone kind.Numeric = ⊥
 IsTone kind.Alpha = ⊥
 
--- A text's fault as that of its record.
+-- A text's fault as that of its record. No text has the last one, which is told of a packing alone.
 abbrev pub record_fault_of : TextFault → RecordFault
 record_fault_of text.EmptyMessage = wrong.EmptyMessage
 record_fault_of (text.BadCharacter place) = wrong.BadCharacter place

@@ -39,7 +39,8 @@ abbrev pub unless_empty : List Page → Result (List Page) RoundFault
 unless_empty [] = Err fault.NoPages
 unless_empty (p ∷ ps) = Ok (p ∷ ps)
 
--- The pages, unless one has a fault, and then unless they are too many or none.
+-- The pages, unless one has a fault, and then unless they are too many or none: a list is judged by
+-- its length after its last page, and a page file at its record 20,001.
 abbrev pub unless_fault : Option RoundFault → List Page → Result (List Page) RoundFault
 unless_fault (Some f) ps = Err f
 unless_fault None ps = if nat_lt PAGE_LIMIT (length ps) then Err (fault.TooManyPages (PAGE_LIMIT + 1)) else unless_empty ps

@@ -114,6 +114,7 @@ pub fn read_round<S: Source>(alloc: Global, source: &mut S) -> Result<Round, Rou
     ensures err { S.tells → IfErr result
         (λ e. (e ≡ RoundFault.OutOfMemory) ⊎ (e ≡ RoundFault.ReadFault) ⊎ (verdict (S.held source.old) ≡ Err e)) }
     ensures succeeded { OnOk result (S.failures source.new ≡ S.failures source.old) }
+    ensures unfailed { IfErr result (λ e. (e ≡ RoundFault.ReadFault) ⊎ (S.failures source.new ≡ S.failures source.old)) }
     ensures failed { result ≡ Err RoundFault.ReadFault → HasFailed (S.failures source.old) (S.failures source.new) }
 {
     match read_whole(alloc, source, FILE_LIMIT) {

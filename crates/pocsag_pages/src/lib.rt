@@ -21,3 +21,6 @@ pub use page::{LAST_ADDRESS, Page, Payload};
 pub use round::{PAGE_LIMIT, Round};
 pub use rule::{ITEM_LIMIT, page_fault};
 pub use whole::read_whole;
+
+#[cfg(test)]
+mod tests;

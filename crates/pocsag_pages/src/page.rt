@@ -39,7 +39,7 @@ impl Payload {
     pub fn from_vec(items: Vec<u32>) -> Payload
         ensures { result ≡ items.items }
     {
-        Payload { items }
+        Self { items }
     }
 
     /// The list of the items, which takes no memory.
@@ -61,7 +61,7 @@ impl Payload {
     pub fn copy(&self, alloc: Global) -> Result<Payload, OutOfMemory>
         ensures { IfOk result (λ p. p ≡ self.now) }
     {
-        match self.items.as_slice().to_vec(alloc) {
+        match self.as_slice().to_vec(alloc) {
             Ok(items) => Ok(Payload { items }),
             Err(_) => Err(OutOfMemory),
         }
@@ -74,7 +74,7 @@ impl PartialEq for Payload {
     ghost laws = { Prim.search (comparing, rules) };
 
     fn eq(&self, other: &Payload) -> bool {
-        self.items.as_slice() == other.items.as_slice()
+        self.as_slice() == other.as_slice()
     }
 }
 
