@@ -44,25 +44,25 @@ busy_or_idle end {i = i} (past_idle {ws = ws} r) slot h =
     let left : busy (i + 1) ws slot + idles slot ((i + 1) % 16) (arcs end (i + 1) ws) ≡ covered (i + 1) (length ws) slot = busy_or_idle end r slot h in
     let next : (i + 1) % 16 ≡ (i % 16 + 1) % 16 = omega arith in
     let same : idles slot ((i + 1) % 16) (arcs end (i + 1) ws) ≡ idles slot ((i % 16 + 1) % 16) (arcs end (i + 1) ws) =
-      ap (λ (n : ℕ). idles slot n (arcs end (i + 1) ws)) next in
+    ap (λ (n : ℕ). idles slot n (arcs end (i + 1) ws)) next in
     omega arith
 busy_or_idle end {i = i} (past_page {high = high} {function = function} {ws = ws} items rest e b r) slot h =
     let n = 1 + length items in
     let left : busy (i + 1 + length items) rest slot + idles slot ((i + 1 + length items) % 16) (arcs end (i + 1 + length items) rest)
-        ≡ covered (i + 1 + length items) (length rest) slot = busy_or_idle end r slot h in
+    ≡ covered (i + 1 + length items) (length rest) slot = busy_or_idle end r slot h in
     let words : busy (i + 1) ws slot ≡ covered (i + 1) (length items) slot + busy (i + 1 + length items) rest slot =
-      ap (λ (v : List Kind). busy (i + 1) v slot) e ∙ busy_run items rest (i + 1) slot h in
+    ap (λ (v : List Kind). busy (i + 1) v slot) e ∙ busy_run items rest (i + 1) slot h in
     let long : run_length ws ≡ length items = ap run_length e ∙ run_length_is items rest b in
     let finish : finish_of (class_of end (frame_at i) (1 + run_length ws)) (i % 2 == 0) ≡ (i + n) % 16 =
-      ap (λ (m : ℕ). finish_of (class_of end (frame_at i) (1 + m)) (i % 2 == 0)) long ∙ finish_is end i n in
+    ap (λ (m : ℕ). finish_of (class_of end (frame_at i) (1 + m)) (i % 2 == 0)) long ∙ finish_is end i n in
     let at : (i + n) % 16 ≡ (i + 1 + length items) % 16 = omega arith in
     let steps : arcs end (i + 1) ws ≡ arcs end (i + 1 + length items) rest = ap (arcs end (i + 1)) e ∙ arcs_past_run end items rest (i + 1) in
     let stay : idles slot (finish_of (class_of end (frame_at i) (1 + run_length ws)) (i % 2 == 0)) (arcs end (i + 1) ws)
-        ≡ idles slot ((i + 1 + length items) % 16) (arcs end (i + 1 + length items) rest) =
-      ap (λ (m : ℕ). idles slot m (arcs end (i + 1) ws)) (finish ∙ at) ∙ ap (λ (v : List Step). idles slot ((i + 1 + length items) % 16) v) steps in
+    ≡ idles slot ((i + 1 + length items) % 16) (arcs end (i + 1 + length items) rest) =
+    ap (λ (m : ℕ). idles slot m (arcs end (i + 1) ws)) (finish ∙ at) ∙ ap (λ (v : List Step). idles slot ((i + 1 + length items) % 16) v) steps in
     let all : length ws ≡ length items + length rest = omega (arith, ap length e, length-append (map Message items) rest, length-map items Message) in
     let whole : covered (i + 1) (length ws) slot ≡ covered (i + 1) (length items) slot + covered (i + 1 + length items) (length rest) slot =
-      ap (λ (m : ℕ). covered (i + 1) m slot) all ∙ covered_split (i + 1) (length items) (length rest) slot h in
+    ap (λ (m : ℕ). covered (i + 1) m slot) all ∙ covered_split (i + 1) (length items) (length rest) slot h in
     omega arith
 
 pub none_fits : (k : Classes) (end : End) (R : List Page) (T : List Kind) (b : ℕ) (l : Limits) (t : Bound) → AreApart R → AreClassesOf k end R →
@@ -73,10 +73,10 @@ none_fits k end R T b l t apart classes accepted fits =
     (record {
       within = record { least = fits.least; most = fits.most };
       capped = λ slot h.
-        let whole : covered 0 (length T) slot ≡ b = ap (λ (n : ℕ). covered 0 n slot) fits.legal.0.whole.1 ∙ covered_batches b slot h in
-        let each : busy 0 T slot + idles slot 0 (arcs end 0 T) ≡ covered 0 (length T) slot = busy_or_idle end fits.legal.0.reads slot h in
-        let cap : busy 0 T slot ≤ slice_index l.cap slot = fits.capped slot h in
-        omega (arith, tour.idle slot h)
+          let whole : covered 0 (length T) slot ≡ b = ap (λ (n : ℕ). covered 0 n slot) fits.legal.0.whole.1 ∙ covered_batches b slot h in
+          let each : busy 0 T slot + idles slot 0 (arcs end 0 T) ≡ covered 0 (length T) slot = busy_or_idle end fits.legal.0.reads slot h in
+          let cap : busy 0 T slot ≤ slice_index l.cap slot = fits.capped slot h in
+          omega (arith, tour.idle slot h);
     })
     accepted
 
@@ -109,7 +109,7 @@ idles_stays zero i slot = refl
 idles_stays (suc g) i slot =
     let next : (i + 1) % 16 ≡ (i % 16 + 1) % 16 = omega arith in
     let rest : idles slot ((i % 16 + 1) % 16) (replicate g Stay) ≡ covered (i + 1) g slot =
-      subst (λ (p : ℕ). idles slot p (replicate g Stay) ≡ covered (i + 1) g slot) next (idles_stays g (i + 1) slot) in
+    subst (λ (p : ℕ). idles slot p (replicate g Stay) ≡ covered (i + 1) g slot) next (idles_stays g (i + 1) slot) in
     omega arith
 
 idles_append : (ss ts : List Step) (p q slot : ℕ) → Leads p ss q → idles slot p (ss ++ ts) ≡ idles slot p ss + idles slot q ts
@@ -140,16 +140,16 @@ lengthened : (k : Classes) (end : End) (choice : ℕ → ℕ) (n m : ℕ) (steps
     IsTour k end choice n steps → IsTour k end choice (n + m) (steps ++ replicate (16 * m) Stay)
 lengthened k end choice n m steps tour = record {
   leads = leads_append steps (replicate (16 * m) Stay) 0 0 0 tour.leads
-    (subst (λ (q : ℕ). Leads 0 (replicate (16 * m) Stay) q) (omega arith) (leads_stays (16 * m) 0));
+      (subst (λ (q : ℕ). Leads 0 (replicate (16 * m) Stay) q) (omega arith) (leads_stays (16 * m) 0));
   early = λ c h. runs_append steps (16 * m) c true ∙ tour.early c h;
   late = λ c h. let same : runs c false (steps ++ replicate (16 * m) Stay) ≡ runs c false steps = runs_append steps (16 * m) c false in omega (arith, tour.late c h);
   no_other = λ c e h. runs_append steps (16 * m) c e ∙ tour.no_other c e h;
   idle = λ slot h.
-    let both : idles slot 0 (steps ++ replicate (16 * m) Stay) ≡ idles slot 0 steps + idles slot 0 (replicate (16 * m) Stay) =
+      let both : idles slot 0 (steps ++ replicate (16 * m) Stay) ≡ idles slot 0 steps + idles slot 0 (replicate (16 * m) Stay) =
       idles_append steps (replicate (16 * m) Stay) 0 0 slot tour.leads in
-    let more : idles slot 0 (replicate (16 * m) Stay) ≡ m = idles_stays (16 * m) 0 slot ∙ covered_batches m slot h in
-    omega (arith, tour.idle slot h);
-  last = last_as end steps (16 * m) tour.last
+      let more : idles slot 0 (replicate (16 * m) Stay) ≡ m = idles_stays (16 * m) 0 slot ∙ covered_batches m slot h in
+      omega (arith, tour.idle slot h);
+  last = last_as end steps (16 * m) tour.last;
 }
 
 -- each choice of a tour is within the limits of all
@@ -157,23 +157,23 @@ admitted_all : (k : Classes) (end : End) (choice : ℕ → ℕ) (b : ℕ) (steps
 admitted_all k end choice b steps tour = record {
   within = record {
     least = λ c h. subst (λ (n : ℕ). n ≤ choice c) (sym (get_or-replicate 136 c 0 0 h)) (omega arith);
-    most = λ c h. omega (arith, tour.late c h)
+    most = λ c h. omega (arith, tour.late c h);
   };
-  capped = λ slot h. subst (λ (n : ℕ). load k choice slot ≤ n) (sym (get_or-replicate 16 slot b 0 h)) (omega (arith, tour.idle slot h))
+  capped = λ slot h. subst (λ (n : ℕ). load k choice slot ≤ n) (sym (get_or-replicate 16 slot b 0 h)) (omega (arith, tour.idle slot h));
 }
 
 pub bounded : (k : Classes) (end : End) (R : List Page) (T : List Kind) (batches n : ℕ) (t : Bound) → AreApart R → AreClassesOf k end R →
     AcceptsRoot false k end batches t → IsLegalFor end T n R → batches ≤ n
 bounded k end R T batches n t apart classes accepted legal =
     elim (cases_lt n batches) [
-      inr enough ↦ enough
-    | inl few ↦
-        let b = batches - 1 in
-        let tour = toured k end T R n apart classes legal in
-        let same : n + (b - n) ≡ b = omega arith in
-        let longer : IsTour k end (early_in end T) b (arcs end 0 T ++ replicate (16 * (b - n)) Stay) =
+      | inr enough ↦ enough
+      | inl few ↦
+          let b = batches - 1 in
+          let tour = toured k end T R n apart classes legal in
+          let same : n + (b - n) ≡ b = omega arith in
+          let longer : IsTour k end (early_in end T) b (arcs end 0 T ++ replicate (16 * (b - n)) Stay) =
           subst (λ (m : ℕ). IsTour k end (early_in end T) m (arcs end 0 T ++ replicate (16 * (b - n)) Stay)) same
           (lengthened k end (early_in end T) n (b - n) (arcs end 0 T) tour) in
-        absurd (refuted t k end (limits_of_all k b) (early_in end T) b (arcs end 0 T ++ replicate (16 * (b - n)) Stay) longer
+          absurd (refuted t k end (limits_of_all k b) (early_in end T) b (arcs end 0 T ++ replicate (16 * (b - n)) Stay) longer
           (admitted_all k end (early_in end T) b (arcs end 0 T ++ replicate (16 * (b - n)) Stay) longer) accepted)
     ]

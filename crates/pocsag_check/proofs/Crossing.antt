@@ -53,24 +53,24 @@ later_run set p c e ss (by_run d f crosses some) = by_run d f crosses (omega ari
 -- the run that is counted is this one
 own_counted : (c d : ℕ) (e f : Bool) → ((c == d) && cond f e (not e)) ≡ true → (c ≡ d) × (e ≡ f)
 own_counted c d e f h = go (c == d) refl e f h
-    where
-      go : (b : Bool) → (c == d) ≡ b → (e f : Bool) → (b && cond f e (not e)) ≡ true → (c ≡ d) × (e ≡ f)
-      go true is true true h = (eqb-true c d is, refl)
-      go true is true false h = absurd (cc)
-      go true is false true h = absurd (cc)
-      go true is false false h = (eqb-true c d is, refl)
-      go false is e f h = absurd (cc)
+  where
+    go : (b : Bool) → (c == d) ≡ b → (e f : Bool) → (b && cond f e (not e)) ≡ true → (c ≡ d) × (e ≡ f)
+    go true is true true h = (eqb-true c d is, refl)
+    go true is true false h = absurd (cc)
+    go true is false true h = absurd (cc)
+    go true is false false h = (eqb-true c d is, refl)
+    go false is e f h = absurd (cc)
 
 inside_run : (set c : ℕ) (e : Bool) (ss : List Step) → run_touches c e set ≡ false → IsInside set ss → IsInside set (Run c e ∷ ss)
 inside_run set c e ss own rest = record {
-  each = λ d f some. go d f ((c == d) && cond f e (not e)) refl some
+  each = λ d f some. go d f ((c == d) && cond f e (not e)) refl some;
 }
-    where
-      go : (d : ℕ) (f : Bool) (b : Bool) → ((c == d) && cond f e (not e)) ≡ b → 0 < cond b 1 0 + runs d f ss → run_touches d f set ≡ false
-      go d f true is some =
+  where
+    go : (d : ℕ) (f : Bool) (b : Bool) → ((c == d) && cond f e (not e)) ≡ b → 0 < cond b 1 0 + runs d f ss → run_touches d f set ≡ false
+    go d f true is some =
         let same = own_counted c d e f is in
         subst (λ (n : ℕ). run_touches n f set ≡ false) same.0 (subst (λ (g : Bool). run_touches c g set ≡ false) same.1 own)
-      go d f false is some = rest.each d f (omega arith)
+    go d f false is some = rest.each d f (omega arith)
 
 finish_below : (c : ℕ) (e : Bool) → finish_of c e < 16
 unfolding finish_of
@@ -80,18 +80,18 @@ pub crosses_or_stays : (set : ℕ) (ss : List Step) (p q : ℕ) → p < 16 → h
 crosses_or_stays set [] p q small here leads = inr (record { each = λ c e some. absurd (omega arith) })
 crosses_or_stays set (Stay ∷ ss) p q small here leads =
     elim (cases_Bool (holds set ((p + 1) % 16))) [
-      inr out ↦ inl (by_idle p small (idle_leaves set p here out) (own_idle p ss))
-    | inl still ↦ elim (crosses_or_stays set ss ((p + 1) % 16) q (omega arith) still leads) [
-        inl crossed ↦ inl (later_idle set p ss crossed)
-      | inr inside ↦ inr (record { each = inside.each })
+      | inr out ↦ inl (by_idle p small (idle_leaves set p here out) (own_idle p ss))
+      | inl still ↦ elim (crosses_or_stays set ss ((p + 1) % 16) q (omega arith) still leads) [
+        | inl crossed ↦ inl (later_idle set p ss crossed)
+        | inr inside ↦ inr (record { each = inside.each })
       ]
     ]
 crosses_or_stays set (Run c e ∷ ss) p q small here leads =
     let start : holds set (start_of c e) ≡ true = subst (λ (n : ℕ). holds set n ≡ true) leads.0 here in
     elim (cases_Bool (holds set (finish_of c e))) [
-      inr out ↦ inl (by_run c e (run_leaves set c e start out) (own_run c e ss))
-    | inl still ↦ elim (crosses_or_stays set ss (finish_of c e) q (finish_below c e) still leads.1) [
-        inl crossed ↦ inl (later_run set p c e ss crossed)
-      | inr inside ↦ inr (inside_run set c e ss (run_stays set c e start still) inside)
+      | inr out ↦ inl (by_run c e (run_leaves set c e start out) (own_run c e ss))
+      | inl still ↦ elim (crosses_or_stays set ss (finish_of c e) q (finish_below c e) still leads.1) [
+        | inl crossed ↦ inl (later_run set p c e ss crossed)
+        | inr inside ↦ inr (inside_run set c e ss (run_stays set c e start still) inside)
       ]
     ]

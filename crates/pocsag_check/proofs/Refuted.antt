@@ -45,8 +45,8 @@ certain_is k l set c h = certain_parts _ _ _ _ _ h
 no_runs : (set c : ℕ) (e : Bool) (steps : List Step) → IsInside set steps → run_touches c e set ≡ true → runs c e steps ≡ 0
 no_runs set c e steps inside outside =
     elim (cases_lt 0 (runs c e steps)) [
-      inl some ↦ let stays = inside.each c e some in absurd (cc)
-    | inr few ↦ omega arith
+      | inl some ↦ let stays = inside.each c e some in absurd (cc)
+      | inr few ↦ omega arith
     ]
 
 not_inside : (k : Classes) (end : End) (l : Limits) (choice : ℕ → ℕ) (b set c : ℕ) (steps : List Step) → c < 136 →
@@ -59,19 +59,19 @@ not_inside k end l choice b set c steps small tour a certain inside =
     let parts = certain_is k l set c certain in
     let some : nat_lt 0 (slice_index k.count c) ≡ true = parts.count in
     elim parts.run [
-      inl both ↦
-        let x : runs c true steps ≡ 0 = no_runs set c true steps inside both.0 in
-        let y : runs c false steps ≡ 0 = no_runs set c false steps inside both.1 in
-        grind (arith, nat_tests)
-    | inr one ↦ elim one [
-        inl first ↦
-          let x : runs c true steps ≡ 0 = no_runs set c true steps inside first.0 in
-          let forced : nat_lt 0 (slice_index l.lo c) ≡ true = first.1 in
+      | inl both ↦
+          let x : runs c true steps ≡ 0 = no_runs set c true steps inside both.0 in
+          let y : runs c false steps ≡ 0 = no_runs set c false steps inside both.1 in
           grind (arith, nat_tests)
-      | inr second ↦
-          let y : runs c false steps ≡ 0 = no_runs set c false steps inside second.0 in
-          let forced : nat_lt (slice_index l.hi c) (slice_index k.count c) ≡ true = second.1 in
-          grind (arith, nat_tests)
+      | inr one ↦ elim one [
+        | inl first ↦
+            let x : runs c true steps ≡ 0 = no_runs set c true steps inside first.0 in
+            let forced : nat_lt 0 (slice_index l.lo c) ≡ true = first.1 in
+            grind (arith, nat_tests)
+        | inr second ↦
+            let y : runs c false steps ≡ 0 = no_runs set c false steps inside second.0 in
+            let forced : nat_lt (slice_index l.hi c) (slice_index k.count c) ≡ true = second.1 in
+            grind (arith, nat_tests)
       ]
     ]
 
@@ -98,7 +98,7 @@ ends_by (Stay ∷ []) p small leads whole =
     by_last_idle (let e : p ≡ 15 = omega arith in subst (λ (q : ℕ). 0 < idles 15 q (Stay ∷ [])) (sym e) (omega arith))
 ends_by (Run c e ∷ []) p small leads whole =
     by_last_run (subst (λ (d : ℕ). 0 < runs 135 false (Run d e ∷ [])) (sym whole.0)
-      (subst (λ (f : Bool). 0 < runs 135 false (Run 135 f ∷ [])) (sym whole.1) (omega arith)))
+    (subst (λ (f : Bool). 0 < runs 135 false (Run 135 f ∷ [])) (sym whole.1) (omega arith)))
 ends_by (Stay ∷ (t ∷ ss)) p small leads whole = more_idle p (t ∷ ss) (ends_by (t ∷ ss) ((p + 1) % 16) (omega arith) leads whole)
 ends_by (Run c e ∷ (t ∷ ss)) p small leads whole = more_run p c e (t ∷ ss) (ends_by (t ∷ ss) (finish_of c e) (finish_small c e) leads.1 whole)
 
@@ -106,10 +106,10 @@ closing_way : (k : Classes) (l : Limits) (choice : ℕ → ℕ) (b : ℕ) (steps
     IsTour k Closed choice b steps → IsAdmitted k l choice → AnyTaken k choice b (ways_to_close k l)
 unfolding ways_to_close
 closing_way k l choice b steps tour a = go (ends_by steps 0 (omega arith) tour.leads tour.last)
-    where
-      go : EndsBy 0 steps → AnyTaken k choice b (ways_to_close k l)
-      go (by_last_idle some) = inl (omega arith, omega (arith, tour.idle 15 (omega arith)))
-      go (by_last_run some) =
+  where
+    go : EndsBy 0 steps → AnyTaken k choice b (ways_to_close k l)
+    go (by_last_idle some) = inl (omega arith, omega (arith, tour.idle 15 (omega arith)))
+    go (by_last_run some) =
         let late : runs 135 false steps + choice 135 ≡ slice_index k.count 135 = tour.late 135 (omega arith) in
         let low : slice_index l.lo 135 ≤ choice 135 = a.within.least 135 (omega arith) in
         let free : nat_lt (slice_index l.lo 135) (slice_index k.count 135) ≡ true = grind (arith, nat_tests) in
@@ -121,13 +121,13 @@ mutual
   refuted (overload set) k end l choice b steps tour a accepted = not_overloaded k l choice set a accepted.1
   refuted (split c m below above) k end l choice b steps tour a accepted =
       elim (cases_lt (choice c) m) [
-        inl less ↦ refuted below k end (limits_below l c m) choice b steps tour (admitted_below k l choice c m a less) accepted.3
-      | inr least ↦ refuted above k end (limits_from l c m) choice b steps tour (admitted_from k l choice c m a least) accepted.4
+        | inl less ↦ refuted below k end (limits_below l c m) choice b steps tour (admitted_below k l choice c m a less) accepted.3
+        | inr least ↦ refuted above k end (limits_from l c m) choice b steps tour (admitted_from k l choice c m a least) accepted.4
       ]
   refuted (cut set c children) k end l choice b steps tour a accepted =
       elim (crosses_or_stays set steps 0 0 (omega arith) accepted.2 tour.leads) [
-        inl crossed ↦ each_refuted children (ways_across k l set) k end l choice b steps tour a accepted.4 (taken_way k end l choice b set steps tour a crossed)
-      | inr inside ↦ not_inside k end l choice b set c steps accepted.0 tour a accepted.3 inside
+        | inl crossed ↦ each_refuted children (ways_across k l set) k end l choice b steps tour a accepted.4 (taken_way k end l choice b set steps tour a crossed)
+        | inr inside ↦ not_inside k end l choice b set c steps accepted.0 tour a accepted.3 inside
       ]
   refuted (close children) k Open l choice b steps tour a accepted = absurd accepted.0
   refuted (close children) k Closed l choice b steps tour a accepted =

@@ -15,20 +15,20 @@ use Rattle.pocsag_slots.proofs.SumLemmas.{sum_below-le}
 low_set : (xs : List ℕ) (c v d n : ℕ) → slice_index xs d ≤ n → (d ≡ c → v ≤ n) → slice_index (slice_set xs c v) d ≤ n
 low_set xs c v d n h here =
     elim (cases_eq d c) [
-      inr other ↦ rw (get_or-set_other xs c d v 0 other) h
-    | inl same ↦ elim (cases_lt c (length xs)) [
-        inl within ↦ subst (λ (j : ℕ). slice_index (slice_set xs c v) j ≤ n) (sym same) (rw (get_or-set_same xs c v 0 within) (here same))
-      | inr past ↦ rw (set_past xs c v past) h
+      | inr other ↦ rw (get_or-set_other xs c d v 0 other) h
+      | inl same ↦ elim (cases_lt c (length xs)) [
+        | inl within ↦ subst (λ (j : ℕ). slice_index (slice_set xs c v) j ≤ n) (sym same) (rw (get_or-set_same xs c v 0 within) (here same))
+        | inr past ↦ rw (set_past xs c v past) h
       ]
     ]
 
 high_set : (xs : List ℕ) (c v d n : ℕ) → n ≤ slice_index xs d → (d ≡ c → n ≤ v) → n ≤ slice_index (slice_set xs c v) d
 high_set xs c v d n h here =
     elim (cases_eq d c) [
-      inr other ↦ rw (get_or-set_other xs c d v 0 other) h
-    | inl same ↦ elim (cases_lt c (length xs)) [
-        inl within ↦ subst (λ (j : ℕ). n ≤ slice_index (slice_set xs c v) j) (sym same) (rw (get_or-set_same xs c v 0 within) (here same))
-      | inr past ↦ rw (set_past xs c v past) h
+      | inr other ↦ rw (get_or-set_other xs c d v 0 other) h
+      | inl same ↦ elim (cases_lt c (length xs)) [
+        | inl within ↦ subst (λ (j : ℕ). n ≤ slice_index (slice_set xs c v) j) (sym same) (rw (get_or-set_same xs c v 0 within) (here same))
+        | inr past ↦ rw (set_past xs c v past) h
       ]
     ]
 
@@ -36,10 +36,10 @@ high_set xs c v d n h here =
 sum_over-le : (set : ℕ) (f g : ℕ → ℕ) → ((slot : ℕ) → slot < 16 → f slot ≤ g slot) → sum_over set f ≤ sum_over set g
 unfolding sum_over
 sum_over-le set f g h = sum_below-le 16 _ _ (λ slot l. at (holds set slot) slot (h slot l))
-    where
-      at : (b : Bool) (slot : ℕ) → f slot ≤ g slot → cond b (f slot) 0 ≤ cond b (g slot) 0
-      at true slot h = h
-      at false slot h = omega arith
+  where
+    at : (b : Bool) (slot : ℕ) → f slot ≤ g slot → cond b (f slot) 0 ≤ cond b (g slot) 0
+    at true slot h = h
+    at false slot h = omega arith
 
 pub not_overloaded : (k : Classes) (l : Limits) (choice : ℕ → ℕ) (set : ℕ) → IsAdmitted k l choice → Overloads k l set → ⊥
 not_overloaded k l choice set admitted over =
@@ -52,19 +52,19 @@ admitted_below k l choice c m a h = record {
   within = record {
     least = a.within.least;
     most = λ d small. high_set l.hi c (m - 1) d (choice d) (a.within.most d small)
-      (λ same. let e : choice d ≡ choice c = ap choice same in omega arith)
+        (λ same. let e : choice d ≡ choice c = ap choice same in omega arith);
   };
-  capped = a.capped
+  capped = a.capped;
 }
 
 pub admitted_from : (k : Classes) (l : Limits) (choice : ℕ → ℕ) (c m : ℕ) → IsAdmitted k l choice → m ≤ choice c → IsAdmitted k (limits_from l c m) choice
 admitted_from k l choice c m a h = record {
   within = record {
     least = λ d small. low_set l.lo c m d (choice d) (a.within.least d small)
-      (λ same. let e : choice d ≡ choice c = ap choice same in omega arith);
-    most = a.within.most
+        (λ same. let e : choice d ≡ choice c = ap choice same in omega arith);
+    most = a.within.most;
   };
-  capped = a.capped
+  capped = a.capped;
 }
 
 -- the choice, or the tour, takes the way
@@ -81,30 +81,30 @@ pub admitted_narrowed : (k : Classes) (l : Limits) (choice : ℕ → ℕ) (b : �
 admitted_narrowed k l choice b (IdleIn slot) a t = record {
   within = record { least = a.within.least; most = a.within.most };
   capped = λ s small.
-    let most : load k choice s ≤ slice_index l.cap s = a.capped s small in
-    high_set l.cap slot (min (slice_index l.cap slot) (b - 1)) s (load k choice s) most
-    (λ same. let e : load k choice s ≡ load k choice slot = ap (load k choice) same in
-      let f : slice_index l.cap s ≡ slice_index l.cap slot = ap (slice_index l.cap) same in omega arith)
+      let most : load k choice s ≤ slice_index l.cap s = a.capped s small in
+      high_set l.cap slot (min (slice_index l.cap slot) (b - 1)) s (load k choice s) most
+      (λ same. let e : load k choice s ≡ load k choice slot = ap (load k choice) same in
+      let f : slice_index l.cap s ≡ slice_index l.cap slot = ap (slice_index l.cap) same in omega arith);
 }
 admitted_narrowed k l choice b (Early c) a t = record {
   within = record {
     least = λ d small.
-      let low : slice_index l.lo d ≤ choice d = a.within.least d small in
-      low_set l.lo c (max (slice_index l.lo c) 1) d (choice d) low
-      (λ same. let e : choice d ≡ choice c = ap choice same in
+        let low : slice_index l.lo d ≤ choice d = a.within.least d small in
+        low_set l.lo c (max (slice_index l.lo c) 1) d (choice d) low
+        (λ same. let e : choice d ≡ choice c = ap choice same in
         let f : slice_index l.lo d ≡ slice_index l.lo c = ap (slice_index l.lo) same in omega arith);
-    most = a.within.most
+    most = a.within.most;
   };
-  capped = a.capped
+  capped = a.capped;
 }
 admitted_narrowed k l choice b (Late c) a t = record {
   within = record {
     least = a.within.least;
     most = λ d small.
-      let high : choice d ≤ slice_index l.hi d = a.within.most d small in
-      high_set l.hi c (min (slice_index l.hi c) (slice_index k.count c - 1)) d (choice d) high
-      (λ same. let e : choice d ≡ choice c = ap choice same in
-        let f : slice_index l.hi d ≡ slice_index l.hi c = ap (slice_index l.hi) same in omega arith)
+        let high : choice d ≤ slice_index l.hi d = a.within.most d small in
+        high_set l.hi c (min (slice_index l.hi c) (slice_index k.count c - 1)) d (choice d) high
+        (λ same. let e : choice d ≡ choice c = ap choice same in
+        let f : slice_index l.hi d ≡ slice_index l.hi c = ap (slice_index l.hi) same in omega arith);
   };
-  capped = a.capped
+  capped = a.capped;
 }

@@ -30,8 +30,8 @@ unfolding joined_below
 any_joined k choice b zero j f h t = absurd (omega arith)
 any_joined k choice b (suc n) j f h t =
     elim (cases_eq j n) [
-      inl same ↦ any_right k choice b (joined_below n f) (f n) (subst (λ (i : ℕ). AnyTaken k choice b (f i)) same t)
-    | inr other ↦ any_left k choice b (joined_below n f) (f n) (any_joined k choice b n j f (omega arith) t)
+      | inl same ↦ any_right k choice b (joined_below n f) (f n) (subst (λ (i : ℕ). AnyTaken k choice b (f i)) same t)
+      | inr other ↦ any_left k choice b (joined_below n f) (f n) (any_joined k choice b n j f (omega arith) t)
     ]
 
 pub taken_way : (k : Classes) (end : End) (l : Limits) (choice : ℕ → ℕ) (b set : ℕ) (steps : List Step) →
@@ -40,29 +40,29 @@ unfolding ways_across slot_ways class_ways early_open late_open
 taken_way k end l choice b set steps tour a (by_idle slot small crosses some) =
     any_left k choice b (joined_below 16 (slot_ways set)) (joined_below 136 (class_ways k l set))
     (any_joined k choice b 16 slot (slot_ways set) small
-      (rw crosses (inl (small, omega (arith, tour.idle slot small)))))
+    (rw crosses (inl (small, omega (arith, tour.idle slot small)))))
 taken_way k end l choice b set steps tour a (by_run c true crosses some) =
     elim (cases_lt c 136) [
-      inr other ↦ absurd (omega (arith, tour.no_other c true other))
-    | inl small ↦
-        let early : runs c true steps ≡ choice c = tour.early c small in
-        let late : runs c false steps + choice c ≡ slice_index k.count c = tour.late c small in
-        let high : choice c ≤ slice_index l.hi c = a.within.most c small in
-        let there : nat_lt 0 (slice_index k.count c) ≡ true = grind (arith, nat_tests) in
-        let free : nat_lt 0 (slice_index l.hi c) ≡ true = grind (arith, nat_tests) in
-        any_right k choice b (joined_below 16 (slot_ways set)) (joined_below 136 (class_ways k l set))
-        (any_joined k choice b 136 c (class_ways k l set) small
+      | inr other ↦ absurd (omega (arith, tour.no_other c true other))
+      | inl small ↦
+          let early : runs c true steps ≡ choice c = tour.early c small in
+          let late : runs c false steps + choice c ≡ slice_index k.count c = tour.late c small in
+          let high : choice c ≤ slice_index l.hi c = a.within.most c small in
+          let there : nat_lt 0 (slice_index k.count c) ≡ true = grind (arith, nat_tests) in
+          let free : nat_lt 0 (slice_index l.hi c) ≡ true = grind (arith, nat_tests) in
+          any_right k choice b (joined_below 16 (slot_ways set)) (joined_below 136 (class_ways k l set))
+          (any_joined k choice b 136 c (class_ways k l set) small
           (rw (crosses, there, free) (inl (small, omega arith))))
     ]
 taken_way k end l choice b set steps tour a (by_run c false crosses some) =
     elim (cases_lt c 136) [
-      inr other ↦ absurd (omega (arith, tour.no_other c false other))
-    | inl small ↦
-        let late : runs c false steps + choice c ≡ slice_index k.count c = tour.late c small in
-        let low : slice_index l.lo c ≤ choice c = a.within.least c small in
-        let free : nat_lt (slice_index l.lo c) (slice_index k.count c) ≡ true = grind (arith, nat_tests) in
-        any_right k choice b (joined_below 16 (slot_ways set)) (joined_below 136 (class_ways k l set))
-        (any_joined k choice b 136 c (class_ways k l set) small
+      | inr other ↦ absurd (omega (arith, tour.no_other c false other))
+      | inl small ↦
+          let late : runs c false steps + choice c ≡ slice_index k.count c = tour.late c small in
+          let low : slice_index l.lo c ≤ choice c = a.within.least c small in
+          let free : nat_lt (slice_index l.lo c) (slice_index k.count c) ≡ true = grind (arith, nat_tests) in
+          any_right k choice b (joined_below 16 (slot_ways set)) (joined_below 136 (class_ways k l set))
+          (any_joined k choice b 136 c (class_ways k l set) small
           (any_right k choice b (cond (early_open k l set c) (Early c ∷ []) []) (cond (late_open k l set c) (Late c ∷ []) [])
-            (rw (crosses, free) (inl (small, omega arith)))))
+          (rw (crosses, free) (inl (small, omega arith)))))
     ]

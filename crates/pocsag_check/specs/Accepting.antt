@@ -2,11 +2,13 @@
 use Rattle.std.specs.Prelude.{◌≢◌, ℕ, ◌-◌, ◌<◌, ◌≤◌, Bool, IsTrue, List, [], ◌∷◌, slice_index}
 use Rattle.pocsag_words.specs.declared.ending.End.{End}
 use Rattle.pocsag_words.specs.declared.ending.End.TheVariants.{Open, Closed}
-use Rattle.pocsag_tree.specs.Bounds.{Bound, Bounds, overload, split, cut, close, unexamined, none, more}
+use Rattle.pocsag_tree.specs.declared.limits.TheConstants.{DEPTH_LIMIT}
+use Rattle.pocsag_tree.specs.Bounds.{Bound, Bounds, deepest, depth_of, overload, split, cut, close, unexamined, none, more}
 use Rattle.pocsag_slots.specs.declared.class.Classes.{Classes}
 use Rattle.pocsag_slots.specs.declared.limit.Limits.{Limits}
 use Rattle.pocsag_slots.specs.declared.way.Way.{Way}
-use Rattle.pocsag_slots.specs.Loads.{Overloads, limits_of_all}
+use Rattle.pocsag_pages.specs.declared.page.Page.{Page}
+use Rattle.pocsag_slots.specs.Loads.{AreClassesOf, Overloads, limits_of_all}
 use Rattle.pocsag_slots.specs.Sums.{holds}
 use Rattle.pocsag_slots.specs.Ways.{class_certain, ways_across, ways_to_close, narrowed_limits, limits_below, limits_from}
 
@@ -43,3 +45,22 @@ abbrev mutual
 abbrev pub AcceptsRoot : Bool → Classes → End → ℕ → Bound → Type 0
 AcceptsRoot takes_open k end batches t =
     Accepts takes_open k end (batches - 1) (limits_of_all k (batches - 1)) t
+
+-- The same of a tree of at most this depth, and of a row of such trees.
+abbrev pub AcceptsWithin : Bool → Classes → End → ℕ → Limits → ℕ → Bound → Type 0
+AcceptsWithin takes_open k end b l depth t = (depth_of t ≤ depth) × Accepts takes_open k end b l t
+
+abbrev pub AcceptsEachWithin : Bool → Classes → End → ℕ → Limits → ℕ → List Way → Bounds → Type 0
+AcceptsEachWithin takes_open k end b l depth ws ts = (deepest ts ≤ depth) × AcceptsEach takes_open k end b l ws ts
+
+-- *Accepted*: the tree is at most so deep, the batches are at least 1, and the root is accepted.
+pub record IsAccepted (takes_open : Bool) (k : Classes) (end : End) (batches : ℕ) (t : Bound) : Type 0 where
+  pub some : 0 < batches
+  pub shallow : depth_of t ≤ DEPTH_LIMIT
+  pub root : AcceptsRoot takes_open k end batches t
+
+-- The same for the pages of a round, whose classes are counted for the end.
+pub record IsAcceptedFor (takes_open : Bool) (end : End) (R : List Page) (batches : ℕ) (t : Bound) : Type 0 where
+  pub table : Classes
+  pub counted : AreClassesOf table end R
+  pub accepted : IsAccepted takes_open table end batches t

@@ -14,12 +14,10 @@ ghost use Rattle.pocsag_check.specs.Fitting.{Fits};
 pub fn accepted_nodes_refute()
     ensures { (k : Table) (end : Ending) (R : List Page) (T : List Kind) (b : ℕ) (l : Bounded) (t : Bound) → AreApart R → AreClassesOf k end R →
         Accepts false k end b l t → Fits T end R b l → ⊥ }
-{
-}
+{}
 
 /// Where a tree is accepted for so many batches, each legal transmission has at least as many.
 pub fn accepted_trees_bound()
     ensures { (k : Table) (end : Ending) (R : List Page) (T : List Kind) (batches n : ℕ) (t : Bound) → AreApart R → AreClassesOf k end R →
         AcceptsRoot false k end batches t → IsLegalFor end T n R → batches ≤ n }
-{
-}
+{}

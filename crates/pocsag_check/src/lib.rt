@@ -2,6 +2,9 @@
 //! The checker of certificates: whoever holds a certificate needs to trust this crate alone. It uses
 //! nothing of the search, and takes no memory.
 
+mod checker;
+mod judging;
 mod laws;
 
+pub use judging::{check, check_open};
 pub use laws::{accepted_nodes_refute, accepted_trees_bound};

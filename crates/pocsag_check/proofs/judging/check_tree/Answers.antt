@@ -1,0 +1,30 @@
+use Rattle.std.proofs.Common.{◌-◌, subst, sym, arith}
+use Rattle.pocsag_slots.specs.declared.class.Classes.{Classes}
+use Rattle.pocsag_slots.specs.declared.limit.Limits.{Limits}
+use Rattle.pocsag_tree.specs.Views.{bound_of}
+use Rattle.pocsag_check.specs.Accepting.{AcceptsWithin, IsAccepted}
+use Rattle.pocsag_check.proofs.Tables.{one_table}
+use Rattle.pocsag_check.proofs.judging.check_tree.Goals as goal
+
+pub returns : goal.returns
+returns c =
+    let k : Classes = c.classes_of-classes.result in (
+      λ yes.
+          let both = c.check_node.ensures.0 yes in
+          record {
+            table = k;
+            counted = c.classes_of-classes.ensures.counted;
+            accepted = record {
+              some = omega arith;
+              shallow = both.0;
+              root = rw c.all_limits-limits.ensures.value at both.1;
+            };
+          },
+      λ a.
+          let same = one_table a.table k c.args.end c.args.round.now a.counted c.classes_of-classes.ensures.counted in
+          let accepted : IsAccepted c.args.takes_open k c.args.end c.args.batches (bound_of c.args.tree.now) =
+          subst (λ (j : Classes). IsAccepted c.args.takes_open j c.args.end c.args.batches (bound_of c.args.tree.now)) same a.accepted in
+          c.check_node.ensures.1
+          (subst (λ (l : Limits). AcceptsWithin c.args.takes_open k c.args.end (c.args.batches - 1) l 300 (bound_of c.args.tree.now))
+          (sym c.all_limits-limits.ensures.value) (accepted.shallow, accepted.root)),
+    )

@@ -1,0 +1,146 @@
+ghost use Rattle.std.specs.Prelude.{◌≡◌, ◌≢◌, ◌↔◌, ◌<◌, ◌≤◌, All, IsTrue, slice_index};
+ghost use Rattle.pocsag_slots.specs.Loads.{AreInOrder};
+ghost use Rattle.pocsag_slots.specs.Sums.{holds as is_member};
+ghost use Rattle.pocsag_slots.specs.Ways.{class_certain, MayTake};
+ghost use Rattle.pocsag_tree.specs.Views.{bound_of, bounds_of};
+ghost use Rattle.pocsag_check.specs.Accepting.{AcceptsEachWithin, AcceptsWithin, IsClosed};
+
+use pocsag_slots::{
+    Classes, Limits, Way, below_split, closing_ways, from_split, holds, is_certain, narrow,
+    overloads, ways,
+};
+use pocsag_tree::Tree;
+use pocsag_words::End;
+
+// What is asked of a node beside its limits: the end, the batches that are to be refuted, and whether
+// a node that was not examined is taken.
+#[derive(Clone, Copy)]
+pub(crate) struct Question {
+    pub(crate) end: End,
+    pub(crate) batches: u32,
+    pub(crate) takes_open: bool,
+}
+
+// Whether the class can be split at m.
+fn splits(limits: &Limits, class: u8, m: u16) -> bool
+    ensures { IsTrue result ↔ ((class < 136) × (slice_index limits.now.lo class < m) × (m ≤ slice_index limits.now.hi class)) }
+{
+    if class >= 136 {
+        return false;
+    }
+    limits.lo[class as usize] < u32::from(m) && u32::from(m) <= limits.hi[class as usize]
+}
+
+// Whether the set can be cut at, with the class that is certain to leave it.
+fn cuts(classes: &Classes, limits: &Limits, batches: u32, set: u16, class: u8) -> bool
+    ensures { IsTrue result ↔ ((class < 136) × (1 ≤ batches) × IsTrue (is_member set 0) × IsTrue (class_certain classes.now limits.now set class)) }
+{
+    if class >= 136 || batches == 0 {
+        return false;
+    }
+    holds(set, 0) && is_certain(classes, limits, set, class)
+}
+
+fn closes(question: Question) -> bool
+    ensures { IsTrue result ↔ (IsClosed question.end × (1 ≤ question.batches)) }
+{
+    match question.end {
+        End::Open => false,
+        End::Closed => question.batches >= 1,
+    }
+}
+
+/// Whether the node is accepted under the limits, at most this deep. It looks at nothing deeper.
+#[cycle(checking)]
+pub(crate) fn check_node(
+    classes: &Classes,
+    question: Question,
+    limits: &Limits,
+    tree: &Tree,
+    depth: u32,
+) -> bool
+    requires { AreInOrder classes.now limits.now }
+    ensures { IsTrue result ↔ AcceptsWithin question.takes_open classes.now question.end question.batches limits.now depth (bound_of tree.now) }
+{
+    if depth == 0 {
+        return false;
+    }
+    match tree {
+        Tree::Overload(set) => *set != 0 && overloads(classes, limits, *set),
+        Tree::Split {
+            class,
+            m,
+            below,
+            from,
+        } => {
+            if !splits(limits, *class, *m) {
+                return false;
+            }
+            let low = below_split(limits, *class, u32::from(*m));
+            if !check_node(classes, question, &low, below, depth - 1) {
+                return false;
+            }
+            let high = from_split(limits, *class, u32::from(*m));
+            check_node(classes, question, &high, from, depth - 1)
+        }
+        Tree::Cut {
+            set,
+            needed,
+            children,
+        } => {
+            if !cuts(classes, limits, question.batches, *set, *needed) {
+                return false;
+            }
+            let out = ways(classes, limits, *set, question.batches);
+            check_each(
+                classes,
+                question,
+                limits,
+                out.as_slice(),
+                children,
+                depth - 1,
+            )
+        }
+        Tree::Close { children } => {
+            if !closes(question) {
+                return false;
+            }
+            let out = closing_ways(classes, limits);
+            check_each(
+                classes,
+                question,
+                limits,
+                out.as_slice(),
+                children,
+                depth - 1,
+            )
+        }
+        Tree::Open => question.takes_open,
+    }
+}
+
+#[cycle(checking)]
+fn check_each(
+    classes: &Classes,
+    question: Question,
+    limits: &Limits,
+    ways: &[Way],
+    children: &[Tree],
+    depth: u32,
+) -> bool
+    requires ordered { AreInOrder classes.now limits.now }
+    requires batches { 0 < question.batches }
+    requires allowed { All (MayTake classes.now limits.now) ways.now }
+    ensures { IsTrue result ↔ AcceptsEachWithin question.takes_open classes.now question.end question.batches limits.now depth ways.now (bounds_of children.now) }
+{
+    if ways.len() != children.len() {
+        return false;
+    }
+    for (place, child) in children.iter().enumerate() {
+        let narrowed = narrow(classes, limits, ways[place], question.batches);
+        if !check_node(classes, question, &narrowed, child, depth) {
+            return false;
+        }
+    }
+    true
+}

@@ -1,0 +1,46 @@
+ghost use Rattle.std.specs.Prelude.{◌↔◌, ℕ, ◌≤◌, List, IsTrue, false, true};
+ghost use Rattle.pocsag_pages.specs.Reading.{IsLegalList};
+ghost use Rattle.pocsag_tree.specs.Views.{bound_of};
+ghost use Rattle.pocsag_check.specs.Accepting.{IsAcceptedFor};
+
+use crate::checker::{Question, check_node};
+use pocsag_pages::Round;
+use pocsag_slots::{all_limits, classes_of};
+use pocsag_tree::{DEPTH_LIMIT, Tree};
+use pocsag_words::End;
+
+fn check_tree(round: &Round, batches: u32, tree: &Tree, end: End, takes_open: bool) -> bool
+    ensures { IsTrue result ↔ IsAcceptedFor takes_open end round.now batches (bound_of tree.now) }
+{
+    if batches == 0 {
+        return false;
+    }
+    let classes = classes_of(round, end);
+    let limits = all_limits(&classes, batches - 1);
+    let question = Question {
+        end,
+        batches: batches - 1,
+        takes_open,
+    };
+    check_node(&classes, question, &limits, tree, DEPTH_LIMIT)
+}
+
+/// Whether the tree shows that fewer than so many batches do not suffice for the round and the end.
+/// It counts the classes of the round itself, takes any tree from anywhere, answers no for 0 batches
+/// and for a tree deeper than 300, and looks at nothing below depth 301.
+pub fn check(round: &Round, batches: u32, tree: &Tree, end: End) -> bool
+    ensures accepted { IsTrue result ↔ IsAcceptedFor false end round.now batches (bound_of tree.now) }
+
+    // A yes is a bound over all lists of codewords.
+    ensures bound { IsTrue result → (T : List ℕ) (n : ℕ) → IsLegalList end T n round.now → batches ≤ n }
+{
+    let _pages = round.pages();
+    check_tree(round, batches, tree, end, false)
+}
+
+/// The same, where a node that was not examined is accepted in any place.
+pub fn check_open(round: &Round, batches: u32, tree: &Tree, end: End) -> bool
+    ensures { IsTrue result ↔ IsAcceptedFor true end round.now batches (bound_of tree.now) }
+{
+    check_tree(round, batches, tree, end, true)
+}
