@@ -1,6 +1,6 @@
 -- Reading a certificate from a list of bytes, field by field. Only contracts of private functions speak
 -- of it: what a certificate is, and which fault is answered, stands in `Spelling` and `Parts`.
-use Rattle.std.specs.Prelude.{◌≡◌, ℕ, zero, suc, ◌+◌, ◌*◌, ◌==◌, ◌&&◌, nat_lt, nat_le, if◌then◌else◌, List, [], ◌∷◌, Result, Ok, Err}
+use Rattle.std.specs.Prelude.{◌≡◌, ℕ, zero, suc, ◌+◌, ◌-◌, ◌*◌, ◌==◌, ◌&&◌, nat_lt, nat_le, if◌then◌else◌, List, [], ◌∷◌, length, take, Result, Ok, Err}
 use Rattle.pocsag_words.specs.declared.ending.End.{End}
 use Rattle.pocsag_words.specs.declared.ending.End.TheVariants as ends
 use Rattle.pocsag_words.specs.Devices.{one_more}
@@ -15,15 +15,20 @@ abbrev pub ◌>>=◌ : {A B : Type 0} → Result A CertificateFault → (A → R
 (Ok x) >>= f = f x
 (Err e) >>= f = Err e
 
--- What a function returned, seen by view, is what reading gives, unless reader or memory refused.
-abbrev pub Fails : {Y : Type 0} → CertificateFault → Result Y CertificateFault → Type 0
-Fails fault.ReadFault read = Unit {0}
-Fails fault.OutOfMemory read = Unit {0}
-Fails f read = read ≡ Err f
+-- All but the last k bytes.
+unfoldable pub but_last : ℕ → List ℕ → List ℕ
+but_last k bytes = take (length bytes - k) bytes
 
-abbrev pub Gives : {X Y : Type 0} → (X → Y) → Result X CertificateFault → Result Y CertificateFault → Type 0
-Gives view (Ok x) read = read ≡ Ok (view x)
-Gives view (Err e) read = Fails e read
+-- What a function returned, seen by view, is what reading gives, unless reader or memory refused. Where
+-- the reader failed, and just the bytes before that were read, their end comes where a byte is wanted.
+abbrev pub Fails : {Y : Type 0} → CertificateFault → (stopped : Type 0) → Result Y CertificateFault → Type 0
+Fails fault.ReadFault stopped read = stopped → read ≡ Err fault.Truncated
+Fails fault.OutOfMemory stopped read = Unit {0}
+Fails f stopped read = read ≡ Err f
+
+abbrev pub Gives : {X Y : Type 0} → (X → Y) → (stopped : Type 0) → Result X CertificateFault → Result Y CertificateFault → Type 0
+Gives view stopped (Ok x) read = read ≡ Ok (view x)
+Gives view stopped (Err e) read = Fails e stopped read
 
 -- The count of failures after a call: one more where the reader failed, which ends the call.
 abbrev pub failed_after : {X : Type 0} → Result X CertificateFault → ℕ → ℕ
@@ -155,3 +160,8 @@ all_of bytes = do
   whole ← certificate_at bytes
   finished ← end_at whole.3
   Ok (whole.0, whole.1, whole.2)
+
+-- The bytes end where one is wanted, or with a certificate.
+abbrev pub IsWanting : Result (End × ℕ × Bound × List ℕ) CertificateFault → Type 0
+IsWanting (Ok x) = x.3 ≡ []
+IsWanting (Err e) = e ≡ fault.Truncated
