@@ -1,5 +1,5 @@
 -- What reading the whole of the bytes says of the answer.
-use Rattle.std.proofs.Common.{◌≡◌, ℕ, ◌⊎◌, inl, inr, List, [], ◌∷◌, ◌++◌, Option, Some, None, Result, Ok, Err, refl, sym, ap, subst, ◌∙◌}
+use Rattle.std.proofs.Common.{◌≡◌, ℕ, ◌⊎◌, inl, inr, List, [], ◌∷◌, ◌++◌, Some, None, Result, Ok, Err, refl, sym, ap, subst, ◌∙◌}
 use Rattle.std.specs.Prelude.{IfOk, IfErr}
 use Rattle.std.proofs.lemmas.List.{append-nil}
 use Rattle.pocsag_words.specs.declared.ending.End.{End}
@@ -9,10 +9,10 @@ use Rattle.pocsag_tree.specs.declared.refusals.CertificateFault.TheVariants as f
 use Rattle.pocsag_tree.specs.Bounds.{Bound}
 use Rattle.pocsag_tree.specs.Views.{bound_of}
 use Rattle.pocsag_tree.specs.Spelling.{IsText}
-use Rattle.pocsag_tree.specs.Parts.{Meets, certificate, HasFirst}
-use Rattle.pocsag_tree.specs.Answers.{IsRefusal, Says, AnswersTriple, AnswersFault, IsFault, HasNoFault}
+use Rattle.pocsag_tree.specs.Parts.{HasFirst}
+use Rattle.pocsag_tree.specs.Answers.{IsRefusal, AnswersTriple, AnswersFault, IsFault, HasNoFault}
 use Rattle.pocsag_tree.specs.Reading.{◌>>=◌, Fails, Gives, IsWanting, end_at, certificate_at, all_of}
-use Rattle.pocsag_tree.proofs.Fields.{bind_ok, done, ok_is}
+use Rattle.pocsag_tree.proofs.Fields.{bind_ok, ok_is}
 use Rattle.pocsag_tree.proofs.Rows.{fails_along}
 use Rattle.pocsag_tree.proofs.Texts.{certificate_takes, certificate_again}
 use Rattle.pocsag_tree.proofs.Verdicts.{HasVerdict, all_verdict, one_verdict}

@@ -3,7 +3,7 @@ use Rattle.std.proofs.Common.{◌≡◌, ℕ, suc, ◌-◌, ◌+◌, ◌≤◌, 
 use Rattle.pocsag_tree.specs.declared.refusals.CertificateFault.{CertificateFault}
 use Rattle.pocsag_tree.specs.declared.refusals.CertificateFault.TheVariants as fault
 use Rattle.pocsag_tree.specs.declared.shape.Tree.{Tree}
-use Rattle.pocsag_tree.specs.Bounds.{Bound, Bounds, none, more, all_nodes, all_nodes_in, depth_of, deepest, count_of}
+use Rattle.pocsag_tree.specs.Bounds.{Bound, Bounds, none, more, all_nodes, all_nodes_in, depth_of, deepest}
 use Rattle.pocsag_tree.specs.Views.{bound_of, bounds_of, bounds_from}
 use Rattle.pocsag_tree.specs.Reading.{◌>>=◌, Fails, Read, Reader, row_at}
 

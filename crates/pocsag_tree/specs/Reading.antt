@@ -5,7 +5,7 @@ use Rattle.pocsag_words.specs.declared.ending.End.{End}
 use Rattle.pocsag_words.specs.declared.ending.End.TheVariants as ends
 use Rattle.pocsag_words.specs.Devices.{one_more}
 use Rattle.pocsag_tree.specs.declared.limits.Ranges.{Ranges}
-use Rattle.pocsag_tree.specs.declared.limits.TheConstants.{FIRST, SECOND, DEPTH_LIMIT, NODE_LIMIT}
+use Rattle.pocsag_tree.specs.declared.limits.TheConstants.{FIRST_VERSION, SECOND_VERSION, DEPTH_LIMIT, NODE_LIMIT}
 use Rattle.pocsag_tree.specs.declared.refusals.CertificateFault.{CertificateFault}
 use Rattle.pocsag_tree.specs.declared.refusals.CertificateFault.TheVariants as fault
 use Rattle.pocsag_tree.specs.Bounds.{Bound, Bounds, overload, split, cut, close, unexamined, none, more}
@@ -125,7 +125,7 @@ end_of n = if n == 0 then ends.Open else ends.Closed
 unfoldable pub version_at : List ℕ → Result (Ranges × End × List ℕ) CertificateFault
 version_at bytes = do
   byte ← byte_at bytes
-  if byte.0 == 0x31 then Ok (FIRST, ends.Open, byte.1) else if byte.0 == 0x32 then (small_at 0 1 byte.1 >>= λ end. Ok (SECOND, end_of end.0, end.1)) else Err fault.Version
+  if byte.0 == 0x31 then Ok (FIRST_VERSION, ends.Open, byte.1) else if byte.0 == 0x32 then (small_at 0 1 byte.1 >>= λ end. Ok (SECOND_VERSION, end_of end.0, end.1)) else Err fault.Version
 
 unfoldable pub long_number_at : List ℕ → Result (ℕ × List ℕ) CertificateFault
 long_number_at bytes = do

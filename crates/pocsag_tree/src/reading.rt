@@ -9,7 +9,7 @@ ghost use Rattle.pocsag_tree.specs.Answers.{AnswersTriple, AnswersFault, IsFault
 ghost use Rattle.pocsag_tree.specs.declared.refusals.CertificateFault.{CertificateFault};
 ghost use Rattle.pocsag_tree.specs.Reading.{Gives, IsWanting, but_last, failed_after, byte_at, number_at, small_at, large_at, row_at, overload_at, split_at, cut_at, close_at, body_at, tagged_at, node_at, mark_at, version_at, long_number_at, batches_at, end_at, end_of, certificate_at, all_of};
 
-use crate::limits::{DEPTH_LIMIT, FIRST, NODE_LIMIT, Ranges, SECOND};
+use crate::limits::{DEPTH_LIMIT, FIRST_VERSION, NODE_LIMIT, Ranges, SECOND_VERSION};
 use crate::refusals::CertificateFault;
 use crate::shape::{Certificate, Tree};
 use pocsag_words::{End, Source};
@@ -38,7 +38,8 @@ fn next_byte<S: Source>(source: &mut S) -> Result<u8, CertificateFault>
     ensures failures { S.failures source.new ≡ failed_after result (S.failures source.old) }
     ensures shrinks { S.tells → length (S.held source.new) ≤ length (S.held source.old) }
     ensures bytes { S.tells → (k : ℕ) → k ≤ length (S.held source.new)
-        → Gives (λ n. (n, but_last k (S.held source.new))) (k ≡ length (S.held source.new)) result (byte_at (but_last k (S.held source.old))) }
+        → Gives (λ n. (n, but_last k (S.held source.new)))
+        (k ≡ length (S.held source.new)) result (byte_at (but_last k (S.held source.old))) }
 {
     match read_byte(source)? {
         Some(byte) => Ok(byte),
@@ -52,7 +53,8 @@ fn next_number<S: Source>(source: &mut S) -> Result<u16, CertificateFault>
     ensures failures { S.failures source.new ≡ failed_after result (S.failures source.old) }
     ensures shrinks { S.tells → length (S.held source.new) ≤ length (S.held source.old) }
     ensures bytes { S.tells → (k : ℕ) → k ≤ length (S.held source.new)
-        → Gives (λ n. (n, but_last k (S.held source.new))) (k ≡ length (S.held source.new)) result (number_at (but_last k (S.held source.old))) }
+        → Gives (λ n. (n, but_last k (S.held source.new)))
+        (k ≡ length (S.held source.new)) result (number_at (but_last k (S.held source.old))) }
 {
     let high = next_byte(source)?;
     let low = next_byte(source)?;
@@ -65,7 +67,9 @@ fn small<S: Source>(low: u8, high: u8, source: &mut S) -> Result<u8, Certificate
     ensures failures { S.failures source.new ≡ failed_after result (S.failures source.old) }
     ensures shrinks { S.tells → length (S.held source.new) ≤ length (S.held source.old) }
     ensures bytes { S.tells → (k : ℕ) → k ≤ length (S.held source.new)
-        → Gives (λ n. (n, but_last k (S.held source.new))) (k ≡ length (S.held source.new)) result (small_at low high (but_last k (S.held source.old))) }
+        → Gives (λ n. (n, but_last k (S.held source.new)))
+        (k ≡ length (S.held source.new)) result
+        (small_at low high (but_last k (S.held source.old))) }
 {
     let number = next_byte(source)?;
     if low <= number && number <= high {
@@ -81,7 +85,9 @@ fn large<S: Source>(low: u16, high: u16, source: &mut S) -> Result<u16, Certific
     ensures failures { S.failures source.new ≡ failed_after result (S.failures source.old) }
     ensures shrinks { S.tells → length (S.held source.new) ≤ length (S.held source.old) }
     ensures bytes { S.tells → (k : ℕ) → k ≤ length (S.held source.new)
-        → Gives (λ n. (n, but_last k (S.held source.new))) (k ≡ length (S.held source.new)) result (large_at low high (but_last k (S.held source.old))) }
+        → Gives (λ n. (n, but_last k (S.held source.new)))
+        (k ≡ length (S.held source.new)) result
+        (large_at low high (but_last k (S.held source.old))) }
 {
     let number = next_number(source)?;
     if low <= number && number <= high {
@@ -96,7 +102,8 @@ fn mark<S: Source>(wanted: u8, source: &mut S) -> Result<(), CertificateFault>
     ensures failures { S.failures source.new ≡ failed_after result (S.failures source.old) }
     ensures shrinks { S.tells → length (S.held source.new) ≤ length (S.held source.old) }
     ensures bytes { S.tells → (k : ℕ) → k ≤ length (S.held source.new)
-        → Gives (λ _. but_last k (S.held source.new)) (k ≡ length (S.held source.new)) result (mark_at wanted (but_last k (S.held source.old))) }
+        → Gives (λ _. but_last k (S.held source.new))
+        (k ≡ length (S.held source.new)) result (mark_at wanted (but_last k (S.held source.old))) }
 {
     if next_byte(source)? == wanted {
         Ok(())
@@ -117,15 +124,16 @@ fn version<S: Source>(source: &mut S) -> Result<(Ranges, End), CertificateFault>
     ensures failures { S.failures source.new ≡ failed_after result (S.failures source.old) }
     ensures shrinks { S.tells → length (S.held source.new) ≤ length (S.held source.old) }
     ensures bytes { S.tells → (k : ℕ) → k ≤ length (S.held source.new)
-        → Gives (λ x. (x.0, x.1, but_last k (S.held source.new))) (k ≡ length (S.held source.new)) result (version_at (but_last k (S.held source.old))) }
+        → Gives (λ x. (x.0, x.1, but_last k (S.held source.new)))
+        (k ≡ length (S.held source.new)) result (version_at (but_last k (S.held source.old))) }
 {
     let byte = next_byte(source)?;
     if byte == 0x31 {
-        return Ok((FIRST, End::Open));
+        return Ok((FIRST_VERSION, End::Open));
     }
     if byte == 0x32 {
         let end = small(0, 1, source)?;
-        return Ok((SECOND, end_from(end)));
+        return Ok((SECOND_VERSION, end_from(end)));
     }
     Err(CertificateFault::Version)
 }
@@ -136,7 +144,8 @@ fn next_long_number<S: Source>(source: &mut S) -> Result<u32, CertificateFault>
     ensures failures { S.failures source.new ≡ failed_after result (S.failures source.old) }
     ensures shrinks { S.tells → length (S.held source.new) ≤ length (S.held source.old) }
     ensures bytes { S.tells → (k : ℕ) → k ≤ length (S.held source.new)
-        → Gives (λ n. (n, but_last k (S.held source.new))) (k ≡ length (S.held source.new)) result (long_number_at (but_last k (S.held source.old))) }
+        → Gives (λ n. (n, but_last k (S.held source.new)))
+        (k ≡ length (S.held source.new)) result (long_number_at (but_last k (S.held source.old))) }
 {
     let high = next_number(source)?;
     let low = next_number(source)?;
@@ -148,7 +157,8 @@ fn batches<S: Source>(source: &mut S) -> Result<u32, CertificateFault>
     ensures failures { S.failures source.new ≡ failed_after result (S.failures source.old) }
     ensures shrinks { S.tells → length (S.held source.new) ≤ length (S.held source.old) }
     ensures bytes { S.tells → (k : ℕ) → k ≤ length (S.held source.new)
-        → Gives (λ n. (n, but_last k (S.held source.new))) (k ≡ length (S.held source.new)) result (batches_at (but_last k (S.held source.old))) }
+        → Gives (λ n. (n, but_last k (S.held source.new)))
+        (k ≡ length (S.held source.new)) result (batches_at (but_last k (S.held source.old))) }
 {
     let number = next_long_number(source)?;
     if 1 <= number {
@@ -163,7 +173,8 @@ fn end<S: Source>(source: &mut S) -> Result<(), CertificateFault>
     ensures failures { S.failures source.new ≡ failed_after result (S.failures source.old) }
     ensures shrinks { S.tells → length (S.held source.new) ≤ length (S.held source.old) }
     ensures bytes { S.tells → Gives (λ _. tt) ⊥ result (end_at (S.held source.old)) }
-    ensures kept { S.tells → IsErrOf result CertificateFault.ReadFault → S.held source.new ≡ S.held source.old }
+    ensures kept { S.tells → IsErrOf result CertificateFault.ReadFault
+        → S.held source.new ≡ S.held source.old }
 {
     match read_byte(source)? {
         Some(_) => Err(CertificateFault::Trailing),
@@ -187,7 +198,8 @@ fn node<S: Source>(
     ensures failures { S.failures source.new ≡ failed_after result (S.failures source.old) }
     ensures shrinks { S.tells → length (S.held source.new) ≤ length (S.held source.old) }
     ensures bytes { S.tells → (k : ℕ) → k ≤ length (S.held source.new)
-        → Gives (λ x. (bound_of x.0, x.1, but_last k (S.held source.new))) (k ≡ length (S.held source.new)) result
+        → Gives (λ x. (bound_of x.0, x.1, but_last k (S.held source.new)))
+        (k ≡ length (S.held source.new)) result
         (node_at ranges depth made (but_last k (S.held source.old))) }
 {
     if depth == 0 {
@@ -215,7 +227,8 @@ fn tagged<S: Source>(
     ensures failures { S.failures source.new ≡ failed_after result (S.failures source.old) }
     ensures shrinks { S.tells → length (S.held source.new) ≤ length (S.held source.old) }
     ensures bytes { S.tells → (k : ℕ) → k ≤ length (S.held source.new)
-        → Gives (λ x. (bound_of x.0, x.1, but_last k (S.held source.new))) (k ≡ length (S.held source.new)) result
+        → Gives (λ x. (bound_of x.0, x.1, but_last k (S.held source.new)))
+        (k ≡ length (S.held source.new)) result
         (tagged_at ranges (node_at ranges depth) made (but_last k (S.held source.old))) }
 {
     let tag = next_byte(source)?;
@@ -242,7 +255,8 @@ fn body<S: Source>(
     ensures failures { S.failures source.new ≡ failed_after result (S.failures source.old) }
     ensures shrinks { S.tells → length (S.held source.new) ≤ length (S.held source.old) }
     ensures bytes { S.tells → (k : ℕ) → k ≤ length (S.held source.new)
-        → Gives (λ x. (bound_of x.0, x.1, but_last k (S.held source.new))) (k ≡ length (S.held source.new)) result
+        → Gives (λ x. (bound_of x.0, x.1, but_last k (S.held source.new)))
+        (k ≡ length (S.held source.new)) result
         (body_at ranges (node_at ranges depth) tag made (but_last k (S.held source.old))) }
 {
     match tag {
@@ -263,7 +277,8 @@ fn overload<S: Source>(made: u32, source: &mut S) -> Result<(Tree, u32), Certifi
     ensures failures { S.failures source.new ≡ failed_after result (S.failures source.old) }
     ensures shrinks { S.tells → length (S.held source.new) ≤ length (S.held source.old) }
     ensures bytes { S.tells → (k : ℕ) → k ≤ length (S.held source.new)
-        → Gives (λ x. (bound_of x.0, x.1, but_last k (S.held source.new))) (k ≡ length (S.held source.new)) result
+        → Gives (λ x. (bound_of x.0, x.1, but_last k (S.held source.new)))
+        (k ≡ length (S.held source.new)) result
         (overload_at made (but_last k (S.held source.old))) }
 {
     let set = large(1, u16::MAX, source)?;
@@ -286,7 +301,8 @@ fn split<S: Source>(
     ensures failures { S.failures source.new ≡ failed_after result (S.failures source.old) }
     ensures shrinks { S.tells → length (S.held source.new) ≤ length (S.held source.old) }
     ensures bytes { S.tells → (k : ℕ) → k ≤ length (S.held source.new)
-        → Gives (λ x. (bound_of x.0, x.1, but_last k (S.held source.new))) (k ≡ length (S.held source.new)) result
+        → Gives (λ x. (bound_of x.0, x.1, but_last k (S.held source.new)))
+        (k ≡ length (S.held source.new)) result
         (split_at ranges (node_at ranges depth) made (but_last k (S.held source.old))) }
 {
     let class = small(0, ranges.class, source)?;
@@ -322,7 +338,8 @@ fn cut<S: Source>(
     ensures failures { S.failures source.new ≡ failed_after result (S.failures source.old) }
     ensures shrinks { S.tells → length (S.held source.new) ≤ length (S.held source.old) }
     ensures bytes { S.tells → (k : ℕ) → k ≤ length (S.held source.new)
-        → Gives (λ x. (bound_of x.0, x.1, but_last k (S.held source.new))) (k ≡ length (S.held source.new)) result
+        → Gives (λ x. (bound_of x.0, x.1, but_last k (S.held source.new)))
+        (k ≡ length (S.held source.new)) result
         (cut_at ranges (node_at ranges depth) made (but_last k (S.held source.old))) }
 {
     let set = large(1, u16::MAX, source)?;
@@ -355,7 +372,8 @@ fn close<S: Source>(
     ensures failures { S.failures source.new ≡ failed_after result (S.failures source.old) }
     ensures shrinks { S.tells → length (S.held source.new) ≤ length (S.held source.old) }
     ensures bytes { S.tells → (k : ℕ) → k ≤ length (S.held source.new)
-        → Gives (λ x. (bound_of x.0, x.1, but_last k (S.held source.new))) (k ≡ length (S.held source.new)) result
+        → Gives (λ x. (bound_of x.0, x.1, but_last k (S.held source.new)))
+        (k ≡ length (S.held source.new)) result
         (close_at (node_at ranges depth) made (but_last k (S.held source.old))) }
 {
     let count = small(1, 2, source)?;
@@ -380,7 +398,8 @@ fn row<S: Source>(
     ensures failures { S.failures source.new ≡ failed_after result (S.failures source.old) }
     ensures shrinks { S.tells → length (S.held source.new) ≤ length (S.held source.old) }
     ensures bytes { S.tells → (k : ℕ) → k ≤ length (S.held source.new)
-        → Gives (λ x. (bounds_of x.0.items, x.1, but_last k (S.held source.new))) (k ≡ length (S.held source.new)) result
+        → Gives (λ x. (bounds_of x.0.items, x.1, but_last k (S.held source.new)))
+        (k ≡ length (S.held source.new)) result
         (row_at (node_at ranges depth) count made (but_last k (S.held source.old))) }
 {
     let mut children = Vec::with_capacity(alloc, usize::from(count))?;
@@ -401,7 +420,8 @@ fn certificate<S: Source>(alloc: Global, source: &mut S) -> Result<Certificate, 
     ensures failures { S.failures source.new ≡ failed_after result (S.failures source.old) }
     ensures shrinks { S.tells → length (S.held source.new) ≤ length (S.held source.old) }
     ensures bytes { S.tells → (k : ℕ) → k ≤ length (S.held source.new)
-        → Gives (λ c. (c.end, c.batches, bound_of c.tree, but_last k (S.held source.new))) (k ≡ length (S.held source.new)) result
+        → Gives (λ c. (c.end, c.batches, bound_of c.tree, but_last k (S.held source.new)))
+        (k ≡ length (S.held source.new)) result
         (certificate_at (but_last k (S.held source.old))) }
 {
     mark(0x50, source)?;
@@ -419,7 +439,8 @@ fn all<S: Source>(alloc: Global, source: &mut S) -> Result<Certificate, Certific
     ensures deep { IfOk result (λ c. depth_of (bound_of c.tree) ≤ 300) }
     ensures few { IfOk result (λ c. all_nodes (bound_of c.tree) ≤ 1000000) }
     ensures failures { S.failures source.new ≡ failed_after result (S.failures source.old) }
-    ensures bytes { S.tells → Gives (λ c. (c.end, c.batches, bound_of c.tree)) ⊥ result (all_of (S.held source.old)) }
+    ensures bytes { S.tells → Gives (λ c. (c.end, c.batches, bound_of c.tree)) ⊥ result
+        (all_of (S.held source.old)) }
     ensures wanting { S.tells → IsErrOf result CertificateFault.ReadFault
         → IsWanting (certificate_at (but_last (length (S.held source.new)) (S.held source.old))) }
 {
@@ -430,19 +451,23 @@ fn all<S: Source>(alloc: Global, source: &mut S) -> Result<Certificate, Certific
 
 /// Reads a certificate, in version PCB2 or PCB1, up to the end of the input.
 ///
-/// The fault is the first from left to right. It reads no node deeper than `DEPTH_LIMIT` and no more
-/// than `NODE_LIMIT` nodes, whatever the bytes are; time and memory are linear in the bytes read.
+/// The fault is the first from left to right. It reads no node deeper than `DEPTH_LIMIT` and no
+/// more than `NODE_LIMIT` nodes, whatever the bytes are. It takes one byte in each read, so a reader
+/// of a file is to be buffered. Time and memory are linear in the bytes read, beside room for at
+/// most `DEPTH_LIMIT` unfinished lists of children.
 pub fn read_certificate<S: Source>(
     alloc: Global,
     reader: &mut S,
 ) -> Result<Certificate, CertificateFault>
     // What is read is what all the bytes are a text of, and what they are a text of is read.
-    ensures found { S.tells → IfOk result (λ c. IsText c.end c.batches (bound_of c.tree) (S.held reader.old)) }
+    ensures found { S.tells → IfOk result (λ c.
+        IsText c.end c.batches (bound_of c.tree) (S.held reader.old)) }
     ensures only { S.tells → (end : End) (batches : ℕ) (tree : Bound)
         → IsText end batches tree (S.held reader.old) → AnswersTriple result end batches tree }
     // A fault is the first of the bytes, and the first of the bytes is answered.
     ensures fault { S.tells → IfErr result (λ e. IsFault e (S.held reader.old)) }
-    ensures first { S.tells → (f : CertificateFault) → HasFirst f (S.held reader.old) → AnswersFault result f }
+    ensures first { S.tells → (f : CertificateFault)
+        → HasFirst f (S.held reader.old) → AnswersFault result f }
     // No fault stands in what the reader gave before it failed.
     ensures in_place { S.tells → IsErrOf result CertificateFault.ReadFault
         → HasNoFault (given_before (S.held reader.old) (S.held reader.new)) }
@@ -450,8 +475,10 @@ pub fn read_certificate<S: Source>(
     ensures deep { IfOk result (λ c. depth_of (bound_of c.tree) ≤ DEPTH_LIMIT) }
     ensures few { IfOk result (λ c. all_nodes (bound_of c.tree) ≤ NODE_LIMIT) }
     // The reader failed in this call exactly where that is answered.
-    ensures succeeded { ¬ IsErrOf result CertificateFault.ReadFault → S.failures reader.new ≡ S.failures reader.old }
-    ensures failed { IsErrOf result CertificateFault.ReadFault → HasFailed (S.failures reader.old) (S.failures reader.new) }
+    ensures succeeded { ¬ IsErrOf result CertificateFault.ReadFault
+        → S.failures reader.new ≡ S.failures reader.old }
+    ensures failed { IsErrOf result CertificateFault.ReadFault
+        → HasFailed (S.failures reader.old) (S.failures reader.new) }
 {
     all(alloc, reader)
 }
