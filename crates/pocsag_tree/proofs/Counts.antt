@@ -1,0 +1,30 @@
+-- What a tree's node is seen as, and the number of its children.
+use Rattle.std.proofs.Common.{◌≡◌, ℕ, ◌+◌, List, [], ◌∷◌, length, get_or, drop, drop-cons, ◌++◌, ◌<◌, add-one, refl, sym, ap, ◌∙◌, arith}
+use Rattle.std.specs.Global.{Vec, Box}
+use Rattle.pocsag_tree.specs.declared.shape.Tree.{Tree}
+use Rattle.pocsag_tree.specs.declared.shape.Tree.TheViews.{Split, Cut, Close}
+use Rattle.pocsag_tree.specs.declared.shape.Tree.TheVariants.{rolls-Split, rolls-Cut, rolls-Close}
+use Rattle.pocsag_tree.specs.declared.shape.Tree.TheOpen as layer
+use Rattle.pocsag_tree.specs.declared.shape.Tree.TheFolds.{fold-roll-Tree}
+use Rattle.pocsag_tree.specs.Bounds.{Bound, split, cut, close, count_of}
+use Rattle.pocsag_tree.specs.Spelling.{node, row}
+use Rattle.pocsag_tree.specs.Views.{bound_of, bound_step, bounds_of}
+
+pub count_of_bounds : (ts : List Tree) → count_of (bounds_of ts) ≡ length ts
+count_of_bounds [] = refl
+count_of_bounds (t ∷ ts) = omega (arith, count_of_bounds ts)
+
+pub bound_of-cut : (t : Tree) (set needed : ℕ) (children : Vec Tree) → t ≡ Cut set needed children → bound_of t ≡ cut set needed (bounds_of children.items)
+bound_of-cut t set needed children is = ap bound_of (is ∙ sym (rolls-Cut set needed children)) ∙ fold-roll-Tree Bound bound_step (layer.Cut set needed children)
+
+pub bound_of-close : (t : Tree) (children : Vec Tree) → t ≡ Close children → bound_of t ≡ close (bounds_of children.items)
+bound_of-close t children is = ap bound_of (is ∙ sym (rolls-Close children)) ∙ fold-roll-Tree Bound bound_step (layer.Close children)
+
+pub bound_of-split : (t : Tree) (class m : ℕ) (below above : Box Tree) → t ≡ Split class m below above → bound_of t ≡ split class m (bound_of below.value) (bound_of above.value)
+bound_of-split t class m below above is = ap bound_of (is ∙ sym (rolls-Split class m below above)) ∙ fold-roll-Tree Bound bound_step (layer.Split class m below above)
+
+-- the text of the trees from one on is its own, and that of those after it
+pub row-drop : (ts : List Tree) (i : ℕ) (t : Tree) → i < length ts → t ≡ get_or ts i t → row (bounds_of (drop i ts)) ≡ node (bound_of t) ++ row (bounds_of (drop (i + 1) ts))
+row-drop ts i t lt is =
+    let first : drop i ts ≡ t ∷ drop (i + 1) ts = rw (add-one, drop-cons ts i t, ← is) refl in
+    ap (λ (us : List Tree). row (bounds_of us)) first

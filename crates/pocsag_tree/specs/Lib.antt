@@ -1,0 +1,6 @@
+pub mod Answers
+pub mod Bounds
+pub mod Parts
+pub mod Reading
+pub mod Spelling
+pub mod Views

@@ -1,0 +1,92 @@
+-- *Certificate text*: the bytes of a certificate (this project's own). Numbers are written high byte
+-- first.
+use Rattle.std.specs.Prelude.{◌≡◌, ℕ, ◌^◌, ◌<◌, ◌≤◌, ◌⊎◌, List, [], ◌∷◌, ◌++◌}
+use Rattle.std.specs.Int.{w16, w32, to_be_bytes}
+use Rattle.pocsag_words.specs.declared.ending.End.{End}
+use Rattle.pocsag_words.specs.declared.ending.End.TheVariants as ends
+use Rattle.pocsag_tree.specs.declared.limits.Ranges.{Ranges}
+use Rattle.pocsag_tree.specs.declared.limits.TheConstants.{FIRST_VERSION, SECOND_VERSION, DEPTH_LIMIT, NODE_LIMIT}
+use Rattle.pocsag_tree.specs.Bounds.{Bound, Bounds, overload, split, cut, close, unexamined, none, more, count_of, all_nodes, depth_of}
+
+-- A set of 16 members that is not empty.
+abbrev pub IsSet : ℕ → Type 0
+IsSet set = (1 ≤ set) × (set < 2 ^ 16)
+
+abbrev mutual
+  -- Each field of the tree is in the range that the version gives it.
+  pub IsInRange : Ranges → Bound → Type 0
+  IsInRange r (overload set) = IsSet set
+  IsInRange r (split class m below above) = (class ≤ r.class) × (1 ≤ m) × (m ≤ r.m) × IsInRange r below × IsInRange r above
+  IsInRange r (cut set needed children) = IsSet set × (needed ≤ r.class) × (2 ≤ count_of children) × (count_of children ≤ r.children) × AreInRange r children
+  IsInRange r (close children) = (4 ≤ r.tag) × (1 ≤ count_of children) × (count_of children ≤ 2) × AreInRange r children
+  IsInRange r unexamined = Unit {0}
+
+  pub AreInRange : Ranges → Bounds → Type 0
+  AreInRange r none = Unit {0}
+  AreInRange r (more t ts) = IsInRange r t × AreInRange r ts
+
+-- What has a text in a version: every number is in its range, and the tree is neither too deep nor
+-- too large.
+pub record HasText (r : Ranges) (batches : ℕ) (tree : Bound) : Type 0 where
+  pub some_batch : 1 ≤ batches
+  pub four_bytes : batches < 2 ^ 32
+  pub in_range : IsInRange r tree
+  pub depth : depth_of tree ≤ DEPTH_LIMIT
+  pub nodes : all_nodes tree ≤ NODE_LIMIT
+
+-- The tag and the fields of a `Split`, a `Cut` and a `Close` of so many children.
+abbrev pub split_head : (class m : ℕ) → List ℕ
+split_head class m = 1 ∷ class ∷ to_be_bytes w16 m
+
+abbrev pub cut_head : (set needed children : ℕ) → List ℕ
+cut_head set needed children = 2 ∷ to_be_bytes w16 set ++ needed ∷ to_be_bytes w16 children
+
+abbrev pub close_head : (children : ℕ) → List ℕ
+close_head children = 4 ∷ children ∷ []
+
+abbrev mutual
+  -- The bytes of a tree: each node's tag and fields, and then its children in order.
+  pub node : Bound → List ℕ
+  node (overload set) = 0 ∷ to_be_bytes w16 set
+  node (split class m below above) = split_head class m ++ (node below ++ node above)
+  node (cut set needed children) = cut_head set needed (count_of children) ++ row children
+  node unexamined = 3 ∷ []
+  node (close children) = close_head (count_of children) ++ row children
+
+  pub row : Bounds → List ℕ
+  row none = []
+  row (more t ts) = node t ++ row ts
+
+-- The byte of the end.
+abbrev pub end_byte : End → ℕ
+end_byte ends.Open = 0
+end_byte ends.Closed = 1
+
+-- The text in version PCB2: the mark 50 43 42 and 32, the end, the batches, and the tree.
+abbrev pub second_head : End → ℕ → List ℕ
+second_head end batches = 0x50 ∷ 0x43 ∷ 0x42 ∷ 0x32 ∷ end_byte end ∷ to_be_bytes w32 batches
+
+abbrev pub second_text : End → ℕ → Bound → List ℕ
+second_text end batches tree = second_head end batches ++ node tree
+
+-- The text in version PCB1, for the open end alone: the mark and 31, the batches, and the tree.
+abbrev pub first_head : ℕ → List ℕ
+first_head batches = 0x50 ∷ 0x43 ∷ 0x42 ∷ 0x31 ∷ to_be_bytes w32 batches
+
+abbrev pub first_text : ℕ → Bound → List ℕ
+first_text batches tree = first_head batches ++ node tree
+
+-- The bytes are the text in PCB2 of something that has one.
+pub record IsSecondText (end : End) (batches : ℕ) (tree : Bound) (bytes : List ℕ) : Type 0 where
+  pub has_text : HasText SECOND_VERSION batches tree
+  pub text : bytes ≡ second_text end batches tree
+
+-- The bytes are the text in PCB1 of something that has one.
+pub record IsFirstText (end : End) (batches : ℕ) (tree : Bound) (bytes : List ℕ) : Type 0 where
+  pub open_end : end ≡ ends.Open
+  pub has_text : HasText FIRST_VERSION batches tree
+  pub text : bytes ≡ first_text batches tree
+
+-- The bytes are a certificate text of this end, number of batches and tree, in one of the versions.
+abbrev pub IsText : End → ℕ → Bound → List ℕ → Type 0
+IsText end batches tree bytes = IsSecondText end batches tree bytes ⊎ IsFirstText end batches tree bytes

@@ -1,0 +1,484 @@
+ghost use Rattle.std.specs.Prelude.{◌≡◌, ℕ, ◌+◌, ◌<◌, ◌≤◌, List, [], ◌∷◌, length, IfOk, IfErr, OnOk, OnErr, IsErrOf, MatchOption};
+ghost use Rattle.pocsag_words.specs.declared.ending.End.{End};
+ghost use Rattle.pocsag_words.specs.Devices.{HasFailed};
+ghost use Rattle.pocsag_tree.specs.Bounds.{Bound, all_nodes, all_nodes_in, depth_of, deepest};
+ghost use Rattle.pocsag_tree.specs.Views.{bound_of, bounds_of};
+ghost use Rattle.pocsag_tree.specs.Spelling.{IsText};
+ghost use Rattle.pocsag_tree.specs.Parts.{HasFirst};
+ghost use Rattle.pocsag_tree.specs.Answers.{AnswersTriple, AnswersFault, IsFault, HasNoFault, given_before};
+ghost use Rattle.pocsag_tree.specs.declared.refusals.CertificateFault.{CertificateFault};
+ghost use Rattle.pocsag_tree.specs.Reading.{Gives, IsWanting, but_last, failed_after, byte_at, number_at, small_at, large_at, row_at, overload_at, split_at, cut_at, close_at, body_at, tagged_at, node_at, mark_at, version_at, long_number_at, batches_at, end_at, end_of, certificate_at, all_of};
+
+use crate::limits::{DEPTH_LIMIT, FIRST_VERSION, NODE_LIMIT, Ranges, SECOND_VERSION};
+use crate::refusals::CertificateFault;
+use crate::shape::{Certificate, Tree};
+use pocsag_words::{End, Source};
+use std::alloc::Global;
+
+// The next byte, or nothing at the end.
+fn read_byte<S: Source>(source: &mut S) -> Result<Option<u8>, CertificateFault>
+    ensures failures { S.failures source.new ≡ failed_after result (S.failures source.old) }
+    ensures refused { IfErr result (λ e. e ≡ CertificateFault.ReadFault) }
+    ensures told { S.tells → IfOk result (λ next. MatchOption next
+        ((S.held source.old ≡ []) × (S.held source.new ≡ []))
+        (λ byte. S.held source.old ≡ byte ∷ S.held source.new)) }
+    ensures kept { S.tells → OnErr result (S.held source.new ≡ S.held source.old) }
+{
+    let mut buffer = [0u8; 1];
+    let count = source.read(&mut buffer)?;
+    if count == 0 {
+        return Ok(None);
+    }
+    Ok(Some(buffer[0]))
+}
+
+// The next byte, which is wanted.
+#[tactic(auto, using(crate::proofs::Fronts::but_last_cons, crate::proofs::Fronts::but_last_all))]
+fn next_byte<S: Source>(source: &mut S) -> Result<u8, CertificateFault>
+    ensures failures { S.failures source.new ≡ failed_after result (S.failures source.old) }
+    ensures shrinks { S.tells → length (S.held source.new) ≤ length (S.held source.old) }
+    ensures bytes { S.tells → (k : ℕ) → k ≤ length (S.held source.new)
+        → Gives (λ n. (n, but_last k (S.held source.new)))
+        (k ≡ length (S.held source.new)) result (byte_at (but_last k (S.held source.old))) }
+{
+    match read_byte(source)? {
+        Some(byte) => Ok(byte),
+        None => Err(CertificateFault::Truncated),
+    }
+}
+
+// A number of two bytes.
+#[tactic(auto, unfolding(crate::specs::Reading::number_at))]
+fn next_number<S: Source>(source: &mut S) -> Result<u16, CertificateFault>
+    ensures failures { S.failures source.new ≡ failed_after result (S.failures source.old) }
+    ensures shrinks { S.tells → length (S.held source.new) ≤ length (S.held source.old) }
+    ensures bytes { S.tells → (k : ℕ) → k ≤ length (S.held source.new)
+        → Gives (λ n. (n, but_last k (S.held source.new)))
+        (k ≡ length (S.held source.new)) result (number_at (but_last k (S.held source.old))) }
+{
+    let high = next_byte(source)?;
+    let low = next_byte(source)?;
+    Ok(u16::from(high) * 256 + u16::from(low))
+}
+
+// A field of one byte, in this range.
+#[tactic(auto, unfolding(crate::specs::Reading::small_at))]
+fn small<S: Source>(low: u8, high: u8, source: &mut S) -> Result<u8, CertificateFault>
+    ensures failures { S.failures source.new ≡ failed_after result (S.failures source.old) }
+    ensures shrinks { S.tells → length (S.held source.new) ≤ length (S.held source.old) }
+    ensures bytes { S.tells → (k : ℕ) → k ≤ length (S.held source.new)
+        → Gives (λ n. (n, but_last k (S.held source.new)))
+        (k ≡ length (S.held source.new)) result
+        (small_at low high (but_last k (S.held source.old))) }
+{
+    let number = next_byte(source)?;
+    if low <= number && number <= high {
+        Ok(number)
+    } else {
+        Err(CertificateFault::BadField)
+    }
+}
+
+// A field of two bytes, in this range.
+#[tactic(auto, unfolding(crate::specs::Reading::large_at))]
+fn large<S: Source>(low: u16, high: u16, source: &mut S) -> Result<u16, CertificateFault>
+    ensures failures { S.failures source.new ≡ failed_after result (S.failures source.old) }
+    ensures shrinks { S.tells → length (S.held source.new) ≤ length (S.held source.old) }
+    ensures bytes { S.tells → (k : ℕ) → k ≤ length (S.held source.new)
+        → Gives (λ n. (n, but_last k (S.held source.new)))
+        (k ≡ length (S.held source.new)) result
+        (large_at low high (but_last k (S.held source.old))) }
+{
+    let number = next_number(source)?;
+    if low <= number && number <= high {
+        Ok(number)
+    } else {
+        Err(CertificateFault::BadField)
+    }
+}
+
+#[tactic(auto, unfolding(crate::specs::Reading::mark_at))]
+fn mark<S: Source>(wanted: u8, source: &mut S) -> Result<(), CertificateFault>
+    ensures failures { S.failures source.new ≡ failed_after result (S.failures source.old) }
+    ensures shrinks { S.tells → length (S.held source.new) ≤ length (S.held source.old) }
+    ensures bytes { S.tells → (k : ℕ) → k ≤ length (S.held source.new)
+        → Gives (λ _. but_last k (S.held source.new))
+        (k ≡ length (S.held source.new)) result (mark_at wanted (but_last k (S.held source.old))) }
+{
+    if next_byte(source)? == wanted {
+        Ok(())
+    } else {
+        Err(CertificateFault::NotCertificate)
+    }
+}
+
+fn end_from(byte: u8) -> End
+    ensures { result ≡ end_of byte }
+{
+    if byte == 0 { End::Open } else { End::Closed }
+}
+
+// The ranges of the version, and the end.
+#[tactic(auto, unfolding(crate::specs::Reading::version_at))]
+fn version<S: Source>(source: &mut S) -> Result<(Ranges, End), CertificateFault>
+    ensures failures { S.failures source.new ≡ failed_after result (S.failures source.old) }
+    ensures shrinks { S.tells → length (S.held source.new) ≤ length (S.held source.old) }
+    ensures bytes { S.tells → (k : ℕ) → k ≤ length (S.held source.new)
+        → Gives (λ x. (x.0, x.1, but_last k (S.held source.new)))
+        (k ≡ length (S.held source.new)) result (version_at (but_last k (S.held source.old))) }
+{
+    let byte = next_byte(source)?;
+    if byte == 0x31 {
+        return Ok((FIRST_VERSION, End::Open));
+    }
+    if byte == 0x32 {
+        let end = small(0, 1, source)?;
+        return Ok((SECOND_VERSION, end_from(end)));
+    }
+    Err(CertificateFault::Version)
+}
+
+// A number of four bytes.
+#[tactic(auto, unfolding(crate::specs::Reading::long_number_at))]
+fn next_long_number<S: Source>(source: &mut S) -> Result<u32, CertificateFault>
+    ensures failures { S.failures source.new ≡ failed_after result (S.failures source.old) }
+    ensures shrinks { S.tells → length (S.held source.new) ≤ length (S.held source.old) }
+    ensures bytes { S.tells → (k : ℕ) → k ≤ length (S.held source.new)
+        → Gives (λ n. (n, but_last k (S.held source.new)))
+        (k ≡ length (S.held source.new)) result (long_number_at (but_last k (S.held source.old))) }
+{
+    let high = next_number(source)?;
+    let low = next_number(source)?;
+    Ok(u32::from(high) * 65536 + u32::from(low))
+}
+
+#[tactic(auto, unfolding(crate::specs::Reading::batches_at))]
+fn batches<S: Source>(source: &mut S) -> Result<u32, CertificateFault>
+    ensures failures { S.failures source.new ≡ failed_after result (S.failures source.old) }
+    ensures shrinks { S.tells → length (S.held source.new) ≤ length (S.held source.old) }
+    ensures bytes { S.tells → (k : ℕ) → k ≤ length (S.held source.new)
+        → Gives (λ n. (n, but_last k (S.held source.new)))
+        (k ≡ length (S.held source.new)) result (batches_at (but_last k (S.held source.old))) }
+{
+    let number = next_long_number(source)?;
+    if 1 <= number {
+        Ok(number)
+    } else {
+        Err(CertificateFault::BadField)
+    }
+}
+
+#[tactic(auto, unfolding(crate::specs::Reading::end_at))]
+fn end<S: Source>(source: &mut S) -> Result<(), CertificateFault>
+    ensures failures { S.failures source.new ≡ failed_after result (S.failures source.old) }
+    ensures shrinks { S.tells → length (S.held source.new) ≤ length (S.held source.old) }
+    ensures bytes { S.tells → Gives (λ _. tt) ⊥ result (end_at (S.held source.old)) }
+    ensures kept { S.tells → IsErrOf result CertificateFault.ReadFault
+        → S.held source.new ≡ S.held source.old }
+{
+    match read_byte(source)? {
+        Some(_) => Err(CertificateFault::Trailing),
+        None => Ok(()),
+    }
+}
+
+#[cycle(node)]
+#[tactic(auto, unfolding(crate::specs::Reading::node_at))]
+fn node<S: Source>(
+    alloc: Global,
+    ranges: Ranges,
+    depth: u32,
+    made: u32,
+    source: &mut S,
+) -> Result<(Tree, u32), CertificateFault>
+    requires { made ≤ 1000000 }
+    ensures deep { IfOk result (λ x. depth_of (bound_of x.0) ≤ depth) }
+    ensures counted { IfOk result (λ x. made + all_nodes (bound_of x.0) ≡ x.1) }
+    ensures few { IfOk result (λ x. x.1 ≤ 1000000) }
+    ensures failures { S.failures source.new ≡ failed_after result (S.failures source.old) }
+    ensures shrinks { S.tells → length (S.held source.new) ≤ length (S.held source.old) }
+    ensures bytes { S.tells → (k : ℕ) → k ≤ length (S.held source.new)
+        → Gives (λ x. (bound_of x.0, x.1, but_last k (S.held source.new)))
+        (k ≡ length (S.held source.new)) result
+        (node_at ranges depth made (but_last k (S.held source.old))) }
+{
+    if depth == 0 {
+        return Err(CertificateFault::TooDeep);
+    }
+    if made >= NODE_LIMIT {
+        return Err(CertificateFault::TooMany);
+    }
+    tagged(alloc, ranges, depth - 1, made, source)
+}
+
+#[cycle(node)]
+#[tactic(auto, unfolding(crate::specs::Reading::tagged_at))]
+fn tagged<S: Source>(
+    alloc: Global,
+    ranges: Ranges,
+    depth: u32,
+    made: u32,
+    source: &mut S,
+) -> Result<(Tree, u32), CertificateFault>
+    requires { made < 1000000 }
+    ensures deep { IfOk result (λ x. depth_of (bound_of x.0) ≤ depth + 1) }
+    ensures counted { IfOk result (λ x. made + all_nodes (bound_of x.0) ≡ x.1) }
+    ensures few { IfOk result (λ x. x.1 ≤ 1000000) }
+    ensures failures { S.failures source.new ≡ failed_after result (S.failures source.old) }
+    ensures shrinks { S.tells → length (S.held source.new) ≤ length (S.held source.old) }
+    ensures bytes { S.tells → (k : ℕ) → k ≤ length (S.held source.new)
+        → Gives (λ x. (bound_of x.0, x.1, but_last k (S.held source.new)))
+        (k ≡ length (S.held source.new)) result
+        (tagged_at ranges (node_at ranges depth) made (but_last k (S.held source.old))) }
+{
+    let tag = next_byte(source)?;
+    if tag > ranges.tag {
+        return Err(CertificateFault::BadTag);
+    }
+    body(alloc, ranges, tag, depth, made + 1, source)
+}
+
+#[cycle(node)]
+#[tactic(auto, unfolding(crate::specs::Reading::body_at))]
+fn body<S: Source>(
+    alloc: Global,
+    ranges: Ranges,
+    tag: u8,
+    depth: u32,
+    made: u32,
+    source: &mut S,
+) -> Result<(Tree, u32), CertificateFault>
+    requires { made ≤ 1000000 }
+    ensures deep { IfOk result (λ x. depth_of (bound_of x.0) ≤ depth + 1) }
+    ensures counted { IfOk result (λ x. made + all_nodes (bound_of x.0) ≡ x.1 + 1) }
+    ensures few { IfOk result (λ x. x.1 ≤ 1000000) }
+    ensures failures { S.failures source.new ≡ failed_after result (S.failures source.old) }
+    ensures shrinks { S.tells → length (S.held source.new) ≤ length (S.held source.old) }
+    ensures bytes { S.tells → (k : ℕ) → k ≤ length (S.held source.new)
+        → Gives (λ x. (bound_of x.0, x.1, but_last k (S.held source.new)))
+        (k ≡ length (S.held source.new)) result
+        (body_at ranges (node_at ranges depth) tag made (but_last k (S.held source.old))) }
+{
+    match tag {
+        0 => overload(made, source),
+        1 => split(alloc, ranges, depth, made, source),
+        2 => cut(alloc, ranges, depth, made, source),
+        3 => Ok((Tree::Open, made)),
+        _ => close(alloc, ranges, depth, made, source),
+    }
+}
+
+#[tactic(auto, unfolding(crate::specs::Reading::overload_at))]
+fn overload<S: Source>(made: u32, source: &mut S) -> Result<(Tree, u32), CertificateFault>
+    requires { made ≤ 1000000 }
+    ensures deep { IfOk result (λ x. depth_of (bound_of x.0) ≡ 1) }
+    ensures counted { IfOk result (λ x. made + all_nodes (bound_of x.0) ≡ x.1 + 1) }
+    ensures few { IfOk result (λ x. x.1 ≤ 1000000) }
+    ensures failures { S.failures source.new ≡ failed_after result (S.failures source.old) }
+    ensures shrinks { S.tells → length (S.held source.new) ≤ length (S.held source.old) }
+    ensures bytes { S.tells → (k : ℕ) → k ≤ length (S.held source.new)
+        → Gives (λ x. (bound_of x.0, x.1, but_last k (S.held source.new)))
+        (k ≡ length (S.held source.new)) result
+        (overload_at made (but_last k (S.held source.old))) }
+{
+    let set = large(1, u16::MAX, source)?;
+    Ok((Tree::Overload(set), made))
+}
+
+#[cycle(node)]
+#[tactic(auto, unfolding(crate::specs::Reading::split_at))]
+fn split<S: Source>(
+    alloc: Global,
+    ranges: Ranges,
+    depth: u32,
+    made: u32,
+    source: &mut S,
+) -> Result<(Tree, u32), CertificateFault>
+    requires { made ≤ 1000000 }
+    ensures deep { IfOk result (λ x. depth_of (bound_of x.0) ≤ depth + 1) }
+    ensures counted { IfOk result (λ x. made + all_nodes (bound_of x.0) ≡ x.1 + 1) }
+    ensures few { IfOk result (λ x. x.1 ≤ 1000000) }
+    ensures failures { S.failures source.new ≡ failed_after result (S.failures source.old) }
+    ensures shrinks { S.tells → length (S.held source.new) ≤ length (S.held source.old) }
+    ensures bytes { S.tells → (k : ℕ) → k ≤ length (S.held source.new)
+        → Gives (λ x. (bound_of x.0, x.1, but_last k (S.held source.new)))
+        (k ≡ length (S.held source.new)) result
+        (split_at ranges (node_at ranges depth) made (but_last k (S.held source.old))) }
+{
+    let class = small(0, ranges.class, source)?;
+    let m = large(1, ranges.m, source)?;
+    let (below, made) = node(alloc, ranges, depth, made, source)?;
+    let (from, made) = node(alloc, ranges, depth, made, source)?;
+    let below = Box::new(alloc, below)?;
+    let from = Box::new(alloc, from)?;
+    Ok((
+        Tree::Split {
+            class,
+            m,
+            below,
+            from,
+        },
+        made,
+    ))
+}
+
+#[cycle(node)]
+#[tactic(auto, unfolding(crate::specs::Reading::cut_at))]
+fn cut<S: Source>(
+    alloc: Global,
+    ranges: Ranges,
+    depth: u32,
+    made: u32,
+    source: &mut S,
+) -> Result<(Tree, u32), CertificateFault>
+    requires { made ≤ 1000000 }
+    ensures deep { IfOk result (λ x. depth_of (bound_of x.0) ≤ depth + 1) }
+    ensures counted { IfOk result (λ x. made + all_nodes (bound_of x.0) ≡ x.1 + 1) }
+    ensures few { IfOk result (λ x. x.1 ≤ 1000000) }
+    ensures failures { S.failures source.new ≡ failed_after result (S.failures source.old) }
+    ensures shrinks { S.tells → length (S.held source.new) ≤ length (S.held source.old) }
+    ensures bytes { S.tells → (k : ℕ) → k ≤ length (S.held source.new)
+        → Gives (λ x. (bound_of x.0, x.1, but_last k (S.held source.new)))
+        (k ≡ length (S.held source.new)) result
+        (cut_at ranges (node_at ranges depth) made (but_last k (S.held source.old))) }
+{
+    let set = large(1, u16::MAX, source)?;
+    let needed = small(0, ranges.class, source)?;
+    let count = large(2, ranges.children, source)?;
+    let (children, made) = row(alloc, ranges, depth, made, count, source)?;
+    Ok((
+        Tree::Cut {
+            set,
+            needed,
+            children,
+        },
+        made,
+    ))
+}
+
+#[cycle(node)]
+#[tactic(auto, unfolding(crate::specs::Reading::close_at))]
+fn close<S: Source>(
+    alloc: Global,
+    ranges: Ranges,
+    depth: u32,
+    made: u32,
+    source: &mut S,
+) -> Result<(Tree, u32), CertificateFault>
+    requires { made ≤ 1000000 }
+    ensures deep { IfOk result (λ x. depth_of (bound_of x.0) ≤ depth + 1) }
+    ensures counted { IfOk result (λ x. made + all_nodes (bound_of x.0) ≡ x.1 + 1) }
+    ensures few { IfOk result (λ x. x.1 ≤ 1000000) }
+    ensures failures { S.failures source.new ≡ failed_after result (S.failures source.old) }
+    ensures shrinks { S.tells → length (S.held source.new) ≤ length (S.held source.old) }
+    ensures bytes { S.tells → (k : ℕ) → k ≤ length (S.held source.new)
+        → Gives (λ x. (bound_of x.0, x.1, but_last k (S.held source.new)))
+        (k ≡ length (S.held source.new)) result
+        (close_at (node_at ranges depth) made (but_last k (S.held source.old))) }
+{
+    let count = small(1, 2, source)?;
+    let (children, made) = row(alloc, ranges, depth, made, u16::from(count), source)?;
+    Ok((Tree::Close { children }, made))
+}
+
+// So many nodes, one after the other.
+#[cycle(node)]
+fn row<S: Source>(
+    alloc: Global,
+    ranges: Ranges,
+    depth: u32,
+    made: u32,
+    count: u16,
+    source: &mut S,
+) -> Result<(Vec<Tree>, u32), CertificateFault>
+    requires { made ≤ 1000000 }
+    ensures deep { IfOk result (λ x. deepest (bounds_of x.0.items) ≤ depth) }
+    ensures counted { IfOk result (λ x. made + all_nodes_in (bounds_of x.0.items) ≡ x.1) }
+    ensures few { IfOk result (λ x. x.1 ≤ 1000000) }
+    ensures failures { S.failures source.new ≡ failed_after result (S.failures source.old) }
+    ensures shrinks { S.tells → length (S.held source.new) ≤ length (S.held source.old) }
+    ensures bytes { S.tells → (k : ℕ) → k ≤ length (S.held source.new)
+        → Gives (λ x. (bounds_of x.0.items, x.1, but_last k (S.held source.new)))
+        (k ≡ length (S.held source.new)) result
+        (row_at (node_at ranges depth) count made (but_last k (S.held source.old))) }
+{
+    let mut children = Vec::with_capacity(alloc, usize::from(count))?;
+    let mut reached = made;
+    for _ in 0..count {
+        let (child, after) = node(alloc, ranges, depth, reached, source)?;
+        children.push(child)?;
+        reached = after;
+    }
+    Ok((children, reached))
+}
+
+// A certificate, whatever comes after it.
+#[tactic(auto, unfolding(crate::specs::Reading::certificate_at))]
+fn certificate<S: Source>(alloc: Global, source: &mut S) -> Result<Certificate, CertificateFault>
+    ensures deep { IfOk result (λ c. depth_of (bound_of c.tree) ≤ 300) }
+    ensures few { IfOk result (λ c. all_nodes (bound_of c.tree) ≤ 1000000) }
+    ensures failures { S.failures source.new ≡ failed_after result (S.failures source.old) }
+    ensures shrinks { S.tells → length (S.held source.new) ≤ length (S.held source.old) }
+    ensures bytes { S.tells → (k : ℕ) → k ≤ length (S.held source.new)
+        → Gives (λ c. (c.end, c.batches, bound_of c.tree, but_last k (S.held source.new)))
+        (k ≡ length (S.held source.new)) result
+        (certificate_at (but_last k (S.held source.old))) }
+{
+    mark(0x50, source)?;
+    mark(0x43, source)?;
+    mark(0x42, source)?;
+    let (ranges, end) = version(source)?;
+    let batches = batches(source)?;
+    let (tree, _) = node(alloc, ranges, DEPTH_LIMIT, 0, source)?;
+    Ok(Certificate { end, batches, tree })
+}
+
+// A certificate, and then the end.
+#[tactic(auto, using(crate::proofs::Fronts::but_last_none), unfolding(crate::specs::Reading::all_of))]
+fn all<S: Source>(alloc: Global, source: &mut S) -> Result<Certificate, CertificateFault>
+    ensures deep { IfOk result (λ c. depth_of (bound_of c.tree) ≤ 300) }
+    ensures few { IfOk result (λ c. all_nodes (bound_of c.tree) ≤ 1000000) }
+    ensures failures { S.failures source.new ≡ failed_after result (S.failures source.old) }
+    ensures bytes { S.tells → Gives (λ c. (c.end, c.batches, bound_of c.tree)) ⊥ result
+        (all_of (S.held source.old)) }
+    ensures wanting { S.tells → IsErrOf result CertificateFault.ReadFault
+        → IsWanting (certificate_at (but_last (length (S.held source.new)) (S.held source.old))) }
+{
+    let certificate = certificate(alloc, source)?;
+    end(source)?;
+    Ok(certificate)
+}
+
+/// Reads a certificate, in version PCB2 or PCB1, up to the end of the input.
+///
+/// The fault is the first from left to right. It reads no node deeper than `DEPTH_LIMIT` and no
+/// more than `NODE_LIMIT` nodes, whatever the bytes are. It takes one byte in each read, so a reader
+/// of a file is to be buffered. Time and memory are linear in the bytes read, beside room for at
+/// most `DEPTH_LIMIT` unfinished lists of children.
+pub fn read_certificate<S: Source>(
+    alloc: Global,
+    reader: &mut S,
+) -> Result<Certificate, CertificateFault>
+    // What is read is what all the bytes are a text of, and what they are a text of is read.
+    ensures found { S.tells → IfOk result (λ c.
+        IsText c.end c.batches (bound_of c.tree) (S.held reader.old)) }
+    ensures only { S.tells → (end : End) (batches : ℕ) (tree : Bound)
+        → IsText end batches tree (S.held reader.old) → AnswersTriple result end batches tree }
+    // A fault is the first of the bytes, and the first of the bytes is answered.
+    ensures fault { S.tells → IfErr result (λ e. IsFault e (S.held reader.old)) }
+    ensures first { S.tells → (f : CertificateFault)
+        → HasFirst f (S.held reader.old) → AnswersFault result f }
+    // No fault stands in what the reader gave before it failed.
+    ensures in_place { S.tells → IsErrOf result CertificateFault.ReadFault
+        → HasNoFault (given_before (S.held reader.old) (S.held reader.new)) }
+    // What is read is small enough to be read again, also where the reader tells nothing.
+    ensures deep { IfOk result (λ c. depth_of (bound_of c.tree) ≤ DEPTH_LIMIT) }
+    ensures few { IfOk result (λ c. all_nodes (bound_of c.tree) ≤ NODE_LIMIT) }
+    // The reader failed in this call exactly where that is answered.
+    ensures succeeded { ¬ IsErrOf result CertificateFault.ReadFault
+        → S.failures reader.new ≡ S.failures reader.old }
+    ensures failed { IsErrOf result CertificateFault.ReadFault
+        → HasFailed (S.failures reader.old) (S.failures reader.new) }
+{
+    all(alloc, reader)
+}
