@@ -5,14 +5,12 @@ ghost use Rattle.pocsag_pages.specs.declared.fault.RoundFault.TheVariants as rou
 ghost use Rattle.pocsag_batch.specs.Streams.{ExplainsFault, IsBeforeWriting, LeavesPrefix, WritesInOrder};
 ghost use Rattle.pocsag_batch.specs.declared.stream.FirstFault.TheVariants as fault;
 
-use std::alloc::Global;
-
-use pocsag_pages::{RoundFault, read_round};
-use pocsag_words::{OutOfMemory, Sink, Source, WriteFault};
-use thiserror::Error;
-
 use crate::order::lay_in_order;
 use crate::writing::write;
+use pocsag_pages::{RoundFault, read_round};
+use pocsag_words::{OutOfMemory, Sink, Source, WriteFault};
+use std::alloc::Global;
+use thiserror::Error;
 
 /// Why a page file was not written in file order.
 #[derive(Clone, Copy, PartialEq, Eq, Debug, Error)]

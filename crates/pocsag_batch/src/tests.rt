@@ -1,12 +1,11 @@
+use crate::{FirstFault, first_stream, in_order_batches, lay_in_order, write};
+use pocsag_pages::{Page, Payload, Round, RoundFault};
+use pocsag_words::{MemorySink, MemorySource, WriteFault};
 use std::alloc::Global;
 use std::test::Fail;
 
-use pocsag_pages::{Page, Payload, Round, RoundFault};
-use pocsag_words::{MemorySink, MemorySource, WriteFault};
-
-use crate::{FirstFault, first_stream, in_order_batches, lay_in_order, write};
-
 const IDLE: u32 = 0x7a89_c197;
+
 const ONES: u32 = 0xc444_47b9;
 
 // A page of function 0 whose items are all 11111.
@@ -31,7 +30,11 @@ fn raws(alloc: Global, round: &Round) -> Result<Vec<u32>, Fail> {
 #[test]
 fn three_tones_one_frame(rt: HostRuntime) -> Result<(), Fail> {
     let alloc = rt.alloc();
-    let pages = vec![in alloc; ones(alloc, 5, 0)?, ones(alloc, 13, 0)?, ones(alloc, 21, 0)?]?;
+    let pages = vec![in alloc;
+        ones(alloc, 5, 0)?,
+        ones(alloc, 13, 0)?,
+        ones(alloc, 21, 0)?,
+    ]?;
     let round = Round::from_pages(alloc, pages)?;
     assert_eq!(rt; in_order_batches(&round), 2);
     let numbers = raws(alloc, &round)?;
@@ -50,7 +53,9 @@ fn two_numeric_exact(rt: HostRuntime) -> Result<(), Fail> {
     let round = Round::from_pages(alloc, pages)?;
     assert_eq!(rt; in_order_batches(&round), 1);
     let numbers = raws(alloc, &round)?;
-    let wanted = [0, ONES, ONES, ONES, ONES, ONES, 0, ONES, ONES, ONES, ONES, ONES, ONES, ONES, ONES, ONES];
+    let wanted = [
+        0, ONES, ONES, ONES, ONES, ONES, 0, ONES, ONES, ONES, ONES, ONES, ONES, ONES, ONES, ONES,
+    ];
     assert_eq!(rt; numbers.as_slice(), wanted.as_slice());
     Ok(())
 }

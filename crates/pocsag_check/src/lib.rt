@@ -8,3 +8,6 @@ mod laws;
 
 pub use judging::{check, check_open};
 pub use laws::{accepted_nodes_refute, accepted_trees_bound};
+
+#[cfg(test)]
+mod tests;

@@ -1,14 +1,14 @@
 -- What a tree's node is seen as, and the number of its children.
-use Rattle.std.proofs.Common.{◌≡◌, ℕ, ◌+◌, List, [], ◌∷◌, length, get_or, drop, drop-cons, ◌++◌, ◌<◌, add-one, map, refl, sym, ap, ◌∙◌, arith}
+use Rattle.std.proofs.Common.{◌≡◌, ℕ, ◌+◌, List, [], ◌∷◌, length, get_or, drop, drop-cons, ◌++◌, ◌<◌, add-one, refl, sym, ap, ◌∙◌, arith}
 use Rattle.std.specs.Global.{Vec, Box}
 use Rattle.pocsag_tree.specs.declared.shape.Tree.{Tree}
 use Rattle.pocsag_tree.specs.declared.shape.Tree.TheViews.{Split, Cut, Close}
 use Rattle.pocsag_tree.specs.declared.shape.Tree.TheVariants.{rolls-Split, rolls-Cut, rolls-Close}
 use Rattle.pocsag_tree.specs.declared.shape.Tree.TheOpen as layer
 use Rattle.pocsag_tree.specs.declared.shape.Tree.TheFolds.{fold-roll-Tree}
-use Rattle.pocsag_tree.specs.Bounds.{Bound, Bounds, none, more, split, cut, close, count_of}
+use Rattle.pocsag_tree.specs.Bounds.{Bound, split, cut, close, count_of}
 use Rattle.pocsag_tree.specs.Spelling.{node, row}
-use Rattle.pocsag_tree.specs.Views.{bound_of, bound_step, bounds_of, bounds_from}
+use Rattle.pocsag_tree.specs.Views.{bound_of, bound_step, bounds_of}
 
 pub count_of_bounds : (ts : List Tree) → count_of (bounds_of ts) ≡ length ts
 count_of_bounds [] = refl

@@ -1,5 +1,5 @@
 -- What reading the whole of the bytes says of the answer.
-use Rattle.std.proofs.Common.{◌≡◌, ℕ, ◌⊎◌, inl, inr, List, [], ◌∷◌, ◌++◌, Option, Some, None, Result, Ok, Err, refl, sym, ap, subst, ◌∙◌}
+use Rattle.std.proofs.Common.{◌≡◌, ℕ, ◌⊎◌, inl, inr, List, [], ◌∷◌, ◌++◌, Some, None, Result, Ok, Err, refl, sym, ap, subst, ◌∙◌}
 use Rattle.std.specs.Prelude.{IfOk, IfErr}
 use Rattle.std.proofs.lemmas.List.{append-nil}
 use Rattle.pocsag_words.specs.declared.ending.End.{End}
@@ -9,10 +9,11 @@ use Rattle.pocsag_tree.specs.declared.refusals.CertificateFault.TheVariants as f
 use Rattle.pocsag_tree.specs.Bounds.{Bound}
 use Rattle.pocsag_tree.specs.Views.{bound_of}
 use Rattle.pocsag_tree.specs.Spelling.{IsText}
-use Rattle.pocsag_tree.specs.Parts.{Meets, certificate, HasFirst}
-use Rattle.pocsag_tree.specs.Answers.{IsRefusal, Says, AnswersTriple, AnswersFault, IsFault}
-use Rattle.pocsag_tree.specs.Reading.{◌>>=◌, Fails, Gives, end_at, certificate_at, all_of}
-use Rattle.pocsag_tree.proofs.Fields.{bind_ok, done, ok_is}
+use Rattle.pocsag_tree.specs.Parts.{HasFirst}
+use Rattle.pocsag_tree.specs.Answers.{IsRefusal, AnswersTriple, AnswersFault, IsFault, HasNoFault}
+use Rattle.pocsag_tree.specs.Reading.{◌>>=◌, Fails, Gives, IsWanting, end_at, certificate_at, all_of}
+use Rattle.pocsag_tree.proofs.Fields.{bind_ok, ok_is}
+use Rattle.pocsag_tree.proofs.Rows.{fails_along}
 use Rattle.pocsag_tree.proofs.Texts.{certificate_takes, certificate_again}
 use Rattle.pocsag_tree.proofs.Verdicts.{HasVerdict, all_verdict, one_verdict}
 
@@ -40,7 +41,7 @@ all_again end batches tree bytes is =
     rw read refl
 
 -- a fault is a refusal, or that of reading
-fails_is : {Y : Type 0} (e : CertificateFault) (read : Result Y CertificateFault) → Fails e read → IsRefusal e ⊎ ((read ≡ Err e) × (e ≡ fault.ReadFault → ⊥))
+fails_is : {Y : Type 0} (e : CertificateFault) (read : Result Y CertificateFault) → Fails e ⊥ read → IsRefusal e ⊎ ((read ≡ Err e) × (e ≡ fault.ReadFault → ⊥))
 fails_is fault.ReadFault read h = inl tt
 fails_is fault.OutOfMemory read h = inl tt
 fails_is fault.NotCertificate read h = inr (h, λ no. cc)
@@ -52,9 +53,14 @@ fails_is fault.BadField read h = inr (h, λ no. cc)
 fails_is fault.TooDeep read h = inr (h, λ no. cc)
 fails_is fault.TooMany read h = inr (h, λ no. cc)
 
+-- a fault behind a certificate is the fault of the whole
+pub all_ends : (e : CertificateFault) (bytes rest : List ℕ) (end : End) (batches : ℕ) (tree : Bound) → certificate_at bytes ≡ Ok (end, batches, tree, rest) → Fails e ⊥ (end_at rest) → Fails e ⊥ (all_of bytes)
+unfolding all_of
+all_ends e bytes rest end batches tree read h = fails_along e ⊥ (end_at rest) (all_of bytes) (λ f is. rw (read, is) refl) h
+
 -- reading, as the functions of the code say it
 abbrev pub IsGiven : Result Certificate CertificateFault → List ℕ → Type 0
-IsGiven r bytes = Gives (λ c. (c.end, c.batches, bound_of c.tree)) r (all_of bytes)
+IsGiven r bytes = Gives (λ c. (c.end, c.batches, bound_of c.tree)) ⊥ r (all_of bytes)
 
 pub is_found : (r : Result Certificate CertificateFault) (bytes : List ℕ) → IsGiven r bytes → IfOk r (λ c. IsText c.end c.batches (bound_of c.tree) bytes)
 is_found (Ok c) bytes given = all_takes bytes (c.end, c.batches, bound_of c.tree) given
@@ -90,6 +96,19 @@ is_first (Err e) bytes given f first =
       | inl h ↦ inl h
       | inr h ↦ inr (let same = one_verdict first (Some e) (verdict_at bytes (Err e) h.0 h.1) in cc)
     ]
+
+-- bytes that end where one is wanted, or with a certificate, have no fault
+pub is_wanting : (bytes : List ℕ) → IsWanting (certificate_at bytes) → HasNoFault bytes
+unfolding all_of end_at
+is_wanting bytes h = of_read bytes (certificate_at bytes) refl h
+  where
+    of_read : (bytes : List ℕ) (r : Result (End × ℕ × Bound × List ℕ) CertificateFault) → certificate_at bytes ≡ r → IsWanting r → HasNoFault bytes
+    of_read bytes (Ok x) is h =
+        let read : all_of bytes ≡ Ok (x.0, x.1, x.2) = rw (is, h) refl in
+        inr (verdict_at bytes (Ok (x.0, x.1, x.2)) read)
+    of_read bytes (Err e) is h =
+        let read : all_of bytes ≡ Err fault.Truncated = rw (is, h) refl in
+        inl (verdict_at bytes (Err fault.Truncated) read (λ no. cc))
 
 -- ---- laws
 

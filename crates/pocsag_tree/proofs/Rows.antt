@@ -3,7 +3,7 @@ use Rattle.std.proofs.Common.{◌≡◌, ℕ, suc, ◌-◌, ◌+◌, ◌≤◌, 
 use Rattle.pocsag_tree.specs.declared.refusals.CertificateFault.{CertificateFault}
 use Rattle.pocsag_tree.specs.declared.refusals.CertificateFault.TheVariants as fault
 use Rattle.pocsag_tree.specs.declared.shape.Tree.{Tree}
-use Rattle.pocsag_tree.specs.Bounds.{Bound, Bounds, none, more, all_nodes, all_nodes_in, depth_of, deepest, count_of}
+use Rattle.pocsag_tree.specs.Bounds.{Bound, Bounds, none, more, all_nodes, all_nodes_in, depth_of, deepest}
 use Rattle.pocsag_tree.specs.Views.{bound_of, bounds_of, bounds_from}
 use Rattle.pocsag_tree.specs.Reading.{◌>>=◌, Fails, Read, Reader, row_at}
 
@@ -38,7 +38,7 @@ row_goes_on child front count i made bytes t after rest total lt h so_far =
     sym one ∙ so_far
 
 -- a fault of a child is the fault of the row
-pub row_fails : (e : CertificateFault) (child : Reader) (front : List Bound) (count i made : ℕ) (bytes : List ℕ) (total : Result (Read Bounds) CertificateFault)
+row_fails : (e : CertificateFault) (child : Reader) (front : List Bound) (count i made : ℕ) (bytes : List ℕ) (total : Result (Read Bounds) CertificateFault)
     → i < count → child made bytes ≡ Err e
     → with_front front (row_at child (count - i) made bytes) ≡ total → total ≡ Err e
 unfolding row_at
@@ -47,19 +47,24 @@ row_fails e child front count i made bytes total lt h so_far =
     let one : with_front front (row_at child (count - i) made bytes) ≡ Err e = rw (k, h) refl in
     sym so_far ∙ one
 
-pub row_ends : (e : CertificateFault) (child : Reader) (front : List Bound) (count i made : ℕ) (bytes : List ℕ) (total : Result (Read Bounds) CertificateFault)
-    → i < count → Fails e (child made bytes)
-    → with_front front (row_at child (count - i) made bytes) ≡ total → Fails e total
-row_ends fault.ReadFault child front count i made bytes total lt h so_far = tt
-row_ends fault.OutOfMemory child front count i made bytes total lt h so_far = tt
-row_ends fault.NotCertificate child front count i made bytes total lt h so_far = row_fails fault.NotCertificate child front count i made bytes total lt h so_far
-row_ends fault.Version child front count i made bytes total lt h so_far = row_fails fault.Version child front count i made bytes total lt h so_far
-row_ends fault.Truncated child front count i made bytes total lt h so_far = row_fails fault.Truncated child front count i made bytes total lt h so_far
-row_ends fault.Trailing child front count i made bytes total lt h so_far = row_fails fault.Trailing child front count i made bytes total lt h so_far
-row_ends fault.BadTag child front count i made bytes total lt h so_far = row_fails fault.BadTag child front count i made bytes total lt h so_far
-row_ends fault.BadField child front count i made bytes total lt h so_far = row_fails fault.BadField child front count i made bytes total lt h so_far
-row_ends fault.TooDeep child front count i made bytes total lt h so_far = row_fails fault.TooDeep child front count i made bytes total lt h so_far
-row_ends fault.TooMany child front count i made bytes total lt h so_far = row_fails fault.TooMany child front count i made bytes total lt h so_far
+-- where a fault of one reading is the fault of another, so is what a function returned
+pub fails_along : {A B : Type 0} (e : CertificateFault) (stopped : Type 0) (r : Result A CertificateFault) (s : Result B CertificateFault) → ((f : CertificateFault) → r ≡ Err f → s ≡ Err f) → Fails e stopped r → Fails e stopped s
+fails_along fault.ReadFault stopped r s along h = λ here. along fault.Truncated (h here)
+fails_along fault.OutOfMemory stopped r s along h = tt
+fails_along fault.NotCertificate stopped r s along h = along fault.NotCertificate h
+fails_along fault.Version stopped r s along h = along fault.Version h
+fails_along fault.Truncated stopped r s along h = along fault.Truncated h
+fails_along fault.Trailing stopped r s along h = along fault.Trailing h
+fails_along fault.BadTag stopped r s along h = along fault.BadTag h
+fails_along fault.BadField stopped r s along h = along fault.BadField h
+fails_along fault.TooDeep stopped r s along h = along fault.TooDeep h
+fails_along fault.TooMany stopped r s along h = along fault.TooMany h
+
+pub row_ends : (e : CertificateFault) (stopped : Type 0) (child : Reader) (front : List Bound) (count i made : ℕ) (bytes : List ℕ) (total : Result (Read Bounds) CertificateFault)
+    → i < count → Fails e stopped (child made bytes)
+    → with_front front (row_at child (count - i) made bytes) ≡ total → Fails e stopped total
+row_ends e stopped child front count i made bytes total lt h so_far =
+    fails_along e stopped (child made bytes) total (λ f is. row_fails f child front count i made bytes total lt is so_far) h
 
 pub row_is_done : (child : Reader) (front : List Bound) (count i made : ℕ) (bytes : List ℕ) (total : Result (Read Bounds) CertificateFault)
     → count ≤ i → with_front front (row_at child (count - i) made bytes) ≡ total → total ≡ Ok (bounds_from front, made, bytes)
@@ -68,6 +73,16 @@ row_is_done child front count i made bytes total le so_far =
     let k : count - i ≡ 0 = omega arith in
     let one : with_front front (row_at child (count - i) made bytes) ≡ Ok (bounds_from front, made, bytes) = rw k (ap (λ (ts : Bounds). Ok (ts, made, bytes)) (before-none front)) in
     sym so_far ∙ one
+
+-- before the first child
+pub row_starts : (child : Reader) (items : List Tree) (count made : ℕ) (bytes : List ℕ) → items ≡ [] → with_front (map bound_of items) (row_at child (count - 0) made bytes) ≡ row_at child count made bytes
+row_starts child items count made bytes is =
+    let k : count - 0 ≡ count = omega arith in
+    rw (is, k) (none_before (row_at child count made bytes))
+  where
+    none_before : (read : Result (Read Bounds) CertificateFault) → with_front [] read ≡ read
+    none_before (Ok x) = refl
+    none_before (Err f) = refl
 
 -- counts of a row with one tree more
 pub nodes-push : (ts : List Tree) (t : Tree) → all_nodes_in (bounds_of (ts ++ t ∷ [])) ≡ all_nodes_in (bounds_of ts) + all_nodes (bound_of t)

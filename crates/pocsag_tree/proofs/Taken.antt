@@ -1,5 +1,5 @@
 -- What a writer took of a text that is written in pieces.
-use Rattle.std.proofs.Common.{◌≡◌, ℕ, ◌+◌, ◌≤◌, List, [], ◌∷◌, ◌++◌, length, take, refl, sym, ap, ◌∙◌, Result, Ok, Err, append_assoc, length-append, length-take, arith}
+use Rattle.std.proofs.Common.{◌≡◌, ℕ, ◌≤◌, List, ◌++◌, length, take, sym, ap, ◌∙◌, Result, Ok, Err, append_assoc, length-append, length-take, arith}
 use Rattle.std.proofs.lemmas.List.{take-append-le}
 use Rattle.std.specs.Prelude.{OnOk, OnErr}
 use Rattle.pocsag_words.specs.Devices.{TookPrefix}

@@ -1,19 +1,17 @@
 -- The two laws of *Certificate text*: what is read is spelled so, and what is spelled so is read.
-use Rattle.std.proofs.Common.{◌≡◌, ℕ, zero, suc, ◌+◌, ◌*◌, ◌^◌, ◌<◌, ◌≤◌, ◌⊎◌, max, inl, inr, Bool, true, false, cond, eqb, ltb, leb, List, [], ◌∷◌, ◌++◌, length, Result, Ok, Err, refl, sym, ap, subst, ◌∙◌, append_assoc, add-one, arith, lit<, lit≤}
-use Rattle.std.specs.Prelude.{◌&&◌}
+use Rattle.std.proofs.Common.{◌≡◌, ℕ, zero, suc, ◌+◌, ◌^◌, ◌<◌, ◌≤◌, ◌⊎◌, inl, inr, Bool, true, false, cond, eqb, ltb, List, [], ◌∷◌, ◌++◌, Result, Ok, Err, refl, sym, ap, subst, ◌∙◌, append_assoc, add-one, arith, lit<, lit≤}
 use Rattle.std.specs.Int.{w16, w32, to_be_bytes}
-use Rattle.std.proofs.lemmas.Bool.{cases_Bool, ltb-true, ltb-false, leb-true, eqb-true, eqb-false, eq-eqb, lt-ltb, le-ltb, le-leb}
-use Rattle.std.proofs.lemmas.List.{append-nil}
+use Rattle.std.proofs.lemmas.Bool.{ltb-true, ltb-false, eqb-true, eqb-false, eq-eqb, lt-ltb, le-ltb}
 use Rattle.pocsag_words.specs.declared.ending.End.{End}
 use Rattle.pocsag_words.specs.declared.ending.End.TheVariants as ends
 use Rattle.pocsag_tree.specs.declared.limits.Ranges.{Ranges}
-use Rattle.pocsag_tree.specs.declared.limits.TheConstants.{FIRST, SECOND, DEPTH_LIMIT, NODE_LIMIT}
+use Rattle.pocsag_tree.specs.declared.limits.TheConstants.{FIRST_VERSION, SECOND_VERSION, DEPTH_LIMIT, NODE_LIMIT}
 use Rattle.pocsag_tree.specs.declared.refusals.CertificateFault.{CertificateFault}
 use Rattle.pocsag_tree.specs.declared.refusals.CertificateFault.TheVariants as fault
 use Rattle.pocsag_tree.specs.Bounds.{Bound, Bounds, overload, split, cut, close, unexamined, none, more, count_of, all_nodes, all_nodes_in, depth_of, deepest}
-use Rattle.pocsag_tree.specs.Spelling.{IsInRange, AreInRange, HasText, node, row, split_head, cut_head, close_head, end_byte, second_head, first_head, second_text, first_text, IsSecondText, IsFirstText, IsText}
+use Rattle.pocsag_tree.specs.Spelling.{IsInRange, AreInRange, HasText, node, row, end_byte, second_head, first_head, second_text, first_text, IsText}
 use Rattle.pocsag_tree.specs.Reading.{◌>>=◌, Read, Reader, byte_at, small_at, large_at, row_at, overload_at, split_at, cut_at, close_at, body_at, tagged_at, node_at, mark_at, end_of, version_at, batches_at, certificate_at}
-use Rattle.pocsag_tree.proofs.Fields.{bind_ok, guard_ok, chosen, done, ok_is, ByteIs, byte_is, byte_again, small_takes, small_again, large_takes, large_again, InRange, FourIs, batches_takes, batches_again}
+use Rattle.pocsag_tree.proofs.Fields.{bind_ok, guard_ok, chosen, done, ok_is, byte_is, byte_again, small_takes, small_again, large_takes, large_again, batches_takes, batches_again}
 
 -- ---- what is spelled so is read
 
@@ -25,11 +23,11 @@ pub record IsVersion (r : Ranges) : Type 0 where
   pub least_tag : 3 ≤ r.tag
   pub most_tag : r.tag ≤ 4
 
-pub FIRST-is : IsVersion FIRST
-FIRST-is = record { class = lit< tt; m = lit< tt; children = lit< tt; least_tag = lit≤ tt; most_tag = lit≤ tt }
+pub FIRST_VERSION-is : IsVersion FIRST_VERSION
+FIRST_VERSION-is = record { class = lit< tt; m = lit< tt; children = lit< tt; least_tag = lit≤ tt; most_tag = lit≤ tt }
 
-pub SECOND-is : IsVersion SECOND
-SECOND-is = record { class = lit< tt; m = lit< tt; children = lit< tt; least_tag = lit≤ tt; most_tag = lit≤ tt }
+pub SECOND_VERSION-is : IsVersion SECOND_VERSION
+SECOND_VERSION-is = record { class = lit< tt; m = lit< tt; children = lit< tt; least_tag = lit≤ tt; most_tag = lit≤ tt }
 
 -- the tag of a node
 abbrev pub tag_of : Bound → ℕ
@@ -380,10 +378,10 @@ mark_again wanted rest lt = rw (byte_again wanted rest lt, eq-eqb wanted wanted 
 
 -- the version's byte, and the end where it has one
 abbrev pub IsFirst : Ranges × End × List ℕ → List ℕ → Type 0
-IsFirst x bytes = (x.0 ≡ FIRST) × (x.1 ≡ ends.Open) × (bytes ≡ 0x31 ∷ x.2)
+IsFirst x bytes = (x.0 ≡ FIRST_VERSION) × (x.1 ≡ ends.Open) × (bytes ≡ 0x31 ∷ x.2)
 
 abbrev pub IsSecond : Ranges × End × List ℕ → List ℕ → Type 0
-IsSecond x bytes = (x.0 ≡ SECOND) × (bytes ≡ 0x32 ∷ end_byte x.1 ∷ x.2)
+IsSecond x bytes = (x.0 ≡ SECOND_VERSION) × (bytes ≡ 0x32 ∷ end_byte x.1 ∷ x.2)
 
 end_byte-of : (n : ℕ) → n ≤ 1 → end_byte (end_of n) ≡ n
 end_byte-of zero le = refl
@@ -393,26 +391,26 @@ end_byte-of (suc (suc n)) le = absurd (omega arith)
 version_takes : (bytes : List ℕ) (x : Ranges × End × List ℕ) → version_at bytes ≡ Ok x → IsFirst x bytes ⊎ IsSecond x bytes
 unfolding version_at
 version_takes bytes x e =
-    let a = bind_ok (byte_at bytes) (λ byte. cond (eqb byte.0 0x31) (Ok (FIRST, ends.Open, byte.1)) (cond (eqb byte.0 0x32) (small_at 0 1 byte.1 >>= λ end. Ok (SECOND, end_of end.0, end.1)) (Err fault.Version))) x e in
+    let a = bind_ok (byte_at bytes) (λ byte. cond (eqb byte.0 0x31) (Ok (FIRST_VERSION, ends.Open, byte.1)) (cond (eqb byte.0 0x32) (small_at 0 1 byte.1 >>= λ end. Ok (SECOND_VERSION, end_of end.0, end.1)) (Err fault.Version))) x e in
     let first = byte_is bytes a.0 a.1 in
-    elim (chosen (eqb a.0.0 0x31) (Ok (FIRST, ends.Open, a.0.1)) _ (Ok x) a.2) [
+    elim (chosen (eqb a.0.0 0x31) (Ok (FIRST_VERSION, ends.Open, a.0.1)) _ (Ok x) a.2) [
       | inl h ↦
-          let built : Ranges × End × List ℕ = (FIRST, ends.Open, a.0.1) in
+          let built : Ranges × End × List ℕ = (FIRST_VERSION, ends.Open, a.0.1) in
           inl (subst (λ (y : Ranges × End × List ℕ). IsFirst y bytes) (ok_is built x h.1) (refl, refl, first.parts ∙ ap (λ (n : ℕ). n ∷ a.0.1) (eqb-true _ _ h.0)))
       | inr h ↦
-          let g = guard_then (eqb a.0.0 0x32) fault.Version (small_at 0 1 a.0.1 >>= λ end. Ok (SECOND, end_of end.0, end.1)) x h.1 in
-          let b = bind_ok (small_at 0 1 a.0.1) (λ end. Ok (SECOND, end_of end.0, end.1)) x g.1 in
+          let g = guard_then (eqb a.0.0 0x32) fault.Version (small_at 0 1 a.0.1 >>= λ end. Ok (SECOND_VERSION, end_of end.0, end.1)) x h.1 in
+          let b = bind_ok (small_at 0 1 a.0.1) (λ end. Ok (SECOND_VERSION, end_of end.0, end.1)) x g.1 in
           let p = small_takes 0 1 a.0.1 b.0 b.1 in
-          let built : Ranges × End × List ℕ = (SECOND, end_of b.0.0, b.0.1) in
+          let built : Ranges × End × List ℕ = (SECOND_VERSION, end_of b.0.0, b.0.1) in
           let whole : bytes ≡ 0x32 ∷ end_byte (end_of b.0.0) ∷ b.0.1 = first.parts ∙ ap (λ (n : ℕ). n ∷ a.0.1) (eqb-true _ _ g.0) ∙ ap (λ (y : List ℕ). 0x32 ∷ y) p.0.parts ∙ ap (λ (n : ℕ). 0x32 ∷ n ∷ b.0.1) (sym (end_byte-of b.0.0 p.1.most)) in
           inr (subst (λ (y : Ranges × End × List ℕ). IsSecond y bytes) (ok_is built x b.2) (refl, whole))
     ]
 
-first_again : (rest : List ℕ) → version_at (0x31 ∷ rest) ≡ Ok (FIRST, ends.Open, rest)
+first_again : (rest : List ℕ) → version_at (0x31 ∷ rest) ≡ Ok (FIRST_VERSION, ends.Open, rest)
 unfolding version_at
 first_again rest = refl
 
-second_again : (end : End) (rest : List ℕ) → version_at (0x32 ∷ end_byte end ∷ rest) ≡ Ok (SECOND, end, rest)
+second_again : (end : End) (rest : List ℕ) → version_at (0x32 ∷ end_byte end ∷ rest) ≡ Ok (SECOND_VERSION, end, rest)
 unfolding version_at small_at
 second_again ends.Open rest = refl
 second_again ends.Closed rest = refl
@@ -448,11 +446,11 @@ certificate_takes bytes x e =
     subst (λ (y : End × ℕ × Bound × List ℕ). IsTextThen y.0 y.1 y.2 bytes y.3) (ok_is built x g.2)
     (elim (version_takes c.0 version d.1) [
       | inl h ↦
-          let t = rest_takes FIRST FIRST-is version.2 batches tree f.1 (subst (λ (r : Ranges). node_at r DEPTH_LIMIT 0 batches.1 ≡ Ok tree) h.0 g.1) in
+          let t = rest_takes FIRST_VERSION FIRST_VERSION-is version.2 batches tree f.1 (subst (λ (r : Ranges). node_at r DEPTH_LIMIT 0 batches.1 ≡ Ok tree) h.0 g.1) in
           let parts : bytes ≡ first_text batches.0 tree.0 ++ tree.2 = mark ∙ ap (λ (y : List ℕ). 0x50 ∷ 0x43 ∷ 0x42 ∷ y) (h.2 ∙ ap (λ (y : List ℕ). 0x31 ∷ y) t.parts) ∙ sym (append_assoc (first_head batches.0) (node tree.0) tree.2) in
           (first_text batches.0 tree.0, inr (record { open_end = h.1; has_text = t.has_text; text = refl }), parts)
       | inr h ↦
-          let t = rest_takes SECOND SECOND-is version.2 batches tree f.1 (subst (λ (r : Ranges). node_at r DEPTH_LIMIT 0 batches.1 ≡ Ok tree) h.0 g.1) in
+          let t = rest_takes SECOND_VERSION SECOND_VERSION-is version.2 batches tree f.1 (subst (λ (r : Ranges). node_at r DEPTH_LIMIT 0 batches.1 ≡ Ok tree) h.0 g.1) in
           let parts : bytes ≡ second_text version.1 batches.0 tree.0 ++ tree.2 = mark ∙ ap (λ (y : List ℕ). 0x50 ∷ 0x43 ∷ 0x42 ∷ y) (h.1 ∙ ap (λ (y : List ℕ). 0x32 ∷ end_byte version.1 ∷ y) t.parts) ∙ sym (append_assoc (second_head version.1 batches.0) (node tree.0) tree.2) in
           (second_text version.1 batches.0 tree.0, inl (record { has_text = t.has_text; text = refl }), parts)
     ])
@@ -472,7 +470,7 @@ rest_again r end batches tree bytes rest v has version =
 pub certificate_again : (end : End) (batches : ℕ) (tree : Bound) (text rest : List ℕ) → IsText end batches tree text → certificate_at (text ++ rest) ≡ Ok (end, batches, tree, rest)
 certificate_again end batches tree text rest (inl is) =
     let regrouped : text ++ rest ≡ 0x50 ∷ 0x43 ∷ 0x42 ∷ 0x32 ∷ end_byte end ∷ to_be_bytes w32 batches ++ (node tree ++ rest) = ap (λ (t : List ℕ). t ++ rest) is.text ∙ append_assoc (second_head end batches) (node tree) rest in
-    ap certificate_at regrouped ∙ rest_again SECOND end batches tree (0x32 ∷ end_byte end ∷ to_be_bytes w32 batches ++ (node tree ++ rest)) rest SECOND-is is.has_text (second_again end (to_be_bytes w32 batches ++ (node tree ++ rest)))
+    ap certificate_at regrouped ∙ rest_again SECOND_VERSION end batches tree (0x32 ∷ end_byte end ∷ to_be_bytes w32 batches ++ (node tree ++ rest)) rest SECOND_VERSION-is is.has_text (second_again end (to_be_bytes w32 batches ++ (node tree ++ rest)))
 certificate_again end batches tree text rest (inr is) =
     let regrouped : text ++ rest ≡ 0x50 ∷ 0x43 ∷ 0x42 ∷ 0x31 ∷ to_be_bytes w32 batches ++ (node tree ++ rest) = ap (λ (t : List ℕ). t ++ rest) is.text ∙ append_assoc (first_head batches) (node tree) rest in
-    ap certificate_at regrouped ∙ rest_again FIRST end batches tree (0x31 ∷ to_be_bytes w32 batches ++ (node tree ++ rest)) rest FIRST-is is.has_text (first_again (to_be_bytes w32 batches ++ (node tree ++ rest)) ∙ ap (λ (e : End). Ok (FIRST, e, to_be_bytes w32 batches ++ (node tree ++ rest))) (sym is.open_end))
+    ap certificate_at regrouped ∙ rest_again FIRST_VERSION end batches tree (0x31 ∷ to_be_bytes w32 batches ++ (node tree ++ rest)) rest FIRST_VERSION-is is.has_text (first_again (to_be_bytes w32 batches ++ (node tree ++ rest)) ∙ ap (λ (e : End). Ok (FIRST_VERSION, e, to_be_bytes w32 batches ++ (node tree ++ rest))) (sym is.open_end))

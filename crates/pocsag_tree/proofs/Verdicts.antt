@@ -1,23 +1,20 @@
 -- The fault that reading meets is the first of the bytes from left to right, and there is only one.
-use Rattle.std.proofs.Common.{◌≡◌, ℕ, zero, suc, ◌+◌, ◌-◌, ◌*◌, ◌^◌, ◌<◌, ◌≤◌, ◌⊎◌, inl, inr, Bool, true, false, cond, eqb, ltb, leb, List, [], ◌∷◌, ◌++◌, length, take, drop, replicate, Option, Some, None, Result, Ok, Err, refl, sym, ap, subst, ◌∙◌, append_assoc, arith}
+use Rattle.std.proofs.Common.{◌≡◌, ℕ, zero, suc, ◌+◌, ◌-◌, ◌^◌, ◌<◌, ◌≤◌, Bool, true, false, cond, eqb, ltb, leb, List, [], ◌∷◌, ◌++◌, drop, replicate, Option, Some, None, Result, Ok, Err, refl, sym, ap, subst, ◌∙◌, arith}
 use Rattle.std.specs.Prelude.{◌&&◌}
-use Rattle.std.specs.Int.{Width, w8, w16, w32, byte_len, from_be_bytes}
-use Rattle.std.proofs.lemmas.Bool.{cases_Bool, cond_both, ltb-true, ltb-false, lt-ltb, le-ltb, le-leb, and_from, and_left}
+use Rattle.std.specs.Int.{Width, w8, w16, w32, byte_len}
+use Rattle.std.proofs.lemmas.Bool.{cond_both, ltb-true, lt-ltb, le-ltb, le-leb, and_from, and_left}
 use Rattle.pocsag_words.specs.declared.ending.End.{End}
 use Rattle.pocsag_words.specs.declared.ending.End.TheVariants as ends
 use Rattle.pocsag_tree.specs.declared.limits.Ranges.{Ranges}
-use Rattle.pocsag_tree.specs.declared.limits.TheConstants.{FIRST, SECOND, DEPTH_LIMIT, NODE_LIMIT}
+use Rattle.pocsag_tree.specs.declared.limits.TheConstants.{FIRST_VERSION, SECOND_VERSION, DEPTH_LIMIT, NODE_LIMIT}
 use Rattle.pocsag_tree.specs.declared.refusals.CertificateFault.{CertificateFault}
 use Rattle.pocsag_tree.specs.declared.refusals.CertificateFault.TheVariants as fault
-use Rattle.pocsag_tree.specs.Bounds.{Bound, Bounds, overload, split, cut, close, unexamined, none, more}
-use Rattle.pocsag_tree.specs.Parts.{Part, mark, version, field, children, node, width_of, asked_by, judged, early_fault, nodes_with, number_of, Meets, whole, trailing, early, short, wrong, right, certificate}
+use Rattle.pocsag_tree.specs.Bounds.{Bound, overload, more}
+use Rattle.pocsag_tree.specs.Parts.{Part, mark, version, field, children, node, width_of, asked_by, judged, early_fault, nodes_with, Meets, whole, trailing, early, short, wrong, right, certificate}
 use Rattle.pocsag_tree.specs.Reading.{◌>>=◌, Read, Reader, byte_at, number_at, small_at, large_at, row_at, overload_at, split_at, cut_at, close_at, body_at, tagged_at, node_at, mark_at, end_of, version_at, long_number_at, batches_at, end_at, certificate_at, all_of}
-use Rattle.pocsag_tree.proofs.Fields.{bind_ok, ok_is, NumberIs, IsShort, byte_value, byte_is_short, number_is, number_value, number_short, FourIs, long_number_is, long_number_short}
+use Rattle.pocsag_tree.proofs.Fields.{ok_is, NumberIs, IsShort, byte_value, byte_is_short, number_value, number_short, FourIs, long_number_is, long_number_short}
 
 -- ---- one verdict
-
-same_option : {A : Type 0} (x y : A) → Some x ≡ Some y → x ≡ y
-same_option x y e = cc
 
 -- no bytes have two verdicts
 pub one_verdict : {parts : List Part} {nodes : ℕ} {bytes : List ℕ} {v : Option CertificateFault} → Meets parts nodes bytes v → (w : Option CertificateFault) → Meets parts nodes bytes w → v ≡ w
@@ -139,10 +136,6 @@ past parts x = record { wanted = parts; nodes = x.1; bytes = x.2 }
 abbrev NodeLeads : Ranges → (depth : ℕ) → Reader → Type 0
 NodeLeads r depth child = (parts : List Part) (nodes : ℕ) (bytes : List ℕ) → Leads (at (node r depth ∷ parts) nodes bytes) (past parts) (child nodes bytes)
 
--- what is left after a last step that changes only the value
-ends_there : {A : Type 0} (from : Place) (to : A → Place) (x : A) → ((v : Option CertificateFault) → MeetsAt (to x) v → MeetsAt from v) → Leads from to (Ok x)
-ends_there from to x back = back
-
 row_leads : (r : Ranges) (depth : ℕ) (child : Reader) → NodeLeads r depth child → (n : ℕ) (parts : List Part) (nodes : ℕ) (bytes : List ℕ)
     → Leads (at (replicate n (node r depth) ++ parts) nodes bytes) (past parts) (row_at child n nodes bytes)
 unfolding row_at
@@ -253,16 +246,16 @@ unfolding version_at
 version_leads parts bytes = of_byte parts bytes (byte_at bytes) (one_byte bytes)
   where
     of_byte : (parts : List Part) (bytes : List ℕ) (r : Result (ℕ × List ℕ) CertificateFault) → ReadsNumber w8 bytes r
-        → Leads (at (version ∷ parts) 0 bytes) (behind_version parts) (r >>= λ byte. cond (eqb byte.0 0x31) (Ok (FIRST, ends.Open, byte.1)) (cond (eqb byte.0 0x32) (small_at 0 1 byte.1 >>= λ end. Ok (SECOND, end_of end.0, end.1)) (Err fault.Version)))
+        → Leads (at (version ∷ parts) 0 bytes) (behind_version parts) (r >>= λ byte. cond (eqb byte.0 0x31) (Ok (FIRST_VERSION, ends.Open, byte.1)) (cond (eqb byte.0 0x32) (small_at 0 1 byte.1 >>= λ end. Ok (SECOND_VERSION, end_of end.0, end.1)) (Err fault.Version)))
     of_byte parts bytes (Err f) reads = λ given. short_part version parts 0 bytes f refl (reads.ends f refl given)
     of_byte parts bytes (Ok x) reads =
-        cond_both (eqb x.0 0x31) (Ok (FIRST, ends.Open, x.1)) (cond (eqb x.0 0x32) (small_at 0 1 x.1 >>= λ end. Ok (SECOND, end_of end.0, end.1)) (Err fault.Version)) (Leads (at (version ∷ parts) 0 bytes) (behind_version parts))
-        (λ t. λ v m. right_part version (field w32 1 (2 ^ 32 - 1) ∷ node FIRST 1 ∷ []) parts 0 x.0 bytes x.1 v refl (reads.value x refl) (rw t refl) m)
-        (λ s. cond_both (eqb x.0 0x32) (small_at 0 1 x.1 >>= λ end. Ok (SECOND, end_of end.0, end.1)) (Err fault.Version) (Leads (at (version ∷ parts) 0 bytes) (behind_version parts))
-        (λ t. along (at (version ∷ parts) 0 bytes) (at (field w8 0 1 ∷ field w32 1 (2 ^ 32 - 1) ∷ node SECOND 1 ∷ parts) 0 x.1) (behind_version parts) (small_at 0 1 x.1 >>= λ end. Ok (SECOND, end_of end.0, end.1))
-        (λ v m. right_part version (field w8 0 1 ∷ field w32 1 (2 ^ 32 - 1) ∷ node SECOND 1 ∷ []) parts 0 x.0 bytes x.1 v refl (reads.value x refl) (rw (s, t) refl) m)
-        (then_leads (at (field w8 0 1 ∷ field w32 1 (2 ^ 32 - 1) ∷ node SECOND 1 ∷ parts) 0 x.1) (λ y. at (field w32 1 (2 ^ 32 - 1) ∷ node SECOND 1 ∷ parts) 0 y.1) (behind_version parts) (small_at 0 1 x.1) (λ end. Ok (SECOND, end_of end.0, end.1))
-        (small_leads 0 1 0 (field w32 1 (2 ^ 32 - 1) ∷ node SECOND 1 ∷ parts) x.1) (λ y is. λ v m. m)))
+        cond_both (eqb x.0 0x31) (Ok (FIRST_VERSION, ends.Open, x.1)) (cond (eqb x.0 0x32) (small_at 0 1 x.1 >>= λ end. Ok (SECOND_VERSION, end_of end.0, end.1)) (Err fault.Version)) (Leads (at (version ∷ parts) 0 bytes) (behind_version parts))
+        (λ t. λ v m. right_part version (field w32 1 (2 ^ 32 - 1) ∷ node FIRST_VERSION 1 ∷ []) parts 0 x.0 bytes x.1 v refl (reads.value x refl) (rw t refl) m)
+        (λ s. cond_both (eqb x.0 0x32) (small_at 0 1 x.1 >>= λ end. Ok (SECOND_VERSION, end_of end.0, end.1)) (Err fault.Version) (Leads (at (version ∷ parts) 0 bytes) (behind_version parts))
+        (λ t. along (at (version ∷ parts) 0 bytes) (at (field w8 0 1 ∷ field w32 1 (2 ^ 32 - 1) ∷ node SECOND_VERSION 1 ∷ parts) 0 x.1) (behind_version parts) (small_at 0 1 x.1 >>= λ end. Ok (SECOND_VERSION, end_of end.0, end.1))
+        (λ v m. right_part version (field w8 0 1 ∷ field w32 1 (2 ^ 32 - 1) ∷ node SECOND_VERSION 1 ∷ []) parts 0 x.0 bytes x.1 v refl (reads.value x refl) (rw (s, t) refl) m)
+        (then_leads (at (field w8 0 1 ∷ field w32 1 (2 ^ 32 - 1) ∷ node SECOND_VERSION 1 ∷ parts) 0 x.1) (λ y. at (field w32 1 (2 ^ 32 - 1) ∷ node SECOND_VERSION 1 ∷ parts) 0 y.1) (behind_version parts) (small_at 0 1 x.1) (λ end. Ok (SECOND_VERSION, end_of end.0, end.1))
+        (small_leads 0 1 0 (field w32 1 (2 ^ 32 - 1) ∷ node SECOND_VERSION 1 ∷ parts) x.1) (λ y is. λ v m. m)))
         (λ t. λ given. wrong_part version parts 0 x.0 bytes x.1 fault.Version refl (reads.value x refl) (rw (s, t) refl)))
 
 batches_leads : (nodes : ℕ) (parts : List Part) (bytes : List ℕ) → Leads (at (field w32 1 (2 ^ 32 - 1) ∷ parts) nodes bytes) (λ x. at parts nodes x.1) (batches_at bytes)

@@ -1,12 +1,12 @@
 -- What `read_certificate` answers for the bytes that its reader held.
-use Rattle.std.specs.Prelude.{◌≡◌, ℕ, ◌⊎◌, List, Result, Ok, Err}
+use Rattle.std.specs.Prelude.{◌≡◌, ℕ, ◌-◌, ◌⊎◌, List, length, take, None, Result, Ok, Err}
 use Rattle.pocsag_words.specs.declared.ending.End.{End}
 use Rattle.pocsag_tree.specs.declared.shape.Certificate.{Certificate}
 use Rattle.pocsag_tree.specs.declared.refusals.CertificateFault.{CertificateFault}
 use Rattle.pocsag_tree.specs.declared.refusals.CertificateFault.TheVariants as fault
 use Rattle.pocsag_tree.specs.Bounds.{Bound}
 use Rattle.pocsag_tree.specs.Views.{bound_of}
-use Rattle.pocsag_tree.specs.Parts.{HasFirst}
+use Rattle.pocsag_tree.specs.Parts.{Meets, certificate, HasFirst}
 
 -- The reader failed, or a growth was refused: no fault of the bytes.
 abbrev pub IsRefusal : CertificateFault → Type 0
@@ -33,3 +33,12 @@ AnswersFault (Err e) f = IsRefusal e ⊎ (e ≡ f)
 -- Reader or memory refused, or the fault is the first of the bytes.
 abbrev pub IsFault : CertificateFault → List ℕ → Type 0
 IsFault e bytes = IsRefusal e ⊎ HasFirst e bytes
+
+-- The bytes that a reader gave: all that it held before, but as many of the last as it holds after.
+abbrev pub given_before : (before after : List ℕ) → List ℕ
+given_before before after = take (length before - length after) before
+
+-- Nothing is wrong with the bytes so far: what is met first in them is their end, where a byte is
+-- wanted, or they are whole.
+abbrev pub HasNoFault : List ℕ → Type 0
+HasNoFault bytes = HasFirst fault.Truncated bytes ⊎ Meets certificate 0 bytes None

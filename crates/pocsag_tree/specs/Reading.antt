@@ -1,11 +1,11 @@
 -- Reading a certificate from a list of bytes, field by field. Only contracts of private functions speak
 -- of it: what a certificate is, and which fault is answered, stands in `Spelling` and `Parts`.
-use Rattle.std.specs.Prelude.{◌≡◌, ℕ, zero, suc, ◌+◌, ◌*◌, ◌==◌, ◌&&◌, nat_lt, nat_le, if◌then◌else◌, List, [], ◌∷◌, Result, Ok, Err}
+use Rattle.std.specs.Prelude.{◌≡◌, ℕ, zero, suc, ◌+◌, ◌-◌, ◌*◌, ◌==◌, ◌&&◌, nat_lt, nat_le, if◌then◌else◌, List, [], ◌∷◌, length, take, Result, Ok, Err}
 use Rattle.pocsag_words.specs.declared.ending.End.{End}
 use Rattle.pocsag_words.specs.declared.ending.End.TheVariants as ends
 use Rattle.pocsag_words.specs.Devices.{one_more}
 use Rattle.pocsag_tree.specs.declared.limits.Ranges.{Ranges}
-use Rattle.pocsag_tree.specs.declared.limits.TheConstants.{FIRST, SECOND, DEPTH_LIMIT, NODE_LIMIT}
+use Rattle.pocsag_tree.specs.declared.limits.TheConstants.{FIRST_VERSION, SECOND_VERSION, DEPTH_LIMIT, NODE_LIMIT}
 use Rattle.pocsag_tree.specs.declared.refusals.CertificateFault.{CertificateFault}
 use Rattle.pocsag_tree.specs.declared.refusals.CertificateFault.TheVariants as fault
 use Rattle.pocsag_tree.specs.Bounds.{Bound, Bounds, overload, split, cut, close, unexamined, none, more}
@@ -15,15 +15,20 @@ abbrev pub ◌>>=◌ : {A B : Type 0} → Result A CertificateFault → (A → R
 (Ok x) >>= f = f x
 (Err e) >>= f = Err e
 
--- What a function returned, seen by view, is what reading gives, unless reader or memory refused.
-abbrev pub Fails : {Y : Type 0} → CertificateFault → Result Y CertificateFault → Type 0
-Fails fault.ReadFault read = Unit {0}
-Fails fault.OutOfMemory read = Unit {0}
-Fails f read = read ≡ Err f
+-- All but the last k bytes.
+unfoldable pub but_last : ℕ → List ℕ → List ℕ
+but_last k bytes = take (length bytes - k) bytes
 
-abbrev pub Gives : {X Y : Type 0} → (X → Y) → Result X CertificateFault → Result Y CertificateFault → Type 0
-Gives view (Ok x) read = read ≡ Ok (view x)
-Gives view (Err e) read = Fails e read
+-- What a function returned, seen by view, is what reading gives, unless reader or memory refused. Where
+-- the reader failed, and just the bytes before that were read, their end comes where a byte is wanted.
+abbrev pub Fails : {Y : Type 0} → CertificateFault → (stopped : Type 0) → Result Y CertificateFault → Type 0
+Fails fault.ReadFault stopped read = stopped → read ≡ Err fault.Truncated
+Fails fault.OutOfMemory stopped read = Unit {0}
+Fails f stopped read = read ≡ Err f
+
+abbrev pub Gives : {X Y : Type 0} → (X → Y) → (stopped : Type 0) → Result X CertificateFault → Result Y CertificateFault → Type 0
+Gives view stopped (Ok x) read = read ≡ Ok (view x)
+Gives view stopped (Err e) read = Fails e stopped read
 
 -- The count of failures after a call: one more where the reader failed, which ends the call.
 abbrev pub failed_after : {X : Type 0} → Result X CertificateFault → ℕ → ℕ
@@ -120,7 +125,7 @@ end_of n = if n == 0 then ends.Open else ends.Closed
 unfoldable pub version_at : List ℕ → Result (Ranges × End × List ℕ) CertificateFault
 version_at bytes = do
   byte ← byte_at bytes
-  if byte.0 == 0x31 then Ok (FIRST, ends.Open, byte.1) else if byte.0 == 0x32 then (small_at 0 1 byte.1 >>= λ end. Ok (SECOND, end_of end.0, end.1)) else Err fault.Version
+  if byte.0 == 0x31 then Ok (FIRST_VERSION, ends.Open, byte.1) else if byte.0 == 0x32 then (small_at 0 1 byte.1 >>= λ end. Ok (SECOND_VERSION, end_of end.0, end.1)) else Err fault.Version
 
 unfoldable pub long_number_at : List ℕ → Result (ℕ × List ℕ) CertificateFault
 long_number_at bytes = do
@@ -155,3 +160,8 @@ all_of bytes = do
   whole ← certificate_at bytes
   finished ← end_at whole.3
   Ok (whole.0, whole.1, whole.2)
+
+-- The bytes end where one is wanted, or with a certificate.
+abbrev pub IsWanting : Result (End × ℕ × Bound × List ℕ) CertificateFault → Type 0
+IsWanting (Ok x) = x.3 ≡ []
+IsWanting (Err e) = e ≡ fault.Truncated

@@ -9,21 +9,25 @@ ghost use Rattle.pocsag_tree.specs.Parts.{HasFirst};
 
 /// No two certificates have one text, over both versions together.
 pub fn one_certificate()
-    ensures { (bytes : List ℕ) (end other_end : End) (batches other_batches : ℕ) (tree other_tree : Bound)
+    ensures { (bytes : List ℕ)
+        (end other_end : End) (batches other_batches : ℕ) (tree other_tree : Bound)
         → IsText end batches tree bytes → IsText other_end other_batches other_tree bytes
         → (end ≡ other_end) × (batches ≡ other_batches) × (tree ≡ other_tree) }
 {}
 
 /// No text of a certificate is a proper prefix of another, over both versions together.
 pub fn no_text_begins_another()
-    ensures { (bytes more : List ℕ) (end other_end : End) (batches other_batches : ℕ) (tree other_tree : Bound)
+    ensures { (bytes more : List ℕ)
+        (end other_end : End) (batches other_batches : ℕ) (tree other_tree : Bound)
         → IsText end batches tree bytes → IsText other_end other_batches other_tree (bytes ++ more)
         → more ≡ [] }
 {}
 
 /// Bytes have at most one first fault, and a text of a certificate has none.
 pub fn one_fault()
-    ensures same { (bytes : List ℕ) (f g : CertificateFault) → HasFirst f bytes → HasFirst g bytes → f ≡ g }
-    ensures none { (bytes : List ℕ) (end : End) (batches : ℕ) (tree : Bound) (f : CertificateFault)
+    ensures same { (bytes : List ℕ) (f g : CertificateFault)
+        → HasFirst f bytes → HasFirst g bytes → f ≡ g }
+    ensures none { (bytes : List ℕ) (end : End) (batches : ℕ) (tree : Bound)
+        (f : CertificateFault)
         → IsText end batches tree bytes → ¬ HasFirst f bytes }
 {}

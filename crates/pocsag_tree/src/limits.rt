@@ -24,7 +24,7 @@ pub struct Ranges {
 }
 
 /// The ranges of version PCB1, a shorter form for the open end, which is read but never written.
-pub const FIRST: Ranges = Ranges {
+pub const FIRST_VERSION: Ranges = Ranges {
     class: 127,
     m: 2_000,
     children: 272,
@@ -32,7 +32,7 @@ pub const FIRST: Ranges = Ranges {
 };
 
 /// The ranges of version PCB2, which is the one that is written.
-pub const SECOND: Ranges = Ranges {
+pub const SECOND_VERSION: Ranges = Ranges {
     class: 135,
     m: 20_000,
     children: 288,

@@ -1,15 +1,15 @@
-ghost use Rattle.std.specs.Prelude.{◌≡◌, ℕ, ◌+◌, ◌<◌, ◌≤◌, List, [], ◌∷◌, IfOk, IfErr, OnOk, IsErrOf, MatchOption};
+ghost use Rattle.std.specs.Prelude.{◌≡◌, ℕ, ◌+◌, ◌<◌, ◌≤◌, List, [], ◌∷◌, length, IfOk, IfErr, OnOk, OnErr, IsErrOf, MatchOption};
 ghost use Rattle.pocsag_words.specs.declared.ending.End.{End};
 ghost use Rattle.pocsag_words.specs.Devices.{HasFailed};
 ghost use Rattle.pocsag_tree.specs.Bounds.{Bound, all_nodes, all_nodes_in, depth_of, deepest};
 ghost use Rattle.pocsag_tree.specs.Views.{bound_of, bounds_of};
 ghost use Rattle.pocsag_tree.specs.Spelling.{IsText};
 ghost use Rattle.pocsag_tree.specs.Parts.{HasFirst};
-ghost use Rattle.pocsag_tree.specs.Answers.{AnswersTriple, AnswersFault, IsFault};
+ghost use Rattle.pocsag_tree.specs.Answers.{AnswersTriple, AnswersFault, IsFault, HasNoFault, given_before};
 ghost use Rattle.pocsag_tree.specs.declared.refusals.CertificateFault.{CertificateFault};
-ghost use Rattle.pocsag_tree.specs.Reading.{Gives, failed_after, byte_at, number_at, small_at, large_at, row_at, overload_at, split_at, cut_at, close_at, body_at, tagged_at, node_at, mark_at, version_at, long_number_at, batches_at, end_at, end_of, certificate_at, all_of};
+ghost use Rattle.pocsag_tree.specs.Reading.{Gives, IsWanting, but_last, failed_after, byte_at, number_at, small_at, large_at, row_at, overload_at, split_at, cut_at, close_at, body_at, tagged_at, node_at, mark_at, version_at, long_number_at, batches_at, end_at, end_of, certificate_at, all_of};
 
-use crate::limits::{DEPTH_LIMIT, FIRST, NODE_LIMIT, Ranges, SECOND};
+use crate::limits::{DEPTH_LIMIT, FIRST_VERSION, NODE_LIMIT, Ranges, SECOND_VERSION};
 use crate::refusals::CertificateFault;
 use crate::shape::{Certificate, Tree};
 use pocsag_words::{End, Source};
@@ -22,6 +22,7 @@ fn read_byte<S: Source>(source: &mut S) -> Result<Option<u8>, CertificateFault>
     ensures told { S.tells → IfOk result (λ next. MatchOption next
         ((S.held source.old ≡ []) × (S.held source.new ≡ []))
         (λ byte. S.held source.old ≡ byte ∷ S.held source.new)) }
+    ensures kept { S.tells → OnErr result (S.held source.new ≡ S.held source.old) }
 {
     let mut buffer = [0u8; 1];
     let count = source.read(&mut buffer)?;
@@ -32,9 +33,13 @@ fn read_byte<S: Source>(source: &mut S) -> Result<Option<u8>, CertificateFault>
 }
 
 // The next byte, which is wanted.
+#[tactic(auto, using(crate::proofs::Fronts::but_last_cons, crate::proofs::Fronts::but_last_all))]
 fn next_byte<S: Source>(source: &mut S) -> Result<u8, CertificateFault>
     ensures failures { S.failures source.new ≡ failed_after result (S.failures source.old) }
-    ensures bytes { S.tells → Gives (λ n. (n, S.held source.new)) result (byte_at (S.held source.old)) }
+    ensures shrinks { S.tells → length (S.held source.new) ≤ length (S.held source.old) }
+    ensures bytes { S.tells → (k : ℕ) → k ≤ length (S.held source.new)
+        → Gives (λ n. (n, but_last k (S.held source.new)))
+        (k ≡ length (S.held source.new)) result (byte_at (but_last k (S.held source.old))) }
 {
     match read_byte(source)? {
         Some(byte) => Ok(byte),
@@ -46,7 +51,10 @@ fn next_byte<S: Source>(source: &mut S) -> Result<u8, CertificateFault>
 #[tactic(auto, unfolding(crate::specs::Reading::number_at))]
 fn next_number<S: Source>(source: &mut S) -> Result<u16, CertificateFault>
     ensures failures { S.failures source.new ≡ failed_after result (S.failures source.old) }
-    ensures bytes { S.tells → Gives (λ n. (n, S.held source.new)) result (number_at (S.held source.old)) }
+    ensures shrinks { S.tells → length (S.held source.new) ≤ length (S.held source.old) }
+    ensures bytes { S.tells → (k : ℕ) → k ≤ length (S.held source.new)
+        → Gives (λ n. (n, but_last k (S.held source.new)))
+        (k ≡ length (S.held source.new)) result (number_at (but_last k (S.held source.old))) }
 {
     let high = next_byte(source)?;
     let low = next_byte(source)?;
@@ -57,7 +65,11 @@ fn next_number<S: Source>(source: &mut S) -> Result<u16, CertificateFault>
 #[tactic(auto, unfolding(crate::specs::Reading::small_at))]
 fn small<S: Source>(low: u8, high: u8, source: &mut S) -> Result<u8, CertificateFault>
     ensures failures { S.failures source.new ≡ failed_after result (S.failures source.old) }
-    ensures bytes { S.tells → Gives (λ n. (n, S.held source.new)) result (small_at low high (S.held source.old)) }
+    ensures shrinks { S.tells → length (S.held source.new) ≤ length (S.held source.old) }
+    ensures bytes { S.tells → (k : ℕ) → k ≤ length (S.held source.new)
+        → Gives (λ n. (n, but_last k (S.held source.new)))
+        (k ≡ length (S.held source.new)) result
+        (small_at low high (but_last k (S.held source.old))) }
 {
     let number = next_byte(source)?;
     if low <= number && number <= high {
@@ -71,7 +83,11 @@ fn small<S: Source>(low: u8, high: u8, source: &mut S) -> Result<u8, Certificate
 #[tactic(auto, unfolding(crate::specs::Reading::large_at))]
 fn large<S: Source>(low: u16, high: u16, source: &mut S) -> Result<u16, CertificateFault>
     ensures failures { S.failures source.new ≡ failed_after result (S.failures source.old) }
-    ensures bytes { S.tells → Gives (λ n. (n, S.held source.new)) result (large_at low high (S.held source.old)) }
+    ensures shrinks { S.tells → length (S.held source.new) ≤ length (S.held source.old) }
+    ensures bytes { S.tells → (k : ℕ) → k ≤ length (S.held source.new)
+        → Gives (λ n. (n, but_last k (S.held source.new)))
+        (k ≡ length (S.held source.new)) result
+        (large_at low high (but_last k (S.held source.old))) }
 {
     let number = next_number(source)?;
     if low <= number && number <= high {
@@ -84,7 +100,10 @@ fn large<S: Source>(low: u16, high: u16, source: &mut S) -> Result<u16, Certific
 #[tactic(auto, unfolding(crate::specs::Reading::mark_at))]
 fn mark<S: Source>(wanted: u8, source: &mut S) -> Result<(), CertificateFault>
     ensures failures { S.failures source.new ≡ failed_after result (S.failures source.old) }
-    ensures bytes { S.tells → Gives (λ _. S.held source.new) result (mark_at wanted (S.held source.old)) }
+    ensures shrinks { S.tells → length (S.held source.new) ≤ length (S.held source.old) }
+    ensures bytes { S.tells → (k : ℕ) → k ≤ length (S.held source.new)
+        → Gives (λ _. but_last k (S.held source.new))
+        (k ≡ length (S.held source.new)) result (mark_at wanted (but_last k (S.held source.old))) }
 {
     if next_byte(source)? == wanted {
         Ok(())
@@ -103,15 +122,18 @@ fn end_from(byte: u8) -> End
 #[tactic(auto, unfolding(crate::specs::Reading::version_at))]
 fn version<S: Source>(source: &mut S) -> Result<(Ranges, End), CertificateFault>
     ensures failures { S.failures source.new ≡ failed_after result (S.failures source.old) }
-    ensures bytes { S.tells → Gives (λ x. (x.0, x.1, S.held source.new)) result (version_at (S.held source.old)) }
+    ensures shrinks { S.tells → length (S.held source.new) ≤ length (S.held source.old) }
+    ensures bytes { S.tells → (k : ℕ) → k ≤ length (S.held source.new)
+        → Gives (λ x. (x.0, x.1, but_last k (S.held source.new)))
+        (k ≡ length (S.held source.new)) result (version_at (but_last k (S.held source.old))) }
 {
     let byte = next_byte(source)?;
     if byte == 0x31 {
-        return Ok((FIRST, End::Open));
+        return Ok((FIRST_VERSION, End::Open));
     }
     if byte == 0x32 {
         let end = small(0, 1, source)?;
-        return Ok((SECOND, end_from(end)));
+        return Ok((SECOND_VERSION, end_from(end)));
     }
     Err(CertificateFault::Version)
 }
@@ -120,7 +142,10 @@ fn version<S: Source>(source: &mut S) -> Result<(Ranges, End), CertificateFault>
 #[tactic(auto, unfolding(crate::specs::Reading::long_number_at))]
 fn next_long_number<S: Source>(source: &mut S) -> Result<u32, CertificateFault>
     ensures failures { S.failures source.new ≡ failed_after result (S.failures source.old) }
-    ensures bytes { S.tells → Gives (λ n. (n, S.held source.new)) result (long_number_at (S.held source.old)) }
+    ensures shrinks { S.tells → length (S.held source.new) ≤ length (S.held source.old) }
+    ensures bytes { S.tells → (k : ℕ) → k ≤ length (S.held source.new)
+        → Gives (λ n. (n, but_last k (S.held source.new)))
+        (k ≡ length (S.held source.new)) result (long_number_at (but_last k (S.held source.old))) }
 {
     let high = next_number(source)?;
     let low = next_number(source)?;
@@ -130,7 +155,10 @@ fn next_long_number<S: Source>(source: &mut S) -> Result<u32, CertificateFault>
 #[tactic(auto, unfolding(crate::specs::Reading::batches_at))]
 fn batches<S: Source>(source: &mut S) -> Result<u32, CertificateFault>
     ensures failures { S.failures source.new ≡ failed_after result (S.failures source.old) }
-    ensures bytes { S.tells → Gives (λ n. (n, S.held source.new)) result (batches_at (S.held source.old)) }
+    ensures shrinks { S.tells → length (S.held source.new) ≤ length (S.held source.old) }
+    ensures bytes { S.tells → (k : ℕ) → k ≤ length (S.held source.new)
+        → Gives (λ n. (n, but_last k (S.held source.new)))
+        (k ≡ length (S.held source.new)) result (batches_at (but_last k (S.held source.old))) }
 {
     let number = next_long_number(source)?;
     if 1 <= number {
@@ -143,7 +171,10 @@ fn batches<S: Source>(source: &mut S) -> Result<u32, CertificateFault>
 #[tactic(auto, unfolding(crate::specs::Reading::end_at))]
 fn end<S: Source>(source: &mut S) -> Result<(), CertificateFault>
     ensures failures { S.failures source.new ≡ failed_after result (S.failures source.old) }
-    ensures bytes { S.tells → Gives (λ _. tt) result (end_at (S.held source.old)) }
+    ensures shrinks { S.tells → length (S.held source.new) ≤ length (S.held source.old) }
+    ensures bytes { S.tells → Gives (λ _. tt) ⊥ result (end_at (S.held source.old)) }
+    ensures kept { S.tells → IsErrOf result CertificateFault.ReadFault
+        → S.held source.new ≡ S.held source.old }
 {
     match read_byte(source)? {
         Some(_) => Err(CertificateFault::Trailing),
@@ -165,8 +196,11 @@ fn node<S: Source>(
     ensures counted { IfOk result (λ x. made + all_nodes (bound_of x.0) ≡ x.1) }
     ensures few { IfOk result (λ x. x.1 ≤ 1000000) }
     ensures failures { S.failures source.new ≡ failed_after result (S.failures source.old) }
-    ensures bytes { S.tells → Gives (λ x. (bound_of x.0, x.1, S.held source.new)) result
-        (node_at ranges depth made (S.held source.old)) }
+    ensures shrinks { S.tells → length (S.held source.new) ≤ length (S.held source.old) }
+    ensures bytes { S.tells → (k : ℕ) → k ≤ length (S.held source.new)
+        → Gives (λ x. (bound_of x.0, x.1, but_last k (S.held source.new)))
+        (k ≡ length (S.held source.new)) result
+        (node_at ranges depth made (but_last k (S.held source.old))) }
 {
     if depth == 0 {
         return Err(CertificateFault::TooDeep);
@@ -191,8 +225,11 @@ fn tagged<S: Source>(
     ensures counted { IfOk result (λ x. made + all_nodes (bound_of x.0) ≡ x.1) }
     ensures few { IfOk result (λ x. x.1 ≤ 1000000) }
     ensures failures { S.failures source.new ≡ failed_after result (S.failures source.old) }
-    ensures bytes { S.tells → Gives (λ x. (bound_of x.0, x.1, S.held source.new)) result
-        (tagged_at ranges (node_at ranges depth) made (S.held source.old)) }
+    ensures shrinks { S.tells → length (S.held source.new) ≤ length (S.held source.old) }
+    ensures bytes { S.tells → (k : ℕ) → k ≤ length (S.held source.new)
+        → Gives (λ x. (bound_of x.0, x.1, but_last k (S.held source.new)))
+        (k ≡ length (S.held source.new)) result
+        (tagged_at ranges (node_at ranges depth) made (but_last k (S.held source.old))) }
 {
     let tag = next_byte(source)?;
     if tag > ranges.tag {
@@ -216,8 +253,11 @@ fn body<S: Source>(
     ensures counted { IfOk result (λ x. made + all_nodes (bound_of x.0) ≡ x.1 + 1) }
     ensures few { IfOk result (λ x. x.1 ≤ 1000000) }
     ensures failures { S.failures source.new ≡ failed_after result (S.failures source.old) }
-    ensures bytes { S.tells → Gives (λ x. (bound_of x.0, x.1, S.held source.new)) result
-        (body_at ranges (node_at ranges depth) tag made (S.held source.old)) }
+    ensures shrinks { S.tells → length (S.held source.new) ≤ length (S.held source.old) }
+    ensures bytes { S.tells → (k : ℕ) → k ≤ length (S.held source.new)
+        → Gives (λ x. (bound_of x.0, x.1, but_last k (S.held source.new)))
+        (k ≡ length (S.held source.new)) result
+        (body_at ranges (node_at ranges depth) tag made (but_last k (S.held source.old))) }
 {
     match tag {
         0 => overload(made, source),
@@ -235,8 +275,11 @@ fn overload<S: Source>(made: u32, source: &mut S) -> Result<(Tree, u32), Certifi
     ensures counted { IfOk result (λ x. made + all_nodes (bound_of x.0) ≡ x.1 + 1) }
     ensures few { IfOk result (λ x. x.1 ≤ 1000000) }
     ensures failures { S.failures source.new ≡ failed_after result (S.failures source.old) }
-    ensures bytes { S.tells → Gives (λ x. (bound_of x.0, x.1, S.held source.new)) result
-        (overload_at made (S.held source.old)) }
+    ensures shrinks { S.tells → length (S.held source.new) ≤ length (S.held source.old) }
+    ensures bytes { S.tells → (k : ℕ) → k ≤ length (S.held source.new)
+        → Gives (λ x. (bound_of x.0, x.1, but_last k (S.held source.new)))
+        (k ≡ length (S.held source.new)) result
+        (overload_at made (but_last k (S.held source.old))) }
 {
     let set = large(1, u16::MAX, source)?;
     Ok((Tree::Overload(set), made))
@@ -256,8 +299,11 @@ fn split<S: Source>(
     ensures counted { IfOk result (λ x. made + all_nodes (bound_of x.0) ≡ x.1 + 1) }
     ensures few { IfOk result (λ x. x.1 ≤ 1000000) }
     ensures failures { S.failures source.new ≡ failed_after result (S.failures source.old) }
-    ensures bytes { S.tells → Gives (λ x. (bound_of x.0, x.1, S.held source.new)) result
-        (split_at ranges (node_at ranges depth) made (S.held source.old)) }
+    ensures shrinks { S.tells → length (S.held source.new) ≤ length (S.held source.old) }
+    ensures bytes { S.tells → (k : ℕ) → k ≤ length (S.held source.new)
+        → Gives (λ x. (bound_of x.0, x.1, but_last k (S.held source.new)))
+        (k ≡ length (S.held source.new)) result
+        (split_at ranges (node_at ranges depth) made (but_last k (S.held source.old))) }
 {
     let class = small(0, ranges.class, source)?;
     let m = large(1, ranges.m, source)?;
@@ -290,8 +336,11 @@ fn cut<S: Source>(
     ensures counted { IfOk result (λ x. made + all_nodes (bound_of x.0) ≡ x.1 + 1) }
     ensures few { IfOk result (λ x. x.1 ≤ 1000000) }
     ensures failures { S.failures source.new ≡ failed_after result (S.failures source.old) }
-    ensures bytes { S.tells → Gives (λ x. (bound_of x.0, x.1, S.held source.new)) result
-        (cut_at ranges (node_at ranges depth) made (S.held source.old)) }
+    ensures shrinks { S.tells → length (S.held source.new) ≤ length (S.held source.old) }
+    ensures bytes { S.tells → (k : ℕ) → k ≤ length (S.held source.new)
+        → Gives (λ x. (bound_of x.0, x.1, but_last k (S.held source.new)))
+        (k ≡ length (S.held source.new)) result
+        (cut_at ranges (node_at ranges depth) made (but_last k (S.held source.old))) }
 {
     let set = large(1, u16::MAX, source)?;
     let needed = small(0, ranges.class, source)?;
@@ -321,8 +370,11 @@ fn close<S: Source>(
     ensures counted { IfOk result (λ x. made + all_nodes (bound_of x.0) ≡ x.1 + 1) }
     ensures few { IfOk result (λ x. x.1 ≤ 1000000) }
     ensures failures { S.failures source.new ≡ failed_after result (S.failures source.old) }
-    ensures bytes { S.tells → Gives (λ x. (bound_of x.0, x.1, S.held source.new)) result
-        (close_at (node_at ranges depth) made (S.held source.old)) }
+    ensures shrinks { S.tells → length (S.held source.new) ≤ length (S.held source.old) }
+    ensures bytes { S.tells → (k : ℕ) → k ≤ length (S.held source.new)
+        → Gives (λ x. (bound_of x.0, x.1, but_last k (S.held source.new)))
+        (k ≡ length (S.held source.new)) result
+        (close_at (node_at ranges depth) made (but_last k (S.held source.old))) }
 {
     let count = small(1, 2, source)?;
     let (children, made) = row(alloc, ranges, depth, made, u16::from(count), source)?;
@@ -344,8 +396,11 @@ fn row<S: Source>(
     ensures counted { IfOk result (λ x. made + all_nodes_in (bounds_of x.0.items) ≡ x.1) }
     ensures few { IfOk result (λ x. x.1 ≤ 1000000) }
     ensures failures { S.failures source.new ≡ failed_after result (S.failures source.old) }
-    ensures bytes { S.tells → Gives (λ x. (bounds_of x.0.items, x.1, S.held source.new)) result
-        (row_at (node_at ranges depth) count made (S.held source.old)) }
+    ensures shrinks { S.tells → length (S.held source.new) ≤ length (S.held source.old) }
+    ensures bytes { S.tells → (k : ℕ) → k ≤ length (S.held source.new)
+        → Gives (λ x. (bounds_of x.0.items, x.1, but_last k (S.held source.new)))
+        (k ≡ length (S.held source.new)) result
+        (row_at (node_at ranges depth) count made (but_last k (S.held source.old))) }
 {
     let mut children = Vec::with_capacity(alloc, usize::from(count))?;
     let mut reached = made;
@@ -363,8 +418,11 @@ fn certificate<S: Source>(alloc: Global, source: &mut S) -> Result<Certificate, 
     ensures deep { IfOk result (λ c. depth_of (bound_of c.tree) ≤ 300) }
     ensures few { IfOk result (λ c. all_nodes (bound_of c.tree) ≤ 1000000) }
     ensures failures { S.failures source.new ≡ failed_after result (S.failures source.old) }
-    ensures bytes { S.tells → Gives (λ c. (c.end, c.batches, bound_of c.tree, S.held source.new)) result
-        (certificate_at (S.held source.old)) }
+    ensures shrinks { S.tells → length (S.held source.new) ≤ length (S.held source.old) }
+    ensures bytes { S.tells → (k : ℕ) → k ≤ length (S.held source.new)
+        → Gives (λ c. (c.end, c.batches, bound_of c.tree, but_last k (S.held source.new)))
+        (k ≡ length (S.held source.new)) result
+        (certificate_at (but_last k (S.held source.old))) }
 {
     mark(0x50, source)?;
     mark(0x43, source)?;
@@ -376,12 +434,15 @@ fn certificate<S: Source>(alloc: Global, source: &mut S) -> Result<Certificate, 
 }
 
 // A certificate, and then the end.
-#[tactic(auto, unfolding(crate::specs::Reading::all_of))]
+#[tactic(auto, using(crate::proofs::Fronts::but_last_none), unfolding(crate::specs::Reading::all_of))]
 fn all<S: Source>(alloc: Global, source: &mut S) -> Result<Certificate, CertificateFault>
     ensures deep { IfOk result (λ c. depth_of (bound_of c.tree) ≤ 300) }
     ensures few { IfOk result (λ c. all_nodes (bound_of c.tree) ≤ 1000000) }
     ensures failures { S.failures source.new ≡ failed_after result (S.failures source.old) }
-    ensures bytes { S.tells → Gives (λ c. (c.end, c.batches, bound_of c.tree)) result (all_of (S.held source.old)) }
+    ensures bytes { S.tells → Gives (λ c. (c.end, c.batches, bound_of c.tree)) ⊥ result
+        (all_of (S.held source.old)) }
+    ensures wanting { S.tells → IsErrOf result CertificateFault.ReadFault
+        → IsWanting (certificate_at (but_last (length (S.held source.new)) (S.held source.old))) }
 {
     let certificate = certificate(alloc, source)?;
     end(source)?;
@@ -390,25 +451,34 @@ fn all<S: Source>(alloc: Global, source: &mut S) -> Result<Certificate, Certific
 
 /// Reads a certificate, in version PCB2 or PCB1, up to the end of the input.
 ///
-/// The fault is the first from left to right. It reads no node deeper than `DEPTH_LIMIT` and no more
-/// than `NODE_LIMIT` nodes, whatever the bytes are; time and memory are linear in the bytes read.
+/// The fault is the first from left to right. It reads no node deeper than `DEPTH_LIMIT` and no
+/// more than `NODE_LIMIT` nodes, whatever the bytes are. It takes one byte in each read, so a reader
+/// of a file is to be buffered. Time and memory are linear in the bytes read, beside room for at
+/// most `DEPTH_LIMIT` unfinished lists of children.
 pub fn read_certificate<S: Source>(
     alloc: Global,
     reader: &mut S,
 ) -> Result<Certificate, CertificateFault>
     // What is read is what all the bytes are a text of, and what they are a text of is read.
-    ensures found { S.tells → IfOk result (λ c. IsText c.end c.batches (bound_of c.tree) (S.held reader.old)) }
+    ensures found { S.tells → IfOk result (λ c.
+        IsText c.end c.batches (bound_of c.tree) (S.held reader.old)) }
     ensures only { S.tells → (end : End) (batches : ℕ) (tree : Bound)
         → IsText end batches tree (S.held reader.old) → AnswersTriple result end batches tree }
     // A fault is the first of the bytes, and the first of the bytes is answered.
     ensures fault { S.tells → IfErr result (λ e. IsFault e (S.held reader.old)) }
-    ensures first { S.tells → (f : CertificateFault) → HasFirst f (S.held reader.old) → AnswersFault result f }
+    ensures first { S.tells → (f : CertificateFault)
+        → HasFirst f (S.held reader.old) → AnswersFault result f }
+    // No fault stands in what the reader gave before it failed.
+    ensures in_place { S.tells → IsErrOf result CertificateFault.ReadFault
+        → HasNoFault (given_before (S.held reader.old) (S.held reader.new)) }
     // What is read is small enough to be read again, also where the reader tells nothing.
     ensures deep { IfOk result (λ c. depth_of (bound_of c.tree) ≤ DEPTH_LIMIT) }
     ensures few { IfOk result (λ c. all_nodes (bound_of c.tree) ≤ NODE_LIMIT) }
     // The reader failed in this call exactly where that is answered.
-    ensures succeeded { ¬ IsErrOf result CertificateFault.ReadFault → S.failures reader.new ≡ S.failures reader.old }
-    ensures failed { IsErrOf result CertificateFault.ReadFault → HasFailed (S.failures reader.old) (S.failures reader.new) }
+    ensures succeeded { ¬ IsErrOf result CertificateFault.ReadFault
+        → S.failures reader.new ≡ S.failures reader.old }
+    ensures failed { IsErrOf result CertificateFault.ReadFault
+        → HasFailed (S.failures reader.old) (S.failures reader.new) }
 {
     all(alloc, reader)
 }

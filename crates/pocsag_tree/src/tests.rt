@@ -117,6 +117,59 @@ fn fields_out_of_range(rt: HostRuntime) {
 }
 
 #[test]
+fn greatest_fields(rt: HostRuntime) {
+    let alloc = rt.alloc();
+    refuses(
+        &rt,
+        alloc,
+        b"PCB2\0\0\0\0\x01\x01\x87",
+        CertificateFault::Truncated,
+    );
+    refuses(
+        &rt,
+        alloc,
+        b"PCB2\0\0\0\0\x01\x01\x88",
+        CertificateFault::BadField,
+    );
+    refuses(
+        &rt,
+        alloc,
+        b"PCB1\0\0\0\x01\x01\x7f\x07\xd0",
+        CertificateFault::Truncated,
+    );
+    refuses(
+        &rt,
+        alloc,
+        b"PCB1\0\0\0\x01\x01\x80",
+        CertificateFault::BadField,
+    );
+    refuses(
+        &rt,
+        alloc,
+        b"PCB2\0\0\0\0\x01\x02\0\x01\0\x01\x20",
+        CertificateFault::Truncated,
+    );
+    refuses(
+        &rt,
+        alloc,
+        b"PCB2\0\0\0\0\x01\x02\0\x01\0\x01\x21",
+        CertificateFault::BadField,
+    );
+    refuses(
+        &rt,
+        alloc,
+        b"PCB1\0\0\0\x01\x02\0\x01\0\x01\x10",
+        CertificateFault::Truncated,
+    );
+    refuses(
+        &rt,
+        alloc,
+        b"PCB2\0\0\0\0\x01\x05",
+        CertificateFault::BadTag,
+    );
+}
+
+#[test]
 fn every_certificate_cut(rt: HostRuntime) {
     for len in 0..APART.len() {
         refuses(&rt, rt.alloc(), &APART[..len], CertificateFault::Truncated);

@@ -4,7 +4,7 @@ ghost use Rattle.pocsag_tree.specs.Bounds.{all_nodes, all_nodes_in, depth_of, de
 ghost use Rattle.pocsag_tree.specs.Views.{bound_of, bounds_of};
 ghost use Rattle.pocsag_tree.specs.Spelling.{IsInRange, AreInRange, HasText, IsSet, split_head, cut_head, close_head, node, row, end_byte, second_head, second_text};
 
-use crate::limits::{DEPTH_LIMIT, NODE_LIMIT, SECOND};
+use crate::limits::{DEPTH_LIMIT, NODE_LIMIT, SECOND_VERSION};
 use crate::refusals::TreeWriteFault;
 use crate::shape::Tree;
 use pocsag_words::{DeviceFault, End, Sink, write_all};
@@ -12,13 +12,16 @@ use pocsag_words::{DeviceFault, End, Sink, write_all};
 fn are_split_fields(class: u8, m: u16) -> bool
     ensures { IsTrue result ↔ ((class ≤ 135) × (1 ≤ m) × (m ≤ 20000)) }
 {
-    class <= SECOND.class && 1 <= m && m <= SECOND.m
+    class <= SECOND_VERSION.class && 1 <= m && m <= SECOND_VERSION.m
 }
 
 fn are_cut_fields(set: u16, needed: u8, children: usize) -> bool
     ensures { IsTrue result ↔ ((1 ≤ set) × (needed ≤ 135) × (2 ≤ children) × (children ≤ 288)) }
 {
-    1 <= set && needed <= SECOND.class && 2 <= children && children <= usize::from(SECOND.children)
+    1 <= set
+        && needed <= SECOND_VERSION.class
+        && 2 <= children
+        && children <= usize::from(SECOND_VERSION.children)
 }
 
 fn is_close_count(children: usize) -> bool
@@ -32,7 +35,7 @@ fn is_close_count(children: usize) -> bool
 #[cycle(measured)]
 fn measured(tree: &Tree, depth: u32, nodes: u32) -> Option<u32>
     requires { nodes ≤ 1000000 }
-    ensures fits { IsSome result ↔ (IsInRange SECOND (bound_of tree.now)
+    ensures fits { IsSome result ↔ (IsInRange SECOND_VERSION (bound_of tree.now)
         × (depth_of (bound_of tree.now) ≤ depth)
         × (nodes + all_nodes (bound_of tree.now) ≤ 1000000)) }
     ensures count { IfSome result (λ n. n ≡ nodes + all_nodes (bound_of tree.now)) }
@@ -50,7 +53,7 @@ fn measured(tree: &Tree, depth: u32, nodes: u32) -> Option<u32>
 #[cycle(measured)]
 fn measured_node(tree: &Tree, depth: u32, nodes: u32) -> Option<u32>
     requires { nodes ≤ 1000000 }
-    ensures fits { IsSome result ↔ (IsInRange SECOND (bound_of tree.now)
+    ensures fits { IsSome result ↔ (IsInRange SECOND_VERSION (bound_of tree.now)
         × (depth_of (bound_of tree.now) ≤ depth + 1)
         × (nodes + all_nodes (bound_of tree.now) ≤ 1000001)) }
     ensures count { IfSome result (λ n. n + 1 ≡ nodes + all_nodes (bound_of tree.now)) }
@@ -99,7 +102,7 @@ fn measured_node(tree: &Tree, depth: u32, nodes: u32) -> Option<u32>
 #[cycle(measured)]
 fn measured_row(trees: &[Tree], depth: u32, nodes: u32) -> Option<u32>
     requires { nodes ≤ 1000000 }
-    ensures fits { IsSome result ↔ (AreInRange SECOND (bounds_of trees.now)
+    ensures fits { IsSome result ↔ (AreInRange SECOND_VERSION (bounds_of trees.now)
         × (deepest (bounds_of trees.now) ≤ depth)
         × (nodes + all_nodes_in (bounds_of trees.now) ≤ 1000000)) }
     ensures count { IfSome result (λ n. n ≡ nodes + all_nodes_in (bounds_of trees.now)) }
@@ -115,8 +118,10 @@ fn measured_row(trees: &[Tree], depth: u32, nodes: u32) -> Option<u32>
 }
 
 fn write_split_head<S: Sink>(class: u8, m: u16, writer: &mut S) -> Result<(), DeviceFault>
-    ensures whole { S.tells → OnOk result (S.taken writer.new ≡ S.taken writer.old ++ split_head class m) }
-    ensures part { S.tells → OnErr result (TookPrefix (S.taken writer.old) (S.taken writer.new) (split_head class m)) }
+    ensures whole { S.tells → OnOk result
+        (S.taken writer.new ≡ S.taken writer.old ++ split_head class m) }
+    ensures part { S.tells → OnErr result
+        (TookPrefix (S.taken writer.old) (S.taken writer.new) (split_head class m)) }
     ensures succeeded { OnOk result (S.failures writer.new ≡ S.failures writer.old) }
     ensures failed { OnErr result (HasFailed (S.failures writer.old) (S.failures writer.new)) }
 {
@@ -131,8 +136,10 @@ fn write_cut_head<S: Sink>(
     writer: &mut S,
 ) -> Result<(), DeviceFault>
     requires { children ≤ 288 }
-    ensures whole { S.tells → OnOk result (S.taken writer.new ≡ S.taken writer.old ++ cut_head set needed children) }
-    ensures part { S.tells → OnErr result (TookPrefix (S.taken writer.old) (S.taken writer.new) (cut_head set needed children)) }
+    ensures whole { S.tells → OnOk result
+        (S.taken writer.new ≡ S.taken writer.old ++ cut_head set needed children) }
+    ensures part { S.tells → OnErr result
+        (TookPrefix (S.taken writer.old) (S.taken writer.new) (cut_head set needed children)) }
     ensures succeeded { OnOk result (S.failures writer.new ≡ S.failures writer.old) }
     ensures failed { OnErr result (HasFailed (S.failures writer.old) (S.failures writer.new)) }
 {
@@ -143,8 +150,10 @@ fn write_cut_head<S: Sink>(
 
 fn write_close_head<S: Sink>(children: usize, writer: &mut S) -> Result<(), DeviceFault>
     requires { children ≤ 2 }
-    ensures whole { S.tells → OnOk result (S.taken writer.new ≡ S.taken writer.old ++ close_head children) }
-    ensures part { S.tells → OnErr result (TookPrefix (S.taken writer.old) (S.taken writer.new) (close_head children)) }
+    ensures whole { S.tells → OnOk result
+        (S.taken writer.new ≡ S.taken writer.old ++ close_head children) }
+    ensures part { S.tells → OnErr result
+        (TookPrefix (S.taken writer.old) (S.taken writer.new) (close_head children)) }
     ensures succeeded { OnOk result (S.failures writer.new ≡ S.failures writer.old) }
     ensures failed { OnErr result (HasFailed (S.failures writer.old) (S.failures writer.new)) }
 {
@@ -161,8 +170,10 @@ fn byte_from(end: End) -> u8
 }
 
 fn write_head<S: Sink>(end: End, batches: u32, writer: &mut S) -> Result<(), DeviceFault>
-    ensures whole { S.tells → OnOk result (S.taken writer.new ≡ S.taken writer.old ++ second_head end batches) }
-    ensures part { S.tells → OnErr result (TookPrefix (S.taken writer.old) (S.taken writer.new) (second_head end batches)) }
+    ensures whole { S.tells → OnOk result
+        (S.taken writer.new ≡ S.taken writer.old ++ second_head end batches) }
+    ensures part { S.tells → OnErr result
+        (TookPrefix (S.taken writer.old) (S.taken writer.new) (second_head end batches)) }
     ensures succeeded { OnOk result (S.failures writer.new ≡ S.failures writer.old) }
     ensures failed { OnErr result (HasFailed (S.failures writer.old) (S.failures writer.new)) }
 {
@@ -179,9 +190,11 @@ fn write_head<S: Sink>(end: End, batches: u32, writer: &mut S) -> Result<(), Dev
 // Writes the text of a tree: the node, and then all below it.
 #[cycle(written)]
 fn write_node<S: Sink>(tree: &Tree, writer: &mut S) -> Result<(), DeviceFault>
-    requires { IsInRange SECOND (bound_of tree.now) }
-    ensures whole { S.tells → OnOk result (S.taken writer.new ≡ S.taken writer.old ++ node (bound_of tree.now)) }
-    ensures part { S.tells → OnErr result (TookPrefix (S.taken writer.old) (S.taken writer.new) (node (bound_of tree.now))) }
+    requires { IsInRange SECOND_VERSION (bound_of tree.now) }
+    ensures whole { S.tells → OnOk result
+        (S.taken writer.new ≡ S.taken writer.old ++ node (bound_of tree.now)) }
+    ensures part { S.tells → OnErr result
+        (TookPrefix (S.taken writer.old) (S.taken writer.new) (node (bound_of tree.now))) }
     ensures succeeded { OnOk result (S.failures writer.new ≡ S.failures writer.old) }
     ensures failed { OnErr result (HasFailed (S.failures writer.old) (S.failures writer.new)) }
 {
@@ -218,9 +231,11 @@ fn write_node<S: Sink>(tree: &Tree, writer: &mut S) -> Result<(), DeviceFault>
 
 #[cycle(written)]
 fn write_row<S: Sink>(trees: &[Tree], writer: &mut S) -> Result<(), DeviceFault>
-    requires { AreInRange SECOND (bounds_of trees.now) }
-    ensures whole { S.tells → OnOk result (S.taken writer.new ≡ S.taken writer.old ++ row (bounds_of trees.now)) }
-    ensures part { S.tells → OnErr result (TookPrefix (S.taken writer.old) (S.taken writer.new) (row (bounds_of trees.now))) }
+    requires { AreInRange SECOND_VERSION (bounds_of trees.now) }
+    ensures whole { S.tells → OnOk result
+        (S.taken writer.new ≡ S.taken writer.old ++ row (bounds_of trees.now)) }
+    ensures part { S.tells → OnErr result
+        (TookPrefix (S.taken writer.old) (S.taken writer.new) (row (bounds_of trees.now))) }
     ensures succeeded { OnOk result (S.failures writer.new ≡ S.failures writer.old) }
     ensures failed { OnErr result (HasFailed (S.failures writer.old) (S.failures writer.new)) }
 {
@@ -236,9 +251,12 @@ fn write_text<S: Sink>(
     tree: &Tree,
     writer: &mut S,
 ) -> Result<(), DeviceFault>
-    requires { IsInRange SECOND (bound_of tree.now) }
-    ensures whole { S.tells → OnOk result (S.taken writer.new ≡ S.taken writer.old ++ second_text end batches (bound_of tree.now)) }
-    ensures part { S.tells → OnErr result (TookPrefix (S.taken writer.old) (S.taken writer.new) (second_text end batches (bound_of tree.now))) }
+    requires { IsInRange SECOND_VERSION (bound_of tree.now) }
+    ensures whole { S.tells → OnOk result
+        (S.taken writer.new ≡ S.taken writer.old ++ second_text end batches (bound_of tree.now)) }
+    ensures part { S.tells → OnErr result
+        (TookPrefix (S.taken writer.old) (S.taken writer.new)
+        (second_text end batches (bound_of tree.now))) }
     ensures succeeded { OnOk result (S.failures writer.new ≡ S.failures writer.old) }
     ensures failed { OnErr result (HasFailed (S.failures writer.old) (S.failures writer.new)) }
 {
@@ -247,7 +265,7 @@ fn write_text<S: Sink>(
 }
 
 fn has_text(batches: u32, tree: &Tree) -> bool
-    ensures { IsTrue result ↔ HasText SECOND batches (bound_of tree.now) }
+    ensures { IsTrue result ↔ HasText SECOND_VERSION batches (bound_of tree.now) }
 {
     if batches == 0 {
         return false;
@@ -259,8 +277,8 @@ fn has_text(batches: u32, tree: &Tree) -> bool
 ///
 /// `BadTree` where they have none: no batches, a field outside its range, a depth above
 /// `DEPTH_LIMIT`, or more than `NODE_LIMIT` nodes; then nothing is written. After `WriteFault` a
-/// prefix of the certificate stands. It looks at no node deeper than `DEPTH_LIMIT` and one more, and
-/// takes no memory.
+/// prefix of the certificate stands. It looks at no node below depth 301, and takes no memory. It
+/// writes in pieces of a few bytes, so a writer to a file is to be buffered.
 pub fn write_certificate<S: Sink>(
     end: End,
     batches: u32,
@@ -268,14 +286,17 @@ pub fn write_certificate<S: Sink>(
     writer: &mut S,
 ) -> Result<(), TreeWriteFault>
     // Exactly what has no text is refused, and nothing is written then.
-    ensures bad { IsErrOf result TreeWriteFault.BadTree → ¬ HasText SECOND batches (bound_of tree.now) }
-    ensures good { ¬ IsErrOf result TreeWriteFault.BadTree → HasText SECOND batches (bound_of tree.now) }
+    ensures bad { IsErrOf result TreeWriteFault.BadTree
+        → ¬ HasText SECOND_VERSION batches (bound_of tree.now) }
+    ensures good { ¬ IsErrOf result TreeWriteFault.BadTree
+        → HasText SECOND_VERSION batches (bound_of tree.now) }
     ensures untouched { IsErrOf result TreeWriteFault.BadTree → writer.new ≡ writer.old }
     // The text is written whole, or a prefix of it where the writer failed.
     ensures whole { S.tells → OnOk result
         (S.taken writer.new ≡ S.taken writer.old ++ second_text end batches (bound_of tree.now)) }
     ensures part { S.tells → IsErrOf result TreeWriteFault.WriteFault
-        → TookPrefix (S.taken writer.old) (S.taken writer.new) (second_text end batches (bound_of tree.now)) }
+        → TookPrefix (S.taken writer.old) (S.taken writer.new)
+        (second_text end batches (bound_of tree.now)) }
     ensures succeeded { ¬ IsErrOf result TreeWriteFault.WriteFault
         → S.failures writer.new ≡ S.failures writer.old }
     ensures failed { IsErrOf result TreeWriteFault.WriteFault

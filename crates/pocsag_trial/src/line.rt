@@ -1,8 +1,7 @@
-use std::fmt::{Display, Write};
-
 use arrayvec::ArrayString;
 use pocsag_pages::Page;
 use pocsag_words::Word;
+use std::fmt::{Display, Write};
 
 /// The text of an answer, which takes no memory. What goes past its end is left out.
 #[derive(Drop)]

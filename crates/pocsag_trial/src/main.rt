@@ -7,12 +7,10 @@ mod packing;
 mod pages;
 mod rounds;
 
+use crate::line::Line;
+use pocsag_words::OutOfMemory;
 use std::alloc::Global;
 use std::io;
-
-use pocsag_words::OutOfMemory;
-
-use crate::line::Line;
 
 // One call on one example.
 #[derive(Clone, Copy)]

@@ -1,9 +1,7 @@
-use std::alloc::Global;
-
+use crate::line::Line;
 use pocsag_text::{TextFault, pack_alpha, pack_numeric, unpack_alpha, unpack_numeric};
 use pocsag_words::OutOfMemory;
-
-use crate::line::Line;
+use std::alloc::Global;
 
 fn show(packed: Result<Vec<u32>, TextFault>, line: &mut Line) -> Result<(), OutOfMemory> {
     match packed {

@@ -1,9 +1,7 @@
-use std::alloc::Global;
-
+use crate::line::Line;
 use pocsag_pages::{Page, Payload, Round, RoundFault, WholeFault, read_round, read_whole};
 use pocsag_words::{MemorySource, OutOfMemory};
-
-use crate::line::Line;
+use std::alloc::Global;
 
 pub const LONE_TONE: &[u8; 30] = b"address,kind,message\n8,tone0,\n";
 

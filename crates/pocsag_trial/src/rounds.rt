@@ -1,11 +1,9 @@
-use std::alloc::Global;
-
+use crate::line::Line;
+use crate::pages::LONE_TONE;
 use pocsag_batch::{FirstFault, first_stream, lay_in_order};
 use pocsag_pages::{RoundFault, read_round};
 use pocsag_words::{MemorySink, MemorySource, OutOfMemory};
-
-use crate::line::Line;
-use crate::pages::LONE_TONE;
+use std::alloc::Global;
 
 pub fn lay_lone_tone(alloc: Global, line: &mut Line) -> Result<(), OutOfMemory> {
     let mut source = MemorySource::new(LONE_TONE, 7, 1000);

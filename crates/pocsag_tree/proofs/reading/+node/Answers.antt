@@ -1,16 +1,33 @@
-use Rattle.std.proofs.Common.{◌≡◌, ◌∷◌, [], ◌++◌, map, arith, rules}
+use Rattle.std.proofs.Common.{◌≡◌, ◌∷◌, [], ◌++◌, ◌≤◌, ℕ, List, length, map, refl, arith, rules}
 use Rattle.std.proofs.lemmas.Result.{err_from_is_err_and}
 use Rattle.std.proofs.lemmas.List.{map_push}
 use Rattle.pocsag_tree.specs.Bounds.{all_nodes_in, deepest}
 use Rattle.pocsag_tree.specs.Views.{bound_of, bounds_of}
-use Rattle.pocsag_tree.specs.Reading.{row_at, node_at}
-use Rattle.pocsag_tree.proofs.Rows.{row_goes_on, row_ends, row_is_done, nodes-push, deepest-push}
+use Rattle.pocsag_tree.specs.Reading.{but_last, row_at, node_at}
+use Rattle.pocsag_tree.proofs.Rows.{row_starts, row_goes_on, row_ends, row_is_done, nodes-push, deepest-push}
 use Rattle.pocsag_tree.proofs.reading.+node.Goals as goal
 
 pub row-returns-in_err-child-clause-bytes : goal.row-returns-in_err-child-clause-bytes
-row-returns-in_err-child-clause-bytes g t c = λ tells.
+row-returns-in_err-child-clause-bytes g t c = λ tells k le.
     let p = err_from_is_err_and c.from_residual-in_err-child.result c.from_residual-in_err-child.ensures.1 in
-    rw (p.1, p.2) (row_ends c.in_err-child.field-0.0 (node_at c.args.ranges c.args.depth) (map bound_of c.loop.children.items) c.args.count c.loop.counter c.loop.reached (g.S.Source.held c.loop.source) (row_at (node_at c.args.ranges c.args.depth) c.args.count c.args.made (g.S.Source.held c.args.source.now)) c.loop-test.true (c.in_err-child.ensures.bytes tells) (c.loop.invariant.bytes tells))
+    let read : List ℕ = but_last k (g.S.Source.held c.loop.source) in
+    let total = row_at (node_at c.args.ranges c.args.depth) c.args.count c.args.made (but_last k (g.S.Source.held c.args.source.now)) in
+    let longer : k ≤ length (g.S.Source.held c.loop.source) = omega (arith, le, c.in_err-child.ensures.shrinks tells) in
+    rw (p.1, p.2) (row_ends c.in_err-child.field-0.0 (k ≡ length (g.S.Source.held c.node.new.source)) (node_at c.args.ranges c.args.depth) (map bound_of c.loop.children.items) c.args.count c.loop.counter c.loop.reached read total c.loop-test.true (c.in_err-child.ensures.bytes tells k le) (c.loop.invariant.bytes tells k longer))
+
+pub row-loop-init : goal.row-loop-init
+row-loop-init g t c =
+    let items = c.in_ok-children.ensures.items in
+    let counted : all_nodes_in (bounds_of c.in_ok-children.children.items) ≡ 0 = rw items in
+    let deep : deepest (bounds_of c.in_ok-children.children.items) ≡ 0 = rw items in
+    record {
+      few = search rules;
+      deep = omega (arith, deep);
+      counted = omega (arith, counted);
+      failures = refl;
+      shrinks = λ tells. omega arith;
+      bytes = λ tells k le. row_starts (node_at c.args.ranges c.args.depth) c.in_ok-children.children.items c.args.count c.args.made (but_last k (g.S.Source.held c.args.source.now)) items;
+    }
 
 pub row-loop-preserved : goal.row-loop-preserved
 row-loop-preserved g t c =
@@ -24,9 +41,14 @@ row-loop-preserved g t c =
       deep = omega (arith, deep, deepest-push c.loop.children.items child, c.in_ok-child.ensures.deep);
       counted = omega (arith, counted, nodes-push c.loop.children.items child, c.in_ok-child.ensures.counted);
       failures = search rules;
-      bytes = λ tells. rw seen (row_goes_on (node_at c.args.ranges c.args.depth) (map bound_of c.loop.children.items) c.args.count c.loop.counter c.loop.reached (g.S.Source.held c.loop.source) (bound_of child) c.in_ok-child.after (g.S.Source.held c.node.new.source) (row_at (node_at c.args.ranges c.args.depth) c.args.count c.args.made (g.S.Source.held c.args.source.now)) c.loop-test.true (c.in_ok-child.ensures.bytes tells) (c.loop.invariant.bytes tells));
+      shrinks = λ tells. omega (arith, c.in_ok-child.ensures.shrinks tells, c.loop.invariant.shrinks tells);
+      bytes = λ tells k le.
+          let longer : k ≤ length (g.S.Source.held c.loop.source) = omega (arith, le, c.in_ok-child.ensures.shrinks tells) in
+          let total = row_at (node_at c.args.ranges c.args.depth) c.args.count c.args.made (but_last k (g.S.Source.held c.args.source.now)) in
+          rw seen (row_goes_on (node_at c.args.ranges c.args.depth) (map bound_of c.loop.children.items) c.args.count c.loop.counter c.loop.reached (but_last k (g.S.Source.held c.loop.source)) (bound_of child) c.in_ok-child.after (but_last k (g.S.Source.held c.node.new.source)) total c.loop-test.true (c.in_ok-child.ensures.bytes tells k le) (c.loop.invariant.bytes tells k longer));
     }
 
 pub row-returns-clause-bytes : goal.row-returns-clause-bytes
-row-returns-clause-bytes g t c = λ tells.
-    row_is_done (node_at c.args.ranges c.args.depth) (map bound_of c.loop.children.items) c.args.count c.loop.counter c.loop.reached (g.S.Source.held c.loop.source) (row_at (node_at c.args.ranges c.args.depth) c.args.count c.args.made (g.S.Source.held c.args.source.now)) c.loop-test.false (c.loop.invariant.bytes tells)
+row-returns-clause-bytes g t c = λ tells k le.
+    let total = row_at (node_at c.args.ranges c.args.depth) c.args.count c.args.made (but_last k (g.S.Source.held c.args.source.now)) in
+    row_is_done (node_at c.args.ranges c.args.depth) (map bound_of c.loop.children.items) c.args.count c.loop.counter c.loop.reached (but_last k (g.S.Source.held c.loop.source)) total c.loop-test.false (c.loop.invariant.bytes tells k le)

@@ -1,4 +1,6 @@
-use Rattle.pocsag_tree.proofs.Results.{is_found, is_only, is_fault, is_first}
+use Rattle.std.proofs.Common.{length}
+use Rattle.pocsag_tree.specs.Reading.{but_last}
+use Rattle.pocsag_tree.proofs.Results.{is_found, is_only, is_fault, is_first, is_wanting}
 use Rattle.pocsag_tree.proofs.reading.read_certificate.Goals as goal
 
 pub returns-clause-found : goal.returns-clause-found
@@ -12,3 +14,7 @@ returns-clause-fault g c = λ tells. is_fault c.all.result (g.S.Source.held c.ar
 
 pub returns-clause-first : goal.returns-clause-first
 returns-clause-first g c = λ tells. is_first c.all.result (g.S.Source.held c.args.reader.now) (c.all.ensures.bytes tells)
+
+pub returns-clause-in_place : goal.returns-clause-in_place
+unfolding but_last
+returns-clause-in_place g c = λ tells is. is_wanting (but_last (length (g.S.Source.held c.all.new.source)) (g.S.Source.held c.args.reader.now)) (c.all.ensures.wanting tells is)

@@ -1,0 +1,134 @@
+use std::alloc::Global;
+use std::test::Fail;
+
+use pocsag_pages::{Page, Payload, Round};
+use pocsag_tree::{Certificate, Tree, read_certificate};
+use pocsag_words::{End, MemorySource};
+
+use crate::{check, check_open};
+
+// A page of function 0 whose items are all 11111.
+fn ones(alloc: Global, address: u32, count: usize) -> Result<Page, Fail> {
+    let items = vec![in alloc; 0x88888; count]?;
+    Ok(Page {
+        address,
+        function: 0,
+        payload: Payload::from_vec(items),
+    })
+}
+
+fn one_page(alloc: Global, address: u32, count: usize) -> Result<Round, Fail> {
+    let pages = vec![in alloc; ones(alloc, address, count)?]?;
+    Ok(Round::from_pages(alloc, pages)?)
+}
+
+// Two pages of one codeword more than fifteen, in frames 0 and 3.
+fn loops_apart(alloc: Global) -> Result<Round, Fail> {
+    let pages = vec![in alloc; ones(alloc, 0, 15)?, ones(alloc, 3, 15)?]?;
+    Ok(Round::from_pages(alloc, pages)?)
+}
+
+fn three_pages_tight(alloc: Global) -> Result<Round, Fail> {
+    let pages = vec![in alloc; ones(alloc, 0, 5)?, ones(alloc, 3, 9)?, ones(alloc, 11, 15)?]?;
+    Ok(Round::from_pages(alloc, pages)?)
+}
+
+fn two_numeric_exact(alloc: Global) -> Result<Round, Fail> {
+    let pages = vec![in alloc; ones(alloc, 0, 5)?, ones(alloc, 3, 9)?]?;
+    Ok(Round::from_pages(alloc, pages)?)
+}
+
+fn closed_both_ways(alloc: Global) -> Result<Round, Fail> {
+    let pages = vec![in alloc; ones(alloc, 0, 13)?, ones(alloc, 7, 0)?, ones(alloc, 15, 2)?, ones(alloc, 1, 13)?]?;
+    Ok(Round::from_pages(alloc, pages)?)
+}
+
+fn read(alloc: Global, bytes: &[u8]) -> Result<Certificate, Fail> {
+    let mut source = MemorySource::new(bytes, 1, 100_000);
+    Ok(read_certificate(alloc, &mut source)?)
+}
+
+// Whether the round's certificate of these bytes is accepted for its own end.
+fn accepts(alloc: Global, round: &Round, bytes: &[u8]) -> Result<bool, Fail> {
+    let certificate = read(alloc, bytes)?;
+    Ok(check(round, certificate.batches, &certificate.tree, certificate.end))
+}
+
+#[test]
+fn planning_certificates_are_accepted(rt: HostRuntime) -> Result<(), Fail> {
+    let alloc = rt.alloc();
+    let lone_tone = one_page(alloc, 8, 0)?;
+    assert!(rt; accepts(alloc, &lone_tone, b"PCB1\x00\x00\x00\x01\x00\x00\x03")?);
+    assert!(rt; accepts(alloc, &lone_tone, b"PCB2\x00\x00\x00\x00\x01\x00\x00\x03")?);
+    assert!(rt; accepts(alloc, &lone_tone, b"PCB2\x01\x00\x00\x00\x01\x00\x00\x03")?);
+    let loop_apart = one_page(alloc, 3, 15)?;
+    assert!(rt; accepts(alloc, &loop_apart, b"PCB1\x00\x00\x00\x02\x02\x00\x01\x30\x00\x02\x00\x00\x01\x00\x80\x00")?);
+    let apart = loops_apart(alloc)?;
+    assert!(rt; accepts(alloc, &apart, b"PCB1\x00\x00\x00\x03\x02\x00\x01\x30\x00\x02\x00\x00\x01\x00\x80\x00")?);
+    assert!(rt; accepts(alloc, &apart, b"PCB2\x00\x00\x00\x00\x03\x02\x00\x01\x30\x00\x02\x00\x00\x01\x00\x80\x00")?);
+    Ok(())
+}
+
+#[test]
+fn closed_certificates_are_accepted(rt: HostRuntime) -> Result<(), Fail> {
+    let alloc = rt.alloc();
+    let exact = two_numeric_exact(alloc)?;
+    assert!(rt; accepts(alloc, &exact, b"PCB2\x01\x00\x00\x00\x02\x04\x01\x00\xff\xff")?);
+    assert!(rt; !accepts(alloc, &exact, b"PCB2\x00\x00\x00\x00\x02\x04\x01\x00\xff\xff")?);
+    assert!(rt; !accepts(alloc, &exact, b"PCB2\x01\x00\x00\x00\x02\x04\x02\x00\xff\xff\x00\xff\xff")?);
+    let both = closed_both_ways(alloc)?;
+    assert!(rt; accepts(alloc, &both, b"PCB2\x01\x00\x00\x00\x03\x04\x02\x00\xff\xff\x00\x80\x00")?);
+    assert!(rt; !accepts(alloc, &both, b"PCB2\x01\x00\x00\x00\x03\x04\x01\x00\xff\xff")?);
+    let long = one_page(alloc, 7, 49)?;
+    assert!(rt; accepts(alloc, &long, b"PCB2\x01\x00\x00\x00\x05\x04\x01\x00\x80\x00")?);
+    Ok(())
+}
+
+#[test]
+fn bad_certificates_are_refused(rt: HostRuntime) -> Result<(), Fail> {
+    let alloc = rt.alloc();
+    let apart = loops_apart(alloc)?;
+    let whole = b"PCB1\x00\x00\x00\x03\x02\x00\x01\x30\x00\x02\x00\x00\x01\x00\x80\x00";
+    assert!(rt; !accepts(alloc, &apart, b"PCB1\x00\x00\x00\x03\x02\x00\x01\x30\x00\x02\x00\x00\x01\x00\x40\x00")?);
+    assert!(rt; !accepts(alloc, &apart, b"PCB1\x00\x00\x00\x03\x02\x00\x02\x30\x00\x02\x00\x00\x01\x00\x00\x02")?);
+    assert!(rt; !accepts(alloc, &apart, b"PCB1\x00\x00\x00\x03\x02\x00\x01\x00\x00\x02\x00\x00\x01\x00\x80\x00")?);
+    assert!(rt; !accepts(alloc, &three_pages_tight(alloc)?, whole)?);
+    let lone_tone = one_page(alloc, 8, 0)?;
+    assert!(rt; !accepts(alloc, &lone_tone, b"PCB2\x00\x00\x00\x00\x01\x01\x00\x4e\x20\x03\x03")?);
+    Ok(())
+}
+
+#[test]
+fn a_tree_from_anywhere(rt: HostRuntime) -> Result<(), Fail> {
+    let alloc = rt.alloc();
+    let lone_tone = one_page(alloc, 8, 0)?;
+    let split = Tree::Split {
+        class: 200,
+        m: 1,
+        below: Box::new(alloc, Tree::Overload(3))?,
+        from: Box::new(alloc, Tree::Overload(3))?,
+    };
+    assert!(rt; !check(&lone_tone, 1, &split, End::Open));
+    assert!(rt; !check(&lone_tone, 0, &Tree::Overload(3), End::Open));
+    assert!(rt; check(&lone_tone, 1, &Tree::Overload(3), End::Open));
+    assert!(rt; !check(&lone_tone, 2, &Tree::Overload(3), End::Open));
+    assert!(rt; !check(&lone_tone, 1, &Tree::Open, End::Open));
+    assert!(rt; check_open(&lone_tone, 1, &Tree::Open, End::Open));
+    Ok(())
+}
+
+#[test]
+fn a_deep_tree_is_refused(rt: HostRuntime) -> Result<(), Fail> {
+    let alloc = rt.alloc();
+    let lone_tone = one_page(alloc, 8, 0)?;
+    let mut bytes = Vec::new(alloc);
+    bytes.extend_from_slice(b"PCB1\x00\x00\x00\x01")?;
+    for _ in 0..299 {
+        bytes.extend_from_slice(b"\x01\x00\x00\x01")?;
+    }
+    for _ in 0..300 {
+        bytes.push(3)?;
+    }
+    assert!(rt; !accepts(alloc, &lone_tone, bytes.as_slice())?);
+    Ok(())
+}
