@@ -5,8 +5,10 @@ ghost use Rattle.pocsag_batch.specs.Streams.{WritesInOrder};
 use crate::fault::Fault;
 use crate::tell::{tell, tell_fault};
 use pocsag_batch::{first_stream, in_order_batches};
+use pocsag_check::check;
 use pocsag_pages::read_round;
-use pocsag_words::{Sink, Source};
+use pocsag_tree::read_certificate;
+use pocsag_words::{End, Sink, Source};
 use std::alloc::Global;
 
 /// With no words: reads a page file and tells its pages and batches. Answers the exit status.
@@ -64,4 +66,47 @@ fn plan<P: Source, T: Sink, O: Sink>(
         Ok(batches) => tell(out, format_args!("batches {batches}")),
         Err(fault) => Err(Fault::of_first(fault)),
     }
+}
+
+/// `check PAGES CERT`: tells whether the certificate shows its number of batches for the page file.
+/// Answers the exit status, 1 where it does not.
+pub fn run_check<P: Source, C: Source, O: Sink, E: Sink>(
+    alloc: Global,
+    pages: &mut P,
+    cert: &mut C,
+    out: &mut O,
+    err: &mut E,
+) -> u8 {
+    match check_files(alloc, pages, cert, out) {
+        Ok(true) => 0,
+        Ok(false) => 1,
+        Err(fault) => tell_fault(err, fault),
+    }
+}
+
+fn check_files<P: Source, C: Source, O: Sink>(
+    alloc: Global,
+    pages: &mut P,
+    cert: &mut C,
+    out: &mut O,
+) -> Result<bool, Fault> {
+    let round = match read_round(alloc, pages) {
+        Ok(round) => round,
+        Err(fault) => return Err(Fault::Round(fault)),
+    };
+    let certificate = match read_certificate(alloc, cert) {
+        Ok(certificate) => certificate,
+        Err(fault) => return Err(Fault::of_certificate(fault)),
+    };
+    let batches = certificate.batches;
+    let end = certificate.end;
+    if !check(&round, batches, &certificate.tree, end) {
+        tell(out, "not shown")?;
+        return Ok(false);
+    }
+    match end {
+        End::Open => tell(out, format_args!("at least {batches} batches"))?,
+        End::Closed => tell(out, format_args!("at least {batches} batches with a closed end"))?,
+    }
+    Ok(true)
 }

@@ -2,6 +2,7 @@ ghost use Rattle.std.specs.Prelude.{◌≡◌, ◌⊎◌};
 
 use pocsag_batch::FirstFault;
 use pocsag_pages::RoundFault;
+use pocsag_tree::CertificateFault;
 use thiserror::Error;
 
 /// Why a command did not do what it was asked.
@@ -17,6 +18,20 @@ pub enum Fault {
     OutOfMemory,
     #[error("{0}")]
     Round(RoundFault),
+    #[error("not a certificate")]
+    NotCertificate,
+    #[error("unknown certificate version")]
+    CertificateVersion,
+    #[error("the certificate is cut short")]
+    CertificateTruncated,
+    #[error("bytes after the certificate")]
+    CertificateTrailing,
+    #[error("the certificate is malformed")]
+    CertificateMalformed,
+    #[error("the certificate is too deep")]
+    CertificateTooDeep,
+    #[error("the certificate has too many nodes")]
+    CertificateTooMany,
 }
 
 impl Fault {
@@ -29,6 +44,27 @@ impl Fault {
             Fault::Device | Fault::Write | Fault::OutOfMemory => 3,
             Fault::Round(RoundFault::ReadFault | RoundFault::OutOfMemory) => 3,
             Fault::Round(_) => 1,
+            Fault::NotCertificate
+            | Fault::CertificateVersion
+            | Fault::CertificateTruncated
+            | Fault::CertificateTrailing
+            | Fault::CertificateMalformed
+            | Fault::CertificateTooDeep
+            | Fault::CertificateTooMany => 1,
+        }
+    }
+
+    pub fn of_certificate(fault: CertificateFault) -> Fault {
+        match fault {
+            CertificateFault::NotCertificate => Fault::NotCertificate,
+            CertificateFault::Version => Fault::CertificateVersion,
+            CertificateFault::Truncated => Fault::CertificateTruncated,
+            CertificateFault::Trailing => Fault::CertificateTrailing,
+            CertificateFault::BadTag | CertificateFault::BadField => Fault::CertificateMalformed,
+            CertificateFault::TooDeep => Fault::CertificateTooDeep,
+            CertificateFault::TooMany => Fault::CertificateTooMany,
+            CertificateFault::ReadFault => Fault::Device,
+            CertificateFault::OutOfMemory => Fault::OutOfMemory,
         }
     }
 

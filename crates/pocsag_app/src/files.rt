@@ -1,8 +1,9 @@
 use crate::devices::{ReaderSource, WriterSink};
 use crate::fault::Fault;
 use crate::paths::Named;
+use std::alloc::Global;
 use std::fs::{self, File};
-use std::io::{self, ErrorKind};
+use std::io::{self, BufReader, ErrorKind};
 use std::rt::Files;
 
 // What a refusal to open or to make a file is told as: want of memory is told as such.
@@ -18,6 +19,22 @@ fn fault_of(error: io::Error) -> Fault {
 pub fn open_source<R: Files>(rt: &R, path: &str) -> Result<ReaderSource<R::File>, Fault> {
     match fs::open(rt, path) {
         Ok(file) => Ok(ReaderSource::new(file)),
+        Err(error) => Err(fault_of(error)),
+    }
+}
+
+/// Opens a file that is read a few bytes at a time.
+pub fn open_buffered<R: Files>(
+    rt: &R,
+    alloc: Global,
+    path: &str,
+) -> Result<ReaderSource<BufReader<R::File>>, Fault> {
+    let file = match fs::open(rt, path) {
+        Ok(file) => file,
+        Err(error) => return Err(fault_of(error)),
+    };
+    match BufReader::new(alloc, file) {
+        Ok(reader) => Ok(ReaderSource::new(reader)),
         Err(error) => Err(fault_of(error)),
     }
 }

@@ -11,10 +11,10 @@ mod tell;
 mod tests;
 mod words;
 
-use crate::commands::{run_input, run_plan};
+use crate::commands::{run_check, run_input, run_plan};
 use crate::devices::{ReaderSource, WriterSink};
 use crate::fault::Fault;
-use crate::files::{make_sink, open_source};
+use crate::files::{make_sink, open_buffered, open_source};
 use crate::paths::{Named, equal_paths};
 use crate::tell::tell_fault;
 use crate::words::{Order, order_of};
@@ -83,7 +83,27 @@ fn obey<E: pocsag_words::Sink>(
             run_input(alloc, &mut input, &mut out, err)
         }
         Order::Plan { pages, tx } => plan_files(rt, alloc, pages, tx, &mut out, err),
+        Order::Check { pages, cert } => check_files(rt, alloc, pages, cert, &mut out, err),
     }
+}
+
+fn check_files<O: pocsag_words::Sink, E: pocsag_words::Sink>(
+    rt: &HostRuntime,
+    alloc: Global,
+    pages: &str,
+    cert: &str,
+    out: &mut O,
+    err: &mut E,
+) -> u8 {
+    let mut source = match open_source(rt, pages) {
+        Ok(source) => source,
+        Err(fault) => return tell_fault(err, fault),
+    };
+    let mut certificate = match open_buffered(rt, alloc, cert) {
+        Ok(certificate) => certificate,
+        Err(fault) => return tell_fault(err, fault),
+    };
+    run_check(alloc, &mut source, &mut certificate, out, err)
 }
 
 fn plan_files<O: pocsag_words::Sink, E: pocsag_words::Sink>(

@@ -1,4 +1,4 @@
-use clap::{Arg, Command, Error};
+use clap::{Arg, ArgMatches, Command, Error};
 use std::alloc::{AllocError, Global};
 
 /// What the command line asks for.
@@ -8,7 +8,11 @@ pub enum Order<'a> {
     Input,
     /// `plan PAGES TX`: the paths of the page file and of the transmission.
     Plan { pages: &'a str, tx: &'a str },
+    /// `check PAGES CERT`: the paths of the page file and of the certificate.
+    Check { pages: &'a str, cert: &'a str },
 }
+
+const PAGES_HELP: &str = "The page file, CSV with the header address,kind,message";
 
 fn positional<'a>(alloc: Global, id: &'a str, help: &'a str) -> Arg<'a> {
     Arg::new(alloc, id).required(true).help(help)
@@ -17,16 +21,15 @@ fn positional<'a>(alloc: Global, id: &'a str, help: &'a str) -> Arg<'a> {
 fn plan_command<'a>(alloc: Global) -> Result<Command<'a>, AllocError> {
     Command::new(alloc, "plan")
         .about("Writes the transmission of a page file")
-        .arg(positional(
-            alloc,
-            "PAGES",
-            "The page file, CSV with the header address,kind,message",
-        ))?
-        .arg(positional(
-            alloc,
-            "TX",
-            "The transmission, which is made or emptied first",
-        ))
+        .arg(positional(alloc, "PAGES", PAGES_HELP))?
+        .arg(positional(alloc, "TX", "The transmission, which is made or emptied first"))
+}
+
+fn check_command<'a>(alloc: Global) -> Result<Command<'a>, AllocError> {
+    Command::new(alloc, "check")
+        .about("Tells whether a certificate shows that fewer batches do not suffice for a page file")
+        .arg(positional(alloc, "PAGES", PAGES_HELP))?
+        .arg(positional(alloc, "CERT", "The certificate"))
 }
 
 fn command<'a>(alloc: Global) -> Result<Command<'a>, AllocError> {
@@ -35,7 +38,13 @@ fn command<'a>(alloc: Global) -> Result<Command<'a>, AllocError> {
         .about(
             "Plans POCSAG transmissions. With no words: reads a page file from standard input and tells its pages and batches",
         )
-        .subcommand(plan_command(alloc)?)
+        .subcommand(plan_command(alloc)?)?
+        .subcommand(check_command(alloc)?)
+}
+
+// The word of an argument that clap requires.
+fn word<'a>(found: &ArgMatches<'a>, id: &str) -> &'a str {
+    found.get_str(id).unwrap_or("")
 }
 
 /// Reads the words of the command line, the program's own name first.
@@ -44,9 +53,14 @@ pub fn order_of<'a>(alloc: Global, words: &'a [String]) -> Result<Order<'a>, Err
     let Some((name, found)) = matches.subcommand() else {
         return Ok(Order::Input);
     };
-    let _ = name;
-    Ok(Order::Plan {
-        pages: found.get_str("PAGES").unwrap_or(""),
-        tx: found.get_str("TX").unwrap_or(""),
+    Ok(match name {
+        "check" => Order::Check {
+            pages: word(found, "PAGES"),
+            cert: word(found, "CERT"),
+        },
+        _ => Order::Plan {
+            pages: word(found, "PAGES"),
+            tx: word(found, "TX"),
+        },
     })
 }
