@@ -61,7 +61,7 @@ invariant_of-result c =
           round.few (all_short _ round);
     }
 
-pub returns-clause-open : goal.returns-clause-open
-returns-clause-open c open_end k l h =
+pub returns-clause-open_end : goal.returns-clause-open_end
+returns-clause-open_end c open_end k l h =
     let of = whole c.loop-page.count c.loop-page.turns c.args.end _ c.loop-page.page-index c.loop-page-test.false c.loop-page.auto.page-index-end c.loop-page.invariant in
     (subst (λ (end : End). AreCounted c.loop-page.count c.loop-page.turns end c.pages-page-items.result.now) open_end of).each k h ∙ count_bare k c.pages-page-items.result.now l
