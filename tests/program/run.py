@@ -160,6 +160,7 @@ def try_files(tally, folder):
         done = run(words, folder)
         holds = done.returncode == status and done.stderr == told and done.stdout == b""
         tally.check(name, holds and pages.read_bytes() == kept, done)
+    (folder / "huge.csv").unlink(missing_ok=True)
     with open(folder / "huge.csv", "wb") as huge:
         huge.truncate(300_000_000)
     done = run(["plan", "huge.csv", "tx.bin"], folder)
@@ -167,8 +168,63 @@ def try_files(tally, folder):
     (folder / "huge.csv").unlink()
 
 
+# Certificates (hexadecimal) against rounds: what `check` prints, and its status.
+ONE_FULL = b"0,numeric," + ones(75) + b"\n"
+LOOP_APART = b"3,numeric," + ones(75) + b"\n"
+EXACT = b"0,numeric," + ones(25) + b"\n3,numeric," + ones(45) + b"\n"
+BOTH_WAYS = b"0,numeric," + ones(65) + b"\n7,tone0,\n15,numeric," + ones(10) + b"\n1,numeric," + ones(65) + b"\n"
+CHECKS = [
+    ("lone-tone", b"8,tone0,\n", "50434231 00000001 00 0003", b"at least 1 batches\n", b"", 0),
+    ("lone-tone closed", b"8,tone0,\n", "50434232 01 00000001 00 0003", b"at least 1 batches with a closed end\n", b"", 0),
+    ("three-tones-one-frame", b"5,tone0,\n13,tone0,\n21,tone0,\n", "50434231 00000002 00 0C00", b"at least 2 batches\n", b"", 0),
+    ("loop-apart", LOOP_APART, "50434231 00000002 02 0001 30 0002 00 0001 00 8000", b"at least 2 batches\n", b"", 0),
+    ("loops-apart", ONE_FULL + LOOP_APART, "50434231 00000003 02 0001 30 0002 00 0001 00 8000", b"at least 3 batches\n", b"", 0),
+    ("loops-apart PCB2", ONE_FULL + LOOP_APART, "50434232 00 00000003 02 0001 30 0002 00 0001 00 8000", b"at least 3 batches\n", b"", 0),
+    ("closed-exact", EXACT, "50434232 01 00000002 04 01 00 FFFF", b"at least 2 batches with a closed end\n", b"", 0),
+    ("closed-both-ways", BOTH_WAYS, "50434232 01 00000003 04 02 00 FFFF 00 8000", b"at least 3 batches with a closed end\n", b"", 0),
+    ("long-alpha", b"0,alpha," + b"A" * 4000 + b"\n", "50434232 00 00000058 00 FFFF", b"at least 88 batches\n", b"", 0),
+    ("last set 4000", ONE_FULL + LOOP_APART, "50434231 00000003 02 0001 30 0002 00 0001 00 4000", b"not shown\n", b"", 1),
+    ("off centre", ONE_FULL + LOOP_APART, "50434231 00000003 02 0002 30 0002 00 0001 00 0002", b"not shown\n", b"", 1),
+    ("not certain", ONE_FULL + LOOP_APART, "50434231 00000003 02 0001 00 0002 00 0001 00 8000", b"not shown\n", b"", 1),
+    ("half-closed", BOTH_WAYS, "50434232 01 00000003 04 01 00 FFFF", b"not shown\n", b"", 1),
+    ("closed as open", EXACT, "50434232 00 00000002 04 01 00 FFFF", b"not shown\n", b"", 1),
+    ("trailing", ONE_FULL + LOOP_APART, "50434231 00000003 02 0001 30 0002 00 0001 00 8000 00", b"", b"bytes after the certificate", 1),
+    ("truncated", ONE_FULL + LOOP_APART, "50434231 00000003 02 0001 30 0002 00 0001 00 80", b"", b"the certificate is cut short", 1),
+    ("empty", b"8,tone0,\n", "", b"", b"the certificate is cut short", 1),
+    ("not a certificate", b"8,tone0,\n", "00", b"", b"not a certificate", 1),
+    ("version", b"8,tone0,\n", "50434233 00", b"", b"unknown certificate version", 1),
+    ("tag", b"8,tone0,\n", "50434231 00000001 07", b"", b"the certificate is malformed", 1),
+    ("field", b"8,tone0,\n", "50434231 00000001 00 0000", b"", b"the certificate is malformed", 1),
+    ("close in PCB1", b"8,tone0,\n", "50434231 00000001 04", b"", b"the certificate is malformed", 1),
+    ("too deep", b"8,tone0,\n", "50434231 00000001" + 300 * "01000001", b"", b"the certificate is too deep", 1),
+    ("deep", b"8,tone0,\n", "50434231 00000001" + 299 * "01000001" + 300 * "03", b"not shown\n", b"", 1),
+]
+
+
+def try_check(tally, folder):
+    pages, cert = folder / "pages.csv", folder / "cert.bin"
+    for name, records, text, printed, fault, status in CHECKS:
+        pages.write_bytes(HEADER + records)
+        cert.write_bytes(bytes.fromhex(text))
+        done = run(["check", "pages.csv", "cert.bin"], folder)
+        told = b"pocsag: " + fault + b"\n" if fault else b""
+        holds = done.returncode == status and done.stdout == printed and done.stderr == told
+        tally.check(f"check {name}", holds, done)
+    for name, words in (("pages", ["check", "none.csv", "cert.bin"]), ("certificate", ["check", "pages.csv", "none.bin"])):
+        done = run(words, folder)
+        holds = done.returncode == 3 and done.stderr == b"pocsag: cannot read or open a file\n" and done.stdout == b""
+        tally.check(f"check with a missing file: {name}", holds, done)
+    level = bytes.fromhex("020001000110")
+    third = level + b"\x03" * 272
+    second = level + third * 272
+    cert.write_bytes((bytes.fromhex("5043423100000001") + level + second * 272)[:4_000_000])
+    done = run(["check", "pages.csv", "cert.bin"], folder)
+    told = b"pocsag: the certificate has too many nodes\n"
+    tally.check("check too many nodes", done.returncode == 1 and done.stderr == told, done)
+
+
 def try_words(tally, folder):
-    usage = [["plan"], ["plan", "pages.csv"], ["bogus"], ["plan", "a", "b", "c"], ["--bogus"]]
+    usage = [["plan"], ["plan", "pages.csv"], ["bogus"], ["plan", "a", "b", "c"], ["--bogus"], ["check"], ["check", "a"]]
     for words in usage:
         done = run(words, folder)
         tally.check(f"usage {words}", done.returncode == 2 and done.stdout == b"" and b"Usage: pocsag" in done.stderr, done)
@@ -181,7 +237,7 @@ def main():
     tally = Tally()
     with tempfile.TemporaryDirectory() as name:
         folder = pathlib.Path(name)
-        for part in (try_rounds, try_refused, try_files, try_words):
+        for part in (try_rounds, try_refused, try_files, try_check, try_words):
             part(tally, folder)
     print(f"{tally.passed} passed, {tally.failed} failed")
     return 0 if tally.failed == 0 else 1
