@@ -169,6 +169,39 @@ def try_plan(tally, library, folder):
     tally.check("plan one byte at a time", short.returncode == 0 and tx.read_bytes() == due, short)
 
 
+def try_printing(tally, library, name, words, files, folder):
+    """A command that reads files and prints: after a refusal a prefix of its text was printed."""
+    for file, content in files.items():
+        (folder / file).write_bytes(content)
+    command = [str(PROGRAM)] + [str(folder / word) if word in files else word for word in words]
+    ample, _ = run(command, library)
+    tally.check(name, ample.returncode == 0 and len(ample.stdout) > 5, ample)
+
+    def judge(kind, text):
+        def judge_one(number, done):
+            is_ample = kind == "ALLOC" and done.returncode == 0 and done.stdout == ample.stdout
+            is_refused = (
+                done.returncode == 3
+                and (done.stderr == text or (kind == "WRITE" and text.endswith(done.stderr)))
+                and ample.stdout.startswith(done.stdout)
+                and (kind == "WRITE" or done.stdout == b"")
+            )
+            kept = all((folder / file).read_bytes() == content for file, content in files.items())
+            tally.check(f"{name} without {kind} {number}", (is_ample or is_refused) and kept, done)
+
+        return judge_one
+
+    for kind, text in (("ALLOC", OUT_OF_MEMORY), ("READ", CANNOT_READ), ("WRITE", CANNOT_WRITE)):
+        count = each_refusal(command, library, kind, b"", nothing, judge(kind, text))
+        tally.check(f"{name}: {kind}", count > 0, count)
+    short, _ = run(command, library, short=True)
+    tally.check(f"{name} one byte at a time", short.returncode == 0 and short.stdout == ample.stdout, short)
+
+
+LOOPS_APART = b"address,kind,message\n0,numeric," + b"1" * 75 + b"\n3,numeric," + b"1" * 75 + b"\n"
+CERTIFICATE = bytes.fromhex("5043423200000000030200013000020000010080 00".replace(" ", ""))
+
+
 def main():
     tally = Tally()
     with tempfile.TemporaryDirectory() as name:
@@ -177,6 +210,8 @@ def main():
         for part in (try_trial, try_input):
             part(tally, library)
         try_plan(tally, library, folder)
+        files = {"pages.csv": LOOPS_APART, "cert.bin": CERTIFICATE}
+        try_printing(tally, library, "check", ["check", "pages.csv", "cert.bin"], files, folder)
     print(f"{tally.passed} passed, {tally.failed} failed")
     return 0 if tally.failed == 0 else 1
 

@@ -2,6 +2,7 @@
 //! Makes each public call that may lack memory once, on a worked example, and prints a line for each:
 //! its answer, or that memory was wanting. The tests run it with each growth refused in turn.
 
+mod certificates;
 mod line;
 mod packing;
 mod pages;
@@ -27,9 +28,10 @@ enum Trial {
     FromTightPages,
     LayInOrder,
     FirstStream,
+    ReadCertificate,
 }
 
-const TRIALS: [Trial; 12] = [
+const TRIALS: [Trial; 13] = [
     Trial::PackNumeric,
     Trial::PackAlpha,
     Trial::UnpackNumeric,
@@ -42,6 +44,7 @@ const TRIALS: [Trial; 12] = [
     Trial::FromTightPages,
     Trial::LayInOrder,
     Trial::FirstStream,
+    Trial::ReadCertificate,
 ];
 
 fn name_of(trial: Trial) -> &'static str {
@@ -58,6 +61,7 @@ fn name_of(trial: Trial) -> &'static str {
         Trial::FromTightPages => "Round::from_pages of three-pages-tight",
         Trial::LayInOrder => "lay_in_order of lone-tone",
         Trial::FirstStream => "first_stream of lone-tone",
+        Trial::ReadCertificate => "read_certificate of loops-apart",
     }
 }
 
@@ -75,6 +79,7 @@ fn run(alloc: Global, trial: Trial, line: &mut Line) -> Result<(), OutOfMemory> 
         Trial::FromTightPages => pages::round_of_tight_pages(alloc, line),
         Trial::LayInOrder => rounds::lay_lone_tone(alloc, line),
         Trial::FirstStream => rounds::stream_lone_tone(alloc, line),
+        Trial::ReadCertificate => certificates::read_loops_apart(alloc, line),
     }
 }
 
