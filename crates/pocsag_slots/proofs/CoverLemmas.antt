@@ -1,0 +1,58 @@
+-- How often codewords in a row cover a slot, and where the runs of a class start and end.
+use Rattle.std.proofs.Common.{◌≡◌, ℕ, zero, suc, ◌+◌, ◌-◌, ◌*◌, ◌/◌, ◌%◌, ◌<◌, ◌==◌, cond, arith}
+use Rattle.std.proofs.lemmas.Bool.Decides.{nat_tests}
+use Rattle.pocsag_words.specs.declared.ending.End.{End}
+use Rattle.pocsag_words.specs.declared.ending.End.TheVariants.{Open, Closed}
+use Rattle.pocsag_pages.specs.Reading.{frame_at}
+use Rattle.pocsag_slots.specs.Cover.{covered}
+use Rattle.pocsag_slots.specs.Numbering.{class_of, class_frame, class_rest, start_of, finish_of}
+
+-- one codeword more raises the whole turns exactly in its own slot
+cover_step : (i slot : ℕ) → slot < 16 → cond (i % 16 == slot) 1 0 + (i + 15 - slot) / 16 ≡ (i + 1 + 15 - slot) / 16
+cover_step i slot h = grind (arith, nat_tests)
+
+pub covered_is : (i n slot : ℕ) → slot < 16 → covered i n slot + (i + 15 - slot) / 16 ≡ (i + n + 15 - slot) / 16
+unfolding covered
+covered_is i zero slot h = omega arith
+covered_is i (suc n) slot h =
+    let rest : covered (i + 1) n slot + (i + 1 + 15 - slot) / 16 ≡ (i + 1 + n + 15 - slot) / 16 = covered_is (i + 1) n slot h in
+    let first : cond (i % 16 == slot) 1 0 + (i + 15 - slot) / 16 ≡ (i + 1 + 15 - slot) / 16 = cover_step i slot h in
+    omega arith
+
+pub covered_split : (i n m slot : ℕ) → slot < 16 → covered i (n + m) slot ≡ covered i n slot + covered (i + n) m slot
+covered_split i n m slot h =
+    omega (arith, covered_is i (n + m) slot h, covered_is i n slot h, covered_is (i + n) m slot h)
+
+pub covered_turns : (i n slot : ℕ) → slot < 16 → covered i n slot ≡ n / 16 + covered (i % 16) (n % 16) slot
+covered_turns i n slot h = omega (arith, covered_is i n slot h, covered_is (i % 16) (n % 16) slot h)
+
+pub covered_batches : (b slot : ℕ) → slot < 16 → covered 0 (16 * b) slot ≡ b
+covered_batches b slot h = omega (arith, covered_is 0 (16 * b) slot h)
+
+pub class_below : (end : End) (frame n : ℕ) → frame < 8 → class_of end frame n < 136
+unfolding class_of
+class_below Open frame n h = omega arith
+class_below Closed frame n h = grind (arith, nat_tests)
+
+pub class_frame_is : (end : End) (frame n : ℕ) → frame < 8 → class_frame (class_of end frame n) ≡ frame
+unfolding class_of class_frame
+class_frame_is Open frame n h = grind (arith, nat_tests)
+class_frame_is Closed frame n h = grind (arith, nat_tests)
+
+pub class_rest_is : (end : End) (frame n : ℕ) → frame < 8 → class_rest (class_of end frame n) ≡ n % 16
+unfolding class_of class_rest
+class_rest_is Open frame n h = grind (arith, nat_tests)
+class_rest_is Closed frame n h = grind (arith, nat_tests)
+
+pub start_is : (end : End) (i n : ℕ) → start_of (class_of end (frame_at i) n) (i % 2 == 0) ≡ i % 16
+unfolding start_of
+start_is end i n =
+    let small : i % 16 / 2 < 8 = omega arith in
+    let frame : class_frame (class_of end (i % 16 / 2) n) ≡ i % 16 / 2 = class_frame_is end (i % 16 / 2) n small in
+    grind (arith, nat_tests)
+
+pub finish_is : (end : End) (i n : ℕ) → finish_of (class_of end (frame_at i) n) (i % 2 == 0) ≡ (i + n) % 16
+unfolding finish_of
+finish_is end i n =
+    let small : i % 16 / 2 < 8 = omega arith in
+    omega (arith, start_is end i n, class_rest_is end (i % 16 / 2) n small)

@@ -1,0 +1,14 @@
+pub mod CoverLemmas
+pub mod Endings
+pub mod Laying
+pub mod Rearranged
+pub mod Taking
+pub mod Touring
+pub mod SumLemmas
+pub mod Walks
+pub mod Fewest
+pub mod LoadLemmas
+pub mod LeastLemmas
+pub mod LimitLemmas
+pub mod WayLemmas
+pub mod CountLemmas

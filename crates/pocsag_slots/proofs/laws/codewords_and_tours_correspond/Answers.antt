@@ -1,0 +1,11 @@
+use Rattle.std.proofs.Common.{map}
+use Rattle.pocsag_words.specs.Kinds.{kind_of}
+use Rattle.pocsag_slots.proofs.Fewest.{laid_list_legal}
+use Rattle.pocsag_slots.proofs.Touring.{toured}
+use Rattle.pocsag_slots.proofs.laws.codewords_and_tours_correspond.Goals as goal
+
+pub returns-clause-tour : goal.returns-clause-tour
+returns-clause-tour c k end T R b apart classes legal = toured k end (map kind_of T) R b apart classes legal.1
+
+pub returns-clause-legal : goal.returns-clause-legal
+returns-clause-legal c = laid_list_legal

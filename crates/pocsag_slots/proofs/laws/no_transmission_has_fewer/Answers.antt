@@ -1,0 +1,11 @@
+use Rattle.std.proofs.Common.{map}
+use Rattle.pocsag_words.specs.Kinds.{kind_of}
+use Rattle.pocsag_slots.proofs.Fewest.{fewest}
+use Rattle.pocsag_slots.proofs.laws.no_transmission_has_fewer.Goals as goal
+
+pub returns-clause-kinds : goal.returns-clause-kinds
+returns-clause-kinds c = fewest
+
+pub returns-clause-codewords : goal.returns-clause-codewords
+returns-clause-codewords c k end T R a b apart classes least legal =
+    fewest k end (map kind_of T) R a b apart classes least legal.1

@@ -1,0 +1,5 @@
+use Rattle.pocsag_slots.proofs.Laying.{laid_legal}
+use Rattle.pocsag_slots.proofs.laws.tours_are_transmissions.Goals as goal
+
+pub returns : goal.returns
+returns c = laid_legal

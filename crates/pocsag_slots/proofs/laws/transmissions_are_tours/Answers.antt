@@ -1,0 +1,5 @@
+use Rattle.pocsag_slots.proofs.Touring.{toured}
+use Rattle.pocsag_slots.proofs.laws.transmissions_are_tours.Goals as goal
+
+pub returns : goal.returns
+returns c = toured

@@ -1,0 +1,12 @@
+use Rattle.std.proofs.Common.{◌-◌, arith, slice_index}
+use Rattle.std.proofs.Math.Nat.{mul-le-mul_left}
+use Rattle.pocsag_slots.proofs.LoadLemmas.{count_few}
+use Rattle.pocsag_slots.proofs.load.class_load.Goals as goal
+
+pub overflow_add-result : goal.overflow_add-result
+overflow_add-result c =
+    omega (arith, mul-le-mul_left c.args.early c.times_covered.ensures.once, count_few c.args.classes.now c.args.class c.requires.class, c.args.classes.now.tables.short c.args.class c.requires.class)
+
+pub overflow_add-result-2 : goal.overflow_add-result-2
+overflow_add-result-2 c =
+    omega (arith, mul-le-mul_left c.args.early c.times_covered.ensures.once, mul-le-mul_left (slice_index c.args.classes.now.count c.args.class - c.args.early) c.times_covered-2.ensures.once, count_few c.args.classes.now c.args.class c.requires.class, c.args.classes.now.tables.short c.args.class c.requires.class)

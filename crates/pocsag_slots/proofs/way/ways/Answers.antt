@@ -1,0 +1,47 @@
+use Rattle.std.proofs.Common.{◌≡◌, ◌++◌, arith, sym, append-nil, ap, ◌∙◌, subst, ℕ}
+use Rattle.pocsag_slots.specs.Sums.{joined_below}
+use Rattle.pocsag_slots.specs.Ways.{class_ways, slot_ways, ways_across}
+use Rattle.pocsag_slots.proofs.WayLemmas.{class_added, classes_few, early_few, joined_none, slot_added, slots_few, ways_allowed}
+use Rattle.pocsag_slots.proofs.way.ways.Goals as goal
+
+pub loop-slot-init : goal.loop-slot-init
+loop-slot-init c = c.new-found.ensures ∙ sym (joined_none _)
+
+pub push_if-requires : goal.push_if-requires
+push_if-requires c = omega (arith, slots_few c.args.set c.loop-slot.slot c.loop-slot.found.items c.loop-slot.invariant)
+
+pub loop-slot-preserved : goal.loop-slot-preserved
+loop-slot-preserved c =
+    slot_added c.args.set c.loop-slot.slot c.idle_crosses.result c.loop-slot.found.items c.push_if.new.ways.items
+    c.idle_crosses.ensures c.loop-slot.invariant c.push_if.ensures
+
+pub loop-class-init : goal.loop-class-init
+loop-class-init c =
+    let all : c.loop-slot.slot ≡ 16 = omega arith in
+    rw (c.loop-slot.invariant, all, joined_none) (sym (append-nil _))
+
+pub push_if-requires-in-loop-class : goal.push_if-requires-in-loop-class
+push_if-requires-in-loop-class c =
+    omega (arith, classes_few c.args.classes.now c.args.limits.now c.args.set c.loop-class.class c.loop-class.found.items c.loop-class.invariant)
+
+pub push_if-requires-in-loop-class-2 : goal.push_if-requires-in-loop-class-2
+push_if-requires-in-loop-class-2 c =
+    omega (arith, early_few c.args.classes.now c.args.limits.now c.args.set c.loop-class.class c.is_open_early.result c.loop-class.found.items c.push_if-in-loop-class.new.ways.items c.loop-class.invariant c.push_if-in-loop-class.ensures)
+
+pub loop-class-preserved : goal.loop-class-preserved
+loop-class-preserved c =
+    class_added c.args.classes.now c.args.limits.now c.args.set c.loop-class.class c.is_open_early.result c.is_open_late.result
+    c.loop-class.found.items c.push_if-in-loop-class.new.ways.items c.push_if-in-loop-class-2.new.ways.items
+    c.is_open_early.ensures c.is_open_late.ensures c.loop-class.invariant c.push_if-in-loop-class.ensures c.push_if-in-loop-class-2.ensures
+
+across : goal.returns-clause-items
+unfolding ways_across
+across c =
+    let all : c.loop-class.class ≡ 136 = omega arith in
+    rw all at c.loop-class.invariant
+
+pub returns-clause-items : goal.returns-clause-items
+returns-clause-items c = across c
+
+pub returns-clause-allowed : goal.returns-clause-allowed
+returns-clause-allowed c = rw (across c) (ways_allowed c.args.classes.now c.args.limits.now c.args.set)

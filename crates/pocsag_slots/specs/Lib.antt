@@ -1,0 +1,9 @@
+pub mod Arcs
+pub mod Cover
+pub mod Layout
+pub mod Loads
+pub mod Numbering
+pub mod Sums
+pub mod Tables
+pub mod Tours
+pub mod Ways

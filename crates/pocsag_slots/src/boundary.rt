@@ -1,0 +1,42 @@
+ghost use Rattle.std.specs.Prelude.{◌≡◌, ◌<◌};
+ghost use Rattle.pocsag_slots.specs.Numbering.{class_frame, class_rest, finish_of, start_of};
+
+/// The frame of the class, 0 to 7.
+#[tactic(auto, unfolding(crate::specs::Numbering::class_frame))]
+pub fn frame(class: u8) -> u8
+    requires { class < 136 }
+    ensures value { result ≡ class_frame class }
+    ensures below { result < 8 }
+{
+    if class < 128 { class / 16 } else { class - 128 }
+}
+
+/// How many slots a run of the class covers beside its whole turns, 0 to 15.
+#[tactic(auto, unfolding(crate::specs::Numbering::class_rest))]
+pub fn rest(class: u8) -> u8
+    requires { class < 136 }
+    ensures value { result ≡ class_rest class }
+    ensures below { result < 16 }
+{
+    if class < 128 { class % 16 } else { 1 }
+}
+
+/// The boundary, and the slot, at which an early or a late run of the class starts.
+#[tactic(auto, unfolding(crate::specs::Numbering::start_of))]
+pub fn start(class: u8, early: bool) -> u8
+    requires { class < 136 }
+    ensures value { result ≡ start_of class early }
+    ensures below { result < 16 }
+{
+    if early { 2 * frame(class) } else { 2 * frame(class) + 1 }
+}
+
+/// The boundary to which an early or a late run of the class leads.
+#[tactic(auto, unfolding(crate::specs::Numbering::finish_of))]
+pub fn finish(class: u8, early: bool) -> u8
+    requires { class < 136 }
+    ensures value { result ≡ finish_of class early }
+    ensures below { result < 16 }
+{
+    (start(class, early) + rest(class)) % 16
+}

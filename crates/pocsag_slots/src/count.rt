@@ -1,0 +1,46 @@
+ghost use Rattle.std.specs.Prelude.{◌≡◌, ℕ, ◌/◌, ◌<◌, ◌≤◌, length, slice_index};
+ghost use Rattle.pocsag_pages.specs.Reading.{page_length};
+ghost use Rattle.pocsag_slots.specs.Loads.{AreClassesOf};
+ghost use Rattle.pocsag_slots.specs.Numbering.{class_of_page};
+
+use crate::class::{CLASSES, Classes};
+use pocsag_pages::{Page, Round};
+use pocsag_words::End;
+
+/// The class of the page, 0 to 135, for the end.
+#[tactic(auto, unfolding(crate::specs::Numbering::class_of))]
+pub fn class_of(page: &Page, end: End) -> u8
+    ensures value { result ≡ class_of_page end page.now }
+    ensures below { result < 136 }
+{
+    let frame = (page.address % 8) as u8;
+    let message = page.payload.as_slice().len();
+    match end {
+        End::Closed if message == 0 => 128 + frame,
+        _ => frame * 16 + ((1 + message) % 16) as u8,
+    }
+}
+
+/// How many whole turns of sixteen codewords the page takes.
+pub fn whole_turns(page: &Page) -> u32
+    requires { length page.now.payload ≤ 1400 }
+    ensures value { result ≡ page_length page.now / 16 }
+    ensures bound { result ≤ 87 }
+{
+    ((1 + page.payload.as_slice().len()) / 16) as u32
+}
+
+/// The pages of the round by classes for the end.
+pub fn classes_of(round: &Round, end: End) -> Classes
+    ensures counted { AreClassesOf result end round.now }
+    ensures open { end ≡ End.Open → (c : ℕ) → 128 ≤ c → c < 136 → slice_index result.count c ≡ 0 }
+{
+    let mut count = [0; CLASSES];
+    let mut turns = [0; CLASSES];
+    for page in round.pages() {
+        let class = class_of(page, end) as usize;
+        count[class] += 1;
+        turns[class] += whole_turns(page);
+    }
+    Classes { count, turns }
+}

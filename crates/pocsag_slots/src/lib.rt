@@ -1,0 +1,29 @@
+#![tactic(auto)]
+//! Classes of pages, loads of slots, ways out of a set of boundaries, and the correspondence of legal
+//! transmissions and tours. Below stand codewords, above only numbers on sixteen slots. Nothing here
+//! takes memory.
+
+mod boundary;
+mod class;
+mod count;
+mod laws;
+mod limit;
+mod load;
+mod set;
+mod step;
+#[cfg(test)]
+mod tests;
+mod way;
+
+pub use boundary::{finish, frame, rest, start};
+pub use class::{CLASSES, Choice, Classes, SLOTS};
+pub use count::{class_of, classes_of, whole_turns};
+pub use laws::{
+    codewords_and_tours_correspond, no_load_is_above_batches, no_transmission_has_fewer,
+    tours_are_transmissions, transmissions_are_tours,
+};
+pub use limit::{Limits, all_limits, below_split, from_split, narrow};
+pub use load::{least_load, loads, overloads};
+pub use set::{crosses, holds, touches};
+pub use step::Step;
+pub use way::{Way, closing_ways, is_certain, ways};

@@ -1,0 +1,144 @@
+ghost use Rattle.std.specs.Prelude.{◌≡◌, ℕ, ◌*◌, ◌^◌, ◌<◌, ◌≤◌, ◌↔◌, IsTrue, if◌then◌else◌, length, slice_index};
+ghost use Rattle.pocsag_slots.specs.Cover.{covered};
+ghost use Rattle.pocsag_slots.specs.Loads.{AreInOrder, class_load as load_of_class, IsChoice, IsLeastLoad, least_of_class, load, Overloads};
+ghost use Rattle.pocsag_slots.specs.Sums.{holds as is_member, sum_over};
+
+use crate::boundary::{rest, start};
+use crate::class::{CLASSES, Choice, Classes, SLOTS};
+use crate::limit::Limits;
+use crate::set::holds;
+
+// How often so many codewords from a slot on, at most one turn, cover the slot.
+#[tactic(auto, using(crate::proofs::LoadLemmas::covered_by))]
+fn times_covered(first: u8, codewords: u8, slot: u8) -> u32
+    requires first { first < 16 }
+    requires codewords { codewords ≤ 16 }
+    requires slot { slot < 16 }
+    ensures value { result ≡ covered first codewords slot }
+    ensures once { result ≤ 1 }
+{
+    u32::from((slot + 16 - first) % 16 < codewords)
+}
+
+// How often the runs of the class cover the slot, where so many of them start early.
+#[tactic(auto, unfolding(crate::specs::Loads::class_load))]
+fn class_load(classes: &Classes, class: u8, early: u32, slot: u8) -> u32
+    requires class { class < 136 }
+    requires early { early ≤ slice_index classes.now.count class }
+    requires slot { slot < 16 }
+    ensures value { result ≡ load_of_class classes.now slot class early }
+    ensures bound { result ≤ 88 * slice_index classes.now.count class }
+{
+    let late = classes.count[class as usize] - early;
+    let by_early = early * times_covered(start(class, true), rest(class), slot);
+    let by_late = late * times_covered(start(class, false), rest(class), slot);
+    classes.turns[class as usize] + by_early + by_late
+}
+
+fn slot_load(classes: &Classes, choice: &Choice, slot: u8) -> u32
+    requires choice { IsChoice classes.now (slice_index choice.now.early) }
+    requires slot { slot < 16 }
+    ensures value { result ≡ load classes.now (slice_index choice.now.early) slot }
+    ensures bound { result ≤ 1760000 }
+{
+    let mut total = 0;
+    for class in 0..CLASSES as u8 {
+        total += class_load(classes, class, choice.early[class as usize], slot);
+    }
+    total
+}
+
+/// The load of each slot under the choice: how many times the runs cover it.
+pub fn loads(classes: &Classes, choice: &Choice) -> [u32; 16]
+    requires { IsChoice classes.now (slice_index choice.now.early) }
+    ensures length { length result ≡ 16 }
+    ensures loads { (slot : ℕ) → slot < 16 → slice_index result slot ≡ load classes.now (slice_index choice.now.early) slot }
+    ensures bound { (slot : ℕ) → slot < 16 → slice_index result slot ≤ 1760000 }
+{
+    let mut found = [0; SLOTS];
+    for slot in 0..SLOTS as u8 {
+        found[slot as usize] = slot_load(classes, choice, slot);
+    }
+    found
+}
+
+// How many of so many codewords from a slot on, at most one turn, stand in slots of the set.
+fn members_covered(set: u16, first: u8, codewords: u8) -> u64
+    requires first { first < 16 }
+    requires codewords { codewords ≤ 16 }
+    ensures value { result ≡ sum_over set (covered first codewords) }
+    ensures bound { result ≤ 16 }
+{
+    let mut members = 0;
+    for place in 0..codewords {
+        if holds(set, (first + place) % 16) {
+            members += 1;
+        }
+    }
+    members
+}
+
+// The least load of the class on the set of slots, of which there are so many.
+#[tactic(auto, unfolding(crate::specs::Loads::least_of_class))]
+fn class_least(classes: &Classes, limits: &Limits, set: u16, size: u64, class: u8) -> u64
+    requires ordered { AreInOrder classes.now limits.now }
+    requires size { size ≡ sum_over set (covered 0 16) }
+    requires small { size ≤ 16 }
+    requires class { class < 136 }
+    ensures value { result ≡ least_of_class classes.now limits.now set class }
+    ensures bound { result < 2 ^ 40 }
+{
+    let count = u64::from(classes.count[class as usize]);
+    let lo = u64::from(limits.lo[class as usize]);
+    let hi = u64::from(limits.hi[class as usize]);
+    let early = members_covered(set, start(class, true), rest(class));
+    let late = members_covered(set, start(class, false), rest(class));
+    let at_lo = lo * early + (count - lo) * late;
+    let at_hi = hi * early + (count - hi) * late;
+    u64::from(classes.turns[class as usize]) * size + at_lo.min(at_hi)
+}
+
+/// The least total load of the slots of the set, over all choices within the limits.
+pub fn least_load(classes: &Classes, limits: &Limits, set: u16) -> u64
+    requires { AreInOrder classes.now limits.now }
+    ensures least { IsLeastLoad classes.now limits.now set result }
+    ensures bound { result ≤ 28160000 }
+{
+    let size = members_covered(set, 0, 16);
+    let mut least = 0;
+    for class in 0..CLASSES as u8 {
+        least += class_least(classes, limits, set, size, class);
+    }
+    least
+}
+
+fn member_cap(limits: &Limits, set: u16, slot: u8) -> u64
+    requires { slot < 16 }
+    ensures value { result ≡ (if is_member set slot then slice_index limits.now.cap slot else 0) }
+    ensures bound { result < 2 ^ 32 }
+{
+    if holds(set, slot) {
+        u64::from(limits.cap[slot as usize])
+    } else {
+        0
+    }
+}
+
+fn total_cap(limits: &Limits, set: u16) -> u64
+    ensures { result ≡ sum_over set (slice_index limits.now.cap) }
+{
+    let mut total = 0;
+    for slot in 0..SLOTS as u8 {
+        total += member_cap(limits, set, slot);
+    }
+    total
+}
+
+/// Whether each choice within the limits loads the slots of the set with more than the sum of their
+/// caps.
+pub fn overloads(classes: &Classes, limits: &Limits, set: u16) -> bool
+    requires { AreInOrder classes.now limits.now }
+    ensures { IsTrue result ↔ Overloads classes.now limits.now set }
+{
+    total_cap(limits, set) < least_load(classes, limits, set)
+}

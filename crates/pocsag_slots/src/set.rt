@@ -1,0 +1,42 @@
+ghost use Rattle.std.specs.Prelude.{◌≡◌, ◌<◌};
+ghost use Rattle.pocsag_slots.specs.Sums.{holds as is_member};
+ghost use Rattle.pocsag_slots.specs.Ways.{idle_crosses as crosses_by_idle, run_crosses, run_touches};
+
+use crate::boundary::{finish, start};
+
+/// Whether the set, of slots or of boundaries, has the member, 0 to 15: bit `i` of the number stands
+/// for member `i`.
+#[tactic(auto, unfolding(crate::specs::Sums::holds))]
+pub fn holds(set: u16, member: u8) -> bool
+    requires { member < 16 }
+    ensures { result ≡ is_member set member }
+{
+    (set >> member) & 1 == 1
+}
+
+/// Whether an early or a late run of the class has an end outside the set of boundaries.
+#[tactic(auto, unfolding(crate::specs::Ways::run_touches))]
+pub fn touches(class: u8, early: bool, set: u16) -> bool
+    requires { class < 136 }
+    ensures { result ≡ run_touches class early set }
+{
+    !holds(set, start(class, early)) || !holds(set, finish(class, early))
+}
+
+/// Whether exactly one end of an early or a late run of the class is in the set of boundaries.
+#[tactic(auto, unfolding(crate::specs::Ways::run_crosses))]
+pub fn crosses(class: u8, early: bool, set: u16) -> bool
+    requires { class < 136 }
+    ensures { result ≡ run_crosses class early set }
+{
+    holds(set, start(class, early)) != holds(set, finish(class, early))
+}
+
+// Whether exactly one end of an idle in the slot is in the set of boundaries.
+#[tactic(auto, unfolding(crate::specs::Ways::idle_crosses))]
+pub(crate) fn idle_crosses(slot: u8, set: u16) -> bool
+    requires { slot < 16 }
+    ensures { result ≡ crosses_by_idle slot set }
+{
+    holds(set, slot) != holds(set, (slot + 1) % 16)
+}

@@ -1,0 +1,78 @@
+use super::*;
+use arrayvec::ArrayVec;
+use pocsag_pages::{Page, Payload, Round, RoundFault};
+use pocsag_words::End;
+use std::alloc::Global;
+use std::test::Fail;
+
+// A page of so many message codewords that all say `11111`.
+fn page_of(alloc: Global, address: u32, items: usize) -> Result<Page, RoundFault> {
+    let Ok(message) = vec![in alloc; 0x88888; items] else {
+        return Err(RoundFault::OutOfMemory);
+    };
+    Ok(Page {
+        address,
+        function: 0,
+        payload: Payload::from_vec(message),
+    })
+}
+
+// The round of pages of these addresses and numbers of message codewords.
+fn round_of(alloc: Global, pages: &[(u32, usize)]) -> Result<Round, RoundFault> {
+    let mut list = Vec::new(alloc);
+    for (address, items) in pages.iter().copied() {
+        let page = page_of(alloc, address, items)?;
+        if list.push(page).is_err() {
+            return Err(RoundFault::OutOfMemory);
+        }
+    }
+    Round::from_pages(alloc, list)
+}
+
+#[test]
+fn three_tones_one_frame(rt: HostRuntime) -> Result<(), Fail> {
+    let round = round_of(rt.alloc(), &[(5, 0), (13, 0), (21, 0)])?;
+    let classes = classes_of(&round, End::Open);
+    assert_eq!(rt; (classes.count[81], classes.count[133]), (3, 0));
+    let closed = classes_of(&round, End::Closed);
+    assert_eq!(rt; (closed.count[81], closed.count[133]), (0, 3));
+    assert_eq!(rt; overloads(&classes, &all_limits(&classes, 1), 0x0C00), true);
+    assert_eq!(rt; overloads(&classes, &all_limits(&classes, 2), 0x0C00), false);
+    Ok(())
+}
+
+#[test]
+fn loops_apart(rt: HostRuntime) -> Result<(), Fail> {
+    let round = round_of(rt.alloc(), &[(0, 15), (3, 15)])?;
+    let classes = classes_of(&round, End::Open);
+    assert_eq!(rt; (classes.count[0], classes.turns[0]), (1, 1));
+    assert_eq!(rt; (classes.count[48], classes.turns[48]), (1, 1));
+    let limits = all_limits(&classes, 2);
+    let out = ways(&classes, &limits, 0x0001, 2);
+    assert_eq!(rt; out.as_slice(), [Way::IdleIn(0), Way::IdleIn(15)].as_slice());
+    assert_eq!(rt; is_certain(&classes, &limits, 0x0001, 48), true);
+    assert_eq!(rt; is_certain(&classes, &limits, 0x0001, 0), false);
+    let first = narrow(&classes, &limits, Way::IdleIn(0), 2);
+    assert_eq!(rt; first.cap[0], 1);
+    assert_eq!(rt; least_load(&classes, &first, 0x0001), 2);
+    assert_eq!(rt; overloads(&classes, &first, 0x0001), true);
+    let last = narrow(&classes, &limits, Way::IdleIn(15), 2);
+    assert_eq!(rt; overloads(&classes, &last, 0x8000), true);
+    assert_eq!(rt; overloads(&classes, &last, 0x4000), false);
+    Ok(())
+}
+
+#[test]
+fn closed_mixed(rt: HostRuntime) -> Result<(), Fail> {
+    let round = round_of(rt.alloc(), &[(0, 13), (7, 0), (15, 16)])?;
+    let classes = classes_of(&round, End::Closed);
+    assert_eq!(rt; (classes.count[14], classes.turns[14]), (1, 0));
+    assert_eq!(rt; (classes.count[113], classes.turns[113]), (1, 1));
+    assert_eq!(rt; (classes.count[135], classes.turns[135]), (1, 0));
+    let mut early = classes.count;
+    early[135] = 0;
+    assert_eq!(rt; loads(&classes, &Choice { early }), [2; 16]);
+    let out = closing_ways(&classes, &all_limits(&classes, 1));
+    assert_eq!(rt; out.as_slice(), [Way::IdleIn(15), Way::Late(135)].as_slice());
+    Ok(())
+}

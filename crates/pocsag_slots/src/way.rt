@@ -1,0 +1,95 @@
+ghost use Rattle.std.specs.Prelude.{◌≡◌, ◌<◌, ◌∷◌, [], ◌++◌, All, if◌then◌else◌};
+ghost use Rattle.arrayvec.specs.ArrayVec.{array_vec_len};
+ghost use Rattle.pocsag_slots.specs.Ways.{class_certain, early_open as is_early_open, late_open as is_late_open, MayTake, ways_across, ways_to_close};
+
+use arrayvec::ArrayVec;
+
+use crate::class::{CLASSES, Classes, SLOTS};
+use crate::limit::Limits;
+use crate::set::{crosses, idle_crosses, touches};
+
+/// A way out of a set of boundaries: one more idle in a slot, or an early or a late run of a class.
+#[derive(Clone, Copy, PartialEq, Eq, Debug)]
+pub enum Way {
+    IdleIn(u8),
+    Early(u8),
+    Late(u8),
+}
+
+impl Default for Way {
+    fn default() -> Way {
+        Way::IdleIn(0)
+    }
+}
+
+/// Whether some run of the class has an end outside the set of boundaries, whatever choice within the
+/// limits is taken.
+#[tactic(auto, unfolding(crate::specs::Ways::class_certain))]
+pub fn is_certain(classes: &Classes, limits: &Limits, set: u16, class: u8) -> bool
+    requires { class < 136 }
+    ensures { result ≡ class_certain classes.now limits.now set class }
+{
+    let count = classes.count[class as usize];
+    let early = touches(class, true, set);
+    let late = touches(class, false, set);
+    let some_early = early && 0 < limits.lo[class as usize];
+    let some_late = late && limits.hi[class as usize] < count;
+    0 < count && ((early && late) || some_early || some_late)
+}
+
+#[tactic(auto, unfolding(crate::specs::Ways::early_open))]
+fn is_open_early(classes: &Classes, limits: &Limits, set: u16, class: u8) -> bool
+    requires { class < 136 }
+    ensures { result ≡ is_early_open classes.now limits.now set class }
+{
+    crosses(class, true, set) && 0 < classes.count[class as usize] && 0 < limits.hi[class as usize]
+}
+
+#[tactic(auto, unfolding(crate::specs::Ways::late_open))]
+fn is_open_late(classes: &Classes, limits: &Limits, set: u16, class: u8) -> bool
+    requires { class < 136 }
+    ensures { result ≡ is_late_open classes.now limits.now set class }
+{
+    crosses(class, false, set) && limits.lo[class as usize] < classes.count[class as usize]
+}
+
+fn push_if<const N: usize>(ways: &mut ArrayVec<Way, N>, allowed: bool, way: Way)
+    requires { array_vec_len ways.old < N }
+    ensures { ways.new.items ≡ ways.old.items ++ (if allowed then way ∷ [] else []) }
+{
+    if allowed {
+        ways.push(way);
+    }
+}
+
+/// The ways out of the set of boundaries that the limits allow: an idle of a crossing slot, slots in
+/// order, and then a run of a crossing class, early before late, classes in order. They do not depend
+/// on the number of batches.
+#[tactic(auto, unfolding(crate::specs::Ways::ways_across))]
+pub fn ways(classes: &Classes, limits: &Limits, set: u16, _batches: u32) -> ArrayVec<Way, 288>
+    ensures items { result.items ≡ ways_across classes.now limits.now set }
+    ensures allowed { All (MayTake classes.now limits.now) result.items }
+{
+    let mut found = ArrayVec::new();
+    for slot in 0..SLOTS as u8 {
+        push_if(&mut found, idle_crosses(slot, set), Way::IdleIn(slot));
+    }
+    for class in 0..CLASSES as u8 {
+        push_if(&mut found, is_open_early(classes, limits, set, class), Way::Early(class));
+        push_if(&mut found, is_open_late(classes, limits, set, class), Way::Late(class));
+    }
+    found
+}
+
+/// The ways in which a transmission with the closed end may end: an idle in slot 15, or an address
+/// codeword alone there, where the limits allow one.
+#[tactic(auto, unfolding(crate::specs::Ways::ways_to_close))]
+pub fn closing_ways(classes: &Classes, limits: &Limits) -> ArrayVec<Way, 2>
+    ensures items { result.items ≡ ways_to_close classes.now limits.now }
+    ensures allowed { All (MayTake classes.now limits.now) result.items }
+{
+    let mut found = ArrayVec::new();
+    found.push(Way::IdleIn(15));
+    push_if(&mut found, limits.lo[135] < classes.count[135], Way::Late(135));
+    found
+}
