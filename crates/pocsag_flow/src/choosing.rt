@@ -89,8 +89,16 @@ fn relieved(classes: &Classes, limits: &Limits, choice: &Choice, counted: [u32; 
         reached: with(0, slot),
     };
     if leave(&network, &mut search, slot, excess) == 0 {
-        Err(ChooseFault::Overload(search.reached))
+        Err(overload_of(search.reached))
     } else {
         Ok(Choice { early: search.early })
     }
+}
+
+// The fault that names the set of slots.
+fn overload_of(set: u16) -> ChooseFault
+    ensures fault { set_of result ≡ set }
+    ensures small { set < 2 ^ 16 }
+{
+    ChooseFault::Overload(set)
 }
