@@ -4,14 +4,13 @@ use Rattle.std.proofs.Common.{◌≡◌, ◌≢◌, ℕ, ◌+◌, ◌-◌, ◌*�
 use Rattle.std.proofs.lemmas.Bool.{cases_eq, cases_lt}
 use Rattle.pocsag_slots.specs.declared.class.Classes.{Classes}
 use Rattle.pocsag_slots.specs.declared.limit.Limits.{Limits}
-use Rattle.pocsag_slots.specs.Loads.{AreInOrder, IsLeastLoad, IsWithin, Overloads, class_load, class_load_over, load}
+use Rattle.pocsag_slots.specs.Loads.{AreInOrder, IsWithin, Overloads, class_load, class_load_over, load}
 use Rattle.pocsag_slots.specs.Numbering.{finish_of, start_of}
 use Rattle.pocsag_slots.specs.Sums.{holds, sum_below, sum_over}
-use Rattle.pocsag_slots.proofs.LeastLemmas.{overload_is}
 use Rattle.pocsag_slots.proofs.SumLemmas.{sum_below-le, sum_over-sum_below}
 use Rattle.pocsag_flow.specs.declared.network.Network.{Network}
 use Rattle.pocsag_flow.specs.declared.network.Search.{Search}
-use Rattle.pocsag_flow.specs.Choosing.{IsBelowLeast, overload}
+use Rattle.pocsag_flow.specs.Choosing.{overload}
 use Rattle.pocsag_flow.specs.Search.{IsClosed, IsStuck, Pushes, Relieves}
 use Rattle.pocsag_flow.proofs.FlowSums.{sum_below-lt}
 use Rattle.pocsag_flow.proofs.Shifts.{class_load_over_shift, finish_low, in_set, start_low}
@@ -96,18 +95,15 @@ shut_overloads n before after slot most moved h ordered within alone above p non
     let at_slot : IsStuck n (slice_index before.early) after.reached slot = record { closed = here; full = omega (arith, above) } in
     let stuck : (s : ℕ) → s < 16 → holds after.reached s ≡ true → IsStuck n (slice_index before.early) after.reached s =
     λ s l held.
-        elim (cases_eq s slot) [
-          | inl is ↦ subst (λ (t : ℕ). IsStuck n (slice_index before.early) after.reached t) (sym is) at_slot
-          | inr other ↦ (p.stuck none).each s l held (alone s other)
-        ] in
+    elim (cases_eq s slot) [
+      | inl is ↦ subst (λ (t : ℕ). IsStuck n (slice_index before.early) after.reached t) (sym is) at_slot
+      | inr other ↦ (p.stuck none).each s l held (alone s other)
+    ] in
     let least = shut_least n.classes n.limits after.reached (slice_index before.early) choice ordered within among
     (record { each = λ s l held. (stuck s l held).closed }) in
     let caps = full_sum after.reached slot (slice_index n.limits.cap) (load n.classes (slice_index before.early)) h p.marked above
     (λ s l held. (stuck s l held).full) in
     omega (arith, least, caps)
-
-pub below_least : (k : Classes) (l : Limits) (set : ℕ) → Overloads k l set → IsBelowLeast k l set
-below_least k l set all least is = (overload_is k l set least is).1 all
 
 -- a way takes something from the overload
 pub overload_less : (n : Network) (before after : ℕ → ℕ) (slot moved : ℕ) → slot < 16 → 0 < moved →

@@ -33,4 +33,3 @@ holds_more set slot h e =
     let sum : bit_or set (2 ^ slot) + bit_and set (2 ^ slot) ≡ set + 2 ^ slot = or_add_and set (2 ^ slot) in
     let both : bit_and set (2 ^ slot) ≡ 0 * 2 ^ slot = rw none at (and_pow set slot) in
     rw (bit_of slot h) (omega (arith, pow_pos slot))
-

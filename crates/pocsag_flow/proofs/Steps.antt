@@ -149,7 +149,7 @@ pub pushed_on : (n : Network) (before mid after : Search) (class from to most am
     IsWithin n.limits (slice_index after.early) → length after.early ≡ 136 →
     ((c : ℕ) → c < 136 → c ≢ class → slice_index after.early c ≡ slice_index mid.early c) →
     ((slot : ℕ) → slot < 16 → load n.classes (slice_index after.early) slot + moved * same_slot from slot
-        ≡ load n.classes (slice_index mid.early) slot + moved * same_slot to slot) →
+    ≡ load n.classes (slice_index mid.early) slot + moved * same_slot to slot) →
     (moved ≡ 0 → after.early ≡ mid.early) →
     Pushes n before after from most moved
 pushed_on n before mid after class from to most amount moved low low_to held out between p fits reached within size others loads still =
@@ -158,12 +158,12 @@ pushed_on n before mid after class from to most amount moved low low_to held out
     λ s is. elim is [ inl inside ↦ inside | inr here ↦ ap (holds before.reached) here ∙ held ] in
     let other_class : (c : ℕ) → holds before.reached (start_of c true) ≡ true → holds before.reached (finish_of c true) ≡ true → c ≢ class =
     λ c first last same.
-        elim between [
-          | inl is ↦
-              let e : holds before.reached to ≡ true = ap (holds before.reached) (is ∙ ap (λ (d : ℕ). start_of d true) (sym same)) ∙ first in cc
-          | inr is ↦
-              let e : holds before.reached to ≡ true = ap (holds before.reached) (is ∙ ap (λ (d : ℕ). finish_of d true) (sym same)) ∙ last in cc
-        ] in
+    elim between [
+      | inl is ↦
+          let e : holds before.reached to ≡ true = ap (holds before.reached) (is ∙ ap (λ (d : ℕ). start_of d true) (sym same)) ∙ first in cc
+      | inr is ↦
+          let e : holds before.reached to ≡ true = ap (holds before.reached) (is ∙ ap (λ (d : ℕ). finish_of d true) (sym same)) ∙ last in cc
+    ] in
     record {
       within = within;
       size = size;

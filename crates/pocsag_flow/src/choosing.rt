@@ -23,14 +23,18 @@ pub fn choose(classes: &Classes, limits: &Limits) -> Result<Choice, ChooseFault>
 }
 
 /// The same, beginning with the given choice, or with what is nearest to it within the limits.
-pub fn choose_from(classes: &Classes, limits: &Limits, start: &Choice) -> Result<Choice, ChooseFault>
+pub fn choose_from(
+    classes: &Classes,
+    limits: &Limits,
+    start: &Choice,
+) -> Result<Choice, ChooseFault>
     requires { AreInOrder classes.now limits.now }
     ensures admitted { IfOk result (λ choice. IsAdmitted classes.now limits.now (slice_index choice.early)) }
     ensures some { IfErr result (λ fault. HasSlot (set_of fault)) }
     ensures overloads { IfErr result (λ fault. Overloads classes.now limits.now (set_of fault)) }
     ensures least { IfErr result (λ fault. IsBelowLeast classes.now limits.now (set_of fault)) }
 {
-    let mut choice = clamped(classes, limits, start);
+    let mut choice = clamped(limits, start);
     let mut counted = loads(classes, &choice);
     while let Some(slot) = overfull(&counted, limits) {
         choice = relieved(classes, limits, &choice, counted, slot)?;
@@ -40,13 +44,15 @@ pub fn choose_from(classes: &Classes, limits: &Limits, start: &Choice) -> Result
 }
 
 // The choice within the limits that is nearest to the given one.
-fn clamped(classes: &Classes, limits: &Limits, start: &Choice) -> Choice
-    requires { AreInOrder classes.now limits.now }
+fn clamped(limits: &Limits, start: &Choice) -> Choice
+    requires { (class : ℕ) → class < 136 → slice_index limits.now.lo class ≤ slice_index limits.now.hi class }
     ensures { IsWithin limits.now (slice_index result.early) }
 {
     let mut early = [0; CLASSES];
     for class in 0..CLASSES {
-        early[class] = start.early[class].max(limits.lo[class]).min(limits.hi[class]);
+        early[class] = start.early[class]
+            .max(limits.lo[class])
+            .min(limits.hi[class]);
     }
     Choice { early }
 }
@@ -67,7 +73,13 @@ fn overfull(counted: &[u32; 16], limits: &Limits) -> Option<u8>
 
 // A choice with less overload, some of the load of the slot moved to slots with room; or the set of all
 // slots to which load can be moved from there.
-fn relieved(classes: &Classes, limits: &Limits, choice: &Choice, counted: [u32; 16], slot: u8) -> Result<Choice, ChooseFault>
+fn relieved(
+    classes: &Classes,
+    limits: &Limits,
+    choice: &Choice,
+    counted: [u32; 16],
+    slot: u8,
+) -> Result<Choice, ChooseFault>
     requires ordered { AreInOrder classes.now limits.now }
     requires within { IsWithin limits.now (slice_index choice.now.early) }
     requires counted { (at : ℕ) → at < 16 → slice_index counted at ≡ load classes.now (slice_index choice.now.early) at }
@@ -91,7 +103,9 @@ fn relieved(classes: &Classes, limits: &Limits, choice: &Choice, counted: [u32; 
     if leave(&network, &mut search, slot, excess) == 0 {
         Err(overload_of(search.reached))
     } else {
-        Ok(Choice { early: search.early })
+        Ok(Choice {
+            early: search.early,
+        })
     }
 }
 

@@ -6,6 +6,8 @@
 mod choosing;
 mod fault;
 mod network;
+#[cfg(test)]
+mod tests;
 mod way;
 
 pub use choosing::{choose, choose_from};
