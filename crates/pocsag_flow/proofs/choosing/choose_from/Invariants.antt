@@ -1,4 +1,4 @@
-use Rattle.std.proofs.Common.{◌≡◌, ℕ, ◌<◌, length, slice_index}
+use Rattle.std.proofs.Common.{◌≡◌, ℕ, ◌<◌, slice_index}
 use Rattle.pocsag_slots.specs.Loads.{IsWithin, load}
 use Rattle.pocsag_flow.specs.Choosing.{overload}
 use Rattle.pocsag_flow.proofs.choosing.choose_from.Given as goal

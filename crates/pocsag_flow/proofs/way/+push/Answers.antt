@@ -1,7 +1,4 @@
-use Rattle.std.proofs.Common.{◌≡◌, ◌≢◌, ℕ, ◌+◌, ◌-◌, ◌*◌, ◌<◌, ◌≤◌, true, arith, refl, sym, ap, ◌∙◌, inl, inr, slice_index, slice_set, length, length-set, get_or-set_same, get_or-set_other}
-use Rattle.pocsag_slots.specs.Loads.{IsWithin, load}
-use Rattle.pocsag_slots.specs.Numbering.{finish_of, start_of}
-use Rattle.pocsag_flow.proofs.Shifts.{finish_low, start_low}
+use Rattle.std.proofs.Common.{◌≡◌, arith, refl}
 use Rattle.pocsag_flow.proofs.Steps.{entered, left_more, moved_late, moved_early}
 use Rattle.pocsag_flow.proofs.way.+push.Goals as goal
 

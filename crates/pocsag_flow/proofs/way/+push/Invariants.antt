@@ -1,4 +1,4 @@
-use Rattle.std.proofs.Common.{ℕ, ◌+◌, ◌-◌, ◌*◌}
+use Rattle.std.proofs.Common.{◌+◌, ◌-◌, ◌*◌}
 use Rattle.pocsag_flow.specs.Search.{Leaves}
 use Rattle.pocsag_flow.proofs.way.+push.Given as goal
 

@@ -1,4 +1,3 @@
-use Rattle.std.proofs.Common.{◌≢◌, ℕ}
 use Rattle.pocsag_flow.proofs.Members.{holds_here, holds_more, holds_other}
 use Rattle.pocsag_flow.proofs.way.with.Goals as goal
 
