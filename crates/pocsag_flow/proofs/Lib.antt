@@ -1,0 +1,5 @@
+pub mod FlowSums
+pub mod Members
+pub mod Shifts
+pub mod Steps
+pub mod Ends

@@ -1,0 +1,255 @@
+-- What the steps of the search for a way do, each by the steps inside it.
+use Rattle.std.proofs.Common.{◌≡◌, ◌≢◌, ℕ, ◌+◌, ◌-◌, ◌*◌, ◌<◌, ◌≤◌, ◌⊎◌, max, true, false, refl, sym, ap, ◌∙◌, subst, arith, inl, inr, List, length, slice_index, slice_set, get_or-set_same, get_or-set_other, length-set}
+use Rattle.std.proofs.lemmas.Bool.{cases_eq, cases_lt}
+use Rattle.std.proofs.lemmas.Bool.Decides.{nat_tests}
+use Rattle.std.proofs.lemmas.List.{set-get_or}
+use Rattle.pocsag_slots.specs.declared.limit.Limits.{Limits}
+use Rattle.pocsag_slots.specs.Loads.{IsWithin, load}
+use Rattle.pocsag_slots.specs.Numbering.{finish_of, start_of}
+use Rattle.pocsag_slots.specs.Sums.{holds}
+use Rattle.pocsag_flow.specs.declared.network.Network.{Network}
+use Rattle.pocsag_flow.specs.declared.network.Search.{Search}
+use Rattle.pocsag_flow.specs.Search.{AreStuck, Includes, IsClosed, IsNetworkOf, IsOf, IsStuck, Keeps, LeadsInto, Leaves, Pushes, Relieves}
+use Rattle.pocsag_flow.proofs.Shifts.{Moves, finish_low, load_moved, same_slot, start_low}
+
+-- a slot outside the larger set is outside the smaller one
+outside : (large small s : ℕ) → Includes large small → holds large s ≡ false → holds small s ≡ false
+outside large small s more out =
+    elim (holds small s) as (λ b. (holds small s ≡ b → b ≡ false)) [
+      | true ↦ (λ e. sym (more.each s e) ∙ out)
+      | false ↦ (λ e. refl)
+    ] refl
+
+not_slot : (set s slot : ℕ) → holds set s ≡ true → holds set slot ≡ false → s ≢ slot
+not_slot set s slot held out same = let other : holds set s ≡ false = ap (holds set) same ∙ out in cc
+
+leads_larger : (l : Limits) (early : ℕ → ℕ) (large small class slot : ℕ) → Includes large small →
+    LeadsInto l early small class slot → LeadsInto l early large class slot
+leads_larger l early large small class slot more leads =
+    record {
+      to_late = λ from out. leads.to_late from (outside large small _ more out);
+      to_early = λ from out. leads.to_early from (outside large small _ more out);
+    }
+
+stuck_larger : (n : Network) (early : ℕ → ℕ) (large small slot : ℕ) → Includes large small →
+    IsStuck n early small slot → IsStuck n early large slot
+stuck_larger n early large small slot more stuck =
+    record {
+      closed = record { each = λ c h. leads_larger n.limits early large small c slot more (stuck.closed.each c h) };
+      full = stuck.full;
+    }
+
+-- the slot that is entered has no room, and is left
+pub entered : (n : Network) (before mid after : Search) (slot most moved : ℕ) →
+    mid.early ≡ before.early → holds mid.reached slot ≡ true →
+    ((other : ℕ) → other ≢ slot → holds mid.reached other ≡ holds before.reached other) →
+    holds before.reached slot ≡ false → before.reached < mid.reached →
+    slice_index n.limits.cap slot ≤ load n.classes (slice_index before.early) slot →
+    Pushes n mid after slot most moved →
+    (moved ≡ 0 → IsClosed n.limits (slice_index after.early) after.reached slot) →
+    Pushes n before after slot most moved
+entered n before mid after slot most moved same here others out more full p closed =
+    let grown : Includes mid.reached before.reached =
+    record { each = λ s held. others s (not_slot before.reached s slot held out) ∙ held } in
+    let kept : Keeps mid.reached slot (slice_index before.early) (slice_index after.early) = rw same at p.kept in
+    let of : (s : ℕ) → IsOf before.reached slot s → IsOf mid.reached slot s =
+    λ s is. elim is [ inl held ↦ inl (grown.each s held) | inr at_slot ↦ inr at_slot ] in
+    record {
+      within = p.within;
+      size = p.size;
+      grows = record { each = λ s held. p.grows.each s (grown.each s held) };
+      more = omega (arith, p.more);
+      marked = p.marked;
+      bounded = p.bounded;
+      kept = record { each = λ c h first last. kept.each c h (of _ first) (of _ last) };
+      relieved = λ some. rw same at (p.relieved some);
+      same = λ none. p.same none ∙ same;
+      stuck = λ none. record {
+        each = λ s l held new.
+            elim (cases_eq s slot) [
+              | inl is ↦
+                  let shut : IsClosed n.limits (slice_index before.early) after.reached slot = rw (p.same none ∙ same) at (closed none) in
+                  let stuck : IsStuck n (slice_index before.early) after.reached slot = record { closed = shut; full = full } in
+                  subst (λ (t : ℕ). IsStuck n (slice_index before.early) after.reached t) (sym is) stuck
+              | inr other ↦
+                  let stuck : AreStuck n (slice_index before.early) mid.reached after.reached = rw same at (p.stuck none) in
+                  stuck.each s l held (others s other ∙ new)
+            ];
+      };
+    }
+
+-- one class more leads nowhere
+pub left_more : (n : Network) (before now after : Search) (slot most moved class : ℕ) →
+    Leaves n before now slot class → Pushes n now after slot most moved → moved ≡ 0 →
+    LeadsInto n.limits (slice_index after.early) after.reached class slot →
+    Leaves n before after slot (class + 1)
+left_more n before now after slot most moved class l p none leads =
+    let still : after.early ≡ before.early = p.same none ∙ l.same in
+    let stuck : AreStuck n (slice_index before.early) now.reached after.reached = rw l.same at (p.stuck none) in
+    let here : LeadsInto n.limits (slice_index before.early) after.reached class slot = rw still at leads in
+    record {
+      same = still;
+      grows = record { each = λ s held. p.grows.each s (l.grows.each s held) };
+      more = omega (arith, l.more, p.more);
+      stuck = record {
+        each = λ s low held new.
+            elim (holds now.reached s) as (λ b. (holds now.reached s ≡ b → IsStuck n (slice_index before.early) after.reached s)) [
+              | true ↦ (λ e. stuck_larger n (slice_index before.early) after.reached now.reached s p.grows (l.stuck.each s low e new))
+              | false ↦ (λ e. stuck.each s low held e)
+            ] refl;
+      };
+      leads = λ tried h.
+          elim (cases_lt tried class) [
+            | inl low ↦ leads_larger n.limits (slice_index before.early) after.reached now.reached tried slot p.grows (l.leads tried low)
+            | inr high ↦
+                let is : class ≡ tried = omega arith in
+                subst (λ (t : ℕ). LeadsInto n.limits (slice_index before.early) after.reached t slot) is here
+          ];
+    }
+
+same_slot_same : (a : ℕ) → same_slot a a ≡ 1
+unfolding same_slot
+same_slot_same a = grind (arith, nat_tests)
+
+same_slot_other : (a b : ℕ) → a ≢ b → same_slot a b ≡ 0
+unfolding same_slot
+same_slot_other a b ne = grind (arith, nat_tests)
+
+-- what moved into the next slot is taken from this one, and no slot else is changed by the switch
+pub passed : (n : Network) (before mid after : ℕ → ℕ) (from to moved : ℕ) → from < 16 → to < 16 → from ≢ to →
+    Relieves n before mid to moved →
+    ((slot : ℕ) → slot < 16 → load n.classes after slot + moved * same_slot from slot ≡ load n.classes mid slot + moved * same_slot to slot) →
+    Relieves n before after from moved
+passed n before mid after from to moved low low_to apart relieved loads =
+    let back : to ≢ from = λ same. apart (sym same) in
+    let taken : load n.classes after from + moved * 1 ≡ load n.classes mid from + moved * 0 =
+    rw (same_slot_same from, same_slot_other to from back) at (loads from low) in
+    let given : load n.classes after to + moved * 0 ≡ load n.classes mid to + moved * 1 =
+    rw (same_slot_other from to apart, same_slot_same to) at (loads to low_to) in
+    record {
+      here = omega (arith, taken, relieved.others from low apart);
+      others = λ other h ne.
+          elim (cases_eq other to) [
+            | inl is ↦
+                subst (λ (t : ℕ). load n.classes after t ≤ max (load n.classes before t) (slice_index n.limits.cap t)) (sym is)
+                (omega (arith, given, relieved.here))
+            | inr else ↦
+                let here : load n.classes after other + moved * 0 ≡ load n.classes mid other + moved * 0 =
+                rw (same_slot_other from other (λ same. ne (sym same)), same_slot_other to other (λ same. else (sym same))) at (loads other h) in
+                omega (arith, here, relieved.others other h else)
+          ];
+    }
+
+-- the class between the slots is switched
+pub pushed_on : (n : Network) (before mid after : Search) (class from to most amount moved : ℕ) → from < 16 → to < 16 →
+    holds before.reached from ≡ true → holds before.reached to ≡ false →
+    ((to ≡ start_of class true) ⊎ (to ≡ finish_of class true)) →
+    Pushes n before mid to amount moved → amount ≤ most → after.reached ≡ mid.reached →
+    IsWithin n.limits (slice_index after.early) → length after.early ≡ 136 →
+    ((c : ℕ) → c < 136 → c ≢ class → slice_index after.early c ≡ slice_index mid.early c) →
+    ((slot : ℕ) → slot < 16 → load n.classes (slice_index after.early) slot + moved * same_slot from slot
+    ≡ load n.classes (slice_index mid.early) slot + moved * same_slot to slot) →
+    (moved ≡ 0 → after.early ≡ mid.early) →
+    Pushes n before after from most moved
+pushed_on n before mid after class from to most amount moved low low_to held out between p fits reached within size others loads still =
+    let apart : from ≢ to = not_slot before.reached from to held out in
+    let in_set : (s : ℕ) → IsOf before.reached from s → holds before.reached s ≡ true =
+    λ s is. elim is [ inl inside ↦ inside | inr here ↦ ap (holds before.reached) here ∙ held ] in
+    let other_class : (c : ℕ) → holds before.reached (start_of c true) ≡ true → holds before.reached (finish_of c true) ≡ true → c ≢ class =
+    λ c first last same.
+    elim between [
+      | inl is ↦
+          let e : holds before.reached to ≡ true = ap (holds before.reached) (is ∙ ap (λ (d : ℕ). start_of d true) (sym same)) ∙ first in cc
+      | inr is ↦
+          let e : holds before.reached to ≡ true = ap (holds before.reached) (is ∙ ap (λ (d : ℕ). finish_of d true) (sym same)) ∙ last in cc
+    ] in
+    record {
+      within = within;
+      size = size;
+      grows = record { each = λ s inside. ap (λ (set : ℕ). holds set s) reached ∙ p.grows.each s inside };
+      more = omega (arith, p.more, reached);
+      marked = ap (λ (set : ℕ). holds set from) reached ∙ p.grows.each from held;
+      bounded = omega (arith, p.bounded);
+      kept = record {
+        each = λ c h first last.
+            let one : holds before.reached (start_of c true) ≡ true = in_set (start_of c true) first in
+            let two : holds before.reached (finish_of c true) ≡ true = in_set (finish_of c true) last in
+            others c h (other_class c one two) ∙ p.kept.each c h (inl one) (inl two);
+      };
+      relieved = λ some. passed n (slice_index before.early) (slice_index mid.early) (slice_index after.early) from to moved low low_to apart (p.relieved some) loads;
+      same = λ none. still none ∙ p.same none;
+      stuck = λ none. rw (← reached) at (p.stuck none);
+    }
+
+-- one class is set, and the others stay
+set_here : (early : List ℕ) (class e : ℕ) → class < 136 → length early ≡ 136 → slice_index (slice_set early class e) class ≡ e
+set_here early class e h size = get_or-set_same early class e 0 (omega arith)
+
+set_other : (early : List ℕ) (class e c : ℕ) → c ≢ class → slice_index (slice_set early class e) c ≡ slice_index early c
+set_other early class e c ne = get_or-set_other early class c e 0 ne
+
+set_within : (l : Limits) (early : List ℕ) (class e : ℕ) → class < 136 → length early ≡ 136 →
+    slice_index l.lo class ≤ e → e ≤ slice_index l.hi class → IsWithin l (slice_index early) → IsWithin l (slice_index (slice_set early class e))
+set_within l early class e h size low high within =
+    record {
+      least = λ c k.
+          elim (cases_eq c class) [
+            | inl is ↦ subst (λ (t : ℕ). slice_index l.lo t ≤ slice_index (slice_set early class e) t) (sym is) (omega (arith, set_here early class e h size))
+            | inr other ↦ omega (arith, set_other early class e c other, within.least c k)
+          ];
+      most = λ c k.
+          elim (cases_eq c class) [
+            | inl is ↦ subst (λ (t : ℕ). slice_index (slice_set early class e) t ≤ slice_index l.hi t) (sym is) (omega (arith, set_here early class e h size))
+            | inr other ↦ omega (arith, set_other early class e c other, within.most c k)
+          ];
+    }
+
+-- where nothing moved the class is set to what it was
+set_still : (early : List ℕ) (class e : ℕ) → e ≡ slice_index early class → slice_set early class e ≡ early
+set_still early class e is = ap (λ (v : ℕ). slice_set early class v) is ∙ set-get_or early class 0
+
+pub moved_late : (n : Network) (before mid : Search) (class most amount moved : ℕ) → class < 136 →
+    IsNetworkOf n before → holds before.reached (start_of class true) ≡ true → holds before.reached (finish_of class true) ≡ false →
+    amount + slice_index n.limits.lo class ≤ slice_index before.early class → amount ≤ most →
+    Pushes n before mid (finish_of class true) amount moved →
+    Pushes n before (record { early = slice_set mid.early class (slice_index mid.early class - moved); reached = mid.reached })
+    (start_of class true) most moved
+moved_late n before mid class most amount moved h network held out room fits p =
+    let after : List ℕ = slice_set mid.early class (slice_index mid.early class - moved) in
+    let kept : slice_index mid.early class ≡ slice_index before.early class = p.kept.each class h (inl held) (inr refl) in
+    let here : slice_index after class ≡ slice_index mid.early class - moved = set_here mid.early class (slice_index mid.early class - moved) h p.size in
+    let moves : Moves (slice_index mid.early) (slice_index after) class moved =
+    record {
+      here = omega (arith, here, kept, p.bounded, room);
+      others = λ c k ne. set_other mid.early class (slice_index mid.early class - moved) c ne;
+    } in
+    pushed_on n before mid (record { early = after; reached = mid.reached }) class (start_of class true) (finish_of class true) most amount moved
+    (start_low class h) (finish_low class) held out (inr refl) p fits refl
+    (set_within n.limits mid.early class (slice_index mid.early class - moved) h p.size (omega (arith, kept, p.bounded, room)) (omega (arith, p.within.most class h)) p.within)
+    (length-set mid.early class (slice_index mid.early class - moved) ∙ p.size)
+    moves.others
+    (λ slot l. load_moved n.classes (slice_index mid.early) (slice_index after) class moved slot h l (omega (arith, p.within.most class h, network.ordered.counted class h)) moves)
+    (λ none. set_still mid.early class (slice_index mid.early class - moved) (omega (arith, none)))
+
+pub moved_early : (n : Network) (before mid : Search) (class most amount moved : ℕ) → class < 136 →
+    IsNetworkOf n before → holds before.reached (finish_of class true) ≡ true → holds before.reached (start_of class true) ≡ false →
+    slice_index before.early class + amount ≤ slice_index n.limits.hi class → amount ≤ most →
+    Pushes n before mid (start_of class true) amount moved →
+    Pushes n before (record { early = slice_set mid.early class (slice_index mid.early class + moved); reached = mid.reached })
+    (finish_of class true) most moved
+moved_early n before mid class most amount moved h network held out room fits p =
+    let after : List ℕ = slice_set mid.early class (slice_index mid.early class + moved) in
+    let kept : slice_index mid.early class ≡ slice_index before.early class = p.kept.each class h (inr refl) (inl held) in
+    let here : slice_index after class ≡ slice_index mid.early class + moved = set_here mid.early class (slice_index mid.early class + moved) h p.size in
+    let moves : Moves (slice_index after) (slice_index mid.early) class moved =
+    record {
+      here = sym here;
+      others = λ c k ne. sym (set_other mid.early class (slice_index mid.early class + moved) c ne);
+    } in
+    pushed_on n before mid (record { early = after; reached = mid.reached }) class (finish_of class true) (start_of class true) most amount moved
+    (finish_low class) (start_low class h) held out (inl refl) p fits refl
+    (set_within n.limits mid.early class (slice_index mid.early class + moved) h p.size (omega (arith, p.within.least class h)) (omega (arith, kept, p.bounded, room)) p.within)
+    (length-set mid.early class (slice_index mid.early class + moved) ∙ p.size)
+    (λ c k ne. sym (moves.others c k ne))
+    (λ slot l. sym (load_moved n.classes (slice_index after) (slice_index mid.early) class moved slot h l (omega (arith, here, kept, p.bounded, room, network.ordered.counted class h)) moves))
+    (λ none. set_still mid.early class (slice_index mid.early class + moved) (omega (arith, none)))

@@ -1,0 +1,70 @@
+-- The search for a way that leads load from an overfull slot to one with room (this project's own).
+use Rattle.std.specs.Prelude.{◌≡◌, ◌≢◌, ℕ, ◌+◌, ◌<◌, ◌≤◌, ◌⊎◌, max, true, false, length, slice_index}
+use Rattle.pocsag_slots.specs.declared.limit.Limits.{Limits}
+use Rattle.pocsag_slots.specs.Loads.{AreInOrder, IsWithin, load}
+use Rattle.pocsag_slots.specs.Numbering.{finish_of, start_of}
+use Rattle.pocsag_slots.specs.Sums.{holds}
+use Rattle.pocsag_flow.specs.declared.network.Network.{Network}
+use Rattle.pocsag_flow.specs.declared.network.Search.{Search}
+
+-- The network holds the loads of the search's choice, which is within the limits.
+pub record IsNetworkOf (n : Network) (s : Search) : Type 0 where
+  pub ordered : AreInOrder n.classes n.limits
+  pub within : IsWithin n.limits (slice_index s.early)
+  pub size : length s.early ≡ 136
+  pub loads : (slot : ℕ) → slot < 16 → slice_index n.loads slot ≡ load n.classes (slice_index s.early) slot
+
+-- No run of the class that the limits let move leads load from the slot out of the set.
+pub record LeadsInto (l : Limits) (early : ℕ → ℕ) (set class slot : ℕ) : Type 0 where
+  pub to_late : start_of class true ≡ slot → holds set (finish_of class true) ≡ false → early class ≤ slice_index l.lo class
+  pub to_early : finish_of class true ≡ slot → holds set (start_of class true) ≡ false → slice_index l.hi class ≤ early class
+
+pub record IsClosed (l : Limits) (early : ℕ → ℕ) (set slot : ℕ) : Type 0 where
+  pub each : (class : ℕ) → class < 136 → LeadsInto l early set class slot
+
+-- The slot has no room, and nothing leads from it out of the set.
+pub record IsStuck (n : Network) (early : ℕ → ℕ) (set slot : ℕ) : Type 0 where
+  pub closed : IsClosed n.limits early set slot
+  pub full : slice_index n.limits.cap slot ≤ load n.classes early slot
+
+-- The slots that are new in a set are stuck.
+pub record AreStuck (n : Network) (early : ℕ → ℕ) (old new : ℕ) : Type 0 where
+  pub each : (slot : ℕ) → slot < 16 → holds new slot ≡ true → holds old slot ≡ false → IsStuck n early new slot
+
+pub record Includes (large small : ℕ) : Type 0 where
+  pub each : (slot : ℕ) → holds small slot ≡ true → holds large slot ≡ true
+
+abbrev pub IsOf : ℕ → ℕ → ℕ → Type 0
+IsOf set slot s = (holds set s ≡ true) ⊎ (s ≡ slot)
+
+-- The classes both of whose ends are in the set or are the slot are left alone.
+pub record Keeps (set slot : ℕ) (before after : ℕ → ℕ) : Type 0 where
+  pub each : (class : ℕ) → class < 136 → IsOf set slot (start_of class true) → IsOf set slot (finish_of class true) →
+      after class ≡ before class
+
+-- So much load is taken from the slot, and no slot is loaded more than before or than its cap.
+pub record Relieves (n : Network) (before after : ℕ → ℕ) (slot moved : ℕ) : Type 0 where
+  pub here : load n.classes after slot + moved ≤ max (load n.classes before slot) (slice_index n.limits.cap slot)
+  pub others : (other : ℕ) → other < 16 → other ≢ slot →
+      load n.classes after other ≤ max (load n.classes before other) (slice_index n.limits.cap other)
+
+-- What a step of the search does for the slot: it moves some load on, or finds all new slots stuck.
+pub record Pushes (n : Network) (before after : Search) (slot most moved : ℕ) : Type 0 where
+  pub within : IsWithin n.limits (slice_index after.early)
+  pub size : length after.early ≡ 136
+  pub grows : Includes after.reached before.reached
+  pub more : before.reached ≤ after.reached
+  pub marked : holds after.reached slot ≡ true
+  pub bounded : moved ≤ most
+  pub kept : Keeps before.reached slot (slice_index before.early) (slice_index after.early)
+  pub relieved : 0 < moved → Relieves n (slice_index before.early) (slice_index after.early) slot moved
+  pub same : moved ≡ 0 → after.early ≡ before.early
+  pub stuck : moved ≡ 0 → AreStuck n (slice_index before.early) before.reached after.reached
+
+-- The classes below the given one lead nowhere from the slot, and so far nothing has moved.
+pub record Leaves (n : Network) (before now : Search) (slot class : ℕ) : Type 0 where
+  pub same : now.early ≡ before.early
+  pub grows : Includes now.reached before.reached
+  pub more : before.reached ≤ now.reached
+  pub stuck : AreStuck n (slice_index before.early) before.reached now.reached
+  pub leads : (tried : ℕ) → tried < class → LeadsInto n.limits (slice_index before.early) now.reached tried slot

@@ -1,0 +1,118 @@
+ghost use Rattle.std.specs.Prelude.{◌≡◌, ℕ, ◌^◌, ◌<◌, ◌≤◌, IfErr, IfNone, IfOk, IfSome, slice_index};
+ghost use Rattle.pocsag_slots.specs.Loads.{AreInOrder, IsAdmitted, IsLeastLoad, IsWithin, load, Overloads};
+ghost use Rattle.pocsag_slots.specs.Sums.{sum_over};
+ghost use Rattle.pocsag_flow.specs.Choosing.{HasSlot, IsBelowLeast, overload, set_of};
+
+use crate::fault::ChooseFault;
+use crate::network::{Network, Search};
+use crate::way::{leave, with};
+use pocsag_slots::{CLASSES, Choice, Classes, Limits, SLOTS, loads};
+
+/// A choice of starts within the limits that loads no slot above its cap, or a set of slots that every
+/// choice within the limits loads above the sum of their caps.
+///
+/// It begins with all runs early, as far as the limits let them.
+pub fn choose(classes: &Classes, limits: &Limits) -> Result<Choice, ChooseFault>
+    requires { AreInOrder classes.now limits.now }
+    ensures admitted { IfOk result (λ choice. IsAdmitted classes.now limits.now (slice_index choice.early)) }
+    ensures some { IfErr result (λ fault. HasSlot (set_of fault)) }
+    ensures overloads { IfErr result (λ fault. Overloads classes.now limits.now (set_of fault)) }
+    ensures least { IfErr result (λ fault. IsBelowLeast classes.now limits.now (set_of fault)) }
+{
+    choose_from(classes, limits, &Choice { early: limits.hi })
+}
+
+/// The same, beginning with the given choice, or with what is nearest to it within the limits.
+pub fn choose_from(
+    classes: &Classes,
+    limits: &Limits,
+    start: &Choice,
+) -> Result<Choice, ChooseFault>
+    requires { AreInOrder classes.now limits.now }
+    ensures admitted { IfOk result (λ choice. IsAdmitted classes.now limits.now (slice_index choice.early)) }
+    ensures some { IfErr result (λ fault. HasSlot (set_of fault)) }
+    ensures overloads { IfErr result (λ fault. Overloads classes.now limits.now (set_of fault)) }
+    ensures least { IfErr result (λ fault. IsBelowLeast classes.now limits.now (set_of fault)) }
+{
+    let mut choice = clamped(limits, start);
+    let mut counted = loads(classes, &choice);
+    while let Some(slot) = overfull(&counted, limits) {
+        choice = relieved(classes, limits, &choice, counted, slot)?;
+        counted = loads(classes, &choice);
+    }
+    Ok(choice)
+}
+
+// The choice within the limits that is nearest to the given one.
+fn clamped(limits: &Limits, start: &Choice) -> Choice
+    requires { (class : ℕ) → class < 136 → slice_index limits.now.lo class ≤ slice_index limits.now.hi class }
+    ensures { IsWithin limits.now (slice_index result.early) }
+{
+    let mut early = [0; CLASSES];
+    for class in 0..CLASSES {
+        early[class] = start.early[class]
+            .max(limits.lo[class])
+            .min(limits.hi[class]);
+    }
+    Choice { early }
+}
+
+// The first slot that is loaded above its cap.
+fn overfull(counted: &[u32; 16], limits: &Limits) -> Option<u8>
+    ensures none { IfNone result ((slot : ℕ) → slot < 16 → slice_index counted.now slot ≤ slice_index limits.now.cap slot) }
+    ensures slot { IfSome result (λ slot. slot < 16) }
+    ensures some { IfSome result (λ slot. slice_index limits.now.cap slot < slice_index counted.now slot) }
+{
+    for slot in 0..SLOTS as u8 {
+        if limits.cap[slot as usize] < counted[slot as usize] {
+            return Some(slot);
+        }
+    }
+    None
+}
+
+// A choice with less overload, some of the load of the slot moved to slots with room; or the set of all
+// slots to which load can be moved from there.
+fn relieved(
+    classes: &Classes,
+    limits: &Limits,
+    choice: &Choice,
+    counted: [u32; 16],
+    slot: u8,
+) -> Result<Choice, ChooseFault>
+    requires ordered { AreInOrder classes.now limits.now }
+    requires within { IsWithin limits.now (slice_index choice.now.early) }
+    requires counted { (at : ℕ) → at < 16 → slice_index counted at ≡ load classes.now (slice_index choice.now.early) at }
+    requires slot { slot < 16 }
+    requires above { slice_index limits.now.cap slot < slice_index counted slot }
+    ensures within { IfOk result (λ after. IsWithin limits.now (slice_index after.early)) }
+    ensures less { IfOk result (λ after. overload classes.now limits.now (slice_index after.early) < overload classes.now limits.now (slice_index choice.now.early)) }
+    ensures some { IfErr result (λ fault. HasSlot (set_of fault)) }
+    ensures overloads { IfErr result (λ fault. Overloads classes.now limits.now (set_of fault)) }
+{
+    let excess = counted[slot as usize] - limits.cap[slot as usize];
+    let network = Network {
+        classes: *classes,
+        limits: *limits,
+        loads: counted,
+    };
+    let mut search = Search {
+        early: choice.early,
+        reached: with(0, slot),
+    };
+    if leave(&network, &mut search, slot, excess) == 0 {
+        Err(overload_of(search.reached))
+    } else {
+        Ok(Choice {
+            early: search.early,
+        })
+    }
+}
+
+// The fault that names the set of slots.
+fn overload_of(set: u16) -> ChooseFault
+    ensures fault { set_of result ≡ set }
+    ensures small { set < 2 ^ 16 }
+{
+    ChooseFault::Overload(set)
+}

@@ -1,0 +1,6 @@
+/// Why there is no choice within the limits and the caps: each choice within the limits loads the slots
+/// of the set above the sum of their caps. Bit `i` of the set stands for slot `i`.
+#[derive(Clone, Copy, PartialEq, Eq, Debug)]
+pub enum ChooseFault {
+    Overload(u16),
+}

@@ -1,0 +1,16 @@
+use pocsag_slots::{Classes, Limits};
+
+// What a search for one way goes by: the load of each slot is that of the choice before the way.
+#[derive(Drop)]
+pub(crate) struct Network {
+    pub(crate) classes: Classes,
+    pub(crate) limits: Limits,
+    pub(crate) loads: [u32; 16],
+}
+
+// The choice, and the slots that the search has reached.
+#[derive(Drop)]
+pub(crate) struct Search {
+    pub(crate) early: [u32; 136],
+    pub(crate) reached: u16,
+}
