@@ -1,0 +1,6 @@
+pub mod Carried
+pub mod Faults
+pub mod Growing
+pub mod Listing
+pub mod Places
+pub mod Standing
