@@ -34,6 +34,14 @@ fn is_message(kind: Kind) -> bool
     matches!(kind, Kind::Message(_))
 }
 
+// The word of four bytes, the highest first.
+fn word_of(bytes: &[u8]) -> u32
+    requires { length bytes.now ≡ 4 }
+    ensures { result ≡ from_be_bytes w32 bytes.now }
+{
+    u32::from_be_bytes([bytes[0], bytes[1], bytes[2], bytes[3]])
+}
+
 impl Body {
     pub(crate) fn new(alloc: Global) -> Body
         ensures stands { StandsIn result [] }
@@ -135,8 +143,9 @@ impl Body {
             IfErr result (λ e. (e ≡ DecodeFault.OutOfMemory) ⊎ HasBadWord (words_of (Y ++ bytes.now)) e) }
     {
         let mut rest = bytes;
-        while let [a, b, c, d, tail @ ..] = rest {
-            match self.take_word(u32::from_be_bytes([*a, *b, *c, *d])) {
+        while !rest.is_empty() {
+            let (front, tail) = rest.split_at(4);
+            match self.take_word(word_of(front)) {
                 Ok(()) => rest = tail,
                 Err(fault) => return Err(fault),
             }

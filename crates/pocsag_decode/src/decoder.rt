@@ -112,7 +112,8 @@ impl Decoder {
         }
         let count = leading_len(piece);
         self.leading += count as u64;
-        &piece[count..]
+        let (_, rest) = piece.split_at(count);
+        rest
     }
 
     fn take(&mut self, piece: &[u8]) -> Result<(), DecodeFault>

@@ -1,0 +1,5 @@
+pub mod Feeding
+pub mod Preambles
+pub mod Transmissions
+pub mod WordByWord
+pub mod Words
