@@ -1,4 +1,5 @@
 pub mod Feeding
+pub mod Judgements
 pub mod Preambles
 pub mod Transmissions
 pub mod WordByWord
