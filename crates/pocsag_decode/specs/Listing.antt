@@ -22,9 +22,9 @@ hex_digits item =
 
 -- The kind of a page of this function and payload.
 unfoldable pub kind_field : ℕ → List ℕ → List ℕ
-kind_field function [] = codes "tone" ++ decimal function
+kind_field function [] = codes "tone" ++ (48 + function) ∷ []
 kind_field function (item ∷ items) =
-    if function == 0 then codes "numeric" else if function == 3 then codes "alpha" else codes "data" ++ decimal function
+    if function == 0 then codes "numeric" else if function == 3 then codes "alpha" else codes "data" ++ (48 + function) ∷ []
 
 -- Its message.
 unfoldable pub message_field : ℕ → List ℕ → List ℕ
