@@ -1,5 +1,5 @@
 -- A decoder that stands after some bytes, and one piece more or the end.
-use Rattle.std.proofs.Common.{◌≡◌, ◌≢◌, ◌⊎◌, ℕ, ◌+◌, ◌*◌, ◌%◌, ◌^◌, ◌<◌, ◌≤◌, List, [], ◌∷◌, ◌++◌, length, drop, refl, sym, ap, ◌∙◌, subst, inl, inr, arith, All}
+use Rattle.std.proofs.Common.{◌≡◌, ◌≢◌, ℕ, ◌+◌, ◌%◌, ◌^◌, ◌<◌, ◌≤◌, List, [], ◌∷◌, ◌++◌, length, drop, sym, ap, ◌∙◌, subst, inl, inr, arith, All}
 use Rattle.std.proofs.lemmas.List.{append-nil, length-append}
 use Rattle.std.proofs.lemmas.List.Elements.{All-append}
 use Rattle.pocsag_pages.specs.Bytes.{leading, after_preamble, words_of}
@@ -7,8 +7,7 @@ use Rattle.pocsag_decode.specs.declared.fault.DecodeFault.{DecodeFault}
 use Rattle.pocsag_decode.specs.declared.fault.DecodeFault.TheVariants as fault
 use Rattle.pocsag_decode.specs.declared.state.Decoder.{Decoder}
 use Rattle.pocsag_decode.specs.Carried.{size_of}
-use Rattle.pocsag_decode.specs.Faults.{words, HasFaultThere, HasFaultOfEnd, IsRefusal, too_much, no_memory, fault_there}
-use Rattle.pocsag_decode.specs.Places.{HasBadWord}
+use Rattle.pocsag_decode.specs.Faults.{HasFaultThere, HasFaultOfEnd, IsRefusal, no_memory, fault_there}
 use Rattle.pocsag_decode.specs.Standing.{StandsAfter, StandsIn}
 use Rattle.pocsag_decode.proofs.Preambles.{begun_leading, begun_after, alone_leading, alone_after, count_is, nil_or, nil_from}
 use Rattle.pocsag_decode.proofs.Words.{size_is, Refuses}
@@ -26,8 +25,7 @@ skips_begun X Z leads size e s n =
 pub skips_alone : (X Z rest : List ℕ) (leads size count : ℕ) → leads ≡ leading X → size ≡ length (after_preamble X) → size ≡ 0 → count ≡ leading Z → rest ≡ drop count Z
     → (leads + count ≡ leading (X ++ Z)) × (after_preamble (X ++ Z) ≡ after_preamble X ++ rest)
 skips_alone X Z rest leads size count e s z c r =
-    let none : after_preamble X ≡ [] = nil_from (after_preamble X) (sym s ∙ z) in
-    (
+    let none : after_preamble X ≡ [] = nil_from (after_preamble X) (sym s ∙ z) in (
       let l = alone_leading X Z none in omega arith,
       alone_after X Z none ∙ ap (λ (l : List ℕ). after_preamble X ++ l) (sym (r ∙ ap (λ (n : ℕ). drop n Z) c)),
     )

@@ -1,9 +1,9 @@
 -- Bytes have one fault or they are sent, and never both.
-use Rattle.std.proofs.Common.{◌≡◌, ◌≢◌, ◌⊎◌, ℕ, zero, suc, lit<, not, ◌+◌, ◌*◌, ◌/◌, ◌%◌, ◌^◌, ◌<◌, ◌≤◌, ◌==◌, Bool, true, false, List, [], ◌∷◌, ◌++◌, length, map, replicate, slice_index, IsTrue, All, refl, sym, ap, ap₂, ◌∙◌, subst, inl, inr, arith, append_assoc}
-use Rattle.std.specs.Int.{to_be_bytes, from_be_bytes, w32}
+use Rattle.std.proofs.Common.{◌≡◌, ◌≢◌, ◌⊎◌, ℕ, lit<, not, ◌+◌, ◌*◌, ◌/◌, ◌%◌, ◌^◌, ◌<◌, ◌≤◌, Bool, true, false, List, [], ◌∷◌, ◌++◌, length, map, IsTrue, All, refl, sym, ap, ap₂, ◌∙◌, subst, inl, inr, arith, append_assoc}
+use Rattle.std.specs.Int.{to_be_bytes, w32}
 use Rattle.std.specs.List.{flat_map}
-use Rattle.std.proofs.lemmas.Bool.{cases_eq, cases_lt, cases_order, cases_Bool, eq-eqb, ne_eqb, true≢false}
-use Rattle.std.proofs.lemmas.List.{append-nil, length-append}
+use Rattle.std.proofs.lemmas.Bool.{cases_eq, cases_lt, cases_order, eq-eqb, ne_eqb, true≢false}
+use Rattle.std.proofs.lemmas.List.{append-nil}
 use Rattle.std.proofs.lemmas.List.Elements.{All-nil, All-cons, All-head, All-tail}
 use Rattle.std.proofs.lemmas.Nat.{from_be_bytes-to_be_bytes_4}
 use Rattle.pocsag_words.specs.Codeword.{IsCodeword}
@@ -13,16 +13,16 @@ use Rattle.pocsag_words.specs.declared.codeword.Kind.{Kind}
 use Rattle.pocsag_words.specs.declared.codeword.Kind.TheVariants.{Idle, Address, Message}
 use Rattle.pocsag_words.proofs.ErrorLemmas.{IsCodeword-from_syndrome, syndrome_of-codeword}
 use Rattle.pocsag_pages.specs.declared.page.Page.{Page}
-use Rattle.pocsag_pages.specs.Bytes.{sync_word, synced, body_bytes, words_of, leading, after_preamble, Sent}
-use Rattle.pocsag_pages.specs.Plain.{HasNoOrphan, pages_from}
+use Rattle.pocsag_pages.specs.Bytes.{sync_word, synced, body_bytes, words_of, leading, after_preamble}
+use Rattle.pocsag_pages.specs.Plain.{HasNoOrphan}
 use Rattle.pocsag_pages.proofs.Readings.{reads_plainly}
 use Rattle.pocsag_decode.specs.declared.fault.DecodeFault.{DecodeFault}
 use Rattle.pocsag_decode.specs.declared.fault.DecodeFault.TheVariants as fault
 use Rattle.pocsag_decode.specs.Faults.{words, HasFaultThere, HasFaultOfEnd, HasFault, HasNoFault, ReadsAs}
 use Rattle.pocsag_decode.specs.Places.{is_message, is_idle, index_at, may_follow, IsBad, no_sync, bad_word, orphan, IsGood, AreGood, HasBadWord}
 use Rattle.pocsag_decode.proofs.Preambles.{Parts, BeginsOther, leading_is, after_is, begun_leading, begun_after, nil_or, nil_from}
-use Rattle.pocsag_decode.proofs.Transmissions.{IsWhole, whole_reads, codewords_of}
-use Rattle.pocsag_decode.proofs.WordByWord.{good_sync, bad_sync, good_codeword, bad_codeword, bad_orphan, bad_stays, may_sync, may_codeword}
+use Rattle.pocsag_decode.proofs.Transmissions.{IsWhole}
+use Rattle.pocsag_decode.proofs.WordByWord.{length_more, good_sync, bad_sync, good_codeword, bad_codeword, bad_orphan, bad_stays, may_sync, may_codeword}
 use Rattle.pocsag_decode.proofs.Words.{bad_on}
 
 -- a word is good or bad, and bad in one way
@@ -155,16 +155,19 @@ no_fault_whole X small none = record { small = small; long = long; some = some; 
     ]
     | inr p ↦ p
   ]
+
   some : 0 < length (after_preamble X)
   some = elim (cases_eq (length (after_preamble X)) 0) [
     | inl e ↦ absurd (none fault.NoBatch (inr (HasFaultOfEnd.no_batch long (nil_from (after_preamble X) e))))
     | inr n ↦ omega arith
   ]
+
   good : AreGood (words X)
   good = elim (judged [] (words X) none_good) [
     | inl g ↦ g
     | inr b ↦ absurd (none b.0 (inl (HasFaultThere.bad long b.1)))
   ]
+
   batches : length (after_preamble X) % 68 ≡ 0
   batches = elim (cases_eq (length (after_preamble X) % 68) 0) [
     | inl e ↦ e
@@ -176,6 +179,7 @@ whole_no_fault X h = λ f d. elim d [ inl t ↦ not_there f t | inr t ↦ not_en
   not_there : (f : DecodeFault) → HasFaultThere X f → ⊥
   not_there f (HasFaultThere.short a b) = let l = h.long in omega arith
   not_there f (HasFaultThere.bad a b) = all_good (words X) f h.good b
+
   not_end : (f : DecodeFault) → HasFaultOfEnd X f → ⊥
   not_end f (HasFaultOfEnd.short a b) = let l = h.long in omega arith
   not_end f (HasFaultOfEnd.no_batch a b) = let s = h.some in let n = ap length b in omega arith
@@ -199,9 +203,6 @@ module _ (before : List ℕ) (w : ℕ) (T : List ℕ) (good : AreGood before) (n
   rest_follows : HasNoOrphan (may_follow (before ++ w ∷ []) (length (before ++ w ∷ []))) (map kind_of T)
   rest_follows = rw (may_codeword before w n) (no_orphan_tail _ (kind_of w) (map kind_of T) h)
 
-more_length : (before : List ℕ) (w : ℕ) → length (before ++ w ∷ []) ≡ length before + 1
-more_length before w = length-append before (w ∷ [])
-
 pub synced_good : (T before : List ℕ) (i : ℕ) → AreGood before → length before % 17 ≢ 1 → i + (length before + 16) / 17 ≡ length before
     → All IsCodeword T → HasNoOrphan (may_follow before (length before)) (map kind_of T) → AreGood (before ++ synced i T)
 synced_good [] before i good r at are h = rw (append-nil before) good
@@ -211,17 +212,17 @@ synced_good (w ∷ T) before i good r at are h =
           let z : length before % 17 ≡ 0 = omega arith in
           let first = before ++ sync_word ∷ [] in
           let first_good : AreGood first = good_sync before sync_word good z refl in
-          let first_length : length first ≡ length before + 1 = more_length before sync_word in
+          let first_length : length first ≡ length before + 1 = length_more before sync_word in
           let n : length first % 17 ≢ 0 = omega arith in
           let h' : HasNoOrphan (may_follow first (length first)) (map kind_of (w ∷ T)) = rw (may_sync before sync_word z) h in
-          let next_length : length (first ++ w ∷ []) ≡ length before + 2 = let l = more_length first w in omega arith in
+          let next_length : length (first ++ w ∷ []) ≡ length before + 2 = let l = length_more first w in omega arith in
           rw (eq-eqb _ _ e) (subst AreGood (append_assoc first (w ∷ []) (synced (i + 1) T) ∙ append_assoc before (sync_word ∷ []) (w ∷ synced (i + 1) T))
-            (synced_good T (first ++ w ∷ []) (i + 1) (word_good first w T first_good n are h') (omega arith) (omega arith) (All-tail IsCodeword w T are) (rest_follows first w T first_good n are h')))
+          (synced_good T (first ++ w ∷ []) (i + 1) (word_good first w T first_good n are h') (omega arith) (omega arith) (All-tail IsCodeword w T are) (rest_follows first w T first_good n are h')))
       | inr m ↦
           let n : length before % 17 ≢ 0 = omega arith in
-          let next_length : length (before ++ w ∷ []) ≡ length before + 1 = more_length before w in
+          let next_length : length (before ++ w ∷ []) ≡ length before + 1 = length_more before w in
           rw (ne_eqb _ _ m) (subst AreGood (append_assoc before (w ∷ []) (synced (i + 1) T))
-            (synced_good T (before ++ w ∷ []) (i + 1) (word_good before w T good n are h) (omega arith) (omega arith) (All-tail IsCodeword w T are) (rest_follows before w T good n are h)))
+          (synced_good T (before ++ w ∷ []) (i + 1) (word_good before w T good n are h) (omega arith) (omega arith) (All-tail IsCodeword w T are) (rest_follows before w T good n are h)))
     ]
 
 synced_count : (i : ℕ) (T : List ℕ) → length (synced i T) + (i + 15) / 16 ≡ length T + (i + length T + 15) / 16
@@ -248,9 +249,9 @@ words_again [] small = refl
 words_again (w ∷ ws) small =
     ap₂ (λ (x : ℕ) (l : List ℕ). x ∷ l) (from_be_bytes-to_be_bytes_4 w (All-head (λ x. x < 2 ^ 32) w ws small)) (words_again ws (All-tail (λ x. x < 2 ^ 32) w ws small))
 
-bytes_count : (ws : List ℕ) → length (flat_map (to_be_bytes w32) ws) ≡ 4 * length ws
-bytes_count [] = refl
-bytes_count (w ∷ ws) = let e = bytes_count ws in omega arith
+body_length : (ws : List ℕ) → length (flat_map (to_be_bytes w32) ws) ≡ 4 * length ws
+body_length [] = refl
+body_length (w ∷ ws) = let e = body_length ws in omega arith
 
 body_begins : (T : List ℕ) → BeginsOther (body_bytes T)
 body_begins [] = tt
@@ -263,7 +264,7 @@ reads_whole X ps small r =
     let p : Parts X s.preamble (body_bytes T) = record { whole = s.bytes; other = body_begins T } in
     let after : after_preamble X ≡ body_bytes T = after_is X s.preamble (body_bytes T) p in
     let plain = reads_plainly r.reads in
-    let count : length (after_preamble X) ≡ 4 * length (synced 0 T) = ap length after ∙ bytes_count (synced 0 T) in
+    let count : length (after_preamble X) ≡ 4 * length (synced 0 T) = ap length after ∙ body_length (synced 0 T) in
     let synced_is = synced_count 0 T in
     let whole = s.whole.1 in
     let some = s.whole.0 in

@@ -1,10 +1,10 @@
 -- Bytes with no fault are sent from codewords that read as their pages.
-use Rattle.std.proofs.Common.{◌≡◌, ◌≢◌, ◌⊎◌, ℕ, zero, suc, lit<, ◌+◌, ◌-◌, ◌*◌, ◌/◌, ◌%◌, ◌^◌, ◌<◌, ◌≤◌, ◌==◌, Bool, true, false, not, List, [], ◌∷◌, ◌++◌, length, map, replicate, slice_index, get_or, Option, Some, None, IsTrue, All, refl, sym, ap, ap₂, ◌∙◌, subst, inl, inr, arith, append_assoc}
+use Rattle.std.proofs.Common.{◌≡◌, ◌≢◌, ℕ, zero, suc, lit<, ◌+◌, ◌*◌, ◌/◌, ◌%◌, ◌^◌, ◌<◌, ◌≤◌, Bool, not, List, [], ◌∷◌, ◌++◌, length, map, replicate, slice_index, get_or, Option, Some, None, IsTrue, All, refl, sym, ap, ap₂, ◌∙◌, subst, inl, inr, arith, append_assoc}
 use Rattle.std.specs.Int.{to_be_bytes, from_be_bytes, w32}
 use Rattle.std.specs.List.{flat_map}
 use Rattle.std.proofs.Math.Seq.{get_or-append_seam}
 use Rattle.std.proofs.lemmas.Bool.{cases_eq, cases_lt, lt-ltb, le-ltb, eq-eqb, ne_eqb}
-use Rattle.std.proofs.lemmas.List.{append-nil, get_or_append_left, length-append, map-append}
+use Rattle.std.proofs.lemmas.List.{append-nil, length-append}
 use Rattle.std.proofs.lemmas.List.Elements.{All-nil, All-cons, All-head, All-tail, All-map, All-weaker, All-drop}
 use Rattle.std.proofs.lemmas.Nat.{be_bytes_4}
 use Rattle.pocsag_words.specs.Codeword.{IsCodeword}
@@ -12,18 +12,17 @@ use Rattle.pocsag_words.specs.Kinds.{kind_of, IsInRange}
 use Rattle.pocsag_words.specs.declared.codeword.Kind.{Kind}
 use Rattle.pocsag_words.specs.declared.codeword.Kind.TheVariants.{Idle, Address, Message}
 use Rattle.pocsag_pages.specs.declared.page.Page.{Page}
-use Rattle.pocsag_pages.specs.Bytes.{sync_word, synced, unsynced, body_bytes, words_of, leading, after_preamble, Sent}
+use Rattle.pocsag_pages.specs.Bytes.{sync_word, synced, unsynced, words_of, leading, after_preamble, Sent}
 use Rattle.pocsag_pages.specs.Plain.{HasNoOrphan, items_of, pages_from}
-use Rattle.pocsag_pages.specs.Reading.{frame_at}
 use Rattle.pocsag_pages.proofs.Readings.{plain_reads}
 use Rattle.pocsag_decode.specs.declared.growing.OpenPage.{OpenPage}
 use Rattle.pocsag_decode.specs.Carried.{unfinished}
 use Rattle.pocsag_decode.specs.Faults.{words, ReadsAs}
-use Rattle.pocsag_decode.specs.Growing.{resumed, closed, page_with}
-use Rattle.pocsag_decode.specs.Listing.{IsListable}
+use Rattle.pocsag_decode.specs.Growing.{resumed, closed}
+use Rattle.pocsag_decode.specs.Listable.{IsListable}
 use Rattle.pocsag_decode.specs.Places.{is_message, is_idle, may_follow, IsGood, AreGood}
 use Rattle.pocsag_decode.proofs.Preambles.{parts, nil_from}
-use Rattle.pocsag_decode.proofs.WordByWord.{unsynced_count, good_before, may_sync, may_codeword, may_kept}
+use Rattle.pocsag_decode.proofs.WordByWord.{length_more, unsynced_count, may_sync, may_codeword, may_kept}
 use Rattle.pocsag_decode.proofs.Words.{bytes_count}
 
 -- the words so far, of which the next is w
@@ -49,13 +48,10 @@ module _ (before : List ℕ) (w : ℕ) (ws : List ℕ) (good : AreGood (before +
   pub w_follows : length before % 17 ≢ 0 → IsTrue (is_message (kind_of w)) → IsTrue (may_follow before (length before))
   w_follows n m = sym (may_kept before (w ∷ ws) (length before) (omega arith)) ∙ w_is_good.follows n (subst (λ (x : ℕ). IsTrue (is_message (kind_of x))) (sym at_w) m)
 
-more_length : (before : List ℕ) (w : ℕ) → length (before ++ w ∷ []) ≡ length before + 1
-more_length before w = length-append before (w ∷ [])
-
 pub codewords_good : (before ws : List ℕ) → AreGood (before ++ ws) → All IsCodeword (unsynced (length before) ws)
 codewords_good before [] good = All-nil IsCodeword
 codewords_good before (w ∷ ws) good =
-    let rest : All IsCodeword (unsynced (length before + 1) ws) = rw (← more_length before w) (codewords_good (before ++ w ∷ []) ws (good_rest before w ws good)) in
+    let rest : All IsCodeword (unsynced (length before + 1) ws) = rw (← length_more before w) (codewords_good (before ++ w ∷ []) ws (good_rest before w ws good)) in
     elim (cases_eq (length before % 17) 0) [
       | inl e ↦ rw (eq-eqb _ _ e) rest
       | inr n ↦ rw (ne_eqb _ _ n) (All-cons IsCodeword w (unsynced (length before + 1) ws) (w_is_codeword before w ws good n) rest)
@@ -71,8 +67,8 @@ none_is_orphan before [] good = tt
 none_is_orphan before (w ∷ ws) good =
     let rest = none_is_orphan (before ++ w ∷ []) ws (good_rest before w ws good) in
     elim (cases_eq (length before % 17) 0) [
-      | inl e ↦ rw (eq-eqb _ _ e) (rw (← may_sync before w e, ← more_length before w) rest)
-      | inr n ↦ rw (ne_eqb _ _ n) (no_orphan_cons _ (kind_of w) _ (w_follows before w ws good n) (rw (← may_codeword before w n, ← more_length before w) rest))
+      | inl e ↦ rw (eq-eqb _ _ e) (rw (← may_sync before w e, ← length_more before w) rest)
+      | inr n ↦ rw (ne_eqb _ _ n) (no_orphan_cons _ (kind_of w) _ (w_follows before w ws good n) (rw (← may_codeword before w n, ← length_more before w) rest))
     ]
 
 -- the words are the codewords with the synchronisation codewords between them
@@ -86,12 +82,12 @@ resynced before (w ∷ []) good r whole i at =
 resynced before (w ∷ v ∷ ws) good r whole i at =
     let next = before ++ w ∷ [] in
     let next_good : AreGood (next ++ v ∷ ws) = good_rest before w (v ∷ ws) good in
-    let next_length : length next ≡ length before + 1 = more_length before w in
+    let next_length : length next ≡ length before + 1 = length_more before w in
     elim (cases_eq (length before % 17) 0) [
       | inl e ↦
           let m : (length before + 1) % 17 ≢ 0 = omega arith in
           let j : i % 16 ≡ 0 = omega arith in
-          let last_length : length (next ++ v ∷ []) ≡ length before + 1 + 1 = more_length next v ∙ ap (λ (x : ℕ). x + 1) next_length in
+          let last_length : length (next ++ v ∷ []) ≡ length before + 1 + 1 = length_more next v ∙ ap (λ (x : ℕ). x + 1) next_length in
           let rest : synced (i + 1) (unsynced (length before + 1 + 1) ws) ≡ ws =
           rw (← last_length) (resynced (next ++ v ∷ []) ws (good_rest next v ws next_good) (omega arith) (omega arith) (i + 1) (omega arith)) in
           rw (eq-eqb _ _ e, ne_eqb _ _ m, eq-eqb _ _ j) (ap₂ (λ (x : ℕ) (l : List ℕ). x ∷ v ∷ l) (sym (w_is_sync before w (v ∷ ws) good e)) rest)
@@ -218,7 +214,7 @@ pages_listable [] i h = All-nil IsListable
 pages_listable (Idle ∷ ks) i h = pages_listable ks (i + 1) (All-tail IsInRange Idle ks h)
 pages_listable (Address high function ∷ ks) i h =
     let rest = All-tail IsInRange (Address high function) ks h in
-    All-cons IsListable _ (pages_from (i + 1) ks) (record { function = (All-head IsInRange (Address high function) ks h).1; small = items_small ks rest }) (pages_listable ks (i + 1) rest)
+    All-cons IsListable _ (pages_from (i + 1) ks) (record { function = (All-head IsInRange (Address high function) ks h).1; items = items_small ks rest }) (pages_listable ks (i + 1) rest)
 pages_listable (Message bits ∷ ks) i h = pages_listable ks (i + 1) (All-tail IsInRange (Message bits) ks h)
 
 pub whole_listable : (X : List ℕ) → IsWhole X → (ps : List Page) → ps ≡ pages_from 0 (map kind_of (codewords_of X)) → All IsListable ps

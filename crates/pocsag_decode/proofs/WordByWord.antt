@@ -1,5 +1,5 @@
 -- One word more: the words before it keep their judgement, and the last is judged by them.
-use Rattle.std.proofs.Common.{◌≡◌, ◌≢◌, ℕ, ◌+◌, ◌-◌, ◌/◌, ◌%◌, ◌<◌, ◌≤◌, ◌==◌, ◌&&◌, Bool, true, false, not, cond, nat_lt, List, [], ◌∷◌, ◌++◌, length, map, slice_index, is_some, IsTrue, refl, sym, ap, ap₂, ◌∙◌, subst, inl, inr, arith, append_assoc}
+use Rattle.std.proofs.Common.{◌≡◌, ◌≢◌, ℕ, ◌+◌, ◌-◌, ◌/◌, ◌%◌, ◌<◌, ◌≤◌, ◌==◌, ◌&&◌, false, not, nat_lt, List, [], ◌∷◌, ◌++◌, length, map, slice_index, is_some, IsTrue, refl, sym, ap, ◌∙◌, subst, inl, inr, arith, append_assoc}
 use Rattle.std.proofs.Math.Seq.{get_or-append_seam}
 use Rattle.std.proofs.lemmas.Bool.{cases_eq, cases_lt, cond_both, lt-ltb, le-ltb, eq-eqb, ne_eqb}
 use Rattle.std.proofs.lemmas.List.{append-nil, get_or_append_left, length-append, map-append}
@@ -45,9 +45,6 @@ same_bad ws vs j f e m (orphan a b c d) =
 pub good_kept : (ws zs : List ℕ) (j : ℕ) → j < length ws → IsGood ws j → IsGood (ws ++ zs) j
 good_kept ws zs j h g = same_good ws (ws ++ zs) j (get_or_append_left ws zs 0 j h) (may_kept ws zs j (omega arith)) g
 
-pub good_before : (ws zs : List ℕ) (j : ℕ) → j < length ws → IsGood (ws ++ zs) j → IsGood ws j
-good_before ws zs j h g = same_good (ws ++ zs) ws j (sym (get_or_append_left ws zs 0 j h)) (sym (may_kept ws zs j (omega arith))) g
-
 pub bad_stays : (ws zs : List ℕ) (f : DecodeFault) → HasBadWord ws f → HasBadWord (ws ++ zs) f
 bad_stays ws zs f b = record {
   place = b.place;
@@ -61,7 +58,7 @@ module _ (ws : List ℕ) (w : ℕ) where
   is_last : slice_index (ws ++ w ∷ []) (length ws) ≡ w
   is_last = get_or-append_seam ws w [] 0
 
-  length_more : length (ws ++ w ∷ []) ≡ length ws + 1
+  pub length_more : length (ws ++ w ∷ []) ≡ length ws + 1
   length_more = length-append ws (w ∷ [])
 
   may_last : may_follow (ws ++ w ∷ []) (length ws) ≡ may_follow ws (length ws)
@@ -113,14 +110,14 @@ module _ (ws : List ℕ) (w : ℕ) where
   pub may_sync : length ws % 17 ≡ 0 → may_follow (ws ++ w ∷ []) (length (ws ++ w ∷ [])) ≡ may_follow ws (length ws)
   may_sync s =
       rw length_more (elim (cases_lt 0 (length ws)) [
-          | inl p ↦
-              let one : (length ws + 1) % 17 ≡ 1 = omega arith in
-              let zero : length ws % 17 ≢ 1 = omega arith in
-              let lt : length ws - 1 < length ws = omega arith in
-              let place : length ws + 1 - 2 ≡ length ws - 1 = omega arith in
-              rw (eq-eqb _ _ one, ne_eqb _ _ zero, lt-ltb 1 (length ws + 1) (omega arith), lt-ltb 1 (length ws) (omega arith), place) (ap (λ (x : ℕ). not (is_idle (kind_of x))) (get_or_append_left ws (w ∷ []) 0 (length ws - 1) lt))
-          | inr p ↦ rw (le-ltb 1 (length ws + 1) (omega arith), le-ltb 1 (length ws) (omega arith)) refl
-        ])
+        | inl p ↦
+            let one : (length ws + 1) % 17 ≡ 1 = omega arith in
+            let zero : length ws % 17 ≢ 1 = omega arith in
+            let lt : length ws - 1 < length ws = omega arith in
+            let place : length ws + 1 - 2 ≡ length ws - 1 = omega arith in
+            rw (eq-eqb _ _ one, ne_eqb _ _ zero, lt-ltb 1 (length ws + 1) (omega arith), lt-ltb 1 (length ws) (omega arith), place) (ap (λ (x : ℕ). not (is_idle (kind_of x))) (get_or_append_left ws (w ∷ []) 0 (length ws - 1) lt))
+        | inr p ↦ rw (le-ltb 1 (length ws + 1) (omega arith), le-ltb 1 (length ws) (omega arith)) refl
+      ])
 
   -- after any other, unless it is idle
   pub may_codeword : length ws % 17 ≢ 0 → may_follow (ws ++ w ∷ []) (length (ws ++ w ∷ [])) ≡ not (is_idle (kind_of w))

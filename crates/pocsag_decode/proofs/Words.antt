@@ -1,5 +1,5 @@
 -- Bytes that go on: their whole words, and what follows these.
-use Rattle.std.proofs.Common.{◌≡◌, ◌≢◌, ◌⊎◌, ℕ, ◌+◌, ◌*◌, ◌<◌, List, [], ◌∷◌, ◌++◌, length, take, drop, refl, sym, ap, ap₂, ◌∙◌, subst, inl, inr, arith, append_assoc, true, false, ◌==◌}
+use Rattle.std.proofs.Common.{◌≡◌, ◌≢◌, ◌⊎◌, ℕ, ◌+◌, ◌*◌, List, [], ◌∷◌, ◌++◌, length, take, drop, refl, sym, ap, ap₂, ◌∙◌, subst, inl, inr, arith, append_assoc, true, false, ◌==◌}
 use Rattle.std.proofs.lemmas.Bool.{eqb-true, false≢true}
 use Rattle.std.specs.Int.{from_be_bytes, w32}
 use Rattle.std.proofs.lemmas.List.{append-nil, length-append, take-append-drop}
@@ -10,7 +10,8 @@ use Rattle.pocsag_decode.specs.declared.body.Body.{Body}
 use Rattle.pocsag_decode.specs.declared.carry.Carry.{Carry}
 use Rattle.pocsag_decode.specs.Carried.{carried, size_of, unfinished}
 use Rattle.pocsag_decode.specs.Places.{HasBadWord}
-use Rattle.pocsag_decode.specs.Standing.{HasRead, StandsIn, IsTaking}
+use Rattle.pocsag_decode.specs.Standing.{HasRead, StandsIn}
+use Rattle.pocsag_decode.specs.Taking.{IsTaking}
 use Rattle.pocsag_decode.proofs.WordByWord.{bad_stays}
 
 pub words_on : (Y Z : List ℕ) → words_of (Y ++ Z) ≡ words_of Y ++ words_of (unfinished Y ++ Z)
@@ -120,9 +121,6 @@ module _ (first now : Body) (bytes rest front back : List ℕ) (t : IsTaking fir
 
 pub split_is : (n : ℕ) (l front back : List ℕ) → front ≡ take n l → back ≡ drop n l → l ≡ front ++ back
 split_is n l front back p q = sym (take-append-drop n l) ∙ ap₂ (λ (x y : List ℕ). x ++ y) (sym p) (sym q)
-
-pub taking_first : (b : Body) (bytes : List ℕ) → IsTaking b b bytes bytes
-taking_first b bytes = record { size = refl; before = λ Y h. record { eaten = Y; all = refl; stands = h } }
 
 pub is_nil : (l : List ℕ) → true ≡ (length l == 0) → l ≡ []
 is_nil [] e = refl

@@ -1,15 +1,10 @@
 -- The listing of pages, as csv writes records (the format is this project's own).
-use Rattle.std.specs.Prelude.{ℕ, ◌+◌, ◌/◌, ◌%◌, ◌^◌, ◌<◌, ◌==◌, nat_lt, if◌then◌else◌, List, [], ◌∷◌, ◌++◌, map, codes, All}
+use Rattle.std.specs.Prelude.{ℕ, ◌+◌, ◌/◌, ◌%◌, ◌==◌, nat_lt, if◌then◌else◌, List, [], ◌∷◌, ◌++◌, map, codes}
 use Rattle.std.specs.List.{flat_map}
 use Rattle.std.specs.Fmt.{decimal}
 use Rattle.csv.specs.Writing.{row_text, default_writer}
 use Rattle.pocsag_text.specs.Text.{numeric_text, alpha_text}
 use Rattle.pocsag_pages.specs.declared.page.Page.{Page}
-
--- What a transmission can carry: a function of two bits, and items of twenty.
-pub record IsListable (p : Page) : Type 0 where
-  pub function : p.function < 4
-  pub small : All (λ item. item < 2 ^ 20) p.payload
 
 -- A digit from 0 to 9 or from A to F.
 abbrev pub hex_digit : ℕ → ℕ

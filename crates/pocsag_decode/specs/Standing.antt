@@ -1,5 +1,5 @@
 -- *Standing*: what a decoder holds of the bytes that it was fed.
-use Rattle.std.specs.Prelude.{◌≡◌, ◌≢◌, ℕ, ◌+◌, ◌^◌, ◌<◌, ◌≤◌, List, [], ◌++◌, length, map, Bool, true, false, is_some, All}
+use Rattle.std.specs.Prelude.{◌≡◌, ◌≢◌, ℕ, ◌^◌, ◌<◌, ◌≤◌, List, [], ◌++◌, length, map, true, false, is_some, All}
 use Rattle.pocsag_words.specs.Kinds.{kind_of}
 use Rattle.pocsag_words.specs.declared.codeword.Kind.{Kind}
 use Rattle.pocsag_pages.specs.Bytes.{leading, after_preamble, words_of, unsynced}
@@ -7,7 +7,7 @@ use Rattle.pocsag_pages.specs.Plain.{pages_from}
 use Rattle.pocsag_decode.specs.declared.growing.Growing.{Growing}
 use Rattle.pocsag_decode.specs.declared.body.Body.{Body}
 use Rattle.pocsag_decode.specs.declared.state.Decoder.{Decoder}
-use Rattle.pocsag_decode.specs.Carried.{carried, size_of, unfinished}
+use Rattle.pocsag_decode.specs.Carried.{carried, unfinished}
 use Rattle.pocsag_decode.specs.Growing.{resumed}
 use Rattle.pocsag_decode.specs.Places.{AreGood, may_follow}
 
@@ -38,14 +38,3 @@ pub record StandsAfter (d : Decoder) (X : List ℕ) : Type 0 where
 -- The decoder answers `Failed` from now on.
 abbrev pub IsOver : Decoder → Type 0
 IsOver d = d.has_failed ≡ true
-
--- It stands after all of these bytes but the rest.
-pub record StandsBefore (b : Body) (Y rest : List ℕ) : Type 0 where
-  pub eaten : List ℕ
-  pub all : eaten ++ rest ≡ Y
-  pub stands : StandsIn b eaten
-
--- Of these bytes the rest is still to be taken.
-pub record IsTaking (at_first now : Body) (bytes rest : List ℕ) : Type 0 where
-  pub size : size_of now.place now.carry + length rest ≡ size_of at_first.place at_first.carry + length bytes
-  pub before : (Y : List ℕ) → StandsIn at_first Y → StandsBefore now (Y ++ bytes) rest

@@ -114,6 +114,7 @@ impl Body {
         }
     }
 
+    #[inline(always)]
     fn take_word(&mut self, word: u32) -> Result<(), DecodeFault>
         requires { self.old.place < 2 ^ 62 }
         ensures carry { self.new.carry ≡ self.old.carry }

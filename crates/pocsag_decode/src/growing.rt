@@ -58,6 +58,7 @@ impl Growing {
         ensures current { OnOk result (is_some self.new.current ≡ not (is_idle kind)) }
     {
         match kind {
+            Kind::Idle if !self.is_open() => Ok(()),
             Kind::Idle => self.close(),
             Kind::Address { high, function } => {
                 self.close()?;

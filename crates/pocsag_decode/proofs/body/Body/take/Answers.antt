@@ -1,6 +1,4 @@
 use Rattle.pocsag_decode.proofs.Words.{taken, not_taken, split_is, is_nil, taking_last}
-use Rattle.std.proofs.Common.{◌+◌, ap, ◌∙◌, length}
-use Rattle.pocsag_decode.specs.Carried.{size_of}
 use Rattle.pocsag_decode.proofs.body.Body.take.Goals as goal
 
 pub loop-rest-preserved : goal.loop-rest-preserved

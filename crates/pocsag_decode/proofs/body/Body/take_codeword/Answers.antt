@@ -21,7 +21,7 @@ returns-in-Ok-clause-read c =
     let is = c.in-Some.ensures in
     read_codeword _ _ _ _ ws _ c.requires.other refl is.0 c.kind-kind.result (c.kind-kind.ensures.kind ∙ ap kind_of is.1)
     (λ m. elim c.else-is_message.branch [
-        | else-is_message-via-then-is_message+else-not-is_open w ↦ search rules
-        | else-is_message-via-else-is_message w ↦ search rules
-      ])
+      | else-is_message-via-then-is_message+else-not-is_open w ↦ search rules
+      | else-is_message-via-else-is_message w ↦ search rules
+    ])
     (c.in-Ok.ensures.current) (c.in-Ok.ensures.reads) r

@@ -1,4 +1,4 @@
-use Rattle.std.proofs.Common.{◌≡◌, ℕ, ◌+◌, List, [], ◌++◌, length, refl, sym, ap, ◌∙◌, arith}
+use Rattle.std.proofs.Common.{◌≡◌, ℕ, ◌+◌, List, [], ◌++◌, length, sym, ap, ◌∙◌, arith}
 use Rattle.std.specs.Int.{from_be_bytes, w32}
 use Rattle.pocsag_pages.specs.Bytes.{words_of}
 use Rattle.pocsag_decode.specs.Carried.{carried, size_of}
@@ -16,12 +16,11 @@ loop-rest-preserved c =
     let now_none = ap length i.0 in
     let new_none = ap length none in
     let place = c.in-Ok.ensures.place in
-    let size : size_of new.place new.carry ≡ size_of c.loop-rest.self.place c.loop-rest.self.carry + length front = omega arith in
-    (
+    let size : size_of new.place new.carry ≡ size_of c.loop-rest.self.place c.loop-rest.self.carry + length front = omega arith in (
       none,
       let l = c.split_at.ensures.back_len in let w = i.1 in omega arith,
       taken _ _ _ _ front back i.2 (split_is 4 _ front back c.split_at.ensures.front c.split_at.ensures.back) new size
-      (λ Y s. word_more _ Y front _ s (ap (λ (l : List ℕ). length (l ++ front)) i.0 ∙ four) (c.word_of.ensures ∙ ap (λ (l : List ℕ). from_be_bytes w32 (l ++ front)) (sym i.0)) new (c.in-Ok.ensures.read (words_of Y) s.read) none)
+          (λ Y s. word_more _ Y front _ s (ap (λ (l : List ℕ). length (l ++ front)) i.0 ∙ four) (c.word_of.ensures ∙ ap (λ (l : List ℕ). from_be_bytes w32 (l ++ front)) (sym i.0)) new (c.in-Ok.ensures.read (words_of Y) s.read) none),
     )
 
 pub returns-in-Err-clause-bad : goal.returns-in-Err-clause-bad

@@ -1,9 +1,7 @@
-use Rattle.std.proofs.Common.{◌≡◌, ◌≢◌, ◌+◌, ◌^◌, ◌<◌, ◌≤◌, ◌++◌, [], length, All, refl, sym, ap, ◌∙◌, subst, arith}
+use Rattle.std.proofs.Common.{◌+◌, ◌^◌, ◌<◌, length, All, ap, arith}
 use Rattle.std.proofs.lemmas.List.Elements.{All-from_get_or}
 use Rattle.std.proofs.lemmas.Result.{on_ok_weaker, IfErr-weaker}
-use Rattle.std.proofs.lemmas.Bool.{false≢true}
 use Rattle.pocsag_pages.specs.Bytes.{after_preamble}
-use Rattle.pocsag_decode.specs.declared.body.Body.{Body}
 use Rattle.pocsag_decode.specs.Faults.{too_much}
 use Rattle.pocsag_decode.specs.Standing.{StandsIn}
 use Rattle.pocsag_decode.proofs.Feeding.{fed_preamble, fed_body, refused_short, refused_body, full_size, body_size}
