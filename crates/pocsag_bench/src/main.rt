@@ -3,6 +3,8 @@
 //! seconds that it took, and a sum of its answers, by which another program's can be compared.
 
 mod certificates;
+mod decode;
+mod pager;
 mod words;
 
 use std::{env, io};
@@ -12,7 +14,9 @@ fn main(rt: HostRuntime) -> io::Result<()> {
     let _program = args.next();
     match args.next() {
         Some(name) if name.as_str() == "certificates" => certificates::run(&rt),
+        Some(name) if name.as_str() == "decode" => decode::run(&rt),
+        Some(name) if name.as_str() == "pager" => pager::run(&rt),
         Some(name) if name.as_str() == "words" => words::run(&rt),
-        _ => println!(rt; "benchmarks: certificates, words"),
+        _ => println!(rt; "benchmarks: certificates, decode, pager, words"),
     }
 }

@@ -1,0 +1,222 @@
+-- Bytes with no fault are sent from codewords that read as their pages.
+use Rattle.std.proofs.Common.{◌≡◌, ◌≢◌, ℕ, zero, suc, lit<, ◌+◌, ◌*◌, ◌/◌, ◌%◌, ◌^◌, ◌<◌, ◌≤◌, Bool, not, List, [], ◌∷◌, ◌++◌, length, map, replicate, slice_index, get_or, Option, Some, None, IsTrue, All, refl, sym, ap, ap₂, ◌∙◌, subst, inl, inr, arith, append_assoc}
+use Rattle.std.specs.Int.{to_be_bytes, from_be_bytes, w32}
+use Rattle.std.specs.List.{flat_map}
+use Rattle.std.proofs.Math.Seq.{get_or-append_seam}
+use Rattle.std.proofs.lemmas.Bool.{cases_eq, cases_lt, lt-ltb, le-ltb, eq-eqb, ne_eqb}
+use Rattle.std.proofs.lemmas.List.{append-nil, length-append}
+use Rattle.std.proofs.lemmas.List.Elements.{All-nil, All-cons, All-head, All-tail, All-map, All-weaker, All-drop}
+use Rattle.std.proofs.lemmas.Nat.{be_bytes_4}
+use Rattle.pocsag_words.specs.Codeword.{IsCodeword}
+use Rattle.pocsag_words.specs.Kinds.{kind_of, IsInRange}
+use Rattle.pocsag_words.specs.declared.codeword.Kind.{Kind}
+use Rattle.pocsag_words.specs.declared.codeword.Kind.TheVariants.{Idle, Address, Message}
+use Rattle.pocsag_pages.specs.declared.page.Page.{Page}
+use Rattle.pocsag_pages.specs.Bytes.{sync_word, synced, unsynced, words_of, leading, after_preamble, Sent}
+use Rattle.pocsag_pages.specs.Plain.{HasNoOrphan, items_of, pages_from}
+use Rattle.pocsag_pages.proofs.Readings.{plain_reads}
+use Rattle.pocsag_decode.specs.declared.growing.OpenPage.{OpenPage}
+use Rattle.pocsag_decode.specs.Carried.{unfinished}
+use Rattle.pocsag_decode.specs.Faults.{words, ReadsAs}
+use Rattle.pocsag_decode.specs.Growing.{resumed, closed}
+use Rattle.pocsag_decode.specs.Listable.{IsListable}
+use Rattle.pocsag_decode.specs.Places.{is_message, is_idle, may_follow, IsGood, AreGood}
+use Rattle.pocsag_decode.proofs.Preambles.{parts, nil_from}
+use Rattle.pocsag_decode.proofs.WordByWord.{length_more, unsynced_count, may_sync, may_codeword, may_kept}
+use Rattle.pocsag_decode.proofs.Words.{bytes_count}
+
+-- the words so far, of which the next is w
+module _ (before : List ℕ) (w : ℕ) (ws : List ℕ) (good : AreGood (before ++ w ∷ ws)) where
+  turned : (before ++ w ∷ []) ++ ws ≡ before ++ w ∷ ws
+  turned = append_assoc before (w ∷ []) ws
+
+  pub good_rest : AreGood ((before ++ w ∷ []) ++ ws)
+  good_rest = subst AreGood (sym turned) good
+
+  at_w : slice_index (before ++ w ∷ ws) (length before) ≡ w
+  at_w = get_or-append_seam before w ws 0
+
+  w_is_good : IsGood (before ++ w ∷ ws) (length before)
+  w_is_good = good (length before) (let l = length-append before (w ∷ ws) in omega arith)
+
+  pub w_is_sync : length before % 17 ≡ 0 → w ≡ sync_word
+  w_is_sync e = sym at_w ∙ w_is_good.sync e
+
+  pub w_is_codeword : length before % 17 ≢ 0 → IsCodeword w
+  w_is_codeword n = subst IsCodeword at_w (w_is_good.codeword n)
+
+  pub w_follows : length before % 17 ≢ 0 → IsTrue (is_message (kind_of w)) → IsTrue (may_follow before (length before))
+  w_follows n m = sym (may_kept before (w ∷ ws) (length before) (omega arith)) ∙ w_is_good.follows n (subst (λ (x : ℕ). IsTrue (is_message (kind_of x))) (sym at_w) m)
+
+pub codewords_good : (before ws : List ℕ) → AreGood (before ++ ws) → All IsCodeword (unsynced (length before) ws)
+codewords_good before [] good = All-nil IsCodeword
+codewords_good before (w ∷ ws) good =
+    let rest : All IsCodeword (unsynced (length before + 1) ws) = rw (← length_more before w) (codewords_good (before ++ w ∷ []) ws (good_rest before w ws good)) in
+    elim (cases_eq (length before % 17) 0) [
+      | inl e ↦ rw (eq-eqb _ _ e) rest
+      | inr n ↦ rw (ne_eqb _ _ n) (All-cons IsCodeword w (unsynced (length before + 1) ws) (w_is_codeword before w ws good n) rest)
+    ]
+
+no_orphan_cons : (may : Bool) (k : Kind) (ks : List Kind) → (IsTrue (is_message k) → IsTrue may) → HasNoOrphan (not (is_idle k)) ks → HasNoOrphan may (k ∷ ks)
+no_orphan_cons may Idle ks f h = h
+no_orphan_cons may (Address high function) ks f h = h
+no_orphan_cons may (Message bits) ks f h = (f refl, h)
+
+pub none_is_orphan : (before ws : List ℕ) → AreGood (before ++ ws) → HasNoOrphan (may_follow before (length before)) (map kind_of (unsynced (length before) ws))
+none_is_orphan before [] good = tt
+none_is_orphan before (w ∷ ws) good =
+    let rest = none_is_orphan (before ++ w ∷ []) ws (good_rest before w ws good) in
+    elim (cases_eq (length before % 17) 0) [
+      | inl e ↦ rw (eq-eqb _ _ e) (rw (← may_sync before w e, ← length_more before w) rest)
+      | inr n ↦ rw (ne_eqb _ _ n) (no_orphan_cons _ (kind_of w) _ (w_follows before w ws good n) (rw (← may_codeword before w n, ← length_more before w) rest))
+    ]
+
+-- the words are the codewords with the synchronisation codewords between them
+pub resynced : (before ws : List ℕ) → AreGood (before ++ ws) → length before % 17 ≢ 1 → (length before + length ws) % 17 ≡ 0 → (i : ℕ) → i + (length before + 16) / 17 ≡ length before
+    → synced i (unsynced (length before) ws) ≡ ws
+resynced before [] good r whole i at = refl
+resynced before (w ∷ []) good r whole i at =
+    let n : length before % 17 ≢ 0 = omega arith in
+    let j : i % 16 ≢ 0 = omega arith in
+    rw (ne_eqb _ _ n, ne_eqb _ _ j) refl
+resynced before (w ∷ v ∷ ws) good r whole i at =
+    let next = before ++ w ∷ [] in
+    let next_good : AreGood (next ++ v ∷ ws) = good_rest before w (v ∷ ws) good in
+    let next_length : length next ≡ length before + 1 = length_more before w in
+    elim (cases_eq (length before % 17) 0) [
+      | inl e ↦
+          let m : (length before + 1) % 17 ≢ 0 = omega arith in
+          let j : i % 16 ≡ 0 = omega arith in
+          let last_length : length (next ++ v ∷ []) ≡ length before + 1 + 1 = length_more next v ∙ ap (λ (x : ℕ). x + 1) next_length in
+          let rest : synced (i + 1) (unsynced (length before + 1 + 1) ws) ≡ ws =
+          rw (← last_length) (resynced (next ++ v ∷ []) ws (good_rest next v ws next_good) (omega arith) (omega arith) (i + 1) (omega arith)) in
+          rw (eq-eqb _ _ e, ne_eqb _ _ m, eq-eqb _ _ j) (ap₂ (λ (x : ℕ) (l : List ℕ). x ∷ v ∷ l) (sym (w_is_sync before w (v ∷ ws) good e)) rest)
+      | inr n ↦
+          let j : i % 16 ≢ 0 = omega arith in
+          let rest : synced (i + 1) (unsynced (length before + 1) (v ∷ ws)) ≡ v ∷ ws =
+          rw (← next_length) (resynced next (v ∷ ws) next_good (omega arith) (omega arith) (i + 1) (omega arith)) in
+          rw (ne_eqb _ _ n, ne_eqb _ _ j) (ap (λ (l : List ℕ). w ∷ l) rest)
+    ]
+
+-- four bytes are those of their word
+four_bytes : (a b c d : ℕ) → a < 256 → b < 256 → c < 256 → d < 256 → to_be_bytes w32 (from_be_bytes w32 (a ∷ b ∷ c ∷ d ∷ [])) ≡ a ∷ b ∷ c ∷ d ∷ []
+four_bytes a b c d p q r s = be_bytes_4 (a ∷ b ∷ c ∷ d ∷ []) (from_be_bytes w32 (a ∷ b ∷ c ∷ d ∷ [])) refl (each) refl where
+  each : (i : ℕ) → get_or (a ∷ b ∷ c ∷ d ∷ []) i 0 < 256
+  each zero = p
+  each (suc zero) = q
+  each (suc (suc zero)) = r
+  each (suc (suc (suc zero))) = s
+  each (suc (suc (suc (suc i)))) = lit< tt
+
+-- whole words are their bytes
+pub bytes_are : (Y : List ℕ) → All (λ b. b < 256) Y → unfinished Y ≡ [] → flat_map (to_be_bytes w32) (words_of Y) ≡ Y
+bytes_are [] small e = refl
+bytes_are (a ∷ []) small e = absurd (cc)
+bytes_are (a ∷ b ∷ []) small e = absurd (cc)
+bytes_are (a ∷ b ∷ c ∷ []) small e = absurd (cc)
+bytes_are (a ∷ b ∷ c ∷ d ∷ Y) small e =
+    let s₁ = All-tail (λ x. x < 256) a (b ∷ c ∷ d ∷ Y) small in
+    let s₂ = All-tail (λ x. x < 256) b (c ∷ d ∷ Y) s₁ in
+    let s₃ = All-tail (λ x. x < 256) c (d ∷ Y) s₂ in
+    let s₄ = All-tail (λ x. x < 256) d Y s₃ in
+    let four = four_bytes a b c d (All-head (λ x. x < 256) a (b ∷ c ∷ d ∷ Y) small) (All-head (λ x. x < 256) b (c ∷ d ∷ Y) s₁) (All-head (λ x. x < 256) c (d ∷ Y) s₂) (All-head (λ x. x < 256) d Y s₃) in
+    ap₂ (λ (x y : List ℕ). x ++ y) four (bytes_are Y s₄ e)
+
+pub unfinished_short : (Y : List ℕ) → length (unfinished Y) < 4
+unfinished_short [] = lit< tt
+unfinished_short (a ∷ []) = lit< tt
+unfinished_short (a ∷ b ∷ []) = lit< tt
+unfinished_short (a ∷ b ∷ c ∷ []) = lit< tt
+unfinished_short (a ∷ b ∷ c ∷ d ∷ Y) = unfinished_short Y
+
+-- what bytes with no fault are
+pub record IsWhole (X : List ℕ) : Type 0 where
+  pub small : All (λ b. b < 256) X
+  pub long : 72 ≤ leading X
+  pub some : 0 < length (after_preamble X)
+  pub good : AreGood (words X)
+  pub batches : length (after_preamble X) % 68 ≡ 0
+
+abbrev pub codewords_of : List ℕ → List ℕ
+codewords_of X = unsynced 0 (words X)
+
+module _ (X : List ℕ) (h : IsWhole X) where
+  words_count : 4 * length (words X) + length (unfinished (after_preamble X)) ≡ length (after_preamble X)
+  words_count = sym (bytes_count (after_preamble X))
+
+  none_left : unfinished (after_preamble X) ≡ []
+  none_left = nil_from (unfinished (after_preamble X)) (let w = words_count in let b = h.batches in let s = unfinished_short (after_preamble X) in omega arith)
+
+  whole_words : length (words X) % 17 ≡ 0
+  whole_words = let w = words_count in let b = h.batches in let s = unfinished_short (after_preamble X) in omega arith
+
+  pub are_codewords : All IsCodeword (codewords_of X)
+  are_codewords = codewords_good [] (words X) h.good
+
+  is_sent : Sent X (codewords_of X)
+  is_sent = record {
+    preamble = leading X;
+    long = h.long;
+    batches = length (words X) / 17;
+    whole =
+        let w = words_count in
+        let z = ap length none_left in
+        let s = h.some in
+        let m = whole_words in
+        let n = unsynced_count 0 (words X) in
+        (omega arith, omega arith);
+    codewords = are_codewords;
+    bytes =
+        let m = whole_words in
+        let after : flat_map (to_be_bytes w32) (words X) ≡ after_preamble X = bytes_are (after_preamble X) (All-drop (λ b. b < 256) (leading X) X h.small) none_left in
+        let again : synced 0 (codewords_of X) ≡ words X = resynced [] (words X) h.good (omega arith) (omega arith) 0 (omega arith) in
+        (parts X).whole
+        ∙ ap (λ (l : List ℕ). replicate (leading X) 0xaa ++ l) (sym (ap (flat_map (to_be_bytes w32)) again ∙ after));
+  }
+
+  pub whole_reads : (ps : List Page) → ps ≡ pages_from 0 (map kind_of (codewords_of X)) → ReadsAs X ps
+  whole_reads ps e = record {
+    codewords = codewords_of X;
+    sent = is_sent;
+    reads = plain_reads (map kind_of (codewords_of X)) 0 ps (none_is_orphan [] (words X) h.good) e;
+  }
+
+-- the pages at the end
+resumed_end : (n : ℕ) (o : Option OpenPage) → resumed n o [] ≡ closed o
+resumed_end n None = refl
+resumed_end n (Some p) = ap (λ (l : List ℕ). record { address = p.address; function = p.function; payload = l } ∷ []) (append-nil p.items.items)
+
+pub pages_end : (pages : List Page) (o : Option OpenPage) (n : ℕ) (ks : List Kind) → ((more : List Kind) → pages_from 0 (ks ++ more) ≡ pages ++ resumed n o more)
+    → (ps : List Page) → ps ≡ pages ++ closed o → ps ≡ pages_from 0 ks
+pages_end pages o n ks h ps e =
+    e ∙ (ap (λ (l : List Page). pages ++ l) (sym (resumed_end n o)) ∙ (sym (h []) ∙ ap (λ (l : List Kind). pages_from 0 l) (append-nil ks)))
+
+-- pages of codewords can be listed
+kind_fits : (w : ℕ) → w < 2 ^ 32 → IsInRange (kind_of w)
+kind_fits w h =
+    elim (cases_eq w 0x7a89c197) [
+      | inl e ↦ rw (eq-eqb _ _ e) tt
+      | inr n ↦ elim (cases_lt (w / 2048) (2 ^ 20)) [
+        | inl p ↦ rw (ne_eqb _ _ n, lt-ltb _ _ p) (omega arith, omega arith)
+        | inr p ↦ rw (ne_eqb _ _ n, le-ltb _ _ p) (omega arith)
+      ]
+    ]
+
+items_small : (ks : List Kind) → All IsInRange ks → All (λ item. item < 2 ^ 20) (items_of ks)
+items_small [] h = All-nil (λ item. item < 2 ^ 20)
+items_small (Idle ∷ ks) h = All-nil (λ item. item < 2 ^ 20)
+items_small (Address high function ∷ ks) h = All-nil (λ item. item < 2 ^ 20)
+items_small (Message bits ∷ ks) h =
+    All-cons (λ item. item < 2 ^ 20) bits (items_of ks) (All-head IsInRange (Message bits) ks h) (items_small ks (All-tail IsInRange (Message bits) ks h))
+
+pages_listable : (ks : List Kind) (i : ℕ) → All IsInRange ks → All IsListable (pages_from i ks)
+pages_listable [] i h = All-nil IsListable
+pages_listable (Idle ∷ ks) i h = pages_listable ks (i + 1) (All-tail IsInRange Idle ks h)
+pages_listable (Address high function ∷ ks) i h =
+    let rest = All-tail IsInRange (Address high function) ks h in
+    All-cons IsListable _ (pages_from (i + 1) ks) (record { function = (All-head IsInRange (Address high function) ks h).1; items = items_small ks rest }) (pages_listable ks (i + 1) rest)
+pages_listable (Message bits ∷ ks) i h = pages_listable ks (i + 1) (All-tail IsInRange (Message bits) ks h)
+
+pub whole_listable : (X : List ℕ) → IsWhole X → (ps : List Page) → ps ≡ pages_from 0 (map kind_of (codewords_of X)) → All IsListable ps
+whole_listable X h ps e =
+    subst (All IsListable) (sym e) (pages_listable (map kind_of (codewords_of X)) 0 (All-map IsInRange kind_of (codewords_of X) (All-weaker IsCodeword (λ w. IsInRange (kind_of w)) (λ w c. kind_fits w c.fits) (codewords_of X) (are_codewords X h))))

@@ -1,0 +1,135 @@
+-- Bytes that go on: their whole words, and what follows these.
+use Rattle.std.proofs.Common.{◌≡◌, ◌≢◌, ◌⊎◌, ℕ, ◌+◌, ◌*◌, List, [], ◌∷◌, ◌++◌, length, take, drop, refl, sym, ap, ap₂, ◌∙◌, subst, inl, inr, arith, append_assoc, true, false, ◌==◌}
+use Rattle.std.proofs.lemmas.Bool.{eqb-true, false≢true}
+use Rattle.std.specs.Int.{from_be_bytes, w32}
+use Rattle.std.proofs.lemmas.List.{append-nil, length-append, take-append-drop}
+use Rattle.pocsag_pages.specs.Bytes.{words_of}
+use Rattle.pocsag_decode.specs.declared.fault.DecodeFault.{DecodeFault}
+use Rattle.pocsag_decode.specs.declared.fault.DecodeFault.TheVariants as fault
+use Rattle.pocsag_decode.specs.declared.body.Body.{Body}
+use Rattle.pocsag_decode.specs.declared.carry.Carry.{Carry}
+use Rattle.pocsag_decode.specs.Carried.{carried, size_of, unfinished}
+use Rattle.pocsag_decode.specs.Places.{HasBadWord}
+use Rattle.pocsag_decode.specs.Standing.{HasRead, StandsIn}
+use Rattle.pocsag_decode.specs.Taking.{IsTaking}
+use Rattle.pocsag_decode.proofs.WordByWord.{bad_stays}
+
+pub words_on : (Y Z : List ℕ) → words_of (Y ++ Z) ≡ words_of Y ++ words_of (unfinished Y ++ Z)
+words_on [] Z = refl
+words_on (a ∷ []) Z = refl
+words_on (a ∷ b ∷ []) Z = refl
+words_on (a ∷ b ∷ c ∷ []) Z = refl
+words_on (a ∷ b ∷ c ∷ d ∷ Y) Z = ap (λ (l : List ℕ). from_be_bytes w32 (a ∷ b ∷ c ∷ d ∷ []) ∷ l) (words_on Y Z)
+
+pub rest_on : (Y Z : List ℕ) → unfinished (Y ++ Z) ≡ unfinished (unfinished Y ++ Z)
+rest_on [] Z = refl
+rest_on (a ∷ []) Z = refl
+rest_on (a ∷ b ∷ []) Z = refl
+rest_on (a ∷ b ∷ c ∷ []) Z = refl
+rest_on (a ∷ b ∷ c ∷ d ∷ Y) Z = rest_on Y Z
+
+pub bytes_count : (Y : List ℕ) → length Y ≡ 4 * length (words_of Y) + length (unfinished Y)
+bytes_count [] = refl
+bytes_count (a ∷ []) = refl
+bytes_count (a ∷ b ∷ []) = refl
+bytes_count (a ∷ b ∷ c ∷ []) = refl
+bytes_count (a ∷ b ∷ c ∷ d ∷ Y) = let e = bytes_count Y in omega arith
+
+-- as many bytes as the decoder's count
+pub size_is : (b : Body) (Y : List ℕ) → StandsIn b Y → size_of b.place b.carry ≡ length Y
+size_is b Y s =
+    let e = bytes_count Y in
+    let n = s.read.count in
+    let l = ap length s.carry in
+    omega arith
+
+pub bad_on : (Y Z : List ℕ) (f : DecodeFault) → HasBadWord (words_of Y) f → HasBadWord (words_of (Y ++ Z)) f
+bad_on Y Z f b = subst (λ (ws : List ℕ). HasBadWord ws f) (sym (words_on Y Z)) (bad_stays (words_of Y) (words_of (unfinished Y ++ Z)) f b)
+
+-- a byte that makes no word whole
+pub byte_more : (b : Body) (old new : Carry) (Y : List ℕ) (x : ℕ) → b.carry ≡ old → words_of (carried old ++ x ∷ []) ≡ [] → unfinished (carried old ++ x ∷ []) ≡ carried new
+    → StandsIn b Y → StandsIn (record b { carry = new }) (Y ++ x ∷ [])
+byte_more b old new Y x is none one s =
+    let left : unfinished Y ≡ carried old = sym s.carry ∙ ap carried is in
+    record {
+      read = rw (words_on Y (x ∷ []), left, none, append-nil (words_of Y)) s.read;
+      carry = sym (rest_on Y (x ∷ []) ∙ (ap (λ (l : List ℕ). unfinished (l ++ x ∷ [])) left ∙ one));
+    }
+
+-- want of memory, or a bad word
+abbrev pub Refuses : DecodeFault → List ℕ → Type 0
+Refuses f ws = (f ≡ fault.OutOfMemory) ⊎ HasBadWord ws f
+
+pub refuses : (f : DecodeFault) (ws vs : List ℕ) → (HasBadWord ws f → HasBadWord vs f) → Refuses f ws → Refuses f vs
+refuses f ws vs h (inl p) = inl p
+refuses f ws vs h (inr p) = inr (h p)
+
+-- four bytes
+four_words : (l : List ℕ) → length l ≡ 4 → words_of l ≡ from_be_bytes w32 l ∷ []
+four_words [] e = absurd (omega arith)
+four_words (a ∷ []) e = absurd (omega arith)
+four_words (a ∷ b ∷ []) e = absurd (omega arith)
+four_words (a ∷ b ∷ c ∷ []) e = absurd (omega arith)
+four_words (a ∷ b ∷ c ∷ d ∷ []) e = refl
+four_words (a ∷ b ∷ c ∷ d ∷ x ∷ l) e = absurd (omega arith)
+
+four_left : (l : List ℕ) → length l ≡ 4 → unfinished l ≡ []
+four_left [] e = refl
+four_left (a ∷ []) e = absurd (omega arith)
+four_left (a ∷ b ∷ []) e = absurd (omega arith)
+four_left (a ∷ b ∷ c ∷ []) e = absurd (omega arith)
+four_left (a ∷ b ∷ c ∷ d ∷ []) e = refl
+four_left (a ∷ b ∷ c ∷ d ∷ x ∷ l) e = absurd (omega arith)
+
+-- bytes that make a word whole
+module _ (b : Body) (Y Z : List ℕ) (w : ℕ) (s : StandsIn b Y) (e : length (carried b.carry ++ Z) ≡ 4) (is : w ≡ from_be_bytes w32 (carried b.carry ++ Z)) where
+  words_are : words_of (Y ++ Z) ≡ words_of Y ++ w ∷ []
+  words_are =
+      words_on Y Z
+      ∙ ap (λ (l : List ℕ). words_of Y ++ l) (ap (λ (l : List ℕ). words_of (l ++ Z)) (sym s.carry) ∙ (four_words (carried b.carry ++ Z) e ∙ ap (λ (x : ℕ). x ∷ []) (sym is)))
+
+  pub word_more : (new : Body) → HasRead new.place new.growing (words_of Y ++ w ∷ []) → carried new.carry ≡ [] → StandsIn new (Y ++ Z)
+  word_more new r none = record {
+    read = rw words_are r;
+    carry = none ∙ sym (rest_on Y Z ∙ (ap (λ (l : List ℕ). unfinished (l ++ Z)) (sym s.carry) ∙ four_left (carried b.carry ++ Z) e));
+  }
+
+  pub bad_word_more : (f : DecodeFault) → HasBadWord (words_of Y ++ w ∷ []) f → HasBadWord (words_of (Y ++ Z)) f
+  bad_word_more f h = rw words_are h
+
+-- a part of the bytes more
+module _ (first now : Body) (bytes rest front back : List ℕ) (t : IsTaking first now bytes rest) (e : rest ≡ front ++ back) where
+  pub taken : (new : Body) → size_of new.place new.carry ≡ size_of now.place now.carry + length front → ((Y : List ℕ) → StandsIn now Y → StandsIn new (Y ++ front)) → IsTaking first new bytes back
+  taken new size stands = record {
+    size = let s = t.size in let l = length-append front back in let r = ap length e in omega arith;
+    before = λ Y h.
+        let s = t.before Y h in
+        record {
+          eaten = s.eaten ++ front;
+          all = append_assoc s.eaten front back ∙ (ap (λ (l : List ℕ). s.eaten ++ l) (sym e) ∙ s.all);
+          stands = stands s.eaten s.stands;
+        };
+  }
+
+  pub not_taken : (f : DecodeFault) → ((Y : List ℕ) → StandsIn now Y → Refuses f (words_of (Y ++ front))) → (Y : List ℕ) → StandsIn first Y → Refuses f (words_of (Y ++ bytes))
+  not_taken f bad Y h =
+      let s = t.before Y h in
+      let all : (s.eaten ++ front) ++ back ≡ Y ++ bytes = append_assoc s.eaten front back ∙ (ap (λ (l : List ℕ). s.eaten ++ l) (sym e) ∙ s.all) in
+      refuses f (words_of (s.eaten ++ front)) (words_of (Y ++ bytes))
+      (λ b. subst (λ (l : List ℕ). HasBadWord (words_of l) f) all (bad_on (s.eaten ++ front) back f b))
+      (bad s.eaten s.stands)
+
+pub split_is : (n : ℕ) (l front back : List ℕ) → front ≡ take n l → back ≡ drop n l → l ≡ front ++ back
+split_is n l front back p q = sym (take-append-drop n l) ∙ ap₂ (λ (x y : List ℕ). x ++ y) (sym p) (sym q)
+
+pub is_nil : (l : List ℕ) → true ≡ (length l == 0) → l ≡ []
+is_nil [] e = refl
+is_nil (x ∷ l) e = absurd (let n = eqb-true (length (x ∷ l)) 0 (sym e) in omega arith)
+
+pub not_nil : (l : List ℕ) → false ≡ (length l == 0) → l ≢ []
+not_nil l e z = false≢true (e ∙ ap (λ (m : List ℕ). length m == 0) z)
+
+pub taking_last : (first now : Body) (bytes rest : List ℕ) → rest ≡ [] → IsTaking first now bytes rest → (Y : List ℕ) → StandsIn first Y → StandsIn now (Y ++ bytes)
+taking_last first now bytes rest e t Y h =
+    let s = t.before Y h in
+    subst (StandsIn now) (sym (append-nil s.eaten) ∙ (ap (λ (l : List ℕ). s.eaten ++ l) (sym e) ∙ s.all)) s.stands

@@ -1,0 +1,9 @@
+use Rattle.std.proofs.Common.{length}
+use Rattle.pocsag_decode.specs.Taking.{IsTaking}
+use Rattle.pocsag_decode.proofs.body.Body.take.Given as goal
+
+abbrev pub invariant-loop-rest : goal.invariant-loop-rest
+invariant-loop-rest l = IsTaking l.fn.self l.self l.fn.bytes l.rest
+
+abbrev pub decreases-loop-rest : goal.decreases-loop-rest
+decreases-loop-rest l = length l.rest

@@ -1,0 +1,29 @@
+use Rattle.std.proofs.Common.{ℕ, List, [], ◌∷◌, ◌++◌, length, refl, sym, ap, ◌∙◌}
+use Rattle.std.specs.Int.{from_be_bytes, w32}
+use Rattle.std.proofs.lemmas.Result.{on_ok_weaker, IfErr-weaker}
+use Rattle.pocsag_pages.specs.Bytes.{words_of}
+use Rattle.pocsag_decode.specs.declared.carry.Carry.{Carry}
+use Rattle.pocsag_decode.specs.Carried.{carried}
+use Rattle.pocsag_decode.proofs.Words.{byte_more, word_more, bad_word_more, refuses}
+use Rattle.pocsag_decode.proofs.body.Body.take_byte.Goals as goal
+
+pub returns-in-None-clause-stands : goal.returns-in-None-clause-stands
+returns-in-None-clause-stands c = λ Y s. byte_more _ _ _ Y _ c.in-None.is refl refl s
+
+pub returns-in-One-clause-stands : goal.returns-in-One-clause-stands
+returns-in-One-clause-stands c = λ Y s. byte_more _ _ _ Y _ c.in-One.is refl refl s
+
+pub returns-in-Two-clause-stands : goal.returns-in-Two-clause-stands
+returns-in-Two-clause-stands c = λ Y s. byte_more _ _ _ Y _ c.in-Two.is refl refl s
+
+pub returns-in-Three-clause-stands : goal.returns-in-Three-clause-stands
+returns-in-Three-clause-stands c = λ Y s.
+    let bytes : Carry → List ℕ = λ k. carried k ++ c.args.byte ∷ [] in
+    on_ok_weaker _ (λ r. word_more _ Y (c.args.byte ∷ []) _ s (ap (λ (k : Carry). length (bytes k)) c.in-Three.is) (c.from_be_bytes.ensures ∙ ap (λ (k : Carry). from_be_bytes w32 (bytes k)) (sym c.in-Three.is)) _ r (ap carried c.take_word.ensures.carry))
+    (c.take_word.ensures.read (words_of Y) s.read)
+
+pub returns-in-Three-clause-bad : goal.returns-in-Three-clause-bad
+returns-in-Three-clause-bad c = λ Y s.
+    let bytes : Carry → List ℕ = λ k. carried k ++ c.args.byte ∷ [] in
+    IfErr-weaker _ _ _ (λ f. refuses f _ _ (bad_word_more _ Y (c.args.byte ∷ []) _ s (ap (λ (k : Carry). length (bytes k)) c.in-Three.is) (c.from_be_bytes.ensures ∙ ap (λ (k : Carry). from_be_bytes w32 (bytes k)) (sym c.in-Three.is)) f))
+    (c.take_word.ensures.bad (words_of Y) s.read)

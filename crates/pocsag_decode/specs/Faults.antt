@@ -1,0 +1,45 @@
+-- *Fault of a transmission*, and what bytes without one say.
+use Rattle.std.specs.Prelude.{◌≡◌, ◌≢◌, ◌⊎◌, ℕ, ◌+◌, ◌%◌, ◌^◌, ◌<◌, ◌≤◌, List, [], ◌++◌, length}
+use Rattle.pocsag_pages.specs.declared.page.Page.{Page}
+use Rattle.pocsag_pages.specs.Bytes.{Sent, leading, after_preamble, words_of}
+use Rattle.pocsag_pages.specs.Reading.{ReadsWords}
+use Rattle.pocsag_decode.specs.declared.fault.DecodeFault.{DecodeFault}
+use Rattle.pocsag_decode.specs.declared.fault.DecodeFault.TheVariants as fault
+use Rattle.pocsag_decode.specs.Places.{AreGood, HasBadWord}
+
+-- The whole words after the preamble.
+abbrev pub words : List ℕ → List ℕ
+words X = words_of (after_preamble X)
+
+-- A fault at a byte that is there, which stays however the bytes go on: fewer than 72 bytes AA before
+-- another byte, or else the least bad word.
+pub data HasFaultThere : List ℕ → DecodeFault → Type 0 where
+  short : {X : List ℕ} → leading X < 72 → after_preamble X ≢ [] → HasFaultThere X fault.ShortPreamble
+  bad : {X : List ℕ} {f : DecodeFault} → 72 ≤ leading X → HasBadWord (words X) f → HasFaultThere X f
+
+-- A fault of the end: fewer than 72 bytes AA before it, no other byte before it, or no bad word but an
+-- end inside a word or inside a batch of 68 bytes.
+pub data HasFaultOfEnd : List ℕ → DecodeFault → Type 0 where
+  short : {X : List ℕ} → leading X < 72 → after_preamble X ≡ [] → HasFaultOfEnd X fault.ShortPreamble
+  no_batch : {X : List ℕ} → 72 ≤ leading X → after_preamble X ≡ [] → HasFaultOfEnd X fault.NoBatch
+  cut : {X : List ℕ} → 72 ≤ leading X → AreGood (words X) → length (after_preamble X) % 68 ≢ 0 → HasFaultOfEnd X fault.Truncated
+
+-- *Fault of a transmission*.
+abbrev pub HasFault : List ℕ → DecodeFault → Type 0
+HasFault X f = HasFaultThere X f ⊎ HasFaultOfEnd X f
+
+abbrev pub HasNoFault : List ℕ → Type 0
+HasNoFault X = (f : DecodeFault) → ¬ HasFault X f
+
+-- X is sent from codewords that read as these pages.
+pub record ReadsAs (X : List ℕ) (ps : List Page) : Type 0 where
+  pub codewords : List ℕ
+  pub sent : Sent X codewords
+  pub reads : ReadsWords codewords ps
+
+-- Why a piece Z is refused after the bytes X: together they are too many, judged before the bytes of
+-- the piece, or else want of memory or a fault at a byte of theirs.
+pub data IsRefusal : (X Z : List ℕ) → DecodeFault → Type 0 where
+  too_much : {X Z : List ℕ} → 2 ^ 64 ≤ length X + length Z → IsRefusal X Z fault.TooMuch
+  no_memory : {X Z : List ℕ} → length X + length Z < 2 ^ 64 → IsRefusal X Z fault.OutOfMemory
+  fault_there : {X Z : List ℕ} {f : DecodeFault} → length X + length Z < 2 ^ 64 → HasFaultThere (X ++ Z) f → IsRefusal X Z f

@@ -1,0 +1,153 @@
+ghost use Rattle.std.specs.Prelude.{◌≡◌, ◌⊎◌, ℕ, ◌+◌, ◌%◌, ◌^◌, ◌<◌, ◌≤◌, ◌++◌, [], List, length, true, All, OnOk, OnErr, IfErr, IfOk, MatchResult};
+ghost use Rattle.pocsag_pages.specs.Bytes.{after_preamble, leading};
+ghost use Rattle.pocsag_decode.specs.Carried.{size_of};
+ghost use Rattle.pocsag_decode.specs.Faults.{HasFaultOfEnd, IsRefusal, ReadsAs};
+ghost use Rattle.pocsag_decode.specs.Listable.{IsListable};
+ghost use Rattle.pocsag_decode.specs.Standing.{IsOver, StandsAfter};
+
+use crate::body::Body;
+use crate::fault::DecodeFault;
+use crate::state::Decoder;
+use pocsag_pages::Page;
+use pocsag_words::OutOfMemory;
+use std::alloc::Global;
+
+// The fewest bytes AA that a transmission begins with.
+const PREAMBLE: u64 = 72;
+
+// With how many bytes AA the bytes begin.
+fn leading_len(bytes: &[u8]) -> usize
+    ensures value { result ≡ leading bytes.now }
+    ensures within { result ≤ length bytes.now }
+{
+    for (count, byte) in bytes.iter().enumerate() {
+        if *byte != 0xAA {
+            return count;
+        }
+    }
+    bytes.len()
+}
+
+impl Decoder {
+    /// A decoder of no bytes, which takes no memory.
+    pub fn new(alloc: Global) -> Decoder
+        ensures { StandsAfter result [] }
+    {
+        Decoder {
+            has_failed: false,
+            leading: 0,
+            body: Body::new(alloc),
+        }
+    }
+
+    /// Takes the next piece of the bytes, which may be empty. After a fault every call answers
+    /// `Failed`.
+    pub fn feed(&mut self, piece: &[u8]) -> Result<(), DecodeFault>
+        // The bytes X that were fed so far and the piece have no fault at a byte that is there.
+        ensures stands { (X : List ℕ) → StandsAfter self.old X → OnOk result (StandsAfter self.new (X ++ piece.now)) }
+        ensures refused { (X : List ℕ) → StandsAfter self.old X → IfErr result (IsRefusal X piece.now) }
+
+        // A decoder that has failed stays so.
+        ensures over { OnErr result (IsOver self.new) }
+        ensures failed { IsOver self.old → result ≡ Err DecodeFault.Failed }
+    {
+        if self.has_failed {
+            return Err(DecodeFault::Failed);
+        }
+        match self.take(piece) {
+            Ok(()) => Ok(()),
+            Err(fault) => {
+                self.has_failed = true;
+                Err(fault)
+            }
+        }
+    }
+
+    /// The pages of all the bytes that were fed, or the fault of their end. Every later call answers
+    /// `Failed`.
+    pub fn finish(&mut self) -> Result<Vec<Page>, DecodeFault>
+        ensures finished { (X : List ℕ) → StandsAfter self.old X →
+            MatchResult result (λ v. ReadsAs X v.items) (λ e. (e ≡ DecodeFault.OutOfMemory) ⊎ HasFaultOfEnd X e) }
+        ensures listable { (X : List ℕ) → StandsAfter self.old X → IfOk result (λ v. All IsListable v.items) }
+
+        // A decoder that has failed stays so.
+        ensures over { IsOver self.new }
+        ensures failed { IsOver self.old → result ≡ Err DecodeFault.Failed }
+    {
+        if self.has_failed {
+            return Err(DecodeFault::Failed);
+        }
+        let judged = self.judge_end();
+        self.has_failed = true;
+        match judged {
+            Ok(()) => match self.body.finish() {
+                Ok(pages) => Ok(pages),
+                Err(OutOfMemory) => Err(DecodeFault::OutOfMemory),
+            },
+            Err(fault) => Err(fault),
+        }
+    }
+
+    // How many bytes came.
+    fn size(&self) -> u64
+        ensures { result ≡ self.now.leading + size_of self.now.body.place self.now.body.carry }
+    {
+        self.leading + self.body.size()
+    }
+
+    // Counts the bytes AA with which the piece begins, where no other byte came before; gives the rest
+    // of the piece.
+    fn skip_preamble<'a>(&mut self, piece: &'a [u8]) -> &'a [u8]
+        requires { self.old.leading + size_of self.old.body.place self.old.body.carry + length piece.now < 2 ^ 64 }
+        ensures body { self.new.body ≡ self.old.body }
+        ensures works { self.new.has_failed ≡ self.old.has_failed }
+        ensures counted { self.new.leading + length result.now ≡ self.old.leading + length piece.entry.now }
+        ensures skipped { (X : List ℕ) → self.old.leading ≡ leading X →
+            size_of self.old.body.place self.old.body.carry ≡ length (after_preamble X) →
+            (self.new.leading ≡ leading (X ++ piece.entry.now))
+            × (after_preamble (X ++ piece.entry.now) ≡ after_preamble X ++ result.now) }
+    {
+        if !self.body.is_empty() {
+            return piece;
+        }
+        let count = leading_len(piece);
+        self.leading += count as u64;
+        let (_, rest) = piece.split_at(count);
+        rest
+    }
+
+    fn take(&mut self, piece: &[u8]) -> Result<(), DecodeFault>
+        ensures stands { (X : List ℕ) → StandsAfter self.old X → OnOk result (StandsAfter self.new (X ++ piece.now)) }
+        ensures refused { (X : List ℕ) → StandsAfter self.old X → IfErr result (IsRefusal X piece.now) }
+    {
+        if piece.len() as u64 > u64::MAX - self.size() {
+            return Err(DecodeFault::TooMuch);
+        }
+        let rest = self.skip_preamble(piece);
+        if rest.is_empty() {
+            return Ok(());
+        }
+        if self.leading < PREAMBLE {
+            return Err(DecodeFault::ShortPreamble);
+        }
+        self.body.take(rest)
+    }
+
+    fn judge_end(&self) -> Result<(), DecodeFault>
+        ensures long { OnOk result (72 ≤ self.now.leading) }
+        ensures some { OnOk result (0 < size_of self.now.body.place self.now.body.carry) }
+        ensures whole { OnOk result (size_of self.now.body.place self.now.body.carry % 68 ≡ 0) }
+        ensures fault { (X : List ℕ) → StandsAfter self.now X → IfErr result (HasFaultOfEnd X) }
+    {
+        if self.leading < PREAMBLE {
+            return Err(DecodeFault::ShortPreamble);
+        }
+        if self.body.is_empty() {
+            return Err(DecodeFault::NoBatch);
+        }
+        if !self.body.is_whole() {
+            return Err(DecodeFault::Truncated);
+        }
+        Ok(())
+    }
+}

@@ -1,0 +1,44 @@
+use thiserror::Error;
+
+/// Why bytes are no transmission that reads as pages. Batches, and codewords without those of
+/// synchronisation, are counted from 0.
+#[derive(Clone, Copy, PartialEq, Eq, Debug, Error)]
+pub enum DecodeFault {
+    /// Fewer than 72 bytes AA stand before another byte or before the end.
+    #[error("the preamble is too short")]
+    ShortPreamble,
+    /// The batch does not begin with the synchronisation codeword.
+    #[error("batch {0}: no synchronisation codeword")]
+    NoSync(u64),
+    /// The word at this index is no codeword.
+    #[error("codeword {0}: not a codeword")]
+    BadWord(u64),
+    /// The message codeword at this index continues no page.
+    #[error("codeword {0}: a message without an address")]
+    Orphan(u64),
+    /// The bytes end inside a word or inside a batch.
+    #[error("the transmission is cut short")]
+    Truncated,
+    /// The bytes end directly after the preamble.
+    #[error("the transmission has no batch")]
+    NoBatch,
+    /// All pieces together pass 2^64 - 1 bytes.
+    #[error("the transmission is too long")]
+    TooMuch,
+    #[error("out of memory")]
+    OutOfMemory,
+    /// An earlier call met a fault, or the transmission was finished.
+    #[error("the decoder has stopped")]
+    Failed,
+}
+
+/// Why a listing was not written whole.
+#[derive(Clone, Copy, PartialEq, Eq, Debug, Error)]
+pub enum ListFault {
+    /// The writer did not take the listing whole; what it took is a prefix of it.
+    #[error("cannot write")]
+    WriteFault,
+    /// Nothing was written.
+    #[error("out of memory")]
+    OutOfMemory,
+}

@@ -1,0 +1,123 @@
+ghost use Rattle.std.specs.Prelude.{◌≡◌, ℕ, ◌+◌, ◌^◌, ◌<◌, ◌++◌, ◌∷◌, [], None, true, not, List, IsTrue, is_some, OnOk, IfOk};
+ghost use Rattle.pocsag_words.specs.declared.codeword.Kind.{Kind};
+ghost use Rattle.pocsag_words.specs.Kinds.{IsInRange};
+ghost use Rattle.pocsag_pages.specs.Reading.{frame_at};
+ghost use Rattle.pocsag_decode.specs.Places.{is_message, is_idle};
+ghost use Rattle.pocsag_decode.specs.Growing.{resumed, closed};
+
+use pocsag_pages::{Page, Payload};
+use pocsag_words::{Kind, OutOfMemory};
+use std::alloc::Global;
+use std::mem;
+
+// A page whose message may still grow.
+#[derive(Drop)]
+pub(crate) struct OpenPage {
+    address: u32,
+    function: u8,
+    items: Vec<u32>,
+}
+
+// The pages of the codewords that were read.
+#[derive(Drop)]
+pub(crate) struct Growing {
+    alloc: Global,
+    // Those that are finished.
+    pages: Vec<Page>,
+    // The one that a message codeword would continue.
+    current: Option<OpenPage>,
+}
+
+impl Growing {
+    pub(crate) fn new(alloc: Global) -> Growing
+        ensures pages { result.pages.items ≡ [] }
+        ensures current { result.current ≡ None }
+    {
+        Growing {
+            alloc,
+            pages: Vec::new(alloc),
+            current: None,
+        }
+    }
+
+    // Whether a message codeword may follow.
+    pub(crate) fn is_open(&self) -> bool
+        ensures { result ≡ is_some self.now.current }
+    {
+        self.current.is_some()
+    }
+
+    // Takes one codeword more, which stands in this frame.
+    pub(crate) fn take(&mut self, frame: u32, kind: Kind) -> Result<(), OutOfMemory>
+        requires ranges { IsInRange kind }
+        requires frame { frame < 8 }
+        requires follows { IsTrue (is_message kind) → IsTrue (is_some self.old.current) }
+        ensures reads { OnOk result ((i : ℕ) (ks : List Kind) → frame ≡ frame_at i →
+            self.old.pages.items ++ resumed i self.old.current (kind ∷ ks)
+            ≡ self.new.pages.items ++ resumed (i + 1) self.new.current ks) }
+        ensures current { OnOk result (is_some self.new.current ≡ not (is_idle kind)) }
+    {
+        match kind {
+            Kind::Idle if !self.is_open() => Ok(()),
+            Kind::Idle => self.close(),
+            Kind::Address { high, function } => {
+                self.close()?;
+                self.current = Some(OpenPage {
+                    address: 8 * high + frame,
+                    function,
+                    items: Vec::new(self.alloc),
+                });
+                Ok(())
+            }
+            Kind::Message(bits) => self.take_message(bits),
+        }
+    }
+
+    // Finishes the open page.
+    fn close(&mut self) -> Result<(), OutOfMemory>
+        ensures pages { OnOk result (self.new.pages.items ≡ self.old.pages.items ++ closed self.old.current) }
+        ensures current { OnOk result (self.new.current ≡ None) }
+    {
+        let Some(page) = self.current.take() else {
+            return Ok(());
+        };
+        let OpenPage {
+            address,
+            function,
+            items,
+        } = page;
+        let payload = Payload::from_vec(items);
+        match self.pages.push(Page {
+            address,
+            function,
+            payload,
+        }) {
+            Ok(()) => Ok(()),
+            Err(_) => Err(OutOfMemory),
+        }
+    }
+
+    fn take_message(&mut self, bits: u32) -> Result<(), OutOfMemory>
+        requires { IsTrue (is_some self.old.current) }
+        ensures reads { OnOk result ((i : ℕ) (ks : List Kind) →
+            self.old.pages.items ++ resumed i self.old.current (Kind.Message bits ∷ ks)
+            ≡ self.new.pages.items ++ resumed (i + 1) self.new.current ks) }
+        ensures current { OnOk result (is_some self.new.current ≡ true) }
+    {
+        match &mut self.current {
+            Some(page) => match page.items.push(bits) {
+                Ok(()) => Ok(()),
+                Err(_) => Err(OutOfMemory),
+            },
+            None => unreachable!(),
+        }
+    }
+
+    // Finishes the open page and hands all the pages out.
+    pub(crate) fn finish(&mut self) -> Result<Vec<Page>, OutOfMemory>
+        ensures { IfOk result (λ v. v.items ≡ self.old.pages.items ++ closed self.old.current) }
+    {
+        self.close()?;
+        Ok(mem::replace(&mut self.pages, Vec::new(self.alloc)))
+    }
+}

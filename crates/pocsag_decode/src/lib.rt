@@ -1,0 +1,19 @@
+#![tactic(auto)]
+//! The decoder of transmissions, which takes them in pieces of any size and keeps no bytes, and the
+//! listing of pages (Recommendation ITU-R M.584-2, Annex 1).
+
+mod body;
+mod carry;
+mod decoder;
+mod fault;
+mod growing;
+mod laws;
+mod listing;
+mod state;
+mod whole;
+
+pub use fault::{DecodeFault, ListFault};
+pub use laws::{a_fault_there_stays, faults_are_one, no_fault_is_a_reading};
+pub use listing::list;
+pub use state::Decoder;
+pub use whole::decode;

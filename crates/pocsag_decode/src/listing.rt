@@ -1,0 +1,162 @@
+ghost use Rattle.std.specs.Prelude.{◌≡◌, ◌≢◌, ◌^◌, ◌<◌, ◌∷◌, ◌++◌, [], length, All, OnOk, IfOk};
+ghost use Rattle.std.specs.List.{flat_map};
+ghost use Rattle.std.specs.Fmt.{decimal};
+ghost use Rattle.csv.specs.Writing.{row_text, default_writer};
+ghost use Rattle.pocsag_words.specs.Devices.{HasFailed, TookPrefix};
+ghost use Rattle.pocsag_decode.specs.Lines.{IsReady, text_in};
+ghost use Rattle.pocsag_decode.specs.Listable.{IsListable};
+ghost use Rattle.pocsag_decode.specs.Listing.{header, hex_digit, hex_digits, kind_field, listing, message_field, record_of};
+
+use crate::fault::ListFault;
+use csv::{ByteRecord, Writer};
+use pocsag_pages::Page;
+use pocsag_text::{unpack_alpha, unpack_numeric};
+use pocsag_words::{OutOfMemory, Sink, write_all};
+use std::alloc::Global;
+
+fn hex_digit(digit: u32) -> u8
+    requires { digit < 16 }
+    ensures { result ≡ hex_digit digit }
+{
+    if digit < 10 {
+        b'0' + digit as u8
+    } else {
+        b'A' - 10 + digit as u8
+    }
+}
+
+fn hex_digits(item: u32) -> [u8; 5]
+    ensures { result ≡ hex_digits item }
+{
+    [
+        hex_digit(item / 65536 % 16),
+        hex_digit(item / 4096 % 16),
+        hex_digit(item / 256 % 16),
+        hex_digit(item / 16 % 16),
+        hex_digit(item % 16),
+    ]
+}
+
+fn hex_text(alloc: Global, items: &[u32]) -> Result<Vec<u8>, OutOfMemory>
+    ensures { IfOk result (λ v. v.items ≡ flat_map hex_digits items.now) }
+{
+    let mut text = Vec::new(alloc);
+    for item in items {
+        let Ok(()) = text.extend_from_slice(&hex_digits(*item)) else {
+            return Err(OutOfMemory);
+        };
+    }
+    Ok(text)
+}
+
+#[tactic(auto, unfolding(crate::specs::Listing::kind_field))]
+fn kind_of_page(function: u8, items: &[u32]) -> &'static [u8]
+    requires { function < 4 }
+    ensures { result.now ≡ kind_field function items.now }
+{
+    if items.is_empty() {
+        return match function {
+            0 => b"tone0",
+            1 => b"tone1",
+            2 => b"tone2",
+            _ => b"tone3",
+        };
+    }
+    match function {
+        0 => b"numeric",
+        1 => b"data1",
+        2 => b"data2",
+        _ => b"alpha",
+    }
+}
+
+#[tactic(auto, unfolding(crate::specs::Listing::message_field))]
+fn message_of(alloc: Global, function: u8, items: &[u32]) -> Result<Vec<u8>, OutOfMemory>
+    requires { All (λ item. item < 2 ^ 20) items.now }
+    ensures { IfOk result (λ v. v.items ≡ message_field function items.now) }
+{
+    if items.is_empty() {
+        return Ok(Vec::new(alloc));
+    }
+    match function {
+        0 => unpack_numeric(alloc, items),
+        3 => unpack_alpha(alloc, items),
+        _ => hex_text(alloc, items),
+    }
+}
+
+// Writes one record.
+fn put_record(
+    alloc: Global,
+    writer: &mut Writer<Vec<u8>>,
+    address: &[u8],
+    kind: &[u8],
+    message: &[u8],
+) -> Result<(), OutOfMemory>
+    requires { IsReady writer.old }
+    ensures ready { OnOk result (IsReady writer.new) }
+    ensures text { OnOk result (text_in writer.new
+        ≡ text_in writer.old ++ row_text default_writer (address.now ∷ kind.now ∷ message.now ∷ [])) }
+{
+    let Ok(row) = ByteRecord::from_fields(alloc, &[address, kind, message]) else {
+        return Err(OutOfMemory);
+    };
+    match writer.write_byte_record(&row) {
+        Ok(()) => Ok(()),
+        Err(_) => Err(OutOfMemory),
+    }
+}
+
+fn put_page(alloc: Global, writer: &mut Writer<Vec<u8>>, page: &Page) -> Result<(), OutOfMemory>
+    requires ready { IsReady writer.old }
+    requires listable { IsListable page.now }
+    ensures ready { OnOk result (IsReady writer.new) }
+    ensures text { OnOk result (text_in writer.new ≡ text_in writer.old ++ row_text default_writer (record_of page.now)) }
+{
+    let Ok(address) = format!(in alloc; "{}", page.address) else {
+        return Err(OutOfMemory);
+    };
+    let items = page.payload.as_slice();
+    let message = message_of(alloc, page.function, items)?;
+    let kind = kind_of_page(page.function, items);
+    put_record(alloc, writer, address.as_bytes(), kind, message.as_slice())
+}
+
+#[tactic(auto, unfolding(crate::specs::Listing::listing))]
+fn listing_of(alloc: Global, pages: &[Page]) -> Result<Vec<u8>, OutOfMemory>
+    requires { All IsListable pages.now }
+    ensures { IfOk result (λ v. v.items ≡ listing pages.now) }
+{
+    let mut writer = Writer::from_writer(Vec::new(alloc));
+    put_record(alloc, &mut writer, b"address", b"kind", b"message")?;
+    for page in pages {
+        put_page(alloc, &mut writer, page)?;
+    }
+    match writer.into_inner() {
+        Ok(text) => Ok(text),
+        Err(_) => Err(OutOfMemory),
+    }
+}
+
+/// Writes the listing of the pages: the record `address,kind,message` and then a record for each page.
+/// The functions are at most 3 and the items below 1,048,576. After `OutOfMemory` nothing was written,
+/// after `WriteFault` a prefix.
+pub fn list<S: Sink>(alloc: Global, pages: &[Page], sink: &mut S) -> Result<(), ListFault>
+    requires { All IsListable pages.now }
+    ensures whole { S.tells → OnOk result (S.taken sink.new ≡ S.taken sink.old ++ listing pages.now) }
+    ensures part { S.tells → result ≡ Err ListFault.WriteFault →
+        TookPrefix (S.taken sink.old) (S.taken sink.new) (listing pages.now) }
+    ensures untouched { result ≡ Err ListFault.OutOfMemory → sink.new ≡ sink.old }
+
+    // A device's fault is answered only where that device failed.
+    ensures succeeded { OnOk result (S.failures sink.new ≡ S.failures sink.old) }
+    ensures failed { result ≡ Err ListFault.WriteFault → HasFailed (S.failures sink.old) (S.failures sink.new) }
+{
+    match listing_of(alloc, pages) {
+        Ok(text) => match write_all(sink, text.as_slice()) {
+            Ok(()) => Ok(()),
+            Err(_) => Err(ListFault::WriteFault),
+        },
+        Err(OutOfMemory) => Err(ListFault::OutOfMemory),
+    }
+}

@@ -1,0 +1,22 @@
+ghost use Rattle.std.specs.Prelude.{◌≡◌, ◌⊎◌, All, IfOk, MatchResult};
+ghost use Rattle.pocsag_decode.specs.Faults.{HasFault, ReadsAs};
+ghost use Rattle.pocsag_decode.specs.Listable.{IsListable};
+
+use crate::fault::DecodeFault;
+use crate::state::Decoder;
+use pocsag_pages::Page;
+use std::alloc::Global;
+
+/// The pages of a transmission in order of transmission, with every address and function, or its
+/// first fault from left to right.
+pub fn decode(alloc: Global, bytes: &[u8]) -> Result<Vec<Page>, DecodeFault>
+    ensures decoded { MatchResult result (λ v. ReadsAs bytes.now v.items)
+        (λ e. (e ≡ DecodeFault.OutOfMemory) ⊎ HasFault bytes.now e) }
+    ensures listable { IfOk result (λ v. All IsListable v.items) }
+{
+    let mut decoder = Decoder::new(alloc);
+    match decoder.feed(bytes) {
+        Ok(()) => decoder.finish(),
+        Err(fault) => Err(fault),
+    }
+}
