@@ -1,8 +1,9 @@
 -- What a pager has heard, one word at a time.
-use Rattle.std.proofs.Common.{◌≡◌, ◌≢◌, ℕ, ◌+◌, ◌-◌, ◌/◌, ◌%◌, ◌<◌, List, [], ◌∷◌, ◌++◌, length, map, refl, sym, ap, ap₂, subst, ◌∙◌, arith}
+use Rattle.std.proofs.Common.{◌≡◌, ◌≢◌, ℕ, ◌+◌, ◌-◌, ◌/◌, ◌%◌, ◌<◌, List, [], ◌∷◌, ◌++◌, length, map, refl, sym, ap, ap₂, subst, ◌∙◌, ◌⊎◌, ◌^◌, inl, inr, arith}
 use Rattle.std.specs.Prelude.{Option, Some, None, option_to_list}
 use Rattle.std.specs.List.{AllZip}
 use Rattle.std.proofs.lemmas.List.{append-nil, map-append, length-map, length-append}
+use Rattle.std.proofs.lemmas.Bool.{cases_eq}
 use Rattle.std.proofs.lemmas.Slice.Zip.{AllZip-long}
 use Rattle.pocsag_words.specs.declared.codeword.Kind.{Kind}
 use Rattle.pocsag_pages.specs.declared.page.Page.{Page}
@@ -13,7 +14,7 @@ use Rattle.pocsag_pager.specs.declared.pager.State.TheVariants.{Listening, Faile
 use Rattle.pocsag_pager.specs.Shown.{Heard, IsMended, IsShown, said, shown_from}
 use Rattle.pocsag_pager.specs.Standing.{HaveEnded, ended_from, open_from}
 use Rattle.pocsag_pager.specs.Turns.{IsHeardAs, ending, next_open}
-use Rattle.pocsag_pager.proofs.Mending.{HeardAt, heard_at, all_mended_same}
+use Rattle.pocsag_pager.proofs.Mending.{AreRepaired, heard_at, all_mended_same}
 use Rattle.pocsag_pager.proofs.Places.{ended_more, ending_none, last_synced, last_unsynced, next_open_elsewhere, next_open_same, open_more, shown_is, unsynced_long, unsynced_more}
 
 AllZip-push_two : {A B : Type 0} (R : A → B → Type 0) (xs : List A) (ys : List B) (x : A) (y : B) → AllZip R xs ys → R x y → AllZip R (xs ++ x ∷ []) (ys ++ y ∷ [])
@@ -45,7 +46,7 @@ heard_more words w m P Q place is h f =
     let same : unsynced 0 (words ++ w ∷ []) ≡ unsynced 0 words ++ w ∷ [] =
         unsynced_more 0 words w ∙ ap (λ xs. unsynced 0 words ++ xs) (last_unsynced (0 + length words) w inside) in
     let long : length (map said h.mended) ≡ length (unsynced 0 words) =
-        length-map said h.mended ∙ AllZip-long IsMended (unsynced 0 words) h.mended h.each in
+        length-map h.mended said ∙ AllZip-long IsMended (unsynced 0 words) h.mended h.each in
     let joined : map said (h.mended ++ is.mended ∷ []) ≡ map said h.mended ++ m ∷ [] =
         map-append said h.mended (is.mended ∷ []) ∙ ap (λ (k : Option Kind). map said h.mended ++ k ∷ []) is.is in
     record {
@@ -90,11 +91,42 @@ module _ (a p w : ℕ) (words : List ℕ) (s : State) (before : Option Page) (m 
           (e ∙ ap (λ (o : Option Page). ending o m) (open_is s before (open_from a 0 ms) holds h.0))
         ∙ sym (ended_more a 0 ms m))
 
--- ---- a word at which nothing changes
+-- ---- a word at the place of a synchronisation codeword
 
-pub skip_ended : (a w : ℕ) (words : List ℕ) (ps : List Page) → length words % 17 ≡ 0 → HaveEnded words a ps → HaveEnded (words ++ w ∷ []) a (ps ++ [])
-skip_ended a w words ps place have =
-    heard_skip words w _ place (heard_then words (λ ms. ps ≡ ended_from a 0 ms) (λ ms. ps ++ [] ≡ ended_from a 0 ms) have (λ ms h. append-nil ps ∙ h))
+module _ (a p w : ℕ) (words : List ℕ) (place : p ≡ length words % 17) (first : p ≡ 0) where
+  pub skip_open : (s : State) (before : Option Page) → s ≡ Listening before → IsOpen words a s → IsOpen (words ++ w ∷ []) a (Listening before)
+  skip_open s before holds stands =
+      subst (IsOpen (words ++ w ∷ []) a) holds
+      (heard_skip words w (λ ms. s ≡ Listening (open_from a 0 ms)) (sym place ∙ first) stands)
+
+  pub skip_ended : (ps : List Page) → HaveEnded words a ps → HaveEnded (words ++ w ∷ []) a (ps ++ [])
+  skip_ended ps have =
+      heard_skip words w (λ ms. ps ++ [] ≡ ended_from a 0 ms) (sym place ∙ first)
+      (heard_then words (λ ms. ps ≡ ended_from a 0 ms) (λ ms. ps ++ [] ≡ ended_from a 0 ms) have (λ ms h. append-nil ps ∙ h))
+
+-- ---- a word that is passed over
+
+module _ (law : AreRepaired) (a p w : ℕ) (words : List ℕ) (s : State) (small : w < 2 ^ 32) (place : p ≡ length words % 17)
+    (holds : s ≡ Listening None) (far : (p ≡ 0) ⊎ ((p - 1) / 2 ≢ a % 8)) (stands : IsOpen words a s) where
+  elsewhere : ¬ (p ≡ 0) → frame_at (p - 1) ≢ a % 8
+  elsewhere n = elim far [ inl first ↦ absurd (n first) | inr apart ↦ λ e. absurd (apart (omega arith)) ]
+
+  pub pass_open : IsOpen (words ++ w ∷ []) a s
+  pass_open =
+      let at = heard_at law w small in
+      subst (IsOpen (words ++ w ∷ []) a) (sym holds)
+      (elim (cases_eq p 0) [
+        | inl first ↦ skip_open a p w words place first s None holds stands
+        | inr n ↦ turn_open a p w words s None at.kind place (omega arith) holds at.heard stands None (sym (next_open_elsewhere a (p - 1) at.kind (elsewhere n)))
+      ])
+
+  pub pass_ended : (ps : List Page) → HaveEnded words a ps → HaveEnded (words ++ w ∷ []) a (ps ++ [])
+  pass_ended ps have =
+      let at = heard_at law w small in
+      elim (cases_eq p 0) [
+        | inl first ↦ skip_ended a p w words place first ps have
+        | inr n ↦ turn_ended a p w words s None at.kind place (omega arith) holds at.heard stands ps None (sym (ending_none at.kind)) have
+      ]
 
 -- ---- the end
 
