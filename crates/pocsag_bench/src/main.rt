@@ -2,6 +2,7 @@
 //! Benchmarks of the crates. Given the name of one it prints a line for each part: the part, the
 //! seconds that it took, and a sum of its answers, by which another program's can be compared.
 
+mod pager;
 mod words;
 
 use std::{env, io};
@@ -10,7 +11,8 @@ fn main(rt: HostRuntime) -> io::Result<()> {
     let mut args = env::args(&rt)?;
     let _program = args.next();
     match args.next() {
+        Some(name) if name.as_str() == "pager" => pager::run(&rt),
         Some(name) if name.as_str() == "words" => words::run(&rt),
-        _ => println!(rt; "benchmarks: words"),
+        _ => println!(rt; "benchmarks: pager words"),
     }
 }

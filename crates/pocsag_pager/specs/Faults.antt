@@ -1,5 +1,6 @@
 -- Which addresses and which bytes a pager refuses (this project's own).
 use Rattle.std.specs.Prelude.{ℕ, ◌%◌, ◌==◌, not, nat_lt, if◌then◌else◌, List, length, Option, Some, None}
+use Rattle.std.specs.Option.{option_or}
 use Rattle.pocsag_pages.specs.declared.page.TheConstants.{LAST_ADDRESS}
 use Rattle.pocsag_pages.specs.Bytes.{after_preamble, leading}
 use Rattle.pocsag_pages.specs.Pages.{is_reserved}
@@ -19,3 +20,7 @@ bytes_fault bytes =
     if nat_lt (leading bytes) 72 then Some fault.ShortPreamble
     else if length (after_preamble bytes) == 0 then Some fault.NoBatch
     else if not (length (after_preamble bytes) % 68 == 0) then Some fault.Truncated else None
+
+-- The first fault of an address and a transmission's bytes.
+abbrev pub fault_of : ℕ → List ℕ → Option PagerFault
+fault_of a bytes = option_or (address_fault a) (bytes_fault bytes)

@@ -5,7 +5,7 @@ ghost use Rattle.pocsag_pages.specs.Bytes.{after_preamble, bytes_of, leading, wo
 ghost use Rattle.pocsag_pages.specs.Pages.{IsRound};
 ghost use Rattle.pocsag_pages.specs.Reading.{IsLegalList};
 ghost use Rattle.pocsag_pager.specs.Damage.{IsDamaged};
-ghost use Rattle.pocsag_pager.specs.Faults.{address_fault, bytes_fault};
+ghost use Rattle.pocsag_pager.specs.Faults.{address_fault, bytes_fault, fault_of};
 ghost use Rattle.pocsag_pager.specs.Listable.{IsListable};
 ghost use Rattle.pocsag_pager.specs.Shown.{IsShown};
 ghost use Rattle.pocsag_pager.specs.Standing.{HaveEnded, Stands, address_of};
@@ -60,6 +60,7 @@ fn batches_of(bytes: &[u8]) -> Result<&[u8], PagerFault>
 }
 
 // Keeps the page, if there is one.
+#[inline(always)]
 fn keep(pages: &mut Vec<Page>, page: Option<Page>) -> Result<(), PagerFault>
     ensures ok { OnOk result (pages.new.items ≡ pages.old.items ++ option_to_list page) }
     ensures err { IfErr result (λ e. e ≡ PagerFault.OutOfMemory) }
@@ -96,9 +97,8 @@ fn hear_words(alloc: Global, mut pager: Pager, bytes: &[u8]) -> Result<Vec<Page>
 /// whole batches of 68 bytes); then `OutOfMemory`.
 pub fn hear_all(alloc: Global, bytes: &[u8], address: u32) -> Result<Vec<Page>, PagerFault>
     ensures shown { IfOk result (λ pages. IsShown (words_of (after_preamble bytes.now)) address pages.items) }
-    ensures ok { OnOk result ((address_fault address ≡ None) × (bytes_fault bytes.now ≡ None)) }
-    ensures err { IfErr result (λ e. (address_fault address ≡ Some e)
-        ⊎ ((address_fault address ≡ None) × ((bytes_fault bytes.now ≡ Some e) ⊎ ((bytes_fault bytes.now ≡ None) × (e ≡ PagerFault.OutOfMemory))))) }
+    ensures ok { OnOk result (fault_of address bytes.now ≡ None) }
+    ensures err { IfErr result (λ e. (fault_of address bytes.now ≡ Some e) ⊎ ((fault_of address bytes.now ≡ None) × (e ≡ PagerFault.OutOfMemory))) }
     ensures listable { IfOk result (λ pages. All IsListable pages.items) }
 
     // *Damage repaired*: of a transmission that is legal for a round, with at most two wrong bits in

@@ -59,6 +59,7 @@ impl Pager {
     /// Hears the next word. Every seventeenth word, the first among them, is passed over as a
     /// synchronisation word, whatever it holds; any other is repaired. The page that this word ends
     /// is answered. After `OutOfMemory` and after `end` the pager answers `Failed`.
+    #[inline(always)]
     pub fn hear(&mut self, word: u32) -> Result<Option<Page>, PagerFault>
         ensures stands { (words : List ℕ) → Stands self.old words → OnOk result (Stands self.new (words ++ word ∷ [])) }
 
@@ -109,6 +110,7 @@ impl Pager {
         }
     }
 
+    #[inline(always)]
     // Whether a word at this place changes nothing: no page is open, and no codeword of the address
     // can stand there.
     fn passes_over(&self, place: u32) -> bool
