@@ -69,7 +69,7 @@ fn damaged(alloc: Global, wrong: u32, every: usize) -> Result<Vec<u32>, AllocErr
     requires wrong { wrong < 4 }
     requires every { 0 < every }
 {
-    let mut random = Random { state: 1 };
+    let mut random = Random::new();
     let mut numbers = Vec::with_capacity(alloc, COUNT)?;
     for i in 0..COUNT {
         let word = message_word(random.below(1 << 20));
@@ -84,12 +84,16 @@ fn damaged(alloc: Global, wrong: u32, every: usize) -> Result<Vec<u32>, AllocErr
 }
 
 #[derive(Drop)]
-struct Random {
+pub(crate) struct Random {
     state: u64,
 }
 
 impl Random {
-    fn below(&mut self, limit: u32) -> u32
+    pub(crate) fn new() -> Random {
+        Random { state: 1 }
+    }
+
+    pub(crate) fn below(&mut self, limit: u32) -> u32
         requires { 0 < limit }
         ensures { result < limit }
     {
@@ -99,7 +103,7 @@ impl Random {
     }
 
     // A number with so many ones.
-    fn error(&mut self, ones: u32) -> u32
+    pub(crate) fn error(&mut self, ones: u32) -> u32
         requires { ones < 4 }
     {
         let mut error = 0;

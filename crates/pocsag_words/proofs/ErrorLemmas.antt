@@ -1,10 +1,10 @@
 -- Errors of at most two bits are known by their syndromes.
-use Rattle.std.proofs.Common.{◌≡◌, ◌≢◌, ℕ, zero, suc, ◌+◌, ◌/◌, ◌%◌, ◌^◌, ◌<◌, ◌≤◌, Bool, true, eqb, ltb, leb, ◌&&◌, ◌||◌, List, [], ◌∷◌, length, slice_index, replicate, IsTrue, nat_eq, ◌↔◌, bit_xor, count_ones, subst, refl, sym, ap, ap₂, ◌∙◌, inl, inr, arith, lit<}
+use Rattle.std.proofs.Common.{◌≡◌, ◌≢◌, ℕ, zero, suc, ◌+◌, ◌/◌, ◌%◌, ◌^◌, ◌<◌, ◌≤◌, Bool, true, eqb, ltb, leb, ◌&&◌, ◌||◌, List, [], ◌∷◌, length, slice_index, replicate, IsTrue, nat_eq, ◌↔◌, ◌⊎◌, bit_xor, count_ones, subst, refl, sym, ap, ap₂, ◌∙◌, inl, inr, arith, lit<}
 use Rattle.std.specs.Int.Bits.{xor_self}
 use Rattle.std.proofs.lemmas.Nat.{xor_mod, xor_shr, xor_lt, xor_comm, ones_le_self}
 use Rattle.std.specs.Int.Count.{ones_step}
 use Rattle.std.proofs.Math.Nat.{pow-suc}
-use Rattle.std.proofs.lemmas.Bool.{and_parts, or_cases, eqb-true, eq-eqb, leb-true, ltb-true, cases_lt}
+use Rattle.std.proofs.lemmas.Bool.{and_parts, or_cases, eqb-true, eq-eqb, leb-true, ltb-true, cases_eq, cases_lt}
 use Rattle.pocsag_words.specs.Codeword.{IsCodeword, IsOnlyNear, HasNoneNear}
 use Rattle.pocsag_words.specs.Columns.{combine, columns, check_of, syndrome_of}
 use Rattle.pocsag_words.specs.declared.correction.TheConstants.{ERRORS}
@@ -123,6 +123,13 @@ IsOnlyNear-mended n e small at far =
       only = λ u also few.
           sym (xor_cancel u n) ∙ xor_comm (bit_xor u n) n ∙ ap (bit_xor n) (sym (found_near u n small also few) ∙ sym at);
     }
+
+pub numbers_are_repaired_lem : (n : ℕ) → n < 2 ^ 32 → HasNoneNear n ⊎ ((v : ℕ) × IsOnlyNear n v)
+numbers_are_repaired_lem n small =
+    elim (cases_eq (slice_index ERRORS (syndrome_of n)) 0xffffffff) [
+      | inl far ↦ inl (HasNoneNear-from_far n small far)
+      | inr near ↦ inr (bit_xor n (slice_index ERRORS (syndrome_of n)), IsOnlyNear-mended n _ small refl near)
+    ]
 
 -- ---- two different codewords differ in at least six bits
 

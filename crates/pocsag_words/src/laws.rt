@@ -1,6 +1,6 @@
 //! Laws of codewords: a call of one of them costs nothing, and gives a proof its clause.
-ghost use Rattle.std.specs.Prelude.{◌≡◌, ◌≢◌, ℕ, ◌≤◌, bit_xor, count_ones};
-ghost use Rattle.pocsag_words.specs.Codeword.{IsCodeword};
+ghost use Rattle.std.specs.Prelude.{◌≡◌, ◌≢◌, ◌⊎◌, ℕ, ◌^◌, ◌<◌, ◌≤◌, bit_xor, count_ones};
+ghost use Rattle.pocsag_words.specs.Codeword.{HasNoneNear, IsCodeword, IsOnlyNear};
 ghost use Rattle.pocsag_words.specs.Kinds.{kind_of};
 
 /// Codewords of one kind are one.
@@ -11,4 +11,9 @@ pub fn same_from_kind()
 /// Two different codewords differ in at least six of their bits.
 pub fn codewords_differ()
     ensures { (v w : ℕ) → IsCodeword v → IsCodeword w → v ≢ w → 6 ≤ count_ones (bit_xor v w) }
+{}
+
+/// Each number has a repair: just one codeword differs from it in at most two bits, or none does.
+pub fn numbers_are_repaired()
+    ensures { (n : ℕ) → n < 2 ^ 32 → HasNoneNear n ⊎ ((v : ℕ) × IsOnlyNear n v) }
 {}

@@ -1,0 +1,209 @@
+-- The receiver, one word at a time, against the list of places.
+use Rattle.std.proofs.Common.{◌≡◌, ◌≢◌, ℕ, ◌+◌, ◌/◌, ◌%◌, ◌<◌, Bool, true, false, not, ◌&&◌, cond, nat_eq, List, [], ◌∷◌, ◌++◌, length, refl, sym, ap, ◌∙◌, inl, inr, arith, add-zero, eq-eqb}
+use Rattle.std.specs.Prelude.{Option, Some, None, option_to_list}
+use Rattle.std.proofs.lemmas.Bool.{cases_eq}
+use Rattle.std.proofs.lemmas.List.{append-nil}
+use borrow.Author.Tests.{apart_eqb}
+use Rattle.pocsag_words.specs.declared.codeword.Kind.{Kind}
+use Rattle.pocsag_words.specs.declared.codeword.Kind.TheVariants.{Idle, Address, Message}
+use Rattle.pocsag_pages.specs.declared.page.Page.{Page}
+use Rattle.pocsag_pages.specs.Bytes.{unsynced}
+use Rattle.pocsag_pages.specs.Reading.{frame_at}
+use Rattle.pocsag_pager.specs.Shown.{is_ours, page_of, run_of, shown_from}
+use Rattle.pocsag_pager.specs.Standing.{ended_from, is_run, open_from}
+use Rattle.pocsag_pager.specs.Turns.{ending, longer, next_open}
+
+-- ---- a run of message codewords has no page of its own
+
+run_shown : (a i : ℕ) (ms : List (Option Kind)) → is_run ms ≡ true → shown_from a i ms ≡ []
+run_shown a i [] e = refl
+run_shown a i (None ∷ ms) e = absurd (cc)
+run_shown a i (Some Idle ∷ ms) e = absurd (cc)
+run_shown a i (Some (Address high function) ∷ ms) e = absurd (cc)
+run_shown a i (Some (Message bits) ∷ ms) e = run_shown a (i + 1) ms e
+
+run_ended : (a i : ℕ) (ms : List (Option Kind)) → is_run ms ≡ true → ended_from a i ms ≡ []
+run_ended a i [] e = refl
+run_ended a i (None ∷ ms) e = absurd (cc)
+run_ended a i (Some Idle ∷ ms) e = absurd (cc)
+run_ended a i (Some (Address high function) ∷ ms) e = absurd (cc)
+run_ended a i (Some (Message bits) ∷ ms) e = run_ended a (i + 1) ms e
+
+-- ---- what is shown is what has ended and what is still open
+
+shown_case : (p : Page) (S E : List Page) (O : Option Page) (ours run : Bool) → S ≡ E ++ option_to_list O
+    → (run ≡ true → S ≡ []) → (run ≡ true → E ≡ [])
+    → cond ours (p ∷ S) S ≡ cond (ours && not run) (p ∷ E) E ++ option_to_list (cond (ours && run) (Some p) O)
+shown_case p S E O false run e s h = e
+shown_case p S E O true false e s h = ap (λ xs. p ∷ xs) e
+shown_case p S E O true true e s h = rw (s refl, h refl) refl
+
+pub shown_is : (a i : ℕ) (ms : List (Option Kind)) → shown_from a i ms ≡ ended_from a i ms ++ option_to_list (open_from a i ms)
+shown_is a i [] = refl
+shown_is a i (None ∷ ms) = shown_is a (i + 1) ms
+shown_is a i (Some Idle ∷ ms) = shown_is a (i + 1) ms
+shown_is a i (Some (Address high function) ∷ ms) =
+    shown_case (page_of a function ms) (shown_from a (i + 1) ms) (ended_from a (i + 1) ms) (open_from a (i + 1) ms) (is_ours a i high) (is_run ms)
+    (shown_is a (i + 1) ms) (run_shown a (i + 1) ms) (run_ended a (i + 1) ms)
+shown_is a i (Some (Message bits) ∷ ms) = shown_is a (i + 1) ms
+
+-- ---- one more word
+
+run_more : (ms : List (Option Kind)) (m : Option Kind) → is_run (ms ++ m ∷ []) ≡ (is_run ms && is_run (m ∷ []))
+run_more [] m = refl
+run_more (None ∷ ms) m = refl
+run_more (Some Idle ∷ ms) m = refl
+run_more (Some (Address high function) ∷ ms) m = refl
+run_more (Some (Message bits) ∷ ms) m = run_more ms m
+
+-- a word after a run of message codewords lengthens it, if it is one
+run_grows : (ms : List (Option Kind)) (m : Option Kind) → is_run ms ≡ true → run_of (ms ++ m ∷ []) ≡ run_of ms ++ run_of (m ∷ [])
+run_grows [] m e = refl
+run_grows (None ∷ ms) m e = absurd (cc)
+run_grows (Some Idle ∷ ms) m e = absurd (cc)
+run_grows (Some (Address high function) ∷ ms) m e = absurd (cc)
+run_grows (Some (Message bits) ∷ ms) m e = ap (λ xs. bits ∷ xs) (run_grows ms m e)
+
+-- where a run ends, the bits are those before that word
+run_stops : (ms : List (Option Kind)) (m : Option Kind) → is_run (ms ++ m ∷ []) ≡ false → run_of (ms ++ m ∷ []) ≡ run_of ms
+run_stops [] None e = refl
+run_stops [] (Some Idle) e = refl
+run_stops [] (Some (Address high function)) e = refl
+run_stops [] (Some (Message bits)) e = absurd (cc)
+run_stops (None ∷ ms) m e = refl
+run_stops (Some Idle ∷ ms) m e = refl
+run_stops (Some (Address high function) ∷ ms) m e = refl
+run_stops (Some (Message bits) ∷ ms) m e = ap (λ xs. bits ∷ xs) (run_stops ms m e)
+
+with_run : (a function : ℕ) (ms ns : List (Option Kind)) → run_of ms ≡ run_of ns → page_of a function ms ≡ page_of a function ns
+with_run a function ms ns e = ap (λ (xs : List ℕ). (record { address = a; function = function; payload = xs })) e
+
+ended_case : (p q : Page) (E F : List Page) (O : Option Page) (m : Option Kind) (ours run more : Bool) → F ≡ E ++ option_to_list (ending O m)
+    → more ≡ (run && is_run (m ∷ [])) → (more ≡ false → q ≡ p) → (run ≡ true → E ≡ []) → (run ≡ true → O ≡ None)
+    → cond (ours && not more) (q ∷ F) F ≡ cond (ours && not run) (p ∷ E) E ++ option_to_list (ending (cond (ours && run) (Some p) O) m)
+ended_case p q E F O m false run more e r s h o = e
+ended_case p q E F O m true false more e r s h o = rw (r, s r, e) refl
+ended_case p q E F O None true true more e r s h o = rw (r, s r, e, h refl, o refl) refl
+ended_case p q E F O (Some Idle) true true more e r s h o = rw (r, s r, e, h refl, o refl) refl
+ended_case p q E F O (Some (Address high function)) true true more e r s h o = rw (r, s r, e, h refl, o refl) refl
+ended_case p q E F O (Some (Message bits)) true true more e r s h o = rw (r, e, h refl) refl
+
+run_open : (a i : ℕ) (ms : List (Option Kind)) → is_run ms ≡ true → open_from a i ms ≡ None
+run_open a i [] e = refl
+run_open a i (None ∷ ms) e = absurd (cc)
+run_open a i (Some Idle ∷ ms) e = absurd (cc)
+run_open a i (Some (Address high function) ∷ ms) e = absurd (cc)
+run_open a i (Some (Message bits) ∷ ms) e = run_open a (i + 1) ms e
+
+no_end : (b : Bool) (p : Page) → cond (b && false) (p ∷ []) [] ≡ []
+no_end true p = refl
+no_end false p = refl
+
+pub ended_more : (a i : ℕ) (ms : List (Option Kind)) (m : Option Kind)
+    → ended_from a i (ms ++ m ∷ []) ≡ ended_from a i ms ++ option_to_list (ending (open_from a i ms) m)
+ended_more a i [] None = refl
+ended_more a i [] (Some Idle) = refl
+ended_more a i [] (Some (Address high function)) = no_end (is_ours a i high) (page_of a function [])
+ended_more a i [] (Some (Message bits)) = refl
+ended_more a i (None ∷ ms) m = ended_more a (i + 1) ms m
+ended_more a i (Some Idle ∷ ms) m = ended_more a (i + 1) ms m
+ended_more a i (Some (Address high function) ∷ ms) m =
+    ended_case (page_of a function ms) (page_of a function (ms ++ m ∷ [])) (ended_from a (i + 1) ms) (ended_from a (i + 1) (ms ++ m ∷ []))
+    (open_from a (i + 1) ms) m (is_ours a i high) (is_run ms) (is_run (ms ++ m ∷ [])) (ended_more a (i + 1) ms m) (run_more ms m)
+    (λ e. with_run a function (ms ++ m ∷ []) ms (run_stops ms m e)) (run_ended a (i + 1) ms) (run_open a (i + 1) ms)
+ended_more a i (Some (Message bits) ∷ ms) m = ended_more a (i + 1) ms m
+
+open_case : (a j : ℕ) (p q : Page) (O N : Option Page) (m : Option Kind) (ours run more : Bool) → N ≡ next_open a j O m
+    → more ≡ (run && is_run (m ∷ [])) → (run ≡ true → q ≡ record p { payload = p.payload ++ run_of (m ∷ []) })
+    → cond (ours && more) (Some q) N ≡ next_open a j (cond (ours && run) (Some p) O) m
+open_case a j p q O N m false run more e r s = e
+open_case a j p q O N m true false more e r s = rw r e
+open_case a j p q O N None true true more e r s = rw r e
+open_case a j p q O N (Some Idle) true true more e r s = rw r e
+open_case a j p q O N (Some (Address high function)) true true more e r s = rw r e
+open_case a j p q O N (Some (Message bits)) true true more e r s = rw r (ap Some (s refl))
+
+and_true : (b : Bool) (x y : Option Page) → cond (b && true) x y ≡ cond b x y
+and_true true x y = refl
+and_true false x y = refl
+
+pub open_more : (a i j : ℕ) (ms : List (Option Kind)) (m : Option Kind) → j ≡ i + length ms
+    → open_from a i (ms ++ m ∷ []) ≡ next_open a j (open_from a i ms) m
+open_more a i j [] None e = refl
+open_more a i j [] (Some Idle) e = refl
+open_more a i j [] (Some (Address high function)) e =
+    let same : i ≡ j = omega arith in
+    rw same (and_true (is_ours a j high) (Some (page_of a function [])) None)
+open_more a i j [] (Some (Message bits)) e = refl
+open_more a i j (None ∷ ms) m e = open_more a (i + 1) j ms m (omega arith)
+open_more a i j (Some Idle ∷ ms) m e = open_more a (i + 1) j ms m (omega arith)
+open_more a i j (Some (Address high function) ∷ ms) m e =
+    open_case a j (page_of a function ms) (page_of a function (ms ++ m ∷ [])) (open_from a (i + 1) ms) (open_from a (i + 1) (ms ++ m ∷ []))
+    m (is_ours a i high) (is_run ms) (is_run (ms ++ m ∷ [])) (open_more a (i + 1) j ms m (omega arith)) (run_more ms m)
+    (λ t. ap (λ (xs : List ℕ). (record { address = a; function = function; payload = xs })) (run_grows ms m t))
+open_more a i j (Some (Message bits) ∷ ms) m e = open_more a (i + 1) j ms m (omega arith)
+
+-- ---- a word counts by its slot
+
+is_ours_same : (a j k high : ℕ) → j % 16 ≡ k % 16 → is_ours a j high ≡ is_ours a k high
+unfolding is_ours
+is_ours_same a j k high e = ap (λ (n : ℕ). nat_eq (n / 2) (a % 8) && nat_eq high (a / 8)) e
+
+pub next_open_same : (a j k : ℕ) (before : Option Page) (m : Option Kind) → j % 16 ≡ k % 16 → next_open a j before m ≡ next_open a k before m
+next_open_same a j k before None e = refl
+next_open_same a j k before (Some Idle) e = refl
+next_open_same a j k before (Some (Address high function)) e = ap (λ b. cond b (Some (page_of a function [])) None) (is_ours_same a j k high e)
+next_open_same a j k before (Some (Message bits)) e = refl
+
+-- ---- a word in another frame
+
+is_ours_elsewhere : (a j high : ℕ) → frame_at j ≢ a % 8 → is_ours a j high ≡ false
+unfolding is_ours
+is_ours_elsewhere a j high n = rw (apart_eqb _ _ n) refl
+
+pub next_open_elsewhere : (a j : ℕ) (m : Option Kind) → frame_at j ≢ a % 8 → next_open a j None m ≡ None
+next_open_elsewhere a j None n = refl
+next_open_elsewhere a j (Some Idle) n = refl
+next_open_elsewhere a j (Some (Address high function)) n = rw (is_ours_elsewhere a j high n) refl
+next_open_elsewhere a j (Some (Message bits)) n = refl
+
+pub ending_none : (m : Option Kind) → ending None m ≡ None
+ending_none None = refl
+ending_none (Some Idle) = refl
+ending_none (Some (Address high function)) = refl
+ending_none (Some (Message bits)) = refl
+
+-- ---- the words that are not at the place of a synchronisation codeword
+
+unsynced_case : (b : Bool) (x : ℕ) (F U T : List ℕ) → F ≡ U ++ T → cond b F (x ∷ F) ≡ cond b U (x ∷ U) ++ T
+unsynced_case true x F U T e = e
+unsynced_case false x F U T e = ap (λ xs. x ∷ xs) e
+
+-- the last word, unless it is at the place of a synchronisation codeword
+pub last_word : ℕ → ℕ → List ℕ
+last_word j w = cond (nat_eq (j % 17) 0) [] (w ∷ [])
+
+pub unsynced_more : (j : ℕ) (ws : List ℕ) (w : ℕ) → unsynced j (ws ++ w ∷ []) ≡ unsynced j ws ++ last_word (j + length ws) w
+unfolding last_word
+unsynced_more j [] w = rw add-zero refl
+unsynced_more j (x ∷ ws) w =
+    let here : j + 1 + length ws ≡ j + length (x ∷ ws) = omega arith in
+    unsynced_case (nat_eq (j % 17) 0) x (unsynced (j + 1) (ws ++ w ∷ [])) (unsynced (j + 1) ws) (last_word (j + length (x ∷ ws)) w)
+    (unsynced_more (j + 1) ws w ∙ ap (λ (n : ℕ). unsynced (j + 1) ws ++ last_word n w) here)
+
+pub last_synced : (j w : ℕ) → j % 17 ≡ 0 → last_word j w ≡ []
+unfolding last_word
+last_synced j w e = rw (eq-eqb _ _ e) refl
+
+pub last_unsynced : (j w : ℕ) → j % 17 ≢ 0 → last_word j w ≡ w ∷ []
+unfolding last_word
+last_unsynced j w n = rw (apart_eqb _ _ n) refl
+
+pub unsynced_long : (j : ℕ) (ws : List ℕ) → length (unsynced j ws) + (j + length ws + 16) / 17 ≡ length ws + (j + 16) / 17
+unsynced_long j [] = omega arith
+unsynced_long j (x ∷ ws) =
+    let more = unsynced_long (j + 1) ws in
+    elim (cases_eq (j % 17) 0) [
+      | inl e ↦ rw (eq-eqb _ _ e) (omega arith)
+      | inr n ↦ rw (apart_eqb _ _ n) (omega arith)
+    ]

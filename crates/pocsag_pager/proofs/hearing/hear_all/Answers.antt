@@ -1,0 +1,19 @@
+use Rattle.std.proofs.Common.{refl, sym, ap}
+use Rattle.pocsag_pages.specs.Bytes.{words_of}
+use Rattle.pocsag_pager.proofs.WholeWords.{by_result, if_ok_then, not_both, shown_at}
+use Rattle.pocsag_pager.proofs.hearing.hear_all.Goals as goal
+
+pub returns-in_err-batches-clause-repaired : goal.returns-in_err-batches-clause-repaired
+returns-in_err-batches-clause-repaired c = λ end T batches R round legal damaged fine.
+    let none = c.damage_is_repaired.ensures.whole end T batches R c.args.bytes.now legal damaged in
+    let fault = c.in_err-batches.ensures.err in
+    absurd (not_both _ _ none fault)
+
+pub returns-clause-repaired : goal.returns-clause-repaired
+returns-clause-repaired c = λ end T batches R round legal damaged fine.
+    by_result c.hear_words.result _ _
+    (if_ok_then c.hear_words.result _ _
+      (λ pages shown. c.damage_is_repaired.ensures.shown end T batches R c.args.bytes.now c.args.address pages.items round legal damaged
+        (shown_at _ _ _ _ _ _ (ap words_of (sym c.in_ok-batches.ensures.ok)) (sym c.in_ok-pager.ensures.address) refl shown))
+      c.hear_words.ensures.shown)
+    c.hear_words.ensures.err

@@ -1,0 +1,52 @@
+-- Where a pager stands after words, which it does not store (this project's own).
+use Rattle.std.specs.Prelude.{◌≡◌, ℕ, ◌+◌, ◌%◌, ◌&&◌, not, if◌then◌else◌, List, [], ◌∷◌, length, Bool, true, false, Option, Some, None}
+use Rattle.pocsag_words.specs.declared.codeword.Kind.{Kind}
+use Rattle.pocsag_words.specs.declared.codeword.Kind.TheVariants.{Idle, Address, Message}
+use Rattle.pocsag_pages.specs.declared.page.Page.{Page}
+use Rattle.pocsag_pager.specs.declared.pager.Pager.{Pager}
+use Rattle.pocsag_pager.specs.declared.pager.State.TheVariants.{Listening, Failed}
+use Rattle.pocsag_pager.specs.Shown.{Heard, is_ours, page_of}
+
+-- Whether all of these are message codewords, so that a page before them is still open.
+abbrev pub is_run : List (Option Kind) → Bool
+is_run [] = true
+is_run (None ∷ ms) = false
+is_run (Some Idle ∷ ms) = false
+is_run (Some (Address high function) ∷ ms) = false
+is_run (Some (Message bits) ∷ ms) = is_run ms
+
+-- The pages of *Shown* whose run of message codewords has ended.
+abbrev pub ended_from : ℕ → ℕ → List (Option Kind) → List Page
+ended_from a i [] = []
+ended_from a i (None ∷ ms) = ended_from a (i + 1) ms
+ended_from a i (Some Idle ∷ ms) = ended_from a (i + 1) ms
+ended_from a i (Some (Address high function) ∷ ms) =
+    if is_ours a i high && not (is_run ms) then page_of a function ms ∷ ended_from a (i + 1) ms else ended_from a (i + 1) ms
+ended_from a i (Some (Message bits) ∷ ms) = ended_from a (i + 1) ms
+
+-- The page of *Shown* that is still open, if there is one.
+abbrev pub open_from : ℕ → ℕ → List (Option Kind) → Option Page
+open_from a i [] = None
+open_from a i (None ∷ ms) = open_from a (i + 1) ms
+open_from a i (Some Idle ∷ ms) = open_from a (i + 1) ms
+open_from a i (Some (Address high function) ∷ ms) =
+    if is_ours a i high && is_run ms then Some (page_of a function ms) else open_from a (i + 1) ms
+open_from a i (Some (Message bits) ∷ ms) = open_from a (i + 1) ms
+
+-- These are the pages of *Shown* that have ended within the words.
+abbrev pub HaveEnded : List ℕ → ℕ → List Page → Type 0
+HaveEnded words a ps = Heard words (λ ms. ps ≡ ended_from a 0 ms)
+
+-- The address of a pager.
+abbrev pub address_of : Pager → ℕ
+address_of p = p.address
+
+-- The pager answers `Failed` to every call.
+abbrev pub IsOver : Pager → Type 0
+IsOver p = p.state ≡ Failed
+
+-- *Standing*: the pager has heard these words. Of them it holds their number modulo 17 and the page
+-- that is still open.
+pub record Stands (p : Pager) (words : List ℕ) : Type 0 where
+  pub place : p.place ≡ length words % 17
+  pub open_page : Heard words (λ ms. p.state ≡ Listening (open_from p.address 0 ms))

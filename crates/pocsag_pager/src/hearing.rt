@@ -1,0 +1,115 @@
+ghost use Rattle.std.specs.Prelude.{◌≡◌, ◌≤◌, ◌⊎◌, ◌==◌, ℕ, List, [], ◌++◌, length, filter, All, None, IfOk, IfErr, OnOk, MatchResult, option_to_list};
+ghost use Rattle.pocsag_words.specs.declared.ending.End.{End};
+ghost use Rattle.pocsag_pages.specs.declared.page.Page.{Page};
+ghost use Rattle.pocsag_pages.specs.Bytes.{after_preamble, bytes_of, leading, words_of};
+ghost use Rattle.pocsag_pages.specs.Pages.{IsRound};
+ghost use Rattle.pocsag_pages.specs.Reading.{IsLegalList};
+ghost use Rattle.pocsag_pager.specs.Damage.{IsDamaged};
+ghost use Rattle.pocsag_pager.specs.Faults.{address_fault, bytes_fault, fault_of};
+ghost use Rattle.pocsag_pager.specs.Listable.{IsListable};
+ghost use Rattle.pocsag_pager.specs.Shown.{IsShown};
+ghost use Rattle.pocsag_pager.specs.Standing.{HaveEnded, Stands, address_of};
+
+use crate::fault::PagerFault;
+use crate::laws::{damage_is_repaired, shown_pages_are_one_list};
+use crate::pager::Pager;
+use pocsag_pages::Page;
+use std::alloc::Global;
+
+// How many bytes AA stand first.
+fn leading_count(bytes: &[u8]) -> usize
+    ensures value { result ≡ leading bytes.now }
+    ensures within { result ≤ length bytes.now }
+{
+    for (i, byte) in bytes.iter().enumerate() {
+        if *byte != 0xaa {
+            return i;
+        }
+    }
+    bytes.len()
+}
+
+// The bytes after the leading bytes AA, of which there are so many.
+fn after_leading(bytes: &[u8], count: usize) -> &[u8]
+    requires count { count ≡ leading bytes.now }
+    requires within { count ≤ length bytes.now }
+    ensures { result.now ≡ after_preamble bytes.now }
+{
+    &bytes[count..]
+}
+
+// The bytes after the preamble, which must be whole batches, at least one.
+#[tactic(auto, unfolding(crate::specs::Faults::bytes_fault))]
+fn batches_of(bytes: &[u8]) -> Result<&[u8], PagerFault>
+    ensures ok { IfOk result (λ rest. rest.now ≡ after_preamble bytes.now) }
+    ensures whole { OnOk result (bytes_fault bytes.now ≡ None) }
+    ensures err { IfErr result (λ e. bytes_fault bytes.now ≡ Some e) }
+{
+    let count = leading_count(bytes);
+    let rest = after_leading(bytes, count);
+    if count < 72 {
+        return Err(PagerFault::ShortPreamble);
+    }
+    if rest.is_empty() {
+        return Err(PagerFault::NoBatch);
+    }
+    if rest.len() % 68 != 0 {
+        return Err(PagerFault::Truncated);
+    }
+    Ok(rest)
+}
+
+// Keeps the page, if there is one.
+#[inline(always)]
+fn keep(pages: &mut Vec<Page>, page: Option<Page>) -> Result<(), PagerFault>
+    ensures ok { OnOk result (pages.new.items ≡ pages.old.items ++ option_to_list page) }
+    ensures err { IfErr result (λ e. e ≡ PagerFault.OutOfMemory) }
+{
+    let Some(page) = page else {
+        return Ok(());
+    };
+    match pages.push(page) {
+        Ok(_) => Ok(()),
+        Err(_) => Err(PagerFault::OutOfMemory),
+    }
+}
+
+// What a pager that has heard nothing shows of the words of these bytes.
+fn hear_words(alloc: Global, mut pager: Pager, bytes: &[u8]) -> Result<Vec<Page>, PagerFault>
+    requires { Stands pager [] }
+    ensures shown { IfOk result (λ pages. IsShown (words_of bytes.now) (address_of pager) pages.items) }
+    ensures err { IfErr result (λ e. e ≡ PagerFault.OutOfMemory) }
+{
+    let mut pages = Vec::new(alloc);
+    let (words, _) = bytes.as_chunks::<4>();
+    for word in words {
+        let ended = pager.hear(u32::from_be_bytes(*word))?;
+        keep(&mut pages, ended)?;
+    }
+    let last = pager.end()?;
+    keep(&mut pages, last)?;
+    Ok(pages)
+}
+
+/// The pages that a pager of the address shows of a transmission, in order. Faults, judged in this
+/// order before any word is heard: `BadAddress`, `ReservedAddress`, `ShortPreamble` (fewer than 72
+/// bytes AA stand first), `NoBatch` (nothing follows them), `Truncated` (what follows them is not
+/// whole batches of 68 bytes); then `OutOfMemory`.
+pub fn hear_all(alloc: Global, bytes: &[u8], address: u32) -> Result<Vec<Page>, PagerFault>
+    ensures shown { IfOk result (λ pages. IsShown (words_of (after_preamble bytes.now)) address pages.items) }
+    ensures ok { OnOk result (fault_of address bytes.now ≡ None) }
+    ensures err { IfErr result (λ e. (fault_of address bytes.now ≡ Some e) ⊎ ((fault_of address bytes.now ≡ None) × (e ≡ PagerFault.OutOfMemory))) }
+    ensures listable { IfOk result (λ pages. All IsListable pages.items) }
+
+    // *Damage repaired*: of a transmission that is legal for a round, with at most two wrong bits in
+    // each word, the pager shows just the round's page for the address, or nothing.
+    ensures repaired { (end : End) (T : List ℕ) (batches : ℕ) (R : List Page) →
+        IsRound R → IsLegalList end T batches R → IsDamaged (bytes_of T) bytes.now → address_fault address ≡ None →
+        MatchResult result (λ pages. pages.items ≡ filter (λ p. p.address == address) R) (λ e. e ≡ PagerFault.OutOfMemory) }
+{
+    damage_is_repaired();
+    shown_pages_are_one_list();
+    let pager = Pager::new(alloc, address)?;
+    let batches = batches_of(bytes)?;
+    hear_words(alloc, pager, batches)
+}

@@ -1,0 +1,18 @@
+#![tactic(auto)]
+//! A simulated pager: what the receiver of one address shows of a transmission, up to two wrong
+//! bits of each codeword repaired.
+
+mod address;
+mod fault;
+mod hearing;
+mod laws;
+mod pager;
+mod turn;
+
+pub use fault::PagerFault;
+pub use hearing::hear_all;
+pub use laws::{damage_is_repaired, shown_pages_are_one_list};
+pub use pager::Pager;
+
+#[cfg(test)]
+mod tests;

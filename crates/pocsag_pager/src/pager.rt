@@ -1,0 +1,126 @@
+ghost use Rattle.std.specs.Prelude.{◌<◌};
+
+use crate::address::fault_of_address;
+use crate::fault::PagerFault;
+use crate::turn::{Change, change_at, heard_as};
+use pocsag_pages::Page;
+use pocsag_words::numbers_are_repaired;
+use std::alloc::Global;
+use std::mem;
+
+// Where a pager is.
+#[derive(Drop)]
+pub(crate) enum State {
+    // It hears, and this page is open.
+    Listening(Option<Page>),
+    // It has run out of memory or has been ended.
+    Failed,
+}
+
+/// A pager of one address. It is given all words after a preamble in order, synchronisation words
+/// included, and answers each page of its address at the word that ends it.
+#[derive(Drop)]
+pub struct Pager {
+    alloc: Global,
+    address: u32,
+    // The number of words so far, modulo 17: the place of the next one within its batch.
+    place: u32,
+    state: State,
+    ghost turns: { place < 17 },
+}
+
+impl Pager {
+    ghost use Rattle.std.specs.Prelude.{◌≡◌, ◌≢◌, ◌⊎◌, ℕ, ◌+◌, ◌-◌, ◌/◌, ◌%◌, List, [], ◌∷◌, ◌++◌, None, IfOk, IfErr, OnOk, OnErr, IsOk, option_to_list};
+    ghost use Rattle.std.specs.Bool.{OnTrue};
+    ghost use Rattle.pocsag_pages.specs.declared.page.Page.{Page};
+    ghost use Rattle.pocsag_pager.specs.Faults.{address_fault};
+    ghost use Rattle.pocsag_pager.specs.Shown.{IsShown};
+    ghost use Rattle.pocsag_pager.specs.Standing.{HaveEnded, IsOver, Stands, address_of};
+
+    /// A pager that has heard nothing yet, which takes no memory. It refuses an address above
+    /// 2,097,151 (`BadAddress`) and then a reserved one (`ReservedAddress`).
+    pub fn new(alloc: Global, address: u32) -> Result<Pager, PagerFault>
+        ensures stands { IfOk result (λ p. Stands p []) }
+        ensures address { IfOk result (λ p. address_of p ≡ address) }
+        ensures ok { OnOk result (address_fault address ≡ None) }
+        ensures err { IfErr result (λ e. address_fault address ≡ Some e) }
+    {
+        if let Some(fault) = fault_of_address(address) {
+            return Err(fault);
+        }
+        Ok(Pager {
+            alloc,
+            address,
+            place: 0,
+            state: State::Listening(None),
+        })
+    }
+
+    /// Hears the next word. Every seventeenth word, the first among them, is passed over as a
+    /// synchronisation word, whatever it holds; any other is repaired. The page that this word ends
+    /// is answered. After `OutOfMemory` and after `end` the pager answers `Failed`.
+    #[inline(always)]
+    pub fn hear(&mut self, word: u32) -> Result<Option<Page>, PagerFault>
+        ensures stands { (words : List ℕ) → Stands self.old words → OnOk result (Stands self.new (words ++ word ∷ [])) }
+
+        // Where these are the pages of *Shown* that had ended, with the answer they are those that
+        // have ended now.
+        ensures ended { (words : List ℕ) (ps : List Page) → Stands self.old words → HaveEnded words (address_of self.old) ps →
+            IfOk result (λ page. HaveEnded (words ++ word ∷ []) (address_of self.old) (ps ++ option_to_list page)) }
+        ensures address { address_of self.new ≡ address_of self.old }
+        ensures failed { IsOver self.old → result ≡ Err PagerFault.Failed }
+        ensures memory { IfErr result (λ e. (e ≡ PagerFault.OutOfMemory) ⊎ IsOver self.old) }
+        ensures over { OnErr result (IsOver self.new) }
+    {
+        let place = self.place;
+        self.place = (place + 1) % 17;
+        if self.passes_over(place) {
+            numbers_are_repaired();
+            return Ok(None);
+        }
+        let State::Listening(kept) = mem::replace(&mut self.state, State::Failed) else {
+            return Err(PagerFault::Failed);
+        };
+        if place == 0 {
+            self.state = State::Listening(kept);
+            return Ok(None);
+        }
+        let heard = heard_as(word);
+        let Ok(change) = change_at(self.alloc, self.address, place - 1, kept, heard) else {
+            return Err(PagerFault::OutOfMemory);
+        };
+        let Change { kept, ended } = change;
+        self.state = State::Listening(kept);
+        Ok(ended)
+    }
+
+    /// The page that is still open, which takes no memory. From then on the pager answers `Failed`.
+    pub fn end(&mut self) -> Result<Option<Page>, PagerFault>
+        ensures shown { (words : List ℕ) (ps : List Page) → Stands self.old words → HaveEnded words (address_of self.old) ps →
+            IfOk result (λ page. IsShown words (address_of self.old) (ps ++ option_to_list page)) }
+        ensures ok { (words : List ℕ) → Stands self.old words → IsOk result }
+        ensures failed { IsOver self.old → result ≡ Err PagerFault.Failed }
+        ensures err { IfErr result (λ e. (e ≡ PagerFault.Failed) × IsOver self.old) }
+        ensures over { IsOver self.new }
+        ensures address { address_of self.new ≡ address_of self.old }
+    {
+        match mem::replace(&mut self.state, State::Failed) {
+            State::Listening(kept) => Ok(kept),
+            State::Failed => Err(PagerFault::Failed),
+        }
+    }
+
+    #[inline(always)]
+    // Whether a word at this place changes nothing: no page is open, and no codeword of the address
+    // can stand there.
+    fn passes_over(&self, place: u32) -> bool
+        requires { place < 17 }
+        ensures { OnTrue result ((self.now.state ≡ State.Listening None) × ((place ≡ 0) ⊎ ((place - 1) / 2 ≢ self.now.address % 8))) }
+    {
+        if let State::Listening(None) = self.state {
+            place == 0 || (place - 1) / 2 != self.address % 8
+        } else {
+            false
+        }
+    }
+}

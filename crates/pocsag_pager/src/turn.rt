@@ -1,0 +1,96 @@
+ghost use Rattle.std.specs.Prelude.{◌≡◌, ◌∷◌, [], ◌++◌, ◌<◌, IfOk};
+ghost use Rattle.pocsag_pager.specs.Shown.{is_ours};
+ghost use Rattle.pocsag_pager.specs.Turns.{IsHeardAs, ending, next_open};
+
+use pocsag_pages::{Page, Payload};
+use pocsag_words::{Kind, OutOfMemory, repair};
+use std::alloc::Global;
+
+// What the word says once it is mended; `None` where no codeword is within two bits.
+pub(crate) fn heard_as(word: u32) -> Option<Kind>
+    ensures { IsHeardAs word result }
+{
+    match repair(word) {
+        Some(mended) => Some(mended.kind()),
+        None => None,
+    }
+}
+
+// Whether an address codeword in a slot, with these high bits, is that of the address.
+#[tactic(auto, unfolding(crate::specs::Shown::is_ours))]
+fn is_called(address: u32, slot: u32, high: u32) -> bool
+    requires { slot < 16 }
+    ensures { result ≡ is_ours address slot high }
+{
+    slot / 2 == address % 8 && high == address / 8
+}
+
+// The page with the bits of one more message codeword.
+fn extended(page: Page, bits: u32) -> Result<Page, OutOfMemory>
+    ensures { IfOk result (λ p. p ≡ record page { payload = page.payload ++ bits ∷ [] }) }
+{
+    let Page {
+        address,
+        function,
+        payload,
+    } = page;
+    let mut items = payload.into_vec();
+    let Ok(_) = items.push(bits) else {
+        return Err(OutOfMemory);
+    };
+    Ok(Page {
+        address,
+        function,
+        payload: Payload::from_vec(items),
+    })
+}
+
+// The page that is open after a word, and the page that ends at it.
+pub(crate) struct Change {
+    pub(crate) kept: Option<Page>,
+    pub(crate) ended: Option<Page>,
+}
+
+// What a word in a slot changes for a pager with this open page.
+pub(crate) fn change_at(
+    alloc: Global,
+    address: u32,
+    slot: u32,
+    kept: Option<Page>,
+    heard: Option<Kind>,
+) -> Result<Change, OutOfMemory>
+    requires { slot < 16 }
+    ensures kept { IfOk result (λ c. c.kept ≡ next_open address slot kept heard) }
+    ensures ended { IfOk result (λ c. c.ended ≡ ending kept heard) }
+{
+    let ended = kept;
+    match heard {
+        Some(Kind::Message(bits)) => match ended {
+            Some(page) => Ok(Change {
+                kept: Some(extended(page, bits)?),
+                ended: None,
+            }),
+            None => Ok(Change {
+                kept: None,
+                ended: None,
+            }),
+        },
+        Some(Kind::Address { high, function }) => {
+            if is_called(address, slot, high) {
+                let page = Page {
+                    address,
+                    function,
+                    payload: Payload::empty(alloc),
+                };
+                Ok(Change {
+                    kept: Some(page),
+                    ended,
+                })
+            } else {
+                Ok(Change { kept: None, ended })
+            }
+        }
+        Some(Kind::Idle) => Ok(Change { kept: None, ended }),
+        None => Ok(Change { kept: None, ended }),
+    }
+}
