@@ -10,6 +10,8 @@ mod growing;
 mod laws;
 mod listing;
 mod state;
+#[cfg(test)]
+mod tests;
 mod whole;
 
 pub use fault::{DecodeFault, ListFault};
