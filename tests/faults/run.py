@@ -202,6 +202,11 @@ LOOPS_APART = b"address,kind,message\n0,numeric," + b"1" * 75 + b"\n3,numeric," 
 CERTIFICATE = bytes.fromhex("5043423200000000030200013000020000010080 00".replace(" ", ""))
 
 
+# One page across two batches.
+IDLES = "7A89C197" * 15
+ACROSS = b"\xaa" * 72 + bytes.fromhex(f"7CD215D8{IDLES}00000000" + f"7CD215D8C261572C{IDLES}")
+
+
 def main():
     tally = Tally()
     with tempfile.TemporaryDirectory() as name:
@@ -212,6 +217,9 @@ def main():
         try_plan(tally, library, folder)
         files = {"pages.csv": LOOPS_APART, "cert.bin": CERTIFICATE}
         try_printing(tally, library, "check", ["check", "pages.csv", "cert.bin"], files, folder)
+        files = {"tx.bin": ACROSS}
+        try_printing(tally, library, "decode", ["decode", "tx.bin"], files, folder)
+        try_printing(tally, library, "hear", ["hear", "7", "tx.bin"], files, folder)
     print(f"{tally.passed} passed, {tally.failed} failed")
     return 0 if tally.failed == 0 else 1
 

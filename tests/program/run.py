@@ -223,11 +223,89 @@ def try_check(tally, folder):
     tally.check("check too many nodes", done.returncode == 1 and done.stderr == told, done)
 
 
+LISTING = b"address,kind,message\n"
+
+
+def flipped(words, *bits):
+    """The transmission's bytes with these bits of each word after the preamble changed."""
+    mask = sum(1 << bit for bit in bits)
+    body = b"".join((int.from_bytes(words[k : k + 4], "big") ^ mask).to_bytes(4, "big") for k in range(72, len(words), 4))
+    return words[:72] + body
+
+
+LONE_TONE = transmission(["000026EC"] + 15 * [IDLE])
+ACROSS = transmission(15 * [IDLE] + ["00000000"], ["C261572C"] + 15 * [IDLE])
+FIVE_DIGITS = transmission(["00000000", "C261572C"] + 14 * [IDLE])
+WRONG_IDLE = transmission(["000026EC", "7A89C194"] + 14 * [IDLE])
+WRONG_SYNC = LONE_TONE[:72] + bytes.fromhex("7CD215D9") + LONE_TONE[76:]
+DECODES = [
+    ("lone-tone", LONE_TONE, LISTING + b"8,tone0,\n", b"", 0),
+    ("longer preamble", b"\xaa" * 30 + LONE_TONE, LISTING + b"8,tone0,\n", b"", 0),
+    ("page-across-batches", ACROSS, LISTING + b"7,numeric,12345\n", b"", 0),
+    ("trailing-spaces", transmission(["00000000", "C2199DEA"] + 14 * [IDLE]), LISTING + b"0,numeric,12\n", b"", 0),
+    ("idles", transmission(16 * [IDLE]), LISTING, b"", 0),
+    ("cut to 139", LONE_TONE[:139], b"", b"the transmission is cut short", 1),
+    ("cut to 72", LONE_TONE[:72], b"", b"the transmission has no batch", 1),
+    ("cut to 71", LONE_TONE[:71], b"", b"the preamble is too short", 1),
+    ("empty", b"", b"", b"the preamble is too short", 1),
+    ("wrong-bit-in-idle", WRONG_IDLE, b"", b"codeword 1: not a codeword", 1),
+    ("wrong-synchronisation", WRONG_SYNC, b"", b"batch 0: no synchronisation codeword", 1),
+    ("orphan", transmission([IDLE, "C261572C"] + 14 * [IDLE]), b"", b"codeword 1: a message without an address", 1),
+    ("orphan first", transmission([MESSAGE] + 15 * [IDLE]), b"", b"codeword 0: a message without an address", 1),
+]
+HEARS = [
+    ("lone-tone", b"8", LONE_TONE, LISTING + b"8,tone0,\n", b"", 0),
+    ("other frame", b"9", LONE_TONE, LISTING, b"", 0),
+    ("other address", b"0", LONE_TONE, LISTING, b"", 0),
+    ("page-across-batches", b"7", ACROSS, LISTING + b"7,numeric,12345\n", b"", 0),
+    ("page-across-batches, other", b"0", ACROSS, LISTING, b"", 0),
+    ("wrong-bit-in-idle", b"8", WRONG_IDLE, LISTING + b"8,tone0,\n", b"", 0),
+    ("wrong-synchronisation", b"8", WRONG_SYNC, LISTING + b"8,tone0,\n", b"", 0),
+    ("damaged-page", b"0", flipped(FIVE_DIGITS, 3, 30), LISTING + b"0,numeric,12345\n", b"", 0),
+    ("damaged-page, low bits", b"0", flipped(FIVE_DIGITS, 0, 1), LISTING + b"0,numeric,12345\n", b"", 0),
+    ("bad address", b"2097152", LONE_TONE, b"", b"bad address", 1),
+    ("reserved address", b"2007664", LONE_TONE, b"", b"reserved address", 1),
+    ("no batch", b"8", LONE_TONE[:72], b"", b"the transmission has no batch", 1),
+    ("cut short", b"8", LONE_TONE[:139], b"", b"the transmission is cut short", 1),
+    ("short preamble", b"8", LONE_TONE[:71], b"", b"the preamble is too short", 1),
+]
+
+
+def try_receivers(tally, folder):
+    tx = folder / "tx.bin"
+    for name, content, printed, fault, status in DECODES:
+        tx.write_bytes(content)
+        done = run(["decode", "tx.bin"], folder)
+        told = b"pocsag: " + fault + b"\n" if fault else b""
+        holds = done.returncode == status and done.stdout == printed and done.stderr == told
+        tally.check(f"decode {name}", holds, done)
+    for name, address, content, printed, fault, status in HEARS:
+        tx.write_bytes(content)
+        done = run(["hear", address.decode(), "tx.bin"], folder)
+        told = b"pocsag: " + fault + b"\n" if fault else b""
+        holds = done.returncode == status and done.stdout == printed and done.stderr == told
+        tally.check(f"hear {name}", holds, done)
+    for words in (["decode", "none.bin"], ["hear", "8", "none.bin"], ["decode", "folder"]):
+        done = run(words, folder)
+        holds = done.returncode == 3 and done.stderr == b"pocsag: cannot read or open a file\n" and done.stdout == b""
+        tally.check(f"missing file {words}", holds, done)
+    for records in (b"0,numeric," + ones(25) + b"\n3,numeric," + ones(45) + b"\n11,numeric," + ones(75) + b"\n", b"1020304,alpha,\"a, \"\"b\"\"\"\n8,tone3,\n"):
+        (folder / "pages.csv").write_bytes(HEADER + records)
+        run(["plan", "pages.csv", "tx.bin"], folder)
+        done = run(["decode", "tx.bin"], folder)
+        tally.check("decode of file order", done.returncode == 0 and done.stdout == HEADER + records, done)
+    with open(tx, "wb") as huge:
+        huge.truncate(300_000_000)
+    done = run(["decode", "tx.bin"], folder)
+    tally.check("a transmission of 300 MB", done.returncode == 1 and done.stderr == b"pocsag: the file is too large\n", done)
+    tx.unlink()
+
+
 def try_words(tally, folder):
-    usage = [["plan"], ["plan", "pages.csv"], ["bogus"], ["plan", "a", "b", "c"], ["--bogus"], ["check"], ["check", "a"]]
+    usage = [["plan"], ["plan", "pages.csv"], ["bogus"], ["plan", "a", "b", "c"], ["--bogus"], ["check"], ["check", "a"], ["decode"], ["hear", "8"], ["hear", "x", "a"], ["hear", "4294967296", "a"], ["hear", "-1", "a"]]
     for words in usage:
         done = run(words, folder)
-        tally.check(f"usage {words}", done.returncode == 2 and done.stdout == b"" and b"Usage: pocsag" in done.stderr, done)
+        tally.check(f"usage {words}", done.returncode == 2 and done.stdout == b"" and done.stderr.startswith(b"error: "), done)
     for words in (["--help"], ["-h"], ["help"], ["plan", "--help"], ["help", "plan"]):
         done = run(words, folder)
         tally.check(f"help {words}", done.returncode == 0 and done.stderr == b"" and b"Usage: pocsag" in done.stdout, done)
@@ -237,7 +315,7 @@ def main():
     tally = Tally()
     with tempfile.TemporaryDirectory() as name:
         folder = pathlib.Path(name)
-        for part in (try_rounds, try_refused, try_files, try_check, try_words):
+        for part in (try_rounds, try_refused, try_files, try_check, try_receivers, try_words):
             part(tally, folder)
     print(f"{tally.passed} passed, {tally.failed} failed")
     return 0 if tally.failed == 0 else 1

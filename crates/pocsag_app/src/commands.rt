@@ -106,7 +106,10 @@ fn check_files<P: Source, C: Source, O: Sink>(
     }
     match end {
         End::Open => tell(out, format_args!("at least {batches} batches"))?,
-        End::Closed => tell(out, format_args!("at least {batches} batches with a closed end"))?,
+        End::Closed => tell(
+            out,
+            format_args!("at least {batches} batches with a closed end"),
+        )?,
     }
     Ok(true)
 }

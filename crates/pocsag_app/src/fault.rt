@@ -1,6 +1,8 @@
 ghost use Rattle.std.specs.Prelude.{◌≡◌, ◌⊎◌};
 
 use pocsag_batch::FirstFault;
+use pocsag_decode::DecodeFault;
+use pocsag_pager::PagerFault;
 use pocsag_pages::RoundFault;
 use pocsag_tree::CertificateFault;
 use thiserror::Error;
@@ -16,8 +18,16 @@ pub enum Fault {
     Write,
     #[error("out of memory")]
     OutOfMemory,
+    #[error("the file is too large")]
+    TooLarge,
     #[error("{0}")]
     Round(RoundFault),
+    /// The bytes are no transmission that reads as pages.
+    #[error("{0}")]
+    Transmission(DecodeFault),
+    /// The pager shows nothing of these bytes.
+    #[error("{0}")]
+    Pager(PagerFault),
     #[error("not a certificate")]
     NotCertificate,
     #[error("unknown certificate version")]
@@ -43,7 +53,9 @@ impl Fault {
             Fault::EqualPaths => 1,
             Fault::Device | Fault::Write | Fault::OutOfMemory => 3,
             Fault::Round(RoundFault::ReadFault | RoundFault::OutOfMemory) => 3,
-            Fault::Round(_) => 1,
+            Fault::Transmission(DecodeFault::OutOfMemory) => 3,
+            Fault::Pager(PagerFault::OutOfMemory) => 3,
+            Fault::Round(_) | Fault::Transmission(_) | Fault::Pager(_) | Fault::TooLarge => 1,
             Fault::NotCertificate
             | Fault::CertificateVersion
             | Fault::CertificateTruncated

@@ -6,6 +6,7 @@ mod devices;
 mod fault;
 mod files;
 mod paths;
+mod receiving;
 mod tell;
 #[cfg(test)]
 mod tests;
@@ -16,6 +17,7 @@ use crate::devices::{ReaderSource, WriterSink};
 use crate::fault::Fault;
 use crate::files::{make_sink, open_buffered, open_source};
 use crate::paths::{Named, equal_paths};
+use crate::receiving::{run_decode, run_hear};
 use crate::tell::tell_fault;
 use crate::words::{Order, order_of};
 use clap::Error;
@@ -84,6 +86,14 @@ fn obey<E: pocsag_words::Sink>(
         }
         Order::Plan { pages, tx } => plan_files(rt, alloc, pages, tx, &mut out, err),
         Order::Check { pages, cert } => check_files(rt, alloc, pages, cert, &mut out, err),
+        Order::Decode { tx } => match open_source(rt, tx) {
+            Ok(mut source) => run_decode(alloc, &mut source, &mut out, err),
+            Err(fault) => tell_fault(err, fault),
+        },
+        Order::Hear { address, tx } => match open_source(rt, tx) {
+            Ok(mut source) => run_hear(alloc, address, &mut source, &mut out, err),
+            Err(fault) => tell_fault(err, fault),
+        },
     }
 }
 

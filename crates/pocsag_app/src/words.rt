@@ -1,4 +1,4 @@
-use clap::{Arg, ArgMatches, Command, Error};
+use clap::{Arg, ArgMatches, Command, Error, value_parser};
 use std::alloc::{AllocError, Global};
 
 /// What the command line asks for.
@@ -10,6 +10,10 @@ pub enum Order<'a> {
     Plan { pages: &'a str, tx: &'a str },
     /// `check PAGES CERT`: the paths of the page file and of the certificate.
     Check { pages: &'a str, cert: &'a str },
+    /// `decode TX`: the path of the transmission.
+    Decode { tx: &'a str },
+    /// `hear ADDRESS TX`: a pager's address, and the path of the transmission.
+    Hear { address: u32, tx: &'a str },
 }
 
 const PAGES_HELP: &str = "The page file, CSV with the header address,kind,message";
@@ -22,14 +26,38 @@ fn plan_command<'a>(alloc: Global) -> Result<Command<'a>, AllocError> {
     Command::new(alloc, "plan")
         .about("Writes the transmission of a page file")
         .arg(positional(alloc, "PAGES", PAGES_HELP))?
-        .arg(positional(alloc, "TX", "The transmission, which is made or emptied first"))
+        .arg(positional(
+            alloc,
+            "TX",
+            "The transmission, which is made or emptied first",
+        ))
 }
 
 fn check_command<'a>(alloc: Global) -> Result<Command<'a>, AllocError> {
     Command::new(alloc, "check")
-        .about("Tells whether a certificate shows that fewer batches do not suffice for a page file")
+        .about(
+            "Tells whether a certificate shows that fewer batches do not suffice for a page file",
+        )
         .arg(positional(alloc, "PAGES", PAGES_HELP))?
         .arg(positional(alloc, "CERT", "The certificate"))
+}
+
+fn decode_command<'a>(alloc: Global) -> Result<Command<'a>, AllocError> {
+    Command::new(alloc, "decode")
+        .about("Lists the pages of a transmission")
+        .arg(positional(alloc, "TX", "The transmission"))
+}
+
+fn hear_command<'a>(alloc: Global) -> Result<Command<'a>, AllocError> {
+    let address = positional(alloc, "ADDRESS", "The pager's address").value_parser(value_parser!(
+        u32
+    ));
+    Command::new(alloc, "hear")
+        .about(
+            "Lists what the pager of an address shows of a transmission, past two wrong bits in each codeword",
+        )
+        .arg(address)?
+        .arg(positional(alloc, "TX", "The transmission"))
 }
 
 fn command<'a>(alloc: Global) -> Result<Command<'a>, AllocError> {
@@ -39,7 +67,9 @@ fn command<'a>(alloc: Global) -> Result<Command<'a>, AllocError> {
             "Plans POCSAG transmissions. With no words: reads a page file from standard input and tells its pages and batches",
         )
         .subcommand(plan_command(alloc)?)?
-        .subcommand(check_command(alloc)?)
+        .subcommand(check_command(alloc)?)?
+        .subcommand(decode_command(alloc)?)?
+        .subcommand(hear_command(alloc)?)
 }
 
 // The word of an argument that clap requires.
@@ -57,6 +87,13 @@ pub fn order_of<'a>(alloc: Global, words: &'a [String]) -> Result<Order<'a>, Err
         "check" => Order::Check {
             pages: word(found, "PAGES"),
             cert: word(found, "CERT"),
+        },
+        "decode" => Order::Decode {
+            tx: word(found, "TX"),
+        },
+        "hear" => Order::Hear {
+            address: found.get_one::<u32>("ADDRESS").unwrap_or(u32::MAX),
+            tx: word(found, "TX"),
         },
         _ => Order::Plan {
             pages: word(found, "PAGES"),

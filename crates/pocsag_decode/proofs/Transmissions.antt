@@ -19,7 +19,7 @@ use Rattle.pocsag_decode.specs.declared.growing.OpenPage.{OpenPage}
 use Rattle.pocsag_decode.specs.Carried.{unfinished}
 use Rattle.pocsag_decode.specs.Faults.{words, ReadsAs}
 use Rattle.pocsag_decode.specs.Growing.{resumed, closed}
-use Rattle.pocsag_decode.specs.Listable.{IsListable}
+use Rattle.pocsag_pages.specs.Listable.{IsListable}
 use Rattle.pocsag_decode.specs.Places.{is_message, is_idle, may_follow, IsGood, AreGood}
 use Rattle.pocsag_decode.proofs.Preambles.{parts, nil_from}
 use Rattle.pocsag_decode.proofs.WordByWord.{length_more, unsynced_count, may_sync, may_codeword, may_kept}

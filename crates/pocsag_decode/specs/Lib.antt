@@ -2,7 +2,6 @@ pub mod Carried
 pub mod Faults
 pub mod Growing
 pub mod Lines
-pub mod Listable
 pub mod Listing
 pub mod Places
 pub mod Standing

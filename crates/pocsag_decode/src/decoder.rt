@@ -2,7 +2,7 @@ ghost use Rattle.std.specs.Prelude.{◌≡◌, ◌⊎◌, ℕ, ◌+◌, ◌%◌,
 ghost use Rattle.pocsag_pages.specs.Bytes.{after_preamble, leading};
 ghost use Rattle.pocsag_decode.specs.Carried.{size_of};
 ghost use Rattle.pocsag_decode.specs.Faults.{HasFaultOfEnd, IsRefusal, ReadsAs};
-ghost use Rattle.pocsag_decode.specs.Listable.{IsListable};
+ghost use Rattle.pocsag_pages.specs.Listable.{IsListable};
 ghost use Rattle.pocsag_decode.specs.Standing.{IsOver, StandsAfter};
 
 use crate::body::Body;

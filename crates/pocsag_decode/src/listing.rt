@@ -4,7 +4,7 @@ ghost use Rattle.std.specs.Fmt.{decimal};
 ghost use Rattle.csv.specs.Writing.{row_text, default_writer};
 ghost use Rattle.pocsag_words.specs.Devices.{HasFailed, TookPrefix};
 ghost use Rattle.pocsag_decode.specs.Lines.{IsReady, text_in};
-ghost use Rattle.pocsag_decode.specs.Listable.{IsListable};
+ghost use Rattle.pocsag_pages.specs.Listable.{IsListable};
 ghost use Rattle.pocsag_decode.specs.Listing.{header, hex_digit, hex_digits, kind_field, listing, message_field, record_of};
 
 use crate::fault::ListFault;

@@ -1,6 +1,6 @@
 ghost use Rattle.std.specs.Prelude.{◌≡◌, ◌⊎◌, All, IfOk, MatchResult};
 ghost use Rattle.pocsag_decode.specs.Faults.{HasFault, ReadsAs};
-ghost use Rattle.pocsag_decode.specs.Listable.{IsListable};
+ghost use Rattle.pocsag_pages.specs.Listable.{IsListable};
 
 use crate::fault::DecodeFault;
 use crate::state::Decoder;

@@ -6,7 +6,7 @@ use Rattle.pocsag_words.specs.declared.codeword.Kind.{Kind}
 use Rattle.pocsag_words.specs.declared.codeword.Kind.TheVariants.{Idle, Address, Message}
 use Rattle.pocsag_pages.specs.declared.page.Page.{Page}
 use Rattle.pocsag_pages.specs.Bytes.{unsynced}
-use Rattle.pocsag_pager.specs.Listable.{IsListable}
+use Rattle.pocsag_pages.specs.Listable.{IsListable}
 use Rattle.pocsag_pager.specs.Shown.{IsShown, is_ours, page_of, run_of, said, shown_from}
 use Rattle.pocsag_pager.proofs.Mending.{all_mended_same}
 

@@ -6,7 +6,7 @@ ghost use Rattle.pocsag_pages.specs.Pages.{IsRound};
 ghost use Rattle.pocsag_pages.specs.Reading.{IsLegalList};
 ghost use Rattle.pocsag_pager.specs.Damage.{IsDamaged};
 ghost use Rattle.pocsag_pager.specs.Faults.{address_fault, bytes_fault, fault_of};
-ghost use Rattle.pocsag_pager.specs.Listable.{IsListable};
+ghost use Rattle.pocsag_pages.specs.Listable.{IsListable};
 ghost use Rattle.pocsag_pager.specs.Shown.{IsShown};
 ghost use Rattle.pocsag_pager.specs.Standing.{HaveEnded, Stands, address_of};
 

@@ -7,7 +7,7 @@ ghost use Rattle.pocsag_pages.specs.Pages.{IsRound};
 ghost use Rattle.pocsag_pages.specs.Reading.{IsLegalList};
 ghost use Rattle.pocsag_pager.specs.Damage.{IsDamaged};
 ghost use Rattle.pocsag_pager.specs.Faults.{bytes_fault};
-ghost use Rattle.pocsag_pager.specs.Listable.{IsListable};
+ghost use Rattle.pocsag_pages.specs.Listable.{IsListable};
 ghost use Rattle.pocsag_pager.specs.Shown.{IsShown};
 
 use pocsag_pages::{readings_are_plain, rounds_are_apart};

@@ -1,5 +1,6 @@
 pub mod Bytes
 pub mod Drafts
+pub mod Listable
 pub mod PageFile
 pub mod PageList
 pub mod Pages

@@ -6,6 +6,7 @@ mod certificates;
 mod line;
 mod packing;
 mod pages;
+mod receiving;
 mod rounds;
 
 use crate::line::Line;
@@ -29,9 +30,14 @@ enum Trial {
     LayInOrder,
     FirstStream,
     ReadCertificate,
+    Decode,
+    FeedBytes,
+    List,
+    HearAll,
+    HearWords,
 }
 
-const TRIALS: [Trial; 13] = [
+const TRIALS: [Trial; 18] = [
     Trial::PackNumeric,
     Trial::PackAlpha,
     Trial::UnpackNumeric,
@@ -45,6 +51,11 @@ const TRIALS: [Trial; 13] = [
     Trial::LayInOrder,
     Trial::FirstStream,
     Trial::ReadCertificate,
+    Trial::Decode,
+    Trial::FeedBytes,
+    Trial::List,
+    Trial::HearAll,
+    Trial::HearWords,
 ];
 
 fn name_of(trial: Trial) -> &'static str {
@@ -62,6 +73,11 @@ fn name_of(trial: Trial) -> &'static str {
         Trial::LayInOrder => "lay_in_order of lone-tone",
         Trial::FirstStream => "first_stream of lone-tone",
         Trial::ReadCertificate => "read_certificate of loops-apart",
+        Trial::Decode => "decode of page-across-batches",
+        Trial::FeedBytes => "feed and finish of page-across-batches",
+        Trial::List => "list of page-across-batches",
+        Trial::HearAll => "hear_all of page-across-batches",
+        Trial::HearWords => "hear and end of wrong-bit-in-idle",
     }
 }
 
@@ -80,6 +96,11 @@ fn run(alloc: Global, trial: Trial, line: &mut Line) -> Result<(), OutOfMemory> 
         Trial::LayInOrder => rounds::lay_lone_tone(alloc, line),
         Trial::FirstStream => rounds::stream_lone_tone(alloc, line),
         Trial::ReadCertificate => certificates::read_loops_apart(alloc, line),
+        Trial::Decode => receiving::decode_whole(alloc, line),
+        Trial::FeedBytes => receiving::decode_bytes(alloc, line),
+        Trial::List => receiving::list_decoded(alloc, line),
+        Trial::HearAll => receiving::hear_whole(alloc, line),
+        Trial::HearWords => receiving::hear_words(alloc, line),
     }
 }
 
