@@ -1,9 +1,10 @@
 -- What a pager has heard, one word at a time.
-use Rattle.std.proofs.Common.{◌≡◌, ◌≢◌, ℕ, ◌+◌, ◌-◌, ◌/◌, ◌%◌, ◌<◌, List, [], ◌∷◌, ◌++◌, length, map, refl, sym, ap, ap₂, subst, ◌∙◌, ◌⊎◌, ◌^◌, inl, inr, arith}
+use Rattle.std.proofs.Common.{◌≡◌, ◌≢◌, ℕ, ◌+◌, ◌-◌, ◌/◌, ◌%◌, ◌<◌, List, [], ◌∷◌, ◌++◌, length, map, refl, sym, ap, ap₂, subst, ◌∙◌, ◌⊎◌, ◌^◌, inl, inr, arith, append_assoc, ◌≤◌, ◌*◌, All}
 use Rattle.std.specs.Prelude.{Option, Some, None, option_to_list}
 use Rattle.std.specs.List.{AllZip}
 use Rattle.std.proofs.lemmas.List.{append-nil, map-append, length-map, length-append}
 use Rattle.std.proofs.lemmas.Bool.{cases_eq}
+use Rattle.std.proofs.lemmas.List.Elements.{All-head, All-tail}
 use Rattle.std.proofs.lemmas.Slice.Zip.{AllZip-long}
 use Rattle.pocsag_words.specs.declared.codeword.Kind.{Kind}
 use Rattle.pocsag_pages.specs.declared.page.Page.{Page}
@@ -12,7 +13,7 @@ use Rattle.pocsag_pages.specs.Reading.{frame_at}
 use Rattle.pocsag_pager.specs.declared.pager.State.{State}
 use Rattle.pocsag_pager.specs.declared.pager.State.TheVariants.{Listening, Failed}
 use Rattle.pocsag_pager.specs.Shown.{Heard, IsMended, IsShown, said, shown_from}
-use Rattle.pocsag_pager.specs.Standing.{HaveEnded, ended_from, open_from}
+use Rattle.pocsag_pager.specs.Standing.{HaveEnded, IsElsewhere, ended_from, open_from}
 use Rattle.pocsag_pager.specs.Turns.{IsHeardAs, ending, next_open}
 use Rattle.pocsag_pager.proofs.Mending.{AreRepaired, heard_at, all_mended_same}
 use Rattle.pocsag_pager.proofs.Places.{ended_more, ending_none, last_synced, last_unsynced, next_open_elsewhere, next_open_same, open_more, shown_is, unsynced_long, unsynced_more}
@@ -127,6 +128,46 @@ module _ (law : AreRepaired) (a p w : ℕ) (words : List ℕ) (s : State) (small
         | inl first ↦ skip_ended a p w words place first ps have
         | inr n ↦ turn_ended a p w words s None at.kind place (omega arith) holds at.heard stands ps None (sym (ending_none at.kind)) have
       ]
+
+-- ---- words that are passed over
+
+-- what is known after words: the page that is open, and the pages that have ended
+pub record Known (words : List ℕ) (a : ℕ) (s : State) (ps : List Page) : Type 0 where
+  pub open_page : IsOpen words a s
+  pub ended : HaveEnded words a ps
+
+far_place : (a q n : ℕ) → IsElsewhere a q (n + 1) → (q ≡ 0) ⊎ ((q - 1) / 2 ≢ a % 8)
+far_place a q n (inl before) =
+    elim (cases_eq q 0) [
+      | inl first ↦ inl first
+      | inr later ↦ inr (λ e. absurd (omega arith))
+    ]
+far_place a q n (inr after) = inr (λ e. absurd (omega (arith, after.0)))
+
+far_next : (a q n : ℕ) → IsElsewhere a q (n + 1) → IsElsewhere a (q + 1) n
+far_next a q n (inl before) = inl (omega arith)
+far_next a q n (inr after) = inr (omega (arith, after.0), omega (arith, after.1))
+
+far_within : (a q n : ℕ) → IsElsewhere a q (n + 1) → q < 17
+far_within a q n (inl before) = omega arith
+far_within a q n (inr after) = omega (arith, after.1)
+
+pub pass_all : AreRepaired → (a q : ℕ) (s : State) (words more : List ℕ) (ps : List Page) → All (λ w. w < 2 ^ 32) more → q % 17 ≡ length words % 17
+    → s ≡ Listening None → IsElsewhere a q (length more) → Known words a s ps → Known (words ++ more) a s ps
+pass_all law a q s words [] ps small place holds far known = subst (λ (ws : List ℕ). Known ws a s ps) (sym (append-nil words)) known
+pass_all law a q s words (w ∷ more) ps small place holds far known =
+    let away : IsElsewhere a q (length more + 1) = subst (λ (n : ℕ). IsElsewhere a q n) (omega arith) far in
+    let within : q < 17 = far_within a q (length more) away in
+    let here : q ≡ length words % 17 = omega arith in
+    let fits : w < 2 ^ 32 = All-head (λ v. v < 2 ^ 32) w more small in
+    let next : Known (words ++ w ∷ []) a s ps = record {
+      open_page = pass_open law a q w words s fits here holds (far_place a q (length more) away) known.open_page;
+      ended = subst (HaveEnded (words ++ w ∷ []) a) (append-nil ps)
+          (pass_ended law a q w words s fits here holds (far_place a q (length more) away) known.open_page ps known.ended);
+    } in
+    subst (λ (ws : List ℕ). Known ws a s ps) (append_assoc words (w ∷ []) more)
+    (pass_all law a (q + 1) s (words ++ w ∷ []) more ps (All-tail (λ v. v < 2 ^ 32) w more small) (omega (arith, length-append words (w ∷ []))) holds
+      (far_next a q (length more) away) next)
 
 -- ---- the end
 
