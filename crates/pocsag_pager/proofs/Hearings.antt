@@ -1,6 +1,6 @@
 -- What a pager has heard, one word at a time.
-use Rattle.std.proofs.Common.{◌≡◌, ◌≢◌, ℕ, ◌+◌, ◌-◌, ◌/◌, ◌%◌, ◌<◌, List, [], ◌∷◌, ◌++◌, length, map, refl, sym, ap, ap₂, subst, ◌∙◌, ◌⊎◌, ◌^◌, inl, inr, arith, append_assoc, ◌≤◌, ◌*◌, All}
-use Rattle.std.specs.Prelude.{Option, Some, None, option_to_list}
+use Rattle.std.proofs.Common.{◌≡◌, ◌≢◌, ℕ, ◌+◌, ◌-◌, ◌/◌, ◌%◌, ◌<◌, List, [], ◌∷◌, ◌++◌, length, map, sym, ap, ap₂, subst, ◌∙◌, ◌⊎◌, ◌^◌, inl, inr, arith, append_assoc, All}
+use Rattle.std.specs.Prelude.{Option, None, option_to_list}
 use Rattle.std.specs.List.{AllZip}
 use Rattle.std.proofs.lemmas.List.{append-nil, map-append, length-map, length-append}
 use Rattle.std.proofs.lemmas.Bool.{cases_eq}
@@ -11,7 +11,7 @@ use Rattle.pocsag_pages.specs.declared.page.Page.{Page}
 use Rattle.pocsag_pages.specs.Bytes.{unsynced}
 use Rattle.pocsag_pages.specs.Reading.{frame_at}
 use Rattle.pocsag_pager.specs.declared.pager.State.{State}
-use Rattle.pocsag_pager.specs.declared.pager.State.TheVariants.{Listening, Failed}
+use Rattle.pocsag_pager.specs.declared.pager.State.TheVariants.{Listening}
 use Rattle.pocsag_pager.specs.Shown.{Heard, IsMended, IsShown, said, shown_from}
 use Rattle.pocsag_pager.specs.Standing.{HaveEnded, IsElsewhere, ended_from, open_from}
 use Rattle.pocsag_pager.specs.Turns.{IsHeardAs, ending, next_open}
@@ -37,7 +37,7 @@ heard_both words P Q h k =
 pub heard_skip : (words : List ℕ) (w : ℕ) (P : List (Option Kind) → Type 0) → length words % 17 ≡ 0 → Heard words P → Heard (words ++ w ∷ []) P
 heard_skip words w P place h =
     let same : unsynced 0 (words ++ w ∷ []) ≡ unsynced 0 words =
-        unsynced_more 0 words w ∙ ap (λ xs. unsynced 0 words ++ xs) (last_synced (0 + length words) w (omega arith)) ∙ append-nil (unsynced 0 words) in
+    unsynced_more 0 words w ∙ ap (λ xs. unsynced 0 words ++ xs) (last_synced (0 + length words) w (omega arith)) ∙ append-nil (unsynced 0 words) in
     record { mended = h.mended; each = subst (λ (ws : List ℕ). AllZip IsMended ws h.mended) (sym same) h.each; holds = h.holds }
 
 pub heard_more : (words : List ℕ) (w : ℕ) (m : Option Kind) (P Q : List (Option Kind) → Type 0) → length words % 17 ≢ 0 → IsHeardAs w m → Heard words P
@@ -45,11 +45,11 @@ pub heard_more : (words : List ℕ) (w : ℕ) (m : Option Kind) (P Q : List (Opt
 heard_more words w m P Q place is h f =
     let inside : (0 + length words) % 17 ≢ 0 = λ e. place (omega arith) in
     let same : unsynced 0 (words ++ w ∷ []) ≡ unsynced 0 words ++ w ∷ [] =
-        unsynced_more 0 words w ∙ ap (λ xs. unsynced 0 words ++ xs) (last_unsynced (0 + length words) w inside) in
+    unsynced_more 0 words w ∙ ap (λ xs. unsynced 0 words ++ xs) (last_unsynced (0 + length words) w inside) in
     let long : length (map said h.mended) ≡ length (unsynced 0 words) =
-        length-map h.mended said ∙ AllZip-long IsMended (unsynced 0 words) h.mended h.each in
+    length-map h.mended said ∙ AllZip-long IsMended (unsynced 0 words) h.mended h.each in
     let joined : map said (h.mended ++ is.mended ∷ []) ≡ map said h.mended ++ m ∷ [] =
-        map-append said h.mended (is.mended ∷ []) ∙ ap (λ (k : Option Kind). map said h.mended ++ k ∷ []) is.is in
+    map-append said h.mended (is.mended ∷ []) ∙ ap (λ (k : Option Kind). map said h.mended ++ k ∷ []) is.is in
     record {
       mended = h.mended ++ is.mended ∷ [];
       each = subst (λ (ws : List ℕ). AllZip IsMended ws (h.mended ++ is.mended ∷ [])) (sym same)
@@ -78,19 +78,19 @@ module _ (a p w : ℕ) (words : List ℕ) (s : State) (before : Option Page) (m 
   turn_open after e =
       heard_more words w m (λ ms. s ≡ Listening (open_from a 0 ms)) (λ ms. Listening after ≡ Listening (open_from a 0 ms)) not_synced is stands
       (λ ms long h.
-        let slot : length ms % 16 ≡ (p - 1) % 16 = omega (arith, unsynced_long 0 words) in
-        ap Listening (e ∙ next_open_same a (p - 1) (length ms) before m (sym slot)
-          ∙ ap (λ (o : Option Page). next_open a (length ms) o m) (open_is s before (open_from a 0 ms) holds h)
-          ∙ sym (open_more a 0 (length ms) ms m (omega arith))))
+      let slot : length ms % 16 ≡ (p - 1) % 16 = omega (arith, unsynced_long 0 words) in
+      ap Listening (e ∙ next_open_same a (p - 1) (length ms) before m (sym slot)
+      ∙ ap (λ (o : Option Page). next_open a (length ms) o m) (open_is s before (open_from a 0 ms) holds h)
+      ∙ sym (open_more a 0 (length ms) ms m (omega arith))))
 
   pub turn_ended : (ps : List Page) (ended : Option Page) → ended ≡ ending before m → HaveEnded words a ps → HaveEnded (words ++ w ∷ []) a (ps ++ option_to_list ended)
   turn_ended ps ended e have =
       heard_more words w m (λ ms. (s ≡ Listening (open_from a 0 ms)) × (ps ≡ ended_from a 0 ms)) (λ ms. ps ++ option_to_list ended ≡ ended_from a 0 ms) not_synced is
       (heard_both words (λ ms. s ≡ Listening (open_from a 0 ms)) (λ ms. ps ≡ ended_from a 0 ms) stands have)
       (λ ms long h.
-        ap₂ (λ (xs : List Page) (o : Option Page). xs ++ option_to_list o) h.1
-          (e ∙ ap (λ (o : Option Page). ending o m) (open_is s before (open_from a 0 ms) holds h.0))
-        ∙ sym (ended_more a 0 ms m))
+      ap₂ (λ (xs : List Page) (o : Option Page). xs ++ option_to_list o) h.1
+      (e ∙ ap (λ (o : Option Page). ending o m) (open_is s before (open_from a 0 ms) holds h.0))
+      ∙ sym (ended_more a 0 ms m))
 
 -- ---- a word at the place of a synchronisation codeword
 
@@ -167,7 +167,7 @@ pass_all law a q s words (w ∷ more) ps small place holds far known =
     } in
     subst (λ (ws : List ℕ). Known ws a s ps) (append_assoc words (w ∷ []) more)
     (pass_all law a (q + 1) s (words ++ w ∷ []) more ps (All-tail (λ v. v < 2 ^ 32) w more small) (omega (arith, length-append words (w ∷ []))) holds
-      (far_next a q (length more) away) next)
+    (far_next a q (length more) away) next)
 
 -- ---- the end
 
@@ -177,5 +177,5 @@ all_shown a words s before ps holds stands have =
     heard_then words (λ ms. (s ≡ Listening (open_from a 0 ms)) × (ps ≡ ended_from a 0 ms)) (λ ms. ps ++ option_to_list before ≡ shown_from a 0 ms)
     (heard_both words (λ ms. s ≡ Listening (open_from a 0 ms)) (λ ms. ps ≡ ended_from a 0 ms) stands have)
     (λ ms h.
-      ap₂ (λ (xs : List Page) (o : Option Page). xs ++ option_to_list o) h.1 (open_is s before (open_from a 0 ms) holds h.0)
-      ∙ sym (shown_is a 0 ms))
+    ap₂ (λ (xs : List Page) (o : Option Page). xs ++ option_to_list o) h.1 (open_is s before (open_from a 0 ms) holds h.0)
+    ∙ sym (shown_is a 0 ms))

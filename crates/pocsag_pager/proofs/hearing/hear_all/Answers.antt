@@ -13,7 +13,7 @@ pub returns-clause-repaired : goal.returns-clause-repaired
 returns-clause-repaired c = λ end T batches R round legal damaged fine.
     by_result c.hear_batches.result _ _
     (if_ok_then c.hear_batches.result _ _
-      (λ pages shown. c.damage_is_repaired.ensures.shown end T batches R c.args.bytes.now c.args.address pages.items round legal damaged
-        (shown_at _ _ _ _ _ _ (ap words_of (sym c.in_ok-batches.ensures.ok)) (sym c.in_ok-pager.ensures.address) refl shown))
-      c.hear_batches.ensures.shown)
+    (λ pages shown. c.damage_is_repaired.ensures.shown end T batches R c.args.bytes.now c.args.address pages.items round legal damaged
+    (shown_at _ _ _ _ _ _ (ap words_of (sym c.in_ok-batches.ensures.ok)) (sym c.in_ok-pager.ensures.address) refl shown))
+    c.hear_batches.ensures.shown)
     c.hear_batches.ensures.err

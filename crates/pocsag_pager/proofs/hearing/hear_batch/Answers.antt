@@ -1,4 +1,4 @@
-use Rattle.std.proofs.Common.{◌≡◌, ◌+◌, ◌*◌, ◌<◌, ◌%◌, ◌≤◌, ◌++◌, ℕ, List, length, subst, arith}
+use Rattle.std.proofs.Common.{◌≡◌, ◌+◌, ◌*◌, ◌<◌, ◌++◌, ℕ, List, length, subst, arith}
 use Rattle.std.specs.Prelude.{OnOk}
 use Rattle.pocsag_pages.specs.Bytes.{words_of}
 use Rattle.pocsag_pager.specs.Standing.{HasHeard}
@@ -18,5 +18,5 @@ returns-clause-ok c = λ words h.
     let second = c.in_ok-hear_each.ensures.ok (words ++ words_of before) first in
     subst (λ (ws : List ℕ). OnOk c.hear_part-2.result (HasHeard c.hear_part-2.new.pager ws c.hear_part-2.new.pages.items))
     (three_parts (1 + 2 * c.frame.result) (4 + 8 * c.frame.result) words c.args.batch.now before rest frame after (omega arith) (omega arith) (omega arith)
-      c.split_at.ensures.front c.split_at.ensures.back c.split_at-2.ensures.front c.split_at-2.ensures.back)
+    c.split_at.ensures.front c.split_at.ensures.back c.split_at-2.ensures.front c.split_at-2.ensures.back)
     (c.hear_part-2.ensures.ok ((words ++ words_of before) ++ words_of frame) second)

@@ -1,4 +1,4 @@
-use Rattle.std.proofs.Common.{◌≡◌, ◌+◌, ◌*◌, ◌/◌, ◌≤◌, ◌++◌, ℕ, List, length, take, sym, subst, ◌∙◌, arith}
+use Rattle.std.proofs.Common.{◌+◌, ◌*◌, ◌≤◌, ℕ, List, length, take, sym, subst, ◌∙◌, arith}
 use Rattle.pocsag_pages.specs.Bytes.{words_of}
 use Rattle.pocsag_pager.specs.Standing.{HasHeard}
 use Rattle.pocsag_pager.proofs.WholeWords.{next_batch}

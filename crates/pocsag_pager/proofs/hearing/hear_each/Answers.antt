@@ -16,8 +16,8 @@ loop-word-preserved c =
       heard = λ words h.
           let before = loop.invariant.heard words h in
           let more : words ++ map (from_be_bytes w32) (take (loop.word-index + 1) chunks) ≡ (words ++ so_far) ++ c.from_be_bytes.result ∷ [] =
-              ap (λ ws. words ++ ws) (one_more_word chunks loop.word-index c.from_be_bytes.result (omega arith) c.from_be_bytes.ensures)
-              ∙ sym (append_assoc words so_far (c.from_be_bytes.result ∷ [])) in
+          ap (λ ws. words ++ ws) (one_more_word chunks loop.word-index c.from_be_bytes.result (omega arith) c.from_be_bytes.ensures)
+          ∙ sym (append_assoc words so_far (c.from_be_bytes.result ∷ [])) in
           record {
             stands = subst (Stands c.hear.new.self) (sym more) (answer.stands (words ++ so_far) before.stands);
             ended = ended_at _ _ _ _ _ _ more c.hear.ensures.address c.in_ok-keep.ensures.ok (answer.ended (words ++ so_far) loop.pages.items before.stands before.ended);
@@ -31,6 +31,6 @@ returns-clause-ok c = λ words h.
     let chunks = c.as_chunks.result.0.now in
     let long : length chunks ≡ length c.args.bytes.now / 4 = c.as_chunks.ensures.front_len in
     let whole : map (from_be_bytes w32) (take loop.word-index chunks) ≡ words_of c.args.bytes.now =
-        ap (map (from_be_bytes w32)) (take_all loop.word-index chunks (omega arith) ∙ c.as_chunks.ensures.front)
-        ∙ chunk_words (length c.args.bytes.now / 4) c.args.bytes.now refl in
+    ap (map (from_be_bytes w32)) (take_all loop.word-index chunks (omega arith) ∙ c.as_chunks.ensures.front)
+    ∙ chunk_words (length c.args.bytes.now / 4) c.args.bytes.now refl in
     subst (λ (ws : List ℕ). HasHeard loop.pager (words ++ ws) loop.pages.items) whole (loop.invariant.heard words h)
