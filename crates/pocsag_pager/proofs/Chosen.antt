@@ -1,7 +1,7 @@
 -- The page of an address, in a list that has each page of a round and no more pages.
 use Rattle.std.proofs.Common.{◌≡◌, ◌≢◌, ℕ, zero, suc, ◌+◌, ◌<◌, Bool, true, false, cond, nat_eq, List, [], ◌∷◌, ◌++◌, length, get_or, filter, All, Contains, refl, sym, ap, subst, ◌∙◌, inl, inr, arith, length-append, eqb-true}
 use Rattle.std.proofs.lemmas.Bool.{cases_Bool}
-use Rattle.std.proofs.lemmas.List.Elements.{All-head, All-tail, All-cons, All-nil}
+use Rattle.std.proofs.lemmas.List.Elements.{All-head, All-tail}
 use borrow.Author.Tests.{apart_eqb}
 use Rattle.pocsag_pages.specs.declared.page.Page.{Page}
 use Rattle.pocsag_pages.specs.Reading.{AreApart}
@@ -63,9 +63,9 @@ chosen a (r ∷ R) ps apart long each =
     let total : length ps ≡ length s.before + length (r ∷ s.after) = ap length s.is ∙ length-append s.before (r ∷ s.after) in
     let shorter : length (s.before ++ s.after) ≡ length R = omega (arith, length-append s.before s.after) in
     let others : All (Contains (s.before ++ s.after)) R = λ k d within.
-        let q = get_or R k d in
-        let there : Contains (s.before ++ r ∷ s.after) q = subst (λ (xs : List Page). Contains xs q) s.is (All-tail (Contains ps) r R each k d within) in
-        still_there s.before s.after r q (there.0) (λ e. first k d within (ap (λ (p : Page). p.address) e)) (there.1) (there.2) in
+    let q = get_or R k d in
+    let there : Contains (s.before ++ r ∷ s.after) q = subst (λ (xs : List Page). Contains xs q) s.is (All-tail (Contains ps) r R each k d within) in
+    still_there s.before s.after r q (there.0) (λ e. first k d within (ap (λ (p : Page). p.address) e)) (there.1) (there.2) in
     let rest = chosen a R (s.before ++ s.after) (apart_rest r R apart) shorter others in
     ap (filter (calls a)) s.is
     ∙ (elim (cases_Bool (calls a r)) [

@@ -1,18 +1,19 @@
 -- What a pager has heard, one word at a time.
-use Rattle.std.proofs.Common.{◌≡◌, ◌≢◌, ℕ, ◌+◌, ◌-◌, ◌/◌, ◌%◌, ◌<◌, List, [], ◌∷◌, ◌++◌, length, map, refl, sym, ap, ap₂, subst, ◌∙◌, ◌⊎◌, ◌^◌, inl, inr, arith}
-use Rattle.std.specs.Prelude.{Option, Some, None, option_to_list}
+use Rattle.std.proofs.Common.{◌≡◌, ◌≢◌, ℕ, ◌+◌, ◌-◌, ◌/◌, ◌%◌, ◌<◌, List, [], ◌∷◌, ◌++◌, length, map, sym, ap, ap₂, subst, ◌∙◌, ◌⊎◌, ◌^◌, inl, inr, arith, append_assoc, All}
+use Rattle.std.specs.Prelude.{Option, None, option_to_list}
 use Rattle.std.specs.List.{AllZip}
 use Rattle.std.proofs.lemmas.List.{append-nil, map-append, length-map, length-append}
 use Rattle.std.proofs.lemmas.Bool.{cases_eq}
+use Rattle.std.proofs.lemmas.List.Elements.{All-head, All-tail}
 use Rattle.std.proofs.lemmas.Slice.Zip.{AllZip-long}
 use Rattle.pocsag_words.specs.declared.codeword.Kind.{Kind}
 use Rattle.pocsag_pages.specs.declared.page.Page.{Page}
 use Rattle.pocsag_pages.specs.Bytes.{unsynced}
 use Rattle.pocsag_pages.specs.Reading.{frame_at}
 use Rattle.pocsag_pager.specs.declared.pager.State.{State}
-use Rattle.pocsag_pager.specs.declared.pager.State.TheVariants.{Listening, Failed}
+use Rattle.pocsag_pager.specs.declared.pager.State.TheVariants.{Listening}
 use Rattle.pocsag_pager.specs.Shown.{Heard, IsMended, IsShown, said, shown_from}
-use Rattle.pocsag_pager.specs.Standing.{HaveEnded, ended_from, open_from}
+use Rattle.pocsag_pager.specs.Standing.{HaveEnded, IsElsewhere, ended_from, open_from}
 use Rattle.pocsag_pager.specs.Turns.{IsHeardAs, ending, next_open}
 use Rattle.pocsag_pager.proofs.Mending.{AreRepaired, heard_at, all_mended_same}
 use Rattle.pocsag_pager.proofs.Places.{ended_more, ending_none, last_synced, last_unsynced, next_open_elsewhere, next_open_same, open_more, shown_is, unsynced_long, unsynced_more}
@@ -36,7 +37,7 @@ heard_both words P Q h k =
 pub heard_skip : (words : List ℕ) (w : ℕ) (P : List (Option Kind) → Type 0) → length words % 17 ≡ 0 → Heard words P → Heard (words ++ w ∷ []) P
 heard_skip words w P place h =
     let same : unsynced 0 (words ++ w ∷ []) ≡ unsynced 0 words =
-        unsynced_more 0 words w ∙ ap (λ xs. unsynced 0 words ++ xs) (last_synced (0 + length words) w (omega arith)) ∙ append-nil (unsynced 0 words) in
+    unsynced_more 0 words w ∙ ap (λ xs. unsynced 0 words ++ xs) (last_synced (0 + length words) w (omega arith)) ∙ append-nil (unsynced 0 words) in
     record { mended = h.mended; each = subst (λ (ws : List ℕ). AllZip IsMended ws h.mended) (sym same) h.each; holds = h.holds }
 
 pub heard_more : (words : List ℕ) (w : ℕ) (m : Option Kind) (P Q : List (Option Kind) → Type 0) → length words % 17 ≢ 0 → IsHeardAs w m → Heard words P
@@ -44,11 +45,11 @@ pub heard_more : (words : List ℕ) (w : ℕ) (m : Option Kind) (P Q : List (Opt
 heard_more words w m P Q place is h f =
     let inside : (0 + length words) % 17 ≢ 0 = λ e. place (omega arith) in
     let same : unsynced 0 (words ++ w ∷ []) ≡ unsynced 0 words ++ w ∷ [] =
-        unsynced_more 0 words w ∙ ap (λ xs. unsynced 0 words ++ xs) (last_unsynced (0 + length words) w inside) in
+    unsynced_more 0 words w ∙ ap (λ xs. unsynced 0 words ++ xs) (last_unsynced (0 + length words) w inside) in
     let long : length (map said h.mended) ≡ length (unsynced 0 words) =
-        length-map h.mended said ∙ AllZip-long IsMended (unsynced 0 words) h.mended h.each in
+    length-map h.mended said ∙ AllZip-long IsMended (unsynced 0 words) h.mended h.each in
     let joined : map said (h.mended ++ is.mended ∷ []) ≡ map said h.mended ++ m ∷ [] =
-        map-append said h.mended (is.mended ∷ []) ∙ ap (λ (k : Option Kind). map said h.mended ++ k ∷ []) is.is in
+    map-append said h.mended (is.mended ∷ []) ∙ ap (λ (k : Option Kind). map said h.mended ++ k ∷ []) is.is in
     record {
       mended = h.mended ++ is.mended ∷ [];
       each = subst (λ (ws : List ℕ). AllZip IsMended ws (h.mended ++ is.mended ∷ [])) (sym same)
@@ -77,19 +78,19 @@ module _ (a p w : ℕ) (words : List ℕ) (s : State) (before : Option Page) (m 
   turn_open after e =
       heard_more words w m (λ ms. s ≡ Listening (open_from a 0 ms)) (λ ms. Listening after ≡ Listening (open_from a 0 ms)) not_synced is stands
       (λ ms long h.
-        let slot : length ms % 16 ≡ (p - 1) % 16 = omega (arith, unsynced_long 0 words) in
-        ap Listening (e ∙ next_open_same a (p - 1) (length ms) before m (sym slot)
-          ∙ ap (λ (o : Option Page). next_open a (length ms) o m) (open_is s before (open_from a 0 ms) holds h)
-          ∙ sym (open_more a 0 (length ms) ms m (omega arith))))
+      let slot : length ms % 16 ≡ (p - 1) % 16 = omega (arith, unsynced_long 0 words) in
+      ap Listening (e ∙ next_open_same a (p - 1) (length ms) before m (sym slot)
+      ∙ ap (λ (o : Option Page). next_open a (length ms) o m) (open_is s before (open_from a 0 ms) holds h)
+      ∙ sym (open_more a 0 (length ms) ms m (omega arith))))
 
   pub turn_ended : (ps : List Page) (ended : Option Page) → ended ≡ ending before m → HaveEnded words a ps → HaveEnded (words ++ w ∷ []) a (ps ++ option_to_list ended)
   turn_ended ps ended e have =
       heard_more words w m (λ ms. (s ≡ Listening (open_from a 0 ms)) × (ps ≡ ended_from a 0 ms)) (λ ms. ps ++ option_to_list ended ≡ ended_from a 0 ms) not_synced is
       (heard_both words (λ ms. s ≡ Listening (open_from a 0 ms)) (λ ms. ps ≡ ended_from a 0 ms) stands have)
       (λ ms long h.
-        ap₂ (λ (xs : List Page) (o : Option Page). xs ++ option_to_list o) h.1
-          (e ∙ ap (λ (o : Option Page). ending o m) (open_is s before (open_from a 0 ms) holds h.0))
-        ∙ sym (ended_more a 0 ms m))
+      ap₂ (λ (xs : List Page) (o : Option Page). xs ++ option_to_list o) h.1
+      (e ∙ ap (λ (o : Option Page). ending o m) (open_is s before (open_from a 0 ms) holds h.0))
+      ∙ sym (ended_more a 0 ms m))
 
 -- ---- a word at the place of a synchronisation codeword
 
@@ -128,6 +129,46 @@ module _ (law : AreRepaired) (a p w : ℕ) (words : List ℕ) (s : State) (small
         | inr n ↦ turn_ended a p w words s None at.kind place (omega arith) holds at.heard stands ps None (sym (ending_none at.kind)) have
       ]
 
+-- ---- words that are passed over
+
+-- what is known after words: the page that is open, and the pages that have ended
+pub record Known (words : List ℕ) (a : ℕ) (s : State) (ps : List Page) : Type 0 where
+  pub open_page : IsOpen words a s
+  pub ended : HaveEnded words a ps
+
+far_place : (a q n : ℕ) → IsElsewhere a q (n + 1) → (q ≡ 0) ⊎ ((q - 1) / 2 ≢ a % 8)
+far_place a q n (inl before) =
+    elim (cases_eq q 0) [
+      | inl first ↦ inl first
+      | inr later ↦ inr (λ e. absurd (omega arith))
+    ]
+far_place a q n (inr after) = inr (λ e. absurd (omega (arith, after.0)))
+
+far_next : (a q n : ℕ) → IsElsewhere a q (n + 1) → IsElsewhere a (q + 1) n
+far_next a q n (inl before) = inl (omega arith)
+far_next a q n (inr after) = inr (omega (arith, after.0), omega (arith, after.1))
+
+far_within : (a q n : ℕ) → IsElsewhere a q (n + 1) → q < 17
+far_within a q n (inl before) = omega arith
+far_within a q n (inr after) = omega (arith, after.1)
+
+pub pass_all : AreRepaired → (a q : ℕ) (s : State) (words more : List ℕ) (ps : List Page) → All (λ w. w < 2 ^ 32) more → q % 17 ≡ length words % 17
+    → s ≡ Listening None → IsElsewhere a q (length more) → Known words a s ps → Known (words ++ more) a s ps
+pass_all law a q s words [] ps small place holds far known = subst (λ (ws : List ℕ). Known ws a s ps) (sym (append-nil words)) known
+pass_all law a q s words (w ∷ more) ps small place holds far known =
+    let away : IsElsewhere a q (length more + 1) = subst (λ (n : ℕ). IsElsewhere a q n) (omega arith) far in
+    let within : q < 17 = far_within a q (length more) away in
+    let here : q ≡ length words % 17 = omega arith in
+    let fits : w < 2 ^ 32 = All-head (λ v. v < 2 ^ 32) w more small in
+    let next : Known (words ++ w ∷ []) a s ps = record {
+      open_page = pass_open law a q w words s fits here holds (far_place a q (length more) away) known.open_page;
+      ended = subst (HaveEnded (words ++ w ∷ []) a) (append-nil ps)
+          (pass_ended law a q w words s fits here holds (far_place a q (length more) away) known.open_page ps known.ended);
+    } in
+    subst (λ (ws : List ℕ). Known ws a s ps) (append_assoc words (w ∷ []) more)
+    (pass_all law a (q + 1) s (words ++ w ∷ []) more ps (All-tail (λ v. v < 2 ^ 32) w more small) (omega (arith, length-append words (w ∷ []))) holds
+    (far_next a q (length more) away) next)
+
 -- ---- the end
 
 pub all_shown : (a : ℕ) (words : List ℕ) (s : State) (before : Option Page) (ps : List Page) → s ≡ Listening before → IsOpen words a s → HaveEnded words a ps
@@ -136,5 +177,5 @@ all_shown a words s before ps holds stands have =
     heard_then words (λ ms. (s ≡ Listening (open_from a 0 ms)) × (ps ≡ ended_from a 0 ms)) (λ ms. ps ++ option_to_list before ≡ shown_from a 0 ms)
     (heard_both words (λ ms. s ≡ Listening (open_from a 0 ms)) (λ ms. ps ≡ ended_from a 0 ms) stands have)
     (λ ms h.
-      ap₂ (λ (xs : List Page) (o : Option Page). xs ++ option_to_list o) h.1 (open_is s before (open_from a 0 ms) holds h.0)
-      ∙ sym (shown_is a 0 ms))
+    ap₂ (λ (xs : List Page) (o : Option Page). xs ++ option_to_list o) h.1 (open_is s before (open_from a 0 ms) holds h.0)
+    ∙ sym (shown_is a 0 ms))

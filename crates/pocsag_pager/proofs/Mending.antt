@@ -3,9 +3,7 @@ use Rattle.std.proofs.Common.{◌≡◌, ℕ, ◌^◌, ◌<◌, ◌⊎◌, List,
 use Rattle.std.specs.Prelude.{Option, Some, None}
 use Rattle.std.specs.List.{AllZip}
 use Rattle.pocsag_words.specs.Codeword.{IsCodeword, IsNear, IsOnlyNear, HasNoneNear}
-use Rattle.pocsag_words.specs.Columns.{syndrome_of}
 use Rattle.pocsag_words.specs.declared.codeword.Kind.{Kind}
-use Rattle.pocsag_words.proofs.ErrorLemmas.{HasNoneNear-from_far, IsOnlyNear-mended}
 use Rattle.pocsag_pager.specs.Shown.{IsMended, said}
 use Rattle.pocsag_pager.specs.Turns.{IsHeardAs}
 

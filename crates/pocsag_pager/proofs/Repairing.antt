@@ -1,9 +1,9 @@
 -- A damaged transmission is heard as it was sent.
-use Rattle.std.proofs.Common.{◌≡◌, ◌≢◌, ℕ, zero, suc, ◌+◌, ◌*◌, ◌-◌, ◌/◌, ◌%◌, ◌^◌, ◌<◌, ◌≤◌, Bool, true, false, cond, nat_eq, List, [], ◌∷◌, ◌++◌, length, map, drop, filter, All, refl, sym, ap, ap₂, subst, ◌∙◌, inl, inr, arith, lit<, eq-eqb, eqb-true, ◌↔◌, ◌&&◌}
+use Rattle.std.proofs.Common.{◌≡◌, ◌≢◌, ℕ, ◌+◌, ◌*◌, ◌-◌, ◌/◌, ◌%◌, ◌^◌, ◌<◌, ◌≤◌, Bool, true, false, cond, nat_eq, List, [], ◌∷◌, ◌++◌, length, map, drop, filter, All, refl, sym, ap, ap₂, subst, ◌∙◌, inl, inr, arith, lit<, eq-eqb, eqb-true, ◌↔◌}
 use Rattle.std.specs.Prelude.{Option, Some, None}
-use Rattle.std.specs.Int.{to_be_bytes, from_be_bytes, w32}
+use Rattle.std.specs.Int.{to_be_bytes, w32}
 use Rattle.std.specs.List.{AllZip, flat_map}
-use Rattle.std.proofs.lemmas.Bool.{cases_eq, cases_Bool}
+use Rattle.std.proofs.lemmas.Bool.{cases_eq}
 use Rattle.std.proofs.lemmas.Bool.Decides.{nat_tests}
 use Rattle.std.proofs.lemmas.List.{length-map, length-drop}
 use Rattle.std.proofs.lemmas.List.Elements.{All-head, All-tail}
@@ -78,7 +78,7 @@ no_fault end T batches R Y legal damaged =
     let body : length (body_bytes T) ≡ 4 * length (synced 0 T) = bytes_long (synced 0 T) in
     let sent : length (drop (leading (bytes_of T)) (bytes_of T)) ≡ length (body_bytes T) = ap length (after_is T (omega arith)) in
     let same : length (after_preamble Y) ≡ length (body_bytes T) =
-        length-drop (leading Y) Y ∙ ap₂ ◌-◌ (sym damaged.long) (sym damaged.preamble) ∙ sym (length-drop (leading (bytes_of T)) (bytes_of T)) ∙ sent in
+    length-drop (leading Y) Y ∙ ap₂ ◌-◌ (sym damaged.long) (sym damaged.preamble) ∙ sym (length-drop (leading (bytes_of T)) (bytes_of T)) ∙ sent in
     let words : length (synced 0 T) ≡ 17 * batches = omega (arith, synced_long 0 T) in
     no_fault_case 72 (68 * batches) (omega arith) (omega arith) (omega arith) Y front (omega arith)
 
@@ -143,8 +143,8 @@ shown_is_chosen a i (Address high function ∷ ks) =
     let q : Page = record { address = 8 * high + frame_at i; function = function; payload = items_of ks } in
     ap (λ b. cond b (page_of a function (map Some ks) ∷ shown_from a (i + 1) (map Some ks)) (shown_from a (i + 1) (map Some ks))) (ours_is a i high)
     ∙ page_case (nat_eq (8 * high + frame_at i) a) (page_of a function (map Some ks)) q (shown_from a (i + 1) (map Some ks)) (filter (calls a) (pages_from (i + 1) ks))
-      (λ ours. ap₂ (λ (address : ℕ) (items : List ℕ). (record { address = address; function = function; payload = items })) (sym (eqb-true _ _ ours)) (run_is ks))
-      (shown_is_chosen a (i + 1) ks)
+    (λ ours. ap₂ (λ (address : ℕ) (items : List ℕ). (record { address = address; function = function; payload = items })) (sym (eqb-true _ _ ours)) (run_is ks))
+    (shown_is_chosen a (i + 1) ks)
 shown_is_chosen a i (Message bits ∷ ks) = shown_is_chosen a (i + 1) ks
 
 -- that readings are plain, by the law of that name

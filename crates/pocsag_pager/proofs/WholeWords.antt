@@ -1,9 +1,10 @@
 -- The words of bytes, taken four bytes at a time.
-use Rattle.std.proofs.Common.{◌≡◌, ℕ, zero, suc, ◌+◌, ◌/◌, ◌<◌, ◌≤◌, List, [], ◌∷◌, ◌++◌, length, get_or, take, map, refl, sym, ap, subst, ◌∙◌, arith}
+use Rattle.std.proofs.Common.{◌≡◌, ℕ, zero, suc, ◌+◌, ◌-◌, ◌*◌, ◌/◌, ◌^◌, ◌<◌, ◌≤◌, All, drop, List, [], ◌∷◌, ◌++◌, length, get_or, take, map, refl, sym, ap, ap₂, subst, ◌∙◌, arith, append_assoc, take-add}
 use Rattle.std.specs.Prelude.{Option, Some, None, Result, Ok, Err, IfOk, IfErr, MatchResult}
 use Rattle.std.specs.Int.{from_be_bytes, w32}
 use Rattle.std.specs.Simd.{first_chunks}
-use Rattle.std.proofs.lemmas.List.{map-append, take_more}
+use Rattle.std.proofs.lemmas.List.{map-append, take_more, length-take, take-append-drop}
+use Rattle.std.proofs.lemmas.List.Elements.{All-cons, All-nil}
 use Rattle.pocsag_pages.specs.declared.page.Page.{Page}
 use Rattle.pocsag_pages.specs.Bytes.{words_of}
 use Rattle.pocsag_pager.specs.Shown.{IsShown}
@@ -51,3 +52,52 @@ if_ok_then (Err e) P Q f ok = ok
 pub not_both : {X : Type 0} (o : Option X) (x : X) → o ≡ None → o ≡ Some x → ⊥
 not_both None x none some = cc
 not_both (Some y) x none some = cc
+
+-- ---- lists of bytes in parts
+
+pub words_long : (xs : List ℕ) → length (words_of xs) ≡ length xs / 4
+words_long [] = refl
+words_long (a ∷ []) = refl
+words_long (a ∷ b ∷ []) = refl
+words_long (a ∷ b ∷ c ∷ []) = refl
+words_long (a ∷ b ∷ c ∷ d ∷ xs) = let rest = words_long xs in omega arith
+
+words_append : (k : ℕ) (xs ys : List ℕ) → length xs ≡ 4 * k → words_of (xs ++ ys) ≡ words_of xs ++ words_of ys
+words_append k [] ys e = refl
+words_append k (a ∷ []) ys e = absurd (omega arith)
+words_append k (a ∷ b ∷ []) ys e = absurd (omega arith)
+words_append k (a ∷ b ∷ c ∷ []) ys e = absurd (omega arith)
+words_append k (a ∷ b ∷ c ∷ d ∷ xs) ys e = ap (λ ws. from_be_bytes w32 (a ∷ b ∷ c ∷ d ∷ []) ∷ ws) (words_append (k - 1) xs ys (omega arith))
+
+pub words_split : (k n : ℕ) (xs : List ℕ) → n ≡ 4 * k → n ≤ length xs → words_of xs ≡ words_of (take n xs) ++ words_of (drop n xs)
+words_split k n xs e within =
+    ap words_of (sym (take-append-drop n xs)) ∙ words_append k (take n xs) (drop n xs) (omega (arith, length-take n xs))
+
+word_small : (a b c d : ℕ) → a < 256 → b < 256 → c < 256 → d < 256 → from_be_bytes w32 (a ∷ b ∷ c ∷ d ∷ []) < 2 ^ 32
+word_small a b c d h i j k = omega arith
+
+pub words_small : (xs : List ℕ) → ((i : ℕ) → get_or xs i 0 < 256) → All (λ w. w < 2 ^ 32) (words_of xs)
+words_small [] h = All-nil _
+words_small (a ∷ []) h = All-nil _
+words_small (a ∷ b ∷ []) h = All-nil _
+words_small (a ∷ b ∷ c ∷ []) h = All-nil _
+words_small (a ∷ b ∷ c ∷ d ∷ xs) h =
+    All-cons (λ w. w < 2 ^ 32) (from_be_bytes w32 (a ∷ b ∷ c ∷ d ∷ [])) (words_of xs) (word_small a b c d (h 0) (h 1) (h 2) (h 3))
+    (words_small xs (λ i. h (suc (suc (suc (suc i))))))
+
+pub three_parts : (k n : ℕ) (words xs before rest frame after : List ℕ) → n ≡ 4 * k → n ≤ length xs → 8 ≤ length rest → before ≡ take n xs → rest ≡ drop n xs
+    → frame ≡ take 8 rest → after ≡ drop 8 rest → ((words ++ words_of before) ++ words_of frame) ++ words_of after ≡ words ++ words_of xs
+three_parts k n words xs before rest frame after e within room b r f a =
+    let both : List ℕ → List ℕ → List ℕ = λ ys zs. words_of ys ++ words_of zs in
+    let second : words_of frame ++ words_of after ≡ words_of rest = ap₂ both f a ∙ sym (words_split 2 8 rest refl room) in
+    let first : words_of before ++ words_of rest ≡ words_of xs = ap₂ both b r ∙ sym (words_split k n xs e within) in
+    append_assoc (words ++ words_of before) (words_of frame) (words_of after) ∙ append_assoc words (words_of before) (words_of frame ++ words_of after)
+    ∙ ap (λ ws. words ++ ws) (ap (λ ws. words_of before ++ ws) second ∙ first)
+
+pub next_batch : (i : ℕ) (xs : List ℕ) → 68 * i + 68 ≤ length xs
+    → words_of (take (68 * (i + 1)) xs) ≡ words_of (take (68 * i) xs) ++ words_of (take (68 * i + 68 - 68 * i) (drop (68 * i) xs))
+next_batch i xs within =
+    let next : 68 * (i + 1) ≡ 68 * i + (68 * i + 68 - 68 * i) = omega arith in
+    let long : length (take (68 * i) xs) ≡ 4 * (17 * i) = omega (arith, length-take (68 * i) xs) in
+    ap (λ (n : ℕ). words_of (take n xs)) next ∙ ap words_of (take-add (68 * i) (68 * i + 68 - 68 * i) xs)
+    ∙ words_append (17 * i) (take (68 * i) xs) (take (68 * i + 68 - 68 * i) (drop (68 * i) xs)) long

@@ -1,5 +1,5 @@
 -- Where a pager stands after words, which it does not store (this project's own).
-use Rattle.std.specs.Prelude.{◌≡◌, ℕ, ◌+◌, ◌%◌, ◌&&◌, not, if◌then◌else◌, List, [], ◌∷◌, length, Bool, true, false, Option, Some, None}
+use Rattle.std.specs.Prelude.{◌≡◌, ℕ, ◌+◌, ◌*◌, ◌%◌, ◌≤◌, ◌⊎◌, ◌&&◌, not, if◌then◌else◌, List, [], ◌∷◌, length, Bool, true, false, Option, Some, None}
 use Rattle.pocsag_words.specs.declared.codeword.Kind.{Kind}
 use Rattle.pocsag_words.specs.declared.codeword.Kind.TheVariants.{Idle, Address, Message}
 use Rattle.pocsag_pages.specs.declared.page.Page.{Page}
@@ -50,3 +50,12 @@ IsOver p = p.state ≡ Failed
 pub record Stands (p : Pager) (words : List ℕ) : Type 0 where
   pub place : p.place ≡ length words % 17
   pub open_page : Heard words (λ ms. p.state ≡ Listening (open_from p.address 0 ms))
+
+-- The pager has heard these words, and these are the pages that have ended.
+pub record HasHeard (p : Pager) (words : List ℕ) (ps : List Page) : Type 0 where
+  pub stands : Stands p words
+  pub ended : HaveEnded words (address_of p) ps
+
+-- So many places of a batch, from this one on, are all before the address's frame or all after it.
+abbrev pub IsElsewhere : ℕ → ℕ → ℕ → Type 0
+IsElsewhere a place count = (place + count ≤ 1 + 2 * (a % 8)) ⊎ ((3 + 2 * (a % 8) ≤ place) × (place + count ≤ 17))

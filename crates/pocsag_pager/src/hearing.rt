@@ -1,4 +1,4 @@
-ghost use Rattle.std.specs.Prelude.{◌≡◌, ◌≤◌, ◌⊎◌, ◌==◌, ℕ, List, [], ◌++◌, length, filter, All, None, IfOk, IfErr, OnOk, MatchResult, option_to_list};
+ghost use Rattle.std.specs.Prelude.{◌≡◌, ◌≤◌, ◌⊎◌, ◌==◌, ◌%◌, ℕ, List, [], ◌++◌, length, filter, All, None, IfOk, IfErr, OnOk, MatchResult, option_to_list};
 ghost use Rattle.pocsag_words.specs.declared.ending.End.{End};
 ghost use Rattle.pocsag_pages.specs.declared.page.Page.{Page};
 ghost use Rattle.pocsag_pages.specs.Bytes.{after_preamble, bytes_of, leading, words_of};
@@ -8,7 +8,7 @@ ghost use Rattle.pocsag_pager.specs.Damage.{IsDamaged};
 ghost use Rattle.pocsag_pager.specs.Faults.{address_fault, bytes_fault, fault_of};
 ghost use Rattle.pocsag_pages.specs.Listable.{IsListable};
 ghost use Rattle.pocsag_pager.specs.Shown.{IsShown};
-ghost use Rattle.pocsag_pager.specs.Standing.{HaveEnded, Stands, address_of};
+ghost use Rattle.pocsag_pager.specs.Standing.{HasHeard, Stands, address_of};
 
 use crate::fault::PagerFault;
 use crate::laws::{damage_is_repaired, shown_pages_are_one_list};
@@ -42,7 +42,8 @@ fn after_leading(bytes: &[u8], count: usize) -> &[u8]
 #[tactic(auto, unfolding(crate::specs::Faults::bytes_fault))]
 fn batches_of(bytes: &[u8]) -> Result<&[u8], PagerFault>
     ensures ok { IfOk result (λ rest. rest.now ≡ after_preamble bytes.now) }
-    ensures whole { OnOk result (bytes_fault bytes.now ≡ None) }
+    ensures whole { IfOk result (λ rest. length rest.now % 68 ≡ 0) }
+    ensures fine { OnOk result (bytes_fault bytes.now ≡ None) }
     ensures err { IfErr result (λ e. bytes_fault bytes.now ≡ Some e) }
 {
     let count = leading_count(bytes);
@@ -74,17 +75,58 @@ fn keep(pages: &mut Vec<Page>, page: Option<Page>) -> Result<(), PagerFault>
     }
 }
 
-// What a pager that has heard nothing shows of the words of these bytes.
-fn hear_words(alloc: Global, mut pager: Pager, bytes: &[u8]) -> Result<Vec<Page>, PagerFault>
-    requires { Stands pager [] }
+// Hears the words of these bytes, and keeps the pages that end.
+fn hear_each(pager: &mut Pager, pages: &mut Vec<Page>, bytes: &[u8]) -> Result<(), PagerFault>
+    ensures ok { (words : List ℕ) → HasHeard pager.old words pages.old.items → OnOk result (HasHeard pager.new (words ++ words_of bytes.now) pages.new.items) }
+    ensures err { (words : List ℕ) → HasHeard pager.old words pages.old.items → IfErr result (λ e. e ≡ PagerFault.OutOfMemory) }
+    ensures address { address_of pager.new ≡ address_of pager.old }
+{
+    let (words, _) = bytes.as_chunks::<4>();
+    for word in words {
+        let ended = pager.hear(u32::from_be_bytes(*word))?;
+        keep(pages, ended)?;
+    }
+    Ok(())
+}
+
+// The same, where the words are passed over unheard if they change nothing.
+fn hear_part(pager: &mut Pager, pages: &mut Vec<Page>, bytes: &[u8]) -> Result<(), PagerFault>
+    ensures ok { (words : List ℕ) → HasHeard pager.old words pages.old.items → OnOk result (HasHeard pager.new (words ++ words_of bytes.now) pages.new.items) }
+    ensures err { (words : List ℕ) → HasHeard pager.old words pages.old.items → IfErr result (λ e. e ≡ PagerFault.OutOfMemory) }
+    ensures address { address_of pager.new ≡ address_of pager.old }
+{
+    let count = bytes.len() / 4;
+    if pager.passes(count) {
+        pager.pass(count);
+        return Ok(());
+    }
+    hear_each(pager, pages, bytes)
+}
+
+// Hears a batch in three parts: what is before the address's frame, the frame, and what is after it.
+fn hear_batch(pager: &mut Pager, pages: &mut Vec<Page>, batch: &[u8]) -> Result<(), PagerFault>
+    requires { length batch.now ≡ 68 }
+    ensures ok { (words : List ℕ) → HasHeard pager.old words pages.old.items → OnOk result (HasHeard pager.new (words ++ words_of batch.now) pages.new.items) }
+    ensures err { (words : List ℕ) → HasHeard pager.old words pages.old.items → IfErr result (λ e. e ≡ PagerFault.OutOfMemory) }
+    ensures address { address_of pager.new ≡ address_of pager.old }
+{
+    let (before, rest) = batch.split_at(4 + 8 * pager.frame());
+    let (frame, after) = rest.split_at(8);
+    hear_part(pager, pages, before)?;
+    hear_each(pager, pages, frame)?;
+    hear_part(pager, pages, after)
+}
+
+// What a pager that has heard nothing shows of the words of these whole batches.
+fn hear_batches(alloc: Global, mut pager: Pager, bytes: &[u8]) -> Result<Vec<Page>, PagerFault>
+    requires pager { Stands pager [] }
+    requires whole { length bytes.now % 68 ≡ 0 }
     ensures shown { IfOk result (λ pages. IsShown (words_of bytes.now) (address_of pager) pages.items) }
     ensures err { IfErr result (λ e. e ≡ PagerFault.OutOfMemory) }
 {
     let mut pages = Vec::new(alloc);
-    let (words, _) = bytes.as_chunks::<4>();
-    for word in words {
-        let ended = pager.hear(u32::from_be_bytes(*word))?;
-        keep(&mut pages, ended)?;
+    for i in 0..bytes.len() / 68 {
+        hear_batch(&mut pager, &mut pages, &bytes[68 * i..68 * i + 68])?;
     }
     let last = pager.end()?;
     keep(&mut pages, last)?;
@@ -111,5 +153,5 @@ pub fn hear_all(alloc: Global, bytes: &[u8], address: u32) -> Result<Vec<Page>, 
     shown_pages_are_one_list();
     let pager = Pager::new(alloc, address)?;
     let batches = batches_of(bytes)?;
-    hear_words(alloc, pager, batches)
+    hear_batches(alloc, pager, batches)
 }

@@ -30,12 +30,12 @@ pub struct Pager {
 }
 
 impl Pager {
-    ghost use Rattle.std.specs.Prelude.{◌≡◌, ◌≢◌, ◌⊎◌, ℕ, ◌+◌, ◌-◌, ◌/◌, ◌%◌, List, [], ◌∷◌, ◌++◌, None, IfOk, IfErr, OnOk, OnErr, IsOk, option_to_list};
+    ghost use Rattle.std.specs.Prelude.{◌≡◌, ◌⊎◌, ℕ, ◌^◌, ◌%◌, List, [], ◌∷◌, ◌++◌, length, All, None, IfOk, IfErr, OnOk, OnErr, IsOk, option_to_list};
     ghost use Rattle.std.specs.Bool.{OnTrue};
     ghost use Rattle.pocsag_pages.specs.declared.page.Page.{Page};
     ghost use Rattle.pocsag_pager.specs.Faults.{address_fault};
     ghost use Rattle.pocsag_pager.specs.Shown.{IsShown};
-    ghost use Rattle.pocsag_pager.specs.Standing.{HaveEnded, IsOver, Stands, address_of};
+    ghost use Rattle.pocsag_pager.specs.Standing.{HasHeard, HaveEnded, IsElsewhere, IsOver, Stands, address_of};
 
     /// A pager that has heard nothing yet, which takes no memory. It refuses an address above
     /// 2,097,151 (`BadAddress`) and then a reserved one (`ReservedAddress`).
@@ -59,7 +59,6 @@ impl Pager {
     /// Hears the next word. Every seventeenth word, the first among them, is passed over as a
     /// synchronisation word, whatever it holds; any other is repaired. The page that this word ends
     /// is answered. After `OutOfMemory` and after `end` the pager answers `Failed`.
-    #[inline(always)]
     pub fn hear(&mut self, word: u32) -> Result<Option<Page>, PagerFault>
         ensures stands { (words : List ℕ) → Stands self.old words → OnOk result (Stands self.new (words ++ word ∷ [])) }
 
@@ -74,10 +73,6 @@ impl Pager {
     {
         let place = self.place;
         self.place = (place + 1) % 17;
-        if self.passes_over(place) {
-            numbers_are_repaired();
-            return Ok(None);
-        }
         let State::Listening(kept) = mem::replace(&mut self.state, State::Failed) else {
             return Err(PagerFault::Failed);
         };
@@ -110,17 +105,42 @@ impl Pager {
         }
     }
 
-    #[inline(always)]
-    // Whether a word at this place changes nothing: no page is open, and no codeword of the address
-    // can stand there.
-    fn passes_over(&self, place: u32) -> bool
-        requires { place < 17 }
-        ensures { OnTrue result ((self.now.state ≡ State.Listening None) × ((place ≡ 0) ⊎ ((place - 1) / 2 ≢ self.now.address % 8))) }
+    // The frame of the address.
+    pub(crate) fn frame(&self) -> usize
+        ensures { result ≡ address_of self.now % 8 }
     {
-        if let State::Listening(None) = self.state {
-            place == 0 || (place - 1) / 2 != self.address % 8
-        } else {
-            false
+        self.address as usize % 8
+    }
+
+    // Whether the next words, so many, change nothing: no page is open, and no codeword of the
+    // address can stand among them.
+    pub(crate) fn passes(&self, count: usize) -> bool
+        ensures open_page { OnTrue result (self.now.state ≡ State.Listening None) }
+        ensures places { OnTrue result (IsElsewhere (address_of self.now) self.now.place count) }
+    {
+        let State::Listening(None) = self.state else {
+            return false;
+        };
+        let first = self.place as usize;
+        let frame = 1 + 2 * self.frame();
+        if count > 17 {
+            return false;
         }
+        if first + count <= frame {
+            return true;
+        }
+        frame + 2 <= first && first + count <= 17
+    }
+
+    // Passes over the next words, so many, unheard.
+    pub(crate) fn pass(&mut self, count: usize)
+        requires open_page { self.old.state ≡ State.Listening None }
+        requires places { IsElsewhere (address_of self.old) self.old.place count }
+        ensures heard { (words more : List ℕ) (ps : List Page) → HasHeard self.old words ps → All (λ w. w < 2 ^ 32) more → length more ≡ count →
+            HasHeard self.new (words ++ more) ps }
+        ensures address { address_of self.new ≡ address_of self.old }
+    {
+        numbers_are_repaired();
+        self.place = (self.place + count as u32) % 17;
     }
 }

@@ -4,7 +4,9 @@ use std::alloc::Global;
 use std::test::Fail;
 
 const SYNC: u32 = 0x7CD2_15D8;
+
 const IDLE: u32 = 0x7A89_C197;
+
 const MESSAGE: u32 = 0xC261_572C;
 
 // The bytes of the preamble and of these words.
@@ -43,7 +45,10 @@ fn damaged_page(rt: HostRuntime) -> Result<(), Fail> {
     }
     let bytes = transmission(alloc, words.as_slice())?;
     let shown = hear_all(alloc, bytes.as_slice(), 0)?;
-    assert_eq!(rt; shown.as_slice(), [page(alloc, 0, 0, &[0x84C2A])?].as_slice());
+    assert_eq!(rt;
+        shown.as_slice(),
+        [page(alloc, 0, 0, &[0x84C2A])?].as_slice()
+    );
     Ok(())
 }
 
@@ -76,7 +81,10 @@ fn page_across_batches(rt: HostRuntime) -> Result<(), Fail> {
     words.extend_from_slice(batch(SYNC, MESSAGE, IDLE).as_slice())?;
     let bytes = transmission(alloc, words.as_slice())?;
     let shown = hear_all(alloc, bytes.as_slice(), 7)?;
-    assert_eq!(rt; shown.as_slice(), [page(alloc, 7, 0, &[0x84C2A])?].as_slice());
+    assert_eq!(rt;
+        shown.as_slice(),
+        [page(alloc, 7, 0, &[0x84C2A])?].as_slice()
+    );
     assert_eq!(rt; hear_all(alloc, bytes.as_slice(), 0)?.len(), 0);
     Ok(())
 }
@@ -110,7 +118,10 @@ fn fault(alloc: Global, len: usize, address: u32) -> Result<Option<PagerFault>, 
 fn bad_hear(rt: HostRuntime) -> Result<(), Fail> {
     let alloc = rt.alloc();
     assert_eq!(rt; fault(alloc, 140, 2_097_152)?, Some(PagerFault::BadAddress));
-    assert_eq!(rt; fault(alloc, 140, 2_007_664)?, Some(PagerFault::ReservedAddress));
+    assert_eq!(rt;
+        fault(alloc, 140, 2_007_664)?,
+        Some(PagerFault::ReservedAddress)
+    );
     assert_eq!(rt; fault(alloc, 71, 8)?, Some(PagerFault::ShortPreamble));
     assert_eq!(rt; fault(alloc, 72, 8)?, Some(PagerFault::NoBatch));
     assert_eq!(rt; fault(alloc, 139, 8)?, Some(PagerFault::Truncated));

@@ -11,9 +11,9 @@ returns-in_err-batches-clause-repaired c = λ end T batches R round legal damage
 
 pub returns-clause-repaired : goal.returns-clause-repaired
 returns-clause-repaired c = λ end T batches R round legal damaged fine.
-    by_result c.hear_words.result _ _
-    (if_ok_then c.hear_words.result _ _
-      (λ pages shown. c.damage_is_repaired.ensures.shown end T batches R c.args.bytes.now c.args.address pages.items round legal damaged
-        (shown_at _ _ _ _ _ _ (ap words_of (sym c.in_ok-batches.ensures.ok)) (sym c.in_ok-pager.ensures.address) refl shown))
-      c.hear_words.ensures.shown)
-    c.hear_words.ensures.err
+    by_result c.hear_batches.result _ _
+    (if_ok_then c.hear_batches.result _ _
+    (λ pages shown. c.damage_is_repaired.ensures.shown end T batches R c.args.bytes.now c.args.address pages.items round legal damaged
+    (shown_at _ _ _ _ _ _ (ap words_of (sym c.in_ok-batches.ensures.ok)) (sym c.in_ok-pager.ensures.address) refl shown))
+    c.hear_batches.ensures.shown)
+    c.hear_batches.ensures.err

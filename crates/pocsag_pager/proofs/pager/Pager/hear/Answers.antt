@@ -1,21 +1,6 @@
 use Rattle.std.proofs.Common.{◌<◌, sym, arith}
-use Rattle.pocsag_pager.proofs.Hearings.{pass_ended, pass_open, place_more, skip_ended, skip_open, turn_ended, turn_open}
+use Rattle.pocsag_pager.proofs.Hearings.{place_more, skip_ended, skip_open, turn_ended, turn_open}
 use Rattle.pocsag_pager.proofs.pager.Pager.hear.Goals as goal
-
-pub returns-then-passes_over-clause-stands : goal.returns-then-passes_over-clause-stands
-returns-then-passes_over-clause-stands c = λ words s.
-    let self = c.args.self.now in
-    let told = c.if-passes_over.ensures in
-    record {
-      place = place_more self.place words c.args.word s.place;
-      open_page = pass_open c.numbers_are_repaired.ensures self.address self.place c.args.word words self.state c.ranges.word.fits s.place told.0 told.1 s.open_page;
-    }
-
-pub returns-then-passes_over-clause-ended : goal.returns-then-passes_over-clause-ended
-returns-then-passes_over-clause-ended c = λ words ps s have.
-    let self = c.args.self.now in
-    let told = c.if-passes_over.ensures in
-    pass_ended c.numbers_are_repaired.ensures self.address self.place c.args.word words self.state c.ranges.word.fits s.place told.0 told.1 s.open_page ps have
 
 pub returns-then-place-eq0-clause-stands : goal.returns-then-place-eq0-clause-stands
 returns-then-place-eq0-clause-stands c = λ words s.

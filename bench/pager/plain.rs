@@ -1,0 +1,183 @@
+//! The benchmark `pager` in plain Rust: hearings of a transmission of 100 MB, by the same tables.
+
+use std::hint::black_box;
+use std::time::Instant;
+
+const BATCHES: usize = 1_470_587;
+const ADDRESS: u32 = 1_234_567;
+const SYNC: u32 = 0x7CD2_15D8;
+const IDLE: u32 = 0x7A89_C197;
+const FAR: u32 = u32::MAX;
+
+/// The check bits and the parity bit for data bits, by division.
+const fn divided(data: u32) -> u32 {
+    let mut rest = data << 10;
+    let mut place = 31;
+    while place > 10 {
+        place -= 1;
+        if rest >> place & 1 == 1 {
+            rest ^= 0x769 << (place - 10);
+        }
+    }
+    rest << 1 | (data.count_ones() + rest.count_ones()) & 1
+}
+
+const fn checks_from(shift: u32) -> [u32; 128] {
+    let mut table = [0; 128];
+    let mut i = 0;
+    while i < 128 {
+        table[i] = divided((i as u32) << shift);
+        i += 1;
+    }
+    table
+}
+
+static LOW: [u32; 128] = checks_from(0);
+static MIDDLE: [u32; 128] = checks_from(7);
+static HIGH: [u32; 128] = checks_from(14);
+
+#[inline(always)]
+fn check_bits(data: u32) -> u32 {
+    LOW[(data % 128) as usize] ^ MIDDLE[(data / 128 % 128) as usize] ^ HIGH[(data / 16384) as usize]
+}
+
+#[inline(always)]
+fn syndrome(number: u32) -> u32 {
+    number % 2048 ^ check_bits(number / 2048)
+}
+
+fn errors() -> [u32; 2048] {
+    let mut table = [FAR; 2048];
+    table[0] = 0;
+    for i in 0..32 {
+        for j in 0..=i {
+            let error = 1u32 << i | 1u32 << j;
+            table[syndrome(error) as usize] = error;
+        }
+    }
+    table
+}
+
+struct Page {
+    items: Vec<u32>,
+}
+
+struct Pager<'a> {
+    errors: &'a [u32; 2048],
+    open: Option<Page>,
+    pages: Vec<Page>,
+}
+
+impl Pager<'_> {
+    /// Hears a word, which is in the frame of the address or not.
+    fn hear(&mut self, word: u32, own: bool) {
+        let error = self.errors[syndrome(word) as usize];
+        if error == FAR {
+            self.pages.extend(self.open.take());
+            return;
+        }
+        let word = word ^ error;
+        if word != IDLE && word >> 31 == 1 {
+            if let Some(page) = &mut self.open {
+                page.items.push(word >> 11 & 0xF_FFFF);
+            }
+            return;
+        }
+        self.pages.extend(self.open.take());
+        if own && word != IDLE && word >> 13 == ADDRESS / 8 {
+            self.open = Some(Page { items: Vec::new() });
+        }
+    }
+}
+
+fn hear_all(errors: &[u32; 2048], bytes: &[u8]) -> Option<Vec<Page>> {
+    let count = bytes.iter().take_while(|&&byte| byte == 0xAA).count();
+    let rest = &bytes[count..];
+    if count < 72 || rest.is_empty() || rest.len() % 68 != 0 {
+        return None;
+    }
+    let mut pager = Pager { errors, open: None, pages: Vec::new() };
+    let frame = 1 + 2 * (ADDRESS as usize % 8);
+    for batch in rest.chunks_exact(68) {
+        let word = |place: usize| u32::from_be_bytes(batch[4 * place..4 * place + 4].try_into().unwrap());
+        if pager.open.is_some() {
+            for place in 1..frame {
+                pager.hear(word(place), false);
+            }
+        }
+        pager.hear(word(frame), true);
+        pager.hear(word(frame + 1), true);
+        if pager.open.is_some() {
+            for place in frame + 2..17 {
+                pager.hear(word(place), false);
+            }
+        }
+    }
+    pager.pages.extend(pager.open.take());
+    Some(pager.pages)
+}
+
+struct Random {
+    state: u64,
+}
+
+impl Random {
+    fn below(&mut self, limit: u32) -> u32 {
+        let state = self.state.wrapping_mul(6_364_136_223_846_793_005);
+        self.state = state.wrapping_add(1_442_695_040_888_963_407);
+        (self.state >> 33) as u32 % limit
+    }
+
+    fn error(&mut self, ones: u32) -> u32 {
+        let mut error = 0;
+        for last in 32 - ones..32 {
+            let bit = 1u32 << self.below(last + 1);
+            error |= if error & bit == 0 { bit } else { 1u32 << last };
+        }
+        error
+    }
+
+    fn word(&mut self) -> u32 {
+        let data = if self.below(10) == 0 {
+            4 * self.below(1 << 18) + self.below(4)
+        } else {
+            1 << 20 | self.below(1 << 20)
+        };
+        data << 11 | check_bits(data)
+    }
+}
+
+fn transmission(wrong: u32) -> Vec<u8> {
+    let mut random = Random { state: 1 };
+    let mut bytes = vec![0xAA; 72];
+    for batch in 0..BATCHES {
+        bytes.extend_from_slice(&(SYNC ^ random.error(wrong)).to_be_bytes());
+        for slot in 0..16 {
+            let word = if batch % 1000 == 0 && slot == 2 * (ADDRESS % 8) {
+                let data = ADDRESS / 8 * 4 + 3;
+                data << 11 | check_bits(data)
+            } else {
+                random.word()
+            };
+            bytes.extend_from_slice(&(word ^ random.error(wrong)).to_be_bytes());
+        }
+    }
+    bytes
+}
+
+fn main() {
+    let errors = errors();
+    for wrong in [0, 2] {
+        let bytes = transmission(wrong);
+        let start = Instant::now();
+        let pages = hear_all(&errors, black_box(&bytes)).unwrap_or_default();
+        let time = start.elapsed();
+        let mut sum = pages.len() as u64;
+        for page in &pages {
+            for item in &page.items {
+                sum = sum.wrapping_add(u64::from(*item));
+            }
+        }
+        println!("hear-{wrong} {}.{:06} {sum}", time.as_secs(), time.subsec_micros());
+    }
+}
