@@ -2,6 +2,7 @@
 //! Benchmarks of the crates. Given the name of one it prints a line for each part: the part, the
 //! seconds that it took, and a sum of its answers, by which another program's can be compared.
 
+mod flow;
 mod words;
 
 use std::{env, io};
@@ -11,6 +12,7 @@ fn main(rt: HostRuntime) -> io::Result<()> {
     let _program = args.next();
     match args.next() {
         Some(name) if name.as_str() == "words" => words::run(&rt),
-        _ => println!(rt; "benchmarks: words"),
+        Some(name) if name.as_str() == "flow" => flow::run(&rt),
+        _ => println!(rt; "benchmarks: flow, words"),
     }
 }
