@@ -4,6 +4,7 @@
 
 mod certificates;
 mod decode;
+mod flow;
 mod pager;
 mod words;
 
@@ -15,8 +16,9 @@ fn main(rt: HostRuntime) -> io::Result<()> {
     match args.next() {
         Some(name) if name.as_str() == "certificates" => certificates::run(&rt),
         Some(name) if name.as_str() == "decode" => decode::run(&rt),
+        Some(name) if name.as_str() == "flow" => flow::run(&rt),
         Some(name) if name.as_str() == "pager" => pager::run(&rt),
         Some(name) if name.as_str() == "words" => words::run(&rt),
-        _ => println!(rt; "benchmarks: certificates, decode, pager, words"),
+        _ => println!(rt; "benchmarks: certificates, decode, flow, pager, words"),
     }
 }

@@ -78,17 +78,13 @@ entered n before mid after slot most moved same here others out more full p clos
       };
     }
 
--- one class more leads nowhere
-pub left_more : (n : Network) (before now after : Search) (slot most moved class : ℕ) →
-    Leaves n before now slot class → Pushes n now after slot most moved → moved ≡ 0 →
-    LeadsInto n.limits (slice_index after.early) after.reached class slot →
-    Leaves n before after slot (class + 1)
-left_more n before now after slot most moved class l p none leads =
-    let still : after.early ≡ before.early = p.same none ∙ l.same in
+-- a step that moves nothing
+pub left_same : (n : Network) (before now after : Search) (slot most moved class : ℕ) →
+    Leaves n before now slot class → Pushes n now after slot most moved → moved ≡ 0 → Leaves n before after slot 0
+left_same n before now after slot most moved class l p none =
     let stuck : AreStuck n (slice_index before.early) now.reached after.reached = rw l.same at (p.stuck none) in
-    let here : LeadsInto n.limits (slice_index before.early) after.reached class slot = rw still at leads in
     record {
-      same = still;
+      same = p.same none ∙ l.same;
       grows = record { each = λ s held. p.grows.each s (l.grows.each s held) };
       more = omega (arith, l.more, p.more);
       stuck = record {
@@ -98,6 +94,22 @@ left_more n before now after slot most moved class l p none leads =
               | false ↦ (λ e. stuck.each s low held e)
             ] refl;
       };
+      leads = λ tried h. absurd (omega arith);
+    }
+
+-- one class more leads nowhere
+pub left_more : (n : Network) (before now after : Search) (slot most moved class : ℕ) →
+    Leaves n before now slot class → Pushes n now after slot most moved → moved ≡ 0 →
+    LeadsInto n.limits (slice_index after.early) after.reached class slot →
+    Leaves n before after slot (class + 1)
+left_more n before now after slot most moved class l p none leads =
+    let base : Leaves n before after slot 0 = left_same n before now after slot most moved class l p none in
+    let here : LeadsInto n.limits (slice_index before.early) after.reached class slot = rw base.same at leads in
+    record {
+      same = base.same;
+      grows = base.grows;
+      more = base.more;
+      stuck = base.stuck;
       leads = λ tried h.
           elim (cases_lt tried class) [
             | inl low ↦ leads_larger n.limits (slice_index before.early) after.reached now.reached tried slot p.grows (l.leads tried low)

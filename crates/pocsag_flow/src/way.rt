@@ -35,7 +35,8 @@ fn enter(network: &Network, search: &mut Search, slot: u8, most: u32) -> u32
     }
 }
 
-// Moves up to `most` out of the slot, which is reached, by the first class that leads on.
+// Moves up to `most` out of the slot, which is reached: straight into a slot with room, or else on by
+// the first class that leads to one.
 #[cycle(push)]
 pub(crate) fn leave(network: &Network, search: &mut Search, slot: u8, most: u32) -> u32
     requires network { IsNetworkOf network.now search.old }
@@ -45,6 +46,10 @@ pub(crate) fn leave(network: &Network, search: &mut Search, slot: u8, most: u32)
     ensures pushes { Pushes network.now search.old search.new slot most result }
     ensures closed { result ≡ 0 → IsClosed network.now.limits (slice_index search.new.early) search.new.reached slot }
 {
+    let straight = leave_straight(network, search, slot, most);
+    if straight > 0 {
+        return straight;
+    }
     for class in 0..CLASSES as u8 {
         let moved = switch(network, search, class, slot, most);
         if moved > 0 {
@@ -52,6 +57,57 @@ pub(crate) fn leave(network: &Network, search: &mut Search, slot: u8, most: u32)
         }
     }
     0
+}
+
+// Moves up to `most` out of the slot by the first class that leads straight into a slot with room.
+#[cycle(push)]
+fn leave_straight(network: &Network, search: &mut Search, slot: u8, most: u32) -> u32
+    requires network { IsNetworkOf network.now search.old }
+    requires reached { is_member search.old.reached slot ≡ true }
+    requires most { 0 < most }
+    ensures pushes { Pushes network.now search.old search.new slot most result }
+{
+    for class in 0..CLASSES as u8 {
+        let moved = switch_straight(network, search, class, slot, most);
+        if moved > 0 {
+            return moved;
+        }
+    }
+    0
+}
+
+#[cycle(push)]
+fn switch_straight(network: &Network, search: &mut Search, class: u8, slot: u8, most: u32) -> u32
+    requires network { IsNetworkOf network.now search.old }
+    requires class { class < 136 }
+    requires reached { is_member search.old.reached slot ≡ true }
+    requires most { 0 < most }
+    ensures pushes { Pushes network.now search.old search.new slot most result }
+{
+    if leads_to_room(network, class, slot) {
+        switch(network, search, class, slot, most)
+    } else {
+        0
+    }
+}
+
+// Whether the slot is one end of the runs of the class and the other end has room.
+fn leads_to_room(network: &Network, class: u8, slot: u8) -> bool
+    requires { class < 136 }
+{
+    let from = start(class, true);
+    let to = finish(class, true);
+    if slot == from {
+        has_room(network, to)
+    } else {
+        slot == to && has_room(network, from)
+    }
+}
+
+fn has_room(network: &Network, slot: u8) -> bool
+    requires { slot < 16 }
+{
+    network.loads[slot as usize] < network.limits.cap[slot as usize]
 }
 
 // Moves up to `most` out of the slot by runs of the class, from early to late or from late to early.

@@ -1,5 +1,5 @@
 use Rattle.std.proofs.Common.{◌≡◌, arith, refl}
-use Rattle.pocsag_flow.proofs.Steps.{entered, left_more, moved_late, moved_early}
+use Rattle.pocsag_flow.proofs.Steps.{entered, left_more, left_same, moved_late, moved_early}
 use Rattle.pocsag_flow.proofs.way.+push.Goals as goal
 
 pub enter-returns-else-load-cap : goal.enter-returns-else-load-cap
@@ -11,6 +11,12 @@ enter-returns-else-load-cap t c =
           (omega (arith, c.requires.network.loads c.args.slot c.requires.slot))
           c.leave.ensures.pushes c.leave.ensures.closed;
     }
+
+pub leave_straight-loop-class-preserved : goal.leave_straight-loop-class-preserved
+leave_straight-loop-class-preserved t c =
+    let none : c.switch_straight-moved.result ≡ 0 = omega arith in
+    left_same c.args.network.now c.args.search.now c.loop-class.search c.switch_straight-moved.new.search c.args.slot c.args.most
+    c.switch_straight-moved.result 0 c.loop-class.invariant c.switch_straight-moved.ensures.pushes none
 
 pub leave-loop-class-preserved : goal.leave-loop-class-preserved
 leave-loop-class-preserved t c =

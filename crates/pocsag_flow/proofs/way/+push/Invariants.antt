@@ -3,19 +3,28 @@ use Rattle.pocsag_flow.specs.Search.{Leaves}
 use Rattle.pocsag_flow.proofs.way.+push.Given as goal
 
 abbrev pub decreases-enter : goal.decreases-enter
-decreases-enter l = 5 * (65536 - l.search.now.reached)
+decreases-enter l = 6 * (65536 - l.search.now.reached)
 
 abbrev pub decreases-to_late : goal.decreases-to_late
-decreases-to_late l = 5 * (65536 - l.search.now.reached) + 1
+decreases-to_late l = 6 * (65536 - l.search.now.reached) + 1
 
 abbrev pub decreases-to_early : goal.decreases-to_early
-decreases-to_early l = 5 * (65536 - l.search.now.reached) + 1
+decreases-to_early l = 6 * (65536 - l.search.now.reached) + 1
 
 abbrev pub decreases-switch : goal.decreases-switch
-decreases-switch l = 5 * (65536 - l.search.now.reached) + 2
+decreases-switch l = 6 * (65536 - l.search.now.reached) + 2
+
+abbrev pub decreases-switch_straight : goal.decreases-switch_straight
+decreases-switch_straight l = 6 * (65536 - l.search.now.reached) + 3
+
+abbrev pub decreases-leave_straight : goal.decreases-leave_straight
+decreases-leave_straight l = 6 * (65536 - l.search.now.reached) + 4
 
 abbrev pub decreases-leave : goal.decreases-leave
-decreases-leave l = 5 * (65536 - l.search.now.reached) + 3
+decreases-leave l = 6 * (65536 - l.search.now.reached) + 5
+
+abbrev pub invariant-leave_straight-loop-class : goal.invariant-leave_straight-loop-class
+invariant-leave_straight-loop-class l = Leaves l.network l.fn.search l.search l.slot 0
 
 abbrev pub invariant-leave-loop-class : goal.invariant-leave-loop-class
-invariant-leave-loop-class l = Leaves l.network l.initial.search l.search l.slot l.class
+invariant-leave-loop-class l = Leaves l.network l.fn.search l.search l.slot l.class
