@@ -1,5 +1,5 @@
 -- What the steps of the search for a way do, each by the steps inside it.
-use Rattle.std.proofs.Common.{◌≡◌, ◌≢◌, ℕ, ◌+◌, ◌-◌, ◌*◌, ◌<◌, ◌≤◌, ◌⊎◌, max, true, false, refl, sym, ap, ◌∙◌, subst, arith, inl, inr, List, length, slice_index, slice_set, get_or-set_same, get_or-set_other, length-set}
+use Rattle.std.proofs.Common.{◌≡◌, ◌≢◌, ℕ, ◌+◌, ◌-◌, ◌*◌, ◌<◌, ◌≤◌, ◌⊎◌, true, false, refl, sym, ap, ◌∙◌, subst, arith, inl, inr, List, length, slice_index, slice_set, get_or-set_same, get_or-set_other, length-set}
 use Rattle.std.proofs.lemmas.Bool.{cases_eq, cases_lt}
 use Rattle.std.proofs.lemmas.Bool.Decides.{nat_tests}
 use Rattle.std.proofs.lemmas.List.{set-get_or}
@@ -252,7 +252,7 @@ moved_early n before mid class most amount moved h network held out room fits p 
 pub shifted_is : (loads : List ℕ) (from to moved slot : ℕ) → from < length loads → to < length loads → to ≢ from →
     moved ≤ slice_index loads from →
     slice_index (slice_set (slice_set loads from (slice_index loads from - moved)) to
-        (slice_index (slice_set loads from (slice_index loads from - moved)) to + moved)) slot + moved * same_slot from slot
+    (slice_index (slice_set loads from (slice_index loads from - moved)) to + moved)) slot + moved * same_slot from slot
     ≡ slice_index loads slot + moved * same_slot to slot
 shifted_is loads from to moved slot h l apart fits =
     let mid : List ℕ = slice_set loads from (slice_index loads from - moved) in
