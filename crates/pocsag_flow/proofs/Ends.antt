@@ -7,12 +7,14 @@ use Rattle.pocsag_slots.specs.declared.limit.Limits.{Limits}
 use Rattle.pocsag_slots.specs.Loads.{AreInOrder, IsWithin, Overloads, class_load, class_load_over, load}
 use Rattle.pocsag_slots.specs.Numbering.{finish_of, start_of}
 use Rattle.pocsag_slots.specs.Sums.{holds, sum_below, sum_over}
+use Rattle.pocsag_slots.proofs.LoadLemmas.{load_few}
 use Rattle.pocsag_slots.proofs.SumLemmas.{sum_below-le, sum_over-sum_below}
 use Rattle.pocsag_flow.specs.declared.network.Network.{Network}
 use Rattle.pocsag_flow.specs.declared.network.Search.{Search}
 use Rattle.pocsag_flow.specs.Choosing.{overload}
-use Rattle.pocsag_flow.specs.Search.{IsClosed, IsStuck, Pushes, Relieves}
+use Rattle.pocsag_flow.specs.Search.{IsClosed, IsStuck, Pushes, Relieves, same_slot}
 use Rattle.pocsag_flow.proofs.FlowSums.{sum_below-lt}
+use Rattle.pocsag_flow.proofs.Steps.{same_slot_other, same_slot_same}
 use Rattle.pocsag_flow.proofs.Shifts.{class_load_over_shift, finish_low, in_set, start_low}
 
 load_over : (k : Classes) (set : ℕ) (choice : ℕ → ℕ) →
@@ -105,16 +107,42 @@ shut_overloads n before after slot most moved h ordered within alone above p non
     (λ s l held. (stuck s l held).full) in
     omega (arith, least, caps)
 
+-- a way ends in another slot
+pub way_apart : (n : Network) (before after : ℕ → ℕ) (slot to moved : ℕ) →
+    slice_index n.limits.cap slot < load n.classes before slot → Relieves n before after slot to moved → to ≢ slot
+way_apart n before after slot to moved above relieved same =
+    let room : load n.classes before slot + moved ≤ slice_index n.limits.cap slot =
+    subst (λ (t : ℕ). load n.classes before t + moved ≤ slice_index n.limits.cap t) same relieved.room in
+    omega arith
+
 -- a way takes something from the overload
-pub overload_less : (n : Network) (before after : ℕ → ℕ) (slot moved : ℕ) → slot < 16 → 0 < moved →
-    slice_index n.limits.cap slot < load n.classes before slot → Relieves n before after slot moved →
+pub overload_less : (n : Network) (before after : ℕ → ℕ) (slot to moved : ℕ) → slot < 16 → 0 < moved →
+    slice_index n.limits.cap slot < load n.classes before slot → Relieves n before after slot to moved →
     overload n.classes n.limits after < overload n.classes n.limits before
 unfolding overload
-overload_less n before after slot moved h some above relieved =
-    sum_below-lt 16 slot _ _ h (omega (arith, relieved.here))
-    (λ s l. elim (cases_eq s slot) [
+overload_less n before after slot to moved h some above relieved =
+    let apart : to ≢ slot = way_apart n before after slot to moved above relieved in
+    let here : load n.classes after slot + moved * 1 ≡ load n.classes before slot + moved * 0 =
+    rw (same_slot_same slot, same_slot_other to slot apart) at (relieved.loads slot h) in
+    sum_below-lt 16 slot _ _ h (omega arith)
+    (λ s l. elim (cases_eq s to) [
       | inl is ↦
+          let there : load n.classes after to + moved * 0 ≡ load n.classes before to + moved * 1 =
+          rw (same_slot_other slot to (λ same. apart (sym same)), same_slot_same to) at (relieved.loads to relieved.to_fits) in
           subst (λ (t : ℕ). load n.classes after t - slice_index n.limits.cap t ≤ load n.classes before t - slice_index n.limits.cap t) (sym is)
-          (omega (arith, relieved.here))
-      | inr other ↦ omega (arith, relieved.others s l other)
+          (omega (arith, relieved.room))
+      | inr other ↦
+          let there : load n.classes after s + moved * same_slot slot s ≡ load n.classes before s + moved * 0 =
+          rw (same_slot_other to s (λ same. other (sym same))) at (relieved.loads s l) in
+          omega arith
     ])
+
+-- the load of the slot where the way ends is small
+pub given_few : (n : Network) (before after : ℕ → ℕ) (slot to moved : ℕ) → AreInOrder n.classes n.limits → IsWithin n.limits after →
+    slice_index n.limits.cap slot < load n.classes before slot → Relieves n before after slot to moved →
+    load n.classes before to + moved ≤ 1760000
+given_few n before after slot to moved ordered within above relieved =
+    let apart : to ≢ slot = way_apart n before after slot to moved above relieved in
+    let there : load n.classes after to + moved * 0 ≡ load n.classes before to + moved * 1 =
+    rw (same_slot_other slot to (λ same. apart (sym same)), same_slot_same to) at (relieved.loads to relieved.to_fits) in
+    omega (arith, there, load_few n.classes after to relieved.to_fits (λ c h. omega (arith, within.most c h, ordered.counted c h)))

@@ -1,6 +1,6 @@
 -- A run that starts late in place of early takes load from the slot where it started and gives it to
 -- the slot where it ended.
-use Rattle.std.proofs.Common.{◌≡◌, ◌≢◌, ℕ, ◌+◌, ◌-◌, ◌*◌, ◌%◌, ◌<◌, ◌≤◌, ◌==◌, cond, true, false, ap, arith, slice_index}
+use Rattle.std.proofs.Common.{◌≡◌, ◌≢◌, ℕ, ◌+◌, ◌-◌, ◌*◌, ◌%◌, ◌<◌, ◌≤◌, cond, true, false, ap, arith, slice_index}
 use Rattle.std.proofs.lemmas.Bool.Decides.{nat_tests}
 use Rattle.pocsag_slots.specs.declared.class.Classes.{Classes}
 use Rattle.pocsag_slots.specs.Cover.{covered}
@@ -10,11 +10,8 @@ use Rattle.pocsag_slots.specs.Sums.{holds, sum_over}
 use Rattle.pocsag_slots.proofs.CoverLemmas.{covered_split}
 use Rattle.pocsag_slots.proofs.LeastLemmas.{class_load_over_is, members_more, members_none}
 use Rattle.pocsag_slots.proofs.SumLemmas.{sum_over-add, sum_over-same}
+use Rattle.pocsag_flow.specs.Search.{same_slot}
 use Rattle.pocsag_flow.proofs.FlowSums.{sum_below-change}
-
--- 1 where the slots are one, else 0
-unfoldable pub same_slot : ℕ → ℕ → ℕ
-same_slot a b = cond (a == b) 1 0
 
 -- 1 where the set has the slot, else 0
 unfoldable pub in_set : ℕ → ℕ → ℕ

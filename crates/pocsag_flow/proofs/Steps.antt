@@ -1,5 +1,5 @@
 -- What the steps of the search for a way do, each by the steps inside it.
-use Rattle.std.proofs.Common.{◌≡◌, ◌≢◌, ℕ, ◌+◌, ◌-◌, ◌*◌, ◌<◌, ◌≤◌, ◌⊎◌, max, true, false, refl, sym, ap, ◌∙◌, subst, arith, inl, inr, List, length, slice_index, slice_set, get_or-set_same, get_or-set_other, length-set}
+use Rattle.std.proofs.Common.{◌≡◌, ◌≢◌, ℕ, ◌+◌, ◌-◌, ◌*◌, ◌<◌, ◌≤◌, ◌⊎◌, true, false, refl, sym, ap, ◌∙◌, subst, arith, inl, inr, List, length, slice_index, slice_set, get_or-set_same, get_or-set_other, length-set}
 use Rattle.std.proofs.lemmas.Bool.{cases_eq, cases_lt}
 use Rattle.std.proofs.lemmas.Bool.Decides.{nat_tests}
 use Rattle.std.proofs.lemmas.List.{set-get_or}
@@ -9,8 +9,8 @@ use Rattle.pocsag_slots.specs.Numbering.{finish_of, start_of}
 use Rattle.pocsag_slots.specs.Sums.{holds}
 use Rattle.pocsag_flow.specs.declared.network.Network.{Network}
 use Rattle.pocsag_flow.specs.declared.network.Search.{Search}
-use Rattle.pocsag_flow.specs.Search.{AreStuck, Includes, IsClosed, IsNetworkOf, IsOf, IsStuck, Keeps, LeadsInto, Leaves, Pushes, Relieves}
-use Rattle.pocsag_flow.proofs.Shifts.{Moves, finish_low, load_moved, same_slot, start_low}
+use Rattle.pocsag_flow.specs.Search.{AreStuck, Includes, IsClosed, IsNetworkOf, IsOf, IsStuck, Keeps, LeadsInto, Leaves, Pushes, Relieves, same_slot}
+use Rattle.pocsag_flow.proofs.Shifts.{Moves, finish_low, load_moved, start_low}
 
 -- a slot outside the larger set is outside the smaller one
 outside : (large small s : ℕ) → Includes large small → holds large s ≡ false → holds small s ≡ false
@@ -119,51 +119,26 @@ left_more n before now after slot most moved class l p none leads =
           ];
     }
 
-same_slot_same : (a : ℕ) → same_slot a a ≡ 1
+pub same_slot_same : (a : ℕ) → same_slot a a ≡ 1
 unfolding same_slot
 same_slot_same a = grind (arith, nat_tests)
 
-same_slot_other : (a b : ℕ) → a ≢ b → same_slot a b ≡ 0
+pub same_slot_other : (a b : ℕ) → a ≢ b → same_slot a b ≡ 0
 unfolding same_slot
 same_slot_other a b ne = grind (arith, nat_tests)
-
--- what moved into the next slot is taken from this one, and no slot else is changed by the switch
-pub passed : (n : Network) (before mid after : ℕ → ℕ) (from to moved : ℕ) → from < 16 → to < 16 → from ≢ to →
-    Relieves n before mid to moved →
-    ((slot : ℕ) → slot < 16 → load n.classes after slot + moved * same_slot from slot ≡ load n.classes mid slot + moved * same_slot to slot) →
-    Relieves n before after from moved
-passed n before mid after from to moved low low_to apart relieved loads =
-    let back : to ≢ from = λ same. apart (sym same) in
-    let taken : load n.classes after from + moved * 1 ≡ load n.classes mid from + moved * 0 =
-    rw (same_slot_same from, same_slot_other to from back) at (loads from low) in
-    let given : load n.classes after to + moved * 0 ≡ load n.classes mid to + moved * 1 =
-    rw (same_slot_other from to apart, same_slot_same to) at (loads to low_to) in
-    record {
-      here = omega (arith, taken, relieved.others from low apart);
-      others = λ other h ne.
-          elim (cases_eq other to) [
-            | inl is ↦
-                subst (λ (t : ℕ). load n.classes after t ≤ max (load n.classes before t) (slice_index n.limits.cap t)) (sym is)
-                (omega (arith, given, relieved.here))
-            | inr else ↦
-                let here : load n.classes after other + moved * 0 ≡ load n.classes mid other + moved * 0 =
-                rw (same_slot_other from other (λ same. ne (sym same)), same_slot_other to other (λ same. else (sym same))) at (loads other h) in
-                omega (arith, here, relieved.others other h else)
-          ];
-    }
 
 -- the class between the slots is switched
 pub pushed_on : (n : Network) (before mid after : Search) (class from to most amount moved : ℕ) → from < 16 → to < 16 →
     holds before.reached from ≡ true → holds before.reached to ≡ false →
     ((to ≡ start_of class true) ⊎ (to ≡ finish_of class true)) →
-    Pushes n before mid to amount moved → amount ≤ most → after.reached ≡ mid.reached →
+    Pushes n before mid to amount moved → amount ≤ most → after.reached ≡ mid.reached → after.end ≡ mid.end →
     IsWithin n.limits (slice_index after.early) → length after.early ≡ 136 →
     ((c : ℕ) → c < 136 → c ≢ class → slice_index after.early c ≡ slice_index mid.early c) →
     ((slot : ℕ) → slot < 16 → load n.classes (slice_index after.early) slot + moved * same_slot from slot
     ≡ load n.classes (slice_index mid.early) slot + moved * same_slot to slot) →
     (moved ≡ 0 → after.early ≡ mid.early) →
     Pushes n before after from most moved
-pushed_on n before mid after class from to most amount moved low low_to held out between p fits reached within size others loads still =
+pushed_on n before mid after class from to most amount moved low low_to held out between p fits reached ended within size others loads still =
     let apart : from ≢ to = not_slot before.reached from to held out in
     let in_set : (s : ℕ) → IsOf before.reached from s → holds before.reached s ≡ true =
     λ s is. elim is [ inl inside ↦ inside | inr here ↦ ap (holds before.reached) here ∙ held ] in
@@ -188,7 +163,14 @@ pushed_on n before mid after class from to most amount moved low low_to held out
             let two : holds before.reached (finish_of c true) ≡ true = in_set (finish_of c true) last in
             others c h (other_class c one two) ∙ p.kept.each c h (inl one) (inl two);
       };
-      relieved = λ some. passed n (slice_index before.early) (slice_index mid.early) (slice_index after.early) from to moved low low_to apart (p.relieved some) loads;
+      relieved = λ some.
+          let way : Relieves n (slice_index before.early) (slice_index after.early) from mid.end moved =
+          record {
+            to_fits = (p.relieved some).to_fits;
+            room = (p.relieved some).room;
+            loads = λ slot l. omega (arith, loads slot l, (p.relieved some).loads slot l);
+          } in
+          rw ended way;
       same = λ none. still none ∙ p.same none;
       stuck = λ none. rw (← reached) at (p.stuck none);
     }
@@ -224,7 +206,7 @@ pub moved_late : (n : Network) (before mid : Search) (class most amount moved : 
     IsNetworkOf n before → holds before.reached (start_of class true) ≡ true → holds before.reached (finish_of class true) ≡ false →
     amount + slice_index n.limits.lo class ≤ slice_index before.early class → amount ≤ most →
     Pushes n before mid (finish_of class true) amount moved →
-    Pushes n before (record { early = slice_set mid.early class (slice_index mid.early class - moved); reached = mid.reached })
+    Pushes n before (record { early = slice_set mid.early class (slice_index mid.early class - moved); reached = mid.reached; end = mid.end })
     (start_of class true) most moved
 moved_late n before mid class most amount moved h network held out room fits p =
     let after : List ℕ = slice_set mid.early class (slice_index mid.early class - moved) in
@@ -235,8 +217,8 @@ moved_late n before mid class most amount moved h network held out room fits p =
       here = omega (arith, here, kept, p.bounded, room);
       others = λ c k ne. set_other mid.early class (slice_index mid.early class - moved) c ne;
     } in
-    pushed_on n before mid (record { early = after; reached = mid.reached }) class (start_of class true) (finish_of class true) most amount moved
-    (start_low class h) (finish_low class) held out (inr refl) p fits refl
+    pushed_on n before mid (record { early = after; reached = mid.reached; end = mid.end }) class (start_of class true) (finish_of class true) most amount moved
+    (start_low class h) (finish_low class) held out (inr refl) p fits refl refl
     (set_within n.limits mid.early class (slice_index mid.early class - moved) h p.size (omega (arith, kept, p.bounded, room)) (omega (arith, p.within.most class h)) p.within)
     (length-set mid.early class (slice_index mid.early class - moved) ∙ p.size)
     moves.others
@@ -247,7 +229,7 @@ pub moved_early : (n : Network) (before mid : Search) (class most amount moved :
     IsNetworkOf n before → holds before.reached (finish_of class true) ≡ true → holds before.reached (start_of class true) ≡ false →
     slice_index before.early class + amount ≤ slice_index n.limits.hi class → amount ≤ most →
     Pushes n before mid (start_of class true) amount moved →
-    Pushes n before (record { early = slice_set mid.early class (slice_index mid.early class + moved); reached = mid.reached })
+    Pushes n before (record { early = slice_set mid.early class (slice_index mid.early class + moved); reached = mid.reached; end = mid.end })
     (finish_of class true) most moved
 moved_early n before mid class most amount moved h network held out room fits p =
     let after : List ℕ = slice_set mid.early class (slice_index mid.early class + moved) in
@@ -258,10 +240,45 @@ moved_early n before mid class most amount moved h network held out room fits p 
       here = sym here;
       others = λ c k ne. sym (set_other mid.early class (slice_index mid.early class + moved) c ne);
     } in
-    pushed_on n before mid (record { early = after; reached = mid.reached }) class (finish_of class true) (start_of class true) most amount moved
-    (finish_low class) (start_low class h) held out (inl refl) p fits refl
+    pushed_on n before mid (record { early = after; reached = mid.reached; end = mid.end }) class (finish_of class true) (start_of class true) most amount moved
+    (finish_low class) (start_low class h) held out (inl refl) p fits refl refl
     (set_within n.limits mid.early class (slice_index mid.early class + moved) h p.size (omega (arith, p.within.least class h)) (omega (arith, kept, p.bounded, room)) p.within)
     (length-set mid.early class (slice_index mid.early class + moved) ∙ p.size)
     (λ c k ne. sym (moves.others c k ne))
     (λ slot l. sym (load_moved n.classes (slice_index after) (slice_index mid.early) class moved slot h l (omega (arith, here, kept, p.bounded, room, network.ordered.counted class h)) moves))
     (λ none. set_still mid.early class (slice_index mid.early class + moved) (omega (arith, none)))
+
+-- the loads of a switch from one slot to another
+pub shifted_is : (loads : List ℕ) (from to moved slot : ℕ) → from < length loads → to < length loads → to ≢ from →
+    moved ≤ slice_index loads from →
+    slice_index (slice_set (slice_set loads from (slice_index loads from - moved)) to
+    (slice_index (slice_set loads from (slice_index loads from - moved)) to + moved)) slot + moved * same_slot from slot
+    ≡ slice_index loads slot + moved * same_slot to slot
+shifted_is loads from to moved slot h l apart fits =
+    let mid : List ℕ = slice_set loads from (slice_index loads from - moved) in
+    let v : ℕ = slice_index mid to + moved in
+    let taken : slice_index mid from ≡ slice_index loads from - moved = get_or-set_same loads from (slice_index loads from - moved) 0 h in
+    let kept : slice_index mid to ≡ slice_index loads to = get_or-set_other loads from to (slice_index loads from - moved) 0 apart in
+    let size : to < length mid = omega (arith, length-set loads from (slice_index loads from - moved)) in
+    elim (cases_eq slot from) [
+      | inl is ↦
+          let here : slice_index (slice_set mid to v) from ≡ slice_index mid from = get_or-set_other mid to from v 0 (λ same. apart (sym same)) in
+          let one : same_slot from from ≡ 1 = same_slot_same from in
+          let none : same_slot to from ≡ 0 = same_slot_other to from apart in
+          subst (λ (t : ℕ). slice_index (slice_set mid to v) t + moved * same_slot from t ≡ slice_index loads t + moved * same_slot to t) (sym is)
+          (rw (one, none) (omega arith))
+      | inr other ↦ elim (cases_eq slot to) [
+        | inl is ↦
+            let here : slice_index (slice_set mid to v) to ≡ v = get_or-set_same mid to v 0 size in
+            let one : same_slot to to ≡ 1 = same_slot_same to in
+            let none : same_slot from to ≡ 0 = same_slot_other from to (λ same. apart (sym same)) in
+            subst (λ (t : ℕ). slice_index (slice_set mid to v) t + moved * same_slot from t ≡ slice_index loads t + moved * same_slot to t) (sym is)
+            (rw (one, none) (omega arith))
+        | inr else ↦
+            let here : slice_index (slice_set mid to v) slot ≡ slice_index mid slot = get_or-set_other mid to slot v 0 else in
+            let there : slice_index mid slot ≡ slice_index loads slot = get_or-set_other loads from slot (slice_index loads from - moved) 0 other in
+            let none : same_slot from slot ≡ 0 = same_slot_other from slot (λ same. other (sym same)) in
+            let nothing : same_slot to slot ≡ 0 = same_slot_other to slot (λ same. else (sym same)) in
+            rw (none, nothing) (omega arith)
+      ]
+    ]

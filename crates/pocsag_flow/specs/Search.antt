@@ -1,11 +1,13 @@
 -- The search for a way that leads load from an overfull slot to one with room (this project's own).
-use Rattle.std.specs.Prelude.{◌≡◌, ◌≢◌, ℕ, ◌+◌, ◌<◌, ◌≤◌, ◌⊎◌, max, true, false, length, slice_index}
+use Rattle.std.specs.Prelude.{◌≡◌, ℕ, ◌+◌, ◌*◌, ◌<◌, ◌≤◌, ◌==◌, ◌⊎◌, cond, true, false, length, slice_index}
+use Rattle.pocsag_slots.specs.declared.class.Classes.{Classes}
 use Rattle.pocsag_slots.specs.declared.limit.Limits.{Limits}
 use Rattle.pocsag_slots.specs.Loads.{AreInOrder, IsWithin, load}
 use Rattle.pocsag_slots.specs.Numbering.{finish_of, start_of}
 use Rattle.pocsag_slots.specs.Sums.{holds}
 use Rattle.pocsag_flow.specs.declared.network.Network.{Network}
 use Rattle.pocsag_flow.specs.declared.network.Search.{Search}
+use Rattle.pocsag_flow.specs.declared.network.Standing.{Standing}
 
 -- The network holds the loads of the search's choice, which is within the limits.
 pub record IsNetworkOf (n : Network) (s : Search) : Type 0 where
@@ -13,6 +15,12 @@ pub record IsNetworkOf (n : Network) (s : Search) : Type 0 where
   pub within : IsWithin n.limits (slice_index s.early)
   pub size : length s.early ≡ 136
   pub loads : (slot : ℕ) → slot < 16 → slice_index n.loads slot ≡ load n.classes (slice_index s.early) slot
+
+-- The choice is within the limits, and these are its loads.
+pub record IsStanding (k : Classes) (l : Limits) (s : Standing) : Type 0 where
+  pub within : IsWithin l (slice_index s.early)
+  pub size : length s.early ≡ 136
+  pub loads : (slot : ℕ) → slot < 16 → slice_index s.loads slot ≡ load k (slice_index s.early) slot
 
 -- No run of the class that the limits let move leads load from the slot out of the set.
 pub record LeadsInto (l : Limits) (early : ℕ → ℕ) (set class slot : ℕ) : Type 0 where
@@ -42,11 +50,16 @@ pub record Keeps (set slot : ℕ) (before after : ℕ → ℕ) : Type 0 where
   pub each : (class : ℕ) → class < 136 → IsOf set slot (start_of class true) → IsOf set slot (finish_of class true) →
       after class ≡ before class
 
--- So much load is taken from the slot, and no slot is loaded more than before or than its cap.
-pub record Relieves (n : Network) (before after : ℕ → ℕ) (slot moved : ℕ) : Type 0 where
-  pub here : load n.classes after slot + moved ≤ max (load n.classes before slot) (slice_index n.limits.cap slot)
-  pub others : (other : ℕ) → other < 16 → other ≢ slot →
-      load n.classes after other ≤ max (load n.classes before other) (slice_index n.limits.cap other)
+-- 1 where the slots are one, else 0
+unfoldable pub same_slot : ℕ → ℕ → ℕ
+same_slot a b = cond (a == b) 1 0
+
+-- So much load is taken from one slot and given to another, which has room for it.
+pub record Relieves (n : Network) (before after : ℕ → ℕ) (from to moved : ℕ) : Type 0 where
+  pub to_fits : to < 16
+  pub room : load n.classes before to + moved ≤ slice_index n.limits.cap to
+  pub loads : (slot : ℕ) → slot < 16 →
+      load n.classes after slot + moved * same_slot from slot ≡ load n.classes before slot + moved * same_slot to slot
 
 -- What a step of the search does for the slot: it moves some load on, or finds all new slots stuck.
 pub record Pushes (n : Network) (before after : Search) (slot most moved : ℕ) : Type 0 where
@@ -57,7 +70,7 @@ pub record Pushes (n : Network) (before after : Search) (slot most moved : ℕ) 
   pub marked : holds after.reached slot ≡ true
   pub bounded : moved ≤ most
   pub kept : Keeps before.reached slot (slice_index before.early) (slice_index after.early)
-  pub relieved : 0 < moved → Relieves n (slice_index before.early) (slice_index after.early) slot moved
+  pub relieved : 0 < moved → Relieves n (slice_index before.early) (slice_index after.early) slot after.end moved
   pub same : moved ≡ 0 → after.early ≡ before.early
   pub stuck : moved ≡ 0 → AreStuck n (slice_index before.early) before.reached after.reached
 

@@ -1,10 +1,11 @@
-ghost use Rattle.std.specs.Prelude.{◌≡◌, ℕ, ◌^◌, ◌<◌, ◌≤◌, IfErr, IfNone, IfOk, IfSome, slice_index};
+ghost use Rattle.std.specs.Prelude.{◌≡◌, ◌≢◌, ℕ, ◌+◌, ◌*◌, ◌^◌, ◌<◌, ◌≤◌, IfErr, IfNone, IfOk, IfSome, length, slice_index};
 ghost use Rattle.pocsag_slots.specs.Loads.{AreInOrder, IsAdmitted, IsLeastLoad, IsWithin, load, Overloads};
 ghost use Rattle.pocsag_slots.specs.Sums.{sum_over};
 ghost use Rattle.pocsag_flow.specs.Choosing.{HasSlot, IsBelowLeast, overload, set_of};
+ghost use Rattle.pocsag_flow.specs.Search.{IsStanding, same_slot};
 
 use crate::fault::ChooseFault;
-use crate::network::{Network, Search};
+use crate::network::{Network, Search, Standing};
 use crate::way::{leave, with};
 use pocsag_slots::{CLASSES, Choice, Classes, Limits, SLOTS, loads};
 
@@ -34,13 +35,17 @@ pub fn choose_from(
     ensures overloads { IfErr result (λ fault. Overloads classes.now limits.now (set_of fault)) }
     ensures least { IfErr result (λ fault. IsBelowLeast classes.now limits.now (set_of fault)) }
 {
-    let mut choice = clamped(limits, start);
-    let mut counted = loads(classes, &choice);
-    while let Some(slot) = overfull(&counted, limits) {
-        choice = relieved(classes, limits, &choice, counted, slot)?;
-        counted = loads(classes, &choice);
+    let choice = clamped(limits, start);
+    let mut standing = Standing {
+        early: choice.early,
+        loads: loads(classes, &choice),
+    };
+    while let Some(slot) = overfull(&standing.loads, limits) {
+        standing = relieved(classes, limits, &standing, slot)?;
     }
-    Ok(choice)
+    Ok(Choice {
+        early: standing.early,
+    })
 }
 
 // The choice within the limits that is nearest to the given one.
@@ -71,42 +76,58 @@ fn overfull(counted: &[u32; 16], limits: &Limits) -> Option<u8>
     None
 }
 
-// A choice with less overload, some of the load of the slot moved to slots with room; or the set of all
+// A choice with less overload, some of the load of the slot moved to one with room; or the set of all
 // slots to which load can be moved from there.
 fn relieved(
     classes: &Classes,
     limits: &Limits,
-    choice: &Choice,
-    counted: [u32; 16],
+    standing: &Standing,
     slot: u8,
-) -> Result<Choice, ChooseFault>
+) -> Result<Standing, ChooseFault>
     requires ordered { AreInOrder classes.now limits.now }
-    requires within { IsWithin limits.now (slice_index choice.now.early) }
-    requires counted { (at : ℕ) → at < 16 → slice_index counted at ≡ load classes.now (slice_index choice.now.early) at }
+    requires standing { IsStanding classes.now limits.now standing.now }
     requires slot { slot < 16 }
-    requires above { slice_index limits.now.cap slot < slice_index counted slot }
-    ensures within { IfOk result (λ after. IsWithin limits.now (slice_index after.early)) }
-    ensures less { IfOk result (λ after. overload classes.now limits.now (slice_index after.early) < overload classes.now limits.now (slice_index choice.now.early)) }
+    requires above { slice_index limits.now.cap slot < slice_index standing.now.loads slot }
+    ensures standing { IfOk result (IsStanding classes.now limits.now) }
+    ensures less { IfOk result (λ after. overload classes.now limits.now (slice_index after.early) < overload classes.now limits.now (slice_index standing.now.early)) }
     ensures some { IfErr result (λ fault. HasSlot (set_of fault)) }
     ensures overloads { IfErr result (λ fault. Overloads classes.now limits.now (set_of fault)) }
 {
-    let excess = counted[slot as usize] - limits.cap[slot as usize];
+    let excess = standing.loads[slot as usize] - limits.cap[slot as usize];
     let network = Network {
         classes: *classes,
         limits: *limits,
-        loads: counted,
+        loads: standing.loads,
     };
     let mut search = Search {
-        early: choice.early,
+        early: standing.early,
         reached: with(0, slot),
+        end: slot,
     };
-    if leave(&network, &mut search, slot, excess) == 0 {
-        Err(overload_of(search.reached))
-    } else {
-        Ok(Choice {
-            early: search.early,
-        })
+    let moved = leave(&network, &mut search, slot, excess);
+    if moved == 0 {
+        return Err(overload_of(search.reached));
     }
+    Ok(Standing {
+        early: search.early,
+        loads: shifted(standing.loads, slot, search.end, moved),
+    })
+}
+
+// The loads where so much is taken from one slot and given to another.
+fn shifted(loads: [u32; 16], from: u8, to: u8, moved: u32) -> [u32; 16]
+    requires from { from < 16 }
+    requires to { to < 16 }
+    requires apart { to ≢ from }
+    requires taken { moved ≤ slice_index loads from }
+    requires given { slice_index loads to + moved < 2 ^ 32 }
+    ensures length { length result ≡ 16 }
+    ensures loads { (slot : ℕ) → slot < 16 → slice_index result slot + moved * same_slot from slot ≡ slice_index loads slot + moved * same_slot to slot }
+{
+    let mut after = loads;
+    after[from as usize] -= moved;
+    after[to as usize] += moved;
+    after
 }
 
 // The fault that names the set of slots.

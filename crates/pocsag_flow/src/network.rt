@@ -8,9 +8,17 @@ pub(crate) struct Network {
     pub(crate) loads: [u32; 16],
 }
 
-// The choice, and the slots that the search has reached.
+// The choice, the slots that the search has reached, and the one with room where its way ended.
 #[derive(Drop)]
 pub(crate) struct Search {
     pub(crate) early: [u32; 136],
     pub(crate) reached: u16,
+    pub(crate) end: u8,
+}
+
+// A choice with the load of each slot.
+#[derive(Drop)]
+pub(crate) struct Standing {
+    pub(crate) early: [u32; 136],
+    pub(crate) loads: [u32; 16],
 }

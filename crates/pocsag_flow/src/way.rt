@@ -29,6 +29,7 @@ fn enter(network: &Network, search: &mut Search, slot: u8, most: u32) -> u32
     let load = network.loads[slot as usize];
     let cap = network.limits.cap[slot as usize];
     if load < cap {
+        search.end = slot;
         most.min(cap - load)
     } else {
         leave(network, search, slot, most)

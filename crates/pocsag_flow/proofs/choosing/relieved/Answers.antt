@@ -1,31 +1,38 @@
-use Rattle.std.proofs.Common.{◌∙◌, ◌-◌, ◌<◌, arith, slice_index}
+use Rattle.std.proofs.Common.{◌≡◌, ◌∙◌, ◌-◌, ◌<◌, arith, slice_index}
 use Rattle.pocsag_flow.specs.declared.network.Network.{Network}
 use Rattle.pocsag_flow.specs.declared.network.Search.{Search}
-use Rattle.pocsag_flow.proofs.Ends.{overload_less, shut_overloads}
+use Rattle.pocsag_flow.proofs.Ends.{given_few, overload_less, shut_overloads}
 use Rattle.pocsag_flow.proofs.Members.{holds_none}
 use Rattle.pocsag_flow.proofs.choosing.relieved.Goals as goal
 
-pub returns-then-leave-eq0-clause-some : goal.returns-then-leave-eq0-clause-some
-returns-then-leave-eq0-clause-some c =
+pub returns-then-moved-eq0-clause-overloads : goal.returns-then-moved-eq0-clause-overloads
+returns-then-moved-eq0-clause-overloads c =
+    let n : Network = record { classes = c.args.classes.now; limits = c.args.limits.now; loads = c.args.standing.now.loads } in
+    let before : Search = record { early = c.args.standing.now.early; reached = c.with.result; end = c.args.slot } in
+    let none : c.leave-moved.result ≡ 0 = omega arith in
     rw c.overload_of.ensures.fault
-    (record { slot = c.args.slot; slots = c.requires.slot; held = c.leave.ensures.pushes.marked; small = c.overload_of.ensures.small })
-
-pub returns-then-leave-eq0-clause-overloads : goal.returns-then-leave-eq0-clause-overloads
-returns-then-leave-eq0-clause-overloads c =
-    let n : Network = record { classes = c.args.classes.now; limits = c.args.limits.now; loads = c.args.counted } in
-    let before : Search = record { early = c.args.choice.now.early; reached = c.with.result } in
-    rw c.overload_of.ensures.fault
-    (shut_overloads n before c.leave.new.search c.args.slot (slice_index c.args.counted c.args.slot - slice_index c.args.limits.now.cap c.args.slot) c.leave.result
-    c.requires.slot c.requires.ordered c.requires.within
+    (shut_overloads n before c.leave-moved.new.search c.args.slot
+    (slice_index c.args.standing.now.loads c.args.slot - slice_index c.args.limits.now.cap c.args.slot) c.leave-moved.result
+    c.requires.slot c.requires.ordered c.requires.standing.within
     (λ other ne. c.with.ensures.others other ne ∙ holds_none other)
-    (omega (arith, c.requires.above, c.requires.counted c.args.slot c.requires.slot))
-    c.leave.ensures.pushes (omega arith) (c.leave.ensures.closed (omega arith)))
+    (omega (arith, c.requires.above, c.requires.standing.loads c.args.slot c.requires.slot))
+    c.leave-moved.ensures.pushes none (c.leave-moved.ensures.closed none))
 
-pub returns-else-leave-eq0-clause-less : goal.returns-else-leave-eq0-clause-less
-returns-else-leave-eq0-clause-less c =
-    let n : Network = record { classes = c.args.classes.now; limits = c.args.limits.now; loads = c.args.counted } in
-    let some : 0 < c.leave.result = omega arith in
-    overload_less n (slice_index c.args.choice.now.early) (slice_index c.leave.new.search.early) c.args.slot c.leave.result
+pub shifted-requires-clause-given : goal.shifted-requires-clause-given
+shifted-requires-clause-given c =
+    let n : Network = record { classes = c.args.classes.now; limits = c.args.limits.now; loads = c.args.standing.now.loads } in
+    let some : 0 < c.leave-moved.result = omega arith in
+    let few = given_few n (slice_index c.args.standing.now.early) (slice_index c.leave-moved.new.search.early) c.args.slot c.leave-moved.new.search.end c.leave-moved.result
+    c.requires.ordered c.leave-moved.ensures.pushes.within
+    (omega (arith, c.requires.above, c.requires.standing.loads c.args.slot c.requires.slot))
+    (c.leave-moved.ensures.pushes.relieved some) in
+    omega (arith, few, c.requires.standing.loads c.leave-moved.new.search.end (c.leave-moved.ensures.pushes.relieved some).to_fits)
+
+pub returns-clause-less : goal.returns-clause-less
+returns-clause-less c =
+    let n : Network = record { classes = c.args.classes.now; limits = c.args.limits.now; loads = c.args.standing.now.loads } in
+    let some : 0 < c.leave-moved.result = omega arith in
+    overload_less n (slice_index c.args.standing.now.early) (slice_index c.leave-moved.new.search.early) c.args.slot c.leave-moved.new.search.end c.leave-moved.result
     c.requires.slot some
-    (omega (arith, c.requires.above, c.requires.counted c.args.slot c.requires.slot))
-    (c.leave.ensures.pushes.relieved some)
+    (omega (arith, c.requires.above, c.requires.standing.loads c.args.slot c.requires.slot))
+    (c.leave-moved.ensures.pushes.relieved some)
