@@ -1,11 +1,9 @@
-use std::alloc::Global;
-use std::test::Fail;
-
+use crate::{check, check_open};
 use pocsag_pages::{Page, Payload, Round};
 use pocsag_tree::{Certificate, Tree, read_certificate};
 use pocsag_words::{End, MemorySource};
-
-use crate::{check, check_open};
+use std::alloc::Global;
+use std::test::Fail;
 
 // A page of function 0 whose items are all 11111.
 fn ones(alloc: Global, address: u32, count: usize) -> Result<Page, Fail> {
@@ -29,7 +27,11 @@ fn loops_apart(alloc: Global) -> Result<Round, Fail> {
 }
 
 fn three_pages_tight(alloc: Global) -> Result<Round, Fail> {
-    let pages = vec![in alloc; ones(alloc, 0, 5)?, ones(alloc, 3, 9)?, ones(alloc, 11, 15)?]?;
+    let pages = vec![in alloc;
+        ones(alloc, 0, 5)?,
+        ones(alloc, 3, 9)?,
+        ones(alloc, 11, 15)?,
+    ]?;
     Ok(Round::from_pages(alloc, pages)?)
 }
 
@@ -39,7 +41,12 @@ fn two_numeric_exact(alloc: Global) -> Result<Round, Fail> {
 }
 
 fn closed_both_ways(alloc: Global) -> Result<Round, Fail> {
-    let pages = vec![in alloc; ones(alloc, 0, 13)?, ones(alloc, 7, 0)?, ones(alloc, 15, 2)?, ones(alloc, 1, 13)?]?;
+    let pages = vec![in alloc;
+        ones(alloc, 0, 13)?,
+        ones(alloc, 7, 0)?,
+        ones(alloc, 15, 2)?,
+        ones(alloc, 1, 13)?,
+    ]?;
     Ok(Round::from_pages(alloc, pages)?)
 }
 
@@ -51,7 +58,12 @@ fn read(alloc: Global, bytes: &[u8]) -> Result<Certificate, Fail> {
 // Whether the round's certificate of these bytes is accepted for its own end.
 fn accepts(alloc: Global, round: &Round, bytes: &[u8]) -> Result<bool, Fail> {
     let certificate = read(alloc, bytes)?;
-    Ok(check(round, certificate.batches, &certificate.tree, certificate.end))
+    Ok(check(
+        round,
+        certificate.batches,
+        &certificate.tree,
+        certificate.end,
+    ))
 }
 
 #[test]
@@ -62,10 +74,28 @@ fn planning_certificates_are_accepted(rt: HostRuntime) -> Result<(), Fail> {
     assert!(rt; accepts(alloc, &lone_tone, b"PCB2\x00\x00\x00\x00\x01\x00\x00\x03")?);
     assert!(rt; accepts(alloc, &lone_tone, b"PCB2\x01\x00\x00\x00\x01\x00\x00\x03")?);
     let loop_apart = one_page(alloc, 3, 15)?;
-    assert!(rt; accepts(alloc, &loop_apart, b"PCB1\x00\x00\x00\x02\x02\x00\x01\x30\x00\x02\x00\x00\x01\x00\x80\x00")?);
+    assert!(rt;
+        accepts(
+            alloc,
+            &loop_apart,
+            b"PCB1\x00\x00\x00\x02\x02\x00\x01\x30\x00\x02\x00\x00\x01\x00\x80\x00"
+        )?
+    );
     let apart = loops_apart(alloc)?;
-    assert!(rt; accepts(alloc, &apart, b"PCB1\x00\x00\x00\x03\x02\x00\x01\x30\x00\x02\x00\x00\x01\x00\x80\x00")?);
-    assert!(rt; accepts(alloc, &apart, b"PCB2\x00\x00\x00\x00\x03\x02\x00\x01\x30\x00\x02\x00\x00\x01\x00\x80\x00")?);
+    assert!(rt;
+        accepts(
+            alloc,
+            &apart,
+            b"PCB1\x00\x00\x00\x03\x02\x00\x01\x30\x00\x02\x00\x00\x01\x00\x80\x00"
+        )?
+    );
+    assert!(rt;
+        accepts(
+            alloc,
+            &apart,
+            b"PCB2\x00\x00\x00\x00\x03\x02\x00\x01\x30\x00\x02\x00\x00\x01\x00\x80\x00"
+        )?
+    );
     Ok(())
 }
 
@@ -73,14 +103,50 @@ fn planning_certificates_are_accepted(rt: HostRuntime) -> Result<(), Fail> {
 fn closed_certificates_are_accepted(rt: HostRuntime) -> Result<(), Fail> {
     let alloc = rt.alloc();
     let exact = two_numeric_exact(alloc)?;
-    assert!(rt; accepts(alloc, &exact, b"PCB2\x01\x00\x00\x00\x02\x04\x01\x00\xff\xff")?);
-    assert!(rt; !accepts(alloc, &exact, b"PCB2\x00\x00\x00\x00\x02\x04\x01\x00\xff\xff")?);
-    assert!(rt; !accepts(alloc, &exact, b"PCB2\x01\x00\x00\x00\x02\x04\x02\x00\xff\xff\x00\xff\xff")?);
+    assert!(rt;
+        accepts(
+            alloc,
+            &exact,
+            b"PCB2\x01\x00\x00\x00\x02\x04\x01\x00\xff\xff"
+        )?
+    );
+    assert!(rt;
+        !accepts(
+            alloc,
+            &exact,
+            b"PCB2\x00\x00\x00\x00\x02\x04\x01\x00\xff\xff"
+        )?
+    );
+    assert!(rt;
+        !accepts(
+            alloc,
+            &exact,
+            b"PCB2\x01\x00\x00\x00\x02\x04\x02\x00\xff\xff\x00\xff\xff"
+        )?
+    );
     let both = closed_both_ways(alloc)?;
-    assert!(rt; accepts(alloc, &both, b"PCB2\x01\x00\x00\x00\x03\x04\x02\x00\xff\xff\x00\x80\x00")?);
-    assert!(rt; !accepts(alloc, &both, b"PCB2\x01\x00\x00\x00\x03\x04\x01\x00\xff\xff")?);
+    assert!(rt;
+        accepts(
+            alloc,
+            &both,
+            b"PCB2\x01\x00\x00\x00\x03\x04\x02\x00\xff\xff\x00\x80\x00"
+        )?
+    );
+    assert!(rt;
+        !accepts(
+            alloc,
+            &both,
+            b"PCB2\x01\x00\x00\x00\x03\x04\x01\x00\xff\xff"
+        )?
+    );
     let long = one_page(alloc, 7, 49)?;
-    assert!(rt; accepts(alloc, &long, b"PCB2\x01\x00\x00\x00\x05\x04\x01\x00\x80\x00")?);
+    assert!(rt;
+        accepts(
+            alloc,
+            &long,
+            b"PCB2\x01\x00\x00\x00\x05\x04\x01\x00\x80\x00"
+        )?
+    );
     Ok(())
 }
 
@@ -89,12 +155,36 @@ fn bad_certificates_are_refused(rt: HostRuntime) -> Result<(), Fail> {
     let alloc = rt.alloc();
     let apart = loops_apart(alloc)?;
     let whole = b"PCB1\x00\x00\x00\x03\x02\x00\x01\x30\x00\x02\x00\x00\x01\x00\x80\x00";
-    assert!(rt; !accepts(alloc, &apart, b"PCB1\x00\x00\x00\x03\x02\x00\x01\x30\x00\x02\x00\x00\x01\x00\x40\x00")?);
-    assert!(rt; !accepts(alloc, &apart, b"PCB1\x00\x00\x00\x03\x02\x00\x02\x30\x00\x02\x00\x00\x01\x00\x00\x02")?);
-    assert!(rt; !accepts(alloc, &apart, b"PCB1\x00\x00\x00\x03\x02\x00\x01\x00\x00\x02\x00\x00\x01\x00\x80\x00")?);
+    assert!(rt;
+        !accepts(
+            alloc,
+            &apart,
+            b"PCB1\x00\x00\x00\x03\x02\x00\x01\x30\x00\x02\x00\x00\x01\x00\x40\x00"
+        )?
+    );
+    assert!(rt;
+        !accepts(
+            alloc,
+            &apart,
+            b"PCB1\x00\x00\x00\x03\x02\x00\x02\x30\x00\x02\x00\x00\x01\x00\x00\x02"
+        )?
+    );
+    assert!(rt;
+        !accepts(
+            alloc,
+            &apart,
+            b"PCB1\x00\x00\x00\x03\x02\x00\x01\x00\x00\x02\x00\x00\x01\x00\x80\x00"
+        )?
+    );
     assert!(rt; !accepts(alloc, &three_pages_tight(alloc)?, whole)?);
     let lone_tone = one_page(alloc, 8, 0)?;
-    assert!(rt; !accepts(alloc, &lone_tone, b"PCB2\x00\x00\x00\x00\x01\x01\x00\x4e\x20\x03\x03")?);
+    assert!(rt;
+        !accepts(
+            alloc,
+            &lone_tone,
+            b"PCB2\x00\x00\x00\x00\x01\x01\x00\x4e\x20\x03\x03"
+        )?
+    );
     Ok(())
 }
 
