@@ -13,15 +13,17 @@ use Rattle.pocsag_words.specs.declared.codeword.Kind.{Kind}
 use Rattle.pocsag_words.specs.declared.codeword.Kind.TheVariants.{Idle, Address, Message}
 use Rattle.pocsag_words.proofs.ErrorLemmas.{IsCodeword-from_syndrome, syndrome_of-codeword}
 use Rattle.pocsag_pages.specs.declared.page.Page.{Page}
-use Rattle.pocsag_pages.specs.Bytes.{sync_word, synced, body_bytes, words_of, leading, after_preamble}
-use Rattle.pocsag_pages.specs.Plain.{HasNoOrphan}
+use Rattle.pocsag_pages.specs.Bytes.{Sent, sync_word, synced, unsynced, body_bytes, words_of, leading, after_preamble}
+use Rattle.pocsag_pages.specs.Plain.{HasNoOrphan, pages_from}
 use Rattle.pocsag_pages.proofs.Readings.{reads_plainly}
 use Rattle.pocsag_decode.specs.declared.fault.DecodeFault.{DecodeFault}
 use Rattle.pocsag_decode.specs.declared.fault.DecodeFault.TheVariants as fault
 use Rattle.pocsag_decode.specs.Faults.{words, HasFaultThere, HasFaultOfEnd, HasFault, HasNoFault, ReadsAs}
+use Rattle.pocsag_decode.specs.declared.state.Decoder.{Decoder}
+use Rattle.pocsag_decode.specs.Standing.{StandsAfter}
 use Rattle.pocsag_decode.specs.Places.{is_message, is_idle, index_at, may_follow, IsBad, no_sync, bad_word, orphan, IsGood, AreGood, HasBadWord}
 use Rattle.pocsag_decode.proofs.Preambles.{Parts, BeginsOther, leading_is, after_is, begun_leading, begun_after, nil_or, nil_from}
-use Rattle.pocsag_decode.proofs.Transmissions.{IsWhole}
+use Rattle.pocsag_decode.proofs.Transmissions.{IsWhole, codewords_of}
 use Rattle.pocsag_decode.proofs.WordByWord.{length_more, good_sync, bad_sync, good_codeword, bad_codeword, bad_orphan, bad_stays, may_sync, may_codeword}
 use Rattle.pocsag_decode.proofs.Words.{bad_on}
 
@@ -276,3 +278,34 @@ reads_whole X ps small r =
           rw (after, words_again (synced 0 T) (synced_small 0 T s.codewords)) (synced_good T [] 0 none_good (omega arith) (omega arith) s.codewords plain.no_orphan);
       batches = omega arith;
     }
+
+-- bytes are sent from one list of codewords
+unsynced_synced : (T : List ℕ) (i j : ℕ) → j % 17 ≢ 1 → i + (j + 16) / 17 ≡ j → unsynced j (synced i T) ≡ T
+unsynced_synced [] i j r at = refl
+unsynced_synced (w ∷ T) i j r at =
+    elim (cases_eq (i % 16) 0) [
+      | inl e ↦
+          let z : j % 17 ≡ 0 = omega arith in
+          let m : (j + 1) % 17 ≢ 0 = omega arith in
+          rw (eq-eqb _ _ e, eq-eqb _ _ z, ne_eqb _ _ m) (ap (λ (l : List ℕ). w ∷ l) (unsynced_synced T (i + 1) (j + 1 + 1) (omega arith) (omega arith)))
+      | inr n ↦
+          let m : j % 17 ≢ 0 = omega arith in
+          rw (ne_eqb _ _ n, ne_eqb _ _ m) (ap (λ (l : List ℕ). w ∷ l) (unsynced_synced T (i + 1) (j + 1) (omega arith) (omega arith)))
+    ]
+
+codewords_are : (X T : List ℕ) → Sent X T → codewords_of X ≡ T
+codewords_are X T s =
+    let after : after_preamble X ≡ body_bytes T = after_is X s.preamble (body_bytes T) (record { whole = s.bytes; other = body_begins T }) in
+    ap (λ (Y : List ℕ). unsynced 0 (words_of Y)) after
+    ∙ (ap (unsynced 0) (words_again (synced 0 T) (synced_small 0 T s.codewords)) ∙ unsynced_synced T 0 0 (omega arith) (omega arith))
+
+read_pages : (X : List ℕ) (ps : List Page) → ReadsAs X ps → ps ≡ pages_from 0 (map kind_of (codewords_of X))
+read_pages X ps r = (reads_plainly r.reads).pages ∙ ap (λ (T : List ℕ). pages_from 0 (map kind_of T)) (sym (codewords_are X r.codewords r.sent))
+
+pub one_reading : (X : List ℕ) (ps qs : List Page) → ReadsAs X ps → ReadsAs X qs → ps ≡ qs
+one_reading X ps qs r s = read_pages X ps r ∙ sym (read_pages X qs s)
+
+-- a decoder that stands has met no fault
+pub standing_clean : (d : Decoder) (X : List ℕ) (f : DecodeFault) → StandsAfter d X → ¬ HasFaultThere X f
+standing_clean d X f s (HasFaultThere.short a b) = let p = s.past b in omega arith
+standing_clean d X f s (HasFaultThere.bad a b) = all_good (words X) f s.words.read.good b

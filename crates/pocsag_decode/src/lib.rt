@@ -15,7 +15,10 @@ mod tests;
 mod whole;
 
 pub use fault::{DecodeFault, ListFault};
-pub use laws::{a_fault_there_stays, faults_are_one, no_fault_is_a_reading};
+pub use laws::{
+    a_fault_there_stays, faults_are_one, no_fault_is_a_reading, readings_of_bytes_are_one,
+    standing_is_without_fault,
+};
 pub use listing::list;
 pub use state::Decoder;
 pub use whole::decode;
