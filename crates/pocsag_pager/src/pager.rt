@@ -2,7 +2,7 @@ ghost use Rattle.std.specs.Prelude.{◌<◌};
 
 use crate::address::fault_of_address;
 use crate::fault::PagerFault;
-use crate::turn::{Change, change_at, heard_as};
+use crate::turn::{Change, change_at, heard_as, opens};
 use pocsag_pages::Page;
 use pocsag_words::numbers_are_repaired;
 use std::alloc::Global;
@@ -73,6 +73,10 @@ impl Pager {
     {
         let place = self.place;
         self.place = (place + 1) % 17;
+        let heard = heard_as(word);
+        if self.waits() && place > 0 && !opens(self.address, place - 1, heard) {
+            return Ok(None);
+        }
         let State::Listening(kept) = mem::replace(&mut self.state, State::Failed) else {
             return Err(PagerFault::Failed);
         };
@@ -80,7 +84,6 @@ impl Pager {
             self.state = State::Listening(kept);
             return Ok(None);
         }
-        let heard = heard_as(word);
         let Ok(change) = change_at(self.alloc, self.address, place - 1, kept, heard) else {
             return Err(PagerFault::OutOfMemory);
         };
@@ -112,15 +115,22 @@ impl Pager {
         self.address as usize % 8
     }
 
+    // Whether no page is open.
+    fn waits(&self) -> bool
+        ensures { OnTrue result (self.now.state ≡ State.Listening None) }
+    {
+        matches!(self.state, State::Listening(None))
+    }
+
     // Whether the next words, so many, change nothing: no page is open, and no codeword of the
     // address can stand among them.
     pub(crate) fn passes(&self, count: usize) -> bool
         ensures open_page { OnTrue result (self.now.state ≡ State.Listening None) }
         ensures places { OnTrue result (IsElsewhere (address_of self.now) self.now.place count) }
     {
-        let State::Listening(None) = self.state else {
+        if !self.waits() {
             return false;
-        };
+        }
         let first = self.place as usize;
         let frame = 1 + 2 * self.frame();
         if count > 17 {

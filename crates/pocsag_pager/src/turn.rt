@@ -1,4 +1,5 @@
-ghost use Rattle.std.specs.Prelude.{◌≡◌, ◌∷◌, [], ◌++◌, ◌<◌, IfOk};
+ghost use Rattle.std.specs.Prelude.{◌≡◌, ◌∷◌, [], ◌++◌, ◌<◌, None, IfOk};
+ghost use Rattle.std.specs.Bool.{OnFalse};
 ghost use Rattle.pocsag_pager.specs.Shown.{is_ours};
 ghost use Rattle.pocsag_pager.specs.Turns.{IsHeardAs, ending, next_open};
 
@@ -23,6 +24,17 @@ fn is_called(address: u32, slot: u32, high: u32) -> bool
     ensures { result ≡ is_ours address slot high }
 {
     slot / 2 == address % 8 && high == address / 8
+}
+
+// Whether a word in a slot opens a page of the address.
+pub(crate) fn opens(address: u32, slot: u32, heard: Option<Kind>) -> bool
+    requires { slot < 16 }
+    ensures { OnFalse result (next_open address slot None heard ≡ None) }
+{
+    match heard {
+        Some(Kind::Address { high, function: _ }) => is_called(address, slot, high),
+        _ => false,
+    }
 }
 
 // The page with the bits of one more message codeword.

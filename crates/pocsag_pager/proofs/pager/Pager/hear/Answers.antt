@@ -1,5 +1,7 @@
-use Rattle.std.proofs.Common.{◌<◌, sym, arith}
-use Rattle.pocsag_pager.proofs.Hearings.{place_more, skip_ended, skip_open, turn_ended, turn_open}
+use Rattle.std.proofs.Common.{◌<◌, ◌++◌, ◌∷◌, [], subst, sym, arith}
+use Rattle.std.specs.Prelude.{None}
+use Rattle.pocsag_pager.proofs.Places.{ending_none}
+use Rattle.pocsag_pager.proofs.Hearings.{IsOpen, place_more, skip_ended, skip_open, turn_ended, turn_open}
 use Rattle.pocsag_pager.proofs.pager.Pager.hear.Goals as goal
 
 pub returns-then-place-eq0-clause-stands : goal.returns-then-place-eq0-clause-stands
@@ -32,3 +34,20 @@ returns-clause-ended c = λ words ps s have.
     let inside : 0 < self.place = omega arith in
     turn_ended self.address self.place c.args.word words self.state c.in-Listening.kept c.heard_as-heard.result s.place inside
     (sym c.in-Listening.ensures.value) c.heard_as-heard.ensures s.open_page ps c.in-Ok.change.ended c.in-Ok.ensures.ended have
+
+pub returns-then-not-opens-clause-stands : goal.returns-then-not-opens-clause-stands
+returns-then-not-opens-clause-stands c = λ words s.
+    let self = c.args.self.now in
+    record {
+      place = place_more self.place words c.args.word s.place;
+      open_page =
+          subst (IsOpen (words ++ c.args.word ∷ []) self.address) (sym c.if-waits.ensures)
+          (turn_open self.address self.place c.args.word words self.state None c.heard_as-heard.result s.place c.if-place-gt0.true
+          c.if-waits.ensures c.heard_as-heard.ensures s.open_page None (sym c.if-not-opens.ensures));
+    }
+
+pub returns-then-not-opens-clause-ended : goal.returns-then-not-opens-clause-ended
+returns-then-not-opens-clause-ended c = λ words ps s have.
+    let self = c.args.self.now in
+    turn_ended self.address self.place c.args.word words self.state None c.heard_as-heard.result s.place c.if-place-gt0.true
+    c.if-waits.ensures c.heard_as-heard.ensures s.open_page ps None (sym (ending_none c.heard_as-heard.result)) have
