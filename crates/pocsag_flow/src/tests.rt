@@ -77,11 +77,14 @@ fn one_full_batch(rt: HostRuntime) -> Result<(), Fail> {
     let round = round_of(rt.alloc(), &[(0, 15)])?;
     let classes = classes_of(&round, End::Open);
     let limits = all_limits(&classes, 1);
-    let choice = choose(&classes, &limits).ok().ok_or("overload")?;
-    assert_eq!(rt;
-        choose_from(&classes, &limits, &Choice { early: [2; 136] }),
-        Ok(choice)
-    );
+    match choose(&classes, &limits) {
+        Ok(choice) => {
+            assert_eq!(rt; loads(&classes, &choice), [1; 16]);
+            let late = Choice { early: [0; 136] };
+            assert_eq!(rt; choose_from(&classes, &limits, &late).is_ok(), true);
+        }
+        Err(fault) => assert!(rt; false, "{fault:?}"),
+    }
     Ok(())
 }
 
