@@ -24,7 +24,11 @@ pub(crate) fn run(rt: &(impl Print + Clock + Alloc<A = Global>)) -> io::Result<(
     Ok(())
 }
 
-fn time_decoding(rt: &(impl Print + Clock + Alloc<A = Global>), part: &str, bytes: &[u8]) -> io::Result<()> {
+fn time_decoding(
+    rt: &(impl Print + Clock + Alloc<A = Global>),
+    part: &str,
+    bytes: &[u8],
+) -> io::Result<()> {
     let mut sum = 0;
     let start = Instant::now(rt)?;
     for _ in 0..ROUNDS {
