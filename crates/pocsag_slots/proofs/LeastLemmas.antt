@@ -1,12 +1,12 @@
 -- The least load of a set of slots is attained class by class.
-use Rattle.std.proofs.Common.{◌≡◌, ℕ, zero, suc, ◌+◌, ◌-◌, ◌*◌, ◌%◌, ◌<◌, ◌≤◌, ◌==◌, min, true, false, cond, leb, refl, sym, ap, ◌∙◌, arith, slice_index, inl, inr}
+use Rattle.std.proofs.Common.{◌≡◌, ℕ, ◌+◌, ◌-◌, ◌*◌, ◌%◌, ◌<◌, ◌≤◌, ◌==◌, min, true, false, cond, leb, refl, ap, ◌∙◌, arith, slice_index, inl, inr}
 use Rattle.std.proofs.lemmas.Bool.{cases_lt}
 use Rattle.std.proofs.lemmas.Bool.Decides.{nat_tests}
 use Rattle.std.proofs.Math.Nat.{mul-le-mul_left}
 use Rattle.pocsag_slots.specs.declared.class.Classes.{Classes}
 use Rattle.pocsag_slots.specs.declared.limit.Limits.{Limits}
 use Rattle.pocsag_slots.specs.Cover.{covered}
-use Rattle.pocsag_slots.specs.Loads.{AreInOrder, IsLeastLoad, IsWithin, Overloads, class_load, class_load_over, least_of_class, load}
+use Rattle.pocsag_slots.specs.Loads.{AreInOrder, IsLeastLoad, Overloads, class_load, class_load_over, least_of_class, load}
 use Rattle.pocsag_slots.specs.Numbering.{class_rest, start_of}
 use Rattle.pocsag_slots.specs.Sums.{holds, sum_below, sum_over}
 use Rattle.pocsag_slots.proofs.CoverLemmas.{covered_batches, covered_split}
@@ -136,18 +136,21 @@ least_is k l set ordered =
           let each : sum_below 136 (least_of_class k l set) ≤ sum_below 136 (λ c. class_load_over k set c (choice c)) =
           sum_below-le 136 _ _ (λ c h. least_below k l set c (choice c) (within.least c h) (within.most c h) (ordered.counted c h)) in
           omega (arith, load_over k set choice);
-      met = (cheapest k l set,
-      record { least = λ c h. (cheapest_low k l set c (ordered.order c h)).0; most = λ c h. (cheapest_low k l set c (ordered.order c h)).1 },
-      load_over k set (cheapest k l set)
-      ∙ sum_below-same 136 _ (least_of_class k l set) (λ c h. cheapest_is k l set c));
+      met = (
+        cheapest k l set,
+        record { least = λ c h. (cheapest_low k l set c (ordered.order c h)).0; most = λ c h. (cheapest_low k l set c (ordered.order c h)).1 },
+        load_over k set (cheapest k l set)
+            ∙ sum_below-same 136 _ (least_of_class k l set) (λ c h. cheapest_is k l set c),
+      );
     }
 
 -- a set is overloaded where its least load exceeds its caps
 pub overload_is : (k : Classes) (l : Limits) (set least : ℕ) → IsLeastLoad k l set least →
     (sum_over set (slice_index l.cap) < least → Overloads k l set) × (Overloads k l set → sum_over set (slice_index l.cap) < least)
-overload_is k l set least is_least =
-    ((λ more choice within. omega (arith, is_least.lower choice within)),
-    (λ all. omega (arith, all is_least.met.0 is_least.met.1, is_least.met.2)))
+overload_is k l set least is_least = (
+  (λ more choice within. omega (arith, is_least.lower choice within)),
+  (λ all. omega (arith, all is_least.met.0 is_least.met.1, is_least.met.2)),
+)
 
 pub least_of_class_is : (k : Classes) (l : Limits) (set c : ℕ) → least_of_class k l set c ≡
     slice_index k.turns c * sum_over set (covered 0 16)

@@ -1,5 +1,5 @@
 -- Limits in order.
-use Rattle.std.proofs.Common.{◌≡◌, ℕ, ◌<◌, ◌≤◌, arith, replicate, slice_index}
+use Rattle.std.proofs.Common.{◌≡◌, ℕ, arith, replicate, slice_index}
 use Rattle.std.proofs.lemmas.List.{get_or-replicate}
 use Rattle.pocsag_slots.specs.declared.class.Classes.{Classes}
 use Rattle.pocsag_slots.specs.Loads.{AreInOrder, limits_of_all}

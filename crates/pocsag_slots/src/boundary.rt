@@ -28,7 +28,11 @@ pub fn start(class: u8, early: bool) -> u8
     ensures value { result ≡ start_of class early }
     ensures below { result < 16 }
 {
-    if early { 2 * frame(class) } else { 2 * frame(class) + 1 }
+    if early {
+        2 * frame(class)
+    } else {
+        2 * frame(class) + 1
+    }
 }
 
 /// The boundary to which an early or a late run of the class leads.

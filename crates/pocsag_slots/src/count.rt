@@ -33,7 +33,8 @@ pub fn whole_turns(page: &Page) -> u32
 /// The pages of the round by classes for the end.
 pub fn classes_of(round: &Round, end: End) -> Classes
     ensures counted { AreClassesOf result end round.now }
-    ensures open { end ≡ End.Open → (c : ℕ) → 128 ≤ c → c < 136 → slice_index result.count c ≡ 0 }
+    // The classes of an address codeword alone are the closed end's.
+    ensures open_end { end ≡ End.Open → (c : ℕ) → 128 ≤ c → c < 136 → slice_index result.count c ≡ 0 }
 {
     let mut count = [0; CLASSES];
     let mut turns = [0; CLASSES];

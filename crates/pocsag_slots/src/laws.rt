@@ -15,38 +15,44 @@ ghost use Rattle.pocsag_slots.specs.Tours.{IsTour};
 /// The arcs of the pages and idles of a legal transmission, in order, are a tour of the choice that
 /// counts its early starts.
 pub fn transmissions_are_tours()
-    ensures { (k : Table) (end : Ending) (T : List Kind) (R : List Page) (b : ℕ) → AreApart R → AreClassesOf k end R →
-        IsLegalFor end T b R → IsTour k end (early_in end T) b (arcs end 0 T) }
+    ensures { (k : Table) (end : Ending) (T : List Kind) (R : List Page) (b : ℕ) →
+        AreApart R → AreClassesOf k end R → IsLegalFor end T b R →
+        IsTour k end (early_in end T) b (arcs end 0 T) }
 {}
 
 /// The codewords of a tour's steps, in order, are a legal transmission, whose arcs are the steps.
 pub fn tours_are_transmissions()
-    ensures { (k : Table) (end : Ending) (choice : ℕ → ℕ) (b : ℕ) (steps : List Arc) (R : List Page) → 0 < b → AreClassesOf k end R →
-        IsTour k end choice b steps → IsLegalFor end (laid end R steps) b R × (arcs end 0 (laid end R steps) ≡ steps) }
+    ensures { (k : Table) (end : Ending) (choice : ℕ → ℕ) (b : ℕ) (steps : List Arc) (R : List Page) →
+        0 < b → AreClassesOf k end R → IsTour k end choice b steps →
+        IsLegalFor end (laid end R steps) b R × (arcs end 0 (laid end R steps) ≡ steps) }
 {}
 
 /// The early starts of a legal transmission of `b` batches are a choice that loads no slot above `b`.
 pub fn no_load_is_above_batches()
-    ensures choice { (k : Table) (end : Ending) (T : List Kind) (R : List Page) (b : ℕ) → AreApart R → AreClassesOf k end R →
-        IsLegalFor end T b R → IsChoice k (early_in end T) }
-    ensures loads { (k : Table) (end : Ending) (T : List Kind) (R : List Page) (b : ℕ) → AreApart R → AreClassesOf k end R →
-        IsLegalFor end T b R → (slot : ℕ) → slot < 16 → load k (early_in end T) slot ≤ b }
+    ensures choice { (k : Table) (end : Ending) (T : List Kind) (R : List Page) (b : ℕ) →
+        AreApart R → AreClassesOf k end R → IsLegalFor end T b R → IsChoice k (early_in end T) }
+    ensures loads { (k : Table) (end : Ending) (T : List Kind) (R : List Page) (b : ℕ) →
+        AreApart R → AreClassesOf k end R → IsLegalFor end T b R →
+        (slot : ℕ) → slot < 16 → load k (early_in end T) slot ≤ b }
 {}
 
 /// Every legal transmission has at least as many batches as the least `a` for which some choice of
 /// starts loads no slot above `a`.
 pub fn no_transmission_has_fewer()
-    ensures kinds { (k : Table) (end : Ending) (T : List Kind) (R : List Page) (a b : ℕ) → AreApart R → AreClassesOf k end R → IsLeast k a →
-        IsLegalFor end T b R → a ≤ b }
-    ensures codewords { (k : Table) (end : Ending) (T : List ℕ) (R : List Page) (a b : ℕ) → AreApart R → AreClassesOf k end R → IsLeast k a →
-        IsLegalList end T b R → a ≤ b }
+    ensures kinds { (k : Table) (end : Ending) (T : List Kind) (R : List Page) (a b : ℕ) →
+        AreApart R → AreClassesOf k end R → IsLeast k a → IsLegalFor end T b R → a ≤ b }
+    ensures codewords { (k : Table) (end : Ending) (T : List ℕ) (R : List Page) (a b : ℕ) →
+        AreApart R → AreClassesOf k end R → IsLeast k a → IsLegalList end T b R → a ≤ b }
 {}
 
 /// The arcs of a legal list of codewords are a tour, and each list of codewords of the kinds that a
 /// tour's steps lay out is legal.
 pub fn codewords_and_tours_correspond()
-    ensures tour { (k : Table) (end : Ending) (T : List ℕ) (R : List Page) (b : ℕ) → AreApart R → AreClassesOf k end R →
-        IsLegalList end T b R → IsTour k end (early_in end (map kind_of T)) b (arcs end 0 (map kind_of T)) }
-    ensures legal { (k : Table) (end : Ending) (choice : ℕ → ℕ) (b : ℕ) (steps : List Arc) (R : List Page) (U : List ℕ) → 0 < b →
-        AreClassesOf k end R → IsTour k end choice b steps → All IsCodeword U → map kind_of U ≡ laid end R steps → IsLegalList end U b R }
+    ensures tour { (k : Table) (end : Ending) (T : List ℕ) (R : List Page) (b : ℕ) →
+        AreApart R → AreClassesOf k end R → IsLegalList end T b R →
+        IsTour k end (early_in end (map kind_of T)) b (arcs end 0 (map kind_of T)) }
+    ensures legal { (k : Table) (end : Ending) (choice : ℕ → ℕ) (b : ℕ) (steps : List Arc)
+        (R : List Page) (U : List ℕ) →
+        0 < b → AreClassesOf k end R → IsTour k end choice b steps →
+        All IsCodeword U → map kind_of U ≡ laid end R steps → IsLegalList end U b R }
 {}

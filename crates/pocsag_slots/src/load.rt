@@ -48,11 +48,13 @@ fn slot_load(classes: &Classes, choice: &Choice, slot: u8) -> u32
     total
 }
 
-/// The load of each slot under the choice: how many times the runs cover it.
+/// The load of each slot under the choice: how many times the runs cover it, which is at most 88 times
+/// for each of 20,000 pages.
 pub fn loads(classes: &Classes, choice: &Choice) -> [u32; 16]
     requires { IsChoice classes.now (slice_index choice.now.early) }
     ensures length { length result ≡ 16 }
-    ensures loads { (slot : ℕ) → slot < 16 → slice_index result slot ≡ load classes.now (slice_index choice.now.early) slot }
+    ensures loads { (slot : ℕ) → slot < 16 →
+        slice_index result slot ≡ load classes.now (slice_index choice.now.early) slot }
     ensures bound { (slot : ℕ) → slot < 16 → slice_index result slot ≤ 1760000 }
 {
     let mut found = [0; SLOTS];

@@ -37,7 +37,10 @@ fn three_tones_one_frame(rt: HostRuntime) -> Result<(), Fail> {
     let closed = classes_of(&round, End::Closed);
     assert_eq!(rt; (closed.count[81], closed.count[133]), (0, 3));
     assert_eq!(rt; overloads(&classes, &all_limits(&classes, 1), 0x0C00), true);
-    assert_eq!(rt; overloads(&classes, &all_limits(&classes, 2), 0x0C00), false);
+    assert_eq!(rt;
+        overloads(&classes, &all_limits(&classes, 2), 0x0C00),
+        false
+    );
     Ok(())
 }
 
@@ -49,7 +52,10 @@ fn loops_apart(rt: HostRuntime) -> Result<(), Fail> {
     assert_eq!(rt; (classes.count[48], classes.turns[48]), (1, 1));
     let limits = all_limits(&classes, 2);
     let out = ways(&classes, &limits, 0x0001, 2);
-    assert_eq!(rt; out.as_slice(), [Way::IdleIn(0), Way::IdleIn(15)].as_slice());
+    assert_eq!(rt;
+        out.as_slice(),
+        [Way::IdleIn(0), Way::IdleIn(15)].as_slice()
+    );
     assert_eq!(rt; is_certain(&classes, &limits, 0x0001, 48), true);
     assert_eq!(rt; is_certain(&classes, &limits, 0x0001, 0), false);
     let first = narrow(&classes, &limits, Way::IdleIn(0), 2);
@@ -73,6 +79,9 @@ fn closed_mixed(rt: HostRuntime) -> Result<(), Fail> {
     early[135] = 0;
     assert_eq!(rt; loads(&classes, &Choice { early }), [2; 16]);
     let out = closing_ways(&classes, &all_limits(&classes, 1));
-    assert_eq!(rt; out.as_slice(), [Way::IdleIn(15), Way::Late(135)].as_slice());
+    assert_eq!(rt;
+        out.as_slice(),
+        [Way::IdleIn(15), Way::Late(135)].as_slice()
+    );
     Ok(())
 }

@@ -2,11 +2,10 @@ ghost use Rattle.std.specs.Prelude.{◌≡◌, ◌<◌, ◌∷◌, [], ◌++◌,
 ghost use Rattle.arrayvec.specs.ArrayVec.{array_vec_len};
 ghost use Rattle.pocsag_slots.specs.Ways.{class_certain, early_open as is_early_open, late_open as is_late_open, MayTake, ways_across, ways_to_close};
 
-use arrayvec::ArrayVec;
-
 use crate::class::{CLASSES, Classes, SLOTS};
 use crate::limit::Limits;
 use crate::set::{crosses, idle_crosses, touches};
+use arrayvec::ArrayVec;
 
 /// A way out of a set of boundaries: one more idle in a slot, or an early or a late run of a class.
 #[derive(Clone, Copy, PartialEq, Eq, Debug)]
@@ -17,6 +16,10 @@ pub enum Way {
 }
 
 impl Default for Way {
+    ghost use Rattle.pocsag_slots.specs.declared.way.Way.TheVariants.{IdleIn};
+
+    ghost is_default = { λ way. way ≡ IdleIn 0 };
+
     fn default() -> Way {
         Way::IdleIn(0)
     }
@@ -75,8 +78,16 @@ pub fn ways(classes: &Classes, limits: &Limits, set: u16, _batches: u32) -> Arra
         push_if(&mut found, idle_crosses(slot, set), Way::IdleIn(slot));
     }
     for class in 0..CLASSES as u8 {
-        push_if(&mut found, is_open_early(classes, limits, set, class), Way::Early(class));
-        push_if(&mut found, is_open_late(classes, limits, set, class), Way::Late(class));
+        push_if(
+            &mut found,
+            is_open_early(classes, limits, set, class),
+            Way::Early(class),
+        );
+        push_if(
+            &mut found,
+            is_open_late(classes, limits, set, class),
+            Way::Late(class),
+        );
     }
     found
 }
@@ -90,6 +101,10 @@ pub fn closing_ways(classes: &Classes, limits: &Limits) -> ArrayVec<Way, 2>
 {
     let mut found = ArrayVec::new();
     found.push(Way::IdleIn(15));
-    push_if(&mut found, limits.lo[135] < classes.count[135], Way::Late(135));
+    push_if(
+        &mut found,
+        limits.lo[135] < classes.count[135],
+        Way::Late(135),
+    );
     found
 }

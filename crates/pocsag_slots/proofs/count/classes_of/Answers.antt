@@ -3,11 +3,9 @@ use Rattle.std.proofs.lemmas.List.{length-take}
 use Rattle.std.proofs.Math.Seq.{take-length}
 use Rattle.std.proofs.lemmas.List.Elements.{All-get_or, All-take, All-weaker}
 use Rattle.pocsag_words.specs.declared.ending.End.{End}
-use Rattle.pocsag_words.specs.declared.ending.End.TheVariants.{Open}
 use Rattle.pocsag_pages.specs.declared.page.Page.{Page}
 use Rattle.pocsag_pages.specs.Pages.{IsGoodPage, IsRound}
 use Rattle.pocsag_pages.proofs.GoodPages.{good_pages}
-use Rattle.pocsag_slots.specs.Loads.{AreClassesOf}
 use Rattle.pocsag_slots.proofs.CountLemmas.{AreCounted, IsShort, count_bare, count_most, more_counted, none_counted, tables_of, turns_most}
 use Rattle.pocsag_slots.proofs.count.classes_of.Goals as goal
 
@@ -43,9 +41,11 @@ whole_turns-requires c =
 
 pub overflow_add-turns : goal.overflow_add-turns
 overflow_add-turns c =
-    omega (arith,
-    (few_so_far c.loop-page.count c.loop-page.turns c.args.end _ c.loop-page.page-index c.class_of-class.result c.whole_turns.result
-    (of_round _ _ c.pages-page-items.ensures.pages c.pages-page-items.ensures.round) c.loop-page.invariant c.class_of-class.ensures.below c.whole_turns.ensures.bound).1)
+    omega (
+      arith,
+      (few_so_far c.loop-page.count c.loop-page.turns c.args.end _ c.loop-page.page-index c.class_of-class.result c.whole_turns.result
+          (of_round _ _ c.pages-page-items.ensures.pages c.pages-page-items.ensures.round) c.loop-page.invariant c.class_of-class.ensures.below c.whole_turns.ensures.bound).1,
+    )
 
 pub loop-page-preserved : goal.loop-page-preserved
 loop-page-preserved c =
@@ -57,11 +57,11 @@ invariant_of-result c =
     let round = of_round _ _ c.pages-page-items.ensures.pages c.pages-page-items.ensures.round in
     record {
       tables = tables_of c.loop-page.count c.loop-page.turns c.args.end c.pages-page-items.result.now
-      (whole c.loop-page.count c.loop-page.turns c.args.end _ c.loop-page.page-index c.loop-page-test.false c.loop-page.auto.page-index-end c.loop-page.invariant)
-      round.few (all_short _ round);
+          (whole c.loop-page.count c.loop-page.turns c.args.end _ c.loop-page.page-index c.loop-page-test.false c.loop-page.auto.page-index-end c.loop-page.invariant)
+          round.few (all_short _ round);
     }
 
-pub returns-clause-open : goal.returns-clause-open
-returns-clause-open c open_end k l h =
+pub returns-clause-open_end : goal.returns-clause-open_end
+returns-clause-open_end c open_end k l h =
     let of = whole c.loop-page.count c.loop-page.turns c.args.end _ c.loop-page.page-index c.loop-page-test.false c.loop-page.auto.page-index-end c.loop-page.invariant in
     (subst (λ (end : End). AreCounted c.loop-page.count c.loop-page.turns end c.pages-page-items.result.now) open_end of).each k h ∙ count_bare k c.pages-page-items.result.now l

@@ -1,4 +1,4 @@
-use Rattle.std.proofs.Common.{◌<◌, ◌≡◌, ℕ, arith, slice_index}
+use Rattle.std.proofs.Common.{arith, slice_index}
 use Rattle.pocsag_slots.proofs.LoadLemmas.{load_few}
 use Rattle.pocsag_slots.proofs.load.loads.Goals as goal
 

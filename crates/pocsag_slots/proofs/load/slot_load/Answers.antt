@@ -1,7 +1,6 @@
-use Rattle.std.proofs.Common.{◌≡◌, ◌+◌, ◌≤◌, ℕ, arith, slice_index, sym}
-use Rattle.pocsag_slots.specs.Loads.{class_load, load}
-use Rattle.pocsag_slots.specs.Sums.{sum_below}
-use Rattle.pocsag_slots.proofs.LoadLemmas.{loads_few, load_few}
+use Rattle.std.proofs.Common.{◌≡◌, ◌+◌, arith, slice_index, sym}
+use Rattle.pocsag_slots.specs.Loads.{load}
+use Rattle.pocsag_slots.proofs.LoadLemmas.{loads_few}
 use Rattle.pocsag_slots.proofs.SumLemmas.{sum_below_none, summed}
 use Rattle.pocsag_slots.proofs.load.slot_load.Goals as goal
 

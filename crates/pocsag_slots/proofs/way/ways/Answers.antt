@@ -1,6 +1,5 @@
-use Rattle.std.proofs.Common.{◌≡◌, ◌++◌, arith, sym, append-nil, ap, ◌∙◌, subst, ℕ}
-use Rattle.pocsag_slots.specs.Sums.{joined_below}
-use Rattle.pocsag_slots.specs.Ways.{class_ways, slot_ways, ways_across}
+use Rattle.std.proofs.Common.{◌≡◌, arith, sym, append-nil, ◌∙◌}
+use Rattle.pocsag_slots.specs.Ways.{ways_across}
 use Rattle.pocsag_slots.proofs.WayLemmas.{class_added, classes_few, early_few, joined_none, slot_added, slots_few, ways_allowed}
 use Rattle.pocsag_slots.proofs.way.ways.Goals as goal
 
