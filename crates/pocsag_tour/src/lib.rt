@@ -1,0 +1,16 @@
+#![tactic(auto)]
+//! Tours: the order in which the runs and idles of a choice follow one another, from boundary 0 back to
+//! boundary 0.
+
+mod arc;
+mod counting;
+mod fault;
+mod flood;
+mod touring;
+mod walking;
+
+#[cfg(test)]
+mod tests;
+
+pub use fault::TourFault;
+pub use touring::tour;
