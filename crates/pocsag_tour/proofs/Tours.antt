@@ -5,16 +5,16 @@ use Rattle.pocsag_words.specs.declared.ending.End.TheVariants.{Open, Closed}
 use Rattle.pocsag_slots.specs.declared.class.Classes.{Classes}
 use Rattle.pocsag_slots.specs.declared.step.Step.{Step}
 use Rattle.pocsag_slots.specs.Loads.{IsChoice, load}
-use Rattle.pocsag_slots.specs.Numbering.{start_of, finish_of}
+use Rattle.pocsag_slots.specs.Numbering.{class_frame, class_rest, start_of, finish_of}
 use Rattle.pocsag_slots.specs.Sums.{holds}
 use Rattle.pocsag_slots.specs.Tours.{IsTour, LastAs}
 use Rattle.pocsag_slots.specs.Ways.{run_crosses, idle_crosses}
 use Rattle.pocsag_tour.specs.declared.fault.TourFault.{TourFault}
 use Rattle.pocsag_tour.specs.declared.fault.TourFault.TheVariants.{Apart, Unclosed, OutOfMemory}
-use Rattle.pocsag_tour.specs.Moves.{arc_count, arc_from, arc_to, AreCounts, IsBalanced, IsRunOutside, IsWay, NoneEnters, NoneLeaves, NoWay, Visited, at_start as visited_start, by_arc}
+use Rattle.pocsag_tour.specs.Moves.{arc_count, arc_from, arc_to, AreCounts, IsClosing, IsRunOutside, IsWay, NoneEnters, NoneLeaves, NoWay, Visited, at_start as visited_start, by_arc}
 use Rattle.pocsag_tour.specs.Reached.{IsApart, IsReached, at_start, by_idle, by_run, IsRefused, IsUnclosed, LiesOutside, runs_of}
 use Rattle.pocsag_tour.proofs.Covering.{balanced_start, count_early, count_idle, count_late}
-use Rattle.pocsag_tour.proofs.Geometry.{by_kind, from_early, from_idle, from_late, to_early, to_idle, to_late}
+use Rattle.pocsag_tour.proofs.Geometry.{by_kind, from_early, from_idle, from_late, step_idle, step_late, to_early, to_idle, to_late}
 use Rattle.pocsag_tour.proofs.Joining.{balance_enters}
 use Rattle.pocsag_tour.proofs.Walks.{taken_early, taken_idle, taken_late}
 
@@ -192,3 +192,25 @@ pub refused : (k : Classes) (choice : ℕ → ℕ) (b : ℕ) (counts : ℕ → �
 refused k choice b counts end (Apart set) are chosen within never = absurd never
 refused k choice b counts end Unclosed are chosen within known = (known.0, unclosed k choice b counts known.3.0 are chosen within known.3.1 known.1 known.2)
 refused k choice b counts end OutOfMemory are chosen within known = tt
+
+-- the two arcs that may close
+pub closing_idle : (counts : ℕ → ℕ) → 0 < counts 287 → IsClosing counts 287
+closing_idle counts some =
+    record {
+      known = omega arith;
+      there = some;
+      from = from_idle 15;
+      to = to_idle 15;
+      last = rw (step_idle 15) tt;
+    }
+
+pub closing_late : (counts : ℕ → ℕ) → 0 < counts 271 → IsClosing counts 271
+unfolding start_of finish_of class_frame class_rest
+closing_late counts some =
+    record {
+      known = omega arith;
+      there = some;
+      from = from_late 135 (omega arith);
+      to = to_late 135 (omega arith);
+      last = rw (step_late 135 (omega arith)) (refl, refl);
+    }
