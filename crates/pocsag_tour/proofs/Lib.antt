@@ -6,3 +6,4 @@ pub mod Walks
 pub mod Covering
 pub mod Joining
 pub mod Tours
+pub mod Existing

@@ -2,7 +2,7 @@
 use Rattle.std.proofs.Common.{◌≡◌, ◌≢◌, ℕ, ◌+◌, ◌*◌, ◌/◌, ◌%◌, ◌^◌, ◌<◌, ◌==◌, true, false, ap, arith, w16, bit_and, bit_or}
 use Rattle.std.proofs.lemmas.Bool.Decides.{nat_tests}
 use Rattle.std.proofs.lemmas.Nat.Bits.{bit_at_set_same, bit_at_set_other, bit_at-zero, and_pow, bit_at-lt}
-use Rattle.std.proofs.lemmas.Nat.{pow_pos}
+use Rattle.std.proofs.lemmas.Nat.{or_lt, pow_pos}
 use Rattle.std.proofs.Math.Pow.{pow-lt}
 use Rattle.std.specs.Int.{bit_at}
 use Rattle.std.specs.Int.Bits.{or_add_and}
@@ -33,3 +33,6 @@ holds_more set slot h e =
     let sum : bit_or set (2 ^ slot) + bit_and set (2 ^ slot) ≡ set + 2 ^ slot = or_add_and set (2 ^ slot) in
     let both : bit_and set (2 ^ slot) ≡ 0 * 2 ^ slot = rw none at (and_pow set slot) in
     rw (bit_of slot h) (omega (arith, pow_pos slot))
+
+pub with_below : (set member : ℕ) → set < 65536 → bit_or set (1 * 2 ^ member % 65536) < 65536
+with_below set member low = or_lt 16 set (1 * 2 ^ member % 65536) low (omega arith)

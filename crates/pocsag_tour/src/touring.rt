@@ -66,10 +66,7 @@ fn whole_way(alloc: Global, counts: &[u32; 288]) -> Result<Vec<Step>, TourFault>
             Ok(steps) => Ok(steps),
             Err(_) => Err(TourFault::OutOfMemory),
         },
-        None => match walk(alloc, counts, 0, steps_over(counts)) {
-            Ok(_) => Err(TourFault::Unclosed),
-            Err(_) => Err(TourFault::OutOfMemory),
-        },
+        None => Err(TourFault::Unclosed),
     }
 }
 
