@@ -78,7 +78,9 @@ fn loop_apart(rt: HostRuntime) -> Result<(), Fail> {
     let classes = classes_for(rt.alloc(), &[(3, 15)], End::Open)?;
     let early = answer(rt.alloc(), &classes, classes.count, 1, End::Open);
     assert!(rt; matches!(early, Some(Err(TourFault::Apart(0x0001)))));
-    let late = answer(rt.alloc(), &classes, [0; 136], 1, End::Open);
+    let mut none = classes.count;
+    none[48] = 0;
+    let late = answer(rt.alloc(), &classes, none, 1, End::Open);
     assert!(rt; matches!(late, Some(Err(TourFault::Apart(0x0001)))));
     Ok(())
 }
