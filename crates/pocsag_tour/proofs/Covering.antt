@@ -1,16 +1,16 @@
 -- How many arcs leave a boundary and lead to it, by the loads of the slots before and after it.
-use Rattle.std.proofs.Common.{◌≡◌, ◌≢◌, ℕ, zero, suc, ◌+◌, ◌-◌, ◌*◌, ◌/◌, ◌%◌, ◌<◌, ◌≤◌, ◌==◌, Bool, true, false, cond, slice_index, refl, sym, ap, subst, ◌∙◌, arith, eq-eqb, add-zero, inl, inr}
-use Rattle.std.proofs.lemmas.Bool.{cases_eq, ne_eqb}
+use Rattle.std.proofs.Common.{◌≡◌, ◌≢◌, ℕ, zero, suc, ◌+◌, ◌-◌, ◌*◌, ◌/◌, ◌%◌, ◌<◌, ◌≤◌, ◌==◌, Bool, true, false, cond, slice_index, refl, sym, ap, subst, ◌∙◌, arith, eq-eqb}
+use Rattle.std.proofs.lemmas.Bool.{ne_eqb}
 use Rattle.std.proofs.lemmas.Bool.Decides.{nat_tests}
 use Rattle.pocsag_slots.specs.declared.class.Classes.{Classes}
 use Rattle.pocsag_slots.specs.Cover.{covered}
-use Rattle.pocsag_slots.specs.Loads.{class_load, IsChoice, load}
+use Rattle.pocsag_slots.specs.Loads.{class_load, load}
 use Rattle.pocsag_slots.specs.Numbering.{class_rest, start_of, finish_of}
 use Rattle.pocsag_slots.specs.Sums.{sum_below}
 use Rattle.pocsag_slots.proofs.CoverLemmas.{covered_is}
 use Rattle.pocsag_slots.proofs.SumLemmas.{sum_below-same, sum_below-add, sum_below-bump, sum_below-zero}
 use Rattle.pocsag_tour.specs.Moves.{arc_count, arc_from, arc_to, AreCounts, ins, IsBalanced, outs}
-use Rattle.pocsag_tour.proofs.Geometry.{below, by_kind, from_early, from_idle, from_late, not_below, start_below, to_early, to_idle, to_late}
+use Rattle.pocsag_tour.proofs.Geometry.{below, from_early, from_idle, from_late, not_below, start_below, to_early, to_idle, to_late}
 
 -- the counts by kind
 pub count_early : (k : Classes) (choice : ℕ → ℕ) (b c : ℕ) → c < 136 → arc_count k choice b c ≡ choice c

@@ -1,10 +1,10 @@
 -- That there is a way, without walking it: the floods and the walk over plain numbers.
-use Rattle.std.proofs.Common.{◌≡◌, ◌≢◌, ℕ, zero, suc, ◌+◌, ◌-◌, ◌*◌, ◌%◌, ◌^◌, ◌<◌, ◌≤◌, ◌==◌, ◌&&◌, nat_lt, Bool, true, false, not, cond, List, [], ◌∷◌, ◌++◌, ◌⊎◌, refl, sym, ap, subst, ◌∙◌, arith, eq-eqb, inl, inr, bit_or, add-one}
+use Rattle.std.proofs.Common.{◌≡◌, ◌≢◌, ℕ, zero, suc, ◌+◌, ◌-◌, ◌*◌, ◌%◌, ◌^◌, ◌<◌, ◌≤◌, ◌==◌, ◌&&◌, nat_lt, Bool, true, false, not, cond, List, [], ◌∷◌, ◌++◌, ◌⊎◌, refl, sym, subst, arith, eq-eqb, inl, inr, bit_or}
 use Rattle.std.proofs.lemmas.Bool.{cases_eq, eqb-true, ne_eqb}
 use Rattle.std.proofs.lemmas.Bool.Decides.{nat_tests}
 use Rattle.pocsag_slots.specs.declared.step.Step.{Step}
 use Rattle.pocsag_slots.specs.Sums.{holds, sum_below}
-use Rattle.pocsag_tour.specs.Moves.{AllLeadTo, arc_from, arc_to, at_root, Home, IsBalanced, IsDeparture, IsEntering, IsSpent, IsWalk, IsWay, LeadHome, NoneEnters, step_of}
+use Rattle.pocsag_tour.specs.Moves.{AllLeadTo, arc_from, arc_to, IsBalanced, IsDeparture, IsEntering, IsSpent, IsWalk, IsWay, LeadHome, NoneEnters, step_of}
 use Rattle.pocsag_tour.proofs.Flooding.{grown_keeps, homes_more, homes_start}
 use Rattle.pocsag_tour.proofs.Geometry.{from_below}
 use Rattle.pocsag_tour.proofs.Members.{holds_here, holds_more, holds_other, with_below}

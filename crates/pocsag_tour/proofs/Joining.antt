@@ -1,13 +1,13 @@
 -- Where all runs start where boundary 0 leads, all arcs lead back to it.
-use Rattle.std.proofs.Common.{◌≡◌, ◌≢◌, ℕ, zero, suc, ◌+◌, ◌-◌, ◌%◌, ◌<◌, ◌≤◌, ◌==◌, Bool, true, false, cond, List, [], ◌∷◌, ◌++◌, refl, sym, ap, subst, ◌∙◌, arith, eq-eqb, inl, inr}
+use Rattle.std.proofs.Common.{◌≡◌, ℕ, zero, suc, ◌+◌, ◌-◌, ◌%◌, ◌<◌, ◌≤◌, ◌==◌, Bool, true, false, cond, List, [], ◌∷◌, ◌++◌, refl, sym, ap, subst, ◌∙◌, arith, eq-eqb, inl, inr}
 use Rattle.std.proofs.lemmas.Bool.{cases_eq, eqb-true, ne_eqb}
 use Rattle.pocsag_slots.specs.declared.step.Step.{Step}
 use Rattle.pocsag_slots.specs.declared.step.Step.TheVariants.{Idle as Stay, Run}
-use Rattle.pocsag_slots.specs.Sums.{holds, sum_below}
+use Rattle.pocsag_slots.specs.Sums.{holds}
 use Rattle.pocsag_slots.specs.Tours.{LastIsWhole, Leads}
 use Rattle.pocsag_tour.specs.Moves.{AllLeadTo, arc_from, arc_to, IsBalanced, IsClosing, IsWay, NoneEnters, NoneLeaves, ins, outs, RunsStart, step_of, taken, Visited, at_start, by_arc}
 use Rattle.pocsag_tour.proofs.Balances.{entered_less, flipped, in_term, ins_over, none_enters, none_leaves, outs_over, positive_term, set_balance}
-use Rattle.pocsag_tour.proofs.Geometry.{by_kind, from_below, from_idle, to_below, to_idle}
+use Rattle.pocsag_tour.proofs.Geometry.{by_kind, from_below, from_idle, to_idle}
 use Rattle.pocsag_tour.proofs.Walks.{IsLess, ins_less, leads_over, leads_push, less_le, none_push, outs_less, taken_push}
 
 -- an arc that leaves a boundary
@@ -134,8 +134,7 @@ closed_takes counts less a ss h l leads takes b m =
 pub closed_way : (counts less : ℕ → ℕ) (a : ℕ) (ss : List Step) → IsClosing counts a → IsLess a counts less → IsWay less 15 ss →
     IsWay counts 0 (ss ++ (step_of a ∷ [])) × LastIsWhole (ss ++ (step_of a ∷ []))
 closed_way counts less a ss z l w =
-    let leads : Leads 0 ss (arc_from a) = subst (λ (p : ℕ). Leads 0 ss p) (sym z.from) w.leads in
-    (
+    let leads : Leads 0 ss (arc_from a) = subst (λ (p : ℕ). Leads 0 ss p) (sym z.from) w.leads in (
       record {
         leads = subst (λ (p : ℕ). Leads 0 (ss ++ (step_of a ∷ [])) p) z.to (leads_push 0 (arc_from a) (arc_to a) ss (step_of a) leads (leads_over a z.known));
         takes = λ b h. closed_takes counts less a ss z.known l leads w.takes b h;

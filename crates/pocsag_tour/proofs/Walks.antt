@@ -1,10 +1,10 @@
 -- What a walk keeps, and that it ends as a way over all arcs.
-use Rattle.std.proofs.Common.{◌≡◌, ◌≢◌, ℕ, zero, suc, ◌+◌, ◌-◌, ◌%◌, ◌<◌, ◌≤◌, ◌==◌, ◌&&◌, nat_lt, Bool, true, false, not, cond, List, [], ◌∷◌, ◌++◌, length, slice_index, slice_set, refl, sym, ap, subst, ◌∙◌, arith, eq-eqb, inl, inr, get_or-set_same, get_or-set_other}
+use Rattle.std.proofs.Common.{◌≡◌, ◌≢◌, ℕ, ◌+◌, ◌-◌, ◌%◌, ◌<◌, ◌≤◌, ◌==◌, ◌&&◌, Bool, true, false, not, cond, List, [], ◌∷◌, ◌++◌, length, slice_index, slice_set, refl, sym, ap, subst, ◌∙◌, arith, eq-eqb, inl, inr, get_or-set_same, get_or-set_other}
 use Rattle.std.proofs.lemmas.Bool.{cases_eq, ne_eqb}
 use Rattle.pocsag_slots.specs.declared.step.Step.{Step}
 use Rattle.pocsag_slots.specs.declared.step.Step.TheVariants.{Idle as Stay, Run}
 use Rattle.pocsag_slots.specs.Arcs.{runs}
-use Rattle.pocsag_slots.specs.Numbering.{start_of, finish_of}
+use Rattle.pocsag_slots.specs.Numbering.{finish_of}
 use Rattle.pocsag_slots.specs.Sums.{holds, sum_below}
 use Rattle.pocsag_slots.specs.Tours.{Leads, idles}
 use Rattle.pocsag_slots.proofs.SumLemmas.{sum_below-bump}

@@ -45,9 +45,15 @@ pub fn arc_step(arc: usize) -> Step
     ensures { result ≡ step_of arc }
 {
     if arc < 136 {
-        Step::Run { class: arc as u8, early: true }
+        Step::Run {
+            class: arc as u8,
+            early: true,
+        }
     } else if arc < 272 {
-        Step::Run { class: (arc - 136) as u8, early: false }
+        Step::Run {
+            class: (arc - 136) as u8,
+            early: false,
+        }
     } else {
         Step::Idle
     }

@@ -6,11 +6,10 @@ mod arc;
 mod counting;
 mod fault;
 mod flood;
-mod touring;
-mod walking;
-
 #[cfg(test)]
 mod tests;
+mod touring;
+mod walking;
 
 pub use fault::TourFault;
 pub use touring::tour;

@@ -89,8 +89,14 @@ fn loop_apart(rt: HostRuntime) -> Result<(), Fail> {
 fn two_numeric_exact(rt: HostRuntime) -> Result<(), Fail> {
     let classes = classes_for(rt.alloc(), &[(0, 5), (3, 9)], End::Open)?;
     let steps = steps_of(answer(rt.alloc(), &classes, classes.count, 1, End::Open))?;
-    let first = Step::Run { class: 6, early: true };
-    let second = Step::Run { class: 58, early: true };
+    let first = Step::Run {
+        class: 6,
+        early: true,
+    };
+    let second = Step::Run {
+        class: 58,
+        early: true,
+    };
     assert_eq!(rt; steps.as_slice(), [first, second].as_slice());
     Ok(())
 }
@@ -109,9 +115,18 @@ fn closed_mixed(rt: HostRuntime) -> Result<(), Fail> {
     let mut early = classes.count;
     early[135] = 0;
     let steps = steps_of(answer(rt.alloc(), &classes, early, 2, End::Closed))?;
-    let first = Step::Run { class: 14, early: true };
-    let second = Step::Run { class: 113, early: true };
-    let last = Step::Run { class: 135, early: false };
+    let first = Step::Run {
+        class: 14,
+        early: true,
+    };
+    let second = Step::Run {
+        class: 113,
+        early: true,
+    };
+    let last = Step::Run {
+        class: 135,
+        early: false,
+    };
     assert_eq!(rt; steps.as_slice(), [first, second, last].as_slice());
     Ok(())
 }

@@ -52,7 +52,12 @@ fn last_exit(left: &[u32; 288], exit: usize, boundary: u8) -> Option<usize>
 }
 
 // A way from boundary 0 to the root over all arcs, which leaves each boundary by its last exit last.
-pub fn walk(alloc: Global, counts: &[u32; 288], root: u8, room: usize) -> Result<Vec<Step>, AllocError>
+pub fn walk(
+    alloc: Global,
+    counts: &[u32; 288],
+    root: u8,
+    room: usize,
+) -> Result<Vec<Step>, AllocError>
     requires root { root < 16 }
     requires balanced { IsBalanced (slice_index counts.now) 0 root }
     requires joined { AllLeadTo (slice_index counts.now) root }

@@ -1,6 +1,4 @@
-use Rattle.std.proofs.Common.{◌≡◌, ◌≢◌, ℕ, ◌<◌, true, arith, sym, subst, ◌∙◌, length, length-set, refl, slice_index, slice_set, List, [], ◌∷◌}
-use Rattle.pocsag_slots.specs.Sums.{holds}
-use Rattle.pocsag_tour.specs.Moves.{arc_from}
+use Rattle.std.proofs.Common.{ℕ, ◌<◌, arith, ◌∙◌, length, length-set, refl, slice_index, [], ◌∷◌}
 use Rattle.pocsag_tour.proofs.Flooding.{exits_low, grown_keeps, homes_start, homes_written}
 use Rattle.pocsag_tour.proofs.flood.exits_to.Goals as goal
 

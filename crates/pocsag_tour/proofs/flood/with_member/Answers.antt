@@ -1,4 +1,3 @@
-use Rattle.std.proofs.Common.{◌≢◌, ℕ}
 use Rattle.pocsag_tour.proofs.Members.{holds_here, holds_more, holds_other}
 use Rattle.pocsag_tour.proofs.flood.with_member.Goals as goal
 

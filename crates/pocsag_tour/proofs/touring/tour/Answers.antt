@@ -1,4 +1,4 @@
-use Rattle.std.proofs.Common.{◌≡◌, ℕ, Result, Ok, Err, IfOk, IfErr, slice_index}
+use Rattle.std.proofs.Common.{Result, Ok, Err, IfOk, IfErr, slice_index}
 use Rattle.pocsag_tour.proofs.Covering.{balanced_start}
 use Rattle.pocsag_tour.proofs.Joining.{joined_open}
 use Rattle.pocsag_tour.proofs.Tours.{apart, refused, tour_of}

@@ -1,16 +1,15 @@
-use Rattle.std.proofs.Common.{◌≡◌, ◌≢◌, ℕ, ◌<◌, arith, sym, ap, subst, ◌∙◌, slice_index}
+use Rattle.std.proofs.Common.{◌≡◌, ℕ, ◌<◌, arith, sym, ap, subst, ◌∙◌, slice_index}
 use Rattle.pocsag_tour.specs.Moves.{arc_at, arc_from}
 use Rattle.pocsag_tour.proofs.Geometry.{arc_of_kind, from_arc_at, kind_below, kind_of}
 use Rattle.pocsag_tour.proofs.walking.detour.Goals as goal
 
 pub returns-then-left-arc-gt0-clause-found : goal.returns-then-left-arc-gt0-clause-found
-returns-then-left-arc-gt0-clause-found c =
-    (
-      c.arc_at-arc.ensures.below,
-      c.if-left-arc-gt0.true,
-      ap arc_from c.arc_at-arc.ensures.value ∙ from_arc_at c.args.boundary c.loop-kind.kind c.requires c.loop-kind-test.true,
-      c.if-arc-exit.true,
-    )
+returns-then-left-arc-gt0-clause-found c = (
+  c.arc_at-arc.ensures.below,
+  c.if-left-arc-gt0.true,
+  ap arc_from c.arc_at-arc.ensures.value ∙ from_arc_at c.args.boundary c.loop-kind.kind c.requires c.loop-kind-test.true,
+  c.if-arc-exit.true,
+)
 
 pub returns-clause-none : goal.returns-clause-none
 returns-clause-none c b h from ne =
