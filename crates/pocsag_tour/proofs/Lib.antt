@@ -7,3 +7,4 @@ pub mod Covering
 pub mod Joining
 pub mod Tours
 pub mod Existing
+pub mod Refusing

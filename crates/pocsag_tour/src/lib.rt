@@ -6,10 +6,12 @@ mod arc;
 mod counting;
 mod fault;
 mod flood;
+mod laws;
 #[cfg(test)]
 mod tests;
 mod touring;
 mod walking;
 
 pub use fault::TourFault;
+pub use laws::{apart_has_no_tour, unclosed_has_no_closed_tour};
 pub use touring::tour;
