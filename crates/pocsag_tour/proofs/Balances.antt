@@ -110,15 +110,6 @@ none_enters left set none tight a l some =
     (λ b m. term_le (holds set (arc_from b)) (holds set (arc_to b)) (left b) (none b m)) tight a l)
     some
 
--- what leaves and leads to a boundary, arc by arc
-pub out_term : (left : ℕ → ℕ) (a : ℕ) → a < 288 → left a ≤ outs left (arc_from a)
-unfolding outs
-out_term left a l =
-    let same : (arc_from a == arc_from a) ≡ true = eq-eqb (arc_from a) (arc_from a) refl in
-    let term : cond (arc_from a == arc_from a) (left a) 0 ≤ sum_below 288 (λ b. cond (arc_from b == arc_from a) (left b) 0) =
-    term-le-sum_below 288 a (λ b. cond (arc_from b == arc_from a) (left b) 0) l in
-    rw same at term
-
 pub in_term : (left : ℕ → ℕ) (a : ℕ) → a < 288 → left a ≤ ins left (arc_to a)
 unfolding ins
 in_term left a l =

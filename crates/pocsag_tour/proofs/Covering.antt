@@ -33,12 +33,6 @@ count_idle k choice b s =
 abbrev pub before : ℕ → ℕ
 before p = (p + 15) % 16
 
-hit : (a b : ℕ) → a ≡ b → ◌≡◌ {A = ℕ} (cond (a == b) 1 0) 1
-hit a b e = let t : (a == b) ≡ true = eq-eqb a b e in rw t refl
-
-miss : (a b : ℕ) → a ≢ b → ◌≡◌ {A = ℕ} (cond (a == b) 1 0) 0
-miss a b ne = let t : (a == b) ≡ false = ne_eqb a b ne in rw t refl
-
 at_place : (i p : ℕ) → p < 16 → cond (i % 16 == p) 1 0 + (i + 15 - p) / 16 ≡ (i + 16 - p) / 16
 at_place i p h = grind (arith, nat_tests)
 
@@ -50,11 +44,11 @@ edge i n (suc p) h =
     let e : before (suc p) ≡ p = omega arith in
     rw e (omega (arith, covered_is i n (suc p) h, covered_is i n p (omega arith), at_place i (suc p) h, at_place (i + n) (suc p) h))
 
-times_edge : (e a b x y : ℕ) (s t : Bool) → a + cond s 1 0 ≡ b + cond t 1 0 → e * a + cond s e 0 ≡ e * b + cond t e 0
-times_edge e a b x y true true h = let same : a ≡ b = omega arith in rw same refl
-times_edge e a b x y true false h = let same : b ≡ a + 1 = omega arith in rw same (omega arith)
-times_edge e a b x y false true h = let same : a ≡ b + 1 = omega arith in rw same (omega arith)
-times_edge e a b x y false false h = let same : a ≡ b = omega arith in rw same refl
+times_edge : (e a b : ℕ) (s t : Bool) → a + cond s 1 0 ≡ b + cond t 1 0 → e * a + cond s e 0 ≡ e * b + cond t e 0
+times_edge e a b true true h = let same : a ≡ b = omega arith in rw same refl
+times_edge e a b true false h = let same : b ≡ a + 1 = omega arith in rw same (omega arith)
+times_edge e a b false true h = let same : a ≡ b + 1 = omega arith in rw same (omega arith)
+times_edge e a b false false h = let same : a ≡ b = omega arith in rw same refl
 
 run_edge : (e c p : ℕ) (f : Bool) → c < 136 → p < 16 →
     e * covered (start_of c f) (class_rest c) p + cond (finish_of c f == p) e 0
@@ -66,7 +60,7 @@ run_edge e c p f l h =
     ≡ covered (start_of c f) (class_rest c) (before p) + cond (start_of c f == p) 1 0 =
     subst (λ (m : ℕ). covered (start_of c f) (class_rest c) p + cond ((start_of c f + class_rest c) % 16 == p) 1 0
     ≡ covered (start_of c f) (class_rest c) (before p) + cond (m == p) 1 0) low (edge (start_of c f) (class_rest c) p h) in
-    times_edge e (covered (start_of c f) (class_rest c) p) (covered (start_of c f) (class_rest c) (before p)) 0 0
+    times_edge e (covered (start_of c f) (class_rest c) p) (covered (start_of c f) (class_rest c) (before p))
     ((start_of c f + class_rest c) % 16 == p) (start_of c f == p) one
 
 -- the runs of a class that start at a boundary, and that end there

@@ -47,9 +47,6 @@ not_is_not false h = absurd (cc)
 some : (n : ℕ) → nat_lt 0 n ≡ true → 0 < n
 some n h = grind (arith, nat_tests)
 
-none_of : (n : ℕ) → nat_lt 0 n ≡ false → n ≡ 0
-none_of n h = grind (arith, nat_tests)
-
 some_test : (n : ℕ) → 0 < n → nat_lt 0 n ≡ true
 some_test n h = grind (arith, nat_tests)
 
