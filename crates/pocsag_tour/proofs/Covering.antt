@@ -1,0 +1,160 @@
+-- How many arcs leave a boundary and lead to it, by the loads of the slots before and after it.
+use Rattle.std.proofs.Common.{◌≡◌, ◌≢◌, ℕ, zero, suc, ◌+◌, ◌-◌, ◌*◌, ◌/◌, ◌%◌, ◌<◌, ◌≤◌, ◌==◌, Bool, true, false, cond, slice_index, refl, sym, ap, subst, ◌∙◌, arith, eq-eqb}
+use Rattle.std.proofs.lemmas.Bool.{ne_eqb}
+use Rattle.std.proofs.lemmas.Bool.Decides.{nat_tests}
+use Rattle.pocsag_slots.specs.declared.class.Classes.{Classes}
+use Rattle.pocsag_slots.specs.Cover.{covered}
+use Rattle.pocsag_slots.specs.Loads.{class_load, load}
+use Rattle.pocsag_slots.specs.Numbering.{class_rest, start_of, finish_of}
+use Rattle.pocsag_slots.specs.Sums.{sum_below}
+use Rattle.pocsag_slots.proofs.CoverLemmas.{covered_is}
+use Rattle.pocsag_slots.proofs.SumLemmas.{sum_below-same, sum_below-add, sum_below-bump, sum_below-zero}
+use Rattle.pocsag_tour.specs.Moves.{arc_count, arc_from, arc_to, AreCounts, ins, IsBalanced, outs}
+use Rattle.pocsag_tour.proofs.Geometry.{below, from_early, from_idle, from_late, not_below, start_below, to_early, to_idle, to_late}
+
+-- the counts by kind
+pub count_early : (k : Classes) (choice : ℕ → ℕ) (b c : ℕ) → c < 136 → arc_count k choice b c ≡ choice c
+unfolding arc_count
+count_early k choice b c h = rw (below c 136 h) refl
+
+pub count_late : (k : Classes) (choice : ℕ → ℕ) (b c : ℕ) → c < 136 → arc_count k choice b (136 + c) ≡ slice_index k.count c - choice c
+unfolding arc_count
+count_late k choice b c h =
+    let e : 136 + c - 136 ≡ c = omega arith in
+    rw (not_below (136 + c) 136 (omega arith), below (136 + c) 272 (omega arith), e) refl
+
+pub count_idle : (k : Classes) (choice : ℕ → ℕ) (b s : ℕ) → arc_count k choice b (272 + s) ≡ b - load k choice s
+unfolding arc_count
+count_idle k choice b s =
+    let e : 272 + s - 272 ≡ s = omega arith in
+    rw (not_below (272 + s) 136 (omega arith), not_below (272 + s) 272 (omega arith), e) refl
+
+-- the boundary before, around the batch
+abbrev pub before : ℕ → ℕ
+before p = (p + 15) % 16
+
+at_place : (i p : ℕ) → p < 16 → cond (i % 16 == p) 1 0 + (i + 15 - p) / 16 ≡ (i + 16 - p) / 16
+at_place i p h = grind (arith, nat_tests)
+
+-- a run's codewords cover a slot more often than the one before exactly by the runs that start there
+pub edge : (i n p : ℕ) → p < 16 → covered i n p + cond ((i + n) % 16 == p) 1 0 ≡ covered i n (before p) + cond (i % 16 == p) 1 0
+edge i n zero h =
+    omega (arith, covered_is i n 0 h, covered_is i n 15 (omega arith), at_place i 0 h, at_place (i + n) 0 h)
+edge i n (suc p) h =
+    let e : before (suc p) ≡ p = omega arith in
+    rw e (omega (arith, covered_is i n (suc p) h, covered_is i n p (omega arith), at_place i (suc p) h, at_place (i + n) (suc p) h))
+
+times_edge : (e a b : ℕ) (s t : Bool) → a + cond s 1 0 ≡ b + cond t 1 0 → e * a + cond s e 0 ≡ e * b + cond t e 0
+times_edge e a b true true h = let same : a ≡ b = omega arith in rw same refl
+times_edge e a b true false h = let same : b ≡ a + 1 = omega arith in rw same (omega arith)
+times_edge e a b false true h = let same : a ≡ b + 1 = omega arith in rw same (omega arith)
+times_edge e a b false false h = let same : a ≡ b = omega arith in rw same refl
+
+run_edge : (e c p : ℕ) (f : Bool) → c < 136 → p < 16 →
+    e * covered (start_of c f) (class_rest c) p + cond (finish_of c f == p) e 0
+    ≡ e * covered (start_of c f) (class_rest c) (before p) + cond (start_of c f == p) e 0
+unfolding finish_of
+run_edge e c p f l h =
+    let low : start_of c f % 16 ≡ start_of c f = (let s : start_of c f < 16 = start_below c f l in omega arith) in
+    let one : covered (start_of c f) (class_rest c) p + cond ((start_of c f + class_rest c) % 16 == p) 1 0
+    ≡ covered (start_of c f) (class_rest c) (before p) + cond (start_of c f == p) 1 0 =
+    subst (λ (m : ℕ). covered (start_of c f) (class_rest c) p + cond ((start_of c f + class_rest c) % 16 == p) 1 0
+    ≡ covered (start_of c f) (class_rest c) (before p) + cond (m == p) 1 0) low (edge (start_of c f) (class_rest c) p h) in
+    times_edge e (covered (start_of c f) (class_rest c) p) (covered (start_of c f) (class_rest c) (before p))
+    ((start_of c f + class_rest c) % 16 == p) (start_of c f == p) one
+
+-- the runs of a class that start at a boundary, and that end there
+abbrev pub starts_at : Classes → (ℕ → ℕ) → ℕ → ℕ → ℕ
+starts_at k choice p c = cond (start_of c true == p) (choice c) 0 + cond (start_of c false == p) (slice_index k.count c - choice c) 0
+
+abbrev pub ends_at : Classes → (ℕ → ℕ) → ℕ → ℕ → ℕ
+ends_at k choice p c = cond (finish_of c true == p) (choice c) 0 + cond (finish_of c false == p) (slice_index k.count c - choice c) 0
+
+class_edge : (k : Classes) (choice : ℕ → ℕ) (p c : ℕ) → p < 16 → c < 136 →
+    class_load k p c (choice c) + ends_at k choice p c ≡ class_load k (before p) c (choice c) + starts_at k choice p c
+unfolding class_load
+class_edge k choice p c h l =
+    omega (arith, run_edge (choice c) c p true l h, run_edge (slice_index k.count c - choice c) c p false l h)
+
+pub load_edge : (k : Classes) (choice : ℕ → ℕ) (p : ℕ) → p < 16 →
+    load k choice p + sum_below 136 (ends_at k choice p) ≡ load k choice (before p) + sum_below 136 (starts_at k choice p)
+unfolding load
+load_edge k choice p h =
+    sym (sum_below-add 136 (λ c. class_load k p c (choice c)) (ends_at k choice p))
+    ∙ (sum_below-same 136 _ _ (λ c l. class_edge k choice p c h l)
+    ∙ sum_below-add 136 (λ c. class_load k (before p) c (choice c)) (starts_at k choice p))
+
+-- a sum in two parts
+pub sum_split : (m n : ℕ) (f : ℕ → ℕ) → sum_below (n + m) f ≡ sum_below n f + sum_below m (λ a. f (n + a))
+unfolding sum_below
+sum_split zero n f = let e : n + 0 ≡ n = omega arith in rw e (omega arith)
+sum_split (suc m) n f =
+    let e : n + suc m ≡ suc (n + m) = omega arith in
+    rw e (omega (arith, sum_split m n f))
+
+abbrev no_number : ℕ → ℕ
+no_number q = 0
+
+-- a number that stands at one slot alone
+pub sum_hit : (f : ℕ → ℕ) (p : ℕ) → p < 16 → ((s : ℕ) → s < 16 → s ≢ p → f s ≡ 0) → sum_below 16 f ≡ f p
+sum_hit f p h others =
+    let grown : sum_below 16 f ≡ sum_below 16 no_number + f p =
+    sum_below-bump 16 p (f p) no_number f h (omega arith) (λ s l ne. others s l ne) in
+    let none : sum_below 16 no_number ≡ 0 = sum_below-zero 16 no_number (λ s l. refl) in
+    omega arith
+
+term_is : (x y : ℕ) (t u : Bool) → x ≡ y → t ≡ u → cond t x 0 ≡ cond u y 0
+term_is x y t u e f = rw (e, f) refl
+
+pub outs_are : (k : Classes) (choice : ℕ → ℕ) (b : ℕ) (counts : ℕ → ℕ) → AreCounts k choice b counts → (p : ℕ) → p < 16 →
+    outs counts p ≡ sum_below 136 (starts_at k choice p) + (b - load k choice p)
+unfolding outs
+outs_are k choice b counts are p h =
+    let f : ℕ → ℕ = λ (a : ℕ). cond (arc_from a == p) (counts a) 0 in
+    let one : sum_below 288 f ≡ sum_below 272 f + sum_below 16 (λ s. f (272 + s)) = sum_split 16 272 f in
+    let two : sum_below 272 f ≡ sum_below 136 f + sum_below 136 (λ c. f (136 + c)) = sum_split 136 136 f in
+    let runs : sum_below 136 (starts_at k choice p) ≡ sum_below 136 f + sum_below 136 (λ c. f (136 + c)) =
+    sum_below-same 136 (starts_at k choice p) (λ c. f c + f (136 + c)) (λ c l.
+    let x : cond (start_of c true == p) (choice c) 0 ≡ cond (arc_from c == p) (counts c) 0 =
+    term_is (choice c) (counts c) (start_of c true == p) (arc_from c == p) (sym (are c (omega arith) ∙ count_early k choice b c l)) (ap (λ (m : ℕ). m == p) (sym (from_early c l))) in
+    let y : cond (start_of c false == p) (slice_index k.count c - choice c) 0 ≡ cond (arc_from (136 + c) == p) (counts (136 + c)) 0 =
+    term_is (slice_index k.count c - choice c) (counts (136 + c)) (start_of c false == p) (arc_from (136 + c) == p)
+    (sym (are (136 + c) (omega arith) ∙ count_late k choice b c l)) (ap (λ (m : ℕ). m == p) (sym (from_late c l))) in
+    omega arith)
+    ∙ sum_below-add 136 f (λ c. f (136 + c)) in
+    let idle : sum_below 16 (λ s. f (272 + s)) ≡ b - load k choice p =
+    sum_hit (λ s. f (272 + s)) p h (λ s l ne. (let t : (s == p) ≡ false = ne_eqb s p ne in rw (from_idle s, t) refl))
+    ∙ (let t : (p == p) ≡ true = eq-eqb p p refl in rw (from_idle p, t) (are (272 + p) (omega arith) ∙ count_idle k choice b p)) in
+    omega arith
+
+pub ins_are : (k : Classes) (choice : ℕ → ℕ) (b : ℕ) (counts : ℕ → ℕ) → AreCounts k choice b counts → (p : ℕ) → p < 16 →
+    ins counts p ≡ sum_below 136 (ends_at k choice p) + (b - load k choice (before p))
+unfolding ins
+ins_are k choice b counts are p h =
+    let f : ℕ → ℕ = λ (a : ℕ). cond (arc_to a == p) (counts a) 0 in
+    let one : sum_below 288 f ≡ sum_below 272 f + sum_below 16 (λ s. f (272 + s)) = sum_split 16 272 f in
+    let two : sum_below 272 f ≡ sum_below 136 f + sum_below 136 (λ c. f (136 + c)) = sum_split 136 136 f in
+    let runs : sum_below 136 (ends_at k choice p) ≡ sum_below 136 f + sum_below 136 (λ c. f (136 + c)) =
+    sum_below-same 136 (ends_at k choice p) (λ c. f c + f (136 + c)) (λ c l.
+    let x : cond (finish_of c true == p) (choice c) 0 ≡ cond (arc_to c == p) (counts c) 0 =
+    term_is (choice c) (counts c) (finish_of c true == p) (arc_to c == p) (sym (are c (omega arith) ∙ count_early k choice b c l)) (ap (λ (m : ℕ). m == p) (sym (to_early c l))) in
+    let y : cond (finish_of c false == p) (slice_index k.count c - choice c) 0 ≡ cond (arc_to (136 + c) == p) (counts (136 + c)) 0 =
+    term_is (slice_index k.count c - choice c) (counts (136 + c)) (finish_of c false == p) (arc_to (136 + c) == p)
+    (sym (are (136 + c) (omega arith) ∙ count_late k choice b c l)) (ap (λ (m : ℕ). m == p) (sym (to_late c l))) in
+    omega arith)
+    ∙ sum_below-add 136 f (λ c. f (136 + c)) in
+    let low : before p < 16 = omega arith in
+    let around : (before p + 1) % 16 ≡ p = omega arith in
+    let idle : sum_below 16 (λ s. f (272 + s)) ≡ b - load k choice (before p) =
+    sum_hit (λ s. f (272 + s)) (before p) low
+    (λ s l ne. (let t : ((s + 1) % 16 == p) ≡ false = ne_eqb ((s + 1) % 16) p (λ e. ne (omega arith)) in rw (to_idle s, t) refl))
+    ∙ (let t : ((before p + 1) % 16 == p) ≡ true = eq-eqb ((before p + 1) % 16) p around in
+    rw (to_idle (before p), t) (are (272 + before p) (omega arith) ∙ count_idle k choice b (before p))) in
+    omega arith
+
+-- as many arcs leave each boundary as lead to it
+pub balanced_start : (k : Classes) (choice : ℕ → ℕ) (b : ℕ) (counts : ℕ → ℕ) → AreCounts k choice b counts →
+    ((slot : ℕ) → slot < 16 → load k choice slot ≤ b) → IsBalanced counts 0 0
+balanced_start k choice b counts are within q h =
+    let low : before q < 16 = omega arith in
+    omega (arith, outs_are k choice b counts are q h, ins_are k choice b counts are q h, load_edge k choice q h, within q h, within (before q) low)

@@ -1,0 +1,101 @@
+-- What floods keep: each member is visited, and the last exits lead home.
+use Rattle.std.proofs.Common.{◌≡◌, ◌≢◌, ℕ, ◌<◌, true, false, List, length, slice_index, slice_set, get_or-set_same, get_or-set_other, refl, sym, subst, ◌∙◌, inl, inr}
+use Rattle.std.proofs.lemmas.Bool.{cases_eq}
+use Rattle.pocsag_slots.specs.Sums.{holds}
+use Rattle.pocsag_tour.specs.Moves.{arc_from, arc_to, IsEntering, IsExit, IsLeaving, Home, at_root, by_exit, LeadHome, Visited, at_start, by_arc}
+use Rattle.pocsag_tour.proofs.Geometry.{from_below, to_below}
+use Rattle.pocsag_tour.proofs.Members.{holds_none}
+
+-- the set of one member
+pub lone : (set member q : ℕ) → ((i : ℕ) → i ≢ member → holds set i ≡ holds 0 i) → holds set q ≡ true → q ≡ member
+lone set member q others held =
+    elim (cases_eq q member) [
+      | inl same ↦ same
+      | inr other ↦ absurd (let a : holds set q ≡ holds 0 q = others q other in let b : holds 0 q ≡ false = holds_none q in cc)
+    ]
+
+pub visited_start : (counts : ℕ → ℕ) (set : ℕ) → ((i : ℕ) → i ≢ 0 → holds set i ≡ holds 0 i) →
+    (p : ℕ) → p < 16 → holds set p ≡ true → Visited counts p
+visited_start counts set others p h held = subst (Visited counts) (sym (lone set 0 p others held)) at_start
+
+pub visited_more : (counts : ℕ → ℕ) (set grown a : ℕ) → ((p : ℕ) → p < 16 → holds set p ≡ true → Visited counts p) → IsLeaving counts set a →
+    ((i : ℕ) → i ≢ arc_to a → holds grown i ≡ holds set i) →
+    (p : ℕ) → p < 16 → holds grown p ≡ true → Visited counts p
+visited_more counts set grown a visited leaving others p h held =
+    elim (cases_eq p (arc_to a)) [
+      | inl same ↦ subst (Visited counts) (sym same) (by_arc a leaving.known leaving.there (visited (arc_from a) (from_below a leaving.known) leaving.from))
+      | inr other ↦ visited p h (sym (others p other) ∙ held)
+    ]
+
+exit_kept : (counts exits more : ℕ → ℕ) (q : ℕ) → more q ≡ exits q → IsExit counts exits q → IsExit counts more q
+exit_kept counts exits more q same e =
+    record {
+      known = subst (λ (a : ℕ). a < 288) (sym same) e.known;
+      leaves = subst (λ (a : ℕ). arc_from a ≡ q) (sym same) e.leaves;
+      there = subst (λ (a : ℕ). 0 < counts a) (sym same) e.there;
+    }
+
+pub home_grows : (counts exits more : ℕ → ℕ) (root set grown : ℕ) →
+    ((q : ℕ) → holds set q ≡ true → (holds grown q ≡ true) × (more q ≡ exits q)) →
+    (q : ℕ) → Home counts exits root set q → Home counts more root grown q
+home_grows counts exits more root set grown kept _ at_root = at_root
+home_grows counts exits more root set grown kept _ (by_exit q held exit rest) =
+    let k : (holds grown q ≡ true) × (more q ≡ exits q) = kept q held in
+    by_exit q k.0 (exit_kept counts exits more q k.1 exit)
+    (subst (λ (a : ℕ). Home counts more root grown (arc_to a)) (sym k.1) (home_grows counts exits more root set grown kept (arc_to (exits q)) rest))
+
+pub homes_start : (counts exits : ℕ → ℕ) (root set : ℕ) → ((i : ℕ) → i ≢ root → holds set i ≡ holds 0 i) → LeadHome counts exits root set
+homes_start counts exits root set others q h held = subst (Home counts exits root set) (sym (lone set root q others held)) at_root
+
+pub homes_more : (counts exits more : ℕ → ℕ) (root set grown a : ℕ) → LeadHome counts exits root set → IsEntering counts set a →
+    more (arc_from a) ≡ a → ((q : ℕ) → q ≢ arc_from a → more q ≡ exits q) →
+    holds grown (arc_from a) ≡ true → ((q : ℕ) → q ≢ arc_from a → holds grown q ≡ holds set q) →
+    LeadHome counts more root grown
+homes_more counts exits more root set grown a homes enters new same held others q h in_grown =
+    let kept : (p : ℕ) → holds set p ≡ true → (holds grown p ≡ true) × (more p ≡ exits p) =
+    λ p in_set.
+    let ne : p ≢ arc_from a = λ e. absurd (let x : holds set (arc_from a) ≡ true = subst (λ (i : ℕ). holds set i ≡ true) e in_set in let y : holds set (arc_from a) ≡ false = enters.from in cc) in
+    (others p ne ∙ in_set, same p ne) in
+    elim (cases_eq q (arc_from a)) [
+      | inl here ↦
+          let next : Home counts more root grown (arc_to a) =
+          home_grows counts exits more root set grown kept (arc_to a) (homes (arc_to a) (to_below a enters.known) enters.to) in
+          subst (Home counts more root grown) (sym here)
+          (by_exit (arc_from a) held
+          (record {
+            known = subst (λ (b : ℕ). b < 288) (sym new) enters.known;
+            leaves = subst (λ (b : ℕ). arc_from b ≡ arc_from a) (sym new) refl;
+            there = subst (λ (b : ℕ). 0 < counts b) (sym new) enters.there;
+          })
+          (subst (λ (b : ℕ). Home counts more root grown (arc_to b)) (sym new) next))
+      | inr other ↦ home_grows counts exits more root set grown kept q (homes q h (sym (others q other) ∙ in_grown))
+    ]
+
+-- a member stays in a set that takes one more
+pub grown_keeps : (set grown member q : ℕ) → holds grown member ≡ true → ((i : ℕ) → i ≢ member → holds grown i ≡ holds set i) →
+    holds set q ≡ true → holds grown q ≡ true
+grown_keeps set grown member q held others was =
+    elim (cases_eq q member) [
+      | inl same ↦ subst (λ (i : ℕ). holds grown i ≡ true) (sym same) held
+      | inr other ↦ others q other ∙ was
+    ]
+
+-- an exit written into a list of exits
+pub exits_low : (exits : List ℕ) (at a : ℕ) → ((q : ℕ) → q < 16 → slice_index exits q < 288) → at < length exits → a < 288 →
+    (q : ℕ) → q < 16 → slice_index (slice_set exits at a) q < 288
+exits_low exits at a known here low q h =
+    elim (cases_eq q at) [
+      | inl same ↦ subst (λ (i : ℕ). slice_index (slice_set exits at a) i < 288) (sym same) (rw (get_or-set_same exits at a 0 here) low)
+      | inr other ↦ rw (get_or-set_other exits at q a 0 other) (known q h)
+    ]
+
+pub homes_written : (counts : ℕ → ℕ) (exits : List ℕ) (root set grown a at : ℕ) → at ≡ arc_from a → at < length exits →
+    LeadHome counts (slice_index exits) root set → IsEntering counts set a →
+    holds grown at ≡ true → ((q : ℕ) → q ≢ at → holds grown q ≡ holds set q) →
+    LeadHome counts (slice_index (slice_set exits at a)) root grown
+homes_written counts exits root set grown a at from here homes enters held others =
+    homes_more counts (slice_index exits) (slice_index (slice_set exits at a)) root set grown a homes enters
+    (subst (λ (i : ℕ). slice_index (slice_set exits at a) i ≡ a) from (get_or-set_same exits at a 0 here))
+    (λ q ne. get_or-set_other exits at q a 0 (λ e. ne (e ∙ from)))
+    (subst (λ (i : ℕ). holds grown i ≡ true) from held)
+    (λ q ne. others q (λ e. ne (e ∙ from)))

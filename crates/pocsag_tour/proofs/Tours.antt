@@ -1,0 +1,216 @@
+-- Ways over all arcs are tours, and what refusals say.
+use Rattle.std.proofs.Common.{◌≡◌, ℕ, ◌+◌, ◌-◌, ◌%◌, ◌<◌, ◌≤◌, Bool, true, false, not, cond, List, refl, sym, subst, ◌∙◌, arith}
+use Rattle.pocsag_words.specs.declared.ending.End.{End}
+use Rattle.pocsag_words.specs.declared.ending.End.TheVariants.{Open}
+use Rattle.pocsag_slots.specs.declared.class.Classes.{Classes}
+use Rattle.pocsag_slots.specs.declared.step.Step.{Step}
+use Rattle.pocsag_slots.specs.Loads.{IsChoice, load}
+use Rattle.pocsag_slots.specs.Numbering.{class_frame, class_rest, start_of, finish_of}
+use Rattle.pocsag_slots.specs.Sums.{holds}
+use Rattle.pocsag_slots.specs.Tours.{IsTour, LastAs}
+use Rattle.pocsag_slots.specs.Ways.{run_crosses, idle_crosses}
+use Rattle.pocsag_tour.specs.declared.fault.TourFault.{TourFault}
+use Rattle.pocsag_tour.specs.declared.fault.TourFault.TheVariants.{Apart, Unclosed, OutOfMemory}
+use Rattle.pocsag_tour.specs.Moves.{arc_count, arc_from, arc_to, AreCounts, IsClosing, IsRunOutside, IsWay, NoneEnters, NoneLeaves, NoWay, Visited, at_start as visited_start, by_arc}
+use Rattle.pocsag_tour.specs.Reached.{IsApart, IsReached, at_start, by_idle, by_run, IsRefused, IsUnclosed, LiesOutside, runs_of}
+use Rattle.pocsag_tour.proofs.Covering.{balanced_start, count_early, count_idle, count_late}
+use Rattle.pocsag_tour.proofs.Geometry.{by_kind, from_early, from_idle, from_late, step_idle, step_late, to_early, to_idle, to_late}
+use Rattle.pocsag_tour.proofs.Joining.{balance_enters}
+use Rattle.pocsag_tour.proofs.Walks.{taken_early, taken_idle, taken_late}
+
+pub tour_of : (k : Classes) (end : End) (choice : ℕ → ℕ) (b : ℕ) (counts : ℕ → ℕ) (ss : List Step) → AreCounts k choice b counts → IsChoice k choice →
+    ((slot : ℕ) → slot < 16 → load k choice slot ≤ b) → IsWay counts 0 ss → LastAs end ss → IsTour k end choice b ss
+tour_of k end choice b counts ss are chosen within w last =
+    record {
+      leads = w.leads;
+      early = λ c h. sym (taken_early c ss h) ∙ (w.takes c (omega arith) ∙ (are c (omega arith) ∙ count_early k choice b c h));
+      late = λ c h.
+          omega (arith, taken_late c ss h, w.takes (136 + c) (omega arith), are (136 + c) (omega arith), count_late k choice b c h, chosen c h);
+      no_other = w.no_other;
+      idle = λ s h.
+          omega (arith, taken_idle s ss, w.takes (272 + s) (omega arith), are (272 + s) (omega arith), count_idle k choice b s, within s h);
+      last = last;
+    }
+
+-- the arc of a run
+arc_of : ℕ → Bool → ℕ
+arc_of c early = cond early c (136 + c)
+
+arc_known : (c : ℕ) (e : Bool) → c < 136 → arc_of c e < 288
+unfolding arc_of
+arc_known c true h = omega arith
+arc_known c false h = omega arith
+
+arc_starts : (c : ℕ) (e : Bool) → c < 136 → arc_from (arc_of c e) ≡ start_of c e
+unfolding arc_of
+arc_starts c true h = from_early c h
+arc_starts c false h = from_late c h
+
+arc_finishes : (c : ℕ) (e : Bool) → c < 136 → arc_to (arc_of c e) ≡ finish_of c e
+unfolding arc_of
+arc_finishes c true h = to_early c h
+arc_finishes c false h = to_late c h
+
+arc_counts : (k : Classes) (choice : ℕ → ℕ) (b : ℕ) (counts : ℕ → ℕ) → AreCounts k choice b counts → (c : ℕ) (e : Bool) → c < 136 →
+    counts (arc_of c e) ≡ runs_of k choice c e
+unfolding arc_of runs_of
+arc_counts k choice b counts are c true h = are c (omega arith) ∙ count_early k choice b c h
+arc_counts k choice b counts are c false h = are (136 + c) (omega arith) ∙ count_late k choice b c h
+
+early_runs : (k : Classes) (choice : ℕ → ℕ) (b c : ℕ) → c < 136 → arc_count k choice b c ≡ runs_of k choice c true
+unfolding runs_of
+early_runs k choice b c h = count_early k choice b c h
+
+late_runs : (k : Classes) (choice : ℕ → ℕ) (b c : ℕ) → c < 136 → arc_count k choice b (136 + c) ≡ runs_of k choice c false
+unfolding runs_of
+late_runs k choice b c h = count_late k choice b c h
+
+some_idle : (k : Classes) (choice : ℕ → ℕ) (b : ℕ) (counts : ℕ → ℕ) → AreCounts k choice b counts → (s : ℕ) → s < 16 →
+    counts (272 + s) ≡ b - load k choice s
+some_idle k choice b counts are s h = are (272 + s) (omega arith) ∙ count_idle k choice b s
+
+-- a set that no arc leaves keeps the runs and idles that start in it
+run_stays : (k : Classes) (choice : ℕ → ℕ) (b : ℕ) (counts : ℕ → ℕ) (set : ℕ) → AreCounts k choice b counts → NoneLeaves counts set →
+    (c : ℕ) (e : Bool) → c < 136 → 0 < runs_of k choice c e → holds set (start_of c e) ≡ true → holds set (finish_of c e) ≡ true
+run_stays k choice b counts set are none c e h some held =
+    subst (λ (p : ℕ). holds set p ≡ true) (arc_finishes c e h)
+    (none (arc_of c e) (arc_known c e h) (subst (λ (n : ℕ). 0 < n) (sym (arc_counts k choice b counts are c e h)) some)
+    (subst (λ (p : ℕ). holds set p ≡ true) (sym (arc_starts c e h)) held))
+
+run_from : (k : Classes) (choice : ℕ → ℕ) (b : ℕ) (counts : ℕ → ℕ) (set : ℕ) → AreCounts k choice b counts → NoneEnters counts set →
+    (c : ℕ) (e : Bool) → c < 136 → 0 < runs_of k choice c e → holds set (finish_of c e) ≡ true → holds set (start_of c e) ≡ true
+run_from k choice b counts set are none c e h some held =
+    subst (λ (p : ℕ). holds set p ≡ true) (arc_starts c e h)
+    (none (arc_of c e) (arc_known c e h) (subst (λ (n : ℕ). 0 < n) (sym (arc_counts k choice b counts are c e h)) some)
+    (subst (λ (p : ℕ). holds set p ≡ true) (sym (arc_finishes c e h)) held))
+
+idle_stays : (k : Classes) (choice : ℕ → ℕ) (b : ℕ) (counts : ℕ → ℕ) (set : ℕ) → AreCounts k choice b counts → NoneLeaves counts set →
+    (s : ℕ) → s < 16 → load k choice s < b → holds set s ≡ true → holds set ((s + 1) % 16) ≡ true
+idle_stays k choice b counts set are none s h some held =
+    let there : 0 < counts (272 + s) = omega (arith, some_idle k choice b counts are s h) in
+    subst (λ (p : ℕ). holds set p ≡ true) (to_idle s)
+    (none (272 + s) (omega arith) there (subst (λ (p : ℕ). holds set p ≡ true) (sym (from_idle s)) held))
+
+idle_from : (k : Classes) (choice : ℕ → ℕ) (b : ℕ) (counts : ℕ → ℕ) (set : ℕ) → AreCounts k choice b counts → NoneEnters counts set →
+    (s : ℕ) → s < 16 → load k choice s < b → holds set ((s + 1) % 16) ≡ true → holds set s ≡ true
+idle_from k choice b counts set are none s h some held =
+    let there : 0 < counts (272 + s) = omega (arith, some_idle k choice b counts are s h) in
+    subst (λ (p : ℕ). holds set p ≡ true) (from_idle s)
+    (none (272 + s) (omega arith) there (subst (λ (p : ℕ). holds set p ≡ true) (sym (to_idle s)) held))
+
+-- what is visited over arcs by number is reached, and the other way round
+reached_by : (k : Classes) (choice : ℕ → ℕ) (b : ℕ) (counts : ℕ → ℕ) → AreCounts k choice b counts →
+    (a : ℕ) → a < 288 → 0 < counts a → IsReached k choice b (arc_from a) → IsReached k choice b (arc_to a)
+reached_by k choice b counts are =
+    by_kind (λ a. 0 < counts a → IsReached k choice b (arc_from a) → IsReached k choice b (arc_to a))
+    (λ c h some r. subst (IsReached k choice b) (sym (to_early c h))
+    (by_run c true h (subst (λ (n : ℕ). 0 < n) (are c (omega arith) ∙ early_runs k choice b c h) some) (subst (IsReached k choice b) (from_early c h) r)))
+    (λ c h some r. subst (IsReached k choice b) (sym (to_late c h))
+    (by_run c false h (subst (λ (n : ℕ). 0 < n) (are (136 + c) (omega arith) ∙ late_runs k choice b c h) some) (subst (IsReached k choice b) (from_late c h) r)))
+    (λ s h some r. subst (IsReached k choice b) (sym (to_idle s))
+    (by_idle s h (omega (arith, some_idle k choice b counts are s h)) (subst (IsReached k choice b) (from_idle s) r)))
+
+visited_reached : (k : Classes) (choice : ℕ → ℕ) (b : ℕ) (counts : ℕ → ℕ) → AreCounts k choice b counts → (p : ℕ) → Visited counts p → IsReached k choice b p
+visited_reached k choice b counts are _ visited_start = at_start
+visited_reached k choice b counts are _ (by_arc a h some rest) =
+    reached_by k choice b counts are a h some (visited_reached k choice b counts are (arc_from a) rest)
+
+reached_in : (k : Classes) (choice : ℕ → ℕ) (b : ℕ) (counts : ℕ → ℕ) (set : ℕ) → AreCounts k choice b counts → holds set 0 ≡ true → NoneLeaves counts set →
+    (p : ℕ) → IsReached k choice b p → holds set p ≡ true
+reached_in k choice b counts set are home none _ at_start = home
+reached_in k choice b counts set are home none _ (by_idle s h some rest) =
+    idle_stays k choice b counts set are none s h some (reached_in k choice b counts set are home none s rest)
+reached_in k choice b counts set are home none _ (by_run c e h some rest) =
+    run_stays k choice b counts set are none c e h some (reached_in k choice b counts set are home none (start_of c e) rest)
+
+not_true : (x y : Bool) → (y ≡ true → x ≡ true) → x ≡ false → y ≡ false
+not_true x true h f = absurd (let t : x ≡ true = h refl in cc)
+not_true x false h f = refl
+
+stays : (x y : Bool) → (x ≡ true → y ≡ true) → (y ≡ true → x ≡ true) → cond x (not y) y ≡ false
+stays true true h g = refl
+stays true false h g = absurd (let t : false ≡ true = h refl in cc)
+stays false true h g = absurd (let t : false ≡ true = g refl in cc)
+stays false false h g = refl
+
+run_same : (c : ℕ) (e : Bool) (set : ℕ) → (holds set (start_of c e) ≡ true → holds set (finish_of c e) ≡ true) →
+    (holds set (finish_of c e) ≡ true → holds set (start_of c e) ≡ true) → run_crosses c e set ≡ false
+unfolding run_crosses
+run_same c e set h g = stays (holds set (start_of c e)) (holds set (finish_of c e)) h g
+
+idle_same : (s set : ℕ) → (holds set s ≡ true → holds set ((s + 1) % 16) ≡ true) →
+    (holds set ((s + 1) % 16) ≡ true → holds set s ≡ true) → idle_crosses s set ≡ false
+unfolding idle_crosses
+idle_same s set h g = stays (holds set s) (holds set ((s + 1) % 16)) h g
+
+outside_of : (k : Classes) (choice : ℕ → ℕ) (b : ℕ) (counts : ℕ → ℕ) (set : ℕ) → AreCounts k choice b counts → NoneEnters counts set →
+    (c : ℕ) (e : Bool) → c < 136 → 0 < runs_of k choice c e → holds set (start_of c e) ≡ false → LiesOutside k choice set
+outside_of k choice b counts set are none c e h some out =
+    record {
+      class = c;
+      early = e;
+      known = h;
+      there = some;
+      starts = out;
+      finishes = not_true (holds set (start_of c e)) (holds set (finish_of c e)) (run_from k choice b counts set are none c e h some) out;
+    }
+
+lies_outside : (k : Classes) (choice : ℕ → ℕ) (b : ℕ) (counts : ℕ → ℕ) (set : ℕ) → AreCounts k choice b counts → NoneEnters counts set →
+    (a : ℕ) → a < 288 → a < 272 → 0 < counts a → holds set (arc_from a) ≡ false → LiesOutside k choice set
+lies_outside k choice b counts set are none =
+    by_kind (λ a. a < 272 → 0 < counts a → holds set (arc_from a) ≡ false → LiesOutside k choice set)
+    (λ c h low some out. outside_of k choice b counts set are none c true h (subst (λ (n : ℕ). 0 < n) (are c (omega arith) ∙ early_runs k choice b c h) some) (subst (λ (p : ℕ). holds set p ≡ false) (from_early c h) out))
+    (λ c h low some out. outside_of k choice b counts set are none c false h (subst (λ (n : ℕ). 0 < n) (are (136 + c) (omega arith) ∙ late_runs k choice b c h) some) (subst (λ (p : ℕ). holds set p ≡ false) (from_late c h) out))
+    (λ s h low some out. absurd (omega arith))
+
+pub apart : (k : Classes) (choice : ℕ → ℕ) (b : ℕ) (counts : ℕ → ℕ) (set a : ℕ) → AreCounts k choice b counts →
+    ((slot : ℕ) → slot < 16 → load k choice slot ≤ b) → holds set 0 ≡ true → NoneLeaves counts set →
+    ((p : ℕ) → p < 16 → holds set p ≡ true → Visited counts p) → IsRunOutside counts set a → IsApart k choice b set
+apart k choice b counts set a are within home none visited out =
+    let enters : NoneEnters counts set = balance_enters counts set (balanced_start k choice b counts are within) none in
+    record {
+      exact = λ p h. ((λ held. visited_reached k choice b counts are p (visited p h held)), (λ r. reached_in k choice b counts set are home none p r));
+      outside = lies_outside k choice b counts set are enters a (let low : a < 272 = out.known in omega arith) out.known out.there out.from;
+      no_run = λ c e h some. run_same c e set (run_stays k choice b counts set are none c e h some) (run_from k choice b counts set are enters c e h some);
+      no_idle = λ s h some. idle_same s set (idle_stays k choice b counts set are none s h some) (idle_from k choice b counts set are enters s h some);
+    }
+
+pub unclosed : (k : Classes) (choice : ℕ → ℕ) (b : ℕ) (counts : ℕ → ℕ) (ss : List Step) → AreCounts k choice b counts → IsChoice k choice →
+    ((slot : ℕ) → slot < 16 → load k choice slot ≤ b) → IsWay counts 0 ss → counts 287 ≡ 0 → counts 271 ≡ 0 → IsUnclosed k choice b
+unfolding runs_of
+unclosed k choice b counts ss are chosen within w idle late =
+    record {
+      steps = ss;
+      tour = tour_of k Open choice b counts ss are chosen within w tt;
+      no_idle = omega (arith, some_idle k choice b counts are 15 (omega arith), within 15 (omega arith));
+      no_late = omega (arith, are 271 (omega arith), count_late k choice b 135 (omega arith));
+    }
+
+-- why there was no way says why there is no tour
+pub refused : (k : Classes) (choice : ℕ → ℕ) (b : ℕ) (counts : ℕ → ℕ) (end : End) (fault : TourFault) → AreCounts k choice b counts → IsChoice k choice →
+    ((slot : ℕ) → slot < 16 → load k choice slot ≤ b) → NoWay counts end fault → IsRefused k choice b end fault
+refused k choice b counts end (Apart set) are chosen within never = absurd never
+refused k choice b counts end Unclosed are chosen within known = (known.0, unclosed k choice b counts known.3.0 are chosen within known.3.1 known.1 known.2)
+refused k choice b counts end OutOfMemory are chosen within known = tt
+
+-- the two arcs that may close
+pub closing_idle : (counts : ℕ → ℕ) → 0 < counts 287 → IsClosing counts 287
+closing_idle counts some =
+    record {
+      known = omega arith;
+      there = some;
+      from = from_idle 15;
+      to = to_idle 15;
+      last = rw (step_idle 15) tt;
+    }
+
+pub closing_late : (counts : ℕ → ℕ) → 0 < counts 271 → IsClosing counts 271
+unfolding start_of finish_of class_frame class_rest
+closing_late counts some =
+    record {
+      known = omega arith;
+      there = some;
+      from = from_late 135 (omega arith);
+      to = to_late 135 (omega arith);
+      last = rw (step_late 135 (omega arith)) (refl, refl);
+    }

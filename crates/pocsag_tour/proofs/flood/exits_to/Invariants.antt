@@ -1,0 +1,15 @@
+use Rattle.std.proofs.Common.{◌≡◌, ℕ, ◌-◌, ◌<◌, true, length, slice_index}
+use Rattle.pocsag_slots.specs.Sums.{holds}
+use Rattle.pocsag_tour.specs.Moves.{LeadHome}
+use Rattle.pocsag_tour.proofs.flood.exits_to.Given as goal
+
+abbrev pub invariant-loop-arc : goal.invariant-loop-arc
+invariant-loop-arc l = record {
+  root : holds l.set l.root ≡ true;
+  long : length l.arcs ≡ 16;
+  known : (q : ℕ) → q < 16 → slice_index l.arcs q < 288;
+  homes : LeadHome (slice_index l.counts) (slice_index l.arcs) l.root l.set;
+}
+
+abbrev pub decreases-loop-arc : goal.decreases-loop-arc
+decreases-loop-arc l = 65536 - l.set

@@ -1,0 +1,14 @@
+use thiserror::Error;
+
+/// Why a choice was given no tour.
+#[derive(Clone, Copy, PartialEq, Eq, Debug, Error)]
+pub enum TourFault {
+    /// Some run lies outside this set, which is all the boundaries that are reached from boundary 0.
+    #[error("the runs are apart")]
+    Apart(u16),
+    /// There is a tour for the open end, and none for the closed end.
+    #[error("the tour cannot be closed")]
+    Unclosed,
+    #[error("out of memory")]
+    OutOfMemory,
+}

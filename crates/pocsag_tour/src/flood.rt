@@ -1,0 +1,124 @@
+ghost use Rattle.std.specs.Prelude.{◌≡◌, ◌≢◌, ℕ, ◌<◌, ◌&&◌, not, true, false, length, slice_index, IfSome, IfNone};
+ghost use Rattle.pocsag_slots.specs.Sums.{holds as is_member};
+ghost use Rattle.pocsag_tour.specs.Moves.{arc_from, arc_to, IsEntering, IsLeaving, IsRunOutside, LeadHome, NoneEnters, NoneLeaves, RunsStart, Visited};
+
+use crate::arc::{ARCS, begins, ends};
+use pocsag_slots::holds;
+
+// The set with one member more, 0 to 15.
+fn with_member(set: u16, member: u8) -> u16
+    requires { member < 16 }
+    ensures member { is_member result member ≡ true }
+    ensures others { (i : ℕ) → i ≢ member → is_member result i ≡ is_member set i }
+    ensures grows { is_member set member ≡ false → set < result }
+{
+    set | 1 << member
+}
+
+// Whether the arc leads from a boundary in the set to one outside.
+fn leads_out(set: u16, arc: usize) -> bool
+    requires { arc < 288 }
+    ensures { result ≡ (is_member set (arc_from arc) && not (is_member set (arc_to arc))) }
+{
+    holds(set, begins(arc)) && !holds(set, ends(arc))
+}
+
+// Whether the arc leads from a boundary outside the set to one in it.
+fn leads_in(set: u16, arc: usize) -> bool
+    requires { arc < 288 }
+    ensures { result ≡ (is_member set (arc_to arc) && not (is_member set (arc_from arc))) }
+{
+    holds(set, ends(arc)) && !holds(set, begins(arc))
+}
+
+// An arc that leaves the set.
+fn leaving(counts: &[u32; 288], set: u16) -> Option<usize>
+    ensures found { IfSome result (IsLeaving (slice_index counts.now) set) }
+    ensures none { IfNone result (NoneLeaves (slice_index counts.now) set) }
+{
+    for arc in 0..ARCS {
+        if counts[arc] > 0 {
+            if leads_out(set, arc) {
+                return Some(arc);
+            }
+        }
+    }
+    None
+}
+
+// An arc that enters the set.
+fn entering(counts: &[u32; 288], set: u16) -> Option<usize>
+    ensures found { IfSome result (IsEntering (slice_index counts.now) set) }
+    ensures none { IfNone result (NoneEnters (slice_index counts.now) set) }
+{
+    for arc in 0..ARCS {
+        if counts[arc] > 0 {
+            if leads_in(set, arc) {
+                return Some(arc);
+            }
+        }
+    }
+    None
+}
+
+// A run that starts outside the set.
+pub fn run_outside(counts: &[u32; 288], set: u16) -> Option<usize>
+    ensures found { IfSome result (IsRunOutside (slice_index counts.now) set) }
+    ensures none { IfNone result (RunsStart (slice_index counts.now) set) }
+{
+    for arc in 0..272 {
+        if counts[arc] > 0 {
+            if !holds(set, begins(arc)) {
+                return Some(arc);
+            }
+        }
+    }
+    None
+}
+
+// The boundaries that are reached from boundary 0.
+pub fn reached(counts: &[u32; 288]) -> u16
+    ensures start { is_member result 0 ≡ true }
+    ensures closed { NoneLeaves (slice_index counts.now) result }
+    ensures visited { (p : ℕ) → p < 16 → is_member result p ≡ true → Visited (slice_index counts.now) p }
+{
+    let mut set = with_member(0, 0);
+    loop {
+        match leaving(counts, set) {
+            Some(arc) => set = with_member(set, ends(arc)),
+            None => break,
+        }
+    }
+    set
+}
+
+// For each boundary from which some root is reached, the arc that is left for last there.
+#[derive(Clone, Copy)]
+pub struct Exits {
+    pub set: u16,
+    pub arcs: [usize; 16],
+    pub ghost long: { length arcs ≡ 16 },
+}
+
+// The boundaries from which the root is reached, and arcs that lead them there.
+pub fn exits_to(counts: &[u32; 288], root: u8) -> Exits
+    requires { root < 16 }
+    ensures root { is_member result.set root ≡ true }
+    ensures closed { NoneEnters (slice_index counts.now) result.set }
+    ensures known { (q : ℕ) → q < 16 → slice_index result.arcs q < 288 }
+    ensures homes { LeadHome (slice_index counts.now) (slice_index result.arcs) root result.set }
+{
+    let mut set = with_member(0, root);
+    let mut arcs = [0; 16];
+    loop {
+        match entering(counts, set) {
+            Some(arc) => {
+                let from = begins(arc);
+                arcs[from as usize] = arc;
+                set = with_member(set, from);
+            }
+            None => break,
+        }
+    }
+    Exits { set, arcs }
+}

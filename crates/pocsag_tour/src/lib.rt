@@ -1,0 +1,17 @@
+#![tactic(auto)]
+//! Tours: the order in which the runs and idles of a choice follow one another, from boundary 0 back to
+//! boundary 0.
+
+mod arc;
+mod counting;
+mod fault;
+mod flood;
+mod laws;
+#[cfg(test)]
+mod tests;
+mod touring;
+mod walking;
+
+pub use fault::TourFault;
+pub use laws::{apart_has_no_tour, unclosed_has_no_closed_tour};
+pub use touring::tour;

@@ -1,0 +1,132 @@
+ghost use Rattle.std.specs.Prelude.{◌≡◌, ℕ, ◌<◌, ◌≤◌, IsTrue, length, slice_index};
+ghost use Rattle.pocsag_slots.specs.Loads.{IsChoice};
+
+use super::*;
+use pocsag_pages::{Page, Payload, Round, RoundFault};
+use pocsag_slots::{Choice, Classes, Step, classes_of, loads};
+use pocsag_words::End;
+use std::alloc::Global;
+use std::test::Fail;
+
+// A page of so many message codewords that all say `11111`.
+fn page_of(alloc: Global, address: u32, items: usize) -> Result<Page, RoundFault> {
+    let Ok(message) = vec![in alloc; 0x88888; items] else {
+        return Err(RoundFault::OutOfMemory);
+    };
+    Ok(Page {
+        address,
+        function: 0,
+        payload: Payload::from_vec(message),
+    })
+}
+
+// The classes, for the end, of pages of these addresses and numbers of message codewords.
+fn classes_for(alloc: Global, pages: &[(u32, usize)], end: End) -> Result<Classes, RoundFault> {
+    let mut list = Vec::new(alloc);
+    for (address, items) in pages.iter().copied() {
+        let page = page_of(alloc, address, items)?;
+        if list.push(page).is_err() {
+            return Err(RoundFault::OutOfMemory);
+        }
+    }
+    let round = Round::from_pages(alloc, list)?;
+    Ok(classes_of(&round, end))
+}
+
+// Whether no load is above the batches.
+fn carries(used: &[u32; 16], batches: u32) -> bool
+    ensures { IsTrue result → (slot : ℕ) → slot < 16 → slice_index used.now slot ≤ batches }
+{
+    for slot in 0..16 {
+        if used[slot] > batches {
+            return false;
+        }
+    }
+    true
+}
+
+// The answer of `tour`, where the batches carry the loads of the choice.
+fn answer(
+    alloc: Global,
+    classes: &Classes,
+    early: [u32; 136],
+    batches: u32,
+    end: End,
+) -> Option<Result<Vec<Step>, TourFault>>
+    requires chosen { IsChoice classes.now (slice_index early) }
+    requires some { 1 ≤ batches }
+    requires long { length early ≡ 136 }
+{
+    let choice = Choice { early };
+    if carries(&loads(classes, &choice), batches) {
+        Some(tour(alloc, classes, &choice, batches, end))
+    } else {
+        None
+    }
+}
+
+// The steps of a tour that was answered.
+fn steps_of(answered: Option<Result<Vec<Step>, TourFault>>) -> Result<Vec<Step>, TourFault> {
+    match answered {
+        Some(answer) => answer,
+        None => Err(TourFault::OutOfMemory),
+    }
+}
+
+#[test]
+fn loop_apart(rt: HostRuntime) -> Result<(), Fail> {
+    let classes = classes_for(rt.alloc(), &[(3, 15)], End::Open)?;
+    let early = answer(rt.alloc(), &classes, classes.count, 1, End::Open);
+    assert!(rt; matches!(early, Some(Err(TourFault::Apart(0x0001)))));
+    let mut none = classes.count;
+    none[48] = 0;
+    let late = answer(rt.alloc(), &classes, none, 1, End::Open);
+    assert!(rt; matches!(late, Some(Err(TourFault::Apart(0x0001)))));
+    Ok(())
+}
+
+#[test]
+fn two_numeric_exact(rt: HostRuntime) -> Result<(), Fail> {
+    let classes = classes_for(rt.alloc(), &[(0, 5), (3, 9)], End::Open)?;
+    let steps = steps_of(answer(rt.alloc(), &classes, classes.count, 1, End::Open))?;
+    let first = Step::Run {
+        class: 6,
+        early: true,
+    };
+    let second = Step::Run {
+        class: 58,
+        early: true,
+    };
+    assert_eq!(rt; steps.as_slice(), [first, second].as_slice());
+    Ok(())
+}
+
+#[test]
+fn closed_exact(rt: HostRuntime) -> Result<(), Fail> {
+    let classes = classes_for(rt.alloc(), &[(0, 5), (3, 9)], End::Closed)?;
+    let found = answer(rt.alloc(), &classes, classes.count, 1, End::Closed);
+    assert!(rt; matches!(found, Some(Err(TourFault::Unclosed))));
+    Ok(())
+}
+
+#[test]
+fn closed_mixed(rt: HostRuntime) -> Result<(), Fail> {
+    let classes = classes_for(rt.alloc(), &[(0, 13), (7, 0), (15, 16)], End::Closed)?;
+    let mut early = classes.count;
+    early[135] = 0;
+    let steps = steps_of(answer(rt.alloc(), &classes, early, 2, End::Closed))?;
+    let first = Step::Run {
+        class: 14,
+        early: true,
+    };
+    let second = Step::Run {
+        class: 113,
+        early: true,
+    };
+    let last = Step::Run {
+        class: 135,
+        early: false,
+    };
+    assert_eq!(rt; steps.as_slice(), [first, second, last].as_slice());
+    Ok(())
+}

@@ -1,0 +1,100 @@
+ghost use Rattle.std.specs.Prelude.{◌≡◌, ℕ, ◌<◌, ◌≤◌, slice_index, IfOk, IfErr, IfSome, IfNone};
+ghost use Rattle.pocsag_words.specs.declared.ending.End.TheVariants.{Closed as EndsWhole};
+ghost use Rattle.pocsag_slots.specs.Loads.{IsChoice, load};
+ghost use Rattle.pocsag_slots.specs.Tours.{IsTour, LastAs, LastIsWhole};
+ghost use Rattle.pocsag_tour.specs.Moves.{AllLeadTo, IsBalanced, IsClosing, IsWay, NoWay};
+ghost use Rattle.pocsag_tour.specs.Reached.{IsRefused};
+
+use crate::arc::arc_step;
+use crate::counting::{counts_of, steps_over};
+use crate::fault::TourFault;
+use crate::flood::{reached, run_outside};
+use crate::walking::walk;
+use pocsag_slots::{Choice, Classes, Step};
+use pocsag_words::End;
+use std::alloc::{AllocError, Global};
+
+/// A tour of the choice with so many batches, for the end: steps from boundary 0 back to boundary 0 that
+/// take each run once and fill each slot with idles. `Apart` where some run is not reached from boundary
+/// 0; with the closed end `Unclosed` where there is a tour for the open end alone.
+pub fn tour(
+    alloc: Global,
+    classes: &Classes,
+    choice: &Choice,
+    batches: u32,
+    end: End,
+) -> Result<Vec<Step>, TourFault>
+    requires chosen { IsChoice classes.now (slice_index choice.now.early) }
+    requires some { 1 ≤ batches }
+    requires within { (slot : ℕ) → slot < 16 → load classes.now (slice_index choice.now.early) slot ≤ batches }
+    ensures tour { IfOk result (λ steps. IsTour classes.now end (slice_index choice.now.early) batches steps.items) }
+    ensures refused { IfErr result (IsRefused classes.now (slice_index choice.now.early) batches end) }
+{
+    let counts = counts_of(classes, choice, batches);
+    let set = reached(&counts);
+    match run_outside(&counts, set) {
+        Some(_) => Err(TourFault::Apart(set)),
+        None => way(alloc, &counts, end),
+    }
+}
+
+// A way over all arcs that ends as it must.
+fn way(alloc: Global, counts: &[u32; 288], end: End) -> Result<Vec<Step>, TourFault>
+    requires balanced { IsBalanced (slice_index counts.now) 0 0 }
+    requires joined { AllLeadTo (slice_index counts.now) 0 }
+    ensures way { IfOk result (λ steps. IsWay (slice_index counts.now) 0 steps.items × LastAs end steps.items) }
+    ensures refused { IfErr result (NoWay (slice_index counts.now) end) }
+{
+    match end {
+        End::Open => match walk(alloc, counts, 0, steps_over(counts)) {
+            Ok(steps) => Ok(steps),
+            Err(_) => Err(TourFault::OutOfMemory),
+        },
+        End::Closed => whole_way(alloc, counts),
+    }
+}
+
+// A way over all arcs that ends with a closing arc.
+fn whole_way(alloc: Global, counts: &[u32; 288]) -> Result<Vec<Step>, TourFault>
+    requires balanced { IsBalanced (slice_index counts.now) 0 0 }
+    requires joined { AllLeadTo (slice_index counts.now) 0 }
+    ensures way { IfOk result (λ steps. IsWay (slice_index counts.now) 0 steps.items × LastIsWhole steps.items) }
+    ensures refused { IfErr result (NoWay (slice_index counts.now) EndsWhole) }
+{
+    match closing(counts) {
+        Some(last) => match way_with_last(alloc, counts, last) {
+            Ok(steps) => Ok(steps),
+            Err(_) => Err(TourFault::OutOfMemory),
+        },
+        None => Err(TourFault::Unclosed),
+    }
+}
+
+// An arc with which a tour for the closed end can end: an idle in slot 15, or else a late run of an
+// address codeword alone there.
+fn closing(counts: &[u32; 288]) -> Option<usize>
+    ensures found { IfSome result (IsClosing (slice_index counts.now)) }
+    ensures none { IfNone result ((slice_index counts.now 287 ≡ 0) × (slice_index counts.now 271 ≡ 0)) }
+{
+    if counts[287] > 0 {
+        return Some(287);
+    }
+    if counts[271] > 0 {
+        return Some(271);
+    }
+    None
+}
+
+// A way over all arcs that takes this one last.
+fn way_with_last(alloc: Global, counts: &[u32; 288], last: usize) -> Result<Vec<Step>, AllocError>
+    requires balanced { IsBalanced (slice_index counts.now) 0 0 }
+    requires joined { AllLeadTo (slice_index counts.now) 0 }
+    requires last { IsClosing (slice_index counts.now) last }
+    ensures { IfOk result (λ steps. IsWay (slice_index counts.now) 0 steps.items × LastIsWhole steps.items) }
+{
+    let mut others = *counts;
+    others[last] -= 1;
+    let mut steps = walk(alloc, &others, 15, steps_over(counts))?;
+    steps.push(arc_step(last))?;
+    Ok(steps)
+}
