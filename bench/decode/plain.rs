@@ -1,6 +1,11 @@
 //! The benchmark `decode` in plain Rust: 100 MB of idle batches, of long messages and of short
 //! pages, by a decoder that takes pieces and makes the same checks, with the same tables.
 
+#[allow(dead_code)]
+#[path = "../codewords.rs"]
+mod codewords;
+
+use codewords::check_bits;
 use std::hint::black_box;
 use std::time::{Duration, Instant};
 
@@ -9,38 +14,6 @@ const ROUNDS: u32 = 3;
 const SYNC: u32 = 0x7CD2_15D8;
 const IDLE: u32 = 0x7A89_C197;
 const BATCH: u64 = 17;
-
-/// The check bits and the parity bit for data bits, by division.
-const fn divided(data: u32) -> u32 {
-    let mut rest = data << 10;
-    let mut place = 31;
-    while place > 10 {
-        place -= 1;
-        if rest >> place & 1 == 1 {
-            rest ^= 0x769 << (place - 10);
-        }
-    }
-    rest << 1 | (data.count_ones() + rest.count_ones()) & 1
-}
-
-const fn checks_from(shift: u32) -> [u32; 128] {
-    let mut table = [0; 128];
-    let mut i = 0;
-    while i < 128 {
-        table[i] = divided((i as u32) << shift);
-        i += 1;
-    }
-    table
-}
-
-static LOW: [u32; 128] = checks_from(0);
-static MIDDLE: [u32; 128] = checks_from(7);
-static HIGH: [u32; 128] = checks_from(14);
-
-#[inline(always)]
-fn check_bits(data: u32) -> u32 {
-    LOW[(data % 128) as usize] ^ MIDDLE[(data / 128 % 128) as usize] ^ HIGH[(data / 16384) as usize]
-}
 
 #[inline(always)]
 fn is_codeword(number: u32) -> bool {

@@ -1,38 +1,18 @@
 //! `pocsag plan PAGES TX` in file order, in plain Rust: the same checks and the same bytes.
 
+#[allow(dead_code)]
+#[path = "../codewords.rs"]
+mod codewords;
+
+use codewords::check_bits;
 use std::collections::HashSet;
 use std::fs::{self, File};
 use std::io::Write;
 
-const fn divided(data: u32) -> u32 {
-    let mut rest = data << 10;
-    let mut place = 31;
-    while place > 10 {
-        place -= 1;
-        if rest >> place & 1 == 1 {
-            rest ^= 0x769 << (place - 10);
-        }
-    }
-    rest << 1 | (data.count_ones() + rest.count_ones()) & 1
-}
-
-const fn checks_from(shift: u32) -> [u32; 128] {
-    let mut table = [0; 128];
-    let mut i = 0;
-    while i < 128 {
-        table[i] = divided((i as u32) << shift);
-        i += 1;
-    }
-    table
-}
-
-static LOW: [u32; 128] = checks_from(0);
-static MIDDLE: [u32; 128] = checks_from(7);
-static HIGH: [u32; 128] = checks_from(14);
 const IDLE: u32 = 0x7a89_c197;
 
 fn encode(data: u32) -> u32 {
-    data << 11 | LOW[(data % 128) as usize] ^ MIDDLE[(data / 128 % 128) as usize] ^ HIGH[(data / 16384) as usize]
+    data << 11 | check_bits(data)
 }
 
 struct Page {

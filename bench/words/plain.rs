@@ -1,60 +1,16 @@
 //! The benchmark `words` in plain Rust: repairs and checks of a million numbers, by the same tables.
 
+#[allow(dead_code)]
+#[path = "../codewords.rs"]
+mod codewords;
+
+use codewords::{check_bits, errors, syndrome};
 use std::hint::black_box;
 use std::time::{Duration, Instant};
 
 const COUNT: usize = 1_000_000;
 const ROUNDS: u32 = 50;
 const FAR: u32 = u32::MAX;
-
-/// The check bits and the parity bit for data bits, by division.
-const fn divided(data: u32) -> u32 {
-    let mut rest = data << 10;
-    let mut place = 31;
-    while place > 10 {
-        place -= 1;
-        if rest >> place & 1 == 1 {
-            rest ^= 0x769 << (place - 10);
-        }
-    }
-    rest << 1 | (data.count_ones() + rest.count_ones()) & 1
-}
-
-const fn checks_from(shift: u32) -> [u32; 128] {
-    let mut table = [0; 128];
-    let mut i = 0;
-    while i < 128 {
-        table[i] = divided((i as u32) << shift);
-        i += 1;
-    }
-    table
-}
-
-static LOW: [u32; 128] = checks_from(0);
-static MIDDLE: [u32; 128] = checks_from(7);
-static HIGH: [u32; 128] = checks_from(14);
-
-#[inline(always)]
-fn check_bits(data: u32) -> u32 {
-    LOW[(data % 128) as usize] ^ MIDDLE[(data / 128 % 128) as usize] ^ HIGH[(data / 16384) as usize]
-}
-
-#[inline(always)]
-fn syndrome(number: u32) -> u32 {
-    number % 2048 ^ check_bits(number / 2048)
-}
-
-fn errors() -> [u32; 2048] {
-    let mut table = [FAR; 2048];
-    table[0] = 0;
-    for i in 0..32 {
-        for j in 0..=i {
-            let error = 1u32 << i | 1u32 << j;
-            table[syndrome(error) as usize] = error;
-        }
-    }
-    table
-}
 
 #[inline(always)]
 fn repair(errors: &[u32; 2048], number: u32) -> Option<u32> {

@@ -13,6 +13,10 @@ import subprocess
 import sys
 import tempfile
 
+sys.dont_write_bytecode = True
+sys.path.insert(0, str(pathlib.Path(__file__).resolve().parents[1]))
+from tally import Tally
+
 TOP = pathlib.Path(__file__).resolve().parents[2]
 HERE = pathlib.Path(__file__).resolve().parent
 PROGRAM = TOP / "crates/pocsag_app/out/pocsag_app"
@@ -22,19 +26,6 @@ MOST = 20_000
 OUT_OF_MEMORY = b"pocsag: out of memory\n"
 CANNOT_READ = b"pocsag: cannot read or open a file\n"
 CANNOT_WRITE = b"pocsag: cannot write\n"
-
-
-class Tally:
-    def __init__(self):
-        self.passed = 0
-        self.failed = 0
-
-    def check(self, name, holds, told=""):
-        if holds:
-            self.passed += 1
-        else:
-            self.failed += 1
-            print(f"FAILED {name}: {told}")
 
 
 def build(folder):
@@ -220,8 +211,7 @@ def main():
         files = {"tx.bin": ACROSS}
         try_printing(tally, library, "decode", ["decode", "tx.bin"], files, folder)
         try_printing(tally, library, "hear", ["hear", "7", "tx.bin"], files, folder)
-    print(f"{tally.passed} passed, {tally.failed} failed")
-    return 0 if tally.failed == 0 else 1
+    return tally.end()
 
 
 if __name__ == "__main__":

@@ -10,6 +10,10 @@ import subprocess
 import sys
 import tempfile
 
+sys.dont_write_bytecode = True
+sys.path.insert(0, str(pathlib.Path(__file__).resolve().parents[1]))
+from tally import Tally
+
 TOP = pathlib.Path(__file__).resolve().parents[2]
 PROGRAM = TOP / "crates/pocsag_app/out/pocsag_app"
 HEADER = b"address,kind,message\n"
@@ -17,19 +21,6 @@ PREAMBLE = b"\xaa" * 72
 SYNC = "7CD215D8"
 IDLE = "7A89C197"
 MESSAGE = "C44447B9"
-
-
-class Tally:
-    def __init__(self):
-        self.passed = 0
-        self.failed = 0
-
-    def check(self, name, holds, told=""):
-        if holds:
-            self.passed += 1
-        else:
-            self.failed += 1
-            print(f"FAILED {name}: {told}")
 
 
 def run(words, folder, stdin=b""):
@@ -317,8 +308,7 @@ def main():
         folder = pathlib.Path(name)
         for part in (try_rounds, try_refused, try_files, try_check, try_receivers, try_words):
             part(tally, folder)
-    print(f"{tally.passed} passed, {tally.failed} failed")
-    return 0 if tally.failed == 0 else 1
+    return tally.end()
 
 
 if __name__ == "__main__":
