@@ -162,24 +162,23 @@ impl Checker {
     }
 }
 
-fn halved(depth: u32, class: u8, low: u16, high: u16) -> Tree {
-    if depth == 0 || class > 100 {
+fn halved(nodes: u32, class: u8, low: u16, high: u16) -> Tree {
+    if nodes < 3 || class > 100 {
         return Tree::Overload(0xffff);
     }
-    if high - low < 4 {
-        return halved(depth - 1, class + 16, 0, 2500);
-    }
+    let (class, low, high) = if high - low < 4 { (class + 16, 0, 2500) } else { (class, low, high) };
     let m = low + (high - low) / 2;
+    let half = (nodes - 1) / 4 * 2 + 1;
     Tree::Split {
         class,
         m,
-        below: Box::new(halved(depth - 1, class, low, m - 1)),
-        from: Box::new(halved(depth - 1, class, m, high)),
+        below: Box::new(halved(half, class, low, m - 1)),
+        from: Box::new(halved(nodes - 1 - half, class, m, high)),
     }
 }
 
 fn main() {
-    let tree = halved(19, 1, 0, 2500);
+    let tree = halved(999_999, 1, 0, 2500);
     let mut checker = Checker { count: [0; 136], turns: [0; 136], batches: 1249, closed: false };
     for address in 0..20_000 {
         checker.count[address % 8 * 16 + 1] += 1;

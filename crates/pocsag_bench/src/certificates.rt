@@ -1,4 +1,4 @@
-//! Reading, writing and checking a certificate of over half a million nodes, and the calls on slots.
+//! Reading, writing and checking a certificate of a million nodes, and the calls on slots.
 
 use pocsag_check::check;
 use pocsag_pages::{Page, Payload, Round};
@@ -10,7 +10,7 @@ use std::io;
 use std::io::Print;
 use std::time::{Clock, Duration, Instant};
 
-const DEPTH: u32 = 19;
+const NODES: u32 = 999_999;
 
 const TONES: u32 = 20_000;
 
@@ -22,7 +22,7 @@ pub(crate) fn run(rt: &(impl Print + Clock + Alloc<A = Global>)) -> io::Result<(
     let Some(round) = tones(alloc) else {
         return println!(rt; "out of memory");
     };
-    let tree = halved(alloc, DEPTH, 1, 0, 2500)?;
+    let tree = halved(alloc, NODES, 1, 0, 2500)?;
     time_tree(rt, alloc, &tree)?;
     time_check(rt, &round, &tree)?;
     time_slots(rt, &round)
@@ -47,20 +47,24 @@ fn tones(alloc: Global) -> Option<Round> {
     }
 }
 
-// Splits the range of a class in halves, and then the next class, down to overloads of all slots.
-fn halved(alloc: Global, depth: u32, class: u8, low: u16, high: u16) -> Result<Tree, AllocError> {
-    if depth == 0 || class > 100 || high > 2500 || low > high {
+// A tree of an odd number of nodes: splits the range of a class in halves, and then that of the next class,
+// down to overloads of all slots.
+fn halved(alloc: Global, nodes: u32, class: u8, low: u16, high: u16) -> Result<Tree, AllocError> {
+    if nodes < 3 || class > 100 || high > 2500 || low > high {
         return Ok(Tree::Overload(0xffff));
     }
-    if high - low < 4 {
-        return halved(alloc, depth - 1, class + 16, 0, 2500);
-    }
+    let (class, low, high) = if high - low < 4 {
+        (class + 16, 0, 2500)
+    } else {
+        (class, low, high)
+    };
     let m = low + (high - low) / 2;
+    let half = (nodes - 1) / 4 * 2 + 1;
     Ok(Tree::Split {
         class,
         m,
-        below: Box::new(alloc, halved(alloc, depth - 1, class, low, m - 1)?)?,
-        from: Box::new(alloc, halved(alloc, depth - 1, class, m, high)?)?,
+        below: Box::new(alloc, halved(alloc, half, class, low, m - 1)?)?,
+        from: Box::new(alloc, halved(alloc, nodes - 1 - half, class, m, high)?)?,
     })
 }
 
