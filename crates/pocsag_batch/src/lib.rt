@@ -3,15 +3,22 @@
 
 mod batches;
 mod laws;
+mod layout;
 mod order;
 mod piece;
+mod placing;
+mod queue;
+mod slots;
 mod stream;
 mod word_list;
 mod writing;
 
 pub use batches::Batches;
 pub use laws::{file_order_exists, file_order_is_legal, file_order_is_one};
+pub use layout::lay_out;
 pub use order::{in_order_batches, lay_in_order};
+pub use placing::order_of;
+pub use slots::Slots;
 pub use stream::{FirstFault, first_stream};
 pub use writing::write;
 

@@ -1,6 +1,6 @@
 -- *Tour*: a list of arcs, each starting where the one before ended, that uses each run once and fills
 -- the batches with idles.
-use Rattle.std.specs.Prelude.{◌≡◌, ℕ, ◌+◌, ◌%◌, ◌<◌, ◌≤◌, ◌==◌, Bool, true, false, cond, List, [], ◌∷◌, slice_index}
+use Rattle.std.specs.Prelude.{◌≡◌, ℕ, ◌+◌, ◌%◌, ◌^◌, ◌<◌, ◌≤◌, ◌==◌, Bool, true, false, cond, List, [], ◌∷◌, slice_index}
 use Rattle.pocsag_words.specs.declared.ending.End.{End}
 use Rattle.pocsag_words.specs.declared.ending.End.TheVariants.{Open, Closed}
 use Rattle.pocsag_pages.specs.declared.page.Page.{Page}
@@ -43,11 +43,13 @@ pub record IsTour (k : Classes) (end : End) (choice : ℕ → ℕ) (batches : �
   pub idle : (slot : ℕ) → slot < 16 → idles slot 0 steps + load k choice slot ≡ batches
   pub last : LastAs end steps
 
--- The steps are a tour of some choice for the round and the end.
+-- The steps are a tour of some choice for the round and the end; the number of batches is one of 32 bits
+-- (this project's own limit).
 pub record IsTourFor (end : End) (R : List Page) (steps : List Step) : Type 0 where
   pub table : Classes
   pub choice : ℕ → ℕ
   pub batches : ℕ
   pub some : 0 < batches
+  pub few : batches < 2 ^ 32
   pub classes : AreClassesOf table end R
   pub tour : IsTour table end choice batches steps
