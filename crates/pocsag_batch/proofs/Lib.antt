@@ -3,4 +3,7 @@ pub mod FileOrders
 pub mod Laying
 pub mod PageLists
 pub mod Pushes
+pub mod Sayable
 pub mod Sent
+pub mod UnderWay
+pub mod Views

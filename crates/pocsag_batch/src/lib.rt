@@ -20,7 +20,7 @@ pub use order::{in_order_batches, lay_in_order};
 pub use placing::order_of;
 pub use slots::Slots;
 pub use stream::{FirstFault, first_stream};
-pub use writing::write;
+pub use writing::{write, write_slots};
 
 #[cfg(test)]
 mod tests;
