@@ -1,6 +1,9 @@
 pub mod Addresses
+pub mod Chains
+pub mod ClassLists
 pub mod FileOrders
 pub mod Laying
+pub mod Orders
 pub mod PageLists
 pub mod Pushes
 pub mod Sent
