@@ -34,23 +34,23 @@ pub record Stands (end : End) (R : List Page) (links : Links) (order : List ℕ)
 pub pages_placed : (R : List Page) → map (page_at R) (all_places R) ≡ R
 pages_placed R = sym (fill_by_all (page_at R) R (length R) (record { address = 0; function = 0; payload = [] }) refl (λ k h. refl))
 
+counted : (b : Bool) (n k : ℕ) (ks : List ℕ) → n ≡ length ks → cond b 1 0 + n ≡ length (cond b (k ∷ ks) ks)
+counted true n k ks e = omega arith
+counted false n k ks e = omega arith
+
 count_placed : (end : End) (R : List Page) (c : ℕ) (places : List ℕ) → count_of end (map (page_at R) places) c ≡ length (places_of end R c places)
 count_placed end R c [] = refl
-count_placed end R c (k ∷ places) = count_of-cons end (page_at R k) (map (page_at R) places) c ∙ go (class_at end R k == c)
-  where
-    rest : count_of end (map (page_at R) places) c ≡ length (places_of end R c places)
-    rest = count_placed end R c places
-
-    go : (b : Bool) → cond b 1 0 + count_of end (map (page_at R) places) c ≡ length (cond b (k ∷ places_of end R c places) (places_of end R c places))
-    go true = omega (arith, rest)
-    go false = omega (arith, rest)
+count_placed end R c (k ∷ places) =
+    count_of-cons end (page_at R k) (map (page_at R) places) c
+    ∙ counted (class_at end R k == c) (count_of end (map (page_at R) places) c) k (places_of end R c places) (count_placed end R c places)
 
 no_class : (end : End) (R : List Page) (c : ℕ) → 136 ≤ c → count_of end R c ≡ 0
 no_class end [] c h = refl
 no_class end (p ∷ R) c h =
     let small : class_of_page end p < 136 = class_below end (p.address % 8) (page_length p) (omega arith) in
     let other : (class_of_page end p == c) ≡ false = ne_eqb (class_of_page end p) c (λ same. absurd (omega arith)) in
-    count_of-cons end p R c ∙ (ap (λ (b : Bool). cond b 1 0 + count_of end R c) other ∙ no_class end R c h)
+    let rest : count_of end R c ≡ 0 = no_class end R c h in
+    count_of-cons end p R c ∙ (ap (λ (b : Bool). cond b 1 0 + count_of end R c) other ∙ omega arith)
 
 -- a tour has a run for each page, class by class
 tour_serves : (end : End) (R : List Page) (steps : List Step) → IsTourFor end R steps → (c : ℕ) → runs c true steps + runs c false steps ≡ count_of end R c
