@@ -79,7 +79,7 @@ first_moved f c (x ∷ xs) k ks e =
 abbrev pub AreAlike : {X : Type 0} → (X → ℕ) → List X → List X → Type 0
 AreAlike f xs ys = (c : ℕ) → of_class f c xs ≡ of_class f c ys
 
-alike_without : {X : Type 0} (f : X → ℕ) (x : X) (xs ys : List X) → AreAlike f (x ∷ xs) ys → AreAlike f xs (without f (f x) ys)
+pub alike_without : {X : Type 0} (f : X → ℕ) (x : X) (xs ys : List X) → AreAlike f (x ∷ xs) ys → AreAlike f xs (without f (f x) ys)
 alike_without f x xs ys a c =
     elim (cases_eq (f x) c) [
       | inl same ↦
