@@ -1,6 +1,10 @@
 pub mod Addresses
+pub mod Chains
+pub mod ClassLists
 pub mod FileOrders
 pub mod Laying
+pub mod OrderLaws
+pub mod Orders
 pub mod PageLists
 pub mod Pushes
 pub mod Sayable

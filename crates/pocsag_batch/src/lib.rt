@@ -14,7 +14,10 @@ mod word_list;
 mod writing;
 
 pub use batches::Batches;
-pub use laws::{file_order_exists, file_order_is_legal, file_order_is_one};
+pub use laws::{
+    file_order_exists, file_order_is_legal, file_order_is_one, orders_are_one, orders_give_layouts,
+    orders_have_places,
+};
 pub use layout::lay_out;
 pub use order::{in_order_batches, lay_in_order};
 pub use placing::order_of;
