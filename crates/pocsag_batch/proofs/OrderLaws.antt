@@ -37,7 +37,8 @@ other_step : (R : List Page) (b : Bool) (x : ℕ) (left others : List ℕ) (ps :
 other_step R true x left others ps e = refl
 other_step R false x left others ps e = ap (λ (v : List Page). page_at R x ∷ v) e
 
-other_pages : (end : End) (R : List Page) (c : ℕ) (left : List ℕ) → without_first end c (map (page_at R) left) ≡ map (page_at R) (without (class_at end R) c left)
+other_pages : (end : End) (R : List Page) (c : ℕ) (left : List ℕ) →
+    without_first end c (map (page_at R) left) ≡ map (page_at R) (without (class_at end R) c left)
 other_pages end R c [] = refl
 other_pages end R c (x ∷ left) =
     other_step R (class_at end R x == c) x left (without (class_at end R) c left) (without_first end c (map (page_at R) left)) (other_pages end R c left)
