@@ -11,7 +11,7 @@ use Rattle.pocsag_slots.specs.declared.step.Step.TheVariants.{Idle as Stay, Run}
 use Rattle.pocsag_slots.specs.Layout.{first_of, without_first, laid}
 use Rattle.pocsag_batch.specs.Placing.{all_places, class_at, page_at, places_of, run_classes, laid_by, IsOrder}
 use Rattle.pocsag_batch.proofs.ClassLists.{AreAlike, alike_same, alike_without, first_same, never_none, of_class_in, of_class_out, rest_same, without}
-use Rattle.pocsag_batch.proofs.Orders.{pages_placed}
+use Rattle.pocsag_batch.proofs.Places.{pages_placed}
 
 pub one_order : (end : End) (R : List Page) (steps : List Step) (order other : List ℕ) → IsOrder end R steps order → IsOrder end R steps other → order ≡ other
 one_order end R steps order other o p =
