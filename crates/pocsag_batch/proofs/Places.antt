@@ -1,0 +1,59 @@
+-- The places of a round: their pages, and how many of them are of a class.
+use Rattle.std.proofs.Common.{◌≡◌, ℕ, ◌+◌, ◌%◌, ◌<◌, ◌≤◌, ◌==◌, ◌⊎◌, Bool, true, false, cond, List, [], ◌∷◌, All, length, map, get_or, refl, sym, ap, ◌∙◌, arith, inl, inr}
+use Rattle.std.specs.List.{range_with_len}
+use Rattle.std.proofs.lemmas.Bool.{cases_lt, ne_eqb}
+use Rattle.std.proofs.lemmas.List.FromFn.{fill_by_all, get_or-range_with_len, length-range_with_len}
+use Rattle.pocsag_words.specs.declared.ending.End.{End}
+use Rattle.pocsag_pages.specs.declared.page.Page.{Page}
+use Rattle.pocsag_pages.specs.Reading.{page_length}
+use Rattle.pocsag_slots.specs.declared.step.Step.{Step}
+use Rattle.pocsag_slots.specs.Arcs.{runs}
+use Rattle.pocsag_slots.specs.Numbering.{class_of_page, count_of}
+use Rattle.pocsag_slots.specs.Tours.{IsTourFor}
+use Rattle.pocsag_slots.proofs.CoverLemmas.{class_below}
+use Rattle.pocsag_slots.proofs.Walks.{count_of-cons}
+use Rattle.pocsag_batch.specs.Placing.{all_places, class_at, page_at, places_of}
+
+pub class_small : (end : End) (p : Page) → class_of_page end p < 136
+class_small end p = class_below end (p.address % 8) (page_length p) (omega arith)
+
+pub all_within : (n : ℕ) → All (λ k. k < n) (range_with_len 0 n)
+all_within n j d h =
+    let long : length (range_with_len 0 n) ≡ n = length-range_with_len 0 n in
+    let at : get_or (range_with_len 0 n) j d ≡ 0 + j = get_or-range_with_len 0 n j d (omega arith) in
+    omega arith
+
+pub pages_placed : (R : List Page) → map (page_at R) (all_places R) ≡ R
+pages_placed R = sym (fill_by_all (page_at R) R (length R) (record { address = 0; function = 0; payload = [] }) refl (λ k h. refl))
+
+counted : (b : Bool) (n k : ℕ) (ks : List ℕ) → n ≡ length ks → cond b 1 0 + n ≡ length (cond b (k ∷ ks) ks)
+counted true n k ks e = omega arith
+counted false n k ks e = omega arith
+
+count_placed : (end : End) (R : List Page) (c : ℕ) (places : List ℕ) → count_of end (map (page_at R) places) c ≡ length (places_of end R c places)
+count_placed end R c [] = refl
+count_placed end R c (k ∷ places) =
+    let pages : List Page = map (page_at R) places in
+    count_of-cons end (page_at R k) pages c
+    ∙ counted (class_at end R k == c) (count_of end pages c) k (places_of end R c places) (count_placed end R c places)
+
+-- no page has a class from 136 on
+no_class : (end : End) (R : List Page) (c : ℕ) → 136 ≤ c → count_of end R c ≡ 0
+no_class end [] c h = refl
+no_class end (p ∷ R) c h =
+    let small : class_of_page end p < 136 = class_small end p in
+    let other : (class_of_page end p == c) ≡ false = ne_eqb (class_of_page end p) c (λ same. absurd (omega arith)) in
+    let rest : count_of end R c ≡ 0 = no_class end R c h in
+    count_of-cons end p R c ∙ (ap (λ (b : Bool). cond b 1 0 + count_of end R c) other ∙ omega arith)
+
+-- a tour has a run for each place, class by class
+pub tour_serves : (end : End) (R : List Page) (steps : List Step) → IsTourFor end R steps →
+    (c : ℕ) → runs c true steps + runs c false steps ≡ length (places_of end R c (all_places R))
+tour_serves end R steps t c =
+    go (cases_lt c 136)
+    ∙ (ap (λ (ps : List Page). count_of end ps c) (sym (pages_placed R))
+    ∙ count_placed end R c (all_places R))
+  where
+    go : (c < 136) ⊎ (136 ≤ c) → runs c true steps + runs c false steps ≡ count_of end R c
+    go (inl h) = omega (arith, t.tour.early c h, t.tour.late c h, t.classes.count c h)
+    go (inr h) = omega (arith, t.tour.no_other c true h, t.tour.no_other c false h, no_class end R c h)
