@@ -36,10 +36,6 @@ stands_first end R links steps chains tour = record {
   in_turn = λ c. refl;
 }
 
-pub stands_idle : (end : End) (R : List Page) (links : Links) (order : List ℕ) (steps rest : List Step) →
-    Stands end R links order steps (Stay ∷ rest) → Stands end R links order steps rest
-stands_idle end R links order steps rest s = record { left = s.left; chains = s.chains; enough = s.enough; classes = s.classes; in_turn = s.in_turn }
-
 first_runs : (c : ℕ) (e : Bool) (ss : List Step) (d : ℕ) →
     runs d true (Run c e ∷ ss) + runs d false (Run c e ∷ ss) ≡ cond (c == d) 1 0 + (runs d true ss + runs d false ss)
 first_runs c e ss d = omega (arith, run_counts (c == d) e)
