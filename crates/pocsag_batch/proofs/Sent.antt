@@ -1,5 +1,5 @@
 -- A transmission on its way through a piece.
-use Rattle.std.proofs.Common.{◌≡◌, ℕ, ◌+◌, ◌%◌, ◌<◌, ◌≤◌, ◌==◌, Bool, true, false, cond, List, [], ◌∷◌, ◌++◌, length, replicate, refl, sym, ap, ◌∙◌, arith, append_assoc}
+use Rattle.std.proofs.Common.{◌≡◌, ℕ, suc, ◌+◌, ◌%◌, ◌<◌, ◌≤◌, ◌==◌, Bool, true, false, cond, List, [], ◌∷◌, ◌++◌, length, replicate, refl, sym, ap, ◌∙◌, arith, append_assoc}
 use Rattle.std.proofs.lemmas.List.{append-nil}
 use Rattle.std.specs.Prelude.{if◌then◌else◌}
 use Rattle.std.specs.List.{flat_map}
@@ -34,9 +34,9 @@ body_append [] vs slot small =
     ap (λ (n : ℕ). body_from n vs) same
 body_append (w ∷ ws) vs slot small =
     let below : (slot + 1) % 16 < 16 = omega arith in
-    let same : ((slot + 1) % 16 + length ws) % 16 ≡ (slot + (1 + length ws)) % 16 = omega arith in
+    let same : ((slot + 1) % 16 + length ws) % 16 ≡ (slot + suc (length ws)) % 16 = omega arith in
     ap (λ (v : List ℕ). slot_bytes slot w ++ v) (body_append ws vs ((slot + 1) % 16) below ∙ ap (λ (n : ℕ). body_from ((slot + 1) % 16) ws ++ body_from n vs) same)
-    ∙ sym (append_assoc (slot_bytes slot w) (body_from ((slot + 1) % 16) ws) (body_from ((slot + (1 + length ws)) % 16) vs))
+    ∙ sym (append_assoc (slot_bytes slot w) (body_from ((slot + 1) % 16) ws) (body_from ((slot + suc (length ws)) % 16) vs))
 
 bytes_are : (ws : List ℕ) → bytes_of ws ≡ replicate 72 0xaa ++ body_from 0 ws
 unfolding bytes_of
@@ -45,8 +45,9 @@ bytes_are ws = ap (λ (v : List ℕ). replicate 72 0xaa ++ v) (sym (body_is ws 0
 -- the transmission of more codewords begins with that of the first of them
 pub bytes_append : (ws vs : List ℕ) → bytes_of (ws ++ vs) ≡ bytes_of ws ++ body_from (length ws % 16) vs
 bytes_append ws vs =
+    let same : (0 + length ws) % 16 ≡ length ws % 16 = omega arith in
     bytes_are (ws ++ vs)
-    ∙ (ap (λ (v : List ℕ). replicate 72 0xaa ++ v) (body_append ws vs 0 (omega arith))
+    ∙ (ap (λ (v : List ℕ). replicate 72 0xaa ++ v) (body_append ws vs 0 (omega arith) ∙ ap (λ (n : ℕ). body_from 0 ws ++ body_from n vs) same)
     ∙ (sym (append_assoc (replicate 72 0xaa) (body_from 0 ws) (body_from (length ws % 16) vs))
     ∙ ap (λ (v : List ℕ). v ++ body_from (length ws % 16) vs) (sym (bytes_are ws))))
 
