@@ -1,7 +1,6 @@
 -- The places of a round: their pages, and how many of them are of a class.
-use Rattle.std.proofs.Common.{◌≡◌, ℕ, ◌+◌, ◌%◌, ◌<◌, ◌≤◌, ◌==◌, ◌⊎◌, Bool, true, false, cond, List, [], ◌∷◌, All, length, map, get_or, refl, sym, ap, ◌∙◌, arith, inl, inr}
+use Rattle.std.proofs.Common.{◌≡◌, ℕ, ◌+◌, ◌%◌, ◌<◌, ◌==◌, Bool, true, false, cond, List, [], ◌∷◌, All, length, map, get_or, refl, sym, ap, ◌∙◌, arith}
 use Rattle.std.specs.List.{range_with_len}
-use Rattle.std.proofs.lemmas.Bool.{cases_lt, ne_eqb}
 use Rattle.std.proofs.lemmas.List.FromFn.{fill_by_all, get_or-range_with_len, length-range_with_len}
 use Rattle.pocsag_words.specs.declared.ending.End.{End}
 use Rattle.pocsag_pages.specs.declared.page.Page.{Page}
@@ -11,6 +10,7 @@ use Rattle.pocsag_slots.specs.Arcs.{runs}
 use Rattle.pocsag_slots.specs.Numbering.{class_of_page, count_of}
 use Rattle.pocsag_slots.specs.Tours.{IsTourFor}
 use Rattle.pocsag_slots.proofs.CoverLemmas.{class_below}
+use Rattle.pocsag_slots.proofs.Laying.{served_tour}
 use Rattle.pocsag_slots.proofs.Walks.{count_of-cons}
 use Rattle.pocsag_batch.specs.Placing.{all_places, class_at, page_at, places_of}
 
@@ -37,23 +37,10 @@ count_placed end R c (k ∷ places) =
     count_of-cons end (page_at R k) pages c
     ∙ counted (class_at end R k == c) (count_of end pages c) k (places_of end R c places) (count_placed end R c places)
 
--- no page has a class from 136 on
-no_class : (end : End) (R : List Page) (c : ℕ) → 136 ≤ c → count_of end R c ≡ 0
-no_class end [] c h = refl
-no_class end (p ∷ R) c h =
-    let small : class_of_page end p < 136 = class_small end p in
-    let other : (class_of_page end p == c) ≡ false = ne_eqb (class_of_page end p) c (λ same. absurd (omega arith)) in
-    let rest : count_of end R c ≡ 0 = no_class end R c h in
-    count_of-cons end p R c ∙ (ap (λ (b : Bool). cond b 1 0 + count_of end R c) other ∙ omega arith)
-
 -- a tour has a run for each place, class by class
 pub tour_serves : (end : End) (R : List Page) (steps : List Step) → IsTourFor end R steps →
     (c : ℕ) → runs c true steps + runs c false steps ≡ length (places_of end R c (all_places R))
 tour_serves end R steps t c =
-    go (cases_lt c 136)
+    (served_tour t.table end t.choice t.batches steps R t.classes t.tour).each c
     ∙ (ap (λ (ps : List Page). count_of end ps c) (sym (pages_placed R))
     ∙ count_placed end R c (all_places R))
-  where
-    go : (c < 136) ⊎ (136 ≤ c) → runs c true steps + runs c false steps ≡ count_of end R c
-    go (inl h) = omega (arith, t.tour.early c h, t.tour.late c h, t.classes.count c h)
-    go (inr h) = omega (arith, t.tour.no_other c true h, t.tour.no_other c false h, no_class end R c h)

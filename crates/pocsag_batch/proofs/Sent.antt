@@ -4,7 +4,7 @@ use Rattle.std.proofs.lemmas.List.{append-nil}
 use Rattle.std.specs.Prelude.{if◌then◌else◌}
 use Rattle.std.specs.List.{flat_map}
 use Rattle.std.specs.Int.{to_be_bytes, w32}
-use Rattle.pocsag_pages.specs.Bytes.{sync_word, synced, bytes_of, body_bytes}
+use Rattle.pocsag_pages.specs.Bytes.{sync_word, synced, bytes_of}
 use Rattle.pocsag_batch.specs.Sending.{slot_bytes, body_from}
 
 -- what was taken and the piece are the transmission of the codewords that came

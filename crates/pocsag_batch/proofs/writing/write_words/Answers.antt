@@ -1,4 +1,4 @@
-use Rattle.std.proofs.Common.{◌≡◌, ℕ, ◌+◌, ◌%◌, ◌<◌, ◌++◌, ◌∷◌, [], length, refl, ◌∙◌, arith, length-append, All}
+use Rattle.std.proofs.Common.{◌∷◌, [], refl, ◌∙◌, arith, length-append}
 use Rattle.std.proofs.lemmas.List.Elements.{All-append, All-cons, All-nil}
 use Rattle.pocsag_words.specs.Codeword.{IsCodeword}
 use Rattle.pocsag_batch.proofs.Sent.{sent_first, sent_more}
@@ -25,6 +25,6 @@ loop-word-preserved g c =
           (λ t. c.in_ok-put_word.ensures.grown t) (λ t. c.in_ok-put_word.ensures.same t),
       omega (arith, length-append came (c.in-Some.word ∷ [])),
       All-append IsCodeword came (c.in-Some.word ∷ []) c.loop-word.invariant.4
-      (All-cons IsCodeword c.in-Some.word [] c.in_ok-put_word.ensures.codeword (All-nil IsCodeword)),
+          (All-cons IsCodeword c.in-Some.word [] c.in_ok-put_word.ensures.codeword (All-nil IsCodeword)),
       c.in_ok-put_word.ensures.succeeded ∙ c.loop-word.invariant.5,
     )
