@@ -3,6 +3,7 @@ pub mod Chains
 pub mod ClassLists
 pub mod FileOrders
 pub mod Laying
+pub mod OrderExists
 pub mod OrderLaws
 pub mod Orders
 pub mod PageLists

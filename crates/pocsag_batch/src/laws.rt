@@ -6,6 +6,7 @@ ghost use Rattle.pocsag_pages.specs.declared.page.Page.{Page};
 ghost use Rattle.pocsag_pages.specs.Reading.{IsLegalFor};
 ghost use Rattle.pocsag_slots.specs.declared.step.Step.{Step as Arc};
 ghost use Rattle.pocsag_slots.specs.Layout.{laid};
+ghost use Rattle.pocsag_slots.specs.Tours.{IsTourFor};
 ghost use Rattle.pocsag_batch.specs.FileOrder.{IsFileOrder};
 ghost use Rattle.pocsag_batch.specs.Placing.{HavePlaces, IsOrder, laid_by};
 
@@ -22,6 +23,12 @@ pub fn file_order_is_one()
 /// Each list of pages has a file order.
 pub fn file_order_exists()
     ensures { (R : List Page) → (T : List Kind) × IsFileOrder R T }
+{}
+
+/// The steps of a tour have an order.
+pub fn tours_have_orders()
+    ensures { (end : Ending) (R : List Page) (steps : List Arc) →
+        IsTourFor end R steps → (order : List ℕ) × IsOrder end R steps order }
 {}
 
 /// A list of steps has at most one order.

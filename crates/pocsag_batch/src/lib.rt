@@ -16,7 +16,7 @@ mod writing;
 pub use batches::Batches;
 pub use laws::{
     file_order_exists, file_order_is_legal, file_order_is_one, orders_are_one, orders_give_layouts,
-    orders_have_places,
+    orders_have_places, tours_have_orders,
 };
 pub use layout::lay_out;
 pub use order::{in_order_batches, lay_in_order};
