@@ -55,6 +55,7 @@ impl<'a> Slots<'a> {
     pub(crate) fn are_sayable(&self)
         ensures { IsSayable self.now }
     {
+        // A look inside makes known what the type keeps.
         let _ = self.pages.len();
         kinds_have_codewords();
     }
