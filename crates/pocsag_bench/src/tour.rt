@@ -1,13 +1,17 @@
-//! Tours of rounds of 20,000 pages.
-ghost use Rattle.std.specs.Prelude.{◌≡◌, ℕ, ◌<◌, ◌≤◌};
+//! Tours of rounds of 20,000 pages, their orders of pages and their bytes.
+ghost use Rattle.std.specs.Prelude.{◌≡◌, ℕ, ◌<◌, ◌≤◌, []};
+ghost use Rattle.std.specs.Vec.{vec_len};
+ghost use Rattle.pocsag_slots.specs.Loads.{AreClassesOf};
+ghost use Rattle.pocsag_slots.specs.Tours.{IsTourFor};
 
 use crate::flow::least;
 use crate::words::Random;
+use pocsag_batch::{Slots, order_of, write_slots};
 use pocsag_flow::choose;
 use pocsag_pages::{Page, Payload, Round};
-use pocsag_slots::{Classes, all_limits, classes_of};
+use pocsag_slots::{Classes, Step, all_limits, classes_of};
 use pocsag_tour::tour;
-use pocsag_words::End;
+use pocsag_words::{DeviceFault, End, Sink};
 use std::alloc::{Alloc, AllocError, Global};
 use std::io;
 use std::io::Print;
@@ -28,15 +32,14 @@ enum Part {
     Tones,
 }
 
-/// Times a tour of a round of each kind.
+/// Times the tour, the order of pages and the writing of a round of each kind.
 pub(crate) fn run(rt: &(impl Print + Clock + Alloc<A = Global>)) -> io::Result<()> {
     time_part(rt, "mixed", Part::Mixed)?;
     time_part(rt, "long", Part::Long)?;
     time_part(rt, "tones", Part::Tones)
 }
 
-// Times a tour with the least number of batches that carries the loads, or with the next one where that
-// one has none.
+// Times the least number of batches that carries the loads, or the next one where that has no tour.
 fn time_part(
     rt: &(impl Print + Clock + Alloc<A = Global>),
     name: &str,
@@ -48,20 +51,24 @@ fn time_part(
     };
     let classes = classes_of(&round, End::Open);
     let batches = least(&classes, MOST);
-    if time_tour(rt, name, &classes, batches)? || time_tour(rt, name, &classes, batches + 1)? {
+    if time_batches(rt, name, &round, &classes, batches)?
+        || time_batches(rt, name, &round, &classes, batches + 1)?
+    {
         return Ok(());
     }
     println!(rt; "{name}: no tour")
 }
 
-// Times a tour with so many batches; answers whether there is one.
-fn time_tour(
+// Times the calls with so many batches; answers whether there is a tour.
+fn time_batches(
     rt: &(impl Print + Clock + Alloc<A = Global>),
     name: &str,
+    round: &Round,
     classes: &Classes,
     batches: u32,
 ) -> io::Result<bool>
-    requires { 0 < batches }
+    requires some { 0 < batches }
+    requires counted { AreClassesOf classes.now End.Open round.now }
 {
     let Ok(choice) = choose(classes, &all_limits(classes, batches)) else {
         return Ok(false);
@@ -72,9 +79,92 @@ fn time_tour(
     match answer {
         Ok(steps) => {
             print_part(rt, name, "tour", time, steps.len())?;
+            time_order(rt, name, round, steps.as_slice(), batches)?;
             Ok(true)
         }
         Err(_) => Ok(false),
+    }
+}
+
+fn time_order(
+    rt: &(impl Print + Clock + Alloc<A = Global>),
+    name: &str,
+    round: &Round,
+    steps: &[Step],
+    batches: u32,
+) -> io::Result<()>
+    requires { IsTourFor End.Open round.now steps.now }
+{
+    let start = Instant::now(rt)?;
+    let answer = order_of(rt.alloc(), round, steps, End::Open);
+    let time = start.elapsed(rt)?;
+    let Ok(order) = answer else {
+        return println!(rt; "{name}: out of memory");
+    };
+    print_part(rt, name, "order_of", time, order.len())?;
+    let slots = Slots::new(round, steps, order.as_slice());
+    time_writing(rt, name, slots, batches)
+}
+
+fn time_writing(
+    rt: &(impl Print + Clock + Alloc<A = Global>),
+    name: &str,
+    slots: Slots<'_>,
+    batches: u32,
+) -> io::Result<()> {
+    let mut tape = Tape::new(rt.alloc(), batches)?;
+    let start = Instant::now(rt)?;
+    let answer = write_slots(slots, &mut tape);
+    let time = start.elapsed(rt)?;
+    if answer.is_err() {
+        return println!(rt; "{name}: cannot write");
+    }
+    print_part(rt, name, "write_slots", time, tape.len)
+}
+
+// A sink that keeps the bytes in memory that was touched before.
+#[derive(Drop)]
+struct Tape {
+    bytes: Vec<u8>,
+    len: usize,
+    calls: u64,
+    failures: u64,
+    ghost within: { len ≤ vec_len bytes },
+}
+
+impl Tape {
+    // One with room for a transmission of so many batches.
+    fn new(alloc: Global, batches: u32) -> Result<Tape, AllocError> {
+        let size = 72 + 68 * batches as usize;
+        Ok(Tape {
+            bytes: vec![in alloc; 1; size]?,
+            len: 0,
+            calls: 0,
+            failures: 0,
+        })
+    }
+}
+
+impl Sink for Tape {
+    ghost tells = { ⊥ };
+
+    ghost taken = { λ _. [] };
+
+    ghost calls = { λ s. s.calls };
+
+    ghost failures = { λ s. s.failures };
+
+    fn write(&mut self, piece: &[u8]) -> Result<usize, DeviceFault> {
+        self.calls = self.calls.saturating_add(1);
+        let count = piece.len().min(self.bytes.len() - self.len);
+        if count == 0 && !piece.is_empty() {
+            self.failures = self.failures.saturating_add(1);
+            return Err(DeviceFault);
+        }
+        let end = self.len + count;
+        self.bytes.as_mut_slice()[self.len..end].copy_from_slice(&piece[..count]);
+        self.len = end;
+        Ok(count)
     }
 }
 
