@@ -1,12 +1,13 @@
--- The loop that lays a round in file order.
-use Rattle.std.proofs.Common.{◌≡◌, ℕ, ◌+◌, ◌/◌, ◌%◌, ◌^◌, ◌<◌, ◌≤◌, List, [], ◌∷◌, ◌++◌, length, map, replicate, drop, refl, sym, ap, ◌∙◌, subst, arith, append_assoc, length-append}
+-- The loop that lays a round in file order, and the batches of a legal list.
+use Rattle.std.proofs.Common.{◌≡◌, ℕ, ◌+◌, ◌*◌, ◌/◌, ◌%◌, ◌^◌, ◌<◌, ◌≤◌, List, [], ◌∷◌, ◌++◌, length, map, replicate, drop, refl, sym, ap, ◌∙◌, subst, arith, append_assoc, length-append}
 use Rattle.std.proofs.lemmas.List.{drop_all, length-map}
 use Rattle.pocsag_words.specs.Kinds.{kind_of}
 use Rattle.pocsag_words.specs.declared.codeword.Kind.{Kind}
 use Rattle.pocsag_words.specs.declared.codeword.Kind.TheVariants.{Idle}
+use Rattle.pocsag_words.specs.declared.ending.End.{End}
 use Rattle.pocsag_words.specs.declared.ending.End.TheVariants.{Open}
 use Rattle.pocsag_pages.specs.declared.page.Page.{Page}
-use Rattle.pocsag_pages.specs.Reading.{page_words, page_length, IsLegalFor}
+use Rattle.pocsag_pages.specs.Reading.{page_words, page_length, IsLegalFor, IsLegalList}
 use Rattle.pocsag_batch.specs.FileOrder.{IsLeastFrom, IsInFrame, IsWhole, InOrder, at_end, past_page, IsFileOrder}
 use Rattle.pocsag_batch.specs.WordLists.{AreBatches}
 use Rattle.pocsag_batch.proofs.FileOrders.{length_replicate, page_words_long, whole_in_order, some_words, legal_in_order}
@@ -60,3 +61,10 @@ laid_batches (p ∷ R) vs some few f =
 pub laid_legal : (R : List Page) (vs : List ℕ) → 0 < length R → IsFileOrder R (map kind_of vs) → IsLegalFor Open (map kind_of vs) (length vs / 16) R
 laid_legal R vs some f =
     subst (λ (n : ℕ). IsLegalFor Open (map kind_of vs) (n / 16) R) (length-map vs kind_of) (legal_in_order R (map kind_of vs) some f)
+
+pub list_batches : (end : End) (R : List Page) (b : ℕ) (ws : List ℕ) → b < 2 ^ 32 → IsLegalList end ws b R → AreBatches ws
+list_batches end R b ws few legal =
+    let some : 0 < b = legal.1.0.whole.0 in
+    let long : length (map kind_of ws) ≡ 16 * b = legal.1.0.whole.1 in
+    let same : length (map kind_of ws) ≡ length ws = length-map ws kind_of in
+    record { some = omega arith; whole = omega arith; few = omega arith }

@@ -1,6 +1,13 @@
 pub mod Addresses
+pub mod Chains
+pub mod ClassLists
 pub mod FileOrders
 pub mod Laying
+pub mod OrderLaws
+pub mod Orders
 pub mod PageLists
 pub mod Pushes
+pub mod Sayable
 pub mod Sent
+pub mod UnderWay
+pub mod Views

@@ -1,4 +1,5 @@
-ghost use Rattle.std.specs.Prelude.{◌≡◌, ℕ, ◌<◌, List, map, IfOk, OnOk, ◌++◌};
+ghost use Rattle.std.specs.Prelude.{◌≡◌, ℕ, ◌<◌, List, map, All, IfOk};
+ghost use Rattle.pocsag_words.specs.Codeword.{IsCodeword};
 ghost use Rattle.pocsag_words.specs.Kinds.{kind_of};
 ghost use Rattle.pocsag_pages.specs.Reading.{IsLegalList};
 ghost use Rattle.pocsag_slots.specs.declared.class.Classes.{Classes as Table};
@@ -8,11 +9,12 @@ ghost use Rattle.pocsag_slots.specs.Layout.{laid};
 ghost use Rattle.pocsag_batch.specs.Placing.{IsOrder, laid_by};
 
 use crate::batches::Batches;
+use crate::laws::orders_give_layouts;
 use crate::placing::order_of;
 use crate::slots::Slots;
 use crate::word_list::WordList;
 use pocsag_pages::Round;
-use pocsag_slots::Step;
+use pocsag_slots::{Step, codewords_and_tours_correspond};
 use pocsag_words::{End, OutOfMemory};
 use std::alloc::Global;
 
@@ -31,6 +33,8 @@ pub fn lay_out(
         map kind_of T ≡ laid_by round.now order steps.now) }
     ensures first { IfOk result (λ T. map kind_of T ≡ laid end round.now steps.now) }
 {
+    orders_give_layouts();
+    codewords_and_tours_correspond();
     let order = order_of(alloc, round, steps, end)?;
     let words = collect(alloc, Slots::new(round, steps, &order))?;
     Ok(Batches::new(words))
@@ -38,7 +42,8 @@ pub fn lay_out(
 
 // The codewords in a list.
 fn collect(alloc: Global, slots: Slots<'_>) -> Result<WordList, OutOfMemory>
-    ensures { IfOk result (λ words. map kind_of words ≡ slots.entry) }
+    ensures same { IfOk result (λ words. map kind_of words ≡ slots.entry) }
+    ensures codewords { IfOk result (All IsCodeword) }
 {
     let mut words = WordList::new(alloc);
     for word in slots {

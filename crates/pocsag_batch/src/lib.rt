@@ -14,13 +14,16 @@ mod word_list;
 mod writing;
 
 pub use batches::Batches;
-pub use laws::{file_order_exists, file_order_is_legal, file_order_is_one};
+pub use laws::{
+    file_order_exists, file_order_is_legal, file_order_is_one, orders_are_one, orders_give_layouts,
+    orders_have_places,
+};
 pub use layout::lay_out;
 pub use order::{in_order_batches, lay_in_order};
 pub use placing::order_of;
 pub use slots::Slots;
 pub use stream::{FirstFault, first_stream};
-pub use writing::write;
+pub use writing::{write, write_slots};
 
 #[cfg(test)]
 mod tests;

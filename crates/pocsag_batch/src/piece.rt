@@ -1,5 +1,6 @@
 ghost use Rattle.std.specs.Prelude.{◌≡◌, ◌≤◌, [], ◌++◌, length, replicate, OnOk, OnErr};
 ghost use Rattle.std.specs.Int.{to_be_bytes, w32};
+ghost use Rattle.pocsag_words.specs.Codeword.{IsCodeword};
 ghost use Rattle.pocsag_words.specs.Devices.{HasFailed, TookPrefix};
 ghost use Rattle.pocsag_batch.specs.Sending.{slot_bytes};
 
@@ -71,7 +72,8 @@ impl Piece {
     // The codeword, behind the synchronisation codeword where a batch begins.
     fn push_slot(&mut self, slot: usize, word: Word)
         requires { length self.old ≤ 4344 }
-        ensures { self.new ≡ self.old ++ slot_bytes slot word }
+        ensures same { self.new ≡ self.old ++ slot_bytes slot word }
+        ensures codeword { IsCodeword word }
     {
         if slot == 0 {
             self.push(SYNC_WORD);
@@ -104,6 +106,7 @@ pub(crate) fn put_word<S: Sink>(
     word: Word,
 ) -> Result<(), DeviceFault>
     ensures same { S.tells → OnOk result (S.taken sink.new ++ piece.new ≡ (S.taken sink.old ++ piece.old) ++ slot_bytes slot word) }
+    ensures codeword { OnOk result (IsCodeword word) }
     ensures grown { S.tells → OnOk result (length (S.taken sink.old) ≤ length (S.taken sink.new)) }
     ensures part { S.tells → OnErr result (TookPrefix (S.taken sink.old) (S.taken sink.new) piece.old) }
     ensures succeeded { OnOk result (S.failures sink.new ≡ S.failures sink.old) }

@@ -2,11 +2,12 @@ ghost use Rattle.std.specs.Prelude.{◌≡◌, length};
 ghost use Rattle.std.specs.Iterator.{YieldsFirstBy, item_count};
 ghost use Rattle.pocsag_words.specs.Kinds.{kind_of};
 ghost use Rattle.pocsag_batch.specs.Placing.{HavePlaces, laid_by};
+ghost use Rattle.pocsag_batch.specs.Sending.{IsSayable};
 
 use crate::word_list::idle_word;
 use pocsag_pages::{Page, Round};
 use pocsag_slots::Step;
-use pocsag_words::{Word, address_word, message_word};
+use pocsag_words::{Word, address_word, kinds_have_codewords, message_word};
 use std::marker::Model;
 
 /// An iterator over the codewords of a tour's layout, synchronisation codewords not among them: for an
@@ -50,12 +51,12 @@ impl<'a> Slots<'a> {
         }
     }
 
-    // The address codeword of the page that comes next, whose items are then left.
-    fn begin_page(&mut self) -> Word {
-        let page = &self.pages[self.order[0] as usize];
-        self.order = &self.order[1..];
-        self.items = page.payload.as_slice();
-        address_word(page.address / 8, page.function)
+    // There are codewords that say this, by the types of pages and rounds.
+    pub(crate) fn are_sayable(&self)
+        ensures { IsSayable self.now }
+    {
+        let _ = self.pages.len();
+        kinds_have_codewords();
     }
 }
 
@@ -75,7 +76,12 @@ impl<'a> Iterator for Slots<'a> {
         self.steps = steps;
         match step {
             Step::Idle => Some(idle_word()),
-            Step::Run { .. } => Some(self.begin_page()),
+            Step::Run { .. } => {
+                let page = &self.pages[self.order[0] as usize];
+                self.order = &self.order[1..];
+                self.items = page.payload.as_slice();
+                Some(address_word(page.address / 8, page.function))
+            }
         }
     }
 }

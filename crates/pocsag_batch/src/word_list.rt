@@ -60,7 +60,8 @@ impl WordList {
     }
 
     pub(crate) fn push(&mut self, word: Word) -> Result<(), OutOfMemory>
-        ensures { OnOk result (self.new ≡ self.old ++ word ∷ []) }
+        ensures more { OnOk result (self.new ≡ self.old ++ word ∷ []) }
+        ensures codewords { OnOk result (All IsCodeword self.new) }
     {
         let _ = word.raw();
         match self.words.push(word) {

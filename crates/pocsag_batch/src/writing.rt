@@ -1,10 +1,12 @@
 ghost use Rattle.std.specs.Prelude.{◌≡◌, ◌++◌, OnOk, OnErr};
 ghost use Rattle.pocsag_words.specs.Devices.{HasFailed, TookPrefix};
 ghost use Rattle.pocsag_pages.specs.Bytes.{bytes_of};
+ghost use Rattle.pocsag_batch.specs.Sending.{Sends, SendsPart};
 
 use crate::batches::Batches;
 use crate::piece::{Piece, put_word};
-use pocsag_words::{DeviceFault, Sink, WriteFault, write_all};
+use crate::slots::Slots;
+use pocsag_words::{DeviceFault, Sink, WriteFault, same_from_kind, write_all};
 
 fn write_words<S: Sink>(batches: &Batches, sink: &mut S) -> Result<(), DeviceFault>
     ensures whole { S.tells → OnOk result (S.taken sink.new ≡ S.taken sink.old ++ bytes_of batches.now) }
@@ -30,6 +32,37 @@ pub fn write<S: Sink>(batches: &Batches, sink: &mut S) -> Result<(), WriteFault>
     ensures failed { OnErr result (HasFailed (S.failures sink.old) (S.failures sink.new)) }
 {
     match write_words(batches, sink) {
+        Ok(()) => Ok(()),
+        Err(_) => Err(WriteFault),
+    }
+}
+
+fn write_each<S: Sink>(slots: Slots<'_>, sink: &mut S) -> Result<(), DeviceFault>
+    ensures whole { S.tells → OnOk result (Sends slots.entry (S.taken sink.old) (S.taken sink.new)) }
+    ensures part { S.tells → OnErr result (SendsPart slots.entry (S.taken sink.old) (S.taken sink.new)) }
+    ensures succeeded { OnOk result (S.failures sink.new ≡ S.failures sink.old) }
+    ensures failed { OnErr result (HasFailed (S.failures sink.old) (S.failures sink.new)) }
+{
+    slots.are_sayable();
+    same_from_kind();
+    let mut piece = Piece::new();
+    let mut slot = 0;
+    for word in slots {
+        put_word(&mut piece, sink, slot, word)?;
+        slot = (slot + 1) % 16;
+    }
+    write_all(sink, piece.as_slice())
+}
+
+/// Writes the transmission of the codewords as `write` does, and builds no batches. After `WriteFault` a
+/// prefix of it was taken.
+pub fn write_slots<S: Sink>(slots: Slots<'_>, sink: &mut S) -> Result<(), WriteFault>
+    ensures whole { S.tells → OnOk result (Sends slots.entry (S.taken sink.old) (S.taken sink.new)) }
+    ensures part { S.tells → OnErr result (SendsPart slots.entry (S.taken sink.old) (S.taken sink.new)) }
+    ensures succeeded { OnOk result (S.failures sink.new ≡ S.failures sink.old) }
+    ensures failed { OnErr result (HasFailed (S.failures sink.old) (S.failures sink.new)) }
+{
+    match write_each(slots, sink) {
         Ok(()) => Ok(()),
         Err(_) => Err(WriteFault),
     }

@@ -6,7 +6,7 @@ use Rattle.pocsag_words.specs.declared.codeword.Kind.TheVariants.{Idle, Address,
 use Rattle.pocsag_words.specs.Codeword.{IsCodeword}
 use Rattle.pocsag_words.specs.Columns.{combine, columns, check_of}
 use Rattle.pocsag_words.specs.Kinds.{kind_of, address_kind}
-use Rattle.pocsag_words.proofs.BlockCode.{IsCodeword-from_low, same_from_data}
+use Rattle.pocsag_words.proofs.BlockCode.{IsCodeword-encode, IsCodeword-from_low, check_of-lt, same_from_data}
 
 IsCodeword-idle : IsCodeword 0x7a89c197
 unfolding combine columns check_of
@@ -62,3 +62,25 @@ kind_of-address w h f is small high e =
           let low_part : w / 2048 % 4 ≡ f = omega arith in
           rw (apart_eqb _ _ n, apart_eqb _ _ other, lt-ltb _ _ low) (ap₂ Address high_part low_part)
     ]
+
+kind_of-message : (w bits : ℕ) → IsCodeword w → bits < 2 ^ 20 → w / 2048 ≡ 2 ^ 20 + bits → kind_of w ≡ Message bits
+kind_of-message w bits is small e =
+    let sum : w / 2048 ≡ 1048576 + bits = e in
+    let other : w ≢ 0x7a89c197 = λ same. omega (arith, same, sum) in
+    let high : 2 ^ 20 ≤ w / 2048 = omega arith in
+    let part : w / 2048 % 2 ^ 20 ≡ bits = omega arith in
+    rw (apart_eqb _ _ other, le-ltb _ _ high) (ap Message part)
+
+-- the data has a codeword
+codeword_of : (d : ℕ) → d < 2 ^ 21 → (w : ℕ) × IsCodeword w × (w / 2048 ≡ d)
+codeword_of d small = (2048 * d + check_of d, IsCodeword-encode d (check_of d) small refl, omega (arith, check_of-lt d))
+
+pub address_has_codeword : (h f : ℕ) → h < 2 ^ 18 → f < 4 → (w : ℕ) × IsCodeword w × (kind_of w ≡ address_kind h f)
+address_has_codeword h f high small =
+    let found = codeword_of (4 * h + f) (omega arith) in
+    (found.0, found.1, kind_of-address found.0 h f found.1 small high found.2)
+
+pub message_has_codeword : (bits : ℕ) → bits < 2 ^ 20 → (w : ℕ) × IsCodeword w × (kind_of w ≡ Message bits)
+message_has_codeword bits small =
+    let found = codeword_of (2 ^ 20 + bits) (omega arith) in
+    (found.0, found.1, kind_of-message found.0 bits found.1 small found.2)

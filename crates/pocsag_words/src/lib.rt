@@ -20,7 +20,7 @@ pub use correction::repair;
 pub use device::{DeviceFault, Sink, Source, write_all};
 pub use ending::End;
 pub use lanes::check_all;
-pub use laws::{codewords_differ, numbers_are_repaired, same_from_kind};
+pub use laws::{codewords_differ, kinds_have_codewords, numbers_are_repaired, same_from_kind};
 pub use memory_sink::MemorySink;
 pub use memory_source::MemorySource;
 pub use refusal::{OutOfMemory, WriteFault};

@@ -10,7 +10,7 @@ use Rattle.pocsag_batch.proofs.word_list.WordList.push_page.Goals as goal
 pub loop-item-init : goal.loop-item-init
 loop-item-init c =
     let p = c.args.page.now in
-    pushed c.args.self.now c.push.new.self c.address_word.result (Address (p.address / 8) p.function) c.in_ok-push.ensures
+    pushed c.args.self.now c.push.new.self c.address_word.result (Address (p.address / 8) p.function) c.in_ok-push.ensures.more
     (c.address_word.ensures.kind ∙ kind_unreserved p.address p.function c.requires.address c.requires.function c.requires.unreserved)
 
 pub message_word-requires : goal.message_word-requires
@@ -29,5 +29,5 @@ loop-item-preserved c =
     c.message_word.ensures.kind ∙ ap (λ (v : List ℕ). Message (get_or v k 0)) items in
     pushed_more c.loop-item.self c.push-in-loop-item.new.self c.message_word.result (Message (get_or p.payload k 0))
     (map kind_of c.args.self.now) (Address (p.address / 8) p.function ∷ map Message (take k p.payload))
-    c.in_ok-push-2.ensures kind c.loop-item.invariant
+    c.in_ok-push-2.ensures.more kind c.loop-item.invariant
     ∙ ap (λ (v : List Kind). map kind_of c.args.self.now ++ Address (p.address / 8) p.function ∷ v) (sym (map_taken Message p.payload k within))

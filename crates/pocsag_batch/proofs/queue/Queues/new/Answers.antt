@@ -1,0 +1,31 @@
+use Rattle.std.proofs.Common.{◌≡◌, ◌≤◌, ℕ, ◌+◌, ◌-◌, ◌<◌, suc, List, length, slice_index, slice_set, sym, ap, ◌∙◌, subst, arith}
+use Rattle.std.specs.List.{range_with_len}
+use Rattle.std.proofs.lemmas.List.{length-set}
+use Rattle.pocsag_pages.specs.declared.page.Page.{Page}
+use Rattle.pocsag_batch.specs.Chains.{AreChains}
+use Rattle.pocsag_batch.specs.Placing.{class_at}
+use Rattle.pocsag_batch.proofs.Chains.{chains_added, class_at_item}
+use Rattle.pocsag_batch.proofs.queue.Queues.new.Goals as goal
+
+pub loop-place-preserved : goal.loop-place-preserved
+loop-place-preserved c =
+    let R : List Page = c.args.pages.now in
+    let place = c.loop-place.place in
+    let at = place - 1 in
+    let next : List ℕ = c.loop-place.next.items in
+    let head : List ℕ = c.loop-place.head in
+    let class : ℕ = c.class_of-class.result in
+    let some : 0 < place = c.loop-place-test.true in
+    let most : place ≤ length R = c.loop-place.invariant.0 in
+    let long : length next ≡ length R = c.loop-place.invariant.1 in
+    let left : place ≡ at + 1 = omega arith in
+    let many : suc (length R - place) ≡ length R - at = omega arith in
+    let before : AreChains c.args.end R (record { next = next; head = head }) (range_with_len (at + 1) (length R - place)) =
+    subst (λ (n : ℕ). AreChains c.args.end R (record { next = next; head = head }) (range_with_len n (length R - place))) left c.loop-place.invariant.2 in
+    let is : class ≡ class_at c.args.end R at =
+    c.class_of-class.ensures.value ∙ class_at_item c.args.end R at c.index-pages-place.result (omega arith) c.index-pages-place.is in (
+      omega arith,
+      length-set next at (slice_index head class) ∙ long,
+      subst (λ (m : ℕ). AreChains c.args.end R (record { next = slice_set next at (slice_index head class); head = slice_set head class at }) (range_with_len at m)) many
+          (chains_added c.args.end R next head at (length R - place) class (omega arith) is c.class_of-class.ensures.below before),
+    )
