@@ -1,4 +1,5 @@
 //! Worked examples of tours, their orders of pages, their codewords and their bytes.
+ghost use Rattle.std.specs.Prelude.{◌<◌};
 
 use crate::pages::{THREE_PAGES_TIGHT, round_of};
 use crate::tours::tour_of;
