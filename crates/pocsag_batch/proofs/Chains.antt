@@ -1,15 +1,18 @@
 -- Queues of places in one list: a place put in front, and the first place taken.
-use Rattle.std.proofs.Common.{◌≡◌, ℕ, zero, suc, ◌+◌, ◌<◌, ◌==◌, Bool, true, false, cond, List, [], ◌∷◌, length, get_or, sym, ap, ◌∙◌, subst, arith, inl, inr, slice_index, slice_set, get_or-set_same, get_or-set_other}
+use Rattle.std.proofs.Common.{◌≡◌, ℕ, zero, suc, ◌+◌, ◌<◌, ◌==◌, Bool, true, false, cond, List, [], ◌∷◌, All, length, refl, get_or, sym, ap, ◌∙◌, subst, arith, inl, inr, slice_index, slice_set, get_or-set_same, get_or-set_other}
 use Rattle.std.specs.Prelude.{filter}
 use Rattle.std.specs.List.{range_with_len}
-use Rattle.std.proofs.lemmas.Bool.{cases_eq}
+use Rattle.std.proofs.lemmas.Bool.{cases_eq, eqb-true}
+use Rattle.std.proofs.lemmas.Grind.{get_or-set_at}
 use Rattle.std.proofs.lemmas.List.{get_or_default, length-set}
+use Rattle.std.proofs.lemmas.List.Elements.{All-head, filter_passes}
 use Rattle.pocsag_words.specs.declared.ending.End.{End}
 use Rattle.pocsag_pages.specs.declared.page.Page.{Page}
 use Rattle.pocsag_slots.specs.Numbering.{class_of_page}
 use Rattle.pocsag_batch.specs.Chains.{IsChain, Links, AreChains}
-use Rattle.pocsag_batch.specs.Placing.{class_at, places_of}
-use Rattle.pocsag_batch.proofs.ClassLists.{of_class_in, of_class_out}
+use Rattle.pocsag_batch.specs.Placing.{class_at, page_at, places_of}
+use Rattle.pocsag_batch.proofs.ClassLists.{class_left, of_class_in, of_class_out, others_left, without}
+use Rattle.pocsag_batch.proofs.Places.{class_small}
 
 -- the class of the page that is read at a place
 pub class_at_item : (end : End) (R : List Page) (at : ℕ) (p : Page) → at < length R → p ≡ get_or R at p → class_of_page end p ≡ class_at end R at
@@ -33,31 +36,99 @@ chain_kept next at v test (suc m) j h l chain =
     kept_step next at v j h (filter test (range_with_len (j + 1) m)) (test j) l
     (λ g. chain_kept next at v test m (j + 1) g (omega arith)) chain
 
+chain_same : (next new : List ℕ) (g h : ℕ) (ks js : List ℕ) → new ≡ next → h ≡ g → js ≡ ks → IsChain next g ks → IsChain new h js
+chain_same next new g h ks js nexts places lists chain =
+    subst (λ (v : List ℕ). IsChain v h js) (sym nexts)
+    (subst (λ (p : ℕ). IsChain next p js) (sym places) (subst (λ (v : List ℕ). IsChain next g v) (sym lists) chain))
+
 -- one place more in front
 pub chains_added : (end : End) (R : List Page) (next head : List ℕ) (at m c : ℕ) → at < length next → c ≡ class_at end R at → c < 136 →
     AreChains end R (record { next = next; head = head }) (range_with_len (at + 1) m) →
     AreChains end R (record { next = slice_set next at (slice_index head c); head = slice_set head c at }) (range_with_len at (suc m))
 chains_added end R next head at m c within class small a =
+    let f : ℕ → ℕ = class_at end R in
     let left : List ℕ = range_with_len (at + 1) m in
-    let next' : List ℕ = slice_set next at (slice_index head c) in
+    let new : List ℕ = slice_set next at (slice_index head c) in
+    let heads : List ℕ = slice_set head c at in
+    let many : length head ≡ 136 = a.long in
+    let long : length new ≡ length next = length-set next at (slice_index head c) in
     record {
-      long = length-set head c at ∙ a.long;
+      long = length-set head c at ∙ many;
       chain = λ d h.
-          let kept : (g : ℕ) → IsChain next g (places_of end R d left) → IsChain next' g (places_of end R d left) =
-          λ g. chain_kept next at (slice_index head c) (λ k. class_at end R k == d) m (at + 1) g (omega arith) in
-          elim (cases_eq (class_at end R at) d) [
+          let kept : IsChain new (slice_index head d) (places_of end R d left) =
+          chain_kept next at (slice_index head c) (λ k. f k == d) m (at + 1) (slice_index head d) (omega arith) (a.chain d h) in
+          elim (cases_eq (f at) d) [
             | inl same ↦
-                let d_is : c ≡ d = class ∙ same in
-                let first : slice_index (slice_set head c at) d ≡ at =
-                subst (λ (e : ℕ). slice_index (slice_set head c at) e ≡ at) d_is (get_or-set_same head c at 0 (let long : length head ≡ 136 = a.long in omega arith)) in
-                let after : slice_index next' at ≡ slice_index head d =
-                get_or-set_same next at (slice_index head c) 0 within ∙ ap (slice_index head) d_is in
-                let long : length next' ≡ length next = length-set next at (slice_index head c) in
-                subst (λ (ks : List ℕ). IsChain next' (slice_index (slice_set head c at) d) ks) (sym (of_class_in (class_at end R) d at left same))
-                (first, omega arith, subst (λ (g : ℕ). IsChain next' g (places_of end R d left)) (sym after) (kept (slice_index head d) (a.chain d h)))
+                let first : slice_index heads d ≡ at = get_or-set_at head c d at 0 (sym (class ∙ same)) (omega arith) in
+                let after : slice_index new at ≡ slice_index head d =
+                get_or-set_same next at (slice_index head c) 0 within ∙ ap (slice_index head) (class ∙ same) in
+                subst (λ (ks : List ℕ). IsChain new (slice_index heads d) ks) (sym (of_class_in f d at left same))
+                (first, omega arith, subst (λ (g : ℕ). IsChain new g (places_of end R d left)) (sym after) kept)
             | inr other ↦
-                let first : slice_index (slice_set head c at) d ≡ slice_index head d = get_or-set_other head c d at 0 (λ e. other (sym (e ∙ class))) in
-                subst (λ (ks : List ℕ). IsChain next' (slice_index (slice_set head c at) d) ks) (sym (of_class_out (class_at end R) d at left other))
-                (subst (λ (g : ℕ). IsChain next' g (places_of end R d left)) (sym first) (kept (slice_index head d) (a.chain d h)))
+                let first : slice_index heads d ≡ slice_index head d = get_or-set_other head c d at 0 (λ e. other (sym (e ∙ class))) in
+                chain_same new new (slice_index head d) (slice_index heads d) (places_of end R d left) (places_of end R d (at ∷ left))
+                refl first (of_class_out f d at left other) kept
+          ];
+    }
+
+-- the first place of the class, and the others
+pub record Takes (end : End) (R : List Page) (links : Links) (left : List ℕ) (c : ℕ) : Type 0 where
+  pub place : ℕ
+  pub others : List ℕ
+  pub first : places_of end R c left ≡ place ∷ others
+  pub class : class_at end R place ≡ c
+  pub small : c < 136
+  pub head : slice_index links.head c ≡ place
+  pub within : place < length links.next
+  pub chain : IsChain links.next (slice_index links.next place) others
+
+pub takes_from : (end : End) (R : List Page) (links : Links) (left : List ℕ) (c : ℕ) (ks : List ℕ) → AreChains end R links left →
+    places_of end R c left ≡ ks → 0 < length ks → Takes end R links left c
+takes_from end R links left c [] chains is some = absurd (omega arith)
+takes_from end R links left c (k ∷ ks) chains is some =
+    let each : All (λ x. (class_at end R x == c) ≡ true) (k ∷ ks) =
+    subst (λ (v : List ℕ). All (λ x. (class_at end R x == c) ≡ true) v) is (filter_passes (λ x. class_at end R x == c) left) in
+    let class : class_at end R k ≡ c = eqb-true (class_at end R k) c (All-head (λ x. (class_at end R x == c) ≡ true) k ks each) in
+    let below : class_at end R k < 136 = class_small end (page_at R k) in
+    let small : c < 136 = omega arith in
+    let chain : IsChain links.next (slice_index links.head c) (k ∷ ks) =
+    subst (λ (v : List ℕ). IsChain links.next (slice_index links.head c) v) is (chains.chain c small) in
+    record {
+      place = k;
+      others = ks;
+      first = is;
+      class = class;
+      small = small;
+      head = chain.0;
+      within = chain.1;
+      chain = chain.2;
+    }
+
+-- the queues without the place
+pub chains_left : (end : End) (R : List Page) (links new : Links) (left : List ℕ) (c k : ℕ) → AreChains end R links left →
+    Takes end R links left c → k ≡ slice_index links.head c → new.next ≡ links.next →
+    new.head ≡ slice_set links.head c (slice_index links.next k) → AreChains end R new (without (class_at end R) c left)
+chains_left end R links new left c k a t first nexts heads =
+    let f : ℕ → ℕ = class_at end R in
+    let many : length links.head ≡ 136 = a.long in
+    let small : c < 136 = t.small in
+    let after : ℕ = slice_index links.next k in
+    record {
+      long = ap length heads ∙ (length-set links.head c after ∙ many);
+      chain = λ d h.
+          let places : List ℕ = places_of end R d (without f c left) in
+          let head : slice_index new.head d ≡ slice_index (slice_set links.head c after) d = ap (λ (v : List ℕ). slice_index v d) heads in
+          elim (cases_eq c d) [
+            | inl same ↦
+                let now : slice_index new.head d ≡ slice_index links.next t.place =
+                head ∙ (get_or-set_at links.head c d after 0 (sym same) (omega arith) ∙ ap (slice_index links.next) (first ∙ t.head)) in
+                let others : places ≡ t.others =
+                ap (λ (m : ℕ). places_of end R m (without f c left)) (sym same) ∙ class_left f c left t.place t.others t.first in
+                chain_same links.next new.next (slice_index links.next t.place) (slice_index new.head d) t.others places nexts now others t.chain
+            | inr other ↦
+                let now : slice_index new.head d ≡ slice_index links.head d =
+                head ∙ get_or-set_other links.head c d after 0 (λ e. other (sym e)) in
+                chain_same links.next new.next (slice_index links.head d) (slice_index new.head d) (places_of end R d left) places
+                nexts now (others_left f c d left other) (a.chain d h)
           ];
     }

@@ -6,6 +6,7 @@ pub mod Laying
 pub mod OrderLaws
 pub mod Orders
 pub mod PageLists
+pub mod Places
 pub mod Pushes
 pub mod Sayable
 pub mod Sent

@@ -11,7 +11,7 @@ use Rattle.pocsag_slots.specs.declared.step.Step.TheVariants.{Idle as Stay, Run}
 use Rattle.pocsag_slots.specs.Layout.{first_of, without_first, laid}
 use Rattle.pocsag_batch.specs.Placing.{all_places, class_at, page_at, places_of, run_classes, laid_by, IsOrder}
 use Rattle.pocsag_batch.proofs.ClassLists.{AreAlike, alike_same, alike_without, first_same, never_none, of_class_in, of_class_out, rest_same, without}
-use Rattle.pocsag_batch.proofs.Orders.{pages_placed}
+use Rattle.pocsag_batch.proofs.Places.{pages_placed}
 
 pub one_order : (end : End) (R : List Page) (steps : List Step) (order other : List ℕ) → IsOrder end R steps order → IsOrder end R steps other → order ≡ other
 one_order end R steps order other o p =
@@ -37,7 +37,8 @@ other_step : (R : List Page) (b : Bool) (x : ℕ) (left others : List ℕ) (ps :
 other_step R true x left others ps e = refl
 other_step R false x left others ps e = ap (λ (v : List Page). page_at R x ∷ v) e
 
-other_pages : (end : End) (R : List Page) (c : ℕ) (left : List ℕ) → without_first end c (map (page_at R) left) ≡ map (page_at R) (without (class_at end R) c left)
+other_pages : (end : End) (R : List Page) (c : ℕ) (left : List ℕ) →
+    without_first end c (map (page_at R) left) ≡ map (page_at R) (without (class_at end R) c left)
 other_pages end R c [] = refl
 other_pages end R c (x ∷ left) =
     other_step R (class_at end R x == c) x left (without (class_at end R) c left) (without_first end c (map (page_at R) left)) (other_pages end R c left)

@@ -1,5 +1,5 @@
 -- Codewords that in order say what a layout says.
-use Rattle.std.proofs.Common.{◌≡◌, ℕ, ◌+◌, ◌*◌, ◌/◌, ◌%◌, ◌^◌, ◌<◌, ◌≤◌, List, [], ◌∷◌, ◌++◌, length, map, refl, ap, ◌∙◌, subst, All, arith}
+use Rattle.std.proofs.Common.{◌≡◌, ℕ, ◌/◌, ◌^◌, ◌<◌, List, [], ◌∷◌, ◌++◌, length, map, refl, ap, ◌∙◌, subst, All, arith}
 use Rattle.std.proofs.lemmas.List.Elements.{All-cons, All-nil, All-tail}
 use Rattle.pocsag_words.specs.Codeword.{IsCodeword}
 use Rattle.pocsag_words.specs.Kinds.{address_kind, kind_of}
@@ -11,7 +11,7 @@ use Rattle.pocsag_pages.specs.Reading.{page_words}
 use Rattle.pocsag_slots.specs.declared.step.Step.{Step}
 use Rattle.pocsag_slots.specs.declared.step.Step.TheVariants.{Idle as Stay, Run}
 use Rattle.pocsag_batch.specs.Placing.{HavePlaces, laid_by, page_at}
-use Rattle.pocsag_batch.specs.Sending.{IsSayable, Say}
+use Rattle.pocsag_batch.specs.Sending.{IsSayable}
 use Rattle.pocsag_batch.proofs.Addresses.{kind_unreserved}
 
 -- each address with a function, and each message, has a codeword

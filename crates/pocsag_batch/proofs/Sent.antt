@@ -1,16 +1,16 @@
 -- A transmission on its way through a piece.
-use Rattle.std.proofs.Common.{◌≡◌, ℕ, ◌+◌, ◌%◌, ◌≤◌, ◌==◌, Bool, true, false, cond, List, [], ◌∷◌, ◌++◌, length, replicate, refl, sym, ap, ◌∙◌, arith, append_assoc}
+use Rattle.std.proofs.Common.{◌≡◌, ℕ, suc, ◌+◌, ◌%◌, ◌<◌, ◌≤◌, ◌==◌, Bool, true, false, cond, List, [], ◌∷◌, ◌++◌, length, replicate, refl, sym, ap, ◌∙◌, arith, append_assoc}
 use Rattle.std.proofs.lemmas.List.{append-nil}
 use Rattle.std.specs.Prelude.{if◌then◌else◌}
 use Rattle.std.specs.List.{flat_map}
 use Rattle.std.specs.Int.{to_be_bytes, w32}
-use Rattle.pocsag_pages.specs.Bytes.{sync_word, synced, bytes_of, body_bytes}
+use Rattle.pocsag_pages.specs.Bytes.{sync_word, synced, bytes_of}
 use Rattle.pocsag_batch.specs.Sending.{slot_bytes, body_from}
 
--- what was taken, the piece, and what is left are what is due
-pub record IsSent (tells : Type 0) (before taken piece left due : List ℕ) : Type 0 where
+-- what was taken and the piece are the transmission of the codewords that came
+pub record IsSent (tells : Type 0) (before taken piece came : List ℕ) : Type 0 where
   pub grown : tells → length before ≤ length taken
-  pub sent : tells → (taken ++ piece) ++ left ≡ before ++ due
+  pub sent : tells → taken ++ piece ≡ before ++ bytes_of came
 
 -- the bytes of one codeword, behind the synchronisation codeword where a batch begins
 slot_is : (b : Bool) (w : ℕ) (ws left : List ℕ) → left ≡ flat_map (to_be_bytes w32) ws →
@@ -20,7 +20,7 @@ slot_is true w ws left e = ap (λ (v : List ℕ). (to_be_bytes w32 sync_word ++ 
 slot_is false w ws left e = ap (λ (v : List ℕ). to_be_bytes w32 w ++ v) e
 
 -- the bytes by slots are those by indices
-pub body_is : (ws : List ℕ) (i : ℕ) → body_from (i % 16) ws ≡ flat_map (to_be_bytes w32) (synced i ws)
+body_is : (ws : List ℕ) (i : ℕ) → body_from (i % 16) ws ≡ flat_map (to_be_bytes w32) (synced i ws)
 body_is [] i = refl
 body_is (w ∷ ws) i =
     let next : (i % 16 + 1) % 16 ≡ (i + 1) % 16 = omega arith in
@@ -28,31 +28,48 @@ body_is (w ∷ ws) i =
     ap (λ (n : ℕ). body_from n ws) next ∙ body_is ws (i + 1) in
     slot_is (i % 16 == 0) w (synced (i + 1) ws) (body_from ((i % 16 + 1) % 16) ws) left
 
-pub sent_first : (tells : Type 0) (before piece ws : List ℕ) → piece ≡ replicate 72 0xaa → IsSent tells before before piece (body_from 0 ws) (bytes_of ws)
+body_append : (ws vs : List ℕ) (slot : ℕ) → slot < 16 → body_from slot (ws ++ vs) ≡ body_from slot ws ++ body_from ((slot + length ws) % 16) vs
+body_append [] vs slot small =
+    let same : slot ≡ (slot + 0) % 16 = omega arith in
+    ap (λ (n : ℕ). body_from n vs) same
+body_append (w ∷ ws) vs slot small =
+    let below : (slot + 1) % 16 < 16 = omega arith in
+    let same : ((slot + 1) % 16 + length ws) % 16 ≡ (slot + suc (length ws)) % 16 = omega arith in
+    ap (λ (v : List ℕ). slot_bytes slot w ++ v) (body_append ws vs ((slot + 1) % 16) below ∙ ap (λ (n : ℕ). body_from ((slot + 1) % 16) ws ++ body_from n vs) same)
+    ∙ sym (append_assoc (slot_bytes slot w) (body_from ((slot + 1) % 16) ws) (body_from ((slot + suc (length ws)) % 16) vs))
+
+bytes_are : (ws : List ℕ) → bytes_of ws ≡ replicate 72 0xaa ++ body_from 0 ws
 unfolding bytes_of
-sent_first tells before piece ws e = record {
+bytes_are ws = ap (λ (v : List ℕ). replicate 72 0xaa ++ v) (sym (body_is ws 0))
+
+-- the transmission of more codewords begins with that of the first of them
+pub bytes_append : (ws vs : List ℕ) → bytes_of (ws ++ vs) ≡ bytes_of ws ++ body_from (length ws % 16) vs
+bytes_append ws vs =
+    let same : (0 + length ws) % 16 ≡ length ws % 16 = omega arith in
+    bytes_are (ws ++ vs)
+    ∙ (ap (λ (v : List ℕ). replicate 72 0xaa ++ v) (body_append ws vs 0 (omega arith) ∙ ap (λ (n : ℕ). body_from 0 ws ++ body_from n vs) same)
+    ∙ (sym (append_assoc (replicate 72 0xaa) (body_from 0 ws) (body_from (length ws % 16) vs))
+    ∙ ap (λ (v : List ℕ). v ++ body_from (length ws % 16) vs) (sym (bytes_are ws))))
+
+pub sent_first : (tells : Type 0) (before piece : List ℕ) → piece ≡ replicate 72 0xaa → IsSent tells before before piece []
+sent_first tells before piece e = record {
   grown = λ t. omega arith;
-  sent = λ t.
-      ap (λ (v : List ℕ). (before ++ v) ++ body_from 0 ws) e
-      ∙ (ap (λ (v : List ℕ). (before ++ replicate 72 0xaa) ++ v) (body_is ws 0)
-      ∙ append_assoc before (replicate 72 0xaa) (body_bytes ws));
+  sent = λ t. ap (λ (v : List ℕ). before ++ v) (e ∙ (sym (append-nil (replicate 72 0xaa)) ∙ sym (bytes_are [])));
 }
 
-pub sent_more : (tells : Type 0) (before taken piece due : List ℕ) (slot w : ℕ) (left ws taken' piece' : List ℕ) →
-    left ≡ w ∷ ws →
-    IsSent tells before taken piece (body_from slot left) due →
+pub sent_more : (tells : Type 0) (before taken piece came : List ℕ) (slot w : ℕ) (taken' piece' : List ℕ) → slot ≡ length came % 16 →
+    IsSent tells before taken piece came →
     (tells → length taken ≤ length taken') →
     (tells → taken' ++ piece' ≡ (taken ++ piece) ++ slot_bytes slot w) →
-    IsSent tells before taken' piece' (body_from ((slot + 1) % 16) ws) due
-sent_more tells before taken piece due slot w left ws taken' piece' e so_far more next = record {
+    IsSent tells before taken' piece' (came ++ w ∷ [])
+sent_more tells before taken piece came slot w taken' piece' at so_far more next = record {
   grown = λ t. let a = so_far.grown t in let b = more t in omega arith;
   sent = λ t.
-      ap (λ (v : List ℕ). v ++ body_from ((slot + 1) % 16) ws) (next t)
-      ∙ (append_assoc (taken ++ piece) (slot_bytes slot w) (body_from ((slot + 1) % 16) ws)
-      ∙ (ap (λ (v : List ℕ). (taken ++ piece) ++ body_from slot v) (sym e) ∙ so_far.sent t));
+      next t
+      ∙ (ap (λ (v : List ℕ). v ++ slot_bytes slot w) (so_far.sent t)
+      ∙ (append_assoc before (bytes_of came) (slot_bytes slot w)
+      ∙ ap (λ (v : List ℕ). before ++ v)
+      (ap (λ (n : ℕ). bytes_of came ++ slot_bytes n w) at
+      ∙ (ap (λ (v : List ℕ). bytes_of came ++ v) (sym (append-nil (slot_bytes (length came % 16) w)))
+      ∙ sym (bytes_append came (w ∷ []))))));
 }
-
-pub sent_last : (tells : Type 0) (before taken piece due : List ℕ) (slot : ℕ) (left : List ℕ) →
-    left ≡ [] → IsSent tells before taken piece (body_from slot left) due → tells → taken ++ piece ≡ before ++ due
-sent_last tells before taken piece due slot left e so_far t =
-    sym (append-nil (taken ++ piece)) ∙ (ap (λ (v : List ℕ). (taken ++ piece) ++ body_from slot v) (sym e) ∙ so_far.sent t)

@@ -1,54 +1,69 @@
--- Codewords that are known by what they say, on their way through a piece.
-use Rattle.std.proofs.Common.{◌≡◌, ℕ, ◌+◌, ◌%◌, ◌≤◌, List, [], ◌∷◌, ◌++◌, length, map, replicate, refl, ap, ◌∙◌, All, arith}
-use Rattle.std.proofs.lemmas.List.Elements.{All-cons, All-head, All-tail}
+-- The codewords that an iterator gave, of those that it had to give.
+use Rattle.std.proofs.Common.{◌≡◌, ℕ, ◌%◌, ◌≤◌, List, [], ◌∷◌, ◌++◌, length, map, take, refl, sym, ap, ◌∙◌, All, arith, append_assoc}
+use Rattle.std.proofs.lemmas.List.{length-take, take-append-le}
+use Rattle.std.proofs.lemmas.List.Elements.{All-head, All-tail}
+use Rattle.std.proofs.lemmas.Iterator.{YieldsList, items_from_drains}
+use Rattle.std.specs.Iterator.{AlwaysYields, Drains, Yields}
+use Rattle.std.specs.Prelude.{Option}
 use Rattle.pocsag_words.specs.Codeword.{IsCodeword}
 use Rattle.pocsag_words.specs.Devices.{TookPrefix}
 use Rattle.pocsag_words.specs.Kinds.{kind_of}
 use Rattle.pocsag_words.specs.declared.codeword.Kind.{Kind}
 use Rattle.pocsag_pages.specs.Bytes.{bytes_of}
-use Rattle.pocsag_batch.specs.Sending.{IsSayable, Say, Sends, SendsPart, body_from, slot_bytes}
-use Rattle.pocsag_batch.proofs.Sent.{IsSent, sent_first, sent_more, sent_last}
-
--- the codewords that say all, those of them that are left, and what was taken of them
-pub record IsUnderWay (tells : Type 0) (said left : List Kind) (slot : ℕ) (before taken piece : List ℕ) : Type 0 where
-  pub words : List ℕ
-  pub say : Say said words
-  pub rest : List ℕ
-  pub rest_say : Say left rest
-  pub sent : IsSent tells before taken piece (body_from slot rest) (bytes_of words)
+use Rattle.pocsag_batch.specs.Sending.{IsSayable, Say, SendsPart, body_from}
+use Rattle.pocsag_batch.proofs.Sent.{bytes_append}
 
 -- codewords of one kind are one
 abbrev pub SameFromKind : Type 0
 SameFromKind = (v w : ℕ) → IsCodeword v → IsCodeword w → kind_of v ≡ kind_of w → v ≡ w
 
+module _ {S A B : Type 0} (steps : S → Option A → S → Type 0) (v : A → B) where
+  came_first : (came : List A) (all : List B) (s t : S) → AlwaysYields steps v s all → Yields steps s came t → (left : List B) × (all ≡ map v came ++ left)
+  came_first [] all s t gives came = (all, refl)
+  came_first (x ∷ xs) [] s t gives came = absurd (gives x came.0 came.1)
+  came_first (x ∷ xs) (y ∷ ys) s t gives came =
+      let here : (v x ≡ y) × AlwaysYields steps v came.0 ys = gives.1 x came.0 came.1 in
+      let others : (left : List B) × (ys ≡ map v xs ++ left) = came_first xs ys came.0 t here.1 came.2 in
+      (others.0, ap (λ (z : B). z ∷ ys) (sym here.0) ∙ ap (λ (zs : List B). v x ∷ zs) others.1)
+
+-- what came is the first part of all, and all of it where nothing more comes
+pub part_came : {S A B : Type 0} {steps : S → Option A → S → Type 0} {v : A → B} {s : S} {all : List B} (came : List A) (t : S) → YieldsList steps v s all → Yields steps s came t →
+    (left : List B) × (all ≡ map v came ++ left)
+part_came {S} {A} {B} {steps} {v} {s} {all} came t gives yields = came_first steps v came all s t gives.runs yields
+
+pub all_came : {S A B : Type 0} {steps : S → Option A → S → Type 0} {v : A → B} {s : S} {all : List B} (came : List A) → YieldsList steps v s all → Drains steps s came → map v came ≡ all
+all_came came gives drained = items_from_drains came (drained.1.0, drained.1.1, λ u. (drained.0, drained.1.2)) gives
+
+-- a prefix of the transmission of the first codewords is one of the transmission of all
+pub took_longer : (before after came left : List ℕ) → TookPrefix before after (bytes_of came) → TookPrefix before after (bytes_of (came ++ left))
+took_longer before after came left (grown, part) =
+    let more : List ℕ = body_from (length came % 16) left in
+    let short : length after ≤ length (before ++ bytes_of came) =
+    omega (arith, ap length part, length-take (length after) (before ++ bytes_of came)) in
+    let whole : before ++ bytes_of (came ++ left) ≡ (before ++ bytes_of came) ++ more =
+    ap (λ (x : List ℕ). before ++ x) (bytes_append came left) ∙ sym (append_assoc before (bytes_of came) more) in
+    (grown, ap (take (length after)) whole ∙ (take-append-le (length after) (before ++ bytes_of came) more short ∙ part))
+
 -- the first of the codewords, and the others
-say_split : SameFromKind → (w : ℕ) (said left : List Kind) (ws : List ℕ) → IsCodeword w → said ≡ kind_of w ∷ left → Say said ws →
-    (rest : List ℕ) × (ws ≡ w ∷ rest) × Say left rest
-say_split same w said left [] is e say = absurd (omega (arith, ap length (say.kinds ∙ e)))
-say_split same w said left (v ∷ ws) is e say =
-    let both : kind_of v ∷ map kind_of ws ≡ kind_of w ∷ left = say.kinds ∙ e in
+say_split : SameFromKind → (w : ℕ) (left : List Kind) (ws : List ℕ) → IsCodeword w → Say (kind_of w ∷ left) ws → (rest : List ℕ) × (ws ≡ w ∷ rest) × Say left rest
+say_split same w left [] is say = absurd (omega (arith, ap length say.kinds))
+say_split same w left (v ∷ ws) is say =
+    let both : kind_of v ∷ map kind_of ws ≡ kind_of w ∷ left = say.kinds in
     let kind : kind_of v ≡ kind_of w = cc in
     let others : map kind_of ws ≡ left = cc in
     let first : v ≡ w = same v w (All-head IsCodeword v ws say.codewords) is kind in
     (ws, ap (λ (u : ℕ). u ∷ ws) first, record { codewords = All-tail IsCodeword v ws say.codewords; kinds = others })
 
-pub way_first : (tells : Type 0) (said : List Kind) (before piece : List ℕ) → IsSayable said → piece ≡ replicate 72 0xaa →
-    IsUnderWay tells said said 0 before before piece
-way_first tells said before piece (ws, say) e =
-    record { words = ws; say = say; rest = ws; rest_say = say; sent = sent_first tells before piece ws e }
+-- codewords that say at first what these say begin with these
+say_prefix : SameFromKind → (came : List ℕ) (left : List Kind) (ws : List ℕ) → All IsCodeword came → Say (map kind_of came ++ left) ws → (rest : List ℕ) × (ws ≡ came ++ rest)
+say_prefix same [] left ws are say = (ws, refl)
+say_prefix same (w ∷ came) left ws are say =
+    let split = say_split same w (map kind_of came ++ left) ws (All-head IsCodeword w came are) say in
+    let others = say_prefix same came left split.0 (All-tail IsCodeword w came are) split.2 in
+    (others.0, split.1 ∙ ap (λ (v : List ℕ). w ∷ v) others.1)
 
-pub way_more : (tells : Type 0) (said left left' : List Kind) (slot w : ℕ) (before taken piece taken' piece' : List ℕ) → SameFromKind →
-    left ≡ kind_of w ∷ left' → IsCodeword w →
-    IsUnderWay tells said left slot before taken piece →
-    (tells → length taken ≤ length taken') →
-    (tells → taken' ++ piece' ≡ (taken ++ piece) ++ slot_bytes slot w) →
-    IsUnderWay tells said left' ((slot + 1) % 16) before taken' piece'
-way_more tells said left left' slot w before taken piece taken' piece' same e is way more next =
-    let split = say_split same w left left' way.rest is e way.rest_say in
-    record {
-      words = way.words;
-      say = way.say;
-      rest = split.0;
-      rest_say = split.2;
-      sent = sent_more tells before taken piece (bytes_of way.words) slot w way.rest split.0 taken' piece' split.1 way.sent more next;
-    }
+pub sends_part : SameFromKind → (said : List Kind) (before after came : List ℕ) (left : List Kind) → IsSayable said → All IsCodeword came →
+    said ≡ map kind_of came ++ left → TookPrefix before after (bytes_of came) → SendsPart said before after
+sends_part same said before after came left (ws, say) are e part =
+    let found = say_prefix same came left ws are (record { codewords = say.codewords; kinds = say.kinds ∙ e }) in
+    record { words = ws; say = say; part = rw (found.1) (took_longer before after came found.0 part) }

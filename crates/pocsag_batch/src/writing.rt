@@ -1,4 +1,6 @@
-ghost use Rattle.std.specs.Prelude.{◌≡◌, ◌++◌, OnOk, OnErr};
+ghost use Rattle.std.specs.Prelude.{◌≡◌, ℕ, List, ◌++◌, All, OnOk, OnErr};
+ghost use Rattle.std.specs.Iterator.{Drains, IsFinite, Yields};
+ghost use Rattle.pocsag_words.specs.Codeword.{IsCodeword};
 ghost use Rattle.pocsag_words.specs.Devices.{HasFailed, TookPrefix};
 ghost use Rattle.pocsag_pages.specs.Bytes.{bytes_of};
 ghost use Rattle.pocsag_batch.specs.Sending.{Sends, SendsPart};
@@ -6,18 +8,24 @@ ghost use Rattle.pocsag_batch.specs.Sending.{Sends, SendsPart};
 use crate::batches::Batches;
 use crate::piece::{Piece, put_word};
 use crate::slots::Slots;
-use pocsag_words::{DeviceFault, Sink, WriteFault, same_from_kind, write_all};
+use pocsag_words::{DeviceFault, Sink, Word, WriteFault, same_from_kind, write_all};
 
-fn write_words<S: Sink>(batches: &Batches, sink: &mut S) -> Result<(), DeviceFault>
-    ensures whole { S.tells → OnOk result (S.taken sink.new ≡ S.taken sink.old ++ bytes_of batches.now) }
-    ensures part { S.tells → OnErr result (TookPrefix (S.taken sink.old) (S.taken sink.new) (bytes_of batches.now)) }
+// Writes the transmission of the codewords that come; what was taken where the device failed is a prefix
+// of the transmission of those that had come.
+fn write_words<S: Sink, I: Iterator<Item = Word>>(words: I, sink: &mut S) -> Result<(), DeviceFault>
+    requires can { I.can_next words }
+    requires ends { IsFinite (I.remaining words) }
+    ensures whole { S.tells → OnOk result ((ws : List ℕ) × Drains I.next_gives words ws × All IsCodeword ws ×
+        (S.taken sink.new ≡ S.taken sink.old ++ bytes_of ws)) }
+    ensures part { S.tells → OnErr result ((ws : List ℕ) × (left : I) × Yields I.next_gives words ws left × All IsCodeword ws ×
+        TookPrefix (S.taken sink.old) (S.taken sink.new) (bytes_of ws)) }
     ensures succeeded { OnOk result (S.failures sink.new ≡ S.failures sink.old) }
     ensures failed { OnErr result (HasFailed (S.failures sink.old) (S.failures sink.new)) }
 {
     let mut piece = Piece::new();
     let mut slot = 0;
-    for word in batches.words() {
-        put_word(&mut piece, sink, slot, *word)?;
+    for word in words {
+        put_word(&mut piece, sink, slot, word)?;
         slot = (slot + 1) % 16;
     }
     write_all(sink, piece.as_slice())
@@ -31,27 +39,10 @@ pub fn write<S: Sink>(batches: &Batches, sink: &mut S) -> Result<(), WriteFault>
     ensures succeeded { OnOk result (S.failures sink.new ≡ S.failures sink.old) }
     ensures failed { OnErr result (HasFailed (S.failures sink.old) (S.failures sink.new)) }
 {
-    match write_words(batches, sink) {
+    match write_words(batches.words().iter().copied(), sink) {
         Ok(()) => Ok(()),
         Err(_) => Err(WriteFault),
     }
-}
-
-fn write_each<S: Sink>(slots: Slots<'_>, sink: &mut S) -> Result<(), DeviceFault>
-    ensures whole { S.tells → OnOk result (Sends slots.entry (S.taken sink.old) (S.taken sink.new)) }
-    ensures part { S.tells → OnErr result (SendsPart slots.entry (S.taken sink.old) (S.taken sink.new)) }
-    ensures succeeded { OnOk result (S.failures sink.new ≡ S.failures sink.old) }
-    ensures failed { OnErr result (HasFailed (S.failures sink.old) (S.failures sink.new)) }
-{
-    slots.are_sayable();
-    same_from_kind();
-    let mut piece = Piece::new();
-    let mut slot = 0;
-    for word in slots {
-        put_word(&mut piece, sink, slot, word)?;
-        slot = (slot + 1) % 16;
-    }
-    write_all(sink, piece.as_slice())
 }
 
 /// Writes the transmission of the codewords as `write` does, and builds no batches. After `WriteFault` a
@@ -62,7 +53,9 @@ pub fn write_slots<S: Sink>(slots: Slots<'_>, sink: &mut S) -> Result<(), WriteF
     ensures succeeded { OnOk result (S.failures sink.new ≡ S.failures sink.old) }
     ensures failed { OnErr result (HasFailed (S.failures sink.old) (S.failures sink.new)) }
 {
-    match write_each(slots, sink) {
+    slots.are_sayable();
+    same_from_kind();
+    match write_words(slots, sink) {
         Ok(()) => Ok(()),
         Err(_) => Err(WriteFault),
     }

@@ -216,7 +216,8 @@ no_class end (p ∷ R) c h =
 covered_whole : (n b : ℕ) → covered 0 n 0 ≡ b → covered 0 n 15 ≡ b → n ≡ 16 * b
 covered_whole n b first last = omega (arith, covered_is 0 n 0 (omega arith), covered_is 0 n 15 (omega arith))
 
-served_tour : (k : Classes) (end : End) (choice : ℕ → ℕ) (b : ℕ) (steps : List Step) (R : List Page) → AreClassesOf k end R →
+-- a tour has a run for each page, class by class
+pub served_tour : (k : Classes) (end : End) (choice : ℕ → ℕ) (b : ℕ) (steps : List Step) (R : List Page) → AreClassesOf k end R →
     IsTour k end choice b steps → IsServed end R steps
 served_tour k end choice b steps R classes tour = record { each = λ c. go c (cases_order_lt c) }
   where

@@ -1,4 +1,4 @@
-use Rattle.std.proofs.Common.{rules, ◌≡◌, ℕ, Bool, ◌+◌, ◌<◌, ◌≤◌, List, [], ◌∷◌, ◌++◌, All, drop, length, get_or, sym, ap, ◌∙◌, subst, arith}
+use Rattle.std.proofs.Common.{rules, ◌≡◌, ℕ, Bool, ◌+◌, ◌<◌, List, [], ◌∷◌, ◌++◌, All, drop, length, get_or, sym, ap, ◌∙◌, subst}
 use Rattle.std.proofs.lemmas.List.{drop_all, drop_more}
 use Rattle.pocsag_words.specs.declared.ending.End.{End}
 use Rattle.pocsag_pages.specs.declared.page.Page.{Page}
@@ -8,7 +8,7 @@ use Rattle.pocsag_slots.specs.declared.step.Step.{Step}
 use Rattle.pocsag_slots.specs.declared.step.Step.TheVariants.{Idle as Stay, Run}
 use Rattle.pocsag_batch.specs.Chains.{AreChains, Links}
 use Rattle.pocsag_batch.specs.Placing.{all_places}
-use Rattle.pocsag_batch.proofs.Orders.{Stands, Takes, order_has_places, order_stands, stands_first, stands_run, takes}
+use Rattle.pocsag_batch.proofs.Orders.{Stands, order_has_places, order_stands, stands_first, stands_run, takes}
 use Rattle.pocsag_batch.proofs.placing.order_of.Goals as goal
 
 pub new-requires-clause-good : goal.new-requires-clause-good
@@ -24,38 +24,53 @@ loop-step-init c =
     (stands_first c.args.end R c.in_ok-queues.queues c.args.steps.now chains c.requires)
 
 -- before a run
-before_run : (end : End) (R : List Page) (links : Links) (order : List ℕ) (steps : List Step) (i k : ℕ) (e : Bool) → i < length steps →
-    get_or steps i Stay ≡ Run k e → Stands end R links order steps (drop i steps) → Stands end R links order steps (Run k e ∷ drop (i + 1) steps)
-before_run end R links order steps i k e h is s =
-    let first : drop i steps ≡ Run k e ∷ drop (i + 1) steps = drop_more steps i Stay h ∙ ap (λ (step : Step). step ∷ drop (i + 1) steps) is in
+before_run : (end : End) (R : List Page) (links : Links) (order : List ℕ) (steps : List Step) (i c : ℕ) (e : Bool) → i < length steps →
+    get_or steps i Stay ≡ Run c e → Stands end R links order steps (drop i steps) → Stands end R links order steps (Run c e ∷ drop (i + 1) steps)
+before_run end R links order steps i c e h is s =
+    let first : drop i steps ≡ Run c e ∷ drop (i + 1) steps = drop_more steps i Stay h ∙ ap (λ (step : Step). step ∷ drop (i + 1) steps) is in
     subst (λ (rest : List Step). Stands end R links order steps rest) first s
 
 pub take-requires-clause-class : goal.take-requires-clause-class
 take-requires-clause-class c =
     let end = c.args.end in
     let R : List Page = c.args.round.now in
+    let queues = c.loop-step.queues in
+    let order : List ℕ = c.loop-step.order.items in
+    let steps : List Step = c.args.steps.now in
     let i = c.loop-step.step-index in
-    let s = before_run end R c.loop-step.queues c.loop-step.order.items c.args.steps.now i c.in-Run.class c.in-Run.early c.loop-step-test.true c.in-Run.is c.loop-step.invariant in
-    (takes end R c.loop-step.queues c.loop-step.order.items c.args.steps.now (drop (i + 1) c.args.steps.now) c.in-Run.class c.in-Run.early s).small
+    let class : ℕ = c.in-Run.class in
+    let early = c.in-Run.early in
+    let s = before_run end R queues order steps i class early c.loop-step-test.true c.in-Run.is c.loop-step.invariant in
+    (takes end R queues order steps (drop (i + 1) steps) class early s).small
 
 pub take-requires-clause-some : goal.take-requires-clause-some
 take-requires-clause-some c =
     let end = c.args.end in
     let R : List Page = c.args.round.now in
+    let queues = c.loop-step.queues in
+    let order : List ℕ = c.loop-step.order.items in
+    let steps : List Step = c.args.steps.now in
     let i = c.loop-step.step-index in
-    let s = before_run end R c.loop-step.queues c.loop-step.order.items c.args.steps.now i c.in-Run.class c.in-Run.early c.loop-step-test.true c.in-Run.is c.loop-step.invariant in
-    let t = takes end R c.loop-step.queues c.loop-step.order.items c.args.steps.now (drop (i + 1) c.args.steps.now) c.in-Run.class c.in-Run.early s in
-    subst (λ (n : ℕ). n < length c.loop-step.queues.next) (sym t.head) t.within
+    let class : ℕ = c.in-Run.class in
+    let early = c.in-Run.early in
+    let s = before_run end R queues order steps i class early c.loop-step-test.true c.in-Run.is c.loop-step.invariant in
+    let t = takes end R queues order steps (drop (i + 1) steps) class early s in
+    subst (λ (n : ℕ). n < length queues.next) (sym t.head) t.within
 
 pub loop-step-preserved : goal.loop-step-preserved
 loop-step-preserved c =
     let end = c.args.end in
     let R : List Page = c.args.round.now in
+    let queues = c.loop-step.queues in
+    let order : List ℕ = c.loop-step.order.items in
+    let steps : List Step = c.args.steps.now in
     let i = c.loop-step.step-index in
-    let s = before_run end R c.loop-step.queues c.loop-step.order.items c.args.steps.now i c.in-Run.class c.in-Run.early c.loop-step-test.true c.in-Run.is c.loop-step.invariant in
-    let pushed : c.push.new.self.items ≡ c.loop-step.order.items ++ c.take.result ∷ [] = search rules in
-    subst (λ (order : List ℕ). Stands end R c.take.new.self order c.args.steps.now (drop (i + 1) c.args.steps.now)) (sym pushed)
-    (stands_run end R c.loop-step.queues c.take.new.self c.loop-step.order.items c.args.steps.now (drop (i + 1) c.args.steps.now) c.in-Run.class c.take.result c.in-Run.early s
+    let class : ℕ = c.in-Run.class in
+    let early = c.in-Run.early in
+    let s = before_run end R queues order steps i class early c.loop-step-test.true c.in-Run.is c.loop-step.invariant in
+    let pushed : c.push.new.self.items ≡ order ++ c.take.result ∷ [] = search rules in
+    subst (λ (v : List ℕ). Stands end R c.take.new.self v steps (drop (i + 1) steps)) (sym pushed)
+    (stands_run end R queues c.take.new.self order steps (drop (i + 1) steps) class c.take.result early s
     c.take.ensures.place c.take.ensures.next c.take.ensures.head)
 
 pub returns-clause-order : goal.returns-clause-order

@@ -1,4 +1,4 @@
-use Rattle.std.proofs.Common.{◌≡◌, ◌≤◌, ℕ, ◌+◌, ◌-◌, ◌<◌, suc, List, length, slice_index, slice_set, sym, ap, ◌∙◌, subst, arith}
+use Rattle.std.proofs.Common.{◌≡◌, ◌≤◌, ℕ, ◌+◌, ◌-◌, ◌<◌, suc, List, length, slice_index, slice_set, ◌∙◌, subst, arith}
 use Rattle.std.specs.List.{range_with_len}
 use Rattle.std.proofs.lemmas.List.{length-set}
 use Rattle.pocsag_pages.specs.declared.page.Page.{Page}
@@ -15,6 +15,7 @@ loop-place-preserved c =
     let next : List ℕ = c.loop-place.next.items in
     let head : List ℕ = c.loop-place.head in
     let class : ℕ = c.class_of-class.result in
+    let linked : List ℕ = slice_set next at (slice_index head class) in
     let some : 0 < place = c.loop-place-test.true in
     let most : place ≤ length R = c.loop-place.invariant.0 in
     let long : length next ≡ length R = c.loop-place.invariant.1 in
@@ -26,6 +27,6 @@ loop-place-preserved c =
     c.class_of-class.ensures.value ∙ class_at_item c.args.end R at c.index-pages-place.result (omega arith) c.index-pages-place.is in (
       omega arith,
       length-set next at (slice_index head class) ∙ long,
-      subst (λ (m : ℕ). AreChains c.args.end R (record { next = slice_set next at (slice_index head class); head = slice_set head class at }) (range_with_len at m)) many
+      subst (λ (m : ℕ). AreChains c.args.end R (record { next = linked; head = slice_set head class at }) (range_with_len at m)) many
           (chains_added c.args.end R next head at (length R - place) class (omega arith) is c.class_of-class.ensures.below before),
     )

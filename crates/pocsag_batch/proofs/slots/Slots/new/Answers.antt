@@ -1,4 +1,4 @@
-use Rattle.std.proofs.Common.{◌≡◌, ℕ, ◌<◌, sym, ap, subst, arith, List, length, All}
+use Rattle.std.proofs.Common.{ℕ, sym, ap, subst, arith, List, length, All}
 use Rattle.pocsag_pages.specs.declared.page.Page.{Page}
 use Rattle.pocsag_pages.specs.Pages.{IsGoodPage}
 use Rattle.pocsag_batch.specs.Placing.{HavePlaces}

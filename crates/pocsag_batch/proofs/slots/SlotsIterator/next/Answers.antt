@@ -1,4 +1,4 @@
-use Rattle.std.proofs.Common.{◌≡◌, ℕ, ◌/◌, ◌^◌, ◌<◌, sym, ap, ◌∙◌}
+use Rattle.std.proofs.Common.{ℕ, ◌/◌, ◌^◌, ◌<◌, sym, ap, ◌∙◌}
 use Rattle.pocsag_words.specs.Kinds.{address_kind}
 use Rattle.pocsag_pages.specs.declared.page.Page.{Page}
 use Rattle.pocsag_batch.proofs.Views.{all_rest, begun_view}

@@ -1,0 +1,24 @@
+use Rattle.std.proofs.Common.{List, refl}
+use Rattle.std.proofs.lemmas.Iterator.{YieldsList}
+use Rattle.std.proofs.lemmas.Iterator.Consumers.{YieldsList-from_first}
+use Rattle.std.specs.Iterator.{YieldsFirstBy}
+use Rattle.pocsag_words.specs.Kinds.{kind_of}
+use Rattle.pocsag_words.specs.declared.codeword.Kind.{Kind}
+use Rattle.pocsag_batch.proofs.UnderWay.{all_came, part_came, sends_part}
+use Rattle.pocsag_batch.proofs.writing.write_slots.Goals as goal
+
+-- what the iterator has left is what it gives
+gives : (said : List Kind) → YieldsList (YieldsFirstBy kind_of (λ (left : List Kind). left)) kind_of said said
+gives said = YieldsList-from_first kind_of (λ (left : List Kind). left) said refl
+
+pub returns-in-Ok-clause-whole : goal.returns-in-Ok-clause-whole
+returns-in-Ok-clause-whole g c t =
+    let done = c.in-Ok.ensures.whole t in
+    record { words = done.0; say = record { codewords = done.2; kinds = all_came done.0 (gives c.args.slots) done.1 }; taken = done.3 }
+
+pub returns-in-Err-clause-part : goal.returns-in-Err-clause-part
+returns-in-Err-clause-part g c t =
+    let done = c.in-Err.ensures.part t in
+    let part = part_came done.0 done.1 (gives c.args.slots) done.2 in
+    sends_part c.same_from_kind.ensures c.args.slots (g.S.Sink.taken c.args.sink.now) (g.S.Sink.taken c.write_words.new.sink) done.0 part.0
+    c.are_sayable.ensures done.3 part.1 done.4
