@@ -74,21 +74,21 @@ def try_trial(tally, library):
     ample, _ = run([str(TRIAL)], library)
     lines = ample.stdout.splitlines()
     tally.check("trial with ample memory", ample.returncode == 0 and len(lines) > 5, ample.stderr)
-    lacking = 0
+    ample_of = {line.split(b": ")[0]: line for line in lines}
+    lacking = set()
 
     def judge(number, done):
-        nonlocal lacking
         told = done.stdout.splitlines()
         holds = done.returncode == 0 and len(told) == len(lines)
-        for answer, wanted in zip(told, lines):
-            name = wanted.split(b": ")[0]
+        for answer, (name, wanted) in zip(told, ample_of.items()):
             if answer != wanted:
-                lacking += 1
+                lacking.add(name)
                 holds = holds and answer == name + b": out of memory"
         tally.check(f"trial without its growth {number}", holds, done.stdout[-400:])
 
     count = each_refusal([str(TRIAL)], library, "ALLOC", b"", nothing, judge)
-    tally.check("trial: growths were refused", count > 5 and lacking > 5, f"{count}, {lacking}")
+    never = set(ample_of) - lacking
+    tally.check("trial: each call but one lacked memory", never == {b"Page::copy of lone-tone"}, f"{count}, {never}")
 
 
 def try_input(tally, library):

@@ -58,7 +58,7 @@ fn timed(rt: &impl Clock, classes: &Classes) -> io::Result<(Duration, u64)> {
     let start = Instant::now(rt)?;
     let mut sum: u64 = 0;
     for _ in 0..REPEATS {
-        sum = sum.wrapping_add(u64::from(least(classes)));
+        sum = sum.wrapping_add(u64::from(least(classes, PAGES)));
     }
     Ok((start.elapsed(rt)?, sum))
 }
@@ -73,9 +73,14 @@ fn is_carried(classes: &Classes, batches: u32) -> bool {
     choose(classes, &all_limits(classes, batches)).is_ok()
 }
 
-fn least(classes: &Classes) -> u32 {
+/// The least number of batches below `most` that carries the loads, or `most`.
+pub(crate) fn least(classes: &Classes, most: u32) -> u32
+    requires { 0 < most }
+    ensures some { 0 < result }
+    ensures within { result ≤ most }
+{
     let mut low = 0;
-    let mut high = PAGES;
+    let mut high = most;
     while high - low > 1 {
         let middle = low + (high - low) / 2;
         if is_carried(classes, middle) {

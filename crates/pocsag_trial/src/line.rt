@@ -1,5 +1,6 @@
 use arrayvec::ArrayString;
 use pocsag_pages::Page;
+use pocsag_slots::Step;
 use pocsag_words::Word;
 use std::fmt::{Display, Write};
 
@@ -40,6 +41,28 @@ impl Line {
         for word in words {
             let number = word.raw();
             let _ = write!(self.text, " {number:08X}");
+        }
+    }
+
+    pub fn put_set(&mut self, set: u16) {
+        let _ = write!(self.text, " {set:04X}");
+    }
+
+    pub fn put_places(&mut self, places: &[u32]) {
+        for place in places {
+            let _ = write!(self.text, " {place}");
+        }
+    }
+
+    pub fn put_steps(&mut self, steps: &[Step]) {
+        for step in steps {
+            match *step {
+                Step::Idle => self.put("idle"),
+                Step::Run { class, early } => {
+                    let start = if early { "early" } else { "late" };
+                    let _ = write!(self.text, " run {class}/{start}");
+                }
+            }
         }
     }
 

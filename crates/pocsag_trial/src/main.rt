@@ -3,11 +3,14 @@
 //! its answer, or that memory was wanting. The tests run it with each growth refused in turn.
 
 mod certificates;
+#[cfg(test)]
+mod layout_tests;
 mod line;
 mod packing;
 mod pages;
 mod receiving;
 mod rounds;
+mod tours;
 
 use crate::line::Line;
 use pocsag_words::OutOfMemory;
@@ -29,6 +32,11 @@ enum Trial {
     FromTightPages,
     LayInOrder,
     FirstStream,
+    TourApartEarly,
+    TourApartLate,
+    TourTwoNumeric,
+    OrderOf,
+    LayOut,
     ReadCertificate,
     Decode,
     FeedBytes,
@@ -37,7 +45,7 @@ enum Trial {
     HearWords,
 }
 
-const TRIALS: [Trial; 18] = [
+const TRIALS: [Trial; 23] = [
     Trial::PackNumeric,
     Trial::PackAlpha,
     Trial::UnpackNumeric,
@@ -50,6 +58,11 @@ const TRIALS: [Trial; 18] = [
     Trial::FromTightPages,
     Trial::LayInOrder,
     Trial::FirstStream,
+    Trial::TourApartEarly,
+    Trial::TourApartLate,
+    Trial::TourTwoNumeric,
+    Trial::OrderOf,
+    Trial::LayOut,
     Trial::ReadCertificate,
     Trial::Decode,
     Trial::FeedBytes,
@@ -72,6 +85,11 @@ fn name_of(trial: Trial) -> &'static str {
         Trial::FromTightPages => "Round::from_pages of three-pages-tight",
         Trial::LayInOrder => "lay_in_order of lone-tone",
         Trial::FirstStream => "first_stream of lone-tone",
+        Trial::TourApartEarly => "tour of loop-apart, early",
+        Trial::TourApartLate => "tour of loop-apart, late",
+        Trial::TourTwoNumeric => "tour of two-numeric-exact",
+        Trial::OrderOf => "order_of of three-pages-tight",
+        Trial::LayOut => "lay_out of three-pages-tight",
         Trial::ReadCertificate => "read_certificate of loops-apart",
         Trial::Decode => "decode of page-across-batches",
         Trial::FeedBytes => "feed and finish of page-across-batches",
@@ -95,6 +113,11 @@ fn run(alloc: Global, trial: Trial, line: &mut Line) -> Result<(), OutOfMemory> 
         Trial::FromTightPages => pages::round_of_tight_pages(alloc, line),
         Trial::LayInOrder => rounds::lay_lone_tone(alloc, line),
         Trial::FirstStream => rounds::stream_lone_tone(alloc, line),
+        Trial::TourApartEarly => tours::tour_loop_apart_early(alloc, line),
+        Trial::TourApartLate => tours::tour_loop_apart_late(alloc, line),
+        Trial::TourTwoNumeric => tours::tour_two_numeric(alloc, line),
+        Trial::OrderOf => tours::order_tight_pages(alloc, line),
+        Trial::LayOut => tours::lay_out_tight_pages(alloc, line),
         Trial::ReadCertificate => certificates::read_loops_apart(alloc, line),
         Trial::Decode => receiving::decode_whole(alloc, line),
         Trial::FeedBytes => receiving::decode_bytes(alloc, line),

@@ -5,6 +5,8 @@ use std::alloc::Global;
 
 pub const LONE_TONE: &[u8; 30] = b"address,kind,message\n8,tone0,\n";
 
+pub const THREE_PAGES_TIGHT: [(u32, usize); 3] = [(0, 5), (3, 9), (11, 15)];
+
 fn show(round: Result<Round, RoundFault>, line: &mut Line) -> Result<(), OutOfMemory> {
     match round {
         Ok(round) => line.put_pages(round.pages()),
@@ -12,14 +14,6 @@ fn show(round: Result<Round, RoundFault>, line: &mut Line) -> Result<(), OutOfMe
         Err(fault) => line.put(fault),
     }
     Ok(())
-}
-
-fn tone(alloc: Global, address: u32) -> Page {
-    Page {
-        address,
-        function: 0,
-        payload: Payload::empty(alloc),
-    }
 }
 
 // A page of function 0 whose items are all 11111.
@@ -37,11 +31,18 @@ pub fn ones(alloc: Global, address: u32, count: usize) -> Result<Page, OutOfMemo
     })
 }
 
-fn list_of(alloc: Global, pages: [Page; 2]) -> Result<Vec<Page>, OutOfMemory> {
-    match Vec::from_array(alloc, pages) {
-        Ok(list) => Ok(list),
-        Err(_) => Err(OutOfMemory),
+// The round of pages by address and number of items.
+pub fn round_of(alloc: Global, pages: &[(u32, usize)]) -> Result<Round, RoundFault> {
+    let mut list = Vec::new(alloc);
+    for (address, count) in pages.iter().copied() {
+        let Ok(page) = ones(alloc, address, count) else {
+            return Err(RoundFault::OutOfMemory);
+        };
+        if list.push(page).is_err() {
+            return Err(RoundFault::OutOfMemory);
+        }
     }
+    Round::from_pages(alloc, list)
 }
 
 pub fn read_lone_tone_whole(alloc: Global, line: &mut Line) -> Result<(), OutOfMemory> {
@@ -66,7 +67,7 @@ fn show_copy(page: &Page, alloc: Global, line: &mut Line) -> Result<(), OutOfMem
 }
 
 pub fn copy_lone_tone(alloc: Global, line: &mut Line) -> Result<(), OutOfMemory> {
-    show_copy(&tone(alloc, 8), alloc, line)
+    show_copy(&ones(alloc, 8, 0)?, alloc, line)
 }
 
 pub fn copy_five_digits(alloc: Global, line: &mut Line) -> Result<(), OutOfMemory> {
@@ -74,14 +75,9 @@ pub fn copy_five_digits(alloc: Global, line: &mut Line) -> Result<(), OutOfMemor
 }
 
 pub fn round_of_open_round(alloc: Global, line: &mut Line) -> Result<(), OutOfMemory> {
-    let pages = list_of(alloc, [tone(alloc, 8), tone(alloc, 16)])?;
-    show(Round::from_pages(alloc, pages), line)
+    show(round_of(alloc, &[(8, 0), (16, 0)]), line)
 }
 
 pub fn round_of_tight_pages(alloc: Global, line: &mut Line) -> Result<(), OutOfMemory> {
-    let mut pages = list_of(alloc, [ones(alloc, 0, 5)?, ones(alloc, 3, 9)?])?;
-    if pages.push(ones(alloc, 11, 15)?).is_err() {
-        return Err(OutOfMemory);
-    }
-    show(Round::from_pages(alloc, pages), line)
+    show(round_of(alloc, &THREE_PAGES_TIGHT), line)
 }

@@ -1,0 +1,146 @@
+ghost use Rattle.std.specs.Prelude.{◌≡◌, ℕ, ◌<◌, ◌≤◌, IfOk, IsTrue, slice_index};
+ghost use Rattle.pocsag_slots.specs.Loads.{IsChoice};
+ghost use Rattle.pocsag_slots.specs.Tours.{IsTourFor};
+
+use crate::line::Line;
+use crate::pages::{THREE_PAGES_TIGHT, round_of};
+use pocsag_batch::{lay_out, order_of};
+use pocsag_pages::{Round, RoundFault};
+use pocsag_slots::{Choice, Classes, Step, classes_of, loads};
+use pocsag_tour::{TourFault, tour};
+use pocsag_words::{End, OutOfMemory};
+use std::alloc::Global;
+
+/// Why a choice was given no tour.
+#[derive(Clone, Copy, PartialEq, Eq, Debug)]
+pub enum NoTour {
+    /// Some load is above the batches.
+    Overloaded,
+    Refused(TourFault),
+}
+
+// All pages start early, but those of the class that is named.
+fn all_early_but(classes: &Classes, late: Option<u8>) -> Choice
+    ensures { IsChoice classes.now (slice_index result.early) }
+{
+    let mut early = classes.count;
+    match late {
+        Some(class) if class < 136 => early[class as usize] = 0,
+        _ => {}
+    }
+    Choice { early }
+}
+
+// Whether no load is above the batches.
+fn carries(used: &[u32; 16], batches: u32) -> bool
+    ensures { IsTrue result → (slot : ℕ) → slot < 16 → slice_index used.now slot ≤ batches }
+{
+    for slot in 0..16 {
+        if used[slot] > batches {
+            return false;
+        }
+    }
+    true
+}
+
+// A tour of the round with so many batches in which all pages start early, but those of the class that
+// is named.
+pub fn tour_of(
+    alloc: Global,
+    round: &Round,
+    late: Option<u8>,
+    batches: u32,
+    end: End,
+) -> Result<Vec<Step>, NoTour>
+    requires { 0 < batches }
+    ensures { IfOk result (λ steps. IsTourFor end round.now steps.items) }
+{
+    let classes = classes_of(round, end);
+    let choice = all_early_but(&classes, late);
+    if !carries(&loads(&classes, &choice), batches) {
+        return Err(NoTour::Overloaded);
+    }
+    match tour(alloc, &classes, &choice, batches, end) {
+        Ok(steps) => Ok(steps),
+        Err(fault) => Err(NoTour::Refused(fault)),
+    }
+}
+
+fn show_no_round(fault: RoundFault, line: &mut Line) -> Result<(), OutOfMemory> {
+    match fault {
+        RoundFault::OutOfMemory => return Err(OutOfMemory),
+        fault => line.put(fault),
+    }
+    Ok(())
+}
+
+fn show_no_tour(fault: NoTour, line: &mut Line) -> Result<(), OutOfMemory> {
+    match fault {
+        NoTour::Overloaded => line.put("overloaded"),
+        NoTour::Refused(TourFault::OutOfMemory) => return Err(OutOfMemory),
+        NoTour::Refused(TourFault::Apart(set)) => {
+            line.put("apart");
+            line.put_set(set);
+        }
+        NoTour::Refused(fault) => line.put(fault),
+    }
+    Ok(())
+}
+
+fn show_tour(
+    alloc: Global,
+    pages: &[(u32, usize)],
+    late: Option<u8>,
+    line: &mut Line,
+) -> Result<(), OutOfMemory> {
+    let round = match round_of(alloc, pages) {
+        Ok(round) => round,
+        Err(fault) => return show_no_round(fault, line),
+    };
+    match tour_of(alloc, &round, late, 1, End::Open) {
+        Ok(steps) => line.put_steps(steps.as_slice()),
+        Err(fault) => return show_no_tour(fault, line),
+    }
+    Ok(())
+}
+
+pub fn tour_loop_apart_early(alloc: Global, line: &mut Line) -> Result<(), OutOfMemory> {
+    show_tour(alloc, &[(3, 15)], None, line)
+}
+
+pub fn tour_loop_apart_late(alloc: Global, line: &mut Line) -> Result<(), OutOfMemory> {
+    show_tour(alloc, &[(3, 15)], Some(48), line)
+}
+
+pub fn tour_two_numeric(alloc: Global, line: &mut Line) -> Result<(), OutOfMemory> {
+    show_tour(alloc, &[(0, 5), (3, 9)], None, line)
+}
+
+pub fn order_tight_pages(alloc: Global, line: &mut Line) -> Result<(), OutOfMemory> {
+    let round = match round_of(alloc, &THREE_PAGES_TIGHT) {
+        Ok(round) => round,
+        Err(fault) => return show_no_round(fault, line),
+    };
+    let steps = match tour_of(alloc, &round, None, 2, End::Open) {
+        Ok(steps) => steps,
+        Err(fault) => return show_no_tour(fault, line),
+    };
+    let order = order_of(alloc, &round, steps.as_slice(), End::Open)?;
+    line.put_places(order.as_slice());
+    Ok(())
+}
+
+pub fn lay_out_tight_pages(alloc: Global, line: &mut Line) -> Result<(), OutOfMemory> {
+    let round = match round_of(alloc, &THREE_PAGES_TIGHT) {
+        Ok(round) => round,
+        Err(fault) => return show_no_round(fault, line),
+    };
+    let steps = match tour_of(alloc, &round, None, 2, End::Open) {
+        Ok(steps) => steps,
+        Err(fault) => return show_no_tour(fault, line),
+    };
+    let batches = lay_out(alloc, &round, steps.as_slice(), End::Open)?;
+    line.put(batches.count());
+    line.put_words(batches.words());
+    Ok(())
+}
