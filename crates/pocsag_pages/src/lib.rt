@@ -21,7 +21,7 @@ pub use laws::{readings_are_one, readings_are_plain, rounds_are_apart, rounds_ar
 pub use page::{LAST_ADDRESS, Page, Payload};
 pub use preamble::leading_len;
 pub use round::{PAGE_LIMIT, Round};
-pub use rule::{ITEM_LIMIT, page_fault};
+pub use rule::{ITEM_LIMIT, is_reserved_address, page_fault};
 pub use whole::read_whole;
 
 #[cfg(test)]
