@@ -1,7 +1,7 @@
 -- The bytes AA that stand first, and what follows them, as the bytes go on.
-use Rattle.std.proofs.Common.{◌≡◌, ◌≢◌, ◌⊎◌, ℕ, zero, suc, ◌+◌, ◌<◌, ◌==◌, if◌then◌else◌, get_or, List, [], ◌∷◌, ◌++◌, length, drop, replicate, refl, sym, ap, ap₂, ◌∙◌, inl, inr, arith, append_assoc}
+use Rattle.std.proofs.Common.{◌≡◌, ◌≢◌, ◌⊎◌, ℕ, zero, suc, ◌+◌, List, [], ◌∷◌, ◌++◌, length, drop, replicate, refl, sym, ap, ap₂, ◌∙◌, inl, inr, arith, append_assoc}
 use Rattle.std.proofs.lemmas.Bool.{cases_eq, eq-eqb, ne_eqb}
-use Rattle.std.proofs.lemmas.List.{append-nil, length-append, at_drop_more, length-replicate, replicate-append-replicate}
+use Rattle.std.proofs.lemmas.List.{append-nil, length-append, length-replicate, replicate-append-replicate}
 use Rattle.pocsag_pages.specs.Bytes.{leading, after_preamble}
 
 -- no byte AA stands first
@@ -42,10 +42,6 @@ leading_is X k Y p = ap leading p.whole ∙ leads k Y p.other
 
 pub after_is : (X : List ℕ) (k : ℕ) (Y : List ℕ) → Parts X k Y → after_preamble X ≡ Y
 after_is X k Y p = ap (λ (n : ℕ). drop n X) (leading_is X k Y p) ∙ (ap (drop k) p.whole ∙ left k Y)
-
--- one byte more on the way through the bytes AA
-pub lead_step : (X : List ℕ) (n : ℕ) → n < length X → leading (drop n X) ≡ (if get_or X n 0 == 0xaa then leading (drop (n + 1) X) + 1 else 0)
-lead_step X n h = at_drop_more leading X n 0 h
 
 -- how the bytes X go on with Z
 begins_on : (Y Z : List ℕ) → Y ≢ [] → BeginsOther Y → BeginsOther (Y ++ Z)

@@ -8,25 +8,12 @@ ghost use Rattle.pocsag_decode.specs.Standing.{IsOver, StandsAfter};
 use crate::body::Body;
 use crate::fault::DecodeFault;
 use crate::state::Decoder;
-use pocsag_pages::Page;
+use pocsag_pages::{Page, leading_len};
 use pocsag_words::OutOfMemory;
 use std::alloc::Global;
 
 // The fewest bytes AA that a transmission begins with.
 const PREAMBLE: u64 = 72;
-
-// With how many bytes AA the bytes begin.
-fn leading_len(bytes: &[u8]) -> usize
-    ensures value { result ≡ leading bytes.now }
-    ensures within { result ≤ length bytes.now }
-{
-    for (count, byte) in bytes.iter().enumerate() {
-        if *byte != 0xAA {
-            return count;
-        }
-    }
-    bytes.len()
-}
 
 impl Decoder {
     /// A decoder of no bytes, which takes no memory.

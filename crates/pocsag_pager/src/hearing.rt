@@ -13,21 +13,8 @@ ghost use Rattle.pocsag_pager.specs.Standing.{HasHeard, Stands, address_of};
 use crate::fault::PagerFault;
 use crate::laws::{damage_is_repaired, shown_pages_are_one_list};
 use crate::pager::Pager;
-use pocsag_pages::Page;
+use pocsag_pages::{Page, leading_len};
 use std::alloc::Global;
-
-// How many bytes AA stand first.
-fn leading_count(bytes: &[u8]) -> usize
-    ensures value { result ≡ leading bytes.now }
-    ensures within { result ≤ length bytes.now }
-{
-    for (i, byte) in bytes.iter().enumerate() {
-        if *byte != 0xaa {
-            return i;
-        }
-    }
-    bytes.len()
-}
 
 // The bytes after the leading bytes AA, of which there are so many.
 fn after_leading(bytes: &[u8], count: usize) -> &[u8]
@@ -46,7 +33,7 @@ fn batches_of(bytes: &[u8]) -> Result<&[u8], PagerFault>
     ensures fine { OnOk result (bytes_fault bytes.now ≡ None) }
     ensures err { IfErr result (λ e. bytes_fault bytes.now ≡ Some e) }
 {
-    let count = leading_count(bytes);
+    let count = leading_len(bytes);
     let rest = after_leading(bytes, count);
     if count < 72 {
         return Err(PagerFault::ShortPreamble);

@@ -9,6 +9,7 @@ mod file;
 mod laws;
 mod list;
 mod page;
+mod preamble;
 mod record;
 mod round;
 mod rule;
@@ -18,8 +19,9 @@ pub use fault::{PageFault, RoundFault, WholeFault};
 pub use file::{FILE_LIMIT, read_round};
 pub use laws::{readings_are_one, readings_are_plain, rounds_are_apart, rounds_are_good};
 pub use page::{LAST_ADDRESS, Page, Payload};
+pub use preamble::leading_len;
 pub use round::{PAGE_LIMIT, Round};
-pub use rule::{ITEM_LIMIT, page_fault};
+pub use rule::{ITEM_LIMIT, is_reserved_address, page_fault};
 pub use whole::read_whole;
 
 #[cfg(test)]

@@ -8,9 +8,10 @@ use crate::page::{LAST_ADDRESS, Page};
 /// The greatest number of items of a message, which 4,000 characters of seven bits fill.
 pub const ITEM_LIMIT: usize = pocsag_text::ITEM_LIMIT;
 
-// Whether the address would be read as the idle or as the synchronisation codeword.
+/// Whether the address is one of the sixteen that the idle and the synchronisation codeword would be
+/// read as.
 #[tactic(auto, unfolding(crate::specs::Pages::is_reserved))]
-pub(crate) fn is_reserved_address(address: u32) -> bool
+pub fn is_reserved_address(address: u32) -> bool
     ensures { result ≡ is_reserved address }
 {
     matches!(address, 2_007_664..=2_007_671 | 2_045_056..=2_045_063)

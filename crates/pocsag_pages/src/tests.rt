@@ -215,3 +215,21 @@ fn copies(rt: HostRuntime) -> Result<(), Fail> {
     assert_eq!(rt; digits.payload.into_vec().len(), 1);
     Ok(())
 }
+
+#[test]
+fn preamble_and_reserved_addresses(rt: HostRuntime) -> Result<(), Fail> {
+    for count in 71..74 {
+        let mut bytes = Vec::new(rt.alloc());
+        bytes.resize(count, 0xAA)?;
+        assert_eq!(rt; leading_len(bytes.as_slice()), count);
+        bytes.push(0x2A)?;
+        assert_eq!(rt; leading_len(bytes.as_slice()), count);
+    }
+    for address in [2_007_664, 2_007_671, 2_045_056, 2_045_063] {
+        assert!(rt; is_reserved_address(address));
+    }
+    for address in [2_007_663, 2_007_672, 2_045_055, 2_045_064] {
+        assert!(rt; !is_reserved_address(address));
+    }
+    Ok(())
+}
