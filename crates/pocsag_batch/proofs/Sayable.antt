@@ -11,7 +11,7 @@ use Rattle.pocsag_pages.specs.Reading.{page_words}
 use Rattle.pocsag_slots.specs.declared.step.Step.{Step}
 use Rattle.pocsag_slots.specs.declared.step.Step.TheVariants.{Idle as Stay, Run}
 use Rattle.pocsag_batch.specs.Placing.{HavePlaces, laid_by, page_at}
-use Rattle.pocsag_batch.specs.Sending.{IsSayable}
+use Rattle.pocsag_batch.specs.Saying.{IsSayable}
 use Rattle.pocsag_batch.proofs.Addresses.{kind_unreserved}
 
 -- each address with a function, and each message, has a codeword

@@ -10,7 +10,8 @@ use Rattle.pocsag_words.specs.Devices.{TookPrefix}
 use Rattle.pocsag_words.specs.Kinds.{kind_of}
 use Rattle.pocsag_words.specs.declared.codeword.Kind.{Kind}
 use Rattle.pocsag_pages.specs.Bytes.{bytes_of}
-use Rattle.pocsag_batch.specs.Sending.{IsSayable, Say, SendsPart, body_from}
+use Rattle.pocsag_batch.specs.Saying.{IsSayable, Say, SendsPart}
+use Rattle.pocsag_batch.specs.Sending.{body_from}
 use Rattle.pocsag_batch.proofs.Sent.{bytes_append}
 
 -- codewords of one kind are one

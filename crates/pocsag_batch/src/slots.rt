@@ -2,7 +2,7 @@ ghost use Rattle.std.specs.Prelude.{◌≡◌, length};
 ghost use Rattle.std.specs.Iterator.{YieldsFirstBy, item_count};
 ghost use Rattle.pocsag_words.specs.Kinds.{kind_of};
 ghost use Rattle.pocsag_batch.specs.Placing.{HavePlaces, laid_by};
-ghost use Rattle.pocsag_batch.specs.Sending.{IsSayable};
+ghost use Rattle.pocsag_batch.specs.Saying.{IsSayable};
 
 use crate::word_list::idle_word;
 use pocsag_pages::{Page, Round};
