@@ -1,6 +1,11 @@
 //! Codewords in plain Rust, shared by the benchmarks: check bits by three byte tables.
 
-const FAR: u32 = u32::MAX;
+pub const SYNC: u32 = 0x7CD2_15D8;
+
+pub const IDLE: u32 = 0x7A89_C197;
+
+/// The entry of a syndrome that no error of at most two bits has.
+pub const FAR: u32 = u32::MAX;
 
 /// The check bits and the parity bit for data bits, by division.
 const fn divided(data: u32) -> u32 {
@@ -39,7 +44,7 @@ pub fn syndrome(number: u32) -> u32 {
     number % 2048 ^ check_bits(number / 2048)
 }
 
-/// The error of at most two bits for each syndrome, or none.
+/// The error of at most two bits for each syndrome, or `FAR`.
 pub fn errors() -> [u32; 2048] {
     let mut table = [FAR; 2048];
     table[0] = 0;

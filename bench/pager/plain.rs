@@ -3,16 +3,16 @@
 #[allow(dead_code)]
 #[path = "../codewords.rs"]
 mod codewords;
+#[path = "../random.rs"]
+mod random;
 
-use codewords::{check_bits, errors, syndrome};
+use codewords::{FAR, IDLE, SYNC, check_bits, errors, syndrome};
+use random::Random;
 use std::hint::black_box;
 use std::time::Instant;
 
 const BATCHES: usize = 1_470_587;
 const ADDRESS: u32 = 1_234_567;
-const SYNC: u32 = 0x7CD2_15D8;
-const IDLE: u32 = 0x7A89_C197;
-const FAR: u32 = u32::MAX;
 
 struct Page {
     items: Vec<u32>,
@@ -73,38 +73,17 @@ fn hear_all(errors: &[u32; 2048], bytes: &[u8]) -> Option<Vec<Page>> {
     Some(pager.pages)
 }
 
-struct Random {
-    state: u64,
-}
-
-impl Random {
-    fn below(&mut self, limit: u32) -> u32 {
-        let state = self.state.wrapping_mul(6_364_136_223_846_793_005);
-        self.state = state.wrapping_add(1_442_695_040_888_963_407);
-        (self.state >> 33) as u32 % limit
-    }
-
-    fn error(&mut self, ones: u32) -> u32 {
-        let mut error = 0;
-        for last in 32 - ones..32 {
-            let bit = 1u32 << self.below(last + 1);
-            error |= if error & bit == 0 { bit } else { 1u32 << last };
-        }
-        error
-    }
-
-    fn word(&mut self) -> u32 {
-        let data = if self.below(10) == 0 {
-            4 * self.below(1 << 18) + self.below(4)
-        } else {
-            1 << 20 | self.below(1 << 20)
-        };
-        data << 11 | check_bits(data)
-    }
+fn any_word(random: &mut Random) -> u32 {
+    let data = if random.below(10) == 0 {
+        4 * random.below(1 << 18) + random.below(4)
+    } else {
+        1 << 20 | random.below(1 << 20)
+    };
+    data << 11 | check_bits(data)
 }
 
 fn transmission(wrong: u32) -> Vec<u8> {
-    let mut random = Random { state: 1 };
+    let mut random = Random::new();
     let mut bytes = vec![0xAA; 72];
     for batch in 0..BATCHES {
         bytes.extend_from_slice(&(SYNC ^ random.error(wrong)).to_be_bytes());
@@ -113,7 +92,7 @@ fn transmission(wrong: u32) -> Vec<u8> {
                 let data = ADDRESS / 8 * 4 + 3;
                 data << 11 | check_bits(data)
             } else {
-                random.word()
+                any_word(&mut random)
             };
             bytes.extend_from_slice(&(word ^ random.error(wrong)).to_be_bytes());
         }

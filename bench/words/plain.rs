@@ -3,14 +3,16 @@
 #[allow(dead_code)]
 #[path = "../codewords.rs"]
 mod codewords;
+#[path = "../random.rs"]
+mod random;
 
-use codewords::{check_bits, errors, syndrome};
+use codewords::{FAR, check_bits, errors, syndrome};
+use random::Random;
 use std::hint::black_box;
 use std::time::{Duration, Instant};
 
 const COUNT: usize = 1_000_000;
 const ROUNDS: u32 = 50;
-const FAR: u32 = u32::MAX;
 
 #[inline(always)]
 fn repair(errors: &[u32; 2048], number: u32) -> Option<u32> {
@@ -57,29 +59,8 @@ fn count(flags: &[bool], mut sum: u64) -> u64 {
     sum
 }
 
-struct Random {
-    state: u64,
-}
-
-impl Random {
-    fn below(&mut self, limit: u32) -> u32 {
-        let state = self.state.wrapping_mul(6_364_136_223_846_793_005);
-        self.state = state.wrapping_add(1_442_695_040_888_963_407);
-        (self.state >> 33) as u32 % limit
-    }
-
-    fn error(&mut self, ones: u32) -> u32 {
-        let mut error = 0;
-        for last in 32 - ones..32 {
-            let bit = 1u32 << self.below(last + 1);
-            error |= if error & bit == 0 { bit } else { 1u32 << last };
-        }
-        error
-    }
-}
-
 fn damaged(wrong: u32, every: usize) -> Vec<u32> {
-    let mut random = Random { state: 1 };
+    let mut random = Random::new();
     let mut numbers = Vec::with_capacity(COUNT);
     for i in 0..COUNT {
         let data = 1 << 20 | random.below(1 << 20);
