@@ -12,9 +12,7 @@ mod writing;
 
 pub use counting::{depth, nodes};
 pub use laws::{no_text_begins_another, one_certificate, one_fault};
-pub use limits::{
-    CLASSES, DEPTH_LIMIT, FIRST_VERSION, NODE_LIMIT, OPEN_CLASSES, Ranges, SECOND_VERSION,
-};
+pub use limits::{DEPTH_LIMIT, FIRST_VERSION, NODE_LIMIT, Ranges, SECOND_VERSION};
 pub use reading::read_certificate;
 pub use refusals::{CertificateFault, TreeWriteFault};
 pub use shape::{Certificate, Tree};

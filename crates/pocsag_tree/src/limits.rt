@@ -1,9 +1,3 @@
-/// How many classes of pages there are; classes from `OPEN_CLASSES` on are those of the closed end.
-pub const CLASSES: usize = 136;
-
-/// How many classes there are with the open end.
-pub const OPEN_CLASSES: usize = 128;
-
 /// How deep the tree of a certificate may be; the root alone has depth 1.
 pub const DEPTH_LIMIT: u32 = 300;
 
