@@ -4,11 +4,11 @@ use Rattle.std.proofs.Common.{◌≡◌, ◌≢◌, ℕ, ◌+◌, ◌-◌, ◌*�
 use Rattle.std.proofs.lemmas.Bool.{cases_eq, cases_lt}
 use Rattle.pocsag_slots.specs.declared.class.Classes.{Classes}
 use Rattle.pocsag_slots.specs.declared.limit.Limits.{Limits}
-use Rattle.pocsag_slots.specs.Loads.{AreInOrder, IsWithin, Overloads, class_load, class_load_over, load}
+use Rattle.pocsag_slots.specs.Loads.{AreInOrder, ClassLoadsAddUp, IsWithin, Overloads, class_load_over, load}
 use Rattle.pocsag_slots.specs.Numbering.{finish_of, start_of}
 use Rattle.pocsag_slots.specs.Sums.{holds, sum_below, sum_over}
 use Rattle.pocsag_slots.proofs.LoadLemmas.{load_few}
-use Rattle.pocsag_slots.proofs.SumLemmas.{sum_below-le, sum_over-sum_below}
+use Rattle.pocsag_slots.proofs.SumLemmas.{sum_below-le}
 use Rattle.pocsag_flow.specs.declared.network.Network.{Network}
 use Rattle.pocsag_flow.specs.declared.network.Search.{Search}
 use Rattle.pocsag_flow.specs.Choosing.{overload}
@@ -16,11 +16,6 @@ use Rattle.pocsag_flow.specs.Search.{IsClosed, IsStuck, Pushes, Relieves, same_s
 use Rattle.pocsag_flow.proofs.FlowSums.{sum_below-lt}
 use Rattle.pocsag_flow.proofs.Steps.{same_slot_other, same_slot_same}
 use Rattle.pocsag_flow.proofs.Shifts.{class_load_over_shift, finish_low, in_set, start_low}
-
-load_over : (k : Classes) (set : ℕ) (choice : ℕ → ℕ) →
-    sum_over set (load k choice) ≡ sum_below 136 (λ c. class_load_over k set c (choice c))
-unfolding load class_load_over
-load_over k set choice = sum_over-sum_below set 136 (λ slot c. class_load k slot c (choice c))
 
 -- d runs fewer early, from a slot of the set only where d is 0
 fewer : (less here d : ℕ) (from to : Bool) → less + d * cond from 1 0 ≡ here + d * cond to 1 0 →
@@ -68,12 +63,12 @@ class_least k l set c early other h ordered within among shut =
           (λ held out. omega (arith, ((shut.each (finish_of c true) (finish_low c) held).each c h).to_early refl out, among.most c h))
     ]
 
-shut_least : (k : Classes) (l : Limits) (set : ℕ) (early other : ℕ → ℕ) → AreInOrder k l →
+shut_least : ClassLoadsAddUp → (k : Classes) (l : Limits) (set : ℕ) (early other : ℕ → ℕ) → AreInOrder k l →
     IsWithin l early → IsWithin l other → IsShut l early set → sum_over set (load k early) ≤ sum_over set (load k other)
-shut_least k l set early other ordered within among shut =
+shut_least law k l set early other ordered within among shut =
     let each : sum_below 136 (λ c. class_load_over k set c (early c)) ≤ sum_below 136 (λ c. class_load_over k set c (other c)) =
     sum_below-le 136 _ _ (λ c h. class_least k l set c early other h ordered within among shut) in
-    omega (arith, load_over k set early, load_over k set other)
+    omega (arith, law k set early, law k set other)
 
 chosen_le : (b : Bool) (x y : ℕ) → (b ≡ true → x ≤ y) → cond b x 0 ≤ cond b y 0
 chosen_le true x y h = h refl
@@ -86,13 +81,13 @@ full_sum set slot cap loads h held above full =
     sum_below-lt 16 slot _ _ h (rw held above) (λ s l. chosen_le (holds set s) (cap s) (loads s) (λ inside. full s l inside))
 
 -- the search from the overfull slot moved nothing
-pub shut_overloads : (n : Network) (before after : Search) (slot most moved : ℕ) → slot < 16 →
+pub shut_overloads : ClassLoadsAddUp → (n : Network) (before after : Search) (slot most moved : ℕ) → slot < 16 →
     AreInOrder n.classes n.limits → IsWithin n.limits (slice_index before.early) →
     ((other : ℕ) → other ≢ slot → holds before.reached other ≡ false) →
     slice_index n.limits.cap slot < load n.classes (slice_index before.early) slot →
     Pushes n before after slot most moved → moved ≡ 0 → IsClosed n.limits (slice_index after.early) after.reached slot →
     Overloads n.classes n.limits after.reached
-shut_overloads n before after slot most moved h ordered within alone above p none closed choice among =
+shut_overloads law n before after slot most moved h ordered within alone above p none closed choice among =
     let here : IsClosed n.limits (slice_index before.early) after.reached slot = rw (p.same none) at closed in
     let at_slot : IsStuck n (slice_index before.early) after.reached slot = record { closed = here; full = omega (arith, above) } in
     let stuck : (s : ℕ) → s < 16 → holds after.reached s ≡ true → IsStuck n (slice_index before.early) after.reached s =
@@ -101,7 +96,7 @@ shut_overloads n before after slot most moved h ordered within alone above p non
       | inl is ↦ subst (λ (t : ℕ). IsStuck n (slice_index before.early) after.reached t) (sym is) at_slot
       | inr other ↦ (p.stuck none).each s l held (alone s other)
     ] in
-    let least = shut_least n.classes n.limits after.reached (slice_index before.early) choice ordered within among
+    let least = shut_least law n.classes n.limits after.reached (slice_index before.early) choice ordered within among
     (record { each = λ s l held. (stuck s l held).closed }) in
     let caps = full_sum after.reached slot (slice_index n.limits.cap) (load n.classes (slice_index before.early)) h p.marked above
     (λ s l held. (stuck s l held).full) in

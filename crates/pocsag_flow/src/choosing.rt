@@ -6,8 +6,10 @@ ghost use Rattle.pocsag_flow.specs.Search.{IsStanding, same_slot};
 
 use crate::fault::ChooseFault;
 use crate::network::{Network, Search, Standing};
-use crate::way::{leave, with};
-use pocsag_slots::{CLASSES, Choice, Classes, Limits, SLOTS, loads};
+use crate::way::leave;
+use pocsag_slots::{
+    CLASSES, Choice, Classes, Limits, SLOTS, class_loads_add_up, loads, with_member,
+};
 
 /// A choice of starts within the limits that loads no slot above its cap, or a set of slots that every
 /// choice within the limits loads above the sum of their caps.
@@ -93,6 +95,7 @@ fn relieved(
     ensures some { IfErr result (λ fault. HasSlot (set_of fault)) }
     ensures overloads { IfErr result (λ fault. Overloads classes.now limits.now (set_of fault)) }
 {
+    class_loads_add_up();
     let excess = standing.loads[slot as usize] - limits.cap[slot as usize];
     let network = Network {
         classes: *classes,
@@ -101,7 +104,7 @@ fn relieved(
     };
     let mut search = Search {
         early: standing.early,
-        reached: with(0, slot),
+        reached: with_member(0, slot),
         end: slot,
     };
     let moved = leave(&network, &mut search, slot, excess);

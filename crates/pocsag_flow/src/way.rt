@@ -1,31 +1,21 @@
-ghost use Rattle.std.specs.Prelude.{◌≡◌, ℕ, ◌<◌, ◌≤◌, ◌≢◌, false, true, slice_index};
+ghost use Rattle.std.specs.Prelude.{◌≡◌, ◌<◌, ◌≤◌, false, true, slice_index};
 ghost use Rattle.pocsag_slots.specs.Numbering.{finish_of, start_of};
-ghost use Rattle.pocsag_slots.specs.Sums.{holds as is_member};
+ghost use Rattle.pocsag_slots.specs.Sums.{holds};
 ghost use Rattle.pocsag_flow.specs.Search.{IsClosed, IsNetworkOf, LeadsInto, Pushes};
 
 use crate::network::{Network, Search};
-use pocsag_slots::{CLASSES, finish, holds, start};
-
-// The set and the slot.
-pub(crate) fn with(set: u16, slot: u8) -> u16
-    requires { slot < 16 }
-    ensures here { is_member result slot ≡ true }
-    ensures others { (other : ℕ) → other ≢ slot → is_member result other ≡ is_member set other }
-    ensures more { is_member set slot ≡ false → set < result }
-{
-    set | 1 << slot
-}
+use pocsag_slots::{CLASSES, finish, holds, start, with_member};
 
 // Moves up to `most` into the slot, which is not reached yet, and on where it has no room.
 #[cycle(push)]
 fn enter(network: &Network, search: &mut Search, slot: u8, most: u32) -> u32
     requires network { IsNetworkOf network.now search.old }
     requires slot { slot < 16 }
-    requires apart { is_member search.old.reached slot ≡ false }
+    requires apart { holds search.old.reached slot ≡ false }
     requires most { 0 < most }
     ensures pushes { Pushes network.now search.old search.new slot most result }
 {
-    search.reached = with(search.reached, slot);
+    search.reached = with_member(search.reached, slot);
     let load = network.loads[slot as usize];
     let cap = network.limits.cap[slot as usize];
     if load < cap {
@@ -42,7 +32,7 @@ fn enter(network: &Network, search: &mut Search, slot: u8, most: u32) -> u32
 pub(crate) fn leave(network: &Network, search: &mut Search, slot: u8, most: u32) -> u32
     requires network { IsNetworkOf network.now search.old }
     requires slot { slot < 16 }
-    requires reached { is_member search.old.reached slot ≡ true }
+    requires reached { holds search.old.reached slot ≡ true }
     requires most { 0 < most }
     ensures pushes { Pushes network.now search.old search.new slot most result }
     ensures closed { result ≡ 0 → IsClosed network.now.limits (slice_index search.new.early) search.new.reached slot }
@@ -64,7 +54,7 @@ pub(crate) fn leave(network: &Network, search: &mut Search, slot: u8, most: u32)
 #[cycle(push)]
 fn leave_straight(network: &Network, search: &mut Search, slot: u8, most: u32) -> u32
     requires network { IsNetworkOf network.now search.old }
-    requires reached { is_member search.old.reached slot ≡ true }
+    requires reached { holds search.old.reached slot ≡ true }
     requires most { 0 < most }
     ensures pushes { Pushes network.now search.old search.new slot most result }
 {
@@ -81,7 +71,7 @@ fn leave_straight(network: &Network, search: &mut Search, slot: u8, most: u32) -
 fn switch_straight(network: &Network, search: &mut Search, class: u8, slot: u8, most: u32) -> u32
     requires network { IsNetworkOf network.now search.old }
     requires class { class < 136 }
-    requires reached { is_member search.old.reached slot ≡ true }
+    requires reached { holds search.old.reached slot ≡ true }
     requires most { 0 < most }
     ensures pushes { Pushes network.now search.old search.new slot most result }
 {
@@ -116,7 +106,7 @@ fn has_room(network: &Network, slot: u8) -> bool
 fn switch(network: &Network, search: &mut Search, class: u8, slot: u8, most: u32) -> u32
     requires network { IsNetworkOf network.now search.old }
     requires class { class < 136 }
-    requires reached { is_member search.old.reached slot ≡ true }
+    requires reached { holds search.old.reached slot ≡ true }
     requires most { 0 < most }
     ensures pushes { Pushes network.now search.old search.new slot most result }
     ensures leads { result ≡ 0 → LeadsInto network.now.limits (slice_index search.new.early) search.new.reached class slot }
@@ -146,12 +136,12 @@ fn switch(network: &Network, search: &mut Search, class: u8, slot: u8, most: u32
 fn to_late(network: &Network, search: &mut Search, class: u8, most: u32) -> u32
     requires network { IsNetworkOf network.now search.old }
     requires class { class < 136 }
-    requires reached { is_member search.old.reached (start_of class true) ≡ true }
-    requires apart { is_member search.old.reached (finish_of class true) ≡ false }
+    requires reached { holds search.old.reached (start_of class true) ≡ true }
+    requires apart { holds search.old.reached (finish_of class true) ≡ false }
     requires room { slice_index network.now.limits.lo class < slice_index search.old.early class }
     requires most { 0 < most }
     ensures pushes { Pushes network.now search.old search.new (start_of class true) most result }
-    ensures reached { is_member search.new.reached (finish_of class true) ≡ true }
+    ensures reached { holds search.new.reached (finish_of class true) ≡ true }
 {
     let room = search.early[class as usize] - network.limits.lo[class as usize];
     let moved = enter(network, search, finish(class, true), most.min(room));
@@ -164,12 +154,12 @@ fn to_late(network: &Network, search: &mut Search, class: u8, most: u32) -> u32
 fn to_early(network: &Network, search: &mut Search, class: u8, most: u32) -> u32
     requires network { IsNetworkOf network.now search.old }
     requires class { class < 136 }
-    requires reached { is_member search.old.reached (finish_of class true) ≡ true }
-    requires apart { is_member search.old.reached (start_of class true) ≡ false }
+    requires reached { holds search.old.reached (finish_of class true) ≡ true }
+    requires apart { holds search.old.reached (start_of class true) ≡ false }
     requires room { slice_index search.old.early class < slice_index network.now.limits.hi class }
     requires most { 0 < most }
     ensures pushes { Pushes network.now search.old search.new (finish_of class true) most result }
-    ensures reached { is_member search.new.reached (start_of class true) ≡ true }
+    ensures reached { holds search.new.reached (start_of class true) ≡ true }
 {
     let room = network.limits.hi[class as usize] - search.early[class as usize];
     let moved = enter(network, search, start(class, true), most.min(room));

@@ -124,7 +124,7 @@ cheapest_low : (k : Classes) (l : Limits) (set c : ℕ) → slice_index l.lo c �
 unfolding cheapest
 cheapest_low k l set c h = grind (arith, nat_tests)
 
-load_over : (k : Classes) (set : ℕ) (choice : ℕ → ℕ) →
+pub load_over : (k : Classes) (set : ℕ) (choice : ℕ → ℕ) →
     sum_over set (load k choice) ≡ sum_below 136 (λ c. class_load_over k set c (choice c))
 unfolding load class_load_over
 load_over k set choice = sum_over-sum_below set 136 (λ slot c. class_load k slot c (choice c))

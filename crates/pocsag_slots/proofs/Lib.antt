@@ -12,3 +12,4 @@ pub mod LeastLemmas
 pub mod LimitLemmas
 pub mod WayLemmas
 pub mod CountLemmas
+pub mod Members

@@ -60,6 +60,12 @@ unfoldable pub least_of_class : Classes → Limits → ℕ → ℕ → ℕ
 least_of_class k l set c =
     min (class_load_over k set c (slice_index l.lo c)) (class_load_over k set c (slice_index l.hi c))
 
+-- The load of a set of slots is the sum of what the runs of each class load it with.
+abbrev pub ClassLoadsAddUp : Type 0
+ClassLoadsAddUp =
+    (k : Classes) (set : ℕ) (choice : ℕ → ℕ) →
+    sum_over set (load k choice) ≡ sum_below 136 (λ c. class_load_over k set c (choice c))
+
 -- Each choice within the limits loads the set above the sum of its caps.
 abbrev pub Overloads : Classes → Limits → ℕ → Type 0
 Overloads k l set =

@@ -1,5 +1,5 @@
 -- Sums and lists over the numbers below a number, and sets as numbers.
-use Rattle.std.specs.Prelude.{ℕ, zero, suc, ◌+◌, ◌/◌, ◌%◌, ◌^◌, ◌==◌, Bool, cond, List, [], ◌++◌}
+use Rattle.std.specs.Prelude.{◌≡◌, ◌≢◌, ℕ, zero, suc, ◌+◌, ◌/◌, ◌%◌, ◌^◌, ◌<◌, ◌==◌, Bool, true, false, cond, List, [], ◌++◌}
 
 -- f 0 + .. + f (n - 1)
 unfoldable pub sum_below : ℕ → (ℕ → ℕ) → ℕ
@@ -14,6 +14,18 @@ joined_below (suc n) f = joined_below n f ++ f n
 -- Whether a set, of slots or of boundaries, has a member: bit i of the number stands for member i.
 unfoldable pub holds : ℕ → ℕ → Bool
 holds set i = set / 2 ^ i % 2 == 1
+
+-- The larger set is the set with one member more.
+pub record AddsMember (set member larger : ℕ) : Type 0 where
+  pub held : holds larger member ≡ true
+  pub others : (i : ℕ) → i ≢ member → holds larger i ≡ holds set i
+  pub alone : set ≡ 0 → (i : ℕ) → i ≢ member → holds larger i ≡ false
+  pub grows : holds set member ≡ false → set < larger
+  pub small : set < 2 ^ 16 → larger < 2 ^ 16
+
+-- Each set can take each member.
+abbrev pub SetsTakeMembers : Type 0
+SetsTakeMembers = (set member : ℕ) → member < 16 → (larger : ℕ) × AddsMember set member larger
 
 -- The sum over the members of a set of slots.
 unfoldable pub sum_over : ℕ → (ℕ → ℕ) → ℕ

@@ -1,7 +1,7 @@
 ghost use Rattle.std.specs.Prelude.{◌≡◌, ℕ, ◌*◌, ◌^◌, ◌<◌, ◌≤◌, ◌↔◌, IsTrue, if◌then◌else◌, length, slice_index};
 ghost use Rattle.pocsag_slots.specs.Cover.{covered};
 ghost use Rattle.pocsag_slots.specs.Loads.{AreInOrder, class_load as load_of_class, IsChoice, IsLeastLoad, least_of_class, load, Overloads};
-ghost use Rattle.pocsag_slots.specs.Sums.{holds as is_member, sum_over};
+ghost use Rattle.pocsag_slots.specs.Sums.{holds, sum_over};
 
 use crate::boundary::{rest, start};
 use crate::class::{CLASSES, Choice, Classes, SLOTS};
@@ -116,7 +116,7 @@ pub fn least_load(classes: &Classes, limits: &Limits, set: u16) -> u64
 
 fn member_cap(limits: &Limits, set: u16, slot: u8) -> u64
     requires { slot < 16 }
-    ensures value { result ≡ (if is_member set slot then slice_index limits.now.cap slot else 0) }
+    ensures value { result ≡ (if holds set slot then slice_index limits.now.cap slot else 0) }
     ensures bound { result < 2 ^ 32 }
 {
     if holds(set, slot) {

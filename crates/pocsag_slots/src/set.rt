@@ -1,5 +1,5 @@
 ghost use Rattle.std.specs.Prelude.{◌≡◌, ◌<◌};
-ghost use Rattle.pocsag_slots.specs.Sums.{holds as is_member};
+ghost use Rattle.pocsag_slots.specs.Sums.{AddsMember, holds as is_member};
 ghost use Rattle.pocsag_slots.specs.Ways.{idle_crosses as crosses_by_idle, run_crosses, run_touches};
 
 use crate::boundary::{finish, start};
@@ -12,6 +12,14 @@ pub fn holds(set: u16, member: u8) -> bool
     ensures { result ≡ is_member set member }
 {
     (set >> member) & 1 == 1
+}
+
+/// The set with one member more, 0 to 15.
+pub fn with_member(set: u16, member: u8) -> u16
+    requires { member < 16 }
+    ensures { AddsMember set member result }
+{
+    set | 1 << member
 }
 
 /// Whether an early or a late run of the class has an end outside the set of boundaries.

@@ -85,3 +85,12 @@ fn closed_mixed(rt: HostRuntime) -> Result<(), Fail> {
     );
     Ok(())
 }
+
+#[test]
+fn sets_of_members(rt: HostRuntime) -> Result<(), Fail> {
+    let two = with_member(with_member(0, 15), 4);
+    assert_eq!(rt; two, 0x8010);
+    assert_eq!(rt; with_member(two, 4), two);
+    assert_eq!(rt; (holds(two, 15), holds(two, 5)), (true, false));
+    Ok(())
+}

@@ -1,13 +1,12 @@
 -- That there is a way, without walking it: the floods and the walk over plain numbers.
-use Rattle.std.proofs.Common.{◌≡◌, ◌≢◌, ℕ, zero, suc, ◌+◌, ◌-◌, ◌*◌, ◌%◌, ◌^◌, ◌<◌, ◌≤◌, ◌==◌, ◌&&◌, nat_lt, Bool, true, false, not, cond, List, [], ◌∷◌, ◌++◌, ◌⊎◌, refl, sym, subst, arith, eq-eqb, inl, inr, bit_or}
+use Rattle.std.proofs.Common.{◌≡◌, ◌≢◌, ℕ, zero, suc, ◌+◌, ◌-◌, ◌^◌, ◌<◌, ◌≤◌, ◌==◌, ◌&&◌, nat_lt, Bool, true, false, not, cond, List, [], ◌∷◌, ◌++◌, ◌⊎◌, refl, sym, subst, arith, eq-eqb, inl, inr}
 use Rattle.std.proofs.lemmas.Bool.{cases_eq, eqb-true, ne_eqb}
 use Rattle.std.proofs.lemmas.Bool.Decides.{nat_tests}
 use Rattle.pocsag_slots.specs.declared.step.Step.{Step}
-use Rattle.pocsag_slots.specs.Sums.{holds, sum_below}
+use Rattle.pocsag_slots.specs.Sums.{AddsMember, SetsTakeMembers, holds, sum_below}
 use Rattle.pocsag_tour.specs.Moves.{AllLeadTo, arc_from, arc_to, IsBalanced, IsDeparture, IsEntering, IsSpent, IsWalk, IsWay, LeadHome, NoneEnters, step_of}
 use Rattle.pocsag_tour.proofs.Flooding.{grown_keeps, homes_more, homes_start}
 use Rattle.pocsag_tour.proofs.Geometry.{from_below}
-use Rattle.pocsag_tour.proofs.Members.{holds_here, holds_more, holds_other, with_below}
 use Rattle.pocsag_tour.proofs.Walks.{IsLess, sum_less, walk_end, walk_on, walk_start}
 
 -- a number that passes a test, or that none does
@@ -79,32 +78,32 @@ pub record IsTree (counts : ℕ → ℕ) (root : ℕ) : Type 0 where
 abbrev written : (ℕ → ℕ) → ℕ → ℕ → ℕ → ℕ
 written exits at a q = cond (q == at) a (exits q)
 
-abbrev with : ℕ → ℕ → ℕ
-with set p = bit_or set (1 * 2 ^ p % 65536)
-
-flood : (counts : ℕ → ℕ) (root fuel set : ℕ) (exits : ℕ → ℕ) → set < 65536 → 65536 ≤ set + fuel →
+flood : SetsTakeMembers → (counts : ℕ → ℕ) (root fuel set : ℕ) (exits : ℕ → ℕ) → set < 2 ^ 16 → 2 ^ 16 ≤ set + fuel →
     holds set root ≡ true → LeadHome counts exits root set → IsTree counts root
-flood counts root zero set exits low enough held homes = absurd (omega arith)
-flood counts root (suc fuel) set exits low enough held homes =
+flood law counts root zero set exits low enough held homes = absurd (omega arith)
+flood law counts root (suc fuel) set exits low enough held homes =
     elim (seek 288 (enters counts set)) [
       | inl found ↦
           let e : IsEntering counts set found.0 = found_entering counts set found.0 found.1 found.2 in
-          let p : arc_from found.0 < 16 = from_below found.0 e.known in
           let from = arc_from found.0 in
-          let more : set < with set from = holds_more set from p e.from in
-          flood counts root fuel (with set from) (written exits from found.0) (with_below set from low) (omega arith)
-          (grown_keeps set (with set from) from root (holds_here set from p) (λ i ne. holds_other set from i p ne) held)
-          (homes_more counts exits (written exits from found.0) root set (with set from) found.0 homes e
+          let more : (larger : ℕ) × AddsMember set from larger = law set from (from_below found.0 e.known) in
+          let adds : AddsMember set from more.0 = more.1 in
+          let grown : set < more.0 = adds.grows e.from in
+          flood law counts root fuel more.0 (written exits from found.0) (adds.small low) (omega arith)
+          (grown_keeps set more.0 from root adds.held adds.others held)
+          (homes_more counts exits (written exits from found.0) root set more.0 found.0 homes e
           (let t : (from == from) ≡ true = eq-eqb from from refl in rw t refl)
           (λ q ne. (let t : (q == from) ≡ false = ne_eqb q from ne in rw t refl))
-          (holds_here set from p) (λ q ne. holds_other set from q p ne))
+          adds.held adds.others)
       | inr none ↦ record { set = set; exits = exits; root_in = held; closed = none_entering counts set none; homes = homes }
     ]
 
-tree_exists : (counts : ℕ → ℕ) (root : ℕ) → root < 16 → IsTree counts root
-tree_exists counts root h =
-    flood counts root 65536 (with 0 root) (λ q. 0) (with_below 0 root (omega arith)) (omega arith) (holds_here 0 root h)
-    (homes_start counts (λ q. 0) root (with 0 root) (λ i ne. holds_other 0 root i h ne))
+tree_exists : SetsTakeMembers → (counts : ℕ → ℕ) (root : ℕ) → root < 16 → IsTree counts root
+tree_exists law counts root h =
+    let only : (set : ℕ) × AddsMember 0 root set = law 0 root h in
+    let adds : AddsMember 0 root only.0 = only.1 in
+    flood law counts root (2 ^ 16) only.0 (λ q. 0) (adds.small (omega arith)) (omega arith) adds.held
+    (homes_start counts (λ q. 0) root only.0 (adds.alone refl))
 
 -- an arc to take next, or none
 parts : (ℕ → ℕ) → ℕ → ℕ → ℕ → Bool
@@ -186,7 +185,7 @@ go_on counts root h all tree (suc fuel) left p ss few w =
       | inr spent ↦ (ss, walk_end counts tree.exits left p root tree.set ss w spent all tree.root_in tree.closed tree.homes)
     ]
 
-pub way_exists : (counts : ℕ → ℕ) (root : ℕ) → root < 16 → IsBalanced counts 0 root → AllLeadTo counts root → (steps : List Step) × IsWay counts root steps
-way_exists counts root h balanced all =
-    let tree : IsTree counts root = tree_exists counts root h in
+pub way_exists : SetsTakeMembers → (counts : ℕ → ℕ) (root : ℕ) → root < 16 → IsBalanced counts 0 root → AllLeadTo counts root → (steps : List Step) × IsWay counts root steps
+way_exists law counts root h balanced all =
+    let tree : IsTree counts root = tree_exists law counts root h in
     go_on counts root h all tree (suc (sum_below 288 counts)) counts 0 [] (omega arith) (walk_start counts tree.exits root balanced)

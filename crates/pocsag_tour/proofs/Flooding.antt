@@ -4,19 +4,18 @@ use Rattle.std.proofs.lemmas.Bool.{cases_eq}
 use Rattle.pocsag_slots.specs.Sums.{holds}
 use Rattle.pocsag_tour.specs.Moves.{arc_from, arc_to, IsEntering, IsExit, IsLeaving, Home, at_root, by_exit, LeadHome, Visited, at_start, by_arc}
 use Rattle.pocsag_tour.proofs.Geometry.{from_below, to_below}
-use Rattle.pocsag_tour.proofs.Members.{holds_none}
 
 -- the set of one member
-pub lone : (set member q : ℕ) → ((i : ℕ) → i ≢ member → holds set i ≡ holds 0 i) → holds set q ≡ true → q ≡ member
-lone set member q others held =
+pub lone : (set member q : ℕ) → ((i : ℕ) → i ≢ member → holds set i ≡ false) → holds set q ≡ true → q ≡ member
+lone set member q alone held =
     elim (cases_eq q member) [
       | inl same ↦ same
-      | inr other ↦ absurd (let a : holds set q ≡ holds 0 q = others q other in let b : holds 0 q ≡ false = holds_none q in cc)
+      | inr other ↦ absurd (let out : holds set q ≡ false = alone q other in cc)
     ]
 
-pub visited_start : (counts : ℕ → ℕ) (set : ℕ) → ((i : ℕ) → i ≢ 0 → holds set i ≡ holds 0 i) →
+pub visited_start : (counts : ℕ → ℕ) (set : ℕ) → ((i : ℕ) → i ≢ 0 → holds set i ≡ false) →
     (p : ℕ) → p < 16 → holds set p ≡ true → Visited counts p
-visited_start counts set others p h held = subst (Visited counts) (sym (lone set 0 p others held)) at_start
+visited_start counts set alone p h held = subst (Visited counts) (sym (lone set 0 p alone held)) at_start
 
 pub visited_more : (counts : ℕ → ℕ) (set grown a : ℕ) → ((p : ℕ) → p < 16 → holds set p ≡ true → Visited counts p) → IsLeaving counts set a →
     ((i : ℕ) → i ≢ arc_to a → holds grown i ≡ holds set i) →
@@ -44,8 +43,8 @@ home_grows counts exits more root set grown kept _ (by_exit q held exit rest) =
     by_exit q k.0 (exit_kept counts exits more q k.1 exit)
     (subst (λ (a : ℕ). Home counts more root grown (arc_to a)) (sym k.1) (home_grows counts exits more root set grown kept (arc_to (exits q)) rest))
 
-pub homes_start : (counts exits : ℕ → ℕ) (root set : ℕ) → ((i : ℕ) → i ≢ root → holds set i ≡ holds 0 i) → LeadHome counts exits root set
-homes_start counts exits root set others q h held = subst (Home counts exits root set) (sym (lone set root q others held)) at_root
+pub homes_start : (counts exits : ℕ → ℕ) (root set : ℕ) → ((i : ℕ) → i ≢ root → holds set i ≡ false) → LeadHome counts exits root set
+homes_start counts exits root set alone q h held = subst (Home counts exits root set) (sym (lone set root q alone held)) at_root
 
 pub homes_more : (counts exits more : ℕ → ℕ) (root set grown a : ℕ) → LeadHome counts exits root set → IsEntering counts set a →
     more (arc_from a) ≡ a → ((q : ℕ) → q ≢ arc_from a → more q ≡ exits q) →

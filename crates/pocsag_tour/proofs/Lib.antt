@@ -1,4 +1,3 @@
-pub mod Members
 pub mod Geometry
 pub mod Balances
 pub mod Flooding

@@ -1,24 +1,14 @@
-ghost use Rattle.std.specs.Prelude.{◌≡◌, ◌≢◌, ℕ, ◌<◌, ◌&&◌, not, true, false, length, slice_index, IfSome, IfNone};
-ghost use Rattle.pocsag_slots.specs.Sums.{holds as is_member};
+ghost use Rattle.std.specs.Prelude.{◌≡◌, ℕ, ◌<◌, ◌&&◌, not, true, length, slice_index, IfSome, IfNone};
+ghost use Rattle.pocsag_slots.specs.Sums.{holds};
 ghost use Rattle.pocsag_tour.specs.Moves.{arc_from, arc_to, IsEntering, IsLeaving, IsRunOutside, LeadHome, NoneEnters, NoneLeaves, RunsStart, Visited};
 
 use crate::arc::{ARCS, begins, ends};
-use pocsag_slots::holds;
-
-// The set with one member more, 0 to 15.
-fn with_member(set: u16, member: u8) -> u16
-    requires { member < 16 }
-    ensures member { is_member result member ≡ true }
-    ensures others { (i : ℕ) → i ≢ member → is_member result i ≡ is_member set i }
-    ensures grows { is_member set member ≡ false → set < result }
-{
-    set | 1 << member
-}
+use pocsag_slots::{holds, with_member};
 
 // Whether the arc leads from a boundary in the set to one outside.
 fn leads_out(set: u16, arc: usize) -> bool
     requires { arc < 288 }
-    ensures { result ≡ (is_member set (arc_from arc) && not (is_member set (arc_to arc))) }
+    ensures { result ≡ (holds set (arc_from arc) && not (holds set (arc_to arc))) }
 {
     holds(set, begins(arc)) && !holds(set, ends(arc))
 }
@@ -26,7 +16,7 @@ fn leads_out(set: u16, arc: usize) -> bool
 // Whether the arc leads from a boundary outside the set to one in it.
 fn leads_in(set: u16, arc: usize) -> bool
     requires { arc < 288 }
-    ensures { result ≡ (is_member set (arc_to arc) && not (is_member set (arc_from arc))) }
+    ensures { result ≡ (holds set (arc_to arc) && not (holds set (arc_from arc))) }
 {
     holds(set, ends(arc)) && !holds(set, begins(arc))
 }
@@ -78,9 +68,9 @@ pub fn run_outside(counts: &[u32; 288], set: u16) -> Option<usize>
 
 // The boundaries that are reached from boundary 0.
 pub fn reached(counts: &[u32; 288]) -> u16
-    ensures start { is_member result 0 ≡ true }
+    ensures start { holds result 0 ≡ true }
     ensures closed { NoneLeaves (slice_index counts.now) result }
-    ensures visited { (p : ℕ) → p < 16 → is_member result p ≡ true → Visited (slice_index counts.now) p }
+    ensures visited { (p : ℕ) → p < 16 → holds result p ≡ true → Visited (slice_index counts.now) p }
 {
     let mut set = with_member(0, 0);
     loop {
@@ -103,7 +93,7 @@ pub struct Exits {
 // The boundaries from which the root is reached, and arcs that lead them there.
 pub fn exits_to(counts: &[u32; 288], root: u8) -> Exits
     requires { root < 16 }
-    ensures root { is_member result.set root ≡ true }
+    ensures root { holds result.set root ≡ true }
     ensures closed { NoneEnters (slice_index counts.now) result.set }
     ensures known { (q : ℕ) → q < 16 → slice_index result.arcs q < 288 }
     ensures homes { LeadHome (slice_index counts.now) (slice_index result.arcs) root result.set }

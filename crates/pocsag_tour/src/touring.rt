@@ -10,7 +10,7 @@ use crate::counting::{counts_of, steps_over};
 use crate::fault::TourFault;
 use crate::flood::{reached, run_outside};
 use crate::walking::walk;
-use pocsag_slots::{Choice, Classes, Step};
+use pocsag_slots::{Choice, Classes, Step, sets_take_members};
 use pocsag_words::End;
 use std::alloc::{AllocError, Global};
 
@@ -61,6 +61,7 @@ fn whole_way(alloc: Global, counts: &[u32; 288]) -> Result<Vec<Step>, TourFault>
     ensures way { IfOk result (λ steps. IsWay (slice_index counts.now) 0 steps.items × LastIsWhole steps.items) }
     ensures refused { IfErr result (NoWay (slice_index counts.now) EndsWhole) }
 {
+    sets_take_members();
     match closing(counts) {
         Some(last) => match way_with_last(alloc, counts, last) {
             Ok(steps) => Ok(steps),

@@ -1,20 +1,19 @@
-use Rattle.std.proofs.Common.{◌≡◌, ◌∙◌, ◌-◌, ◌<◌, arith, slice_index}
+use Rattle.std.proofs.Common.{◌≡◌, ◌-◌, ◌<◌, arith, refl, slice_index}
 use Rattle.pocsag_flow.specs.declared.network.Network.{Network}
 use Rattle.pocsag_flow.specs.declared.network.Search.{Search}
 use Rattle.pocsag_flow.proofs.Ends.{given_few, overload_less, shut_overloads}
-use Rattle.pocsag_flow.proofs.Members.{holds_none}
 use Rattle.pocsag_flow.proofs.choosing.relieved.Goals as goal
 
 pub returns-then-moved-eq0-clause-overloads : goal.returns-then-moved-eq0-clause-overloads
 returns-then-moved-eq0-clause-overloads c =
     let n : Network = record { classes = c.args.classes.now; limits = c.args.limits.now; loads = c.args.standing.now.loads } in
-    let before : Search = record { early = c.args.standing.now.early; reached = c.with.result; end = c.args.slot } in
+    let before : Search = record { early = c.args.standing.now.early; reached = c.with_member.result; end = c.args.slot } in
     let none : c.leave-moved.result ≡ 0 = omega arith in
     rw c.overload_of.ensures.fault
-    (shut_overloads n before c.leave-moved.new.search c.args.slot
+    (shut_overloads c.class_loads_add_up.ensures n before c.leave-moved.new.search c.args.slot
     (slice_index c.args.standing.now.loads c.args.slot - slice_index c.args.limits.now.cap c.args.slot) c.leave-moved.result
     c.requires.slot c.requires.ordered c.requires.standing.within
-    (λ other ne. c.with.ensures.others other ne ∙ holds_none other)
+    (c.with_member.ensures.alone refl)
     (omega (arith, c.requires.above, c.requires.standing.loads c.args.slot c.requires.slot))
     c.leave-moved.ensures.pushes none (c.leave-moved.ensures.closed none))
 

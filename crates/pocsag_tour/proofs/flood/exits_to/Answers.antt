@@ -7,10 +7,10 @@ zeros_low q = grind arith
 
 pub loop-arc-init : goal.loop-arc-init
 loop-arc-init c = record {
-  root = c.with_member-set.ensures.member;
+  root = c.with_member-set.ensures.held;
   long = refl;
   known = λ q h. zeros_low q;
-  homes = homes_start (slice_index c.args.counts.now) _ c.args.root c.with_member-set.result c.with_member-set.ensures.others;
+  homes = homes_start (slice_index c.args.counts.now) _ c.args.root c.with_member-set.result (c.with_member-set.ensures.alone refl);
 }
 
 pub loop-arc-preserved : goal.loop-arc-preserved
@@ -18,10 +18,10 @@ loop-arc-preserved c =
     let here : c.begins-from.result < length c.loop-arc.arcs = omega (arith, c.loop-arc.invariant.long, c.begins-from.ensures.below) in
     record {
       root = grown_keeps c.loop-arc.set c.with_member-set-in-Some.result c.begins-from.result c.args.root
-          c.with_member-set-in-Some.ensures.member c.with_member-set-in-Some.ensures.others c.loop-arc.invariant.root;
+          c.with_member-set-in-Some.ensures.held c.with_member-set-in-Some.ensures.others c.loop-arc.invariant.root;
       long = length-set c.loop-arc.arcs c.begins-from.result c.in-Some.arc ∙ c.loop-arc.invariant.long;
       known = exits_low c.loop-arc.arcs c.begins-from.result c.in-Some.arc c.loop-arc.invariant.known here c.in-Some.ensures.found.known;
       homes = homes_written (slice_index c.args.counts.now) c.loop-arc.arcs c.args.root c.loop-arc.set c.with_member-set-in-Some.result c.in-Some.arc c.begins-from.result
           c.begins-from.ensures.value here c.loop-arc.invariant.homes c.in-Some.ensures.found
-          c.with_member-set-in-Some.ensures.member c.with_member-set-in-Some.ensures.others;
+          c.with_member-set-in-Some.ensures.held c.with_member-set-in-Some.ensures.others;
     }

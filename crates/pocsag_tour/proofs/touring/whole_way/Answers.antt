@@ -7,5 +7,5 @@ returns-in-None-clause-refused c = (
   refl,
   c.in-None.ensures.none.0,
   c.in-None.ensures.none.1,
-  way_exists (slice_index c.args.counts.now) 0 (omega arith) c.requires.balanced c.requires.joined,
+  way_exists c.sets_take_members.ensures (slice_index c.args.counts.now) 0 (omega arith) c.requires.balanced c.requires.joined,
 )
