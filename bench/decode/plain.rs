@@ -5,14 +5,12 @@
 #[path = "../codewords.rs"]
 mod codewords;
 
-use codewords::check_bits;
+use codewords::{IDLE, SYNC, check_bits};
 use std::hint::black_box;
 use std::time::{Duration, Instant};
 
 const BATCHES: usize = 1_500_000;
 const ROUNDS: u32 = 3;
-const SYNC: u32 = 0x7CD2_15D8;
-const IDLE: u32 = 0x7A89_C197;
 const BATCH: u64 = 17;
 
 #[inline(always)]

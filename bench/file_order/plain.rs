@@ -4,12 +4,11 @@
 #[path = "../codewords.rs"]
 mod codewords;
 
-use codewords::check_bits;
+use codewords::{IDLE, check_bits};
 use std::collections::HashSet;
 use std::fs::{self, File};
 use std::io::Write;
 
-const IDLE: u32 = 0x7a89_c197;
 
 fn encode(data: u32) -> u32 {
     data << 11 | check_bits(data)
