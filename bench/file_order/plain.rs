@@ -9,7 +9,6 @@ use std::collections::HashSet;
 use std::fs::{self, File};
 use std::io::Write;
 
-
 fn encode(data: u32) -> u32 {
     data << 11 | check_bits(data)
 }
