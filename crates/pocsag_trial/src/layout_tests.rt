@@ -2,6 +2,7 @@
 ghost use Rattle.std.specs.Prelude.{◌<◌};
 
 use crate::pages::{THREE_PAGES_TIGHT, round_of};
+use crate::receiving::{IDLE, two_batches};
 use crate::tours::tour_of;
 use pocsag_batch::{Slots, lay_out, order_of, write_slots};
 use pocsag_decode::decode;
@@ -9,10 +10,6 @@ use pocsag_slots::Step;
 use pocsag_words::{End, MemorySink, Word, WriteFault};
 use std::alloc::Global;
 use std::test::Fail;
-
-const IDLE: u32 = 0x7a89_c197;
-
-const SYNC: u32 = 0x7cd2_15d8;
 
 // The message codeword of 11111.
 const ONES: u32 = 0xc444_47b9;
@@ -55,17 +52,7 @@ fn tight_words() -> [u32; 32] {
 
 // The bytes of three-pages-tight.
 fn tight_bytes() -> [u8; 208] {
-    let words = tight_words();
-    let mut bytes = [0xaa; 208];
-    for batch in 0..2 {
-        let start = 72 + 68 * batch;
-        bytes[start..start + 4].copy_from_slice(&SYNC.to_be_bytes());
-        for slot in 0..16 {
-            let at = start + 4 + 4 * slot;
-            bytes[at..at + 4].copy_from_slice(&words[16 * batch + slot].to_be_bytes());
-        }
-    }
-    bytes
+    two_batches(&tight_words())
 }
 
 // Writes three-pages-tight.

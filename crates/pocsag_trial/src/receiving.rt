@@ -5,12 +5,12 @@ use pocsag_pages::Page;
 use pocsag_words::{MemorySink, OutOfMemory};
 use std::alloc::Global;
 
-const IDLE: u32 = 0x7a89_c197;
+pub const IDLE: u32 = 0x7a89_c197;
 
 const SYNC: u32 = 0x7cd2_15d8;
 
-// The bytes of two batches of these codewords.
-fn two_batches(words: &[u32; 32]) -> [u8; 208] {
+/// The bytes of two batches of these codewords.
+pub fn two_batches(words: &[u32; 32]) -> [u8; 208] {
     let mut bytes = [0xaa; 208];
     for batch in 0..2 {
         let start = 72 + 68 * batch;
