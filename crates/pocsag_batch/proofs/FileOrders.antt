@@ -1,6 +1,7 @@
 -- File order: that it is legal, that there is one, and no other.
 use Rattle.std.proofs.Common.{◌≡◌, ℕ, zero, suc, ◌+◌, ◌-◌, ◌*◌, ◌/◌, ◌%◌, ◌<◌, ◌≤◌, List, [], ◌∷◌, ◌++◌, length, map, replicate, refl, sym, ap, subst, ◌∙◌, arith, length-append, inl, inr}
 use Rattle.std.proofs.lemmas.Bool.{cases_eq}
+use Rattle.std.proofs.lemmas.List.{length-map, length-replicate}
 use Rattle.std.proofs.lemmas.List.Elements.{All-contains_itself}
 use Rattle.pocsag_words.specs.declared.codeword.Kind.{Kind}
 use Rattle.pocsag_words.specs.declared.codeword.Kind.TheVariants.{Idle, Message}
@@ -49,25 +50,17 @@ reads_in_order {i = i} (past_page {p = p} {R = R} gap rest least is left) =
     (at_index rest R (i + gap + page_length p) (i + gap + 1 + length p.payload) (omega arith) (reads_in_order left))) in
     subst (λ (v : List Kind). Reads v i (p ∷ R)) (sym is) (reads_idles gap i (page_words p ++ rest) (p ∷ R) here)
 
-pub length_replicate : (gap : ℕ) → length (replicate gap Idle) ≡ gap
-length_replicate zero = refl
-length_replicate (suc gap) = let e : length (replicate gap Idle) ≡ gap = length_replicate gap in omega arith
-
-length_messages : (items : List ℕ) → length (map Message items) ≡ length items
-length_messages [] = refl
-length_messages (b ∷ items) = let e : length (map Message items) ≡ length items = length_messages items in omega arith
-
 pub page_words_long : (p : Page) → length (page_words p) ≡ page_length p
-page_words_long p = let e : length (map Message p.payload) ≡ length p.payload = length_messages p.payload in omega arith
+page_words_long p = let e : length (map Message p.payload) ≡ length p.payload = length-map p.payload Message in omega arith
 
 placed_length : (gap : ℕ) (p : Page) (rest : List Kind) →
     length (replicate gap Idle ++ (page_words p ++ rest)) ≡ gap + page_length p + length rest
 placed_length gap p rest =
-    omega (arith, length-append (replicate gap Idle) (page_words p ++ rest), length-append (page_words p) rest, length_replicate gap, length_messages p.payload)
+    omega (arith, length-append (replicate gap Idle) (page_words p ++ rest), length-append (page_words p) rest, length-replicate gap Idle, length-map p.payload Message)
 
 pub whole_in_order : {i : ℕ} {R : List Page} {ws : List Kind} → InOrder i R ws → (i + length ws) % 16 ≡ 0
 whole_in_order {i = i} (at_end gap least is) =
-    let long : length (replicate gap Idle) ≡ gap = length_replicate gap in
+    let long : length (replicate gap Idle) ≡ gap = length-replicate gap Idle in
     subst (λ (v : List Kind). (i + length v) % 16 ≡ 0) (sym is)
     (subst (λ (n : ℕ). (i + n) % 16 ≡ 0) (sym long) least.fit)
 whole_in_order {i = i} (past_page {p = p} gap rest least is left) =
@@ -171,5 +164,5 @@ left_end i gap n least h = step h.order
     step : InOrder i [] h.rest → n ≡ i + gap
     step (at_end gap' least' is) =
         let same : gap' ≡ gap = one_gap gap' gap least' least in
-        let long : length h.rest ≡ gap' = ap length is ∙ length_replicate gap' in
+        let long : length h.rest ≡ gap' = ap length is ∙ length-replicate gap' Idle in
         omega (arith, h.long)

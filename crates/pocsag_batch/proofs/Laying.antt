@@ -1,6 +1,6 @@
 -- The loop that lays a round in file order, and the batches of a legal list.
 use Rattle.std.proofs.Common.{◌≡◌, ℕ, ◌+◌, ◌*◌, ◌/◌, ◌%◌, ◌^◌, ◌<◌, ◌≤◌, List, [], ◌∷◌, ◌++◌, length, map, replicate, drop, refl, sym, ap, ◌∙◌, subst, arith, append_assoc, length-append}
-use Rattle.std.proofs.lemmas.List.{drop_all, length-map}
+use Rattle.std.proofs.lemmas.List.{drop_all, length-map, length-replicate}
 use Rattle.pocsag_words.specs.Kinds.{kind_of}
 use Rattle.pocsag_words.specs.declared.codeword.Kind.{Kind}
 use Rattle.pocsag_words.specs.declared.codeword.Kind.TheVariants.{Idle}
@@ -10,11 +10,11 @@ use Rattle.pocsag_pages.specs.declared.page.Page.{Page}
 use Rattle.pocsag_pages.specs.Reading.{page_words, page_length, IsLegalFor, IsLegalList}
 use Rattle.pocsag_batch.specs.FileOrder.{IsLeastFrom, IsInFrame, IsWhole, InOrder, at_end, past_page, IsFileOrder}
 use Rattle.pocsag_batch.specs.WordLists.{AreBatches}
-use Rattle.pocsag_batch.proofs.FileOrders.{length_replicate, page_words_long, whole_in_order, some_words, legal_in_order}
+use Rattle.pocsag_batch.proofs.FileOrders.{page_words_long, whole_in_order, some_words, legal_in_order}
 
 pub idled_length : (gap : ℕ) (ws vs : List ℕ) → map kind_of vs ≡ map kind_of ws ++ replicate gap Idle → length vs ≡ length ws + gap
 idled_length gap ws vs idles =
-    omega (arith, ap length idles, length-append (map kind_of ws) (replicate gap Idle), length_replicate gap, length-map ws kind_of, length-map vs kind_of)
+    omega (arith, ap length idles, length-append (map kind_of ws) (replicate gap Idle), length-replicate gap Idle, length-map ws kind_of, length-map vs kind_of)
 
 pub laid_length : (p : Page) (gap : ℕ) (ws vs us : List ℕ) →
     map kind_of vs ≡ map kind_of ws ++ replicate gap Idle → map kind_of us ≡ map kind_of vs ++ page_words p →

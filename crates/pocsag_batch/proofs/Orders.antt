@@ -10,7 +10,7 @@ use Rattle.pocsag_slots.specs.declared.step.Step.{Step}
 use Rattle.pocsag_slots.specs.declared.step.Step.TheVariants.{Idle as Stay, Run}
 use Rattle.pocsag_slots.specs.Arcs.{runs}
 use Rattle.pocsag_slots.specs.Tours.{IsTourFor}
-use Rattle.pocsag_slots.proofs.Walks.{run_counts}
+use Rattle.pocsag_slots.proofs.Laying.{first_runs}
 use Rattle.pocsag_batch.specs.Chains.{Links, AreChains}
 use Rattle.pocsag_batch.specs.Placing.{all_places, class_at, places_of, run_classes, HavePlaces, IsOrder}
 use Rattle.pocsag_batch.proofs.Chains.{Takes, chains_left, takes_from}
@@ -35,10 +35,6 @@ stands_first end R links steps chains tour = record {
   classes = refl;
   in_turn = λ c. refl;
 }
-
-first_runs : (c : ℕ) (e : Bool) (ss : List Step) (d : ℕ) →
-    runs d true (Run c e ∷ ss) + runs d false (Run c e ∷ ss) ≡ cond (c == d) 1 0 + (runs d true ss + runs d false ss)
-first_runs c e ss d = omega (arith, run_counts (c == d) e)
 
 pub takes : (end : End) (R : List Page) (links : Links) (order : List ℕ) (steps rest : List Step) (c : ℕ) (e : Bool) →
     (s : Stands end R links order steps (Run c e ∷ rest)) → Takes end R links s.left c

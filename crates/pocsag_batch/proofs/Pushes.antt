@@ -1,16 +1,12 @@
 -- What a push adds to the kinds of a list of codewords.
-use Rattle.std.proofs.Common.{◌≡◌, ℕ, ◌+◌, ◌<◌, List, [], ◌∷◌, ◌++◌, length, map, take, get_or, refl, ap, ◌∙◌, append_assoc}
-use Rattle.std.proofs.lemmas.List.{take_more}
+use Rattle.std.proofs.Common.{◌≡◌, ℕ, ◌+◌, ◌<◌, List, [], ◌∷◌, ◌++◌, length, map, take, get_or, ap, ◌∙◌, append_assoc}
+use Rattle.std.proofs.lemmas.List.{map-append, take_more}
 use Rattle.pocsag_words.specs.Kinds.{kind_of}
 use Rattle.pocsag_words.specs.declared.codeword.Kind.{Kind}
 
-map_append : {A B : Type 0} (f : A → B) (xs ys : List A) → map f (xs ++ ys) ≡ map f xs ++ map f ys
-map_append f [] ys = refl
-map_append f (x ∷ xs) ys = ap (λ v. f x ∷ v) (map_append f xs ys)
-
 -- one codeword more of a kind
 pub pushed : (ws vs : List ℕ) (w : ℕ) (k : Kind) → vs ≡ ws ++ w ∷ [] → kind_of w ≡ k → map kind_of vs ≡ map kind_of ws ++ k ∷ []
-pushed ws vs w k e is = ap (map kind_of) e ∙ (map_append kind_of ws (w ∷ []) ∙ ap (λ (j : Kind). map kind_of ws ++ j ∷ []) is)
+pushed ws vs w k e is = ap (map kind_of) e ∙ (map-append kind_of ws (w ∷ []) ∙ ap (λ (j : Kind). map kind_of ws ++ j ∷ []) is)
 
 pub pushed_more : (ws vs : List ℕ) (w : ℕ) (k : Kind) (js ks : List Kind) → vs ≡ ws ++ w ∷ [] → kind_of w ≡ k →
     map kind_of ws ≡ js ++ ks → map kind_of vs ≡ js ++ (ks ++ k ∷ [])
@@ -19,4 +15,4 @@ pushed_more ws vs w k js ks e is so_far =
 
 -- one element more of a mapped list
 pub map_taken : {A : Type 0} (f : ℕ → A) (xs : List ℕ) (i : ℕ) → i < length xs → map f (take (i + 1) xs) ≡ map f (take i xs) ++ f (get_or xs i 0) ∷ []
-map_taken f xs i h = ap (map f) (take_more xs i 0 h) ∙ map_append f (take i xs) (get_or xs i 0 ∷ [])
+map_taken f xs i h = ap (map f) (take_more xs i 0 h) ∙ map-append f (take i xs) (get_or xs i 0 ∷ [])

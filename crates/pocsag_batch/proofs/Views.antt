@@ -1,7 +1,7 @@
 -- What the iterator over a layout has left.
 use Rattle.std.proofs.Common.{◌≡◌, ℕ, ◌-◌, ◌/◌, ◌<◌, Bool, List, [], ◌∷◌, ◌++◌, length, map, take, drop, get_or, sym, ap, ◌∙◌, subst, All, arith}
 use Rattle.std.proofs.lemmas.List.{get_or_default, take_rest}
-use Rattle.std.proofs.lemmas.List.Elements.{All-get_or, All-tail}
+use Rattle.std.proofs.lemmas.List.Elements.{All-get_or}
 use Rattle.pocsag_words.specs.Kinds.{kind_of, address_kind}
 use Rattle.pocsag_words.specs.declared.codeword.Kind.{Kind}
 use Rattle.pocsag_words.specs.declared.codeword.Kind.TheVariants.{Address, Message}
@@ -12,9 +12,6 @@ use Rattle.pocsag_slots.specs.declared.step.Step.{Step}
 use Rattle.pocsag_slots.specs.declared.step.Step.TheVariants.{Run}
 use Rattle.pocsag_batch.specs.Placing.{HavePlaces, laid_by, page_at}
 use Rattle.pocsag_batch.proofs.Addresses.{kind_unreserved}
-
-pub all_rest : {X : Type 0} (P : X → Type 0) (xs : List X) (x : X) (rest : List X) → xs ≡ x ∷ rest → All P xs → All P rest
-all_rest P xs x rest e all = All-tail P x rest (subst (λ (v : List _). All P v) e all)
 
 page_is : (R : List Page) (k : ℕ) (p : Page) → k < length R → p ≡ get_or R k p → page_at R k ≡ p
 page_is R k p within is = get_or_default R k _ p within ∙ sym is

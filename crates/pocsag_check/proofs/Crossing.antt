@@ -8,6 +8,7 @@ use Rattle.pocsag_slots.specs.Numbering.{start_of, finish_of}
 use Rattle.pocsag_slots.specs.Sums.{holds}
 use Rattle.pocsag_slots.specs.Tours.{Leads, idles}
 use Rattle.pocsag_slots.specs.Ways.{idle_crosses, run_crosses, run_touches}
+use Rattle.pocsag_slots.proofs.CoverLemmas.{finish_below}
 
 -- some arc has exactly one end in the set
 pub data Crossed : ℕ → ℕ → List Step → Type 0 where
@@ -71,10 +72,6 @@ inside_run set c e ss own rest = record {
         let same = own_counted c d e f is in
         subst (λ (n : ℕ). run_touches n f set ≡ false) same.0 (subst (λ (g : Bool). run_touches c g set ≡ false) same.1 own)
     go d f false is some = rest.each d f (omega arith)
-
-finish_below : (c : ℕ) (e : Bool) → finish_of c e < 16
-unfolding finish_of
-finish_below c e = omega arith
 
 pub crosses_or_stays : (set : ℕ) (ss : List Step) (p q : ℕ) → p < 16 → holds set p ≡ true → Leads p ss q → Crossed set p ss ⊎ IsInside set ss
 crosses_or_stays set [] p q small here leads = inr (record { each = λ c e some. absurd (omega arith) })

@@ -83,7 +83,7 @@ no_pages end (p ∷ R) none =
     let zero_count : 0 ≡ count_of end (p ∷ R) c = none c in
     absurd (omega arith)
 
-first_runs : (c : ℕ) (e : Bool) (ss : List Step) (d : ℕ) →
+pub first_runs : (c : ℕ) (e : Bool) (ss : List Step) (d : ℕ) →
     runs d true (Run c e ∷ ss) + runs d false (Run c e ∷ ss) ≡ cond (c == d) 1 0 + (runs d true ss + runs d false ss)
 first_runs c e ss d = omega (arith, run_counts (c == d) e)
 

@@ -1,11 +1,12 @@
 use Rattle.std.proofs.Common.{ℕ, ◌/◌, ◌^◌, ◌<◌, sym, ap, ◌∙◌}
+use Rattle.std.proofs.lemmas.List.Elements.{All-rest}
 use Rattle.pocsag_words.specs.Kinds.{address_kind}
 use Rattle.pocsag_pages.specs.declared.page.Page.{Page}
-use Rattle.pocsag_batch.proofs.Views.{all_rest, begun_view}
+use Rattle.pocsag_batch.proofs.Views.{begun_view}
 use Rattle.pocsag_batch.proofs.slots.SlotsIterator.next.Goals as goal
 
 pub invariant_of-self : goal.invariant_of-self
-invariant_of-self c = (c.self.invariant.0, all_rest (λ (item : ℕ). item < 2 ^ 20) _ _ _ c.in-Some.ensures.cases.0 c.self.invariant.1, c.self.invariant.2)
+invariant_of-self c = (c.self.invariant.0, All-rest (λ (item : ℕ). item < 2 ^ 20) _ _ _ c.in-Some.ensures.cases.0 c.self.invariant.1, c.self.invariant.2)
 
 pub returns-in-Run-clause-steps : goal.returns-in-Run-clause-steps
 returns-in-Run-clause-steps c =
