@@ -8,188 +8,188 @@ import re
 import sys
 from functools import lru_cache
 
-KINDS = {b"numeric": (re.compile(rb"[0-9*U \-\]\[]{1,4000}"), 4), b"alpha": (re.compile(rb"[\x01-\x7f]{1,4000}"), 7)}
-KINDS.update((b"tone%d" % i, (re.compile(b""), 0)) for i in range(4))  # the message, and bits for each character
+# For each kind the form of its message, and the bits for a character.
+KINDS = {b"numeric": (rb"[0-9*U \-\]\[]{1,4000}", 4), b"alpha": (rb"[\x01-\x7f]{1,4000}", 7),
+         b"tone0": (b"", 0), b"tone1": (b"", 0), b"tone2": (b"", 0), b"tone3": (b"", 0)}
 LARGEST_FILE = 268435456
 # A field and what ends it; with more than 4,000 doubled quotes a field would be too long for a message.
 FIELD = re.compile(rb'(?:"([^"]*(?:""[^"]*){0,4000})"|([^",\r\n]*))(,|\r?\n|\Z)')
 OVERLOAD, SPLIT, CUT, OPEN, CLOSE = range(5)
-LO, HI, CAP = range(3)  # the places in the limits (lo, hi, cap)
+LO, HI, CAP = range(3)  # the places in limits, which are (lo, hi, cap)
 
 
 class Fault(Exception):
     """The page file is refused, or the bytes are no certificate."""
 
 
+def need(condition):
+    if not condition:
+        raise Fault
+
+
 def records(data):
-    """The records of a CSV file, each a list of fields; no record of a page file has more than three."""
+    """The records of a CSV file, each a list of fields, of which a page file has no more than three."""
     fields, at = [], 0
     while at < len(data) or fields:
         field = FIELD.match(data, at)
-        if not field or len(fields) == 3:
-            raise Fault("CSV")
+        need(field and len(fields) < 3)
         at = field.end()
-        if not fields and field[0] in (b"\n", b"\r\n"):
-            continue
-        fields.append(field[2] if field[1] is None else field[1].replace(b'""', b'"'))
-        if field[3] != b",":
-            yield fields
-            fields = []
+        if fields or field[0] not in (b"\n", b"\r\n"):  # an empty line is passed over
+            fields.append(field[2] if field[1] is None else field[1].replace(b'""', b'"'))
+            if field[3] != b",":
+                yield fields
+                fields = []
 
 
-def page_of(address, kind, message):
+def page_of(fields):
     """The address and the length of a page."""
-    if not re.fullmatch(rb"[0-9]{1,7}", address) or kind not in KINDS:
-        raise Fault("address or kind")
-    number, (pattern, bits) = int(address), KINDS[kind]
-    if number > 2097151 or 2007664 <= number <= 2007671 or 2045056 <= number <= 2045063:
-        raise Fault("address")
-    if not pattern.fullmatch(message):
-        raise Fault("message")
-    return number, 1 + (bits * len(message) + 19) // 20
+    need(len(fields) == 3 and re.fullmatch(rb"[0-9]{1,7}", fields[0]) and fields[1] in KINDS)
+    address, (form, bits), message = int(fields[0]), KINDS[fields[1]], fields[2]
+    need(address <= 2097151 and not 2007664 <= address <= 2007671 and not 2045056 <= address <= 2045063)
+    need(re.fullmatch(form, message))
+    return address, 1 + (bits * len(message) + 19) // 20
 
 
 @lru_cache(maxsize=4)
 def pages_of(data):
-    """The pages of a page file, as pairs of frame and length; None where the file is refused."""
+    """The pages of a page file, each as (frame, length); None where the file is refused."""
     lengths = {}
     try:
+        need(len(data) <= LARGEST_FILE)
         rows = records(data)
-        if len(data) > LARGEST_FILE or next(rows, None) != [b"address", b"kind", b"message"]:
-            return None
+        need(next(rows, None) == [b"address", b"kind", b"message"])
         for fields in rows:
-            if len(fields) != 3 or len(lengths) == 20000:
-                return None
-            address, length = page_of(*fields)
-            if lengths.setdefault(address, None) is not None:
-                return None
+            address, length = page_of(fields)
+            need(address not in lengths and len(lengths) < 20000)
             lengths[address] = length
+        need(lengths)
     except Fault:
         return None
-    return tuple((address % 8, length) for address, length in lengths.items()) or None
+    return tuple((address % 8, length) for address, length in lengths.items())
 
 
 def classes_of(pages, end):
-    """`count` and `turns` of each class, for pages (frame, length) and the end, 0 open or 1 closed."""
+    """`count` and `turns` by class, for pages (frame, length) and the end, 0 for open or 1 for closed."""
     count, turns = [0] * 136, [0] * 136
     for frame, length in pages:
         c = 128 + frame if end == 1 and length == 1 else 16 * frame + length % 16
         count[c] += 1
         turns[c] += length // 16
-    return count, turns
+    return tuple(count), tuple(turns)
 
 
 def parse(data):
     """(end, B, tree) or None. A node is (tag, set, class, m, children), with 0 for what it has not."""
     at, nodes, top = 4, 0, []
     first = data[:4] == b"PCB1"
-    largest_class, largest_m, most_children = (127, 2000, 272) if first else (135, 20000, 288)
+    last_tag, last_class, last_m, most = (OPEN, 127, 2000, 272) if first else (CLOSE, 135, 20000, 288)
 
-    def number(size, least, most):
+    def number(size, least, greatest):
         nonlocal at
         value = int.from_bytes(data[at:at + size], "big")
-        if at + size > len(data) or not least <= value <= most:
-            raise Fault("field")
+        need(at + size <= len(data) and least <= value <= greatest)
         at += size
         return value
 
     try:
-        if data[:4] not in (b"PCB1", b"PCB2"):
-            return None
-        end, batches = 0 if first else number(1, 0, 1), number(4, 1, 2 ** 32 - 1)
-        wanted = [[1, top]]  # for each depth: how many nodes are still to be read, and where they go
+        need(data[:4] in (b"PCB1", b"PCB2"))
+        end = 0 if first else number(1, 0, 1)
+        batches = number(4, 1, 2 ** 32 - 1)
+        wanted = [[1, top]]  # for each depth how many nodes are still to come, and where they go
         while wanted:
             if wanted[-1][0] == 0:
                 wanted.pop()
                 continue
             wanted[-1][0] -= 1
             nodes += 1
-            if len(wanted) > 300 or nodes > 1000000:
-                return None
-            tag = number(1, 0, OPEN if first else CLOSE)
+            need(len(wanted) <= 300 and nodes <= 1000000)
+            tag = number(1, 0, last_tag)
             members = number(2, 1, 65535) if tag in (OVERLOAD, CUT) else 0
-            c = number(1, 0, largest_class) if tag in (SPLIT, CUT) else 0
-            m = number(2, 1, largest_m) if tag == SPLIT else 0
-            size = (2 if tag == SPLIT else number(2, 2, most_children) if tag == CUT
-                    else number(1, 1, 2) if tag == CLOSE else 0)
-            children = [] if size else ()
+            c = number(1, 0, last_class) if tag in (SPLIT, CUT) else 0
+            m = number(2, 1, last_m) if tag == SPLIT else 0
+            below = (number(2, 2, most) if tag == CUT else number(1, 1, 2) if tag == CLOSE else
+                     2 if tag == SPLIT else 0)
+            children = [] if below else ()
             wanted[-1][1].append((tag, members, c, m, children))
-            if size:
-                wanted.append([size, children])
+            if below:
+                wanted.append([below, children])
+        need(at == len(data))
     except Fault:
         return None
-    return (end, batches, top[0]) if at == len(data) else None
+    return end, batches, top[0]
 
 
 def run(c, late):
-    """From, to, and the set of slots covered beside the whole turns."""
+    """Of the early run (late = 0) or the late run (late = 1): its two ends, and the slots beside whole turns."""
     frame, rest = (c // 16, c % 16) if c < 128 else (c - 128, 1)
     start = 2 * frame + late
-    return start, (start + rest) % 16, sum(1 << (start + i) % 16 for i in range(rest))
+    return 1 << start | 1 << (start + rest) % 16, sum(1 << (start + i) % 16 for i in range(rest))
 
 
-EARLY, LATE = [run(c, 0) for c in range(136)], [run(c, 1) for c in range(136)]
+IDLES = [1 << i | 1 << (i + 1) % 16 for i in range(16)]  # the ends; sets are numbers of 16 bits throughout
+RUNS = [run(c, 0) + run(c, 1) for c in range(136)]  # early ends, early slots, late ends, late slots
 
 
-def crosses(members, start, stop):
-    return (members >> start & 1) != (members >> stop & 1)
+def size(members):
+    return bin(members).count("1")
 
 
-def touches_outside(members, start, stop):
-    return not (members >> start & 1 and members >> stop & 1)
+def crosses(members, ends):
+    return members & ends not in (0, ends)
+
+
+def touches_outside(members, ends):
+    return members & ends != ends
 
 
 @lru_cache(maxsize=4096)
-def crossing(members):
-    """The slots whose idle crosses a set, and (class, early run crosses, late run crosses) where one does."""
-    runs = [(c, crosses(members, *EARLY[c][:2]), crosses(members, *LATE[c][:2])) for c in range(136)]
-    return [i for i in range(16) if crosses(members, i, (i + 1) % 16)], [r for r in runs if r[1] or r[2]]
-
-
-@lru_cache(maxsize=4096)
-def covered(members):
-    """For each class how many slots of a set its early run and its late run cover beside the whole turns."""
-    return [tuple(bin(members & runs[c][2]).count("1") for runs in (EARLY, LATE)) for c in range(136)]
+def loads(members, count, turns):
+    """The load of a set with no page early, and (class, what each early page adds) where that is not 0."""
+    early, late = ([size(members & r[k]) for r in RUNS] for k in (1, 3))
+    all_late = sum(turns[c] * size(members) + count[c] * late[c] for c in range(136))
+    return all_late, [(c, early[c] - late[c]) for c in range(136) if count[c] and early[c] != late[c]]
 
 
 def least_load(members, lo, hi, count, turns):
-    load, size = 0, bin(members).count("1")
-    for c, (early, late) in enumerate(covered(members)):
-        if count[c]:
-            load += turns[c] * size + min(x * early + (count[c] - x) * late for x in (lo[c], hi[c]))
-    return load
+    all_late, gains = loads(members, count, turns)
+    return all_late + sum(min(lo[c] * gain, hi[c] * gain) for c, gain in gains)
 
 
 def certain(c, members, lo, hi, count):
-    early, late = touches_outside(members, *EARLY[c][:2]), touches_outside(members, *LATE[c][:2])
+    early, late = touches_outside(members, RUNS[c][0]), touches_outside(members, RUNS[c][2])
     return count[c] >= 1 and (early and late or early and lo[c] >= 1 or late and hi[c] < count[c])
 
 
+@lru_cache(maxsize=4096)
+def crossing(members, count):
+    """The slots whose idle crosses a set, and of the classes with pages: (class, early crosses, late crosses)."""
+    runs = [(c, crosses(members, RUNS[c][0]), crosses(members, RUNS[c][2])) for c in range(136) if count[c] >= 1]
+    return [i for i in range(16) if crosses(members, IDLES[i])], runs
+
+
 def ways_across(members, lo, hi, cap, count, b):
-    """The ways across a set, in their order; each as the change (place, index, value) it makes to the limits."""
-    idles, runs = crossing(members)
+    """The ways in their order, each as the change that narrows the limits: (place, index, value)."""
+    idles, runs = crossing(members, count)
     ways = [(CAP, i, min(cap[i], b - 1)) for i in idles]
     for c, early, late in runs:
-        if count[c] >= 1 and early and hi[c] >= 1:
+        if early and hi[c] >= 1:
             ways.append((LO, c, max(lo[c], 1)))
-        if count[c] >= 1 and late and lo[c] < count[c]:
+        if late and lo[c] < count[c]:
             ways.append((HI, c, min(hi[c], count[c] - 1)))
     return ways
 
 
 def closing_ways(lo, hi, cap, count, b):
-    ways = [(CAP, 15, min(cap[15], b - 1))]
-    if count[135] >= 1 and lo[135] < count[135]:
-        ways.append((HI, 135, min(hi[135], count[135] - 1)))
-    return ways
+    late = [(HI, 135, min(hi[135], count[135] - 1))] if count[135] >= 1 and lo[135] < count[135] else []
+    return [(CAP, 15, min(cap[15], b - 1))] + late
 
 
 def changes(node, limits, end, b, count, turns):
-    """The change to the limits for each child that a node must have, or None where its row is not met."""
+    """The change to the limits for each child that the node must have; None where the node is not accepted."""
     (tag, members, c, m, _), (lo, hi, cap) = node, limits
-    if tag == OVERLOAD and members and least_load(members, lo, hi, count, turns) > sum(
-            cap[i] for i in range(16) if members >> i & 1):
-        return []
+    if tag == OVERLOAD and members != 0:
+        room = sum(cap[i] for i in range(16) if members >> i & 1)
+        return [] if least_load(members, lo, hi, count, turns) > room else None
     if tag == SPLIT and c <= 135 and lo[c] < m <= hi[c]:
         return [(HI, c, m - 1), (LO, c, m)]
     if tag == CUT and b >= 1 and members & 1 and c <= 135 and certain(c, members, lo, hi, count):
@@ -208,13 +208,12 @@ def changed(limits, change):
 
 
 def accepted(tree, end, batches, count, turns):
-    """Whether the root is accepted, which it is where no node of the tree fails its row."""
-    b = batches - 1
-    waiting = [(tree, ([0] * 136, count, [b] * 16), None)]
+    """Whether the root is accepted: each node has to be, under the limits that its parent leaves it."""
+    b, count, turns = batches - 1, tuple(count), tuple(turns)
+    waiting = [(tree, ((0,) * 136, count, (b,) * 16), None)]
     while waiting:
         node, limits, change = waiting.pop()
-        if change:
-            limits = changed(limits, change)
+        limits = changed(limits, change) if change else limits
         below = changes(node, limits, end, b, count, turns)
         if below is None or len(below) != len(node[4]):
             return False
@@ -235,17 +234,12 @@ def verdict(pages_bytes, certificate_bytes):
     return "at least %d batches" % batches + (" with a closed end" if end == 1 else "")
 
 
-def main(arguments):
-    if len(arguments) != 2:
-        sys.exit("usage: python3 checker.py PAGES CERT")
-    try:
-        with open(arguments[0], "rb") as pages, open(arguments[1], "rb") as certificate:
-            answer = verdict(pages.read(LARGEST_FILE + 1), certificate.read())
-    except OSError as error:
-        sys.exit(str(error))
+def main(pages_file, certificate_file):
+    with open(pages_file, "rb") as pages, open(certificate_file, "rb") as certificate:
+        answer = verdict(pages.read(LARGEST_FILE + 1), certificate.read())
     print(answer)
     return 0 if answer.startswith("at least") else 1
 
 
 if __name__ == "__main__":
-    sys.exit(main(sys.argv[1:]))
+    sys.exit(main(*sys.argv[1:]) if len(sys.argv) == 3 else "usage: python3 checker.py PAGES CERT")
