@@ -2,7 +2,7 @@
 
 It answers whether the certificate shows that no legal transmission of the page file's round has fewer than
 B batches. It was written from docs/CERTIFICATES.md alone, whose names it uses, and needs nothing but Python 3.
-Where the page leaves the form of a CSV file open, the file is refused: that never makes a wrong yes.
+Where the page leaves open what a quote in an odd place means, the file is refused.
 """
 import re
 import sys
@@ -13,7 +13,7 @@ KINDS = {b"numeric": (rb"[0-9*U \-\]\[]{1,4000}", 4), b"alpha": (rb"[\x01-\x7f]{
          b"tone0": (b"", 0), b"tone1": (b"", 0), b"tone2": (b"", 0), b"tone3": (b"", 0)}
 LARGEST_FILE = 268435456
 # A field and what ends it; with more than 4,000 doubled quotes a field would be too long for a message.
-FIELD = re.compile(rb'(?:"([^"]*(?:""[^"]*){0,4000})"|([^",\r\n]*))(,|\r?\n|\Z)')
+FIELD = re.compile(rb'(?:"([^"]*(?:""[^"]*){0,4000})"|([^",\r\n]*))(,|\r\n|\r|\n|\Z)')
 OVERLOAD, SPLIT, CUT, OPEN, CLOSE = range(5)
 LO, HI, CAP = range(3)  # the places in limits, which are (lo, hi, cap)
 
@@ -29,7 +29,7 @@ def need(condition):
 
 def records(data):
     """The records of a CSV file, each a list of fields, of which a page file has no more than three."""
-    fields, at = [], 0
+    fields, at = [], 3 if data.startswith(b"\xef\xbb\xbf") else 0
     while at < len(data) or fields:
         field = FIELD.match(data, at)
         need(field and len(fields) < 3)
