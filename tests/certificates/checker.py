@@ -34,7 +34,7 @@ def records(data):
         field = FIELD.match(data, at)
         need(field and len(fields) < 3)
         at = field.end()
-        if fields or field[0] not in (b"\n", b"\r\n"):  # an empty line is passed over
+        if fields or field[0] not in (b"\n", b"\r", b"\r\n"):  # an empty line is passed over
             fields.append(field[2] if field[1] is None else field[1].replace(b'""', b'"'))
             if field[3] != b",":
                 yield fields
