@@ -8,8 +8,10 @@ pub mod SumLemmas
 pub mod Walks
 pub mod Fewest
 pub mod LoadLemmas
+pub mod Edging
 pub mod LeastLemmas
 pub mod LimitLemmas
 pub mod WayLemmas
 pub mod CountLemmas
 pub mod Members
+pub mod Sayable

@@ -1,8 +1,10 @@
 pub mod Arcs
 pub mod Cover
+pub mod Edges
 pub mod Layout
 pub mod Loads
 pub mod Numbering
+pub mod Saying
 pub mod Sums
 pub mod Tables
 pub mod Tours
