@@ -1,0 +1,1 @@
+use Rattle.pocsag_branch.proofs.Deciding.{ways_fall}
