@@ -126,7 +126,7 @@ mutual
       ]
   refuted (cut set c children) k end l choice b steps tour a accepted =
       elim (crosses_or_stays set steps 0 0 (omega arith) accepted.2 tour.leads) [
-        | inl crossed ↦ each_refuted children (ways_across k l set) k end l choice b steps tour a accepted.4 (taken_way k end l choice b set steps tour a crossed)
+        | inl crossed ↦ each_refuted children (ways_across k l set) k end l choice b steps tour a accepted.5 (taken_way k end l choice b set steps tour a crossed)
         | inr inside ↦ not_inside k end l choice b set c steps accepted.0 tour a accepted.3 inside
       ]
   refuted (close children) k Open l choice b steps tour a accepted = absurd accepted.0

@@ -1,8 +1,9 @@
 -- *Accepted*, this project's own: which bound trees show that fewer batches do not suffice.
-use Rattle.std.specs.Prelude.{◌≢◌, ℕ, ◌-◌, ◌<◌, ◌≤◌, Bool, IsTrue, List, [], ◌∷◌, slice_index}
+use Rattle.std.specs.Prelude.{ℕ, ◌-◌, ◌^◌, ◌<◌, ◌≤◌, Bool, IsTrue, List, [], ◌∷◌, slice_index}
 use Rattle.pocsag_words.specs.declared.ending.End.{End}
 use Rattle.pocsag_words.specs.declared.ending.End.TheVariants.{Open, Closed}
 use Rattle.pocsag_tree.specs.declared.limits.TheConstants.{DEPTH_LIMIT}
+use Rattle.pocsag_tree.specs.Spelling.{IsSet}
 use Rattle.pocsag_tree.specs.Bounds.{Bound, Bounds, deepest, depth_of, overload, split, cut, close, unexamined, none, more}
 use Rattle.pocsag_slots.specs.declared.class.Classes.{Classes}
 use Rattle.pocsag_slots.specs.declared.limit.Limits.{Limits}
@@ -20,13 +21,13 @@ abbrev mutual
   -- The node shows that no transmission of b batches, legal for the end, meets the limits; the first
   -- argument says whether a node that was not examined is accepted.
   pub Accepts : Bool → Classes → End → ℕ → Limits → Bound → Type 0
-  Accepts takes_open k end b l (overload set) = (set ≢ 0) × Overloads k l set
+  Accepts takes_open k end b l (overload set) = IsSet set × Overloads k l set
   Accepts takes_open k end b l (split c m below above) =
       (c < 136) × (slice_index l.lo c < m) × (m ≤ slice_index l.hi c)
       × Accepts takes_open k end b (limits_below l c m) below
       × Accepts takes_open k end b (limits_from l c m) above
   Accepts takes_open k end b l (cut set c children) =
-      (c < 136) × (1 ≤ b) × IsTrue (holds set 0) × IsTrue (class_certain k l set c)
+      (c < 136) × (1 ≤ b) × IsTrue (holds set 0) × IsTrue (class_certain k l set c) × (set < 2 ^ 16)
       × AcceptsEach takes_open k end b l (ways_across k l set) children
   Accepts takes_open k end b l (close children) =
       IsClosed end × (1 ≤ b) × AcceptsEach takes_open k end b l (ways_to_close k l) children

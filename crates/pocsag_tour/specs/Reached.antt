@@ -25,14 +25,18 @@ pub data IsReached (k : Classes) (choice : ℕ → ℕ) (batches : ℕ) : ℕ �
   by_run : (c : ℕ) (early : Bool) → c < 136 → 0 < runs_of k choice c early →
       IsReached k choice batches (start_of c early) → IsReached k choice batches (finish_of c early)
 
--- A run of the choice with both its ends outside the set.
-pub record LiesOutside (k : Classes) (choice : ℕ → ℕ) (set : ℕ) : Type 0 where
-  pub class : ℕ
-  pub early : Bool
+-- The choice has an early, or a late, run of the class, and both its ends are outside the set.
+pub record HasRunOutside (k : Classes) (choice : ℕ → ℕ) (set class : ℕ) (early : Bool) : Type 0 where
   pub known : class < 136
   pub there : 0 < runs_of k choice class early
   pub starts : holds set (start_of class early) ≡ false
   pub finishes : holds set (finish_of class early) ≡ false
+
+-- Some run of the choice has both its ends outside the set.
+pub record LiesOutside (k : Classes) (choice : ℕ → ℕ) (set : ℕ) : Type 0 where
+  pub class : ℕ
+  pub early : Bool
+  pub run : HasRunOutside k choice set class early
 
 -- The set is exactly the boundaries that are reached, some run lies outside, and no arc crosses the set.
 pub record IsApart (k : Classes) (choice : ℕ → ℕ) (batches set : ℕ) : Type 0 where
