@@ -12,8 +12,7 @@ use Rattle.pocsag_slots.specs.Numbering.{start_of, finish_of}
 use Rattle.pocsag_slots.specs.Sums.{holds, joined_below}
 use Rattle.pocsag_slots.specs.Ways.{class_certain, class_ways, early_open, idle_crosses, late_open, run_crosses, run_touches, slot_ways, ways_across, ways_to_close}
 use Rattle.pocsag_slots.proofs.WayLemmas.{All-one_or_none}
-use Rattle.pocsag_tour.specs.Reached.{IsApart, IsUnclosed, runs_of}
-use Rattle.pocsag_branch.specs.Outside.{HasRunOutside}
+use Rattle.pocsag_tour.specs.Reached.{HasRunOutside, IsApart, IsUnclosed, runs_of}
 use Rattle.pocsag_branch.specs.Shape.{NoneCertain, SplitsAt, at_one, at_count}
 use Rattle.pocsag_branch.specs.Undecided.{AreNodeLimits, Falls, IsSplitPoint}
 use Rattle.pocsag_branch.proofs.Falling.{early_falls, idle_falls, late_falls, splits_at_count, splits_at_one}

@@ -8,7 +8,6 @@ use Rattle.pocsag_slots.specs.Loads.{IsChoice, Overloads, limits_of_all}
 use Rattle.pocsag_slots.specs.Sums.{holds}
 use Rattle.pocsag_slots.specs.Tours.{IsTour}
 use Rattle.pocsag_slots.specs.Ways.{class_certain, ways_across, ways_to_close}
-use Rattle.pocsag_flow.specs.Choosing.{HasSlot}
 use Rattle.pocsag_tree.specs.Bounds.{Bound, Bounds, depth_of, deepest}
 use Rattle.pocsag_tree.specs.Spelling.{IsSet}
 use Rattle.pocsag_check.specs.Accepting.{Accepts, AcceptsEach, IsClosed}
@@ -24,7 +23,7 @@ use Rattle.pocsag_branch.specs.Undecided.{Falls, IsSplitPoint, undecided}
 -- The set refuses one batch less.
 pub record Refuses (k : Classes) (batches set : ℕ) : Type 0 where
   pub some : 0 < batches
-  pub slots : HasSlot set
+  pub slots : IsSet set
   pub over : Overloads k (limits_of_all k (batches - 1)) set
 
 -- A choice and its tour for the end with so many batches.

@@ -1,12 +1,11 @@
 ghost use Rattle.std.specs.Prelude.{◌<◌, ◌≤◌, slice_index};
 ghost use Rattle.pocsag_slots.specs.Loads.{IsAdmitted, IsLeast, limits_of_all, Overloads};
-ghost use Rattle.pocsag_flow.specs.Choosing.{HasSlot};
+ghost use Rattle.pocsag_tree.specs.Spelling.{IsSet};
 ghost use Rattle.pocsag_branch.specs.Examined.{Refuses};
 ghost use Rattle.pocsag_branch.specs.Found.{HasPage};
 
-use crate::members::size;
 use pocsag_flow::{ChooseFault, choose};
-use pocsag_slots::{Choice, Classes, all_limits, least_load};
+use pocsag_slots::{Choice, Classes, all_limits, least_load, size};
 
 // The least number of batches that some choice of starts needs, with such a choice and the set of slots
 // that refuses one batch less.
@@ -18,7 +17,7 @@ pub(crate) struct Least {
 
 // How many batches the slots of the set need at least, where so many are too few.
 fn share(classes: &Classes, batches: u32, set: u16) -> u32
-    requires slots { HasSlot set }
+    requires set { IsSet set }
     requires over { Overloads classes.now (limits_of_all classes.now batches) set }
     ensures refuses { Refuses classes.now result set }
     ensures more { batches < result }

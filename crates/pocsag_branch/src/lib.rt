@@ -7,7 +7,6 @@ mod examining;
 mod fault;
 mod least;
 mod looking;
-mod members;
 mod narrowing;
 mod question;
 mod searching;

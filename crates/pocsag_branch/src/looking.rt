@@ -1,9 +1,8 @@
 ghost use Rattle.std.specs.Prelude.{◌≡◌, ◌≢◌, ℕ, ◌<◌, ◌≤◌, ◌↔◌, false, IsTrue, IfErr, IfOk, IfSome, IfNone, slice_index};
 ghost use Rattle.pocsag_slots.specs.Loads.{IsAdmitted, IsChoice, load};
 ghost use Rattle.pocsag_slots.specs.Tours.{IsTour};
-ghost use Rattle.pocsag_tour.specs.Reached.{IsApart};
+ghost use Rattle.pocsag_tour.specs.Reached.{HasRunOutside, IsApart, runs_of as count_of_runs};
 ghost use Rattle.pocsag_branch.specs.Examined.{IsForm, IsStop, StandsAs};
-ghost use Rattle.pocsag_branch.specs.Outside.{HasRunOutside};
 ghost use Rattle.pocsag_branch.specs.Shape.{AdmitSplit, NoneCertain, SplitsAt};
 ghost use Rattle.pocsag_branch.specs.Undecided.{AreNodeLimits, IsSplitPoint};
 
@@ -115,10 +114,10 @@ fn split_point(
 {
     let _batches = question.batches;
     for class in 0..CLASSES as u8 {
-        if stands_outside(classes, choice, set, class, true) {
+        if has_run_outside(classes, choice, set, class, true) {
             return Form::Split { class, m: 1 };
         }
-        if stands_outside(classes, choice, set, class, false) {
+        if has_run_outside(classes, choice, set, class, false) {
             return Form::Split {
                 class,
                 m: classes.count[class as usize] as u16,
@@ -129,17 +128,27 @@ fn split_point(
     unreachable!()
 }
 
-// Whether the choice has an early, or a late, run of the class with both ends outside the set.
-fn stands_outside(classes: &Classes, choice: &Choice, set: u16, class: u8, early: bool) -> bool
-    requires choice { IsChoice classes.now (slice_index choice.now.early) }
+// How many runs of the class start early, or late.
+#[tactic(auto, unfolding(pocsag_tour::specs::Reached::runs_of))]
+fn runs_of(classes: &Classes, choice: &Choice, class: u8, early: bool) -> u32
+    requires chosen { IsChoice classes.now (slice_index choice.now.early) }
+    requires class { class < 136 }
+    ensures { result ≡ count_of_runs classes.now (slice_index choice.now.early) class early }
+{
+    let early_runs = choice.early[class as usize];
+    if early {
+        early_runs
+    } else {
+        classes.count[class as usize] - early_runs
+    }
+}
+
+fn has_run_outside(classes: &Classes, choice: &Choice, set: u16, class: u8, early: bool) -> bool
+    requires chosen { IsChoice classes.now (slice_index choice.now.early) }
     requires class { class < 136 }
     ensures { IsTrue result ↔ HasRunOutside classes.now (slice_index choice.now.early) set class early }
 {
-    let chosen = choice.early[class as usize];
-    let there = if early {
-        chosen
-    } else {
-        classes.count[class as usize] - chosen
-    };
-    there > 0 && !holds(set, start(class, early)) && !holds(set, finish(class, early))
+    runs_of(classes, choice, class, early) > 0
+        && !holds(set, start(class, early))
+        && !holds(set, finish(class, early))
 }

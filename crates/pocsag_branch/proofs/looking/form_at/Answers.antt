@@ -1,1 +1,0 @@
-use Rattle.pocsag_branch.proofs.Deciding.{ways_fall}
