@@ -149,10 +149,12 @@ outside_of k choice b counts set are none c e h some out =
     record {
       class = c;
       early = e;
-      known = h;
-      there = some;
-      starts = out;
-      finishes = not_true (holds set (start_of c e)) (holds set (finish_of c e)) (run_from k choice b counts set are none c e h some) out;
+      run = record {
+        known = h;
+        there = some;
+        starts = out;
+        finishes = not_true (holds set (start_of c e)) (holds set (finish_of c e)) (run_from k choice b counts set are none c e h some) out;
+      };
     }
 
 lies_outside : (k : Classes) (choice : ℕ → ℕ) (b : ℕ) (counts : ℕ → ℕ) (set : ℕ) → AreCounts k choice b counts → NoneEnters counts set →

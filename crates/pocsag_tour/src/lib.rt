@@ -7,6 +7,7 @@ mod counting;
 mod fault;
 mod flood;
 mod laws;
+mod outside;
 #[cfg(test)]
 mod tests;
 mod touring;
@@ -14,4 +15,5 @@ mod walking;
 
 pub use fault::TourFault;
 pub use laws::{apart_has_no_tour, unclosed_has_no_closed_tour};
+pub use outside::has_run_outside;
 pub use touring::tour;

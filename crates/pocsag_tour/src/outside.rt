@@ -1,0 +1,32 @@
+ghost use Rattle.std.specs.Prelude.{◌≡◌, ◌↔◌, ◌<◌, IsTrue, slice_index, if◌then◌else◌};
+ghost use Rattle.pocsag_slots.specs.Loads.{IsChoice};
+ghost use Rattle.pocsag_tour.specs.Reached.{HasRunOutside, runs_of as count_of_runs};
+
+use pocsag_slots::{Choice, Classes, finish, holds, start};
+
+// How many runs of the class start early, or late.
+#[tactic(auto, unfolding(crate::specs::Reached::runs_of))]
+fn runs_of(classes: &Classes, choice: &Choice, class: u8, early: bool) -> u32
+    requires chosen { IsChoice classes.now (slice_index choice.now.early) }
+    requires class { class < 136 }
+    ensures { result ≡ count_of_runs classes.now (slice_index choice.now.early) class early }
+{
+    let early_runs = choice.early[class as usize];
+    if early {
+        early_runs
+    } else {
+        classes.count[class as usize] - early_runs
+    }
+}
+
+/// Whether the choice has an early, or a late, run of the class with both its ends outside the set of
+/// boundaries.
+pub fn has_run_outside(classes: &Classes, choice: &Choice, set: u16, class: u8, early: bool) -> bool
+    requires chosen { IsChoice classes.now (slice_index choice.now.early) }
+    requires class { class < 136 }
+    ensures { IsTrue result ↔ HasRunOutside classes.now (slice_index choice.now.early) set class early }
+{
+    runs_of(classes, choice, class, early) > 0
+        && !holds(set, start(class, early))
+        && !holds(set, finish(class, early))
+}
