@@ -1,2 +1,4 @@
 pub mod Deciding
 pub mod Falling
+pub mod Filling
+pub mod Joining

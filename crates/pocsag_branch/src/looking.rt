@@ -1,7 +1,7 @@
 ghost use Rattle.std.specs.Prelude.{◌≡◌, ◌≢◌, ℕ, ◌<◌, ◌≤◌, ◌↔◌, false, IsTrue, IfErr, IfOk, IfSome, IfNone, slice_index};
 ghost use Rattle.pocsag_slots.specs.Loads.{IsAdmitted, IsChoice, load};
 ghost use Rattle.pocsag_slots.specs.Tours.{IsTour};
-ghost use Rattle.pocsag_tour.specs.Reached.{HasRunOutside, IsApart, runs_of as count_of_runs};
+ghost use Rattle.pocsag_tour.specs.Reached.{IsApart};
 ghost use Rattle.pocsag_branch.specs.Examined.{IsForm, IsStop, StandsAs};
 ghost use Rattle.pocsag_branch.specs.Shape.{AdmitSplit, NoneCertain, SplitsAt};
 ghost use Rattle.pocsag_branch.specs.Undecided.{AreNodeLimits, IsSplitPoint};
@@ -9,8 +9,8 @@ ghost use Rattle.pocsag_branch.specs.Undecided.{AreNodeLimits, IsSplitPoint};
 use crate::narrowing::certain_class;
 use crate::question::{Answer, Form, Question, Stop};
 use pocsag_flow::{ChooseFault, choose};
-use pocsag_slots::{CLASSES, Choice, Classes, Limits, Step, finish, holds, start};
-use pocsag_tour::{TourFault, tour};
+use pocsag_slots::{CLASSES, Choice, Classes, Limits, Step};
+use pocsag_tour::{TourFault, has_run_outside, tour};
 use std::alloc::Global;
 
 // Which node is to be made under the limits. This is the one place where the search has a choice.
@@ -126,29 +126,4 @@ fn split_point(
     }
     let _set = limits.cap[0];
     unreachable!()
-}
-
-// How many runs of the class start early, or late.
-#[tactic(auto, unfolding(pocsag_tour::specs::Reached::runs_of))]
-fn runs_of(classes: &Classes, choice: &Choice, class: u8, early: bool) -> u32
-    requires chosen { IsChoice classes.now (slice_index choice.now.early) }
-    requires class { class < 136 }
-    ensures { result ≡ count_of_runs classes.now (slice_index choice.now.early) class early }
-{
-    let early_runs = choice.early[class as usize];
-    if early {
-        early_runs
-    } else {
-        classes.count[class as usize] - early_runs
-    }
-}
-
-fn has_run_outside(classes: &Classes, choice: &Choice, set: u16, class: u8, early: bool) -> bool
-    requires chosen { IsChoice classes.now (slice_index choice.now.early) }
-    requires class { class < 136 }
-    ensures { IsTrue result ↔ HasRunOutside classes.now (slice_index choice.now.early) set class early }
-{
-    runs_of(classes, choice, class, early) > 0
-        && !holds(set, start(class, early))
-        && !holds(set, finish(class, early))
 }
