@@ -28,6 +28,7 @@ fn share(classes: &Classes, batches: u32, set: u16) -> u32
 }
 
 // The least number of batches: from the share of all slots up to the first that some choice meets.
+#[tactic(auto, using(crate::proofs::Sharing::nothing_fits))]
 pub(crate) fn least_of(classes: &Classes) -> Least
     requires { HasPage classes.now }
     ensures refuses { Refuses classes.now result.batches result.set }
