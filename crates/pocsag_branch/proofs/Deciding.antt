@@ -117,12 +117,12 @@ module _ (k : Classes) (batches : ℕ) (l : Limits) (choice : ℕ → ℕ) (limi
       All-append (Falls k batches l) (cond (early_open k l set c) (Early c ∷ []) []) (cond (late_open k l set c) (Late c ∷ []) [])
       (All-one_or_none (Falls k batches l) (early_open k l set c) (Early c)
       (λ allowed.
-          let parts = early_parts k l set c allowed in
-          early_falls k batches l limits c h (no_early set c apart h parts.0) parts.1))
+      let parts = early_parts k l set c allowed in
+      early_falls k batches l limits c h (no_early set c apart h parts.0) parts.1))
       (All-one_or_none (Falls k batches l) (late_open k l set c) (Late c)
       (λ allowed.
-          let parts = late_parts k l set c allowed in
-          late_falls k batches l limits c h (no_late set c apart h parts.0) parts.1))
+      let parts = late_parts k l set c allowed in
+      late_falls k batches l limits c h (no_late set c apart h parts.0) parts.1))
 
   pub ways_fall : (set : ℕ) → IsApart k choice batches set → 0 < batches → All (Falls k batches l) (ways_across k l set)
   unfolding ways_across

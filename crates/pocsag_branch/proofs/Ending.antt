@@ -19,6 +19,10 @@ use Rattle.pocsag_slots.proofs.Fewest.{fewest}
 use Rattle.pocsag_slots.proofs.LimitLemmas.{all_ordered}
 use Rattle.pocsag_slots.proofs.SumLemmas.{sum_below-most}
 use Rattle.pocsag_tree.specs.Bounds.{Bound, Bounds, overload, split, cut, close, unexamined, none, more, closed_nodes, closed_nodes_in}
+use Rattle.pocsag_tree.specs.Views.{bound_of, bound_step}
+use Rattle.pocsag_tree.specs.declared.shape.Tree.TheVariants.{Overload, rolls-Overload}
+use Rattle.pocsag_tree.specs.declared.shape.Tree.TheOpen as layer
+use Rattle.pocsag_tree.specs.declared.shape.Tree.TheFolds.{fold-roll-Tree}
 use Rattle.pocsag_check.specs.Accepting.{Accepts, AcceptsEach, IsAccepted}
 use Rattle.pocsag_check.proofs.Bounding.{bounded}
 use Rattle.pocsag_tour.specs.Reached.{IsApart, IsReached, at_start, by_idle, IsUnclosed}
@@ -26,6 +30,7 @@ use Rattle.pocsag_tour.proofs.Geometry.{start_below}
 use Rattle.pocsag_branch.specs.Examined.{Fills, IsExamined, IsTreeOf, Refuses}
 use Rattle.pocsag_branch.specs.Found.{IsBound}
 use Rattle.pocsag_branch.specs.Marks.{has_open, have_open, opens, opens_in}
+use Rattle.pocsag_branch.specs.Shape.{IsShaped}
 use Rattle.pocsag_branch.specs.Undecided.{AreNodeLimits, class_left, slot_left, undecided}
 
 -- at most 288 questions are open
@@ -40,18 +45,20 @@ slot_left_few batches cap = grind (arith, nat_tests)
 pub undecided_few : (k : Classes) (batches : ℕ) (l : Limits) → undecided k batches l ≤ 288
 unfolding undecided
 undecided_few k batches l =
-    omega (arith,
-    sum_below-most 136 2 (λ c. class_left (slice_index l.lo c) (slice_index l.hi c) (slice_index k.count c))
-    (λ c h. class_left_few (slice_index l.lo c) (slice_index l.hi c) (slice_index k.count c)),
-    sum_below-most 16 1 (λ slot. slot_left batches (slice_index l.cap slot)) (λ slot h. slot_left_few batches (slice_index l.cap slot)))
+    omega (
+      arith,
+      sum_below-most 136 2 (λ c. class_left (slice_index l.lo c) (slice_index l.hi c) (slice_index k.count c))
+          (λ c h. class_left_few (slice_index l.lo c) (slice_index l.hi c) (slice_index k.count c)),
+      sum_below-most 16 1 (λ slot. slot_left batches (slice_index l.cap slot)) (λ slot h. slot_left_few batches (slice_index l.cap slot)),
+    )
 
 pub all_node_limits : (k : Classes) (batches : ℕ) → AreNodeLimits k batches (limits_of_all k batches)
 all_node_limits k batches =
     record {
       ordered = all_ordered k batches;
-      lo_long = length-replicate 136 0;
+      lo_long = length-replicate {A = ℕ} 136 0;
       hi_long = k.tables.counts;
-      cap_long = length-replicate 16 batches;
+      cap_long = length-replicate {A = ℕ} 16 batches;
       capped = λ slot h. omega (arith, get_or-replicate 16 slot batches 0 h);
     }
 
@@ -113,8 +120,9 @@ closed_in-open zero = refl
 closed_in-open (suc n) = closed_in-open n
 
 mutual
-  marks_open : (t : Bound) → some_open (opens t) ≡ has_open t
   unfolding some_open
+
+  marks_open : (t : Bound) → some_open (opens t) ≡ has_open t
   marks_open (overload set) = refl
   marks_open (split c m s t) = some_open-append (opens s) (opens t) ∙ ap (λ (x : Bool). x || some_open (opens t)) (marks_open s) ∙ ap (λ (x : Bool). has_open s || x) (marks_open t)
   marks_open (cut set c ts) = marks_open_in ts
@@ -122,13 +130,13 @@ mutual
   marks_open unexamined = refl
 
   marks_open_in : (ts : Bounds) → some_open (opens_in ts) ≡ have_open ts
-  unfolding some_open
   marks_open_in none = refl
   marks_open_in (more t ts) = some_open-append (opens t) (opens_in ts) ∙ ap (λ (x : Bool). x || some_open (opens_in ts)) (marks_open t) ∙ ap (λ (x : Bool). has_open t || x) (marks_open_in ts)
 
 mutual
-  marks_closed : (t : Bound) → closed_in (opens t) ≡ closed_nodes t
   unfolding closed_in
+
+  marks_closed : (t : Bound) → closed_in (opens t) ≡ closed_nodes t
   marks_closed (overload set) = refl
   marks_closed (split c m s t) = omega (arith, closed_in-append (opens s) (opens t), marks_closed s, marks_closed t)
   marks_closed (cut set c ts) = omega (arith, marks_closed_in ts)
@@ -136,7 +144,6 @@ mutual
   marks_closed unexamined = refl
 
   marks_closed_in : (ts : Bounds) → closed_in (opens_in ts) ≡ closed_nodes_in ts
-  unfolding closed_in
   marks_closed_in none = refl
   marks_closed_in (more t ts) = omega (arith, closed_in-append (opens t) (opens_in ts), marks_closed t, marks_closed_in ts)
 
@@ -152,7 +159,7 @@ some_is_suc (suc m) h = (m, refl)
 pub none_unseen : (t : Bound) (closed unseen : ℕ) → opens t ≡ replicate closed false ++ replicate unseen true → has_open t ≡ false → unseen ≡ 0
 none_unseen t closed unseen layout whole =
     elim (cases_eq unseen 0) [
-      | inl none ↦ none
+      | inl zero_of ↦ zero_of
       | inr some ↦
           let one = some_is_suc unseen (omega arith) in
           let there : some_open (opens t) ≡ true = ap some_open (layout ∙ ap (λ (n : ℕ). replicate closed false ++ replicate n true) one.1) ∙ open_after closed one.0 in
@@ -164,9 +171,9 @@ pub some_unseen : (t : Bound) (closed unseen : ℕ) → opens t ≡ replicate cl
 some_unseen t closed unseen layout open_somewhere =
     elim (cases_eq unseen 0) [
       | inr some ↦ omega arith
-      | inl none ↦
+      | inl no_open ↦
           let not_there : some_open (opens t) ≡ false =
-          ap some_open (layout ∙ ap (λ (n : ℕ). replicate closed false ++ replicate n true) none ∙ append-nil (replicate closed false)) ∙ some_open-replicate closed in
+          ap some_open (layout ∙ ap (λ (n : ℕ). replicate closed false ++ replicate n true) no_open ∙ append-nil (replicate closed false)) ∙ some_open-replicate closed in
           let there : some_open (opens t) ≡ true = marks_open t ∙ open_somewhere in
           absurd (cc)
     ]
@@ -201,6 +208,9 @@ pub set_refutes : (k : Classes) (end : End) (b set : ℕ) → Refuses k b set �
 set_refutes k end b set refuses =
     record { some = refuses.some; shallow = omega arith; root = (refuses.slots, refuses.over) }
 
+pub bound_of-overload : (set : ℕ) → bound_of (Overload set) ≡ overload set
+bound_of-overload set = ap bound_of (sym (rolls-Overload set)) ∙ fold-roll-Tree Bound bound_step (layer.Overload set)
+
 pub tree_bound : (k : Classes) (end : End) (batches : ℕ) (t : Bound) → IsAccepted false k end batches t → IsBound k end batches
 tree_bound k end batches t accepted R U n apart counted legal =
     bounded k end R (map kind_of U) batches n t apart counted accepted.root legal.1
@@ -233,3 +243,15 @@ never_unclosed k choice b room unclosed = omega (arith, room 15 (omega arith), u
 
 pub has_room : (k : Classes) (choice : ℕ → ℕ) (b : ℕ) → IsAdmitted k (limits_of_all k b) choice → (slot : ℕ) → slot < 16 → load k choice slot < b + 1
 has_room k choice b admitted slot h = omega (arith, admitted.capped slot h, get_or-replicate 16 slot b 0 h)
+
+-- the one node that refutes one batch less
+pub record IsLeastTree (k : Classes) (end : End) (b limit : ℕ) (t : Bound) : Type 0 where
+  pub accepted : IsAccepted false k end b t
+  pub examined : opens t ≡ replicate (closed_nodes t) false
+  pub few : closed_nodes t ≤ limit
+  pub shaped : IsShaped k b (limits_of_all k b) t
+
+pub least_tree : (k : Classes) (end : End) (b limit set : ℕ) → 1 ≤ limit → Refuses k b set → IsLeastTree k end b limit (bound_of (Overload set))
+least_tree k end b limit set some refuses =
+    subst (λ (t : Bound). IsLeastTree k end b limit t) (sym (bound_of-overload set))
+    (record { accepted = set_refutes k end b set refuses; examined = refl; few = some; shaped = tt })

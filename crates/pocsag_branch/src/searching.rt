@@ -11,7 +11,7 @@ use crate::fault::SearchFault;
 use crate::least::least_of;
 use crate::opening::has_open;
 use crate::question::{Answer, Question, Stop};
-use pocsag_slots::{Choice, Classes, Step, all_limits};
+use pocsag_slots::{Choice, Classes, Step, all_limits, tours_have_codewords};
 use pocsag_tour::{TourFault, spare_batches_have_tours, tour};
 use pocsag_tree::Tree;
 use pocsag_words::End;
@@ -41,7 +41,12 @@ pub fn search(
     let limits = all_limits(classes, least.batches);
     match examine(alloc, classes, question, &limits, 0) {
         Ok((tree, _)) => judged(alloc, classes, question, &least.choice, tree),
-        Err(Stop::Met(answer)) => Ok(settled(classes, question, least.set, Box::into_inner(answer))),
+        Err(Stop::Met(answer)) => Ok(settled(
+            classes,
+            question,
+            least.set,
+            Box::into_inner(answer),
+        )),
         Err(Stop::OutOfMemory) => Err(SearchFault::OutOfMemory),
     }
 }
@@ -80,6 +85,7 @@ fn judged(
     ensures fault { IfErr result (IsSearchFault classes.now question.end question.limit) }
 {
     spare_batches_have_tours();
+    tours_have_codewords();
     if has_open(&tree) {
         return Err(SearchFault::SearchLimit {
             least: question.batches,
