@@ -6,7 +6,7 @@ mod checker;
 mod judging;
 mod laws;
 
-pub use judging::{check, check_open};
+pub use judging::{accepts, check, check_open};
 pub use laws::{accepted_nodes_refute, accepted_trees_bound};
 
 #[cfg(test)]

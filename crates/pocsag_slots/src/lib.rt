@@ -23,7 +23,7 @@ pub use laws::{
     no_transmission_has_fewer, sets_take_members, tours_are_transmissions, transmissions_are_tours,
 };
 pub use limit::{Limits, all_limits, below_split, from_split, narrow};
-pub use load::{least_load, loads, overloads};
-pub use set::{crosses, holds, touches, with_member};
+pub use load::{carries, least_load, loads, overloads};
+pub use set::{crosses, holds, size, touches, with_member};
 pub use step::Step;
 pub use way::{Way, closing_ways, is_certain, ways};
