@@ -2,4 +2,3 @@ pub mod Completing
 pub mod Due
 pub mod Explaining
 pub mod Rooms
-pub mod Served
