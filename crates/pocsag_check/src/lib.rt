@@ -7,7 +7,7 @@ mod judging;
 mod laws;
 
 pub use judging::{accepts, check, check_open};
-pub use laws::{accepted_nodes_refute, accepted_trees_bound};
+pub use laws::{accepted_nodes_refute, accepted_trees_bound, accepted_trees_have_texts};
 
 #[cfg(test)]
 mod tests;

@@ -28,7 +28,7 @@ All-joined_below P zero f h = All-nil P
 All-joined_below P (suc n) f h =
     All-append P (joined_below n f) (f n) (All-joined_below P n f (λ k l. h k (omega arith))) (h n (omega arith))
 
-one_or_none : {X : Type 0} (b : Bool) (x : X) → length (cond b (x ∷ []) []) ≤ 1
+pub one_or_none : {X : Type 0} (b : Bool) (x : X) → length (cond b (x ∷ []) []) ≤ 1
 one_or_none true x = omega arith
 one_or_none false x = omega arith
 

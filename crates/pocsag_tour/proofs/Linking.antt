@@ -8,9 +8,9 @@ use Rattle.pocsag_slots.specs.declared.class.Classes.{Classes}
 use Rattle.pocsag_slots.specs.Loads.{load}
 use Rattle.pocsag_slots.specs.Numbering.{start_of, finish_of}
 use Rattle.pocsag_slots.specs.Sums.{AddsMember, holds}
+use Rattle.pocsag_slots.proofs.CoverLemmas.{start_below}
 use Rattle.pocsag_tour.specs.Links.{AddsLink, AreLinked, at_start, by_idle, by_link, by_run, Follows, HaveIdles, HaveRuns, IsLed, IsLinked}
 use Rattle.pocsag_tour.specs.Reached.{AreReached, IsReached, at_start as start, by_idle as on_idle, by_run as on_run, runs_of}
-use Rattle.pocsag_tour.proofs.Geometry.{start_below}
 
 either_bit : (a b : ℕ) → a < 2 → b < 2 → (max a b == 1) ≡ true → ((a == 1) ≡ true) ⊎ ((b == 1) ≡ true)
 either_bit a b h l e =

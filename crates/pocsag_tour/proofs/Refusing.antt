@@ -13,8 +13,7 @@ use Rattle.pocsag_slots.specs.Numbering.{start_of, finish_of}
 use Rattle.pocsag_slots.specs.Sums.{holds}
 use Rattle.pocsag_slots.specs.Tours.{idles, IsTour, LastIsWhole, Leads}
 use Rattle.pocsag_tour.specs.Reached.{IsApart, IsReached, at_start, by_idle, by_run, IsUnclosed, runs_of}
-use Rattle.pocsag_slots.proofs.CoverLemmas.{finish_below}
-use Rattle.pocsag_tour.proofs.Geometry.{start_below}
+use Rattle.pocsag_slots.proofs.CoverLemmas.{finish_below, start_below}
 
 -- a closed way to boundary 0 has an idle in slot 15 or a late run of class 135
 one_idle : (p : ℕ) → p < 16 → (p + 1) % 16 ≡ 0 → ◌≡◌ {A = ℕ} (cond (p == 15) 1 0) 1
