@@ -11,17 +11,11 @@ use Rattle.pocsag_slots.specs.Loads.{IsAdmitted, load}
 use Rattle.pocsag_slots.specs.Numbering.{start_of, finish_of}
 use Rattle.pocsag_slots.specs.Sums.{holds, joined_below}
 use Rattle.pocsag_slots.specs.Ways.{class_certain, class_ways, early_open, idle_crosses, late_open, run_crosses, run_touches, slot_ways, ways_across, ways_to_close}
-use Rattle.pocsag_slots.proofs.WayLemmas.{All-one_or_none}
+use Rattle.pocsag_slots.proofs.WayLemmas.{All-joined_below, All-one_or_none}
 use Rattle.pocsag_tour.specs.Reached.{HasRunOutside, IsApart, IsUnclosed, runs_of}
 use Rattle.pocsag_branch.specs.Shape.{NoneCertain, SplitsAt, at_one, at_count}
 use Rattle.pocsag_branch.specs.Undecided.{AreNodeLimits, Falls, IsSplitPoint}
 use Rattle.pocsag_branch.proofs.Falling.{early_falls, idle_falls, late_falls, splits_at_count, splits_at_one}
-
-All-joined_below : {X : Type 0} (P : X → Type 0) (n : ℕ) (f : ℕ → List X) → ((j : ℕ) → j < n → All P (f j)) → All P (joined_below n f)
-unfolding joined_below
-All-joined_below P zero f h = All-nil P
-All-joined_below P (suc n) f h =
-    All-append P (joined_below n f) (f n) (All-joined_below P n f (λ j l. h j (omega arith))) (h n (omega arith))
 
 never_both : (b : Bool) → b ≡ true → b ≡ false → ⊥
 never_both b held lost = absurd (cc)
@@ -123,12 +117,12 @@ module _ (k : Classes) (batches : ℕ) (l : Limits) (choice : ℕ → ℕ) (limi
       All-append (Falls k batches l) (cond (early_open k l set c) (Early c ∷ []) []) (cond (late_open k l set c) (Late c ∷ []) [])
       (All-one_or_none (Falls k batches l) (early_open k l set c) (Early c)
       (λ allowed.
-          let parts = early_parts k l set c allowed in
-          early_falls k batches l limits c h (no_early set c apart h parts.0) parts.1))
+      let parts = early_parts k l set c allowed in
+      early_falls k batches l limits c h (no_early set c apart h parts.0) parts.1))
       (All-one_or_none (Falls k batches l) (late_open k l set c) (Late c)
       (λ allowed.
-          let parts = late_parts k l set c allowed in
-          late_falls k batches l limits c h (no_late set c apart h parts.0) parts.1))
+      let parts = late_parts k l set c allowed in
+      late_falls k batches l limits c h (no_late set c apart h parts.0) parts.1))
 
   pub ways_fall : (set : ℕ) → IsApart k choice batches set → 0 < batches → All (Falls k batches l) (ways_across k l set)
   unfolding ways_across

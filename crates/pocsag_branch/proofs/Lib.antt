@@ -1,4 +1,5 @@
 pub mod Deciding
+pub mod Ending
 pub mod Falling
 pub mod Filling
 pub mod Joining

@@ -167,14 +167,18 @@ page_loads k choice c h some =
           let few : class_rest c < 16 = rest_below c in
           elim (cases_eq (choice c) 0) [
             | inr early ↦
-                let one = covers_start (start_of c true) (class_rest c) (start_below c true h) (omega arith) few in
-                (start_of c true, start_below c true h,
-                    (let there = times_one (choice c) (slice_index k.turns c) _ (omega arith) one in omega arith))
+                let one = covers_start (start_of c true) (class_rest c) (start_below c true h) (omega arith) few in (
+                  start_of c true,
+                  start_below c true h,
+                  (let there = times_one (choice c) (slice_index k.turns c) _ (omega arith) one in omega arith),
+                )
             | inl late ↦
                 let one = covers_start (start_of c false) (class_rest c) (start_below c false h) (omega arith) few in
-                let all : slice_index k.count c - choice c ≡ slice_index k.count c = omega arith in
-                (start_of c false, start_below c false h,
-                    (let there = times_one (slice_index k.count c - choice c) (slice_index k.turns c) _ (omega arith) one in omega arith))
+                let all : slice_index k.count c - choice c ≡ slice_index k.count c = omega arith in (
+                  start_of c false,
+                  start_below c false h,
+                  (let there = times_one (slice_index k.count c - choice c) (slice_index k.turns c) _ (omega arith) one in omega arith),
+                )
           ]
     ]
 

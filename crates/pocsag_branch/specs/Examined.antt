@@ -82,3 +82,8 @@ pub record AreExamined (k : Classes) (end : End) (batches : ℕ) (l : Limits) (l
   pub refuted : AreRefuted true k end batches l ws ts
   pub shaped : AreShaped k batches l ws ts
   pub fills : Fills limit made after (opens_in ts)
+
+-- The whole tree of a search from the limits of all choices.
+pub record IsTreeOf (k : Classes) (end : End) (batches limit : ℕ) (t : Bound) : Type 0 where
+  pub after : ℕ
+  pub examined : IsExamined k end batches (limits_of_all k batches) limit 0 after t

@@ -9,6 +9,7 @@ use pocsag_slots::{Choice, Classes, all_limits, least_load, size};
 
 // The least number of batches that some choice of starts needs, with such a choice and the set of slots
 // that refuses one batch less.
+#[derive(Clone, Copy)]
 pub(crate) struct Least {
     pub(crate) batches: u32,
     pub(crate) set: u16,

@@ -8,6 +8,7 @@ mod fault;
 mod least;
 mod looking;
 mod narrowing;
+mod opening;
 mod question;
 mod searching;
 

@@ -22,7 +22,7 @@ unfolding joined_below
 length-joined_below zero m f h = omega arith
 length-joined_below (suc n) m f h = rw length-append (omega (arith, length-joined_below n m f h, h n))
 
-All-joined_below : {X : Type 0} (P : X → Type 0) (n : ℕ) (f : ℕ → List X) → ((k : ℕ) → k < n → All P (f k)) → All P (joined_below n f)
+pub All-joined_below : {X : Type 0} (P : X → Type 0) (n : ℕ) (f : ℕ → List X) → ((k : ℕ) → k < n → All P (f k)) → All P (joined_below n f)
 unfolding joined_below
 All-joined_below P zero f h = All-nil P
 All-joined_below P (suc n) f h =
