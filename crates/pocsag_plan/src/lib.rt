@@ -5,9 +5,13 @@
 mod airtime;
 mod answer;
 mod fault;
+#[cfg(test)]
+mod planned;
 mod planning;
 mod reporting;
 mod streaming;
+#[cfg(test)]
+mod tests;
 
 pub use airtime::Report;
 pub use answer::Plan;
