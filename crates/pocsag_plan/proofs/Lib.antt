@@ -1,0 +1,4 @@
+pub mod Completing
+pub mod Due
+pub mod Explaining
+pub mod Rooms
