@@ -1,7 +1,8 @@
 //! The search for the fewest batches in plain Rust, by the algorithm of the proved one. Without words it
 //! prints the benchmark `search`; `trial` tries the searches against a brute force and a separate checker;
-//! `nodes` prints how many nodes the trees of many kinds of rounds have.
+//! `nodes` prints how many nodes the trees of many kinds of rounds have; `adversary` looks for hard rounds.
 
+mod adversary;
 mod brute;
 mod checker;
 mod choosing;
@@ -12,15 +13,18 @@ mod promised;
 #[path = "../random.rs"]
 mod random;
 mod slots;
+mod timing;
 mod touring;
 mod tree;
 mod trial;
 
 fn main() {
-    match std::env::args().nth(1).as_deref() {
-        None => {}
+    let words: Vec<String> = std::env::args().skip(1).collect();
+    match words.first().map(String::as_str) {
+        None => timing::run(),
         Some("trial") => trial::run(),
-        Some("nodes") => trial::print_nodes(),
+        Some("nodes") => trial::print_nodes(&words[1..]),
+        Some("adversary") => adversary::run(&words[1..]),
         Some(word) => panic!("no such word: {word}"),
     }
 }

@@ -89,8 +89,9 @@ fn tree_nodes(tree: &Tree) -> u64 {
     u64::from(tree.nodes())
 }
 
-pub fn print_nodes() {
-    let rounds: u32 = std::env::args().nth(2).map_or(ROUNDS, |word| word.parse().expect("a number of rounds"));
+/// The nodes of so many rounds of each family, 300 where no number is given, and of the hard rounds.
+pub fn print_nodes(words: &[String]) {
+    let rounds: u32 = words.first().map_or(ROUNDS, |word| word.parse().expect("a number of rounds"));
     println!("| Family | least + 1 | promised avg | > 10 | > 100 | > 1,000 | max | limit | free avg | max | examined avg | max | limit |");
     println!("|---|---|---|---|---|---|---|---|---|---|---|---|---|");
     for (name, make) in FAMILIES {
