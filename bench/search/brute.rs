@@ -63,6 +63,14 @@ pub fn is_transmission(pages: &[Page], steps: &[Step], batches: u32, end: End) -
     left.is_empty() && index == 16 * u64::from(batches) && (end == End::Open || last == 1)
 }
 
+/// Whether the steps take as many runs of each class early as the choice says.
+pub fn are_steps_of(choice: &Choice, steps: &[Step]) -> bool {
+    (0..CLASSES).all(|class| {
+        let is_early = |step: &&Step| **step == Step::Run { class: class as u8, early: true };
+        choice.early[class] as usize == steps.iter().filter(is_early).count()
+    })
+}
+
 /// Whether the tree has the shape that is promised, by all choices that the limits of each node admit.
 pub fn is_shaped(classes: &Classes, batches: u32, limits: &Limits, tree: &Tree) -> bool {
     match tree {

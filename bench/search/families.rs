@@ -37,12 +37,7 @@ fn page(random: &mut Random, length: u32) -> Page {
 
 fn messages(random: &mut Random, length: fn(&mut Random) -> u32) -> Vec<Page> {
     let count = between(random, 2, 16);
-    (0..count)
-        .map(|_| {
-            let length = length(random);
-            page(random, length)
-        })
-        .collect()
+    round(random, count, length)
 }
 
 /// Half tones, a quarter numbers of 1 to 40 digits, a quarter texts of 1 to 120 characters.
@@ -226,10 +221,5 @@ pub fn hard(pages: &[(u32, u32)]) -> Vec<Page> {
 
 /// So many pages of one kind.
 pub fn round(random: &mut Random, count: u32, length: fn(&mut Random) -> u32) -> Vec<Page> {
-    (0..count)
-        .map(|_| {
-            let length = length(random);
-            page(random, length)
-        })
-        .collect()
+    (0..count).map(|_| Page { frame: random.below(8), length: length(random) }).collect()
 }

@@ -1,5 +1,5 @@
-//! The search for the fewest batches in plain Rust, by the algorithm of the proved one. Without words it
-//! prints the benchmark `search`; `trial` tries the searches against a brute force and a separate checker;
+//! The search for the fewest batches in plain Rust, by the algorithm of the proved one; its policy is told at
+//! the head of `promised.rs` and `free.rs`. Without words it prints the benchmark `search`; `trial` tries the searches against a brute force and a separate checker;
 //! `nodes` prints how many nodes the trees of many kinds of rounds have; `adversary` looks for hard rounds.
 
 mod adversary;
@@ -10,6 +10,7 @@ mod families;
 mod free;
 mod judging;
 mod promised;
+#[allow(dead_code)]
 #[path = "../random.rs"]
 mod random;
 mod slots;

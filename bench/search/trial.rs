@@ -1,6 +1,6 @@
 //! Trials of the searches, and tables of nodes.
 
-use crate::brute::{fewest, is_shaped, is_transmission};
+use crate::brute::{are_steps_of, fewest, is_shaped, is_transmission};
 use crate::checker::check;
 use crate::families::{FAMILIES, HARD, hard, small};
 use crate::free::search_freely;
@@ -14,15 +14,40 @@ const LIMIT: u32 = 100_000;
 const SMALL_ROUNDS: u32 = 5_000;
 const ROUNDS: u32 = 300;
 
+/// Rounds with their fewest batches for the open and the closed end, of pages with their frame and length.
+const EXAMPLES: &[(&str, &[(u32, u32)], u32, u32)] = &[
+    ("lone tone", &[(0, 1)], 1, 1),
+    ("three tones in one frame", &[(5, 1), (5, 1), (5, 1)], 2, 2),
+    ("one full batch", &[(0, 16)], 1, 2),
+    ("loop apart", &[(3, 16)], 2, 2),
+    ("loops apart", &[(0, 16), (3, 16)], 3, 3),
+    ("two numbers that fill a batch", &[(0, 6), (3, 10)], 1, 2),
+    ("three pages that fill two batches", &[(0, 6), (3, 10), (3, 16)], 2, 3),
+    ("two in the last frame", &[(7, 2), (7, 2)], 2, 3),
+    ("long number", &[(7, 50)], 4, 5),
+    ("long text", &[(0, 1401)], 88, 88),
+    ("closed with an address alone", &[(0, 14), (7, 1), (7, 17)], 2, 2),
+    ("closed both ways", &[(0, 14), (7, 1), (7, 3), (1, 14)], 2, 3),
+];
+
 pub fn run() {
+    for (name, pages, open, closed) in EXAMPLES {
+        let pages = hard(pages);
+        for (end, batches) in [(End::Open, *open), (End::Closed, *closed)] {
+            assert_eq!(fewest(&pages, end), batches, "{name}");
+            try_round(&pages, end, Some(batches));
+        }
+    }
+    println!("{} examples, both ends", EXAMPLES.len());
     let mut random = Random::new();
     let mut shaped = 0;
     for _ in 0..SMALL_ROUNDS {
         let pages = small(&mut random);
         for end in ENDS {
             let want = fewest(&pages, end);
-            let trees = try_round(&pages, end, Some(want));
-            shaped += u32::from(trees > 1);
+            let nodes = try_round(&pages, end, Some(want));
+            shaped += u32::from(nodes > 1);
+            try_limits(&pages, end, nodes);
         }
     }
     println!("{SMALL_ROUNDS} small rounds, both ends: as the brute force; {shaped} trees of more than one node");
@@ -48,6 +73,7 @@ fn try_round(pages: &[Page], end: End, want: Option<u32>) -> u32 {
         let batches = found.batches;
         assert!(want.is_none_or(|want| want == batches), "{batches} batches, {want:?} are fewest: {pages:?} {end:?}");
         assert!(is_transmission(pages, &found.steps, batches, end), "no transmission: {pages:?} {end:?}");
+        assert!(are_steps_of(&found.choice, &found.steps), "another choice: {pages:?} {end:?}");
         assert!(check(pages, batches, &found.tree, end), "refused, search {place}: {pages:?} {end:?} {:?}", found.tree);
         assert!(!check(pages, batches + 1, &found.tree, end), "accepted for one more: {pages:?} {end:?}");
         assert!(found.tree.depth() <= 300);
@@ -58,6 +84,35 @@ fn try_round(pages: &[Page], end: End, want: Option<u32>) -> u32 {
         assert!(is_shaped(&classes, least, &all_limits(&classes, least), &found.tree), "shape: {pages:?} {end:?}");
     }
     found.tree.nodes()
+}
+
+/// The limit that is exactly enough, and one less.
+fn try_limits(pages: &[Page], end: End, nodes: u32) {
+    let classes = classes_of(pages, end);
+    assert!(search(&classes, nodes, end).is_ok());
+    if nodes > 1 {
+        let Err(limit) = search(&classes, nodes - 1, end) else { panic!("more nodes than the limit: {pages:?}") };
+        let mut marks = Vec::new();
+        mark(&limit.tree, &mut marks);
+        let (closed, open) = marks.split_at(nodes as usize - 1);
+        assert!(limit.found == limit.least + 1 && !open.is_empty());
+        assert!(closed.iter().all(|open| !open) && open.iter().all(|open| *open), "{pages:?}");
+    }
+    let (_, examined) = search_freely(&classes, LIMIT, end);
+    assert!(search_freely(&classes, examined, end).0.is_ok());
+    if examined > 1 {
+        let (Err(near), _) = search_freely(&classes, examined - 1, end) else { panic!("more than the limit: {pages:?}") };
+        assert!(check(pages, near.least, &near.tree, end));
+        assert!(is_transmission(pages, &near.steps, near.least + 1, end) && are_steps_of(&near.choice, &near.steps));
+    }
+}
+
+/// Whether each node is `Open`, in the order of the certificate's text.
+fn mark(tree: &Tree, marks: &mut Vec<bool>) {
+    marks.push(matches!(tree, Tree::Open));
+    for child in tree.children() {
+        mark(child, marks);
+    }
 }
 
 #[derive(Default)]
