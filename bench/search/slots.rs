@@ -177,9 +177,11 @@ pub fn overloads(classes: &Classes, limits: &Limits, set: u16) -> bool {
 
 /// Whether a page of the class has an end outside the set under every choice within the limits.
 pub fn is_certain(classes: &Classes, limits: &Limits, set: u16, class: usize) -> bool {
+    if classes.count[class] == 0 {
+        return false;
+    }
     let (early, late) = (touches(class, true, set), touches(class, false, set));
-    classes.count[class] >= 1
-        && ((early && late) || (early && limits.lo[class] >= 1) || (late && limits.hi[class] < classes.count[class]))
+    (early && late) || (early && limits.lo[class] >= 1) || (late && limits.hi[class] < classes.count[class])
 }
 
 pub fn certain_class(classes: &Classes, limits: &Limits, set: u16) -> Option<u8> {
