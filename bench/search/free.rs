@@ -7,7 +7,8 @@
 //! 4. Where a class is certain: a `Split` at the first open run way across the set, in the second try at the
 //!    last one, `Early(c)` at 1 and `Late(c)` at the count; where no run way is open, a `Cut` at the set.
 //! 5. A child's tree that the checker accepts under the limits of the node itself stands for the node.
-//! 6. The closed end begins with the children of `Close`, without a look at the root.
+//! 6. With the closed end the root is a `Close` unless its choice has a tour. It counts as examined, so that a
+//!    tree never has more nodes than were examined.
 //! 7. Two tries: at most 1,000 nodes in the first; then the rest of the limit.
 
 use crate::choosing::{choose, least_of};
@@ -93,11 +94,18 @@ fn tries(classes: &Classes, batches: u32, limit: u32, end: End) -> (Result<Tree,
     (second, examined + again)
 }
 
+/// With the closed end the children of the root end the transmission: below them every tour can be closed.
 fn examine_root(question: &Question, examined: &mut u32) -> Result<Tree, Stop> {
-    let limits = all_limits(question.plain.classes, question.plain.batches);
-    match question.plain.end {
-        End::Open => examine(question, &limits, examined),
-        End::Closed => children(question, &limits, Form::Close, examined),
+    let Plain { classes, batches, end, .. } = question.plain;
+    let limits = all_limits(classes, batches);
+    if end == End::Open {
+        return examine(question, &limits, examined);
+    }
+    *examined += 1;
+    match look(question, &limits) {
+        Sight::Met(choice) => Err(Stop::Met(choice)),
+        Sight::Overfull(set) => Ok(Tree::Overload(set)),
+        Sight::Unclosed | Sight::Apart { .. } => children(question, &limits, Form::Close, examined),
     }
 }
 
@@ -106,15 +114,18 @@ fn examine(question: &Question, limits: &Limits, examined: &mut u32) -> Result<T
         return Err(Stop::Limit);
     }
     *examined += 1;
-    let sight = match choose(question.plain.classes, limits) {
-        Err(set) => Sight::Overfull(set),
-        Ok(choice) => sight_of(&question.plain, choice),
-    };
-    match sight {
+    match look(question, limits) {
         Sight::Overfull(set) => Ok(Tree::Overload(set)),
         Sight::Met(choice) => Err(Stop::Met(choice)),
         Sight::Unclosed => children(question, limits, Form::Close, examined),
         Sight::Apart { choice, set } => children(question, limits, form_at(question, limits, &choice, set), examined),
+    }
+}
+
+fn look(question: &Question, limits: &Limits) -> Sight {
+    match choose(question.plain.classes, limits) {
+        Err(set) => Sight::Overfull(set),
+        Ok(choice) => sight_of(&question.plain, choice),
     }
 }
 

@@ -99,7 +99,8 @@ fn try_limits(pages: &[Page], end: End, nodes: u32) {
         assert!(closed.iter().all(|open| !open) && open.iter().all(|open| *open), "{pages:?}");
     }
     let (_, examined) = search_freely(&classes, LIMIT, end);
-    assert!(search_freely(&classes, examined, end).0.is_ok());
+    let (Ok(enough), _) = search_freely(&classes, examined, end) else { panic!("less than the limit: {pages:?}") };
+    assert!(enough.tree.nodes() <= examined);
     if examined > 1 {
         let (Err(near), _) = search_freely(&classes, examined - 1, end) else { panic!("more than the limit: {pages:?}") };
         assert!(check(pages, near.least, &near.tree, end));
