@@ -59,20 +59,25 @@ mutual
   in_range : (t : Bound) (u : Bool) (k : Classes) (end : End) (b : ℕ) (l : Limits) → AreCounted k l → Accepts u k end b l t → IsInRange second_ranges t
   in_range (overload set) u k end b l of a = a.0
   in_range (split c m below above) u k end b l of a = (
-    omega (arith, a.0), omega (arith, a.1),
+    omega (arith, a.0),
+    omega (arith, a.1),
     omega (arith, a.2, of.most c a.0, count_few k c a.0),
     in_range below u k end b (limits_below l c m) (below_counted k l c m a.2 of) a.3,
     in_range above u k end b (limits_from l c m) (from_counted k l c m of) a.4,
   )
   in_range (cut set c children) u k end b l of a =
       let long : length (ways_across k l set) ≡ count_of children = row_long u k end b l (ways_across k l set) children a.5 in (
-        (held_some set 0 a.2, a.4), omega (arith, a.0),
-        omega (arith, long, two_ways k l set c a.0 a.2 a.3), omega (arith, long, few_ways k l set),
+        (held_some set 0 a.2, a.4),
+        omega (arith, a.0),
+        omega (arith, long, two_ways k l set c a.0 a.2 a.3),
+        omega (arith, long, few_ways k l set),
         each_in_range children u k end b l (ways_across k l set) of a.5,
       )
   in_range (close children) u k end b l of a =
       let long : length (ways_to_close k l) ≡ count_of children = row_long u k end b l (ways_to_close k l) children a.2 in (
-        omega arith, omega (arith, long, some_ending k l), omega (arith, long, few_endings k l),
+        omega arith,
+        omega (arith, long, some_ending k l),
+        omega (arith, long, few_endings k l),
         each_in_range children u k end b l (ways_to_close k l) of a.2,
       )
   in_range unexamined u k end b l of a = tt

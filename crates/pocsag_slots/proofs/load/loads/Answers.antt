@@ -8,11 +8,11 @@ use Rattle.pocsag_slots.proofs.load.loads.Goals as goal
 -- the loads with one slot more
 loads_more : (k : Classes) (choice : ℕ → ℕ) (slot : ℕ) (found : List ℕ) (now : ℕ) → slot < 16 → length found ≡ 16 →
     ((s : ℕ) → s < slot → slice_index found s ≡ load k choice s) → now ≡ load k choice slot → (
-      record {
-        long : length (slice_set found slot now) ≡ 16;
-        loads : (s : ℕ) → s < slot + 1 → slice_index (slice_set found slot now) s ≡ load k choice s;
-        last : now ≡ load k choice (slot + 1 - 1);
-      }
+    record {
+      long : length (slice_set found slot now) ≡ 16;
+      loads : (s : ℕ) → s < slot + 1 → slice_index (slice_set found slot now) s ≡ load k choice s;
+      last : now ≡ load k choice (slot + 1 - 1);
+    }
     )
 loads_more k choice slot found now h long so_far here = record {
   long = length-set found slot now ∙ long;
