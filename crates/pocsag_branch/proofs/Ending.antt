@@ -26,7 +26,7 @@ use Rattle.pocsag_tree.specs.declared.shape.Tree.TheFolds.{fold-roll-Tree}
 use Rattle.pocsag_check.specs.Accepting.{Accepts, AcceptsEach, IsAccepted}
 use Rattle.pocsag_check.proofs.Bounding.{bounded}
 use Rattle.pocsag_tour.specs.Reached.{IsApart, IsReached, at_start, by_idle, IsUnclosed}
-use Rattle.pocsag_tour.proofs.Geometry.{start_below}
+use Rattle.pocsag_slots.proofs.CoverLemmas.{start_below}
 use Rattle.pocsag_branch.specs.Examined.{Fills, IsExamined, IsTreeOf, Refuses}
 use Rattle.pocsag_branch.specs.Found.{IsBound}
 use Rattle.pocsag_branch.specs.Marks.{has_open, have_open, opens, opens_in}

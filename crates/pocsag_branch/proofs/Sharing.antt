@@ -15,7 +15,7 @@ use Rattle.pocsag_slots.proofs.LeastLemmas.{overload_is}
 use Rattle.pocsag_slots.proofs.LoadLemmas.{covered_by, load_few, rest_below}
 use Rattle.pocsag_slots.proofs.SumLemmas.{sum_below-le, sum_over-same, sum_over-times, term-le-sum_below}
 use Rattle.pocsag_tree.specs.Spelling.{IsSet}
-use Rattle.pocsag_tour.proofs.Geometry.{start_below}
+use Rattle.pocsag_slots.proofs.CoverLemmas.{start_below}
 use Rattle.pocsag_branch.specs.Examined.{Refuses}
 use Rattle.pocsag_branch.specs.Found.{HasPage}
 
