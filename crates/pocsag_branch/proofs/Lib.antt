@@ -1,5 +1,5 @@
 pub mod OpenWays
-pub mod Ending
+pub mod TreeEnds
 pub mod Falling
 pub mod Filling
 pub mod FreeNodes

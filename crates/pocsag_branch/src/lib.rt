@@ -6,6 +6,7 @@ mod answer;
 mod attempt;
 mod climbing;
 mod deciding;
+mod ending;
 mod examining;
 mod fault;
 mod freeing;
@@ -16,6 +17,7 @@ mod narrowing;
 mod opening;
 mod question;
 mod refuting;
+mod rooting;
 mod searching;
 mod thinning;
 
