@@ -19,6 +19,8 @@ mod question;
 mod refuting;
 mod rooting;
 mod searching;
+#[cfg(test)]
+mod tests;
 mod thinning;
 
 pub use answer::Found;
