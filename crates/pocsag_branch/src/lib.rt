@@ -3,14 +3,25 @@
 //! suffice. What it answers, the checker accepts.
 
 mod answer;
+mod attempt;
+mod climbing;
+mod deciding;
+mod ending;
 mod examining;
 mod fault;
+mod freeing;
 mod least;
+mod live;
 mod looking;
 mod narrowing;
 mod opening;
 mod question;
+mod refuting;
+mod rooting;
 mod searching;
+#[cfg(test)]
+mod tests;
+mod thinning;
 
 pub use answer::Found;
 pub use fault::SearchFault;
