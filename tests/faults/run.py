@@ -69,26 +69,63 @@ def nothing():
     pass
 
 
+# Of the calls of the trial, the one that tells two wants of memory apart, and those that have one each.
+STREAM = b"first_stream of lone-tone"
+READ = b"read_round of lone-tone"
+READ_AND_LAID = b"lay_in_order of lone-tone"
+
+
 def try_trial(tally, library):
     """Each line is the answer with ample memory, or the want of memory."""
     ample, _ = run([str(TRIAL)], library)
     lines = ample.stdout.splitlines()
     tally.check("trial with ample memory", ample.returncode == 0 and len(lines) > 5, ample.stderr)
     ample_of = {line.split(b": ")[0]: line for line in lines}
-    lacking = set()
+    lacks = {name: [] for name in ample_of}
 
     def judge(number, done):
         told = done.stdout.splitlines()
         holds = done.returncode == 0 and len(told) == len(lines)
         for answer, (name, wanted) in zip(told, ample_of.items()):
             if answer != wanted:
-                lacking.add(name)
-                holds = holds and answer == name + b": out of memory"
+                lacks[name].append(answer)
+                in_round = name == STREAM and answer == name + b": out of memory in the round"
+                holds = holds and (in_round or answer == name + b": out of memory")
         tally.check(f"trial without its growth {number}", holds, done.stdout[-400:])
 
     count = each_refusal([str(TRIAL)], library, "ALLOC", b"", nothing, judge)
-    never = set(ample_of) - lacking
+    never = {name for name, answers in lacks.items() if not answers}
     tally.check("trial: each call but one lacked memory", never == {b"Page::copy of lone-tone"}, f"{count}, {never}")
+    in_round, in_layout = len(lacks[READ]), len(lacks[READ_AND_LAID]) - len(lacks[READ])
+    due = [STREAM + b": out of memory in the round"] * in_round + [STREAM + b": out of memory"] * in_layout
+    tally.check("trial: whose memory was wanting", in_layout > 0 and lacks[STREAM] == due, lacks[STREAM])
+
+
+def batches_in_order(frames, length):
+    """How many batches pages of one length take, each at the first slot of its frame."""
+    index = 0
+    for frame in frames:
+        while index % 16 // 2 != frame:
+            index += 1
+        index += length
+    return (index + 15) // 16
+
+
+def try_large_trial(tally, library):
+    """The calls at the largest sizes that their limits allow, against numbers from outside."""
+    done, _ = run([str(TRIAL)], library, stdin=b"x")
+    sent = 72 + 68 * batches_in_order((address % 8 for address in range(20_000)), 1_401)
+    listed = len("address,kind,message\n") + sum(len(f"{address},numeric,") + 7_001 for address in range(20_000))
+    wanted = [
+        "Page::copy of 1,400 items: 1400",
+        "tour, order_of and lay_out of 20,000 tones: 40000 20000 2500",
+        f"write, decode, list and hear_all of 20,000 pages of 1,400 items: {sent} true {listed} 19999 1400",
+        "read_certificate of 1,000,000 nodes: 1000000 58",
+    ]
+    told = done.stdout.decode().splitlines()
+    tally.check("trial: as many large calls", done.returncode == 0 and len(told) == len(wanted), done)
+    for answer, due in zip(told, wanted):
+        tally.check(due, answer == due, answer)
 
 
 def try_input(tally, library):
@@ -203,7 +240,7 @@ def main():
     with tempfile.TemporaryDirectory() as name:
         folder = pathlib.Path(name)
         library = build(folder)
-        for part in (try_trial, try_input):
+        for part in (try_trial, try_large_trial, try_input):
             part(tally, library)
         try_plan(tally, library, folder)
         files = {"pages.csv": LOOPS_APART, "cert.bin": CERTIFICATE}

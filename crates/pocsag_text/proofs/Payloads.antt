@@ -96,6 +96,22 @@ whole_numeric text =
 pub whole_alpha : (text : List ℕ) → length (alpha_bits text) % 20 ≡ 0
 whole_alpha text = rw (length-alpha_bits text) (short_twenty (7 * length text))
 
+-- how many bits there are with a fill
+pub length_filled_numeric : (text packed filled : List ℕ) (times code : ℕ) → packed ≡ flat_map (low_first 4) (map code_or_space text) → filled ≡ packed ++ flat_map (low_first 4) (replicate times code)
+    → length filled ≡ 4 * (length text + times)
+length_filled_numeric text packed filled times code p f =
+    let wide : (x : ℕ) → length (low_first 4 x) ≡ 4 = length-low_first 4 in
+    rw (f, p, length-append (flat_map (low_first 4) (map code_or_space text)) (flat_map (low_first 4) (replicate times code)), length-flat_map-wide 4 (low_first 4) (map code_or_space text) wide, length-flat_map-wide 4 (low_first 4) (replicate times code) wide, length-map text code_or_space, length-replicate {A = ℕ} times code)
+    (omega arith)
+
+pub length_filled_alpha : (text packed filled : List ℕ) (times code : ℕ) → packed ≡ flat_map (low_first 7) text → filled ≡ packed ++ flat_map (low_first 1) (replicate times code)
+    → length filled ≡ 7 * length text + times
+length_filled_alpha text packed filled times code p f =
+    let wide : (x : ℕ) → length (low_first 7 x) ≡ 7 = length-low_first 7 in
+    let one : (x : ℕ) → length (low_first 1 x) ≡ 1 = length-low_first 1 in
+    rw (f, p, length-append (flat_map (low_first 7) text) (flat_map (low_first 1) (replicate times code)), length-flat_map-wide 7 (low_first 7) text wide, length-flat_map-wide 1 (low_first 1) (replicate times code) one, length-replicate {A = ℕ} times code)
+    (omega arith)
+
 pub few_numeric : (text : List ℕ) → length text ≤ 4000 → length (twenties (numeric_bits text)) ≤ 1400
 few_numeric text h =
     rw (length-cut 20 _ (length (numeric_bits text) / 20) (numeric_bits text), length-numeric_bits text) (omega arith)
