@@ -30,6 +30,7 @@ use Rattle.pocsag_slots.proofs.CoverLemmas.{start_below}
 use Rattle.pocsag_branch.proofs.OpenWays.{closing_ways_fall}
 use Rattle.pocsag_branch.specs.Examined.{Fills, IsExamined, IsRefuted, IsTreeOf, Refuses}
 use Rattle.pocsag_branch.specs.Found.{IsBound}
+use Rattle.pocsag_branch.specs.Freed.{IsFreeTree}
 use Rattle.pocsag_branch.specs.Marks.{has_open, have_open, opens, opens_in}
 use Rattle.pocsag_branch.specs.Shape.{IsShaped}
 use Rattle.pocsag_branch.specs.Undecided.{AreNodeLimits, Falls, class_left, slot_left, undecided}
@@ -254,6 +255,9 @@ pub least_tree : (k : Classes) (end : End) (b limit set : ℕ) → 1 ≤ limit �
 least_tree k end b limit set some refuses =
     subst (λ (t : Bound). IsLeastTree k end b limit t) (sym (bound_of-overload set))
     (record { accepted = set_refutes k end b set refuses; examined = refl; few = some; shaped = tt })
+
+pub free_whole : (k : Classes) (end : End) (b limit : ℕ) (t : Bound) → IsFreeTree k end b limit t → IsAccepted false k end (b + 1) t
+free_whole k end b limit t of = refuted_accepted false k end b t of.refuted
 
 -- the choice of a tour is admitted
 pub tour_admitted : (k : Classes) (end : End) (b : ℕ) (choice : ℕ → ℕ) (steps : List Step) → IsChoice k choice → IsTour k end choice b steps →

@@ -2,6 +2,7 @@ pub mod Climbing
 pub mod Examined
 pub mod Found
 pub mod Freed
+pub mod Freely
 pub mod Marks
 pub mod Shape
 pub mod Undecided

@@ -18,11 +18,15 @@ mod opening;
 mod question;
 mod refuting;
 mod rooting;
+mod search_free;
 mod searching;
 #[cfg(test)]
 mod tests;
 mod thinning;
+mod within_one;
 
 pub use answer::Found;
 pub use fault::SearchFault;
+pub use search_free::{near, search_freely};
 pub use searching::search;
+pub use within_one::{FreeFault, Near};
