@@ -87,6 +87,18 @@ pub class_added : (f : ℕ → ℕ) (n old one two a b s t p x y : ℕ) → old 
 class_added f n old one two a b s t p x y so_far first second start finish here =
     omega (arith, sum_below_more n f, same_test a s p x x start refl, same_test b t p y y finish refl)
 
+-- a class without pages adds nothing
+pub none_start : (k : Classes) (choice : ℕ → ℕ) (p c : ℕ) → slice_index k.count c ≡ 0 → choice c ≤ slice_index k.count c → starts_at k choice p c ≡ 0
+none_start k choice p c none few =
+    omega (arith, part_few (start_of c true == p) (choice c), part_few (start_of c false == p) (slice_index k.count c - choice c))
+
+pub none_end : (k : Classes) (choice : ℕ → ℕ) (p c : ℕ) → slice_index k.count c ≡ 0 → choice c ≤ slice_index k.count c → ends_at k choice p c ≡ 0
+none_end k choice p c none few =
+    omega (arith, part_few (finish_of c true == p) (choice c), part_few (finish_of c false == p) (slice_index k.count c - choice c))
+
+pub class_skipped : (f : ℕ → ℕ) (n old : ℕ) → old ≡ sum_below n f → f n ≡ 0 → old ≡ sum_below (n + 1) f
+class_skipped f n old so_far none = omega (arith, sum_below_more n f)
+
 -- the load of a slot by that of the slot before
 pub record IsStep (k : Classes) (choice : ℕ → ℕ) (slot last starts ends : ℕ) : Type 0 where
   pub few : last + starts ≤ 1780000

@@ -10,7 +10,7 @@ use Rattle.pocsag_slots.specs.Loads.{AreInOrder, IsLeastLoad, Overloads, class_l
 use Rattle.pocsag_slots.specs.Numbering.{class_rest, start_of}
 use Rattle.pocsag_slots.specs.Sums.{holds, sum_below, sum_over}
 use Rattle.pocsag_slots.proofs.CoverLemmas.{covered_split}
-use Rattle.pocsag_slots.proofs.LoadLemmas.{load_few}
+use Rattle.pocsag_slots.proofs.LoadLemmas.{load_few, load_none}
 use Rattle.pocsag_slots.proofs.SumLemmas.{sum_over-most, sum_below-le, sum_below-same, sum_over-add, sum_over-at, sum_over-none, sum_over-same, sum_over-sum_below, sum_over-times}
 
 covered_none : (first slot : ℕ) → covered first 0 slot ≡ 0
@@ -163,6 +163,17 @@ least_of_class_is k l set c =
     let at_lo = class_load_over_is k set c (slice_index l.lo c) in
     let at_hi = class_load_over_is k set c (slice_index l.hi c) in
     omega arith
+
+-- a class without pages loads no set
+over_none : (k : Classes) (set c early : ℕ) → c < 136 → early ≤ slice_index k.count c → slice_index k.count c ≡ 0 → class_load_over k set c early ≡ 0
+unfolding class_load_over
+over_none k set c early h some none =
+    sum_over-same set (λ slot. class_load k slot c early) (λ slot. 0) (λ slot s. load_none k slot c early s h some none) ∙ sum_over-none set
+
+pub least_none : (k : Classes) (l : Limits) (set c : ℕ) → c < 136 → AreInOrder k l → slice_index k.count c ≡ 0 → least_of_class k l set c ≡ 0
+unfolding least_of_class
+least_none k l set c h ordered none =
+    omega (arith, over_none k set c (slice_index l.lo c) h (omega (arith, ordered.order c h, ordered.counted c h)) none)
 
 pub least_few : (k : Classes) (l : Limits) (set least : ℕ) → AreInOrder k l → IsLeastLoad k l set least → least ≤ 28160000
 least_few k l set least ordered is_least =

@@ -36,6 +36,11 @@ class_load_most k slot c early h l some =
     mul-le-mul_left (slice_index k.count c - early) (covered_once (start_of c false) (class_rest c) slot h (omega (arith, rest_below c))) in
     omega (arith, k.tables.short c l)
 
+-- a class without pages loads nothing
+pub load_none : (k : Classes) (slot c early : ℕ) → slot < 16 → c < 136 → early ≤ slice_index k.count c → slice_index k.count c ≡ 0 →
+    class_load k slot c early ≡ 0
+load_none k slot c early h l some none = omega (arith, class_load_most k slot c early h l some)
+
 -- the load by the classes so far
 pub loads_few : (k : Classes) (choice : ℕ → ℕ) (slot n : ℕ) → slot < 16 → n ≤ 136 → IsChoice k choice →
     sum_below n (λ c. class_load k slot c (choice c)) ≤ 1760000

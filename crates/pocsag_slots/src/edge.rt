@@ -21,20 +21,37 @@ fn add(sums: &mut [u32; 16], boundary: u8, more: u32)
     sums[boundary as usize] += more;
 }
 
+// Adds the runs of the class.
+fn add_class(edges: &mut Edges, classes: &Classes, choice: &Choice, class: u8)
+    requires chosen { IsChoice classes.now (slice_index choice.now.early) }
+    requires class { class < 136 }
+    requires starts { (p : ℕ) → p < 16 → slice_index edges.old.starts p ≡ sum_below class (starts_at classes.now (slice_index choice.now.early) p) }
+    requires ends { (p : ℕ) → p < 16 → slice_index edges.old.ends p ≡ sum_below class (ends_at classes.now (slice_index choice.now.early) p) }
+    ensures starts { (p : ℕ) → p < 16 → slice_index edges.new.starts p ≡ sum_below (class + 1) (starts_at classes.now (slice_index choice.now.early) p) }
+    ensures ends { (p : ℕ) → p < 16 → slice_index edges.new.ends p ≡ sum_below (class + 1) (ends_at classes.now (slice_index choice.now.early) p) }
+{
+    if classes.count[class as usize] == 0 {
+        return;
+    }
+    let early = choice.early[class as usize];
+    let late = classes.count[class as usize] - early;
+    add(&mut edges.starts, start(class, true), early);
+    add(&mut edges.starts, start(class, false), late);
+    add(&mut edges.ends, finish(class, true), early);
+    add(&mut edges.ends, finish(class, false), late);
+}
+
 pub(crate) fn edges_of(classes: &Classes, choice: &Choice) -> Edges
     requires { IsChoice classes.now (slice_index choice.now.early) }
     ensures starts { (p : ℕ) → p < 16 → slice_index result.starts p ≡ sum_below 136 (starts_at classes.now (slice_index choice.now.early) p) }
     ensures ends { (p : ℕ) → p < 16 → slice_index result.ends p ≡ sum_below 136 (ends_at classes.now (slice_index choice.now.early) p) }
 {
-    let mut starts = [0; SLOTS];
-    let mut ends = [0; SLOTS];
+    let mut edges = Edges {
+        starts: [0; SLOTS],
+        ends: [0; SLOTS],
+    };
     for class in 0..CLASSES as u8 {
-        let early = choice.early[class as usize];
-        let late = classes.count[class as usize] - early;
-        add(&mut starts, start(class, true), early);
-        add(&mut starts, start(class, false), late);
-        add(&mut ends, finish(class, true), early);
-        add(&mut ends, finish(class, false), late);
+        add_class(&mut edges, classes, choice, class);
     }
-    Edges { starts, ends }
+    edges
 }

@@ -30,6 +30,9 @@ fn class_load(classes: &Classes, class: u8, early: u32, slot: u8) -> u32
     ensures value { result ≡ load_of_class classes.now slot class early }
     ensures bound { result ≤ 88 * slice_index classes.now.count class }
 {
+    if classes.count[class as usize] == 0 {
+        return 0;
+    }
     let late = classes.count[class as usize] - early;
     let by_early = early * times_covered(start(class, true), rest(class), slot);
     let by_late = late * times_covered(start(class, false), rest(class), slot);
@@ -107,6 +110,9 @@ fn class_least(classes: &Classes, limits: &Limits, set: u16, members: u64, class
     ensures value { result ≡ least_of_class classes.now limits.now set class }
     ensures bound { result < 2 ^ 40 }
 {
+    if classes.count[class as usize] == 0 {
+        return 0;
+    }
     let count = u64::from(classes.count[class as usize]);
     let lo = u64::from(limits.lo[class as usize]);
     let hi = u64::from(limits.hi[class as usize]);

@@ -33,11 +33,14 @@ pub fn is_certain(classes: &Classes, limits: &Limits, set: u16, class: u8) -> bo
     ensures { result ≡ class_certain classes.now limits.now set class }
 {
     let count = classes.count[class as usize];
+    if count == 0 {
+        return false;
+    }
     let early = touches(class, true, set);
     let late = touches(class, false, set);
     let some_early = early && 0 < limits.lo[class as usize];
     let some_late = late && limits.hi[class as usize] < count;
-    0 < count && ((early && late) || some_early || some_late)
+    (early && late) || some_early || some_late
 }
 
 #[tactic(auto, unfolding(crate::specs::Ways::early_open))]

@@ -1,6 +1,6 @@
-use Rattle.std.proofs.Common.{◌-◌, arith, slice_index}
+use Rattle.std.proofs.Common.{◌-◌, arith, slice_index, sym}
 use Rattle.std.proofs.Math.Nat.{mul-le-mul_left}
-use Rattle.pocsag_slots.proofs.LoadLemmas.{count_few}
+use Rattle.pocsag_slots.proofs.LoadLemmas.{count_few, load_none}
 use Rattle.pocsag_slots.proofs.load.class_load.Goals as goal
 
 pub overflow_add-result : goal.overflow_add-result
@@ -10,3 +10,7 @@ overflow_add-result c =
 pub overflow_add-result-2 : goal.overflow_add-result-2
 overflow_add-result-2 c =
     omega (arith, mul-le-mul_left c.args.early c.times_covered.ensures.once, mul-le-mul_left (slice_index c.args.classes.now.count c.args.class - c.args.early) c.times_covered-2.ensures.once, count_few c.args.classes.now c.args.class c.requires.class, c.args.classes.now.tables.short c.args.class c.requires.class)
+
+pub returns-then-classes-class-eq0-clause-value : goal.returns-then-classes-class-eq0-clause-value
+returns-then-classes-class-eq0-clause-value c =
+    sym (load_none c.args.classes.now c.args.slot c.args.class c.args.early c.requires.slot c.requires.class c.requires.early (omega arith))

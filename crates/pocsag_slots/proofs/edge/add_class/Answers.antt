@@ -1,0 +1,80 @@
+use Rattle.std.proofs.Common.{◌≤◌, ◌-◌, ◌==◌, cond, ℕ, refl, slice_index, arith}
+use Rattle.pocsag_slots.specs.Edges.{ends_at, starts_at}
+use Rattle.pocsag_slots.proofs.Edging.{class_added, class_skipped, ends_few, none_end, none_start, part_few, starts_few}
+use Rattle.pocsag_slots.proofs.LoadLemmas.{count_few}
+use Rattle.pocsag_slots.proofs.edge.add_class.Goals as goal
+
+part : (a b x : ℕ) → cond (a == b) x 0 ≤ x
+part a b x = part_few (a == b) x
+
+pub returns-then-classes-class-eq0-clause-starts : goal.returns-then-classes-class-eq0-clause-starts
+returns-then-classes-class-eq0-clause-starts c p h =
+    class_skipped _ c.args.class _ (c.requires.starts p h)
+    (none_start c.args.classes.now (slice_index c.args.choice.now.early) p c.args.class (omega arith) (c.requires.chosen c.args.class c.requires.class))
+
+pub returns-then-classes-class-eq0-clause-ends : goal.returns-then-classes-class-eq0-clause-ends
+returns-then-classes-class-eq0-clause-ends c p h =
+    class_skipped _ c.args.class _ (c.requires.ends p h)
+    (none_end c.args.classes.now (slice_index c.args.choice.now.early) p c.args.class (omega arith) (c.requires.chosen c.args.class c.requires.class))
+
+pub add-requires-clause-fits : goal.add-requires-clause-fits
+add-requires-clause-fits c =
+    omega (
+      arith,
+      c.requires.starts c.start.result c.start.ensures.below,
+      starts_few c.args.classes.now (slice_index c.args.choice.now.early) c.start.result c.args.class (omega arith) c.requires.chosen,
+      c.requires.chosen c.args.class c.requires.class,
+      count_few c.args.classes.now c.args.class c.requires.class,
+    )
+
+pub add-requires-2-clause-fits : goal.add-requires-2-clause-fits
+add-requires-2-clause-fits c =
+    omega (
+      arith,
+      c.add.ensures c.start-2.result c.start-2.ensures.below,
+      c.requires.starts c.start-2.result c.start-2.ensures.below,
+      starts_few c.args.classes.now (slice_index c.args.choice.now.early) c.start-2.result c.args.class (omega arith) c.requires.chosen,
+      part c.start.result c.start-2.result (slice_index c.args.choice.now.early c.args.class),
+      c.requires.chosen c.args.class c.requires.class,
+      count_few c.args.classes.now c.args.class c.requires.class,
+    )
+
+pub add-requires-3-clause-fits : goal.add-requires-3-clause-fits
+add-requires-3-clause-fits c =
+    omega (
+      arith,
+      c.requires.ends c.finish.result c.finish.ensures.below,
+      ends_few c.args.classes.now (slice_index c.args.choice.now.early) c.finish.result c.args.class (omega arith) c.requires.chosen,
+      c.requires.chosen c.args.class c.requires.class,
+      count_few c.args.classes.now c.args.class c.requires.class,
+    )
+
+pub add-requires-4-clause-fits : goal.add-requires-4-clause-fits
+add-requires-4-clause-fits c =
+    omega (
+      arith,
+      c.add-3.ensures c.finish-2.result c.finish-2.ensures.below,
+      c.requires.ends c.finish-2.result c.finish-2.ensures.below,
+      ends_few c.args.classes.now (slice_index c.args.choice.now.early) c.finish-2.result c.args.class (omega arith) c.requires.chosen,
+      part c.finish.result c.finish-2.result (slice_index c.args.choice.now.early c.args.class),
+      c.requires.chosen c.args.class c.requires.class,
+      count_few c.args.classes.now c.args.class c.requires.class,
+    )
+
+pub returns-clause-starts : goal.returns-clause-starts
+returns-clause-starts c p h =
+    let k = c.args.classes.now in
+    let choice = slice_index c.args.choice.now.early in
+    let n = c.args.class in
+    class_added (starts_at k choice p) n (slice_index c.args.edges.now.starts p) (slice_index c.add.new.sums p) (slice_index c.add-2.new.sums p)
+    c.start.result c.start-2.result _ _ p (choice n) (slice_index k.count n - choice n)
+    (c.requires.starts p h) (c.add.ensures p h) (c.add-2.ensures p h) c.start.ensures.value c.start-2.ensures.value refl
+
+pub returns-clause-ends : goal.returns-clause-ends
+returns-clause-ends c p h =
+    let k = c.args.classes.now in
+    let choice = slice_index c.args.choice.now.early in
+    let n = c.args.class in
+    class_added (ends_at k choice p) n (slice_index c.args.edges.now.ends p) (slice_index c.add-3.new.sums p) (slice_index c.add-4.new.sums p)
+    c.finish.result c.finish-2.result _ _ p (choice n) (slice_index k.count n - choice n)
+    (c.requires.ends p h) (c.add-3.ensures p h) (c.add-4.ensures p h) c.finish.ensures.value c.finish-2.ensures.value refl
