@@ -132,7 +132,10 @@ fn put_cuts(bytes: &mut Vec<u8>, cuts: u32) -> Result<(), OutOfMemory> {
 // A certificate of 64 + 288 * (7 * 56 + 56 * 55) nodes, which are 1,000,000.
 fn many_nodes(alloc: Global) -> Result<Vec<u8>, OutOfMemory> {
     let mut bytes = Vec::new(alloc);
-    put(&mut bytes, b"PCB2\x00\x00\x00\x00\x02\x02\x00\x01\x00\x00\x3f")?;
+    put(
+        &mut bytes,
+        b"PCB2\x00\x00\x00\x00\x02\x02\x00\x01\x00\x00\x3f",
+    )?;
     for child in 0..63 {
         put_cuts(&mut bytes, if child < 7 { 56 } else { 55 })?;
     }
