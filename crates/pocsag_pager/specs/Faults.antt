@@ -1,16 +1,15 @@
 -- Which addresses and which bytes a pager refuses (this project's own).
 use Rattle.std.specs.Prelude.{ℕ, ◌%◌, ◌==◌, not, nat_lt, if◌then◌else◌, List, length, Option, Some, None}
 use Rattle.std.specs.Option.{option_or}
-use Rattle.pocsag_pages.specs.declared.page.TheConstants.{LAST_ADDRESS}
 use Rattle.pocsag_pages.specs.Bytes.{after_preamble, leading}
-use Rattle.pocsag_pages.specs.Pages.{is_reserved}
+use Rattle.pocsag_pages.specs.Pages.{last_address, is_reserved}
 use Rattle.pocsag_pager.specs.declared.fault.PagerFault.{PagerFault}
 use Rattle.pocsag_pager.specs.declared.fault.PagerFault.TheVariants as fault
 
 -- The fault of an address: it has more than 21 bits, or is reserved.
 unfoldable pub address_fault : ℕ → Option PagerFault
 address_fault a =
-    if nat_lt LAST_ADDRESS a then Some fault.BadAddress
+    if nat_lt last_address a then Some fault.BadAddress
     else if is_reserved a then Some fault.ReservedAddress else None
 
 -- The fault of a transmission's bytes: fewer than 72 bytes AA stand first, nothing follows them, or

@@ -8,10 +8,9 @@ use Rattle.std.proofs.lemmas.List.{length-map}
 use Rattle.std.proofs.lemmas.List.Elements.{All-cons, All-nil, All-head, All-tail}
 use Rattle.std.proofs.lemmas.Map.Keys.{apart_from_distinct}
 use Rattle.std.proofs.lemmas.Map.Steps.{length-le_from_distinct_below}
+use Rattle.pocsag_text.specs.Text.{item_limit}
 use Rattle.pocsag_pages.specs.declared.page.Page.{Page}
-use Rattle.pocsag_pages.specs.declared.page.TheConstants.{LAST_ADDRESS}
-use Rattle.pocsag_pages.specs.declared.rule.TheConstants.{ITEM_LIMIT}
-use Rattle.pocsag_pages.specs.Pages.{AreGood, IsGoodPage, addresses_of, is_bad_payload, page_fault_of}
+use Rattle.pocsag_pages.specs.Pages.{last_address, AreGood, IsGoodPage, addresses_of, is_bad_payload, page_fault_of}
 use Rattle.pocsag_pages.specs.Reading.{AreApart}
 
 if_none : {X : Type 0} (b : Bool) (x : X) (rest : Option X) → cond b (Some x) rest ≡ None → (b ≡ false) × (rest ≡ None)
@@ -54,14 +53,14 @@ good_page p e =
     let a = if_none _ _ _ e in
     let r = if_none _ _ _ a.1 in
     let b = if_none _ _ _ r.1 in
-    let f = neither (nat_lt 3 p.function || ((nat_eq p.function 1 || nat_eq p.function 2) && not (nat_eq (length p.payload) 0)) || nat_lt ITEM_LIMIT (length p.payload)) (list_any (nat_le (2 ^ 20)) p.payload) b.0 in
-    let g = neither (nat_lt 3 p.function || ((nat_eq p.function 1 || nat_eq p.function 2) && not (nat_eq (length p.payload) 0))) (nat_lt ITEM_LIMIT (length p.payload)) f.0 in
+    let f = neither (nat_lt 3 p.function || ((nat_eq p.function 1 || nat_eq p.function 2) && not (nat_eq (length p.payload) 0)) || nat_lt item_limit (length p.payload)) (list_any (nat_le (2 ^ 20)) p.payload) b.0 in
+    let g = neither (nat_lt 3 p.function || ((nat_eq p.function 1 || nat_eq p.function 2) && not (nat_eq (length p.payload) 0))) (nat_lt item_limit (length p.payload)) f.0 in
     let h = neither (nat_lt 3 p.function) ((nat_eq p.function 1 || nat_eq p.function 2) && not (nat_eq (length p.payload) 0)) g.0 in
     record {
-      address = below_next LAST_ADDRESS p.address (not_above LAST_ADDRESS p.address a.0);
+      address = below_next last_address p.address (not_above last_address p.address a.0);
       unreserved = r.0;
       function = below_next 3 p.function (not_above 3 p.function h.0);
-      few = not_above ITEM_LIMIT (length p.payload) g.1;
+      few = not_above item_limit (length p.payload) g.1;
       small = none_large p.payload f.1;
       silent = λ w. empty_where_unwanted _ p.payload h.1 (unwanted p.function w);
     }

@@ -9,9 +9,8 @@ use Rattle.pocsag_pages.specs.declared.fault.RecordFault.{RecordFault}
 use Rattle.pocsag_pages.specs.declared.fault.RecordFault.TheVariants as wrong
 use Rattle.pocsag_pages.specs.declared.fault.RoundFault.{RoundFault}
 use Rattle.pocsag_pages.specs.declared.fault.RoundFault.TheVariants as fault
-use Rattle.pocsag_pages.specs.declared.file.TheConstants.{FILE_LIMIT}
 use Rattle.pocsag_pages.specs.PageList.{unless_empty}
-use Rattle.pocsag_pages.specs.PageFile.{Row, fault_after, fault_of_row, first_fault, is_header, numbered, page_of, pages_of, pages_unless, round_of_rows, rows_of, verdict, verdict_of_rows, with_page}
+use Rattle.pocsag_pages.specs.PageFile.{Row, file_limit, fault_after, fault_of_row, first_fault, is_header, numbered, page_of, pages_of, pages_unless, round_of_rows, rows_of, verdict, verdict_of_rows, with_page}
 
 -- the fault of record n + 1, or else what is said of the records after it
 abbrev pub or_later : Option RecordFault → ℕ → Result (List Page) RoundFault → Result (List Page) RoundFault
@@ -141,10 +140,10 @@ not_above limit n h = grind (arith, nat_tests)
 is_above : (limit n : ℕ) → limit < n → nat_lt limit n ≡ true
 is_above limit n h = grind (arith, nat_tests)
 
-pub small_file : (bytes : List ℕ) → length bytes ≤ FILE_LIMIT → verdict bytes ≡ verdict_of_rows (rows_of bytes)
+pub small_file : (bytes : List ℕ) → length bytes ≤ file_limit → verdict bytes ≡ verdict_of_rows (rows_of bytes)
 unfolding verdict
-small_file bytes h = rw (not_above FILE_LIMIT (length bytes) h) refl
+small_file bytes h = rw (not_above file_limit (length bytes) h) refl
 
-pub large_file : (bytes : List ℕ) → FILE_LIMIT < length bytes → verdict bytes ≡ Err fault.TooLarge
+pub large_file : (bytes : List ℕ) → file_limit < length bytes → verdict bytes ≡ Err fault.TooLarge
 unfolding verdict
-large_file bytes h = rw (is_above FILE_LIMIT (length bytes) h) refl
+large_file bytes h = rw (is_above file_limit (length bytes) h) refl

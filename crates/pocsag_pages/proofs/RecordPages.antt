@@ -4,11 +4,10 @@ use Rattle.std.specs.Prelude.{None}
 use Rattle.std.specs.List.{list_any}
 use Rattle.std.proofs.lemmas.Bool.Decides.{nat_tests}
 use Rattle.std.proofs.lemmas.List.Elements.{All-head, All-tail}
-use Rattle.pocsag_pages.specs.declared.page.TheConstants.{LAST_ADDRESS}
-use Rattle.pocsag_pages.specs.declared.rule.TheConstants.{ITEM_LIMIT}
+use Rattle.pocsag_text.specs.Text.{item_limit}
 use Rattle.pocsag_pages.specs.declared.record.PageKind.{PageKind}
 use Rattle.pocsag_pages.specs.declared.record.PageKind.TheVariants as kind
-use Rattle.pocsag_pages.specs.Pages.{is_bad_payload, is_reserved, page_fault_of}
+use Rattle.pocsag_pages.specs.Pages.{last_address, is_bad_payload, is_reserved, page_fault_of}
 use Rattle.pocsag_pages.specs.PageFile.{IsTone, function_of}
 
 none_above : (limit n : ℕ) → n ≤ limit → nat_lt limit n ≡ false
@@ -27,13 +26,13 @@ and_never : (b : Bool) → (b && false) ≡ false
 and_never true = refl
 and_never false = refl
 
-good_payload : (k : PageKind) (items : List ℕ) → function_of k < 4 → (IsTone k → items ≡ []) → length items ≤ ITEM_LIMIT → All (λ item. item < 2 ^ 20) items → is_bad_payload (function_of k) items ≡ false
+good_payload : (k : PageKind) (items : List ℕ) → function_of k < 4 → (IsTone k → items ≡ []) → length items ≤ item_limit → All (λ item. item < 2 ^ 20) items → is_bad_payload (function_of k) items ≡ false
 unfolding is_bad_payload
 good_payload (kind.Tone f) items known silent few small = rw (silent tt, none_above 3 f (omega arith), and_never) refl
-good_payload kind.Numeric items known silent few small = rw (none_above ITEM_LIMIT (length items) few, no_large items small) refl
-good_payload kind.Alpha items known silent few small = rw (none_above ITEM_LIMIT (length items) few, no_large items small) refl
+good_payload kind.Numeric items known silent few small = rw (none_above item_limit (length items) few, no_large items small) refl
+good_payload kind.Alpha items known silent few small = rw (none_above item_limit (length items) few, no_large items small) refl
 
-pub good_record : (a : ℕ) (k : PageKind) (items : List ℕ) → a ≤ LAST_ADDRESS → is_reserved a ≡ false → function_of k < 4 → (IsTone k → items ≡ []) → length items ≤ ITEM_LIMIT → All (λ item. item < 2 ^ 20) items
+pub good_record : (a : ℕ) (k : PageKind) (items : List ℕ) → a ≤ last_address → is_reserved a ≡ false → function_of k < 4 → (IsTone k → items ≡ []) → length items ≤ item_limit → All (λ item. item < 2 ^ 20) items
     → page_fault_of (record { address = a; function = function_of k; payload = items }) ≡ None
 good_record a k items low unreserved known silent few small =
-    rw (none_above LAST_ADDRESS a low, unreserved, good_payload k items known silent few small) refl
+    rw (none_above last_address a low, unreserved, good_payload k items known silent few small) refl

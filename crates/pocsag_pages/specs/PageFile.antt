@@ -8,17 +8,20 @@ use Rattle.pocsag_text.specs.declared.fault.TextFault.{TextFault}
 use Rattle.pocsag_text.specs.declared.fault.TextFault.TheVariants as text
 use Rattle.pocsag_text.specs.Text.{numeric_payload, alpha_payload}
 use Rattle.pocsag_pages.specs.declared.page.Page.{Page}
-use Rattle.pocsag_pages.specs.declared.page.TheConstants.{LAST_ADDRESS}
-use Rattle.pocsag_pages.specs.declared.round.TheConstants.{PAGE_LIMIT}
-use Rattle.pocsag_pages.specs.declared.file.TheConstants.{FILE_LIMIT}
 use Rattle.pocsag_pages.specs.declared.record.PageKind.{PageKind}
 use Rattle.pocsag_pages.specs.declared.record.PageKind.TheVariants as kind
+use Rattle.pocsag_pages.specs.declared.fault.FieldFault.{FieldFault}
+use Rattle.pocsag_pages.specs.declared.fault.FieldFault.TheVariants as field
 use Rattle.pocsag_pages.specs.declared.fault.RecordFault.{RecordFault}
 use Rattle.pocsag_pages.specs.declared.fault.RecordFault.TheVariants as wrong
 use Rattle.pocsag_pages.specs.declared.fault.RoundFault.{RoundFault}
 use Rattle.pocsag_pages.specs.declared.fault.RoundFault.TheVariants as fault
-use Rattle.pocsag_pages.specs.Pages.{is_reserved, has_address}
+use Rattle.pocsag_pages.specs.Pages.{last_address, page_limit, is_reserved, has_address}
 use Rattle.pocsag_pages.specs.PageList.{or_else, unless_empty}
+
+-- The most bytes of a page file (this project's own).
+abbrev pub file_limit : ℕ
+file_limit = 268435456
 
 -- The fields of one record.
 abbrev pub Row : Type 0
@@ -30,12 +33,12 @@ Ok a >>= f = f a
 Err e >>= f = Err e
 
 -- The value, or the fault where there is none.
-abbrev pub or_fault : {A : Type 0} → Option A → RecordFault → Result A RecordFault
+abbrev pub or_fault : {A : Type 0} → Option A → FieldFault → Result A FieldFault
 or_fault None e = Err e
 or_fault (Some a) e = Ok a
 
 -- Nothing, or the fault where a rule is broken.
-abbrev pub unless : Bool → RecordFault → Result (Unit {0}) RecordFault
+abbrev pub unless : Bool → FieldFault → Result (Unit {0}) FieldFault
 unless broken e = if broken then Err e else Ok tt
 
 -- The value of decimal digits that follow those of a value; none where a byte is no digit.
@@ -51,7 +54,7 @@ at_most limit (Some n) = if nat_le n limit then Some n else None
 -- The address that a field spells, in one to seven digits.
 unfoldable pub address_of : List ℕ → Option ℕ
 address_of field =
-    if (length field == 0) || nat_lt 7 (length field) then None else at_most LAST_ADDRESS (decimal 0 field)
+    if (length field == 0) || nat_lt 7 (length field) then None else at_most last_address (decimal 0 field)
 
 -- The kind of page that a field names.
 unfoldable pub kind_of_field : List ℕ → Option PageKind
@@ -77,36 +80,52 @@ IsTone (kind.Tone function) = Unit {0}
 IsTone kind.Numeric = ⊥
 IsTone kind.Alpha = ⊥
 
--- A text's fault as that of its record. No text has the last one, which is told of a packing alone.
-abbrev pub record_fault_of : TextFault → RecordFault
-record_fault_of text.EmptyMessage = wrong.EmptyMessage
-record_fault_of (text.BadCharacter place) = wrong.BadCharacter place
-record_fault_of text.TooLong = wrong.TooLong
-record_fault_of text.OutOfMemory = wrong.OutOfMemory
+-- A text's fault as that of a field. No text has the last one, which is told of a packing alone.
+abbrev pub field_fault_of : TextFault → FieldFault
+field_fault_of text.EmptyMessage = field.EmptyMessage
+field_fault_of (text.BadCharacter place) = field.BadCharacter place
+field_fault_of text.TooLong = field.TooLong
+field_fault_of text.OutOfMemory = field.OutOfMemory
 
 -- A text's payload, or its fault.
-abbrev pub of_text : Result (List ℕ) TextFault → Result (List ℕ) RecordFault
+abbrev pub of_text : Result (List ℕ) TextFault → Result (List ℕ) FieldFault
 of_text (Ok items) = Ok items
-of_text (Err e) = Err (record_fault_of e)
+of_text (Err e) = Err (field_fault_of e)
 
 -- The payload of a page's message.
-unfoldable pub payload_of : PageKind → List ℕ → Result (List ℕ) RecordFault
-payload_of (kind.Tone function) message = if length message == 0 then Ok [] else Err wrong.MessageForTone
+unfoldable pub payload_of : PageKind → List ℕ → Result (List ℕ) FieldFault
+payload_of (kind.Tone function) message = if length message == 0 then Ok [] else Err field.MessageForTone
 payload_of kind.Numeric message = of_text (numeric_payload message)
 payload_of kind.Alpha message = of_text (alpha_payload message)
 
 -- The page of three fields, or their first fault.
-unfoldable pub page_of_fields : (address_field kind_field message : List ℕ) → Result Page RecordFault
+unfoldable pub page_of_fields : (address_field kind_field message : List ℕ) → Result Page FieldFault
 page_of_fields address_field kind_field message = do
-  address ← or_fault (address_of address_field) wrong.BadAddress
-  _ ← unless (is_reserved address) wrong.ReservedAddress
-  its_kind ← or_fault (kind_of_field kind_field) wrong.BadKind
+  address ← or_fault (address_of address_field) field.BadAddress
+  _ ← unless (is_reserved address) field.ReservedAddress
+  its_kind ← or_fault (kind_of_field kind_field) field.BadKind
   payload ← payload_of its_kind message
   Ok (record { address = address; function = function_of its_kind; payload = payload })
 
+-- A fault of three fields as that of their record.
+abbrev pub record_fault_of : FieldFault → RecordFault
+record_fault_of field.BadAddress = wrong.BadAddress
+record_fault_of field.ReservedAddress = wrong.ReservedAddress
+record_fault_of field.BadKind = wrong.BadKind
+record_fault_of field.MessageForTone = wrong.MessageForTone
+record_fault_of field.EmptyMessage = wrong.EmptyMessage
+record_fault_of (field.BadCharacter place) = wrong.BadCharacter place
+record_fault_of field.TooLong = wrong.TooLong
+record_fault_of field.OutOfMemory = wrong.OutOfMemory
+
+-- A page of three fields as that of their record, or their fault.
+abbrev pub of_record : Result Page FieldFault → Result Page RecordFault
+of_record (Ok p) = Ok p
+of_record (Err e) = Err (record_fault_of e)
+
 -- The page of a record, or its first fault, other records aside.
 unfoldable pub page_of : Row → Result Page RecordFault
-page_of (address_field ∷ kind_field ∷ message ∷ []) = page_of_fields address_field kind_field message
+page_of (address_field ∷ kind_field ∷ message ∷ []) = of_record (page_of_fields address_field kind_field message)
 page_of _ = Err wrong.FieldCount
 
 abbrev pub with_page : Result Page RecordFault → List Page → List Page
@@ -124,7 +143,7 @@ abbrev pub fault_after : (count : ℕ) → List Page → Result Page RecordFault
 fault_after count earlier (Err e) = Some e
 fault_after count earlier (Ok p) =
     if has_address earlier p.address then Some wrong.DuplicateAddress
-    else if nat_le PAGE_LIMIT count then Some wrong.TooManyPages else None
+    else if nat_le page_limit count then Some wrong.TooManyPages else None
 
 -- The fault of a record after others.
 unfoldable pub fault_of_row : (before : List Row) → Row → Option RecordFault
@@ -179,4 +198,4 @@ rows_of bytes = records default_config (strip_bom bytes)
 
 -- *Verdict of a page file*.
 unfoldable pub verdict : List ℕ → Result (List Page) RoundFault
-verdict bytes = if nat_lt FILE_LIMIT (length bytes) then Err fault.TooLarge else verdict_of_rows (rows_of bytes)
+verdict bytes = if nat_lt file_limit (length bytes) then Err fault.TooLarge else verdict_of_rows (rows_of bytes)

@@ -1,12 +1,11 @@
 -- The round of a list of pages, or the list's first fault (this project's own).
-use Rattle.std.specs.Prelude.{ℕ, ◌+◌, List, [], ◌∷◌, ◌++◌, length, nat_lt, if◌then◌else◌, Option, Some, None, Result, Ok, Err}
+use Rattle.std.specs.Prelude.{◌≡◌, ℕ, ◌+◌, List, [], ◌∷◌, ◌++◌, length, nat_lt, if◌then◌else◌, Option, Some, None, Result, Ok, Err}
 use Rattle.pocsag_pages.specs.declared.page.Page.{Page}
-use Rattle.pocsag_pages.specs.declared.round.TheConstants.{PAGE_LIMIT}
 use Rattle.pocsag_pages.specs.declared.fault.PageFault.{PageFault}
 use Rattle.pocsag_pages.specs.declared.fault.PageFault.TheVariants as broken
 use Rattle.pocsag_pages.specs.declared.fault.RoundFault.{RoundFault}
 use Rattle.pocsag_pages.specs.declared.fault.RoundFault.TheVariants as fault
-use Rattle.pocsag_pages.specs.Pages.{has_address, page_fault_of}
+use Rattle.pocsag_pages.specs.Pages.{page_limit, has_address, page_fault_of}
 
 -- The fault of the page of this number that breaks a rule.
 unfoldable pub numbered_page : ℕ → PageFault → RoundFault
@@ -34,6 +33,11 @@ unfoldable pub first_page_fault : List Page → List Page → Option RoundFault
 first_page_fault before [] = None
 first_page_fault before (p ∷ rest) = or_else (fault_of_next before p) (first_page_fault (before ++ p ∷ []) rest)
 
+-- There is a first page, and it breaks no rule.
+abbrev pub BeginsWithGood : List Page → Type 0
+BeginsWithGood [] = ⊥
+BeginsWithGood (p ∷ ps) = page_fault_of p ≡ None
+
 -- The pages, of which there must be one at least.
 abbrev pub unless_empty : List Page → Result (List Page) RoundFault
 unless_empty [] = Err fault.NoPages
@@ -43,7 +47,7 @@ unless_empty (p ∷ ps) = Ok (p ∷ ps)
 -- its length after its last page, and a page file at its record 20,001.
 abbrev pub unless_fault : Option RoundFault → List Page → Result (List Page) RoundFault
 unless_fault (Some f) ps = Err f
-unless_fault None ps = if nat_lt PAGE_LIMIT (length ps) then Err (fault.TooManyPages (PAGE_LIMIT + 1)) else unless_empty ps
+unless_fault None ps = if nat_lt page_limit (length ps) then Err (fault.TooManyPages (page_limit + 1)) else unless_empty ps
 
 -- The round of a list of pages, or the list's first fault.
 unfoldable pub round_of_pages : List Page → Result (List Page) RoundFault

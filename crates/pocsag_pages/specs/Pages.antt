@@ -1,12 +1,18 @@
 -- Which pages may stand in a round (this project's own limits).
 use Rattle.std.specs.Prelude.{◌≡◌, ◌==◌, ◌&&◌, ◌||◌, ◌⊎◌, ℕ, ◌^◌, ◌<◌, ◌≤◌, List, [], length, map, Bool, false, not, nat_lt, nat_le, if◌then◌else◌, Option, Some, None, All, nat_eq}
 use Rattle.std.specs.List.{list_any, IsDistinct}
+use Rattle.pocsag_text.specs.Text.{item_limit}
 use Rattle.pocsag_pages.specs.declared.page.Page.{Page}
-use Rattle.pocsag_pages.specs.declared.page.TheConstants.{LAST_ADDRESS}
-use Rattle.pocsag_pages.specs.declared.rule.TheConstants.{ITEM_LIMIT}
-use Rattle.pocsag_pages.specs.declared.round.TheConstants.{PAGE_LIMIT}
 use Rattle.pocsag_pages.specs.declared.fault.PageFault.{PageFault}
 use Rattle.pocsag_pages.specs.declared.fault.PageFault.TheVariants as fault
+
+-- The greatest address, which has 21 bits (a rule of Annex 1).
+abbrev pub last_address : ℕ
+last_address = 2097151
+
+-- The most pages of a round (this project's own).
+abbrev pub page_limit : ℕ
+page_limit = 20000
 
 -- The addresses that the idle codeword and the synchronisation codeword would be read as, in each
 -- of the eight frames: they are refused with every function (this project's own).
@@ -17,12 +23,12 @@ is_reserved a = (nat_le 2007664 a && nat_le a 2007671) || (nat_le 2045056 a && n
 unfoldable pub is_bad_payload : ℕ → List ℕ → Bool
 is_bad_payload function items =
     nat_lt 3 function || ((function == 1 || function == 2) && not (length items == 0))
-    || nat_lt ITEM_LIMIT (length items) || list_any (nat_le (2 ^ 20)) items
+    || nat_lt item_limit (length items) || list_any (nat_le (2 ^ 20)) items
 
 -- The first rule that a page breaks.
 abbrev pub page_fault_of : Page → Option PageFault
 page_fault_of p =
-    if nat_lt LAST_ADDRESS p.address then Some fault.BadAddress
+    if nat_lt last_address p.address then Some fault.BadAddress
     else if is_reserved p.address then Some fault.ReservedAddress
     else if is_bad_payload p.function p.payload then Some fault.BadPayload else None
 
@@ -41,7 +47,7 @@ pub record AreGood (ps : List Page) : Type 0 where
 -- What a round keeps.
 pub record IsRound (ps : List Page) : Type 0 where
   pub some : 0 < length ps
-  pub few : length ps ≤ PAGE_LIMIT
+  pub few : length ps ≤ page_limit
   pub good : AreGood ps
 
 -- A page that breaks no rule, in plain facts.
@@ -49,6 +55,6 @@ pub record IsGoodPage (p : Page) : Type 0 where
   pub address : p.address < 2 ^ 21
   pub unreserved : is_reserved p.address ≡ false
   pub function : p.function < 4
-  pub few : length p.payload ≤ ITEM_LIMIT
+  pub few : length p.payload ≤ item_limit
   pub small : All (λ item. item < 2 ^ 20) p.payload
   pub silent : (p.function ≡ 1) ⊎ (p.function ≡ 2) → p.payload ≡ []

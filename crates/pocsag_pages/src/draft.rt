@@ -1,10 +1,10 @@
 ghost use Rattle.std.specs.Prelude.{◌≡◌, ◌≤◌, [], ◌∷◌, ◌++◌, length, false, IfOk};
-ghost use Rattle.pocsag_pages.specs.Pages.{has_address, page_fault_of};
+ghost use Rattle.pocsag_pages.specs.Pages.{page_limit, has_address, page_fault_of};
 ghost use Rattle.pocsag_pages.specs.PageList.{unless_empty};
 
 use crate::fault::RoundFault;
 use crate::page::Page;
-use crate::round::{PAGE_LIMIT, Round};
+use crate::round::Round;
 use pocsag_words::OutOfMemory;
 use std::alloc::Global;
 use std::collections::BTreeSet;
@@ -67,7 +67,7 @@ impl Draft {
 
     // The round of the pages, of which there must be one at least.
     pub(crate) fn into_round(self) -> Result<Round, RoundFault>
-        requires { length self ≤ PAGE_LIMIT }
+        requires { length self ≤ page_limit }
         ensures { result ≡ unless_empty self }
     {
         let Draft { pages, seen: _ } = self;

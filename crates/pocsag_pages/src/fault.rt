@@ -15,6 +15,32 @@ pub enum PageFault {
     BadPayload,
 }
 
+/// Why three fields of text spell no page.
+#[derive(Clone, Copy, PartialEq, Eq, Debug, Error)]
+pub enum FieldFault {
+    /// The address is not one to seven digits, or is above 2,097,151.
+    #[error("bad address")]
+    BadAddress,
+    /// The address is one of the sixteen that would read as idle or as synchronisation.
+    #[error("reserved address")]
+    ReservedAddress,
+    /// The kind is none of `tone0` to `tone3`, `numeric` and `alpha`.
+    #[error("unknown kind")]
+    BadKind,
+    #[error("a tone page has no message")]
+    MessageForTone,
+    #[error("the message is empty")]
+    EmptyMessage,
+    /// The place in the message, counted from 0, of the first byte that is not allowed.
+    #[error("bad character at {0}")]
+    BadCharacter(usize),
+    /// The message has over 4,000 bytes.
+    #[error("the message is too long")]
+    TooLong,
+    #[error("out of memory")]
+    OutOfMemory,
+}
+
 /// Why a reader's bytes were not read whole.
 #[derive(Clone, Copy, PartialEq, Eq, Debug, Error)]
 pub enum WholeFault {
@@ -94,4 +120,24 @@ pub(crate) enum RecordFault {
     DuplicateAddress,
     TooManyPages,
     OutOfMemory,
+}
+
+impl From<FieldFault> for RecordFault {
+    ghost use Rattle.std.specs.Prelude.{◌≡◌};
+    ghost use Rattle.pocsag_pages.specs.PageFile.{record_fault_of};
+
+    ghost from_gives = { λ fault its. its ≡ record_fault_of fault };
+
+    fn from(fault: FieldFault) -> RecordFault {
+        match fault {
+            FieldFault::BadAddress => RecordFault::BadAddress,
+            FieldFault::ReservedAddress => RecordFault::ReservedAddress,
+            FieldFault::BadKind => RecordFault::BadKind,
+            FieldFault::MessageForTone => RecordFault::MessageForTone,
+            FieldFault::EmptyMessage => RecordFault::EmptyMessage,
+            FieldFault::BadCharacter(place) => RecordFault::BadCharacter(place),
+            FieldFault::TooLong => RecordFault::TooLong,
+            FieldFault::OutOfMemory => RecordFault::OutOfMemory,
+        }
+    }
 }

@@ -1,6 +1,7 @@
 ghost use Rattle.std.specs.Prelude.{◌≡◌, ◌+◌, ◌≤◌, ◌⊎◌, ◌∷◌, ◌++◌, [], None, Some, length, IfOk, IfErr, OnOk};
 ghost use Rattle.csv.specs.Records.{fields_of};
 ghost use Rattle.pocsag_words.specs.Devices.{HasFailed};
+ghost use Rattle.pocsag_pages.specs.Pages.{page_limit};
 ghost use Rattle.pocsag_pages.specs.Rows.{StandsAt, rows_left};
 ghost use Rattle.pocsag_pages.specs.PageFile.{fault_after, numbered, page_of, pages_of, round_of_rows, rows_of, verdict, verdict_of_rows};
 
@@ -43,7 +44,7 @@ fn judge(alloc: Global, draft: Draft, earlier: u32, row: &ByteRecord) -> Result<
     ensures fine { IfOk result (λ d. fault_after earlier draft (page_of (fields_of row.now)) ≡ None) }
     ensures longer { IfOk result (λ d. d ≡ draft ++ pages_of (fields_of row.now ∷ [])) }
     ensures one { IfOk result (λ d. length d ≡ length draft + 1) }
-    ensures few { IfOk result (λ d. earlier + 1 ≤ PAGE_LIMIT) }
+    ensures few { IfOk result (λ d. earlier + 1 ≤ page_limit) }
     ensures err { IfErr result
         (λ e. (e ≡ RecordFault.OutOfMemory) ⊎ (fault_after earlier draft (page_of (fields_of row.now)) ≡ Some e)) }
 {

@@ -1,6 +1,6 @@
 ghost use Rattle.std.specs.Prelude.{◌≡◌, ◌+◌, ◌⊎◌, [], ◌^◌, ◌<◌, None, Some, IfOk, IfErr, OnOk};
 ghost use Rattle.pocsag_pages.specs.Pages.{AreGood};
-ghost use Rattle.pocsag_pages.specs.PageList.{first_page_fault, numbered_page, round_of_pages};
+ghost use Rattle.pocsag_pages.specs.PageList.{BeginsWithGood, first_page_fault, numbered_page, round_of_pages};
 
 use crate::fault::{PageFault, RoundFault};
 use crate::page::Page;
@@ -25,6 +25,7 @@ fn judge_pages(alloc: Global, pages: &[Page]) -> Result<(), RoundFault>
     ensures good { OnOk result (AreGood pages.now) }
     ensures ok { OnOk result (first_page_fault [] pages.now ≡ None) }
     ensures err { IfErr result (λ e. (e ≡ RoundFault.OutOfMemory) ⊎ (first_page_fault [] pages.now ≡ Some e)) }
+    ensures memory { result ≡ Err RoundFault.OutOfMemory → BeginsWithGood pages.now }
 {
     let mut seen = BTreeSet::new(alloc);
     for (index, page) in pages.iter().enumerate() {
@@ -50,6 +51,9 @@ impl Round {
     pub fn from_pages(alloc: Global, pages: Vec<Page>) -> Result<Round, RoundFault>
         ensures ok { IfOk result (λ r. round_of_pages pages.items ≡ Ok r) }
         ensures err { IfErr result (λ e. (e ≡ RoundFault.OutOfMemory) ⊎ (round_of_pages pages.items ≡ Err e)) }
+
+        // Memory is wanted from the first page on that breaks no rule.
+        ensures memory { result ≡ Err RoundFault.OutOfMemory → BeginsWithGood pages.items }
     {
         judge_pages(alloc, pages.as_slice())?;
         if pages.len() > PAGE_LIMIT {

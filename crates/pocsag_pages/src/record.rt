@@ -1,11 +1,12 @@
-ghost use Rattle.std.specs.Prelude.{◌≡◌, ◌≢◌, ◌^◌, ◌<◌, ◌≤◌, ◌⊎◌, ◌∷◌, [], length, None, All, IfErr, IfNone, IfOk, IfSome};
+ghost use Rattle.std.specs.Prelude.{◌≡◌, ◌≢◌, ◌^◌, ◌<◌, ◌≤◌, ◌⊎◌, ◌∷◌, [], length, None, All, IfErr, IfNone, IfOk, IfSome, IsOk};
 ghost use Rattle.csv.specs.Records.{fields_of};
-ghost use Rattle.pocsag_pages.specs.Pages.{page_fault_of};
-ghost use Rattle.pocsag_pages.specs.PageFile.{address_of, decimal, function_of, is_header, kind_of_field, page_of, page_of_fields, payload_of, record_fault_of, IsTone};
+ghost use Rattle.pocsag_text.specs.Text.{item_limit};
+ghost use Rattle.pocsag_pages.specs.Pages.{last_address, page_fault_of};
+ghost use Rattle.pocsag_pages.specs.PageFile.{address_of, decimal, function_of, is_header, kind_of_field, page_of, page_of_fields, payload_of, field_fault_of, IsTone};
 
-use crate::fault::RecordFault;
+use crate::fault::{FieldFault, RecordFault};
 use crate::page::{LAST_ADDRESS, Page, Payload};
-use crate::rule::{ITEM_LIMIT, is_reserved_address};
+use crate::rule::is_reserved_address;
 use csv::ByteRecord;
 use pocsag_text::{TextFault, pack_alpha, pack_numeric};
 use std::alloc::Global;
@@ -71,7 +72,7 @@ fn parse_decimal(digits: &[u8]) -> Option<u32>
 #[tactic(auto, unfolding(crate::specs::PageFile::address_of))]
 fn parse_address(field: &[u8]) -> Option<u32>
     ensures value { result ≡ address_of field.now }
-    ensures low { IfSome result (λ address. address ≤ LAST_ADDRESS) }
+    ensures low { IfSome result (λ address. address ≤ last_address) }
 {
     if field.is_empty() {
         return None;
@@ -123,61 +124,72 @@ impl PageKind {
     }
 }
 
-fn record_fault(fault: TextFault) -> RecordFault
-    ensures { result ≡ record_fault_of fault }
+fn field_fault(fault: TextFault) -> FieldFault
+    ensures { result ≡ field_fault_of fault }
 {
     match fault {
-        TextFault::EmptyMessage => RecordFault::EmptyMessage,
-        TextFault::BadCharacter(place) => RecordFault::BadCharacter(place),
-        TextFault::TooLong => RecordFault::TooLong,
-        TextFault::OutOfMemory => RecordFault::OutOfMemory,
+        TextFault::EmptyMessage => FieldFault::EmptyMessage,
+        TextFault::BadCharacter(place) => FieldFault::BadCharacter(place),
+        TextFault::TooLong => FieldFault::TooLong,
+        TextFault::OutOfMemory => FieldFault::OutOfMemory,
     }
 }
 
 // The payload of a page's message.
 #[tactic(auto, unfolding(crate::specs::PageFile::payload_of))]
-fn pack_message(alloc: Global, kind: PageKind, message: &[u8]) -> Result<Payload, RecordFault>
+fn pack_message(alloc: Global, kind: PageKind, message: &[u8]) -> Result<Payload, FieldFault>
     ensures ok { IfOk result (λ p. payload_of kind message.now ≡ Ok p) }
     ensures small { IfOk result (λ p. All (λ item. item < 2 ^ 20) p) }
-    ensures few { IfOk result (λ p. length p ≤ ITEM_LIMIT) }
+    ensures few { IfOk result (λ p. length p ≤ item_limit) }
     ensures silent { IfOk result (λ p. IsTone kind → p ≡ []) }
     ensures err { IfErr result
-        (λ e. (e ≡ RecordFault.OutOfMemory) ⊎ (payload_of kind message.now ≡ Err e)) }
+        (λ e. (e ≡ FieldFault.OutOfMemory) ⊎ (payload_of kind message.now ≡ Err e)) }
+    ensures memory { result ≡ Err FieldFault.OutOfMemory → IsOk (payload_of kind message.now) }
 {
     let packed = match kind {
         PageKind::Tone(_) => {
             if message.is_empty() {
                 return Ok(Payload::empty(alloc));
             }
-            return Err(RecordFault::MessageForTone);
+            return Err(FieldFault::MessageForTone);
         }
         PageKind::Numeric => pack_numeric(alloc, message),
         PageKind::Alpha => pack_alpha(alloc, message),
     };
     match packed {
         Ok(items) => Ok(Payload::from_vec(items)),
-        Err(fault) => Err(record_fault(fault)),
+        Err(fault) => Err(field_fault(fault)),
     }
 }
 
-// The page of the three fields.
+/// The page that three fields of text spell, as those of a record of a page file. Faults, in this order:
+/// `BadAddress`, `ReservedAddress`, `BadKind`; of the message `MessageForTone`, `EmptyMessage`,
+/// `BadCharacter`, `TooLong`; then `OutOfMemory`.
 #[tactic(auto, unfolding(crate::specs::PageFile::page_of_fields))]
-fn page_of_three(alloc: Global, fields: &Fields<'_>) -> Result<Page, RecordFault>
-    ensures ok { IfOk result (λ p. page_of_fields fields.now.address.now fields.now.kind.now fields.now.message.now ≡ Ok p) }
+pub fn page_of_fields(
+    alloc: Global,
+    address: &[u8],
+    kind: &[u8],
+    message: &[u8],
+) -> Result<Page, FieldFault>
+    ensures ok { IfOk result (λ p. page_of_fields address.now kind.now message.now ≡ Ok p) }
     ensures good { IfOk result (λ p. page_fault_of p ≡ None) }
     ensures err { IfErr result
-        (λ e. (e ≡ RecordFault.OutOfMemory) ⊎ (page_of_fields fields.now.address.now fields.now.kind.now fields.now.message.now ≡ Err e)) }
+        (λ e. (e ≡ FieldFault.OutOfMemory) ⊎ (page_of_fields address.now kind.now message.now ≡ Err e)) }
+
+    // Memory is wanted only by fields that spell a page.
+    ensures memory { result ≡ Err FieldFault.OutOfMemory → IsOk (page_of_fields address.now kind.now message.now) }
 {
-    let Some(address) = parse_address(fields.address) else {
-        return Err(RecordFault::BadAddress);
+    let Some(address) = parse_address(address) else {
+        return Err(FieldFault::BadAddress);
     };
     if is_reserved_address(address) {
-        return Err(RecordFault::ReservedAddress);
+        return Err(FieldFault::ReservedAddress);
     }
-    let Some(kind) = parse_kind(fields.kind) else {
-        return Err(RecordFault::BadKind);
+    let Some(kind) = parse_kind(kind) else {
+        return Err(FieldFault::BadKind);
     };
-    let payload = pack_message(alloc, kind, fields.message)?;
+    let payload = pack_message(alloc, kind, message)?;
     Ok(Page {
         address,
         function: kind.function(),
@@ -196,5 +208,10 @@ pub(crate) fn page_of_row(alloc: Global, row: &ByteRecord) -> Result<Page, Recor
     let Some(fields) = three_fields(row) else {
         return Err(RecordFault::FieldCount);
     };
-    page_of_three(alloc, &fields)
+    Ok(page_of_fields(
+        alloc,
+        fields.address,
+        fields.kind,
+        fields.message,
+    )?)
 }

@@ -26,8 +26,8 @@ impl Model for Round {
 }
 
 impl Round {
-    // The round of pages that may be one.
-    pub(crate) fn of(pages: Vec<Page>) -> Round
+    /// The round of pages that may be one, which are not judged again. It takes no memory.
+    pub fn of(pages: Vec<Page>) -> Round
         requires { IsRound pages.items }
         ensures { result ≡ pages.items }
     {

@@ -6,7 +6,7 @@ use crate::fault::PageFault;
 use crate::page::{LAST_ADDRESS, Page};
 
 /// The greatest number of items of a message, which 4,000 characters of seven bits fill.
-pub const ITEM_LIMIT: usize = pocsag_text::ITEM_LIMIT;
+pub const ITEM_LIMIT: usize = 1_400;
 
 /// Whether the address is one of the sixteen that the idle and the synchronisation codeword would be
 /// read as.

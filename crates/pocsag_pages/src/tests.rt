@@ -1,5 +1,7 @@
+ghost use Rattle.std.specs.Prelude.{◌≤◌};
+
 use super::*;
-use pocsag_words::MemorySource;
+use pocsag_words::{DeviceFault, MemorySource, Source};
 use std::alloc::Global;
 use std::test::Fail;
 
@@ -134,6 +136,80 @@ fn round_size(rt: HostRuntime) -> Result<(), Fail> {
     Ok(())
 }
 
+// A page file of one page and empty lines, so long.
+#[derive(Drop)]
+struct LongFile {
+    text: &'static [u8],
+    left: usize,
+    calls: u64,
+}
+
+impl LongFile {
+    fn new(length: usize) -> LongFile {
+        LongFile {
+            text: b"address,kind,message\n8,tone0,\n",
+            left: length,
+            calls: 0,
+        }
+    }
+}
+
+impl Source for LongFile {
+    ghost use Rattle.std.specs.Prelude.{[]};
+
+    ghost tells = { ⊥ };
+
+    ghost held = { λ _. [] };
+
+    ghost calls = { λ s. s.calls };
+
+    ghost failures = { λ _. 0 };
+
+    fn read(&mut self, buffer: &mut [u8]) -> Result<usize, DeviceFault> {
+        self.calls = self.calls.saturating_add(1);
+        let mut count = self.left.min(buffer.len());
+        if self.text.is_empty() {
+            buffer[..count].fill(b'\n');
+        } else {
+            count = count.min(self.text.len());
+            let (front, rest) = self.text.split_at(count);
+            buffer[..count].copy_from_slice(front);
+            self.text = rest;
+        }
+        self.left -= count;
+        Ok(count)
+    }
+}
+
+#[test]
+fn file_size(rt: HostRuntime) -> Result<(), Fail> {
+    let alloc = rt.alloc();
+    let round = read_round(alloc, &mut LongFile::new(268_435_456))?;
+    assert_eq!(rt; round.pages().len(), 1);
+    let fault = read_round(alloc, &mut LongFile::new(268_435_457)).err();
+    assert_eq!(rt; fault, Some(RoundFault::TooLarge));
+    Ok(())
+}
+
+// So many pages of tones.
+fn tones(alloc: Global, count: u32) -> Result<Vec<Page>, Fail> {
+    let mut pages = Vec::new(alloc);
+    for address in 0..count {
+        pages.push(page(alloc, address, 0, &[])?)?;
+    }
+    Ok(pages)
+}
+
+#[test]
+fn list_size(rt: HostRuntime) -> Result<(), Fail> {
+    let alloc = rt.alloc();
+    let round = Round::from_pages(alloc, tones(alloc, 20_000)?)?;
+    assert_eq!(rt; round.pages(), tones(alloc, 20_000)?.as_slice());
+    let fault = Round::from_pages(alloc, tones(alloc, 20_001)?).err();
+    assert_eq!(rt; fault, Some(RoundFault::TooManyPages(20_001)));
+    Ok(())
+}
+
 #[test]
 fn read_limit(rt: HostRuntime) -> Result<(), Fail> {
     let alloc = rt.alloc();
@@ -189,6 +265,39 @@ fn makes_a_round_of_pages(rt: HostRuntime) -> Result<(), Fail> {
 }
 
 #[test]
+fn spells_pages(rt: HostRuntime) -> Result<(), Fail> {
+    let alloc = rt.alloc();
+    let digits = page_of_fields(alloc, b"0000000", b"numeric", b"12345")?;
+    assert_eq!(rt; digits, page(alloc, 0, 0, &[0x84C2A])?);
+    let letters = page_of_fields(alloc, b"2097151", b"alpha", b"ABC")?;
+    assert_eq!(rt; letters, page(alloc, 2_097_151, 3, &[0x82870, 0x80000])?);
+    Ok(())
+}
+
+// The fault of three fields.
+fn field_fault(alloc: Global, address: &[u8], kind: &[u8], message: &[u8]) -> Option<FieldFault> {
+    page_of_fields(alloc, address, kind, message).err()
+}
+
+#[test]
+fn bad_fields(rt: HostRuntime) {
+    let alloc = rt.alloc();
+    for (address, kind, message, fault) in [
+        (b"2097152", b"nones", b"-", FieldFault::BadAddress),
+        (b"2007664", b"nones", b"-", FieldFault::ReservedAddress),
+        (b"0000007", b"Tone0", b"-", FieldFault::BadKind),
+        (b"0000007", b"tone1", b"-", FieldFault::MessageForTone),
+        (b"0000007", b"alpha", b"\x00", FieldFault::BadCharacter(0)),
+    ] {
+        assert_eq!(rt; field_fault(alloc, address, kind, message), Some(fault));
+    }
+    let empty = field_fault(alloc, b"7", b"alpha", b"");
+    assert_eq!(rt; empty, Some(FieldFault::EmptyMessage));
+    let long = field_fault(alloc, b"7", b"numeric", &[b'1'; 4_001]);
+    assert_eq!(rt; long, Some(FieldFault::TooLong));
+}
+
+#[test]
 fn judges_pages(rt: HostRuntime) -> Result<(), Fail> {
     let alloc = rt.alloc();
     let high = page(alloc, 2_097_152, 0, &[])?;
@@ -200,6 +309,10 @@ fn judges_pages(rt: HostRuntime) -> Result<(), Fail> {
     let large = page(alloc, 8, 2, &[1_048_576])?;
     assert_eq!(rt; page_fault(&large), Some(PageFault::BadPayload));
     assert_eq!(rt; page_fault(&page(alloc, 8, 3, &[1_048_575])?), None);
+    let last = page(alloc, 2_097_151, 0, &[0x88888; 1_400])?;
+    assert_eq!(rt; page_fault(&last), None);
+    let long = page(alloc, 2_097_151, 0, &[0x88888; 1_401])?;
+    assert_eq!(rt; page_fault(&long), Some(PageFault::BadPayload));
     Ok(())
 }
 

@@ -1,11 +1,18 @@
 -- *Payload of a text*, and the text of a payload.
 use Rattle.std.specs.Prelude.{ℕ, ◌-◌, ◌*◌, ◌/◌, ◌%◌, ◌==◌, nat_lt, ◌||◌, Bool, if◌then◌else◌, List, [], ◌∷◌, ◌++◌, length, map, replicate, position, Option, Some, None, Result, Ok, Err}
 use Rattle.std.specs.List.{flat_map}
-use Rattle.pocsag_text.specs.declared.TheConstants.{CHARACTER_LIMIT}
 use Rattle.pocsag_text.specs.declared.fault.TextFault.{TextFault}
 use Rattle.pocsag_text.specs.declared.fault.TextFault.TheVariants as fault
 use Rattle.pocsag_text.specs.Bits.{low_first, low_number, high_number, cut, item_bits}
 use Rattle.pocsag_text.specs.Characters.{character_of, code_or_space, space, space_code, is_bad_digit}
+
+-- The most characters of a text (this project's own).
+abbrev pub character_limit : ℕ
+character_limit = 4000
+
+-- The most items of a payload, which so many characters of seven bits fill.
+abbrev pub item_limit : ℕ
+item_limit = 1400
 
 -- Whether a byte may not stand in an alphanumeric text: it is none of the codes 1 to 127 (this
 -- project's own; 0 would be lost in the fill).
@@ -15,7 +22,7 @@ is_bad_byte b = b == 0 || nat_lt 127 b
 -- The fault of a text that is not empty, by the place of its first bad character and its length.
 abbrev pub fault_of_place : Option ℕ → ℕ → Option TextFault
 fault_of_place (Some place) count = Some (fault.BadCharacter place)
-fault_of_place None count = if nat_lt CHARACTER_LIMIT count then Some fault.TooLong else None
+fault_of_place None count = if nat_lt character_limit count then Some fault.TooLong else None
 
 -- The fault of a text (this project's own), by the place of its first bad character and its
 -- length: that it is empty, else that place, else that it is too long.

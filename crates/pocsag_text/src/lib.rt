@@ -13,7 +13,4 @@ pub use pack::{pack_alpha, pack_numeric};
 pub use unpack::{unpack_alpha, unpack_numeric};
 
 /// The most characters that a text may have (this project's own).
-pub const CHARACTER_LIMIT: usize = 4000;
-
-/// The most items that a text is packed into: 4,000 characters of seven bits.
-pub const ITEM_LIMIT: usize = 1400;
+pub const CHARACTER_LIMIT: usize = 4_000;

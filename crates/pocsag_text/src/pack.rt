@@ -2,12 +2,12 @@ ghost use Rattle.std.specs.Prelude.{◌≡◌, ℕ, ◌^◌, ◌<◌, ◌≤◌,
 ghost use Rattle.std.specs.List.{flat_map};
 ghost use Rattle.pocsag_text.specs.Bits.{low_first};
 ghost use Rattle.pocsag_text.specs.Characters as numeric;
-ghost use Rattle.pocsag_text.specs.Text.{numeric_payload, alpha_payload, numeric_bits, alpha_bits, twenties, is_bad_byte, text_fault, fault_of as fault_by};
+ghost use Rattle.pocsag_text.specs.Text.{numeric_payload, alpha_payload, numeric_bits, alpha_bits, twenties, is_bad_byte, text_fault, character_limit, item_limit, fault_of as fault_by};
 
+use crate::CHARACTER_LIMIT;
 use crate::character::{ALPHA_WIDTH, NUMERIC_WIDTH, SPACE_CODE, code_of, code_or_space};
 use crate::fault::TextFault;
 use crate::packer::Packer;
-use crate::{CHARACTER_LIMIT, ITEM_LIMIT};
 use pocsag_words::OutOfMemory;
 use std::alloc::Global;
 
@@ -16,7 +16,7 @@ use std::alloc::Global;
 pub fn pack_numeric(alloc: Global, text: &[u8]) -> Result<Vec<u32>, TextFault>
     ensures ok { IfOk result (λ v. numeric_payload text.now ≡ Ok v.items) }
     ensures small { IfOk result (λ v. All (λ item. item < 2 ^ 20) v.items) }
-    ensures few { IfOk result (λ v. length v.items ≤ ITEM_LIMIT) }
+    ensures few { IfOk result (λ v. length v.items ≤ item_limit) }
     ensures err { IfErr result
         (λ e. (e ≡ TextFault.OutOfMemory) ⊎ (numeric_payload text.now ≡ Err e)) }
 
@@ -37,7 +37,7 @@ pub fn pack_numeric(alloc: Global, text: &[u8]) -> Result<Vec<u32>, TextFault>
 pub fn pack_alpha(alloc: Global, text: &[u8]) -> Result<Vec<u32>, TextFault>
     ensures ok { IfOk result (λ v. alpha_payload text.now ≡ Ok v.items) }
     ensures small { IfOk result (λ v. All (λ item. item < 2 ^ 20) v.items) }
-    ensures few { IfOk result (λ v. length v.items ≤ ITEM_LIMIT) }
+    ensures few { IfOk result (λ v. length v.items ≤ item_limit) }
     ensures err { IfErr result
         (λ e. (e ≡ TextFault.OutOfMemory) ⊎ (alpha_payload text.now ≡ Err e)) }
 
@@ -101,7 +101,7 @@ fn fault_of(first_bad: Option<usize>, count: usize) -> Option<TextFault>
 
 /// The items of a numeric text.
 fn numeric_items(alloc: Global, text: &[u8]) -> Result<Vec<u32>, OutOfMemory>
-    requires { length text.now ≤ CHARACTER_LIMIT }
+    requires { length text.now ≤ character_limit }
     ensures items { IfOk result (λ v. v.items ≡ twenties (numeric_bits text.now)) }
     ensures small { IfOk result (λ v. All (λ item. item < 2 ^ 20) v.items) }
 {
@@ -112,7 +112,7 @@ fn numeric_items(alloc: Global, text: &[u8]) -> Result<Vec<u32>, OutOfMemory>
 
 /// The bits of the characters of a numeric text.
 fn numeric_packer(alloc: Global, text: &[u8]) -> Result<Packer, OutOfMemory>
-    requires { length text.now ≤ CHARACTER_LIMIT }
+    requires { length text.now ≤ character_limit }
     ensures { IfOk result (λ p. p ≡ flat_map (low_first 4) (map numeric.code_or_space text.now)) }
 {
     let mut packer = Packer::with_room(alloc, text.len().div_ceil(5))?;
@@ -124,7 +124,7 @@ fn numeric_packer(alloc: Global, text: &[u8]) -> Result<Packer, OutOfMemory>
 
 /// The items of an alphanumeric text.
 fn alpha_items(alloc: Global, text: &[u8]) -> Result<Vec<u32>, OutOfMemory>
-    requires few { length text.now ≤ CHARACTER_LIMIT }
+    requires few { length text.now ≤ character_limit }
     requires small { All (λ byte. byte < 128) text.now }
     ensures items { IfOk result (λ v. v.items ≡ twenties (alpha_bits text.now)) }
     ensures small { IfOk result (λ v. All (λ item. item < 2 ^ 20) v.items) }
@@ -136,7 +136,7 @@ fn alpha_items(alloc: Global, text: &[u8]) -> Result<Vec<u32>, OutOfMemory>
 
 /// The bits of the characters of an alphanumeric text.
 fn alpha_packer(alloc: Global, text: &[u8]) -> Result<Packer, OutOfMemory>
-    requires few { length text.now ≤ CHARACTER_LIMIT }
+    requires few { length text.now ≤ character_limit }
     requires small { All (λ byte. byte < 128) text.now }
     ensures { IfOk result (λ p. p ≡ flat_map (low_first 7) text.now) }
 {
@@ -190,7 +190,19 @@ mod tests {
         assert_eq!(rt; fault, Some(TextFault::EmptyMessage));
         let fault = pack_numeric(rt.alloc(), b"12a").err();
         assert_eq!(rt; fault, Some(TextFault::BadCharacter(2)));
-        let fault = pack_numeric(rt.alloc(), &[b'1'; 4001]).err();
+    }
+
+    #[test]
+    fn longest_texts(rt: HostRuntime) -> Result<(), Fail> {
+        let items = pack_numeric(rt.alloc(), &[b'1'; 4_000])?;
+        assert_eq!(rt; items.len(), 800);
+        assert!(rt; items.iter().all(|item| *item == 0x88888));
+        let fault = pack_numeric(rt.alloc(), &[b'1'; 4_001]).err();
         assert_eq!(rt; fault, Some(TextFault::TooLong));
+        let items = pack_alpha(rt.alloc(), &[b'A'; 4_000])?;
+        assert_eq!(rt; items.len(), 1_400);
+        let fault = pack_alpha(rt.alloc(), &[b'A'; 4_001]).err();
+        assert_eq!(rt; fault, Some(TextFault::TooLong));
+        Ok(())
     }
 }

@@ -1,5 +1,5 @@
 use Rattle.std.proofs.Common.{◌≡◌, ◌-◌, ◌≤◌, length}
-use Rattle.pocsag_pages.specs.declared.round.TheConstants.{PAGE_LIMIT}
+use Rattle.pocsag_pages.specs.Pages.{page_limit}
 use Rattle.pocsag_pages.specs.Rows.{StandsAt, rows_left}
 use Rattle.pocsag_pages.specs.PageFile.{round_of_rows}
 use Rattle.pocsag_pages.proofs.Judging.{grown}
@@ -10,9 +10,9 @@ abbrev pub invariant-loop-found : goal.invariant-loop-found
 invariant-loop-found l = record {
   stands : StandsAt l.reader;
   even : length l.draft ≡ l.earlier;
-  few : l.earlier ≤ PAGE_LIMIT;
+  few : l.earlier ≤ page_limit;
   rest : round_of_rows (rows_left l.fn.reader) ≡ grown l.draft l.earlier (rows_left l.reader);
 }
 
 abbrev pub decreases-loop-found : goal.decreases-loop-found
-decreases-loop-found l = PAGE_LIMIT - l.earlier
+decreases-loop-found l = page_limit - l.earlier

@@ -1,6 +1,6 @@
 use Rattle.std.proofs.Common.{sym, ◌∙◌}
 use Rattle.pocsag_pages.proofs.RecordPages.{good_record}
-use Rattle.pocsag_pages.proofs.record.page_of_three.Goals as goal
+use Rattle.pocsag_pages.proofs.record.page_of_fields.Goals as goal
 
 pub returns-clause-good : goal.returns-clause-good
 returns-clause-good c =
