@@ -153,7 +153,7 @@ lengthened k end choice n m steps tour = record {
 }
 
 -- each choice of a tour is within the limits of all
-admitted_all : (k : Classes) (end : End) (choice : ℕ → ℕ) (b : ℕ) (steps : List Step) → IsTour k end choice b steps → IsAdmitted k (limits_of_all k b) choice
+pub admitted_all : (k : Classes) (end : End) (choice : ℕ → ℕ) (b : ℕ) (steps : List Step) → IsTour k end choice b steps → IsAdmitted k (limits_of_all k b) choice
 admitted_all k end choice b steps tour = record {
   within = record {
     least = λ c h. subst (λ (n : ℕ). n ≤ choice c) (sym (get_or-replicate 136 c 0 0 h)) (omega arith);

@@ -1,0 +1,4 @@
+pub mod Found
+pub mod Marks
+pub mod Outside
+pub mod Shape

@@ -1,0 +1,16 @@
+-- The nodes of a tree in the order of the certificate's text: a node, and then each child with all below it.
+use Rattle.std.specs.Prelude.{Bool, true, false, List, [], ◌∷◌, ◌++◌}
+use Rattle.pocsag_tree.specs.Bounds.{Bound, Bounds, overload, split, cut, close, unexamined, none, more}
+
+abbrev mutual
+  -- Which nodes are `Open`.
+  pub opens : Bound → List Bool
+  opens (overload set) = false ∷ []
+  opens (split class m below above) = false ∷ (opens below ++ opens above)
+  opens (cut set needed children) = false ∷ opens_in children
+  opens (close children) = false ∷ opens_in children
+  opens unexamined = true ∷ []
+
+  pub opens_in : Bounds → List Bool
+  opens_in none = []
+  opens_in (more t ts) = opens t ++ opens_in ts

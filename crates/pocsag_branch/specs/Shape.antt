@@ -1,0 +1,63 @@
+-- *Shape of the search's trees*, this project's own: under which limits the nodes of a tree stand, where
+-- so many batches are asked for.
+use Rattle.std.specs.Prelude.{◌≡◌, ℕ, ◌<◌, true, false, List, [], ◌∷◌, slice_index}
+use Rattle.pocsag_tree.specs.Bounds.{Bound, Bounds, overload, split, cut, close, unexamined, none, more}
+use Rattle.pocsag_slots.specs.declared.class.Classes.{Classes}
+use Rattle.pocsag_slots.specs.declared.limit.Limits.{Limits}
+use Rattle.pocsag_slots.specs.declared.way.Way.{Way}
+use Rattle.pocsag_slots.specs.Loads.{IsAdmitted}
+use Rattle.pocsag_slots.specs.Ways.{class_certain, ways_across, ways_to_close, narrowed_limits, limits_below, limits_from}
+use Rattle.pocsag_tour.specs.Reached.{IsApart, IsUnclosed}
+use Rattle.pocsag_branch.specs.Outside.{HasRunOutside}
+
+-- No class is certain for the set.
+abbrev pub NoneCertain : Classes → Limits → ℕ → Type 0
+NoneCertain k l set = (c : ℕ) → c < 136 → class_certain k l set c ≡ false
+
+-- The limits admit a choice that has a run outside the set, and the set is all that it reaches.
+pub record AdmitApart (k : Classes) (batches : ℕ) (l : Limits) (set : ℕ) : Type 0 where
+  pub choice : ℕ → ℕ
+  pub admitted : IsAdmitted k l choice
+  pub apart : IsApart k choice batches set
+
+-- A class with a run outside the set is split at 1 where an early run of it is outside, and otherwise at
+-- its count.
+pub data SplitsAt (k : Classes) (choice : ℕ → ℕ) (set c m : ℕ) : Type 0 where
+  at_one : HasRunOutside k choice set c true → m ≡ 1 → SplitsAt k choice set c m
+  at_count : ¬ HasRunOutside k choice set c true → HasRunOutside k choice set c false →
+      m ≡ slice_index k.count c → SplitsAt k choice set c m
+
+-- The limits admit such a choice, no class is certain for its set, and the class is split there.
+pub record AdmitSplit (k : Classes) (batches : ℕ) (l : Limits) (c m : ℕ) : Type 0 where
+  pub choice : ℕ → ℕ
+  pub set : ℕ
+  pub admitted : IsAdmitted k l choice
+  pub apart : IsApart k choice batches set
+  pub uncertain : NoneCertain k l set
+  pub splits : SplitsAt k choice set c m
+
+-- The limits admit a choice with a tour for the open end and none for the closed end.
+pub record AdmitUnclosed (k : Classes) (batches : ℕ) (l : Limits) : Type 0 where
+  pub choice : ℕ → ℕ
+  pub admitted : IsAdmitted k l choice
+  pub unclosed : IsUnclosed k choice batches
+
+abbrev mutual
+  -- Each `Cut`, `Split` and `Close` of the tree stands under limits that admit such a choice.
+  pub IsShaped : Classes → ℕ → Limits → Bound → Type 0
+  IsShaped k batches l (overload set) = Unit {0}
+  IsShaped k batches l (split c m below above) =
+      AdmitSplit k batches l c m × IsShaped k batches (limits_below l c m) below × IsShaped k batches (limits_from l c m) above
+  IsShaped k batches l (cut set c children) =
+      AdmitApart k batches l set × AreShaped k batches l (ways_across k l set) children
+  IsShaped k batches l (close children) =
+      AdmitUnclosed k batches l × AreShaped k batches l (ways_to_close k l) children
+  IsShaped k batches l unexamined = Unit {0}
+
+  -- Each way has its child, in order, of that shape under the limits that the way leaves.
+  pub AreShaped : Classes → ℕ → Limits → List Way → Bounds → Type 0
+  AreShaped k batches l [] none = Unit {0}
+  AreShaped k batches l [] (more t ts) = ⊥
+  AreShaped k batches l (w ∷ ws) none = ⊥
+  AreShaped k batches l (w ∷ ws) (more t ts) =
+      IsShaped k batches (narrowed_limits k l w batches) t × AreShaped k batches l ws ts

@@ -1,0 +1,11 @@
+#![tactic(auto)]
+//! The search for a transmission with the fewest batches, and for the tree that shows that fewer do not
+//! suffice. What it answers, the checker accepts.
+
+mod answer;
+mod fault;
+mod searching;
+
+pub use answer::Found;
+pub use fault::SearchFault;
+pub use searching::search;

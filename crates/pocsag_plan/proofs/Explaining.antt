@@ -1,0 +1,36 @@
+-- What a fault of the search says of the round.
+use Rattle.std.proofs.Common.{List}
+use Rattle.pocsag_words.specs.declared.ending.End.{End}
+use Rattle.pocsag_pages.specs.declared.page.Page.{Page}
+use Rattle.pocsag_pages.specs.Pages.{IsRound}
+use Rattle.pocsag_pages.proofs.GoodPages.{apart_pages}
+use Rattle.pocsag_slots.specs.declared.class.Classes.{Classes}
+use Rattle.pocsag_slots.specs.Loads.{AreClassesOf}
+use Rattle.pocsag_branch.specs.declared.fault.SearchFault.{SearchFault}
+use Rattle.pocsag_branch.specs.declared.fault.SearchFault.TheVariants as searching
+use Rattle.pocsag_branch.specs.Found.{IsNodeLimit, IsSearchFault}
+use Rattle.pocsag_plan.specs.FaultChains.{fault_of_search}
+use Rattle.pocsag_plan.specs.Plans.{ExplainsPlan}
+use Rattle.std.proofs.Common.{ℕ}
+
+pub explained : (k : Classes) (end : End) (R : List Page) (limit : ℕ) (fault : SearchFault) → IsRound R → AreClassesOf k end R → IsNodeLimit limit →
+    IsSearchFault k end limit fault → ExplainsPlan end R limit (fault_of_search fault)
+explained k end R limit (searching.SearchLimit least found tree) round classes within said =
+    let sent = said.sent R classes in (
+      within,
+      record {
+        table = k;
+        classes = classes;
+        is_least = said.is_least;
+        bound = λ T n legal. said.bound R T n (apart_pages R round.good) classes legal;
+        one_more = said.one_more;
+        codewords = sent.0;
+        legal = sent.1;
+        unseen = said.unseen;
+        some = said.some;
+        marks = said.marks;
+        accepted = record { table = k; counted = classes; accepted = said.accepted };
+        shaped = said.shaped;
+      },
+    )
+explained k end R limit searching.OutOfMemory round classes within said = within

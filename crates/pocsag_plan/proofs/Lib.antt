@@ -1,0 +1,5 @@
+pub mod Completing
+pub mod Due
+pub mod Explaining
+pub mod Rooms
+pub mod Served

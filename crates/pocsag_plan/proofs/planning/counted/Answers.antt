@@ -1,0 +1,24 @@
+use Rattle.std.proofs.Common.{◌≡◌, ℕ, ◌+◌, ◌<◌, ◌==◌, Bool, cond, List, [], ◌∷◌, length, arith, ap, refl, eq-eqb, slice_index}
+use Rattle.pocsag_words.specs.declared.ending.End.{End}
+use Rattle.pocsag_pages.specs.declared.page.Page.{Page}
+use Rattle.pocsag_slots.specs.declared.class.Classes.{Classes}
+use Rattle.pocsag_slots.specs.Loads.{AreClassesOf}
+use Rattle.pocsag_slots.specs.Numbering.{class_of_page, count_of}
+use Rattle.pocsag_slots.proofs.CountLemmas.{page_class_below}
+use Rattle.pocsag_slots.proofs.Walks.{count_of-cons}
+use Rattle.pocsag_branch.specs.Found.{HasPage}
+use Rattle.pocsag_plan.proofs.planning.counted.Goals as goal
+
+-- the class of the first page has a page
+has_page : (k : Classes) (end : End) (R : List Page) → AreClassesOf k end R → 0 < length R → HasPage k
+has_page k end [] classes some = absurd (omega arith)
+has_page k end (p ∷ R) classes some =
+    let class : ℕ = class_of_page end p in
+    let known : class < 136 = page_class_below end p in
+    let here : count_of end (p ∷ R) class ≡ cond (class == class) 1 0 + count_of end R class = count_of-cons end p R class in
+    let same : cond {A = ℕ} (class == class) 1 0 ≡ 1 = ap (λ (b : Bool). cond {A = ℕ} b 1 0) (eq-eqb class class refl) in
+    let counted : slice_index k.count class ≡ count_of end (p ∷ R) class = classes.count class known in
+    record { class = class; known = known; some = omega arith }
+
+pub returns-clause-page : goal.returns-clause-page
+returns-clause-page c = has_page c.classes_of.result c.args.end c.args.round.now c.classes_of.ensures.counted c.pages-pages.ensures.round.some

@@ -1,0 +1,45 @@
+use Rattle.pocsag_plan.proofs.Due.{due, has_places, unwritten}
+use Rattle.pocsag_plan.proofs.streaming.send.Goals as goal
+
+pub new-slots-requires : goal.new-slots-requires
+new-slots-requires g c =
+    has_places c.args.end c.args.round.now c.args.plan.now c.requires c.deref.result.now c.deref-2.result.now c.deref.ensures.value c.deref-2.ensures.value
+
+pub returns-in_default-clause-part : goal.returns-in_default-clause-part
+returns-in_default-clause-part g c = λ tells failed file read.
+    let sent = c.in_default.ensures.part tells in
+    record {
+      batches = c.args.plan.now.batches;
+      tree = _;
+      sent = _;
+      certificate = _;
+      headline = due c.args.end c.args.round.now c.args.plan.now c.requires c.deref.result.now c.deref-2.result.now c.new-slots.result sent.words
+          c.deref.ensures.value c.deref-2.ensures.value c.new-slots.ensures sent.say file read;
+      part = sent.part;
+    }
+
+pub returns-in-Ok-write_certificate-clause-whole : goal.returns-in-Ok-write_certificate-clause-whole
+returns-in-Ok-write_certificate-clause-whole g c = λ tells cert_tells file read.
+    let sent = c.in-Ok.ensures.whole tells in
+    record {
+      sent = _;
+      certificate = _;
+      headline = due c.args.end c.args.round.now c.args.plan.now c.requires c.deref.result.now c.deref-2.result.now c.new-slots.result sent.words
+          c.deref.ensures.value c.deref-2.ensures.value c.new-slots.ensures sent.say file read;
+      transmission = sent.taken;
+      text = c.in-Ok-write_certificate.ensures.whole cert_tells;
+    }
+
+pub returns-in-Err-clause-certificate_part : goal.returns-in-Err-clause-certificate_part
+returns-in-Err-clause-certificate_part g c = λ tells cert_tells failed file read.
+    let sent = c.in-Ok.ensures.whole tells in
+    record {
+      batches = c.args.plan.now.batches;
+      tree = _;
+      sent = _;
+      certificate = _;
+      headline = due c.args.end c.args.round.now c.args.plan.now c.requires c.deref.result.now c.deref-2.result.now c.new-slots.result sent.words
+          c.deref.ensures.value c.deref-2.ensures.value c.new-slots.ensures sent.say file read;
+      transmission = sent.taken;
+      part = c.in-Err.ensures.part cert_tells (unwritten c.in-Err.field-0 _ c.requires.text c.in-Err.ensures.bad);
+    }

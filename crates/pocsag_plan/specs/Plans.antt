@@ -1,0 +1,81 @@
+-- What a plan is, and why there is none.
+use Rattle.std.specs.Prelude.{◌≡◌, ℕ, ◌+◌, ◌*◌, ◌<◌, ◌≤◌, ◌⊎◌, true, false, List, ◌++◌, length, replicate, slice_index, sum_by}
+use Rattle.pocsag_words.specs.declared.codeword.Kind.{Kind}
+use Rattle.pocsag_words.specs.declared.ending.End.{End}
+use Rattle.pocsag_pages.specs.declared.page.Page.{Page}
+use Rattle.pocsag_pages.specs.Reading.{IsLegalList, page_length}
+use Rattle.pocsag_slots.specs.declared.class.Classes.{Classes}
+use Rattle.pocsag_slots.specs.Loads.{AreClassesOf, IsAdmitted, IsLeast, limits_of_all}
+use Rattle.pocsag_slots.specs.Tours.{IsTour}
+use Rattle.pocsag_tree.specs.Bounds.{Bound}
+use Rattle.pocsag_tree.specs.Spelling.{HasText}
+use Rattle.pocsag_tree.specs.Views.{bound_of}
+use Rattle.pocsag_tree.specs.declared.limits.TheConstants.{SECOND_VERSION}
+use Rattle.pocsag_check.specs.Accepting.{IsAcceptedFor}
+use Rattle.pocsag_branch.specs.Found.{IsNodeLimit}
+use Rattle.pocsag_branch.specs.Marks.{opens}
+use Rattle.pocsag_branch.specs.Shape.{IsShaped}
+use Rattle.pocsag_batch.specs.FileOrder.{IsFileOrder}
+use Rattle.pocsag_batch.specs.Placing.{IsOrder}
+use Rattle.pocsag_plan.specs.declared.answer.Plan.{Plan}
+use Rattle.pocsag_plan.specs.declared.fault.PlanFault.{PlanFault}
+use Rattle.pocsag_plan.specs.declared.fault.PlanFault.TheVariants as fault
+
+-- Each list of codewords that is legal for the round and the end has at least so many batches.
+abbrev pub NoneHasFewer : End → List Page → ℕ → Type 0
+NoneHasFewer end R batches = (T : List ℕ) (n : ℕ) → IsLegalList end T n R → batches ≤ n
+
+-- The batches are the least that some choice of starts needs, or one more.
+pub record IsNearLeast (k : Classes) (batches : ℕ) : Type 0 where
+  pub least : ℕ
+  pub is_least : IsLeast k least
+  pub near : (batches ≡ least) ⊎ (batches ≡ least + 1)
+
+-- A plan of the round for the end.
+pub record IsPlan (end : End) (R : List Page) (plan : Plan) : Type 0 where
+  -- It is for the end that was asked for, and counts the pages, the codewords of the pages, and the batches
+  -- of file order, which has the open end for either end.
+  pub asked : plan.end ≡ end
+  pub pages : plan.pages ≡ length R
+  pub codewords : plan.codewords ≡ sum_by page_length R
+  pub in_order : (T : List Kind) → IsFileOrder R T → length T ≡ 16 * plan.in_order
+  -- The choice is admitted, the steps are its tour for the end, and the order is that of the steps.
+  pub table : Classes
+  pub classes : AreClassesOf table end R
+  pub admitted : IsAdmitted table (limits_of_all table plan.batches) (slice_index plan.choice.early)
+  pub tour : IsTour table end (slice_index plan.choice.early) plan.batches plan.steps.items
+  pub order : IsOrder end R plan.steps.items plan.order.items
+  -- The codewords of the pages fit into the batches, of which there are few.
+  pub room : plan.codewords ≤ 16 * plan.batches
+  pub near_least : IsNearLeast table plan.batches
+  pub most : plan.batches ≤ 1760001
+  -- The batches are the fewest; the checker accepts the tree for them, and there is a text of it.
+  pub fewest : NoneHasFewer end R plan.batches
+  pub accepted : IsAcceptedFor false end R plan.batches (bound_of plan.tree)
+  pub text : HasText SECOND_VERSION plan.batches (bound_of plan.tree)
+
+-- What the search knew of the round when it had made as many nodes as it may.
+pub record IsStopped (end : End) (R : List Page) (limit least found : ℕ) (tree : Bound) : Type 0 where
+  pub table : Classes
+  pub classes : AreClassesOf table end R
+  -- `least` is the least that some choice of starts needs, which bounds each transmission;
+  pub is_least : IsLeast table least
+  pub bound : NoneHasFewer end R least
+  -- with one batch more there is a transmission;
+  pub one_more : found ≡ least + 1
+  pub codewords : List ℕ
+  pub legal : IsLegalList end codewords found R
+  -- exactly so many nodes of the tree are not `Open`, and they come before the first that is, of which
+  -- there is one at least;
+  pub unseen : ℕ
+  pub some : 0 < unseen
+  pub marks : opens tree ≡ replicate limit false ++ replicate unseen true
+  -- the checker accepts the tree with its `Open` nodes, and it has the shape of the search's trees.
+  pub accepted : IsAcceptedFor true end R found tree
+  pub shaped : IsShaped table least (limits_of_all table least) tree
+
+-- When each fault of `plan` comes, and what it says.
+abbrev pub ExplainsPlan : End → List Page → ℕ → PlanFault → Type 0
+ExplainsPlan end R limit fault.BadLimit = ¬ IsNodeLimit limit
+ExplainsPlan end R limit (fault.SearchLimit least found tree) = IsNodeLimit limit × IsStopped end R limit least found (bound_of tree)
+ExplainsPlan end R limit fault.OutOfMemory = IsNodeLimit limit

@@ -1,0 +1,91 @@
+-- What `plan_stream` leaves of its writers.
+use Rattle.std.specs.Prelude.{◌≡◌, ◌⊎◌, ℕ, List, ◌++◌, Ok, Err, IsOk}
+use Rattle.pocsag_words.specs.Devices.{TookPrefix}
+use Rattle.pocsag_words.specs.declared.ending.End.{End}
+use Rattle.pocsag_pages.specs.PageFile.{verdict}
+use Rattle.pocsag_pages.specs.declared.fault.RoundFault.TheVariants as round
+use Rattle.pocsag_pages.specs.declared.page.Page.{Page}
+use Rattle.pocsag_tree.specs.Bounds.{Bound}
+use Rattle.pocsag_tree.specs.Views.{bound_of}
+use Rattle.pocsag_branch.specs.Found.{IsNodeLimit}
+use Rattle.pocsag_plan.specs.declared.answer.Plan.{Plan}
+use Rattle.pocsag_plan.specs.declared.fault.StreamFault.{StreamFault}
+use Rattle.pocsag_plan.specs.declared.fault.StreamFault.TheVariants as fault
+use Rattle.pocsag_plan.specs.Headline.{Headline}
+use Rattle.pocsag_plan.specs.Plans.{IsPlan, IsStopped}
+
+-- The plan is one of the round of the page file.
+pub record IsPlanOf (file : List ℕ) (end : End) (plan : Plan) : Type 0 where
+  pub round : List Page
+  pub read : verdict file ≡ Ok round
+  pub plan_of : IsPlan end round plan
+
+-- The search stopped at the round of the page file.
+pub record IsStoppedAt (file : List ℕ) (end : End) (limit least found : ℕ) (tree : Bound) : Type 0 where
+  pub round : List Page
+  pub read : verdict file ≡ Ok round
+  pub stopped : IsStopped end round limit least found tree
+
+-- What both writers took more is the transmission and the certificate of the headline.
+pub record Writes (file : List ℕ) (end : End) (batches : ℕ) (tree : Bound) (tx_before tx_after cert_before cert_after : List ℕ) : Type 0 where
+  pub sent : List ℕ
+  pub certificate : List ℕ
+  pub headline : Headline file end batches tree sent certificate
+  pub transmission : tx_after ≡ tx_before ++ sent
+  pub text : cert_after ≡ cert_before ++ certificate
+
+-- What was taken more is a prefix of the transmission of the headline.
+pub record WritesPart (file : List ℕ) (end : End) (tx_before tx_after : List ℕ) : Type 0 where
+  pub batches : ℕ
+  pub tree : Bound
+  pub sent : List ℕ
+  pub certificate : List ℕ
+  pub headline : Headline file end batches tree sent certificate
+  pub part : TookPrefix tx_before tx_after sent
+
+-- The transmission of the headline was taken whole, and a prefix of its certificate.
+pub record WritesCertificatePart (file : List ℕ) (end : End) (tx_before tx_after cert_before cert_after : List ℕ) : Type 0 where
+  pub batches : ℕ
+  pub tree : Bound
+  pub sent : List ℕ
+  pub certificate : List ℕ
+  pub headline : Headline file end batches tree sent certificate
+  pub transmission : tx_after ≡ tx_before ++ sent
+  pub part : TookPrefix cert_before cert_after certificate
+
+-- When each fault of `plan_stream` comes, and what it says.
+abbrev pub ExplainsStream : List ℕ → End → ℕ → StreamFault → Type 0
+ExplainsStream file end limit fault.BadLimit = ¬ IsNodeLimit limit
+ExplainsStream file end limit (fault.Round f) =
+    IsNodeLimit limit × ((f ≡ round.OutOfMemory) ⊎ (f ≡ round.ReadFault) ⊎ (verdict file ≡ Err f))
+ExplainsStream file end limit (fault.SearchLimit least found tree) =
+    IsNodeLimit limit × IsStoppedAt file end limit least found (bound_of tree)
+ExplainsStream file end limit fault.OutOfMemory = IsNodeLimit limit × IsOk (verdict file)
+ExplainsStream file end limit (fault.Transmission f) = IsNodeLimit limit × IsOk (verdict file)
+ExplainsStream file end limit (fault.Certificate f) = IsNodeLimit limit × IsOk (verdict file)
+
+-- A fault that comes before the first write.
+abbrev pub IsBeforeWriting : StreamFault → Type 0
+IsBeforeWriting fault.BadLimit = Unit {0}
+IsBeforeWriting (fault.Round f) = Unit {0}
+IsBeforeWriting (fault.SearchLimit least found tree) = Unit {0}
+IsBeforeWriting fault.OutOfMemory = Unit {0}
+IsBeforeWriting (fault.Transmission f) = ⊥
+IsBeforeWriting (fault.Certificate f) = ⊥
+
+-- A fault of the writer of the transmission, or of that of the certificate.
+abbrev pub IsTransmission : StreamFault → Type 0
+IsTransmission fault.BadLimit = ⊥
+IsTransmission (fault.Round f) = ⊥
+IsTransmission (fault.SearchLimit least found tree) = ⊥
+IsTransmission fault.OutOfMemory = ⊥
+IsTransmission (fault.Transmission f) = Unit {0}
+IsTransmission (fault.Certificate f) = ⊥
+
+abbrev pub IsCertificate : StreamFault → Type 0
+IsCertificate fault.BadLimit = ⊥
+IsCertificate (fault.Round f) = ⊥
+IsCertificate (fault.SearchLimit least found tree) = ⊥
+IsCertificate fault.OutOfMemory = ⊥
+IsCertificate (fault.Transmission f) = ⊥
+IsCertificate (fault.Certificate f) = Unit {0}

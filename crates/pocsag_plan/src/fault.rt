@@ -1,0 +1,95 @@
+ghost use Rattle.std.specs.Prelude.{◌≡◌};
+ghost use Rattle.pocsag_plan.specs.declared.fault.PlanFault.TheVariants as planning;
+ghost use Rattle.pocsag_plan.specs.declared.fault.StreamFault.TheVariants as streaming;
+ghost use Rattle.pocsag_plan.specs.FaultChains.{fault_of_plan, fault_of_search};
+
+use pocsag_branch::SearchFault;
+use pocsag_pages::RoundFault;
+use pocsag_tree::Tree;
+use pocsag_words::{OutOfMemory, WriteFault};
+use thiserror::Error;
+
+/// Why there is no plan.
+#[derive(Drop, Debug, Error)]
+pub enum PlanFault {
+    /// The node limit is 0 or above 1,000,000.
+    #[error("the limit must be 1 to 1000000")]
+    BadLimit,
+    /// So many nodes did not decide between `least` batches and `found`, one more. The tree holds the
+    /// nodes that were examined, and an `Open` for each that was not.
+    #[error("search limit reached: at least {least} batches, {found} would do")]
+    SearchLimit { least: u32, found: u32, tree: Tree },
+    #[error("out of memory")]
+    OutOfMemory,
+}
+
+/// Why a page file was not planned and written.
+#[derive(Drop, Debug, Error)]
+pub enum StreamFault {
+    /// The node limit is 0 or above 1,000,000.
+    #[error("the limit must be 1 to 1000000")]
+    BadLimit,
+    /// The page file gives no round.
+    #[error("{0}")]
+    Round(RoundFault),
+    /// So many nodes did not decide between `least` batches and `found`, one more. The tree holds the
+    /// nodes that were examined, and an `Open` for each that was not.
+    #[error("search limit reached: at least {least} batches, {found} would do")]
+    SearchLimit { least: u32, found: u32, tree: Tree },
+    #[error("out of memory")]
+    OutOfMemory,
+    /// The transmission was not taken whole: what was taken is a prefix of it.
+    #[error("cannot write")]
+    Transmission(WriteFault),
+    /// The transmission was taken whole, and the certificate was not: what was taken is a prefix of it.
+    #[error("cannot write")]
+    Certificate(WriteFault),
+}
+
+/// A rate that is none of 512, 1200 and 2400 bits a second.
+#[derive(Clone, Copy, PartialEq, Eq, Debug, Error)]
+#[error("the rate must be 512, 1200 or 2400")]
+pub struct BadRate;
+
+impl From<OutOfMemory> for PlanFault {
+    ghost from_gives = { λ _ e. e ≡ planning.OutOfMemory };
+
+    fn from(_fault: OutOfMemory) -> PlanFault {
+        PlanFault::OutOfMemory
+    }
+}
+
+impl From<SearchFault> for PlanFault {
+    ghost from_gives = { λ fault e. e ≡ fault_of_search fault };
+
+    fn from(fault: SearchFault) -> PlanFault {
+        match fault {
+            SearchFault::SearchLimit { least, found, tree } => {
+                PlanFault::SearchLimit { least, found, tree }
+            }
+            SearchFault::OutOfMemory => PlanFault::OutOfMemory,
+        }
+    }
+}
+
+impl From<RoundFault> for StreamFault {
+    ghost from_gives = { λ fault e. e ≡ streaming.Round fault };
+
+    fn from(fault: RoundFault) -> StreamFault {
+        StreamFault::Round(fault)
+    }
+}
+
+impl From<PlanFault> for StreamFault {
+    ghost from_gives = { λ fault e. e ≡ fault_of_plan fault };
+
+    fn from(fault: PlanFault) -> StreamFault {
+        match fault {
+            PlanFault::BadLimit => StreamFault::BadLimit,
+            PlanFault::SearchLimit { least, found, tree } => {
+                StreamFault::SearchLimit { least, found, tree }
+            }
+            PlanFault::OutOfMemory => StreamFault::OutOfMemory,
+        }
+    }
+}

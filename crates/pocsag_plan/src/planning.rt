@@ -1,0 +1,113 @@
+ghost use Rattle.std.specs.Prelude.{◌≡◌, ◌≤◌, ◌↔◌, IfErr, IfOk, IsErrOf, IsTrue, sum_by};
+ghost use Rattle.pocsag_pages.specs.Pages.{IsRound};
+ghost use Rattle.pocsag_pages.specs.Reading.{page_length};
+ghost use Rattle.pocsag_slots.specs.Loads.{AreClassesOf};
+ghost use Rattle.pocsag_tree.specs.Bounds.{closed_nodes};
+ghost use Rattle.pocsag_tree.specs.Views.{bound_of};
+ghost use Rattle.pocsag_branch.specs.Found.{HasPage, IsFound, IsNodeLimit};
+ghost use Rattle.pocsag_plan.specs.Plans.{ExplainsPlan, IsPlan};
+
+use crate::answer::Plan;
+use crate::fault::PlanFault;
+use pocsag_batch::{in_order_batches, order_of};
+use pocsag_branch::{Found, search};
+
+use pocsag_pages::Round;
+use pocsag_slots::{Classes, classes_of};
+use pocsag_words::{End, OutOfMemory, kinds_have_codewords};
+use std::alloc::Global;
+
+// The greatest node limit.
+const NODE_LIMIT: u32 = 1_000_000;
+
+/// Plans the round: the fewest batches for the end, with a tour and the tree that refutes one batch less.
+/// `BadLimit` where the node limit is 0 or above 1,000,000, `SearchLimit` where so many nodes do not
+/// decide it.
+pub fn plan(alloc: Global, round: &Round, limit: u32, end: End) -> Result<Plan, PlanFault>
+    ensures plan { IfOk result (IsPlan end round.now) }
+    ensures small { IfOk result (λ plan. closed_nodes (bound_of plan.tree) ≤ limit) }
+    ensures bad_limit { IsErrOf result PlanFault.BadLimit ↔ (¬ IsNodeLimit limit) }
+    ensures fault { IfErr result (ExplainsPlan end round.now limit) }
+{
+    if !is_node_limit(limit) {
+        return Err(PlanFault::BadLimit);
+    }
+    plan_within(alloc, round, limit, end)
+}
+
+pub(crate) fn is_node_limit(limit: u32) -> bool
+    ensures { IsTrue result ↔ IsNodeLimit limit }
+{
+    1 <= limit && limit <= NODE_LIMIT
+}
+
+// The same for a limit that can be asked for.
+pub(crate) fn plan_within(
+    alloc: Global,
+    round: &Round,
+    limit: u32,
+    end: End,
+) -> Result<Plan, PlanFault>
+    requires { IsNodeLimit limit }
+    ensures plan { IfOk result (IsPlan end round.now) }
+    ensures small { IfOk result (λ plan. closed_nodes (bound_of plan.tree) ≤ limit) }
+    ensures limit { ¬ IsErrOf result PlanFault.BadLimit }
+    ensures fault { IfErr result (ExplainsPlan end round.now limit) }
+{
+    let classes = counted(round, end);
+    let found = search(alloc, &classes, limit, end)?;
+    let plan = completed(alloc, round, &classes, limit, found, end)?;
+    Ok(plan)
+}
+
+// The classes of the round, of which one has a page.
+fn counted(round: &Round, end: End) -> Classes
+    ensures classes { AreClassesOf result end round.now }
+    ensures page { HasPage result }
+    ensures round { IsRound round.now }
+{
+    let _pages = round.pages();
+    classes_of(round, end)
+}
+
+// How many codewords the pages have.
+fn codewords_of(round: &Round) -> u32
+    ensures { result ≡ sum_by page_length round.now }
+{
+    let mut total = 0;
+    for page in round.pages() {
+        total += 1 + page.payload.as_slice().len();
+    }
+    total as u32
+}
+
+// The plan with what the search found.
+fn completed(
+    alloc: Global,
+    round: &Round,
+    classes: &Classes,
+    limit: u32,
+    found: Found,
+    end: End,
+) -> Result<Plan, OutOfMemory>
+    requires limited { IsNodeLimit limit }
+    requires counted { AreClassesOf classes.now end round.now }
+    requires found { IsFound classes.now end limit found }
+    ensures plan { IfOk result (IsPlan end round.now) }
+    ensures small { IfOk result (λ plan. closed_nodes (bound_of plan.tree) ≤ limit) }
+{
+    kinds_have_codewords();
+    let pages = round.pages().len() as u32;
+    let order = order_of(alloc, round, &found.steps, end)?;
+    Ok(Plan {
+        end,
+        batches: found.batches,
+        in_order: in_order_batches(round),
+        pages,
+        codewords: codewords_of(round),
+        steps: found.steps,
+        order,
+        choice: found.choice,
+        tree: found.tree,
+    })
+}
