@@ -3,3 +3,4 @@ pub mod Due
 pub mod Explaining
 pub mod Rooms
 pub mod Served
+pub mod Tallying

@@ -4,14 +4,19 @@
 
 mod airtime;
 mod answer;
+mod book;
 mod fault;
 mod planning;
+mod refusal;
 mod reporting;
 mod streaming;
+mod tally;
 
 pub use airtime::Report;
 pub use answer::Plan;
+pub use book::Book;
 pub use fault::{BadRate, PlanFault, StreamFault};
 pub use planning::plan;
+pub use refusal::{AddFault, NotThere, Refused};
 pub use reporting::report;
 pub use streaming::plan_stream;
