@@ -4,3 +4,6 @@ pub mod Explaining
 pub mod Rooms
 pub mod Served
 pub mod Tallying
+pub mod Entries
+pub mod Editing
+pub mod Refusing
