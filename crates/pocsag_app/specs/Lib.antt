@@ -1,1 +1,4 @@
+pub mod Commands
+pub mod Faults
+pub mod Lines
 pub mod Paths

@@ -1,115 +1,129 @@
-ghost use Rattle.std.specs.Prelude.{◌≡◌, ℕ, OnOk};
-ghost use Rattle.pocsag_pages.specs.PageFile.{verdict};
-ghost use Rattle.pocsag_batch.specs.Streams.{WritesInOrder};
+ghost use Rattle.std.specs.Prelude.{◌≡◌, ◌++◌, OnOk};
+ghost use Rattle.pocsag_words.specs.declared.ending.End.TheVariants.{Open as open_end};
+ghost use Rattle.pocsag_app.specs.Commands.{IsRefused, Leaves, Planned, PlannedAndTold, Reported, ToldPlan};
+ghost use Rattle.pocsag_app.specs.Faults.{IsStatus, status_after};
+ghost use Rattle.pocsag_app.specs.Lines.{plan_text};
 
 use crate::fault::Fault;
-use crate::tell::{tell, tell_fault};
-use pocsag_batch::{first_stream, in_order_batches};
-use pocsag_check::check;
+use crate::tell::{ended, tell};
 use pocsag_pages::read_round;
-use pocsag_tree::read_certificate;
+use pocsag_plan::{plan, plan_stream, report};
 use pocsag_words::{End, Sink, Source};
 use std::alloc::Global;
 
-/// With no words: reads a page file and tells its pages and batches. Answers the exit status.
+/// The node limit where none is asked for.
+pub const DEFAULT_LIMIT: u32 = 100_000;
+
+/// With no words: plans a page file with the default limit and the open end, and tells its pages and
+/// batches. Answers the exit status.
 pub fn run_input<I: Source, O: Sink, E: Sink>(
     alloc: Global,
     input: &mut I,
     out: &mut O,
     err: &mut E,
-) -> u8 {
-    match tell_round(alloc, input, out) {
-        Ok(()) => 0,
-        Err(fault) => tell_fault(err, fault),
-    }
+) -> u8
+    ensures told { I.tells → O.tells → result ≡ 0 → ToldPlan (I.held input.old) open_end (O.taken out.old) (O.taken out.new) }
+    ensures status { IsStatus result }
+{
+    let done = plan_input(alloc, input, out);
+    ended(done, err)
 }
 
-fn tell_round<I: Source, O: Sink>(alloc: Global, input: &mut I, out: &mut O) -> Result<(), Fault> {
-    let round = match read_round(alloc, input) {
-        Ok(round) => round,
-        Err(fault) => return Err(Fault::Round(fault)),
-    };
-    let pages = round.pages().len();
-    let batches = in_order_batches(&round);
-    tell(out, format_args!("pages {pages}"))?;
-    tell(out, format_args!("batches {batches}"))
+fn plan_input<I: Source, O: Sink>(alloc: Global, input: &mut I, out: &mut O) -> Result<(), Fault>
+    ensures { I.tells → O.tells → OnOk result (ToldPlan (I.held input.old) open_end (O.taken out.old) (O.taken out.new)) }
+{
+    let round = read_round(alloc, input)?;
+    let plan = plan(alloc, &round, DEFAULT_LIMIT, End::Open)?;
+    tell_plan(plan.pages, plan.batches, out)
 }
 
-/// `plan PAGES TX`: writes the transmission of a page file and tells its batches. Answers the exit
-/// status.
-pub fn run_plan<P: Source, T: Sink, O: Sink, E: Sink>(
+fn tell_plan<O: Sink>(pages: u32, batches: u32, out: &mut O) -> Result<(), Fault>
+    ensures { O.tells → OnOk result (O.taken out.new ≡ O.taken out.old ++ plan_text pages batches) }
+{
+    tell(out, format_args!("pages {pages}\nbatches {batches}\n"))
+}
+
+/// `plan PAGES TX CERT`: writes the transmission of a page file with the fewest batches and the
+/// certificate of that, and tells its pages and batches. Answers the exit status.
+pub fn run_plan<P: Source, T: Sink, C: Sink, O: Sink, E: Sink>(
     alloc: Global,
+    limit: u32,
+    end: End,
     pages: &mut P,
     tx: &mut T,
+    cert: &mut C,
     out: &mut O,
     err: &mut E,
 ) -> u8
-    ensures written { P.tells → T.tells → result ≡ 0 →
-        (n : ℕ) × WritesInOrder (verdict (P.held pages.old)) (T.taken tx.old) (T.taken tx.new) n }
+    // Where it is done, the headline holds of what both files took.
+    ensures planned { P.tells → T.tells → C.tells → result ≡ 0 →
+        Planned (P.held pages.old) end (T.taken tx.old) (T.taken tx.new) (C.taken cert.old) (C.taken cert.new) }
+    ensures told { P.tells → T.tells → C.tells → O.tells → result ≡ 0 →
+        PlannedAndTold (P.held pages.old) end (T.taken tx.old) (T.taken tx.new) (C.taken cert.old) (C.taken cert.new) (O.taken out.old) (O.taken out.new) }
+
+    // What it leaves otherwise.
+    ensures refused { result ≡ 1 → (tx.new ≡ tx.old) × (cert.new ≡ cert.old) }
+    ensures why { P.tells → result ≡ 1 → IsRefused (P.held pages.old) end limit }
+    ensures leaves { P.tells → T.tells → C.tells →
+        Leaves (P.held pages.old) end (T.taken tx.old) (T.taken tx.new) (C.taken cert.old) (C.taken cert.new) }
+    ensures status { IsStatus result }
 {
-    match plan(alloc, pages, tx, out) {
-        Ok(()) => 0,
-        Err(fault) => tell_fault(err, fault),
-    }
+    let done = plan_files(alloc, limit, end, pages, tx, cert, out);
+    ended(done, err)
 }
 
-fn plan<P: Source, T: Sink, O: Sink>(
+fn plan_files<P: Source, T: Sink, C: Sink, O: Sink>(
     alloc: Global,
+    limit: u32,
+    end: End,
     pages: &mut P,
     tx: &mut T,
+    cert: &mut C,
     out: &mut O,
 ) -> Result<(), Fault>
-    ensures written { P.tells → T.tells → OnOk result
-        ((n : ℕ) × WritesInOrder (verdict (P.held pages.old)) (T.taken tx.old) (T.taken tx.new) n) }
+    ensures planned { P.tells → T.tells → C.tells → OnOk result
+        (Planned (P.held pages.old) end (T.taken tx.old) (T.taken tx.new) (C.taken cert.old) (C.taken cert.new)) }
+    ensures told { P.tells → T.tells → C.tells → O.tells → OnOk result
+        (PlannedAndTold (P.held pages.old) end (T.taken tx.old) (T.taken tx.new) (C.taken cert.old) (C.taken cert.new) (O.taken out.old) (O.taken out.new)) }
+    ensures refused { status_after result ≡ 1 → (tx.new ≡ tx.old) × (cert.new ≡ cert.old) }
+    ensures why { P.tells → status_after result ≡ 1 → IsRefused (P.held pages.old) end limit }
+    ensures leaves { P.tells → T.tells → C.tells →
+        Leaves (P.held pages.old) end (T.taken tx.old) (T.taken tx.new) (C.taken cert.old) (C.taken cert.new) }
 {
-    match first_stream(alloc, pages, tx) {
-        Ok(batches) => tell(out, format_args!("batches {batches}")),
-        Err(fault) => Err(Fault::of_first(fault)),
-    }
+    let plan = plan_stream(alloc, pages, tx, cert, limit, end)?;
+    tell_plan(plan.pages, plan.batches, out)
 }
 
-/// `check PAGES CERT`: tells whether the certificate shows its number of batches for the page file.
-/// Answers the exit status, 1 where it does not.
-pub fn run_check<P: Source, C: Source, O: Sink, E: Sink>(
+/// `report PAGES --rate R`: tells what the plan of a page file takes on the air at a rate. Answers the
+/// exit status.
+pub fn run_report<P: Source, O: Sink, E: Sink>(
     alloc: Global,
+    rate: u32,
+    limit: u32,
+    end: End,
     pages: &mut P,
-    cert: &mut C,
     out: &mut O,
     err: &mut E,
-) -> u8 {
-    match check_files(alloc, pages, cert, out) {
-        Ok(true) => 0,
-        Ok(false) => 1,
-        Err(fault) => tell_fault(err, fault),
-    }
+) -> u8
+    ensures told { P.tells → O.tells → result ≡ 0 → Reported (P.held pages.old) end rate (O.taken out.old) (O.taken out.new) }
+    ensures status { IsStatus result }
+{
+    let done = report_file(alloc, rate, limit, end, pages, out);
+    ended(done, err)
 }
 
-fn check_files<P: Source, C: Source, O: Sink>(
+fn report_file<P: Source, O: Sink>(
     alloc: Global,
+    rate: u32,
+    limit: u32,
+    end: End,
     pages: &mut P,
-    cert: &mut C,
     out: &mut O,
-) -> Result<bool, Fault> {
-    let round = match read_round(alloc, pages) {
-        Ok(round) => round,
-        Err(fault) => return Err(Fault::Round(fault)),
-    };
-    let certificate = match read_certificate(alloc, cert) {
-        Ok(certificate) => certificate,
-        Err(fault) => return Err(Fault::of_certificate(fault)),
-    };
-    let batches = certificate.batches;
-    let end = certificate.end;
-    if !check(&round, batches, &certificate.tree, end) {
-        tell(out, "not shown")?;
-        return Ok(false);
-    }
-    match end {
-        End::Open => tell(out, format_args!("at least {batches} batches"))?,
-        End::Closed => tell(
-            out,
-            format_args!("at least {batches} batches with a closed end"),
-        )?,
-    }
-    Ok(true)
+) -> Result<(), Fault>
+    ensures { P.tells → O.tells → OnOk result (Reported (P.held pages.old) end rate (O.taken out.old) (O.taken out.new)) }
+{
+    let round = read_round(alloc, pages)?;
+    let plan = plan(alloc, &round, limit, end)?;
+    let told = report(&plan, rate)?;
+    tell(out, told)
 }

@@ -1,8 +1,8 @@
 use crate::devices::{ReaderSource, WriterSink};
 use crate::fault::Fault;
-use crate::paths::Named;
+use crate::paths::{Named, name_one_file};
 use std::alloc::Global;
-use std::fs::{self, File};
+use std::fs::{self, OpenFile};
 use std::io::{self, BufReader, ErrorKind};
 use std::rt::Files;
 
@@ -15,12 +15,19 @@ fn fault_of(error: io::Error) -> Fault {
     }
 }
 
+// Opens a file to read it; a folder is none.
+fn open_file<R: Files>(rt: &R, path: &str) -> Result<R::File, Fault> {
+    let file = fs::open(rt, path).map_err(fault_of)?;
+    let metadata = file.metadata().map_err(fault_of)?;
+    if metadata.is_dir() {
+        return Err(Fault::Device);
+    }
+    Ok(file)
+}
+
 /// Opens a file to read it.
 pub fn open_source<R: Files>(rt: &R, path: &str) -> Result<ReaderSource<R::File>, Fault> {
-    match fs::open(rt, path) {
-        Ok(file) => Ok(ReaderSource::new(file)),
-        Err(error) => Err(fault_of(error)),
-    }
+    Ok(ReaderSource::new(open_file(rt, path)?))
 }
 
 /// Opens a file that is read a few bytes at a time.
@@ -29,30 +36,45 @@ pub fn open_buffered<R: Files>(
     alloc: Global,
     path: &str,
 ) -> Result<ReaderSource<BufReader<R::File>>, Fault> {
-    let file = match fs::open(rt, path) {
-        Ok(file) => file,
-        Err(error) => return Err(fault_of(error)),
-    };
-    match BufReader::new(alloc, file) {
-        Ok(reader) => Ok(ReaderSource::new(reader)),
-        Err(error) => Err(fault_of(error)),
+    let reader = BufReader::new(alloc, open_file(rt, path)?).map_err(fault_of)?;
+    Ok(ReaderSource::new(reader))
+}
+
+// Empties or makes a file to write it.
+fn make_sink<R: Files>(rt: &R, path: &str) -> Result<WriterSink<R::File>, Fault> {
+    let file = fs::create(rt, path).map_err(fault_of)?;
+    Ok(WriterSink::new(file))
+}
+
+/// The two files that a command writes, emptied or made. Where two of the three paths name one file,
+/// whatever their spelling, none that was there is emptied.
+#[derive(Drop)]
+pub struct Outputs<R: Files> {
+    pub tx: WriterSink<R::File>,
+    pub cert: WriterSink<R::File>,
+}
+
+impl<R: Files> Outputs<R> {
+    pub fn make(rt: &R, pages: &str, tx: &str, cert: &str) -> Result<Outputs<R>, Fault> {
+        refuse_one_file(rt, &[pages, tx, cert])?;
+        let made = make_sink(rt, tx)?;
+        // A path that named no file before may be another spelling of the one that was made.
+        refuse_one_file(rt, &[pages, tx, cert])?;
+        Ok(Outputs {
+            tx: made,
+            cert: make_sink(rt, cert)?,
+        })
     }
 }
 
-/// Empties or makes a file to write it, unless its path names one of the files that are to be kept,
-/// which some other words of the command line name.
-pub fn make_sink<R: Files>(
-    rt: &R,
-    path: &str,
-    kept: &[Option<Named>],
-) -> Result<WriterSink<R::File>, Fault> {
-    if let Some(named) = Named::at(rt, path) {
-        if kept.iter().any(|other| *other == Some(named)) {
-            return Err(Fault::EqualPaths);
-        }
+fn refuse_one_file<R: Files>(rt: &R, paths: &[&str; 3]) -> Result<(), Fault> {
+    let named = [
+        Named::at(rt, paths[0]),
+        Named::at(rt, paths[1]),
+        Named::at(rt, paths[2]),
+    ];
+    if name_one_file(&named) {
+        return Err(Fault::EqualPaths);
     }
-    match fs::create(rt, path) {
-        Ok(file) => Ok(WriterSink::new(file)),
-        Err(error) => Err(fault_of(error)),
-    }
+    Ok(())
 }

@@ -1,25 +1,25 @@
 #![tactic(auto)]
 //! The program `pocsag`: reads its words, opens its files, and calls the command.
 
+mod checking;
 mod commands;
 mod devices;
 mod fault;
 mod files;
+mod obeying;
 mod paths;
 mod receiving;
 mod tell;
 #[cfg(test)]
 mod tests;
+mod verifying;
 mod words;
 
-use crate::commands::{run_check, run_input, run_plan};
-use crate::devices::{ReaderSource, WriterSink};
+use crate::devices::WriterSink;
 use crate::fault::Fault;
-use crate::files::{make_sink, open_buffered, open_source};
-use crate::paths::{Named, equal_paths};
-use crate::receiving::{run_decode, run_hear};
+use crate::obeying::obey;
 use crate::tell::tell_fault;
-use crate::words::{Order, order_of};
+use crate::words::order_of;
 use clap::Error;
 use clap::error::ErrorKind;
 use std::alloc::Global;
@@ -70,70 +70,4 @@ fn refuse<E: pocsag_words::Sink>(rt: &HostRuntime, error: Error, err: &mut E) ->
         Ok(()) => 0,
         Err(_) => tell_fault(err, Fault::Write),
     }
-}
-
-fn obey<E: pocsag_words::Sink>(
-    rt: &HostRuntime,
-    alloc: Global,
-    order: Order<'_>,
-    err: &mut E,
-) -> u8 {
-    let mut out = WriterSink::new(rt.stdout());
-    match order {
-        Order::Input => {
-            let mut input = ReaderSource::new(rt.stdin());
-            run_input(alloc, &mut input, &mut out, err)
-        }
-        Order::Plan { pages, tx } => plan_files(rt, alloc, pages, tx, &mut out, err),
-        Order::Check { pages, cert } => check_files(rt, alloc, pages, cert, &mut out, err),
-        Order::Decode { tx } => match open_source(rt, tx) {
-            Ok(mut source) => run_decode(alloc, &mut source, &mut out, err),
-            Err(fault) => tell_fault(err, fault),
-        },
-        Order::Hear { address, tx } => match open_source(rt, tx) {
-            Ok(mut source) => run_hear(alloc, address, &mut source, &mut out, err),
-            Err(fault) => tell_fault(err, fault),
-        },
-    }
-}
-
-fn check_files<O: pocsag_words::Sink, E: pocsag_words::Sink>(
-    rt: &HostRuntime,
-    alloc: Global,
-    pages: &str,
-    cert: &str,
-    out: &mut O,
-    err: &mut E,
-) -> u8 {
-    let mut source = match open_source(rt, pages) {
-        Ok(source) => source,
-        Err(fault) => return tell_fault(err, fault),
-    };
-    let mut certificate = match open_buffered(rt, alloc, cert) {
-        Ok(certificate) => certificate,
-        Err(fault) => return tell_fault(err, fault),
-    };
-    run_check(alloc, &mut source, &mut certificate, out, err)
-}
-
-fn plan_files<O: pocsag_words::Sink, E: pocsag_words::Sink>(
-    rt: &HostRuntime,
-    alloc: Global,
-    pages: &str,
-    tx: &str,
-    out: &mut O,
-    err: &mut E,
-) -> u8 {
-    if equal_paths(&[pages, tx]) {
-        return tell_fault(err, Fault::EqualPaths);
-    }
-    let mut source = match open_source(rt, pages) {
-        Ok(source) => source,
-        Err(fault) => return tell_fault(err, fault),
-    };
-    let mut sink = match make_sink(rt, tx, &[Named::at(rt, pages)]) {
-        Ok(sink) => sink,
-        Err(fault) => return tell_fault(err, fault),
-    };
-    run_plan(alloc, &mut source, &mut sink, out, err)
 }

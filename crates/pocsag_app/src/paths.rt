@@ -54,3 +54,13 @@ impl Named {
         }
     }
 }
+
+/// Whether two of the paths name one file.
+pub fn name_one_file(named: &[Option<Named>; 3]) -> bool {
+    let [first, second, third] = *named;
+    is_same(first, second) || is_same(first, third) || is_same(second, third)
+}
+
+fn is_same(one: Option<Named>, other: Option<Named>) -> bool {
+    one.is_some() && one == other
+}

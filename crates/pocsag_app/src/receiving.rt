@@ -1,23 +1,17 @@
+ghost use Rattle.std.specs.Prelude.{◌≡◌, IfOk, OnOk};
+ghost use Rattle.pocsag_app.specs.Commands.{Decoded, Heard};
+ghost use Rattle.pocsag_app.specs.Faults.{IsStatus};
+
 use crate::fault::Fault;
-use crate::tell::tell_fault;
-use pocsag_decode::{ListFault, decode, list};
+use crate::tell::ended;
+use pocsag_decode::{decode, list};
 use pocsag_pager::hear_all;
-use pocsag_pages::{WholeFault, read_whole};
+use pocsag_pages::read_whole;
 use pocsag_words::{Sink, Source};
 use std::alloc::Global;
 
-// The greatest transmission that is read, in bytes.
-const TRANSMISSION_LIMIT: usize = 268_435_456;
-
-// The bytes of a transmission's file, at most so many.
-fn read_transmission<T: Source>(alloc: Global, tx: &mut T) -> Result<Vec<u8>, Fault> {
-    match read_whole(alloc, tx, TRANSMISSION_LIMIT) {
-        Ok(bytes) => Ok(bytes),
-        Err(WholeFault::ReadFault) => Err(Fault::Device),
-        Err(WholeFault::TooLarge) => Err(Fault::TooLarge),
-        Err(WholeFault::OutOfMemory) => Err(Fault::OutOfMemory),
-    }
-}
+/// The greatest transmission that is read, in bytes.
+pub const TRANSMISSION_LIMIT: usize = 268_435_456;
 
 /// `decode TX`: lists the pages of a transmission. Answers the exit status.
 pub fn run_decode<T: Source, O: Sink, E: Sink>(
@@ -25,19 +19,21 @@ pub fn run_decode<T: Source, O: Sink, E: Sink>(
     tx: &mut T,
     out: &mut O,
     err: &mut E,
-) -> u8 {
-    match list_decoded(alloc, tx, out) {
-        Ok(()) => 0,
-        Err(fault) => tell_fault(err, fault),
-    }
+) -> u8
+    ensures listed { T.tells → O.tells → result ≡ 0 → Decoded (T.held tx.old) (O.taken out.old) (O.taken out.new) }
+    ensures status { IsStatus result }
+{
+    let done = list_decoded(alloc, tx, out);
+    ended(done, err)
 }
 
-fn list_decoded<T: Source, O: Sink>(alloc: Global, tx: &mut T, out: &mut O) -> Result<(), Fault> {
-    let bytes = read_transmission(alloc, tx)?;
-    match decode(alloc, bytes.as_slice()) {
-        Ok(pages) => told(list(alloc, pages.as_slice(), out)),
-        Err(fault) => Err(Fault::Transmission(fault)),
-    }
+fn list_decoded<T: Source, O: Sink>(alloc: Global, tx: &mut T, out: &mut O) -> Result<(), Fault>
+    ensures { T.tells → O.tells → OnOk result (Decoded (T.held tx.old) (O.taken out.old) (O.taken out.new)) }
+{
+    let bytes = read_whole(alloc, tx, TRANSMISSION_LIMIT)?;
+    let pages = decode(alloc, bytes.as_slice())?;
+    list(alloc, pages.as_slice(), out)?;
+    Ok(())
 }
 
 /// `hear ADDRESS TX`: lists what the pager of the address shows of a transmission. Answers the exit
@@ -48,11 +44,12 @@ pub fn run_hear<T: Source, O: Sink, E: Sink>(
     tx: &mut T,
     out: &mut O,
     err: &mut E,
-) -> u8 {
-    match list_heard(alloc, address, tx, out) {
-        Ok(()) => 0,
-        Err(fault) => tell_fault(err, fault),
-    }
+) -> u8
+    ensures listed { T.tells → O.tells → result ≡ 0 → Heard address (T.held tx.old) (O.taken out.old) (O.taken out.new) }
+    ensures status { IsStatus result }
+{
+    let done = list_heard(alloc, address, tx, out);
+    ended(done, err)
 }
 
 fn list_heard<T: Source, O: Sink>(
@@ -60,18 +57,11 @@ fn list_heard<T: Source, O: Sink>(
     address: u32,
     tx: &mut T,
     out: &mut O,
-) -> Result<(), Fault> {
-    let bytes = read_transmission(alloc, tx)?;
-    match hear_all(alloc, bytes.as_slice(), address) {
-        Ok(pages) => told(list(alloc, pages.as_slice(), out)),
-        Err(fault) => Err(Fault::Pager(fault)),
-    }
-}
-
-fn told(listed: Result<(), ListFault>) -> Result<(), Fault> {
-    match listed {
-        Ok(()) => Ok(()),
-        Err(ListFault::OutOfMemory) => Err(Fault::OutOfMemory),
-        Err(ListFault::WriteFault) => Err(Fault::Write),
-    }
+) -> Result<(), Fault>
+    ensures { T.tells → O.tells → OnOk result (Heard address (T.held tx.old) (O.taken out.old) (O.taken out.new)) }
+{
+    let bytes = read_whole(alloc, tx, TRANSMISSION_LIMIT)?;
+    let pages = hear_all(alloc, bytes.as_slice(), address)?;
+    list(alloc, pages.as_slice(), out)?;
+    Ok(())
 }

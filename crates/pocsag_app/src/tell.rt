@@ -1,20 +1,24 @@
-ghost use Rattle.std.specs.Prelude.{◌≡◌, ◌⊎◌};
+ghost use Rattle.std.specs.Prelude.{◌≡◌, ℕ, List, ◌++◌, OnOk, Some};
+ghost use Rattle.pocsag_app.specs.Faults.{status_after, status_of};
 
 use crate::fault::Fault;
 use arrayvec::ArrayString;
 use pocsag_words::{Sink, write_all};
 use std::fmt::{Display, Write};
 
-// The longest line that is told, with its line feed.
-const LINE: usize = 120;
+// The longest text that is told.
+const LONGEST: usize = 200;
 
-/// Writes one line; it takes no memory.
-pub fn tell<S: Sink, D: Display + Drop>(sink: &mut S, line: D) -> Result<(), Fault> {
-    let mut text = ArrayString::<LINE>::new();
-    if writeln!(text, "{line}").is_err() {
+/// Writes a text, by as many single writes as it takes; it takes no memory.
+pub fn tell<S: Sink, D: Display + Drop>(sink: &mut S, text: D) -> Result<(), Fault>
+    ensures { S.tells → (told : List ℕ) → D.output text ≡ Some told →
+        OnOk result (S.taken sink.new ≡ S.taken sink.old ++ told) }
+{
+    let mut kept = ArrayString::<LONGEST>::new();
+    let Ok(()) = write!(kept, "{text}") else {
         return Err(Fault::Write);
-    }
-    match write_all(sink, text.as_str().as_bytes()) {
+    };
+    match write_all(sink, kept.as_str().as_bytes()) {
         Ok(()) => Ok(()),
         Err(_) => Err(Fault::Write),
     }
@@ -22,8 +26,18 @@ pub fn tell<S: Sink, D: Display + Drop>(sink: &mut S, line: D) -> Result<(), Fau
 
 /// Tells a fault on standard error and answers its status. That standard error fails changes nothing.
 pub fn tell_fault<S: Sink>(err: &mut S, fault: Fault) -> u8
-    ensures { (result ≡ 1) ⊎ (result ≡ 3) }
+    ensures { result ≡ status_of fault }
 {
-    let _ = tell(err, format_args!("pocsag: {fault}"));
+    let _ = tell(err, format_args!("pocsag: {fault}\n"));
     fault.status()
+}
+
+/// The exit status of a command that is over; a fault is told on standard error.
+pub fn ended<S: Sink>(done: Result<(), Fault>, err: &mut S) -> u8
+    ensures { result ≡ status_after done }
+{
+    match done {
+        Ok(()) => 0,
+        Err(fault) => tell_fault(err, fault),
+    }
 }

@@ -1,4 +1,6 @@
-use clap::{Arg, ArgMatches, Command, Error, value_parser};
+use clap::error::ErrorKind;
+use clap::{Arg, ArgAction, ArgMatches, Command, Error, value_parser};
+use pocsag_words::End;
 use std::alloc::{AllocError, Global};
 
 /// What the command line asks for.
@@ -6,98 +8,245 @@ use std::alloc::{AllocError, Global};
 pub enum Order<'a> {
     /// No words: a page file from standard input.
     Input,
-    /// `plan PAGES TX`: the paths of the page file and of the transmission.
-    Plan { pages: &'a str, tx: &'a str },
+    /// `plan PAGES TX CERT`: the paths, the node limit, the end, and whether the files are read back.
+    Plan {
+        pages: &'a str,
+        tx: &'a str,
+        cert: &'a str,
+        limit: u32,
+        end: End,
+        verify: bool,
+    },
     /// `check PAGES CERT`: the paths of the page file and of the certificate.
     Check { pages: &'a str, cert: &'a str },
     /// `decode TX`: the path of the transmission.
     Decode { tx: &'a str },
     /// `hear ADDRESS TX`: a pager's address, and the path of the transmission.
     Hear { address: u32, tx: &'a str },
+    /// `report PAGES`: the path of the page file, the rate, the node limit and the end.
+    Report {
+        pages: &'a str,
+        rate: u32,
+        limit: u32,
+        end: End,
+    },
 }
 
+// The commands.
+const PLAN: &str = "plan";
+const CHECK: &str = "check";
+const DECODE: &str = "decode";
+const HEAR: &str = "hear";
+const REPORT: &str = "report";
+
+// Their words.
+const PAGES: &str = "PAGES";
+const TX: &str = "TX";
+const CERT: &str = "CERT";
+const ADDRESS: &str = "ADDRESS";
+const RATE: &str = "rate";
+const LIMIT: &str = "limit";
+const END: &str = "end";
+const VERIFY: &str = "verify";
+
+const OPEN: &str = "open";
+const CLOSED: &str = "closed";
+const ENDS: &[&str] = &[OPEN, CLOSED];
+
+// The product, and the toolchain that proved it: the line of `rt version`.
+const VERSION: &str = "0.1.0, proved by rattle-kit-13b logic dac8208d650f15bf";
+
+const ABOUT: &str = "Plans POCSAG transmissions with the fewest batches, and proves that fewer do not suffice. With no words: reads a page file from standard input and tells its pages and fewest batches";
+
+const MANUAL: &str = "\
+Page files are CSV with the header address,kind,message. Kinds of pages:
+  tone0 tone1 tone2 tone3  no message
+  numeric                  1 to 4000 of the characters 0123456789*U -][
+  alpha                    1 to 4000 characters of codes 1 to 127
+Limits: 1 to 20000 pages, one to an address, addresses 0 to 2097151 (sixteen are
+reserved), page files and transmissions of at most 268435456 bytes.
+Exit status: 0 done, 1 refused or not shown, 2 usage, 3 a file or memory.
+
+Example:
+  pocsag plan pages.csv tx.bin cert.bin && pocsag check pages.csv cert.bin
+  pocsag < pages.csv";
+
+const PLAN_MANUAL: &str = "\
+The page file is CSV with the header address,kind,message. TX and CERT are made, or
+emptied once the page file could be opened.
+
+Example:
+  pocsag plan pages.csv tx.bin cert.bin --end closed --verify";
+
 const PAGES_HELP: &str = "The page file, CSV with the header address,kind,message";
+const TX_HELP: &str = "The transmission";
+const CERT_HELP: &str = "The certificate";
 
 fn positional<'a>(alloc: Global, id: &'a str, help: &'a str) -> Arg<'a> {
     Arg::new(alloc, id).required(true).help(help)
 }
 
+fn option<'a>(alloc: Global, id: &'a str, value: &'a str, help: &'a str) -> Arg<'a> {
+    Arg::new(alloc, id).long(id).value_name(value).help(help)
+}
+
+fn limit_option<'a>(alloc: Global) -> Arg<'a> {
+    option(
+        alloc,
+        LIMIT,
+        "N",
+        "How many nodes the search may examine, 1 to 1000000",
+    )
+    .value_parser(value_parser!(u32))
+    .default_value("100000")
+}
+
+fn end_option<'a>(alloc: Global) -> Arg<'a> {
+    option(
+        alloc,
+        END,
+        "END",
+        "How the last message ends: by the end of the transmission, or inside it",
+    )
+    .value_parser(ENDS)
+    .default_value(OPEN)
+}
+
 fn plan_command<'a>(alloc: Global) -> Result<Command<'a>, AllocError> {
-    Command::new(alloc, "plan")
-        .about("Writes the transmission of a page file")
-        .arg(positional(alloc, "PAGES", PAGES_HELP))?
-        .arg(positional(
-            alloc,
-            "TX",
-            "The transmission, which is made or emptied first",
-        ))
+    let verify = Arg::new(alloc, VERIFY)
+        .long(VERIFY)
+        .action(ArgAction::SetTrue)
+        .help("Reads TX and CERT back, and compares them with the page file");
+    Command::new(alloc, PLAN)
+        .about(
+            "Writes the transmission of a page file with the fewest batches, and the certificate of that",
+        )
+        .after_help(PLAN_MANUAL)
+        .arg(positional(alloc, PAGES, PAGES_HELP))?
+        .arg(positional(alloc, TX, TX_HELP))?
+        .arg(positional(alloc, CERT, CERT_HELP))?
+        .arg(limit_option(alloc))?
+        .arg(end_option(alloc))?
+        .arg(verify)
 }
 
 fn check_command<'a>(alloc: Global) -> Result<Command<'a>, AllocError> {
-    Command::new(alloc, "check")
+    Command::new(alloc, CHECK)
         .about(
             "Tells whether a certificate shows that fewer batches do not suffice for a page file",
         )
-        .arg(positional(alloc, "PAGES", PAGES_HELP))?
-        .arg(positional(alloc, "CERT", "The certificate"))
+        .arg(positional(alloc, PAGES, PAGES_HELP))?
+        .arg(positional(alloc, CERT, CERT_HELP))
 }
 
 fn decode_command<'a>(alloc: Global) -> Result<Command<'a>, AllocError> {
-    Command::new(alloc, "decode")
+    Command::new(alloc, DECODE)
         .about("Lists the pages of a transmission")
-        .arg(positional(alloc, "TX", "The transmission"))
+        .arg(positional(alloc, TX, TX_HELP))
 }
 
 fn hear_command<'a>(alloc: Global) -> Result<Command<'a>, AllocError> {
-    let address = positional(alloc, "ADDRESS", "The pager's address").value_parser(value_parser!(
-        u32
-    ));
-    Command::new(alloc, "hear")
+    let address = positional(alloc, ADDRESS, "The pager's address, 0 to 2097151").value_parser(
+        value_parser!(u32),
+    );
+    Command::new(alloc, HEAR)
         .about(
             "Lists what the pager of an address shows of a transmission, past two wrong bits in each codeword",
         )
         .arg(address)?
-        .arg(positional(alloc, "TX", "The transmission"))
+        .arg(positional(alloc, TX, TX_HELP))
+}
+
+fn report_command<'a>(alloc: Global) -> Result<Command<'a>, AllocError> {
+    let rate = option(alloc, RATE, "R", "Bits a second: 512, 1200 or 2400")
+        .required(true)
+        .value_parser(value_parser!(u32));
+    Command::new(alloc, REPORT)
+        .about("Tells what the plan of a page file takes on the air")
+        .arg(positional(alloc, PAGES, PAGES_HELP))?
+        .arg(rate)?
+        .arg(limit_option(alloc))?
+        .arg(end_option(alloc))
 }
 
 fn command<'a>(alloc: Global) -> Result<Command<'a>, AllocError> {
     Command::new(alloc, "pocsag")
         .bin_name("pocsag")?
-        .about(
-            "Plans POCSAG transmissions. With no words: reads a page file from standard input and tells its pages and batches",
-        )
+        .version(VERSION)
+        .about(ABOUT)
+        .after_help(MANUAL)
         .subcommand(plan_command(alloc)?)?
         .subcommand(check_command(alloc)?)?
         .subcommand(decode_command(alloc)?)?
-        .subcommand(hear_command(alloc)?)
+        .subcommand(hear_command(alloc)?)?
+        .subcommand(report_command(alloc)?)
 }
 
-// The word of an argument that clap requires.
-fn word<'a>(found: &ArgMatches<'a>, id: &str) -> &'a str {
-    found.get_str(id).unwrap_or("")
+fn end_of(found: &ArgMatches<'_>) -> Option<End> {
+    match found.get_str(END)? {
+        OPEN => Some(End::Open),
+        CLOSED => Some(End::Closed),
+        _ => None,
+    }
+}
+
+fn plan_order<'a>(found: &ArgMatches<'a>) -> Option<Order<'a>> {
+    Some(Order::Plan {
+        pages: found.get_str(PAGES)?,
+        tx: found.get_str(TX)?,
+        cert: found.get_str(CERT)?,
+        limit: found.get_one::<u32>(LIMIT)?,
+        end: end_of(found)?,
+        verify: found.get_flag(VERIFY),
+    })
+}
+
+fn check_order<'a>(found: &ArgMatches<'a>) -> Option<Order<'a>> {
+    Some(Order::Check {
+        pages: found.get_str(PAGES)?,
+        cert: found.get_str(CERT)?,
+    })
+}
+
+fn hear_order<'a>(found: &ArgMatches<'a>) -> Option<Order<'a>> {
+    Some(Order::Hear {
+        address: found.get_one::<u32>(ADDRESS)?,
+        tx: found.get_str(TX)?,
+    })
+}
+
+fn report_order<'a>(found: &ArgMatches<'a>) -> Option<Order<'a>> {
+    Some(Order::Report {
+        pages: found.get_str(PAGES)?,
+        rate: found.get_one::<u32>(RATE)?,
+        limit: found.get_one::<u32>(LIMIT)?,
+        end: end_of(found)?,
+    })
+}
+
+// What was found asks for; nothing where a word is not there, which clap has seen to.
+fn order_from<'a>(matches: &ArgMatches<'a>) -> Option<Order<'a>> {
+    let Some((name, found)) = matches.subcommand() else {
+        return Some(Order::Input);
+    };
+    match name {
+        PLAN => plan_order(found),
+        CHECK => check_order(found),
+        DECODE => Some(Order::Decode {
+            tx: found.get_str(TX)?,
+        }),
+        HEAR => hear_order(found),
+        REPORT => report_order(found),
+        _ => None,
+    }
 }
 
 /// Reads the words of the command line, the program's own name first.
 pub fn order_of<'a>(alloc: Global, words: &'a [String]) -> Result<Order<'a>, Error> {
-    let matches = command(alloc)?.try_get_matches_from(words)?;
-    let Some((name, found)) = matches.subcommand() else {
-        return Ok(Order::Input);
-    };
-    Ok(match name {
-        "check" => Order::Check {
-            pages: word(found, "PAGES"),
-            cert: word(found, "CERT"),
-        },
-        "decode" => Order::Decode {
-            tx: word(found, "TX"),
-        },
-        "hear" => Order::Hear {
-            address: found.get_one::<u32>("ADDRESS").unwrap_or(u32::MAX),
-            tx: word(found, "TX"),
-        },
-        _ => Order::Plan {
-            pages: word(found, "PAGES"),
-            tx: word(found, "TX"),
-        },
-    })
+    let mut command = command(alloc)?;
+    let matches = command.try_get_matches_from_mut(words)?;
+    match order_from(&matches) {
+        Some(order) => Ok(order),
+        None => Err(command.error(ErrorKind::MissingRequiredArgument, "a word is missing")?),
+    }
 }

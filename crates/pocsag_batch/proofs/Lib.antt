@@ -1,4 +1,3 @@
-pub mod Addresses
 pub mod Chains
 pub mod ClassLists
 pub mod FileOrders

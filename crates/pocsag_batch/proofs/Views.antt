@@ -11,7 +11,7 @@ use Rattle.pocsag_pages.specs.Reading.{page_words}
 use Rattle.pocsag_slots.specs.declared.step.Step.{Step}
 use Rattle.pocsag_slots.specs.declared.step.Step.TheVariants.{Run}
 use Rattle.pocsag_batch.specs.Placing.{HavePlaces, laid_by, page_at}
-use Rattle.pocsag_batch.proofs.Addresses.{kind_unreserved}
+use Rattle.pocsag_slots.proofs.Sayable.{kind_unreserved}
 
 page_is : (R : List Page) (k : ℕ) (p : Page) → k < length R → p ≡ get_or R k p → page_at R k ≡ p
 page_is R k p within is = get_or_default R k _ p within ∙ sym is

@@ -2,6 +2,7 @@
 use Rattle.std.specs.Prelude.{◌≡◌, ℕ, ◌+◌, ◌<◌, ◌≤◌, true, false, List, ◌++◌, slice_index, replicate, ◌⊎◌}
 use Rattle.pocsag_words.specs.declared.ending.End.{End}
 use Rattle.pocsag_pages.specs.declared.page.Page.{Page}
+use Rattle.pocsag_pages.specs.Pages.{IsRound}
 use Rattle.pocsag_pages.specs.Reading.{AreApart, IsLegalList}
 use Rattle.pocsag_slots.specs.declared.class.Classes.{Classes}
 use Rattle.pocsag_slots.specs.Loads.{AreClassesOf, IsChoice, IsLeast, limits_of_all}
@@ -32,10 +33,10 @@ abbrev pub IsBound : Classes → End → ℕ → Type 0
 IsBound k end batches =
     (R : List Page) (U : List ℕ) (n : ℕ) → AreApart R → AreClassesOf k end R → IsLegalList end U n R → batches ≤ n
 
--- Some list of codewords of so many batches is legal for the end, for each round of these classes.
+-- For each round of these classes some list of codewords of so many batches is legal for the end.
 abbrev pub CanBeSent : Classes → End → ℕ → Type 0
 CanBeSent k end batches =
-    (R : List Page) → AreClassesOf k end R → (U : List ℕ) × IsLegalList end U batches R
+    (R : List Page) → IsRound R → AreClassesOf k end R → (U : List ℕ) × IsLegalList end U batches R
 
 -- What `search` found within so many nodes.
 pub record IsFound (k : Classes) (end : End) (limit : ℕ) (found : Found) : Type 0 where

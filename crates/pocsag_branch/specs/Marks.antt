@@ -1,5 +1,5 @@
 -- The nodes of a tree in the order of the certificate's text: a node, and then each child with all below it.
-use Rattle.std.specs.Prelude.{Bool, true, false, List, [], ◌∷◌, ◌++◌}
+use Rattle.std.specs.Prelude.{Bool, true, false, List, [], ◌∷◌, ◌++◌, ◌||◌}
 use Rattle.pocsag_tree.specs.Bounds.{Bound, Bounds, overload, split, cut, close, unexamined, none, more}
 
 abbrev mutual
@@ -14,3 +14,16 @@ abbrev mutual
   pub opens_in : Bounds → List Bool
   opens_in none = []
   opens_in (more t ts) = opens t ++ opens_in ts
+
+abbrev mutual
+  -- Whether some node is `Open`.
+  pub has_open : Bound → Bool
+  has_open (overload set) = false
+  has_open (split class m below above) = has_open below || has_open above
+  has_open (cut set needed children) = have_open children
+  has_open (close children) = have_open children
+  has_open unexamined = true
+
+  pub have_open : Bounds → Bool
+  have_open none = false
+  have_open (more t ts) = has_open t || have_open ts

@@ -7,8 +7,7 @@ use Rattle.pocsag_slots.specs.declared.limit.Limits.{Limits}
 use Rattle.pocsag_slots.specs.declared.way.Way.{Way}
 use Rattle.pocsag_slots.specs.Loads.{IsAdmitted}
 use Rattle.pocsag_slots.specs.Ways.{class_certain, ways_across, ways_to_close, narrowed_limits, limits_below, limits_from}
-use Rattle.pocsag_tour.specs.Reached.{IsApart, IsUnclosed}
-use Rattle.pocsag_branch.specs.Outside.{HasRunOutside}
+use Rattle.pocsag_tour.specs.Reached.{HasRunOutside, IsApart, IsUnclosed}
 
 -- No class is certain for the set.
 abbrev pub NoneCertain : Classes → Limits → ℕ → Type 0

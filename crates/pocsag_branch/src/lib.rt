@@ -3,7 +3,13 @@
 //! suffice. What it answers, the checker accepts.
 
 mod answer;
+mod examining;
 mod fault;
+mod least;
+mod looking;
+mod narrowing;
+mod opening;
+mod question;
 mod searching;
 
 pub use answer::Found;

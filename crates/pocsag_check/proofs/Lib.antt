@@ -5,3 +5,5 @@ pub mod Refuting
 pub mod RowChecks
 pub mod Tables
 pub mod Taking
+pub mod Turning
+pub mod Spelled

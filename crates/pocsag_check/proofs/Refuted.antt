@@ -21,9 +21,9 @@ use Rattle.pocsag_check.proofs.Refuting.{AnyTaken, not_overloaded, admitted_belo
 use Rattle.pocsag_check.proofs.Taking.{taken_way}
 
 -- what a certain class has
-record IsCertain (some early late forced_early forced_late : Bool) : Type 0 where
-  count : some ≡ true
-  run : ((early ≡ true) × (late ≡ true)) ⊎ (((early ≡ true) × (forced_early ≡ true)) ⊎ ((late ≡ true) × (forced_late ≡ true)))
+pub record IsCertain (some early late forced_early forced_late : Bool) : Type 0 where
+  pub count : some ≡ true
+  pub run : ((early ≡ true) × (late ≡ true)) ⊎ (((early ≡ true) × (forced_early ≡ true)) ⊎ ((late ≡ true) × (forced_late ≡ true)))
 
 certain_parts : (some early late forced_early forced_late : Bool) →
     (some && ((early && late) || (early && forced_early) || (late && forced_late))) ≡ true →
@@ -36,7 +36,7 @@ certain_parts true false true forced_early true h = record { count = refl; run =
 certain_parts true false true forced_early false h = absurd (cc)
 certain_parts true false false forced_early forced_late h = absurd (cc)
 
-certain_is : (k : Classes) (l : Limits) (set c : ℕ) → IsTrue (class_certain k l set c) →
+pub certain_is : (k : Classes) (l : Limits) (set c : ℕ) → IsTrue (class_certain k l set c) →
     IsCertain (nat_lt 0 (slice_index k.count c)) (run_touches c true set) (run_touches c false set)
     (nat_lt 0 (slice_index l.lo c)) (nat_lt (slice_index l.hi c) (slice_index k.count c))
 unfolding class_certain

@@ -12,7 +12,7 @@ use Rattle.pocsag_slots.specs.Ways.{narrowed_limits, limits_below, limits_from}
 use Rattle.pocsag_slots.proofs.SumLemmas.{sum_below-le}
 
 -- what is at least n stays so where one place is changed to what is
-low_set : (xs : List ℕ) (c v d n : ℕ) → slice_index xs d ≤ n → (d ≡ c → v ≤ n) → slice_index (slice_set xs c v) d ≤ n
+pub low_set : (xs : List ℕ) (c v d n : ℕ) → slice_index xs d ≤ n → (d ≡ c → v ≤ n) → slice_index (slice_set xs c v) d ≤ n
 low_set xs c v d n h here =
     elim (cases_eq d c) [
       | inr other ↦ rw (get_or-set_other xs c d v 0 other) h

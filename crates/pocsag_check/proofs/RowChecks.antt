@@ -12,7 +12,7 @@ use Rattle.pocsag_slots.specs.declared.way.Way.{Way}
 use Rattle.pocsag_slots.specs.Ways.{narrowed_limits}
 use Rattle.pocsag_check.specs.Accepting.{AcceptsEach, AcceptsWithin, AcceptsEachWithin}
 
-row_long : (u : Bool) (k : Classes) (end : End) (b : ℕ) (l : Limits) (ws : List Way) (ts : Bounds) → AcceptsEach u k end b l ws ts → length ws ≡ count_of ts
+pub row_long : (u : Bool) (k : Classes) (end : End) (b : ℕ) (l : Limits) (ws : List Way) (ts : Bounds) → AcceptsEach u k end b l ws ts → length ws ≡ count_of ts
 row_long u k end b l [] none a = refl
 row_long u k end b l [] (more t ts) a = absurd a
 row_long u k end b l (w ∷ ws) none a = absurd a

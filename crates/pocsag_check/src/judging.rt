@@ -1,13 +1,29 @@
 ghost use Rattle.std.specs.Prelude.{◌↔◌, ℕ, ◌≤◌, List, IsTrue, false, true};
 ghost use Rattle.pocsag_pages.specs.Reading.{IsLegalList};
+ghost use Rattle.pocsag_slots.specs.Loads.{AreInOrder};
 ghost use Rattle.pocsag_tree.specs.Views.{bound_of};
-ghost use Rattle.pocsag_check.specs.Accepting.{IsAcceptedFor};
+ghost use Rattle.pocsag_check.specs.Accepting.{AcceptsWithin, IsAcceptedFor};
 
 use crate::checker::{Question, check_node};
 use pocsag_pages::Round;
-use pocsag_slots::{all_limits, classes_of};
+use pocsag_slots::{Classes, Limits, all_limits, classes_of};
 use pocsag_tree::{DEPTH_LIMIT, Tree};
 use pocsag_words::End;
+
+/// Whether the node shows that no transmission of so many batches, legal for the end, is within the
+/// limits. It takes any tree from anywhere, answers no for one deeper than 300, and looks at nothing
+/// below depth 301.
+pub fn accepts(classes: &Classes, limits: &Limits, batches: u32, tree: &Tree, end: End) -> bool
+    requires { AreInOrder classes.now limits.now }
+    ensures { IsTrue result ↔ AcceptsWithin false classes.now end batches limits.now DEPTH_LIMIT (bound_of tree.now) }
+{
+    let question = Question {
+        end,
+        batches,
+        takes_open: false,
+    };
+    check_node(classes, question, limits, tree, DEPTH_LIMIT)
+}
 
 fn check_tree(round: &Round, batches: u32, tree: &Tree, end: End, takes_open: bool) -> bool
     ensures { IsTrue result ↔ IsAcceptedFor takes_open end round.now batches (bound_of tree.now) }

@@ -1,13 +1,15 @@
-ghost use Rattle.std.specs.Prelude.{ℕ, ◌≤◌, List, false};
+ghost use Rattle.std.specs.Prelude.{◌≡◌, ℕ, ◌^◌, ◌<◌, ◌≤◌, Bool, List, false};
 ghost use Rattle.pocsag_words.specs.declared.codeword.Kind.{Kind};
 ghost use Rattle.pocsag_words.specs.declared.ending.End.{End as Ending};
 ghost use Rattle.pocsag_pages.specs.declared.page.Page.{Page};
 ghost use Rattle.pocsag_pages.specs.Reading.{AreApart, IsLegalFor};
-ghost use Rattle.pocsag_tree.specs.Bounds.{Bound};
+ghost use Rattle.pocsag_tree.specs.Bounds.{all_nodes, Bound, closed_nodes};
+ghost use Rattle.pocsag_tree.specs.Spelling.{HasText};
+ghost use Rattle.pocsag_tree.specs.declared.limits.TheConstants.{NODE_LIMIT, SECOND_VERSION};
 ghost use Rattle.pocsag_slots.specs.declared.class.Classes.{Classes as Table};
 ghost use Rattle.pocsag_slots.specs.declared.limit.Limits.{Limits as Bounded};
 ghost use Rattle.pocsag_slots.specs.Loads.{AreClassesOf};
-ghost use Rattle.pocsag_check.specs.Accepting.{Accepts, AcceptsRoot};
+ghost use Rattle.pocsag_check.specs.Accepting.{Accepts, AcceptsRoot, IsAccepted};
 ghost use Rattle.pocsag_check.specs.Fitting.{Fits};
 
 /// The limits of an accepted node are met by no transmission.
@@ -20,4 +22,13 @@ pub fn accepted_nodes_refute()
 pub fn accepted_trees_bound()
     ensures { (k : Table) (end : Ending) (R : List Page) (T : List Kind) (batches n : ℕ) (t : Bound) → AreApart R → AreClassesOf k end R →
         AcceptsRoot false k end batches t → IsLegalFor end T n R → batches ≤ n }
+{}
+
+/// An accepted tree can be written, where its nodes are few enough; and where no node that was not examined
+/// is accepted, it has none.
+pub fn accepted_trees_have_texts()
+    ensures text { (takes_open : Bool) (k : Table) (end : Ending) (batches : ℕ) (t : Bound) →
+        IsAccepted takes_open k end batches t → batches < 2 ^ 32 → all_nodes t ≤ NODE_LIMIT → HasText SECOND_VERSION batches t }
+    ensures closed { (k : Table) (end : Ending) (batches : ℕ) (t : Bound) →
+        IsAccepted false k end batches t → all_nodes t ≡ closed_nodes t }
 {}

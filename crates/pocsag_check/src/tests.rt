@@ -1,5 +1,6 @@
-use crate::{check, check_open};
+use crate::{accepts, check, check_open};
 use pocsag_pages::{Page, Payload, Round};
+use pocsag_slots::{all_limits, classes_of};
 use pocsag_tree::{Certificate, Tree, read_certificate};
 use pocsag_words::{End, MemorySource};
 use std::alloc::Global;
@@ -56,7 +57,7 @@ fn read(alloc: Global, bytes: &[u8]) -> Result<Certificate, Fail> {
 }
 
 // Whether the round's certificate of these bytes is accepted for its own end.
-fn accepts(alloc: Global, round: &Round, bytes: &[u8]) -> Result<bool, Fail> {
+fn is_accepted(alloc: Global, round: &Round, bytes: &[u8]) -> Result<bool, Fail> {
     let certificate = read(alloc, bytes)?;
     Ok(check(
         round,
@@ -70,12 +71,12 @@ fn accepts(alloc: Global, round: &Round, bytes: &[u8]) -> Result<bool, Fail> {
 fn planning_certificates_are_accepted(rt: HostRuntime) -> Result<(), Fail> {
     let alloc = rt.alloc();
     let lone_tone = one_page(alloc, 8, 0)?;
-    assert!(rt; accepts(alloc, &lone_tone, b"PCB1\x00\x00\x00\x01\x00\x00\x03")?);
-    assert!(rt; accepts(alloc, &lone_tone, b"PCB2\x00\x00\x00\x00\x01\x00\x00\x03")?);
-    assert!(rt; accepts(alloc, &lone_tone, b"PCB2\x01\x00\x00\x00\x01\x00\x00\x03")?);
+    assert!(rt; is_accepted(alloc, &lone_tone, b"PCB1\x00\x00\x00\x01\x00\x00\x03")?);
+    assert!(rt; is_accepted(alloc, &lone_tone, b"PCB2\x00\x00\x00\x00\x01\x00\x00\x03")?);
+    assert!(rt; is_accepted(alloc, &lone_tone, b"PCB2\x01\x00\x00\x00\x01\x00\x00\x03")?);
     let loop_apart = one_page(alloc, 3, 15)?;
     assert!(rt;
-        accepts(
+        is_accepted(
             alloc,
             &loop_apart,
             b"PCB1\x00\x00\x00\x02\x02\x00\x01\x30\x00\x02\x00\x00\x01\x00\x80\x00"
@@ -83,14 +84,14 @@ fn planning_certificates_are_accepted(rt: HostRuntime) -> Result<(), Fail> {
     );
     let apart = loops_apart(alloc)?;
     assert!(rt;
-        accepts(
+        is_accepted(
             alloc,
             &apart,
             b"PCB1\x00\x00\x00\x03\x02\x00\x01\x30\x00\x02\x00\x00\x01\x00\x80\x00"
         )?
     );
     assert!(rt;
-        accepts(
+        is_accepted(
             alloc,
             &apart,
             b"PCB2\x00\x00\x00\x00\x03\x02\x00\x01\x30\x00\x02\x00\x00\x01\x00\x80\x00"
@@ -104,21 +105,21 @@ fn closed_certificates_are_accepted(rt: HostRuntime) -> Result<(), Fail> {
     let alloc = rt.alloc();
     let exact = two_numeric_exact(alloc)?;
     assert!(rt;
-        accepts(
+        is_accepted(
             alloc,
             &exact,
             b"PCB2\x01\x00\x00\x00\x02\x04\x01\x00\xff\xff"
         )?
     );
     assert!(rt;
-        !accepts(
+        !is_accepted(
             alloc,
             &exact,
             b"PCB2\x00\x00\x00\x00\x02\x04\x01\x00\xff\xff"
         )?
     );
     assert!(rt;
-        !accepts(
+        !is_accepted(
             alloc,
             &exact,
             b"PCB2\x01\x00\x00\x00\x02\x04\x02\x00\xff\xff\x00\xff\xff"
@@ -126,14 +127,14 @@ fn closed_certificates_are_accepted(rt: HostRuntime) -> Result<(), Fail> {
     );
     let both = closed_both_ways(alloc)?;
     assert!(rt;
-        accepts(
+        is_accepted(
             alloc,
             &both,
             b"PCB2\x01\x00\x00\x00\x03\x04\x02\x00\xff\xff\x00\x80\x00"
         )?
     );
     assert!(rt;
-        !accepts(
+        !is_accepted(
             alloc,
             &both,
             b"PCB2\x01\x00\x00\x00\x03\x04\x01\x00\xff\xff"
@@ -141,7 +142,7 @@ fn closed_certificates_are_accepted(rt: HostRuntime) -> Result<(), Fail> {
     );
     let long = one_page(alloc, 7, 49)?;
     assert!(rt;
-        accepts(
+        is_accepted(
             alloc,
             &long,
             b"PCB2\x01\x00\x00\x00\x05\x04\x01\x00\x80\x00"
@@ -156,35 +157,102 @@ fn bad_certificates_are_refused(rt: HostRuntime) -> Result<(), Fail> {
     let apart = loops_apart(alloc)?;
     let whole = b"PCB1\x00\x00\x00\x03\x02\x00\x01\x30\x00\x02\x00\x00\x01\x00\x80\x00";
     assert!(rt;
-        !accepts(
+        !is_accepted(
             alloc,
             &apart,
             b"PCB1\x00\x00\x00\x03\x02\x00\x01\x30\x00\x02\x00\x00\x01\x00\x40\x00"
         )?
     );
     assert!(rt;
-        !accepts(
+        !is_accepted(
             alloc,
             &apart,
             b"PCB1\x00\x00\x00\x03\x02\x00\x02\x30\x00\x02\x00\x00\x01\x00\x00\x02"
         )?
     );
     assert!(rt;
-        !accepts(
+        !is_accepted(
             alloc,
             &apart,
             b"PCB1\x00\x00\x00\x03\x02\x00\x01\x00\x00\x02\x00\x00\x01\x00\x80\x00"
         )?
     );
-    assert!(rt; !accepts(alloc, &three_pages_tight(alloc)?, whole)?);
+    assert!(rt; !is_accepted(alloc, &three_pages_tight(alloc)?, whole)?);
     let lone_tone = one_page(alloc, 8, 0)?;
     assert!(rt;
-        !accepts(
+        !is_accepted(
             alloc,
             &lone_tone,
             b"PCB2\x00\x00\x00\x00\x01\x01\x00\x4e\x20\x03\x03"
         )?
     );
+    Ok(())
+}
+
+#[test]
+fn a_split_makes_a_class_certain(rt: HostRuntime) -> Result<(), Fail> {
+    let alloc = rt.alloc();
+    let apart = loops_apart(alloc)?;
+    // Below the split the page of frame 0 starts late, and so outside boundary 0.
+    assert!(rt;
+        is_accepted(
+            alloc,
+            &apart,
+            b"PCB2\x00\x00\x00\x00\x03\x01\x00\x00\x01\x02\x00\x01\x00\x00\x02\x00\x00\x01\x00\x80\x00\x02\x00\x01\x30\x00\x02\x00\x00\x01\x00\x80\x00"
+        )?
+    );
+    // From the split on it starts early, at boundary 0.
+    assert!(rt;
+        !is_accepted(
+            alloc,
+            &apart,
+            b"PCB2\x00\x00\x00\x00\x03\x01\x00\x00\x01\x02\x00\x01\x30\x00\x02\x00\x00\x01\x00\x80\x00\x02\x00\x01\x00\x00\x02\x00\x00\x01\x00\x80\x00"
+        )?
+    );
+    let last_frame = one_page(alloc, 7, 15)?;
+    // From the split on the page of frame 7 starts early, outside the boundaries 0 and 15.
+    assert!(rt;
+        is_accepted(
+            alloc,
+            &last_frame,
+            b"PCB2\x00\x00\x00\x00\x02\x01\x70\x00\x01\x02\x00\x01\x70\x00\x02\x00\x00\x01\x00\x80\x00\x02\x80\x01\x70\x00\x02\x00\x00\x01\x00\x40\x00"
+        )?
+    );
+    // Below the split it starts late, at boundary 15.
+    assert!(rt;
+        !is_accepted(
+            alloc,
+            &last_frame,
+            b"PCB2\x00\x00\x00\x00\x02\x01\x70\x00\x01\x02\x80\x01\x70\x00\x02\x00\x00\x01\x00\x40\x00\x02\x00\x01\x70\x00\x02\x00\x00\x01\x00\x80\x00"
+        )?
+    );
+    Ok(())
+}
+
+// A way that is taken twice takes away one idle of its slot, and not two.
+#[test]
+fn a_way_taken_twice_counts_once(rt: HostRuntime) -> Result<(), Fail> {
+    let alloc = rt.alloc();
+    let apart = loops_apart(alloc)?;
+    assert!(rt;
+        !is_accepted(
+            alloc,
+            &apart,
+            b"PCB1\x00\x00\x00\x04\x02\x00\x01\x30\x00\x02\x02\x00\x01\x30\x00\x02\x00\x00\x01\x00\x80\x00\x02\x00\x01\x30\x00\x02\x00\x00\x01\x00\x80\x00"
+        )?
+    );
+    Ok(())
+}
+
+#[test]
+fn a_node_under_limits(rt: HostRuntime) -> Result<(), Fail> {
+    let lone_tone = one_page(rt.alloc(), 8, 0)?;
+    let classes = classes_of(&lone_tone, End::Open);
+    let none = all_limits(&classes, 0);
+    assert!(rt; accepts(&classes, &none, 0, &Tree::Overload(3), End::Open));
+    assert!(rt; !accepts(&classes, &none, 0, &Tree::Open, End::Open));
+    let one = all_limits(&classes, 1);
+    assert!(rt; !accepts(&classes, &one, 1, &Tree::Overload(3), End::Open));
     Ok(())
 }
 
@@ -219,6 +287,6 @@ fn a_deep_tree_is_refused(rt: HostRuntime) -> Result<(), Fail> {
     for _ in 0..300 {
         bytes.push(3)?;
     }
-    assert!(rt; !accepts(alloc, &lone_tone, bytes.as_slice())?);
+    assert!(rt; !is_accepted(alloc, &lone_tone, bytes.as_slice())?);
     Ok(())
 }

@@ -1,22 +1,15 @@
 -- *Choosing*: what an overload set says, and how far a choice is above the caps.
-use Rattle.std.specs.Prelude.{◌≡◌, ℕ, ◌-◌, ◌^◌, ◌<◌, true, slice_index}
+use Rattle.std.specs.Prelude.{ℕ, ◌-◌, ◌<◌, slice_index}
 use Rattle.pocsag_slots.specs.declared.class.Classes.{Classes}
 use Rattle.pocsag_slots.specs.declared.limit.Limits.{Limits}
 use Rattle.pocsag_slots.specs.Loads.{IsLeastLoad, load}
-use Rattle.pocsag_slots.specs.Sums.{holds, sum_below, sum_over}
+use Rattle.pocsag_slots.specs.Sums.{sum_below, sum_over}
 use Rattle.pocsag_flow.specs.declared.fault.ChooseFault.{ChooseFault}
 use Rattle.pocsag_flow.specs.declared.fault.ChooseFault.TheVariants.{Overload}
 
 -- The set of slots that the fault names.
 abbrev pub set_of : ChooseFault → ℕ
 set_of (Overload set) = set
-
--- The set is not empty, and it has slots alone.
-pub record HasSlot (set : ℕ) : Type 0 where
-  pub slot : ℕ
-  pub slots : slot < 16
-  pub held : holds set slot ≡ true
-  pub small : set < 2 ^ 16
 
 -- The caps of the set's slots are together below its least load.
 abbrev pub IsBelowLeast : Classes → Limits → ℕ → Type 0

@@ -1,7 +1,8 @@
 ghost use Rattle.std.specs.Prelude.{◌≡◌, ◌≢◌, ℕ, ◌+◌, ◌*◌, ◌^◌, ◌<◌, ◌≤◌, IfErr, IfNone, IfOk, IfSome, length, slice_index};
 ghost use Rattle.pocsag_slots.specs.Loads.{AreInOrder, IsAdmitted, IsLeastLoad, IsWithin, load, Overloads};
 ghost use Rattle.pocsag_slots.specs.Sums.{sum_over};
-ghost use Rattle.pocsag_flow.specs.Choosing.{HasSlot, IsBelowLeast, overload, set_of};
+ghost use Rattle.pocsag_tree.specs.Spelling.{IsSet};
+ghost use Rattle.pocsag_flow.specs.Choosing.{IsBelowLeast, overload, set_of};
 ghost use Rattle.pocsag_flow.specs.Search.{IsStanding, same_slot};
 
 use crate::fault::ChooseFault;
@@ -18,14 +19,15 @@ use pocsag_slots::{
 pub fn choose(classes: &Classes, limits: &Limits) -> Result<Choice, ChooseFault>
     requires { AreInOrder classes.now limits.now }
     ensures admitted { IfOk result (λ choice. IsAdmitted classes.now limits.now (slice_index choice.early)) }
-    ensures some { IfErr result (λ fault. HasSlot (set_of fault)) }
+    ensures set { IfErr result (λ fault. IsSet (set_of fault)) }
     ensures overloads { IfErr result (λ fault. Overloads classes.now limits.now (set_of fault)) }
     ensures least { IfErr result (λ fault. IsBelowLeast classes.now limits.now (set_of fault)) }
 {
     choose_from(classes, limits, &Choice { early: limits.hi })
 }
 
-/// The same, beginning with the given choice, or with what is nearest to it within the limits.
+/// The same. The given choice is a hint for speed: the nearer it is to one that is admitted, the sooner
+/// there is an answer.
 pub fn choose_from(
     classes: &Classes,
     limits: &Limits,
@@ -33,7 +35,7 @@ pub fn choose_from(
 ) -> Result<Choice, ChooseFault>
     requires { AreInOrder classes.now limits.now }
     ensures admitted { IfOk result (λ choice. IsAdmitted classes.now limits.now (slice_index choice.early)) }
-    ensures some { IfErr result (λ fault. HasSlot (set_of fault)) }
+    ensures set { IfErr result (λ fault. IsSet (set_of fault)) }
     ensures overloads { IfErr result (λ fault. Overloads classes.now limits.now (set_of fault)) }
     ensures least { IfErr result (λ fault. IsBelowLeast classes.now limits.now (set_of fault)) }
 {
@@ -92,7 +94,7 @@ fn relieved(
     requires above { slice_index limits.now.cap slot < slice_index standing.now.loads slot }
     ensures standing { IfOk result (IsStanding classes.now limits.now) }
     ensures less { IfOk result (λ after. overload classes.now limits.now (slice_index after.early) < overload classes.now limits.now (slice_index standing.now.early)) }
-    ensures some { IfErr result (λ fault. HasSlot (set_of fault)) }
+    ensures set { IfErr result (λ fault. IsSet (set_of fault)) }
     ensures overloads { IfErr result (λ fault. Overloads classes.now limits.now (set_of fault)) }
 {
     class_loads_add_up();

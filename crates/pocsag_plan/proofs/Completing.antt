@@ -3,18 +3,18 @@ use Rattle.std.proofs.Common.{◌≡◌, ℕ, ◌+◌, ◌*◌, ◌^◌, ◌<◌
 use Rattle.pocsag_words.specs.declared.ending.End.{End}
 use Rattle.pocsag_pages.specs.declared.page.Page.{Page}
 use Rattle.pocsag_pages.specs.Pages.{IsRound}
-use Rattle.pocsag_pages.specs.Reading.{page_length}
+use Rattle.pocsag_pages.specs.Reading.{IsLegalList, page_length}
 use Rattle.pocsag_pages.proofs.GoodPages.{apart_pages}
 use Rattle.pocsag_slots.specs.declared.class.Classes.{Classes}
 use Rattle.pocsag_slots.specs.declared.step.Step.{Step}
 use Rattle.pocsag_slots.specs.Loads.{AreClassesOf}
 use Rattle.pocsag_slots.specs.Tours.{IsTourFor}
 use Rattle.pocsag_slots.proofs.LoadLemmas.{load_few}
+use Rattle.pocsag_tree.specs.Bounds.{all_nodes, closed_nodes}
+use Rattle.pocsag_tree.specs.Views.{bound_of}
 use Rattle.pocsag_branch.specs.declared.answer.Found.{Found}
-use Rattle.pocsag_branch.specs.Found.{IsFound}
-use Rattle.pocsag_batch.proofs.Sayable.{HaveCodewords}
+use Rattle.pocsag_branch.specs.Found.{IsFound, IsNodeLimit}
 use Rattle.pocsag_plan.proofs.Rooms.{room}
-use Rattle.pocsag_plan.proofs.Served.{tour_sent}
 
 -- no choice loads a slot above 1,760,000, so the least is no more
 pub most : (k : Classes) (end : End) (limit : ℕ) (found : Found) → IsFound k end limit found → found.batches ≤ 1760001
@@ -38,9 +38,12 @@ tour_for k end R limit found classes is =
       tour = is.tour;
     }
 
-pub found_room : HaveCodewords → (k : Classes) (end : End) (R : List Page) (limit : ℕ) (found : Found) → IsRound R → AreClassesOf k end R →
-    IsFound k end limit found → sum_by page_length R ≤ 16 * found.batches
-unfolding tour_for
-found_room have k end R limit found round classes is =
-    let sent = tour_sent have end R found.steps.items round (tour_for k end R limit found classes is) in
-    room end R found.batches sent.0 (apart_pages R round.good) sent.1
+-- the codewords of the tour are as many as the batches hold
+pub found_room : (k : Classes) (end : End) (R : List Page) (limit : ℕ) (found : Found) → IsRound R → IsFound k end limit found →
+    (U : List ℕ) → IsLegalList end U found.batches R → sum_by page_length R ≤ 16 * found.batches
+found_room k end R limit found round is U legal = room end R found.batches U (apart_pages R round.good) legal
+
+-- no node is `Open`, so all nodes are at most the limit
+pub nodes_few : (k : Classes) (end : End) (limit : ℕ) (found : Found) → IsFound k end limit found → IsNodeLimit limit →
+    all_nodes (bound_of found.tree) ≡ closed_nodes (bound_of found.tree) → all_nodes (bound_of found.tree) ≤ 1000000
+nodes_few k end limit found is within same = let few : closed_nodes (bound_of found.tree) ≤ limit = is.few in let most : limit ≤ 1000000 = within.few in omega arith

@@ -1,9 +1,8 @@
 pub mod Completing
 pub mod Due
-pub mod Explaining
-pub mod Rooms
-pub mod Served
-pub mod Tallying
-pub mod Entries
 pub mod Editing
+pub mod Entries
+pub mod Explaining
 pub mod Refusing
+pub mod Rooms
+pub mod Tallying

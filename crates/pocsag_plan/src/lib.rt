@@ -6,11 +6,15 @@ mod airtime;
 mod answer;
 mod book;
 mod fault;
+#[cfg(test)]
+mod planned;
 mod planning;
 mod refusal;
 mod reporting;
 mod streaming;
 mod tally;
+#[cfg(test)]
+mod tests;
 
 pub use airtime::Report;
 pub use answer::Plan;

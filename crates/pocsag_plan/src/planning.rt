@@ -11,10 +11,11 @@ use crate::answer::Plan;
 use crate::fault::PlanFault;
 use pocsag_batch::{in_order_batches, order_of};
 use pocsag_branch::{Found, search};
+use pocsag_check::accepted_trees_have_texts;
 
 use pocsag_pages::Round;
-use pocsag_slots::{Classes, classes_of};
-use pocsag_words::{End, OutOfMemory, kinds_have_codewords};
+use pocsag_slots::{Classes, classes_of, tours_have_codewords};
+use pocsag_words::{End, OutOfMemory};
 use std::alloc::Global;
 
 // The greatest node limit.
@@ -96,7 +97,8 @@ fn completed(
     ensures plan { IfOk result (IsPlan end round.now) }
     ensures small { IfOk result (λ plan. closed_nodes (bound_of plan.tree) ≤ limit) }
 {
-    kinds_have_codewords();
+    tours_have_codewords();
+    accepted_trees_have_texts();
     let pages = round.pages().len() as u32;
     let order = order_of(alloc, round, &found.steps, end)?;
     Ok(Plan {

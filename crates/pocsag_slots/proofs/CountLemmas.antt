@@ -149,11 +149,14 @@ more_counted counts turns end R i p at whole h item class long_run so_far =
       each_turns = grown turns (turns_of end (take i R)) (turns_of end (take (i + 1) R)) at whole so_far.turns_long fits so_far.each_turns turns_next;
     }
 
+pub tables_sum : (counts turns : List ℕ) (end : End) (R : List Page) → AreCounted counts turns end R → sum_below 136 (slice_index counts) ≡ length R
+tables_sum counts turns end R of = sum_below-same 136 (slice_index counts) (count_of end R) of.each ∙ counts_sum end R
+
 -- the tables of a round keep what tables do
 pub tables_of : (counts turns : List ℕ) (end : End) (R : List Page) → AreCounted counts turns end R → length R ≤ 20000 → All IsShort R →
     AreTables counts turns
 tables_of counts turns end R of few short =
-    let sum : sum_below 136 (slice_index counts) ≡ length R = sum_below-same 136 (slice_index counts) (count_of end R) of.each ∙ counts_sum end R in
+    let sum : sum_below 136 (slice_index counts) ≡ length R = tables_sum counts turns end R of in
     record {
       counts = of.long;
       totals = of.turns_long;

@@ -1,5 +1,5 @@
 -- How often codewords in a row cover a slot, and where the runs of a class start and end.
-use Rattle.std.proofs.Common.{◌≡◌, ℕ, zero, suc, ◌+◌, ◌-◌, ◌*◌, ◌/◌, ◌%◌, ◌<◌, ◌==◌, Bool, cond, arith}
+use Rattle.std.proofs.Common.{◌≡◌, ℕ, zero, suc, ◌+◌, ◌-◌, ◌*◌, ◌/◌, ◌%◌, ◌<◌, ◌==◌, Bool, true, false, cond, arith}
 use Rattle.std.proofs.lemmas.Bool.Decides.{nat_tests}
 use Rattle.pocsag_words.specs.declared.ending.End.{End}
 use Rattle.pocsag_words.specs.declared.ending.End.TheVariants.{Open, Closed}
@@ -56,6 +56,11 @@ unfolding finish_of
 finish_is end i n =
     let small : i % 16 / 2 < 8 = omega arith in
     omega (arith, start_is end i n, class_rest_is end (i % 16 / 2) n small)
+
+pub start_below : (c : ℕ) (e : Bool) → c < 136 → start_of c e < 16
+unfolding start_of class_frame
+start_below c true h = grind (arith, nat_tests)
+start_below c false h = grind (arith, nat_tests)
 
 pub finish_below : (c : ℕ) (e : Bool) → finish_of c e < 16
 unfolding finish_of

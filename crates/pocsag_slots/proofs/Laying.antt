@@ -87,7 +87,7 @@ pub first_runs : (c : ℕ) (e : Bool) (ss : List Step) (d : ℕ) →
     runs d true (Run c e ∷ ss) + runs d false (Run c e ∷ ss) ≡ cond (c == d) 1 0 + (runs d true ss + runs d false ss)
 first_runs c e ss d = omega (arith, run_counts (c == d) e)
 
-some_left : (end : End) (R : List Page) (c : ℕ) (e : Bool) (ss : List Step) → IsServed end R (Run c e ∷ ss) → 0 < count_of end R c
+pub some_left : (end : End) (R : List Page) (c : ℕ) (e : Bool) (ss : List Step) → IsServed end R (Run c e ∷ ss) → 0 < count_of end R c
 some_left end R c e ss s =
     let first : runs c true (Run c e ∷ ss) + runs c false (Run c e ∷ ss) ≡ cond (c == c) 1 0 + (runs c true ss + runs c false ss) = first_runs c e ss c in
     let same : (c == c) ≡ true = eq-eqb c c refl in
@@ -95,7 +95,7 @@ some_left end R c e ss s =
     let all = s.each c in
     omega arith
 
-served_left : (end : End) (R : List Page) (c : ℕ) (e : Bool) (ss : List Step) (p : Page) (left : List Page) →
+pub served_left : (end : End) (R : List Page) (c : ℕ) (e : Bool) (ss : List Step) (p : Page) (left : List Page) →
     IsServed end R (Run c e ∷ ss) → IsTaken end c R p left → IsServed end left ss
 served_left end R c e ss p left s t = record {
   each = λ d. omega (arith, first_runs c e ss d, s.each d, left_counts end c R p left t d);

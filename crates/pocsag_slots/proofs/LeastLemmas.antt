@@ -9,7 +9,7 @@ use Rattle.pocsag_slots.specs.Cover.{covered}
 use Rattle.pocsag_slots.specs.Loads.{AreInOrder, IsLeastLoad, Overloads, class_load, class_load_over, least_of_class, load}
 use Rattle.pocsag_slots.specs.Numbering.{class_rest, start_of}
 use Rattle.pocsag_slots.specs.Sums.{holds, sum_below, sum_over}
-use Rattle.pocsag_slots.proofs.CoverLemmas.{covered_batches, covered_split}
+use Rattle.pocsag_slots.proofs.CoverLemmas.{covered_split}
 use Rattle.pocsag_slots.proofs.LoadLemmas.{load_few}
 use Rattle.pocsag_slots.proofs.SumLemmas.{sum_over-most, sum_below-le, sum_below-same, sum_over-add, sum_over-at, sum_over-none, sum_over-same, sum_over-sum_below, sum_over-times}
 
@@ -40,7 +40,7 @@ members_more set first n =
 -- how much the runs of a class load a set, by how many slots of the set a turn, an early run and a
 -- late run cover
 pub class_load_over_is : (k : Classes) (set c early : ℕ) → class_load_over k set c early ≡
-    slice_index k.turns c * sum_over set (covered 0 16)
+    slice_index k.turns c * sum_over set (λ slot. 1)
     + (early * sum_over set (covered (start_of c true) (class_rest c))
     + (slice_index k.count c - early) * sum_over set (covered (start_of c false) (class_rest c)))
 unfolding class_load_over class_load
@@ -49,12 +49,12 @@ class_load_over_is k set c early =
     let late : ℕ = slice_index k.count c - early in
     let a : ℕ → ℕ = covered (start_of c true) (class_rest c) in
     let b : ℕ → ℕ = covered (start_of c false) (class_rest c) in
-    let turn : sum_over set (λ slot. t * covered 0 16 slot) ≡ t * sum_over set (covered 0 16) = sum_over-times set t (covered 0 16) in
-    let same : sum_over set (λ slot. t + early * a slot + late * b slot) ≡ sum_over set (λ slot. t * covered 0 16 slot + (early * a slot + late * b slot)) =
-    sum_over-same set _ _ (λ slot h. let one : covered 0 16 slot ≡ 1 = covered_batches 1 slot h in rw one (omega arith)) in
-    let split : sum_over set (λ slot. t * covered 0 16 slot + (early * a slot + late * b slot))
-    ≡ sum_over set (λ slot. t * covered 0 16 slot) + sum_over set (λ slot. early * a slot + late * b slot) =
-    sum_over-add set (λ slot. t * covered 0 16 slot) (λ slot. early * a slot + late * b slot) in
+    let turn : sum_over set (λ slot. t * 1) ≡ t * sum_over set (λ slot. 1) = sum_over-times set t (λ slot. 1) in
+    let same : sum_over set (λ slot. t + early * a slot + late * b slot) ≡ sum_over set (λ slot. t * 1 + (early * a slot + late * b slot)) =
+    sum_over-same set _ _ (λ slot h. omega arith) in
+    let split : sum_over set (λ slot. t * 1 + (early * a slot + late * b slot))
+    ≡ sum_over set (λ slot. t * 1) + sum_over set (λ slot. early * a slot + late * b slot) =
+    sum_over-add set (λ slot. t * 1) (λ slot. early * a slot + late * b slot) in
     let runs : sum_over set (λ slot. early * a slot + late * b slot) ≡ sum_over set (λ slot. early * a slot) + sum_over set (λ slot. late * b slot) =
     sum_over-add set (λ slot. early * a slot) (λ slot. late * b slot) in
     let by_early : sum_over set (λ slot. early * a slot) ≡ early * sum_over set a = sum_over-times set early a in
@@ -98,7 +98,7 @@ unfolding least_of_class
 least_below k l set c e low high counted =
     let a : ℕ = sum_over set (covered (start_of c true) (class_rest c)) in
     let b : ℕ = sum_over set (covered (start_of c false) (class_rest c)) in
-    let t : ℕ = slice_index k.turns c * sum_over set (covered 0 16) in
+    let t : ℕ = slice_index k.turns c * sum_over set (λ slot. 1) in
     let least = between (slice_index k.count c) a b (slice_index l.lo c) e (slice_index l.hi c) low high counted in
     let at_lo = class_load_over_is k set c (slice_index l.lo c) in
     let at_hi = class_load_over_is k set c (slice_index l.hi c) in
@@ -153,7 +153,7 @@ overload_is k l set least is_least = (
 )
 
 pub least_of_class_is : (k : Classes) (l : Limits) (set c : ℕ) → least_of_class k l set c ≡
-    slice_index k.turns c * sum_over set (covered 0 16)
+    slice_index k.turns c * sum_over set (λ slot. 1)
     + min (slice_index l.lo c * sum_over set (covered (start_of c true) (class_rest c))
     + (slice_index k.count c - slice_index l.lo c) * sum_over set (covered (start_of c false) (class_rest c)))
     (slice_index l.hi c * sum_over set (covered (start_of c true) (class_rest c))

@@ -13,3 +13,4 @@ pub mod LimitLemmas
 pub mod WayLemmas
 pub mod CountLemmas
 pub mod Members
+pub mod Sayable

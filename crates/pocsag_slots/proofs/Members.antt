@@ -1,5 +1,6 @@
 -- Members of a set that takes one more.
-use Rattle.std.proofs.Common.{◌≡◌, ◌≢◌, ◌∙◌, ℕ, ◌+◌, ◌*◌, ◌%◌, ◌^◌, ◌<◌, ◌==◌, true, false, ap, arith, w16, bit_and, bit_or}
+use Rattle.std.proofs.Common.{◌≡◌, ◌≢◌, ◌∙◌, ℕ, ◌+◌, ◌*◌, ◌%◌, ◌^◌, ◌<◌, ◌≤◌, ◌==◌, true, false, ap, arith, inl, inr, w16, bit_and, bit_or}
+use Rattle.std.proofs.lemmas.Bool.{cases_eq}
 use Rattle.std.proofs.lemmas.Bool.Decides.{nat_tests}
 use Rattle.std.proofs.lemmas.Nat.Bits.{bit_at_set_same, bit_at_set_other, bit_at-zero, and_pow, bit_at-lt}
 use Rattle.std.proofs.lemmas.Nat.{or_lt, pow_pos}
@@ -43,3 +44,11 @@ adds_member set member h =
       grows = holds_more set member h;
       small = λ low. or_lt 16 set (1 * 2 ^ member % 65536) low (omega arith);
     }
+
+-- a set with a member is not empty
+pub held_some : (set member : ℕ) → holds set member ≡ true → 1 ≤ set
+held_some set member held =
+    elim (cases_eq set 0) [
+      | inl none ↦ absurd (let out : holds set member ≡ false = ap (λ (s : ℕ). holds s member) none ∙ holds_none member in cc)
+      | inr some ↦ omega arith
+    ]

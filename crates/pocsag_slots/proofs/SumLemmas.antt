@@ -136,7 +136,7 @@ chosen_most : (b : Bool) (x m : ℕ) → x ≤ m → cond b x 0 ≤ m
 chosen_most true x m h = h
 chosen_most false x m h = omega arith
 
-sum_below-most : (n m : ℕ) (f : ℕ → ℕ) → ((k : ℕ) → k < n → f k ≤ m) → sum_below n f ≤ n * m
+pub sum_below-most : (n m : ℕ) (f : ℕ → ℕ) → ((k : ℕ) → k < n → f k ≤ m) → sum_below n f ≤ n * m
 unfolding sum_below
 sum_below-most zero m f h = omega arith
 sum_below-most (suc n) m f h = omega (arith, sum_below-most n m f (λ k l. h k (omega arith)), h n (omega arith))

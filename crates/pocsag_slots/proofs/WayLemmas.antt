@@ -22,13 +22,13 @@ unfolding joined_below
 length-joined_below zero m f h = omega arith
 length-joined_below (suc n) m f h = rw length-append (omega (arith, length-joined_below n m f h, h n))
 
-All-joined_below : {X : Type 0} (P : X → Type 0) (n : ℕ) (f : ℕ → List X) → ((k : ℕ) → k < n → All P (f k)) → All P (joined_below n f)
+pub All-joined_below : {X : Type 0} (P : X → Type 0) (n : ℕ) (f : ℕ → List X) → ((k : ℕ) → k < n → All P (f k)) → All P (joined_below n f)
 unfolding joined_below
 All-joined_below P zero f h = All-nil P
 All-joined_below P (suc n) f h =
     All-append P (joined_below n f) (f n) (All-joined_below P n f (λ k l. h k (omega arith))) (h n (omega arith))
 
-one_or_none : {X : Type 0} (b : Bool) (x : X) → length (cond b (x ∷ []) []) ≤ 1
+pub one_or_none : {X : Type 0} (b : Bool) (x : X) → length (cond b (x ∷ []) []) ≤ 1
 one_or_none true x = omega arith
 one_or_none false x = omega arith
 

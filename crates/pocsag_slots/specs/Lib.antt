@@ -3,6 +3,7 @@ pub mod Cover
 pub mod Layout
 pub mod Loads
 pub mod Numbering
+pub mod Saying
 pub mod Sums
 pub mod Tables
 pub mod Tours

@@ -71,11 +71,15 @@ abbrev pub Overloads : Classes → Limits → ℕ → Type 0
 Overloads k l set =
     (choice : ℕ → ℕ) → IsWithin l choice → sum_over set (slice_index l.cap) < sum_over set (load k choice)
 
+-- So many batches carry the choice: no load is above them.
+abbrev pub AreCarried : Classes → (ℕ → ℕ) → ℕ → Type 0
+AreCarried k choice batches = (slot : ℕ) → slot < 16 → load k choice slot ≤ batches
+
 -- Some choice loads no slot above b.
 pub record IsCarriedBy (k : Classes) (b : ℕ) : Type 0 where
   pub choice : ℕ → ℕ
   pub among : IsChoice k choice
-  pub loads : (slot : ℕ) → slot < 16 → load k choice slot ≤ b
+  pub loads : AreCarried k choice b
 
 -- *Least*: the least b for which some choice loads no slot above b.
 pub record IsLeast (k : Classes) (b : ℕ) : Type 0 where

@@ -56,7 +56,9 @@ MayTake k l (IdleIn slot) = slot < 16
 MayTake k l (Early c) = (c < 136) × (0 < slice_index l.hi c)
 MayTake k l (Late c) = (c < 136) × (slice_index l.lo c < slice_index k.count c)
 
--- The limits of the transmissions that take the way: one idle more in the slot, or one run at least.
+-- The limits of the transmissions that take the way: at least one idle stands in the slot, so that pages
+-- cover it at most batches - 1 times, however often the way is taken; or at least one run of the class
+-- starts so.
 abbrev pub narrowed_limits : Classes → Limits → Way → ℕ → Limits
 narrowed_limits k l (IdleIn slot) batches = record l { cap = slice_set l.cap slot (min (slice_index l.cap slot) (batches - 1)) }
 narrowed_limits k l (Early c) batches = record l { lo = slice_set l.lo c (max (slice_index l.lo c) 1) }

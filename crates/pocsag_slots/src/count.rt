@@ -2,6 +2,7 @@ ghost use Rattle.std.specs.Prelude.{◌≡◌, ℕ, ◌/◌, ◌<◌, ◌≤◌,
 ghost use Rattle.pocsag_pages.specs.Reading.{page_length};
 ghost use Rattle.pocsag_slots.specs.Loads.{AreClassesOf};
 ghost use Rattle.pocsag_slots.specs.Numbering.{class_of_page};
+ghost use Rattle.pocsag_slots.specs.Sums.{sum_below};
 
 use crate::class::{CLASSES, Classes};
 use pocsag_pages::{Page, Round};
@@ -33,6 +34,7 @@ pub fn whole_turns(page: &Page) -> u32
 /// The pages of the round by classes for the end.
 pub fn classes_of(round: &Round, end: End) -> Classes
     ensures counted { AreClassesOf result end round.now }
+    ensures pages { sum_below 136 (slice_index result.count) ≡ length round.now }
     // The classes of an address codeword alone are the closed end's.
     ensures open_end { end ≡ End.Open → (c : ℕ) → 128 ≤ c → c < 136 → slice_index result.count c ≡ 0 }
 {

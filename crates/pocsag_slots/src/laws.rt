@@ -4,6 +4,7 @@ ghost use Rattle.pocsag_words.specs.Kinds.{kind_of};
 ghost use Rattle.pocsag_words.specs.declared.codeword.Kind.{Kind};
 ghost use Rattle.pocsag_words.specs.declared.ending.End.{End as Ending};
 ghost use Rattle.pocsag_pages.specs.declared.page.Page.{Page};
+ghost use Rattle.pocsag_pages.specs.Pages.{IsRound};
 ghost use Rattle.pocsag_pages.specs.Reading.{AreApart, IsLegalFor, IsLegalList};
 ghost use Rattle.pocsag_slots.specs.declared.class.Classes.{Classes as Table};
 ghost use Rattle.pocsag_slots.specs.declared.step.Step.{Step as Arc};
@@ -12,6 +13,8 @@ ghost use Rattle.pocsag_slots.specs.Layout.{laid};
 ghost use Rattle.pocsag_slots.specs.Loads.{AreClassesOf, ClassLoadsAddUp, IsChoice, IsLeast, load};
 ghost use Rattle.pocsag_slots.specs.Sums.{SetsTakeMembers};
 ghost use Rattle.pocsag_slots.specs.Tours.{IsTour};
+
+use pocsag_words::kinds_have_codewords;
 
 /// The arcs of the pages and idles of a legal transmission, in order, are a tour of the choice that
 /// counts its early starts.
@@ -27,6 +30,16 @@ pub fn tours_are_transmissions()
         0 < b → AreClassesOf k end R → IsTour k end choice b steps →
         IsLegalFor end (laid end R steps) b R × (arcs end 0 (laid end R steps) ≡ steps) }
 {}
+
+/// Every tour for a round has its codewords: there are codewords that in order say what its steps lay
+/// out, and they are a legal transmission of the round.
+pub fn tours_have_codewords()
+    ensures { (k : Table) (end : Ending) (choice : ℕ → ℕ) (b : ℕ) (steps : List Arc) (R : List Page) →
+        0 < b → IsRound R → AreClassesOf k end R → IsTour k end choice b steps →
+        (U : List ℕ) × (map kind_of U ≡ laid end R steps) × IsLegalList end U b R }
+{
+    kinds_have_codewords();
+}
 
 /// The early starts of a legal transmission of `b` batches are a choice that loads no slot above `b`.
 pub fn no_load_is_above_batches()

@@ -20,10 +20,11 @@ pub use class::{CLASSES, Choice, Classes, SLOTS};
 pub use count::{class_of, classes_of, whole_turns};
 pub use laws::{
     class_loads_add_up, codewords_and_tours_correspond, no_load_is_above_batches,
-    no_transmission_has_fewer, sets_take_members, tours_are_transmissions, transmissions_are_tours,
+    no_transmission_has_fewer, sets_take_members, tours_are_transmissions, tours_have_codewords,
+    transmissions_are_tours,
 };
 pub use limit::{Limits, all_limits, below_split, from_split, narrow};
-pub use load::{least_load, loads, overloads};
-pub use set::{crosses, holds, touches, with_member};
+pub use load::{carries, least_load, loads, overloads};
+pub use set::{crosses, holds, size, touches, with_member};
 pub use step::Step;
 pub use way::{Way, closing_ways, is_certain, ways};

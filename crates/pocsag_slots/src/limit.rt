@@ -52,8 +52,9 @@ pub fn from_split(limits: &Limits, class: u8, m: u32) -> Limits
     from
 }
 
-/// The limits of the transmissions that take the way: one idle more in the slot, or one run of the
-/// class at least.
+/// The limits of the transmissions that take the way: at least one idle stands in the slot, so that
+/// pages cover it at most `batches - 1` times, however often the way is taken; or at least one run of
+/// the class starts early, or late.
 pub fn narrow(classes: &Classes, limits: &Limits, way: Way, batches: u32) -> Limits
     requires batches { 0 < batches }
     requires ordered { AreInOrder classes.now limits.now }

@@ -1,12 +1,12 @@
 ghost use Rattle.std.specs.Prelude.{◌≡◌, ℕ, ◌*◌, ◌^◌, ◌<◌, ◌≤◌, ◌↔◌, IsTrue, if◌then◌else◌, length, slice_index};
 ghost use Rattle.pocsag_slots.specs.Cover.{covered};
-ghost use Rattle.pocsag_slots.specs.Loads.{AreInOrder, class_load as load_of_class, IsChoice, IsLeastLoad, least_of_class, load, Overloads};
+ghost use Rattle.pocsag_slots.specs.Loads.{AreCarried, AreInOrder, class_load as load_of_class, IsChoice, IsLeastLoad, least_of_class, load, Overloads};
 ghost use Rattle.pocsag_slots.specs.Sums.{holds, sum_over};
 
 use crate::boundary::{rest, start};
 use crate::class::{CLASSES, Choice, Classes, SLOTS};
 use crate::limit::Limits;
-use crate::set::holds;
+use crate::set::{holds, size};
 
 // How often so many codewords from a slot on, at most one turn, cover the slot.
 #[tactic(auto, using(crate::proofs::LoadLemmas::covered_by))]
@@ -64,6 +64,19 @@ pub fn loads(classes: &Classes, choice: &Choice) -> [u32; 16]
     found
 }
 
+/// Whether so many batches carry the loads of the choice: no slot is loaded above them.
+pub fn carries(classes: &Classes, choice: &Choice, batches: u32) -> bool
+    requires { IsChoice classes.now (slice_index choice.now.early) }
+    ensures { IsTrue result ↔ AreCarried classes.now (slice_index choice.now.early) batches }
+{
+    for load in loads(classes, choice) {
+        if load > batches {
+            return false;
+        }
+    }
+    true
+}
+
 // How many of so many codewords from a slot on, at most one turn, stand in slots of the set.
 fn members_covered(set: u16, first: u8, codewords: u8) -> u64
     requires first { first < 16 }
@@ -82,10 +95,10 @@ fn members_covered(set: u16, first: u8, codewords: u8) -> u64
 
 // The least load of the class on the set of slots, of which there are so many.
 #[tactic(auto, unfolding(crate::specs::Loads::least_of_class))]
-fn class_least(classes: &Classes, limits: &Limits, set: u16, size: u64, class: u8) -> u64
+fn class_least(classes: &Classes, limits: &Limits, set: u16, members: u64, class: u8) -> u64
     requires ordered { AreInOrder classes.now limits.now }
-    requires size { size ≡ sum_over set (covered 0 16) }
-    requires small { size ≤ 16 }
+    requires members { members ≡ sum_over set (λ _. 1) }
+    requires small { members ≤ 16 }
     requires class { class < 136 }
     ensures value { result ≡ least_of_class classes.now limits.now set class }
     ensures bound { result < 2 ^ 40 }
@@ -97,7 +110,7 @@ fn class_least(classes: &Classes, limits: &Limits, set: u16, size: u64, class: u
     let late = members_covered(set, start(class, false), rest(class));
     let at_lo = lo * early + (count - lo) * late;
     let at_hi = hi * early + (count - hi) * late;
-    u64::from(classes.turns[class as usize]) * size + at_lo.min(at_hi)
+    u64::from(classes.turns[class as usize]) * members + at_lo.min(at_hi)
 }
 
 /// The least total load of the slots of the set, over all choices within the limits.
@@ -106,10 +119,10 @@ pub fn least_load(classes: &Classes, limits: &Limits, set: u16) -> u64
     ensures least { IsLeastLoad classes.now limits.now set result }
     ensures bound { result ≤ 28160000 }
 {
-    let size = members_covered(set, 0, 16);
+    let members = u64::from(size(set));
     let mut least = 0;
     for class in 0..CLASSES as u8 {
-        least += class_least(classes, limits, set, size, class);
+        least += class_least(classes, limits, set, members, class);
     }
     least
 }

@@ -1,8 +1,9 @@
-ghost use Rattle.std.specs.Prelude.{◌≡◌, ◌<◌};
-ghost use Rattle.pocsag_slots.specs.Sums.{AddsMember, holds as is_member};
+ghost use Rattle.std.specs.Prelude.{◌≡◌, ◌<◌, ◌≤◌};
+ghost use Rattle.pocsag_slots.specs.Sums.{AddsMember, holds as is_member, sum_over};
 ghost use Rattle.pocsag_slots.specs.Ways.{idle_crosses as crosses_by_idle, run_crosses, run_touches};
 
 use crate::boundary::{finish, start};
+use crate::class::SLOTS;
 
 /// Whether the set, of slots or of boundaries, has the member, 0 to 15: bit `i` of the number stands
 /// for member `i`.
@@ -20,6 +21,20 @@ pub fn with_member(set: u16, member: u8) -> u16
     ensures { AddsMember set member result }
 {
     set | 1 << member
+}
+
+/// How many members the set has.
+pub fn size(set: u16) -> u32
+    ensures members { result ≡ sum_over set (λ _. 1) }
+    ensures bound { result ≤ 16 }
+{
+    let mut members = 0;
+    for member in 0..SLOTS as u8 {
+        if holds(set, member) {
+            members += 1;
+        }
+    }
+    members
 }
 
 /// Whether an early or a late run of the class has an end outside the set of boundaries.

@@ -69,6 +69,25 @@ fn loops_apart(rt: HostRuntime) -> Result<(), Fail> {
 }
 
 #[test]
+fn three_pages_tight(rt: HostRuntime) -> Result<(), Fail> {
+    let round = round_of(rt.alloc(), &[(0, 5), (3, 9), (11, 15)])?;
+    let classes = classes_of(&round, End::Open);
+    let out = ways(&classes, &all_limits(&classes, 2), 0x0081, 2);
+    let expected = [
+        Way::IdleIn(0),
+        Way::IdleIn(6),
+        Way::IdleIn(7),
+        Way::IdleIn(15),
+        Way::Early(6),
+        Way::Late(6),
+        Way::Early(58),
+        Way::Late(58),
+    ];
+    assert_eq!(rt; out.as_slice(), expected.as_slice());
+    Ok(())
+}
+
+#[test]
 fn closed_mixed(rt: HostRuntime) -> Result<(), Fail> {
     let round = round_of(rt.alloc(), &[(0, 13), (7, 0), (15, 16)])?;
     let classes = classes_of(&round, End::Closed);
@@ -78,6 +97,8 @@ fn closed_mixed(rt: HostRuntime) -> Result<(), Fail> {
     let mut early = classes.count;
     early[135] = 0;
     assert_eq!(rt; loads(&classes, &Choice { early }), [2; 16]);
+    assert_eq!(rt; carries(&classes, &Choice { early }, 2), true);
+    assert_eq!(rt; carries(&classes, &Choice { early }, 1), false);
     let out = closing_ways(&classes, &all_limits(&classes, 1));
     assert_eq!(rt;
         out.as_slice(),
@@ -92,5 +113,6 @@ fn sets_of_members(rt: HostRuntime) -> Result<(), Fail> {
     assert_eq!(rt; two, 0x8010);
     assert_eq!(rt; with_member(two, 4), two);
     assert_eq!(rt; (holds(two, 15), holds(two, 5)), (true, false));
+    assert_eq!(rt; (size(0), size(two), size(0xFFFF)), (0, 2, 16));
     Ok(())
 }

@@ -7,7 +7,7 @@ use crate::limit::Limits;
 use crate::set::{crosses, idle_crosses, touches};
 use arrayvec::ArrayVec;
 
-/// A way out of a set of boundaries: one more idle in a slot, or an early or a late run of a class.
+/// A way out of a set of boundaries: an idle in a slot, or an early or a late run of a class.
 #[derive(Clone, Copy, PartialEq, Eq, Debug)]
 pub enum Way {
     IdleIn(u8),

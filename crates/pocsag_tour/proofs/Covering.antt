@@ -7,10 +7,10 @@ use Rattle.pocsag_slots.specs.Cover.{covered}
 use Rattle.pocsag_slots.specs.Loads.{class_load, load}
 use Rattle.pocsag_slots.specs.Numbering.{class_rest, start_of, finish_of}
 use Rattle.pocsag_slots.specs.Sums.{sum_below}
-use Rattle.pocsag_slots.proofs.CoverLemmas.{covered_is}
+use Rattle.pocsag_slots.proofs.CoverLemmas.{covered_is, start_below}
 use Rattle.pocsag_slots.proofs.SumLemmas.{sum_below-same, sum_below-add, sum_below-bump, sum_below-zero}
 use Rattle.pocsag_tour.specs.Moves.{arc_count, arc_from, arc_to, AreCounts, ins, IsBalanced, outs}
-use Rattle.pocsag_tour.proofs.Geometry.{below, from_early, from_idle, from_late, not_below, start_below, to_early, to_idle, to_late}
+use Rattle.pocsag_tour.proofs.Geometry.{below, from_early, from_idle, from_late, not_below, to_early, to_idle, to_late}
 
 -- the counts by kind
 pub count_early : (k : Classes) (choice : ℕ → ℕ) (b c : ℕ) → c < 136 → arc_count k choice b c ≡ choice c

@@ -161,10 +161,10 @@ next left exit p =
               cc)
         ])
 
-abbrev one_less : (ℕ → ℕ) → ℕ → ℕ → ℕ
+abbrev pub one_less : (ℕ → ℕ) → ℕ → ℕ → ℕ
 one_less left a b = cond (b == a) (left a - 1) (left b)
 
-is_less : (left : ℕ → ℕ) (a : ℕ) → 0 < left a → IsLess a left (one_less left a)
+pub is_less : (left : ℕ → ℕ) (a : ℕ) → 0 < left a → IsLess a left (one_less left a)
 is_less left a have =
     record {
       here = (let t : (a == a) ≡ true = eq-eqb a a refl in rw t (omega arith));

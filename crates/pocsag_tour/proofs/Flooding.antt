@@ -2,7 +2,7 @@
 use Rattle.std.proofs.Common.{◌≡◌, ◌≢◌, ℕ, ◌<◌, true, false, List, length, slice_index, slice_set, get_or-set_same, get_or-set_other, refl, sym, subst, ◌∙◌, inl, inr}
 use Rattle.std.proofs.lemmas.Bool.{cases_eq}
 use Rattle.pocsag_slots.specs.Sums.{holds}
-use Rattle.pocsag_tour.specs.Moves.{arc_from, arc_to, IsEntering, IsExit, IsLeaving, Home, at_root, by_exit, LeadHome, Visited, at_start, by_arc}
+use Rattle.pocsag_tour.specs.Moves.{arc_from, arc_to, IsEntering, IsExit, Home, at_root, by_exit, LeadHome}
 use Rattle.pocsag_tour.proofs.Geometry.{from_below, to_below}
 
 -- the set of one member
@@ -11,19 +11,6 @@ lone set member q alone held =
     elim (cases_eq q member) [
       | inl same ↦ same
       | inr other ↦ absurd (let out : holds set q ≡ false = alone q other in cc)
-    ]
-
-pub visited_start : (counts : ℕ → ℕ) (set : ℕ) → ((i : ℕ) → i ≢ 0 → holds set i ≡ false) →
-    (p : ℕ) → p < 16 → holds set p ≡ true → Visited counts p
-visited_start counts set alone p h held = subst (Visited counts) (sym (lone set 0 p alone held)) at_start
-
-pub visited_more : (counts : ℕ → ℕ) (set grown a : ℕ) → ((p : ℕ) → p < 16 → holds set p ≡ true → Visited counts p) → IsLeaving counts set a →
-    ((i : ℕ) → i ≢ arc_to a → holds grown i ≡ holds set i) →
-    (p : ℕ) → p < 16 → holds grown p ≡ true → Visited counts p
-visited_more counts set grown a visited leaving others p h held =
-    elim (cases_eq p (arc_to a)) [
-      | inl same ↦ subst (Visited counts) (sym same) (by_arc a leaving.known leaving.there (visited (arc_from a) (from_below a leaving.known) leaving.from))
-      | inr other ↦ visited p h (sym (others p other) ∙ held)
     ]
 
 exit_kept : (counts exits more : ℕ → ℕ) (q : ℕ) → more q ≡ exits q → IsExit counts exits q → IsExit counts more q

@@ -3,13 +3,8 @@ use Rattle.std.proofs.Common.{◌≡◌, ℕ, ◌+◌, ◌-◌, ◌%◌, ◌<◌
 use Rattle.std.proofs.lemmas.Bool.Decides.{nat_tests}
 use Rattle.pocsag_slots.specs.Numbering.{class_frame, start_of, finish_of}
 use Rattle.pocsag_slots.specs.declared.step.Step.TheVariants.{Idle as Stay, Run}
-use Rattle.pocsag_slots.proofs.CoverLemmas.{finish_below}
+use Rattle.pocsag_slots.proofs.CoverLemmas.{finish_below, start_below}
 use Rattle.pocsag_tour.specs.Moves.{arc_from, arc_to, arc_at, step_of}
-
-pub start_below : (c : ℕ) (e : Bool) → c < 136 → start_of c e < 16
-unfolding start_of class_frame
-start_below c true h = grind (arith, nat_tests)
-start_below c false h = grind (arith, nat_tests)
 
 -- the three ranges of arcs
 pub below : (a n : ℕ) → a < n → nat_lt a n ≡ true

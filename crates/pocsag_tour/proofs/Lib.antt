@@ -7,3 +7,5 @@ pub mod Joining
 pub mod Tours
 pub mod Existing
 pub mod Refusing
+pub mod Sparing
+pub mod Linking

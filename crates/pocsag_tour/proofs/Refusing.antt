@@ -13,8 +13,7 @@ use Rattle.pocsag_slots.specs.Numbering.{start_of, finish_of}
 use Rattle.pocsag_slots.specs.Sums.{holds}
 use Rattle.pocsag_slots.specs.Tours.{idles, IsTour, LastIsWhole, Leads}
 use Rattle.pocsag_tour.specs.Reached.{IsApart, IsReached, at_start, by_idle, by_run, IsUnclosed, runs_of}
-use Rattle.pocsag_slots.proofs.CoverLemmas.{finish_below}
-use Rattle.pocsag_tour.proofs.Geometry.{start_below}
+use Rattle.pocsag_slots.proofs.CoverLemmas.{finish_below, start_below}
 
 -- a closed way to boundary 0 has an idle in slot 15 or a late run of class 135
 one_idle : (p : ℕ) → p < 16 → (p + 1) % 16 ≡ 0 → ◌≡◌ {A = ℕ} (cond (p == 15) 1 0) 1
@@ -111,9 +110,9 @@ known_runs k choice b end ss t d f some =
 pub never_apart : (k : Classes) (end : End) (choice : ℕ → ℕ) (b set : ℕ) (ss : List Step) → IsApart k choice b set → IsTour k end choice b ss → ⊥
 never_apart k end choice b set ss a t =
     let o = a.outside in
-    let there : 0 < runs o.class o.early ss = subst (λ (n : ℕ). 0 < n) (sym (runs_are k choice b end ss t o.class o.early o.known)) o.there in
+    let there : 0 < runs o.class o.early ss = subst (λ (n : ℕ). 0 < n) (sym (runs_are k choice b end ss t o.class o.early o.run.known)) o.run.there in
     let reached : IsReached k choice b (start_of o.class o.early) =
     all_reached k choice b o.class o.early 0 ss (known_runs k choice b end ss t) (λ s h some. omega (arith, t.idle s h, some)) (omega arith) at_start t.leads there in
-    let inside : holds set (start_of o.class o.early) ≡ true = (a.exact (start_of o.class o.early) (start_below o.class o.early o.known)).1 reached in
-    let apart : holds set (start_of o.class o.early) ≡ false = o.starts in
+    let inside : holds set (start_of o.class o.early) ≡ true = (a.exact (start_of o.class o.early) (start_below o.class o.early o.run.known)).1 reached in
+    let apart : holds set (start_of o.class o.early) ≡ false = o.run.starts in
     absurd (cc)

@@ -1,20 +1,20 @@
 -- Ways over all arcs are tours, and what refusals say.
-use Rattle.std.proofs.Common.{◌≡◌, ℕ, ◌+◌, ◌-◌, ◌%◌, ◌<◌, ◌≤◌, Bool, true, false, not, cond, List, refl, sym, subst, ◌∙◌, arith}
+use Rattle.std.proofs.Common.{◌≡◌, ℕ, ◌+◌, ◌-◌, ◌%◌, ◌<◌, ◌≤◌, ◌⊎◌, Bool, true, false, not, cond, List, refl, sym, subst, ◌∙◌, arith, inl, inr}
 use Rattle.pocsag_words.specs.declared.ending.End.{End}
 use Rattle.pocsag_words.specs.declared.ending.End.TheVariants.{Open}
 use Rattle.pocsag_slots.specs.declared.class.Classes.{Classes}
 use Rattle.pocsag_slots.specs.declared.step.Step.{Step}
-use Rattle.pocsag_slots.specs.Loads.{IsChoice, load}
+use Rattle.pocsag_slots.specs.Loads.{AreCarried, IsChoice, load}
 use Rattle.pocsag_slots.specs.Numbering.{class_frame, class_rest, start_of, finish_of}
 use Rattle.pocsag_slots.specs.Sums.{holds}
 use Rattle.pocsag_slots.specs.Tours.{IsTour, LastAs}
 use Rattle.pocsag_slots.specs.Ways.{run_crosses, idle_crosses}
 use Rattle.pocsag_tour.specs.declared.fault.TourFault.{TourFault}
 use Rattle.pocsag_tour.specs.declared.fault.TourFault.TheVariants.{Apart, Unclosed, OutOfMemory}
-use Rattle.pocsag_tour.specs.Moves.{arc_count, arc_from, arc_to, AreCounts, IsClosing, IsRunOutside, IsWay, NoneEnters, NoneLeaves, NoWay, Visited, at_start as visited_start, by_arc}
-use Rattle.pocsag_tour.specs.Reached.{IsApart, IsReached, at_start, by_idle, by_run, IsRefused, IsUnclosed, LiesOutside, runs_of}
+use Rattle.pocsag_tour.specs.Moves.{arc_count, arc_from, arc_to, AreCounts, IsClosing, IsWay, NoneEnters, NoneLeaves, NoWay, RunsStart, Visited, at_start as visited_start, by_arc}
+use Rattle.pocsag_tour.specs.Reached.{AreReached, IsReached, at_start, by_idle, by_run, IsRefused, IsUnclosed, LiesOutside, NoIdleCrosses, NoRunCrosses, runs_of}
 use Rattle.pocsag_tour.proofs.Covering.{balanced_start, count_early, count_idle, count_late}
-use Rattle.pocsag_tour.proofs.Geometry.{by_kind, from_early, from_idle, from_late, step_idle, step_late, to_early, to_idle, to_late}
+use Rattle.pocsag_tour.proofs.Geometry.{by_kind, from_below, from_early, from_idle, from_late, step_idle, step_late, to_below, to_early, to_idle, to_late}
 use Rattle.pocsag_tour.proofs.Joining.{balance_enters}
 use Rattle.pocsag_tour.proofs.Walks.{taken_early, taken_idle, taken_late}
 
@@ -98,7 +98,7 @@ idle_from k choice b counts set are none s h some held =
     subst (λ (p : ℕ). holds set p ≡ true) (from_idle s)
     (none (272 + s) (omega arith) there (subst (λ (p : ℕ). holds set p ≡ true) (sym (to_idle s)) held))
 
--- what is visited over arcs by number is reached, and the other way round
+-- an arc leads on to what is reached
 reached_by : (k : Classes) (choice : ℕ → ℕ) (b : ℕ) (counts : ℕ → ℕ) → AreCounts k choice b counts →
     (a : ℕ) → a < 288 → 0 < counts a → IsReached k choice b (arc_from a) → IsReached k choice b (arc_to a)
 reached_by k choice b counts are =
@@ -109,19 +109,6 @@ reached_by k choice b counts are =
     (by_run c false h (subst (λ (n : ℕ). 0 < n) (are (136 + c) (omega arith) ∙ late_runs k choice b c h) some) (subst (IsReached k choice b) (from_late c h) r)))
     (λ s h some r. subst (IsReached k choice b) (sym (to_idle s))
     (by_idle s h (omega (arith, some_idle k choice b counts are s h)) (subst (IsReached k choice b) (from_idle s) r)))
-
-visited_reached : (k : Classes) (choice : ℕ → ℕ) (b : ℕ) (counts : ℕ → ℕ) → AreCounts k choice b counts → (p : ℕ) → Visited counts p → IsReached k choice b p
-visited_reached k choice b counts are _ visited_start = at_start
-visited_reached k choice b counts are _ (by_arc a h some rest) =
-    reached_by k choice b counts are a h some (visited_reached k choice b counts are (arc_from a) rest)
-
-reached_in : (k : Classes) (choice : ℕ → ℕ) (b : ℕ) (counts : ℕ → ℕ) (set : ℕ) → AreCounts k choice b counts → holds set 0 ≡ true → NoneLeaves counts set →
-    (p : ℕ) → IsReached k choice b p → holds set p ≡ true
-reached_in k choice b counts set are home none _ at_start = home
-reached_in k choice b counts set are home none _ (by_idle s h some rest) =
-    idle_stays k choice b counts set are none s h some (reached_in k choice b counts set are home none s rest)
-reached_in k choice b counts set are home none _ (by_run c e h some rest) =
-    run_stays k choice b counts set are none c e h some (reached_in k choice b counts set are home none (start_of c e) rest)
 
 not_true : (x y : Bool) → (y ≡ true → x ≡ true) → x ≡ false → y ≡ false
 not_true x true h f = absurd (let t : x ≡ true = h refl in cc)
@@ -149,10 +136,12 @@ outside_of k choice b counts set are none c e h some out =
     record {
       class = c;
       early = e;
-      known = h;
-      there = some;
-      starts = out;
-      finishes = not_true (holds set (start_of c e)) (holds set (finish_of c e)) (run_from k choice b counts set are none c e h some) out;
+      run = record {
+        known = h;
+        there = some;
+        starts = out;
+        finishes = not_true (holds set (start_of c e)) (holds set (finish_of c e)) (run_from k choice b counts set are none c e h some) out;
+      };
     }
 
 lies_outside : (k : Classes) (choice : ℕ → ℕ) (b : ℕ) (counts : ℕ → ℕ) (set : ℕ) → AreCounts k choice b counts → NoneEnters counts set →
@@ -163,17 +152,63 @@ lies_outside k choice b counts set are none =
     (λ c h low some out. outside_of k choice b counts set are none c false h (subst (λ (n : ℕ). 0 < n) (are (136 + c) (omega arith) ∙ late_runs k choice b c h) some) (subst (λ (p : ℕ). holds set p ≡ false) (from_late c h) out))
     (λ s h low some out. absurd (omega arith))
 
-pub apart : (k : Classes) (choice : ℕ → ℕ) (b : ℕ) (counts : ℕ → ℕ) (set a : ℕ) → AreCounts k choice b counts →
-    ((slot : ℕ) → slot < 16 → load k choice slot ≤ b) → holds set 0 ≡ true → NoneLeaves counts set →
-    ((p : ℕ) → p < 16 → holds set p ≡ true → Visited counts p) → IsRunOutside counts set a → IsApart k choice b set
-apart k choice b counts set a are within home none visited out =
-    let enters : NoneEnters counts set = balance_enters counts set (balanced_start k choice b counts are within) none in
-    record {
-      exact = λ p h. ((λ held. visited_reached k choice b counts are p (visited p h held)), (λ r. reached_in k choice b counts set are home none p r));
-      outside = lies_outside k choice b counts set are enters a (let low : a < 272 = out.known in omega arith) out.known out.there out.from;
-      no_run = λ c e h some. run_same c e set (run_stays k choice b counts set are none c e h some) (run_from k choice b counts set are enters c e h some);
-      no_idle = λ s h some. idle_same s set (idle_stays k choice b counts set are none s h some) (idle_from k choice b counts set are enters s h some);
-    }
+-- what is reached is visited over arcs by number
+reached_visited : (k : Classes) (choice : ℕ → ℕ) (b : ℕ) (counts : ℕ → ℕ) → AreCounts k choice b counts → (p : ℕ) → IsReached k choice b p → Visited counts p
+reached_visited k choice b counts are _ at_start = visited_start
+reached_visited k choice b counts are _ (by_idle s h some rest) =
+    let there : 0 < counts (272 + s) = omega (arith, some_idle k choice b counts are s h) in
+    subst (Visited counts) (to_idle s)
+    (by_arc (272 + s) (omega arith) there (subst (Visited counts) (sym (from_idle s)) (reached_visited k choice b counts are s rest)))
+reached_visited k choice b counts are _ (by_run c e h some rest) =
+    subst (Visited counts) (arc_finishes c e h)
+    (by_arc (arc_of c e) (arc_known c e h) (subst (λ (n : ℕ). 0 < n) (sym (arc_counts k choice b counts are c e h)) some)
+    (subst (Visited counts) (sym (arc_starts c e h)) (reached_visited k choice b counts are (start_of c e) rest)))
+
+-- the set of all boundaries that are reached
+pub reached_start : (k : Classes) (choice : ℕ → ℕ) (b set : ℕ) → AreReached k choice b set → holds set 0 ≡ true
+reached_start k choice b set exact = (exact 0 (omega arith)).1 at_start
+
+pub reached_members : (k : Classes) (choice : ℕ → ℕ) (b : ℕ) (counts : ℕ → ℕ) (set : ℕ) → AreCounts k choice b counts → AreReached k choice b set →
+    (p : ℕ) → p < 16 → holds set p ≡ true → Visited counts p
+reached_members k choice b counts set are exact p h held = reached_visited k choice b counts are p ((exact p h).0 held)
+
+pub reached_closed : (k : Classes) (choice : ℕ → ℕ) (b : ℕ) (counts : ℕ → ℕ) (set : ℕ) → AreCounts k choice b counts → AreReached k choice b set →
+    NoneLeaves counts set
+reached_closed k choice b counts set are exact a h some held =
+    (exact (arc_to a) (to_below a h)).1 (reached_by k choice b counts are a h some ((exact (arc_from a) (from_below a h)).0 held))
+
+reached_entered : (k : Classes) (choice : ℕ → ℕ) (b : ℕ) (counts : ℕ → ℕ) (set : ℕ) → AreCounts k choice b counts → AreCarried k choice b →
+    AreReached k choice b set → NoneEnters counts set
+reached_entered k choice b counts set are within exact =
+    balance_enters counts set (balanced_start k choice b counts are within) (reached_closed k choice b counts set are exact)
+
+own_counts : (k : Classes) (choice : ℕ → ℕ) (b : ℕ) → AreCounts k choice b (arc_count k choice b)
+own_counts k choice b a h = refl
+
+pub no_run_crosses : (k : Classes) (choice : ℕ → ℕ) (b set : ℕ) → AreCarried k choice b → AreReached k choice b set → NoRunCrosses k choice set
+no_run_crosses k choice b set within exact c e h some =
+    let counts : ℕ → ℕ = arc_count k choice b in
+    run_same c e set (run_stays k choice b counts set (own_counts k choice b) (reached_closed k choice b counts set (own_counts k choice b) exact) c e h some)
+    (run_from k choice b counts set (own_counts k choice b) (reached_entered k choice b counts set (own_counts k choice b) within exact) c e h some)
+
+pub no_idle_crosses : (k : Classes) (choice : ℕ → ℕ) (b set : ℕ) → AreCarried k choice b → AreReached k choice b set → NoIdleCrosses k choice b set
+no_idle_crosses k choice b set within exact s h some =
+    let counts : ℕ → ℕ = arc_count k choice b in
+    idle_same s set (idle_stays k choice b counts set (own_counts k choice b) (reached_closed k choice b counts set (own_counts k choice b) exact) s h some)
+    (idle_from k choice b counts set (own_counts k choice b) (reached_entered k choice b counts set (own_counts k choice b) within exact) s h some)
+
+in_or_out : (b : Bool) → (b ≡ true) ⊎ (b ≡ false)
+in_or_out true = inl refl
+in_or_out false = inr refl
+
+-- where no run lies outside what is reached, each starts in it
+pub runs_start : (k : Classes) (choice : ℕ → ℕ) (b : ℕ) (counts : ℕ → ℕ) (set : ℕ) → AreCounts k choice b counts → AreCarried k choice b →
+    AreReached k choice b set → (LiesOutside k choice set → ⊥) → RunsStart counts set
+runs_start k choice b counts set are within exact none a h some =
+    elim (in_or_out (holds set (arc_from a))) [
+      | inl held ↦ held
+      | inr out ↦ absurd (none (lies_outside k choice b counts set are (reached_entered k choice b counts set are within exact) a (omega arith) h some out))
+    ]
 
 pub unclosed : (k : Classes) (choice : ℕ → ℕ) (b : ℕ) (counts : ℕ → ℕ) (ss : List Step) → AreCounts k choice b counts → IsChoice k choice →
     ((slot : ℕ) → slot < 16 → load k choice slot ≤ b) → IsWay counts 0 ss → counts 287 ≡ 0 → counts 271 ≡ 0 → IsUnclosed k choice b

@@ -68,23 +68,12 @@ NoneEnters counts set = (a : ℕ) → a < 288 → 0 < counts a → holds set (ar
 abbrev pub RunsStart : (ℕ → ℕ) → ℕ → Type 0
 RunsStart counts set = (a : ℕ) → a < 272 → 0 < counts a → holds set (arc_from a) ≡ true
 
--- An arc that leaves the set, or enters it, and a run that starts outside.
-pub record IsLeaving (counts : ℕ → ℕ) (set a : ℕ) : Type 0 where
-  pub known : a < 288
-  pub there : 0 < counts a
-  pub from : holds set (arc_from a) ≡ true
-  pub to : holds set (arc_to a) ≡ false
-
+-- An arc that enters the set.
 pub record IsEntering (counts : ℕ → ℕ) (set a : ℕ) : Type 0 where
   pub known : a < 288
   pub there : 0 < counts a
   pub from : holds set (arc_from a) ≡ false
   pub to : holds set (arc_to a) ≡ true
-
-pub record IsRunOutside (counts : ℕ → ℕ) (set a : ℕ) : Type 0 where
-  pub known : a < 272
-  pub there : 0 < counts a
-  pub from : holds set (arc_from a) ≡ false
 
 -- The boundaries that are reached from boundary 0 over arcs by number.
 pub data Visited (counts : ℕ → ℕ) : ℕ → Type 0 where

@@ -25,21 +25,38 @@ pub data IsReached (k : Classes) (choice : ℕ → ℕ) (batches : ℕ) : ℕ �
   by_run : (c : ℕ) (early : Bool) → c < 136 → 0 < runs_of k choice c early →
       IsReached k choice batches (start_of c early) → IsReached k choice batches (finish_of c early)
 
--- A run of the choice with both its ends outside the set.
-pub record LiesOutside (k : Classes) (choice : ℕ → ℕ) (set : ℕ) : Type 0 where
-  pub class : ℕ
-  pub early : Bool
+-- The choice has an early, or a late, run of the class, and both its ends are outside the set.
+pub record HasRunOutside (k : Classes) (choice : ℕ → ℕ) (set class : ℕ) (early : Bool) : Type 0 where
   pub known : class < 136
   pub there : 0 < runs_of k choice class early
   pub starts : holds set (start_of class early) ≡ false
   pub finishes : holds set (finish_of class early) ≡ false
 
+-- Some run of the choice has both its ends outside the set.
+pub record LiesOutside (k : Classes) (choice : ℕ → ℕ) (set : ℕ) : Type 0 where
+  pub class : ℕ
+  pub early : Bool
+  pub run : HasRunOutside k choice set class early
+
+-- The set is exactly the boundaries that are reached.
+abbrev pub AreReached : Classes → (ℕ → ℕ) → ℕ → ℕ → Type 0
+AreReached k choice batches set = (p : ℕ) → p < 16 → (holds set p ≡ true) ↔ IsReached k choice batches p
+
+-- No run of the choice, and no idle, has exactly one end in the set.
+abbrev pub NoRunCrosses : Classes → (ℕ → ℕ) → ℕ → Type 0
+NoRunCrosses k choice set =
+    (c : ℕ) (early : Bool) → c < 136 → 0 < runs_of k choice c early → run_crosses c early set ≡ false
+
+abbrev pub NoIdleCrosses : Classes → (ℕ → ℕ) → ℕ → ℕ → Type 0
+NoIdleCrosses k choice batches set =
+    (slot : ℕ) → slot < 16 → load k choice slot < batches → idle_crosses slot set ≡ false
+
 -- The set is exactly the boundaries that are reached, some run lies outside, and no arc crosses the set.
 pub record IsApart (k : Classes) (choice : ℕ → ℕ) (batches set : ℕ) : Type 0 where
-  pub exact : (p : ℕ) → p < 16 → (holds set p ≡ true) ↔ IsReached k choice batches p
+  pub exact : AreReached k choice batches set
   pub outside : LiesOutside k choice set
-  pub no_run : (c : ℕ) (early : Bool) → c < 136 → 0 < runs_of k choice c early → run_crosses c early set ≡ false
-  pub no_idle : (slot : ℕ) → slot < 16 → load k choice slot < batches → idle_crosses slot set ≡ false
+  pub no_run : NoRunCrosses k choice set
+  pub no_idle : NoIdleCrosses k choice batches set
 
 -- The choice has a tour for the open end, but no arc with which a tour for the closed end could end:
 -- no idle in slot 15, and no late run of class 135.

@@ -1,17 +1,9 @@
 ghost use Rattle.std.specs.Prelude.{◌≡◌, ℕ, ◌<◌, ◌&&◌, not, true, length, slice_index, IfSome, IfNone};
 ghost use Rattle.pocsag_slots.specs.Sums.{holds};
-ghost use Rattle.pocsag_tour.specs.Moves.{arc_from, arc_to, IsEntering, IsLeaving, IsRunOutside, LeadHome, NoneEnters, NoneLeaves, RunsStart, Visited};
+ghost use Rattle.pocsag_tour.specs.Moves.{arc_from, arc_to, IsEntering, LeadHome, NoneEnters};
 
 use crate::arc::{ARCS, begins, ends};
 use pocsag_slots::{holds, with_member};
-
-// Whether the arc leads from a boundary in the set to one outside.
-fn leads_out(set: u16, arc: usize) -> bool
-    requires { arc < 288 }
-    ensures { result ≡ (holds set (arc_from arc) && not (holds set (arc_to arc))) }
-{
-    holds(set, begins(arc)) && !holds(set, ends(arc))
-}
 
 // Whether the arc leads from a boundary outside the set to one in it.
 fn leads_in(set: u16, arc: usize) -> bool
@@ -19,21 +11,6 @@ fn leads_in(set: u16, arc: usize) -> bool
     ensures { result ≡ (holds set (arc_to arc) && not (holds set (arc_from arc))) }
 {
     holds(set, ends(arc)) && !holds(set, begins(arc))
-}
-
-// An arc that leaves the set.
-fn leaving(counts: &[u32; 288], set: u16) -> Option<usize>
-    ensures found { IfSome result (IsLeaving (slice_index counts.now) set) }
-    ensures none { IfNone result (NoneLeaves (slice_index counts.now) set) }
-{
-    for arc in 0..ARCS {
-        if counts[arc] > 0 {
-            if leads_out(set, arc) {
-                return Some(arc);
-            }
-        }
-    }
-    None
 }
 
 // An arc that enters the set.
@@ -49,37 +26,6 @@ fn entering(counts: &[u32; 288], set: u16) -> Option<usize>
         }
     }
     None
-}
-
-// A run that starts outside the set.
-pub fn run_outside(counts: &[u32; 288], set: u16) -> Option<usize>
-    ensures found { IfSome result (IsRunOutside (slice_index counts.now) set) }
-    ensures none { IfNone result (RunsStart (slice_index counts.now) set) }
-{
-    for arc in 0..272 {
-        if counts[arc] > 0 {
-            if !holds(set, begins(arc)) {
-                return Some(arc);
-            }
-        }
-    }
-    None
-}
-
-// The boundaries that are reached from boundary 0.
-pub fn reached(counts: &[u32; 288]) -> u16
-    ensures start { holds result 0 ≡ true }
-    ensures closed { NoneLeaves (slice_index counts.now) result }
-    ensures visited { (p : ℕ) → p < 16 → holds result p ≡ true → Visited (slice_index counts.now) p }
-{
-    let mut set = with_member(0, 0);
-    loop {
-        match leaving(counts, set) {
-            Some(arc) => set = with_member(set, ends(arc)),
-            None => break,
-        }
-    }
-    set
 }
 
 // For each boundary from which some root is reached, the arc that is left for last there.

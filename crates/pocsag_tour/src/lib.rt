@@ -7,11 +7,16 @@ mod counting;
 mod fault;
 mod flood;
 mod laws;
+mod links;
+mod outside;
+mod reaching;
 #[cfg(test)]
 mod tests;
 mod touring;
 mod walking;
 
 pub use fault::TourFault;
-pub use laws::{apart_has_no_tour, unclosed_has_no_closed_tour};
+pub use laws::{apart_has_no_tour, spare_batches_have_tours, unclosed_has_no_closed_tour};
+pub use outside::has_run_outside;
+pub use reaching::reached;
 pub use touring::tour;

@@ -1,9 +1,9 @@
-ghost use Rattle.std.specs.Prelude.{◌≡◌, ℕ, ◌<◌, ◌≤◌, IsTrue, length, slice_index};
+ghost use Rattle.std.specs.Prelude.{◌≡◌, ◌≤◌, length, slice_index};
 ghost use Rattle.pocsag_slots.specs.Loads.{IsChoice};
 
 use super::*;
 use pocsag_pages::{Page, Payload, Round, RoundFault};
-use pocsag_slots::{Choice, Classes, Step, classes_of, loads};
+use pocsag_slots::{Choice, Classes, Step, carries, classes_of};
 use pocsag_words::End;
 use std::alloc::Global;
 use std::test::Fail;
@@ -33,18 +33,6 @@ fn classes_for(alloc: Global, pages: &[(u32, usize)], end: End) -> Result<Classe
     Ok(classes_of(&round, end))
 }
 
-// Whether no load is above the batches.
-fn carries(used: &[u32; 16], batches: u32) -> bool
-    ensures { IsTrue result → (slot : ℕ) → slot < 16 → slice_index used.now slot ≤ batches }
-{
-    for slot in 0..16 {
-        if used[slot] > batches {
-            return false;
-        }
-    }
-    true
-}
-
 // The answer of `tour`, where the batches carry the loads of the choice.
 fn answer(
     alloc: Global,
@@ -58,7 +46,7 @@ fn answer(
     requires long { length early ≡ 136 }
 {
     let choice = Choice { early };
-    if carries(&loads(classes, &choice), batches) {
+    if carries(classes, &choice, batches) {
         Some(tour(alloc, classes, &choice, batches, end))
     } else {
         None
@@ -78,6 +66,12 @@ fn loop_apart(rt: HostRuntime) -> Result<(), Fail> {
     let classes = classes_for(rt.alloc(), &[(3, 15)], End::Open)?;
     let early = answer(rt.alloc(), &classes, classes.count, 1, End::Open);
     assert!(rt; matches!(early, Some(Err(TourFault::Apart(0x0001)))));
+    let all = Choice {
+        early: classes.count,
+    };
+    assert_eq!(rt; has_run_outside(&classes, &all, 0x0001, 48, true), true);
+    assert_eq!(rt; has_run_outside(&classes, &all, 0x0001, 48, false), false);
+    assert_eq!(rt; has_run_outside(&classes, &all, 0x0041, 48, true), false);
     let mut none = classes.count;
     none[48] = 0;
     let late = answer(rt.alloc(), &classes, none, 1, End::Open);

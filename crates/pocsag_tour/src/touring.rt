@@ -1,6 +1,6 @@
 ghost use Rattle.std.specs.Prelude.{◌≡◌, ℕ, ◌<◌, ◌≤◌, slice_index, IfOk, IfErr, IfSome, IfNone};
 ghost use Rattle.pocsag_words.specs.declared.ending.End.TheVariants.{Closed as EndsWhole};
-ghost use Rattle.pocsag_slots.specs.Loads.{IsChoice, load};
+ghost use Rattle.pocsag_slots.specs.Loads.{AreCarried, IsChoice};
 ghost use Rattle.pocsag_slots.specs.Tours.{IsTour, LastAs, LastIsWhole};
 ghost use Rattle.pocsag_tour.specs.Moves.{AllLeadTo, IsBalanced, IsClosing, IsWay, NoWay};
 ghost use Rattle.pocsag_tour.specs.Reached.{IsRefused};
@@ -8,7 +8,8 @@ ghost use Rattle.pocsag_tour.specs.Reached.{IsRefused};
 use crate::arc::arc_step;
 use crate::counting::{counts_of, steps_over};
 use crate::fault::TourFault;
-use crate::flood::{reached, run_outside};
+use crate::outside::lies_outside;
+use crate::reaching::reached;
 use crate::walking::walk;
 use pocsag_slots::{Choice, Classes, Step, sets_take_members};
 use pocsag_words::End;
@@ -26,16 +27,15 @@ pub fn tour(
 ) -> Result<Vec<Step>, TourFault>
     requires chosen { IsChoice classes.now (slice_index choice.now.early) }
     requires some { 1 ≤ batches }
-    requires within { (slot : ℕ) → slot < 16 → load classes.now (slice_index choice.now.early) slot ≤ batches }
+    requires within { AreCarried classes.now (slice_index choice.now.early) batches }
     ensures tour { IfOk result (λ steps. IsTour classes.now end (slice_index choice.now.early) batches steps.items) }
     ensures refused { IfErr result (IsRefused classes.now (slice_index choice.now.early) batches end) }
 {
-    let counts = counts_of(classes, choice, batches);
-    let set = reached(&counts);
-    match run_outside(&counts, set) {
-        Some(_) => Err(TourFault::Apart(set)),
-        None => way(alloc, &counts, end),
+    let set = reached(classes, choice, batches);
+    if lies_outside(classes, choice, set) {
+        return Err(TourFault::Apart(set));
     }
+    way(alloc, &counts_of(classes, choice, batches), end)
 }
 
 // A way over all arcs that ends as it must.

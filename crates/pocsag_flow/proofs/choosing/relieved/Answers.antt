@@ -1,6 +1,7 @@
 use Rattle.std.proofs.Common.{◌≡◌, ◌-◌, ◌<◌, arith, refl, slice_index}
 use Rattle.pocsag_flow.specs.declared.network.Network.{Network}
 use Rattle.pocsag_flow.specs.declared.network.Search.{Search}
+use Rattle.pocsag_slots.proofs.Members.{held_some}
 use Rattle.pocsag_flow.proofs.Ends.{given_few, overload_less, shut_overloads}
 use Rattle.pocsag_flow.proofs.choosing.relieved.Goals as goal
 
@@ -16,6 +17,11 @@ returns-then-moved-eq0-clause-overloads c =
     (c.with_member.ensures.alone refl)
     (omega (arith, c.requires.above, c.requires.standing.loads c.args.slot c.requires.slot))
     c.leave-moved.ensures.pushes none (c.leave-moved.ensures.closed none))
+
+pub returns-then-moved-eq0-clause-set : goal.returns-then-moved-eq0-clause-set
+returns-then-moved-eq0-clause-set c =
+    rw c.overload_of.ensures.fault
+    (held_some c.leave-moved.new.search.reached c.args.slot c.leave-moved.ensures.pushes.marked, c.overload_of.ensures.small)
 
 pub shifted-requires-clause-given : goal.shifted-requires-clause-given
 shifted-requires-clause-given c =

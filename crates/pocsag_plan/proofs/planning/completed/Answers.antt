@@ -1,10 +1,11 @@
-use Rattle.std.proofs.Common.{◌≡◌, ℕ, ◌*◌, ◌≤◌, List, length, refl, sym, ap, subst, arith, slice_index}
+use Rattle.std.proofs.Common.{◌≡◌, ℕ, ◌*◌, ◌≤◌, false, List, length, refl, sym, ap, subst, arith, slice_index}
 use Rattle.pocsag_pages.proofs.GoodPages.{apart_pages}
 use Rattle.pocsag_slots.specs.declared.step.Step.{Step}
 use Rattle.pocsag_slots.specs.Tours.{IsTourFor}
+use Rattle.pocsag_tree.specs.Views.{bound_of}
 use Rattle.pocsag_batch.specs.Placing.{IsOrder}
 use Rattle.pocsag_check.proofs.Bounding.{admitted_all}
-use Rattle.pocsag_plan.proofs.Completing.{found_room, most, tour_for}
+use Rattle.pocsag_plan.proofs.Completing.{found_room, most, nodes_few, tour_for}
 use Rattle.pocsag_plan.proofs.planning.completed.Goals as goal
 
 pub order_of-requires : goal.order_of-requires
@@ -19,8 +20,11 @@ returns-clause-plan c =
     let R = c.args.round.now in
     let found = c.args.found in
     let is = c.requires.found in
-    let room = found_room (record { address = c.kinds_have_codewords.ensures.address; message = c.kinds_have_codewords.ensures.message })
-    k end R c.args.limit found c.pages.ensures.round c.requires.counted is in
+    let near : found.batches ≤ 1760001 = most k end c.args.limit found is in
+    let sent = c.tours_have_codewords.ensures k end (slice_index found.choice.early) found.batches found.steps.items R is.accepted.some c.pages.ensures.round
+    c.requires.counted is.tour in
+    let room = found_room k end R c.args.limit found c.pages.ensures.round is sent.0 sent.2 in
+    let few = nodes_few k end c.args.limit found is c.requires.limited (c.accepted_trees_have_texts.ensures.closed k end found.batches (bound_of found.tree) is.accepted) in
     record {
       asked = refl;
       pages = ap length c.pages.ensures.pages;
@@ -33,8 +37,8 @@ returns-clause-plan c =
       order = subst (λ (steps : List Step). IsOrder end R steps c.in_ok-order.order.items) c.deref.ensures.value c.in_ok-order.ensures.order;
       room = subst (λ (n : ℕ). n ≤ 16 * found.batches) (sym c.codewords_of.ensures) room;
       near_least = record { least = is.least; is_least = is.is_least; near = is.or_one_more };
-      most = most k end c.args.limit found is;
+      most = near;
       fewest = λ T n legal. is.bound R T n (apart_pages R c.pages.ensures.round.good) c.requires.counted legal;
       accepted = record { table = k; counted = c.requires.counted; accepted = is.accepted };
-      text = ?;
+      text = c.accepted_trees_have_texts.ensures.text false k end found.batches (bound_of found.tree) is.accepted (omega arith) few;
     }

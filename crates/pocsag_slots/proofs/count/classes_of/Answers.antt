@@ -6,7 +6,7 @@ use Rattle.pocsag_words.specs.declared.ending.End.{End}
 use Rattle.pocsag_pages.specs.declared.page.Page.{Page}
 use Rattle.pocsag_pages.specs.Pages.{IsGoodPage, IsRound}
 use Rattle.pocsag_pages.proofs.GoodPages.{good_pages}
-use Rattle.pocsag_slots.proofs.CountLemmas.{AreCounted, IsShort, count_bare, count_most, more_counted, none_counted, tables_of, turns_most}
+use Rattle.pocsag_slots.proofs.CountLemmas.{AreCounted, IsShort, count_bare, count_most, more_counted, none_counted, tables_of, tables_sum, turns_most}
 use Rattle.pocsag_slots.proofs.count.classes_of.Goals as goal
 
 all_short : (R : List Page) → IsRound R → All IsShort R
@@ -60,6 +60,12 @@ invariant_of-result c =
           (whole c.loop-page.count c.loop-page.turns c.args.end _ c.loop-page.page-index c.loop-page-test.false c.loop-page.auto.page-index-end c.loop-page.invariant)
           round.few (all_short _ round);
     }
+
+pub returns-clause-pages : goal.returns-clause-pages
+returns-clause-pages c =
+    tables_sum c.loop-page.count c.loop-page.turns c.args.end c.pages-page-items.result.now
+    (whole c.loop-page.count c.loop-page.turns c.args.end _ c.loop-page.page-index c.loop-page-test.false c.loop-page.auto.page-index-end c.loop-page.invariant)
+    ∙ ap length c.pages-page-items.ensures.pages
 
 pub returns-clause-open_end : goal.returns-clause-open_end
 returns-clause-open_end c open_end k l h =

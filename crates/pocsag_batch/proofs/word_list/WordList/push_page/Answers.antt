@@ -3,7 +3,7 @@ use Rattle.std.proofs.lemmas.List.Elements.{All-get_or}
 use Rattle.pocsag_words.specs.Kinds.{kind_of}
 use Rattle.pocsag_words.specs.declared.codeword.Kind.{Kind}
 use Rattle.pocsag_words.specs.declared.codeword.Kind.TheVariants.{Address, Message}
-use Rattle.pocsag_batch.proofs.Addresses.{kind_unreserved}
+use Rattle.pocsag_slots.proofs.Sayable.{kind_unreserved}
 use Rattle.pocsag_batch.proofs.Pushes.{pushed, pushed_more, map_taken}
 use Rattle.pocsag_batch.proofs.word_list.WordList.push_page.Goals as goal
 

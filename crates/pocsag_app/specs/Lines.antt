@@ -1,0 +1,15 @@
+-- The lines that the program prints (this project's own).
+use Rattle.std.specs.Prelude.{ℕ, List, [], ◌∷◌, ◌++◌, codes}
+use Rattle.std.specs.Fmt.{decimal}
+use Rattle.pocsag_words.specs.declared.ending.End.{End}
+use Rattle.pocsag_words.specs.declared.ending.End.TheVariants.{Open, Closed}
+
+-- The two lines on a plan: `pages N` and `batches B`.
+unfoldable pub plan_text : (pages batches : ℕ) → List ℕ
+plan_text pages batches =
+    codes "pages " ++ (decimal pages ++ (10 ∷ (codes "batches " ++ (decimal batches ++ (10 ∷ [])))))
+
+-- The line on a certificate: `at least B batches`, for the closed end `at least B batches with a closed end`.
+unfoldable pub bound_text : End → ℕ → List ℕ
+bound_text Open batches = codes "at least " ++ (decimal batches ++ (codes " batches" ++ (10 ∷ [])))
+bound_text Closed batches = codes "at least " ++ (decimal batches ++ (codes " batches with a closed end" ++ (10 ∷ [])))

@@ -1,0 +1,118 @@
+use crate::checking::run_check;
+use crate::commands::{run_input, run_plan, run_report};
+use crate::devices::{ReaderSource, WriterSink};
+use crate::fault::Fault;
+use crate::files::{Outputs, open_buffered, open_source};
+use crate::paths::equal_paths;
+use crate::receiving::{run_decode, run_hear};
+use crate::tell::tell_fault;
+use crate::verifying::run_verify;
+use crate::words::Order;
+use pocsag_words::{End, Sink};
+use std::alloc::Global;
+
+/// Opens the files of an order and runs its command on them. Answers the exit status.
+pub fn obey<E: Sink>(rt: &HostRuntime, alloc: Global, order: Order<'_>, err: &mut E) -> u8 {
+    match obeyed(rt, alloc, order, err) {
+        Ok(status) => status,
+        Err(fault) => tell_fault(err, fault),
+    }
+}
+
+// The exit status, unless a file could not be opened or made.
+fn obeyed<E: Sink>(
+    rt: &HostRuntime,
+    alloc: Global,
+    order: Order<'_>,
+    err: &mut E,
+) -> Result<u8, Fault> {
+    let mut out = WriterSink::new(rt.stdout());
+    match order {
+        Order::Input => {
+            let mut input = ReaderSource::new(rt.stdin());
+            Ok(run_input(alloc, &mut input, &mut out, err))
+        }
+        Order::Plan {
+            pages,
+            tx,
+            cert,
+            limit,
+            end,
+            verify,
+        } => {
+            let status = plan_paths(rt, alloc, limit, end, [pages, tx, cert], &mut out, err)?;
+            if status != 0 || !verify {
+                return Ok(status);
+            }
+            verify_paths(rt, alloc, end, [pages, tx, cert], &mut out, err)
+        }
+        Order::Check { pages, cert } => {
+            let mut pages = open_source(rt, pages)?;
+            let mut cert = open_buffered(rt, alloc, cert)?;
+            Ok(run_check(alloc, &mut pages, &mut cert, &mut out, err))
+        }
+        Order::Decode { tx } => {
+            let mut tx = open_source(rt, tx)?;
+            Ok(run_decode(alloc, &mut tx, &mut out, err))
+        }
+        Order::Hear { address, tx } => {
+            let mut tx = open_source(rt, tx)?;
+            Ok(run_hear(alloc, address, &mut tx, &mut out, err))
+        }
+        Order::Report {
+            pages,
+            rate,
+            limit,
+            end,
+        } => {
+            let mut pages = open_source(rt, pages)?;
+            Ok(run_report(alloc, rate, limit, end, &mut pages, &mut out, err))
+        }
+    }
+}
+
+// Plans from file to files: PAGES, TX and CERT.
+fn plan_paths<O: Sink, E: Sink>(
+    rt: &HostRuntime,
+    alloc: Global,
+    limit: u32,
+    end: End,
+    paths: [&str; 3],
+    out: &mut O,
+    err: &mut E,
+) -> Result<u8, Fault> {
+    if equal_paths(&paths) {
+        return Err(Fault::EqualPaths);
+    }
+    let [pages, tx, cert] = paths;
+    let mut source = open_source(rt, pages)?;
+    let mut outputs = Outputs::make(rt, pages, tx, cert)?;
+    Ok(run_plan(
+        alloc,
+        limit,
+        end,
+        &mut source,
+        &mut outputs.tx,
+        &mut outputs.cert,
+        out,
+        err,
+    ))
+}
+
+// Reads back what was planned.
+fn verify_paths<O: Sink, E: Sink>(
+    rt: &HostRuntime,
+    alloc: Global,
+    end: End,
+    paths: [&str; 3],
+    out: &mut O,
+    err: &mut E,
+) -> Result<u8, Fault> {
+    let [pages, tx, cert] = paths;
+    let mut pages = open_source(rt, pages)?;
+    let mut tx = open_source(rt, tx)?;
+    let mut cert = open_buffered(rt, alloc, cert)?;
+    Ok(run_verify(
+        alloc, end, &mut pages, &mut tx, &mut cert, out, err,
+    ))
+}

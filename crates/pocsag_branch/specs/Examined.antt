@@ -1,0 +1,89 @@
+-- What the search owes node by node.
+use Rattle.std.specs.Prelude.{◌≡◌, ◌≢◌, ℕ, ◌+◌, ◌-◌, ◌^◌, ◌<◌, ◌≤◌, Bool, true, false, IsTrue, List, ◌++◌, All, replicate, slice_index}
+use Rattle.pocsag_words.specs.declared.ending.End.{End}
+use Rattle.pocsag_slots.specs.declared.class.Classes.{Classes}
+use Rattle.pocsag_slots.specs.declared.limit.Limits.{Limits}
+use Rattle.pocsag_slots.specs.declared.way.Way.{Way}
+use Rattle.pocsag_slots.specs.Loads.{IsChoice, Overloads, limits_of_all}
+use Rattle.pocsag_slots.specs.Sums.{holds}
+use Rattle.pocsag_slots.specs.Tours.{IsTour}
+use Rattle.pocsag_slots.specs.Ways.{class_certain, ways_across, ways_to_close}
+use Rattle.pocsag_tree.specs.Bounds.{Bound, Bounds, depth_of, deepest}
+use Rattle.pocsag_tree.specs.Spelling.{IsSet}
+use Rattle.pocsag_check.specs.Accepting.{Accepts, AcceptsEach, IsClosed}
+use Rattle.pocsag_branch.specs.declared.question.Answer.{Answer}
+use Rattle.pocsag_branch.specs.declared.question.Form.{Form}
+use Rattle.pocsag_branch.specs.declared.question.Form.TheVariants.{Overload, Cut, Split, Close}
+use Rattle.pocsag_branch.specs.declared.question.Stop.{Stop}
+use Rattle.pocsag_branch.specs.declared.question.Stop.TheVariants.{Met, OutOfMemory}
+use Rattle.pocsag_branch.specs.Marks.{opens, opens_in}
+use Rattle.pocsag_branch.specs.Shape.{AdmitApart, AdmitSplit, AdmitUnclosed, IsShaped, AreShaped}
+use Rattle.pocsag_branch.specs.Undecided.{Falls, IsSplitPoint, undecided}
+
+-- The set refuses one batch less.
+pub record Refuses (k : Classes) (batches set : ℕ) : Type 0 where
+  pub some : 0 < batches
+  pub slots : IsSet set
+  pub over : Overloads k (limits_of_all k (batches - 1)) set
+
+-- A choice and its tour for the end with so many batches.
+pub record IsAnswer (k : Classes) (end : End) (batches : ℕ) (answer : Answer) : Type 0 where
+  pub choice : IsChoice k (slice_index answer.choice.early)
+  pub tour : IsTour k end (slice_index answer.choice.early) batches answer.steps.items
+
+-- Why an examination ends before its tree is whole.
+abbrev pub IsStop : Classes → End → ℕ → Stop → Type 0
+IsStop k end batches (Met answer) = IsAnswer k end batches answer.value
+IsStop k end batches OutOfMemory = Unit {0}
+
+-- The node may be made there, and each of its children settles a question that is open.
+abbrev pub IsForm : Classes → End → ℕ → Limits → Form → Type 0
+IsForm k end batches l (Overload set) = IsSet set × Overloads k l set
+IsForm k end batches l (Cut set needed) =
+    (needed < 136) × IsTrue (holds set 0) × IsTrue (class_certain k l set needed) × (set < 2 ^ 16)
+    × All (Falls k batches l) (ways_across k l set)
+IsForm k end batches l (Split c m) = IsSplitPoint k batches l c m
+IsForm k end batches l Close = IsClosed end × All (Falls k batches l) (ways_to_close k l)
+
+-- The node stands there as *Shape of the search's trees* says.
+abbrev pub StandsAs : Classes → ℕ → Limits → Form → Type 0
+StandsAs k batches l (Overload set) = Unit {0}
+StandsAs k batches l (Cut set needed) = AdmitApart k batches l set
+StandsAs k batches l (Split c m) = AdmitSplit k batches l c m
+StandsAs k batches l Close = AdmitUnclosed k batches l
+
+-- The tree is accepted for the node, and no deeper than its limits leave questions open.
+pub record IsRefuted (takes_open : Bool) (k : Classes) (end : End) (batches : ℕ) (l : Limits) (t : Bound) : Type 0 where
+  pub accepted : Accepts takes_open k end batches l t
+  pub deep : depth_of t ≤ 1 + undecided k batches l
+
+-- The same of its children.
+pub record AreRefuted (takes_open : Bool) (k : Classes) (end : End) (batches : ℕ) (l : Limits) (ws : List Way) (ts : Bounds) : Type 0 where
+  pub accepted : AcceptsEach takes_open k end batches l ws ts
+  pub deep : deepest ts ≤ undecided k batches l
+
+-- Nodes were examined one by one, each in its turn, until the limit was reached; the marks say which are `Open`.
+pub record Fills (limit made after : ℕ) (marks : List Bool) : Type 0 where
+  pub closed : ℕ
+  pub unseen : ℕ
+  pub layout : marks ≡ replicate closed false ++ replicate unseen true
+  pub spent : made + closed ≡ after
+  pub within : after ≤ limit
+  pub whole : 0 < unseen → after ≡ limit
+
+-- What is owed for a node, where so many were made before it and so many after it.
+pub record IsExamined (k : Classes) (end : End) (batches : ℕ) (l : Limits) (limit made after : ℕ) (t : Bound) : Type 0 where
+  pub refuted : IsRefuted true k end batches l t
+  pub shaped : IsShaped k batches l t
+  pub fills : Fills limit made after (opens t)
+
+-- The same for its children.
+pub record AreExamined (k : Classes) (end : End) (batches : ℕ) (l : Limits) (limit made after : ℕ) (ws : List Way) (ts : Bounds) : Type 0 where
+  pub refuted : AreRefuted true k end batches l ws ts
+  pub shaped : AreShaped k batches l ws ts
+  pub fills : Fills limit made after (opens_in ts)
+
+-- The whole tree of a search from the limits of all choices.
+pub record IsTreeOf (k : Classes) (end : End) (batches limit : ℕ) (t : Bound) : Type 0 where
+  pub after : ℕ
+  pub examined : IsExamined k end batches (limits_of_all k batches) limit 0 after t

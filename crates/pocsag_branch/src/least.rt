@@ -1,0 +1,57 @@
+ghost use Rattle.std.specs.Prelude.{◌<◌, ◌≤◌, slice_index};
+ghost use Rattle.pocsag_slots.specs.Loads.{IsAdmitted, IsLeast, limits_of_all, Overloads};
+ghost use Rattle.pocsag_tree.specs.Spelling.{IsSet};
+ghost use Rattle.pocsag_branch.specs.Examined.{Refuses};
+ghost use Rattle.pocsag_branch.specs.Found.{HasPage};
+
+use pocsag_flow::{ChooseFault, choose};
+use pocsag_slots::{Choice, Classes, all_limits, least_load, size};
+
+// The least number of batches that some choice of starts needs, with such a choice and the set of slots
+// that refuses one batch less.
+#[derive(Clone, Copy)]
+pub(crate) struct Least {
+    pub(crate) batches: u32,
+    pub(crate) set: u16,
+    pub(crate) choice: Choice,
+}
+
+// How many batches the slots of the set need at least, where so many are too few.
+fn share(classes: &Classes, batches: u32, set: u16) -> u32
+    requires set { IsSet set }
+    requires over { Overloads classes.now (limits_of_all classes.now batches) set }
+    ensures refuses { Refuses classes.now result set }
+    ensures more { batches < result }
+    ensures bound { result ≤ 1760000 }
+{
+    let load = least_load(classes, &all_limits(classes, batches), set);
+    load.div_ceil(u64::from(size(set))) as u32
+}
+
+// The least number of batches: from the share of all slots up to the first that some choice meets.
+#[tactic(auto, using(crate::proofs::Sharing::nothing_fits))]
+pub(crate) fn least_of(classes: &Classes) -> Least
+    requires { HasPage classes.now }
+    ensures refuses { Refuses classes.now result.batches result.set }
+    ensures admitted { IsAdmitted classes.now (limits_of_all classes.now result.batches) (slice_index result.choice.early) }
+    ensures least { IsLeast classes.now result.batches }
+    ensures bound { result.batches ≤ 1760000 }
+{
+    let mut set = 0xFFFF;
+    let mut batches = share(classes, 0, set);
+    loop {
+        match choose(classes, &all_limits(classes, batches)) {
+            Ok(choice) => {
+                return Least {
+                    batches,
+                    set,
+                    choice,
+                };
+            }
+            Err(ChooseFault::Overload(over)) => {
+                batches = share(classes, batches, over);
+                set = over;
+            }
+        }
+    }
+}

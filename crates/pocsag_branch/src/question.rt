@@ -1,0 +1,37 @@
+ghost use Rattle.std.specs.Prelude.{◌<◌};
+
+use pocsag_slots::{Choice, Step};
+use pocsag_words::End;
+
+// What is asked of a node beside its limits: the end, the batches that are to be refuted, and how many
+// nodes may be made.
+#[derive(Clone, Copy)]
+pub(crate) struct Question {
+    pub(crate) end: End,
+    pub(crate) batches: u32,
+    pub(crate) limit: u32,
+    pub ghost some: { 0 < batches },
+}
+
+// A choice and its tour with the batches that were to be refuted.
+#[derive(Drop)]
+pub(crate) struct Answer {
+    pub(crate) choice: Choice,
+    pub(crate) steps: Vec<Step>,
+}
+
+// Why an examination ends before its tree is whole.
+#[derive(Drop)]
+pub(crate) enum Stop {
+    Met(Box<Answer>),
+    OutOfMemory,
+}
+
+// Which node is to be made.
+#[derive(Clone, Copy)]
+pub(crate) enum Form {
+    Overload(u16),
+    Cut { set: u16, needed: u8 },
+    Split { class: u8, m: u16 },
+    Close,
+}

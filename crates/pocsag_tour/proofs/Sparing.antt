@@ -1,0 +1,68 @@
+-- With an idle in each slot all arcs lead to one another, and there is a tour for either end.
+use Rattle.std.proofs.Common.{◌≡◌, ℕ, zero, suc, ◌+◌, ◌-◌, ◌%◌, ◌<◌, ◌≤◌, true, List, refl, sym, subst, arith}
+use Rattle.pocsag_words.specs.declared.ending.End.{End}
+use Rattle.pocsag_words.specs.declared.ending.End.TheVariants.{Open, Closed}
+use Rattle.pocsag_slots.specs.declared.class.Classes.{Classes}
+use Rattle.pocsag_slots.specs.declared.step.Step.{Step}
+use Rattle.pocsag_slots.specs.Loads.{IsChoice, load}
+use Rattle.pocsag_slots.specs.Sums.{SetsTakeMembers, holds}
+use Rattle.pocsag_slots.specs.Tours.{IsTour}
+use Rattle.pocsag_tour.specs.Moves.{AllLeadTo, arc_count, arc_from, arc_to, IsBalanced, IsClosing, NoneEnters}
+use Rattle.pocsag_tour.proofs.Covering.{balanced_start, count_idle}
+use Rattle.pocsag_tour.proofs.Existing.{is_less, one_less, way_exists}
+use Rattle.pocsag_tour.proofs.Geometry.{from_below, from_idle, to_idle}
+use Rattle.pocsag_tour.proofs.Joining.{balanced_without, closed_way, joined_closed}
+use Rattle.pocsag_tour.proofs.Tours.{closing_idle, tour_of}
+use Rattle.pocsag_tour.proofs.Walks.{IsLess}
+
+abbrev HasIdles : (ℕ → ℕ) → Type 0
+HasIdles counts = (s : ℕ) → s < 16 → 0 < counts (272 + s)
+
+-- the idles lead from each boundary to boundary 0
+idles_lead : (counts : ℕ → ℕ) (set : ℕ) → HasIdles counts → holds set 0 ≡ true → NoneEnters counts set → (d s : ℕ) → s + d ≡ 15 → holds set s ≡ true
+idles_lead counts set idle home none zero s e =
+    let last : 0 ≡ arc_to (272 + s) = (let x : arc_to (272 + s) ≡ (s + 1) % 16 = to_idle s in omega arith) in
+    subst (λ (p : ℕ). holds set p ≡ true) (from_idle s)
+    (none (272 + s) (omega arith) (idle s (omega arith)) (subst (λ (p : ℕ). holds set p ≡ true) last home))
+idles_lead counts set idle home none (suc d) s e =
+    let next : s + 1 ≡ arc_to (272 + s) = (let x : arc_to (272 + s) ≡ (s + 1) % 16 = to_idle s in omega arith) in
+    let there : holds set (s + 1) ≡ true = idles_lead counts set idle home none d (s + 1) (omega arith) in
+    subst (λ (p : ℕ). holds set p ≡ true) (from_idle s)
+    (none (272 + s) (omega arith) (idle s (omega arith)) (subst (λ (p : ℕ). holds set p ≡ true) next there))
+
+all_lead : (counts : ℕ → ℕ) → HasIdles counts → AllLeadTo counts 0
+all_lead counts idle set home none a h some =
+    idles_lead counts set idle home none (15 - arc_from a) (arc_from a) (omega (arith, from_below a h))
+
+pub spare_tour : SetsTakeMembers → (k : Classes) (end : End) (choice : ℕ → ℕ) (b : ℕ) → IsChoice k choice →
+    ((slot : ℕ) → slot < 16 → load k choice slot < b) → (steps : List Step) × IsTour k end choice b steps
+spare_tour law k end choice b chosen spare = tour_for end
+  where
+    counts : ℕ → ℕ
+    counts = arc_count k choice b
+
+    within : (slot : ℕ) → slot < 16 → load k choice slot ≤ b
+    within slot h = omega (arith, spare slot h)
+
+    idle : HasIdles counts
+    idle s h = omega (arith, count_idle k choice b s, spare s h)
+
+    balanced : IsBalanced counts 0 0
+    balanced = balanced_start k choice b counts (λ a h. refl) within
+
+    closing : IsClosing counts 287
+    closing = closing_idle counts (idle 15 (omega arith))
+
+    less : IsLess 287 counts (one_less counts 287)
+    less = is_less counts 287 closing.there
+
+    tour_for : (end : End) → (steps : List Step) × IsTour k end choice b steps
+    tour_for Open =
+        let way = way_exists law counts 0 (omega arith) balanced (all_lead counts idle) in
+        (way.0, tour_of k Open choice b counts way.0 (λ a h. refl) chosen within way.1 tt)
+    tour_for Closed =
+        let way = way_exists law (one_less counts 287) 15 (omega arith)
+        (balanced_without counts (one_less counts 287) 287 balanced closing less)
+        (joined_closed counts (one_less counts 287) 287 balanced (all_lead counts idle) closing less) in
+        let whole = closed_way counts (one_less counts 287) 287 way.0 closing less way.1 in
+        (_, tour_of k Closed choice b counts _ (λ a h. refl) chosen within whole.0 whole.1)

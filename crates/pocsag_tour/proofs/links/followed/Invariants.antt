@@ -1,0 +1,6 @@
+use Rattle.std.proofs.Common.{◌≤◌, slice_index}
+use Rattle.pocsag_tour.proofs.Linking.{IsGrown}
+use Rattle.pocsag_tour.proofs.links.followed.Given as goal
+
+abbrev pub invariant-loop-boundary : goal.invariant-loop-boundary
+invariant-loop-boundary l = record { grown : IsGrown (slice_index l.links) l.set l.grown l.boundary; more : l.set ≤ l.grown }

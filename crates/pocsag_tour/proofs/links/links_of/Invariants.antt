@@ -1,0 +1,6 @@
+use Rattle.std.proofs.Common.{slice_index}
+use Rattle.pocsag_tour.proofs.Linking.{WithIdles}
+use Rattle.pocsag_tour.proofs.links.links_of.Given as goal
+
+abbrev pub invariant-loop-slot : goal.invariant-loop-slot
+invariant-loop-slot l = WithIdles l.classes (slice_index l.choice.early) l.batches l.links l.slot
