@@ -1,4 +1,4 @@
-ghost use Rattle.std.specs.Prelude.{◌≡◌, IfOk, IfErr};
+ghost use Rattle.std.specs.Prelude.{◌≡◌, ◌⊎◌, IfOk, IfErr, OnOk};
 ghost use Rattle.pocsag_words.specs.Devices.{HasFailed};
 ghost use Rattle.pocsag_pages.specs.PageFile.{verdict};
 ghost use Rattle.pocsag_pages.specs.declared.fault.RoundFault.TheVariants as round;
@@ -41,9 +41,12 @@ pub fn first_stream<S: Source, T: Sink>(
     ensures part { S.tells → T.tells → result ≡ Err fault.WriteFault →
         LeavesPrefix (verdict (S.held source.old)) (T.taken tx.old) (T.taken tx.new) }
 
-    // A device's fault is answered only where that device failed.
+    // A device's fault is answered exactly where that device failed.
     ensures read_failed { result ≡ Err (fault.Round round.ReadFault) → HasFailed (S.failures source.old) (S.failures source.new) }
     ensures write_failed { result ≡ Err fault.WriteFault → HasFailed (T.failures tx.old) (T.failures tx.new) }
+    ensures read { OnOk result (S.failures source.new ≡ S.failures source.old) }
+    ensures wrote { OnOk result (T.failures tx.new ≡ T.failures tx.old) }
+    ensures unfailed { IfErr result (λ e. (e ≡ fault.Round round.ReadFault) ⊎ (S.failures source.new ≡ S.failures source.old)) }
 {
     let round = match read_round(alloc, source) {
         Ok(round) => round,

@@ -2,7 +2,7 @@
 use Rattle.std.proofs.Common.{◌≡◌, ℕ, ◌+◌, ◌-◌, ◌^◌, ◌<◌, ◌≤◌, Bool, false, List, [], ◌∷◌, length, nat_lt, refl, ap, arith, min, slice_index}
 use Rattle.pocsag_words.specs.declared.ending.End.{End}
 use Rattle.pocsag_words.specs.declared.ending.End.TheVariants.{Open, Closed}
-use Rattle.pocsag_tree.specs.declared.limits.TheConstants.{NODE_LIMIT, SECOND_VERSION}
+use Rattle.pocsag_tree.specs.Limits.{most_nodes, second_ranges}
 use Rattle.pocsag_tree.specs.Bounds.{Bound, Bounds, overload, split, cut, close, unexamined, none, more, all_nodes, all_nodes_in, closed_nodes, closed_nodes_in, count_of}
 use Rattle.pocsag_tree.specs.Spelling.{AreInRange, HasText, IsInRange}
 use Rattle.pocsag_slots.specs.declared.class.Classes.{Classes}
@@ -56,7 +56,7 @@ unfolding ways_to_close
 some_ending k l = omega arith
 
 mutual
-  in_range : (t : Bound) (u : Bool) (k : Classes) (end : End) (b : ℕ) (l : Limits) → AreCounted k l → Accepts u k end b l t → IsInRange SECOND_VERSION t
+  in_range : (t : Bound) (u : Bool) (k : Classes) (end : End) (b : ℕ) (l : Limits) → AreCounted k l → Accepts u k end b l t → IsInRange second_ranges t
   in_range (overload set) u k end b l of a = a.0
   in_range (split c m below above) u k end b l of a = (
     omega (arith, a.0), omega (arith, a.1),
@@ -78,14 +78,14 @@ mutual
   in_range unexamined u k end b l of a = tt
 
   each_in_range : (ts : Bounds) (u : Bool) (k : Classes) (end : End) (b : ℕ) (l : Limits) (ws : List Way) → AreCounted k l →
-      AcceptsEach u k end b l ws ts → AreInRange SECOND_VERSION ts
+      AcceptsEach u k end b l ws ts → AreInRange second_ranges ts
   each_in_range none u k end b l ws of a = tt
   each_in_range (more t ts) u k end b l [] of a = absurd a
   each_in_range (more t ts) u k end b l (w ∷ ws) of a =
       (in_range t u k end b (narrowed_limits k l w b) (way_counted k l w b of) a.0, each_in_range ts u k end b l ws of a.1)
 
 pub accepted_text : (u : Bool) (k : Classes) (end : End) (batches : ℕ) (t : Bound) → IsAccepted u k end batches t → batches < 2 ^ 32 →
-    all_nodes t ≤ NODE_LIMIT → HasText SECOND_VERSION batches t
+    all_nodes t ≤ most_nodes → HasText second_ranges batches t
 accepted_text u k end batches t accepted small few = record {
   some_batch = accepted.some;
   four_bytes = small;

@@ -7,7 +7,7 @@ use Rattle.pocsag_decode.specs.declared.fault.DecodeFault.{DecodeFault}
 use Rattle.pocsag_decode.specs.declared.fault.DecodeFault.TheVariants as fault
 use Rattle.pocsag_decode.specs.declared.state.Decoder.{Decoder}
 use Rattle.pocsag_decode.specs.Carried.{size_of}
-use Rattle.pocsag_decode.specs.Faults.{HasFaultThere, HasFaultOfEnd, IsRefusal, no_memory, fault_there}
+use Rattle.pocsag_decode.specs.Faults.{HasFaultThere, HasFaultOfEnd, IsPastPreamble, RefusesPiece, no_memory, fault_there}
 use Rattle.pocsag_decode.specs.Standing.{StandsAfter, StandsIn}
 use Rattle.pocsag_decode.proofs.Preambles.{begun_leading, begun_after, alone_leading, alone_after, count_is, nil_or, nil_from}
 use Rattle.pocsag_decode.proofs.Words.{size_is, Refuses}
@@ -73,9 +73,12 @@ module _ (d : Decoder) (X : List ℕ) (s : StandsAfter d X) where
     pub fed_body : new.has_failed ≡ d.has_failed → All (λ b. b < 256) Z → 72 ≤ new.leading → StandsIn new.body (after_preamble X ++ rest) → StandsAfter new (X ++ Z)
     fed_body works bytes long stands = fed works bytes (λ n. long) stands
 
-    pub refused_short : new.leading < 72 → rest ≢ [] → IsRefusal X Z fault.ShortPreamble
+    pub refused_short : new.leading < 72 → rest ≢ [] → RefusesPiece X Z fault.ShortPreamble
     refused_short h n = fault_there few (HasFaultThere.short (omega arith) (λ z. n (append_nil_right (after_preamble X) rest (sym after ∙ z))))
 
-    pub refused_body : (f : DecodeFault) → 72 ≤ new.leading → Refuses f (words_of (after_preamble X ++ rest)) → IsRefusal X Z f
-    refused_body f h (inl e) = subst (IsRefusal X Z) (sym e) (no_memory few)
-    refused_body f h (inr b) = fault_there few (HasFaultThere.bad (omega arith) (rw after b))
+    past : 72 ≤ new.leading → rest ≢ [] → IsPastPreamble (X ++ Z)
+    past h n = record { long = omega arith; more = λ z. n (append_nil_right (after_preamble X) rest (sym after ∙ z)) }
+
+    pub refused_body : (f : DecodeFault) → 72 ≤ new.leading → rest ≢ [] → length rest ≤ length Z → Refuses f (words_of (after_preamble X ++ rest)) → RefusesPiece X Z f
+    refused_body f h n within (inl e) = subst (RefusesPiece X Z) (sym e) (no_memory few (λ z. n (nil_from rest (let l = ap length z in omega arith))) (past h n))
+    refused_body f h n within (inr b) = fault_there few (HasFaultThere.bad (omega arith) (rw after b))

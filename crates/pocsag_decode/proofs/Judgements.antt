@@ -18,7 +18,7 @@ use Rattle.pocsag_pages.specs.Plain.{HasNoOrphan, pages_from}
 use Rattle.pocsag_pages.proofs.Readings.{reads_plainly}
 use Rattle.pocsag_decode.specs.declared.fault.DecodeFault.{DecodeFault}
 use Rattle.pocsag_decode.specs.declared.fault.DecodeFault.TheVariants as fault
-use Rattle.pocsag_decode.specs.Faults.{words, HasFaultThere, HasFaultOfEnd, HasFault, HasNoFault, ReadsAs}
+use Rattle.pocsag_decode.specs.Faults.{words, HasFaultThere, HasFaultOfEnd, HasFault, IsFaultless, IsPastPreamble, ReadsAs, RefusesPiece}
 use Rattle.pocsag_decode.specs.declared.state.Decoder.{Decoder}
 use Rattle.pocsag_decode.specs.Standing.{StandsAfter}
 use Rattle.pocsag_decode.specs.Places.{is_message, is_idle, index_at, may_follow, IsBad, no_sync, bad_word, orphan, IsGood, AreGood, HasBadWord}
@@ -147,7 +147,7 @@ none_good : AreGood []
 none_good = λ j h. absurd (omega arith)
 
 -- bytes with no fault are whole
-pub no_fault_whole : (X : List ℕ) → All (λ b. b < 256) X → HasNoFault X → IsWhole X
+pub no_fault_whole : (X : List ℕ) → All (λ b. b < 256) X → IsFaultless X → IsWhole X
 no_fault_whole X small none = record { small = small; long = long; some = some; good = good; batches = batches } where
   long : 72 ≤ leading X
   long = elim (cases_lt (leading X) 72) [
@@ -176,7 +176,33 @@ no_fault_whole X small none = record { small = small; long = long; some = some; 
     | inr n ↦ absurd (none fault.Truncated (inr (HasFaultOfEnd.cut long good n)))
   ]
 
-pub whole_no_fault : (X : List ℕ) → IsWhole X → HasNoFault X
+-- no fault of the end is want of memory
+pub never_memory : (X : List ℕ) (f : DecodeFault) → HasFaultOfEnd X f → f ≡ fault.OutOfMemory → ⊥
+never_memory X f (HasFaultOfEnd.short a b) e = cc
+never_memory X f (HasFaultOfEnd.no_batch a b) e = cc
+never_memory X f (HasFaultOfEnd.cut a b g) e = cc
+
+never_at : (ws : List ℕ) (j : ℕ) (f : DecodeFault) → IsBad ws j f → f ≡ fault.OutOfMemory → ⊥
+never_at ws j f (IsBad.no_sync a b) e = cc
+never_at ws j f (IsBad.bad_word a b) e = cc
+never_at ws j f (IsBad.orphan a b g h) e = cc
+
+never_there : (X : List ℕ) (f : DecodeFault) → HasFaultThere X f → f ≡ fault.OutOfMemory → ⊥
+never_there X f (HasFaultThere.short a b) e = cc
+never_there X f (HasFaultThere.bad a b) e = never_at (words X) b.place f b.bad e
+
+-- a piece that is refused for want of memory ends past the preamble
+pub wanting_past : (X Z : List ℕ) (f : DecodeFault) → RefusesPiece X Z f → f ≡ fault.OutOfMemory → IsPastPreamble (X ++ Z)
+wanting_past X Z f (RefusesPiece.too_much a) e = absurd (cc)
+wanting_past X Z f (RefusesPiece.no_memory a b p) e = p
+wanting_past X Z f (RefusesPiece.fault_there a t) e = absurd (never_there (X ++ Z) f t e)
+
+pub faultless_past : (X : List ℕ) → All (λ b. b < 256) X → IsFaultless X → IsPastPreamble X
+faultless_past X small none =
+    let w = no_fault_whole X small none in
+    record { long = w.long; more = λ z. let s = w.some in let l = ap length z in omega arith }
+
+pub whole_no_fault : (X : List ℕ) → IsWhole X → IsFaultless X
 whole_no_fault X h = λ f d. elim d [ inl t ↦ not_there f t | inr t ↦ not_end f t ] where
   not_there : (f : DecodeFault) → HasFaultThere X f → ⊥
   not_there f (HasFaultThere.short a b) = let l = h.long in omega arith

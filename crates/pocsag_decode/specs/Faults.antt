@@ -28,8 +28,8 @@ pub data HasFaultOfEnd : List ℕ → DecodeFault → Type 0 where
 abbrev pub HasFault : List ℕ → DecodeFault → Type 0
 HasFault X f = HasFaultThere X f ⊎ HasFaultOfEnd X f
 
-abbrev pub HasNoFault : List ℕ → Type 0
-HasNoFault X = (f : DecodeFault) → ¬ HasFault X f
+abbrev pub IsFaultless : List ℕ → Type 0
+IsFaultless X = (f : DecodeFault) → ¬ HasFault X f
 
 -- X is sent from codewords that read as these pages.
 pub record ReadsAs (X : List ℕ) (ps : List Page) : Type 0 where
@@ -37,9 +37,15 @@ pub record ReadsAs (X : List ℕ) (ps : List Page) : Type 0 where
   pub sent : Sent X codewords
   pub reads : ReadsWords codewords ps
 
+-- 72 bytes AA or more stand first, and some byte follows them.
+pub record IsPastPreamble (X : List ℕ) : Type 0 where
+  pub long : 72 ≤ leading X
+  pub more : after_preamble X ≢ []
+
 -- Why a piece Z is refused after the bytes X: together they are too many, judged before the bytes of
--- the piece, or else want of memory or a fault at a byte of theirs.
-pub data IsRefusal : (X Z : List ℕ) → DecodeFault → Type 0 where
-  too_much : {X Z : List ℕ} → 2 ^ 64 ≤ length X + length Z → IsRefusal X Z fault.TooMuch
-  no_memory : {X Z : List ℕ} → length X + length Z < 2 ^ 64 → IsRefusal X Z fault.OutOfMemory
-  fault_there : {X Z : List ℕ} {f : DecodeFault} → length X + length Z < 2 ^ 64 → HasFaultThere (X ++ Z) f → IsRefusal X Z f
+-- the piece, or else a fault at a byte of theirs. Memory is wanted by a piece of one byte at least, and
+-- only past the preamble.
+pub data RefusesPiece : (X Z : List ℕ) → DecodeFault → Type 0 where
+  too_much : {X Z : List ℕ} → 2 ^ 64 ≤ length X + length Z → RefusesPiece X Z fault.TooMuch
+  no_memory : {X Z : List ℕ} → length X + length Z < 2 ^ 64 → Z ≢ [] → IsPastPreamble (X ++ Z) → RefusesPiece X Z fault.OutOfMemory
+  fault_there : {X Z : List ℕ} {f : DecodeFault} → length X + length Z < 2 ^ 64 → HasFaultThere (X ++ Z) f → RefusesPiece X Z f

@@ -36,5 +36,5 @@ pub record StandsAfter (d : Decoder) (X : List ℕ) : Type 0 where
   pub words : StandsIn d.body (after_preamble X)
 
 -- The decoder answers `Failed` from now on.
-abbrev pub IsOver : Decoder → Type 0
-IsOver d = d.has_failed ≡ true
+abbrev pub HasStopped : Decoder → Type 0
+HasStopped d = d.has_failed ≡ true

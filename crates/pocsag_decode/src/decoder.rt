@@ -1,9 +1,9 @@
 ghost use Rattle.std.specs.Prelude.{◌≡◌, ◌⊎◌, ℕ, ◌+◌, ◌%◌, ◌^◌, ◌<◌, ◌≤◌, ◌++◌, [], List, length, true, All, OnOk, OnErr, IfErr, IfOk, MatchResult};
 ghost use Rattle.pocsag_pages.specs.Bytes.{after_preamble, leading};
 ghost use Rattle.pocsag_decode.specs.Carried.{size_of};
-ghost use Rattle.pocsag_decode.specs.Faults.{HasFaultOfEnd, IsRefusal, ReadsAs};
+ghost use Rattle.pocsag_decode.specs.Faults.{HasFaultOfEnd, IsFaultless, ReadsAs, RefusesPiece};
 ghost use Rattle.pocsag_pages.specs.Listable.{IsListable};
-ghost use Rattle.pocsag_decode.specs.Standing.{IsOver, StandsAfter};
+ghost use Rattle.pocsag_decode.specs.Standing.{HasStopped, StandsAfter};
 
 use crate::body::Body;
 use crate::fault::DecodeFault;
@@ -32,11 +32,11 @@ impl Decoder {
     pub fn feed(&mut self, piece: &[u8]) -> Result<(), DecodeFault>
         // The bytes X that were fed so far and the piece have no fault at a byte that is there.
         ensures stands { (X : List ℕ) → StandsAfter self.old X → OnOk result (StandsAfter self.new (X ++ piece.now)) }
-        ensures refused { (X : List ℕ) → StandsAfter self.old X → IfErr result (IsRefusal X piece.now) }
+        ensures refused { (X : List ℕ) → StandsAfter self.old X → IfErr result (RefusesPiece X piece.now) }
 
         // A decoder that has failed stays so.
-        ensures over { OnErr result (IsOver self.new) }
-        ensures failed { IsOver self.old → result ≡ Err DecodeFault.Failed }
+        ensures over { OnErr result (HasStopped self.new) }
+        ensures failed { HasStopped self.old → result ≡ Err DecodeFault.Failed }
     {
         if self.has_failed {
             return Err(DecodeFault::Failed);
@@ -57,9 +57,12 @@ impl Decoder {
             MatchResult result (λ v. ReadsAs X v.items) (λ e. (e ≡ DecodeFault.OutOfMemory) ⊎ HasFaultOfEnd X e) }
         ensures listable { (X : List ℕ) → StandsAfter self.old X → IfOk result (λ v. All IsListable v.items) }
 
+        // Memory is wanted only by bytes that have no fault.
+        ensures memory { (X : List ℕ) → StandsAfter self.old X → result ≡ Err DecodeFault.OutOfMemory → IsFaultless X }
+
         // A decoder that has failed stays so.
-        ensures over { IsOver self.new }
-        ensures failed { IsOver self.old → result ≡ Err DecodeFault.Failed }
+        ensures over { HasStopped self.new }
+        ensures failed { HasStopped self.old → result ≡ Err DecodeFault.Failed }
     {
         if self.has_failed {
             return Err(DecodeFault::Failed);
@@ -88,6 +91,7 @@ impl Decoder {
         requires { self.old.leading + size_of self.old.body.place self.old.body.carry + length piece.now < 2 ^ 64 }
         ensures body { self.new.body ≡ self.old.body }
         ensures works { self.new.has_failed ≡ self.old.has_failed }
+        ensures within { length result.now ≤ length piece.entry.now }
         ensures counted { self.new.leading + length result.now ≡ self.old.leading + length piece.entry.now }
         ensures skipped { (X : List ℕ) → self.old.leading ≡ leading X →
             size_of self.old.body.place self.old.body.carry ≡ length (after_preamble X) →
@@ -105,7 +109,7 @@ impl Decoder {
 
     fn take(&mut self, piece: &[u8]) -> Result<(), DecodeFault>
         ensures stands { (X : List ℕ) → StandsAfter self.old X → OnOk result (StandsAfter self.new (X ++ piece.now)) }
-        ensures refused { (X : List ℕ) → StandsAfter self.old X → IfErr result (IsRefusal X piece.now) }
+        ensures refused { (X : List ℕ) → StandsAfter self.old X → IfErr result (RefusesPiece X piece.now) }
     {
         if piece.len() as u64 > u64::MAX - self.size() {
             return Err(DecodeFault::TooMuch);

@@ -1,13 +1,13 @@
 ghost use Rattle.std.specs.Prelude.{◌≡◌, ◌↔◌, ℕ, ◌<◌, ◌++◌, List, All};
 ghost use Rattle.pocsag_pages.specs.declared.page.Page.{Page};
-ghost use Rattle.pocsag_decode.specs.Faults.{HasFault, HasFaultThere, HasNoFault, ReadsAs};
+ghost use Rattle.pocsag_decode.specs.Faults.{HasFault, HasFaultThere, IsFaultless, ReadsAs};
 ghost use Rattle.pocsag_decode.specs.Standing.{StandsAfter};
 ghost use Rattle.pocsag_decode.specs.declared.state.Decoder.{Decoder};
 ghost use Rattle.pocsag_decode.specs.declared.fault.DecodeFault.{DecodeFault};
 
 /// Bytes have no fault exactly where they are sent from codewords that have a reading.
 pub fn no_fault_is_a_reading()
-    ensures { (X : List ℕ) → All (λ b. b < 256) X → HasNoFault X ↔ ((ps : List Page) × ReadsAs X ps) }
+    ensures { (X : List ℕ) → All (λ b. b < 256) X → IsFaultless X ↔ ((ps : List Page) × ReadsAs X ps) }
 {}
 
 /// Bytes are sent from at most one list of codewords, and so read as one list of pages at most.

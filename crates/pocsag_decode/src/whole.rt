@@ -1,5 +1,5 @@
 ghost use Rattle.std.specs.Prelude.{◌≡◌, ◌⊎◌, All, IfOk, MatchResult};
-ghost use Rattle.pocsag_decode.specs.Faults.{HasFault, ReadsAs};
+ghost use Rattle.pocsag_decode.specs.Faults.{HasFault, IsPastPreamble, ReadsAs};
 ghost use Rattle.pocsag_pages.specs.Listable.{IsListable};
 
 use crate::fault::DecodeFault;
@@ -13,6 +13,9 @@ pub fn decode(alloc: Global, bytes: &[u8]) -> Result<Vec<Page>, DecodeFault>
     ensures decoded { MatchResult result (λ v. ReadsAs bytes.now v.items)
         (λ e. (e ≡ DecodeFault.OutOfMemory) ⊎ HasFault bytes.now e) }
     ensures listable { IfOk result (λ v. All IsListable v.items) }
+
+    // Memory is wanted only past the preamble.
+    ensures memory { result ≡ Err DecodeFault.OutOfMemory → IsPastPreamble bytes.now }
 {
     let mut decoder = Decoder::new(alloc);
     match decoder.feed(bytes) {

@@ -117,6 +117,7 @@ fn fault(alloc: Global, len: usize, address: u32) -> Result<Option<PagerFault>, 
 #[test]
 fn bad_hear(rt: HostRuntime) -> Result<(), Fail> {
     let alloc = rt.alloc();
+    assert_eq!(rt; fault(alloc, 140, 2_097_151)?, None);
     assert_eq!(rt; fault(alloc, 140, 2_097_152)?, Some(PagerFault::BadAddress));
     assert_eq!(rt;
         fault(alloc, 140, 2_007_664)?,

@@ -208,10 +208,5 @@ pub(crate) fn page_of_row(alloc: Global, row: &ByteRecord) -> Result<Page, Recor
     let Some(fields) = three_fields(row) else {
         return Err(RecordFault::FieldCount);
     };
-    Ok(page_of_fields(
-        alloc,
-        fields.address,
-        fields.kind,
-        fields.message,
-    )?)
+    Ok(page_of_fields(alloc, fields.address, fields.kind, fields.message)?)
 }

@@ -1,8 +1,11 @@
 #![tactic(auto)]
 //! Makes each public call that may lack memory once, on a worked example, and prints a line for each:
-//! its answer, or that memory was wanting. The tests run it with each growth refused in turn.
+//! its answer, or that memory was wanting. The tests run it with each growth refused in turn. With a byte
+//! on standard input it makes them at the largest sizes that their limits allow.
 
 mod certificates;
+mod kept;
+mod large;
 #[cfg(test)]
 mod layout_tests;
 mod line;
@@ -16,6 +19,7 @@ use crate::line::Line;
 use pocsag_words::OutOfMemory;
 use std::alloc::Global;
 use std::io;
+use std::io::Read;
 
 // One call on one example.
 #[derive(Clone, Copy)]
@@ -43,9 +47,14 @@ enum Trial {
     List,
     HearAll,
     HearWords,
+    HearTwice,
+    CopyLong,
+    TourMany,
+    SendLong,
+    ReadManyNodes,
 }
 
-const TRIALS: [Trial; 23] = [
+const TRIALS: [Trial; 24] = [
     Trial::PackNumeric,
     Trial::PackAlpha,
     Trial::UnpackNumeric,
@@ -69,6 +78,14 @@ const TRIALS: [Trial; 23] = [
     Trial::List,
     Trial::HearAll,
     Trial::HearWords,
+    Trial::HearTwice,
+];
+
+const LARGE_TRIALS: [Trial; 4] = [
+    Trial::CopyLong,
+    Trial::TourMany,
+    Trial::SendLong,
+    Trial::ReadManyNodes,
 ];
 
 fn name_of(trial: Trial) -> &'static str {
@@ -96,6 +113,11 @@ fn name_of(trial: Trial) -> &'static str {
         Trial::List => "list of page-across-batches",
         Trial::HearAll => "hear_all of page-across-batches",
         Trial::HearWords => "hear and end of wrong-bit-in-idle",
+        Trial::HearTwice => "hear_all of three pages to one address",
+        Trial::CopyLong => "Page::copy of 1,400 items",
+        Trial::TourMany => "tour, order_of and lay_out of 20,000 tones",
+        Trial::SendLong => "write, decode, list and hear_all of 20,000 pages of 1,400 items",
+        Trial::ReadManyNodes => "read_certificate of 1,000,000 nodes",
     }
 }
 
@@ -124,14 +146,19 @@ fn run(alloc: Global, trial: Trial, line: &mut Line) -> Result<(), OutOfMemory> 
         Trial::List => receiving::list_decoded(alloc, line),
         Trial::HearAll => receiving::hear_whole(alloc, line),
         Trial::HearWords => receiving::hear_words(alloc, line),
+        Trial::HearTwice => receiving::hear_three_pages(alloc, line),
+        Trial::CopyLong => large::copy_long_page(alloc, line),
+        Trial::TourMany => large::tour_many_tones(alloc, line),
+        Trial::SendLong => large::send_long_pages(alloc, line),
+        Trial::ReadManyNodes => large::read_many_nodes(alloc, line),
     }
 }
 
-fn main(rt: HostRuntime) -> io::Result<()> {
-    for trial in TRIALS {
+fn show<R: AllocGlobal + Print>(rt: &R, trials: &[Trial]) -> io::Result<()> {
+    for trial in trials {
         let mut line = Line::new();
-        let name = name_of(trial);
-        match run(rt.alloc(), trial, &mut line) {
+        let name = name_of(*trial);
+        match run(rt.alloc(), *trial, &mut line) {
             Ok(()) => {
                 let text = line.as_str();
                 println!(rt; "{name}:{text}")?;
@@ -140,4 +167,20 @@ fn main(rt: HostRuntime) -> io::Result<()> {
         }
     }
     Ok(())
+}
+
+// Whether there is a byte on standard input.
+fn is_asked<R: Input>(rt: &R) -> bool {
+    match rt.reader().read(&mut [0u8; 1]) {
+        Ok(count) => count > 0,
+        Err(_) => false,
+    }
+}
+
+fn main(rt: HostRuntime) -> io::Result<()> {
+    if is_asked(&rt) {
+        show(&rt, LARGE_TRIALS.as_slice())
+    } else {
+        show(&rt, TRIALS.as_slice())
+    }
 }

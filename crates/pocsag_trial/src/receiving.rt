@@ -94,6 +94,27 @@ pub fn hear_whole(alloc: Global, line: &mut Line) -> Result<(), OutOfMemory> {
     Ok(())
 }
 
+// Two tones and then a page of three items, all for address 8.
+fn three_pages() -> [u8; 208] {
+    let mut words = [IDLE; 32];
+    words[0] = 0x26ec;
+    words[1] = 0x26ec;
+    words[16] = 0x26ec;
+    words[17] = 0xc444_47b9;
+    words[18] = 0xc444_47b9;
+    words[19] = 0xc444_47b9;
+    two_batches(&words)
+}
+
+pub fn hear_three_pages(alloc: Global, line: &mut Line) -> Result<(), OutOfMemory> {
+    match hear_all(alloc, three_pages().as_slice(), 8) {
+        Ok(pages) => line.put_pages(pages.as_slice()),
+        Err(PagerFault::OutOfMemory) => return Err(OutOfMemory),
+        Err(fault) => line.put(fault),
+    }
+    Ok(())
+}
+
 fn put_heard(heard: Option<Page>, line: &mut Line) {
     if let Some(page) = heard {
         line.put_page(&page);

@@ -28,7 +28,7 @@ pub fn stream_lone_tone(alloc: Global, line: &mut Line) -> Result<(), OutOfMemor
     match answer {
         Ok(batches) => line.put(batches),
         Err(FirstFault::OutOfMemory) => return Err(OutOfMemory),
-        Err(FirstFault::Round(RoundFault::OutOfMemory)) => return Err(OutOfMemory),
+        Err(FirstFault::Round(RoundFault::OutOfMemory)) => line.put("out of memory in the round"),
         Err(fault) => line.put(fault),
     }
     line.put_bytes(tx.bytes());

@@ -41,4 +41,4 @@ returns-clause-refused c = λ X s.
     let k = c.skip_preamble-rest.ensures.skipped X s.preamble (body_size _ X s) in
     let few : length X + length c.args.piece.now < 2 ^ 64 = let f = full_size _ X s in let e = c.size.ensures in let t = c.if-piece-size.false in omega arith in
     let body : StandsIn c.skip_preamble-rest.new.self.body (after_preamble X) = rw c.skip_preamble-rest.ensures.body s.words in
-    IfErr-weaker _ _ _ (λ f b. refused_body _ X s c.skip_preamble-rest.new.self c.args.piece.now c.skip_preamble-rest.result.now few k.1 k.0 f c.if-self-lt-PREAMBLE.false b) (c.take.ensures.bad (after_preamble X) body)
+    IfErr-weaker _ _ _ (λ f b. refused_body _ X s c.skip_preamble-rest.new.self c.args.piece.now c.skip_preamble-rest.result.now few k.1 k.0 f c.if-self-lt-PREAMBLE.false (not_nil _ c.if-is_empty.ensures) c.skip_preamble-rest.ensures.within b) (c.take.ensures.bad (after_preamble X) body)

@@ -1,0 +1,154 @@
+//! Calls at the largest sizes that their limits allow.
+
+use crate::kept::Kept;
+use crate::line::Line;
+use crate::pages::ones;
+use crate::tours::tour_of;
+use pocsag_batch::{lay_in_order, lay_out, order_of, write};
+use pocsag_decode::{DecodeFault, ListFault, decode, list};
+use pocsag_pager::{PagerFault, hear_all};
+use pocsag_pages::{Page, Round, RoundFault};
+use pocsag_tree::{CertificateFault, depth, nodes, read_certificate};
+use pocsag_words::{End, MemorySource, OutOfMemory};
+use std::alloc::Global;
+
+const PAGES: u32 = 20_000;
+
+const ITEMS: usize = 1_400;
+
+// A round of 20,000 pages of so many items each, for the addresses from 0.
+fn many_pages(alloc: Global, items: usize) -> Result<Round, RoundFault> {
+    let mut pages = Vec::new(alloc);
+    for address in 0..PAGES {
+        let Ok(page) = ones(alloc, address, items) else {
+            return Err(RoundFault::OutOfMemory);
+        };
+        if pages.push(page).is_err() {
+            return Err(RoundFault::OutOfMemory);
+        }
+    }
+    Round::from_pages(alloc, pages)
+}
+
+pub fn copy_long_page(alloc: Global, line: &mut Line) -> Result<(), OutOfMemory> {
+    let copy = ones(alloc, 8, ITEMS)?.copy(alloc)?;
+    line.put(copy.payload.as_slice().len());
+    Ok(())
+}
+
+/// The tour of 20,000 tones that all start early, their order and their layout.
+pub fn tour_many_tones(alloc: Global, line: &mut Line) -> Result<(), OutOfMemory> {
+    let Ok(round) = many_pages(alloc, 0) else {
+        return Err(OutOfMemory);
+    };
+    let Ok(steps) = tour_of(alloc, &round, None, 2_500, End::Open) else {
+        return Err(OutOfMemory);
+    };
+    line.put(steps.len());
+    line.put(order_of(alloc, &round, steps.as_slice(), End::Open)?.len());
+    line.put(lay_out(alloc, &round, steps.as_slice(), End::Open)?.count());
+    Ok(())
+}
+
+// The bytes of the round in file order.
+fn bytes_of(alloc: Global, round: &Round) -> Result<Kept, OutOfMemory> {
+    let batches = lay_in_order(alloc, round)?;
+    let mut kept = Kept::new(alloc);
+    match write(&batches, &mut kept) {
+        Ok(()) => Ok(kept),
+        Err(_) => Err(OutOfMemory),
+    }
+}
+
+fn put_listed(
+    listed: Result<(), ListFault>,
+    kept: &Kept,
+    line: &mut Line,
+) -> Result<(), OutOfMemory> {
+    match listed {
+        Ok(()) => line.put(kept.bytes().len()),
+        Err(ListFault::OutOfMemory) => return Err(OutOfMemory),
+        Err(fault) => line.put(fault),
+    }
+    Ok(())
+}
+
+fn put_heard(heard: Result<Vec<Page>, PagerFault>, line: &mut Line) -> Result<(), OutOfMemory> {
+    match heard {
+        Ok(pages) => {
+            for page in pages.as_slice() {
+                line.put(page.address);
+                line.put(page.payload.as_slice().len());
+            }
+        }
+        Err(PagerFault::OutOfMemory) => return Err(OutOfMemory),
+        Err(fault) => line.put(fault),
+    }
+    Ok(())
+}
+
+/// The longest round in file order: how many bytes are written, whether they are decoded to its pages,
+/// how many bytes the listing of these has, and what the pager of the last page shows.
+pub fn send_long_pages(alloc: Global, line: &mut Line) -> Result<(), OutOfMemory> {
+    let Ok(round) = many_pages(alloc, ITEMS) else {
+        return Err(OutOfMemory);
+    };
+    let sent = bytes_of(alloc, &round)?;
+    line.put(sent.bytes().len());
+    match decode(alloc, sent.bytes()) {
+        Ok(pages) => {
+            line.put(pages.as_slice() == round.pages());
+            let mut kept = Kept::new(alloc);
+            let listed = list(alloc, pages.as_slice(), &mut kept);
+            put_listed(listed, &kept, line)?;
+        }
+        Err(DecodeFault::OutOfMemory) => return Err(OutOfMemory),
+        Err(fault) => line.put(fault),
+    }
+    put_heard(hear_all(alloc, sent.bytes(), PAGES - 1), line)
+}
+
+// An overload at the set of slot 0.
+const LEAF: &[u8; 3] = b"\x00\x00\x01";
+
+fn put(bytes: &mut Vec<u8>, part: &[u8]) -> Result<(), OutOfMemory> {
+    match bytes.extend_from_slice(part) {
+        Ok(()) => Ok(()),
+        Err(_) => Err(OutOfMemory),
+    }
+}
+
+// So many cuts of 288 children, each the last child of the one before, all other children leaves.
+fn put_cuts(bytes: &mut Vec<u8>, cuts: u32) -> Result<(), OutOfMemory> {
+    for _cut in 0..cuts {
+        put(bytes, b"\x02\x00\x01\x00\x01\x20")?;
+        for _leaf in 0..287 {
+            put(bytes, LEAF)?;
+        }
+    }
+    put(bytes, LEAF)
+}
+
+// A certificate of 64 + 288 * (7 * 56 + 56 * 55) nodes, which are 1,000,000.
+fn many_nodes(alloc: Global) -> Result<Vec<u8>, OutOfMemory> {
+    let mut bytes = Vec::new(alloc);
+    put(&mut bytes, b"PCB2\x00\x00\x00\x00\x02\x02\x00\x01\x00\x00\x3f")?;
+    for child in 0..63 {
+        put_cuts(&mut bytes, if child < 7 { 56 } else { 55 })?;
+    }
+    Ok(bytes)
+}
+
+pub fn read_many_nodes(alloc: Global, line: &mut Line) -> Result<(), OutOfMemory> {
+    let bytes = many_nodes(alloc)?;
+    let mut source = MemorySource::new(bytes.as_slice(), 4_096, u64::MAX);
+    match read_certificate(alloc, &mut source) {
+        Ok(certificate) => {
+            line.put(nodes(&certificate.tree));
+            line.put(depth(&certificate.tree));
+        }
+        Err(CertificateFault::OutOfMemory) => return Err(OutOfMemory),
+        Err(_) => line.put("not read"),
+    }
+    Ok(())
+}
