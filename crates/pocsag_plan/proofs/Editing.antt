@@ -5,12 +5,13 @@ use Rattle.std.specs.List.{IsDistinct}
 use Rattle.std.specs.Map.{keys_of, values_of, lookup, remove_entry}
 use Rattle.std.proofs.lemmas.Bool.Decides.{nat_tests}
 use Rattle.std.proofs.lemmas.List.{append-nil, length-map, map-append}
-use Rattle.std.proofs.lemmas.List.Elements.{Contains-append_right, Contains-get_or}
+use Rattle.std.proofs.lemmas.List.Elements.{All-weaker, Contains-append_right, Contains-get_or}
 use Rattle.std.proofs.lemmas.List.Sorted.{IsPermutation-middle}
 use Rattle.std.proofs.lemmas.Map.Keys.{IsDistinct-IsPermutation, IsDistinct-tail}
 use Rattle.pocsag_words.specs.declared.ending.End.{End}
 use Rattle.pocsag_words.specs.declared.ending.End.TheVariants.{Open, Closed}
 use Rattle.pocsag_pages.specs.declared.page.Page.{Page}
+use Rattle.pocsag_pages.specs.Listable.{IsListable}
 use Rattle.pocsag_pages.specs.Pages.{page_limit, addresses_of, has_address, page_fault_of, AreGood, IsGoodPage}
 use Rattle.pocsag_pages.proofs.GoodPages.{good_page, good_pages}
 use Rattle.pocsag_pages.proofs.Growing.{addresses_push, good_push}
@@ -130,3 +131,9 @@ rest_is es new ps a keyed good view shrunk =
 -- the page that is taken out was there
 pub was_there : (S R : List Page) (p : Page) → Contains (S ++ p ∷ R) p
 was_there S R p = Contains-append_right S (p ∷ R) p (Contains-get_or (p ∷ R) 0 p (omega arith))
+
+-- the pages of a book may be listed
+pub listable_pages : (es : List (ℕ × Page)) (ps : List Page) → values_of es ≡ ps → AreGood (values_of es) → All IsListable ps
+listable_pages es ps view good =
+    subst (λ (qs : List Page). All IsListable qs) view
+    (All-weaker IsGoodPage IsListable (λ p g. record { function = g.function; items = g.small }) (values_of es) (good_pages (values_of es) good))

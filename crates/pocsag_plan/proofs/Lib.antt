@@ -1,4 +1,5 @@
 pub mod Completing
+pub mod Counted
 pub mod Due
 pub mod Editing
 pub mod Entries

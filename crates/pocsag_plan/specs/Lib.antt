@@ -7,3 +7,5 @@ pub mod Streams
 pub mod Books
 pub mod OpenRound
 pub mod Tallies
+pub mod Edits
+pub mod BookPlans

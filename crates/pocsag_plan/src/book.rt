@@ -1,5 +1,6 @@
-ghost use Rattle.std.specs.Prelude.{◌≡◌, ◌≤◌, ◌∷◌, ◌++◌, [], length, slice_get, Contains, None, false, IfErr, IfOk, IsTrue, OnErr, OnOk, ◌↔◌};
+ghost use Rattle.std.specs.Prelude.{◌≡◌, ◌≤◌, ◌∷◌, ◌++◌, [], length, slice_get, All, Contains, None, false, IfErr, IfOk, IsTrue, OnErr, OnOk, ◌↔◌};
 ghost use Rattle.std.specs.Option.{option_copied};
+ghost use Rattle.pocsag_pages.specs.Listable.{IsListable};
 ghost use Rattle.pocsag_pages.specs.Pages.{page_limit, has_address, AreGood};
 ghost use Rattle.pocsag_slots.specs.Loads.{AreClassesOf};
 ghost use Rattle.pocsag_plan.specs.OpenRound.{add_fault, fault_or_memory, without};
@@ -87,6 +88,7 @@ impl Book {
         ensures pages { result.now ≡ self.now }
         ensures few { length self.now ≤ page_limit }
         ensures good { AreGood self.now }
+        ensures listable { All IsListable self.now }
     {
         self.pages.values().as_slice()
     }
@@ -168,5 +170,9 @@ impl Book {
             }
             None => Err(NotThere),
         }
+    }
+
+    pub(crate) fn allocator(&self) -> Global {
+        *self.pages.allocator()
     }
 }

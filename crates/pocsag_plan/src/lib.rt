@@ -5,6 +5,8 @@
 mod airtime;
 mod answer;
 mod book;
+mod closing;
+mod edit;
 mod fault;
 #[cfg(test)]
 mod planned;
@@ -19,8 +21,9 @@ mod tests;
 pub use airtime::Report;
 pub use answer::Plan;
 pub use book::Book;
+pub use edit::Edit;
 pub use fault::{BadRate, PlanFault, StreamFault};
 pub use planning::plan;
-pub use refusal::{AddFault, NotThere, Refused};
+pub use refusal::{AddFault, BookFault, NotThere, Refused};
 pub use reporting::report;
 pub use streaming::plan_stream;

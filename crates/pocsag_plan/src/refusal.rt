@@ -1,6 +1,7 @@
-ghost use Rattle.std.specs.Prelude.{◌≡◌};
-
-use pocsag_pages::{Page, PageFault};
+use crate::fault::{PlanFault, StreamFault};
+use pocsag_pages::{Page, PageFault, RoundFault};
+use pocsag_tree::Tree;
+use pocsag_words::OutOfMemory;
 use thiserror::Error;
 
 /// Why a page is not added to an open round.
@@ -39,6 +40,22 @@ pub struct Refused {
 #[error("no such page")]
 pub struct NotThere;
 
+/// Why there is no plan of an open round.
+#[derive(Drop, Debug, Error)]
+pub enum BookFault {
+    /// The node limit is 0 or above 1,000,000.
+    #[error("the limit must be 1 to 1000000")]
+    BadLimit,
+    #[error("there are no pages")]
+    NoPages,
+    /// So many nodes did not decide between `least` batches and `found`, one more. The tree holds the
+    /// nodes that were examined, and an `Open` for each that was not.
+    #[error("search limit reached: at least {least} batches, {found} would do")]
+    SearchLimit { least: u32, found: u32, tree: Tree },
+    #[error("out of memory")]
+    OutOfMemory,
+}
+
 impl From<PageFault> for AddFault {
     ghost use Rattle.std.specs.Prelude.{◌≡◌};
     ghost use Rattle.pocsag_plan.specs.OpenRound.{fault_of_rule};
@@ -50,6 +67,52 @@ impl From<PageFault> for AddFault {
             PageFault::BadAddress => AddFault::BadAddress,
             PageFault::ReservedAddress => AddFault::ReservedAddress,
             PageFault::BadPayload => AddFault::BadPayload,
+        }
+    }
+}
+
+impl From<OutOfMemory> for BookFault {
+    ghost use Rattle.std.specs.Prelude.{◌≡◌};
+    ghost use Rattle.pocsag_plan.specs.declared.refusal.BookFault.TheVariants as book;
+
+    ghost from_gives = { λ _ fault. fault ≡ book.OutOfMemory };
+
+    fn from(_fault: OutOfMemory) -> BookFault {
+        BookFault::OutOfMemory
+    }
+}
+
+impl From<PlanFault> for BookFault {
+    ghost use Rattle.std.specs.Prelude.{◌≡◌};
+    ghost use Rattle.pocsag_plan.specs.BookPlans.{book_fault_of};
+
+    ghost from_gives = { λ fault its. its ≡ book_fault_of fault };
+
+    fn from(fault: PlanFault) -> BookFault {
+        match fault {
+            PlanFault::BadLimit => BookFault::BadLimit,
+            PlanFault::SearchLimit { least, found, tree } => {
+                BookFault::SearchLimit { least, found, tree }
+            }
+            PlanFault::OutOfMemory => BookFault::OutOfMemory,
+        }
+    }
+}
+
+impl From<BookFault> for StreamFault {
+    ghost use Rattle.std.specs.Prelude.{◌≡◌};
+    ghost use Rattle.pocsag_plan.specs.BookPlans.{stream_fault_of};
+
+    ghost from_gives = { λ fault its. its ≡ stream_fault_of fault };
+
+    fn from(fault: BookFault) -> StreamFault {
+        match fault {
+            BookFault::BadLimit => StreamFault::BadLimit,
+            BookFault::NoPages => StreamFault::Round(RoundFault::NoPages),
+            BookFault::SearchLimit { least, found, tree } => {
+                StreamFault::SearchLimit { least, found, tree }
+            }
+            BookFault::OutOfMemory => StreamFault::OutOfMemory,
         }
     }
 }
