@@ -4,3 +4,8 @@ pub mod Plans
 pub mod Reports
 pub mod Sending
 pub mod Streams
+pub mod Books
+pub mod OpenRound
+pub mod Tallies
+pub mod Edits
+pub mod BookPlans

@@ -4,18 +4,26 @@
 
 mod airtime;
 mod answer;
+mod book;
+mod closing;
+mod edit;
 mod fault;
 #[cfg(test)]
 mod planned;
 mod planning;
+mod refusal;
 mod reporting;
 mod streaming;
+mod tally;
 #[cfg(test)]
 mod tests;
 
 pub use airtime::Report;
 pub use answer::Plan;
+pub use book::Book;
+pub use edit::Edit;
 pub use fault::{BadRate, PlanFault, StreamFault};
 pub use planning::plan;
+pub use refusal::{AddFault, BookFault, NotThere, Refused};
 pub use reporting::report;
 pub use streaming::plan_stream;

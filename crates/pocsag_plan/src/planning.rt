@@ -1,10 +1,9 @@
 ghost use Rattle.std.specs.Prelude.{◌≡◌, ◌≤◌, ◌↔◌, IfErr, IfOk, IsErrOf, IsTrue, sum_by};
-ghost use Rattle.pocsag_pages.specs.Pages.{IsRound};
 ghost use Rattle.pocsag_pages.specs.Reading.{page_length};
 ghost use Rattle.pocsag_slots.specs.Loads.{AreClassesOf};
 ghost use Rattle.pocsag_tree.specs.Bounds.{closed_nodes};
 ghost use Rattle.pocsag_tree.specs.Views.{bound_of};
-ghost use Rattle.pocsag_branch.specs.Found.{HasPage, IsFound, IsNodeLimit};
+ghost use Rattle.pocsag_branch.specs.Found.{IsFound, IsNodeLimit};
 ghost use Rattle.pocsag_plan.specs.Plans.{ExplainsPlan, IsPlan};
 
 use crate::answer::Plan;
@@ -55,20 +54,28 @@ pub(crate) fn plan_within(
     ensures limit { ¬ IsErrOf result PlanFault.BadLimit }
     ensures fault { IfErr result (ExplainsPlan end round.now limit) }
 {
-    let classes = counted(round, end);
-    let found = search(alloc, &classes, limit, end)?;
-    let plan = completed(alloc, round, &classes, limit, found, end)?;
-    Ok(plan)
+    plan_counted(alloc, round, &classes_of(round, end), limit, end)
 }
 
-// The classes of the round, of which one has a page.
-fn counted(round: &Round, end: End) -> Classes
-    ensures classes { AreClassesOf result end round.now }
-    ensures page { HasPage result }
-    ensures round { IsRound round.now }
+// The same for the class table of the round for the end.
+pub(crate) fn plan_counted(
+    alloc: Global,
+    round: &Round,
+    classes: &Classes,
+    limit: u32,
+    end: End,
+) -> Result<Plan, PlanFault>
+    requires limited { IsNodeLimit limit }
+    requires counted { AreClassesOf classes.now end round.now }
+    ensures plan { IfOk result (IsPlan end round.now) }
+    ensures small { IfOk result (λ plan. closed_nodes (bound_of plan.tree) ≤ limit) }
+    ensures limit { ¬ IsErrOf result PlanFault.BadLimit }
+    ensures fault { IfErr result (ExplainsPlan end round.now limit) }
 {
     let _pages = round.pages();
-    classes_of(round, end)
+    let found = search(alloc, classes, limit, end)?;
+    let plan = completed(alloc, round, classes, limit, found, end)?;
+    Ok(plan)
 }
 
 // How many codewords the pages have.

@@ -66,7 +66,7 @@ pub fn plan_stream<S: Source, T: Sink, C: Sink>(
 
 // Which of the two writers failed.
 #[derive(Clone, Copy)]
-enum Unsent {
+pub(crate) enum Unsent {
     Transmission,
     Certificate,
 }
@@ -85,7 +85,7 @@ impl From<Unsent> for StreamFault {
 }
 
 // Writes the transmission of the plan and then its certificate. It is handed no allocator.
-fn send<T: Sink, C: Sink>(
+pub(crate) fn send<T: Sink, C: Sink>(
     round: &Round,
     plan: &Plan,
     end: End,

@@ -1,3 +1,4 @@
+-- The class table of a round has a page.
 use Rattle.std.proofs.Common.{◌≡◌, ℕ, ◌+◌, ◌<◌, ◌==◌, Bool, cond, List, [], ◌∷◌, length, arith, ap, refl, eq-eqb, slice_index}
 use Rattle.pocsag_words.specs.declared.ending.End.{End}
 use Rattle.pocsag_pages.specs.declared.page.Page.{Page}
@@ -7,10 +8,9 @@ use Rattle.pocsag_slots.specs.Numbering.{class_of_page, count_of}
 use Rattle.pocsag_slots.proofs.CountLemmas.{page_class_below}
 use Rattle.pocsag_slots.proofs.Walks.{count_of-cons}
 use Rattle.pocsag_branch.specs.Found.{HasPage}
-use Rattle.pocsag_plan.proofs.planning.counted.Goals as goal
 
 -- the class of the first page has a page
-has_page : (k : Classes) (end : End) (R : List Page) → AreClassesOf k end R → 0 < length R → HasPage k
+pub has_page : (k : Classes) (end : End) (R : List Page) → AreClassesOf k end R → 0 < length R → HasPage k
 has_page k end [] classes some = absurd (omega arith)
 has_page k end (p ∷ R) classes some =
     let class : ℕ = class_of_page end p in
@@ -19,6 +19,3 @@ has_page k end (p ∷ R) classes some =
     let same : cond {A = ℕ} (class == class) 1 0 ≡ 1 = ap (λ (b : Bool). cond {A = ℕ} b 1 0) (eq-eqb class class refl) in
     let counted : slice_index k.count class ≡ count_of end (p ∷ R) class = classes.count class known in
     record { class = class; known = known; some = omega arith }
-
-pub returns-clause-page : goal.returns-clause-page
-returns-clause-page c = has_page c.classes_of.result c.args.end c.args.round.now c.classes_of.ensures.counted c.pages-pages.ensures.round.some

@@ -1,0 +1,195 @@
+//! An open round as a process: a script holds it, and each line of its input is answered by one line.
+ghost use Rattle.pocsag_app.specs.Faults.{IsStatus};
+
+use crate::commands::DEFAULT_LIMIT;
+use crate::edits::{Line, line_of, record_of};
+use crate::fault::Fault;
+use crate::files::Outputs;
+use crate::lines::{Found, Lines};
+use crate::paths::equal_paths;
+use crate::tell::{ended, tell};
+use pocsag_decode::{ListFault, list};
+use pocsag_pages::{FieldFault, page_of_fields, read_round};
+use pocsag_plan::{AddFault, Book, NotThere};
+use pocsag_words::{End, Sink, Source};
+use std::alloc::Global;
+use std::rt::Files;
+use thiserror::Error;
+
+/// Why an edit is refused. The round is as it was.
+#[derive(Clone, Copy, PartialEq, Eq, Debug, Error)]
+pub enum Refusal {
+    #[error("unknown edit")]
+    Unknown,
+    /// The fields spell no page.
+    #[error("{0}")]
+    Field(FieldFault),
+    /// The page may not follow the others.
+    #[error("{0}")]
+    Add(AddFault),
+    #[error("{0}")]
+    Cancel(NotThere),
+    /// What was asked could not be done.
+    #[error("{0}")]
+    Undone(Fault),
+}
+
+/// `open` without PAGES: answers the lines of the input, one by one, up to its end. A round of no pages is
+/// open at first. Answers the exit status.
+pub fn run_open<R: Files, I: Source, O: Sink, E: Sink>(
+    rt: &R,
+    alloc: Global,
+    input: &mut I,
+    out: &mut O,
+    err: &mut E,
+) -> u8
+    ensures { IsStatus result }
+{
+    let done = answer_lines(rt, alloc, "", Book::new(alloc), input, out);
+    ended(done, err)
+}
+
+/// `open PAGES`: the same, where the pages of the page file are open at first, of which the path is named
+/// so that no plan empties it.
+pub fn run_open_pages<R: Files, P: Source, I: Source, O: Sink, E: Sink>(
+    rt: &R,
+    alloc: Global,
+    path: &str,
+    pages: &mut P,
+    input: &mut I,
+    out: &mut O,
+    err: &mut E,
+) -> u8
+    ensures { IsStatus result }
+{
+    let done = match book_of(alloc, pages) {
+        Ok(book) => answer_lines(rt, alloc, path, book, input, out),
+        Err(fault) => Err(fault),
+    };
+    ended(done, err)
+}
+
+// A book of the pages of a page file.
+fn book_of<P: Source>(alloc: Global, pages: &mut P) -> Result<Book, Fault> {
+    let round = read_round(alloc, pages)?;
+    match Book::of_round(alloc, &round) {
+        Ok(book) => Ok(book),
+        Err(_) => Err(Fault::OutOfMemory),
+    }
+}
+
+fn answer_lines<R: Files, I: Source, O: Sink>(
+    rt: &R,
+    alloc: Global,
+    path: &str,
+    mut book: Book,
+    input: &mut I,
+    out: &mut O,
+) -> Result<(), Fault> {
+    let mut lines = Lines::new(alloc)?;
+    for _ in 0..u64::MAX {
+        match lines.read_line(input)? {
+            Found::End => return Ok(()),
+            Found::TooLong => refuse(Refusal::Unknown, out)?,
+            Found::Kept => answer(rt, alloc, path, &mut book, lines.line(), out)?,
+        }
+    }
+    Ok(())
+}
+
+fn refuse<O: Sink>(refusal: Refusal, out: &mut O) -> Result<(), Fault> {
+    tell(out, format_args!("refused: {refusal}\n"))
+}
+
+// How many pages there are now.
+fn tell_pages<O: Sink>(book: &Book, out: &mut O) -> Result<(), Fault> {
+    let pages = book.len();
+    tell(out, format_args!("ok {pages}\n"))
+}
+
+// Answers one line.
+fn answer<R: Files, O: Sink>(
+    rt: &R,
+    alloc: Global,
+    path: &str,
+    book: &mut Book,
+    line: &[u8],
+    out: &mut O,
+) -> Result<(), Fault> {
+    let row = match record_of(alloc, line) {
+        Ok(Some(row)) => row,
+        Ok(None) => return refuse(Refusal::Unknown, out),
+        Err(_) => return refuse(Refusal::Undone(Fault::OutOfMemory), out),
+    };
+    match line_of(&row) {
+        Line::Plan { tx, cert, end } => match plan_book(rt, book, [path, tx, cert], end) {
+            Ok(batches) => tell(out, format_args!("batches {batches}\n")),
+            Err(fault) => refuse(Refusal::Undone(fault), out),
+        },
+        Line::List => match list(alloc, book.pages(), out) {
+            Ok(()) => tell_pages(book, out),
+            Err(ListFault::OutOfMemory) => refuse(Refusal::Undone(Fault::OutOfMemory), out),
+            Err(ListFault::WriteFault) => Err(Fault::Write),
+        },
+        line => match edit(alloc, book, line) {
+            Ok(()) => tell_pages(book, out),
+            Err(refusal) => refuse(refusal, out),
+        },
+    }
+}
+
+// Makes an edit of the round, which is as it was where it is refused.
+fn edit(alloc: Global, book: &mut Book, line: Line<'_>) -> Result<(), Refusal> {
+    match line {
+        Line::Add {
+            address,
+            kind,
+            message,
+        } => add_fields(alloc, book, address, kind, message),
+        Line::Cancel { address } => cancel_field(alloc, book, address),
+        Line::Clear => {
+            *book = Book::new(alloc);
+            Ok(())
+        }
+        _ => Err(Refusal::Unknown),
+    }
+}
+
+fn add_fields(
+    alloc: Global,
+    book: &mut Book,
+    address: &[u8],
+    kind: &[u8],
+    message: &[u8],
+) -> Result<(), Refusal> {
+    match page_of_fields(alloc, address, kind, message) {
+        Ok(page) => match book.add(page) {
+            Ok(()) => Ok(()),
+            Err(refused) => Err(Refusal::Add(refused.fault)),
+        },
+        Err(fault) => Err(Refusal::Field(fault)),
+    }
+}
+
+// What spells no address is that of no page. A page of an address codeword alone takes no memory.
+fn cancel_field(alloc: Global, book: &mut Book, address: &[u8]) -> Result<(), Refusal> {
+    let Ok(page) = page_of_fields(alloc, address, b"tone0", b"") else {
+        return Err(Refusal::Cancel(NotThere));
+    };
+    match book.cancel(page.address) {
+        Ok(_) => Ok(()),
+        Err(not_there) => Err(Refusal::Cancel(not_there)),
+    }
+}
+
+// Writes the transmission and the certificate of the round, and answers its batches. The paths are those
+// of the page file, if there is one, of the transmission and of the certificate.
+fn plan_book<R: Files>(rt: &R, book: &Book, paths: [&str; 3], end: End) -> Result<u32, Fault> {
+    if equal_paths(&paths) {
+        return Err(Fault::EqualPaths);
+    }
+    let [pages, tx, cert] = paths;
+    let mut outputs = Outputs::make(rt, pages, tx, cert)?;
+    let plan = book.plan_stream(&mut outputs.tx, &mut outputs.cert, DEFAULT_LIMIT, end)?;
+    Ok(plan.batches)
+}

@@ -1,0 +1,36 @@
+-- What a plan of a book is, and why there is none.
+use Rattle.std.specs.Prelude.{◌≡◌, ℕ, List, []}
+use Rattle.pocsag_words.specs.declared.ending.End.{End}
+use Rattle.pocsag_pages.specs.declared.page.Page.{Page}
+use Rattle.pocsag_pages.specs.Pages.{IsRound}
+use Rattle.pocsag_tree.specs.Views.{bound_of}
+use Rattle.pocsag_branch.specs.Found.{IsNodeLimit}
+use Rattle.pocsag_plan.specs.declared.fault.PlanFault.{PlanFault}
+use Rattle.pocsag_plan.specs.declared.fault.PlanFault.TheVariants as planning
+use Rattle.pocsag_pages.specs.declared.fault.RoundFault.TheVariants as round
+use Rattle.pocsag_plan.specs.declared.fault.StreamFault.{StreamFault}
+use Rattle.pocsag_plan.specs.declared.fault.StreamFault.TheVariants as streaming
+use Rattle.pocsag_plan.specs.declared.refusal.BookFault.{BookFault}
+use Rattle.pocsag_plan.specs.declared.refusal.BookFault.TheVariants as fault
+use Rattle.pocsag_plan.specs.Plans.{IsStopped}
+
+-- A fault of `plan` keeps its name and what it carries.
+abbrev pub book_fault_of : PlanFault → BookFault
+book_fault_of planning.BadLimit = fault.BadLimit
+book_fault_of (planning.SearchLimit least found tree) = fault.SearchLimit least found tree
+book_fault_of planning.OutOfMemory = fault.OutOfMemory
+
+-- The same fault of a stream: of no pages it is that of a round.
+abbrev pub stream_fault_of : BookFault → StreamFault
+stream_fault_of fault.BadLimit = streaming.BadLimit
+stream_fault_of fault.NoPages = streaming.Round round.NoPages
+stream_fault_of (fault.SearchLimit least found tree) = streaming.SearchLimit least found tree
+stream_fault_of fault.OutOfMemory = streaming.OutOfMemory
+
+-- When each fault comes, and what it says. Memory is wanted only for a round and a limit that may be.
+abbrev pub ExplainsBook : End → List Page → ℕ → BookFault → Type 0
+ExplainsBook end R limit fault.BadLimit = ¬ IsNodeLimit limit
+ExplainsBook end R limit fault.NoPages = IsNodeLimit limit × (R ≡ [])
+ExplainsBook end R limit (fault.SearchLimit least found tree) =
+    IsNodeLimit limit × IsRound R × IsStopped end R limit least found (bound_of tree)
+ExplainsBook end R limit fault.OutOfMemory = IsNodeLimit limit × IsRound R
