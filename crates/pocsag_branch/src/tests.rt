@@ -1,5 +1,5 @@
 ghost use Rattle.std.specs.Prelude.{IsTrue};
-ghost use Rattle.pocsag_branch.specs.Found.{HasPage};
+ghost use Rattle.pocsag_branch.specs.Found.{HasPage, IsNodeLimit};
 
 use super::*;
 use pocsag_check::{check, check_open};
@@ -75,6 +75,23 @@ fn batches(alloc: Global, round: &Round, end: End) -> Result<u32, SearchFault> {
         Ok(answer.batches)
     } else {
         Ok(0)
+    }
+}
+
+// The same of the free search within so many nodes, with how many nodes its tree has.
+fn freely(alloc: Global, round: &Round, limit: u32, end: End) -> Result<(u32, u64), FreeFault>
+    requires { IsNodeLimit limit }
+{
+    let classes = classes_of(round, end);
+    if !has_page(&classes) {
+        return Err(FreeFault::OutOfMemory);
+    }
+    let answer = search_freely(alloc, &classes, limit, end)?;
+    let accepted = check(round, answer.batches, &answer.tree, end);
+    if accepted && !check(round, answer.batches.saturating_add(1), &answer.tree, end) {
+        Ok((answer.batches, nodes(&answer.tree)))
+    } else {
+        Ok((0, 0))
     }
 }
 
@@ -155,5 +172,54 @@ fn node_limit(rt: HostRuntime) -> Result<(), Fail> {
         Ok(_) => assert!(rt; false),
         Err(SearchFault::OutOfMemory) => assert!(rt; false),
     }
+    Ok(())
+}
+
+// Eight pages for which each tree of the promised shape has at least 354,623 nodes, and others.
+#[test]
+fn freely_found(rt: HostRuntime) -> Result<(), Fail> {
+    let alloc = rt.alloc();
+    let eight = round_of(
+        alloc,
+        &[
+            (5, 4),
+            (8, 8),
+            (20, 8),
+            (25, 2),
+            (39, 30),
+            (46, 14),
+            (50, 30),
+            (57, 14),
+        ],
+    )?;
+    let (batches, nodes) = freely(alloc, &eight, 1_000, End::Open)?;
+    assert_eq!(rt; batches, 9);
+    assert!(rt; nodes <= 40);
+    let loops_apart = round_of(alloc, &[(0, 15), (3, 15)])?;
+    assert_eq!(rt; freely(alloc, &loops_apart, 100_000, End::Open)?.0, 3);
+    let both_ways = round_of(alloc, &[(0, 13), (7, 0), (15, 2), (1, 13)])?;
+    assert_eq!(rt; freely(alloc, &both_ways, 100_000, End::Closed)?.0, 3);
+    assert_eq!(rt; freely(alloc, &both_ways, 100_000, End::Open)?.0, 2);
+    Ok(())
+}
+
+#[test]
+fn within_one_batch(rt: HostRuntime) -> Result<(), Fail> {
+    let alloc = rt.alloc();
+    let round = round_of(alloc, &[(0, 15), (3, 15)])?;
+    let classes = classes_of(&round, End::Open);
+    assert!(rt; has_page(&classes));
+    let by_limit = match search_freely(alloc, &classes, 1, End::Open) {
+        Err(FreeFault::SearchLimit(near)) => Some(near),
+        Err(FreeFault::OutOfMemory) => None,
+        Ok(_) => None,
+    };
+    let near = by_limit.expect(&rt, "the limit is reached");
+    assert_eq!(rt; near.least, 2);
+    assert_eq!(rt; check(&round, 2, &near.tree, End::Open), true);
+    assert_eq!(rt; near.steps.len(), 2 + 16);
+    let at_once = super::near(alloc, &classes, End::Open)?;
+    assert_eq!(rt; at_once.least, 2);
+    assert_eq!(rt; at_once.steps.as_slice(), near.steps.as_slice());
     Ok(())
 }
