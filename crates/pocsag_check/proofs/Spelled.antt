@@ -2,7 +2,7 @@
 use Rattle.std.proofs.Common.{◌≡◌, ℕ, ◌+◌, ◌-◌, ◌^◌, ◌<◌, ◌≤◌, Bool, false, List, [], ◌∷◌, length, nat_lt, refl, ap, arith, min, slice_index}
 use Rattle.pocsag_words.specs.declared.ending.End.{End}
 use Rattle.pocsag_words.specs.declared.ending.End.TheVariants.{Open, Closed}
-use Rattle.pocsag_tree.specs.declared.limits.TheConstants.{NODE_LIMIT, SECOND_VERSION}
+use Rattle.pocsag_tree.specs.Limits.{most_nodes, second_ranges}
 use Rattle.pocsag_tree.specs.Bounds.{Bound, Bounds, overload, split, cut, close, unexamined, none, more, all_nodes, all_nodes_in, closed_nodes, closed_nodes_in, count_of}
 use Rattle.pocsag_tree.specs.Spelling.{AreInRange, HasText, IsInRange}
 use Rattle.pocsag_slots.specs.declared.class.Classes.{Classes}
@@ -56,36 +56,41 @@ unfolding ways_to_close
 some_ending k l = omega arith
 
 mutual
-  in_range : (t : Bound) (u : Bool) (k : Classes) (end : End) (b : ℕ) (l : Limits) → AreCounted k l → Accepts u k end b l t → IsInRange SECOND_VERSION t
+  in_range : (t : Bound) (u : Bool) (k : Classes) (end : End) (b : ℕ) (l : Limits) → AreCounted k l → Accepts u k end b l t → IsInRange second_ranges t
   in_range (overload set) u k end b l of a = a.0
   in_range (split c m below above) u k end b l of a = (
-    omega (arith, a.0), omega (arith, a.1),
+    omega (arith, a.0),
+    omega (arith, a.1),
     omega (arith, a.2, of.most c a.0, count_few k c a.0),
     in_range below u k end b (limits_below l c m) (below_counted k l c m a.2 of) a.3,
     in_range above u k end b (limits_from l c m) (from_counted k l c m of) a.4,
   )
   in_range (cut set c children) u k end b l of a =
       let long : length (ways_across k l set) ≡ count_of children = row_long u k end b l (ways_across k l set) children a.5 in (
-        (held_some set 0 a.2, a.4), omega (arith, a.0),
-        omega (arith, long, two_ways k l set c a.0 a.2 a.3), omega (arith, long, few_ways k l set),
+        (held_some set 0 a.2, a.4),
+        omega (arith, a.0),
+        omega (arith, long, two_ways k l set c a.0 a.2 a.3),
+        omega (arith, long, few_ways k l set),
         each_in_range children u k end b l (ways_across k l set) of a.5,
       )
   in_range (close children) u k end b l of a =
       let long : length (ways_to_close k l) ≡ count_of children = row_long u k end b l (ways_to_close k l) children a.2 in (
-        omega arith, omega (arith, long, some_ending k l), omega (arith, long, few_endings k l),
+        omega arith,
+        omega (arith, long, some_ending k l),
+        omega (arith, long, few_endings k l),
         each_in_range children u k end b l (ways_to_close k l) of a.2,
       )
   in_range unexamined u k end b l of a = tt
 
   each_in_range : (ts : Bounds) (u : Bool) (k : Classes) (end : End) (b : ℕ) (l : Limits) (ws : List Way) → AreCounted k l →
-      AcceptsEach u k end b l ws ts → AreInRange SECOND_VERSION ts
+      AcceptsEach u k end b l ws ts → AreInRange second_ranges ts
   each_in_range none u k end b l ws of a = tt
   each_in_range (more t ts) u k end b l [] of a = absurd a
   each_in_range (more t ts) u k end b l (w ∷ ws) of a =
       (in_range t u k end b (narrowed_limits k l w b) (way_counted k l w b of) a.0, each_in_range ts u k end b l ws of a.1)
 
 pub accepted_text : (u : Bool) (k : Classes) (end : End) (batches : ℕ) (t : Bound) → IsAccepted u k end batches t → batches < 2 ^ 32 →
-    all_nodes t ≤ NODE_LIMIT → HasText SECOND_VERSION batches t
+    all_nodes t ≤ most_nodes → HasText second_ranges batches t
 accepted_text u k end batches t accepted small few = record {
   some_batch = accepted.some;
   four_bytes = small;

@@ -2,7 +2,7 @@
 use Rattle.std.specs.Prelude.{ℕ, ◌-◌, ◌^◌, ◌<◌, ◌≤◌, Bool, IsTrue, List, [], ◌∷◌, slice_index}
 use Rattle.pocsag_words.specs.declared.ending.End.{End}
 use Rattle.pocsag_words.specs.declared.ending.End.TheVariants.{Open, Closed}
-use Rattle.pocsag_tree.specs.declared.limits.TheConstants.{DEPTH_LIMIT}
+use Rattle.pocsag_tree.specs.Limits.{greatest_depth}
 use Rattle.pocsag_tree.specs.Spelling.{IsSet}
 use Rattle.pocsag_tree.specs.Bounds.{Bound, Bounds, deepest, depth_of, overload, split, cut, close, unexamined, none, more}
 use Rattle.pocsag_slots.specs.declared.class.Classes.{Classes}
@@ -57,7 +57,7 @@ AcceptsEachWithin takes_open k end b l depth ws ts = (deepest ts ≤ depth) × A
 -- *Accepted*: the tree is at most so deep, the batches are at least 1, and the root is accepted.
 pub record IsAccepted (takes_open : Bool) (k : Classes) (end : End) (batches : ℕ) (t : Bound) : Type 0 where
   pub some : 0 < batches
-  pub shallow : depth_of t ≤ DEPTH_LIMIT
+  pub shallow : depth_of t ≤ greatest_depth
   pub root : AcceptsRoot takes_open k end batches t
 
 -- The same for the pages of a round, whose classes are counted for the end.

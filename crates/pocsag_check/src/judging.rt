@@ -1,6 +1,7 @@
 ghost use Rattle.std.specs.Prelude.{◌↔◌, ℕ, ◌≤◌, List, IsTrue, false, true};
 ghost use Rattle.pocsag_pages.specs.Reading.{IsLegalList};
 ghost use Rattle.pocsag_slots.specs.Loads.{AreInOrder};
+ghost use Rattle.pocsag_tree.specs.Limits.{greatest_depth};
 ghost use Rattle.pocsag_tree.specs.Views.{bound_of};
 ghost use Rattle.pocsag_check.specs.Accepting.{AcceptsWithin, IsAcceptedFor};
 
@@ -15,7 +16,7 @@ use pocsag_words::End;
 /// below depth 301.
 pub fn accepts(classes: &Classes, limits: &Limits, batches: u32, tree: &Tree, end: End) -> bool
     requires { AreInOrder classes.now limits.now }
-    ensures { IsTrue result ↔ AcceptsWithin false classes.now end batches limits.now DEPTH_LIMIT (bound_of tree.now) }
+    ensures { IsTrue result ↔ AcceptsWithin false classes.now end batches limits.now greatest_depth (bound_of tree.now) }
 {
     let question = Question {
         end,

@@ -3,9 +3,9 @@ ghost use Rattle.pocsag_words.specs.declared.codeword.Kind.{Kind};
 ghost use Rattle.pocsag_words.specs.declared.ending.End.{End as Ending};
 ghost use Rattle.pocsag_pages.specs.declared.page.Page.{Page};
 ghost use Rattle.pocsag_pages.specs.Reading.{AreApart, IsLegalFor};
+ghost use Rattle.pocsag_tree.specs.Limits.{most_nodes, second_ranges};
 ghost use Rattle.pocsag_tree.specs.Bounds.{all_nodes, Bound, closed_nodes};
 ghost use Rattle.pocsag_tree.specs.Spelling.{HasText};
-ghost use Rattle.pocsag_tree.specs.declared.limits.TheConstants.{NODE_LIMIT, SECOND_VERSION};
 ghost use Rattle.pocsag_slots.specs.declared.class.Classes.{Classes as Table};
 ghost use Rattle.pocsag_slots.specs.declared.limit.Limits.{Limits as Bounded};
 ghost use Rattle.pocsag_slots.specs.Loads.{AreClassesOf};
@@ -28,7 +28,7 @@ pub fn accepted_trees_bound()
 /// is accepted, it has none.
 pub fn accepted_trees_have_texts()
     ensures text { (takes_open : Bool) (k : Table) (end : Ending) (batches : ℕ) (t : Bound) →
-        IsAccepted takes_open k end batches t → batches < 2 ^ 32 → all_nodes t ≤ NODE_LIMIT → HasText SECOND_VERSION batches t }
+        IsAccepted takes_open k end batches t → batches < 2 ^ 32 → all_nodes t ≤ most_nodes → HasText second_ranges batches t }
     ensures closed { (k : Table) (end : Ending) (batches : ℕ) (t : Bound) →
         IsAccepted false k end batches t → all_nodes t ≡ closed_nodes t }
 {}

@@ -8,6 +8,7 @@ pub mod SumLemmas
 pub mod Walks
 pub mod Fewest
 pub mod LoadLemmas
+pub mod Edging
 pub mod LeastLemmas
 pub mod LimitLemmas
 pub mod WayLemmas

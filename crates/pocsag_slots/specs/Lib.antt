@@ -1,5 +1,6 @@
 pub mod Arcs
 pub mod Cover
+pub mod Edges
 pub mod Layout
 pub mod Loads
 pub mod Numbering

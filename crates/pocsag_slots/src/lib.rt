@@ -6,6 +6,7 @@
 mod boundary;
 mod class;
 mod count;
+mod edge;
 mod laws;
 mod limit;
 mod load;

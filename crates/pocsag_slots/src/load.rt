@@ -5,6 +5,7 @@ ghost use Rattle.pocsag_slots.specs.Sums.{holds, sum_over};
 
 use crate::boundary::{rest, start};
 use crate::class::{CLASSES, Choice, Classes, SLOTS};
+use crate::edge::edges_of;
 use crate::limit::Limits;
 use crate::set::{holds, size};
 
@@ -57,9 +58,12 @@ pub fn loads(classes: &Classes, choice: &Choice) -> [u32; 16]
         slice_index result slot ≡ load classes.now (slice_index choice.now.early) slot }
     ensures bound { (slot : ℕ) → slot < 16 → slice_index result slot ≤ 1760000 }
 {
-    let mut found = [0; SLOTS];
-    for slot in 0..SLOTS as u8 {
-        found[slot as usize] = slot_load(classes, choice, slot);
+    let edges = edges_of(classes, choice);
+    let mut load = slot_load(classes, choice, 0);
+    let mut found = [load; SLOTS];
+    for slot in 1..SLOTS {
+        load = load + edges.starts[slot] - edges.ends[slot];
+        found[slot] = load;
     }
     found
 }

@@ -3,11 +3,11 @@ use Rattle.std.proofs.Common.{◌≡◌, ◌≢◌, ℕ, zero, suc, ◌+◌, ◌
 use Rattle.std.proofs.lemmas.Bool.{ne_eqb}
 use Rattle.std.proofs.lemmas.Bool.Decides.{nat_tests}
 use Rattle.pocsag_slots.specs.declared.class.Classes.{Classes}
-use Rattle.pocsag_slots.specs.Cover.{covered}
-use Rattle.pocsag_slots.specs.Loads.{class_load, load}
-use Rattle.pocsag_slots.specs.Numbering.{class_rest, start_of, finish_of}
+use Rattle.pocsag_slots.specs.Loads.{load}
+use Rattle.pocsag_slots.specs.Numbering.{start_of, finish_of}
 use Rattle.pocsag_slots.specs.Sums.{sum_below}
-use Rattle.pocsag_slots.proofs.CoverLemmas.{covered_is, start_below}
+use Rattle.pocsag_slots.specs.Edges.{ends_at, starts_at}
+use Rattle.pocsag_slots.proofs.Edging.{before, load_edge}
 use Rattle.pocsag_slots.proofs.SumLemmas.{sum_below-same, sum_below-add, sum_below-bump, sum_below-zero}
 use Rattle.pocsag_tour.specs.Moves.{arc_count, arc_from, arc_to, AreCounts, ins, IsBalanced, outs}
 use Rattle.pocsag_tour.proofs.Geometry.{below, from_early, from_idle, from_late, not_below, to_early, to_idle, to_late}
@@ -28,61 +28,6 @@ unfolding arc_count
 count_idle k choice b s =
     let e : 272 + s - 272 ≡ s = omega arith in
     rw (not_below (272 + s) 136 (omega arith), not_below (272 + s) 272 (omega arith), e) refl
-
--- the boundary before, around the batch
-abbrev pub before : ℕ → ℕ
-before p = (p + 15) % 16
-
-at_place : (i p : ℕ) → p < 16 → cond (i % 16 == p) 1 0 + (i + 15 - p) / 16 ≡ (i + 16 - p) / 16
-at_place i p h = grind (arith, nat_tests)
-
--- a run's codewords cover a slot more often than the one before exactly by the runs that start there
-pub edge : (i n p : ℕ) → p < 16 → covered i n p + cond ((i + n) % 16 == p) 1 0 ≡ covered i n (before p) + cond (i % 16 == p) 1 0
-edge i n zero h =
-    omega (arith, covered_is i n 0 h, covered_is i n 15 (omega arith), at_place i 0 h, at_place (i + n) 0 h)
-edge i n (suc p) h =
-    let e : before (suc p) ≡ p = omega arith in
-    rw e (omega (arith, covered_is i n (suc p) h, covered_is i n p (omega arith), at_place i (suc p) h, at_place (i + n) (suc p) h))
-
-times_edge : (e a b : ℕ) (s t : Bool) → a + cond s 1 0 ≡ b + cond t 1 0 → e * a + cond s e 0 ≡ e * b + cond t e 0
-times_edge e a b true true h = let same : a ≡ b = omega arith in rw same refl
-times_edge e a b true false h = let same : b ≡ a + 1 = omega arith in rw same (omega arith)
-times_edge e a b false true h = let same : a ≡ b + 1 = omega arith in rw same (omega arith)
-times_edge e a b false false h = let same : a ≡ b = omega arith in rw same refl
-
-run_edge : (e c p : ℕ) (f : Bool) → c < 136 → p < 16 →
-    e * covered (start_of c f) (class_rest c) p + cond (finish_of c f == p) e 0
-    ≡ e * covered (start_of c f) (class_rest c) (before p) + cond (start_of c f == p) e 0
-unfolding finish_of
-run_edge e c p f l h =
-    let low : start_of c f % 16 ≡ start_of c f = (let s : start_of c f < 16 = start_below c f l in omega arith) in
-    let one : covered (start_of c f) (class_rest c) p + cond ((start_of c f + class_rest c) % 16 == p) 1 0
-    ≡ covered (start_of c f) (class_rest c) (before p) + cond (start_of c f == p) 1 0 =
-    subst (λ (m : ℕ). covered (start_of c f) (class_rest c) p + cond ((start_of c f + class_rest c) % 16 == p) 1 0
-    ≡ covered (start_of c f) (class_rest c) (before p) + cond (m == p) 1 0) low (edge (start_of c f) (class_rest c) p h) in
-    times_edge e (covered (start_of c f) (class_rest c) p) (covered (start_of c f) (class_rest c) (before p))
-    ((start_of c f + class_rest c) % 16 == p) (start_of c f == p) one
-
--- the runs of a class that start at a boundary, and that end there
-abbrev pub starts_at : Classes → (ℕ → ℕ) → ℕ → ℕ → ℕ
-starts_at k choice p c = cond (start_of c true == p) (choice c) 0 + cond (start_of c false == p) (slice_index k.count c - choice c) 0
-
-abbrev pub ends_at : Classes → (ℕ → ℕ) → ℕ → ℕ → ℕ
-ends_at k choice p c = cond (finish_of c true == p) (choice c) 0 + cond (finish_of c false == p) (slice_index k.count c - choice c) 0
-
-class_edge : (k : Classes) (choice : ℕ → ℕ) (p c : ℕ) → p < 16 → c < 136 →
-    class_load k p c (choice c) + ends_at k choice p c ≡ class_load k (before p) c (choice c) + starts_at k choice p c
-unfolding class_load
-class_edge k choice p c h l =
-    omega (arith, run_edge (choice c) c p true l h, run_edge (slice_index k.count c - choice c) c p false l h)
-
-pub load_edge : (k : Classes) (choice : ℕ → ℕ) (p : ℕ) → p < 16 →
-    load k choice p + sum_below 136 (ends_at k choice p) ≡ load k choice (before p) + sum_below 136 (starts_at k choice p)
-unfolding load
-load_edge k choice p h =
-    sym (sum_below-add 136 (λ c. class_load k p c (choice c)) (ends_at k choice p))
-    ∙ (sum_below-same 136 _ _ (λ c l. class_edge k choice p c h l)
-    ∙ sum_below-add 136 (λ c. class_load k (before p) c (choice c)) (starts_at k choice p))
 
 -- a sum in two parts
 pub sum_split : (m n : ℕ) (f : ℕ → ℕ) → sum_below (n + m) f ≡ sum_below n f + sum_below m (λ a. f (n + a))

@@ -1,5 +1,6 @@
 ghost use Rattle.std.specs.Prelude.{◌≡◌, ℕ, ◌<◌, ◌≤◌, length, slice_index};
 ghost use Rattle.pocsag_slots.specs.Loads.{IsChoice, load};
+ghost use Rattle.pocsag_slots.specs.Sums.{sum_below};
 ghost use Rattle.pocsag_tour.specs.Moves.{arc_count, AreCounts};
 
 use crate::arc::ARCS;
@@ -40,7 +41,9 @@ pub fn counts_of(classes: &Classes, choice: &Choice, batches: u32) -> [u32; 288]
 }
 
 // How many steps a tour over these arcs has.
-pub fn steps_over(counts: &[u32; 288]) -> usize {
+pub fn steps_over(counts: &[u32; 288]) -> usize
+    ensures { result ≡ sum_below 288 (slice_index counts.now) }
+{
     let mut steps = 0;
     for arc in 0..ARCS {
         steps += counts[arc] as usize;

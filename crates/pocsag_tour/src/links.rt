@@ -27,8 +27,18 @@ fn run_links(classes: &Classes, choice: &Choice, batches: u32) -> [u16; 16]
     for class in 0..CLASSES as u8 {
         let early = runs_of(classes, choice, class, true);
         let late = runs_of(classes, choice, class, false);
-        link(&mut links, early > 0, start(class, true), finish(class, true));
-        link(&mut links, late > 0, start(class, false), finish(class, false));
+        link(
+            &mut links,
+            early > 0,
+            start(class, true),
+            finish(class, true),
+        );
+        link(
+            &mut links,
+            late > 0,
+            start(class, false),
+            finish(class, false),
+        );
     }
     links
 }
@@ -44,7 +54,12 @@ pub fn links_of(classes: &Classes, choice: &Choice, batches: u32) -> [u16; 16]
     let used = loads(classes, choice);
     let mut links = run_links(classes, choice, batches);
     for slot in 0..SLOTS as u8 {
-        link(&mut links, used[slot as usize] < batches, slot, (slot + 1) % 16);
+        link(
+            &mut links,
+            used[slot as usize] < batches,
+            slot,
+            (slot + 1) % 16,
+        );
     }
     links
 }

@@ -5,7 +5,7 @@ use Rattle.std.proofs.lemmas.Bool.{ltb-true, ltb-false, eqb-true, eqb-false, eq-
 use Rattle.pocsag_words.specs.declared.ending.End.{End}
 use Rattle.pocsag_words.specs.declared.ending.End.TheVariants as ends
 use Rattle.pocsag_tree.specs.declared.limits.Ranges.{Ranges}
-use Rattle.pocsag_tree.specs.declared.limits.TheConstants.{FIRST_VERSION, SECOND_VERSION, DEPTH_LIMIT, NODE_LIMIT}
+use Rattle.pocsag_tree.specs.Limits.{first_ranges, second_ranges, greatest_depth, most_nodes}
 use Rattle.pocsag_tree.specs.declared.refusals.CertificateFault.{CertificateFault}
 use Rattle.pocsag_tree.specs.declared.refusals.CertificateFault.TheVariants as fault
 use Rattle.pocsag_tree.specs.Bounds.{Bound, Bounds, overload, split, cut, close, unexamined, none, more, count_of, all_nodes, all_nodes_in, depth_of, deepest}
@@ -23,11 +23,11 @@ pub record IsVersion (r : Ranges) : Type 0 where
   pub least_tag : 3 ≤ r.tag
   pub most_tag : r.tag ≤ 4
 
-pub FIRST_VERSION-is : IsVersion FIRST_VERSION
-FIRST_VERSION-is = record { class = lit< tt; m = lit< tt; children = lit< tt; least_tag = lit≤ tt; most_tag = lit≤ tt }
+pub first_ranges-is : IsVersion first_ranges
+first_ranges-is = record { class = lit< tt; m = lit< tt; children = lit< tt; least_tag = lit≤ tt; most_tag = lit≤ tt }
 
-pub SECOND_VERSION-is : IsVersion SECOND_VERSION
-SECOND_VERSION-is = record { class = lit< tt; m = lit< tt; children = lit< tt; least_tag = lit≤ tt; most_tag = lit≤ tt }
+pub second_ranges-is : IsVersion second_ranges
+second_ranges-is = record { class = lit< tt; m = lit< tt; children = lit< tt; least_tag = lit≤ tt; most_tag = lit≤ tt }
 
 -- the tag of a node
 abbrev pub tag_of : Bound → ℕ
@@ -75,9 +75,9 @@ tagged_again r child t made nodes rest v in_range body =
     let text : node t ++ rest ≡ tag_of t ∷ behind t ++ rest = ap (λ (x : List ℕ). x ++ rest) (node-behind t) in
     ap (tagged_at r child made) text ∙ rw (byte_again (tag_of t) (behind t ++ rest) (tag-small t), tag) body
 
-node_step : (r : Ranges) (d made : ℕ) (bytes : List ℕ) (x : Result (Read Bound) CertificateFault) → made < NODE_LIMIT → tagged_at r (node_at r d) made bytes ≡ x → node_at r (suc d) made bytes ≡ x
+node_step : (r : Ranges) (d made : ℕ) (bytes : List ℕ) (x : Result (Read Bound) CertificateFault) → made < most_nodes → tagged_at r (node_at r d) made bytes ≡ x → node_at r (suc d) made bytes ≡ x
 unfolding node_at
-node_step r d made bytes x lt e = rw (lt-ltb made NODE_LIMIT lt) e
+node_step r d made bytes x lt e = rw (lt-ltb made most_nodes lt) e
 
 overload_again : (r : Ranges) (child : Reader) (set made : ℕ) (rest : List ℕ) → 1 ≤ set → set < 2 ^ 16 → body_at r child 0 made (to_be_bytes w16 set ++ rest) ≡ Ok (overload set, made, rest)
 unfolding body_at overload_at
@@ -129,7 +129,7 @@ row_more child t ts made first nodes rest p q =
     ap (row_at child (count_of ts + 1) made) (append_assoc (node t) (row ts) rest) ∙ rw (add-one, p, q) refl
 
 mutual
-  pub node_again : (r : Ranges) (t : Bound) (d made nodes : ℕ) (rest : List ℕ) → IsVersion r → IsInRange r t → depth_of t ≤ d → nodes ≤ NODE_LIMIT → nodes ≡ made + all_nodes t → node_at r d made (node t ++ rest) ≡ Ok (t, nodes, rest)
+  pub node_again : (r : Ranges) (t : Bound) (d made nodes : ℕ) (rest : List ℕ) → IsVersion r → IsInRange r t → depth_of t ≤ d → nodes ≤ most_nodes → nodes ≡ made + all_nodes t → node_at r d made (node t ++ rest) ≡ Ok (t, nodes, rest)
   node_again r (overload set) zero made nodes rest v in_range deep few is = absurd (omega arith)
   node_again r (overload set) (suc d) made nodes rest v in_range deep few is =
       subst (λ (n : ℕ). node_at r (suc d) made (node (overload set) ++ rest) ≡ Ok (overload set, n, rest)) (sym is)
@@ -153,7 +153,7 @@ mutual
       subst (λ (n : ℕ). node_at r (suc d) made (node unexamined ++ rest) ≡ Ok (unexamined, n, rest)) (sym is)
       (node_step r d made (node unexamined ++ rest) _ (omega arith) (tagged_again r (node_at r d) unexamined made (made + 1) rest v in_range (open_again r (node_at r d) (made + 1) rest)))
 
-  row_again : (r : Ranges) (ts : Bounds) (d made nodes : ℕ) (rest : List ℕ) → IsVersion r → AreInRange r ts → deepest ts ≤ d → nodes ≤ NODE_LIMIT → nodes ≡ made + all_nodes_in ts → row_at (node_at r d) (count_of ts) made (row ts ++ rest) ≡ Ok (ts, nodes, rest)
+  row_again : (r : Ranges) (ts : Bounds) (d made nodes : ℕ) (rest : List ℕ) → IsVersion r → AreInRange r ts → deepest ts ≤ d → nodes ≤ most_nodes → nodes ≡ made + all_nodes_in ts → row_at (node_at r d) (count_of ts) made (row ts ++ rest) ≡ Ok (ts, nodes, rest)
   row_again r none d made nodes rest v in_range deep few is =
       let same : made ≡ nodes = omega arith in
       subst (λ (n : ℕ). row_at (node_at r d) 0 made rest ≡ Ok (none, n, rest)) same (row_none (node_at r d) made rest)
@@ -171,14 +171,14 @@ pub record Takes (r : Ranges) (d made : ℕ) (bytes : List ℕ) (x : Read Bound)
   pub in_range : IsInRange r x.0
   pub deep : depth_of x.0 ≤ d
   pub counted : x.1 ≡ made + all_nodes x.0
-  pub few : x.1 ≤ NODE_LIMIT
+  pub few : x.1 ≤ most_nodes
 
 pub record TakesRow (r : Ranges) (d made n : ℕ) (bytes : List ℕ) (x : Read Bounds) : Type 0 where
   pub parts : bytes ≡ row x.0 ++ x.2
   pub in_range : AreInRange r x.0
   pub deep : deepest x.0 ≤ d
   pub counted : x.1 ≡ made + all_nodes_in x.0
-  pub few : x.1 ≤ NODE_LIMIT
+  pub few : x.1 ≤ most_nodes
   pub count : count_of x.0 ≡ n
 
 abbrev TakesAll : Ranges → ℕ → Reader → Type 0
@@ -195,7 +195,7 @@ guard_then false d r y e = absurd cc
 four_left : (n : ℕ) → (n ≡ 0 → ⊥) → (n ≡ 1 → ⊥) → (n ≡ 2 → ⊥) → (n ≡ 3 → ⊥) → n ≤ 4 → n ≡ 4
 four_left n a b c d le = omega arith
 
-row_takes : (r : Ranges) (d : ℕ) (child : Reader) → TakesAll r d child → (n made : ℕ) (bytes : List ℕ) (x : Read Bounds) → made ≤ NODE_LIMIT → row_at child n made bytes ≡ Ok x → TakesRow r d made n bytes x
+row_takes : (r : Ranges) (d : ℕ) (child : Reader) → TakesAll r d child → (n made : ℕ) (bytes : List ℕ) (x : Read Bounds) → made ≤ most_nodes → row_at child n made bytes ≡ Ok x → TakesRow r d made n bytes x
 unfolding row_at
 row_takes r d child takes zero made bytes x few e =
     subst (λ (y : Read Bounds). TakesRow r d made 0 bytes y) (ok_is (none, made, bytes) x e) (record { parts = refl; in_range = tt; deep = omega arith; counted = omega arith; few = few; count = refl })
@@ -222,9 +222,9 @@ record TakesBody (r : Ranges) (d made tag : ℕ) (bytes : List ℕ) (x : Read Bo
   in_range : IsInRange r x.0
   deep : depth_of x.0 ≤ suc d
   counted : x.1 + 1 ≡ made + all_nodes x.0
-  few : x.1 ≤ NODE_LIMIT
+  few : x.1 ≤ most_nodes
 
-overload_takes : (r : Ranges) (d made : ℕ) (bytes : List ℕ) (x : Read Bound) → made ≤ NODE_LIMIT → overload_at made bytes ≡ Ok x → TakesBody r d made 0 bytes x
+overload_takes : (r : Ranges) (d made : ℕ) (bytes : List ℕ) (x : Read Bound) → made ≤ most_nodes → overload_at made bytes ≡ Ok x → TakesBody r d made 0 bytes x
 unfolding overload_at
 overload_takes r d made bytes x few e =
     let a = bind_ok (large_at 1 65535 bytes) (λ set. Ok (overload set.0, made, set.1)) x e in
@@ -261,7 +261,7 @@ split_takes r d child takes made bytes x e =
       few = t.few;
     })
 
-cut_takes : (r : Ranges) (d : ℕ) (child : Reader) → TakesAll r d child → (made : ℕ) (bytes : List ℕ) (x : Read Bound) → made ≤ NODE_LIMIT → cut_at r child made bytes ≡ Ok x → TakesBody r d made 2 bytes x
+cut_takes : (r : Ranges) (d : ℕ) (child : Reader) → TakesAll r d child → (made : ℕ) (bytes : List ℕ) (x : Read Bound) → made ≤ most_nodes → cut_at r child made bytes ≡ Ok x → TakesBody r d made 2 bytes x
 unfolding cut_at
 cut_takes r d child takes made bytes x few e =
     let a = bind_ok (large_at 1 65535 bytes) (λ set. small_at 0 r.class set.1 >>= λ needed. large_at 2 r.children needed.1 >>= λ count. row_at child count.0 made count.1 >>= λ children. Ok (cut set.0 needed.0 children.0, children.1, children.2)) x e in
@@ -289,7 +289,7 @@ cut_takes r d child takes made bytes x few e =
       few = t.few;
     })
 
-close_takes : (r : Ranges) (d : ℕ) (child : Reader) → TakesAll r d child → (made : ℕ) (bytes : List ℕ) (x : Read Bound) → 4 ≤ r.tag → made ≤ NODE_LIMIT → close_at child made bytes ≡ Ok x → TakesBody r d made 4 bytes x
+close_takes : (r : Ranges) (d : ℕ) (child : Reader) → TakesAll r d child → (made : ℕ) (bytes : List ℕ) (x : Read Bound) → 4 ≤ r.tag → made ≤ most_nodes → close_at child made bytes ≡ Ok x → TakesBody r d made 4 bytes x
 unfolding close_at
 close_takes r d child takes made bytes x four few e =
     let a = bind_ok (small_at 1 2 bytes) (λ count. row_at child count.0 made count.1 >>= λ children. Ok (close children.0, children.1, children.2)) x e in
@@ -310,13 +310,13 @@ close_takes r d child takes made bytes x four few e =
       few = t.few;
     })
 
-open_takes : (r : Ranges) (d made : ℕ) (bytes : List ℕ) (x : Read Bound) → made ≤ NODE_LIMIT → done (unexamined, made, bytes) ≡ Ok x → TakesBody r d made 3 bytes x
+open_takes : (r : Ranges) (d made : ℕ) (bytes : List ℕ) (x : Read Bound) → made ≤ most_nodes → done (unexamined, made, bytes) ≡ Ok x → TakesBody r d made 3 bytes x
 open_takes r d made bytes x few e =
     let built : Read Bound = (unexamined, made, bytes) in
     subst (λ (y : Read Bound). TakesBody r d made 3 bytes y) (ok_is built x e)
     (record { parts = refl; same_tag = refl; in_range = tt; deep = omega arith; counted = refl; few = few })
 
-body_takes : (r : Ranges) (d : ℕ) (child : Reader) → TakesAll r d child → IsVersion r → (tag made : ℕ) (bytes : List ℕ) (x : Read Bound) → tag ≤ r.tag → made ≤ NODE_LIMIT → body_at r child tag made bytes ≡ Ok x → TakesBody r d made tag bytes x
+body_takes : (r : Ranges) (d : ℕ) (child : Reader) → TakesAll r d child → IsVersion r → (tag made : ℕ) (bytes : List ℕ) (x : Read Bound) → tag ≤ r.tag → made ≤ most_nodes → body_at r child tag made bytes ≡ Ok x → TakesBody r d made tag bytes x
 unfolding body_at
 body_takes r d child takes v tag made bytes x le few e =
     elim (chosen (eqb tag 0) (overload_at made bytes) _ (Ok x) e) [
@@ -335,7 +335,7 @@ body_takes r d child takes v tag made bytes x le few e =
       ]
     ]
 
-tagged_takes : (r : Ranges) (d : ℕ) (child : Reader) → TakesAll r d child → IsVersion r → (made : ℕ) (bytes : List ℕ) (x : Read Bound) → made < NODE_LIMIT → tagged_at r child made bytes ≡ Ok x → Takes r (suc d) made bytes x
+tagged_takes : (r : Ranges) (d : ℕ) (child : Reader) → TakesAll r d child → IsVersion r → (made : ℕ) (bytes : List ℕ) (x : Read Bound) → made < most_nodes → tagged_at r child made bytes ≡ Ok x → Takes r (suc d) made bytes x
 unfolding tagged_at
 tagged_takes r d child takes v made bytes x lt e =
     let a = bind_ok (byte_at bytes) (λ tag. cond (ltb r.tag tag.0) (Err fault.BadTag) (body_at r child tag.0 (made + 1) tag.1)) x e in
@@ -355,7 +355,7 @@ pub node_takes : (r : Ranges) → IsVersion r → (d : ℕ) → TakesAll r d (no
 unfolding node_at
 node_takes r v zero made bytes x e = absurd cc
 node_takes r v (suc d) made bytes x e =
-    let g = guard_then (ltb made NODE_LIMIT) fault.TooMany (tagged_at r (node_at r d) made bytes) x e in
+    let g = guard_then (ltb made most_nodes) fault.TooMany (tagged_at r (node_at r d) made bytes) x e in
     tagged_takes r d (node_at r d) (node_takes r v d) v made bytes x (ltb-true _ _ g.0) g.1
 
 -- ---- certificates
@@ -378,10 +378,10 @@ mark_again wanted rest lt = rw (byte_again wanted rest lt, eq-eqb wanted wanted 
 
 -- the version's byte, and the end where it has one
 abbrev pub IsFirst : Ranges × End × List ℕ → List ℕ → Type 0
-IsFirst x bytes = (x.0 ≡ FIRST_VERSION) × (x.1 ≡ ends.Open) × (bytes ≡ 0x31 ∷ x.2)
+IsFirst x bytes = (x.0 ≡ first_ranges) × (x.1 ≡ ends.Open) × (bytes ≡ 0x31 ∷ x.2)
 
 abbrev pub IsSecond : Ranges × End × List ℕ → List ℕ → Type 0
-IsSecond x bytes = (x.0 ≡ SECOND_VERSION) × (bytes ≡ 0x32 ∷ end_byte x.1 ∷ x.2)
+IsSecond x bytes = (x.0 ≡ second_ranges) × (bytes ≡ 0x32 ∷ end_byte x.1 ∷ x.2)
 
 end_byte-of : (n : ℕ) → n ≤ 1 → end_byte (end_of n) ≡ n
 end_byte-of zero le = refl
@@ -391,26 +391,26 @@ end_byte-of (suc (suc n)) le = absurd (omega arith)
 version_takes : (bytes : List ℕ) (x : Ranges × End × List ℕ) → version_at bytes ≡ Ok x → IsFirst x bytes ⊎ IsSecond x bytes
 unfolding version_at
 version_takes bytes x e =
-    let a = bind_ok (byte_at bytes) (λ byte. cond (eqb byte.0 0x31) (Ok (FIRST_VERSION, ends.Open, byte.1)) (cond (eqb byte.0 0x32) (small_at 0 1 byte.1 >>= λ end. Ok (SECOND_VERSION, end_of end.0, end.1)) (Err fault.Version))) x e in
+    let a = bind_ok (byte_at bytes) (λ byte. cond (eqb byte.0 0x31) (Ok (first_ranges, ends.Open, byte.1)) (cond (eqb byte.0 0x32) (small_at 0 1 byte.1 >>= λ end. Ok (second_ranges, end_of end.0, end.1)) (Err fault.Version))) x e in
     let first = byte_is bytes a.0 a.1 in
-    elim (chosen (eqb a.0.0 0x31) (Ok (FIRST_VERSION, ends.Open, a.0.1)) _ (Ok x) a.2) [
+    elim (chosen (eqb a.0.0 0x31) (Ok (first_ranges, ends.Open, a.0.1)) _ (Ok x) a.2) [
       | inl h ↦
-          let built : Ranges × End × List ℕ = (FIRST_VERSION, ends.Open, a.0.1) in
+          let built : Ranges × End × List ℕ = (first_ranges, ends.Open, a.0.1) in
           inl (subst (λ (y : Ranges × End × List ℕ). IsFirst y bytes) (ok_is built x h.1) (refl, refl, first.parts ∙ ap (λ (n : ℕ). n ∷ a.0.1) (eqb-true _ _ h.0)))
       | inr h ↦
-          let g = guard_then (eqb a.0.0 0x32) fault.Version (small_at 0 1 a.0.1 >>= λ end. Ok (SECOND_VERSION, end_of end.0, end.1)) x h.1 in
-          let b = bind_ok (small_at 0 1 a.0.1) (λ end. Ok (SECOND_VERSION, end_of end.0, end.1)) x g.1 in
+          let g = guard_then (eqb a.0.0 0x32) fault.Version (small_at 0 1 a.0.1 >>= λ end. Ok (second_ranges, end_of end.0, end.1)) x h.1 in
+          let b = bind_ok (small_at 0 1 a.0.1) (λ end. Ok (second_ranges, end_of end.0, end.1)) x g.1 in
           let p = small_takes 0 1 a.0.1 b.0 b.1 in
-          let built : Ranges × End × List ℕ = (SECOND_VERSION, end_of b.0.0, b.0.1) in
+          let built : Ranges × End × List ℕ = (second_ranges, end_of b.0.0, b.0.1) in
           let whole : bytes ≡ 0x32 ∷ end_byte (end_of b.0.0) ∷ b.0.1 = first.parts ∙ ap (λ (n : ℕ). n ∷ a.0.1) (eqb-true _ _ g.0) ∙ ap (λ (y : List ℕ). 0x32 ∷ y) p.0.parts ∙ ap (λ (n : ℕ). 0x32 ∷ n ∷ b.0.1) (sym (end_byte-of b.0.0 p.1.most)) in
           inr (subst (λ (y : Ranges × End × List ℕ). IsSecond y bytes) (ok_is built x b.2) (refl, whole))
     ]
 
-first_again : (rest : List ℕ) → version_at (0x31 ∷ rest) ≡ Ok (FIRST_VERSION, ends.Open, rest)
+first_again : (rest : List ℕ) → version_at (0x31 ∷ rest) ≡ Ok (first_ranges, ends.Open, rest)
 unfolding version_at
 first_again rest = refl
 
-second_again : (end : End) (rest : List ℕ) → version_at (0x32 ∷ end_byte end ∷ rest) ≡ Ok (SECOND_VERSION, end, rest)
+second_again : (end : End) (rest : List ℕ) → version_at (0x32 ∷ end_byte end ∷ rest) ≡ Ok (second_ranges, end, rest)
 unfolding version_at small_at
 second_again ends.Open rest = refl
 second_again ends.Closed rest = refl
@@ -420,10 +420,10 @@ record TakesRest (r : Ranges) (bytes : List ℕ) (batches : ℕ) (tree : Bound) 
   has_text : HasText r batches tree
   parts : bytes ≡ to_be_bytes w32 batches ++ (node tree ++ rest)
 
-rest_takes : (r : Ranges) → IsVersion r → (bytes : List ℕ) (batches : ℕ × List ℕ) (tree : Read Bound) → batches_at bytes ≡ Ok batches → node_at r DEPTH_LIMIT 0 batches.1 ≡ Ok tree → TakesRest r bytes batches.0 tree.0 tree.2
+rest_takes : (r : Ranges) → IsVersion r → (bytes : List ℕ) (batches : ℕ × List ℕ) (tree : Read Bound) → batches_at bytes ≡ Ok batches → node_at r greatest_depth 0 batches.1 ≡ Ok tree → TakesRest r bytes batches.0 tree.0 tree.2
 rest_takes r v bytes batches tree p q =
     let four = batches_takes bytes batches p in
-    let t = node_takes r v DEPTH_LIMIT 0 batches.1 tree q in
+    let t = node_takes r v greatest_depth 0 batches.1 tree q in
     record {
       has_text = record { some_batch = four.1; four_bytes = four.0.small; in_range = t.in_range; depth = t.deep; nodes = omega (arith, t.counted, t.few) };
       parts = four.0.parts ∙ ap (λ (y : List ℕ). to_be_bytes w32 batches.0 ++ y) t.parts;
@@ -432,25 +432,25 @@ rest_takes r v bytes batches tree p q =
 pub certificate_takes : (bytes : List ℕ) (x : End × ℕ × Bound × List ℕ) → certificate_at bytes ≡ Ok x → IsTextThen x.0 x.1 x.2 bytes x.3
 unfolding certificate_at
 certificate_takes bytes x e =
-    let a = bind_ok (mark_at 0x50 bytes) (λ a. mark_at 0x43 a >>= λ b. mark_at 0x42 b >>= λ c. version_at c >>= λ version. batches_at version.2 >>= λ batches. node_at version.0 DEPTH_LIMIT 0 batches.1 >>= λ tree. Ok (version.1, batches.0, tree.0, tree.2)) x e in
-    let b = bind_ok (mark_at 0x43 a.0) (λ b. mark_at 0x42 b >>= λ c. version_at c >>= λ version. batches_at version.2 >>= λ batches. node_at version.0 DEPTH_LIMIT 0 batches.1 >>= λ tree. Ok (version.1, batches.0, tree.0, tree.2)) x a.2 in
-    let c = bind_ok (mark_at 0x42 b.0) (λ c. version_at c >>= λ version. batches_at version.2 >>= λ batches. node_at version.0 DEPTH_LIMIT 0 batches.1 >>= λ tree. Ok (version.1, batches.0, tree.0, tree.2)) x b.2 in
-    let d = bind_ok (version_at c.0) (λ version. batches_at version.2 >>= λ batches. node_at version.0 DEPTH_LIMIT 0 batches.1 >>= λ tree. Ok (version.1, batches.0, tree.0, tree.2)) x c.2 in
+    let a = bind_ok (mark_at 0x50 bytes) (λ a. mark_at 0x43 a >>= λ b. mark_at 0x42 b >>= λ c. version_at c >>= λ version. batches_at version.2 >>= λ batches. node_at version.0 greatest_depth 0 batches.1 >>= λ tree. Ok (version.1, batches.0, tree.0, tree.2)) x e in
+    let b = bind_ok (mark_at 0x43 a.0) (λ b. mark_at 0x42 b >>= λ c. version_at c >>= λ version. batches_at version.2 >>= λ batches. node_at version.0 greatest_depth 0 batches.1 >>= λ tree. Ok (version.1, batches.0, tree.0, tree.2)) x a.2 in
+    let c = bind_ok (mark_at 0x42 b.0) (λ c. version_at c >>= λ version. batches_at version.2 >>= λ batches. node_at version.0 greatest_depth 0 batches.1 >>= λ tree. Ok (version.1, batches.0, tree.0, tree.2)) x b.2 in
+    let d = bind_ok (version_at c.0) (λ version. batches_at version.2 >>= λ batches. node_at version.0 greatest_depth 0 batches.1 >>= λ tree. Ok (version.1, batches.0, tree.0, tree.2)) x c.2 in
     let version = d.0 in
-    let f = bind_ok (batches_at version.2) (λ batches. node_at version.0 DEPTH_LIMIT 0 batches.1 >>= λ tree. Ok (version.1, batches.0, tree.0, tree.2)) x d.2 in
+    let f = bind_ok (batches_at version.2) (λ batches. node_at version.0 greatest_depth 0 batches.1 >>= λ tree. Ok (version.1, batches.0, tree.0, tree.2)) x d.2 in
     let batches = f.0 in
-    let g = bind_ok (node_at version.0 DEPTH_LIMIT 0 batches.1) (λ tree. Ok (version.1, batches.0, tree.0, tree.2)) x f.2 in
+    let g = bind_ok (node_at version.0 greatest_depth 0 batches.1) (λ tree. Ok (version.1, batches.0, tree.0, tree.2)) x f.2 in
     let tree = g.0 in
     let mark : bytes ≡ 0x50 ∷ 0x43 ∷ 0x42 ∷ c.0 = mark_takes 0x50 bytes a.0 a.1 ∙ ap (λ (y : List ℕ). 0x50 ∷ y) (mark_takes 0x43 a.0 b.0 b.1) ∙ ap (λ (y : List ℕ). 0x50 ∷ 0x43 ∷ y) (mark_takes 0x42 b.0 c.0 c.1) in
     let built : End × ℕ × Bound × List ℕ = (version.1, batches.0, tree.0, tree.2) in
     subst (λ (y : End × ℕ × Bound × List ℕ). IsTextThen y.0 y.1 y.2 bytes y.3) (ok_is built x g.2)
     (elim (version_takes c.0 version d.1) [
       | inl h ↦
-          let t = rest_takes FIRST_VERSION FIRST_VERSION-is version.2 batches tree f.1 (subst (λ (r : Ranges). node_at r DEPTH_LIMIT 0 batches.1 ≡ Ok tree) h.0 g.1) in
+          let t = rest_takes first_ranges first_ranges-is version.2 batches tree f.1 (subst (λ (r : Ranges). node_at r greatest_depth 0 batches.1 ≡ Ok tree) h.0 g.1) in
           let parts : bytes ≡ first_text batches.0 tree.0 ++ tree.2 = mark ∙ ap (λ (y : List ℕ). 0x50 ∷ 0x43 ∷ 0x42 ∷ y) (h.2 ∙ ap (λ (y : List ℕ). 0x31 ∷ y) t.parts) ∙ sym (append_assoc (first_head batches.0) (node tree.0) tree.2) in
           (first_text batches.0 tree.0, inr (record { open_end = h.1; has_text = t.has_text; text = refl }), parts)
       | inr h ↦
-          let t = rest_takes SECOND_VERSION SECOND_VERSION-is version.2 batches tree f.1 (subst (λ (r : Ranges). node_at r DEPTH_LIMIT 0 batches.1 ≡ Ok tree) h.0 g.1) in
+          let t = rest_takes second_ranges second_ranges-is version.2 batches tree f.1 (subst (λ (r : Ranges). node_at r greatest_depth 0 batches.1 ≡ Ok tree) h.0 g.1) in
           let parts : bytes ≡ second_text version.1 batches.0 tree.0 ++ tree.2 = mark ∙ ap (λ (y : List ℕ). 0x50 ∷ 0x43 ∷ 0x42 ∷ y) (h.1 ∙ ap (λ (y : List ℕ). 0x32 ∷ end_byte version.1 ∷ y) t.parts) ∙ sym (append_assoc (second_head version.1 batches.0) (node tree.0) tree.2) in
           (second_text version.1 batches.0 tree.0, inl (record { has_text = t.has_text; text = refl }), parts)
     ])
@@ -464,13 +464,13 @@ rest_again r end batches tree bytes rest v has version =
     let b = mark_again 0x43 (0x42 ∷ bytes) (lit< tt) in
     let c = mark_again 0x42 bytes (lit< tt) in
     let d = batches_again batches (node tree ++ rest) has.some_batch has.four_bytes in
-    let f = node_again r tree DEPTH_LIMIT 0 (all_nodes tree) rest v has.in_range has.depth has.nodes (omega arith) in
+    let f = node_again r tree greatest_depth 0 (all_nodes tree) rest v has.in_range has.depth has.nodes (omega arith) in
     rw (a, b, c, version, d, f) refl
 
 pub certificate_again : (end : End) (batches : ℕ) (tree : Bound) (text rest : List ℕ) → IsText end batches tree text → certificate_at (text ++ rest) ≡ Ok (end, batches, tree, rest)
 certificate_again end batches tree text rest (inl is) =
     let regrouped : text ++ rest ≡ 0x50 ∷ 0x43 ∷ 0x42 ∷ 0x32 ∷ end_byte end ∷ to_be_bytes w32 batches ++ (node tree ++ rest) = ap (λ (t : List ℕ). t ++ rest) is.text ∙ append_assoc (second_head end batches) (node tree) rest in
-    ap certificate_at regrouped ∙ rest_again SECOND_VERSION end batches tree (0x32 ∷ end_byte end ∷ to_be_bytes w32 batches ++ (node tree ++ rest)) rest SECOND_VERSION-is is.has_text (second_again end (to_be_bytes w32 batches ++ (node tree ++ rest)))
+    ap certificate_at regrouped ∙ rest_again second_ranges end batches tree (0x32 ∷ end_byte end ∷ to_be_bytes w32 batches ++ (node tree ++ rest)) rest second_ranges-is is.has_text (second_again end (to_be_bytes w32 batches ++ (node tree ++ rest)))
 certificate_again end batches tree text rest (inr is) =
     let regrouped : text ++ rest ≡ 0x50 ∷ 0x43 ∷ 0x42 ∷ 0x31 ∷ to_be_bytes w32 batches ++ (node tree ++ rest) = ap (λ (t : List ℕ). t ++ rest) is.text ∙ append_assoc (first_head batches) (node tree) rest in
-    ap certificate_at regrouped ∙ rest_again FIRST_VERSION end batches tree (0x31 ∷ to_be_bytes w32 batches ++ (node tree ++ rest)) rest FIRST_VERSION-is is.has_text (first_again (to_be_bytes w32 batches ++ (node tree ++ rest)) ∙ ap (λ (e : End). Ok (FIRST_VERSION, e, to_be_bytes w32 batches ++ (node tree ++ rest))) (sym is.open_end))
+    ap certificate_at regrouped ∙ rest_again first_ranges end batches tree (0x31 ∷ to_be_bytes w32 batches ++ (node tree ++ rest)) rest first_ranges-is is.has_text (first_again (to_be_bytes w32 batches ++ (node tree ++ rest)) ∙ ap (λ (e : End). Ok (first_ranges, e, to_be_bytes w32 batches ++ (node tree ++ rest))) (sym is.open_end))

@@ -6,7 +6,7 @@ use Rattle.std.proofs.lemmas.Bool.{cond_both, ltb-true, lt-ltb, le-ltb, le-leb, 
 use Rattle.pocsag_words.specs.declared.ending.End.{End}
 use Rattle.pocsag_words.specs.declared.ending.End.TheVariants as ends
 use Rattle.pocsag_tree.specs.declared.limits.Ranges.{Ranges}
-use Rattle.pocsag_tree.specs.declared.limits.TheConstants.{FIRST_VERSION, SECOND_VERSION, DEPTH_LIMIT, NODE_LIMIT}
+use Rattle.pocsag_tree.specs.Limits.{first_ranges, second_ranges, greatest_depth, most_nodes}
 use Rattle.pocsag_tree.specs.declared.refusals.CertificateFault.{CertificateFault}
 use Rattle.pocsag_tree.specs.declared.refusals.CertificateFault.TheVariants as fault
 use Rattle.pocsag_tree.specs.Bounds.{Bound, overload, more}
@@ -196,8 +196,8 @@ body_leads r depth child leads tag parts nodes bytes =
     (same_way (eqb tag 3) _ _ _ _ P (λ v m. m)
     (close_leads r depth child leads parts nodes bytes))))
 
-node_fine : (r : Ranges) (depth nodes : ℕ) → depth ≤ DEPTH_LIMIT → nodes < NODE_LIMIT → early_fault (node r depth) nodes ≡ None
-node_fine r depth nodes shallow few = rw (le-ltb DEPTH_LIMIT depth shallow, lt-ltb nodes NODE_LIMIT few) refl
+node_fine : (r : Ranges) (depth nodes : ℕ) → depth ≤ greatest_depth → nodes < most_nodes → early_fault (node r depth) nodes ≡ None
+node_fine r depth nodes shallow few = rw (le-ltb greatest_depth depth shallow, lt-ltb nodes most_nodes few) refl
 
 tag_leads : (r : Ranges) (depth : ℕ) (child : Reader) → NodeLeads r (depth + 1) child → (parts : List Part) (nodes : ℕ) (bytes : List ℕ) (tag : Result (ℕ × List ℕ) CertificateFault) → ReadsNumber w8 bytes tag → early_fault (node r depth) nodes ≡ None
     → Leads (at (node r depth ∷ parts) nodes bytes) (past parts) (tag >>= λ tag. cond (ltb r.tag tag.0) (Err fault.BadTag) (body_at r child tag.0 (nodes + 1) tag.1))
@@ -209,20 +209,20 @@ tag_leads r depth child leads parts nodes bytes (Ok tag) reads fine =
     (λ v m. right_part (node r depth) (asked_by r (depth + 1) tag.0) parts nodes tag.0 bytes tag.1 v fine (reads.value tag refl) (rw t refl) m)
     (body_leads r (depth + 1) child leads tag.0 parts (nodes + 1) tag.1))
 
-tagged_leads : (r : Ranges) (depth : ℕ) (child : Reader) → NodeLeads r (depth + 1) child → (parts : List Part) (nodes : ℕ) (bytes : List ℕ) → depth ≤ DEPTH_LIMIT → nodes < NODE_LIMIT
+tagged_leads : (r : Ranges) (depth : ℕ) (child : Reader) → NodeLeads r (depth + 1) child → (parts : List Part) (nodes : ℕ) (bytes : List ℕ) → depth ≤ greatest_depth → nodes < most_nodes
     → Leads (at (node r depth ∷ parts) nodes bytes) (past parts) (tagged_at r child nodes bytes)
 unfolding tagged_at
 tagged_leads r depth child leads parts nodes bytes shallow few =
     tag_leads r depth child leads parts nodes bytes (byte_at bytes) (one_byte bytes) (node_fine r depth nodes shallow few)
 
 -- a node at a depth, read with as much depth left
-node_leads : (r : Ranges) (left depth : ℕ) → depth + left ≡ DEPTH_LIMIT + 1 → NodeLeads r depth (node_at r left)
+node_leads : (r : Ranges) (left depth : ℕ) → depth + left ≡ greatest_depth + 1 → NodeLeads r depth (node_at r left)
 unfolding node_at
-node_leads r zero depth is parts nodes bytes = λ given. early (rw (lt-ltb DEPTH_LIMIT depth (omega arith)) refl)
+node_leads r zero depth is parts nodes bytes = λ given. early (rw (lt-ltb greatest_depth depth (omega arith)) refl)
 node_leads r (suc left) depth is parts nodes bytes =
-    cond_both (ltb nodes NODE_LIMIT) (tagged_at r (node_at r left) nodes bytes) (Err fault.TooMany) (Leads (at (node r depth ∷ parts) nodes bytes) (past parts))
+    cond_both (ltb nodes most_nodes) (tagged_at r (node_at r left) nodes bytes) (Err fault.TooMany) (Leads (at (node r depth ∷ parts) nodes bytes) (past parts))
     (λ t. tagged_leads r depth (node_at r left) (node_leads r left (depth + 1) (omega arith)) parts nodes bytes (omega arith) (ltb-true _ _ t))
-    (λ t. λ given. early (rw (le-ltb DEPTH_LIMIT depth (omega arith), t) refl))
+    (λ t. λ given. early (rw (le-ltb greatest_depth depth (omega arith), t) refl))
 
 -- ---- certificates
 
@@ -246,16 +246,16 @@ unfolding version_at
 version_leads parts bytes = of_byte parts bytes (byte_at bytes) (one_byte bytes)
   where
     of_byte : (parts : List Part) (bytes : List ℕ) (r : Result (ℕ × List ℕ) CertificateFault) → ReadsNumber w8 bytes r
-        → Leads (at (version ∷ parts) 0 bytes) (behind_version parts) (r >>= λ byte. cond (eqb byte.0 0x31) (Ok (FIRST_VERSION, ends.Open, byte.1)) (cond (eqb byte.0 0x32) (small_at 0 1 byte.1 >>= λ end. Ok (SECOND_VERSION, end_of end.0, end.1)) (Err fault.Version)))
+        → Leads (at (version ∷ parts) 0 bytes) (behind_version parts) (r >>= λ byte. cond (eqb byte.0 0x31) (Ok (first_ranges, ends.Open, byte.1)) (cond (eqb byte.0 0x32) (small_at 0 1 byte.1 >>= λ end. Ok (second_ranges, end_of end.0, end.1)) (Err fault.Version)))
     of_byte parts bytes (Err f) reads = λ given. short_part version parts 0 bytes f refl (reads.ends f refl given)
     of_byte parts bytes (Ok x) reads =
-        cond_both (eqb x.0 0x31) (Ok (FIRST_VERSION, ends.Open, x.1)) (cond (eqb x.0 0x32) (small_at 0 1 x.1 >>= λ end. Ok (SECOND_VERSION, end_of end.0, end.1)) (Err fault.Version)) (Leads (at (version ∷ parts) 0 bytes) (behind_version parts))
-        (λ t. λ v m. right_part version (field w32 1 (2 ^ 32 - 1) ∷ node FIRST_VERSION 1 ∷ []) parts 0 x.0 bytes x.1 v refl (reads.value x refl) (rw t refl) m)
-        (λ s. cond_both (eqb x.0 0x32) (small_at 0 1 x.1 >>= λ end. Ok (SECOND_VERSION, end_of end.0, end.1)) (Err fault.Version) (Leads (at (version ∷ parts) 0 bytes) (behind_version parts))
-        (λ t. along (at (version ∷ parts) 0 bytes) (at (field w8 0 1 ∷ field w32 1 (2 ^ 32 - 1) ∷ node SECOND_VERSION 1 ∷ parts) 0 x.1) (behind_version parts) (small_at 0 1 x.1 >>= λ end. Ok (SECOND_VERSION, end_of end.0, end.1))
-        (λ v m. right_part version (field w8 0 1 ∷ field w32 1 (2 ^ 32 - 1) ∷ node SECOND_VERSION 1 ∷ []) parts 0 x.0 bytes x.1 v refl (reads.value x refl) (rw (s, t) refl) m)
-        (then_leads (at (field w8 0 1 ∷ field w32 1 (2 ^ 32 - 1) ∷ node SECOND_VERSION 1 ∷ parts) 0 x.1) (λ y. at (field w32 1 (2 ^ 32 - 1) ∷ node SECOND_VERSION 1 ∷ parts) 0 y.1) (behind_version parts) (small_at 0 1 x.1) (λ end. Ok (SECOND_VERSION, end_of end.0, end.1))
-        (small_leads 0 1 0 (field w32 1 (2 ^ 32 - 1) ∷ node SECOND_VERSION 1 ∷ parts) x.1) (λ y is. λ v m. m)))
+        cond_both (eqb x.0 0x31) (Ok (first_ranges, ends.Open, x.1)) (cond (eqb x.0 0x32) (small_at 0 1 x.1 >>= λ end. Ok (second_ranges, end_of end.0, end.1)) (Err fault.Version)) (Leads (at (version ∷ parts) 0 bytes) (behind_version parts))
+        (λ t. λ v m. right_part version (field w32 1 (2 ^ 32 - 1) ∷ node first_ranges 1 ∷ []) parts 0 x.0 bytes x.1 v refl (reads.value x refl) (rw t refl) m)
+        (λ s. cond_both (eqb x.0 0x32) (small_at 0 1 x.1 >>= λ end. Ok (second_ranges, end_of end.0, end.1)) (Err fault.Version) (Leads (at (version ∷ parts) 0 bytes) (behind_version parts))
+        (λ t. along (at (version ∷ parts) 0 bytes) (at (field w8 0 1 ∷ field w32 1 (2 ^ 32 - 1) ∷ node second_ranges 1 ∷ parts) 0 x.1) (behind_version parts) (small_at 0 1 x.1 >>= λ end. Ok (second_ranges, end_of end.0, end.1))
+        (λ v m. right_part version (field w8 0 1 ∷ field w32 1 (2 ^ 32 - 1) ∷ node second_ranges 1 ∷ []) parts 0 x.0 bytes x.1 v refl (reads.value x refl) (rw (s, t) refl) m)
+        (then_leads (at (field w8 0 1 ∷ field w32 1 (2 ^ 32 - 1) ∷ node second_ranges 1 ∷ parts) 0 x.1) (λ y. at (field w32 1 (2 ^ 32 - 1) ∷ node second_ranges 1 ∷ parts) 0 y.1) (behind_version parts) (small_at 0 1 x.1) (λ end. Ok (second_ranges, end_of end.0, end.1))
+        (small_leads 0 1 0 (field w32 1 (2 ^ 32 - 1) ∷ node second_ranges 1 ∷ parts) x.1) (λ y is. λ v m. m)))
         (λ t. λ given. wrong_part version parts 0 x.0 bytes x.1 fault.Version refl (reads.value x refl) (rw (s, t) refl)))
 
 batches_leads : (nodes : ℕ) (parts : List Part) (bytes : List ℕ) → Leads (at (field w32 1 (2 ^ 32 - 1) ∷ parts) nodes bytes) (λ x. at parts nodes x.1) (batches_at bytes)
@@ -287,7 +287,7 @@ certificate_leads bytes =
     (λ b is. then_leads (at (mark 0x42 ∷ version ∷ []) 0 b) (λ c. at (version ∷ []) 0 c) last (mark_at 0x42 b) _ (mark_leads 0x42 (version ∷ []) b)
     (λ c is. then_leads (at (version ∷ []) 0 c) (behind_version []) last (version_at c) _ (version_leads [] c)
     (λ x is. then_leads (behind_version [] x) (λ y. at (node x.0 1 ∷ []) 0 y.1) last (batches_at x.2) _ (batches_leads 0 (node x.0 1 ∷ []) x.2)
-    (λ y is. then_leads (at (node x.0 1 ∷ []) 0 y.1) (past []) last (node_at x.0 DEPTH_LIMIT 0 y.1) _ (node_leads x.0 DEPTH_LIMIT 1 refl [] 0 y.1)
+    (λ y is. then_leads (at (node x.0 1 ∷ []) 0 y.1) (past []) last (node_at x.0 greatest_depth 0 y.1) _ (node_leads x.0 greatest_depth 1 refl [] 0 y.1)
     (λ tree is. λ v m. any_nodes tree.1 m))))))
 
 end_verdict : (bytes : List ℕ) (nodes : ℕ) (r : Result (Unit {0}) CertificateFault) → end_at bytes ≡ r → Leads (at [] nodes bytes) (λ _. at [] 0 []) r

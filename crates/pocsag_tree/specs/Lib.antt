@@ -1,5 +1,6 @@
 pub mod Answers
 pub mod Bounds
+pub mod Limits
 pub mod Parts
 pub mod Reading
 pub mod Spelling

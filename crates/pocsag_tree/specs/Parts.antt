@@ -5,7 +5,7 @@
 use Rattle.std.specs.Prelude.{◌≡◌, ℕ, ◌+◌, ◌-◌, ◌^◌, ◌<◌, ◌≤◌, ◌==◌, ◌&&◌, nat_lt, nat_le, if◌then◌else◌, List, [], ◌∷◌, ◌++◌, length, take, drop, replicate, Option, Some, None, Result, Ok, Err}
 use Rattle.std.specs.Int.{Width, w8, w16, w32, byte_len, from_be_bytes}
 use Rattle.pocsag_tree.specs.declared.limits.Ranges.{Ranges}
-use Rattle.pocsag_tree.specs.declared.limits.TheConstants.{FIRST_VERSION, SECOND_VERSION, DEPTH_LIMIT, NODE_LIMIT}
+use Rattle.pocsag_tree.specs.Limits.{first_ranges, second_ranges, greatest_depth, most_nodes}
 use Rattle.pocsag_tree.specs.declared.refusals.CertificateFault.{CertificateFault}
 use Rattle.pocsag_tree.specs.declared.refusals.CertificateFault.TheVariants as fault
 
@@ -38,8 +38,8 @@ asked_by r depth tag =
 abbrev pub judged : Part → ℕ → Result (List Part) CertificateFault
 judged (mark byte) n = if n == byte then Ok [] else Err fault.NotCertificate
 judged version n =
-    if n == 0x31 then Ok (field w32 1 (2 ^ 32 - 1) ∷ node FIRST_VERSION 1 ∷ []) else
-    if n == 0x32 then Ok (field w8 0 1 ∷ field w32 1 (2 ^ 32 - 1) ∷ node SECOND_VERSION 1 ∷ []) else
+    if n == 0x31 then Ok (field w32 1 (2 ^ 32 - 1) ∷ node first_ranges 1 ∷ []) else
+    if n == 0x32 then Ok (field w8 0 1 ∷ field w32 1 (2 ^ 32 - 1) ∷ node second_ranges 1 ∷ []) else
     Err fault.Version
 judged (field width low high) n = if nat_le low n && nat_le n high then Ok [] else Err fault.BadField
 judged (children r depth width low high) n = if nat_le low n && nat_le n high then Ok (replicate n (node r depth)) else Err fault.BadField
@@ -47,7 +47,7 @@ judged (node r depth) tag = if nat_lt r.tag tag then Err fault.BadTag else Ok (a
 
 -- The fault of a part before any byte of it is read, where so many nodes were read before.
 abbrev pub early_fault : Part → (nodes : ℕ) → Option CertificateFault
-early_fault (node r depth) nodes = if nat_lt DEPTH_LIMIT depth then Some fault.TooDeep else if nat_lt nodes NODE_LIMIT then None else Some fault.TooMany
+early_fault (node r depth) nodes = if nat_lt greatest_depth depth then Some fault.TooDeep else if nat_lt nodes most_nodes then None else Some fault.TooMany
 early_fault _ nodes = None
 
 -- How many nodes were read, with this part.

@@ -5,7 +5,7 @@ use Rattle.pocsag_words.specs.declared.ending.End.{End}
 use Rattle.pocsag_words.specs.declared.ending.End.TheVariants as ends
 use Rattle.pocsag_words.specs.Devices.{one_more}
 use Rattle.pocsag_tree.specs.declared.limits.Ranges.{Ranges}
-use Rattle.pocsag_tree.specs.declared.limits.TheConstants.{FIRST_VERSION, SECOND_VERSION, DEPTH_LIMIT, NODE_LIMIT}
+use Rattle.pocsag_tree.specs.Limits.{first_ranges, second_ranges, greatest_depth, most_nodes}
 use Rattle.pocsag_tree.specs.declared.refusals.CertificateFault.{CertificateFault}
 use Rattle.pocsag_tree.specs.declared.refusals.CertificateFault.TheVariants as fault
 use Rattle.pocsag_tree.specs.Bounds.{Bound, Bounds, overload, split, cut, close, unexamined, none, more}
@@ -112,7 +112,7 @@ tagged_at ranges child made bytes = do
 
 unfoldable pub node_at : Ranges → (depth : ℕ) → Reader
 node_at ranges zero made bytes = Err fault.TooDeep
-node_at ranges (suc depth) made bytes = if nat_lt made NODE_LIMIT then tagged_at ranges (node_at ranges depth) made bytes else Err fault.TooMany
+node_at ranges (suc depth) made bytes = if nat_lt made most_nodes then tagged_at ranges (node_at ranges depth) made bytes else Err fault.TooMany
 
 unfoldable pub mark_at : ℕ → List ℕ → Result (List ℕ) CertificateFault
 mark_at wanted bytes = do
@@ -125,7 +125,7 @@ end_of n = if n == 0 then ends.Open else ends.Closed
 unfoldable pub version_at : List ℕ → Result (Ranges × End × List ℕ) CertificateFault
 version_at bytes = do
   byte ← byte_at bytes
-  if byte.0 == 0x31 then Ok (FIRST_VERSION, ends.Open, byte.1) else if byte.0 == 0x32 then (small_at 0 1 byte.1 >>= λ end. Ok (SECOND_VERSION, end_of end.0, end.1)) else Err fault.Version
+  if byte.0 == 0x31 then Ok (first_ranges, ends.Open, byte.1) else if byte.0 == 0x32 then (small_at 0 1 byte.1 >>= λ end. Ok (second_ranges, end_of end.0, end.1)) else Err fault.Version
 
 unfoldable pub long_number_at : List ℕ → Result (ℕ × List ℕ) CertificateFault
 long_number_at bytes = do
@@ -151,7 +151,7 @@ certificate_at bytes = do
   c ← mark_at 0x42 b
   version ← version_at c
   batches ← batches_at version.2
-  tree ← node_at version.0 DEPTH_LIMIT 0 batches.1
+  tree ← node_at version.0 greatest_depth 0 batches.1
   Ok (version.1, batches.0, tree.0, tree.2)
 
 -- A certificate, and nothing after it.

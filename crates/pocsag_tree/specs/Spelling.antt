@@ -5,7 +5,7 @@ use Rattle.std.specs.Int.{w16, w32, to_be_bytes}
 use Rattle.pocsag_words.specs.declared.ending.End.{End}
 use Rattle.pocsag_words.specs.declared.ending.End.TheVariants as ends
 use Rattle.pocsag_tree.specs.declared.limits.Ranges.{Ranges}
-use Rattle.pocsag_tree.specs.declared.limits.TheConstants.{FIRST_VERSION, SECOND_VERSION, DEPTH_LIMIT, NODE_LIMIT}
+use Rattle.pocsag_tree.specs.Limits.{first_ranges, second_ranges, greatest_depth, most_nodes}
 use Rattle.pocsag_tree.specs.Bounds.{Bound, Bounds, overload, split, cut, close, unexamined, none, more, count_of, all_nodes, depth_of}
 
 -- A set of 16 members that is not empty.
@@ -31,8 +31,8 @@ pub record HasText (r : Ranges) (batches : ℕ) (tree : Bound) : Type 0 where
   pub some_batch : 1 ≤ batches
   pub four_bytes : batches < 2 ^ 32
   pub in_range : IsInRange r tree
-  pub depth : depth_of tree ≤ DEPTH_LIMIT
-  pub nodes : all_nodes tree ≤ NODE_LIMIT
+  pub depth : depth_of tree ≤ greatest_depth
+  pub nodes : all_nodes tree ≤ most_nodes
 
 -- The tag and the fields of a `Split`, a `Cut` and a `Close` of so many children.
 abbrev pub split_head : (class m : ℕ) → List ℕ
@@ -78,13 +78,13 @@ first_text batches tree = first_head batches ++ node tree
 
 -- The bytes are the text in PCB2 of something that has one.
 pub record IsSecondText (end : End) (batches : ℕ) (tree : Bound) (bytes : List ℕ) : Type 0 where
-  pub has_text : HasText SECOND_VERSION batches tree
+  pub has_text : HasText second_ranges batches tree
   pub text : bytes ≡ second_text end batches tree
 
 -- The bytes are the text in PCB1 of something that has one.
 pub record IsFirstText (end : End) (batches : ℕ) (tree : Bound) (bytes : List ℕ) : Type 0 where
   pub open_end : end ≡ ends.Open
-  pub has_text : HasText FIRST_VERSION batches tree
+  pub has_text : HasText first_ranges batches tree
   pub text : bytes ≡ first_text batches tree
 
 -- The bytes are a certificate text of this end, number of batches and tree, in one of the versions.

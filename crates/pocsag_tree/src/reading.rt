@@ -1,6 +1,7 @@
 ghost use Rattle.std.specs.Prelude.{◌≡◌, ℕ, ◌+◌, ◌<◌, ◌≤◌, List, [], ◌∷◌, length, IfOk, IfErr, OnOk, OnErr, IsErrOf, MatchOption};
 ghost use Rattle.pocsag_words.specs.declared.ending.End.{End};
 ghost use Rattle.pocsag_words.specs.Devices.{HasFailed};
+ghost use Rattle.pocsag_tree.specs.Limits.{greatest_depth, most_nodes};
 ghost use Rattle.pocsag_tree.specs.Bounds.{Bound, all_nodes, all_nodes_in, depth_of, deepest};
 ghost use Rattle.pocsag_tree.specs.Views.{bound_of, bounds_of};
 ghost use Rattle.pocsag_tree.specs.Spelling.{IsText};
@@ -472,8 +473,8 @@ pub fn read_certificate<S: Source>(
     ensures in_place { S.tells → IsErrOf result CertificateFault.ReadFault
         → HasNoFault (given_before (S.held reader.old) (S.held reader.new)) }
     // What is read is small enough to be read again, also where the reader tells nothing.
-    ensures deep { IfOk result (λ c. depth_of (bound_of c.tree) ≤ DEPTH_LIMIT) }
-    ensures few { IfOk result (λ c. all_nodes (bound_of c.tree) ≤ NODE_LIMIT) }
+    ensures deep { IfOk result (λ c. depth_of (bound_of c.tree) ≤ greatest_depth) }
+    ensures few { IfOk result (λ c. all_nodes (bound_of c.tree) ≤ most_nodes) }
     // The reader failed in this call exactly where that is answered.
     ensures succeeded { ¬ IsErrOf result CertificateFault.ReadFault
         → S.failures reader.new ≡ S.failures reader.old }

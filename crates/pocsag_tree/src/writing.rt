@@ -1,5 +1,6 @@
 ghost use Rattle.std.specs.Prelude.{◌≡◌, ℕ, ◌+◌, ◌<◌, ◌≤◌, ◌↔◌, ◌++◌, length, IsTrue, IsSome, IfSome, OnOk, OnErr, IsErrOf};
 ghost use Rattle.pocsag_words.specs.Devices.{HasFailed, TookPrefix};
+ghost use Rattle.pocsag_tree.specs.Limits.{second_ranges};
 ghost use Rattle.pocsag_tree.specs.Bounds.{all_nodes, all_nodes_in, depth_of, deepest, count_of};
 ghost use Rattle.pocsag_tree.specs.Views.{bound_of, bounds_of};
 ghost use Rattle.pocsag_tree.specs.Spelling.{IsInRange, AreInRange, HasText, IsSet, split_head, cut_head, close_head, node, row, end_byte, second_head, second_text};
@@ -35,7 +36,7 @@ fn is_close_count(children: usize) -> bool
 #[cycle(measured)]
 fn measured(tree: &Tree, depth: u32, nodes: u32) -> Option<u32>
     requires { nodes ≤ 1000000 }
-    ensures fits { IsSome result ↔ (IsInRange SECOND_VERSION (bound_of tree.now)
+    ensures fits { IsSome result ↔ (IsInRange second_ranges (bound_of tree.now)
         × (depth_of (bound_of tree.now) ≤ depth)
         × (nodes + all_nodes (bound_of tree.now) ≤ 1000000)) }
     ensures count { IfSome result (λ n. n ≡ nodes + all_nodes (bound_of tree.now)) }
@@ -53,7 +54,7 @@ fn measured(tree: &Tree, depth: u32, nodes: u32) -> Option<u32>
 #[cycle(measured)]
 fn measured_node(tree: &Tree, depth: u32, nodes: u32) -> Option<u32>
     requires { nodes ≤ 1000000 }
-    ensures fits { IsSome result ↔ (IsInRange SECOND_VERSION (bound_of tree.now)
+    ensures fits { IsSome result ↔ (IsInRange second_ranges (bound_of tree.now)
         × (depth_of (bound_of tree.now) ≤ depth + 1)
         × (nodes + all_nodes (bound_of tree.now) ≤ 1000001)) }
     ensures count { IfSome result (λ n. n + 1 ≡ nodes + all_nodes (bound_of tree.now)) }
@@ -102,7 +103,7 @@ fn measured_node(tree: &Tree, depth: u32, nodes: u32) -> Option<u32>
 #[cycle(measured)]
 fn measured_row(trees: &[Tree], depth: u32, nodes: u32) -> Option<u32>
     requires { nodes ≤ 1000000 }
-    ensures fits { IsSome result ↔ (AreInRange SECOND_VERSION (bounds_of trees.now)
+    ensures fits { IsSome result ↔ (AreInRange second_ranges (bounds_of trees.now)
         × (deepest (bounds_of trees.now) ≤ depth)
         × (nodes + all_nodes_in (bounds_of trees.now) ≤ 1000000)) }
     ensures count { IfSome result (λ n. n ≡ nodes + all_nodes_in (bounds_of trees.now)) }
@@ -190,7 +191,7 @@ fn write_head<S: Sink>(end: End, batches: u32, writer: &mut S) -> Result<(), Dev
 // Writes the text of a tree: the node, and then all below it.
 #[cycle(written)]
 fn write_node<S: Sink>(tree: &Tree, writer: &mut S) -> Result<(), DeviceFault>
-    requires { IsInRange SECOND_VERSION (bound_of tree.now) }
+    requires { IsInRange second_ranges (bound_of tree.now) }
     ensures whole { S.tells → OnOk result
         (S.taken writer.new ≡ S.taken writer.old ++ node (bound_of tree.now)) }
     ensures part { S.tells → OnErr result
@@ -231,7 +232,7 @@ fn write_node<S: Sink>(tree: &Tree, writer: &mut S) -> Result<(), DeviceFault>
 
 #[cycle(written)]
 fn write_row<S: Sink>(trees: &[Tree], writer: &mut S) -> Result<(), DeviceFault>
-    requires { AreInRange SECOND_VERSION (bounds_of trees.now) }
+    requires { AreInRange second_ranges (bounds_of trees.now) }
     ensures whole { S.tells → OnOk result
         (S.taken writer.new ≡ S.taken writer.old ++ row (bounds_of trees.now)) }
     ensures part { S.tells → OnErr result
@@ -251,7 +252,7 @@ fn write_text<S: Sink>(
     tree: &Tree,
     writer: &mut S,
 ) -> Result<(), DeviceFault>
-    requires { IsInRange SECOND_VERSION (bound_of tree.now) }
+    requires { IsInRange second_ranges (bound_of tree.now) }
     ensures whole { S.tells → OnOk result
         (S.taken writer.new ≡ S.taken writer.old ++ second_text end batches (bound_of tree.now)) }
     ensures part { S.tells → OnErr result
@@ -265,7 +266,7 @@ fn write_text<S: Sink>(
 }
 
 fn has_text(batches: u32, tree: &Tree) -> bool
-    ensures { IsTrue result ↔ HasText SECOND_VERSION batches (bound_of tree.now) }
+    ensures { IsTrue result ↔ HasText second_ranges batches (bound_of tree.now) }
 {
     if batches == 0 {
         return false;
@@ -287,9 +288,9 @@ pub fn write_certificate<S: Sink>(
 ) -> Result<(), TreeWriteFault>
     // Exactly what has no text is refused, and nothing is written then.
     ensures bad { IsErrOf result TreeWriteFault.BadTree
-        → ¬ HasText SECOND_VERSION batches (bound_of tree.now) }
+        → ¬ HasText second_ranges batches (bound_of tree.now) }
     ensures good { ¬ IsErrOf result TreeWriteFault.BadTree
-        → HasText SECOND_VERSION batches (bound_of tree.now) }
+        → HasText second_ranges batches (bound_of tree.now) }
     ensures untouched { IsErrOf result TreeWriteFault.BadTree → writer.new ≡ writer.old }
     // The text is written whole, or a prefix of it where the writer failed.
     ensures whole { S.tells → OnOk result

@@ -1,5 +1,6 @@
-use Rattle.std.proofs.Common.{◌*◌, ◌^◌, ◌≤◌}
+use Rattle.std.proofs.Common.{◌≡◌, ◌*◌, ◌^◌, ◌≤◌, slice_index}
+use Rattle.pocsag_slots.specs.Sums.{sum_below}
 use Rattle.pocsag_tour.proofs.counting.steps_over.Given as goal
 
 abbrev pub invariant-loop-arc : goal.invariant-loop-arc
-invariant-loop-arc l = l.steps ≤ l.arc * 2 ^ 32
+invariant-loop-arc l = record { sum : l.steps ≡ sum_below l.arc (slice_index l.counts); few : l.steps ≤ l.arc * 2 ^ 32 }

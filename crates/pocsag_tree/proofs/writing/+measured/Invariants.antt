@@ -1,6 +1,6 @@
 use Rattle.std.proofs.Common.{◌≡◌, ◌+◌, ◌*◌, ◌≤◌, drop}
 use Rattle.std.specs.Prelude.{◌↔◌}
-use Rattle.pocsag_tree.specs.declared.limits.TheConstants.{SECOND_VERSION}
+use Rattle.pocsag_tree.specs.Limits.{second_ranges}
 use Rattle.pocsag_tree.specs.Bounds.{all_nodes_in, deepest}
 use Rattle.pocsag_tree.specs.Views.{bounds_of}
 use Rattle.pocsag_tree.specs.Spelling.{AreInRange}
@@ -20,6 +20,6 @@ abbrev pub invariant-measured_row-loop-tree : goal.invariant-measured_row-loop-t
 invariant-measured_row-loop-tree l = record {
   few : l.reached ≤ 1000000;
   counted : l.reached + all_nodes_in (bounds_of (drop l.tree-index l.trees)) ≡ l.nodes + all_nodes_in (bounds_of l.trees);
-  left : (AreInRange SECOND_VERSION (bounds_of l.trees) × (deepest (bounds_of l.trees) ≤ l.depth))
-      ↔ (AreInRange SECOND_VERSION (bounds_of (drop l.tree-index l.trees)) × (deepest (bounds_of (drop l.tree-index l.trees)) ≤ l.depth));
+  left : (AreInRange second_ranges (bounds_of l.trees) × (deepest (bounds_of l.trees) ≤ l.depth))
+      ↔ (AreInRange second_ranges (bounds_of (drop l.tree-index l.trees)) × (deepest (bounds_of (drop l.tree-index l.trees)) ≤ l.depth));
 }

@@ -1,5 +1,5 @@
 use Rattle.std.proofs.Common.{◌≡◌, ◌++◌, refl, ap, arith, drop}
-use Rattle.pocsag_tree.specs.declared.limits.TheConstants.{SECOND_VERSION}
+use Rattle.pocsag_tree.specs.Limits.{second_ranges}
 use Rattle.pocsag_tree.specs.Bounds.{cut, close, count_of}
 use Rattle.pocsag_tree.specs.Views.{bound_of, bounds_of}
 use Rattle.pocsag_tree.specs.Spelling.{IsInRange, node, row, split_head, cut_head, close_head}
@@ -37,7 +37,7 @@ write_node-returns-in_ok-write_node-in-Split-clause-whole g t c = λ tells.
 pub write_node-write_cut_head-requires : goal.write_node-write_cut_head-requires
 write_node-write_cut_head-requires g t c =
     let is = bound_of-cut c.args.tree.now c.in-Cut.set c.in-Cut.needed c.in-Cut.children c.in-Cut.is in
-    let in_range : IsInRange SECOND_VERSION (cut c.in-Cut.set c.in-Cut.needed (bounds_of c.in-Cut.children.items)) = rw is at c.requires in
+    let in_range : IsInRange second_ranges (cut c.in-Cut.set c.in-Cut.needed (bounds_of c.in-Cut.children.items)) = rw is at c.requires in
     omega (arith, in_range.3, count_of_bounds c.in-Cut.children.items, c.in-Cut.children.ok.0, c.len.ensures)
 
 pub write_node-returns-in_err-write_cut_head-in-Cut-clause-part : goal.write_node-returns-in_err-write_cut_head-in-Cut-clause-part
@@ -63,7 +63,7 @@ write_node-returns-in_ok-write_cut_head-in-Cut-clause-whole g t c = λ tells.
 pub write_node-write_close_head-requires : goal.write_node-write_close_head-requires
 write_node-write_close_head-requires g t c =
     let is = bound_of-close c.args.tree.now c.in-Close.children c.in-Close.is in
-    let in_range : IsInRange SECOND_VERSION (close (bounds_of c.in-Close.children.items)) = rw is at c.requires in
+    let in_range : IsInRange second_ranges (close (bounds_of c.in-Close.children.items)) = rw is at c.requires in
     omega (arith, in_range.2, count_of_bounds c.in-Close.children.items, c.in-Close.children.ok.0, c.len-in-Close.ensures)
 
 pub write_node-returns-in_err-write_close_head-in-Close-clause-part : goal.write_node-returns-in_err-write_close_head-in-Close-clause-part

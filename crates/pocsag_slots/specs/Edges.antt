@@ -1,0 +1,13 @@
+-- How many runs start at a boundary, and how many end there.
+use Rattle.std.specs.Prelude.{ℕ, ◌+◌, ◌-◌, ◌==◌, true, false, cond, slice_index}
+use Rattle.pocsag_slots.specs.declared.class.Classes.{Classes}
+use Rattle.pocsag_slots.specs.Numbering.{start_of, finish_of}
+
+-- The runs of a class that start at the boundary, and those that end there.
+abbrev pub starts_at : Classes → (ℕ → ℕ) → ℕ → ℕ → ℕ
+starts_at k choice p c =
+    cond (start_of c true == p) (choice c) 0 + cond (start_of c false == p) (slice_index k.count c - choice c) 0
+
+abbrev pub ends_at : Classes → (ℕ → ℕ) → ℕ → ℕ → ℕ
+ends_at k choice p c =
+    cond (finish_of c true == p) (choice c) 0 + cond (finish_of c false == p) (slice_index k.count c - choice c) 0
