@@ -5,7 +5,7 @@ use super::*;
 use pocsag_check::{check, check_open};
 use pocsag_pages::{Page, Payload, Round, RoundFault};
 use pocsag_slots::{CLASSES, Classes, classes_of};
-use pocsag_tree::nodes;
+use pocsag_tree::{Tree, nodes};
 use pocsag_words::End;
 use std::alloc::Global;
 use std::test::Fail;
@@ -75,6 +75,27 @@ fn batches(alloc: Global, round: &Round, end: End) -> Result<u32, SearchFault> {
         Ok(answer.batches)
     } else {
         Ok(0)
+    }
+}
+
+// What is told where the limit is reached.
+fn limit_of(answer: Result<Found, SearchFault>) -> Option<(u32, u32, Tree)> {
+    match answer {
+        Ok(_found) => None,
+        Err(fault) => match fault {
+            SearchFault::SearchLimit { least, found, tree } => Some((least, found, tree)),
+            SearchFault::OutOfMemory => None,
+        },
+    }
+}
+
+fn near_of(answer: Result<Found, FreeFault>) -> Option<Near> {
+    match answer {
+        Ok(_found) => None,
+        Err(fault) => match fault {
+            FreeFault::SearchLimit(near) => Some(near),
+            FreeFault::OutOfMemory => None,
+        },
     }
 }
 
@@ -162,16 +183,13 @@ fn node_limit(rt: HostRuntime) -> Result<(), Fail> {
     let classes = classes_of(&round, End::Open);
     assert!(rt; has_page(&classes));
     assert_eq!(rt; search(alloc, &classes, 3, End::Open)?.batches, 3);
-    match search(alloc, &classes, 2, End::Open) {
-        Err(SearchFault::SearchLimit { least, found, tree }) => {
-            assert_eq!(rt; (least, found), (2, 3));
-            assert_eq!(rt; nodes(&tree), 2);
-            assert_eq!(rt; check(&round, found, &tree, End::Open), false);
-            assert_eq!(rt; check_open(&round, found, &tree, End::Open), true);
-        }
-        Ok(_) => assert!(rt; false),
-        Err(SearchFault::OutOfMemory) => assert!(rt; false),
-    }
+    let stopped = limit_of(search(alloc, &classes, 2, End::Open));
+    let (least, found, tree) = stopped.expect(&rt, "the limit is reached");
+    assert_eq!(rt; least, 2);
+    assert_eq!(rt; found, 3);
+    assert_eq!(rt; nodes(&tree), 2);
+    assert_eq!(rt; check(&round, 3, &tree, End::Open), false);
+    assert_eq!(rt; check_open(&round, 3, &tree, End::Open), true);
     Ok(())
 }
 
@@ -209,12 +227,8 @@ fn within_one_batch(rt: HostRuntime) -> Result<(), Fail> {
     let round = round_of(alloc, &[(0, 15), (3, 15)])?;
     let classes = classes_of(&round, End::Open);
     assert!(rt; has_page(&classes));
-    let by_limit = match search_freely(alloc, &classes, 1, End::Open) {
-        Err(FreeFault::SearchLimit(near)) => Some(near),
-        Err(FreeFault::OutOfMemory) => None,
-        Ok(_) => None,
-    };
-    let near = by_limit.expect(&rt, "the limit is reached");
+    let stopped = near_of(search_freely(alloc, &classes, 1, End::Open));
+    let near = stopped.expect(&rt, "the limit is reached");
     assert_eq!(rt; near.least, 2);
     assert_eq!(rt; check(&round, 2, &near.tree, End::Open), true);
     assert_eq!(rt; near.steps.len(), 2 + 16);
