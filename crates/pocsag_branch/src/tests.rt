@@ -1,11 +1,11 @@
 ghost use Rattle.std.specs.Prelude.{IsTrue};
-ghost use Rattle.pocsag_branch.specs.Found.{HasPage};
+ghost use Rattle.pocsag_branch.specs.Found.{HasPage, IsNodeLimit};
 
 use super::*;
 use pocsag_check::{check, check_open};
 use pocsag_pages::{Page, Payload, Round, RoundFault};
 use pocsag_slots::{CLASSES, Classes, classes_of};
-use pocsag_tree::nodes;
+use pocsag_tree::{Tree, nodes};
 use pocsag_words::End;
 use std::alloc::Global;
 use std::test::Fail;
@@ -78,6 +78,44 @@ fn batches(alloc: Global, round: &Round, end: End) -> Result<u32, SearchFault> {
     }
 }
 
+// What is told where the limit is reached.
+fn limit_of(answer: Result<Found, SearchFault>) -> Option<(u32, u32, Tree)> {
+    match answer {
+        Ok(_found) => None,
+        Err(fault) => match fault {
+            SearchFault::SearchLimit { least, found, tree } => Some((least, found, tree)),
+            SearchFault::OutOfMemory => None,
+        },
+    }
+}
+
+fn near_of(answer: Result<Found, FreeFault>) -> Option<Near> {
+    match answer {
+        Ok(_found) => None,
+        Err(fault) => match fault {
+            FreeFault::SearchLimit(near) => Some(near),
+            FreeFault::OutOfMemory => None,
+        },
+    }
+}
+
+// The same of the free search within so many nodes, with how many nodes its tree has.
+fn freely(alloc: Global, round: &Round, limit: u32, end: End) -> Result<(u32, u64), FreeFault>
+    requires { IsNodeLimit limit }
+{
+    let classes = classes_of(round, end);
+    if !has_page(&classes) {
+        return Err(FreeFault::OutOfMemory);
+    }
+    let answer = search_freely(alloc, &classes, limit, end)?;
+    let accepted = check(round, answer.batches, &answer.tree, end);
+    if accepted && !check(round, answer.batches.saturating_add(1), &answer.tree, end) {
+        Ok((answer.batches, nodes(&answer.tree)))
+    } else {
+        Ok((0, 0))
+    }
+}
+
 #[test]
 fn one_page(rt: HostRuntime) -> Result<(), Fail> {
     let alloc = rt.alloc();
@@ -145,15 +183,57 @@ fn node_limit(rt: HostRuntime) -> Result<(), Fail> {
     let classes = classes_of(&round, End::Open);
     assert!(rt; has_page(&classes));
     assert_eq!(rt; search(alloc, &classes, 3, End::Open)?.batches, 3);
-    match search(alloc, &classes, 2, End::Open) {
-        Err(SearchFault::SearchLimit { least, found, tree }) => {
-            assert_eq!(rt; (least, found), (2, 3));
-            assert_eq!(rt; nodes(&tree), 2);
-            assert_eq!(rt; check(&round, found, &tree, End::Open), false);
-            assert_eq!(rt; check_open(&round, found, &tree, End::Open), true);
-        }
-        Ok(_) => assert!(rt; false),
-        Err(SearchFault::OutOfMemory) => assert!(rt; false),
-    }
+    let stopped = limit_of(search(alloc, &classes, 2, End::Open));
+    let (least, found, tree) = stopped.expect(&rt, "the limit is reached");
+    assert_eq!(rt; least, 2);
+    assert_eq!(rt; found, 3);
+    assert_eq!(rt; nodes(&tree), 2);
+    assert_eq!(rt; check(&round, 3, &tree, End::Open), false);
+    assert_eq!(rt; check_open(&round, 3, &tree, End::Open), true);
+    Ok(())
+}
+
+// Eight pages for which each tree of the promised shape has at least 354,623 nodes, and others.
+#[test]
+fn freely_found(rt: HostRuntime) -> Result<(), Fail> {
+    let alloc = rt.alloc();
+    let eight = round_of(
+        alloc,
+        &[
+            (5, 4),
+            (8, 8),
+            (20, 8),
+            (25, 2),
+            (39, 30),
+            (46, 14),
+            (50, 30),
+            (57, 14),
+        ],
+    )?;
+    let (batches, nodes) = freely(alloc, &eight, 1_000, End::Open)?;
+    assert_eq!(rt; batches, 9);
+    assert!(rt; nodes <= 40);
+    let loops_apart = round_of(alloc, &[(0, 15), (3, 15)])?;
+    assert_eq!(rt; freely(alloc, &loops_apart, 100_000, End::Open)?.0, 3);
+    let both_ways = round_of(alloc, &[(0, 13), (7, 0), (15, 2), (1, 13)])?;
+    assert_eq!(rt; freely(alloc, &both_ways, 100_000, End::Closed)?.0, 3);
+    assert_eq!(rt; freely(alloc, &both_ways, 100_000, End::Open)?.0, 2);
+    Ok(())
+}
+
+#[test]
+fn within_one_batch(rt: HostRuntime) -> Result<(), Fail> {
+    let alloc = rt.alloc();
+    let round = round_of(alloc, &[(0, 15), (3, 15)])?;
+    let classes = classes_of(&round, End::Open);
+    assert!(rt; has_page(&classes));
+    let stopped = near_of(search_freely(alloc, &classes, 1, End::Open));
+    let near = stopped.expect(&rt, "the limit is reached");
+    assert_eq!(rt; near.least, 2);
+    assert_eq!(rt; check(&round, 2, &near.tree, End::Open), true);
+    assert_eq!(rt; near.steps.len(), 2 + 16);
+    let at_once = super::near(alloc, &classes, End::Open)?;
+    assert_eq!(rt; at_once.least, 2);
+    assert_eq!(rt; at_once.steps.as_slice(), near.steps.as_slice());
     Ok(())
 }
