@@ -1,2 +1,3 @@
-pub mod Statuses
 pub mod Planning
+pub mod Shown
+pub mod Statuses
