@@ -92,6 +92,20 @@ runs_more k choice batches links one two c early late h is_early is_late long fi
         (first.held (lt-ltb 0 early (subst (λ (m : ℕ). 0 < m) (sym is_early) some)))
     own false some = second.held (lt-ltb 0 late (subst (λ (m : ℕ). 0 < m) (sym is_late) some))
 
+-- a class without pages has no runs
+no_runs : (k : Classes) (choice : ℕ → ℕ) (c : ℕ) (early : Bool) → slice_index k.count c ≡ 0 → choice c ≤ slice_index k.count c → runs_of k choice c early ≡ 0
+unfolding runs_of
+no_runs k choice c true none few = omega arith
+no_runs k choice c false none few = omega arith
+
+pub runs_none : (k : Classes) (choice : ℕ → ℕ) (links : ℕ → ℕ) (c : ℕ) → slice_index k.count c ≡ 0 → choice c ≤ slice_index k.count c →
+    HaveRuns k choice links c → HaveRuns k choice links (c + 1)
+runs_none k choice links c none few so_far d e low some =
+    elim (cases_eq d c) [
+      | inl same ↦ absurd (let here : 0 < runs_of k choice c e = subst (λ (b : ℕ). 0 < runs_of k choice b e) same some in omega (arith, no_runs k choice c e none few))
+      | inr other ↦ so_far d e (omega arith) some
+    ]
+
 pub no_links : (k : Classes) (choice : ℕ → ℕ) (batches : ℕ) (links : List ℕ) → length links ≡ 16 → ((p : ℕ) → p < 16 → slice_index links p ≡ 0) →
     AreLinks k choice batches links 0
 no_links k choice batches links long none = record {
