@@ -11,11 +11,14 @@ use Rattle.pocsag_slots.specs.Ways.{class_certain, ways_across, ways_to_close}
 use Rattle.pocsag_tree.specs.Bounds.{Bound, Bounds, depth_of, deepest}
 use Rattle.pocsag_tree.specs.Spelling.{IsSet}
 use Rattle.pocsag_check.specs.Accepting.{Accepts, AcceptsEach, IsClosed}
+use Rattle.pocsag_tour.specs.Reached.{IsApart, IsUnclosed}
 use Rattle.pocsag_branch.specs.declared.question.Answer.{Answer}
 use Rattle.pocsag_branch.specs.declared.question.Form.{Form}
 use Rattle.pocsag_branch.specs.declared.question.Form.TheVariants.{Overload, Cut, Split, Close}
 use Rattle.pocsag_branch.specs.declared.question.Stop.{Stop}
 use Rattle.pocsag_branch.specs.declared.question.Stop.TheVariants.{Met, OutOfMemory}
+use Rattle.pocsag_branch.specs.declared.question.View.{View}
+use Rattle.pocsag_branch.specs.declared.question.View.TheVariants.{Apart, Unclosed}
 use Rattle.pocsag_branch.specs.Marks.{opens, opens_in}
 use Rattle.pocsag_branch.specs.Shape.{AdmitApart, AdmitSplit, AdmitUnclosed, IsShaped, AreShaped}
 use Rattle.pocsag_branch.specs.Undecided.{Falls, IsSplitPoint, undecided}
@@ -35,6 +38,12 @@ pub record IsAnswer (k : Classes) (end : End) (batches : ℕ) (answer : Answer) 
 abbrev pub IsStop : Classes → End → ℕ → Stop → Type 0
 IsStop k end batches (Met answer) = IsAnswer k end batches answer.value
 IsStop k end batches OutOfMemory = Unit {0}
+
+-- Why a choice that the limits admit has no tour for the end; the ways to close settle questions then.
+abbrev pub IsView : Classes → End → ℕ → Limits → (ℕ → ℕ) → View → Type 0
+IsView k end batches l choice (Apart set) = IsApart k choice batches set × (set < 2 ^ 16)
+IsView k end batches l choice Unclosed =
+    IsClosed end × IsUnclosed k choice batches × All (Falls k batches l) (ways_to_close k l)
 
 -- The node may be made there, and each of its children settles a question that is open.
 abbrev pub IsForm : Classes → End → ℕ → Limits → Form → Type 0

@@ -1,5 +1,8 @@
+pub mod Climbing
 pub mod Examined
 pub mod Found
+pub mod Freed
+pub mod Freely
 pub mod Marks
 pub mod Shape
 pub mod Undecided

@@ -3,15 +3,30 @@
 //! suffice. What it answers, the checker accepts.
 
 mod answer;
+mod attempt;
+mod climbing;
+mod deciding;
+mod ending;
 mod examining;
 mod fault;
+mod freeing;
 mod least;
+mod live;
 mod looking;
 mod narrowing;
 mod opening;
 mod question;
+mod refuting;
+mod rooting;
+mod search_free;
 mod searching;
+#[cfg(test)]
+mod tests;
+mod thinning;
+mod within_one;
 
 pub use answer::Found;
 pub use fault::SearchFault;
+pub use search_free::{near, search_freely};
 pub use searching::search;
+pub use within_one::{FreeFault, Near};

@@ -2,15 +2,16 @@ ghost use Rattle.std.specs.Prelude.{◌≡◌, ◌≢◌, ℕ, ◌<◌, ◌≤�
 ghost use Rattle.pocsag_slots.specs.Loads.{IsAdmitted, IsChoice, load};
 ghost use Rattle.pocsag_slots.specs.Tours.{IsTour};
 ghost use Rattle.pocsag_tour.specs.Reached.{IsApart};
-ghost use Rattle.pocsag_branch.specs.Examined.{IsForm, IsStop, StandsAs};
+ghost use Rattle.pocsag_branch.specs.Examined.{IsForm, IsStop, IsView, StandsAs};
 ghost use Rattle.pocsag_branch.specs.Shape.{AdmitSplit, NoneCertain, SplitsAt};
 ghost use Rattle.pocsag_branch.specs.Undecided.{AreNodeLimits, IsSplitPoint};
 
+use crate::climbing::climbed;
 use crate::narrowing::certain_class;
-use crate::question::{Answer, Form, Question, Stop};
+use crate::question::{Answer, Form, Question, Stop, View};
 use pocsag_flow::{ChooseFault, choose};
 use pocsag_slots::{CLASSES, Choice, Classes, Limits, Step};
-use pocsag_tour::{TourFault, has_run_outside, tour};
+use pocsag_tour::{TourFault, has_run_outside, lies_outside, reached, tour};
 use std::alloc::Global;
 
 // Which node is to be made under the limits. This is the one place where the search has a choice.
@@ -26,13 +27,16 @@ pub(crate) fn look(
     ensures stop { IfErr result (IsStop classes.now question.end question.batches) }
 {
     match choose(classes, limits) {
-        Ok(choice) => form_for(alloc, classes, question, limits, &choice),
+        Ok(choice) => {
+            let best = climbed(classes, question, limits, choice);
+            form_for(alloc, classes, question, limits, &best)
+        }
         Err(ChooseFault::Overload(set)) => Ok(Form::Overload(set)),
     }
 }
 
 // Which node is to be made where the limits admit the choice.
-fn form_for(
+pub(crate) fn form_for(
     alloc: Global,
     classes: &Classes,
     question: Question,
@@ -45,10 +49,33 @@ fn form_for(
     ensures shape { IfOk result (StandsAs classes.now question.batches limits.now) }
     ensures stop { IfErr result (IsStop classes.now question.end question.batches) }
 {
+    match view(alloc, classes, question, limits, choice)? {
+        View::Apart(set) => Ok(form_at(classes, question, limits, choice, set)),
+        View::Unclosed => Ok(Form::Close),
+    }
+}
+
+// Whether the choice has a tour: it is met, or its runs are apart, or the tour cannot be closed.
+pub(crate) fn view(
+    alloc: Global,
+    classes: &Classes,
+    question: Question,
+    limits: &Limits,
+    choice: &Choice,
+) -> Result<View, Stop>
+    requires limits { AreNodeLimits classes.now question.batches limits.now }
+    requires admitted { IsAdmitted classes.now limits.now (slice_index choice.now.early) }
+    ensures view { IfOk result (IsView classes.now question.end question.batches limits.now (slice_index choice.now.early)) }
+    ensures stop { IfErr result (IsStop classes.now question.end question.batches) }
+{
+    let set = reached(classes, choice, question.batches);
+    if lies_outside(classes, choice, set) {
+        return Ok(View::Apart(set));
+    }
     match tour(alloc, classes, choice, question.batches, question.end) {
         Ok(steps) => Err(met(alloc, classes, question, choice, steps)),
-        Err(TourFault::Apart(set)) => Ok(form_at(classes, question, limits, choice, set)),
-        Err(TourFault::Unclosed) => Ok(Form::Close),
+        Err(TourFault::Apart(apart)) => Ok(View::Apart(apart)),
+        Err(TourFault::Unclosed) => Ok(View::Unclosed),
         Err(TourFault::OutOfMemory) => Err(Stop::OutOfMemory),
     }
 }
@@ -78,7 +105,7 @@ fn met(
 }
 
 // A cut at the set that the choice reaches, where a class is certain for it, and else a split.
-fn form_at(
+pub(crate) fn form_at(
     classes: &Classes,
     question: Question,
     limits: &Limits,

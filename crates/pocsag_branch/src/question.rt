@@ -35,3 +35,11 @@ pub(crate) enum Form {
     Split { class: u8, m: u16 },
     Close,
 }
+
+// Why a choice has no tour: its runs are apart, with the set of boundaries that are reached, or the tour
+// cannot be closed.
+#[derive(Clone, Copy)]
+pub(crate) enum View {
+    Apart(u16),
+    Unclosed,
+}

@@ -1,18 +1,18 @@
 ghost use Rattle.std.specs.Prelude.{◌≡◌, ◌+◌, ◌≤◌, IfErr, IfOk, slice_index};
 ghost use Rattle.pocsag_slots.specs.Loads.{IsAdmitted, IsLeast, limits_of_all};
-ghost use Rattle.pocsag_slots.specs.Tours.{IsTour};
 ghost use Rattle.pocsag_tree.specs.Views.{bound_of};
-ghost use Rattle.pocsag_branch.specs.Examined.{IsAnswer, IsTreeOf, Refuses};
+ghost use Rattle.pocsag_branch.specs.Examined.{IsTreeOf};
 ghost use Rattle.pocsag_branch.specs.Found.{HasPage, IsFound, IsNodeLimit, IsSearchFault};
 
 use crate::answer::Found;
-use crate::examining::examine;
+use crate::ending::{one_more, settled};
 use crate::fault::SearchFault;
 use crate::least::least_of;
 use crate::opening::has_open;
-use crate::question::{Answer, Question, Stop};
-use pocsag_slots::{Choice, Classes, Step, all_limits, tours_have_codewords};
-use pocsag_tour::{TourFault, spare_batches_have_tours, tour};
+use crate::question::{Question, Stop};
+use crate::rooting::whole_tree;
+use pocsag_slots::{Choice, Classes, tours_have_codewords};
+use pocsag_tour::spare_batches_have_tours;
 use pocsag_tree::Tree;
 use pocsag_words::End;
 use std::alloc::Global;
@@ -38,9 +38,8 @@ pub fn search(
         batches: least.batches,
         limit: node_limit,
     };
-    let limits = all_limits(classes, least.batches);
-    match examine(alloc, classes, question, &limits, 0) {
-        Ok((tree, _)) => judged(alloc, classes, question, &least.choice, tree),
+    match whole_tree(alloc, classes, question) {
+        Ok(tree) => judged(alloc, classes, question, &least.choice, tree),
         Err(Stop::Met(answer)) => Ok(settled(
             classes,
             question,
@@ -48,23 +47,6 @@ pub fn search(
             Box::into_inner(answer),
         )),
         Err(Stop::OutOfMemory) => Err(SearchFault::OutOfMemory),
-    }
-}
-
-// What is found where a tour was met with the least number of batches.
-fn settled(classes: &Classes, question: Question, set: u16, answer: Answer) -> Found
-    requires limit { IsNodeLimit question.limit }
-    requires least { IsLeast classes.now question.batches }
-    requires refuses { Refuses classes.now question.batches set }
-    requires answer { IsAnswer classes.now question.end question.batches answer }
-    ensures { IsFound classes.now question.end question.limit result }
-{
-    let _pages = classes.count[0];
-    Found {
-        batches: question.batches,
-        choice: answer.choice,
-        steps: answer.steps,
-        tree: Tree::Overload(set),
     }
 }
 
@@ -93,33 +75,13 @@ fn judged(
             tree,
         });
     }
-    let steps = one_more(alloc, classes, choice, question.batches, question.end)?;
+    let Ok(steps) = one_more(alloc, classes, choice, question.batches, question.end) else {
+        return Err(SearchFault::OutOfMemory);
+    };
     Ok(Found {
         batches: question.batches + 1,
         choice: *choice,
         steps,
         tree,
     })
-}
-
-// The tour of a choice that is admitted with so many batches, with one batch more: each slot has an idle
-// then.
-fn one_more(
-    alloc: Global,
-    classes: &Classes,
-    choice: &Choice,
-    batches: u32,
-    end: End,
-) -> Result<Vec<Step>, SearchFault>
-    requires admitted { IsAdmitted classes.now (limits_of_all classes.now batches) (slice_index choice.now.early) }
-    requires small { batches ≤ 1760000 }
-    ensures tour { IfOk result (λ steps. IsTour classes.now end (slice_index choice.now.early) (batches + 1) steps.items) }
-    ensures fault { IfErr result (λ fault. fault ≡ SearchFault.OutOfMemory) }
-{
-    match tour(alloc, classes, choice, batches + 1, end) {
-        Ok(steps) => Ok(steps),
-        Err(TourFault::OutOfMemory) => Err(SearchFault::OutOfMemory),
-        Err(TourFault::Apart(_)) => unreachable!(),
-        Err(TourFault::Unclosed) => unreachable!(),
-    }
 }

@@ -1,5 +1,5 @@
 -- Links between boundaries, and what they lead to.
-use Rattle.std.proofs.Common.{◌≡◌, ◌≢◌, ◌⊎◌, ℕ, ◌+◌, ◌%◌, ◌<◌, ◌≤◌, ◌==◌, Bool, true, false, List, length, slice_index, slice_set, get_or-set_same, get_or-set_other, ltb, refl, sym, ap, subst, ◌∙◌, arith, inl, inr, bit_or, max}
+use Rattle.std.proofs.Common.{◌≡◌, ◌⊎◌, ℕ, ◌+◌, ◌%◌, ◌<◌, ◌≤◌, ◌==◌, Bool, true, false, List, length, slice_index, ltb, sym, ap, subst, ◌∙◌, arith, inl, inr, bit_or, max}
 use Rattle.std.proofs.lemmas.Bool.{cases_eq, lt-ltb, ltb-true}
 use Rattle.std.proofs.lemmas.Bool.Decides.{nat_tests}
 use Rattle.std.proofs.lemmas.Nat.Bits.{bit_at_or, bit_at-lt, bit_at-zero}
@@ -7,7 +7,7 @@ use Rattle.std.specs.Int.{bit_at}
 use Rattle.pocsag_slots.specs.declared.class.Classes.{Classes}
 use Rattle.pocsag_slots.specs.Loads.{load}
 use Rattle.pocsag_slots.specs.Numbering.{start_of, finish_of}
-use Rattle.pocsag_slots.specs.Sums.{AddsMember, holds}
+use Rattle.pocsag_slots.specs.Sums.{holds}
 use Rattle.pocsag_slots.proofs.CoverLemmas.{start_below}
 use Rattle.pocsag_tour.specs.Links.{AddsLink, AreLinked, at_start, by_idle, by_link, by_run, Follows, HaveIdles, HaveRuns, IsLed, IsLinked}
 use Rattle.pocsag_tour.specs.Reached.{AreReached, IsReached, at_start as start, by_idle as on_idle, by_run as on_run, runs_of}

@@ -17,6 +17,6 @@ mod walking;
 
 pub use fault::TourFault;
 pub use laws::{apart_has_no_tour, spare_batches_have_tours, unclosed_has_no_closed_tour};
-pub use outside::has_run_outside;
+pub use outside::{has_run_outside, lies_outside};
 pub use reaching::reached;
 pub use touring::tour;

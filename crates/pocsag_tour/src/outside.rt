@@ -31,8 +31,8 @@ pub fn has_run_outside(classes: &Classes, choice: &Choice, set: u16, class: u8, 
         && !holds(set, finish(class, early))
 }
 
-// Whether some run of the choice has both its ends outside the set of boundaries.
-pub(crate) fn lies_outside(classes: &Classes, choice: &Choice, set: u16) -> bool
+/// Whether some run of the choice has both its ends outside the set of boundaries.
+pub fn lies_outside(classes: &Classes, choice: &Choice, set: u16) -> bool
     requires { IsChoice classes.now (slice_index choice.now.early) }
     ensures { IsTrue result ↔ LiesOutside classes.now (slice_index choice.now.early) set }
 {

@@ -1,6 +1,6 @@
 use Rattle.std.proofs.Common.{slice_index, arith}
 use Rattle.pocsag_tour.specs.Reached.{at_start}
-use Rattle.pocsag_branch.proofs.Deciding.{ways_fall}
+use Rattle.pocsag_branch.proofs.OpenWays.{ways_fall}
 use Rattle.pocsag_branch.proofs.looking.form_at.Goals as goal
 
 pub returns-in-Some-clause-form : goal.returns-in-Some-clause-form

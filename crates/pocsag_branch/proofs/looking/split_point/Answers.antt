@@ -1,7 +1,7 @@
 use Rattle.std.proofs.Common.{arith, slice_index, refl, ◌≡◌, true, false}
 use Rattle.pocsag_slots.proofs.LoadLemmas.{count_few}
 use Rattle.pocsag_branch.specs.Shape.{at_one, at_count}
-use Rattle.pocsag_branch.proofs.Deciding.{splits_outside}
+use Rattle.pocsag_branch.proofs.OpenWays.{splits_outside}
 use Rattle.pocsag_branch.proofs.looking.split_point.Goals as goal
 
 pub returns-then-has_run_outside-clause-form : goal.returns-then-has_run_outside-clause-form

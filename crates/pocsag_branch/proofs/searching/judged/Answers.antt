@@ -1,7 +1,7 @@
 use Rattle.std.proofs.Common.{◌≡◌, ◌+◌, ap, refl, sym, ◌∙◌, arith, inr, slice_index, replicate, false, true, Bool, List, ◌++◌}
 use Rattle.std.proofs.lemmas.List.{append-nil}
 use Rattle.pocsag_tree.specs.Views.{bound_of}
-use Rattle.pocsag_branch.proofs.Ending.{closed_is, has_room, least_bound, none_unseen, some_unseen, tree_bound, tree_open, tree_whole}
+use Rattle.pocsag_branch.proofs.TreeEnds.{closed_is, has_room, least_bound, none_unseen, some_unseen, tree_bound, tree_open, tree_whole}
 use Rattle.pocsag_branch.proofs.searching.judged.Goals as goal
 
 pub returns-then-has_open-clause-fault : goal.returns-then-has_open-clause-fault
@@ -42,7 +42,7 @@ returns-clause-found c =
       is_least = c.requires.least;
       or_one_more = inr refl;
       choice = λ d h. c.requires.admitted.within.most d h;
-      tour = c.in_ok-steps.ensures.tour;
+      tour = c.in-Ok.ensures;
       accepted = accepted;
       bound = tree_bound k c.args.question.end (c.args.question.batches + 1) tree accepted;
       examined = fills.layout ∙ ap (λ n. replicate fills.closed false ++ replicate n true) none ∙ append-nil (replicate fills.closed false)

@@ -1,5 +1,5 @@
 -- What a tree says where the search ends.
-use Rattle.std.proofs.Common.{◌≡◌, ℕ, zero, suc, ◌+◌, ◌-◌, ◌*◌, ◌%◌, ◌<◌, ◌≤◌, ◌||◌, Bool, true, false, IsTrue, nat_lt, List, [], ◌∷◌, ◌++◌, map, length, replicate, refl, sym, ap, subst, ◌∙◌, arith, slice_index, ◌⊎◌, inl, inr}
+use Rattle.std.proofs.Common.{All, ◌≡◌, ℕ, zero, suc, ◌+◌, ◌-◌, ◌*◌, ◌%◌, ◌<◌, ◌≤◌, ◌||◌, Bool, true, false, IsTrue, nat_lt, List, [], ◌∷◌, ◌++◌, map, length, replicate, refl, sym, ap, subst, ◌∙◌, arith, slice_index, ◌⊎◌, inl, inr}
 use Rattle.std.proofs.lemmas.Bool.{cases_eq, or_parts}
 use Rattle.std.proofs.lemmas.Bool.Decides.{nat_tests}
 use Rattle.std.proofs.lemmas.List.{append-nil, get_or-replicate, length-replicate}
@@ -27,11 +27,13 @@ use Rattle.pocsag_check.specs.Accepting.{Accepts, AcceptsEach, IsAccepted}
 use Rattle.pocsag_check.proofs.Bounding.{bounded}
 use Rattle.pocsag_tour.specs.Reached.{IsApart, IsReached, at_start, by_idle, IsUnclosed}
 use Rattle.pocsag_slots.proofs.CoverLemmas.{start_below}
-use Rattle.pocsag_branch.specs.Examined.{Fills, IsExamined, IsTreeOf, Refuses}
+use Rattle.pocsag_branch.proofs.OpenWays.{closing_ways_fall}
+use Rattle.pocsag_branch.specs.Examined.{Fills, IsExamined, IsRefuted, IsTreeOf, Refuses}
 use Rattle.pocsag_branch.specs.Found.{IsBound}
+use Rattle.pocsag_branch.specs.Freed.{IsFreeTree}
 use Rattle.pocsag_branch.specs.Marks.{has_open, have_open, opens, opens_in}
 use Rattle.pocsag_branch.specs.Shape.{IsShaped}
-use Rattle.pocsag_branch.specs.Undecided.{AreNodeLimits, class_left, slot_left, undecided}
+use Rattle.pocsag_branch.specs.Undecided.{AreNodeLimits, Falls, class_left, slot_left, undecided}
 
 -- at most 288 questions are open
 class_left_few : (lo hi count : ℕ) → class_left lo hi count ≤ 2
@@ -184,25 +186,23 @@ closed_is t closed unseen layout =
     ∙ (closed_in-append (replicate closed false) (replicate unseen true)
     ∙ omega (arith, closed_in-closed closed, closed_in-open unseen))
 
--- the tree is accepted for one batch more than was asked for
-pub tree_accepted : (u : Bool) (k : Classes) (end : End) (b : ℕ) (l : Limits) (limit made after : ℕ) (t : Bound) → l ≡ limits_of_all k b →
-    IsExamined k end b l limit made after t → Accepts u k end b l t → IsAccepted u k end (b + 1) t
-tree_accepted u k end b l limit made after t all e a =
+-- a tree that refutes the root is accepted for one batch more
+pub refuted_accepted : (u : Bool) (k : Classes) (end : End) (b : ℕ) (t : Bound) → IsRefuted u k end b (limits_of_all k b) t → IsAccepted u k end (b + 1) t
+refuted_accepted u k end b t h =
     let one : b ≡ b + 1 - 1 = omega arith in
     record {
       some = omega arith;
-      shallow = omega (arith, e.refuted.deep, undecided_few k b l);
-      root = subst (λ (n : ℕ). Accepts u k end n (limits_of_all k n) t) one (subst (λ (x : Limits). Accepts u k end b x t) all a);
+      shallow = omega (arith, h.deep, undecided_few k b (limits_of_all k b));
+      root = subst (λ (n : ℕ). Accepts u k end n (limits_of_all k n) t) one h.accepted;
     }
 
 pub tree_whole : (k : Classes) (end : End) (b limit : ℕ) (t : Bound) → IsTreeOf k end b limit t → has_open t ≡ false → IsAccepted false k end (b + 1) t
 tree_whole k end b limit t of whole =
-    tree_accepted false k end b (limits_of_all k b) limit 0 of.after t refl of.examined
-    (sealed t k end b (limits_of_all k b) whole of.examined.refuted.accepted)
+    refuted_accepted false k end b t
+    (record { accepted = sealed t k end b (limits_of_all k b) whole of.examined.refuted.accepted; deep = of.examined.refuted.deep })
 
 pub tree_open : (k : Classes) (end : End) (b limit : ℕ) (t : Bound) → IsTreeOf k end b limit t → IsAccepted true k end (b + 1) t
-tree_open k end b limit t of =
-    tree_accepted true k end b (limits_of_all k b) limit 0 of.after t refl of.examined of.examined.refuted.accepted
+tree_open k end b limit t of = refuted_accepted true k end b t of.examined.refuted
 
 pub set_refutes : (k : Classes) (end : End) (b set : ℕ) → Refuses k b set → IsAccepted false k end b (overload set)
 set_refutes k end b set refuses =
@@ -255,3 +255,24 @@ pub least_tree : (k : Classes) (end : End) (b limit set : ℕ) → 1 ≤ limit �
 least_tree k end b limit set some refuses =
     subst (λ (t : Bound). IsLeastTree k end b limit t) (sym (bound_of-overload set))
     (record { accepted = set_refutes k end b set refuses; examined = refl; few = some; shaped = tt })
+
+pub free_whole : (k : Classes) (end : End) (b limit : ℕ) (t : Bound) → IsFreeTree k end b limit t → IsAccepted false k end (b + 1) t
+free_whole k end b limit t of = refuted_accepted false k end b t of.refuted
+
+-- the choice of a tour is admitted
+pub tour_admitted : (k : Classes) (end : End) (b : ℕ) (choice : ℕ → ℕ) (steps : List Step) → IsChoice k choice → IsTour k end choice b steps →
+    IsAdmitted k (limits_of_all k b) choice
+tour_admitted k end b choice steps among tour =
+    record {
+      within = record {
+        least = λ c h. let none_forced : slice_index (replicate 136 0) c ≡ 0 = get_or-replicate 136 c 0 0 h in omega arith;
+        most = λ c h. among c h;
+      };
+      capped = λ slot h. omega (arith, tour.idle slot h, get_or-replicate 16 slot b 0 h);
+    }
+
+-- at the root nothing is decided
+pub root_closing : (k : Classes) (b : ℕ) → 0 < b → All (Falls k b (limits_of_all k b)) (ways_to_close k (limits_of_all k b))
+root_closing k b some =
+    let last : slice_index (replicate 16 b) 15 ≡ b = get_or-replicate 16 15 b 0 (omega arith) in
+    closing_ways_fall k b (limits_of_all k b) (all_node_limits k b) some (omega arith) (omega arith)

@@ -79,6 +79,16 @@ late_free k l set c uncertain some touches =
     (late_uncertain (nat_lt 0 (slice_index k.count c)) (run_touches c true set) (run_touches c false set)
     (nat_lt 0 (slice_index l.lo c)) (nat_lt (slice_index l.hi c) (slice_index k.count c)) uncertain (lt-ltb 0 (slice_index k.count c) some) touches)
 
+-- where slot 15 may be left to idles, and each page of class 135 may start late
+pub closing_ways_fall : (k : Classes) (batches : ℕ) (l : Limits) → AreNodeLimits k batches l → 0 < batches → batches ≤ slice_index l.cap 15 →
+    slice_index k.count 135 ≤ slice_index l.hi 135 → All (Falls k batches l) (ways_to_close k l)
+unfolding ways_to_close
+closing_ways_fall k batches l limits some full none =
+    All-cons (Falls k batches l) (IdleIn 15) (cond (nat_lt (slice_index l.lo 135) (slice_index k.count 135)) (Late 135 ∷ []) [])
+    (idle_falls k batches l limits 15 some (omega arith) full)
+    (All-one_or_none (Falls k batches l) (nat_lt (slice_index l.lo 135) (slice_index k.count 135)) (Late 135)
+    (λ allowed. late_falls k batches l limits 135 (omega arith) none (ltb-true (slice_index l.lo 135) (slice_index k.count 135) allowed)))
+
 module _ (k : Classes) (batches : ℕ) (l : Limits) (choice : ℕ → ℕ) (limits : AreNodeLimits k batches l) (admitted : IsAdmitted k l choice) where
   -- an arc that crosses what is reached does not stand
   no_early : (set c : ℕ) → IsApart k choice batches set → c < 136 → run_crosses c true set ≡ true → slice_index l.lo c ≡ 0
@@ -132,16 +142,10 @@ module _ (k : Classes) (batches : ℕ) (l : Limits) (choice : ℕ → ℕ) (limi
       (All-joined_below (Falls k batches l) 136 (class_ways k l set) (λ c h. class_ways_fall set c apart h))
 
   pub closing_fall : IsUnclosed k choice batches → 0 < batches → All (Falls k batches l) (ways_to_close k l)
-  unfolding ways_to_close
   closing_fall unclosed some =
       let last : load k choice 15 ≤ slice_index l.cap 15 = admitted.capped 15 (omega arith) in
       let most : choice 135 ≤ slice_index l.hi 135 = admitted.within.most 135 (omega arith) in
-      let full : batches ≤ slice_index l.cap 15 = omega (arith, unclosed.no_idle) in
-      let none : slice_index k.count 135 ≤ slice_index l.hi 135 = omega (arith, unclosed.no_late, late_runs k choice 135) in
-      All-cons (Falls k batches l) (IdleIn 15) (cond (nat_lt (slice_index l.lo 135) (slice_index k.count 135)) (Late 135 ∷ []) [])
-      (idle_falls k batches l limits 15 some (omega arith) full)
-      (All-one_or_none (Falls k batches l) (nat_lt (slice_index l.lo 135) (slice_index k.count 135)) (Late 135)
-      (λ allowed. late_falls k batches l limits 135 (omega arith) none (ltb-true (slice_index l.lo 135) (slice_index k.count 135) allowed)))
+      closing_ways_fall k batches l limits some (omega (arith, unclosed.no_idle)) (omega (arith, unclosed.no_late, late_runs k choice 135))
 
   pub splits_outside : (set c m : ℕ) → NoneCertain k l set → SplitsAt k choice set c m → IsSplitPoint k batches l c m
   splits_outside set c m uncertain (at_one outside one) =

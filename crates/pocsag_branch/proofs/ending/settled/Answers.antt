@@ -1,8 +1,8 @@
 use Rattle.std.proofs.Common.{refl, inl}
 use Rattle.pocsag_tree.specs.declared.shape.Tree.TheVariants.{Overload}
 use Rattle.pocsag_tree.specs.Views.{bound_of}
-use Rattle.pocsag_branch.proofs.Ending.{least_tree, tree_bound}
-use Rattle.pocsag_branch.proofs.searching.settled.Goals as goal
+use Rattle.pocsag_branch.proofs.TreeEnds.{least_tree, tree_bound}
+use Rattle.pocsag_branch.proofs.ending.settled.Goals as goal
 
 pub returns : goal.returns
 returns c =

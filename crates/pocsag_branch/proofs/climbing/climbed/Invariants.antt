@@ -1,0 +1,6 @@
+use Rattle.std.proofs.Common.{slice_index}
+use Rattle.pocsag_slots.specs.Loads.{IsAdmitted}
+use Rattle.pocsag_branch.proofs.climbing.climbed.Given as goal
+
+abbrev pub invariant-loop : goal.invariant-loop
+invariant-loop l = IsAdmitted l.classes l.limits (slice_index l.at.choice.early)

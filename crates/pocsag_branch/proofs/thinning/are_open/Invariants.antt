@@ -1,0 +1,6 @@
+use Rattle.std.proofs.Common.{All, take}
+use Rattle.pocsag_branch.specs.Undecided.{Falls}
+use Rattle.pocsag_branch.proofs.thinning.are_open.Given as goal
+
+abbrev pub invariant-loop-way : goal.invariant-loop-way
+invariant-loop-way l = All (Falls l.classes l.batches l.limits) (take l.way-index l.out)

@@ -1,0 +1,6 @@
+use Rattle.std.proofs.Common.{IfSome}
+use Rattle.pocsag_branch.specs.Examined.{IsForm}
+use Rattle.pocsag_branch.proofs.thinning.thinner.Given as goal
+
+abbrev pub invariant-loop : goal.invariant-loop
+invariant-loop l = IfSome l.best (IsForm l.classes l.question.end l.question.batches l.limits)

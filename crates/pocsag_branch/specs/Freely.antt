@@ -1,0 +1,48 @@
+-- What the free search owes: *The free search's bound* and *Within one*, this project's own.
+use Rattle.std.specs.Prelude.{◌≡◌, ℕ, ◌+◌, ◌≤◌, false, slice_index, ◌⊎◌}
+use Rattle.pocsag_words.specs.declared.ending.End.{End}
+use Rattle.pocsag_slots.specs.declared.class.Classes.{Classes}
+use Rattle.pocsag_slots.specs.Loads.{IsChoice, IsLeast}
+use Rattle.pocsag_slots.specs.Tours.{IsTour}
+use Rattle.pocsag_tree.specs.Bounds.{closed_nodes, overload}
+use Rattle.pocsag_tree.specs.Views.{bound_of}
+use Rattle.pocsag_check.specs.Accepting.{IsAccepted}
+use Rattle.pocsag_branch.specs.declared.answer.Found.{Found}
+use Rattle.pocsag_branch.specs.declared.within_one.Near.{Near}
+use Rattle.pocsag_branch.specs.declared.within_one.FreeFault.{FreeFault}
+use Rattle.pocsag_branch.specs.declared.within_one.FreeFault.TheVariants.{SearchLimit, OutOfMemory}
+use Rattle.pocsag_branch.specs.Found.{IsBound}
+
+-- What `search_freely` found within so many nodes.
+pub record IsFoundFreely (k : Classes) (end : End) (limit : ℕ) (found : Found) : Type 0 where
+  -- The batches are the least that some choice of starts needs, or one more;
+  pub least : ℕ
+  pub is_least : IsLeast k least
+  pub or_one_more : (found.batches ≡ least) ⊎ (found.batches ≡ least + 1)
+  -- the steps are a tour of the choice for the end;
+  pub choice : IsChoice k (slice_index found.choice.early)
+  pub tour : IsTour k end (slice_index found.choice.early) found.batches found.steps.items
+  -- the checker accepts the tree, which has no `Open` then and is at most 300 deep, so no transmission has
+  -- fewer batches;
+  pub accepted : IsAccepted false k end found.batches (bound_of found.tree)
+  pub bound : IsBound k end found.batches
+  -- it has at most so many nodes.
+  pub few : closed_nodes (bound_of found.tree) ≤ limit
+
+-- *Within one*.
+pub record IsNear (k : Classes) (end : End) (near : Near) : Type 0 where
+  -- `least` is the least that some choice of starts needs, and the tree, one node, shows that it bounds
+  -- each transmission;
+  pub is_least : IsLeast k near.least
+  pub bound : IsBound k end near.least
+  pub accepted : IsAccepted false k end near.least (bound_of near.tree)
+  pub set : ℕ
+  pub one_node : bound_of near.tree ≡ overload set
+  -- the steps are a tour of the choice for the end with one batch more.
+  pub choice : IsChoice k (slice_index near.choice.early)
+  pub tour : IsTour k end (slice_index near.choice.early) (near.least + 1) near.steps.items
+
+-- What each fault of `search_freely` says.
+abbrev pub IsFreeFault : Classes → End → FreeFault → Type 0
+IsFreeFault k end (SearchLimit near) = IsNear k end near
+IsFreeFault k end OutOfMemory = Unit {0}

@@ -1,0 +1,106 @@
+ghost use Rattle.std.specs.Prelude.{◌≡◌, ◌≤◌, IfErr, IfOk, slice_index};
+ghost use Rattle.pocsag_slots.specs.Loads.{IsAdmitted, IsLeast, limits_of_all};
+ghost use Rattle.pocsag_tree.specs.Views.{bound_of};
+ghost use Rattle.pocsag_branch.specs.Examined.{Refuses};
+ghost use Rattle.pocsag_branch.specs.Found.{HasPage, IsNodeLimit};
+ghost use Rattle.pocsag_branch.specs.Freed.{IsFreeTree};
+ghost use Rattle.pocsag_branch.specs.Freely.{IsFoundFreely, IsFreeFault, IsNear};
+
+use crate::answer::Found;
+use crate::attempt::Halt;
+use crate::deciding::free_tree;
+use crate::ending::{one_more, settled};
+use crate::least::least_of;
+use crate::question::Question;
+use crate::within_one::{FreeFault, Near};
+use pocsag_slots::{Choice, Classes};
+use pocsag_tree::Tree;
+use pocsag_words::End;
+use std::alloc::{AllocError, Global};
+
+/// The same answer as that of `search`, with a tree whose shape is not promised, and mostly far fewer
+/// nodes. Where so many nodes, 1 to 1,000,000, do not decide it, `SearchLimit` holds a transmission of at
+/// most one batch more than the fewest.
+///
+/// It goes at most 289 nodes deep.
+pub fn search_freely(
+    alloc: Global,
+    classes: &Classes,
+    node_limit: u32,
+    end: End,
+) -> Result<Found, FreeFault>
+    requires pages { HasPage classes.now }
+    requires limit { IsNodeLimit node_limit }
+    ensures found { IfOk result (IsFoundFreely classes.now end node_limit) }
+    ensures fault { IfErr result (IsFreeFault classes.now end) }
+{
+    let least = least_of(classes);
+    let question = Question {
+        end,
+        batches: least.batches,
+        limit: node_limit,
+    };
+    match free_tree(alloc, classes, question) {
+        Ok(tree) => freed(alloc, classes, question, &least.choice, tree),
+        Err(Halt::Met(answer)) => Ok(settled(
+            classes,
+            question,
+            least.set,
+            Box::into_inner(answer),
+        )),
+        Err(Halt::Limit) => Err(limited(alloc, classes, end)),
+        Err(Halt::OutOfMemory) => Err(FreeFault::OutOfMemory),
+    }
+}
+
+fn limited(alloc: Global, classes: &Classes, end: End) -> FreeFault
+    requires { HasPage classes.now }
+    ensures { IsFreeFault classes.now end result }
+{
+    match near(alloc, classes, end) {
+        Ok(near) => FreeFault::SearchLimit(near),
+        Err(_) => FreeFault::OutOfMemory,
+    }
+}
+
+// What is found where the tree leaves no tour with the least number of batches, for which the choice is
+// admitted.
+fn freed(
+    alloc: Global,
+    classes: &Classes,
+    question: Question,
+    choice: &Choice,
+    tree: Tree,
+) -> Result<Found, FreeFault>
+    requires least { IsLeast classes.now question.batches }
+    requires small { question.batches ≤ 1760000 }
+    requires admitted { IsAdmitted classes.now (limits_of_all classes.now question.batches) (slice_index choice.now.early) }
+    requires tree { IsFreeTree classes.now question.end question.batches question.limit (bound_of tree) }
+    ensures found { IfOk result (IsFoundFreely classes.now question.end question.limit) }
+    ensures fault { IfErr result (λ fault. fault ≡ FreeFault.OutOfMemory) }
+{
+    let Ok(steps) = one_more(alloc, classes, choice, question.batches, question.end) else {
+        return Err(FreeFault::OutOfMemory);
+    };
+    Ok(Found {
+        batches: question.batches + 1,
+        choice: *choice,
+        steps,
+        tree,
+    })
+}
+
+/// A transmission of at most one batch more than the fewest, without a search.
+pub fn near(alloc: Global, classes: &Classes, end: End) -> Result<Near, AllocError>
+    requires { HasPage classes.now }
+    ensures { IfOk result (IsNear classes.now end) }
+{
+    let least = least_of(classes);
+    let steps = one_more(alloc, classes, &least.choice, least.batches, end)?;
+    Ok(Near {
+        least: least.batches,
+        choice: least.choice,
+        steps,
+        tree: Tree::Overload(least.set),
+    })
+}

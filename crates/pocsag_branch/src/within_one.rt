@@ -1,0 +1,23 @@
+use pocsag_slots::{Choice, Step};
+use pocsag_tree::Tree;
+use thiserror::Error;
+
+/// A transmission of at most one batch more than the fewest: a choice of starts with the steps of its tour
+/// of `least + 1` batches, and the tree that refutes fewer than `least`.
+#[derive(Drop, Debug)]
+pub struct Near {
+    pub least: u32,
+    pub choice: Choice,
+    pub steps: Vec<Step>,
+    pub tree: Tree,
+}
+
+/// Why the free search gave no answer.
+#[derive(Drop, Debug, Error)]
+pub enum FreeFault {
+    /// So many nodes did not decide between `least` batches and one more.
+    #[error("search limit reached")]
+    SearchLimit(Near),
+    #[error("out of memory")]
+    OutOfMemory,
+}
