@@ -82,10 +82,14 @@ fn switch_straight(network: &Network, search: &mut Search, class: u8, slot: u8, 
     }
 }
 
-// Whether the slot is one end of the runs of the class and the other end has room.
+// Whether the slot is one end of the runs of the class, some of which may move, and the other end has
+// room.
 fn leads_to_room(network: &Network, class: u8, slot: u8) -> bool
     requires { class < 136 }
 {
+    if network.limits.lo[class as usize] == network.limits.hi[class as usize] {
+        return false;
+    }
     let from = start(class, true);
     let to = finish(class, true);
     if slot == from {
@@ -111,6 +115,9 @@ fn switch(network: &Network, search: &mut Search, class: u8, slot: u8, most: u32
     ensures pushes { Pushes network.now search.old search.new slot most result }
     ensures leads { result ≡ 0 → LeadsInto network.now.limits (slice_index search.new.early) search.new.reached class slot }
 {
+    if network.limits.lo[class as usize] == network.limits.hi[class as usize] {
+        return 0;
+    }
     let early = search.early[class as usize];
     let from = start(class, true);
     let to = finish(class, true);

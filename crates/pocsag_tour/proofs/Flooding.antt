@@ -3,7 +3,7 @@ use Rattle.std.proofs.Common.{◌≡◌, ◌≢◌, ℕ, ◌<◌, true, false, L
 use Rattle.std.proofs.lemmas.Bool.{cases_eq}
 use Rattle.pocsag_slots.specs.Sums.{holds}
 use Rattle.pocsag_tour.specs.Moves.{arc_from, arc_to, IsEntering, IsExit, Home, at_root, by_exit, LeadHome}
-use Rattle.pocsag_tour.proofs.Geometry.{from_below, to_below}
+use Rattle.pocsag_tour.proofs.Geometry.{to_below}
 
 -- the set of one member
 pub lone : (set member q : ℕ) → ((i : ℕ) → i ≢ member → holds set i ≡ false) → holds set q ≡ true → q ≡ member

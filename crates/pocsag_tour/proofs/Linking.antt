@@ -1,5 +1,5 @@
 -- Links between boundaries, and what they lead to.
-use Rattle.std.proofs.Common.{◌≡◌, ◌≢◌, ◌⊎◌, ℕ, ◌+◌, ◌%◌, ◌<◌, ◌≤◌, ◌==◌, Bool, true, false, List, length, slice_index, slice_set, get_or-set_same, get_or-set_other, ltb, refl, sym, ap, subst, ◌∙◌, arith, inl, inr, bit_or, max}
+use Rattle.std.proofs.Common.{◌≡◌, ◌⊎◌, ℕ, ◌+◌, ◌%◌, ◌<◌, ◌≤◌, ◌==◌, Bool, true, false, List, length, slice_index, ltb, sym, ap, subst, ◌∙◌, arith, inl, inr, bit_or, max}
 use Rattle.std.proofs.lemmas.Bool.{cases_eq, lt-ltb, ltb-true}
 use Rattle.std.proofs.lemmas.Bool.Decides.{nat_tests}
 use Rattle.std.proofs.lemmas.Nat.Bits.{bit_at_or, bit_at-lt, bit_at-zero}
@@ -7,7 +7,7 @@ use Rattle.std.specs.Int.{bit_at}
 use Rattle.pocsag_slots.specs.declared.class.Classes.{Classes}
 use Rattle.pocsag_slots.specs.Loads.{load}
 use Rattle.pocsag_slots.specs.Numbering.{start_of, finish_of}
-use Rattle.pocsag_slots.specs.Sums.{AddsMember, holds}
+use Rattle.pocsag_slots.specs.Sums.{holds}
 use Rattle.pocsag_slots.proofs.CoverLemmas.{start_below}
 use Rattle.pocsag_tour.specs.Links.{AddsLink, AreLinked, at_start, by_idle, by_link, by_run, Follows, HaveIdles, HaveRuns, IsLed, IsLinked}
 use Rattle.pocsag_tour.specs.Reached.{AreReached, IsReached, at_start as start, by_idle as on_idle, by_run as on_run, runs_of}
@@ -91,6 +91,20 @@ runs_more k choice batches links one two c early late h is_early is_late long fi
         second.kept (start_of c true) (finish_of c true) (start_below c true h)
         (first.held (lt-ltb 0 early (subst (λ (m : ℕ). 0 < m) (sym is_early) some)))
     own false some = second.held (lt-ltb 0 late (subst (λ (m : ℕ). 0 < m) (sym is_late) some))
+
+-- a class without pages has no runs
+no_runs : (k : Classes) (choice : ℕ → ℕ) (c : ℕ) (early : Bool) → slice_index k.count c ≡ 0 → choice c ≤ slice_index k.count c → runs_of k choice c early ≡ 0
+unfolding runs_of
+no_runs k choice c true none few = omega arith
+no_runs k choice c false none few = omega arith
+
+pub runs_none : (k : Classes) (choice : ℕ → ℕ) (links : ℕ → ℕ) (c : ℕ) → slice_index k.count c ≡ 0 → choice c ≤ slice_index k.count c →
+    HaveRuns k choice links c → HaveRuns k choice links (c + 1)
+runs_none k choice links c none few so_far d e low some =
+    elim (cases_eq d c) [
+      | inl same ↦ absurd (let here : 0 < runs_of k choice c e = subst (λ (b : ℕ). 0 < runs_of k choice b e) same some in omega (arith, no_runs k choice c e none few))
+      | inr other ↦ so_far d e (omega arith) some
+    ]
 
 pub no_links : (k : Classes) (choice : ℕ → ℕ) (batches : ℕ) (links : List ℕ) → length links ≡ 16 → ((p : ℕ) → p < 16 → slice_index links p ≡ 0) →
     AreLinks k choice batches links 0

@@ -1,5 +1,5 @@
 -- With an idle in each slot all arcs lead to one another, and there is a tour for either end.
-use Rattle.std.proofs.Common.{◌≡◌, ℕ, zero, suc, ◌+◌, ◌-◌, ◌%◌, ◌<◌, ◌≤◌, true, List, refl, sym, subst, arith}
+use Rattle.std.proofs.Common.{◌≡◌, ℕ, zero, suc, ◌+◌, ◌-◌, ◌%◌, ◌<◌, ◌≤◌, true, List, refl, subst, arith}
 use Rattle.pocsag_words.specs.declared.ending.End.{End}
 use Rattle.pocsag_words.specs.declared.ending.End.TheVariants.{Open, Closed}
 use Rattle.pocsag_slots.specs.declared.class.Classes.{Classes}

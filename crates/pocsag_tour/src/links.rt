@@ -1,4 +1,4 @@
-ghost use Rattle.std.specs.Prelude.{◌≡◌, ℕ, ◌<◌, ◌≤◌, length, slice_index};
+ghost use Rattle.std.specs.Prelude.{◌≡◌, ℕ, ◌+◌, ◌<◌, ◌≤◌, length, slice_index};
 ghost use Rattle.pocsag_slots.specs.Loads.{IsChoice};
 ghost use Rattle.pocsag_tour.specs.Links.{AddsLink, AreLinked, Follows, HaveIdles, HaveRuns};
 
@@ -16,6 +16,24 @@ fn link(links: &mut [u16; 16], there: bool, from: u8, to: u8)
     }
 }
 
+// Links the boundaries by the runs of the class.
+fn link_class(links: &mut [u16; 16], classes: &Classes, choice: &Choice, batches: u32, class: u8)
+    requires chosen { IsChoice classes.now (slice_index choice.now.early) }
+    requires class { class < 136 }
+    requires linked { AreLinked classes.now (slice_index choice.now.early) batches (slice_index links.old) }
+    requires runs { HaveRuns classes.now (slice_index choice.now.early) (slice_index links.old) class }
+    ensures linked { AreLinked classes.now (slice_index choice.now.early) batches (slice_index links.new) }
+    ensures runs { HaveRuns classes.now (slice_index choice.now.early) (slice_index links.new) (class + 1) }
+{
+    if classes.count[class as usize] == 0 {
+        return;
+    }
+    let early = runs_of(classes, choice, class, true);
+    let late = runs_of(classes, choice, class, false);
+    link(links, early > 0, start(class, true), finish(class, true));
+    link(links, late > 0, start(class, false), finish(class, false));
+}
+
 // The links of the runs of the choice.
 fn run_links(classes: &Classes, choice: &Choice, batches: u32) -> [u16; 16]
     requires { IsChoice classes.now (slice_index choice.now.early) }
@@ -25,20 +43,7 @@ fn run_links(classes: &Classes, choice: &Choice, batches: u32) -> [u16; 16]
 {
     let mut links = [0; SLOTS];
     for class in 0..CLASSES as u8 {
-        let early = runs_of(classes, choice, class, true);
-        let late = runs_of(classes, choice, class, false);
-        link(
-            &mut links,
-            early > 0,
-            start(class, true),
-            finish(class, true),
-        );
-        link(
-            &mut links,
-            late > 0,
-            start(class, false),
-            finish(class, false),
-        );
+        link_class(&mut links, classes, choice, batches, class);
     }
     links
 }

@@ -124,3 +124,15 @@ fn closed_mixed(rt: HostRuntime) -> Result<(), Fail> {
     assert_eq!(rt; steps.as_slice(), [first, second, last].as_slice());
     Ok(())
 }
+
+#[test]
+fn reached_over_runs(rt: HostRuntime) -> Result<(), Fail> {
+    let apart = classes_for(rt.alloc(), &[(0, 15), (3, 15)], End::Open)?;
+    let early = Choice { early: apart.count };
+    assert_eq!(rt; reached(&apart, &early, 2), 0x0001, "loops-apart");
+    let exact = classes_for(rt.alloc(), &[(0, 5), (3, 9)], End::Open)?;
+    let early = Choice { early: exact.count };
+    assert_eq!(rt; reached(&exact, &early, 1), 0x0041, "two-numeric-exact");
+    assert_eq!(rt; reached(&exact, &early, 2), 0xFFFF, "with idles");
+    Ok(())
+}

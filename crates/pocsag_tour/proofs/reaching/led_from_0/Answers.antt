@@ -1,4 +1,4 @@
-use Rattle.std.proofs.Common.{◌≡◌, ℕ, true, arith, refl, subst, sym, slice_index}
+use Rattle.std.proofs.Common.{◌≡◌, ℕ, true, refl, subst, sym, slice_index}
 use Rattle.pocsag_slots.specs.Sums.{holds}
 use Rattle.pocsag_tour.specs.Links.{IsLed, at_start}
 use Rattle.pocsag_tour.proofs.Flooding.{lone}

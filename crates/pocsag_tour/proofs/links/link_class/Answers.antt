@@ -1,0 +1,22 @@
+use Rattle.std.proofs.Common.{◌+◌, slice_index, arith}
+use Rattle.pocsag_tour.proofs.Linking.{AreLinks, link_at, runs_more, runs_none}
+use Rattle.pocsag_tour.proofs.links.link_class.Goals as goal
+
+more : (c : goal.After-link-2) → AreLinks c.args.classes.now (slice_index c.args.choice.now.early) c.args.batches c.link-2.new.links (c.args.class + 1)
+more c =
+    runs_more c.args.classes.now (slice_index c.args.choice.now.early) c.args.batches
+    c.args.links.now c.link.new.links c.link-2.new.links c.args.class c.runs_of-early.result c.runs_of-late.result
+    c.requires.class c.runs_of-early.ensures c.runs_of-late.ensures c.link-2.array_long
+    (link_at _ _ _ _ _ _ _ c.start.ensures.value c.finish.ensures.value c.link.ensures)
+    (link_at _ _ _ _ _ _ _ c.start-2.ensures.value c.finish-2.ensures.value c.link-2.ensures)
+    (record { long = c.told-links; linked = c.requires.linked; runs = c.requires.runs })
+
+pub returns-clause-linked : goal.returns-clause-linked
+returns-clause-linked c = (more c).linked
+
+pub returns-clause-runs : goal.returns-clause-runs
+returns-clause-runs c = (more c).runs
+
+pub returns-then-classes-class-eq0-clause-runs : goal.returns-then-classes-class-eq0-clause-runs
+returns-then-classes-class-eq0-clause-runs c =
+    runs_none c.args.classes.now (slice_index c.args.choice.now.early) (slice_index c.args.links.now) c.args.class (omega arith) (c.requires.chosen c.args.class c.requires.class) c.requires.runs
