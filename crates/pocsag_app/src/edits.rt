@@ -13,7 +13,9 @@ pub enum Line<'a> {
         message: &'a [u8],
     },
     /// `cancel,ADDRESS`.
-    Cancel { address: &'a [u8] },
+    Cancel {
+        address: &'a [u8],
+    },
     /// `list`.
     List,
     /// `plan,TX,CERT`, and the end where it is named.

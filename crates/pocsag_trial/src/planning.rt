@@ -169,11 +169,7 @@ pub fn stream_two_numeric(alloc: Global, line: &mut Line) -> Result<(), OutOfMem
 }
 
 // Want of memory leaves both outputs as they were.
-fn lacked(
-    tx: &MemorySink<140>,
-    cert: &MemorySink<40>,
-    line: &mut Line,
-) -> Result<(), OutOfMemory> {
+fn lacked(tx: &MemorySink<140>, cert: &MemorySink<40>, line: &mut Line) -> Result<(), OutOfMemory> {
     if tx.bytes().is_empty() && cert.bytes().is_empty() {
         return Err(OutOfMemory);
     }
