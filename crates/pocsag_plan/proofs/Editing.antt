@@ -81,7 +81,7 @@ grown_book es new o c o' c' p book may grown gains gains_closed =
       keyed =
           ap keys_of grown
           ∙ (keys_push es p.address p
-              ∙ (ap (λ (ks : List ℕ). ks ++ p.address ∷ []) book.keyed ∙ (sym (addresses_push (values_of es) p) ∙ ap addresses_of (sym values))));
+          ∙ (ap (λ (ks : List ℕ). ks ++ p.address ∷ []) book.keyed ∙ (sym (addresses_push (values_of es) p) ∙ ap addresses_of (sym values))));
       few = rw values (omega (arith, may.room, length-append (values_of es) (p ∷ [])));
       good = subst AreGood (sym values) (good_push (values_of es) p book.good may.good may.another);
       counted = subst (λ (ps : List Page). AreClassesOf o' Open ps) (sym values) (last_gained o o' Open p (values_of es) book.counted gains);

@@ -114,7 +114,7 @@ without_is a (d ∷ es) keyed apart =
     others same =
         subst (λ (n : ℕ). has_address (values_of es) n ≡ false) (sym same)
         (list_any_none (nat_eq d.1.address) (addresses_of (values_of es))
-            (All-from_recursion (λ y. nat_eq d.1.address y ≡ false) (addresses_of (values_of es)) (IsDistinct-head nat_eq d.1.address (addresses_of (values_of es)) apart)))
+        (All-from_recursion (λ y. nat_eq d.1.address y ≡ false) (addresses_of (values_of es)) (IsDistinct-head nat_eq d.1.address (addresses_of (values_of es)) apart)))
 
     by : (b : Bool) → nat_eq a d.0 ≡ b → values_of (remove_entry (nat_eq a) es) ≡ without (values_of es) a →
         values_of (remove_entry (nat_eq a) (d ∷ es)) ≡ without (d.1 ∷ values_of es) a

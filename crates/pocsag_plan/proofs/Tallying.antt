@@ -65,9 +65,10 @@ short_pages R good = All-weaker IsGoodPage IsShort (λ p g. g.few) R good
 pub count_here : (counts turns : List ℕ) (end : End) (S R : List Page) (p : Page) → class_of_page end p < 136 → AreCounted counts turns end (S ++ p ∷ R) →
     (1 ≤ slice_index counts (class_of_page end p)) × (page_length p / 16 ≤ slice_index turns (class_of_page end p))
 count_here counts turns end S R p h of =
-    let at = class_of_page end p in
-    (omega (arith, of.each at h, count_amid end S R p at, here_more at (count_of end (S ++ R) at) 1),
-     omega (arith, of.each_turns at h, turns_amid end S R p at, here_more at (turns_of end (S ++ R) at) (page_length p / 16)))
+    let at = class_of_page end p in (
+      omega (arith, of.each at h, count_amid end S R p at, here_more at (count_of end (S ++ R) at) 1),
+      omega (arith, of.each_turns at h, turns_amid end S R p at, here_more at (turns_of end (S ++ R) at) (page_length p / 16)),
+    )
 
 pub counted_more : (counts turns : List ℕ) (end : End) (S R : List Page) (p : Page) → class_of_page end p < 136 → AreCounted counts turns end (S ++ R) →
     AreCounted (slice_set counts (class_of_page end p) (slice_index counts (class_of_page end p) + 1))

@@ -32,7 +32,7 @@ invariant_of-self-2 c =
     let entries = rw c.unwrap-new.ensures at c.insert.ensures.entries in
     let grown : c.insert.new.self.entries ≡ c.self.inside.pages.entries ++ (c.args.page.address, c.args.page) ∷ [] =
     entries ∙ (insert_entry-new nat_eq c.reserve.new.self c.args.page.address c.args.page absent
-        ∙ ap (λ (es : List (ℕ × Page)). es ++ (c.args.page.address, c.args.page) ∷ []) c.in-Ok.ensures.entries) in
+    ∙ ap (λ (es : List (ℕ × Page)). es ++ (c.args.page.address, c.args.page) ∷ []) c.in-Ok.ensures.entries) in
     grown_book c.self.inside.pages.entries c.insert.new.self.entries c.self.inside.for_open c.self.inside.for_closed c.count_page.new.classes c.count_page-2.new.classes
     c.args.page c.self.invariant follows grown c.count_page.ensures c.count_page-2.ensures
 
@@ -45,5 +45,5 @@ returns-clause-added c =
     let entries = rw c.unwrap-new.ensures at c.insert.ensures.entries in
     let grown : c.insert.new.self.entries ≡ c.self.inside.pages.entries ++ (c.args.page.address, c.args.page) ∷ [] =
     entries ∙ (insert_entry-new nat_eq c.reserve.new.self c.args.page.address c.args.page absent
-        ∙ ap (λ (es : List (ℕ × Page)). es ++ (c.args.page.address, c.args.page) ∷ []) c.in-Ok.ensures.entries) in
+    ∙ ap (λ (es : List (ℕ × Page)). es ++ (c.args.page.address, c.args.page) ∷ []) c.in-Ok.ensures.entries) in
     ap values_of grown ∙ (values_push c.self.inside.pages.entries c.args.page.address c.args.page ∙ ap (λ (ps : List Page). ps ++ c.args.page ∷ []) c.self.view_is)
