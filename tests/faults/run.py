@@ -118,46 +118,56 @@ def try_input(tally, library):
 
     tally.check("input: growths", each_refusal(command, library, "ALLOC", page_file, nothing, judge_alloc) > 3)
     tally.check("input: reads", each_refusal(command, library, "READ", page_file, nothing, judge_read) > 0)
-    tally.check("input: writes", each_refusal(command, library, "WRITE", page_file, nothing, judge_write) == 2)
+    tally.check("input: writes", each_refusal(command, library, "WRITE", page_file, nothing, judge_write) == 1)
     short, _ = run(command, library, stdin=page_file, short=True)
     tally.check("input one byte at a time", short.stdout == ample.stdout and short.returncode == 0, short)
 
 
 def try_plan(tally, library, folder):
-    """`plan` on files: after a refusal TX holds a prefix, and the page file is never touched."""
-    pages, tx = folder / "pages.csv", folder / "tx.bin"
+    """`plan` on files: after a refusal TX and then CERT hold a prefix, and the page file is never touched."""
+    pages, tx, cert = folder / "pages.csv", folder / "tx.bin", folder / "cert.bin"
     page_file = b"address,kind,message\n" + b"".join(b"%d,numeric,%d\n" % (k, 10**9 + k) for k in range(400))
     pages.write_bytes(page_file)
-    command = [str(PROGRAM), "plan", str(pages), str(tx)]
+    command = [str(PROGRAM), "plan", str(pages), str(tx), str(cert)]
     ample, _ = run(command, library)
-    due = tx.read_bytes()
-    tally.check("plan", ample.returncode == 0 and ample.stdout.startswith(b"batches ") and len(due) > 9000, ample)
+    due, shown = tx.read_bytes(), cert.read_bytes()
+    holds = ample.returncode == 0 and ample.stdout.startswith(b"pages 400\nbatches ") and len(due) > 9000
+    tally.check("plan", holds and len(shown) > 10, ample)
 
     def prepare():
         tx.write_bytes(b"an older transmission")
+        cert.write_bytes(b"an older certificate")
+
+    def are_left(sent, certified):
+        """Nothing was emptied yet, or prefixes stand, the transmission whole before the certificate."""
+        if sent == b"an older transmission" or certified == b"an older certificate":
+            return sent in (b"an older transmission", b"") and certified == b"an older certificate"
+        return due.startswith(sent) and shown.startswith(certified) and (not certified or sent == due)
 
     def judge(kind, text):
         def judge_one(number, done):
-            taken = tx.read_bytes()
-            kept = taken == b"an older transmission"
-            is_ample = done.returncode == 0 and taken == due
+            sent, certified = tx.read_bytes(), cert.read_bytes()
+            is_ample = done.returncode == 0 and (sent, certified) == (due, shown)
             is_refused = (
                 done.returncode == 3
                 and (done.stderr == text or (kind == "WRITE" and text.endswith(done.stderr)))
-                and (kept or due.startswith(taken))
+                and are_left(sent, certified)
                 and ample.stdout.startswith(done.stdout)
             )
+            is_grown = kind == "ALLOC" and is_refused and sent not in (b"an older transmission", b"")
             holds = is_refused or (kind == "ALLOC" and is_ample)
             tally.check(f"plan without {kind} {number}", holds and pages.read_bytes() == page_file, done)
+            tally.check(f"plan grows nothing after the first byte: {number}", not is_grown, done)
 
         return judge_one
 
     tally.check("plan: growths", each_refusal(command, library, "ALLOC", b"", prepare, judge("ALLOC", OUT_OF_MEMORY)) > 3)
     tally.check("plan: reads", each_refusal(command, library, "READ", b"", prepare, judge("READ", CANNOT_READ)) > 0)
-    tally.check("plan: writes", each_refusal(command, library, "WRITE", b"", prepare, judge("WRITE", CANNOT_WRITE)) > 2)
+    tally.check("plan: writes", each_refusal(command, library, "WRITE", b"", prepare, judge("WRITE", CANNOT_WRITE)) > 3)
     prepare()
     short, _ = run(command, library, short=True)
-    tally.check("plan one byte at a time", short.returncode == 0 and tx.read_bytes() == due, short)
+    holds = short.returncode == 0 and (tx.read_bytes(), cert.read_bytes()) == (due, shown)
+    tally.check("plan one byte at a time", holds, short)
 
 
 def try_printing(tally, library, name, words, files, folder):
@@ -208,6 +218,8 @@ def main():
         try_plan(tally, library, folder)
         files = {"pages.csv": LOOPS_APART, "cert.bin": CERTIFICATE}
         try_printing(tally, library, "check", ["check", "pages.csv", "cert.bin"], files, folder)
+        files = {"pages.csv": LOOPS_APART}
+        try_printing(tally, library, "report", ["report", "pages.csv", "--rate", "1200"], files, folder)
         files = {"tx.bin": ACROSS}
         try_printing(tally, library, "decode", ["decode", "tx.bin"], files, folder)
         try_printing(tally, library, "hear", ["hear", "7", "tx.bin"], files, folder)

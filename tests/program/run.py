@@ -6,6 +6,7 @@ It takes the binary that the gate left in crates/pocsag_app/out. The last line i
 
 import os
 import pathlib
+import shutil
 import subprocess
 import sys
 import tempfile
@@ -37,39 +38,53 @@ def ones(count):
     return b"1" * count
 
 
-# The rounds of the worked examples, each with its number of batches in file order, and where it is
-# known the transmission in file order.
+def places(word, slots):
+    """The transmissions of one batch with the word in one of the slots, and idles elsewhere."""
+    return [transmission(slot * [IDLE] + [word] + (15 - slot) * [IDLE]) for slot in slots]
+
+
+# The rounds of the worked examples: the fewest batches with the open end and with the closed end, those of
+# file order, and where they are known the transmissions with the open end that are possible.
+EXACT_SENT = ["00000000"] + 5 * [MESSAGE] + ["00000000"] + 9 * [MESSAGE]
+TIGHT_SENT = (["00000000"] + 5 * [MESSAGE] + ["000026EC"] + 9 * [MESSAGE], 6 * [MESSAGE] + ["00000000"] + 9 * [MESSAGE])
 ROUNDS = {
-    "lone-tone": (b"8,tone0,\n", 1, transmission(["000026EC"] + 15 * [IDLE])),
-    "lone-address-7": (b"2007663,tone0,\n", 1, transmission(14 * [IDLE] + ["7A89A470", IDLE])),
-    "five-digits": (b"0,numeric,12345\n", 1, transmission(["00000000", "C261572C"] + 14 * [IDLE])),
-    "trailing-spaces": (b"0,numeric,12  \n", 1, transmission(["00000000", "C2199DEA"] + 14 * [IDLE])),
-    "no-spaces": (b"0,numeric,12\n", 1, transmission(["00000000", "C2199DEA"] + 14 * [IDLE])),
-    "alpha": (b"0,alpha,ABC\n", 1, transmission(["00001DA5", "C14387B8", "C00004DC"] + 13 * [IDLE])),
-    "three-tones-one-frame": (
-        b"5,tone0,\n13,tone0,\n21,tone0,\n",
-        2,
-        transmission(10 * [IDLE] + ["00000000", "000026EC"] + 4 * [IDLE], 10 * [IDLE] + ["0000430B"] + 5 * [IDLE]),
-    ),
-    "two-numeric-exact": (
-        b"0,numeric," + ones(25) + b"\n3,numeric," + ones(45) + b"\n",
-        1,
-        transmission(["00000000"] + 5 * [MESSAGE] + ["00000000"] + 9 * [MESSAGE]),
-    ),
+    "lone-tone": (b"8,tone0,\n", 1, 1, 1, places("000026EC", (0, 1))),
+    "lone-address-7": (b"2007663,tone0,\n", 1, 1, 1, places("7A89A470", (14, 15))),
+    "five-digits": (b"0,numeric,12345\n", 1, 1, 1, None),
+    "three-tones-one-frame": (b"5,tone0,\n13,tone0,\n21,tone0,\n", 2, 2, 2, None),
+    "one-full-batch": (b"0,numeric," + ones(75) + b"\n", 1, 2, 1, [transmission(["00000000"] + 15 * [MESSAGE])]),
+    "loop-apart": (b"3,numeric," + ones(75) + b"\n", 2, 2, 2, None),
+    "loops-apart": (b"0,numeric," + ones(75) + b"\n3,numeric," + ones(75) + b"\n", 3, 3, 3, None),
+    "two-numeric-exact": (b"0,numeric," + ones(25) + b"\n3,numeric," + ones(45) + b"\n", 1, 2, 1, [transmission(EXACT_SENT)]),
     "three-pages-tight": (
         b"0,numeric," + ones(25) + b"\n3,numeric," + ones(45) + b"\n11,numeric," + ones(75) + b"\n",
+        2,
         3,
+        3,
+        [transmission(*TIGHT_SENT)],
+    ),
+    "two-in-last-frame": (b"7,numeric,12345\n15,numeric,12345\n", 2, None, 2, None),
+    "closed-mixed": (b"0,numeric," + ones(65) + b"\n7,tone0,\n15,numeric," + ones(80) + b"\n", 2, 2, 2, None),
+    "closed-both-ways": (
+        b"0,numeric," + ones(65) + b"\n7,tone0,\n15,numeric," + ones(10) + b"\n1,numeric," + ones(65) + b"\n",
+        2,
+        3,
+        2,
         None,
     ),
-    "two-in-last-frame": (b"7,numeric,12345\n15,numeric,12345\n", 2, None),
-    "file-order-2000": (b"".join(b"%d,tone0,\n" % k for k in range(2000)), 250, None),
-    "round-size": (b"".join(b"%d,tone0,\n" % k for k in range(20000)), 2500, None),
-    "crlf": (b"8,tone0,\r\n", 1, transmission(["000026EC"] + 15 * [IDLE])),
-    "empty-lines": (b"\n\n8,tone0,\n\n", 1, transmission(["000026EC"] + 15 * [IDLE])),
-    "quoted-fields": (b'"8","tone0",""\n', 1, transmission(["000026EC"] + 15 * [IDLE])),
-    "leading-zeros": (b"0000008,tone0,\n", 1, transmission(["000026EC"] + 15 * [IDLE])),
-    "no-last-line-feed": (b"8,tone0,", 1, transmission(["000026EC"] + 15 * [IDLE])),
+    "long-numeric": (b"7,numeric," + ones(241) + b"\n", 4, 5, None, None),
+    "long-alpha": (b"0,alpha," + 4000 * b"A" + b"\n", 88, None, None, None),
+    "file-order-2000": (b"".join(b"%d,tone0,\n" % k for k in range(2000)), 125, 125, 250, None),
+    "round-size": (b"".join(b"%d,tone0,\n" % k for k in range(20000)), 1250, 1250, 2500, None),
+    "crlf": (b"8,tone0,\r\n", 1, 1, 1, places("000026EC", (0, 1))),
+    "empty-lines": (b"\n\n8,tone0,\n\n", 1, 1, 1, places("000026EC", (0, 1))),
+    "quoted-fields": (b'"8","tone0",""\n', 1, 1, 1, places("000026EC", (0, 1))),
+    "leading-zeros": (b"0000008,tone0,\n", 1, 1, 1, places("000026EC", (0, 1))),
+    "no-last-line-feed": (b"8,tone0,", 1, 1, 1, places("000026EC", (0, 1))),
 }
+
+# What a listing shows of the rounds whose records are spelled otherwise.
+SPELLED = {name: [b"8,tone0,"] for name in ("crlf", "empty-lines", "quoted-fields", "leading-zeros", "no-last-line-feed")}
 
 # Page files that are refused, with the text.
 REFUSED = {
@@ -98,30 +113,100 @@ REFUSED = {
 }
 
 
+def try_round(tally, folder, name, end):
+    """A round planned, checked, decoded and read back."""
+    records, open_batches, closed_batches, _, sent = ROUNDS[name]
+    batches = open_batches if end == "open" else closed_batches
+    if batches is None:
+        return
+    pages, tx, cert = folder / "pages.csv", folder / "tx.bin", folder / "cert.bin"
+    pages.write_bytes(HEADER + records)
+    lines = SPELLED.get(name) or records.strip(b"\n").split(b"\n")
+    done = run(["plan", "pages.csv", "tx.bin", "cert.bin", "--end", end, "--verify"], folder)
+    told = b"pages %d\nbatches %d\nverified\n" % (len(lines), batches)
+    tally.check(f"plan {name} {end}", (done.returncode, done.stdout, done.stderr) == (0, told, b""), done)
+    wrote = tx.read_bytes()
+    holds = len(wrote) == 72 + 68 * batches and (end == "closed" or sent is None or wrote in sent)
+    tally.check(f"transmission of {name} {end}", holds, wrote[:200].hex())
+    tally.check(f"last codeword of {name} {end}", end == "open" or wrote[-4] < 128, wrote[-4:])
+    done = run(["check", "pages.csv", "cert.bin"], folder)
+    told = b"at least %d batches" % batches + (b" with a closed end\n" if end == "closed" else b"\n")
+    tally.check(f"check {name} {end}", done.returncode == 0 and done.stdout == told, done)
+    head = b"PCB2" + bytes([end == "closed"]) + batches.to_bytes(4, "big")
+    tally.check(f"certificate of {name} {end}", cert.read_bytes().startswith(head), cert.read_bytes()[:20])
+    done = run(["decode", "tx.bin"], folder)
+    holds = done.returncode == 0 and done.stdout.startswith(HEADER)
+    holds = holds and sorted(done.stdout[len(HEADER) :].strip(b"\n").split(b"\n")) == sorted(lines)
+    tally.check(f"decode {name} {end}", holds, done.stdout[:300])
+
+
 def try_rounds(tally, folder):
-    for name, (records, batches, due) in ROUNDS.items():
-        pages, tx = folder / "pages.csv", folder / "tx.bin"
-        pages.write_bytes(HEADER + records)
-        count = len([line for line in records.replace(b"\r", b"").split(b"\n") if line])
-        done = run(["plan", "pages.csv", "tx.bin"], folder)
-        wrote = tx.read_bytes() if tx.exists() else b""
-        holds = done.returncode == 0 and done.stdout == b"batches %d\n" % batches and done.stderr == b""
-        holds = holds and len(wrote) == 72 + 68 * batches and (due is None or wrote == due)
-        tally.check(f"plan {name}", holds, (done, wrote[:200].hex()))
+    for name, (records, batches, _, in_order, _) in ROUNDS.items():
+        try_round(tally, folder, name, "open")
+        try_round(tally, folder, name, "closed")
         done = run([], folder, HEADER + records)
+        count = len(SPELLED.get(name) or records.strip(b"\n").split(b"\n"))
         holds = done.returncode == 0 and done.stdout == b"pages %d\nbatches %d\n" % (count, batches)
         tally.check(f"input {name}", holds, done)
+        if in_order:
+            done = run(["report", "pages.csv", "--rate", "1200"], folder)
+            wanted = [b"in_order %d" % in_order, b"batches %d" % batches]
+            tally.check(f"report {name}", done.returncode == 0 and done.stdout.split(b"\n")[2:4] == wanted, done)
+
+
+# The reports of the worked examples: words, what is printed or the fault, and the status.
+APART_REPORT = b"pages 2\ncodewords 32\nin_order 3\nbatches 3\nidles 16\nbits 2208\nairtime_ms 1840\n"
+TIGHT_REPORT = b"pages 3\ncodewords 32\nin_order 3\nbatches 2\nidles 0\nbits 1664\nairtime_ms %d\n"
+ALPHA_REPORT = b"pages 1\ncodewords 1401\nin_order 88\nbatches 88\nidles 7\nbits 48448\nairtime_ms 40374\n"
+REPORTS = [
+    ("loops-apart", "1200", APART_REPORT, b"", 0),
+    ("three-pages-tight", "1200", TIGHT_REPORT % 1387, b"", 0),
+    ("three-pages-tight", "512", TIGHT_REPORT % 3250, b"", 0),
+    ("three-pages-tight", "2400", TIGHT_REPORT % 694, b"", 0),
+    ("three-pages-tight", "1201", b"", b"the rate must be 512, 1200 or 2400", 1),
+    ("long-alpha", "1200", ALPHA_REPORT, b"", 0),
+]
+
+
+def try_reports(tally, folder):
+    pages = folder / "pages.csv"
+    for name, rate, printed, fault, status in REPORTS:
+        pages.write_bytes(HEADER + ROUNDS[name][0])
+        done = run(["report", "pages.csv", "--rate", rate], folder)
+        told = b"pocsag: " + fault + b"\n" if fault else b""
+        holds = (done.returncode, done.stdout, done.stderr) == (status, printed, told)
+        tally.check(f"report {name} at {rate}", holds, done)
+    pages.write_bytes(HEADER + ROUNDS["closed-both-ways"][0])
+    done = run(["report", "pages.csv", "--rate", "1200", "--end", "closed"], folder)
+    tally.check("report with the closed end", done.stdout.split(b"\n")[2:4] == [b"in_order 2", b"batches 3"], done)
+
+
+def try_limits(tally, folder):
+    """`node-limit`, and limits that are none."""
+    (folder / "pages.csv").write_bytes(HEADER + ROUNDS["loops-apart"][0])
+    told = b"pocsag: search limit reached: at least 2 batches, 3 would do\n"
+    none = b"pocsag: the limit must be 1 to 1000000\n"
+    for limit, status, fault in (("2", 1, told), ("3", 0, b""), ("0", 1, none), ("1000001", 1, none)):
+        for words in (["plan", "pages.csv", "tx.bin", "cert.bin"], ["report", "pages.csv", "--rate", "512"]):
+            for made in ("tx.bin", "cert.bin"):
+                (folder / made).write_bytes(b"older")
+            done = run([*words, "--limit", limit], folder)
+            tally.check(f"{words[0]} limit {limit}", (done.returncode, done.stderr) == (status, fault), done)
+            if status == 1 and words[0] == "plan":
+                emptied = [(folder / made).read_bytes() for made in ("tx.bin", "cert.bin")]
+                tally.check(f"limit {limit} leaves nothing", emptied == [b"", b""] and done.stdout == b"", emptied)
 
 
 def try_refused(tally, folder):
     for name, (text, fault) in REFUSED.items():
-        pages, tx = folder / "pages.csv", folder / "tx.bin"
+        pages, tx, cert = folder / "pages.csv", folder / "tx.bin", folder / "cert.bin"
         pages.write_bytes(text or b"")
         tx.write_bytes(b"older")
-        done = run(["plan", "pages.csv", "tx.bin"], folder)
+        cert.write_bytes(b"older")
+        done = run(["plan", "pages.csv", "tx.bin", "cert.bin"], folder)
         told = b"pocsag: " + fault + b"\n"
-        holds = done.returncode == 1 and done.stderr == told and done.stdout == b"" and tx.read_bytes() == b""
-        tally.check(f"refused {name}", holds, (done, tx.read_bytes()[:50]))
+        holds = done.returncode == 1 and done.stderr == told and done.stdout == b""
+        tally.check(f"refused {name}", holds and tx.read_bytes() == b"" and cert.read_bytes() == b"", done)
         done = run([], folder, text or b"")
         tally.check(f"refused input {name}", done.returncode == 1 and done.stderr == told and done.stdout == b"", done)
 
@@ -134,27 +219,40 @@ def try_files(tally, folder):
     (folder / "link.csv").symlink_to("pages.csv")
     os.link(pages, folder / "hard.csv")
     cannot_open = b"pocsag: cannot read or open a file\n"
+    cannot_write = b"pocsag: cannot write\n"
     named_twice = b"pocsag: the same file is named twice\n"
     cases = [
-        ("missing page file", ["plan", "none.csv", "tx.bin"], 3, cannot_open),
-        ("folder as page file", ["plan", "folder", "tx.bin"], 3, cannot_open),
-        ("folder as transmission", ["plan", "pages.csv", "folder"], 3, cannot_open),
-        ("transmission in no folder", ["plan", "pages.csv", "none/tx.bin"], 3, cannot_open),
-        ("full device", ["plan", "pages.csv", "/dev/full"], 3, b"pocsag: cannot write\n"),
-        ("equal paths", ["plan", "pages.csv", "pages.csv"], 1, named_twice),
-        ("second spelling", ["plan", "pages.csv", "./pages.csv"], 1, named_twice),
-        ("whole path", ["plan", "pages.csv", str(pages)], 1, named_twice),
-        ("symbolic link", ["plan", "pages.csv", "link.csv"], 1, named_twice),
-        ("hard link", ["plan", "pages.csv", "hard.csv"], 1, named_twice),
+        ("missing page file", ["none.csv", "tx.bin", "cert.bin"], 3, cannot_open),
+        ("folder as page file", ["folder", "tx.bin", "cert.bin"], 3, cannot_open),
+        ("folder as transmission", ["pages.csv", "folder", "cert.bin"], 3, cannot_open),
+        ("folder as certificate", ["pages.csv", "tx.bin", "folder"], 3, cannot_open),
+        ("transmission in no folder", ["pages.csv", "none/tx.bin", "cert.bin"], 3, cannot_open),
+        ("certificate in no folder", ["pages.csv", "tx.bin", "none/cert.bin"], 3, cannot_open),
+        ("full device", ["pages.csv", "/dev/full", "cert.bin"], 3, cannot_write),
+        ("full device for the certificate", ["pages.csv", "tx.bin", "/dev/full"], 3, cannot_write),
+        ("equal paths", ["pages.csv", "pages.csv", "cert.bin"], 1, named_twice),
+        ("equal paths of no file", ["none.csv", "none.csv", "cert.bin"], 1, named_twice),
+        ("equal outputs", ["pages.csv", "tx.bin", "tx.bin"], 1, named_twice),
+        ("page file as certificate", ["pages.csv", "tx.bin", "pages.csv"], 1, named_twice),
+        ("second spelling", ["pages.csv", "./pages.csv", "cert.bin"], 1, named_twice),
+        ("second spelling as certificate", ["pages.csv", "tx.bin", "./pages.csv"], 1, named_twice),
+        ("second spelling of an output", ["pages.csv", "tx.bin", "./tx.bin"], 1, named_twice),
+        ("second spelling of a new output", ["pages.csv", "new.bin", "./new.bin"], 1, named_twice),
+        ("whole path", ["pages.csv", str(pages), "cert.bin"], 1, named_twice),
+        ("symbolic link", ["pages.csv", "link.csv", "cert.bin"], 1, named_twice),
+        ("hard link", ["pages.csv", "tx.bin", "hard.csv"], 1, named_twice),
     ]
     for name, words, status, told in cases:
-        done = run(words, folder)
+        (folder / "tx.bin").write_bytes(b"older")
+        done = run(["plan", *words], folder)
         holds = done.returncode == status and done.stderr == told and done.stdout == b""
         tally.check(name, holds and pages.read_bytes() == kept, done)
+        if words[0] != "pages.csv" or told == named_twice:
+            tally.check(f"{name}: nothing emptied", (folder / "tx.bin").read_bytes() == b"older")
     (folder / "huge.csv").unlink(missing_ok=True)
     with open(folder / "huge.csv", "wb") as huge:
         huge.truncate(300_000_000)
-    done = run(["plan", "huge.csv", "tx.bin"], folder)
+    done = run(["plan", "huge.csv", "tx.bin", "cert.bin"], folder)
     tally.check("a file of 300 MB", done.returncode == 1 and done.stderr == b"pocsag: the file is too large\n", done)
     (folder / "huge.csv").unlink()
 
@@ -280,11 +378,12 @@ def try_receivers(tally, folder):
         done = run(words, folder)
         holds = done.returncode == 3 and done.stderr == b"pocsag: cannot read or open a file\n" and done.stdout == b""
         tally.check(f"missing file {words}", holds, done)
-    for records in (b"0,numeric," + ones(25) + b"\n3,numeric," + ones(45) + b"\n11,numeric," + ones(75) + b"\n", b"1020304,alpha,\"a, \"\"b\"\"\"\n8,tone3,\n"):
-        (folder / "pages.csv").write_bytes(HEADER + records)
-        run(["plan", "pages.csv", "tx.bin"], folder)
-        done = run(["decode", "tx.bin"], folder)
-        tally.check("decode of file order", done.returncode == 0 and done.stdout == HEADER + records, done)
+    records = b"1020304,alpha,\"a, \"\"b\"\"\"\n8,tone3,\n"
+    (folder / "pages.csv").write_bytes(HEADER + records)
+    run(["plan", "pages.csv", "tx.bin", "cert.bin"], folder)
+    done = run(["decode", "tx.bin"], folder)
+    lines = sorted(done.stdout.split(b"\n"))
+    tally.check("decode of quoted fields", done.returncode == 0 and lines == sorted((HEADER + records).split(b"\n")), done)
     with open(tx, "wb") as huge:
         huge.truncate(300_000_000)
     done = run(["decode", "tx.bin"], folder)
@@ -292,21 +391,60 @@ def try_receivers(tally, folder):
     tx.unlink()
 
 
+def try_verify(tally, folder):
+    """`--verify` on devices that lose what they take."""
+    (folder / "pages.csv").write_bytes(HEADER + b"8,tone0,\n")
+    done = run(["plan", "pages.csv", "/dev/null", "cert.bin", "--verify"], folder)
+    told = b"pocsag: the preamble is too short\n"
+    holds = (done.returncode, done.stdout, done.stderr) == (1, b"pages 1\nbatches 1\n", told)
+    tally.check("a lost transmission is not verified", holds, done)
+    done = run(["plan", "pages.csv", "tx.bin", "/dev/null", "--verify"], folder)
+    told = b"pocsag: the certificate is cut short\n"
+    tally.check("a lost certificate is not verified", (done.returncode, done.stderr) == (1, told), done)
+
+
 def try_words(tally, folder):
-    usage = [["plan"], ["plan", "pages.csv"], ["bogus"], ["plan", "a", "b", "c"], ["--bogus"], ["check"], ["check", "a"], ["decode"], ["hear", "8"], ["hear", "x", "a"], ["hear", "4294967296", "a"], ["hear", "-1", "a"]]
+    usage = [
+        ["plan"], ["plan", "a"], ["plan", "a", "b"], ["plan", "a", "b", "c", "d"], ["bogus"], ["--bogus"],
+        ["plan", "a", "b", "c", "--limit", "x"], ["plan", "a", "b", "c", "--limit", "4294967296"],
+        ["plan", "a", "b", "c", "--end", "shut"], ["plan", "a", "b", "c", "--end", "Open"],
+        ["check"], ["check", "a"], ["decode"], ["hear", "8"], ["hear", "x", "a"], ["hear", "4294967296", "a"],
+        ["hear", "-1", "a"], ["report", "a"], ["report", "--rate", "512"], ["report", "a", "--rate", "fast"],
+    ]
     for words in usage:
         done = run(words, folder)
         tally.check(f"usage {words}", done.returncode == 2 and done.stdout == b"" and done.stderr.startswith(b"error: "), done)
-    for words in (["--help"], ["-h"], ["help"], ["plan", "--help"], ["help", "plan"]):
+    commands = ("plan", "check", "decode", "hear", "report")
+    for words in (["--help"], ["-h"], ["help"], *([name, "--help"] for name in commands), *(["help", name] for name in commands)):
         done = run(words, folder)
         tally.check(f"help {words}", done.returncode == 0 and done.stderr == b"" and b"Usage: pocsag" in done.stdout, done)
+    help_text = run(["--help"], folder).stdout
+    for shown in (b"Example:", b"tone0", b"numeric", b"alpha", b"20000 pages", b"standard input", b"2097151", b"268435456"):
+        tally.check(f"help shows {shown}", shown in help_text, help_text)
+    tally.check("help of plan shows an example", b"Example:" in run(["plan", "--help"], folder).stdout)
+    done = run(["--version"], folder)
+    holds = done.returncode == 0 and done.stdout.startswith(b"pocsag ") and done.stderr == b""
+    tally.check("version", holds, done)
+    if shutil.which("rt"):
+        toolchain = subprocess.run(["rt", "version"], capture_output=True, timeout=60).stdout.strip()
+        tally.check("version names the toolchain", toolchain in done.stdout, (done.stdout, toolchain))
 
 
 def main():
     tally = Tally()
     with tempfile.TemporaryDirectory() as name:
         folder = pathlib.Path(name)
-        for part in (try_rounds, try_refused, try_files, try_check, try_receivers, try_words):
+        for part in (
+            try_rounds,
+            try_reports,
+            try_limits,
+            try_refused,
+            try_files,
+            try_check,
+            try_receivers,
+            try_verify,
+            try_words,
+        ):
             part(tally, folder)
     return tally.end()
 

@@ -32,7 +32,10 @@ abbrev pub status_after : Result (Unit {0}) Fault → ℕ
 status_after (Ok done) = 0
 status_after (Err f) = status_of f
 
--- A command's exit status: done, refused, or a device or memory.
+-- The exit status of a fault: refused, or a device or memory; and of a command, which may be done.
+abbrev pub IsFailure : ℕ → Type 0
+IsFailure status = (status ≡ 1) ⊎ (status ≡ 3)
+
 abbrev pub IsStatus : ℕ → Type 0
 IsStatus status = (status ≡ 0) ⊎ (status ≡ 1) ⊎ (status ≡ 3)
 

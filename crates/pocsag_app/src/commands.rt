@@ -1,4 +1,4 @@
-ghost use Rattle.std.specs.Prelude.{◌≡◌, ◌++◌, OnOk};
+ghost use Rattle.std.specs.Prelude.{◌≡◌, ◌++◌, IfErr, OnOk};
 ghost use Rattle.pocsag_words.specs.declared.ending.End.TheVariants.{Open as open_end};
 ghost use Rattle.pocsag_app.specs.Commands.{IsRefused, Leaves, Planned, PlannedAndTold, Reported, ToldPlan};
 ghost use Rattle.pocsag_app.specs.Faults.{IsStatus, status_after};
@@ -37,8 +37,10 @@ fn plan_input<I: Source, O: Sink>(alloc: Global, input: &mut I, out: &mut O) -> 
     tell_plan(plan.pages, plan.batches, out)
 }
 
+#[tactic(auto, unfolding(crate::specs::Lines::plan_text))]
 fn tell_plan<O: Sink>(pages: u32, batches: u32, out: &mut O) -> Result<(), Fault>
-    ensures { O.tells → OnOk result (O.taken out.new ≡ O.taken out.old ++ plan_text pages batches) }
+    ensures told { O.tells → OnOk result (O.taken out.new ≡ O.taken out.old ++ plan_text pages batches) }
+    ensures lost { IfErr result (λ e. e ≡ Fault.Write) }
 {
     tell(out, format_args!("pages {pages}\nbatches {batches}\n"))
 }
@@ -90,8 +92,8 @@ fn plan_files<P: Source, T: Sink, C: Sink, O: Sink>(
     ensures leaves { P.tells → T.tells → C.tells →
         Leaves (P.held pages.old) end (T.taken tx.old) (T.taken tx.new) (C.taken cert.old) (C.taken cert.new) }
 {
-    let plan = plan_stream(alloc, pages, tx, cert, limit, end)?;
-    tell_plan(plan.pages, plan.batches, out)
+    let written = plan_stream(alloc, pages, tx, cert, limit, end)?;
+    tell_plan(written.pages, written.batches, out)
 }
 
 /// `report PAGES --rate R`: tells what the plan of a page file takes on the air at a rate. Answers the

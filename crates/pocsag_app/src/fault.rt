@@ -59,11 +59,12 @@ pub enum Fault {
 }
 
 impl Fault {
-    ghost use Rattle.pocsag_app.specs.Faults.{status_of};
+    ghost use Rattle.pocsag_app.specs.Faults.{IsFailure, status_of};
 
     /// The exit status: 1 for what was refused, 3 for a device or memory.
     pub fn status(self) -> u8
-        ensures { result ≡ status_of self }
+        ensures value { result ≡ status_of self }
+        ensures failure { IsFailure result }
     {
         match self {
             Fault::Device | Fault::Write | Fault::OutOfMemory => 3,

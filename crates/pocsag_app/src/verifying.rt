@@ -1,3 +1,7 @@
+ghost use Rattle.std.specs.Prelude.{◌≡◌, All, Contains, IsTrue, length, OnOk};
+ghost use Rattle.pocsag_app.specs.Commands.{AreAmong, Verified};
+ghost use Rattle.pocsag_app.specs.Faults.{IsStatus};
+
 use crate::fault::Fault;
 use crate::receiving::TRANSMISSION_LIMIT;
 use crate::tell::{ended, tell};
@@ -19,7 +23,10 @@ pub fn run_verify<P: Source, T: Source, C: Source, O: Sink, E: Sink>(
     cert: &mut C,
     out: &mut O,
     err: &mut E,
-) -> u8 {
+) -> u8
+    ensures verified { P.tells → T.tells → C.tells → result ≡ 0 → Verified (P.held pages.old) end (T.held tx.old) (C.held cert.old) }
+    ensures status { IsStatus result }
+{
     let done = verify_files(alloc, end, pages, tx, cert, out);
     ended(done, err)
 }
@@ -31,19 +38,21 @@ fn verify_files<P: Source, T: Source, C: Source, O: Sink>(
     tx: &mut T,
     cert: &mut C,
     out: &mut O,
-) -> Result<(), Fault> {
+) -> Result<(), Fault>
+    ensures { P.tells → T.tells → C.tells → OnOk result (Verified (P.held pages.old) end (T.held tx.old) (C.held cert.old)) }
+{
     let round = read_round(alloc, pages)?;
     let bytes = read_whole(alloc, tx, TRANSMISSION_LIMIT)?;
-    let sent = decode(alloc, bytes.as_slice())?;
-    if !are_pages_of(alloc, round.pages(), sent)? {
+    let mut sent = decode(alloc, bytes.as_slice())?;
+    sent.sort_unstable_by_key(|page| page.address);
+    if !are_sent(round.pages(), sent.as_slice()) {
         return Err(Fault::NotThePages);
     }
     let certificate = read_certificate(alloc, cert)?;
-    let batches = certificate.batches;
-    let is_shown = certificate.end == end
-        && batches as usize == batches_of(bytes.as_slice())
-        && check(&round, batches, &certificate.tree, end);
-    if !is_shown {
+    if certificate.end != end || certificate.batches as usize != batches_of(bytes.as_slice()) {
+        return Err(Fault::NotTheBound);
+    }
+    if !check(&round, certificate.batches, &certificate.tree, end) {
         return Err(Fault::NotTheBound);
     }
     tell(out, "verified\n")
@@ -54,12 +63,27 @@ fn batches_of(bytes: &[u8]) -> usize {
     bytes.len().saturating_sub(leading_len(bytes)) / 68
 }
 
-// Whether what was sent is the pages in some order; no two of them have one address.
-fn are_pages_of(alloc: Global, pages: &[Page], mut sent: Vec<Page>) -> Result<bool, Fault> {
-    let Ok(mut wanted) = pages.iter().collect::<Vec<&Page>>(alloc) else {
-        return Err(Fault::OutOfMemory);
-    };
-    wanted.sort_unstable_by_key(|page| page.address);
-    sent.sort_unstable_by_key(|page| page.address);
-    Ok(wanted.len() == sent.len() && wanted.iter().zip(sent.iter()).all(|(one, other)| **one == *other))
+// Whether the pages are as many as those that were sent, and each is among these, which are in order of
+// their addresses.
+fn are_sent(pages: &[Page], sent: &[Page]) -> bool
+    ensures { IsTrue result → AreAmong sent.now pages.now }
+{
+    if pages.len() != sent.len() {
+        return false;
+    }
+    for page in pages {
+        if !is_sent(page, sent) {
+            return false;
+        }
+    }
+    true
+}
+
+fn is_sent(page: &Page, sent: &[Page]) -> bool
+    ensures { IsTrue result → Contains sent.now page.now }
+{
+    match sent.binary_search_by_key(&page.address, |other| other.address) {
+        Ok(place) => sent[place] == *page,
+        Err(_) => false,
+    }
 }
