@@ -4,9 +4,12 @@
 mod checking;
 mod commands;
 mod devices;
+mod edits;
 mod fault;
 mod files;
+mod lines;
 mod obeying;
+mod opening;
 mod paths;
 mod receiving;
 mod tell;

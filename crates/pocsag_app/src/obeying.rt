@@ -3,6 +3,7 @@ use crate::commands::{run_input, run_plan, run_report};
 use crate::devices::{ReaderSource, WriterSink};
 use crate::fault::Fault;
 use crate::files::{Outputs, open_buffered, open_source};
+use crate::opening::{run_open, run_open_pages};
 use crate::paths::equal_paths;
 use crate::receiving::{run_decode, run_hear};
 use crate::tell::tell_fault;
@@ -58,6 +59,15 @@ fn obeyed<E: Sink>(
         Order::Hear { address, tx } => {
             let mut tx = open_source(rt, tx)?;
             Ok(run_hear(alloc, address, &mut tx, &mut out, err))
+        }
+        Order::Open { pages: None } => {
+            let mut input = ReaderSource::new(rt.stdin());
+            Ok(run_open(rt, alloc, &mut input, &mut out, err))
+        }
+        Order::Open { pages: Some(path) } => {
+            let mut pages = open_source(rt, path)?;
+            let mut input = ReaderSource::new(rt.stdin());
+            Ok(run_open_pages(rt, alloc, path, &mut pages, &mut input, &mut out, err))
         }
         Order::Report {
             pages,

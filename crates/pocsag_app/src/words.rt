@@ -31,6 +31,10 @@ pub enum Order<'a> {
         address: u32,
         tx: &'a str,
     },
+    /// `open`, or `open PAGES`: an open round, and the path of the page file that it begins with.
+    Open {
+        pages: Option<&'a str>,
+    },
     /// `report PAGES`: the path of the page file, the rate, the node limit and the end.
     Report {
         pages: &'a str,
@@ -50,6 +54,8 @@ const DECODE: &str = "decode";
 const HEAR: &str = "hear";
 
 const REPORT: &str = "report";
+
+const ROUND: &str = "open";
 
 // Their words.
 const PAGES: &str = "PAGES";
@@ -99,6 +105,20 @@ emptied once the page file could be opened.
 
 Example:
   pocsag plan pages.csv tx.bin cert.bin --end closed --verify";
+
+const OPEN_MANUAL: &str = "\
+Each line of standard input is an edit, and is answered at once by one line:
+  add,ADDRESS,KIND,MESSAGE   adds a page, its fields as in a page file
+  cancel,ADDRESS             takes the page of that address out
+  list                       lists the pages, before the answer
+  plan,TX,CERT[,END]         writes both files as the command plan does
+  clear                      takes all pages out
+A line is a CSV record of at most 65536 bytes. The answer is 'ok N' with the number of
+pages, 'batches B' after plan, or 'refused: ' and why: the round is then as it was.
+The end of the input ends the program.
+
+Example:
+  printf 'add,8,tone0,\\nplan,tx.bin,cert.bin\\n' | pocsag open";
 
 const PAGES_HELP: &str = "The page file, CSV with the header address,kind,message";
 
@@ -181,6 +201,13 @@ fn hear_command<'a>(alloc: Global) -> Result<Command<'a>, AllocError> {
         .arg(positional(alloc, TX, TX_HELP))
 }
 
+fn open_command<'a>(alloc: Global) -> Result<Command<'a>, AllocError> {
+    Command::new(alloc, ROUND)
+        .about("Keeps an open round, which is edited and planned by the lines of standard input")
+        .after_help(OPEN_MANUAL)
+        .arg(Arg::new(alloc, PAGES).help("The page file that the round begins with"))
+}
+
 fn report_command<'a>(alloc: Global) -> Result<Command<'a>, AllocError> {
     let rate = option(alloc, RATE, "R", "Bits a second: 512, 1200 or 2400")
         .required(true)
@@ -203,6 +230,7 @@ fn command<'a>(alloc: Global) -> Result<Command<'a>, AllocError> {
         .subcommand(check_command(alloc)?)?
         .subcommand(decode_command(alloc)?)?
         .subcommand(hear_command(alloc)?)?
+        .subcommand(open_command(alloc)?)?
         .subcommand(report_command(alloc)?)
 }
 
@@ -260,6 +288,9 @@ fn order_from<'a>(matches: &ArgMatches<'a>) -> Option<Order<'a>> {
             tx: found.get_str(TX)?,
         }),
         HEAR => hear_order(found),
+        ROUND => Some(Order::Open {
+            pages: found.get_str(PAGES),
+        }),
         REPORT => report_order(found),
         _ => None,
     }

@@ -29,9 +29,6 @@ pub there_is : (a : ℕ) (es : List (ℕ × Page)) (ps : List Page) (found : Boo
     has_address ps a ≡ found
 there_is a es ps found keyed view e = ap (λ (qs : List Page). has_address qs a) (sym view) ∙ (sym (found_is a es keyed) ∙ sym e)
 
-pub length_is : (es : List (ℕ × Page)) (ps : List Page) → values_of es ≡ ps → length ps ≡ length es
-length_is es ps view = ap length (sym view) ∙ length-map es (λ (e : ℕ × Page). e.1)
-
 none_from : (o : Option Page) → is_some o ≡ false → o ≡ None
 none_from (Some p) e = absurd (cc)
 none_from None e = refl

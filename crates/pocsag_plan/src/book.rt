@@ -115,7 +115,7 @@ impl Book {
         if self.pages.contains_key(&page.address) {
             return Some(AddFault::DuplicateAddress);
         }
-        if self.pages.len() >= PAGE_LIMIT {
+        if self.len() >= PAGE_LIMIT {
             return Some(AddFault::Full);
         }
         None
@@ -163,10 +163,10 @@ impl Book {
         ensures unchanged { OnErr result (self.new ≡ self.old) }
     {
         match self.pages.shift_remove(&address) {
-            Some(page) => {
-                discount_page(&mut self.for_open, &page, End::Open);
-                discount_page(&mut self.for_closed, &page, End::Closed);
-                Ok(page)
+            Some(found) => {
+                discount_page(&mut self.for_open, &found, End::Open);
+                discount_page(&mut self.for_closed, &found, End::Closed);
+                Ok(found)
             }
             None => Err(NotThere),
         }

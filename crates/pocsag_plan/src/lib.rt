@@ -9,6 +9,8 @@ mod closing;
 mod edit;
 mod fault;
 #[cfg(test)]
+mod opened;
+#[cfg(test)]
 mod planned;
 mod planning;
 mod refusal;

@@ -1,4 +1,5 @@
 //! The worked examples that a search answers.
+ghost use Rattle.std.specs.Prelude.{◌≤◌};
 
 use crate::{Plan, PlanFault, StreamFault, plan, plan_stream};
 use pocsag_check::check;

@@ -1,3 +1,5 @@
+ghost use Rattle.std.specs.Prelude.{◌≡◌};
+
 use crate::{BadRate, Plan, report};
 use pocsag_slots::Choice;
 use pocsag_tree::Tree;

@@ -1,6 +1,6 @@
 use Rattle.std.proofs.Common.{◌≡◌, ◌<◌, ◌≤◌, true, false, length, sym, arith}
 use Rattle.pocsag_pages.specs.Pages.{page_limit, has_address}
-use Rattle.pocsag_plan.proofs.Editing.{length_is, there_is}
+use Rattle.pocsag_plan.proofs.Editing.{there_is}
 use Rattle.pocsag_plan.proofs.Refusing.{duplicate_fault, full_fault, no_fault}
 use Rattle.pocsag_plan.proofs.book.Book.fault_of.Goals as goal
 
@@ -11,12 +11,12 @@ returns-then-contains_key c =
 
 pub returns-then-len-ge-PAGE_LIMIT : goal.returns-then-len-ge-PAGE_LIMIT
 returns-then-len-ge-PAGE_LIMIT c =
-    let full : page_limit ≤ length c.args.self.now = omega (arith, c.len.ensures.len, length_is c.self.inside.pages.entries c.args.self.now c.self.view_is) in
+    let full : page_limit ≤ length c.args.self.now = omega (arith, c.len.ensures) in
     full_fault c.args.self.now c.args.page.now (sym c.in-None.ensures)
     (there_is c.args.page.now.address c.self.inside.pages.entries c.args.self.now false c.self.invariant.keyed c.self.view_is c.if-contains_key.ensures) full
 
 pub returns : goal.returns
 returns c =
-    let room : length c.args.self.now < page_limit = omega (arith, c.len.ensures.len, length_is c.self.inside.pages.entries c.args.self.now c.self.view_is) in
+    let room : length c.args.self.now < page_limit = omega (arith, c.len.ensures) in
     no_fault c.args.self.now c.args.page.now (sym c.in-None.ensures)
     (there_is c.args.page.now.address c.self.inside.pages.entries c.args.self.now false c.self.invariant.keyed c.self.view_is c.if-contains_key.ensures) room

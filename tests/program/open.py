@@ -1,0 +1,272 @@
+#!/usr/bin/env python3
+"""Drives `pocsag open` over pipes as a paging centre's script does: each answer is awaited before the next
+line is sent, and edits by the thousand are compared with a list that is kept here.
+
+It takes the binary that the gate left in crates/pocsag_app/out. The last line is 'N passed, M failed'.
+"""
+
+import os
+import pathlib
+import random
+import select
+import subprocess
+import sys
+import tempfile
+
+sys.dont_write_bytecode = True
+sys.path.insert(0, str(pathlib.Path(__file__).resolve().parents[1]))
+from tally import Tally
+
+TOP = pathlib.Path(__file__).resolve().parents[2]
+PROGRAM = TOP / "crates/pocsag_app/out/pocsag_app"
+HEADER = b"address,kind,message\n"
+PREAMBLE = b"\xaa" * 72
+EDITS = 5000
+SEED = 20261122
+
+
+class OpenRound:
+    """The program with its two pipes."""
+
+    def __init__(self, folder, *words):
+        self.process = subprocess.Popen(
+            [str(PROGRAM), "open", *words],
+            stdin=subprocess.PIPE,
+            stdout=subprocess.PIPE,
+            stderr=subprocess.PIPE,
+            cwd=folder,
+        )
+        self.kept = b""
+
+    def line(self):
+        """The next line of its output, without its line feed; nothing where none comes in time."""
+        while b"\n" not in self.kept:
+            ready, _, _ = select.select([self.process.stdout], [], [], 60)
+            piece = os.read(self.process.stdout.fileno(), 65536) if ready else b""
+            if not piece:
+                return None
+            self.kept += piece
+        line, self.kept = self.kept.split(b"\n", 1)
+        return line
+
+    def ask(self, line):
+        """Sends one line, and waits for the line that answers it."""
+        self.process.stdin.write(line + b"\n")
+        self.process.stdin.flush()
+        return self.line()
+
+    def lines(self, line):
+        """Sends one line, and waits for all lines up to the one that begins with `ok`."""
+        answers = [self.ask(line)]
+        while answers[-1] is not None and not answers[-1].startswith(b"ok "):
+            answers.append(self.line())
+        return answers
+
+    def close(self):
+        """Ends its input, and answers its status and what it wrote to standard error."""
+        rest, err = self.process.communicate(timeout=60)
+        return self.process.returncode, self.kept + rest, err
+
+
+def ok(pages):
+    return b"ok %d" % len(pages)
+
+
+def reserved(address):
+    return 2007664 <= address <= 2007671 or 2045056 <= address <= 2045063
+
+
+class Kept:
+    """The list of pages as the page of the format says it: address, kind, message, in order of adding."""
+
+    def __init__(self):
+        self.pages = []
+
+    def there(self, address):
+        return any(page[0] == address for page in self.pages)
+
+    def add(self, address, kind, message):
+        if address > 2097151:
+            return b"refused: bad address"
+        if reserved(address):
+            return b"refused: reserved address"
+        if kind not in (b"tone0", b"tone1", b"tone2", b"tone3", b"numeric", b"alpha"):
+            return b"refused: unknown kind"
+        if kind.startswith(b"tone") and message:
+            return b"refused: a tone page has no message"
+        if not kind.startswith(b"tone") and not message:
+            return b"refused: the message is empty"
+        if kind == b"numeric":
+            for place, byte in enumerate(message):
+                if byte not in b"0123456789*U -][":
+                    return b"refused: bad character at %d" % place
+        if self.there(address):
+            return b"refused: the address is already there"
+        self.pages.append((address, kind, message))
+        return ok(self.pages)
+
+    def cancel(self, address):
+        if not self.there(address):
+            return b"refused: no such page"
+        self.pages = [page for page in self.pages if page[0] != address]
+        return ok(self.pages)
+
+    def clear(self):
+        self.pages = []
+        return ok(self.pages)
+
+
+def edits_of(chance, count):
+    """Random edits, among few addresses, so that many are refused."""
+    kinds = [b"tone0", b"tone1", b"tone2", b"tone3", b"numeric", b"alpha", b"fax"]
+    for _ in range(count):
+        address = chance.choice([chance.randrange(400), chance.randrange(400), 2097152, 2007670, 2045056])
+        draw = chance.random()
+        if draw < 0.55:
+            kind = chance.choice(kinds)
+            message = chance.choice([b"", b"12345", b"17 U", b"7x", b"*[]-"])
+            yield "add", address, kind, message
+        elif draw < 0.998:
+            yield "cancel", address, b"", b""
+        else:
+            yield "clear", 0, b"", b""
+
+
+def many_edits(tally, folder):
+    chance = random.Random(SEED)
+    kept = Kept()
+    program = OpenRound(folder)
+    wrong = []
+    for word, address, kind, message in edits_of(chance, EDITS):
+        if word == "add":
+            due = kept.add(address, kind, message)
+            found = program.ask(b"add,%d,%s,%s" % (address, kind, message))
+        elif word == "cancel":
+            due = kept.cancel(address)
+            found = program.ask(b"cancel,%d" % address)
+        else:
+            due = kept.clear()
+            found = program.ask(b"clear")
+        if found != due:
+            wrong.append((word, address, kind, message, due, found))
+    tally.check(f"{EDITS} edits are answered as a list answers them", not wrong, wrong[:3])
+    listed = program.lines(b"list")
+    due = [b"address,kind,message"] + [b"%d,%s," % page[:2] for page in kept.pages] + [ok(kept.pages)]
+    found = [line if line.startswith((b"ok", b"address")) else line[: line.index(b",", line.index(b",") + 1) + 1] for line in listed if line]
+    tally.check("the list after them is that list, in its order", found == due, (found[:4], due[:4]))
+    status, rest, err = program.close()
+    tally.check("the end of the input ends it with status 0", (status, rest, err) == (0, b"", b""), (status, rest, err))
+
+
+# The worked example `open-round` and the words of refusals.
+WORDS = [
+    (b"add,8,tone0,", b"ok 1"),
+    (b"add,16,tone0,", b"ok 2"),
+    (b"add,8,tone0,", b"refused: the address is already there"),
+    (b"cancel,8", b"ok 1"),
+    (b"cancel,8", b"refused: no such page"),
+    (b"cancel,+16", b"refused: no such page"),
+    (b"plan,tx.bin,cert.bin", b"batches 1"),
+    (b"plan,tx.bin,cert.bin,closed", b"batches 1"),
+    (b"plan,tx.bin,cert.bin,open", b"batches 1"),
+    (b"plan,tx.bin,cert.bin,soon", b"refused: unknown edit"),
+    (b"plan,tx.bin,tx.bin", b"refused: the same file is named twice"),
+    (b"plan,no/such/tx.bin,cert.bin", b"refused: cannot read or open a file"),
+    (b"cancel,16", b"ok 0"),
+    (b"plan,tx.bin,cert.bin", b"refused: there are no pages"),
+    (b"add,2097152,tone0,", b"refused: bad address"),
+    (b"add,2007664,tone0,", b"refused: reserved address"),
+    (b"add,8,fax,", b"refused: unknown kind"),
+    (b"add,8,tone0,1", b"refused: a tone page has no message"),
+    (b"add,8,numeric,", b"refused: the message is empty"),
+    (b"add,8,numeric,12a", b"refused: bad character at 2"),
+    (b"add,8,numeric," + b"1" * 4001, b"refused: the message is too long"),
+    (b'add,8,alpha,"Ward 3, bed 2"', b"ok 1"),
+    (b"", b"refused: unknown edit"),
+    (b"add,8,tone0", b"refused: unknown edit"),
+    (b"add,8,tone0,,", b"refused: unknown edit"),
+    (b"List", b"refused: unknown edit"),
+    (b"list,", b"refused: unknown edit"),
+    (b"cancel,8\r", b"ok 0"),
+    (b"list\rlist", b"refused: unknown edit"),
+    (b"x" * 65536, b"refused: unknown edit"),
+    (b"x" * 65537, b"refused: unknown edit"),
+    (b"list," + b"x" * 1000000, b"refused: unknown edit"),
+    (b"add,7,tone3,", b"ok 1"),
+    (b"clear", b"ok 0"),
+]
+
+
+def words_of_answers(tally, folder):
+    program = OpenRound(folder)
+    for line, due in WORDS:
+        found = program.ask(line)
+        tally.check(f"{line[:40]!r} is answered {due!r}", found == due, found)
+    status, rest, err = program.close()
+    tally.check("refusals end nothing", (status, rest, err) == (0, b"", b""), (status, rest, err))
+
+
+def files_of_a_plan(tally, folder):
+    program = OpenRound(folder)
+    program.ask(b"add,8,tone0,")
+    tally.check("a lone tone takes one batch", program.ask(b"plan,a.bin,a.cert") == b"batches 1", "")
+    words = ["7CD215D8", "000026EC"] + 15 * ["7A89C197"]
+    due = PREAMBLE + bytes.fromhex("".join(words))
+    # The two codewords of its frame are the only places of the page.
+    late = ["7CD215D8", "7A89C197", "000026EC"] + 14 * ["7A89C197"]
+    found = (folder / "a.bin").read_bytes()
+    tally.check("its transmission is written", found in (due, PREAMBLE + bytes.fromhex("".join(late))), found.hex())
+    (folder / "a.csv").write_bytes(HEADER + b"8,tone0,\n")
+    shown = subprocess.run([str(PROGRAM), "check", "a.csv", "a.cert"], capture_output=True, cwd=folder, timeout=60)
+    tally.check("its certificate is accepted", (shown.returncode, shown.stdout) == (0, b"at least 1 batches\n"), shown)
+    for address in (13, 21, 29):
+        program.ask(b"add,%d,tone0," % address)
+    tally.check("the round stays open", program.ask(b"plan,b.bin,b.cert") == b"batches 2", "")
+    told = subprocess.run([str(PROGRAM), "decode", "b.bin"], capture_output=True, cwd=folder, timeout=60)
+    pages = sorted(told.stdout.splitlines()[1:])
+    tally.check("a later plan sends all pages", pages == [b"13,tone0,", b"21,tone0,", b"29,tone0,", b"8,tone0,"], told)
+    program.close()
+
+
+def begins_with_pages(tally, folder):
+    path = folder / "pages.csv"
+    path.write_bytes(HEADER + b"8,tone0,\n16,numeric,12\n")
+    program = OpenRound(folder, "pages.csv")
+    tally.check("the pages of PAGES are open", program.ask(b"cancel,16") == b"ok 1", "")
+    for spelling in (b"pages.csv", b"./pages.csv"):
+        found = program.ask(b"plan,%s,cert.bin" % spelling)
+        tally.check("PAGES is never emptied", found == b"refused: the same file is named twice", found)
+    program.close()
+    tally.check("PAGES is as it was", path.read_bytes() == HEADER + b"8,tone0,\n16,numeric,12\n", "")
+    path.write_bytes(HEADER + b"8,tone0,\n8,tone0,\n")
+    status, out, err = OpenRound(folder, "pages.csv").close()
+    due = (1, b"", b"pocsag: record 2: the address is already there\n")
+    tally.check("a refused page file opens no round", (status, out, err) == due, (status, out, err))
+    status, out, err = OpenRound(folder, "none.csv").close()
+    due = (3, b"", b"pocsag: cannot read or open a file\n")
+    tally.check("a missing page file is a device's fault", (status, out, err) == due, (status, out, err))
+
+
+def last_line(tally, folder):
+    done = subprocess.run([str(PROGRAM), "open"], input=b"add,8,tone0,\nlist", capture_output=True, cwd=folder, timeout=60)
+    due = (0, b"ok 1\n" + HEADER + b"8,tone0,\nok 1\n", b"")
+    tally.check("a last line without its line feed is an edit", (done.returncode, done.stdout, done.stderr) == due, done)
+    with open("/dev/full", "wb") as full:
+        done = subprocess.run([str(PROGRAM), "open"], input=b"clear\n", stdout=full, stderr=subprocess.PIPE, cwd=folder, timeout=60)
+    tally.check("a full device ends it with status 3", (done.returncode, done.stderr) == (3, b"pocsag: cannot write\n"), done)
+
+
+def main():
+    tally = Tally()
+    with tempfile.TemporaryDirectory() as folder:
+        folder = pathlib.Path(folder)
+        words_of_answers(tally, folder)
+        many_edits(tally, folder)
+        files_of_a_plan(tally, folder)
+        begins_with_pages(tally, folder)
+        last_line(tally, folder)
+    return tally.end()
+
+
+if __name__ == "__main__":
+    sys.exit(main())
