@@ -1,3 +1,4 @@
 pub mod Planning
+pub mod Readback
 pub mod Shown
 pub mod Statuses
