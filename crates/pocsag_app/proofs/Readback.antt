@@ -19,6 +19,10 @@ same_pages ps qs others R S moved view pages among =
 pub verified : (file : List ℕ) (end : End) (held bytes certificate : List ℕ) (batches : ℕ) (checked : Checked file certificate end batches) (ps : List Page) →
     bytes ≡ held → ReadsAs bytes ps → AreAmong ps checked.round → (r : Result (Unit {0}) Fault) → OnOk r (Verified file end held certificate)
 verified file end held bytes certificate batches checked ps same reads among (Ok u) = record {
-  batches = batches; checked = checked; pages = ps; reads = subst (λ (v : List ℕ). ReadsAs v ps) same reads; same = among;
+  batches = batches;
+  checked = checked;
+  pages = ps;
+  reads = subst (λ (v : List ℕ). ReadsAs v ps) same reads;
+  same = among;
 }
 verified file end held bytes certificate batches checked ps same reads among (Err e) = tt

@@ -20,7 +20,6 @@ use Rattle.pocsag_plan.specs.declared.answer.Plan.{Plan}
 use Rattle.pocsag_plan.specs.Headline.{Headline}
 use Rattle.pocsag_plan.specs.Plans.{IsPlan}
 
-
 pub due : (end : End) (R : List Page) (plan : Plan) → IsPlan end R plan → (steps : List Step) (order : List ℕ) (said : List Kind) (U : List ℕ) →
     steps ≡ plan.steps.items → order ≡ plan.order.items → said ≡ laid_by R order steps → Say said U →
     (file : List ℕ) → verdict file ≡ Ok R →

@@ -6,5 +6,5 @@ use Rattle.pocsag_plan.specs.declared.streaming.Unsent.{Unsent}
 use Rattle.pocsag_plan.specs.declared.streaming.Unsent.TheVariants as unsent
 
 abbrev pub fault_of_unsent : Unsent → StreamFault
-fault_of_unsent unsent.Transmission = fault.Transmission (record { })
-fault_of_unsent unsent.Certificate = fault.Certificate (record { })
+fault_of_unsent unsent.Transmission = fault.Transmission (record {})
+fault_of_unsent unsent.Certificate = fault.Certificate (record {})

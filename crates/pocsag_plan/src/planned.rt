@@ -12,16 +12,27 @@ use std::test::Fail;
 type Records = &'static [(&'static str, usize)];
 
 const LONE_TONE: Records = &[("8,tone0,", 0)];
+
 const FIVE_DIGITS: Records = &[("0,numeric,12345", 0)];
+
 const THREE_TONES: Records = &[("5,tone0,", 0), ("13,tone0,", 0), ("21,tone0,", 0)];
+
 const ONE_FULL: Records = &[("0,numeric,", 75)];
+
 const LOOP_APART: Records = &[("3,numeric,", 75)];
+
 const LOOPS_APART: Records = &[("0,numeric,", 75), ("3,numeric,", 75)];
+
 const EXACT: Records = &[("0,numeric,", 25), ("3,numeric,", 45)];
+
 const TIGHT: Records = &[("0,numeric,", 25), ("3,numeric,", 45), ("11,numeric,", 75)];
+
 const LAST_FRAME: Records = &[("7,numeric,12345", 0), ("15,numeric,12345", 0)];
+
 const LONG: Records = &[("7,numeric,", 241)];
+
 const MIXED: Records = &[("0,numeric,", 65), ("7,tone0,", 0), ("15,numeric,", 80)];
+
 const BOTH_WAYS: Records = &[
     ("0,numeric,", 65),
     ("7,tone0,", 0),
@@ -86,15 +97,35 @@ fn examples_are_planned(rt: HostRuntime) -> Result<(), Fail> {
 #[test]
 fn limits_of_nodes(rt: HostRuntime) -> Result<(), Fail> {
     let round = round_of(rt.alloc(), LOOPS_APART)?;
-    assert!(rt; matches!(plan(rt.alloc(), &round, 0, End::Open), Err(PlanFault::BadLimit)));
-    assert!(rt; matches!(plan(rt.alloc(), &round, 1_000_001, End::Open), Err(PlanFault::BadLimit)));
+    assert!(rt;
+        matches!(
+            plan(rt.alloc(), &round, 0, End::Open),
+            Err(PlanFault::BadLimit)
+        )
+    );
+    assert!(rt;
+        matches!(
+            plan(rt.alloc(), &round, 1_000_001, End::Open),
+            Err(PlanFault::BadLimit)
+        )
+    );
     let stopped = plan(rt.alloc(), &round, 2, End::Open);
-    assert!(rt; matches!(stopped, Err(PlanFault::SearchLimit { least: 2, found: 3, .. })));
+    assert!(rt;
+        matches!(
+            stopped,
+            Err(PlanFault::SearchLimit {
+                least: 2,
+                found: 3,
+                ..
+            })
+        )
+    );
     assert_eq!(rt; plan(rt.alloc(), &round, 3, End::Open)?.batches, 3);
     Ok(())
 }
 
 const IDLE: u32 = 0x7a89_c197;
+
 const ONES: u32 = 0xc444_47b9;
 
 // The transmission of these codewords.

@@ -12,7 +12,6 @@ use crate::fault::PlanFault;
 use pocsag_batch::{in_order_batches, order_of};
 use pocsag_branch::{Found, search};
 use pocsag_check::accepted_trees_have_texts;
-
 use pocsag_pages::Round;
 use pocsag_slots::{Classes, classes_of, tours_have_codewords};
 use pocsag_words::{End, OutOfMemory};

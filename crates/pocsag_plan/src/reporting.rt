@@ -9,6 +9,7 @@ use std::fmt::{self, Display, Formatter};
 
 // The bits of a preamble, and of a batch with its synchronisation codeword.
 const PREAMBLE_BITS: u64 = 576;
+
 const BATCH_BITS: u64 = 544;
 
 /// What the plan takes on the air at a rate of 512, 1200 or 2400 bits a second.

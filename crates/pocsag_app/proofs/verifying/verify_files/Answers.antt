@@ -26,5 +26,5 @@ returns g c = λ pages_tell tx_tells cert_tells.
     verified file c.args.end (g.T.Source.held c.args.tx.now) c.in_ok-bytes.bytes.items shown_bytes certificate.batches shown sent (c.in_ok-bytes.ensures.whole tx_tells)
     (subst (λ (v : List ℕ). ReadsAs v sent) c.as_slice.ensures.value c.in_ok-sent.ensures.decoded)
     (same_pages sent c.sort_unstable_by_key.new.self.items c.as_slice-2.result.now c.in_ok-round.round c.pages.result.now
-        c.sort_unstable_by_key.ensures.permutation c.as_slice-2.ensures.value c.pages.ensures.pages (c.if-not-are_sent.ensures refl))
+    c.sort_unstable_by_key.ensures.permutation c.as_slice-2.ensures.value c.pages.ensures.pages (c.if-not-are_sent.ensures refl))
     c.tell.result
