@@ -131,7 +131,7 @@ def try_plan(tally, library, folder):
     command = [str(PROGRAM), "plan", str(pages), str(tx), str(cert)]
     ample, _ = run(command, library)
     due, shown = tx.read_bytes(), cert.read_bytes()
-    holds = ample.returncode == 0 and ample.stdout.startswith(b"pages 400\nbatches ") and len(due) > 9000
+    holds = ample.returncode == 0 and ample.stdout.startswith(b"pages 400\nbatches ") and len(due) > 5000
     tally.check("plan", holds and len(shown) > 10, ample)
 
     def prepare():

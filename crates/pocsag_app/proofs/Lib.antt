@@ -1,2 +1,4 @@
-pub mod Statuses
 pub mod Planning
+pub mod Readback
+pub mod Shown
+pub mod Statuses

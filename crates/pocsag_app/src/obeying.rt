@@ -124,7 +124,5 @@ fn verify_paths<O: Sink, E: Sink>(
     let mut pages = open_source(rt, pages)?;
     let mut tx = open_source(rt, tx)?;
     let mut cert = open_buffered(rt, alloc, cert)?;
-    Ok(run_verify(
-        alloc, end, &mut pages, &mut tx, &mut cert, out, err,
-    ))
+    Ok(run_verify(alloc, end, &mut pages, &mut tx, &mut cert, out, err))
 }

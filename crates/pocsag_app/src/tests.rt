@@ -7,6 +7,7 @@ use pocsag_words::{End, MemorySink, MemorySource};
 use std::test::Fail;
 
 const LONE_TONE: &[u8] = b"address,kind,message\n8,tone0,\n";
+
 const BAD_FILE: &[u8] = b"address,kind,message\n7,numeric,12a\n";
 
 #[test]
@@ -46,7 +47,10 @@ fn lone_tone_through_the_commands(rt: HostRuntime) -> Result<(), Fail> {
     let mut pages = MemorySource::new(LONE_TONE, 4, 1000);
     let mut read = MemorySource::new(cert.bytes(), 4, 1000);
     let mut out = MemorySink::<200>::new(1, 1000);
-    assert_eq!(rt; run_check(alloc, &mut pages, &mut read, &mut out, &mut err), 0);
+    assert_eq!(rt;
+        run_check(alloc, &mut pages, &mut read, &mut out, &mut err),
+        0
+    );
     assert_eq!(rt; out.bytes(), b"at least 1 batches\n".as_slice());
 
     let mut sent = MemorySource::new(tx.bytes(), 4, 1000);
@@ -147,8 +151,24 @@ fn faults_are_told(rt: HostRuntime) -> Result<(), Fail> {
     );
     // A limit, a reader and two writers that fail: what is told, and what was taken.
     let cases: [(u32, u64, u64, u64, u8, &[u8], usize); 4] = [
-        (0, 1000, 1000, 1000, 1, b"pocsag: the limit must be 1 to 1000000\n", 0),
-        (9, 10, 1000, 1000, 3, b"pocsag: cannot read or open a file\n", 0),
+        (
+            0,
+            1000,
+            1000,
+            1000,
+            1,
+            b"pocsag: the limit must be 1 to 1000000\n",
+            0,
+        ),
+        (
+            9,
+            10,
+            1000,
+            1000,
+            3,
+            b"pocsag: cannot read or open a file\n",
+            0,
+        ),
         (9, 1000, 100, 1000, 3, b"pocsag: cannot write\n", 100),
         (9, 1000, 1000, 5, 3, b"pocsag: cannot write\n", 140),
     ];

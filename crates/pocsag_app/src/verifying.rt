@@ -49,13 +49,25 @@ fn verify_files<P: Source, T: Source, C: Source, O: Sink>(
         return Err(Fault::NotThePages);
     }
     let certificate = read_certificate(alloc, cert)?;
-    if certificate.end != end || certificate.batches as usize != batches_of(bytes.as_slice()) {
+    if !is_end(certificate.end, end) {
+        return Err(Fault::NotTheBound);
+    }
+    if certificate.batches as usize != batches_of(bytes.as_slice()) {
         return Err(Fault::NotTheBound);
     }
     if !check(&round, certificate.batches, &certificate.tree, end) {
         return Err(Fault::NotTheBound);
     }
     tell(out, "verified\n")
+}
+
+fn is_end(one: End, other: End) -> bool
+    ensures { IsTrue result → one ≡ other }
+{
+    match one {
+        End::Open => matches!(other, End::Open),
+        End::Closed => matches!(other, End::Closed),
+    }
 }
 
 // How many whole batches follow the leading bytes AA.

@@ -18,13 +18,23 @@ pub enum Order<'a> {
         verify: bool,
     },
     /// `check PAGES CERT`: the paths of the page file and of the certificate.
-    Check { pages: &'a str, cert: &'a str },
+    Check {
+        pages: &'a str,
+        cert: &'a str,
+    },
     /// `decode TX`: the path of the transmission.
-    Decode { tx: &'a str },
+    Decode {
+        tx: &'a str,
+    },
     /// `hear ADDRESS TX`: a pager's address, and the path of the transmission.
-    Hear { address: u32, tx: &'a str },
+    Hear {
+        address: u32,
+        tx: &'a str,
+    },
     /// `open`, or `open PAGES`: an open round, and the path of the page file that it begins with.
-    Open { pages: Option<&'a str> },
+    Open {
+        pages: Option<&'a str>,
+    },
     /// `report PAGES`: the path of the page file, the rate, the node limit and the end.
     Report {
         pages: &'a str,
@@ -36,30 +46,44 @@ pub enum Order<'a> {
 
 // The commands.
 const PLAN: &str = "plan";
+
 const CHECK: &str = "check";
+
 const DECODE: &str = "decode";
+
 const HEAR: &str = "hear";
+
 const REPORT: &str = "report";
 const ROUND: &str = "open";
 
 // Their words.
 const PAGES: &str = "PAGES";
+
 const TX: &str = "TX";
+
 const CERT: &str = "CERT";
+
 const ADDRESS: &str = "ADDRESS";
+
 const RATE: &str = "rate";
+
 const LIMIT: &str = "limit";
+
 const END: &str = "end";
+
 const VERIFY: &str = "verify";
 
 const OPEN: &str = "open";
+
 const CLOSED: &str = "closed";
+
 const ENDS: &[&str] = &[OPEN, CLOSED];
 
 // The product, and the toolchain that proved it: the line of `rt version`.
 const VERSION: &str = "0.1.0, proved by rattle-kit-13b logic dac8208d650f15bf";
 
-const ABOUT: &str = "Plans POCSAG transmissions with the fewest batches, and proves that fewer do not suffice. With no words: reads a page file from standard input and tells its pages and fewest batches";
+const ABOUT: &str =
+    "Plans POCSAG transmissions with the fewest batches, and proves that fewer do not suffice. With no words: reads a page file from standard input and tells its pages and fewest batches";
 
 const MANUAL: &str = "\
 Page files are CSV with the header address,kind,message. Kinds of pages:
@@ -96,7 +120,9 @@ Example:
   printf 'add,8,tone0,\\nplan,tx.bin,cert.bin\\n' | pocsag open";
 
 const PAGES_HELP: &str = "The page file, CSV with the header address,kind,message";
+
 const TX_HELP: &str = "The transmission";
+
 const CERT_HELP: &str = "The certificate";
 
 fn positional<'a>(alloc: Global, id: &'a str, help: &'a str) -> Arg<'a> {
