@@ -6,6 +6,7 @@ mod certificates;
 mod decode;
 mod flow;
 mod pager;
+mod search;
 mod tour;
 mod words;
 
@@ -19,8 +20,9 @@ fn main(rt: HostRuntime) -> io::Result<()> {
         Some(name) if name.as_str() == "decode" => decode::run(&rt),
         Some(name) if name.as_str() == "flow" => flow::run(&rt),
         Some(name) if name.as_str() == "pager" => pager::run(&rt),
+        Some(name) if name.as_str() == "search" => search::run(&rt),
         Some(name) if name.as_str() == "tour" => tour::run(&rt),
         Some(name) if name.as_str() == "words" => words::run(&rt),
-        _ => println!(rt; "benchmarks: certificates, decode, flow, pager, tour, words"),
+        _ => println!(rt; "benchmarks: certificates, decode, flow, pager, search, tour, words"),
     }
 }
