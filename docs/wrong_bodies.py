@@ -14,8 +14,11 @@ HEAD = """# Wrong bodies
 
 Each edit puts a wrong body in the place of a right one, and the prover refuses the crate with it: so the
 contract that is named does say what it seems to say. `./test` tries all of them. The edits stand in
-`crates/NAME/must-fail/`. "At" names the function and the goal of it that does not hold any more: a clause of
-its contract, an invariant of its loop that leads to one, or what a call in it asks for.
+`crates/NAME/must-fail/`. The second column names the function and the goal of it that the prover named first:
+a clause of its contract (`returns` where it has one clause without a name, with the place where it returns
+behind it), an invariant of its loop that leads to one, or what a call in it asks for. The page is made by
+`docs/wrong_bodies.py` from what the prover prints. Crates that are not listed have wrong bodies too, which the
+gate tries, but no line here yet.
 
 """
 
