@@ -11,7 +11,6 @@ mod layout_tests;
 mod line;
 mod packing;
 mod pages;
-mod planning;
 mod receiving;
 mod rounds;
 mod tours;
@@ -49,22 +48,13 @@ enum Trial {
     HearAll,
     HearWords,
     HearTwice,
-    SearchTight,
-    SearchApart,
-    SearchToLimit,
-    SearchFreely,
-    SearchFreelyOneNode,
-    PlanTight,
-    StreamTwoNumeric,
-    AddToBook,
-    PlanBook,
     CopyLong,
     TourMany,
     SendLong,
     ReadManyNodes,
 }
 
-const TRIALS: [Trial; 33] = [
+const TRIALS: [Trial; 24] = [
     Trial::PackNumeric,
     Trial::PackAlpha,
     Trial::UnpackNumeric,
@@ -89,15 +79,6 @@ const TRIALS: [Trial; 33] = [
     Trial::HearAll,
     Trial::HearWords,
     Trial::HearTwice,
-    Trial::SearchTight,
-    Trial::SearchApart,
-    Trial::SearchToLimit,
-    Trial::SearchFreely,
-    Trial::SearchFreelyOneNode,
-    Trial::PlanTight,
-    Trial::StreamTwoNumeric,
-    Trial::AddToBook,
-    Trial::PlanBook,
 ];
 
 const LARGE_TRIALS: [Trial; 4] = [
@@ -133,15 +114,6 @@ fn name_of(trial: Trial) -> &'static str {
         Trial::HearAll => "hear_all of page-across-batches",
         Trial::HearWords => "hear and end of wrong-bit-in-idle",
         Trial::HearTwice => "hear_all of three pages to one address",
-        Trial::SearchTight => "search of three-pages-tight",
-        Trial::SearchApart => "search of loops-apart, closed",
-        Trial::SearchToLimit => "search of sixteen pages to 300 nodes",
-        Trial::SearchFreely => "search_freely of sixteen pages",
-        Trial::SearchFreelyOneNode => "search_freely of loops-apart to one node",
-        Trial::PlanTight => "plan of three-pages-tight",
-        Trial::StreamTwoNumeric => "plan_stream of two-numeric-exact",
-        Trial::AddToBook => "Book::add of open-round",
-        Trial::PlanBook => "Book::plan of kept-table",
         Trial::CopyLong => "Page::copy of 1,400 items",
         Trial::TourMany => "tour, order_of and lay_out of 20,000 tones",
         Trial::SendLong => "write, decode, list and hear_all of 20,000 pages of 1,400 items",
@@ -175,15 +147,6 @@ fn run(alloc: Global, trial: Trial, line: &mut Line) -> Result<(), OutOfMemory> 
         Trial::HearAll => receiving::hear_whole(alloc, line),
         Trial::HearWords => receiving::hear_words(alloc, line),
         Trial::HearTwice => receiving::hear_three_pages(alloc, line),
-        Trial::SearchTight => planning::search_tight_pages(alloc, line),
-        Trial::SearchApart => planning::search_loops_apart(alloc, line),
-        Trial::SearchToLimit => planning::search_to_the_limit(alloc, line),
-        Trial::SearchFreely => planning::search_freely_sixteen(alloc, line),
-        Trial::SearchFreelyOneNode => planning::search_freely_one_node(alloc, line),
-        Trial::PlanTight => planning::plan_tight_pages(alloc, line),
-        Trial::StreamTwoNumeric => planning::stream_two_numeric(alloc, line),
-        Trial::AddToBook => planning::add_to_open_round(alloc, line),
-        Trial::PlanBook => planning::plan_open_round(alloc, line),
         Trial::CopyLong => large::copy_long_page(alloc, line),
         Trial::TourMany => large::tour_many_tones(alloc, line),
         Trial::SendLong => large::send_long_pages(alloc, line),

@@ -6,7 +6,7 @@ use crate::line::Line;
 use crate::pages::{THREE_PAGES_TIGHT, round_of};
 use pocsag_batch::{lay_out, order_of};
 use pocsag_pages::{Round, RoundFault};
-use pocsag_slots::{Choice, Classes, Step, carries, classes_of};
+use pocsag_slots::{Choice, Classes, Step, classes_of, loads};
 use pocsag_tour::{TourFault, tour};
 use pocsag_words::{End, OutOfMemory};
 use std::alloc::Global;
@@ -31,6 +31,18 @@ fn all_early_but(classes: &Classes, late: Option<u8>) -> Choice
     Choice { early }
 }
 
+// Whether no load is above the batches.
+fn carries(used: &[u32; 16], batches: u32) -> bool
+    ensures { IsTrue result → (slot : ℕ) → slot < 16 → slice_index used.now slot ≤ batches }
+{
+    for slot in 0..16 {
+        if used[slot] > batches {
+            return false;
+        }
+    }
+    true
+}
+
 // A tour of the round with so many batches in which all pages start early, but those of the class that
 // is named.
 pub fn tour_of(
@@ -45,7 +57,7 @@ pub fn tour_of(
 {
     let classes = classes_of(round, end);
     let choice = all_early_but(&classes, late);
-    if !carries(&classes, &choice, batches) {
+    if !carries(&loads(&classes, &choice), batches) {
         return Err(NoTour::Overloaded);
     }
     match tour(alloc, &classes, &choice, batches, end) {
