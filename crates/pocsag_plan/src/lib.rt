@@ -8,17 +8,11 @@ mod book;
 mod closing;
 mod edit;
 mod fault;
-#[cfg(test)]
-mod opened;
-#[cfg(test)]
-mod planned;
 mod planning;
 mod refusal;
 mod reporting;
 mod streaming;
 mod tally;
-#[cfg(test)]
-mod tests;
 
 pub use airtime::Report;
 pub use answer::Plan;
