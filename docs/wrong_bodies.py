@@ -17,8 +17,9 @@ contract that is named does say what it seems to say. `./test` tries all of them
 `crates/NAME/must-fail/`. The second column names the function and the goal of it that the prover named first:
 a clause of its contract (`returns` where it has one clause without a name, with the place where it returns
 behind it), an invariant of its loop that leads to one, or what a call in it asks for. The page is made by
-`docs/wrong_bodies.py` from what the prover prints. Crates that are not listed have wrong bodies too, which the
-gate tries, but no line here yet.
+`docs/wrong_bodies.py` from what the prover prints. Of crates and edits
+that are not listed no refusal was read; `pocsag_branch` and `pocsag_plan` have no wrong body yet. Some lines are of runs
+before the last changes of their crate.
 
 """
 
