@@ -69,10 +69,24 @@ def nothing():
     pass
 
 
-# Of the calls of the trial, the one that tells two wants of memory apart, and those that have one each.
+# Of the calls of the trial, the one that takes no memory, one that tells two wants of memory apart, and those
+# that have one each.
+COPY = b"Page::copy of lone-tone"
 STREAM = b"first_stream of lone-tone"
 READ = b"read_round of lone-tone"
 READ_AND_LAID = b"lay_in_order of lone-tone"
+
+
+def is_stream(name):
+    """Whether the call tells want of memory in the round apart from that behind it."""
+    return name.startswith((b"first_stream ", b"plan_stream "))
+
+
+def are_in_turn(name, answers):
+    """First the round lacks memory, and then what is behind it."""
+    in_round = answers.count(name + b": out of memory in the round")
+    behind = len(answers) - in_round
+    return in_round > 0 and behind > 0 and answers[in_round:] == [name + b": out of memory"] * behind
 
 
 def try_trial(tally, library):
@@ -89,13 +103,15 @@ def try_trial(tally, library):
         for answer, (name, wanted) in zip(told, ample_of.items()):
             if answer != wanted:
                 lacks[name].append(answer)
-                in_round = name == STREAM and answer == name + b": out of memory in the round"
+                in_round = is_stream(name) and answer == name + b": out of memory in the round"
                 holds = holds and (in_round or answer == name + b": out of memory")
         tally.check(f"trial without its growth {number}", holds, done.stdout[-400:])
 
     count = each_refusal([str(TRIAL)], library, "ALLOC", b"", nothing, judge)
     never = {name for name, answers in lacks.items() if not answers}
-    tally.check("trial: each call but one lacked memory", never == {b"Page::copy of lone-tone"}, f"{count}, {never}")
+    tally.check("trial: each call but one lacked memory", never == {COPY}, f"{count}, {never}")
+    for name in filter(is_stream, lacks):
+        tally.check(f"{name.decode()}: the round and then the rest", are_in_turn(name, lacks[name]), lacks[name])
     in_round, in_layout = len(lacks[READ]), len(lacks[READ_AND_LAID]) - len(lacks[READ])
     due = [STREAM + b": out of memory in the round"] * in_round + [STREAM + b": out of memory"] * in_layout
     tally.check("trial: whose memory was wanting", in_layout > 0 and lacks[STREAM] == due, lacks[STREAM])
@@ -114,13 +130,21 @@ def batches_in_order(frames, length):
 def try_large_trial(tally, library):
     """The calls at the largest sizes that their limits allow, against numbers from outside."""
     done, _ = run([str(TRIAL)], library, stdin=b"x")
-    sent = 72 + 68 * batches_in_order((address % 8 for address in range(20_000)), 1_401)
+    in_order = batches_in_order((address % 8 for address in range(20_000)), 1_401)
+    sent = 72 + 68 * in_order
+    codewords = 20_000 * 1_401
+    # Half of each frame starts early: all slots are loaded alike, and the runs lead to every boundary.
+    fewest = codewords // 16
     listed = len("address,kind,message\n") + sum(len(f"{address},numeric,") + 7_001 for address in range(20_000))
     wanted = [
         "Page::copy of 1,400 items: 1400",
         "tour, order_of and lay_out of 20,000 tones: 40000 20000 2500",
         f"write, decode, list and hear_all of 20,000 pages of 1,400 items: {sent} true {listed} 19999 1400",
         "read_certificate of 1,000,000 nodes: 1000000 58",
+        "search and search_freely of 20,000 tones: 1250 20000 1 true 1250 20000 1 true",
+        "search of eight pages to 1,000,000 nodes: 12 13 1000000 true",
+        "Book::add and Book::plan of 20,000 tones: 20000 20000 2500 1250 too many pages",
+        f"plan_stream of 20,000 pages of 1,400 items: 20000 {codewords} {in_order} {fewest} {72 + 68 * fewest} 12",
     ]
     told = done.stdout.decode().splitlines()
     tally.check("trial: as many large calls", done.returncode == 0 and len(told) == len(wanted), done)

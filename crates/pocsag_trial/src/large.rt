@@ -2,15 +2,20 @@
 
 use crate::kept::Kept;
 use crate::line::Line;
-use crate::pages::ones;
+use crate::pages::{ones, round_of, show_no_round};
+use crate::planning::{put_book_plan, put_counts};
+use crate::searching::{put_free_search, put_search};
 use crate::tours::tour_of;
+use arrayvec::ArrayString;
 use pocsag_batch::{lay_in_order, lay_out, order_of, write};
 use pocsag_decode::{DecodeFault, ListFault, decode, list};
 use pocsag_pager::{PagerFault, hear_all};
 use pocsag_pages::{Page, Round, RoundFault};
+use pocsag_plan::{Book, StreamFault, plan_stream};
 use pocsag_tree::{CertificateFault, depth, nodes, read_certificate};
 use pocsag_words::{End, MemorySource, OutOfMemory};
 use std::alloc::Global;
+use std::fmt::Write;
 
 const PAGES: u32 = 20_000;
 
@@ -153,5 +158,98 @@ pub fn read_many_nodes(alloc: Global, line: &mut Line) -> Result<(), OutOfMemory
         Err(CertificateFault::OutOfMemory) => return Err(OutOfMemory),
         Err(_) => line.put("not read"),
     }
+    Ok(())
+}
+
+const NODE_LIMIT: u32 = 1_000_000;
+
+// Pages for which the tree of the search has more than a million nodes.
+const EIGHT_PAGES: [(u32, usize); 8] = [
+    (0, 20),
+    (8, 28),
+    (2, 30),
+    (3, 23),
+    (6, 14),
+    (1, 30),
+    (5, 14),
+    (4, 13),
+];
+
+/// The search and the free search of 20,000 tones, which fill 1,250 batches.
+pub fn search_many_tones(alloc: Global, line: &mut Line) -> Result<(), OutOfMemory> {
+    let Ok(round) = many_pages(alloc, 0) else {
+        return Err(OutOfMemory);
+    };
+    put_search(alloc, &round, NODE_LIMIT, End::Closed, line)?;
+    put_free_search(alloc, &round, NODE_LIMIT, line)
+}
+
+/// A search that stops at the greatest node limit.
+pub fn search_many_nodes(alloc: Global, line: &mut Line) -> Result<(), OutOfMemory> {
+    match round_of(alloc, &EIGHT_PAGES) {
+        Ok(round) => put_search(alloc, &round, NODE_LIMIT, End::Open, line),
+        Err(fault) => show_no_round(fault, line),
+    }
+}
+
+/// An open round of 20,000 tones, its plan, and the fault of one more.
+pub fn plan_full_book(alloc: Global, line: &mut Line) -> Result<(), OutOfMemory> {
+    let mut book = Book::new(alloc);
+    for address in 0..PAGES {
+        if book.add(ones(alloc, address, 0)?).is_err() {
+            return Err(OutOfMemory);
+        }
+    }
+    put_book_plan(&book, End::Open, line)?;
+    match book.add(ones(alloc, PAGES, 0)?) {
+        Ok(()) => line.put("added"),
+        Err(refused) => line.put(refused.fault),
+    }
+    Ok(())
+}
+
+// A record of a page of 7,000 digits, which are 1,400 items.
+fn put_long_record(bytes: &mut Vec<u8>, address: u32) -> Result<(), OutOfMemory> {
+    let mut start = ArrayString::<20>::new();
+    let _ = write!(start, "{address},numeric,");
+    put(bytes, start.as_str().as_bytes())?;
+    for _ in 0..70 {
+        put(bytes, &[b'1'; 100])?;
+    }
+    put(bytes, b"\n")
+}
+
+// A page file of 20,000 pages of 1,400 items each.
+fn long_page_file(alloc: Global) -> Result<Vec<u8>, OutOfMemory> {
+    let mut bytes = Vec::new(alloc);
+    put(&mut bytes, b"address,kind,message\n")?;
+    for address in 0..PAGES {
+        put_long_record(&mut bytes, address)?;
+    }
+    Ok(bytes)
+}
+
+/// The longest page file from end to end: the counts of its plan, and how many bytes are written.
+pub fn stream_long_pages(alloc: Global, line: &mut Line) -> Result<(), OutOfMemory> {
+    let file = long_page_file(alloc)?;
+    let mut source = MemorySource::new(file.as_slice(), 65_536, u64::MAX);
+    let mut tx = Kept::new(alloc);
+    let mut cert = Kept::new(alloc);
+    match plan_stream(
+        alloc,
+        &mut source,
+        &mut tx,
+        &mut cert,
+        NODE_LIMIT,
+        End::Open,
+    ) {
+        Ok(plan) => put_counts(&plan, line),
+        Err(StreamFault::OutOfMemory | StreamFault::Round(RoundFault::OutOfMemory)) => {
+            return Err(OutOfMemory);
+        }
+        Err(fault) => line.put(fault),
+    }
+    line.put(tx.bytes().len());
+    line.put(cert.bytes().len());
     Ok(())
 }

@@ -7,7 +7,7 @@ use std::fmt::{Display, Write};
 /// The text of an answer, which takes no memory. What goes past its end is left out.
 #[derive(Drop)]
 pub struct Line {
-    text: ArrayString<600>,
+    text: ArrayString<1000>,
 }
 
 impl Line {

@@ -11,11 +11,15 @@ mod layout_tests;
 mod line;
 mod packing;
 mod pages;
+mod planning;
 mod receiving;
 mod rounds;
+mod searching;
 mod tours;
 
 use crate::line::Line;
+use crate::planning::Planning;
+use crate::searching::Search;
 use pocsag_words::OutOfMemory;
 use std::alloc::Global;
 use std::io;
@@ -48,13 +52,19 @@ enum Trial {
     HearAll,
     HearWords,
     HearTwice,
+    Search(Search),
+    Planning(Planning),
     CopyLong,
     TourMany,
     SendLong,
     ReadManyNodes,
+    SearchMany,
+    SearchManyNodes,
+    PlanFullBook,
+    StreamLong,
 }
 
-const TRIALS: [Trial; 24] = [
+const TRIALS: [Trial; 45] = [
     Trial::PackNumeric,
     Trial::PackAlpha,
     Trial::UnpackNumeric,
@@ -79,13 +89,38 @@ const TRIALS: [Trial; 24] = [
     Trial::HearAll,
     Trial::HearWords,
     Trial::HearTwice,
+    Trial::Search(Search::Tight),
+    Trial::Search(Search::LoopsApart),
+    Trial::Search(Search::FourPages),
+    Trial::Search(Search::ToTwoNodes),
+    Trial::Search(Search::ToManyNodes),
+    Trial::Search(Search::FreelyTight),
+    Trial::Search(Search::FreelyFourPages),
+    Trial::Search(Search::FreelyEightPages),
+    Trial::Search(Search::FreelyToOneNode),
+    Trial::Search(Search::Near),
+    Trial::Planning(Planning::PlanTight),
+    Trial::Planning(Planning::PlanFourPages),
+    Trial::Planning(Planning::StreamTwoNumeric),
+    Trial::Planning(Planning::StreamLoopsApart),
+    Trial::Planning(Planning::StreamClosed),
+    Trial::Planning(Planning::BookOfTight),
+    Trial::Planning(Planning::AddToBook),
+    Trial::Planning(Planning::EditBook),
+    Trial::Planning(Planning::PlanBook),
+    Trial::Planning(Planning::PlanKept),
+    Trial::Planning(Planning::StreamKept),
 ];
 
-const LARGE_TRIALS: [Trial; 4] = [
+const LARGE_TRIALS: [Trial; 8] = [
     Trial::CopyLong,
     Trial::TourMany,
     Trial::SendLong,
     Trial::ReadManyNodes,
+    Trial::SearchMany,
+    Trial::SearchManyNodes,
+    Trial::PlanFullBook,
+    Trial::StreamLong,
 ];
 
 fn name_of(trial: Trial) -> &'static str {
@@ -114,10 +149,16 @@ fn name_of(trial: Trial) -> &'static str {
         Trial::HearAll => "hear_all of page-across-batches",
         Trial::HearWords => "hear and end of wrong-bit-in-idle",
         Trial::HearTwice => "hear_all of three pages to one address",
+        Trial::Search(search) => searching::name_of(search),
+        Trial::Planning(planning) => planning::name_of(planning),
         Trial::CopyLong => "Page::copy of 1,400 items",
         Trial::TourMany => "tour, order_of and lay_out of 20,000 tones",
         Trial::SendLong => "write, decode, list and hear_all of 20,000 pages of 1,400 items",
         Trial::ReadManyNodes => "read_certificate of 1,000,000 nodes",
+        Trial::SearchMany => "search and search_freely of 20,000 tones",
+        Trial::SearchManyNodes => "search of eight pages to 1,000,000 nodes",
+        Trial::PlanFullBook => "Book::add and Book::plan of 20,000 tones",
+        Trial::StreamLong => "plan_stream of 20,000 pages of 1,400 items",
     }
 }
 
@@ -147,10 +188,16 @@ fn run(alloc: Global, trial: Trial, line: &mut Line) -> Result<(), OutOfMemory> 
         Trial::HearAll => receiving::hear_whole(alloc, line),
         Trial::HearWords => receiving::hear_words(alloc, line),
         Trial::HearTwice => receiving::hear_three_pages(alloc, line),
+        Trial::Search(search) => searching::run(alloc, search, line),
+        Trial::Planning(planning) => planning::run(alloc, planning, line),
         Trial::CopyLong => large::copy_long_page(alloc, line),
         Trial::TourMany => large::tour_many_tones(alloc, line),
         Trial::SendLong => large::send_long_pages(alloc, line),
         Trial::ReadManyNodes => large::read_many_nodes(alloc, line),
+        Trial::SearchMany => large::search_many_tones(alloc, line),
+        Trial::SearchManyNodes => large::search_many_nodes(alloc, line),
+        Trial::PlanFullBook => large::plan_full_book(alloc, line),
+        Trial::StreamLong => large::stream_long_pages(alloc, line),
     }
 }
 

@@ -45,6 +45,15 @@ pub fn round_of(alloc: Global, pages: &[(u32, usize)]) -> Result<Round, RoundFau
     Round::from_pages(alloc, list)
 }
 
+// Why there is no round.
+pub fn show_no_round(fault: RoundFault, line: &mut Line) -> Result<(), OutOfMemory> {
+    match fault {
+        RoundFault::OutOfMemory => return Err(OutOfMemory),
+        fault => line.put(fault),
+    }
+    Ok(())
+}
+
 pub fn read_lone_tone_whole(alloc: Global, line: &mut Line) -> Result<(), OutOfMemory> {
     let mut source = MemorySource::new(LONE_TONE, 7, 1000);
     match read_whole(alloc, &mut source, 30) {

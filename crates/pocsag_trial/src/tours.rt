@@ -3,10 +3,10 @@ ghost use Rattle.pocsag_slots.specs.Loads.{IsChoice};
 ghost use Rattle.pocsag_slots.specs.Tours.{IsTourFor};
 
 use crate::line::Line;
-use crate::pages::{THREE_PAGES_TIGHT, round_of};
+use crate::pages::{THREE_PAGES_TIGHT, round_of, show_no_round};
 use pocsag_batch::{lay_out, order_of};
-use pocsag_pages::{Round, RoundFault};
-use pocsag_slots::{Choice, Classes, Step, classes_of, loads};
+use pocsag_pages::Round;
+use pocsag_slots::{Choice, Classes, Step, carries, classes_of};
 use pocsag_tour::{TourFault, tour};
 use pocsag_words::{End, OutOfMemory};
 use std::alloc::Global;
@@ -31,18 +31,6 @@ fn all_early_but(classes: &Classes, late: Option<u8>) -> Choice
     Choice { early }
 }
 
-// Whether no load is above the batches.
-fn carries(used: &[u32; 16], batches: u32) -> bool
-    ensures { IsTrue result → (slot : ℕ) → slot < 16 → slice_index used.now slot ≤ batches }
-{
-    for slot in 0..16 {
-        if used[slot] > batches {
-            return false;
-        }
-    }
-    true
-}
-
 // A tour of the round with so many batches in which all pages start early, but those of the class that
 // is named.
 pub fn tour_of(
@@ -57,21 +45,13 @@ pub fn tour_of(
 {
     let classes = classes_of(round, end);
     let choice = all_early_but(&classes, late);
-    if !carries(&loads(&classes, &choice), batches) {
+    if !carries(&classes, &choice, batches) {
         return Err(NoTour::Overloaded);
     }
     match tour(alloc, &classes, &choice, batches, end) {
         Ok(steps) => Ok(steps),
         Err(fault) => Err(NoTour::Refused(fault)),
     }
-}
-
-fn show_no_round(fault: RoundFault, line: &mut Line) -> Result<(), OutOfMemory> {
-    match fault {
-        RoundFault::OutOfMemory => return Err(OutOfMemory),
-        fault => line.put(fault),
-    }
-    Ok(())
 }
 
 fn show_no_tour(fault: NoTour, line: &mut Line) -> Result<(), OutOfMemory> {

@@ -1,0 +1,253 @@
+//! Plans of worked examples, as calls and as streams, and open rounds.
+
+use crate::line::Line;
+use crate::pages::{THREE_PAGES_TIGHT, ones, round_of, show_no_round};
+use pocsag_pages::RoundFault;
+use pocsag_plan::{
+    AddFault, Book, BookFault, Edit, Plan, PlanFault, StreamFault, plan, plan_stream,
+};
+use pocsag_slots::Classes;
+use pocsag_words::{End, MemorySink, MemorySource, OutOfMemory};
+use std::alloc::Global;
+
+/// A call that plans, or an edit of an open round, on one example.
+#[derive(Clone, Copy)]
+pub enum Planning {
+    PlanTight,
+    PlanFourPages,
+    StreamTwoNumeric,
+    StreamLoopsApart,
+    StreamClosed,
+    BookOfTight,
+    AddToBook,
+    EditBook,
+    PlanBook,
+    PlanKept,
+    StreamKept,
+}
+
+const LIMIT: u32 = 100_000;
+
+pub fn name_of(planning: Planning) -> &'static str {
+    match planning {
+        Planning::PlanTight => "plan of three-pages-tight",
+        Planning::PlanFourPages => "plan of four pages",
+        Planning::StreamTwoNumeric => "plan_stream of two-numeric-exact",
+        Planning::StreamLoopsApart => "plan_stream of loops-apart",
+        Planning::StreamClosed => "plan_stream of closed-both-ways",
+        Planning::BookOfTight => "Book::of_round of three-pages-tight",
+        Planning::AddToBook => "Book::add of open-round",
+        Planning::EditBook => "Book::edit_all of open-round",
+        Planning::PlanBook => "Book::plan of open-round",
+        Planning::PlanKept => "Book::plan of kept-table",
+        Planning::StreamKept => "Book::plan_stream of kept-table",
+    }
+}
+
+pub fn run(alloc: Global, planning: Planning, line: &mut Line) -> Result<(), OutOfMemory> {
+    match planning {
+        Planning::PlanTight => show_plan(alloc, &THREE_PAGES_TIGHT, line),
+        Planning::PlanFourPages => show_plan(alloc, &FOUR_PAGES, line),
+        Planning::StreamTwoNumeric => show_stream(alloc, TWO_NUMERIC, End::Open, line),
+        Planning::StreamLoopsApart => show_stream(alloc, LOOPS_APART, End::Open, line),
+        Planning::StreamClosed => show_stream(alloc, CLOSED_BOTH_WAYS, End::Closed, line),
+        Planning::BookOfTight => show_book_of_tight(alloc, line),
+        Planning::AddToBook => show_added(alloc, line),
+        Planning::EditBook => show_edited(alloc, line),
+        Planning::PlanBook => show_open_round(alloc, line),
+        Planning::PlanKept => show_kept_table(alloc, line),
+        Planning::StreamKept => show_kept_stream(alloc, line),
+    }
+}
+
+// Pages for which the tree of the search has 159 nodes.
+const FOUR_PAGES: [(u32, usize); 4] = [(5, 8), (1, 12), (7, 14), (6, 13)];
+
+const TWO_NUMERIC: &[u8] = b"address,kind,message\n\
+    0,numeric,1111111111111111111111111\n\
+    3,numeric,111111111111111111111111111111111111111111111\n";
+
+const LOOPS_APART: &[u8] = b"address,kind,message\n\
+    0,numeric,111111111111111111111111111111111111111111111111111111111111111111111111111\n\
+    3,numeric,111111111111111111111111111111111111111111111111111111111111111111111111111\n";
+
+const CLOSED_BOTH_WAYS: &[u8] = b"address,kind,message\n\
+    0,numeric,11111111111111111111111111111111111111111111111111111111111111111\n\
+    7,tone0,\n\
+    15,numeric,1111111111\n\
+    1,numeric,11111111111111111111111111111111111111111111111111111111111111111\n";
+
+/// The counts of a plan.
+pub fn put_counts(plan: &Plan, line: &mut Line) {
+    line.put(plan.pages);
+    line.put(plan.codewords);
+    line.put(plan.in_order);
+    line.put(plan.batches);
+}
+
+fn show_plan(alloc: Global, pages: &[(u32, usize)], line: &mut Line) -> Result<(), OutOfMemory> {
+    let round = match round_of(alloc, pages) {
+        Ok(round) => round,
+        Err(fault) => return show_no_round(fault, line),
+    };
+    match plan(alloc, &round, LIMIT, End::Open) {
+        Ok(plan) => {
+            put_counts(&plan, line);
+            line.put_places(plan.order.as_slice());
+        }
+        Err(PlanFault::OutOfMemory) => return Err(OutOfMemory),
+        Err(fault) => line.put(fault),
+    }
+    Ok(())
+}
+
+// What a stream answers, and behind it all that was written, which has to be nothing where memory is wanting.
+fn put_stream(
+    answer: Result<Plan, StreamFault>,
+    tx: &MemorySink<300>,
+    cert: &MemorySink<40>,
+    line: &mut Line,
+) {
+    match answer {
+        Ok(plan) => put_counts(&plan, line),
+        Err(StreamFault::Round(RoundFault::OutOfMemory)) => line.put("out of memory in the round"),
+        Err(fault) => line.put(fault),
+    }
+    line.put_bytes(cert.bytes());
+    line.put_bytes(tx.bytes());
+}
+
+fn show_stream(alloc: Global, pages: &[u8], end: End, line: &mut Line) -> Result<(), OutOfMemory> {
+    let mut source = MemorySource::new(pages, 50, 1000);
+    let mut tx = MemorySink::<300>::new(64, 1000);
+    let mut cert = MemorySink::<40>::new(7, 1000);
+    let answer = plan_stream(alloc, &mut source, &mut tx, &mut cert, LIMIT, end);
+    put_stream(answer, &tx, &cert, line);
+    Ok(())
+}
+
+fn show_book_of_tight(alloc: Global, line: &mut Line) -> Result<(), OutOfMemory> {
+    let round = match round_of(alloc, &THREE_PAGES_TIGHT) {
+        Ok(round) => round,
+        Err(fault) => return show_no_round(fault, line),
+    };
+    let book = Book::of_round(alloc, &round)?;
+    line.put_pages(book.pages());
+    Ok(())
+}
+
+// Adds a tone. Where memory is wanting, the book and its tables have to be as they were, and the page that
+// is handed back is added by the next call.
+fn add_tone(
+    alloc: Global,
+    book: &mut Book,
+    address: u32,
+    line: &mut Line,
+) -> Result<(), OutOfMemory> {
+    let page = ones(alloc, address, 0)?;
+    let before = tables_of(book);
+    let Err(refused) = book.add(page) else {
+        line.put("added");
+        return Ok(());
+    };
+    if tables_of(book) != before {
+        line.put("changed");
+    } else if refused.fault == AddFault::OutOfMemory {
+        return if book.add(refused.page).is_ok() {
+            Err(OutOfMemory)
+        } else {
+            line.put("refused again");
+            Ok(())
+        };
+    }
+    line.put(refused.fault);
+    Ok(())
+}
+
+// How many pages there are, and the tables for both ends.
+fn tables_of(book: &Book) -> (usize, Classes, Classes) {
+    (
+        book.len(),
+        *book.classes(End::Open),
+        *book.classes(End::Closed),
+    )
+}
+
+fn show_added(alloc: Global, line: &mut Line) -> Result<(), OutOfMemory> {
+    let mut book = Book::new(alloc);
+    for address in [8, 16, 8] {
+        add_tone(alloc, &mut book, address, line)?;
+    }
+    line.put_pages(book.pages());
+    Ok(())
+}
+
+fn put_edit(edits: &mut Vec<Edit>, edit: Edit) -> Result<(), OutOfMemory> {
+    match edits.push(edit) {
+        Ok(()) => Ok(()),
+        Err(_) => Err(OutOfMemory),
+    }
+}
+
+fn show_edited(alloc: Global, line: &mut Line) -> Result<(), OutOfMemory> {
+    let mut edits = Vec::new(alloc);
+    for address in [8, 16, 8] {
+        put_edit(&mut edits, Edit::Add(ones(alloc, address, 0)?))?;
+    }
+    put_edit(&mut edits, Edit::Cancel(8))?;
+    put_edit(&mut edits, Edit::Cancel(8))?;
+    let mut book = Book::new(alloc);
+    book.edit_all(edits)?;
+    line.put_pages(book.pages());
+    Ok(())
+}
+
+// A book of tones for these addresses.
+fn tones(alloc: Global, addresses: &[u32]) -> Result<Book, OutOfMemory> {
+    let mut book = Book::new(alloc);
+    for address in addresses {
+        if book.add(ones(alloc, *address, 0)?).is_err() {
+            return Err(OutOfMemory);
+        }
+    }
+    Ok(book)
+}
+
+/// What the plan of the open round answers.
+pub fn put_book_plan(book: &Book, end: End, line: &mut Line) -> Result<(), OutOfMemory> {
+    match book.plan(LIMIT, end) {
+        Ok(plan) => put_counts(&plan, line),
+        Err(BookFault::OutOfMemory) => return Err(OutOfMemory),
+        Err(fault) => line.put(fault),
+    }
+    Ok(())
+}
+
+// The plan of what is left after the first page was cancelled, and of what is left then.
+fn show_open_round(alloc: Global, line: &mut Line) -> Result<(), OutOfMemory> {
+    let mut book = tones(alloc, &[8, 16])?;
+    for address in [8, 16] {
+        line.put(book.cancel(address).is_ok());
+        put_book_plan(&book, End::Open, line)?;
+    }
+    Ok(())
+}
+
+fn show_kept_table(alloc: Global, line: &mut Line) -> Result<(), OutOfMemory> {
+    let mut book = tones(alloc, &[5, 13, 21])?;
+    line.put(book.classes(End::Open).count[81]);
+    line.put(book.classes(End::Closed).count[133]);
+    put_book_plan(&book, End::Open, line)?;
+    line.put(book.cancel(13).is_ok());
+    line.put(book.classes(End::Open).count[81]);
+    put_book_plan(&book, End::Closed, line)
+}
+
+fn show_kept_stream(alloc: Global, line: &mut Line) -> Result<(), OutOfMemory> {
+    let book = tones(alloc, &[5, 13, 21])?;
+    let mut tx = MemorySink::<300>::new(64, 1000);
+    let mut cert = MemorySink::<40>::new(7, 1000);
+    let answer = book.plan_stream(&mut tx, &mut cert, LIMIT, End::Closed);
+    put_stream(answer, &tx, &cert, line);
+    Ok(())
+}
