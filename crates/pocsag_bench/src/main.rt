@@ -5,7 +5,9 @@
 mod certificates;
 mod decode;
 mod flow;
+mod open_round;
 mod pager;
+mod search;
 mod tour;
 mod words;
 
@@ -18,9 +20,13 @@ fn main(rt: HostRuntime) -> io::Result<()> {
         Some(name) if name.as_str() == "certificates" => certificates::run(&rt),
         Some(name) if name.as_str() == "decode" => decode::run(&rt),
         Some(name) if name.as_str() == "flow" => flow::run(&rt),
+        Some(name) if name.as_str() == "open_round" => open_round::run(&rt),
         Some(name) if name.as_str() == "pager" => pager::run(&rt),
+        Some(name) if name.as_str() == "search" => search::run(&rt),
         Some(name) if name.as_str() == "tour" => tour::run(&rt),
         Some(name) if name.as_str() == "words" => words::run(&rt),
-        _ => println!(rt; "benchmarks: certificates, decode, flow, pager, tour, words"),
+        _ => println!(rt;
+            "benchmarks: certificates, decode, flow, open_round, pager, search, tour, words"
+        ),
     }
 }

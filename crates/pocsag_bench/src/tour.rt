@@ -213,7 +213,7 @@ fn items_of(random: &mut Random, part: Part) -> u32 {
     }
 }
 
-fn mixed_items(random: &mut Random) -> u32 {
+pub(crate) fn mixed_items(random: &mut Random) -> u32 {
     match random.below(4) {
         0 | 1 => 0,
         2 => (1 + random.below(40)).div_ceil(5),
