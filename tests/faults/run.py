@@ -79,7 +79,7 @@ READ_AND_LAID = b"lay_in_order of lone-tone"
 
 def is_stream(name):
     """Whether the call tells want of memory in the round apart from that behind it."""
-    return name.startswith((b"first_stream ", b"plan_stream "))
+    return name.startswith((b"first_stream ", b"plan_stream ", b"plan_stream_always "))
 
 
 def are_in_turn(name, answers):

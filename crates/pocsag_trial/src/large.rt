@@ -208,13 +208,13 @@ pub fn plan_full_book(alloc: Global, line: &mut Line) -> Result<(), OutOfMemory>
     Ok(())
 }
 
-// A record of a page of 7,000 digits, which are 1,400 items.
+// A record of a page of 4,000 characters, which are 1,400 items.
 fn put_long_record(bytes: &mut Vec<u8>, address: u32) -> Result<(), OutOfMemory> {
     let mut start = ArrayString::<20>::new();
-    let _ = write!(start, "{address},numeric,");
+    let _ = write!(start, "{address},alpha,");
     put(bytes, start.as_str().as_bytes())?;
-    for _ in 0..70 {
-        put(bytes, &[b'1'; 100])?;
+    for _ in 0..40 {
+        put(bytes, &[b'A'; 100])?;
     }
     put(bytes, b"\n")
 }

@@ -64,7 +64,7 @@ enum Trial {
     StreamLong,
 }
 
-const TRIALS: [Trial; 45] = [
+const TRIALS: [Trial; 52] = [
     Trial::PackNumeric,
     Trial::PackAlpha,
     Trial::UnpackNumeric,
@@ -101,15 +101,21 @@ const TRIALS: [Trial; 45] = [
     Trial::Search(Search::Near),
     Trial::Planning(Planning::PlanTight),
     Trial::Planning(Planning::PlanFourPages),
+    Trial::Planning(Planning::AlwaysFourPages),
+    Trial::Planning(Planning::AlwaysToOneNode),
     Trial::Planning(Planning::StreamTwoNumeric),
     Trial::Planning(Planning::StreamLoopsApart),
     Trial::Planning(Planning::StreamClosed),
+    Trial::Planning(Planning::StreamAlways),
+    Trial::Planning(Planning::StreamAlwaysToOneNode),
     Trial::Planning(Planning::BookOfTight),
     Trial::Planning(Planning::AddToBook),
     Trial::Planning(Planning::EditBook),
     Trial::Planning(Planning::PlanBook),
     Trial::Planning(Planning::PlanKept),
+    Trial::Planning(Planning::AlwaysKept),
     Trial::Planning(Planning::StreamKept),
+    Trial::Planning(Planning::StreamAlwaysKept),
 ];
 
 const LARGE_TRIALS: [Trial; 8] = [

@@ -4,7 +4,8 @@ use crate::line::Line;
 use crate::pages::{THREE_PAGES_TIGHT, ones, round_of, show_no_round};
 use pocsag_pages::RoundFault;
 use pocsag_plan::{
-    AddFault, Book, BookFault, Edit, Plan, PlanFault, StreamFault, plan, plan_stream,
+    AddFault, Book, BookFault, Bounded, Edit, Plan, PlanFault, StreamFault, plan, plan_always,
+    plan_stream, plan_stream_always,
 };
 use pocsag_slots::Classes;
 use pocsag_words::{End, MemorySink, MemorySource, OutOfMemory};
@@ -15,15 +16,21 @@ use std::alloc::Global;
 pub enum Planning {
     PlanTight,
     PlanFourPages,
+    AlwaysFourPages,
+    AlwaysToOneNode,
     StreamTwoNumeric,
     StreamLoopsApart,
     StreamClosed,
+    StreamAlways,
+    StreamAlwaysToOneNode,
     BookOfTight,
     AddToBook,
     EditBook,
     PlanBook,
     PlanKept,
+    AlwaysKept,
     StreamKept,
+    StreamAlwaysKept,
 }
 
 const LIMIT: u32 = 100_000;
@@ -32,15 +39,21 @@ pub fn name_of(planning: Planning) -> &'static str {
     match planning {
         Planning::PlanTight => "plan of three-pages-tight",
         Planning::PlanFourPages => "plan of four pages",
+        Planning::AlwaysFourPages => "plan_always of four pages",
+        Planning::AlwaysToOneNode => "plan_always of four pages to 1 node",
         Planning::StreamTwoNumeric => "plan_stream of two-numeric-exact",
         Planning::StreamLoopsApart => "plan_stream of loops-apart",
         Planning::StreamClosed => "plan_stream of closed-both-ways",
+        Planning::StreamAlways => "plan_stream_always of loops-apart",
+        Planning::StreamAlwaysToOneNode => "plan_stream_always of loops-apart to 1 node",
         Planning::BookOfTight => "Book::of_round of three-pages-tight",
         Planning::AddToBook => "Book::add of open-round",
         Planning::EditBook => "Book::edit_all of open-round",
         Planning::PlanBook => "Book::plan of open-round",
         Planning::PlanKept => "Book::plan of kept-table",
+        Planning::AlwaysKept => "Book::plan_always of kept-table",
         Planning::StreamKept => "Book::plan_stream of kept-table",
+        Planning::StreamAlwaysKept => "Book::plan_stream_always of kept-table",
     }
 }
 
@@ -48,15 +61,21 @@ pub fn run(alloc: Global, planning: Planning, line: &mut Line) -> Result<(), Out
     match planning {
         Planning::PlanTight => show_plan(alloc, &THREE_PAGES_TIGHT, line),
         Planning::PlanFourPages => show_plan(alloc, &FOUR_PAGES, line),
+        Planning::AlwaysFourPages => show_always(alloc, &FOUR_PAGES, LIMIT, line),
+        Planning::AlwaysToOneNode => show_always(alloc, &FOUR_PAGES, 1, line),
         Planning::StreamTwoNumeric => show_stream(alloc, TWO_NUMERIC, End::Open, line),
         Planning::StreamLoopsApart => show_stream(alloc, LOOPS_APART, End::Open, line),
         Planning::StreamClosed => show_stream(alloc, CLOSED_BOTH_WAYS, End::Closed, line),
+        Planning::StreamAlways => show_stream_always(alloc, LOOPS_APART, LIMIT, line),
+        Planning::StreamAlwaysToOneNode => show_stream_always(alloc, LOOPS_APART, 1, line),
         Planning::BookOfTight => show_book_of_tight(alloc, line),
         Planning::AddToBook => show_added(alloc, line),
         Planning::EditBook => show_edited(alloc, line),
         Planning::PlanBook => show_open_round(alloc, line),
         Planning::PlanKept => show_kept_table(alloc, line),
+        Planning::AlwaysKept => show_kept_always(alloc, line),
         Planning::StreamKept => show_kept_stream(alloc, line),
+        Planning::StreamAlwaysKept => show_kept_stream_always(alloc, line),
     }
 }
 
@@ -101,6 +120,30 @@ fn show_plan(alloc: Global, pages: &[(u32, usize)], line: &mut Line) -> Result<(
     Ok(())
 }
 
+// The bound of a plan, and then its counts.
+fn put_bounded(bounded: &Bounded, line: &mut Line) {
+    line.put(bounded.bound);
+    put_counts(&bounded.plan, line);
+}
+
+fn show_always(
+    alloc: Global,
+    pages: &[(u32, usize)],
+    limit: u32,
+    line: &mut Line,
+) -> Result<(), OutOfMemory> {
+    let round = match round_of(alloc, pages) {
+        Ok(round) => round,
+        Err(fault) => return show_no_round(fault, line),
+    };
+    match plan_always(alloc, &round, limit, End::Open) {
+        Ok(bounded) => put_bounded(&bounded, line),
+        Err(PlanFault::OutOfMemory) => return Err(OutOfMemory),
+        Err(fault) => line.put(fault),
+    }
+    Ok(())
+}
+
 // What a stream answers, and behind it all that was written, which has to be nothing where memory is wanting.
 fn put_stream(
     answer: Result<Plan, StreamFault>,
@@ -123,6 +166,37 @@ fn show_stream(alloc: Global, pages: &[u8], end: End, line: &mut Line) -> Result
     let mut cert = MemorySink::<40>::new(7, 1000);
     let answer = plan_stream(alloc, &mut source, &mut tx, &mut cert, LIMIT, end);
     put_stream(answer, &tx, &cert, line);
+    Ok(())
+}
+
+// The same of a stream that no round is refused, with the bound before the counts.
+fn put_bounded_stream(
+    answer: Result<Bounded, StreamFault>,
+    tx: &MemorySink<300>,
+    cert: &MemorySink<40>,
+    line: &mut Line,
+) {
+    let answer = match answer {
+        Ok(bounded) => {
+            line.put(bounded.bound);
+            Ok(bounded.plan)
+        }
+        Err(fault) => Err(fault),
+    };
+    put_stream(answer, tx, cert, line);
+}
+
+fn show_stream_always(
+    alloc: Global,
+    pages: &[u8],
+    limit: u32,
+    line: &mut Line,
+) -> Result<(), OutOfMemory> {
+    let mut source = MemorySource::new(pages, 50, 1000);
+    let mut tx = MemorySink::<300>::new(64, 1000);
+    let mut cert = MemorySink::<40>::new(7, 1000);
+    let answer = plan_stream_always(alloc, &mut source, &mut tx, &mut cert, limit, End::Open);
+    put_bounded_stream(answer, &tx, &cert, line);
     Ok(())
 }
 
@@ -249,5 +323,24 @@ fn show_kept_stream(alloc: Global, line: &mut Line) -> Result<(), OutOfMemory> {
     let mut cert = MemorySink::<40>::new(7, 1000);
     let answer = book.plan_stream(&mut tx, &mut cert, LIMIT, End::Closed);
     put_stream(answer, &tx, &cert, line);
+    Ok(())
+}
+
+fn show_kept_always(alloc: Global, line: &mut Line) -> Result<(), OutOfMemory> {
+    let book = tones(alloc, &[5, 13, 21])?;
+    match book.plan_always(LIMIT, End::Closed) {
+        Ok(bounded) => put_bounded(&bounded, line),
+        Err(BookFault::OutOfMemory) => return Err(OutOfMemory),
+        Err(fault) => line.put(fault),
+    }
+    Ok(())
+}
+
+fn show_kept_stream_always(alloc: Global, line: &mut Line) -> Result<(), OutOfMemory> {
+    let book = tones(alloc, &[5, 13, 21])?;
+    let mut tx = MemorySink::<300>::new(64, 1000);
+    let mut cert = MemorySink::<40>::new(7, 1000);
+    let answer = book.plan_stream_always(&mut tx, &mut cert, LIMIT, End::Open);
+    put_bounded_stream(answer, &tx, &cert, line);
     Ok(())
 }
