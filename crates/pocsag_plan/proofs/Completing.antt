@@ -1,12 +1,11 @@
 -- What a search found is a plan of the round.
-use Rattle.std.proofs.Common.{◌≡◌, ℕ, ◌+◌, ◌*◌, ◌^◌, ◌<◌, ◌≤◌, List, sum_by, arith, inl, inr, slice_index, subst}
+use Rattle.std.proofs.Common.{◌≡◌, ℕ, ◌*◌, ◌<◌, ◌≤◌, List, sum_by, arith, inl, inr, slice_index, subst}
 use Rattle.pocsag_words.specs.declared.ending.End.{End}
 use Rattle.pocsag_pages.specs.declared.page.Page.{Page}
 use Rattle.pocsag_pages.specs.Pages.{IsRound}
 use Rattle.pocsag_pages.specs.Reading.{IsLegalList, page_length}
 use Rattle.pocsag_pages.proofs.GoodPages.{apart_pages}
 use Rattle.pocsag_slots.specs.declared.class.Classes.{Classes}
-use Rattle.pocsag_slots.specs.declared.step.Step.{Step}
 use Rattle.pocsag_slots.specs.Loads.{AreClassesOf, IsChoice, IsLeast}
 use Rattle.pocsag_slots.specs.Tours.{IsTourFor}
 use Rattle.pocsag_slots.proofs.LoadLemmas.{load_few}

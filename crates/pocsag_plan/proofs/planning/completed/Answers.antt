@@ -1,4 +1,4 @@
-use Rattle.std.proofs.Common.{◌≡◌, ℕ, ◌*◌, ◌≤◌, false, List, length, refl, sym, ap, subst, arith, slice_index}
+use Rattle.std.proofs.Common.{ℕ, ◌*◌, ◌≤◌, false, List, length, refl, sym, ap, subst, arith, slice_index}
 use Rattle.pocsag_pages.proofs.GoodPages.{apart_pages}
 use Rattle.pocsag_slots.specs.declared.step.Step.{Step}
 use Rattle.pocsag_slots.specs.Tours.{IsTourFor}
