@@ -64,7 +64,7 @@ enum Trial {
     StreamLong,
 }
 
-const TRIALS: [Trial; 52] = [
+const TRIALS: [Trial; 51] = [
     Trial::PackNumeric,
     Trial::PackAlpha,
     Trial::UnpackNumeric,
