@@ -2,6 +2,7 @@
 
 use std::time::Instant;
 
+#[allow(dead_code)]
 enum Tree {
     Overload(u16),
     Split { class: u8, m: u16, below: Box<Tree>, from: Box<Tree> },

@@ -6,6 +6,7 @@ mod adversary;
 mod brute;
 mod checker;
 mod choosing;
+#[allow(dead_code)]
 mod families;
 mod free;
 mod judging;
