@@ -105,7 +105,9 @@ fn has_room(network: &Network, slot: u8) -> bool
     network.loads[slot as usize] < network.limits.cap[slot as usize]
 }
 
-// Moves up to `most` out of the slot by runs of the class, from early to late or from late to early.
+// Moves up to `most` out of the slot by runs of the class, from early to late or from late to early. It is
+// asked of each class, and most have no run that may move.
+#[inline(always)]
 #[cycle(push)]
 fn switch(network: &Network, search: &mut Search, class: u8, slot: u8, most: u32) -> u32
     requires network { IsNetworkOf network.now search.old }

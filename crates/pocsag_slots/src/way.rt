@@ -48,7 +48,10 @@ fn is_open_early(classes: &Classes, limits: &Limits, set: u16, class: u8) -> boo
     requires { class < 136 }
     ensures { result ≡ is_early_open classes.now limits.now set class }
 {
-    crosses(class, true, set) && 0 < classes.count[class as usize] && 0 < limits.hi[class as usize]
+    if classes.count[class as usize] == 0 {
+        return false;
+    }
+    crosses(class, true, set) && 0 < limits.hi[class as usize]
 }
 
 #[tactic(auto, unfolding(crate::specs::Ways::late_open))]
@@ -56,6 +59,9 @@ fn is_open_late(classes: &Classes, limits: &Limits, set: u16, class: u8) -> bool
     requires { class < 136 }
     ensures { result ≡ is_late_open classes.now limits.now set class }
 {
+    if classes.count[class as usize] == 0 {
+        return false;
+    }
     crosses(class, false, set) && limits.lo[class as usize] < classes.count[class as usize]
 }
 
