@@ -110,6 +110,11 @@ is_wanting bytes h = of_read bytes (certificate_at bytes) refl h
         let read : all_of bytes ≡ Err fault.Truncated = rw (is, h) refl in
         inl (verdict_at bytes (Err fault.Truncated) read (λ no. cc))
 
+-- bytes that end where one is wanted lack it
+pub is_short : (bytes : List ℕ) → certificate_at bytes ≡ Err fault.Truncated → HasFirst fault.Truncated bytes
+unfolding all_of
+is_short bytes is = verdict_at bytes (Err fault.Truncated) (rw is refl) (λ no. cc)
+
 -- ---- laws
 
 pub texts_same : (bytes : List ℕ) (end other_end : End) (batches other_batches : ℕ) (tree other_tree : Bound) → IsText end batches tree bytes → IsText other_end other_batches other_tree bytes

@@ -50,7 +50,7 @@ row_fails e child front count i made bytes total lt h so_far =
 -- where a fault of one reading is the fault of another, so is what a function returned
 pub fails_along : {A B : Type 0} (e : CertificateFault) (stopped : Type 0) (r : Result A CertificateFault) (s : Result B CertificateFault) → ((f : CertificateFault) → r ≡ Err f → s ≡ Err f) → Fails e stopped r → Fails e stopped s
 fails_along fault.ReadFault stopped r s along h = λ here. along fault.Truncated (h here)
-fails_along fault.OutOfMemory stopped r s along h = tt
+fails_along fault.OutOfMemory stopped r s along h = λ here. along fault.Truncated (h here)
 fails_along fault.NotCertificate stopped r s along h = along fault.NotCertificate h
 fails_along fault.Version stopped r s along h = along fault.Version h
 fails_along fault.Truncated stopped r s along h = along fault.Truncated h

@@ -1,6 +1,6 @@
 -- Reading a certificate from a list of bytes, field by field. Only contracts of private functions speak
 -- of it: what a certificate is, and which fault is answered, stands in `Spelling` and `Parts`.
-use Rattle.std.specs.Prelude.{◌≡◌, ℕ, zero, suc, ◌+◌, ◌-◌, ◌*◌, ◌==◌, ◌&&◌, nat_lt, nat_le, if◌then◌else◌, List, [], ◌∷◌, length, take, Result, Ok, Err}
+use Rattle.std.specs.Prelude.{◌≡◌, ℕ, zero, suc, ◌+◌, ◌-◌, ◌*◌, ◌≤◌, ◌==◌, ◌&&◌, nat_lt, nat_le, if◌then◌else◌, List, [], ◌∷◌, length, take, Result, Ok, Err}
 use Rattle.pocsag_words.specs.declared.ending.End.{End}
 use Rattle.pocsag_words.specs.declared.ending.End.TheVariants as ends
 use Rattle.pocsag_words.specs.Devices.{one_more}
@@ -20,10 +20,10 @@ unfoldable pub but_last : ℕ → List ℕ → List ℕ
 but_last k bytes = take (length bytes - k) bytes
 
 -- What a function returned, seen by view, is what reading gives, unless reader or memory refused. Where
--- the reader failed, and just the bytes before that were read, their end comes where a byte is wanted.
+-- one of them did, and just the bytes before that were read, their end comes where a byte is wanted.
 abbrev pub Fails : {Y : Type 0} → CertificateFault → (stopped : Type 0) → Result Y CertificateFault → Type 0
 Fails fault.ReadFault stopped read = stopped → read ≡ Err fault.Truncated
-Fails fault.OutOfMemory stopped read = Unit {0}
+Fails fault.OutOfMemory stopped read = stopped → read ≡ Err fault.Truncated
 Fails f stopped read = read ≡ Err f
 
 abbrev pub Gives : {X Y : Type 0} → (X → Y) → (stopped : Type 0) → Result X CertificateFault → Result Y CertificateFault → Type 0
@@ -160,6 +160,12 @@ all_of bytes = do
   whole ← certificate_at bytes
   finished ← end_at whole.3
   Ok (whole.0, whole.1, whole.2)
+
+-- The fault of a node before any byte of it, where so many levels are left and so many nodes were read.
+abbrev pub IsEarly : (depth made : ℕ) → CertificateFault → Type 0
+IsEarly depth made fault.TooDeep = depth ≡ 0
+IsEarly depth made fault.TooMany = (1 ≤ depth) × (most_nodes ≤ made)
+IsEarly depth made _ = ⊥
 
 -- The bytes end where one is wanted, or with a certificate.
 abbrev pub IsWanting : Result (End × ℕ × Bound × List ℕ) CertificateFault → Type 0

@@ -1,4 +1,4 @@
-ghost use Rattle.std.specs.Prelude.{◌≡◌, ℕ, ◌+◌, ◌<◌, ◌≤◌, List, [], ◌∷◌, length, IfOk, IfErr, OnOk, OnErr, IsErrOf, MatchOption};
+ghost use Rattle.std.specs.Prelude.{◌≡◌, ℕ, ◌+◌, ◌<◌, ◌≤◌, List, [], ◌∷◌, length, Err, IfOk, IfErr, OnOk, OnErr, IsErrOf, MatchOption};
 ghost use Rattle.pocsag_words.specs.declared.ending.End.{End};
 ghost use Rattle.pocsag_words.specs.Devices.{HasFailed};
 ghost use Rattle.pocsag_tree.specs.Limits.{greatest_depth, most_nodes};
@@ -8,7 +8,8 @@ ghost use Rattle.pocsag_tree.specs.Spelling.{IsText};
 ghost use Rattle.pocsag_tree.specs.Parts.{HasFirst};
 ghost use Rattle.pocsag_tree.specs.Answers.{AnswersTriple, AnswersFault, IsFault, HasNoFault, given_before};
 ghost use Rattle.pocsag_tree.specs.declared.refusals.CertificateFault.{CertificateFault};
-ghost use Rattle.pocsag_tree.specs.Reading.{Gives, IsWanting, but_last, failed_after, byte_at, number_at, small_at, large_at, row_at, overload_at, split_at, cut_at, close_at, body_at, tagged_at, node_at, mark_at, version_at, long_number_at, batches_at, end_at, end_of, certificate_at, all_of};
+ghost use Rattle.pocsag_tree.specs.declared.refusals.CertificateFault.TheVariants as fault;
+ghost use Rattle.pocsag_tree.specs.Reading.{Gives, IsWanting, but_last, failed_after, byte_at, number_at, small_at, large_at, row_at, overload_at, split_at, cut_at, close_at, body_at, tagged_at, node_at, mark_at, version_at, long_number_at, batches_at, end_at, end_of, certificate_at, all_of, IsEarly};
 
 use crate::limits::{DEPTH_LIMIT, FIRST_VERSION, NODE_LIMIT, Ranges, SECOND_VERSION};
 use crate::refusals::CertificateFault;
@@ -65,6 +66,7 @@ fn next_number<S: Source>(source: &mut S) -> Result<u16, CertificateFault>
 // A field of one byte, in this range.
 #[tactic(auto, unfolding(crate::specs::Reading::small_at))]
 fn small<S: Source>(low: u8, high: u8, source: &mut S) -> Result<u8, CertificateFault>
+    ensures in_range { IfOk result (λ n. (low ≤ n) × (n ≤ high)) }
     ensures failures { S.failures source.new ≡ failed_after result (S.failures source.old) }
     ensures shrinks { S.tells → length (S.held source.new) ≤ length (S.held source.old) }
     ensures bytes { S.tells → (k : ℕ) → k ≤ length (S.held source.new)
@@ -83,6 +85,7 @@ fn small<S: Source>(low: u8, high: u8, source: &mut S) -> Result<u8, Certificate
 // A field of two bytes, in this range.
 #[tactic(auto, unfolding(crate::specs::Reading::large_at))]
 fn large<S: Source>(low: u16, high: u16, source: &mut S) -> Result<u16, CertificateFault>
+    ensures in_range { IfOk result (λ n. (low ≤ n) × (n ≤ high)) }
     ensures failures { S.failures source.new ≡ failed_after result (S.failures source.old) }
     ensures shrinks { S.tells → length (S.held source.new) ≤ length (S.held source.old) }
     ensures bytes { S.tells → (k : ℕ) → k ≤ length (S.held source.new)
@@ -176,11 +179,26 @@ fn end<S: Source>(source: &mut S) -> Result<(), CertificateFault>
     ensures bytes { S.tells → Gives (λ _. tt) ⊥ result (end_at (S.held source.old)) }
     ensures kept { S.tells → IsErrOf result CertificateFault.ReadFault
         → S.held source.new ≡ S.held source.old }
+    ensures small { ¬ IsErrOf result CertificateFault.OutOfMemory }
 {
     match read_byte(source)? {
         Some(_) => Err(CertificateFault::Trailing),
         None => Ok(()),
     }
+}
+
+// Whether a node may stand here, which is judged before any byte of it.
+fn wanted(depth: u32, made: u32) -> Result<(), CertificateFault>
+    ensures fine { OnOk result ((1 ≤ depth) × (made < most_nodes)) }
+    ensures early { IfErr result (λ e. IsEarly depth made e) }
+{
+    if depth == 0 {
+        return Err(CertificateFault::TooDeep);
+    }
+    if made >= NODE_LIMIT {
+        return Err(CertificateFault::TooMany);
+    }
+    Ok(())
 }
 
 #[cycle(node)]
@@ -203,12 +221,7 @@ fn node<S: Source>(
         (k ≡ length (S.held source.new)) result
         (node_at ranges depth made (but_last k (S.held source.old))) }
 {
-    if depth == 0 {
-        return Err(CertificateFault::TooDeep);
-    }
-    if made >= NODE_LIMIT {
-        return Err(CertificateFault::TooMany);
-    }
+    wanted(depth, made)?;
     tagged(alloc, ranges, depth - 1, made, source)
 }
 
@@ -286,6 +299,15 @@ fn overload<S: Source>(made: u32, source: &mut S) -> Result<(Tree, u32), Certifi
     Ok((Tree::Overload(set), made))
 }
 
+// Room for the children of a `Split`.
+fn two_boxes(alloc: Global) -> Result<(Box<Tree>, Box<Tree>), CertificateFault>
+    ensures { IfErr result (λ e. e ≡ CertificateFault.OutOfMemory) }
+{
+    let below = Box::new(alloc, Tree::Open)?;
+    let from = Box::new(alloc, Tree::Open)?;
+    Ok((below, from))
+}
+
 #[cycle(node)]
 #[tactic(auto, unfolding(crate::specs::Reading::split_at))]
 fn split<S: Source>(
@@ -308,10 +330,12 @@ fn split<S: Source>(
 {
     let class = small(0, ranges.class, source)?;
     let m = large(1, ranges.m, source)?;
-    let (below, made) = node(alloc, ranges, depth, made, source)?;
-    let (from, made) = node(alloc, ranges, depth, made, source)?;
-    let below = Box::new(alloc, below)?;
-    let from = Box::new(alloc, from)?;
+    wanted(depth, made)?;
+    let (mut below, mut from) = two_boxes(alloc)?;
+    let (tree, made) = node(alloc, ranges, depth, made, source)?;
+    let _open = Box::replace(&mut below, tree);
+    let (tree, made) = node(alloc, ranges, depth, made, source)?;
+    let _open = Box::replace(&mut from, tree);
     Ok((
         Tree::Split {
             class,
@@ -392,7 +416,8 @@ fn row<S: Source>(
     count: u16,
     source: &mut S,
 ) -> Result<(Vec<Tree>, u32), CertificateFault>
-    requires { made ≤ 1000000 }
+    requires few { made ≤ 1000000 }
+    requires some { 1 ≤ count }
     ensures deep { IfOk result (λ x. deepest (bounds_of x.0.items) ≤ depth) }
     ensures counted { IfOk result (λ x. made + all_nodes_in (bounds_of x.0.items) ≡ x.1) }
     ensures few { IfOk result (λ x. x.1 ≤ 1000000) }
@@ -403,11 +428,12 @@ fn row<S: Source>(
         (k ≡ length (S.held source.new)) result
         (row_at (node_at ranges depth) count made (but_last k (S.held source.old))) }
 {
+    wanted(depth, made)?;
     let mut children = Vec::with_capacity(alloc, usize::from(count))?;
     let mut reached = made;
     for _ in 0..count {
         let (child, after) = node(alloc, ranges, depth, reached, source)?;
-        children.push(child)?;
+        children.push_reserved(child);
         reached = after;
     }
     Ok((children, reached))
@@ -444,6 +470,8 @@ fn all<S: Source>(alloc: Global, source: &mut S) -> Result<Certificate, Certific
         (all_of (S.held source.old)) }
     ensures wanting { S.tells → IsErrOf result CertificateFault.ReadFault
         → IsWanting (certificate_at (but_last (length (S.held source.new)) (S.held source.old))) }
+    ensures room { S.tells → IsErrOf result CertificateFault.OutOfMemory
+        → certificate_at (but_last (length (S.held source.new)) (S.held source.old)) ≡ Err fault.Truncated }
 {
     let certificate = certificate(alloc, source)?;
     end(source)?;
@@ -472,6 +500,9 @@ pub fn read_certificate<S: Source>(
     // No fault stands in what the reader gave before it failed.
     ensures in_place { S.tells → IsErrOf result CertificateFault.ReadFault
         → HasNoFault (given_before (S.held reader.old) (S.held reader.new)) }
+    // Memory is wanting only where a further byte is wanted, and no fault stands before it.
+    ensures room { S.tells → IsErrOf result CertificateFault.OutOfMemory
+        → HasFirst fault.Truncated (given_before (S.held reader.old) (S.held reader.new)) }
     // What is read is small enough to be read again, also where the reader tells nothing.
     ensures deep { IfOk result (λ c. depth_of (bound_of c.tree) ≤ greatest_depth) }
     ensures few { IfOk result (λ c. all_nodes (bound_of c.tree) ≤ most_nodes) }

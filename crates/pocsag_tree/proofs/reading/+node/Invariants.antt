@@ -1,4 +1,4 @@
-use Rattle.std.proofs.Common.{◌≡◌, ◌+◌, ◌-◌, ◌*◌, ◌≤◌, ℕ, length, map}
+use Rattle.std.proofs.Common.{◌≡◌, ◌+◌, ◌-◌, ◌*◌, ◌≤◌, ℕ, length, map, vec_len, vec_capacity}
 use Rattle.pocsag_tree.specs.Bounds.{all_nodes_in, deepest}
 use Rattle.pocsag_tree.specs.Views.{bound_of, bounds_of}
 use Rattle.pocsag_tree.specs.Reading.{but_last, row_at, node_at}
@@ -30,6 +30,8 @@ decreases-tagged g l = 6 * l.depth + 4
 abbrev pub invariant-row-loop : goal.invariant-row-loop
 invariant-row-loop g l = record {
   few : l.reached ≤ 1000000;
+  len : vec_len l.children ≡ l.counter;
+  room : vec_capacity l.children ≡ l.count;
   deep : deepest (bounds_of l.children.items) ≤ l.depth;
   counted : l.made + all_nodes_in (bounds_of l.children.items) ≡ l.reached;
   failures : g.S.Source.failures l.source ≡ g.S.Source.failures l.fn.source;

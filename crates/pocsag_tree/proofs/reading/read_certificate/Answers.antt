@@ -1,6 +1,6 @@
 use Rattle.std.proofs.Common.{length}
 use Rattle.pocsag_tree.specs.Reading.{but_last}
-use Rattle.pocsag_tree.proofs.Results.{is_found, is_only, is_fault, is_first, is_wanting}
+use Rattle.pocsag_tree.proofs.Results.{is_found, is_only, is_fault, is_first, is_short, is_wanting}
 use Rattle.pocsag_tree.proofs.reading.read_certificate.Goals as goal
 
 pub returns-clause-found : goal.returns-clause-found
@@ -18,3 +18,7 @@ returns-clause-first g c = λ tells. is_first c.all.result (g.S.Source.held c.ar
 pub returns-clause-in_place : goal.returns-clause-in_place
 unfolding but_last
 returns-clause-in_place g c = λ tells is. is_wanting (but_last (length (g.S.Source.held c.all.new.source)) (g.S.Source.held c.args.reader.now)) (c.all.ensures.wanting tells is)
+
+pub returns-clause-room : goal.returns-clause-room
+unfolding but_last
+returns-clause-room g c = λ tells is. is_short (but_last (length (g.S.Source.held c.all.new.source)) (g.S.Source.held c.args.reader.now)) (c.all.ensures.room tells is)
