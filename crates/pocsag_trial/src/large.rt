@@ -3,7 +3,7 @@
 use crate::kept::Kept;
 use crate::line::Line;
 use crate::pages::{ones, round_of, show_no_round};
-use crate::planning::{put_book_plan, put_counts};
+use crate::planning::{put_always, put_book_plan, put_counts};
 use crate::searching::{put_free_search, put_search};
 use crate::tours::tour_of;
 use arrayvec::ArrayString;
@@ -11,7 +11,7 @@ use pocsag_batch::{lay_in_order, lay_out, order_of, write};
 use pocsag_decode::{DecodeFault, ListFault, decode, list};
 use pocsag_pager::{PagerFault, hear_all};
 use pocsag_pages::{Page, Round, RoundFault};
-use pocsag_plan::{Book, StreamFault, plan_stream};
+use pocsag_plan::{Book, PlanFault, StreamFault, plan, plan_stream};
 use pocsag_tree::{CertificateFault, depth, nodes, read_certificate};
 use pocsag_words::{End, MemorySource, OutOfMemory};
 use std::alloc::Global;
@@ -190,6 +190,23 @@ pub fn search_many_nodes(alloc: Global, line: &mut Line) -> Result<(), OutOfMemo
         Ok(round) => put_search(alloc, &round, NODE_LIMIT, End::Open, line),
         Err(fault) => show_no_round(fault, line),
     }
+}
+
+/// The plan of 20,000 pages of 1,400 items for the closed end, with how many places its order has, and the
+/// one that is never refused for the open end, with its bound.
+pub fn plan_long_pages(alloc: Global, line: &mut Line) -> Result<(), OutOfMemory> {
+    let Ok(round) = many_pages(alloc, ITEMS) else {
+        return Err(OutOfMemory);
+    };
+    match plan(alloc, &round, NODE_LIMIT, End::Closed) {
+        Ok(plan) => {
+            put_counts(&plan, line);
+            line.put(plan.order.len());
+        }
+        Err(PlanFault::OutOfMemory) => return Err(OutOfMemory),
+        Err(fault) => line.put(fault),
+    }
+    put_always(alloc, &round, NODE_LIMIT, line)
 }
 
 /// An open round of 20,000 tones, its plan, and the fault of one more.

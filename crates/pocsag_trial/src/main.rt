@@ -60,6 +60,7 @@ enum Trial {
     ReadManyNodes,
     SearchMany,
     SearchManyNodes,
+    PlanLong,
     PlanFullBook,
     StreamLong,
 }
@@ -118,13 +119,14 @@ const TRIALS: [Trial; 51] = [
     Trial::Planning(Planning::StreamAlwaysKept),
 ];
 
-const LARGE_TRIALS: [Trial; 8] = [
+const LARGE_TRIALS: [Trial; 9] = [
     Trial::CopyLong,
     Trial::TourMany,
     Trial::SendLong,
     Trial::ReadManyNodes,
     Trial::SearchMany,
     Trial::SearchManyNodes,
+    Trial::PlanLong,
     Trial::PlanFullBook,
     Trial::StreamLong,
 ];
@@ -163,6 +165,7 @@ fn name_of(trial: Trial) -> &'static str {
         Trial::ReadManyNodes => "read_certificate of 1,000,000 nodes",
         Trial::SearchMany => "search and search_freely of 20,000 tones",
         Trial::SearchManyNodes => "search of eight pages to 1,000,000 nodes",
+        Trial::PlanLong => "plan and plan_always of 20,000 pages of 1,400 items",
         Trial::PlanFullBook => "Book::add and Book::plan of 20,000 tones",
         Trial::StreamLong => "plan_stream of 20,000 pages of 1,400 items",
     }
@@ -202,6 +205,7 @@ fn run(alloc: Global, trial: Trial, line: &mut Line) -> Result<(), OutOfMemory> 
         Trial::ReadManyNodes => large::read_many_nodes(alloc, line),
         Trial::SearchMany => large::search_many_tones(alloc, line),
         Trial::SearchManyNodes => large::search_many_nodes(alloc, line),
+        Trial::PlanLong => large::plan_long_pages(alloc, line),
         Trial::PlanFullBook => large::plan_full_book(alloc, line),
         Trial::StreamLong => large::stream_long_pages(alloc, line),
     }

@@ -2,7 +2,7 @@
 
 use crate::line::Line;
 use crate::pages::{THREE_PAGES_TIGHT, ones, round_of, show_no_round};
-use pocsag_pages::RoundFault;
+use pocsag_pages::{Round, RoundFault};
 use pocsag_plan::{
     AddFault, Book, BookFault, Bounded, Edit, Plan, PlanFault, StreamFault, plan, plan_always,
     plan_stream, plan_stream_always,
@@ -126,22 +126,31 @@ fn put_bounded(bounded: &Bounded, line: &mut Line) {
     put_counts(&bounded.plan, line);
 }
 
+/// What the plan that is never refused answers for the round, with the open end.
+pub fn put_always(
+    alloc: Global,
+    round: &Round,
+    limit: u32,
+    line: &mut Line,
+) -> Result<(), OutOfMemory> {
+    match plan_always(alloc, round, limit, End::Open) {
+        Ok(bounded) => put_bounded(&bounded, line),
+        Err(PlanFault::OutOfMemory) => return Err(OutOfMemory),
+        Err(fault) => line.put(fault),
+    }
+    Ok(())
+}
+
 fn show_always(
     alloc: Global,
     pages: &[(u32, usize)],
     limit: u32,
     line: &mut Line,
 ) -> Result<(), OutOfMemory> {
-    let round = match round_of(alloc, pages) {
-        Ok(round) => round,
-        Err(fault) => return show_no_round(fault, line),
-    };
-    match plan_always(alloc, &round, limit, End::Open) {
-        Ok(bounded) => put_bounded(&bounded, line),
-        Err(PlanFault::OutOfMemory) => return Err(OutOfMemory),
-        Err(fault) => line.put(fault),
+    match round_of(alloc, pages) {
+        Ok(round) => put_always(alloc, &round, limit, line),
+        Err(fault) => show_no_round(fault, line),
     }
-    Ok(())
 }
 
 // What a stream answers, and behind it all that was written, which has to be nothing where memory is wanting.
