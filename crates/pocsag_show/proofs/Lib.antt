@@ -1,0 +1,5 @@
+pub mod Letters
+pub mod Pictures
+pub mod Ranges
+pub mod Steps
+pub mod Texts

@@ -1,0 +1,44 @@
+-- The codewords that bytes are sent from, and the text of the bytes.
+use Rattle.std.proofs.Common.{◌≡◌, ◌≢◌, ℕ, ◌+◌, ◌*◌, ◌%◌, ◌<◌, ◌≤◌, List, [], ◌∷◌, ◌++◌, length, map, Result, Ok, Err, All, ap, sym, subst, ◌∙◌, arith}
+use Rattle.std.proofs.lemmas.List.{length-map}
+use Rattle.pocsag_words.specs.Codeword.{IsCodeword}
+use Rattle.pocsag_words.specs.Kinds.{kind_of}
+use Rattle.pocsag_pages.specs.declared.page.Page.{Page}
+use Rattle.pocsag_pages.specs.Bytes.{after_preamble}
+use Rattle.pocsag_decode.specs.Faults.{IsPastPreamble, ReadsAs}
+use Rattle.pocsag_decode.proofs.Judgements.{codewords_are, reads_whole}
+use Rattle.std.specs.Result.{IsErr, IsErrAnd, MatchResult}
+use Rattle.pocsag_show.specs.declared.fault.ShowFault.{ShowFault}
+use Rattle.pocsag_show.specs.declared.fault.ShowFault.TheVariants as fault
+use Rattle.pocsag_show.specs.declared.grid.Grid.{Grid}
+use Rattle.pocsag_show.specs.Picture.{picture}
+use Rattle.pocsag_show.specs.Showing.{Explains, IsTextOf}
+use Rattle.pocsag_show.specs.Taking.{IsGridOf, codewords_in}
+
+module _ (X : List ℕ) (ps : List Page) (r : ReadsAs X ps) where
+  same : codewords_in X ≡ r.codewords
+  same = codewords_are X r.codewords r.sent
+
+  pub all_codewords : All IsCodeword (codewords_in X)
+  all_codewords = subst (All IsCodeword) (sym same) r.sent.codewords
+
+  count : length (map kind_of (codewords_in X)) ≡ 16 * r.sent.batches
+  count = length-map (codewords_in X) kind_of ∙ (ap length same ∙ r.sent.whole.1)
+
+  pub are_whole : length (map kind_of (codewords_in X)) % 16 ≡ 0
+  are_whole = let n = count in omega arith
+
+  pub are_some : (grid : Grid) → IsGridOf (map kind_of (codewords_in X)) grid → 16 ≤ length grid.letters.items
+  are_some grid g = let n = count in let m = g.count in let some = r.sent.whole.0 in omega arith
+
+  pub is_text : (shown : List ℕ) → shown ≡ picture (map kind_of (codewords_in X)) → IsTextOf X shown
+  is_text shown e = record { pages = ps; reading = r; text = e ∙ ap (λ (T : List ℕ). picture (map kind_of T)) same }
+
+  pub is_past : All (λ b. b < 256) X → IsPastPreamble X
+  is_past small = let w = reads_whole X ps small r in record { long = w.long; more = λ e. let n = ap length e in let some = w.some in omega arith }
+
+-- want of memory past the preamble
+pub wanting : {T : Type 0} (X : List ℕ) (r : Result T ShowFault) (Good : T → Type 0) → IsPastPreamble X → IsErr r → IsErrAnd r (λ e. e ≡ fault.OutOfMemory)
+    → MatchResult r Good (λ e. (e ≢ fault.WriteFault) × Explains X e)
+wanting X (Ok v) Good past err is = absurd (cc)
+wanting X (Err e) Good past err is = (λ w. cc, subst (Explains X) (sym is) past)

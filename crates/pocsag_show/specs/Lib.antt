@@ -1,0 +1,4 @@
+pub mod Grid
+pub mod Picture
+pub mod Showing
+pub mod Taking

@@ -1,0 +1,41 @@
+-- What showing a transmission leaves of its writer, and when each fault comes.
+use Rattle.std.specs.Prelude.{◌≡◌, ℕ, List, ◌++◌, map}
+use Rattle.pocsag_words.specs.Devices.{TookPrefix}
+use Rattle.pocsag_words.specs.Kinds.{kind_of}
+use Rattle.pocsag_pages.specs.declared.page.Page.{Page}
+use Rattle.pocsag_decode.specs.Faults.{HasFault, IsPastPreamble, ReadsAs}
+use Rattle.pocsag_decode.specs.declared.fault.DecodeFault.{DecodeFault}
+use Rattle.pocsag_decode.specs.declared.fault.DecodeFault.TheVariants as decoding
+use Rattle.pocsag_show.specs.declared.fault.ShowFault.{ShowFault}
+use Rattle.pocsag_show.specs.declared.fault.ShowFault.TheVariants as fault
+use Rattle.pocsag_show.specs.Picture.{picture}
+
+-- The bytes are sent from codewords that read as pages, and this is the text of those codewords.
+pub record IsTextOf (X shown : List ℕ) : Type 0 where
+  pub pages : List Page
+  pub reading : ReadsAs X pages
+  pub text : shown ≡ picture (map kind_of reading.codewords)
+
+-- What was taken more is the text of the bytes.
+pub record Shows (X before after : List ℕ) : Type 0 where
+  pub shown : List ℕ
+  pub text_of : IsTextOf X shown
+  pub taken : after ≡ before ++ shown
+
+-- What was taken more is a prefix of it.
+pub record ShowsPart (X before after : List ℕ) : Type 0 where
+  pub shown : List ℕ
+  pub text_of : IsTextOf X shown
+  pub taken : TookPrefix before after shown
+
+-- When each fault comes: the decoder's where the bytes have it, want of memory only past the preamble,
+-- and the writer's for bytes that have a text.
+abbrev pub Explains : List ℕ → ShowFault → Type 0
+Explains X (fault.Transmission f) = HasFault X f
+Explains X fault.WriteFault = (text : List ℕ) × IsTextOf X text
+Explains X fault.OutOfMemory = IsPastPreamble X
+
+-- The decoder's fault passed up: want of memory keeps its name.
+abbrev pub fault_of : DecodeFault → ShowFault
+fault_of decoding.OutOfMemory = fault.OutOfMemory
+fault_of f = fault.Transmission f

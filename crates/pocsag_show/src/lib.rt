@@ -1,0 +1,12 @@
+#![tactic(auto)]
+//! Pictures of transmissions: a text grid of the codewords, with a letter for each page.
+
+mod fault;
+mod grid;
+mod marking;
+mod picture;
+mod reading;
+mod showing;
+
+pub use fault::ShowFault;
+pub use showing::show_text;
