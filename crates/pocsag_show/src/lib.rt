@@ -7,6 +7,8 @@ mod marking;
 mod picture;
 mod reading;
 mod showing;
+#[cfg(test)]
+mod tests;
 
 pub use fault::ShowFault;
 pub use showing::show_text;
