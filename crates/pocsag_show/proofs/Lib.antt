@@ -1,3 +1,4 @@
+pub mod Capitals
 pub mod Letters
 pub mod Pictures
 pub mod Ranges

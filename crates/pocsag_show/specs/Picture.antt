@@ -4,6 +4,7 @@ use Rattle.std.specs.Prelude.{ℕ, ◌+◌, ◌-◌, ◌*◌, ◌/◌, List, [],
 use Rattle.std.specs.List.{flat_map, range_with_len}
 use Rattle.std.specs.Fmt.{decimal}
 use Rattle.pocsag_words.specs.declared.codeword.Kind.{Kind}
+use Rattle.pocsag_pages.specs.declared.page.Page.{Page}
 use Rattle.pocsag_show.specs.Grid.{idles_in, letter_at}
 
 -- How many batches the codewords fill, sixteen to a batch.
@@ -63,3 +64,7 @@ unfoldable pub picture : List Kind → List ℕ
 picture ks =
     totals_line (batches_in ks) (length ks - idles_in ks) (idles_in ks)
     ++ (head_line ++ batch_lines (letter_at ks) (batches_in ks))
+
+-- The same of codewords and the pages that they read as.
+abbrev pub grid_text : List Kind → List Page → List ℕ
+grid_text ks pages = picture ks

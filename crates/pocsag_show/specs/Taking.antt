@@ -1,5 +1,5 @@
 -- The letters of codewords as they come one by one.
-use Rattle.std.specs.Prelude.{◌≡◌, ℕ, ◌+◌, ◌*◌, ◌<◌, List, [], ◌∷◌, ◌++◌, length, map, slice_index, All}
+use Rattle.std.specs.Prelude.{◌≡◌, ℕ, ◌+◌, ◌*◌, ◌<◌, ◌&&◌, Bool, nat_le, List, [], ◌∷◌, ◌++◌, length, map, slice_index, All}
 use Rattle.pocsag_words.specs.Codeword.{IsCodeword}
 use Rattle.pocsag_words.specs.Kinds.{kind_of}
 use Rattle.pocsag_words.specs.declared.codeword.Kind.{Kind}
@@ -38,3 +38,7 @@ pub record IsGridOf (ks : List Kind) (grid : Grid) : Type 0 where
   pub count : length grid.letters.items ≡ length ks
   pub each : (i : ℕ) → i < length ks → slice_index grid.letters.items i ≡ letter_at ks i
   pub idles : grid.idles ≡ idles_in ks
+
+-- A letter from A to Z.
+abbrev pub is_capital : ℕ → Bool
+is_capital letter = nat_le 65 letter && nat_le letter 90

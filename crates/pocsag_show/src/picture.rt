@@ -5,11 +5,12 @@ ghost use Rattle.pocsag_show.specs.Picture.{airtime, airtime_part, airtimes_part
 ghost use Rattle.pocsag_show.specs.Taking.{IsGridOf};
 
 use crate::grid::Grid;
+use crate::pieces::put;
 use pocsag_words::OutOfMemory;
 use std::alloc::Global;
 
-// The codewords of a batch, without its synchronisation codeword.
-const CODEWORDS: usize = 16;
+/// The codewords of a batch, without its synchronisation codeword.
+pub(crate) const CODEWORDS: usize = 16;
 
 // The bits of a preamble, and of a batch with its synchronisation codeword.
 const PREAMBLE_BITS: u128 = 576;
@@ -33,15 +34,6 @@ fn airtime(batches: u64, rate: u32) -> u128
 {
     let bits = PREAMBLE_BITS + BATCH_BITS * u128::from(batches);
     (1000 * bits + (u128::from(rate) - 1)) / u128::from(rate)
-}
-
-fn put(text: &mut Vec<u8>, piece: &[u8]) -> Result<(), OutOfMemory>
-    ensures { OnOk result (text.new.items ≡ text.old.items ++ piece.now) }
-{
-    match text.extend_from_slice(piece) {
-        Ok(()) => Ok(()),
-        Err(_) => Err(OutOfMemory),
-    }
 }
 
 fn put_spaces(text: &mut Vec<u8>, count: usize) -> Result<(), OutOfMemory>
@@ -114,9 +106,9 @@ fn put_airtimes(alloc: Global, text: &mut Vec<u8>, batches: u64) -> Result<(), O
     put_airtime(alloc, text, batches, 2400)
 }
 
-// Writes the line of totals.
+/// Writes the line of totals.
 #[tactic(auto, unfolding(crate::specs::Picture::totals_line))]
-fn put_totals(
+pub(crate) fn put_totals(
     alloc: Global,
     text: &mut Vec<u8>,
     batches: u64,
