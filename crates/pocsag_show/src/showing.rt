@@ -1,5 +1,5 @@
-ghost use Rattle.std.specs.Prelude.{◌≡◌, ◌≢◌, List, IfErr, MatchResult, OnOk};
-ghost use Rattle.pocsag_words.specs.Devices.{HasFailed};
+ghost use Rattle.std.specs.Prelude.{◌≡◌, ◌≢◌, ◌++◌, List, IfErr, MatchResult, OnErr, OnOk};
+ghost use Rattle.pocsag_words.specs.Devices.{HasFailed, TookPrefix};
 ghost use Rattle.pocsag_pages.specs.declared.page.Page.{Page as page};
 ghost use Rattle.pocsag_decode.specs.Faults.{ReadsAs};
 ghost use Rattle.pocsag_show.specs.Picture.{grid_text};
@@ -38,6 +38,20 @@ fn svg_of(alloc: Global, bytes: &[u8]) -> Result<Vec<u8>, ShowFault>
     Ok(drawing_of(alloc, &judged)?)
 }
 
+// Hands a whole text to the writer.
+fn deliver<S: Sink>(text: &[u8], sink: &mut S) -> Result<(), ShowFault>
+    ensures whole { S.tells → OnOk result (S.taken sink.new ≡ S.taken sink.old ++ text.now) }
+    ensures part { S.tells → OnErr result (TookPrefix (S.taken sink.old) (S.taken sink.new) text.now) }
+    ensures fault { IfErr result (λ e. e ≡ ShowFault.WriteFault) }
+    ensures succeeded { OnOk result (S.failures sink.new ≡ S.failures sink.old) }
+    ensures failed { OnErr result (HasFailed (S.failures sink.old) (S.failures sink.new)) }
+{
+    match write_all(sink, text) {
+        Ok(()) => Ok(()),
+        Err(_) => Err(ShowFault::WriteFault),
+    }
+}
+
 /// Writes the text of a transmission: a line of totals, a line with the numbers of the frames, and a
 /// line for each batch with a letter for each codeword. Nothing is written before all bytes are judged.
 /// After `WriteFault` a prefix was written, and after the other faults nothing.
@@ -53,10 +67,7 @@ pub fn show_text<S: Sink>(alloc: Global, bytes: &[u8], sink: &mut S) -> Result<(
     ensures failed { result ≡ Err ShowFault.WriteFault → HasFailed (S.failures sink.old) (S.failures sink.new) }
 {
     let text = text_of(alloc, bytes)?;
-    match write_all(sink, text.as_slice()) {
-        Ok(()) => Ok(()),
-        Err(_) => Err(ShowFault::WriteFault),
-    }
+    deliver(text.as_slice(), sink)
 }
 
 /// Writes where each page of a transmission stands: the record `batch,frame,slot,codewords,address,
@@ -74,10 +85,7 @@ pub fn show_list<S: Sink>(alloc: Global, bytes: &[u8], sink: &mut S) -> Result<(
     ensures failed { result ≡ Err ShowFault.WriteFault → HasFailed (S.failures sink.old) (S.failures sink.new) }
 {
     let text = places_of(alloc, bytes)?;
-    match write_all(sink, text.as_slice()) {
-        Ok(()) => Ok(()),
-        Err(_) => Err(ShowFault::WriteFault),
-    }
+    deliver(text.as_slice(), sink)
 }
 
 /// Writes a drawing of a transmission as SVG 1.1. Nothing is written before all bytes are judged.
@@ -92,8 +100,5 @@ pub fn show_svg<S: Sink>(alloc: Global, bytes: &[u8], sink: &mut S) -> Result<()
     ensures failed { result ≡ Err ShowFault.WriteFault → HasFailed (S.failures sink.old) (S.failures sink.new) }
 {
     let text = svg_of(alloc, bytes)?;
-    match write_all(sink, text.as_slice()) {
-        Ok(()) => Ok(()),
-        Err(_) => Err(ShowFault::WriteFault),
-    }
+    deliver(text.as_slice(), sink)
 }

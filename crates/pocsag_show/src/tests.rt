@@ -1,4 +1,4 @@
-use crate::{ShowFault, show_text};
+use crate::{ShowFault, show_list, show_svg, show_text};
 use pocsag_decode::DecodeFault;
 use pocsag_words::MemorySink;
 use std::alloc::{AllocError, Global};
@@ -184,5 +184,75 @@ fn texts_of_faults(rt: HostRuntime) -> Result<(), Fail> {
     ] {
         assert_eq!(rt; fault.to_string(rt.alloc())?.as_str(), text);
     }
+    Ok(())
+}
+
+#[test]
+fn places_listed(rt: HostRuntime) -> Result<(), Fail> {
+    let mut words = [M; 32];
+    words[0] = 0;
+    words[6] = EIGHT;
+    words[22] = 0;
+    words[29] = I;
+    words[30] = EIGHT;
+    words[31] = I;
+    let bytes = transmission(rt.alloc(), &words)?;
+    let mut sink = MemorySink::<512>::new(5, 512);
+    show_list(rt.alloc(), bytes.as_slice(), &mut sink)?;
+    let listing = b"batch,frame,slot,codewords,address,kind,message
+1,0,0,6,0,numeric,1111111111111111111111111
+1,3,6,16,11,numeric,111111111111111111111111111111111111111111111111111111111111111111111111111
+2,3,6,7,3,numeric,111111111111111111111111111111
+2,7,14,1,15,tone0,
+";
+    assert_eq!(rt; sink.bytes(), listing.as_slice());
+    Ok(())
+}
+
+#[test]
+fn failing_listing(rt: HostRuntime) -> Result<(), Fail> {
+    let bytes = lone_tone(rt.alloc())?;
+    let listing = b"batch,frame,slot,codewords,address,kind,message\n1,0,0,1,8,tone0,\n".as_slice();
+    for left in 0..listing.len() {
+        let mut sink = MemorySink::<512>::new(3, left as u64);
+        let shown = show_list(rt.alloc(), bytes.as_slice(), &mut sink);
+        assert_eq!(rt; shown.err(), Some(ShowFault::WriteFault));
+        assert_eq!(rt; sink.bytes(), &listing[..left]);
+    }
+    let cut = &bytes.as_slice()[..bytes.len().min(139)];
+    let mut sink = MemorySink::<512>::new(512, 512);
+    let shown = show_list(rt.alloc(), cut, &mut sink);
+    assert_eq!(rt;
+        shown.err(),
+        Some(ShowFault::Transmission(DecodeFault::Truncated))
+    );
+    assert_eq!(rt; sink.bytes().len(), 0);
+    Ok(())
+}
+
+#[test]
+fn drawn(rt: HostRuntime) -> Result<(), Fail> {
+    let bytes = lone_tone(rt.alloc())?;
+    let mut sink = MemorySink::<10000>::new(10_000, 10_000);
+    show_svg(rt.alloc(), bytes.as_slice(), &mut sink)?;
+    let told =
+        b"<g class=\"p0\"><title>A: address 8, tone0</title><rect x=\"72\" y=\"48\" width=\"24\" height=\"18\"/><text class=\"m\" x=\"84\" y=\"61\">A</text></g>\n<g class=\"i\"><rect x=\"96\" y=\"48\" width=\"360\" height=\"18\"/></g>\n";
+    assert!(rt;
+        sink.bytes()
+            .windows(told.len())
+            .any(|piece| piece == told.as_slice())
+    );
+    let cut = &bytes.as_slice()[..bytes.len().min(139)];
+    let mut empty = MemorySink::<16>::new(16, 16);
+    let shown = show_svg(rt.alloc(), cut, &mut empty);
+    assert_eq!(rt;
+        shown.err(),
+        Some(ShowFault::Transmission(DecodeFault::Truncated))
+    );
+    assert_eq!(rt; empty.bytes().len(), 0);
+    let mut short = MemorySink::<16>::new(16, 16);
+    let shown = show_svg(rt.alloc(), bytes.as_slice(), &mut short);
+    assert_eq!(rt; shown.err(), Some(ShowFault::WriteFault));
+    assert_eq!(rt; short.bytes(), b"<svg xmlns=\"http".as_slice());
     Ok(())
 }
