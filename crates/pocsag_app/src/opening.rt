@@ -193,3 +193,6 @@ fn plan_book<R: Files>(rt: &R, book: &Book, paths: [&str; 3], end: End) -> Resul
     let plan = book.plan_stream(&mut outputs.tx, &mut outputs.cert, DEFAULT_LIMIT, end)?;
     Ok(plan.batches)
 }
+
+#[cfg(test)]
+mod tests;
