@@ -1,3 +1,6 @@
+ghost use Rattle.std.specs.Prelude.{IsErrOf, map};
+ghost use Rattle.pocsag_app.specs.Paths.{HasEqual};
+
 use crate::checking::run_check;
 use crate::commands::{run_input, run_plan, run_report};
 use crate::devices::{ReaderSource, WriterSink};
@@ -90,7 +93,9 @@ fn plan_paths<O: Sink, E: Sink>(
     paths: [&str; 3],
     out: &mut O,
     err: &mut E,
-) -> Result<u8, Fault> {
+) -> Result<u8, Fault>
+    ensures { HasEqual (map (λ path. path.now) paths.entry) → IsErrOf result Fault.EqualPaths }
+{
     if equal_paths(&paths) {
         return Err(Fault::EqualPaths);
     }

@@ -1,5 +1,7 @@
 //! An open round as a process: a script holds it, and each line of its input is answered by one line.
+ghost use Rattle.std.specs.Prelude.{◌≡◌, IsErrOf, map, OnErr};
 ghost use Rattle.pocsag_app.specs.Faults.{IsStatus};
+ghost use Rattle.pocsag_app.specs.Paths.{HasEqual};
 
 use crate::commands::DEFAULT_LIMIT;
 use crate::edits::{Line, line_of, record_of};
@@ -139,7 +141,9 @@ fn answer<R: Files, O: Sink>(
 }
 
 // Makes an edit of the round, which is as it was where it is refused.
-fn edit(alloc: Global, book: &mut Book, line: Line<'_>) -> Result<(), Refusal> {
+fn edit(alloc: Global, book: &mut Book, line: Line<'_>) -> Result<(), Refusal>
+    ensures { OnErr result (book.new ≡ book.old) }
+{
     match line {
         Line::Add {
             address,
@@ -161,7 +165,9 @@ fn add_fields(
     address: &[u8],
     kind: &[u8],
     message: &[u8],
-) -> Result<(), Refusal> {
+) -> Result<(), Refusal>
+    ensures { OnErr result (book.new ≡ book.old) }
+{
     match page_of_fields(alloc, address, kind, message) {
         Ok(page) => match book.add(page) {
             Ok(()) => Ok(()),
@@ -172,7 +178,9 @@ fn add_fields(
 }
 
 // What spells no address is that of no page. A page of an address codeword alone takes no memory.
-fn cancel_field(alloc: Global, book: &mut Book, address: &[u8]) -> Result<(), Refusal> {
+fn cancel_field(alloc: Global, book: &mut Book, address: &[u8]) -> Result<(), Refusal>
+    ensures { OnErr result (book.new ≡ book.old) }
+{
     let Ok(page) = page_of_fields(alloc, address, b"tone0", b"") else {
         return Err(Refusal::Cancel(NotThere));
     };
@@ -184,7 +192,9 @@ fn cancel_field(alloc: Global, book: &mut Book, address: &[u8]) -> Result<(), Re
 
 // Writes the transmission and the certificate of the round, and answers its batches. The paths are those
 // of the page file, if there is one, of the transmission and of the certificate.
-fn plan_book<R: Files>(rt: &R, book: &Book, paths: [&str; 3], end: End) -> Result<u32, Fault> {
+fn plan_book<R: Files>(rt: &R, book: &Book, paths: [&str; 3], end: End) -> Result<u32, Fault>
+    ensures { HasEqual (map (λ path. path.now) paths.entry) → IsErrOf result Fault.EqualPaths }
+{
     if equal_paths(&paths) {
         return Err(Fault::EqualPaths);
     }
