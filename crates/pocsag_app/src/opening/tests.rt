@@ -1,5 +1,5 @@
 use crate::lines::LINE_LIMIT;
-use crate::opening::{run_open, run_open_pages};
+use crate::opening::{Planner, run_open, run_open_pages};
 use pocsag_words::{MemorySink, MemorySource};
 use std::process::Abort;
 use std::rt::Files;
@@ -24,7 +24,7 @@ fn assert_answers<R: Abort + AllocGlobal + Files>(
     let mut input = MemorySource::new(lines.as_slice(), 7, u64::MAX);
     let mut out = MemorySink::<2000>::new(5, u64::MAX);
     let mut err = MemorySink::<100>::new(1, 1000);
-    let status = run_open(rt, alloc, &mut input, &mut out, &mut err);
+    let status = run_open(rt, alloc, false, &mut input, &mut out, &mut err);
     assert_eq!(rt; out.bytes(), answers.as_slice());
     assert_eq!(rt; err.bytes(), b"".as_slice());
     assert_eq!(rt; status, 0);
@@ -137,7 +137,7 @@ fn long_lines_are_passed_over(rt: HostRuntime) -> Result<(), Fail> {
     let mut input = MemorySource::new(lines.as_slice(), 1000, u64::MAX);
     let mut out = MemorySink::<2000>::new(5, u64::MAX);
     let mut err = MemorySink::<100>::new(1, 1000);
-    let status = run_open(&rt, alloc, &mut input, &mut out, &mut err);
+    let status = run_open(&rt, alloc, false, &mut input, &mut out, &mut err);
     assert_eq!(rt; status, 0);
     let told = "refused: the message is too long\nok 1\n\
         refused: unknown edit\naddress,kind,message\n8,tone0,\nok 1\n\
@@ -155,14 +155,12 @@ fn pages_of_a_file_are_open_at_first(rt: HostRuntime) -> Result<(), Fail> {
     let mut input = MemorySource::new(lines.as_slice(), 7, 1000);
     let mut out = MemorySink::<200>::new(5, 1000);
     let mut err = MemorySink::<100>::new(1, 1000);
+    let planner = Planner {
+        path: "/dev/full",
+        always: true,
+    };
     let status = run_open_pages(
-        &rt,
-        alloc,
-        "/dev/full",
-        &mut pages,
-        &mut input,
-        &mut out,
-        &mut err,
+        &rt, alloc, planner, &mut pages, &mut input, &mut out, &mut err,
     );
     assert_eq!(rt; status, 0);
     let told =
@@ -221,7 +219,10 @@ fn faults_end_the_round(rt: HostRuntime) -> Result<(), Fail> {
         let ended = run_open_pages(
             &rt,
             rt.alloc(),
-            "",
+            Planner {
+                path: "",
+                always: false,
+            },
             &mut pages,
             &mut input,
             &mut out,
