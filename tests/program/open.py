@@ -259,6 +259,25 @@ def files_of_a_plan(tally, folder):
     program.close()
 
 
+# The frame and the codewords of eight pages at which the search reaches its limit; nine batches are the fewest.
+HARD = [(5, 5), (0, 9), (4, 9), (1, 3), (7, 31), (6, 15), (2, 31), (1, 15)]
+
+
+def hard_plans(tally, folder):
+    """A round that the search gives up at is planned with `--always`."""
+    for words in ((), ("--always",)):
+        program = OpenRound(folder, *words)
+        for place, (frame, length) in enumerate(HARD):
+            program.ask(b"add,%d,numeric,%s" % (8 * place + frame, 5 * (length - 1) * b"1"))
+        for end in (b"open", b"closed"):
+            found = program.ask(b"plan,hard.bin,hard.cert," + end)
+            holds = found == b"batches 9" if words else found.startswith(b"refused: search limit reached: at least 8 batches")
+            tally.check(f"a hard round with {words}, {end.decode()}", holds, found)
+        tally.check("it is open as before", program.ask(b"cancel,0") == b"refused: no such page", "")
+        tally.check("its pages are there", program.lines(b"list")[-1] == b"ok 8", "")
+        program.close()
+
+
 def begins_with_pages(tally, folder):
     path = folder / "pages.csv"
     path.write_bytes(HEADER + b"8,tone0,\n16,numeric,12\n")
@@ -316,6 +335,7 @@ def main():
         words_of_answers(tally, folder)
         many_edits(tally, folder)
         files_of_a_plan(tally, folder)
+        hard_plans(tally, folder)
         begins_with_pages(tally, folder)
         last_line(tally, folder)
         worked_session(tally, folder)

@@ -1,5 +1,5 @@
 use crate::lines::LINE_LIMIT;
-use crate::opening::{Planner, run_open, run_open_pages};
+use crate::opening::{Planned, Planner, run_open, run_open_pages, tell_planned};
 use pocsag_words::{MemorySink, MemorySource};
 use std::process::Abort;
 use std::rt::Files;
@@ -232,5 +232,26 @@ fn faults_end_the_round(rt: HostRuntime) -> Result<(), Fail> {
         assert_eq!(rt; err.bytes(), told.as_bytes());
         assert_eq!(rt; out.bytes(), taken.as_bytes());
     }
+    Ok(())
+}
+
+#[test]
+fn a_bound_below_the_batches_is_answered(rt: HostRuntime) -> Result<(), Fail> {
+    let mut out = MemorySink::<100>::new(1, 1000);
+    tell_planned(
+        Planned {
+            batches: 3,
+            bound: 3,
+        },
+        &mut out,
+    )?;
+    tell_planned(
+        Planned {
+            batches: 3,
+            bound: 2,
+        },
+        &mut out,
+    )?;
+    assert_eq!(rt; out.bytes(), b"batches 3\nbatches 3, at least 2\n".as_slice());
     Ok(())
 }
