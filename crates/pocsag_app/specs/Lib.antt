@@ -1,3 +1,4 @@
+pub mod Always
 pub mod Commands
 pub mod Faults
 pub mod Lines

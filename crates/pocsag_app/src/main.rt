@@ -1,6 +1,7 @@
 #![tactic(auto)]
 //! The program `pocsag`: reads its words, opens its files, and calls the command.
 
+mod always;
 mod checking;
 mod commands;
 mod devices;

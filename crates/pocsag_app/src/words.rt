@@ -8,13 +8,12 @@ use std::alloc::{AllocError, Global};
 pub enum Order<'a> {
     /// No words: a page file from standard input.
     Input,
-    /// `plan PAGES TX CERT`: the paths, the node limit, the end, and whether the files are read back.
+    /// `plan PAGES TX CERT`: the paths, how it is searched, and whether the files are read back.
     Plan {
         pages: &'a str,
         tx: &'a str,
         cert: &'a str,
-        limit: u32,
-        end: End,
+        search: Search,
         verify: bool,
     },
     /// `check PAGES CERT`: the paths of the page file and of the certificate.
@@ -31,17 +30,26 @@ pub enum Order<'a> {
         address: u32,
         tx: &'a str,
     },
-    /// `open`, or `open PAGES`: an open round, and the path of the page file that it begins with.
+    /// `open`, or `open PAGES`: an open round, the path of the page file that it begins with, and whether
+    /// each plan of it is answered.
     Open {
         pages: Option<&'a str>,
+        always: bool,
     },
-    /// `report PAGES`: the path of the page file, the rate, the node limit and the end.
+    /// `report PAGES`: the path of the page file, the rate, and how the plan is searched.
     Report {
         pages: &'a str,
         rate: u32,
-        limit: u32,
-        end: End,
+        search: Search,
     },
+}
+
+/// How a plan is searched: the node limit, the end, and whether each round is answered.
+#[derive(Clone, Copy, PartialEq, Eq, Debug)]
+pub struct Search {
+    pub limit: u32,
+    pub end: End,
+    pub always: bool,
 }
 
 // The commands.
@@ -74,6 +82,8 @@ const END: &str = "end";
 
 const VERIFY: &str = "verify";
 
+const ALWAYS: &str = "always";
+
 const OPEN: &str = "open";
 
 const CLOSED: &str = "closed";
@@ -101,10 +111,13 @@ Example:
 
 const PLAN_MANUAL: &str = "\
 The page file is CSV with the header address,kind,message. TX and CERT are made, or
-emptied once the page file could be opened.
+emptied once the page file could be opened. Where the search reaches its limit the round
+is refused. With --always no round is: the batches are nearly always the fewest, and else
+one more than the certificate shows to be needed, which a third line tells,
+'at least N batches'.
 
 Example:
-  pocsag plan pages.csv tx.bin cert.bin --end closed --verify";
+  pocsag plan pages.csv tx.bin cert.bin --end closed --always --verify";
 
 const OPEN_MANUAL: &str = "\
 Each line of standard input is an edit, and is answered at once by one line:
@@ -114,7 +127,9 @@ Each line of standard input is an edit, and is answered at once by one line:
   plan,TX,CERT[,END]         writes both files as the command plan does
   clear                      takes all pages out
 A line is a CSV record of at most 65536 bytes. The answer is 'ok N' with the number of
-pages, 'batches B' after plan, or 'refused: ' and why: the round is then as it was.
+pages, 'batches B' after plan, or 'refused: ' and why: the round is then as it was. With
+--always no plan is refused at the limit; where the batches may be one more than the
+fewest, its answer is 'batches B, at least N'.
 The end of the input ends the program.
 
 Example:
@@ -156,6 +171,15 @@ fn end_option<'a>(alloc: Global) -> Arg<'a> {
     .default_value(OPEN)
 }
 
+fn always_flag<'a>(alloc: Global) -> Arg<'a> {
+    Arg::new(alloc, ALWAYS)
+        .long(ALWAYS)
+        .action(ArgAction::SetTrue)
+        .help(
+            "Answers every round, where the limit is reached with one batch more than is shown to be needed",
+        )
+}
+
 fn plan_command<'a>(alloc: Global) -> Result<Command<'a>, AllocError> {
     let verify = Arg::new(alloc, VERIFY)
         .long(VERIFY)
@@ -171,6 +195,7 @@ fn plan_command<'a>(alloc: Global) -> Result<Command<'a>, AllocError> {
         .arg(positional(alloc, CERT, CERT_HELP))?
         .arg(limit_option(alloc))?
         .arg(end_option(alloc))?
+        .arg(always_flag(alloc))?
         .arg(verify)
 }
 
@@ -205,7 +230,8 @@ fn open_command<'a>(alloc: Global) -> Result<Command<'a>, AllocError> {
     Command::new(alloc, ROUND)
         .about("Keeps an open round, which is edited and planned by the lines of standard input")
         .after_help(OPEN_MANUAL)
-        .arg(Arg::new(alloc, PAGES).help("The page file that the round begins with"))
+        .arg(Arg::new(alloc, PAGES).help("The page file that the round begins with"))?
+        .arg(always_flag(alloc))
 }
 
 fn report_command<'a>(alloc: Global) -> Result<Command<'a>, AllocError> {
@@ -217,7 +243,8 @@ fn report_command<'a>(alloc: Global) -> Result<Command<'a>, AllocError> {
         .arg(positional(alloc, PAGES, PAGES_HELP))?
         .arg(rate)?
         .arg(limit_option(alloc))?
-        .arg(end_option(alloc))
+        .arg(end_option(alloc))?
+        .arg(always_flag(alloc))
 }
 
 fn command<'a>(alloc: Global) -> Result<Command<'a>, AllocError> {
@@ -242,13 +269,20 @@ fn end_of(found: &ArgMatches<'_>) -> Option<End> {
     }
 }
 
+fn search_of(found: &ArgMatches<'_>) -> Option<Search> {
+    Some(Search {
+        limit: found.get_one::<u32>(LIMIT)?,
+        end: end_of(found)?,
+        always: found.get_flag(ALWAYS),
+    })
+}
+
 fn plan_order<'a>(found: &ArgMatches<'a>) -> Option<Order<'a>> {
     Some(Order::Plan {
         pages: found.get_str(PAGES)?,
         tx: found.get_str(TX)?,
         cert: found.get_str(CERT)?,
-        limit: found.get_one::<u32>(LIMIT)?,
-        end: end_of(found)?,
+        search: search_of(found)?,
         verify: found.get_flag(VERIFY),
     })
 }
@@ -271,8 +305,7 @@ fn report_order<'a>(found: &ArgMatches<'a>) -> Option<Order<'a>> {
     Some(Order::Report {
         pages: found.get_str(PAGES)?,
         rate: found.get_one::<u32>(RATE)?,
-        limit: found.get_one::<u32>(LIMIT)?,
-        end: end_of(found)?,
+        search: search_of(found)?,
     })
 }
 
@@ -290,6 +323,7 @@ fn order_from<'a>(matches: &ArgMatches<'a>) -> Option<Order<'a>> {
         HEAR => hear_order(found),
         ROUND => Some(Order::Open {
             pages: found.get_str(PAGES),
+            always: found.get_flag(ALWAYS),
         }),
         REPORT => report_order(found),
         _ => None,

@@ -1,49 +1,66 @@
--- What the search found is a plan of the round.
-use Rattle.std.proofs.Common.{◌≡◌, ℕ, ◌+◌, ◌*◌, ◌^◌, ◌<◌, ◌≤◌, List, sum_by, arith, inl, inr, slice_index, subst, sym}
+-- What a search found is a plan of the round.
+use Rattle.std.proofs.Common.{◌≡◌, ℕ, ◌*◌, ◌<◌, ◌≤◌, List, sum_by, arith, inl, inr, slice_index, subst}
 use Rattle.pocsag_words.specs.declared.ending.End.{End}
 use Rattle.pocsag_pages.specs.declared.page.Page.{Page}
 use Rattle.pocsag_pages.specs.Pages.{IsRound}
 use Rattle.pocsag_pages.specs.Reading.{IsLegalList, page_length}
 use Rattle.pocsag_pages.proofs.GoodPages.{apart_pages}
 use Rattle.pocsag_slots.specs.declared.class.Classes.{Classes}
-use Rattle.pocsag_slots.specs.declared.step.Step.{Step}
-use Rattle.pocsag_slots.specs.Loads.{AreClassesOf}
+use Rattle.pocsag_slots.specs.Loads.{AreClassesOf, IsChoice, IsLeast}
 use Rattle.pocsag_slots.specs.Tours.{IsTourFor}
 use Rattle.pocsag_slots.proofs.LoadLemmas.{load_few}
 use Rattle.pocsag_tree.specs.Bounds.{all_nodes, closed_nodes}
 use Rattle.pocsag_tree.specs.Views.{bound_of}
 use Rattle.pocsag_branch.specs.declared.answer.Found.{Found}
-use Rattle.pocsag_branch.specs.Found.{IsFound, IsNodeLimit}
+use Rattle.pocsag_branch.specs.declared.within_one.Near.{Near}
+use Rattle.pocsag_branch.specs.declared.within_one.FreeFault.{FreeFault}
+use Rattle.pocsag_branch.specs.declared.within_one.FreeFault.TheVariants.{SearchLimit}
+use Rattle.pocsag_branch.specs.Found.{IsNodeLimit}
+use Rattle.pocsag_branch.specs.Freely.{IsFreeFault, IsNear}
+use Rattle.pocsag_plan.specs.Within.{IsWithinOne}
 use Rattle.pocsag_plan.proofs.Rooms.{room}
 
 -- no choice loads a slot above 1,760,000, so the least is no more
-pub most : (k : Classes) (end : End) (limit : ℕ) (found : Found) → IsFound k end limit found → found.batches ≤ 1760001
-most k end limit found is =
-    let least : is.least ≤ 1760000 =
-    is.is_least.least 1760000
-    (record { choice = slice_index found.choice.early; among = is.choice; loads = λ slot h. load_few k (slice_index found.choice.early) slot h is.choice }) in
+pub least_few : (k : Classes) (least : ℕ) (choice : ℕ → ℕ) → IsLeast k least → IsChoice k choice → least ≤ 1760000
+least_few k least choice is among =
+    is.least 1760000 (record { choice = choice; among = among; loads = λ slot h. load_few k choice slot h among })
+
+-- the bound that the free search leaves at its limit
+pub near_few : (k : Classes) (end : End) (e : FreeFault) (near : Near) → e ≡ SearchLimit near → IsFreeFault k end e → near.least ≤ 1760000
+near_few k end e near same said =
+    let is : IsNear k end near = subst (IsFreeFault k end) same said in
+    least_few k near.least (slice_index near.choice.early) is.is_least is.choice
+
+pub most : (k : Classes) (end : End) (limit bound : ℕ) (found : Found) → IsWithinOne k end limit bound found → found.batches ≤ 1760001
+most k end limit bound found is =
+    let least : is.least ≤ 1760000 = least_few k is.least (slice_index found.choice.early) is.is_least is.choice in
     elim is.or_one_more [ inl same ↦ omega arith | inr more ↦ omega arith ]
 
-pub tour_for : (k : Classes) (end : End) (R : List Page) (limit : ℕ) (found : Found) → AreClassesOf k end R → IsFound k end limit found →
+-- a bound of at least one leaves a batch
+pub some_batch : (k : Classes) (end : End) (limit bound : ℕ) (found : Found) → IsWithinOne k end limit bound found → 0 < found.batches
+some_batch k end limit bound found is = let some : 0 < bound = is.accepted.some in let at : bound ≤ found.batches = is.at_least in omega arith
+
+pub tour_for : (k : Classes) (end : End) (R : List Page) (limit bound : ℕ) (found : Found) → AreClassesOf k end R → IsWithinOne k end limit bound found →
     IsTourFor end R found.steps.items
-tour_for k end R limit found classes is =
-    let near : found.batches ≤ 1760001 = most k end limit found is in
+tour_for k end R limit bound found classes is =
+    let near : found.batches ≤ 1760001 = most k end limit bound found is in
     record {
       table = k;
       choice = slice_index found.choice.early;
       batches = found.batches;
-      some = is.accepted.some;
+      some = some_batch k end limit bound found is;
       few = omega arith;
       classes = classes;
       tour = is.tour;
     }
 
 -- the codewords of the tour are as many as the batches hold
-pub found_room : (k : Classes) (end : End) (R : List Page) (limit : ℕ) (found : Found) → IsRound R → IsFound k end limit found →
-    (U : List ℕ) → IsLegalList end U found.batches R → sum_by page_length R ≤ 16 * found.batches
-found_room k end R limit found round is U legal = room end R found.batches U (apart_pages R round.good) legal
+pub found_room : (end : End) (R : List Page) (found : Found) → IsRound R → (U : List ℕ) → IsLegalList end U found.batches R →
+    sum_by page_length R ≤ 16 * found.batches
+found_room end R found round U legal = room end R found.batches U (apart_pages R round.good) legal
 
 -- no node is `Open`, so all nodes are at most the limit
-pub nodes_few : (k : Classes) (end : End) (limit : ℕ) (found : Found) → IsFound k end limit found → IsNodeLimit limit →
+pub nodes_few : (k : Classes) (end : End) (limit bound : ℕ) (found : Found) → IsWithinOne k end limit bound found → IsNodeLimit limit →
     all_nodes (bound_of found.tree) ≡ closed_nodes (bound_of found.tree) → all_nodes (bound_of found.tree) ≤ 1000000
-nodes_few k end limit found is within same = let few : closed_nodes (bound_of found.tree) ≤ limit = is.few in let most : limit ≤ 1000000 = within.few in omega arith
+nodes_few k end limit bound found is within same =
+    let few : closed_nodes (bound_of found.tree) ≤ limit = is.few in let most : limit ≤ 1000000 = within.few in omega arith

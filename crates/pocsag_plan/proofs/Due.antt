@@ -1,5 +1,5 @@
--- What is sent by a plan is what the headline says.
-use Rattle.std.proofs.Common.{◌≡◌, ℕ, List, length, ap, refl, sym, subst, ◌∙◌, Ok, Err, slice_index}
+-- What is sent by a plan is what the headline with its bound says.
+use Rattle.std.proofs.Common.{◌≡◌, ◌<◌, ℕ, List, length, ap, arith, refl, sym, subst, ◌∙◌, Ok, Err, slice_index}
 use Rattle.std.specs.Prelude.{IsErrOf}
 use Rattle.pocsag_words.specs.declared.codeword.Kind.{Kind}
 use Rattle.pocsag_words.specs.declared.ending.End.{End}
@@ -9,6 +9,7 @@ use Rattle.pocsag_pages.specs.PageFile.{verdict}
 use Rattle.pocsag_tree.specs.declared.refusals.TreeWriteFault.{TreeWriteFault}
 use Rattle.pocsag_tree.specs.declared.refusals.TreeWriteFault.TheVariants.{BadTree, WriteFault}
 use Rattle.pocsag_tree.specs.Spelling.{second_text}
+use Rattle.pocsag_tree.specs.Bounds.{Bound}
 use Rattle.pocsag_tree.specs.Views.{bound_of}
 use Rattle.pocsag_slots.specs.declared.step.Step.{Step}
 use Rattle.pocsag_slots.proofs.Fewest.{laid_list_legal}
@@ -17,31 +18,39 @@ use Rattle.pocsag_batch.specs.Saying.{Say}
 use Rattle.pocsag_batch.proofs.OrderLaws.{order_lays}
 use Rattle.pocsag_batch.proofs.Orders.{order_has_places}
 use Rattle.pocsag_plan.specs.declared.answer.Plan.{Plan}
+use Rattle.pocsag_plan.specs.BoundedHeadline.{BoundedHeadline}
+use Rattle.pocsag_plan.specs.declared.streaming.Unsent.{Unsent}
+use Rattle.pocsag_plan.specs.declared.streaming.Unsent.TheVariants as unsent
 use Rattle.pocsag_plan.specs.Headline.{Headline}
-use Rattle.pocsag_plan.specs.Plans.{IsPlan}
+use Rattle.pocsag_plan.specs.Plans.{IsBounded}
+use Rattle.pocsag_plan.specs.Sending.{fault_of_unsent}
+use Rattle.pocsag_plan.specs.Streams.{IsCertificate}
 
-pub due : (end : End) (R : List Page) (plan : Plan) → IsPlan end R plan → (steps : List Step) (order : List ℕ) (said : List Kind) (U : List ℕ) →
+pub due : (end : End) (R : List Page) (plan : Plan) (bound : ℕ) → IsBounded end R plan bound → (steps : List Step) (order : List ℕ) (said : List Kind) (U : List ℕ) →
     steps ≡ plan.steps.items → order ≡ plan.order.items → said ≡ laid_by R order steps → Say said U →
     (file : List ℕ) → verdict file ≡ Ok R →
-    Headline file end plan.batches (bound_of plan.tree) (bytes_of U) (second_text end plan.batches (bound_of plan.tree))
-due end R plan is steps order said U these places lays say file read =
+    BoundedHeadline file end plan.batches bound (bound_of plan.tree) (bytes_of U) (second_text end bound (bound_of plan.tree))
+due end R plan bound is steps order said U these places lays say file read =
     let view : laid_by R order steps ≡ laid_by R plan.order.items plan.steps.items =
     ap (λ (v : List ℕ). laid_by R v steps) places ∙ ap (λ (v : List Step). laid_by R plan.order.items v) these in
+    let some : 0 < plan.batches = omega (arith, is.accepted.accepted.some, is.at_least) in
     record {
       round = R;
       read = read;
       codewords = U;
-      legal = laid_list_legal is.table end (slice_index plan.choice.early) plan.batches plan.steps.items R U is.accepted.accepted.some is.classes is.tour say.codewords
+      legal = laid_list_legal is.table end (slice_index plan.choice.early) plan.batches plan.steps.items R U some is.classes is.tour say.codewords
           (say.kinds ∙ (lays ∙ (view ∙ order_lays end R plan.steps.items plan.order.items is.order)));
       transmission = refl;
-      fewest = is.fewest;
+      bounded = is.fewest;
+      at_least = is.at_least;
+      within_one = is.within_one;
       text = record { has_text = is.text; text = refl };
       accepted = is.accepted;
     }
 
-pub has_places : (end : End) (R : List Page) (plan : Plan) → IsPlan end R plan → (steps : List Step) (order : List ℕ) →
+pub has_places : (end : End) (R : List Page) (plan : Plan) (bound : ℕ) → IsBounded end R plan bound → (steps : List Step) (order : List ℕ) →
     steps ≡ plan.steps.items → order ≡ plan.order.items → HavePlaces (length R) order steps
-has_places end R plan is steps order these places =
+has_places end R plan bound is steps order these places =
     subst (λ (v : List Step). HavePlaces (length R) order v) (sym these)
     (subst (λ (v : List ℕ). HavePlaces (length R) v plan.steps.items) (sym places)
     (order_has_places end R plan.steps.items plan.order.items is.order))
@@ -50,3 +59,25 @@ has_places end R plan is steps order these places =
 pub unwritten : (e : TreeWriteFault) (P : Type 0) → P → (IsErrOf {T = Unit {0}} (Err e) BadTree → ¬ P) → IsErrOf {T = Unit {0}} (Err e) WriteFault
 unwritten BadTree P has bad = absurd (bad refl has)
 unwritten WriteFault P has bad = refl
+
+-- where the bound is the batches, it is the headline
+pub tight : (file : List ℕ) (end : End) (batches bound : ℕ) (tree : Bound) (sent certificate : List ℕ) → bound ≡ batches →
+    BoundedHeadline file end batches bound tree sent certificate → Headline file end batches tree sent certificate
+tight file end batches bound tree sent certificate same is =
+    let now : BoundedHeadline file end batches batches tree sent certificate =
+    subst (λ (b : ℕ). BoundedHeadline file end batches b tree sent certificate) same is in
+    record {
+      round = now.round;
+      read = now.read;
+      codewords = now.codewords;
+      legal = now.legal;
+      transmission = now.transmission;
+      fewest = now.bounded;
+      text = now.text;
+      accepted = now.accepted;
+    }
+
+-- what is known of the writer of the certificate is known where its fault is answered
+pub certificate_of : (e : Unsent) (P : Type 0) → (IsErrOf {T = Unit {0}} (Err e) unsent.Certificate → P) → IsCertificate (fault_of_unsent e) → P
+certificate_of unsent.Transmission P known is = absurd is
+certificate_of unsent.Certificate P known is = known refl

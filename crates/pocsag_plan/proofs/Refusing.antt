@@ -7,7 +7,7 @@ use Rattle.pocsag_pages.specs.declared.fault.PageFault.{PageFault}
 use Rattle.pocsag_pages.specs.Pages.{page_limit, has_address, page_fault_of}
 use Rattle.pocsag_plan.specs.declared.refusal.AddFault.{AddFault}
 use Rattle.pocsag_plan.specs.declared.refusal.AddFault.TheVariants as fault
-use Rattle.pocsag_plan.specs.OpenRound.{add_fault, fault_beside, fault_of_rule}
+use Rattle.pocsag_plan.specs.OpenRound.{add_fault, fault_beside}
 
 -- nothing stands against the page
 pub record MayFollow (ps : List Page) (p : Page) : Type 0 where

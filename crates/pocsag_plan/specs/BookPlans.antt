@@ -34,3 +34,10 @@ ExplainsBook end R limit fault.NoPages = IsNodeLimit limit × (R ≡ [])
 ExplainsBook end R limit (fault.SearchLimit least found tree) =
     IsNodeLimit limit × IsRound R × IsStopped end R limit least found (bound_of tree)
 ExplainsBook end R limit fault.OutOfMemory = IsNodeLimit limit × IsRound R
+
+-- The same of the plans that no round is refused: never `SearchLimit`.
+abbrev pub ExplainsBookAlways : List Page → ℕ → BookFault → Type 0
+ExplainsBookAlways R limit fault.BadLimit = ¬ IsNodeLimit limit
+ExplainsBookAlways R limit fault.NoPages = IsNodeLimit limit × (R ≡ [])
+ExplainsBookAlways R limit (fault.SearchLimit least found tree) = ⊥
+ExplainsBookAlways R limit fault.OutOfMemory = IsNodeLimit limit × IsRound R

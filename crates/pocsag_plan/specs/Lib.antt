@@ -9,3 +9,6 @@ pub mod OpenRound
 pub mod Tallies
 pub mod Edits
 pub mod BookPlans
+pub mod BoundedHeadline
+pub mod BoundedStreams
+pub mod Within

@@ -31,8 +31,8 @@ pub record IsNearLeast (k : Classes) (batches : ℕ) : Type 0 where
   pub is_least : IsLeast k least
   pub near : (batches ≡ least) ⊎ (batches ≡ least + 1)
 
--- A plan of the round for the end.
-pub record IsPlan (end : End) (R : List Page) (plan : Plan) : Type 0 where
+-- A plan of the round for the end, and a bound for which its tree is.
+pub record IsBounded (end : End) (R : List Page) (plan : Plan) (bound : ℕ) : Type 0 where
   -- It is for the end that was asked for, and counts the pages, the codewords of the pages, and the batches
   -- of file order, which has the open end for either end.
   pub asked : plan.end ≡ end
@@ -49,10 +49,17 @@ pub record IsPlan (end : End) (R : List Page) (plan : Plan) : Type 0 where
   pub room : plan.codewords ≤ 16 * plan.batches
   pub near_least : IsNearLeast table plan.batches
   pub most : plan.batches ≤ 1760001
-  -- The batches are the fewest; the checker accepts the tree for them, and there is a text of it.
-  pub fewest : NoneHasFewer end R plan.batches
-  pub accepted : IsAcceptedFor false end R plan.batches (bound_of plan.tree)
-  pub text : HasText SECOND_VERSION plan.batches (bound_of plan.tree)
+  -- No transmission has fewer batches than the bound, and the plan has so many, or one more.
+  pub fewest : NoneHasFewer end R bound
+  pub at_least : bound ≤ plan.batches
+  pub within_one : plan.batches ≤ bound + 1
+  -- The checker accepts the tree for the bound, and there is a text of it.
+  pub accepted : IsAcceptedFor false end R bound (bound_of plan.tree)
+  pub text : HasText SECOND_VERSION bound (bound_of plan.tree)
+
+-- A plan of the round for the end: its bound is its batches, so they are the fewest.
+abbrev pub IsPlan : End → List Page → Plan → Type 0
+IsPlan end R plan = IsBounded end R plan plan.batches
 
 -- What the search knew of the round when it had made as many nodes as it may.
 pub record IsStopped (end : End) (R : List Page) (limit least found : ℕ) (tree : Bound) : Type 0 where
@@ -79,3 +86,9 @@ abbrev pub ExplainsPlan : End → List Page → ℕ → PlanFault → Type 0
 ExplainsPlan end R limit fault.BadLimit = ¬ IsNodeLimit limit
 ExplainsPlan end R limit (fault.SearchLimit least found tree) = IsNodeLimit limit × IsStopped end R limit least found (bound_of tree)
 ExplainsPlan end R limit fault.OutOfMemory = IsNodeLimit limit
+
+-- When each fault of `plan_always` comes: never `SearchLimit`.
+abbrev pub ExplainsAlways : ℕ → PlanFault → Type 0
+ExplainsAlways limit fault.BadLimit = ¬ IsNodeLimit limit
+ExplainsAlways limit (fault.SearchLimit least found tree) = ⊥
+ExplainsAlways limit fault.OutOfMemory = IsNodeLimit limit

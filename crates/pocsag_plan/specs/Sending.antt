@@ -1,5 +1,4 @@
 -- Which fault of `plan_stream` a writer's is.
-use Rattle.pocsag_words.specs.declared.refusal.WriteFault.{WriteFault}
 use Rattle.pocsag_plan.specs.declared.fault.StreamFault.{StreamFault}
 use Rattle.pocsag_plan.specs.declared.fault.StreamFault.TheVariants as fault
 use Rattle.pocsag_plan.specs.declared.streaming.Unsent.{Unsent}

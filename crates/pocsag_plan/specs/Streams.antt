@@ -64,6 +64,15 @@ ExplainsStream file end limit fault.OutOfMemory = IsNodeLimit limit × IsOk (ver
 ExplainsStream file end limit (fault.Transmission f) = IsNodeLimit limit × IsOk (verdict file)
 ExplainsStream file end limit (fault.Certificate f) = IsNodeLimit limit × IsOk (verdict file)
 
+-- The fault of a search that stopped at its limit.
+abbrev pub IsSearchLimit : StreamFault → Type 0
+IsSearchLimit fault.BadLimit = ⊥
+IsSearchLimit (fault.Round f) = ⊥
+IsSearchLimit (fault.SearchLimit least found tree) = Unit {0}
+IsSearchLimit fault.OutOfMemory = ⊥
+IsSearchLimit (fault.Transmission f) = ⊥
+IsSearchLimit (fault.Certificate f) = ⊥
+
 -- A fault that comes before the first write.
 abbrev pub IsBeforeWriting : StreamFault → Type 0
 IsBeforeWriting fault.BadLimit = Unit {0}

@@ -2,12 +2,13 @@ use pocsag_slots::{Choice, Step};
 use pocsag_tree::Tree;
 use pocsag_words::End;
 
-/// A plan of a round: how its pages are sent in the fewest batches, and why fewer do not suffice.
+/// A plan of a round: how its pages are sent, and why fewer batches do not suffice. Within a `Bounded` the
+/// batches may be one more than the fewest, and the tree is for its bound.
 #[derive(Drop, Debug)]
 pub struct Plan {
     /// The end of the transmission that was asked for.
     pub end: End,
-    /// The fewest batches.
+    /// How many batches the transmission has: the fewest.
     pub batches: u32,
     /// How many batches the round takes in file order, with the open end.
     pub in_order: u32,

@@ -24,7 +24,7 @@ use std::alloc::Global;
 
 impl Book {
     // A round of copies of the pages, of which there must be one at least.
-    fn to_round(&self, alloc: Global) -> Result<Round, OutOfMemory>
+    pub(crate) fn to_round(&self, alloc: Global) -> Result<Round, OutOfMemory>
         requires { 0 < length self.now }
         ensures round { IfOk result (λ round. round ≡ self.now) }
         ensures good { IsRound self.now }
@@ -94,7 +94,7 @@ impl Book {
         ensures certificate_failed { IfErr result (λ e. IsCertificate e → HasFailed (C.failures cert.old) (C.failures cert.new)) }
     {
         let (round, plan) = self.planned(limit, end)?;
-        send(&round, &plan, end, tx, cert)?;
+        send(&round, &plan, plan.batches, end, tx, cert)?;
         Ok(plan)
     }
 }

@@ -80,6 +80,14 @@ impl From<RoundFault> for StreamFault {
     }
 }
 
+impl From<OutOfMemory> for StreamFault {
+    ghost from_gives = { λ _ e. e ≡ streaming.OutOfMemory };
+
+    fn from(_fault: OutOfMemory) -> StreamFault {
+        StreamFault::OutOfMemory
+    }
+}
+
 impl From<PlanFault> for StreamFault {
     ghost from_gives = { λ fault e. e ≡ fault_of_plan fault };
 

@@ -3,8 +3,12 @@
 //! of one.
 
 mod airtime;
+mod always;
+mod always_closing;
+mod always_streaming;
 mod answer;
 mod book;
+mod bounded;
 mod closing;
 mod edit;
 mod fault;
@@ -15,8 +19,11 @@ mod streaming;
 mod tally;
 
 pub use airtime::Report;
+pub use always::plan_always;
+pub use always_streaming::plan_stream_always;
 pub use answer::Plan;
 pub use book::Book;
+pub use bounded::Bounded;
 pub use edit::Edit;
 pub use fault::{BadRate, PlanFault, StreamFault};
 pub use planning::plan;

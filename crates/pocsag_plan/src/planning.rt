@@ -3,10 +3,12 @@ ghost use Rattle.pocsag_pages.specs.Reading.{page_length};
 ghost use Rattle.pocsag_slots.specs.Loads.{AreClassesOf};
 ghost use Rattle.pocsag_tree.specs.Bounds.{closed_nodes};
 ghost use Rattle.pocsag_tree.specs.Views.{bound_of};
-ghost use Rattle.pocsag_branch.specs.Found.{IsFound, IsNodeLimit};
-ghost use Rattle.pocsag_plan.specs.Plans.{ExplainsPlan, IsPlan};
+ghost use Rattle.pocsag_branch.specs.Found.{IsNodeLimit};
+ghost use Rattle.pocsag_plan.specs.Plans.{ExplainsPlan, IsBounded, IsPlan};
+ghost use Rattle.pocsag_plan.specs.Within.{IsWithinOne};
 
 use crate::answer::Plan;
+use crate::bounded::Bounded;
 use crate::fault::PlanFault;
 use pocsag_batch::{in_order_batches, order_of};
 use pocsag_branch::{Found, search};
@@ -73,8 +75,12 @@ pub(crate) fn plan_counted(
 {
     let _pages = round.pages();
     let found = search(alloc, classes, limit, end)?;
-    let plan = completed(alloc, round, classes, limit, found, end)?;
-    Ok(plan)
+    let within = Within {
+        bound: found.batches,
+        found,
+    };
+    let bounded = completed(alloc, round, classes, limit, within, end)?;
+    Ok(bounded.plan)
 }
 
 // How many codewords the pages have.
@@ -88,26 +94,35 @@ fn codewords_of(round: &Round) -> u32
     total as u32
 }
 
-// The plan with what the search found.
-fn completed(
+// A tour, and the bound for which its tree is.
+#[derive(Drop)]
+pub(crate) struct Within {
+    pub(crate) found: Found,
+    pub(crate) bound: u32,
+}
+
+// The plan with what a search found.
+pub(crate) fn completed(
     alloc: Global,
     round: &Round,
     classes: &Classes,
     limit: u32,
-    found: Found,
+    within: Within,
     end: End,
-) -> Result<Plan, OutOfMemory>
+) -> Result<Bounded, OutOfMemory>
     requires limited { IsNodeLimit limit }
     requires counted { AreClassesOf classes.now end round.now }
-    requires found { IsFound classes.now end limit found }
-    ensures plan { IfOk result (IsPlan end round.now) }
-    ensures small { IfOk result (λ plan. closed_nodes (bound_of plan.tree) ≤ limit) }
+    requires within { IsWithinOne classes.now end limit within.bound within.found }
+    ensures plan { IfOk result (λ bounded. IsBounded end round.now bounded.plan bounded.bound) }
+    ensures bound { IfOk result (λ bounded. (bounded.bound ≡ within.bound) × (bounded.plan.batches ≡ within.found.batches)) }
+    ensures small { IfOk result (λ bounded. closed_nodes (bound_of bounded.plan.tree) ≤ limit) }
 {
     tours_have_codewords();
     accepted_trees_have_texts();
+    let Within { found, bound } = within;
     let pages = round.pages().len() as u32;
     let order = order_of(alloc, round, &found.steps, end)?;
-    Ok(Plan {
+    let plan = Plan {
         end,
         batches: found.batches,
         in_order: in_order_batches(round),
@@ -117,5 +132,6 @@ fn completed(
         order,
         choice: found.choice,
         tree: found.tree,
-    })
+    };
+    Ok(Bounded { plan, bound })
 }

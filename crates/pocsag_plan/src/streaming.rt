@@ -5,7 +5,8 @@ ghost use Rattle.pocsag_pages.specs.declared.fault.RoundFault.TheVariants as rou
 ghost use Rattle.pocsag_tree.specs.Bounds.{closed_nodes};
 ghost use Rattle.pocsag_tree.specs.Views.{bound_of};
 ghost use Rattle.pocsag_branch.specs.Found.{IsNodeLimit};
-ghost use Rattle.pocsag_plan.specs.Plans.{IsPlan};
+ghost use Rattle.pocsag_plan.specs.BoundedStreams.{WritesBounded, WritesBoundedCertificatePart, WritesBoundedPart};
+ghost use Rattle.pocsag_plan.specs.Plans.{IsBounded};
 ghost use Rattle.pocsag_plan.specs.Streams.{ExplainsStream, IsBeforeWriting, IsCertificate, IsPlanOf, IsTransmission, Writes, WritesCertificatePart, WritesPart};
 ghost use Rattle.pocsag_plan.specs.declared.fault.StreamFault.TheVariants as fault;
 ghost use Rattle.pocsag_plan.specs.declared.streaming.Unsent.TheVariants as unsent;
@@ -60,7 +61,7 @@ pub fn plan_stream<S: Source, T: Sink, C: Sink>(
     }
     let round = read_round(alloc, source)?;
     let plan = plan_within(alloc, &round, limit, end)?;
-    send(&round, &plan, end, tx, cert)?;
+    send(&round, &plan, plan.batches, end, tx, cert)?;
     Ok(plan)
 }
 
@@ -84,21 +85,30 @@ impl From<Unsent> for StreamFault {
     }
 }
 
-// Writes the transmission of the plan and then its certificate. It is handed no allocator.
+// Writes the transmission of the plan and then its certificate for the bound. It is handed no allocator.
 pub(crate) fn send<T: Sink, C: Sink>(
     round: &Round,
     plan: &Plan,
+    bound: u32,
     end: End,
     tx: &mut T,
     cert: &mut C,
 ) -> Result<(), Unsent>
-    requires { IsPlan end round.now plan.now }
+    requires { IsBounded end round.now plan.now bound }
     // What is said of each page file of the round.
     ensures whole { T.tells → C.tells → OnOk result ((file : List ℕ) → verdict file ≡ Ok round.now →
-        Writes file end plan.now.batches (bound_of plan.now.tree) (T.taken tx.old) (T.taken tx.new) (C.taken cert.old) (C.taken cert.new)) }
+        WritesBounded file end plan.now.batches bound (bound_of plan.now.tree) (T.taken tx.old) (T.taken tx.new) (C.taken cert.old) (C.taken cert.new)) }
     ensures part { T.tells → IsErrOf result Unsent.Transmission → (file : List ℕ) → verdict file ≡ Ok round.now →
-        WritesPart file end (T.taken tx.old) (T.taken tx.new) }
+        WritesBoundedPart file end (T.taken tx.old) (T.taken tx.new) }
     ensures certificate_part { T.tells → C.tells → IsErrOf result Unsent.Certificate → (file : List ℕ) → verdict file ≡ Ok round.now →
+        WritesBoundedCertificatePart file end (T.taken tx.old) (T.taken tx.new) (C.taken cert.old) (C.taken cert.new) }
+
+    // The same where the bound is the batches.
+    ensures fewest { T.tells → C.tells → bound ≡ plan.now.batches → OnOk result ((file : List ℕ) → verdict file ≡ Ok round.now →
+        Writes file end plan.now.batches (bound_of plan.now.tree) (T.taken tx.old) (T.taken tx.new) (C.taken cert.old) (C.taken cert.new)) }
+    ensures fewest_part { T.tells → bound ≡ plan.now.batches → IsErrOf result Unsent.Transmission → (file : List ℕ) → verdict file ≡ Ok round.now →
+        WritesPart file end (T.taken tx.old) (T.taken tx.new) }
+    ensures fewest_certificate_part { T.tells → C.tells → bound ≡ plan.now.batches → IsErrOf result Unsent.Certificate → (file : List ℕ) → verdict file ≡ Ok round.now →
         WritesCertificatePart file end (T.taken tx.old) (T.taken tx.new) (C.taken cert.old) (C.taken cert.new) }
     ensures not_begun { IsErrOf result Unsent.Transmission → cert.new ≡ cert.old }
     ensures failed { IsErrOf result Unsent.Transmission → HasFailed (T.failures tx.old) (T.failures tx.new) }
@@ -111,7 +121,7 @@ pub(crate) fn send<T: Sink, C: Sink>(
     let Ok(()) = write_slots(slots, tx) else {
         return Err(Unsent::Transmission);
     };
-    match write_certificate(end, plan.batches, &plan.tree, cert) {
+    match write_certificate(end, bound, &plan.tree, cert) {
         Ok(()) => Ok(()),
         Err(_) => Err(Unsent::Certificate),
     }

@@ -1,30 +1,33 @@
-use Rattle.std.proofs.Common.{◌≡◌, ℕ, ◌*◌, ◌≤◌, false, List, length, refl, sym, ap, subst, arith, slice_index}
+use Rattle.std.proofs.Common.{ℕ, ◌*◌, ◌≤◌, false, List, length, refl, sym, ap, subst, arith, slice_index}
 use Rattle.pocsag_pages.proofs.GoodPages.{apart_pages}
 use Rattle.pocsag_slots.specs.declared.step.Step.{Step}
 use Rattle.pocsag_slots.specs.Tours.{IsTourFor}
 use Rattle.pocsag_tree.specs.Views.{bound_of}
 use Rattle.pocsag_batch.specs.Placing.{IsOrder}
 use Rattle.pocsag_check.proofs.Bounding.{admitted_all}
-use Rattle.pocsag_plan.proofs.Completing.{found_room, most, nodes_few, tour_for}
+use Rattle.pocsag_plan.proofs.Completing.{found_room, most, nodes_few, some_batch, tour_for}
 use Rattle.pocsag_plan.proofs.planning.completed.Goals as goal
 
 pub order_of-requires : goal.order_of-requires
 order_of-requires c =
     subst (λ (steps : List Step). IsTourFor c.args.end c.args.round.now steps) (sym c.deref.ensures.value)
-    (tour_for c.args.classes.now c.args.end c.args.round.now c.args.limit c.args.found c.requires.counted c.requires.found)
+    (tour_for c.args.classes.now c.args.end c.args.round.now c.args.limit c.args.within.bound c.args.within.found c.requires.counted c.requires.within)
 
 pub returns-clause-plan : goal.returns-clause-plan
 returns-clause-plan c =
     let k = c.args.classes.now in
     let end = c.args.end in
     let R = c.args.round.now in
-    let found = c.args.found in
-    let is = c.requires.found in
-    let near : found.batches ≤ 1760001 = most k end c.args.limit found is in
-    let sent = c.tours_have_codewords.ensures k end (slice_index found.choice.early) found.batches found.steps.items R is.accepted.some c.pages.ensures.round
+    let limit = c.args.limit in
+    let bound = c.args.within.bound in
+    let found = c.args.within.found in
+    let is = c.requires.within in
+    let near : found.batches ≤ 1760001 = most k end limit bound found is in
+    let at_least : bound ≤ found.batches = is.at_least in
+    let sent = c.tours_have_codewords.ensures k end (slice_index found.choice.early) found.batches found.steps.items R (some_batch k end limit bound found is) c.pages.ensures.round
     c.requires.counted is.tour in
-    let room = found_room k end R c.args.limit found c.pages.ensures.round is sent.0 sent.2 in
-    let few = nodes_few k end c.args.limit found is c.requires.limited (c.accepted_trees_have_texts.ensures.closed k end found.batches (bound_of found.tree) is.accepted) in
+    let room = found_room end R found c.pages.ensures.round sent.0 sent.2 in
+    let few = nodes_few k end limit bound found is c.requires.limited (c.accepted_trees_have_texts.ensures.closed k end bound (bound_of found.tree) is.accepted) in
     record {
       asked = refl;
       pages = ap length c.pages.ensures.pages;
@@ -38,7 +41,9 @@ returns-clause-plan c =
       room = subst (λ (n : ℕ). n ≤ 16 * found.batches) (sym c.codewords_of.ensures) room;
       near_least = record { least = is.least; is_least = is.is_least; near = is.or_one_more };
       most = near;
-      fewest = λ T n legal. is.bound R T n (apart_pages R c.pages.ensures.round.good) c.requires.counted legal;
+      fewest = λ T n legal. is.bounded R T n (apart_pages R c.pages.ensures.round.good) c.requires.counted legal;
+      at_least = at_least;
+      within_one = is.within_one;
       accepted = record { table = k; counted = c.requires.counted; accepted = is.accepted };
-      text = c.accepted_trees_have_texts.ensures.text false k end found.batches (bound_of found.tree) is.accepted (omega arith) few;
+      text = c.accepted_trees_have_texts.ensures.text false k end bound (bound_of found.tree) is.accepted (omega arith) few;
     }

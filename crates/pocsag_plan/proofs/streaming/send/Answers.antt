@@ -1,20 +1,35 @@
-use Rattle.pocsag_plan.proofs.Due.{due, has_places, unwritten}
+use Rattle.pocsag_plan.proofs.Due.{due, has_places, tight, unwritten}
 use Rattle.pocsag_plan.proofs.streaming.send.Goals as goal
 
 pub new-slots-requires : goal.new-slots-requires
 new-slots-requires g c =
-    has_places c.args.end c.args.round.now c.args.plan.now c.requires c.deref.result.now c.deref-2.result.now c.deref.ensures.value c.deref-2.ensures.value
+    has_places c.args.end c.args.round.now c.args.plan.now c.args.bound c.requires c.deref.result.now c.deref-2.result.now c.deref.ensures.value c.deref-2.ensures.value
 
 pub returns-in_default-clause-part : goal.returns-in_default-clause-part
 returns-in_default-clause-part g c = λ tells failed file read.
     let sent = c.in_default.ensures.part tells in
     record {
       batches = c.args.plan.now.batches;
+      bound = c.args.bound;
       tree = _;
       sent = _;
       certificate = _;
-      headline = due c.args.end c.args.round.now c.args.plan.now c.requires c.deref.result.now c.deref-2.result.now c.new-slots.result sent.words
+      headline = due c.args.end c.args.round.now c.args.plan.now c.args.bound c.requires c.deref.result.now c.deref-2.result.now c.new-slots.result sent.words
           c.deref.ensures.value c.deref-2.ensures.value c.new-slots.ensures sent.say file read;
+      part = sent.part;
+    }
+
+pub returns-in_default-clause-fewest_part : goal.returns-in_default-clause-fewest_part
+returns-in_default-clause-fewest_part g c = λ tells same failed file read.
+    let sent = c.in_default.ensures.part tells in
+    record {
+      batches = c.args.plan.now.batches;
+      tree = _;
+      sent = _;
+      certificate = _;
+      headline = tight file c.args.end c.args.plan.now.batches c.args.bound _ _ _ same
+          (due c.args.end c.args.round.now c.args.plan.now c.args.bound c.requires c.deref.result.now c.deref-2.result.now c.new-slots.result sent.words
+          c.deref.ensures.value c.deref-2.ensures.value c.new-slots.ensures sent.say file read);
       part = sent.part;
     }
 
@@ -24,8 +39,21 @@ returns-in-Ok-write_certificate-clause-whole g c = λ tells cert_tells file read
     record {
       sent = _;
       certificate = _;
-      headline = due c.args.end c.args.round.now c.args.plan.now c.requires c.deref.result.now c.deref-2.result.now c.new-slots.result sent.words
+      headline = due c.args.end c.args.round.now c.args.plan.now c.args.bound c.requires c.deref.result.now c.deref-2.result.now c.new-slots.result sent.words
           c.deref.ensures.value c.deref-2.ensures.value c.new-slots.ensures sent.say file read;
+      transmission = sent.taken;
+      text = c.in-Ok-write_certificate.ensures.whole cert_tells;
+    }
+
+pub returns-in-Ok-write_certificate-clause-fewest : goal.returns-in-Ok-write_certificate-clause-fewest
+returns-in-Ok-write_certificate-clause-fewest g c = λ tells cert_tells same file read.
+    let sent = c.in-Ok.ensures.whole tells in
+    record {
+      sent = _;
+      certificate = _;
+      headline = tight file c.args.end c.args.plan.now.batches c.args.bound _ _ _ same
+          (due c.args.end c.args.round.now c.args.plan.now c.args.bound c.requires c.deref.result.now c.deref-2.result.now c.new-slots.result sent.words
+          c.deref.ensures.value c.deref-2.ensures.value c.new-slots.ensures sent.say file read);
       transmission = sent.taken;
       text = c.in-Ok-write_certificate.ensures.whole cert_tells;
     }
@@ -35,11 +63,27 @@ returns-in-Err-clause-certificate_part g c = λ tells cert_tells failed file rea
     let sent = c.in-Ok.ensures.whole tells in
     record {
       batches = c.args.plan.now.batches;
+      bound = c.args.bound;
       tree = _;
       sent = _;
       certificate = _;
-      headline = due c.args.end c.args.round.now c.args.plan.now c.requires c.deref.result.now c.deref-2.result.now c.new-slots.result sent.words
+      headline = due c.args.end c.args.round.now c.args.plan.now c.args.bound c.requires c.deref.result.now c.deref-2.result.now c.new-slots.result sent.words
           c.deref.ensures.value c.deref-2.ensures.value c.new-slots.ensures sent.say file read;
+      transmission = sent.taken;
+      part = c.in-Err.ensures.part cert_tells (unwritten c.in-Err.field-0 _ c.requires.text c.in-Err.ensures.bad);
+    }
+
+pub returns-in-Err-clause-fewest_certificate_part : goal.returns-in-Err-clause-fewest_certificate_part
+returns-in-Err-clause-fewest_certificate_part g c = λ tells cert_tells same failed file read.
+    let sent = c.in-Ok.ensures.whole tells in
+    record {
+      batches = c.args.plan.now.batches;
+      tree = _;
+      sent = _;
+      certificate = _;
+      headline = tight file c.args.end c.args.plan.now.batches c.args.bound _ _ _ same
+          (due c.args.end c.args.round.now c.args.plan.now c.args.bound c.requires c.deref.result.now c.deref-2.result.now c.new-slots.result sent.words
+          c.deref.ensures.value c.deref-2.ensures.value c.new-slots.ensures sent.say file read);
       transmission = sent.taken;
       part = c.in-Err.ensures.part cert_tells (unwritten c.in-Err.field-0 _ c.requires.text c.in-Err.ensures.bad);
     }

@@ -1,4 +1,3 @@
-use Rattle.std.proofs.Common.{sym, All}
 use Rattle.pocsag_plan.proofs.Editing.{listable_pages}
 use Rattle.pocsag_plan.proofs.book.Book.pages.Goals as goal
 

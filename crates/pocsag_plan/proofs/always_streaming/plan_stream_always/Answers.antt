@@ -1,0 +1,9 @@
+use Rattle.std.proofs.lemmas.Result.{err_from_is_err_and}
+use Rattle.pocsag_plan.proofs.Due.{certificate_of}
+use Rattle.pocsag_plan.proofs.always_streaming.plan_stream_always.Goals as goal
+
+pub returns-in_err-send-clause-certificate_part : goal.returns-in_err-send-clause-certificate_part
+returns-in_err-send-clause-certificate_part g c = λ tells tx_tells cert_tells.
+    let p = err_from_is_err_and c.from_residual-in_err-send.result c.from_residual-in_err-send.ensures.1 in
+    rw (p.1, p.2)
+    (certificate_of c.in_err-send.field-0.0 _ (λ failed. c.in_err-send.ensures.certificate_part tx_tells cert_tells failed _ (c.in_ok-round.ensures.ok tells)))

@@ -1,0 +1,25 @@
+-- What either search leaves for a plan.
+use Rattle.std.specs.Prelude.{◌≡◌, ◌⊎◌, ℕ, ◌+◌, ◌≤◌, false, slice_index}
+use Rattle.pocsag_words.specs.declared.ending.End.{End}
+use Rattle.pocsag_slots.specs.declared.class.Classes.{Classes}
+use Rattle.pocsag_slots.specs.Loads.{IsChoice, IsLeast}
+use Rattle.pocsag_slots.specs.Tours.{IsTour}
+use Rattle.pocsag_tree.specs.Bounds.{closed_nodes}
+use Rattle.pocsag_tree.specs.Views.{bound_of}
+use Rattle.pocsag_check.specs.Accepting.{IsAccepted}
+use Rattle.pocsag_branch.specs.declared.answer.Found.{Found}
+use Rattle.pocsag_branch.specs.Found.{IsBound}
+
+-- A tour of the least that some choice of starts needs, or of one batch more, and a tree for a bound that
+-- the batches are, or exceed by one.
+pub record IsWithinOne (k : Classes) (end : End) (limit bound : ℕ) (found : Found) : Type 0 where
+  pub least : ℕ
+  pub is_least : IsLeast k least
+  pub or_one_more : (found.batches ≡ least) ⊎ (found.batches ≡ least + 1)
+  pub choice : IsChoice k (slice_index found.choice.early)
+  pub tour : IsTour k end (slice_index found.choice.early) found.batches found.steps.items
+  pub bounded : IsBound k end bound
+  pub at_least : bound ≤ found.batches
+  pub within_one : found.batches ≤ bound + 1
+  pub accepted : IsAccepted false k end bound (bound_of found.tree)
+  pub few : closed_nodes (bound_of found.tree) ≤ limit

@@ -1,0 +1,90 @@
+//! The round that an open round is sent as, where no round is refused.
+ghost use Rattle.std.specs.Prelude.{◌≡◌, ◌≤◌, ◌↔◌, ℕ, List, [], Ok, IfErr, IfOk, IsErrOf, OnOk};
+ghost use Rattle.pocsag_words.specs.Devices.{HasFailed};
+ghost use Rattle.pocsag_pages.specs.PageFile.{verdict};
+ghost use Rattle.pocsag_pages.specs.Pages.{IsRound};
+ghost use Rattle.pocsag_tree.specs.Bounds.{closed_nodes};
+ghost use Rattle.pocsag_tree.specs.Views.{bound_of};
+ghost use Rattle.pocsag_branch.specs.Found.{IsNodeLimit};
+ghost use Rattle.pocsag_plan.specs.BookPlans.{ExplainsBookAlways};
+ghost use Rattle.pocsag_plan.specs.BoundedStreams.{WritesBounded};
+ghost use Rattle.pocsag_plan.specs.Plans.{IsBounded, IsPlan};
+ghost use Rattle.pocsag_plan.specs.Streams.{IsBeforeWriting, IsCertificate, IsSearchLimit, IsTransmission, Writes};
+
+use crate::always::bounded_counted;
+use crate::book::Book;
+use crate::bounded::Bounded;
+use crate::fault::StreamFault;
+use crate::planning::is_node_limit;
+use crate::refusal::BookFault;
+use crate::streaming::send;
+use pocsag_pages::Round;
+use pocsag_words::{End, Sink};
+
+impl Book {
+    // The round, and its plan with a bound over the class table that the book keeps for the end.
+    fn bounded(&self, limit: u32, end: End) -> Result<(Round, Bounded), BookFault>
+        ensures round { IfOk result (λ both. (both.0 ≡ self.now) × IsRound self.now) }
+        ensures plan { IfOk result (λ both. IsBounded end self.now both.1.plan both.1.bound) }
+        ensures small { IfOk result (λ both. closed_nodes (bound_of both.1.plan.tree) ≤ limit) }
+        ensures bad_limit { IsErrOf result BookFault.BadLimit ↔ (¬ IsNodeLimit limit) }
+        ensures no_pages { IsErrOf result BookFault.NoPages ↔ (IsNodeLimit limit × (self.now ≡ [])) }
+        ensures fault { IfErr result (ExplainsBookAlways self.now limit) }
+    {
+        if !is_node_limit(limit) {
+            return Err(BookFault::BadLimit);
+        }
+        if self.is_empty() {
+            return Err(BookFault::NoPages);
+        }
+        let alloc = self.allocator();
+        let round = self.to_round(alloc)?;
+        let bounded = bounded_counted(alloc, &round, self.classes(end), limit, end)?;
+        Ok((round, bounded))
+    }
+
+    /// Plans the round of the pages, as `plan_always` does, over the class table that the book keeps for the
+    /// end. `BadLimit` where the node limit is 0 or above 1,000,000, then `NoPages`; never `SearchLimit`.
+    pub fn plan_always(&self, limit: u32, end: End) -> Result<Bounded, BookFault>
+        ensures round { OnOk result (IsRound self.now) }
+        ensures plan { IfOk result (λ bounded. IsBounded end self.now bounded.plan bounded.bound) }
+        // Where the bound is the batches, it is what `plan` answers.
+        ensures fewest { IfOk result (λ bounded. bounded.bound ≡ bounded.plan.batches → IsPlan end self.now bounded.plan) }
+        ensures small { IfOk result (λ bounded. closed_nodes (bound_of bounded.plan.tree) ≤ limit) }
+        ensures bad_limit { IsErrOf result BookFault.BadLimit ↔ (¬ IsNodeLimit limit) }
+        ensures no_pages { IsErrOf result BookFault.NoPages ↔ (IsNodeLimit limit × (self.now ≡ [])) }
+        ensures fault { IfErr result (ExplainsBookAlways self.now limit) }
+    {
+        let (_round, bounded) = self.bounded(limit, end)?;
+        Ok(bounded)
+    }
+
+    /// Plans the round of the pages as `plan_always` does, and writes the transmission whole and then the
+    /// certificate, as `plan_stream_always` does for a page file of these pages. Where there are no pages it
+    /// answers `Round(NoPages)`.
+    pub fn plan_stream_always<T: Sink, C: Sink>(
+        &self,
+        tx: &mut T,
+        cert: &mut C,
+        limit: u32,
+        end: End,
+    ) -> Result<Bounded, StreamFault>
+        // The headline with a bound, of each page file of these pages; and where the bound is the batches, the
+        // headline.
+        ensures headline { T.tells → C.tells → IfOk result (λ bounded. (file : List ℕ) → verdict file ≡ Ok self.now →
+            WritesBounded file end bounded.plan.batches bounded.bound (bound_of bounded.plan.tree) (T.taken tx.old) (T.taken tx.new) (C.taken cert.old) (C.taken cert.new)) }
+        ensures fewest { T.tells → C.tells → IfOk result (λ bounded. bounded.bound ≡ bounded.plan.batches → (file : List ℕ) → verdict file ≡ Ok self.now →
+            Writes file end bounded.plan.batches (bound_of bounded.plan.tree) (T.taken tx.old) (T.taken tx.new) (C.taken cert.old) (C.taken cert.new)) }
+        ensures plan { IfOk result (λ bounded. IsBounded end self.now bounded.plan bounded.bound) }
+        ensures answered { IfErr result (λ e. ¬ IsSearchLimit e) }
+        ensures bad_limit { IsErrOf result StreamFault.BadLimit ↔ (¬ IsNodeLimit limit) }
+        ensures untouched { IfErr result (λ e. IsBeforeWriting e → (tx.new ≡ tx.old) × (cert.new ≡ cert.old)) }
+        ensures not_begun { IfErr result (λ e. IsTransmission e → cert.new ≡ cert.old) }
+        ensures write_failed { IfErr result (λ e. IsTransmission e → HasFailed (T.failures tx.old) (T.failures tx.new)) }
+        ensures certificate_failed { IfErr result (λ e. IsCertificate e → HasFailed (C.failures cert.old) (C.failures cert.new)) }
+    {
+        let (round, bounded) = self.bounded(limit, end)?;
+        send(&round, &bounded.plan, bounded.bound, end, tx, cert)?;
+        Ok(bounded)
+    }
+}
