@@ -13,10 +13,12 @@ mod obeying;
 mod opening;
 mod paths;
 mod receiving;
+mod showing;
 mod tell;
 #[cfg(test)]
 mod tests;
 mod verifying;
+mod view;
 mod words;
 
 use crate::devices::WriterSink;

@@ -10,6 +10,7 @@ use crate::files::{Outputs, open_buffered, open_source};
 use crate::opening::{Planner, run_open, run_open_pages};
 use crate::paths::equal_paths;
 use crate::receiving::{run_decode, run_hear};
+use crate::showing::run_show;
 use crate::tell::tell_fault;
 use crate::verifying::run_verify;
 use crate::words::{Order, Search};
@@ -62,6 +63,10 @@ fn obeyed<E: Sink>(
         Order::Hear { address, tx } => {
             let mut tx = open_source(rt, tx)?;
             Ok(run_hear(alloc, address, &mut tx, &mut out, err))
+        }
+        Order::Show { tx, view } => {
+            let mut tx = open_source(rt, tx)?;
+            Ok(run_show(alloc, view, &mut tx, &mut out, err))
         }
         Order::Open { pages, always } => open_path(rt, alloc, always, pages, &mut out, err),
         Order::Report {

@@ -1,3 +1,4 @@
+use crate::view::View;
 use clap::error::ErrorKind;
 use clap::{Arg, ArgAction, ArgMatches, Command, Error, value_parser};
 use pocsag_words::End;
@@ -30,6 +31,11 @@ pub enum Order<'a> {
         address: u32,
         tx: &'a str,
     },
+    /// `show TX`: the path of the transmission, and how it is shown.
+    Show {
+        tx: &'a str,
+        view: View,
+    },
     /// `open`, or `open PAGES`: an open round, the path of the page file that it begins with, and whether
     /// each plan of it is answered.
     Open {
@@ -61,6 +67,8 @@ const DECODE: &str = "decode";
 
 const HEAR: &str = "hear";
 
+const SHOW: &str = "show";
+
 const REPORT: &str = "report";
 
 const ROUND: &str = "open";
@@ -83,6 +91,10 @@ const END: &str = "end";
 const VERIFY: &str = "verify";
 
 const ALWAYS: &str = "always";
+
+const SVG: &str = "svg";
+
+const LIST: &str = "list";
 
 const OPEN: &str = "open";
 
@@ -134,6 +146,16 @@ The end of the input ends the program.
 
 Example:
   printf 'add,8,tone0,\\nplan,tx.bin,cert.bin\\n' | pocsag open";
+
+const SHOW_MANUAL: &str = "\
+After a line of totals there is a line for each batch, with its number and a letter for
+each codeword, in eight frames of two: a capital letter for the address codeword of a
+page, the same letter small for its message codewords, the letters in turn from page to
+page; a full stop for an idle.
+
+Example:
+  pocsag show tx.bin
+  pocsag show tx.bin --svg > tx.svg";
 
 const PAGES_HELP: &str = "The page file, CSV with the header address,kind,message";
 
@@ -226,6 +248,24 @@ fn hear_command<'a>(alloc: Global) -> Result<Command<'a>, AllocError> {
         .arg(positional(alloc, TX, TX_HELP))
 }
 
+fn show_command<'a>(alloc: Global) -> Result<Command<'a>, AllocError> {
+    let svg = Arg::new(alloc, SVG)
+        .long(SVG)
+        .action(ArgAction::SetTrue)
+        .help("Draws it as an SVG picture");
+    let list = Arg::new(alloc, LIST)
+        .long(LIST)
+        .action(ArgAction::SetTrue)
+        .conflicts_with(SVG)?
+        .help("Lists where each page stands, as CSV");
+    Command::new(alloc, SHOW)
+        .about("Shows what a transmission looks like, codeword by codeword")
+        .after_help(SHOW_MANUAL)
+        .arg(positional(alloc, TX, TX_HELP))?
+        .arg(svg)?
+        .arg(list)
+}
+
 fn open_command<'a>(alloc: Global) -> Result<Command<'a>, AllocError> {
     Command::new(alloc, ROUND)
         .about("Keeps an open round, which is edited and planned by the lines of standard input")
@@ -257,6 +297,7 @@ fn command<'a>(alloc: Global) -> Result<Command<'a>, AllocError> {
         .subcommand(check_command(alloc)?)?
         .subcommand(decode_command(alloc)?)?
         .subcommand(hear_command(alloc)?)?
+        .subcommand(show_command(alloc)?)?
         .subcommand(open_command(alloc)?)?
         .subcommand(report_command(alloc)?)
 }
@@ -301,6 +342,20 @@ fn hear_order<'a>(found: &ArgMatches<'a>) -> Option<Order<'a>> {
     })
 }
 
+fn show_order<'a>(found: &ArgMatches<'a>) -> Option<Order<'a>> {
+    let view = if found.get_flag(SVG) {
+        View::Drawing
+    } else if found.get_flag(LIST) {
+        View::Places
+    } else {
+        View::Grid
+    };
+    Some(Order::Show {
+        tx: found.get_str(TX)?,
+        view,
+    })
+}
+
 fn report_order<'a>(found: &ArgMatches<'a>) -> Option<Order<'a>> {
     Some(Order::Report {
         pages: found.get_str(PAGES)?,
@@ -321,6 +376,7 @@ fn order_from<'a>(matches: &ArgMatches<'a>) -> Option<Order<'a>> {
             tx: found.get_str(TX)?,
         }),
         HEAR => hear_order(found),
+        SHOW => show_order(found),
         ROUND => Some(Order::Open {
             pages: found.get_str(PAGES),
             always: found.get_flag(ALWAYS),
