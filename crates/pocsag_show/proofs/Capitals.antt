@@ -1,19 +1,18 @@
 -- Where pages begin: at the capital letters, which stand for address codewords.
-use Rattle.std.proofs.Common.{◌≡◌, ℕ, zero, suc, ◌+◌, ◌*◌, ◌%◌, ◌<◌, ◌≤◌, ◌&&◌, Bool, true, false, List, [], ◌∷◌, ◌++◌, length, drop, min, get_or, slice_index, map, refl, ap, ap₂, sym, ◌∙◌, inl, inr, arith}
-use Rattle.std.specs.Prelude.{cond, nat_le}
+use Rattle.std.proofs.Common.{◌≡◌, ℕ, zero, suc, ◌+◌, ◌<◌, ◌≤◌, Bool, List, [], ◌∷◌, ◌++◌, length, drop, min, get_or, slice_index, refl, ap, ap₂, ◌∙◌, inl, inr, arith}
+use Rattle.std.specs.Prelude.{cond}
 use Rattle.std.specs.List.{filter, range_with_len}
 use Rattle.std.proofs.lemmas.Bool.{cases_lt}
 use Rattle.std.proofs.lemmas.Bool.Decides.{nat_tests}
-use Rattle.std.proofs.lemmas.List.{append-nil, drop_all}
+use Rattle.std.proofs.lemmas.List.{drop_all}
 use Rattle.std.proofs.lemmas.List.Elements.{filter-append}
 use Rattle.csv.specs.Writing.{row_text, default_writer}
-use Rattle.pocsag_words.specs.Kinds.{kind_of}
 use Rattle.pocsag_words.specs.declared.codeword.Kind.{Kind}
 use Rattle.pocsag_words.specs.declared.codeword.Kind.TheVariants.{Idle, Address, Message}
 use Rattle.pocsag_pages.specs.declared.page.Page.{Page}
 use Rattle.pocsag_show.specs.declared.grid.Grid.{Grid}
 use Rattle.pocsag_show.specs.declared.judged.Judged.{Judged}
-use Rattle.pocsag_show.specs.Grid.{is_address, letter_after, letter_at, pages_in}
+use Rattle.pocsag_show.specs.Grid.{is_address, letter_after, letter_at}
 use Rattle.pocsag_show.specs.Judged.{IsJudged}
 use Rattle.pocsag_show.specs.Places.{place_header, place_listing, place_rows, starts_of}
 use Rattle.pocsag_show.specs.Showing.{IsTextOf}

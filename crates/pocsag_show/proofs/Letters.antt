@@ -1,11 +1,11 @@
 -- The letters one by one are those at the indices.
-use Rattle.std.proofs.Common.{◌≡◌, ℕ, zero, suc, ◌+◌, ◌<◌, Bool, List, [], ◌∷◌, ◌++◌, length, take, get_or, slice_index, refl, ap, sym, ◌∙◌, arith}
+use Rattle.std.proofs.Common.{◌≡◌, ℕ, zero, suc, ◌+◌, ◌<◌, Bool, List, [], ◌∷◌, ◌++◌, length, take, get_or, slice_index, refl, ap, ◌∙◌, arith}
 use Rattle.std.specs.List.{count_by}
 use Rattle.std.proofs.lemmas.List.Sums.{sum_by-append}
 use Rattle.std.specs.Prelude.{cond}
 use Rattle.pocsag_words.specs.declared.codeword.Kind.{Kind}
 use Rattle.pocsag_words.specs.declared.codeword.Kind.TheVariants.{Idle}
-use Rattle.pocsag_show.specs.Grid.{is_address, is_idle, idles_in, letter_after, letter_at, pages_in}
+use Rattle.pocsag_show.specs.Grid.{is_address, letter_after, letter_at, pages_in}
 use Rattle.pocsag_show.specs.Taking.{letters_from}
 
 pub count-append : (p : Kind → Bool) (ks ls : List Kind) → count_by p (ks ++ ls) ≡ count_by p ks + count_by p ls

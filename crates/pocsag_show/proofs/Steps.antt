@@ -1,5 +1,5 @@
 -- A grid that takes word by word.
-use Rattle.std.proofs.Common.{◌≡◌, ◌≢◌, ℕ, suc, ◌+◌, ◌*◌, ◌%◌, ◌<◌, List, [], ◌∷◌, ◌++◌, length, map, slice_index, All, refl, ap, ap₂, sym, subst, ◌∙◌, inl, inr, arith, append_assoc}
+use Rattle.std.proofs.Common.{◌≡◌, ◌≢◌, ℕ, ◌+◌, ◌%◌, ◌<◌, List, [], ◌∷◌, ◌++◌, length, map, slice_index, All, refl, ap, ap₂, sym, subst, ◌∙◌, inl, inr, arith, append_assoc}
 use Rattle.std.specs.Int.{from_be_bytes, w32}
 use Rattle.std.proofs.lemmas.Bool.{cases_eq, eq-eqb, ne_eqb}
 use Rattle.std.proofs.lemmas.List.{append-nil, length-append, map-append}
@@ -7,11 +7,11 @@ use Rattle.std.proofs.lemmas.List.Elements.{All-head, All-tail}
 use Rattle.pocsag_words.specs.Codeword.{IsCodeword}
 use Rattle.pocsag_words.specs.Kinds.{kind_of}
 use Rattle.pocsag_words.specs.declared.codeword.Kind.{Kind}
-use Rattle.pocsag_pages.specs.Bytes.{after_preamble, unsynced, words_of}
+use Rattle.pocsag_pages.specs.Bytes.{unsynced, words_of}
 use Rattle.pocsag_decode.proofs.WordByWord.{unsynced_more}
 use Rattle.pocsag_show.specs.declared.grid.Grid.{Grid}
-use Rattle.pocsag_show.specs.Grid.{idles_in, is_idle, letter_after, letter_at, pages_in}
-use Rattle.pocsag_show.specs.Taking.{IsGridOf, IsUnderWay, Took, codewords_in, kinds_from, letters_from}
+use Rattle.pocsag_show.specs.Grid.{idles_in, is_idle, pages_in}
+use Rattle.pocsag_show.specs.Taking.{IsGridOf, IsUnderWay, Took, kinds_from, letters_from}
 use Rattle.pocsag_show.proofs.Letters.{count-append, index-letters, length-letters, letters-append}
 
 -- the first word of four bytes and more

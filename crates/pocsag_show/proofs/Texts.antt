@@ -1,10 +1,9 @@
 -- The codewords that bytes are sent from, and the text of the bytes.
-use Rattle.std.proofs.Common.{◌≡◌, ◌≢◌, ℕ, ◌+◌, ◌*◌, ◌%◌, ◌<◌, ◌≤◌, List, [], ◌∷◌, ◌++◌, get_or, Fits, w8, length, map, Result, Ok, Err, All, ap, sym, subst, ◌∙◌, arith}
+use Rattle.std.proofs.Common.{◌≡◌, ◌≢◌, ℕ, ◌*◌, ◌%◌, ◌<◌, ◌≤◌, List, get_or, Fits, w8, length, map, Result, Ok, Err, All, ap, sym, subst, ◌∙◌, arith}
 use Rattle.std.proofs.lemmas.List.{length-map}
 use Rattle.pocsag_words.specs.Codeword.{IsCodeword}
 use Rattle.pocsag_words.specs.Kinds.{kind_of}
 use Rattle.pocsag_pages.specs.declared.page.Page.{Page}
-use Rattle.pocsag_pages.specs.Bytes.{after_preamble}
 use Rattle.pocsag_decode.specs.Faults.{IsPastPreamble, ReadsAs}
 use Rattle.pocsag_decode.proofs.Judgements.{codewords_are, reads_whole}
 use Rattle.std.proofs.lemmas.List.Elements.{All-from_get_or}

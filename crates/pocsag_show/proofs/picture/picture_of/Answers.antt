@@ -1,5 +1,5 @@
-use Rattle.std.proofs.Common.{◌≡◌, ◌++◌, ap, ◌∙◌, ℕ, ◌-◌, ◌/◌, List, length, slice_index}
-use Rattle.pocsag_show.specs.Picture.{batch_lines, head_line, totals_line}
+use Rattle.std.proofs.Common.{◌++◌, ap, ◌∙◌, ℕ, ◌-◌, ◌/◌, List, length, slice_index}
+use Rattle.pocsag_show.specs.Picture.{batch_lines, totals_line}
 use Rattle.pocsag_show.proofs.Pictures.{picture_is, pieces_are}
 use Rattle.pocsag_show.proofs.picture.picture_of.Goals as goal
 

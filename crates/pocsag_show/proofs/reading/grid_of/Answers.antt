@@ -1,6 +1,5 @@
-use Rattle.std.proofs.Common.{◌≡◌, ◌++◌, ap, sym, ◌∙◌, arith, subst, drop, All, List, ℕ, take}
-use Rattle.pocsag_words.specs.Codeword.{IsCodeword}
-use Rattle.pocsag_pages.specs.Bytes.{after_preamble, unsynced, words_of}
+use Rattle.std.proofs.Common.{◌≡◌, ap, sym, ◌∙◌, arith, subst, drop, List, ℕ}
+use Rattle.pocsag_pages.specs.Bytes.{after_preamble}
 use Rattle.pocsag_decode.proofs.Words.{split_is}
 use Rattle.pocsag_show.specs.Taking.{IsUnderWay}
 use Rattle.pocsag_show.proofs.Steps.{at_end, at_start, next_codeword, next_step}

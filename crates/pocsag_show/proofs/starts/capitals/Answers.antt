@@ -1,4 +1,4 @@
-use Rattle.std.proofs.Common.{slice_index, ap, ◌∙◌, ◌++◌, sym, List, ℕ}
+use Rattle.std.proofs.Common.{slice_index}
 use Rattle.pocsag_show.specs.Taking.{is_capital}
 use Rattle.pocsag_show.proofs.Capitals.{filter_next}
 use Rattle.pocsag_show.proofs.starts.capitals.Goals as goal
