@@ -115,6 +115,7 @@ Page files are CSV with the header address,kind,message. Kinds of pages:
   alpha                    1 to 4000 characters of codes 1 to 127
 Limits: 1 to 20000 pages, one to an address, addresses 0 to 2097151 (sixteen are
 reserved), page files and transmissions of at most 268435456 bytes.
+The commands plan, report and open take --always: then no search stops at its limit.
 Exit status: 0 done, 1 refused or not shown, 2 usage, 3 a file or memory.
 
 Example:
@@ -124,8 +125,8 @@ Example:
 const PLAN_MANUAL: &str = "\
 The page file is CSV with the header address,kind,message. TX and CERT are made, or
 emptied once the page file could be opened. Where the search reaches its limit the round
-is refused. With --always no round is: the batches are nearly always the fewest, and else
-one more than the certificate shows to be needed, which a third line tells,
+is refused. With --always every round is answered: nearly always with the fewest batches,
+and else with one more than the certificate shows to be needed, which a third line tells,
 'at least N batches'.
 
 Example:

@@ -252,6 +252,9 @@ fn a_bound_below_the_batches_is_answered(rt: HostRuntime) -> Result<(), Fail> {
         },
         &mut out,
     )?;
-    assert_eq!(rt; out.bytes(), b"batches 3\nbatches 3, at least 2\n".as_slice());
+    assert_eq!(rt;
+        out.bytes(),
+        b"batches 3\nbatches 3, at least 2\n".as_slice()
+    );
     Ok(())
 }
