@@ -8,6 +8,7 @@ It takes the binary that the gate left in crates/pocsag_app/out. The last line i
 import os
 import pathlib
 import random
+import re
 import select
 import subprocess
 import sys
@@ -21,7 +22,9 @@ TOP = pathlib.Path(__file__).resolve().parents[2]
 PROGRAM = TOP / "crates/pocsag_app/out/pocsag_app"
 HEADER = b"address,kind,message\n"
 PREAMBLE = b"\xaa" * 72
+PAGE = TOP / "docs/OPEN_ROUND.md"
 EDITS = 5000
+LISTED = 250  # a list is compared after so many edits
 SEED = 20261122
 
 
@@ -72,6 +75,13 @@ def ok(pages):
     return b"ok %d" % len(pages)
 
 
+def field(message):
+    """A message as a field of CSV, in quotes where it needs them."""
+    if b"," in message or b'"' in message:
+        return b'"' + message.replace(b'"', b'""') + b'"'
+    return message
+
+
 def reserved(address):
     return 2007664 <= address <= 2007671 or 2045056 <= address <= 2045063
 
@@ -115,6 +125,10 @@ class Kept:
         self.pages = []
         return ok(self.pages)
 
+    def lines(self):
+        """What `list` answers."""
+        return [HEADER.strip()] + [b"%d,%s,%s" % (address, kind, field(message)) for address, kind, message in self.pages] + [ok(self.pages)]
+
 
 def edits_of(chance, count):
     """Random edits, among few addresses, so that many are refused."""
@@ -124,7 +138,7 @@ def edits_of(chance, count):
         draw = chance.random()
         if draw < 0.55:
             kind = chance.choice(kinds)
-            message = chance.choice([b"", b"12345", b"17 U", b"7x", b"*[]-"])
+            message = chance.choice([b"", b"12345", b"17 U", b"7x", b"*[]-", b'Bed 2, "now"'])
             yield "add", address, kind, message
         elif draw < 0.998:
             yield "cancel", address, b"", b""
@@ -136,26 +150,43 @@ def many_edits(tally, folder):
     chance = random.Random(SEED)
     kept = Kept()
     program = OpenRound(folder)
-    wrong = []
-    for word, address, kind, message in edits_of(chance, EDITS):
+    wrong, lists, words = [], [], {}
+    for number, (word, address, kind, message) in enumerate(edits_of(chance, EDITS), 1):
         if word == "add":
             due = kept.add(address, kind, message)
-            found = program.ask(b"add,%d,%s,%s" % (address, kind, message))
+            found = program.ask(b"add,%d,%s,%s" % (address, kind, field(message)))
         elif word == "cancel":
             due = kept.cancel(address)
             found = program.ask(b"cancel,%d" % address)
         else:
             due = kept.clear()
             found = program.ask(b"clear")
+        words[word, due[:2]] = words.get((word, due[:2]), 0) + 1
         if found != due:
-            wrong.append((word, address, kind, message, due, found))
+            wrong.append((number, word, address, kind, message, due, found))
+        if number % LISTED == 0:
+            lists.append(program.lines(b"list") == kept.lines())
     tally.check(f"{EDITS} edits are answered as a list answers them", not wrong, wrong[:3])
+    tally.check("each kind of edit was taken, and each but `clear` refused", len(words) == 5 and min(words.values()) > 3, words)
+    tally.check(f"the {len(lists)} lists in between are that list, in its order", all(lists) and len(lists) >= 10, lists)
     listed = program.lines(b"list")
-    due = [b"address,kind,message"] + [b"%d,%s," % page[:2] for page in kept.pages] + [ok(kept.pages)]
-    found = [line if line.startswith((b"ok", b"address")) else line[: line.index(b",", line.index(b",") + 1) + 1] for line in listed if line]
-    tally.check("the list after them is that list, in its order", found == due, (found[:4], due[:4]))
+    tally.check("so is the list after them", listed == kept.lines(), (listed[:4], kept.lines()[:4]))
+    plans_of_the_list(tally, folder, program, kept)
     status, rest, err = program.close()
     tally.check("the end of the input ends it with status 0", (status, rest, err) == (0, b"", b""), (status, rest, err))
+
+
+def plans_of_the_list(tally, folder, program, kept):
+    """What is planned holds the pages of the list, and the certificate shows its batches for them."""
+    for end, told in ((b"open", b""), (b"closed", b" with a closed end")):
+        answer = program.ask(b"plan,many.bin,many.cert," + end)
+        sent = subprocess.run([str(PROGRAM), "decode", "many.bin"], capture_output=True, cwd=folder, timeout=60)
+        found = sorted(sent.stdout.strip(b"\n").split(b"\n")[1:])
+        tally.check(f"a plan with the {end.decode()} end sends the pages of the list", found == sorted(kept.lines()[1:-1]), found[:3])
+        (folder / "many.csv").write_bytes(b"\n".join(kept.lines()[:-1]) + b"\n")
+        shown = subprocess.run([str(PROGRAM), "check", "many.csv", "many.cert"], capture_output=True, cwd=folder, timeout=60)
+        due = b"at least " + answer[len("batches ") :] + b" batches" + told + b"\n"
+        tally.check("its certificate shows its batches for the list", shown.stdout == due, (answer, shown))
 
 
 # The worked example `open-round` and the words of refusals.
@@ -228,6 +259,25 @@ def files_of_a_plan(tally, folder):
     program.close()
 
 
+# The frame and the codewords of eight pages at which the search reaches its limit; nine batches are the fewest.
+HARD = [(5, 5), (0, 9), (4, 9), (1, 3), (7, 31), (6, 15), (2, 31), (1, 15)]
+
+
+def hard_plans(tally, folder):
+    """A round that the search gives up at is planned with `--always`."""
+    for words in ((), ("--always",)):
+        program = OpenRound(folder, *words)
+        for place, (frame, length) in enumerate(HARD):
+            program.ask(b"add,%d,numeric,%s" % (8 * place + frame, 5 * (length - 1) * b"1"))
+        for end in (b"open", b"closed"):
+            found = program.ask(b"plan,hard.bin,hard.cert," + end)
+            holds = found == b"batches 9" if words else found.startswith(b"refused: search limit reached: at least 8 batches")
+            tally.check(f"a hard round with {words}, {end.decode()}", holds, found)
+        tally.check("it is open as before", program.ask(b"cancel,0") == b"refused: no such page", "")
+        tally.check("its pages are there", program.lines(b"list")[-1] == b"ok 8", "")
+        program.close()
+
+
 def begins_with_pages(tally, folder):
     path = folder / "pages.csv"
     path.write_bytes(HEADER + b"8,tone0,\n16,numeric,12\n")
@@ -256,6 +306,28 @@ def last_line(tally, folder):
     tally.check("a full device ends it with status 3", (done.returncode, done.stderr) == (3, b"pocsag: cannot write\n"), done)
 
 
+def worked_session(tally, folder):
+    """The session of the page is answered as the page says; so are its commands for a shell."""
+    text = PAGE.read_text().split("## A day at a small centre")[1]
+    rows = [re.match(r"\| (?:`([^`]*)`)? ?\| `([^`]*)` \|", line) for line in text.split("\n")]
+    rows = [(found[1], found[2].encode()) for found in rows if found]
+    program = OpenRound(folder)
+    found = [program.ask(line.encode()) if line else program.line() for line, _ in rows]
+    status, rest, err = program.close()
+    tally.check("the page shows a session", len(rows) > 10, rows)
+    tally.check("its lines are answered as it says", found == [due for _, due in rows], (found, rows))
+    tally.check("it has no more lines", (status, rest, err) == (0, b"", b""), (status, rest, err))
+    blocks = [re.sub(r"(?m)^    ", "", block) for block in re.findall(r"(?m)(?:^    .*\n)+", text)]
+    due = [re.findall(r"`([^`]*)`", line) for line in re.findall(r"(?m)^prints (.*)$", text)]
+    tally.check("the page shows two blocks of commands", len(blocks) == 2 and len(due) == 2, (blocks, due))
+    (folder / "bin").mkdir()
+    (folder / "bin/pocsag").symlink_to(PROGRAM)
+    path = {**os.environ, "PATH": f"{folder / 'bin'}:{os.environ['PATH']}"}
+    for block, lines in zip(blocks, due):
+        done = subprocess.run(["bash", "-c", block], capture_output=True, cwd=folder, env=path, timeout=60)
+        tally.check("commands of the page print what it says", done.stdout.decode().splitlines() == lines, done)
+
+
 def main():
     tally = Tally()
     with tempfile.TemporaryDirectory() as folder:
@@ -263,8 +335,10 @@ def main():
         words_of_answers(tally, folder)
         many_edits(tally, folder)
         files_of_a_plan(tally, folder)
+        hard_plans(tally, folder)
         begins_with_pages(tally, folder)
         last_line(tally, folder)
+        worked_session(tally, folder)
     return tally.end()
 
 

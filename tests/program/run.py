@@ -197,6 +197,78 @@ def try_limits(tally, folder):
                 tally.check(f"limit {limit} leaves nothing", emptied == [b"", b""] and done.stdout == b"", emptied)
 
 
+# Rounds at which the search reaches its default limit: the frame and the codewords of each page, and the
+# fewest batches, with either end.
+HARD = [
+    ("eight pages", [(5, 5), (0, 9), (4, 9), (1, 3), (7, 31), (6, 15), (2, 31), (1, 15)], 9),
+    ("eight more", [(0, 21), (0, 29), (2, 31), (3, 24), (6, 15), (1, 31), (5, 15), (4, 14)], 13),
+    ("ten pages", [(6, 31), (1, 24), (5, 22), (7, 27), (2, 31), (3, 9), (3, 31), (0, 22), (4, 21), (4, 15)], 16),
+]
+
+
+def hard_round(shape):
+    """A page file of one numeric page of each shape, each at an address of its frame."""
+    return HEADER + b"".join(b"%d,numeric,%s\n" % (8 * k + frame, ones(5 * (length - 1))) for k, (frame, length) in enumerate(shape))
+
+
+def try_always(tally, folder):
+    """`--always`: a round at whose plan the limit is reached is answered with one batch more than its bound."""
+    pages, tx, cert = folder / "pages.csv", folder / "tx.bin", folder / "cert.bin"
+    plan = ["plan", "pages.csv", "tx.bin", "cert.bin", "--always"]
+    below = b"pages 2\nbatches 3\nat least 2 batches\n"
+    for end, closed in (("open", b""), ("closed", b" with a closed end")):
+        pages.write_bytes(HEADER + ROUNDS["loops-apart"][0])
+        done = run([*plan, "--end", end, "--limit", "1", "--verify"], folder)
+        holds = (done.returncode, done.stdout, done.stderr) == (0, below + b"verified\n", b"")
+        tally.check(f"one batch more than the bound, {end}", holds, done)
+        holds = len(tx.read_bytes()) == 72 + 68 * 3 and cert.read_bytes()[4:9] == bytes([end == "closed", 0, 0, 0, 2])
+        tally.check(f"its files, {end}", holds, cert.read_bytes()[:20])
+        done = run(["check", "pages.csv", "cert.bin"], folder)
+        told = b"at least 2 batches" + closed + b"\n"
+        tally.check(f"its certificate, {end}", (done.returncode, done.stdout) == (0, told), done)
+        done = run(["decode", "tx.bin"], folder)
+        tally.check(f"its pages, {end}", sorted(done.stdout.splitlines()) == sorted(pages.read_bytes().splitlines()), done)
+        done = run([*plan, "--end", end, "--verify"], folder)
+        tally.check(f"the fewest at the default limit, {end}", done.stdout == b"pages 2\nbatches 3\nverified\n", done)
+        for name, shape, batches in HARD:
+            pages.write_bytes(hard_round(shape))
+            done = run([*plan[:-1], "--end", end], folder)
+            refused = done.returncode == 1 and b"search limit reached" in done.stderr and done.stdout == b""
+            tally.check(f"{name} refused without --always, {end}", refused, done)
+            done = run([*plan, "--end", end, "--verify"], folder)
+            told = b"pages %d\nbatches %d\nverified\n" % (len(shape), batches)
+            tally.check(f"{name} answered, {end}", (done.returncode, done.stdout, done.stderr) == (0, told, b""), done)
+            done = run(["check", "pages.csv", "cert.bin"], folder)
+            told = b"at least %d batches" % batches + closed + b"\n"
+            tally.check(f"{name} shown to be the fewest, {end}", (done.returncode, done.stdout) == (0, told), done)
+    pages.write_bytes(HEADER + ROUNDS["loops-apart"][0])
+    done = run(["report", "pages.csv", "--rate", "1200", "--always", "--limit", "1"], folder)
+    holds = (done.returncode, done.stdout, done.stderr) == (0, APART_REPORT + b"at least 2 batches\n", b"")
+    tally.check("report with a bound", holds, done)
+    done = run(["report", "pages.csv", "--rate", "1200", "--always"], folder)
+    tally.check("report of the fewest", (done.returncode, done.stdout) == (0, APART_REPORT), done)
+    for limit in ("0", "1000001"):
+        done = run([*plan, "--limit", limit], folder)
+        holds = done.returncode == 1 and done.stderr == b"pocsag: the limit must be 1 to 1000000\n" and done.stdout == b""
+        tally.check(f"--always with limit {limit}", holds and tx.read_bytes() == b"" and cert.read_bytes() == b"", done)
+    for name, (text, fault) in REFUSED.items():
+        pages.write_bytes(text or b"")
+        done = run(plan, folder)
+        holds = (done.returncode, done.stdout, done.stderr) == (1, b"", b"pocsag: " + fault + b"\n")
+        tally.check(f"--always refuses {name}", holds and tx.read_bytes() == b"" and cert.read_bytes() == b"", done)
+    for words in (["check", "pages.csv", "cert.bin", "--always"], ["decode", "tx.bin", "--always"], ["--always"]):
+        tally.check(f"usage {words}", run(words, folder).returncode == 2)
+    for words in (["plan", "--help"], ["report", "--help"], ["open", "--help"]):
+        tally.check(f"help {words} shows --always", b"--always" in run(words, folder).stdout)
+    # Every round of the examples, as without --always.
+    for name, (records, batches, _, _, _) in ROUNDS.items():
+        pages.write_bytes(HEADER + records)
+        done = run([*plan, "--verify"], folder)
+        lines = len(SPELLED.get(name) or records.strip(b"\n").split(b"\n"))
+        told = b"pages %d\nbatches %d\nverified\n" % (lines, batches)
+        tally.check(f"plan {name} --always", (done.returncode, done.stdout, done.stderr) == (0, told, b""), done)
+
+
 def try_refused(tally, folder):
     for name, (text, fault) in REFUSED.items():
         pages, tx, cert = folder / "pages.csv", folder / "tx.bin", folder / "cert.bin"
@@ -438,6 +510,7 @@ def main():
             try_rounds,
             try_reports,
             try_limits,
+            try_always,
             try_refused,
             try_files,
             try_check,

@@ -1,3 +1,4 @@
+pub mod Bounding
 pub mod Planning
 pub mod Readback
 pub mod Shown

@@ -1,5 +1,5 @@
 -- The lines that the program prints (this project's own).
-use Rattle.std.specs.Prelude.{ℕ, List, [], ◌∷◌, ◌++◌, codes}
+use Rattle.std.specs.Prelude.{ℕ, if◌then◌else◌, nat_lt, List, [], ◌∷◌, ◌++◌, codes}
 use Rattle.std.specs.Fmt.{decimal}
 use Rattle.pocsag_words.specs.declared.ending.End.{End}
 use Rattle.pocsag_words.specs.declared.ending.End.TheVariants.{Open, Closed}
@@ -13,3 +13,7 @@ plan_text pages batches =
 unfoldable pub bound_text : End → ℕ → List ℕ
 bound_text Open batches = codes "at least " ++ (decimal batches ++ (codes " batches" ++ (10 ∷ [])))
 bound_text Closed batches = codes "at least " ++ (decimal batches ++ (codes " batches with a closed end" ++ (10 ∷ [])))
+
+-- The third line on a plan, `at least N batches`, only where its bound is below its batches.
+unfoldable pub below_text : (batches bound : ℕ) → List ℕ
+below_text batches bound = if nat_lt bound batches then bound_text Open bound else []

@@ -1,14 +1,13 @@
-ghost use Rattle.std.specs.Prelude.{◌≡◌, ◌++◌, IfOk, OnOk, IsTrue};
+ghost use Rattle.std.specs.Prelude.{◌≡◌, IfOk, IsTrue};
 ghost use Rattle.pocsag_app.specs.Commands.{CheckedAndTold};
 ghost use Rattle.pocsag_app.specs.Faults.{IsStatus};
-ghost use Rattle.pocsag_app.specs.Lines.{bound_text};
 
 use crate::fault::Fault;
-use crate::tell::{tell, tell_fault};
+use crate::tell::{tell, tell_bound, tell_fault};
 use pocsag_check::check;
 use pocsag_pages::read_round;
 use pocsag_tree::read_certificate;
-use pocsag_words::{End, Sink, Source};
+use pocsag_words::{Sink, Source};
 use std::alloc::Global;
 
 /// `check PAGES CERT`: tells whether the certificate shows its number of batches for the page file.
@@ -51,17 +50,4 @@ fn check_files<P: Source, C: Source, O: Sink>(
     }
     tell_bound(end, batches, out)?;
     Ok(true)
-}
-
-#[tactic(auto, unfolding(crate::specs::Lines::bound_text))]
-fn tell_bound<O: Sink>(end: End, batches: u32, out: &mut O) -> Result<(), Fault>
-    ensures { O.tells → OnOk result (O.taken out.new ≡ O.taken out.old ++ bound_text end batches) }
-{
-    match end {
-        End::Open => tell(out, format_args!("at least {batches} batches\n")),
-        End::Closed => tell(
-            out,
-            format_args!("at least {batches} batches with a closed end\n"),
-        ),
-    }
 }

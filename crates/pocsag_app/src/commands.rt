@@ -1,11 +1,10 @@
-ghost use Rattle.std.specs.Prelude.{◌≡◌, ◌++◌, IfErr, OnOk};
+ghost use Rattle.std.specs.Prelude.{◌≡◌, OnOk};
 ghost use Rattle.pocsag_words.specs.declared.ending.End.TheVariants.{Open as open_end};
 ghost use Rattle.pocsag_app.specs.Commands.{IsRefused, Leaves, Planned, PlannedAndTold, Reported, ToldPlan};
 ghost use Rattle.pocsag_app.specs.Faults.{IsStatus, status_after};
-ghost use Rattle.pocsag_app.specs.Lines.{plan_text};
 
 use crate::fault::Fault;
-use crate::tell::{ended, tell};
+use crate::tell::{ended, tell, tell_plan};
 use pocsag_pages::read_round;
 use pocsag_plan::{plan, plan_stream, report};
 use pocsag_words::{End, Sink, Source};
@@ -35,14 +34,6 @@ fn plan_input<I: Source, O: Sink>(alloc: Global, input: &mut I, out: &mut O) -> 
     let round = read_round(alloc, input)?;
     let plan = plan(alloc, &round, DEFAULT_LIMIT, End::Open)?;
     tell_plan(plan.pages, plan.batches, out)
-}
-
-#[tactic(auto, unfolding(crate::specs::Lines::plan_text))]
-fn tell_plan<O: Sink>(pages: u32, batches: u32, out: &mut O) -> Result<(), Fault>
-    ensures told { O.tells → OnOk result (O.taken out.new ≡ O.taken out.old ++ plan_text pages batches) }
-    ensures lost { IfErr result (λ e. e ≡ Fault.Write) }
-{
-    tell(out, format_args!("pages {pages}\nbatches {batches}\n"))
 }
 
 /// `plan PAGES TX CERT`: writes the transmission of a page file with the fewest batches and the

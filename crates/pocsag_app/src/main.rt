@@ -1,6 +1,7 @@
 #![tactic(auto)]
 //! The program `pocsag`: reads its words, opens its files, and calls the command.
 
+mod always;
 mod checking;
 mod commands;
 mod devices;
@@ -12,10 +13,12 @@ mod obeying;
 mod opening;
 mod paths;
 mod receiving;
+mod showing;
 mod tell;
 #[cfg(test)]
 mod tests;
 mod verifying;
+mod view;
 mod words;
 
 use crate::devices::WriterSink;

@@ -1,15 +1,20 @@
+ghost use Rattle.std.specs.Prelude.{IsErrOf, map};
+ghost use Rattle.pocsag_app.specs.Paths.{HasEqual};
+
+use crate::always::{run_plan_always, run_report_always};
 use crate::checking::run_check;
 use crate::commands::{run_input, run_plan, run_report};
 use crate::devices::{ReaderSource, WriterSink};
 use crate::fault::Fault;
 use crate::files::{Outputs, open_buffered, open_source};
-use crate::opening::{run_open, run_open_pages};
+use crate::opening::{Planner, run_open, run_open_pages};
 use crate::paths::equal_paths;
 use crate::receiving::{run_decode, run_hear};
+use crate::showing::run_show;
 use crate::tell::tell_fault;
 use crate::verifying::run_verify;
-use crate::words::Order;
-use pocsag_words::{End, Sink};
+use crate::words::{Order, Search};
+use pocsag_words::Sink;
 use std::alloc::Global;
 
 /// Opens the files of an order and runs its command on them. Answers the exit status.
@@ -37,15 +42,14 @@ fn obeyed<E: Sink>(
             pages,
             tx,
             cert,
-            limit,
-            end,
+            search,
             verify,
         } => {
-            let status = plan_paths(rt, alloc, limit, end, [pages, tx, cert], &mut out, err)?;
+            let status = plan_paths(rt, alloc, search, [pages, tx, cert], &mut out, err)?;
             if status != 0 || !verify {
                 return Ok(status);
             }
-            verify_paths(rt, alloc, end, [pages, tx, cert], &mut out, err)
+            verify_paths(rt, alloc, search, [pages, tx, cert], &mut out, err)
         }
         Order::Check { pages, cert } => {
             let mut pages = open_source(rt, pages)?;
@@ -60,24 +64,16 @@ fn obeyed<E: Sink>(
             let mut tx = open_source(rt, tx)?;
             Ok(run_hear(alloc, address, &mut tx, &mut out, err))
         }
-        Order::Open { pages: None } => {
-            let mut input = ReaderSource::new(rt.stdin());
-            Ok(run_open(rt, alloc, &mut input, &mut out, err))
+        Order::Show { tx, view } => {
+            let mut tx = open_source(rt, tx)?;
+            Ok(run_show(alloc, view, &mut tx, &mut out, err))
         }
-        Order::Open { pages: Some(path) } => {
-            let mut pages = open_source(rt, path)?;
-            let mut input = ReaderSource::new(rt.stdin());
-            Ok(run_open_pages(rt, alloc, path, &mut pages, &mut input, &mut out, err))
-        }
+        Order::Open { pages, always } => open_path(rt, alloc, always, pages, &mut out, err),
         Order::Report {
             pages,
             rate,
-            limit,
-            end,
-        } => {
-            let mut pages = open_source(rt, pages)?;
-            Ok(run_report(alloc, rate, limit, end, &mut pages, &mut out, err))
-        }
+            search,
+        } => report_path(rt, alloc, rate, search, pages, &mut out, err),
     }
 }
 
@@ -85,35 +81,33 @@ fn obeyed<E: Sink>(
 fn plan_paths<O: Sink, E: Sink>(
     rt: &HostRuntime,
     alloc: Global,
-    limit: u32,
-    end: End,
+    search: Search,
     paths: [&str; 3],
     out: &mut O,
     err: &mut E,
-) -> Result<u8, Fault> {
+) -> Result<u8, Fault>
+    ensures { HasEqual (map (λ path. path.now) paths.entry) → IsErrOf result Fault.EqualPaths }
+{
     if equal_paths(&paths) {
         return Err(Fault::EqualPaths);
     }
     let [pages, tx, cert] = paths;
-    let mut source = open_source(rt, pages)?;
+    let mut pages_source = open_source(rt, pages)?;
     let mut outputs = Outputs::make(rt, pages, tx, cert)?;
-    Ok(run_plan(
-        alloc,
-        limit,
-        end,
-        &mut source,
-        &mut outputs.tx,
-        &mut outputs.cert,
-        out,
-        err,
-    ))
+    let Search { limit, end, always } = search;
+    let source = &mut pages_source;
+    let (tx, cert) = (&mut outputs.tx, &mut outputs.cert);
+    if always {
+        return Ok(run_plan_always(alloc, limit, end, source, tx, cert, out, err));
+    }
+    Ok(run_plan(alloc, limit, end, source, tx, cert, out, err))
 }
 
 // Reads back what was planned.
 fn verify_paths<O: Sink, E: Sink>(
     rt: &HostRuntime,
     alloc: Global,
-    end: End,
+    search: Search,
     paths: [&str; 3],
     out: &mut O,
     err: &mut E,
@@ -122,5 +116,42 @@ fn verify_paths<O: Sink, E: Sink>(
     let mut pages = open_source(rt, pages)?;
     let mut tx = open_source(rt, tx)?;
     let mut cert = open_buffered(rt, alloc, cert)?;
-    Ok(run_verify(alloc, end, &mut pages, &mut tx, &mut cert, out, err))
+    let Search { end, always, .. } = search;
+    Ok(run_verify(alloc, end, always, &mut pages, &mut tx, &mut cert, out, err))
+}
+
+// Keeps an open round, that of a page file where its path is given.
+fn open_path<O: Sink, E: Sink>(
+    rt: &HostRuntime,
+    alloc: Global,
+    always: bool,
+    path: Option<&str>,
+    out: &mut O,
+    err: &mut E,
+) -> Result<u8, Fault> {
+    let mut input = ReaderSource::new(rt.stdin());
+    let Some(path) = path else {
+        return Ok(run_open(rt, alloc, always, &mut input, out, err));
+    };
+    let mut pages = open_source(rt, path)?;
+    let planner = Planner { path, always };
+    Ok(run_open_pages(rt, alloc, planner, &mut pages, &mut input, out, err))
+}
+
+// Reports on the plan of a page file.
+fn report_path<O: Sink, E: Sink>(
+    rt: &HostRuntime,
+    alloc: Global,
+    rate: u32,
+    search: Search,
+    path: &str,
+    out: &mut O,
+    err: &mut E,
+) -> Result<u8, Fault> {
+    let mut pages = open_source(rt, path)?;
+    let Search { limit, end, always } = search;
+    if always {
+        return Ok(run_report_always(alloc, rate, limit, end, &mut pages, out, err));
+    }
+    Ok(run_report(alloc, rate, limit, end, &mut pages, out, err))
 }

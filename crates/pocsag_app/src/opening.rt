@@ -1,5 +1,7 @@
 //! An open round as a process: a script holds it, and each line of its input is answered by one line.
+ghost use Rattle.std.specs.Prelude.{◌≡◌, IsErrOf, map, OnErr};
 ghost use Rattle.pocsag_app.specs.Faults.{IsStatus};
+ghost use Rattle.pocsag_app.specs.Paths.{HasEqual};
 
 use crate::commands::DEFAULT_LIMIT;
 use crate::edits::{Line, line_of, record_of};
@@ -34,27 +36,39 @@ pub enum Refusal {
     Undone(Fault),
 }
 
+/// How the plans of an open round are made.
+#[derive(Clone, Copy, PartialEq, Eq, Debug)]
+pub struct Planner<'a> {
+    /// The path of the page file that the round began with, which no plan empties; an empty text is none.
+    pub path: &'a str,
+    /// Whether each plan is answered, where the limit is reached with one batch more than is shown to be
+    /// needed.
+    pub always: bool,
+}
+
 /// `open` without PAGES: answers the lines of the input, one by one, up to its end. A round of no pages is
 /// open at first. Answers the exit status.
 pub fn run_open<R: Files, I: Source, O: Sink, E: Sink>(
     rt: &R,
     alloc: Global,
+    always: bool,
     input: &mut I,
     out: &mut O,
     err: &mut E,
 ) -> u8
     ensures { IsStatus result }
 {
-    let done = answer_lines(rt, alloc, "", Book::new(alloc), input, out);
+    let planner = Planner { path: "", always };
+    let done = answer_lines(rt, alloc, planner, Book::new(alloc), input, out);
     ended(done, err)
 }
 
-/// `open PAGES`: the same, where the pages of the page file are open at first, of which the path is named
-/// so that no plan empties it.
+/// `open PAGES`: the same, where the pages of the page file are open at first, of which the planner names
+/// the path.
 pub fn run_open_pages<R: Files, P: Source, I: Source, O: Sink, E: Sink>(
     rt: &R,
     alloc: Global,
-    path: &str,
+    planner: Planner<'_>,
     pages: &mut P,
     input: &mut I,
     out: &mut O,
@@ -63,7 +77,7 @@ pub fn run_open_pages<R: Files, P: Source, I: Source, O: Sink, E: Sink>(
     ensures { IsStatus result }
 {
     let done = match book_of(alloc, pages) {
-        Ok(book) => answer_lines(rt, alloc, path, book, input, out),
+        Ok(book) => answer_lines(rt, alloc, planner, book, input, out),
         Err(fault) => Err(fault),
     };
     ended(done, err)
@@ -81,7 +95,7 @@ fn book_of<P: Source>(alloc: Global, pages: &mut P) -> Result<Book, Fault> {
 fn answer_lines<R: Files, I: Source, O: Sink>(
     rt: &R,
     alloc: Global,
-    path: &str,
+    planner: Planner<'_>,
     mut book: Book,
     input: &mut I,
     out: &mut O,
@@ -91,7 +105,7 @@ fn answer_lines<R: Files, I: Source, O: Sink>(
         match lines.read_line(input)? {
             Found::End => return Ok(()),
             Found::TooLong => refuse(Refusal::Unknown, out)?,
-            Found::Kept => answer(rt, alloc, path, &mut book, lines.line(), out)?,
+            Found::Kept => answer(rt, alloc, planner, &mut book, lines.line(), out)?,
         }
     }
     Ok(())
@@ -111,7 +125,7 @@ fn tell_pages<O: Sink>(book: &Book, out: &mut O) -> Result<(), Fault> {
 fn answer<R: Files, O: Sink>(
     rt: &R,
     alloc: Global,
-    path: &str,
+    planner: Planner<'_>,
     book: &mut Book,
     line: &[u8],
     out: &mut O,
@@ -122,10 +136,12 @@ fn answer<R: Files, O: Sink>(
         Err(_) => return refuse(Refusal::Undone(Fault::OutOfMemory), out),
     };
     match line_of(&row) {
-        Line::Plan { tx, cert, end } => match plan_book(rt, book, [path, tx, cert], end) {
-            Ok(batches) => tell(out, format_args!("batches {batches}\n")),
-            Err(fault) => refuse(Refusal::Undone(fault), out),
-        },
+        Line::Plan { tx, cert, end } => {
+            match plan_book(rt, planner.always, book, [planner.path, tx, cert], end) {
+                Ok(planned) => tell_planned(planned, out),
+                Err(fault) => refuse(Refusal::Undone(fault), out),
+            }
+        }
         Line::List => match list(alloc, book.pages(), out) {
             Ok(()) => tell_pages(book, out),
             Err(ListFault::OutOfMemory) => refuse(Refusal::Undone(Fault::OutOfMemory), out),
@@ -139,7 +155,9 @@ fn answer<R: Files, O: Sink>(
 }
 
 // Makes an edit of the round, which is as it was where it is refused.
-fn edit(alloc: Global, book: &mut Book, line: Line<'_>) -> Result<(), Refusal> {
+fn edit(alloc: Global, book: &mut Book, line: Line<'_>) -> Result<(), Refusal>
+    ensures { OnErr result (book.new ≡ book.old) }
+{
     match line {
         Line::Add {
             address,
@@ -161,7 +179,9 @@ fn add_fields(
     address: &[u8],
     kind: &[u8],
     message: &[u8],
-) -> Result<(), Refusal> {
+) -> Result<(), Refusal>
+    ensures { OnErr result (book.new ≡ book.old) }
+{
     match page_of_fields(alloc, address, kind, message) {
         Ok(page) => match book.add(page) {
             Ok(()) => Ok(()),
@@ -172,7 +192,9 @@ fn add_fields(
 }
 
 // What spells no address is that of no page. A page of an address codeword alone takes no memory.
-fn cancel_field(alloc: Global, book: &mut Book, address: &[u8]) -> Result<(), Refusal> {
+fn cancel_field(alloc: Global, book: &mut Book, address: &[u8]) -> Result<(), Refusal>
+    ensures { OnErr result (book.new ≡ book.old) }
+{
     let Ok(page) = page_of_fields(alloc, address, b"tone0", b"") else {
         return Err(Refusal::Cancel(NotThere));
     };
@@ -182,14 +204,72 @@ fn cancel_field(alloc: Global, book: &mut Book, address: &[u8]) -> Result<(), Re
     }
 }
 
-// Writes the transmission and the certificate of the round, and answers its batches. The paths are those
-// of the page file, if there is one, of the transmission and of the certificate.
-fn plan_book<R: Files>(rt: &R, book: &Book, paths: [&str; 3], end: End) -> Result<u32, Fault> {
+// The batches of a plan, and the bound that its certificate shows.
+#[derive(Clone, Copy)]
+struct Planned {
+    batches: u32,
+    bound: u32,
+}
+
+// The batches of a plan, and the bound where it is below them.
+fn tell_planned<O: Sink>(planned: Planned, out: &mut O) -> Result<(), Fault> {
+    let Planned { batches, bound } = planned;
+    if bound < batches {
+        tell(out, format_args!("batches {batches}, at least {bound}\n"))
+    } else {
+        tell(out, format_args!("batches {batches}\n"))
+    }
+}
+
+// Writes the transmission and the certificate of the round. The paths are those of the page file, if there
+// is one, of the transmission and of the certificate.
+fn plan_book<R: Files>(
+    rt: &R,
+    always: bool,
+    book: &Book,
+    paths: [&str; 3],
+    end: End,
+) -> Result<Planned, Fault>
+    ensures { HasEqual (map (λ path. path.now) paths.entry) → IsErrOf result Fault.EqualPaths }
+{
     if equal_paths(&paths) {
         return Err(Fault::EqualPaths);
     }
     let [pages, tx, cert] = paths;
     let mut outputs = Outputs::make(rt, pages, tx, cert)?;
-    let plan = book.plan_stream(&mut outputs.tx, &mut outputs.cert, DEFAULT_LIMIT, end)?;
-    Ok(plan.batches)
+    if always {
+        plan_within_one(book, &mut outputs, end)
+    } else {
+        plan_fewest(book, &mut outputs, end)
+    }
 }
+
+// Writes both files with the fewest batches.
+fn plan_fewest<R: Files>(
+    book: &Book,
+    outputs: &mut Outputs<R>,
+    end: End,
+) -> Result<Planned, Fault> {
+    let plan = book.plan_stream(&mut outputs.tx, &mut outputs.cert, DEFAULT_LIMIT, end)?;
+    Ok(Planned {
+        batches: plan.batches,
+        bound: plan.batches,
+    })
+}
+
+// The same, where the limit is reached with one batch more than the bound.
+fn plan_within_one<R: Files>(
+    book: &Book,
+    outputs: &mut Outputs<R>,
+    end: End,
+) -> Result<Planned, Fault> {
+    let (tx, cert) = (&mut outputs.tx, &mut outputs.cert);
+    let bounded = book.plan_stream_always(tx, cert, DEFAULT_LIMIT, end)?;
+    Ok(Planned {
+        batches: bounded.plan.batches,
+        bound: bounded.bound,
+    })
+}
+
+#[cfg(test)]
+mod tests;

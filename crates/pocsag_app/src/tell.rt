@@ -1,9 +1,10 @@
 ghost use Rattle.std.specs.Prelude.{◌≡◌, ℕ, List, ◌++◌, IfErr, OnOk, Some};
 ghost use Rattle.pocsag_app.specs.Faults.{IsFailure, IsStatus, status_after, status_of};
+ghost use Rattle.pocsag_app.specs.Lines.{below_text, bound_text, plan_text};
 
 use crate::fault::Fault;
 use arrayvec::ArrayString;
-use pocsag_words::{Sink, write_all};
+use pocsag_words::{End, Sink, write_all};
 use std::fmt::{Display, Write};
 
 // The longest text that is told.
@@ -43,4 +44,40 @@ pub fn ended<S: Sink>(done: Result<(), Fault>, err: &mut S) -> u8
         Ok(()) => 0,
         Err(fault) => tell_fault(err, fault),
     }
+}
+
+/// Tells the pages and the batches of a plan.
+#[tactic(auto, unfolding(crate::specs::Lines::plan_text))]
+pub fn tell_plan<O: Sink>(pages: u32, batches: u32, out: &mut O) -> Result<(), Fault>
+    ensures told { O.tells → OnOk result (O.taken out.new ≡ O.taken out.old ++ plan_text pages batches) }
+    ensures lost { IfErr result (λ e. e ≡ Fault.Write) }
+{
+    tell(out, format_args!("pages {pages}\nbatches {batches}\n"))
+}
+
+/// Tells that fewer batches do not suffice.
+#[tactic(auto, unfolding(crate::specs::Lines::bound_text))]
+pub fn tell_bound<O: Sink>(end: End, batches: u32, out: &mut O) -> Result<(), Fault>
+    ensures told { O.tells → OnOk result (O.taken out.new ≡ O.taken out.old ++ bound_text end batches) }
+    ensures lost { IfErr result (λ e. e ≡ Fault.Write) }
+{
+    match end {
+        End::Open => tell(out, format_args!("at least {batches} batches\n")),
+        End::Closed => tell(
+            out,
+            format_args!("at least {batches} batches with a closed end\n"),
+        ),
+    }
+}
+
+/// Tells the bound of a plan where it is below its batches.
+#[tactic(auto, unfolding(crate::specs::Lines::below_text, crate::specs::Lines::bound_text))]
+pub fn tell_below<O: Sink>(batches: u32, bound: u32, out: &mut O) -> Result<(), Fault>
+    ensures told { O.tells → OnOk result (O.taken out.new ≡ O.taken out.old ++ below_text batches bound) }
+    ensures lost { IfErr result (λ e. e ≡ Fault.Write) }
+{
+    if bound < batches {
+        return tell(out, format_args!("at least {bound} batches\n"));
+    }
+    Ok(())
 }

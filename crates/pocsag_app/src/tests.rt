@@ -1,3 +1,4 @@
+use crate::always::{run_plan_always, run_report_always};
 use crate::checking::run_check;
 use crate::commands::{DEFAULT_LIMIT, run_input, run_plan, run_report};
 use crate::paths::equal_paths;
@@ -70,6 +71,7 @@ fn lone_tone_through_the_commands(rt: HostRuntime) -> Result<(), Fail> {
     let status = run_verify(
         alloc,
         End::Open,
+        false,
         &mut pages,
         &mut sent,
         &mut read,
@@ -125,6 +127,7 @@ fn what_was_lost_is_not_verified(rt: HostRuntime) -> Result<(), Fail> {
     let status = run_verify(
         alloc,
         End::Open,
+        false,
         &mut pages,
         &mut sent,
         &mut read,
@@ -223,5 +226,76 @@ fn paths_are_compared_as_texts(rt: HostRuntime) -> Result<(), Fail> {
     assert!(rt; equal_paths(["a", "b", "a"].as_slice()));
     assert!(rt; !equal_paths(["a", "./a", "b"].as_slice()));
     assert!(rt; !equal_paths(["a"].as_slice()));
+    Ok(())
+}
+
+// The worked example `loops-apart`: one batch more than what a search of one node shows.
+#[test]
+fn no_round_is_refused_with_always(rt: HostRuntime) -> Result<(), Fail> {
+    let alloc = rt.alloc();
+    let mut file = Vec::new(alloc);
+    file.extend_from_slice(b"address,kind,message\n0,numeric,")?;
+    file.extend_from_slice(vec![in alloc; b'1'; 75]?.as_slice())?;
+    file.extend_from_slice(b"\n3,numeric,")?;
+    file.extend_from_slice(vec![in alloc; b'1'; 75]?.as_slice())?;
+    let below: &[u8] = b"pages 2\nbatches 3\nat least 2 batches\n";
+    let fewest: &[u8] = b"pages 2\nbatches 3\n";
+    let head: &[u8] =
+        b"pages 2\ncodewords 32\nin_order 3\nbatches 3\nidles 16\nbits 2208\nairtime_ms 1840\n";
+    for (limit, told, bound) in [(1, below, 2), (3, fewest, 3)] {
+        let mut pages = MemorySource::new(file.as_slice(), 4, 1000);
+        let mut tx = MemorySink::<300>::new(9, 1000);
+        let mut cert = MemorySink::<100>::new(3, 1000);
+        let mut out = MemorySink::<200>::new(1, 1000);
+        let mut err = MemorySink::<100>::new(1, 1000);
+        let status = run_plan_always(
+            alloc,
+            limit,
+            End::Open,
+            &mut pages,
+            &mut tx,
+            &mut cert,
+            &mut out,
+            &mut err,
+        );
+        assert_eq!(rt; status, 0);
+        assert_eq!(rt; out.bytes(), told);
+        assert_eq!(rt; tx.bytes().len(), 72 + 3 * 68);
+        assert_eq!(rt; cert.bytes().get(8).copied(), Some(bound));
+
+        // With `--always` alone may the certificate be for one batch less than those that were sent.
+        for (always, ended) in [(false, u8::from(bound == 2)), (true, 0)] {
+            let mut pages = MemorySource::new(file.as_slice(), 4, 1000);
+            let mut sent = MemorySource::new(tx.bytes(), 4, 1000);
+            let mut read = MemorySource::new(cert.bytes(), 4, 1000);
+            let mut out = MemorySink::<200>::new(1, 1000);
+            let status = run_verify(
+                alloc,
+                End::Open,
+                always,
+                &mut pages,
+                &mut sent,
+                &mut read,
+                &mut out,
+                &mut err,
+            );
+            assert_eq!(rt; status, ended);
+        }
+
+        let mut pages = MemorySource::new(file.as_slice(), 4, 1000);
+        let mut out = MemorySink::<200>::new(1, 1000);
+        let status = run_report_always(
+            alloc,
+            1200,
+            limit,
+            End::Open,
+            &mut pages,
+            &mut out,
+            &mut err,
+        );
+        assert_eq!(rt; status, 0);
+        assert!(rt; out.bytes().starts_with(head));
+        assert_eq!(rt; out.bytes().ends_with(b"at least 2 batches\n"), bound == 2);
+    }
     Ok(())
 }

@@ -13,11 +13,12 @@ use pocsag_words::{End, Sink, Source};
 use std::alloc::Global;
 
 /// `--verify`: reads a transmission and a certificate back, and tells `verified` where the one holds the
-/// pages of the page file and the other shows its number of batches for them and the end. Answers the
-/// exit status.
+/// pages of the page file and the other shows its number of batches for them and the end, or with
+/// `--always` that number or one less. Answers the exit status.
 pub fn run_verify<P: Source, T: Source, C: Source, O: Sink, E: Sink>(
     alloc: Global,
     end: End,
+    always: bool,
     pages: &mut P,
     tx: &mut T,
     cert: &mut C,
@@ -27,13 +28,14 @@ pub fn run_verify<P: Source, T: Source, C: Source, O: Sink, E: Sink>(
     ensures verified { P.tells → T.tells → C.tells → result ≡ 0 → Verified (P.held pages.old) end (T.held tx.old) (C.held cert.old) }
     ensures status { IsStatus result }
 {
-    let done = verify_files(alloc, end, pages, tx, cert, out);
+    let done = verify_files(alloc, end, always, pages, tx, cert, out);
     ended(done, err)
 }
 
 fn verify_files<P: Source, T: Source, C: Source, O: Sink>(
     alloc: Global,
     end: End,
+    always: bool,
     pages: &mut P,
     tx: &mut T,
     cert: &mut C,
@@ -52,7 +54,11 @@ fn verify_files<P: Source, T: Source, C: Source, O: Sink>(
     if !is_end(certificate.end, end) {
         return Err(Fault::NotTheBound);
     }
-    if certificate.batches as usize != batches_of(bytes.as_slice()) {
+    if !is_bound(
+        certificate.batches as usize,
+        batches_of(bytes.as_slice()),
+        always,
+    ) {
         return Err(Fault::NotTheBound);
     }
     if !check(&round, certificate.batches, &certificate.tree, end) {
@@ -68,6 +74,11 @@ fn is_end(one: End, other: End) -> bool
         End::Open => matches!(other, End::Open),
         End::Closed => matches!(other, End::Closed),
     }
+}
+
+// Whether a certificate for the bound is due beside a transmission of so many batches.
+fn is_bound(bound: usize, batches: usize, always: bool) -> bool {
+    bound == batches || always && bound == batches.saturating_sub(1)
 }
 
 // How many whole batches follow the leading bytes AA.

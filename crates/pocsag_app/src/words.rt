@@ -1,3 +1,4 @@
+use crate::view::View;
 use clap::error::ErrorKind;
 use clap::{Arg, ArgAction, ArgMatches, Command, Error, value_parser};
 use pocsag_words::End;
@@ -8,13 +9,12 @@ use std::alloc::{AllocError, Global};
 pub enum Order<'a> {
     /// No words: a page file from standard input.
     Input,
-    /// `plan PAGES TX CERT`: the paths, the node limit, the end, and whether the files are read back.
+    /// `plan PAGES TX CERT`: the paths, how it is searched, and whether the files are read back.
     Plan {
         pages: &'a str,
         tx: &'a str,
         cert: &'a str,
-        limit: u32,
-        end: End,
+        search: Search,
         verify: bool,
     },
     /// `check PAGES CERT`: the paths of the page file and of the certificate.
@@ -31,17 +31,31 @@ pub enum Order<'a> {
         address: u32,
         tx: &'a str,
     },
-    /// `open`, or `open PAGES`: an open round, and the path of the page file that it begins with.
+    /// `show TX`: the path of the transmission, and how it is shown.
+    Show {
+        tx: &'a str,
+        view: View,
+    },
+    /// `open`, or `open PAGES`: an open round, the path of the page file that it begins with, and whether
+    /// each plan of it is answered.
     Open {
         pages: Option<&'a str>,
+        always: bool,
     },
-    /// `report PAGES`: the path of the page file, the rate, the node limit and the end.
+    /// `report PAGES`: the path of the page file, the rate, and how the plan is searched.
     Report {
         pages: &'a str,
         rate: u32,
-        limit: u32,
-        end: End,
+        search: Search,
     },
+}
+
+/// How a plan is searched: the node limit, the end, and whether each round is answered.
+#[derive(Clone, Copy, PartialEq, Eq, Debug)]
+pub struct Search {
+    pub limit: u32,
+    pub end: End,
+    pub always: bool,
 }
 
 // The commands.
@@ -52,6 +66,8 @@ const CHECK: &str = "check";
 const DECODE: &str = "decode";
 
 const HEAR: &str = "hear";
+
+const SHOW: &str = "show";
 
 const REPORT: &str = "report";
 
@@ -74,6 +90,12 @@ const END: &str = "end";
 
 const VERIFY: &str = "verify";
 
+const ALWAYS: &str = "always";
+
+const SVG: &str = "svg";
+
+const LIST: &str = "list";
+
 const OPEN: &str = "open";
 
 const CLOSED: &str = "closed";
@@ -93,6 +115,7 @@ Page files are CSV with the header address,kind,message. Kinds of pages:
   alpha                    1 to 4000 characters of codes 1 to 127
 Limits: 1 to 20000 pages, one to an address, addresses 0 to 2097151 (sixteen are
 reserved), page files and transmissions of at most 268435456 bytes.
+The commands plan, report and open take --always: then no search stops at its limit.
 Exit status: 0 done, 1 refused or not shown, 2 usage, 3 a file or memory.
 
 Example:
@@ -101,10 +124,13 @@ Example:
 
 const PLAN_MANUAL: &str = "\
 The page file is CSV with the header address,kind,message. TX and CERT are made, or
-emptied once the page file could be opened.
+emptied once the page file could be opened. Where the search reaches its limit the round
+is refused. With --always every round is answered: nearly always with the fewest batches,
+and else with one more than the certificate shows to be needed, which a third line tells,
+'at least N batches'.
 
 Example:
-  pocsag plan pages.csv tx.bin cert.bin --end closed --verify";
+  pocsag plan pages.csv tx.bin cert.bin --end closed --always --verify";
 
 const OPEN_MANUAL: &str = "\
 Each line of standard input is an edit, and is answered at once by one line:
@@ -114,11 +140,23 @@ Each line of standard input is an edit, and is answered at once by one line:
   plan,TX,CERT[,END]         writes both files as the command plan does
   clear                      takes all pages out
 A line is a CSV record of at most 65536 bytes. The answer is 'ok N' with the number of
-pages, 'batches B' after plan, or 'refused: ' and why: the round is then as it was.
+pages, 'batches B' after plan, or 'refused: ' and why: the round is then as it was. With
+--always no plan is refused at the limit; where the batches may be one more than the
+fewest, its answer is 'batches B, at least N'.
 The end of the input ends the program.
 
 Example:
   printf 'add,8,tone0,\\nplan,tx.bin,cert.bin\\n' | pocsag open";
+
+const SHOW_MANUAL: &str = "\
+After a line of totals there is a line for each batch, with its number and a letter for
+each codeword, in eight frames of two: a capital letter for the address codeword of a
+page, the same letter small for its message codewords, the letters in turn from page to
+page; a full stop for an idle.
+
+Example:
+  pocsag show tx.bin
+  pocsag show tx.bin --svg > tx.svg";
 
 const PAGES_HELP: &str = "The page file, CSV with the header address,kind,message";
 
@@ -156,6 +194,15 @@ fn end_option<'a>(alloc: Global) -> Arg<'a> {
     .default_value(OPEN)
 }
 
+fn always_flag<'a>(alloc: Global) -> Arg<'a> {
+    Arg::new(alloc, ALWAYS)
+        .long(ALWAYS)
+        .action(ArgAction::SetTrue)
+        .help(
+            "Answers every round, where the limit is reached with one batch more than is shown to be needed",
+        )
+}
+
 fn plan_command<'a>(alloc: Global) -> Result<Command<'a>, AllocError> {
     let verify = Arg::new(alloc, VERIFY)
         .long(VERIFY)
@@ -171,6 +218,7 @@ fn plan_command<'a>(alloc: Global) -> Result<Command<'a>, AllocError> {
         .arg(positional(alloc, CERT, CERT_HELP))?
         .arg(limit_option(alloc))?
         .arg(end_option(alloc))?
+        .arg(always_flag(alloc))?
         .arg(verify)
 }
 
@@ -201,11 +249,30 @@ fn hear_command<'a>(alloc: Global) -> Result<Command<'a>, AllocError> {
         .arg(positional(alloc, TX, TX_HELP))
 }
 
+fn show_command<'a>(alloc: Global) -> Result<Command<'a>, AllocError> {
+    let svg = Arg::new(alloc, SVG)
+        .long(SVG)
+        .action(ArgAction::SetTrue)
+        .help("Draws it as an SVG picture");
+    let list = Arg::new(alloc, LIST)
+        .long(LIST)
+        .action(ArgAction::SetTrue)
+        .conflicts_with(SVG)?
+        .help("Lists where each page stands, as CSV");
+    Command::new(alloc, SHOW)
+        .about("Shows what a transmission looks like, codeword by codeword")
+        .after_help(SHOW_MANUAL)
+        .arg(positional(alloc, TX, TX_HELP))?
+        .arg(svg)?
+        .arg(list)
+}
+
 fn open_command<'a>(alloc: Global) -> Result<Command<'a>, AllocError> {
     Command::new(alloc, ROUND)
         .about("Keeps an open round, which is edited and planned by the lines of standard input")
         .after_help(OPEN_MANUAL)
-        .arg(Arg::new(alloc, PAGES).help("The page file that the round begins with"))
+        .arg(Arg::new(alloc, PAGES).help("The page file that the round begins with"))?
+        .arg(always_flag(alloc))
 }
 
 fn report_command<'a>(alloc: Global) -> Result<Command<'a>, AllocError> {
@@ -217,7 +284,8 @@ fn report_command<'a>(alloc: Global) -> Result<Command<'a>, AllocError> {
         .arg(positional(alloc, PAGES, PAGES_HELP))?
         .arg(rate)?
         .arg(limit_option(alloc))?
-        .arg(end_option(alloc))
+        .arg(end_option(alloc))?
+        .arg(always_flag(alloc))
 }
 
 fn command<'a>(alloc: Global) -> Result<Command<'a>, AllocError> {
@@ -230,6 +298,7 @@ fn command<'a>(alloc: Global) -> Result<Command<'a>, AllocError> {
         .subcommand(check_command(alloc)?)?
         .subcommand(decode_command(alloc)?)?
         .subcommand(hear_command(alloc)?)?
+        .subcommand(show_command(alloc)?)?
         .subcommand(open_command(alloc)?)?
         .subcommand(report_command(alloc)?)
 }
@@ -242,13 +311,20 @@ fn end_of(found: &ArgMatches<'_>) -> Option<End> {
     }
 }
 
+fn search_of(found: &ArgMatches<'_>) -> Option<Search> {
+    Some(Search {
+        limit: found.get_one::<u32>(LIMIT)?,
+        end: end_of(found)?,
+        always: found.get_flag(ALWAYS),
+    })
+}
+
 fn plan_order<'a>(found: &ArgMatches<'a>) -> Option<Order<'a>> {
     Some(Order::Plan {
         pages: found.get_str(PAGES)?,
         tx: found.get_str(TX)?,
         cert: found.get_str(CERT)?,
-        limit: found.get_one::<u32>(LIMIT)?,
-        end: end_of(found)?,
+        search: search_of(found)?,
         verify: found.get_flag(VERIFY),
     })
 }
@@ -267,12 +343,25 @@ fn hear_order<'a>(found: &ArgMatches<'a>) -> Option<Order<'a>> {
     })
 }
 
+fn show_order<'a>(found: &ArgMatches<'a>) -> Option<Order<'a>> {
+    let view = if found.get_flag(SVG) {
+        View::Drawing
+    } else if found.get_flag(LIST) {
+        View::Places
+    } else {
+        View::Grid
+    };
+    Some(Order::Show {
+        tx: found.get_str(TX)?,
+        view,
+    })
+}
+
 fn report_order<'a>(found: &ArgMatches<'a>) -> Option<Order<'a>> {
     Some(Order::Report {
         pages: found.get_str(PAGES)?,
         rate: found.get_one::<u32>(RATE)?,
-        limit: found.get_one::<u32>(LIMIT)?,
-        end: end_of(found)?,
+        search: search_of(found)?,
     })
 }
 
@@ -288,8 +377,10 @@ fn order_from<'a>(matches: &ArgMatches<'a>) -> Option<Order<'a>> {
             tx: found.get_str(TX)?,
         }),
         HEAR => hear_order(found),
+        SHOW => show_order(found),
         ROUND => Some(Order::Open {
             pages: found.get_str(PAGES),
+            always: found.get_flag(ALWAYS),
         }),
         REPORT => report_order(found),
         _ => None,

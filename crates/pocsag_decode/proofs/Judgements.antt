@@ -319,7 +319,7 @@ unsynced_synced (w ∷ T) i j r at =
           rw (ne_eqb _ _ n, ne_eqb _ _ m) (ap (λ (l : List ℕ). w ∷ l) (unsynced_synced T (i + 1) (j + 1) (omega arith) (omega arith)))
     ]
 
-codewords_are : (X T : List ℕ) → Sent X T → codewords_of X ≡ T
+pub codewords_are : (X T : List ℕ) → Sent X T → codewords_of X ≡ T
 codewords_are X T s =
     let after : after_preamble X ≡ body_bytes T = after_is X s.preamble (body_bytes T) (record { whole = s.bytes; other = body_begins T }) in
     ap (λ (Y : List ℕ). unsynced 0 (words_of Y)) after

@@ -19,6 +19,6 @@ pub use laws::{
     a_fault_there_stays, faults_are_one, no_fault_is_a_reading, readings_of_bytes_are_one,
     standing_is_without_fault,
 };
-pub use listing::list;
+pub use listing::{kind_of_page, list, message_of};
 pub use state::Decoder;
 pub use whole::decode;

@@ -49,8 +49,9 @@ fn hex_text(alloc: Global, items: &[u32]) -> Result<Vec<u8>, OutOfMemory>
     Ok(text)
 }
 
+/// The kind of a page with this function, 0 to 3, and these items, as the listing spells it.
 #[tactic(auto, unfolding(crate::specs::Listing::kind_field))]
-fn kind_of_page(function: u8, items: &[u32]) -> &'static [u8]
+pub fn kind_of_page(function: u8, items: &[u32]) -> &'static [u8]
     requires { function < 4 }
     ensures { result.now ≡ kind_field function items.now }
 {
@@ -70,8 +71,10 @@ fn kind_of_page(function: u8, items: &[u32]) -> &'static [u8]
     }
 }
 
+/// The message of a page with this function and these items, each below 1,048,576, as the listing
+/// spells it.
 #[tactic(auto, unfolding(crate::specs::Listing::message_field))]
-fn message_of(alloc: Global, function: u8, items: &[u32]) -> Result<Vec<u8>, OutOfMemory>
+pub fn message_of(alloc: Global, function: u8, items: &[u32]) -> Result<Vec<u8>, OutOfMemory>
     requires { All (λ item. item < 2 ^ 20) items.now }
     ensures { IfOk result (λ v. v.items ≡ message_field function items.now) }
 {

@@ -1,0 +1,10 @@
+/// How a transmission is shown.
+#[derive(Clone, Copy, PartialEq, Eq, Debug)]
+pub enum View {
+    /// As text, with a letter for each codeword.
+    Grid,
+    /// As a listing of where each page stands.
+    Places,
+    /// As a picture.
+    Drawing,
+}

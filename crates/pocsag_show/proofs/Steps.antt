@@ -1,0 +1,101 @@
+-- A grid that takes word by word.
+use Rattle.std.proofs.Common.{◌≡◌, ◌≢◌, ℕ, ◌+◌, ◌%◌, ◌<◌, List, [], ◌∷◌, ◌++◌, length, map, slice_index, All, refl, ap, ap₂, sym, subst, ◌∙◌, inl, inr, arith, append_assoc}
+use Rattle.std.specs.Int.{from_be_bytes, w32}
+use Rattle.std.proofs.lemmas.Bool.{cases_eq, eq-eqb, ne_eqb}
+use Rattle.std.proofs.lemmas.List.{append-nil, length-append, map-append}
+use Rattle.std.proofs.lemmas.List.Elements.{All-head, All-tail}
+use Rattle.pocsag_words.specs.Codeword.{IsCodeword}
+use Rattle.pocsag_words.specs.Kinds.{kind_of}
+use Rattle.pocsag_words.specs.declared.codeword.Kind.{Kind}
+use Rattle.pocsag_pages.specs.Bytes.{unsynced, words_of}
+use Rattle.pocsag_decode.proofs.WordByWord.{unsynced_more}
+use Rattle.pocsag_show.specs.declared.grid.Grid.{Grid}
+use Rattle.pocsag_show.specs.Grid.{idles_in, is_idle, pages_in}
+use Rattle.pocsag_show.specs.Taking.{IsGridOf, IsUnderWay, Took, kinds_from, letters_from}
+use Rattle.pocsag_show.proofs.Letters.{count-append, index-letters, length-letters, letters-append}
+
+-- the first word of four bytes and more
+first_word : (front back : List ℕ) → length front ≡ 4 → words_of (front ++ back) ≡ from_be_bytes w32 front ∷ words_of back
+first_word [] back e = absurd (omega arith)
+first_word (a ∷ []) back e = absurd (omega arith)
+first_word (a ∷ b ∷ []) back e = absurd (omega arith)
+first_word (a ∷ b ∷ c ∷ []) back e = absurd (omega arith)
+first_word (a ∷ b ∷ c ∷ d ∷ []) back e = refl
+first_word (a ∷ b ∷ c ∷ d ∷ x ∷ front) back e = absurd (omega arith)
+
+no_word : (Y : List ℕ) → length Y < 4 → words_of Y ≡ []
+no_word [] e = refl
+no_word (a ∷ []) e = refl
+no_word (a ∷ b ∷ []) e = refl
+no_word (a ∷ b ∷ c ∷ []) e = refl
+no_word (a ∷ b ∷ c ∷ d ∷ Y) e = absurd (omega arith)
+
+module _ (place number : ℕ) (front back Y : List ℕ) (four : length front ≡ 4) (split : front ++ back ≡ Y) (is : number ≡ from_be_bytes w32 front) where
+  words_are : unsynced place (words_of Y) ≡ unsynced place (number ∷ []) ++ unsynced (place + 1) (words_of back)
+  words_are =
+      ap (λ (l : List ℕ). unsynced place (words_of l)) (sym split)
+      ∙ (ap (unsynced place) (first_word front back four ∙ ap (λ (n : ℕ). n ∷ words_of back) (sym is))
+      ∙ unsynced_more place (number ∷ []) (words_of back))
+
+  kinds_are : kinds_from place Y ≡ map kind_of (unsynced place (number ∷ [])) ++ kinds_from (place + 1) back
+  kinds_are = ap (map kind_of) words_are ∙ map-append kind_of (unsynced place (number ∷ [])) (unsynced (place + 1) (words_of back))
+
+  pub next_codeword : place % 17 ≢ 0 → All IsCodeword (unsynced place (words_of Y)) → IsCodeword number
+  next_codeword n are =
+      let here : unsynced place (number ∷ []) ≡ number ∷ [] = rw (ne_eqb _ _ n) refl in
+      All-head IsCodeword number (unsynced (place + 1) (words_of back)) (subst (All IsCodeword) (words_are ∙ ap (λ (l : List ℕ). l ++ unsynced (place + 1) (words_of back)) here) are)
+
+  rest_codewords : All IsCodeword (unsynced place (words_of Y)) → All IsCodeword (unsynced (place + 1) (words_of back))
+  rest_codewords are =
+      let both : All IsCodeword (unsynced place (number ∷ []) ++ unsynced (place + 1) (words_of back)) = subst (All IsCodeword) words_are are in
+      elim (cases_eq (place % 17) 0) [
+        | inl e ↦
+            let none : unsynced place (number ∷ []) ≡ [] = rw (eq-eqb _ _ e) refl in
+            subst (All IsCodeword) (ap (λ (l : List ℕ). l ++ unsynced (place + 1) (words_of back)) none) both
+        | inr n ↦
+            let here : unsynced place (number ∷ []) ≡ number ∷ [] = rw (ne_eqb _ _ n) refl in
+            All-tail IsCodeword number (unsynced (place + 1) (words_of back)) (subst (All IsCodeword) (ap (λ (l : List ℕ). l ++ unsynced (place + 1) (words_of back)) here) both)
+      ]
+
+  pub next_step : (before after : Grid) (whole : List ℕ) → IsUnderWay before place Y whole → Took before after (map kind_of (unsynced place (number ∷ []))) → IsUnderWay after (place + 1) back whole
+  next_step before after whole u t =
+      let ks = map kind_of (unsynced place (number ∷ [])) in
+      let ls = kinds_from (place + 1) back in
+      let counted = count-append is_idle ks ls in
+      let ui = u.idles in
+      let ti = t.idles in
+      let ki = ap idles_in kinds_are in
+      let size = u.size in
+      let cut = length-append front back in
+      let whole_length = ap length split in
+      record {
+        letters =
+            ap₂ (λ (x : List ℕ) (n : ℕ). x ++ letters_from n ls) t.letters t.pages
+            ∙ (append_assoc before.letters.items (letters_from before.pages ks) (letters_from (before.pages + pages_in ks) ls)
+            ∙ (ap (λ (l : List ℕ). before.letters.items ++ l) (sym (letters-append before.pages ks ls) ∙ ap (letters_from before.pages) (sym kinds_are)) ∙ u.letters));
+        idles = omega arith;
+        codewords = rest_codewords u.codewords;
+        size = omega arith;
+      }
+
+-- no bytes were taken, and then all of them
+pub at_start : (grid : Grid) (Y : List ℕ) → grid.letters.items ≡ [] → grid.pages ≡ 0 → grid.idles ≡ 0 → All IsCodeword (unsynced 0 (words_of Y)) → IsUnderWay grid 0 Y Y
+at_start grid Y none pages idles are = record {
+  letters = ap₂ (λ (x : List ℕ) (n : ℕ). x ++ letters_from n (kinds_from 0 Y)) none pages;
+  idles = omega arith;
+  codewords = are;
+  size = omega arith;
+}
+
+pub at_end : (grid : Grid) (place : ℕ) (left whole : List ℕ) → length left < 4 → IsUnderWay grid place left whole → IsGridOf (kinds_from 0 whole) grid
+at_end grid place left whole few u =
+    let none : kinds_from place left ≡ [] = ap (λ (l : List ℕ). map kind_of (unsynced place l)) (no_word left few) in
+    let letters : grid.letters.items ≡ letters_from 0 (kinds_from 0 whole) =
+    sym (append-nil grid.letters.items) ∙ (ap (λ (l : List Kind). grid.letters.items ++ letters_from grid.pages l) (sym none) ∙ u.letters) in
+    let nil = ap idles_in none in
+    let ui = u.idles in
+    record {
+      count = ap length letters ∙ length-letters 0 (kinds_from 0 whole);
+      each = λ i small. ap (λ (l : List ℕ). slice_index l i) letters ∙ index-letters (kinds_from 0 whole) i small;
+      idles = omega arith;
+    }

@@ -1,0 +1,6 @@
+pub mod Grid
+pub mod Picture
+pub mod Judged
+pub mod Places
+pub mod Showing
+pub mod Taking

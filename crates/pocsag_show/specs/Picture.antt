@@ -1,0 +1,70 @@
+-- The text that shows a transmission: a line of totals, a line with the numbers of the frames, and a
+-- line for each batch (this project's own).
+use Rattle.std.specs.Prelude.{ℕ, ◌+◌, ◌-◌, ◌*◌, ◌/◌, List, [], ◌∷◌, ◌++◌, length, replicate, codes}
+use Rattle.std.specs.List.{flat_map, range_with_len}
+use Rattle.std.specs.Fmt.{decimal}
+use Rattle.pocsag_words.specs.declared.codeword.Kind.{Kind}
+use Rattle.pocsag_pages.specs.declared.page.Page.{Page}
+use Rattle.pocsag_show.specs.Grid.{idles_in, letter_at}
+
+-- How many batches the codewords fill, sixteen to a batch.
+abbrev pub batches_in : List Kind → ℕ
+batches_in ks = length ks / 16
+
+-- So many of the codewords of the batches in per cent, to the nearest whole one, a half upwards.
+unfoldable pub share : (idles batches : ℕ) → ℕ
+share idles batches = (100 * idles + 8 * batches) / (16 * batches)
+
+-- How long a preamble of 576 bits and batches of 544 bits (rules of Annex 1) last at a rate in bits a
+-- second: the least whole number of milliseconds.
+unfoldable pub airtime : (batches rate : ℕ) → ℕ
+airtime batches rate = (1000 * (576 + 544 * batches) + (rate - 1)) / rate
+
+unfoldable pub airtime_part : (batches rate : ℕ) → List ℕ
+airtime_part batches rate = decimal (airtime batches rate) ++ (codes " ms at " ++ (decimal rate ++ codes " bit/s"))
+
+-- The line of totals.
+unfoldable pub counts_part : (batches codewords : ℕ) → List ℕ
+counts_part batches codewords = codes "batches " ++ (decimal batches ++ (codes ", codewords " ++ decimal codewords))
+
+unfoldable pub idles_part : (batches idles : ℕ) → List ℕ
+idles_part batches idles = codes ", idles " ++ (decimal idles ++ (codes " (" ++ (decimal (share idles batches) ++ codes "%)")))
+
+unfoldable pub airtimes_part : ℕ → List ℕ
+airtimes_part batches = airtime_part batches 512 ++ (codes ", " ++ (airtime_part batches 1200 ++ (codes ", " ++ airtime_part batches 2400)))
+
+unfoldable pub totals_line : (batches codewords idles : ℕ) → List ℕ
+totals_line batches codewords idles =
+    counts_part batches codewords ++ (idles_part batches idles ++ (codes ", airtime " ++ (airtimes_part batches ++ (10 ∷ []))))
+
+-- The frames from 0 to 7 by their numbers, two cells wide, each with a space before it.
+abbrev pub head_line : List ℕ
+head_line = codes "       0  1  2  3  4  5  6  7" ++ 10 ∷ []
+
+-- A number at the right of three columns, and spaces up to the fifth.
+unfoldable pub number_column : ℕ → List ℕ
+number_column n =
+    let digits = length (decimal n) in
+    replicate (3 - digits) 32 ++ (decimal n ++ replicate (2 - (digits - 3)) 32)
+
+-- The two cells of a frame of a batch, both counted from 0, with a space before them; the letters by
+-- their indices are given.
+unfoldable pub frame_cells : (ℕ → ℕ) → (batch frame : ℕ) → List ℕ
+frame_cells letter batch frame = 32 ∷ letter (16 * batch + 2 * frame) ∷ letter (16 * batch + 2 * frame + 1) ∷ []
+
+-- The line of a batch: its number, counted from 1, and its eight frames.
+unfoldable pub batch_line : (ℕ → ℕ) → ℕ → List ℕ
+batch_line letter batch = number_column (batch + 1) ++ (flat_map (frame_cells letter batch) (range_with_len 0 8) ++ (10 ∷ []))
+
+unfoldable pub batch_lines : (ℕ → ℕ) → ℕ → List ℕ
+batch_lines letter batches = flat_map (batch_line letter) (range_with_len 0 batches)
+
+-- The text of codewords that fill batches.
+unfoldable pub picture : List Kind → List ℕ
+picture ks =
+    totals_line (batches_in ks) (length ks - idles_in ks) (idles_in ks)
+    ++ (head_line ++ batch_lines (letter_at ks) (batches_in ks))
+
+-- The same of codewords and the pages that they read as.
+abbrev pub grid_text : List Kind → List Page → List ℕ
+grid_text ks pages = picture ks

@@ -1,0 +1,113 @@
+ghost use Rattle.std.specs.Prelude.{◌≡◌, ℕ, ◌+◌, ◌<◌, ◌^◌, ◌∷◌, ◌++◌, [], List, All, IfOk, OnOk, length, map, string_bytes};
+ghost use Rattle.std.specs.Fmt.{decimal};
+ghost use Rattle.csv.specs.Writing.{row_text, default_writer};
+ghost use Rattle.pocsag_pages.specs.Listable.{IsListable};
+ghost use Rattle.pocsag_decode.specs.Lines.{IsReady, text_in};
+ghost use Rattle.pocsag_show.specs.Judged.{IsJudged};
+ghost use Rattle.pocsag_show.specs.Places.{place_header, place_record, place_rows};
+ghost use Rattle.pocsag_show.specs.Showing.{IsTextOf};
+ghost use Rattle.pocsag_show.specs.Places.{place_listing};
+
+use crate::judged::Judged;
+use crate::starts::capitals;
+use csv::{ByteRecord, Writer};
+use pocsag_decode::{kind_of_page, message_of};
+use pocsag_pages::Page;
+use pocsag_words::OutOfMemory;
+use std::alloc::Global;
+
+// Writes one record.
+fn put_record(
+    alloc: Global,
+    writer: &mut Writer<Vec<u8>>,
+    fields: &[&[u8]; 7],
+) -> Result<(), OutOfMemory>
+    requires { IsReady writer.old }
+    ensures ready { OnOk result (IsReady writer.new) }
+    ensures text { OnOk result (text_in writer.new ≡ text_in writer.old ++ row_text default_writer (map (λ field. field.now) fields.now)) }
+{
+    let Ok(row) = ByteRecord::from_fields(alloc, fields) else {
+        return Err(OutOfMemory);
+    };
+    match writer.write_byte_record(&row) {
+        Ok(()) => Ok(()),
+        Err(_) => Err(OutOfMemory),
+    }
+}
+
+fn decimal(alloc: Global, number: usize) -> Result<String, OutOfMemory>
+    ensures { IfOk result (λ text. string_bytes text ≡ decimal number) }
+{
+    match format!(in alloc; "{number}") {
+        Ok(text) => Ok(text),
+        Err(_) => Err(OutOfMemory),
+    }
+}
+
+// Writes the record of a page that begins at an index.
+fn put_place(
+    alloc: Global,
+    writer: &mut Writer<Vec<u8>>,
+    start: usize,
+    page: &Page,
+) -> Result<(), OutOfMemory>
+    requires ready { IsReady writer.old }
+    requires listable { IsListable page.now }
+    ensures ready { OnOk result (IsReady writer.new) }
+    ensures text { OnOk result (text_in writer.new ≡ text_in writer.old ++ row_text default_writer (place_record start page.now)) }
+{
+    let items = page.payload.as_slice();
+    let batch = decimal(alloc, start / 16 + 1)?;
+    let frame = decimal(alloc, start % 16 / 2)?;
+    let slot = decimal(alloc, start % 16)?;
+    let codewords = decimal(alloc, 1 + items.len())?;
+    let address = decimal(alloc, page.address as usize)?;
+    let message = message_of(alloc, page.function, items)?;
+    let fields = [
+        batch.as_bytes(),
+        frame.as_bytes(),
+        slot.as_bytes(),
+        codewords.as_bytes(),
+        address.as_bytes(),
+        kind_of_page(page.function, items),
+        message.as_slice(),
+    ];
+    put_record(alloc, writer, &fields)
+}
+
+// The listing of pages that begin at these indices.
+fn rows_of(alloc: Global, starts: &[usize], pages: &[Page]) -> Result<Vec<u8>, OutOfMemory>
+    requires { All IsListable pages.now }
+    ensures { IfOk result (λ v. v.items ≡ row_text default_writer place_header ++ place_rows starts.now pages.now) }
+{
+    let mut writer = Writer::from_writer(Vec::new(alloc));
+    put_record(
+        alloc,
+        &mut writer,
+        &[
+            b"batch",
+            b"frame",
+            b"slot",
+            b"codewords",
+            b"address",
+            b"kind",
+            b"message",
+        ],
+    )?;
+    for index in 0..starts.len().min(pages.len()) {
+        put_place(alloc, &mut writer, starts[index], &pages[index])?;
+    }
+    match writer.into_inner() {
+        Ok(text) => Ok(text),
+        Err(_) => Err(OutOfMemory),
+    }
+}
+
+/// The listing of a transmission that was judged.
+pub(crate) fn listing_of(alloc: Global, judged: &Judged) -> Result<Vec<u8>, OutOfMemory>
+    requires { All IsListable judged.now.pages.items }
+    ensures { (X : List ℕ) → IsJudged X judged.now → IfOk result (λ v. IsTextOf place_listing X v.items) }
+{
+    let starts = capitals(alloc, judged.grid.letters.as_slice())?;
+    rows_of(alloc, starts.as_slice(), judged.pages.as_slice())
+}

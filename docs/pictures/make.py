@@ -1,0 +1,132 @@
+#!/usr/bin/env python3
+"""Makes the pictures of this folder by the compiled program, from examples/round.csv.
+
+It takes the binary that the gate left in crates/pocsag_app/out. `tests/pictures/run.py` makes them again and compares.
+"""
+
+import csv
+import io
+import math
+import pathlib
+import subprocess
+import sys
+import tempfile
+
+TOP = pathlib.Path(__file__).resolve().parents[2]
+HERE = pathlib.Path(__file__).resolve().parent
+PROGRAM = TOP / "crates/pocsag_app/out/pocsag_app"
+ROUND = TOP / "examples/round.csv"
+PREAMBLE = b"\xaa" * 72
+SYNC = bytes.fromhex("7CD215D8")
+IDLE = bytes.fromhex("7A89C197")
+
+
+def run(*words):
+    return subprocess.run([str(PROGRAM), *map(str, words)], capture_output=True, check=True, timeout=110).stdout
+
+
+def codewords(sent):
+    """The codewords of a transmission, those of synchronisation left out."""
+    words = [sent[at : at + 4] for at in range(len(PREAMBLE), len(sent), 4)]
+    return [word for place, word in enumerate(words) if place % 17 != 0]
+
+
+def transmission(words):
+    words = words + [IDLE] * (-len(words) % 16)
+    batches = [words[at : at + 16] for at in range(0, len(words), 16)]
+    return PREAMBLE + b"".join(SYNC + b"".join(batch) for batch in batches)
+
+
+def places(path):
+    """The rows of `show --list`: where each page of a transmission stands."""
+    rows = csv.DictReader(io.StringIO(run("show", path, "--list").decode("latin-1")))
+    found = []
+    for row in rows:
+        start = 16 * (int(row["batch"]) - 1) + int(row["slot"])
+        found.append((start, int(row["codewords"]), int(row["address"])))
+    return found
+
+
+def in_file_order(words, found, addresses):
+    """The codewords of the same pages in the order of the page file, each at the next slot of its frame."""
+    pages = {address: words[start : start + count] for start, count, address in found}
+    sent = []
+    for address in addresses:
+        while len(sent) % 16 // 2 != address % 8:
+            sent.append(IDLE)
+        sent += pages[address]
+    return transmission(sent)
+
+
+def point(turn, radius):
+    angle = 2 * math.pi * turn - math.pi / 2
+    return f"{240 + radius * math.cos(angle):.1f} {240 + radius * math.sin(angle):.1f}"
+
+
+def spiral(start, end):
+    """The way from one codeword to another, sixteen to a turn, outwards from turn to turn."""
+    steps = 4 * (end - start)
+    points = [start + (end - start) * step / steps for step in range(steps + 1)]
+    return "M" + "L".join(point(at / 16, 80 + 40 * at / 16) for at in points)
+
+
+def tour(found, total):
+    """The tour of a transmission on the sixteen boundaries of slots."""
+    lines = [
+        '<svg xmlns="http://www.w3.org/2000/svg" version="1.1" width="480" height="480" viewBox="0 0 480 480"'
+        ' role="img" aria-labelledby="title desc">',
+        '<title id="title">The tour of the sample round</title>',
+        f'<desc id="desc">Sixteen boundaries stand around. The tour begins at boundary 0, goes round once for each of'
+        f" {total // 16} batches and comes back to boundary 0; each page is an arc from the boundary where its"
+        " address codeword begins to that where its last codeword ends.</desc>",
+        '<style type="text/css">',
+        "svg{background:#fff;font-family:sans-serif;font-size:11px}",
+        "text{fill:#222;text-anchor:middle}",
+        ".b{stroke:#ccc}",
+        ".i{fill:none;stroke:#ddd;stroke-width:14}",
+        ".p{fill:none;stroke-width:14}",
+        "@media (prefers-color-scheme:dark){svg{background:#16181c}text{fill:#eee}.b{stroke:#444}.i{stroke:#2b2e34}}",
+        "</style>",
+    ]
+    for boundary in range(16):
+        inner, outer = point(boundary / 16, 60), point(boundary / 16, 205)
+        x, y = point(boundary / 16, 220).split()
+        lines.append(f'<path class="b" d="M{inner}L{outer}"/><text x="{x}" y="{float(y) + 4:.1f}">{boundary}</text>')
+    at = 0
+    for number, (start, count, address) in enumerate(found):
+        if at < start:
+            lines.append(f'<path class="i" d="{spiral(at, start)}"/>')
+        at = start + count
+        hue = 137 * (number % 26) % 360
+        lines.append(
+            f'<path class="p" style="stroke:hsl({hue},60%,55%)" d="{spiral(start, at)}"><title>address {address},'
+            f" from boundary {start % 16} to boundary {at % 16}, {count} codewords</title></path>"
+        )
+    if at < total:
+        lines.append(f'<path class="i" d="{spiral(at, total)}"/>')
+    return "\n".join([*lines, "</svg>", ""]).encode()
+
+
+def pictures():
+    """Each picture by its name."""
+    with tempfile.TemporaryDirectory() as folder:
+        sent, cert, ordered = (pathlib.Path(folder) / name for name in ("sent", "cert", "ordered"))
+        run("plan", ROUND, sent, cert)
+        words, found = codewords(sent.read_bytes()), places(sent)
+        with ROUND.open(newline="", encoding="latin-1") as file:
+            addresses = [int(row["address"]) for row in csv.DictReader(file)]
+        ordered.write_bytes(in_file_order(words, found, addresses))
+        return {
+            "round-in-file-order.svg": run("show", ordered, "--svg"),
+            "round-in-fewest-batches.svg": run("show", sent, "--svg"),
+            "round-tour.svg": tour(found, len(words)),
+        }
+
+
+def main():
+    for name, text in pictures().items():
+        (HERE / name).write_bytes(text)
+
+
+if __name__ == "__main__":
+    sys.exit(main())

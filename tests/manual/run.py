@@ -1,0 +1,125 @@
+#!/usr/bin/env python3
+"""Compares the manual page with the help of the compiled program, and has it read by `man` and `mandoc`.
+
+It takes the binary that the gate left in crates/pocsag_app/out; where `man` or `mandoc` is missing, that part is left
+out. The last line is 'N passed, M failed'.
+"""
+
+import pathlib
+import re
+import shutil
+import subprocess
+import sys
+
+sys.dont_write_bytecode = True
+sys.path.insert(0, str(pathlib.Path(__file__).resolve().parents[1]))
+from tally import Tally
+
+TOP = pathlib.Path(__file__).resolve().parents[2]
+PROGRAM = TOP / "crates/pocsag_app/out/pocsag_app"
+MANUAL = TOP / "docs/pocsag.1"
+EVERYWHERE = {"-h", "--help", "-V", "--version"}
+
+
+def help_of(*words):
+    return subprocess.run([str(PROGRAM), *words, "--help"], capture_output=True, text=True, timeout=60).stdout
+
+
+def part(text, heading):
+    """The lines under a heading of a help text."""
+    found = re.search(rf"^{heading}:\n((?:  .*\n)+)", text, re.M)
+    return found[1].splitlines() if found else []
+
+
+def commands(text):
+    return {line.split()[0] for line in part(text, "Commands")}
+
+
+def options(text):
+    """Each option of a help text, with the name of its value or none."""
+    found = {}
+    for line in part(text, "Options"):
+        spelled = re.split(r"  +", line.strip())[0]
+        for word, value in re.findall(r"(--?[\w-]+)(?: <(\w+)>)?", spelled):
+            found[word] = value
+    return found
+
+
+def plain(text):
+    """The manual's text without its font changes."""
+    return re.sub(r"\\f.", "", text).replace("\\-", "-").replace("\\ ", " ").replace("\\&", "")
+
+
+def section(text, name):
+    found = re.search(rf"^\.SH \"?{name}\"?\n(.*?)(?=^\.SH |\Z)", text, re.M | re.S)
+    return found[1] if found else ""
+
+
+def terms(text):
+    """The paragraphs' tags of a section, their macros and quotes taken away."""
+    tags = re.findall(r"^\.TP\n\.(?:BR|BI|B)\s+(.*)$", text, re.M)
+    return [re.sub(r"\s+", " ", tag.replace('"', "")).strip() for tag in tags]
+
+
+def synopses(text):
+    """The words of each command in the synopsis, as one line."""
+    found = {}
+    for piece in section(text, "SYNOPSIS").split(".br\n"):
+        line = " ".join(re.sub(r"^\.\w+ ", "", word) for word in piece.splitlines())
+        words = re.sub(r"[\[\]|]", " ", line).split()
+        if len(words) > 1:
+            found[words[1]] = words[2:]
+    return found
+
+
+def compare(tally, text):
+    told = {tag for tag in terms(section(text, "COMMANDS"))}
+    tally.check("the manual's commands", told == commands(help_of()), (told, commands(help_of())))
+    lines = synopses(text)
+    tally.check("a synopsis for each command", set(lines) == told - {"help"}, set(lines))
+    tagged = {}
+    for tag in terms(section(text, "OPTIONS")):
+        names = re.findall(r"--?[\w-]+", tag)
+        for name in names:
+            tagged[name] = re.sub(r"--?[\w-]+,?", "", tag).replace(",", "").strip()
+    asked = dict.fromkeys(EVERYWHERE, "")
+    for name in sorted(told - {"help"}):
+        helped = options(help_of(name))
+        own = {word: value for word, value in helped.items() if word not in EVERYWHERE}
+        asked.update(own)
+        written = {word for word in lines.get(name, []) if word.startswith("--")}
+        tally.check(f"the options of {name}", written == set(own), (written, own))
+        usage = re.search(r"^Usage: (.*)$", help_of(name), re.M)[1]
+        positional = re.findall(r"[<\[]([A-Z]+)[>\]]", re.sub(r"--\w+ <\w+>|\[OPTIONS\]", "", usage))
+        tail = [word for word in lines.get(name, []) if word.isupper()]
+        values = [value for word, value in own.items() if value]
+        tally.check(f"the words of {name}", sorted(tail) == sorted(positional + values), (tail, positional, values))
+    tally.check("the manual's options", tagged == asked, (tagged, asked))
+
+
+def main():
+    tally = Tally()
+    text = plain(MANUAL.read_text())
+    compare(tally, text)
+    statuses = terms(section(text, "EXIT STATUS"))
+    tally.check("exit statuses", statuses == ["0", "1", "2", "3"], statuses)
+    version = help_version()
+    tally.check("the version", f'"pocsag {version}"' in text, version)
+    if shutil.which("man"):
+        done = subprocess.run(
+            ["man", "--warnings", "-E", "UTF-8", "-l", "-Tutf8", "-Z", str(MANUAL)], capture_output=True, timeout=60
+        )
+        tally.check("man finds nothing", done.returncode == 0 and done.stderr == b"", done.stderr)
+    if shutil.which("mandoc"):
+        done = subprocess.run(["mandoc", "-T", "lint", str(MANUAL)], capture_output=True, timeout=60)
+        tally.check("mandoc finds nothing", done.returncode == 0 and done.stdout + done.stderr == b"", done)
+    return tally.end()
+
+
+def help_version():
+    said = subprocess.run([str(PROGRAM), "--version"], capture_output=True, text=True, timeout=60).stdout
+    return re.match(r"pocsag ([\d.]+)", said)[1]
+
+
+if __name__ == "__main__":
+    sys.exit(main())
