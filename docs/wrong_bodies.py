@@ -17,9 +17,7 @@ contract that is named does say what it seems to say. `./test` tries all of them
 `crates/NAME/must-fail/`. The second column names the function and the goal of it that the prover named first:
 a clause of its contract (`returns` where it has one clause without a name, with the place where it returns
 behind it), an invariant of its loop that leads to one, or what a call in it asks for. The page is made by
-`docs/wrong_bodies.py` from what the prover prints. Of crates and edits
-that are not listed no refusal was read; `pocsag_branch` and `pocsag_plan` have no wrong body yet. Some lines are of runs
-before the last changes of their crate.
+`docs/wrong_bodies.py` from what the prover prints.
 
 """
 
@@ -33,8 +31,11 @@ def function_at(crate, place):
     path = TOP / "crates" / crate / file
     if not path.exists():
         return file
-    lines = path.read_text().split("\n")[: int(line.partition(":")[0] or 0)]
-    names = [found[1] for found in (re.search(r"\bfn (\w+)", text) for text in lines) if found]
+    lines = path.read_text().split("\n")
+    at = int(line.partition(":")[0] or 0)
+    while at < len(lines) and lines[at - 1].lstrip().startswith(("#[", "//")):
+        at += 1
+    names = [found[1] for found in (re.search(r"\bfn (\w+)", text) for text in lines[:at]) if found]
     return file.removeprefix("src/").removesuffix(".rt").replace("/", "::") + ("::" + names[-1] if names else "")
 
 
