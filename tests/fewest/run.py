@@ -1,7 +1,7 @@
 #!/usr/bin/env python3
 """Plans small random rounds with the built program and compares them with a brute force of its own.
 
-For each round and end: the batches are those of the brute force; the transmission's codewords, read here,
+For each round and end, with `--always` and without: the batches are those of the brute force; the transmission's codewords, read here,
 are the round's pages; and the certificate is accepted by the program's checker and by the second one, and
 by neither for one batch more. The last line is 'N passed, M failed'.
 """
@@ -99,13 +99,13 @@ def one_more(certificate):
     return certificate[:5] + batches.to_bytes(4, "big") + certificate[9:]
 
 
-def try_round(tally, folder, pages, end):
+def try_round(tally, folder, pages, end, search):
     text = ("address,kind,message\n" + "".join(record(*page) for page in pages)).encode()
     (folder / "pages.csv").write_bytes(text)
     due = fewest(tuple((address % 8, 1 + items) for address, items in pages), end == "closed")
-    planned = run(["plan", "pages.csv", "tx.bin", "cert.bin", "--end", end], folder)
+    planned = run(["plan", "pages.csv", "tx.bin", "cert.bin", "--end", end, *search], folder)
     printed = f"pages {len(pages)}\nbatches {due}\n".encode()
-    tally.check(f"fewest, {end} end", planned.returncode == 0 and planned.stdout == printed, (text, due, planned))
+    tally.check(" ".join(["fewest", end, "end", *search]), planned.returncode == 0 and planned.stdout == printed, (text, due, planned))
     if planned.returncode != 0:
         return
     sent, certificate = (folder / "tx.bin").read_bytes(), (folder / "cert.bin").read_bytes()
@@ -123,8 +123,8 @@ def try_checks(tally, folder, source):
         pages = random_round(source)
         text = "address,kind,message\n" + "".join(record(*page) for page in pages)
         (folder / "pages.csv").write_text(text)
-        for end in ("open", "closed"):
-            planned = run(["plan", "pages.csv", "tx.bin", "cert.bin", "--end", end, "--verify"], folder)
+        for words in (["open"], ["closed"], ["open", "--always"], ["closed", "--always"]):
+            planned = run(["plan", "pages.csv", "tx.bin", "cert.bin", "--verify", "--end", *words], folder)
             tally.check("verified", planned.stdout.endswith(b"\nverified\n"), planned)
             checked = run(["check", "pages.csv", "cert.bin"], folder)
             tally.check("checked", checked.returncode == 0 and checked.stdout.startswith(b"at least "), checked)
@@ -145,7 +145,8 @@ def main():
         for _ in range(ROUNDS):
             pages = random_round(source)
             for end in ("open", "closed"):
-                try_round(tally, folder, pages, end)
+                for search in ([], ["--always"]):
+                    try_round(tally, folder, pages, end, search)
         try_checks(tally, folder, source)
     return tally.end()
 
