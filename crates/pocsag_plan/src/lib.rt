@@ -8,13 +8,21 @@ mod always_closing;
 mod always_streaming;
 mod answer;
 mod book;
+#[cfg(test)]
+mod book_tests;
 mod bounded;
 mod closing;
 mod edit;
+#[cfg(test)]
+mod examples;
 mod fault;
+#[cfg(test)]
+mod plan_tests;
 mod planning;
 mod refusal;
 mod reporting;
+#[cfg(test)]
+mod stream_tests;
 mod streaming;
 mod tally;
 
