@@ -24,7 +24,7 @@ use Rattle.pocsag_plan.specs.declared.streaming.Unsent.TheVariants as unsent
 use Rattle.pocsag_plan.specs.Headline.{Headline}
 use Rattle.pocsag_plan.specs.Plans.{IsBounded}
 use Rattle.pocsag_plan.specs.Sending.{fault_of_unsent}
-use Rattle.pocsag_plan.specs.Streams.{IsCertificate}
+use Rattle.pocsag_plan.specs.Streams.{IsCertificate, IsTransmission}
 
 pub due : (end : End) (R : List Page) (plan : Plan) (bound : ℕ) → IsBounded end R plan bound → (steps : List Step) (order : List ℕ) (said : List Kind) (U : List ℕ) →
     steps ≡ plan.steps.items → order ≡ plan.order.items → said ≡ laid_by R order steps → Say said U →
@@ -77,7 +77,11 @@ tight file end batches bound tree sent certificate same is =
       accepted = now.accepted;
     }
 
--- what is known of the writer of the certificate is known where its fault is answered
+-- what is known of a writer is known where its fault is answered
+pub transmission_of : (e : Unsent) (P : Type 0) → (IsErrOf {T = Unit {0}} (Err e) unsent.Transmission → P) → IsTransmission (fault_of_unsent e) → P
+transmission_of unsent.Transmission P known is = known refl
+transmission_of unsent.Certificate P known is = absurd is
+
 pub certificate_of : (e : Unsent) (P : Type 0) → (IsErrOf {T = Unit {0}} (Err e) unsent.Certificate → P) → IsCertificate (fault_of_unsent e) → P
 certificate_of unsent.Transmission P known is = absurd is
 certificate_of unsent.Certificate P known is = known refl

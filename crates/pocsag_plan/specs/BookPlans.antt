@@ -41,3 +41,22 @@ ExplainsBookAlways R limit fault.BadLimit = ¬ IsNodeLimit limit
 ExplainsBookAlways R limit fault.NoPages = IsNodeLimit limit × (R ≡ [])
 ExplainsBookAlways R limit (fault.SearchLimit least found tree) = ⊥
 ExplainsBookAlways R limit fault.OutOfMemory = IsNodeLimit limit × IsRound R
+
+-- When each fault of a stream of a book comes, and what it says.
+abbrev pub ExplainsBookStream : End → List Page → ℕ → StreamFault → Type 0
+ExplainsBookStream end R limit streaming.BadLimit = ¬ IsNodeLimit limit
+ExplainsBookStream end R limit (streaming.Round f) = IsNodeLimit limit × (R ≡ []) × (f ≡ round.NoPages)
+ExplainsBookStream end R limit (streaming.SearchLimit least found tree) =
+    IsNodeLimit limit × IsRound R × IsStopped end R limit least found (bound_of tree)
+ExplainsBookStream end R limit streaming.OutOfMemory = IsNodeLimit limit × IsRound R
+ExplainsBookStream end R limit (streaming.Transmission f) = IsNodeLimit limit × IsRound R
+ExplainsBookStream end R limit (streaming.Certificate f) = IsNodeLimit limit × IsRound R
+
+-- The same of the streams that no round is refused: never `SearchLimit`.
+abbrev pub ExplainsBookStreamAlways : List Page → ℕ → StreamFault → Type 0
+ExplainsBookStreamAlways R limit streaming.BadLimit = ¬ IsNodeLimit limit
+ExplainsBookStreamAlways R limit (streaming.Round f) = IsNodeLimit limit × (R ≡ []) × (f ≡ round.NoPages)
+ExplainsBookStreamAlways R limit (streaming.SearchLimit least found tree) = ⊥
+ExplainsBookStreamAlways R limit streaming.OutOfMemory = IsNodeLimit limit × IsRound R
+ExplainsBookStreamAlways R limit (streaming.Transmission f) = IsNodeLimit limit × IsRound R
+ExplainsBookStreamAlways R limit (streaming.Certificate f) = IsNodeLimit limit × IsRound R

@@ -6,8 +6,8 @@ ghost use Rattle.pocsag_pages.specs.Pages.{IsRound};
 ghost use Rattle.pocsag_tree.specs.Bounds.{closed_nodes};
 ghost use Rattle.pocsag_tree.specs.Views.{bound_of};
 ghost use Rattle.pocsag_branch.specs.Found.{IsNodeLimit};
-ghost use Rattle.pocsag_plan.specs.BookPlans.{ExplainsBookAlways};
-ghost use Rattle.pocsag_plan.specs.BoundedStreams.{WritesBounded};
+ghost use Rattle.pocsag_plan.specs.BookPlans.{ExplainsBookAlways, ExplainsBookStreamAlways};
+ghost use Rattle.pocsag_plan.specs.BoundedStreams.{WritesBounded, WritesBoundedCertificatePart, WritesBoundedPart};
 ghost use Rattle.pocsag_plan.specs.Plans.{IsBounded, IsPlan};
 ghost use Rattle.pocsag_plan.specs.Streams.{IsBeforeWriting, IsCertificate, IsSearchLimit, IsTransmission, Writes};
 
@@ -76,12 +76,24 @@ impl Book {
         ensures fewest { T.tells → C.tells → IfOk result (λ bounded. bounded.bound ≡ bounded.plan.batches → (file : List ℕ) → verdict file ≡ Ok self.now →
             Writes file end bounded.plan.batches (bound_of bounded.plan.tree) (T.taken tx.old) (T.taken tx.new) (C.taken cert.old) (C.taken cert.new)) }
         ensures plan { IfOk result (λ bounded. IsBounded end self.now bounded.plan bounded.bound) }
+        ensures small { IfOk result (λ bounded. closed_nodes (bound_of bounded.plan.tree) ≤ limit) }
+
+        // When each fault comes, and what it leaves.
+        ensures explained { IfErr result (ExplainsBookStreamAlways self.now limit) }
         ensures answered { IfErr result (λ e. ¬ IsSearchLimit e) }
         ensures bad_limit { IsErrOf result StreamFault.BadLimit ↔ (¬ IsNodeLimit limit) }
         ensures untouched { IfErr result (λ e. IsBeforeWriting e → (tx.new ≡ tx.old) × (cert.new ≡ cert.old)) }
         ensures not_begun { IfErr result (λ e. IsTransmission e → cert.new ≡ cert.old) }
+        ensures part { T.tells → IfErr result (λ e. IsTransmission e → (file : List ℕ) → verdict file ≡ Ok self.now →
+            WritesBoundedPart file end (T.taken tx.old) (T.taken tx.new)) }
+        ensures certificate_part { T.tells → C.tells → IfErr result (λ e. IsCertificate e → (file : List ℕ) → verdict file ≡ Ok self.now →
+            WritesBoundedCertificatePart file end (T.taken tx.old) (T.taken tx.new) (C.taken cert.old) (C.taken cert.new)) }
+
+        // A device's fault is answered only where that device failed.
         ensures write_failed { IfErr result (λ e. IsTransmission e → HasFailed (T.failures tx.old) (T.failures tx.new)) }
         ensures certificate_failed { IfErr result (λ e. IsCertificate e → HasFailed (C.failures cert.old) (C.failures cert.new)) }
+        ensures write_succeeded { IfErr result (λ e. IsCertificate e → T.failures tx.new ≡ T.failures tx.old) }
+        ensures succeeded { OnOk result ((T.failures tx.new ≡ T.failures tx.old) × (C.failures cert.new ≡ C.failures cert.old)) }
     {
         let (round, bounded) = self.bounded(limit, end)?;
         send(&round, &bounded.plan, bounded.bound, end, tx, cert)?;

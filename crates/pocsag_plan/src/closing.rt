@@ -7,9 +7,9 @@ ghost use Rattle.pocsag_pages.specs.declared.fault.RoundFault.TheVariants as rou
 ghost use Rattle.pocsag_tree.specs.Bounds.{closed_nodes};
 ghost use Rattle.pocsag_tree.specs.Views.{bound_of};
 ghost use Rattle.pocsag_branch.specs.Found.{IsNodeLimit};
-ghost use Rattle.pocsag_plan.specs.BookPlans.{ExplainsBook};
+ghost use Rattle.pocsag_plan.specs.BookPlans.{ExplainsBook, ExplainsBookStream};
 ghost use Rattle.pocsag_plan.specs.Plans.{IsPlan};
-ghost use Rattle.pocsag_plan.specs.Streams.{IsBeforeWriting, IsCertificate, IsTransmission, Writes};
+ghost use Rattle.pocsag_plan.specs.Streams.{IsBeforeWriting, IsCertificate, IsTransmission, Writes, WritesCertificatePart, WritesPart};
 ghost use Rattle.pocsag_plan.specs.declared.fault.StreamFault.TheVariants as fault;
 
 use crate::answer::Plan;
@@ -87,11 +87,23 @@ impl Book {
         ensures headline { T.tells → C.tells → IfOk result (λ plan. (file : List ℕ) → verdict file ≡ Ok self.now →
             Writes file end plan.batches (bound_of plan.tree) (T.taken tx.old) (T.taken tx.new) (C.taken cert.old) (C.taken cert.new)) }
         ensures plan { IfOk result (IsPlan end self.now) }
+        ensures small { IfOk result (λ plan. closed_nodes (bound_of plan.tree) ≤ limit) }
+
+        // When each fault comes, and what it leaves.
+        ensures explained { IfErr result (ExplainsBookStream end self.now limit) }
         ensures bad_limit { IsErrOf result StreamFault.BadLimit ↔ (¬ IsNodeLimit limit) }
         ensures untouched { IfErr result (λ e. IsBeforeWriting e → (tx.new ≡ tx.old) × (cert.new ≡ cert.old)) }
         ensures not_begun { IfErr result (λ e. IsTransmission e → cert.new ≡ cert.old) }
+        ensures part { T.tells → IfErr result (λ e. IsTransmission e → (file : List ℕ) → verdict file ≡ Ok self.now →
+            WritesPart file end (T.taken tx.old) (T.taken tx.new)) }
+        ensures certificate_part { T.tells → C.tells → IfErr result (λ e. IsCertificate e → (file : List ℕ) → verdict file ≡ Ok self.now →
+            WritesCertificatePart file end (T.taken tx.old) (T.taken tx.new) (C.taken cert.old) (C.taken cert.new)) }
+
+        // A device's fault is answered only where that device failed.
         ensures write_failed { IfErr result (λ e. IsTransmission e → HasFailed (T.failures tx.old) (T.failures tx.new)) }
         ensures certificate_failed { IfErr result (λ e. IsCertificate e → HasFailed (C.failures cert.old) (C.failures cert.new)) }
+        ensures write_succeeded { IfErr result (λ e. IsCertificate e → T.failures tx.new ≡ T.failures tx.old) }
+        ensures succeeded { OnOk result ((T.failures tx.new ≡ T.failures tx.old) × (C.failures cert.new ≡ C.failures cert.old)) }
     {
         let (round, plan) = self.planned(limit, end)?;
         send(&round, &plan, plan.batches, end, tx, cert)?;
