@@ -15,17 +15,17 @@ use Rattle.pocsag_plan.specs.Reports.{IsReport, report_text}
 use Rattle.pocsag_plan.specs.Streams.{ExplainsStream, IsPlanOf, Writes}
 use Rattle.pocsag_app.specs.declared.fault.Fault.{Fault}
 use Rattle.pocsag_app.specs.declared.fault.Fault.TheVariants as fault
-use Rattle.pocsag_app.specs.Commands.{IsRefused, limit, round as of_round, stopped, PlannedAndTold, Reported, ToldPlan}
+use Rattle.pocsag_app.specs.Commands.{IsPlanRefused, limit, round as of_round, stopped, PlannedAndTold, Reported, ToldPlan}
 use Rattle.pocsag_app.specs.Faults.{fault_of_stream, status_of}
 use Rattle.pocsag_app.specs.Lines.{plan_text}
 
 refused_round : (file : List ℕ) (end : End) (n : ℕ) (f : RoundFault) → status_of (fault.Round f) ≡ 1 →
-    (f ≡ round.OutOfMemory) ⊎ (f ≡ round.ReadFault) ⊎ (verdict file ≡ Err f) → IsRefused file end n
+    (f ≡ round.OutOfMemory) ⊎ (f ≡ round.ReadFault) ⊎ (verdict file ≡ Err f) → IsPlanRefused file end n
 refused_round file end n f one (inl e) = let three : status_of (fault.Round f) ≡ 3 = ap (λ (v : RoundFault). status_of (fault.Round v)) e in absurd (omega arith)
 refused_round file end n f one (inr (inl e)) = let three : status_of (fault.Round f) ≡ 3 = ap (λ (v : RoundFault). status_of (fault.Round v)) e in absurd (omega arith)
 refused_round file end n f one (inr (inr e)) = of_round f e
 
-pub why_refused : (file : List ℕ) (end : End) (n : ℕ) (e : StreamFault) → ExplainsStream file end n e → status_of (fault_of_stream e) ≡ 1 → IsRefused file end n
+pub why_refused : (file : List ℕ) (end : End) (n : ℕ) (e : StreamFault) → ExplainsStream file end n e → status_of (fault_of_stream e) ≡ 1 → IsPlanRefused file end n
 why_refused file end n streaming.BadLimit said one = limit said
 why_refused file end n (streaming.Round f) said one = refused_round file end n f one said.1
 why_refused file end n (streaming.SearchLimit least found tree) said one = stopped least found (bound_of tree) said.1

@@ -39,17 +39,17 @@ pub record PlannedAndTold (file : List ℕ) (end : End) (tx_before tx_after cert
 
 -- `plan` leaves each output as it was, or with a prefix of what the headline says, the transmission whole
 -- before the certificate.
-pub data Leaves (file : List ℕ) (end : End) (tx_before tx_after cert_before cert_after : List ℕ) : Type 0 where
-  nothing : tx_after ≡ tx_before → cert_after ≡ cert_before → Leaves file end tx_before tx_after cert_before cert_after
-  part : WritesPart file end tx_before tx_after → cert_after ≡ cert_before → Leaves file end tx_before tx_after cert_before cert_after
-  certificate_part : WritesCertificatePart file end tx_before tx_after cert_before cert_after → Leaves file end tx_before tx_after cert_before cert_after
-  all : Planned file end tx_before tx_after cert_before cert_after → Leaves file end tx_before tx_after cert_before cert_after
+pub data LeavesOutputs (file : List ℕ) (end : End) (tx_before tx_after cert_before cert_after : List ℕ) : Type 0 where
+  nothing : tx_after ≡ tx_before → cert_after ≡ cert_before → LeavesOutputs file end tx_before tx_after cert_before cert_after
+  part : WritesPart file end tx_before tx_after → cert_after ≡ cert_before → LeavesOutputs file end tx_before tx_after cert_before cert_after
+  certificate_part : WritesCertificatePart file end tx_before tx_after cert_before cert_after → LeavesOutputs file end tx_before tx_after cert_before cert_after
+  all : Planned file end tx_before tx_after cert_before cert_after → LeavesOutputs file end tx_before tx_after cert_before cert_after
 
 -- Why `plan` refuses: the limit is none, the page file has a fault, or the search stopped.
-pub data IsRefused (file : List ℕ) (end : End) (limit : ℕ) : Type 0 where
-  limit : ¬ IsNodeLimit limit → IsRefused file end limit
-  round : (f : RoundFault) → verdict file ≡ Err f → IsRefused file end limit
-  stopped : (least found : ℕ) (tree : Bound) → IsStoppedAt file end limit least found tree → IsRefused file end limit
+pub data IsPlanRefused (file : List ℕ) (end : End) (limit : ℕ) : Type 0 where
+  limit : ¬ IsNodeLimit limit → IsPlanRefused file end limit
+  round : (f : RoundFault) → verdict file ≡ Err f → IsPlanRefused file end limit
+  stopped : (least found : ℕ) (tree : Bound) → IsStoppedAt file end limit least found tree → IsPlanRefused file end limit
 
 -- `check`: the page file is that of a round, and the certificate is a text of an end, a number of batches
 -- and a tree that the checker accepts for them, so no list of codewords that is legal for the round and the
@@ -76,7 +76,7 @@ pub record Decoded (bytes out_before out_after : List ℕ) : Type 0 where
   pub listed : out_after ≡ out_before ++ listing pages
 
 -- `hear`: the pages that a pager of the address shows of the bytes were listed.
-pub record Heard (address : ℕ) (bytes out_before out_after : List ℕ) : Type 0 where
+pub record HeardAndListed (address : ℕ) (bytes out_before out_after : List ℕ) : Type 0 where
   pub taken : fault_of address bytes ≡ None
   pub pages : List Page
   pub shown : IsShown (words_of (after_preamble bytes)) address pages

@@ -13,10 +13,10 @@ use Rattle.pocsag_app.specs.declared.fault.Fault.{Fault}
 use Rattle.pocsag_app.specs.declared.fault.Fault.TheVariants as fault
 
 -- The grid or the listing of the bytes was told; of a drawing, that the bytes read as pages.
-abbrev pub IsShown : View → (bytes out_before out_after : List ℕ) → Type 0
-IsShown Grid bytes out_before out_after = Shows grid_text bytes out_before out_after
-IsShown Places bytes out_before out_after = Shows place_listing bytes out_before out_after
-IsShown Drawing bytes out_before out_after = (pages : List Page) × ReadsAs bytes pages
+abbrev pub Viewed : View → (bytes out_before out_after : List ℕ) → Type 0
+Viewed Grid bytes out_before out_after = Shows grid_text bytes out_before out_after
+Viewed Places bytes out_before out_after = Shows place_listing bytes out_before out_after
+Viewed Drawing bytes out_before out_after = (pages : List Page) × ReadsAs bytes pages
 
 abbrev pub fault_of_show : ShowFault → Fault
 fault_of_show (showing.Transmission f) = fault.Transmission f

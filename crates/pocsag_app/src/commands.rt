@@ -1,6 +1,6 @@
 ghost use Rattle.std.specs.Prelude.{◌≡◌, OnOk};
 ghost use Rattle.pocsag_words.specs.declared.ending.End.TheVariants.{Open as open_end};
-ghost use Rattle.pocsag_app.specs.Commands.{IsRefused, Leaves, Planned, PlannedAndTold, Reported, ToldPlan};
+ghost use Rattle.pocsag_app.specs.Commands.{IsPlanRefused, LeavesOutputs, Planned, PlannedAndTold, Reported, ToldPlan};
 ghost use Rattle.pocsag_app.specs.Faults.{IsStatus, status_after};
 
 use crate::fault::Fault;
@@ -56,9 +56,9 @@ pub fn run_plan<P: Source, T: Sink, C: Sink, O: Sink, E: Sink>(
 
     // What it leaves otherwise.
     ensures refused { result ≡ 1 → (tx.new ≡ tx.old) × (cert.new ≡ cert.old) }
-    ensures why { P.tells → result ≡ 1 → IsRefused (P.held pages.old) end limit }
+    ensures why { P.tells → result ≡ 1 → IsPlanRefused (P.held pages.old) end limit }
     ensures leaves { P.tells → T.tells → C.tells →
-        Leaves (P.held pages.old) end (T.taken tx.old) (T.taken tx.new) (C.taken cert.old) (C.taken cert.new) }
+        LeavesOutputs (P.held pages.old) end (T.taken tx.old) (T.taken tx.new) (C.taken cert.old) (C.taken cert.new) }
     ensures status { IsStatus result }
 {
     let done = plan_files(alloc, limit, end, pages, tx, cert, out);
@@ -79,9 +79,9 @@ fn plan_files<P: Source, T: Sink, C: Sink, O: Sink>(
     ensures told { P.tells → T.tells → C.tells → O.tells → OnOk result
         (PlannedAndTold (P.held pages.old) end (T.taken tx.old) (T.taken tx.new) (C.taken cert.old) (C.taken cert.new) (O.taken out.old) (O.taken out.new)) }
     ensures refused { status_after result ≡ 1 → (tx.new ≡ tx.old) × (cert.new ≡ cert.old) }
-    ensures why { P.tells → status_after result ≡ 1 → IsRefused (P.held pages.old) end limit }
+    ensures why { P.tells → status_after result ≡ 1 → IsPlanRefused (P.held pages.old) end limit }
     ensures leaves { P.tells → T.tells → C.tells →
-        Leaves (P.held pages.old) end (T.taken tx.old) (T.taken tx.new) (C.taken cert.old) (C.taken cert.new) }
+        LeavesOutputs (P.held pages.old) end (T.taken tx.old) (T.taken tx.new) (C.taken cert.old) (C.taken cert.new) }
 {
     let written = plan_stream(alloc, pages, tx, cert, limit, end)?;
     tell_plan(written.pages, written.batches, out)

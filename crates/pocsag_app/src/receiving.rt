@@ -1,5 +1,5 @@
 ghost use Rattle.std.specs.Prelude.{◌≡◌, IfOk, OnOk};
-ghost use Rattle.pocsag_app.specs.Commands.{Decoded, Heard};
+ghost use Rattle.pocsag_app.specs.Commands.{Decoded, HeardAndListed};
 ghost use Rattle.pocsag_app.specs.Faults.{IsStatus};
 
 use crate::fault::Fault;
@@ -45,7 +45,7 @@ pub fn run_hear<T: Source, O: Sink, E: Sink>(
     out: &mut O,
     err: &mut E,
 ) -> u8
-    ensures listed { T.tells → O.tells → result ≡ 0 → Heard address (T.held tx.old) (O.taken out.old) (O.taken out.new) }
+    ensures listed { T.tells → O.tells → result ≡ 0 → HeardAndListed address (T.held tx.old) (O.taken out.old) (O.taken out.new) }
     ensures status { IsStatus result }
 {
     let done = list_heard(alloc, address, tx, out);
@@ -58,7 +58,7 @@ fn list_heard<T: Source, O: Sink>(
     tx: &mut T,
     out: &mut O,
 ) -> Result<(), Fault>
-    ensures { T.tells → O.tells → OnOk result (Heard address (T.held tx.old) (O.taken out.old) (O.taken out.new)) }
+    ensures { T.tells → O.tells → OnOk result (HeardAndListed address (T.held tx.old) (O.taken out.old) (O.taken out.new)) }
 {
     let bytes = read_whole(alloc, tx, TRANSMISSION_LIMIT)?;
     let pages = hear_all(alloc, bytes.as_slice(), address)?;

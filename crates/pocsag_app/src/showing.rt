@@ -1,6 +1,6 @@
 ghost use Rattle.std.specs.Prelude.{◌≡◌, OnOk};
 ghost use Rattle.pocsag_app.specs.Faults.{IsStatus};
-ghost use Rattle.pocsag_app.specs.Showing.{IsShown};
+ghost use Rattle.pocsag_app.specs.Showing.{Viewed};
 
 use crate::fault::Fault;
 use crate::receiving::TRANSMISSION_LIMIT;
@@ -33,7 +33,7 @@ pub fn run_show<T: Source, O: Sink, E: Sink>(
     out: &mut O,
     err: &mut E,
 ) -> u8
-    ensures shown { T.tells → O.tells → result ≡ 0 → IsShown view (T.held tx.old) (O.taken out.old) (O.taken out.new) }
+    ensures shown { T.tells → O.tells → result ≡ 0 → Viewed view (T.held tx.old) (O.taken out.old) (O.taken out.new) }
     ensures status { IsStatus result }
 {
     let done = show(alloc, view, tx, out);
@@ -41,7 +41,7 @@ pub fn run_show<T: Source, O: Sink, E: Sink>(
 }
 
 fn show<T: Source, O: Sink>(alloc: Global, view: View, tx: &mut T, out: &mut O) -> Result<(), Fault>
-    ensures { T.tells → O.tells → OnOk result (IsShown view (T.held tx.old) (O.taken out.old) (O.taken out.new)) }
+    ensures { T.tells → O.tells → OnOk result (Viewed view (T.held tx.old) (O.taken out.old) (O.taken out.new)) }
 {
     let bytes = read_whole(alloc, tx, TRANSMISSION_LIMIT)?;
     match view {

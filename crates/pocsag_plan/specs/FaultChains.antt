@@ -10,7 +10,7 @@ abbrev pub fault_of_search : SearchFault → PlanFault
 fault_of_search (searching.SearchLimit least found tree) = planning.SearchLimit least found tree
 fault_of_search searching.OutOfMemory = planning.OutOfMemory
 
-abbrev pub fault_of_plan : PlanFault → StreamFault
-fault_of_plan planning.BadLimit = streaming.BadLimit
-fault_of_plan (planning.SearchLimit least found tree) = streaming.SearchLimit least found tree
-fault_of_plan planning.OutOfMemory = streaming.OutOfMemory
+abbrev pub stream_fault_of_plan : PlanFault → StreamFault
+stream_fault_of_plan planning.BadLimit = streaming.BadLimit
+stream_fault_of_plan (planning.SearchLimit least found tree) = streaming.SearchLimit least found tree
+stream_fault_of_plan planning.OutOfMemory = streaming.OutOfMemory

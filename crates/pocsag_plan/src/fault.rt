@@ -1,7 +1,7 @@
 ghost use Rattle.std.specs.Prelude.{◌≡◌};
 ghost use Rattle.pocsag_plan.specs.declared.fault.PlanFault.TheVariants as planning;
 ghost use Rattle.pocsag_plan.specs.declared.fault.StreamFault.TheVariants as streaming;
-ghost use Rattle.pocsag_plan.specs.FaultChains.{fault_of_plan, fault_of_search};
+ghost use Rattle.pocsag_plan.specs.FaultChains.{stream_fault_of_plan, fault_of_search};
 
 use pocsag_branch::SearchFault;
 use pocsag_pages::RoundFault;
@@ -89,7 +89,7 @@ impl From<OutOfMemory> for StreamFault {
 }
 
 impl From<PlanFault> for StreamFault {
-    ghost from_gives = { λ fault e. e ≡ fault_of_plan fault };
+    ghost from_gives = { λ fault e. e ≡ stream_fault_of_plan fault };
 
     fn from(fault: PlanFault) -> StreamFault {
         match fault {
