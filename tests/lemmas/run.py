@@ -12,9 +12,8 @@ import sys
 
 sys.dont_write_bytecode = True
 sys.path.insert(0, str(pathlib.Path(__file__).resolve().parents[1]))
-from tally import Tally
+from tally import TOP, Tally
 
-TOP = pathlib.Path(__file__).resolve().parents[2]
 IMPORT = re.compile(r"^use ([\w.-]+)\.\{([^}]*)\}", re.MULTILINE)
 OPENING = re.compile(r"(?:pub )?(?:abbrev )?(?:pub )?([^\s(){}:]+) : (.*)")
 TOKEN = re.compile(r"[(){},;]|[^\s(){},;]+")
