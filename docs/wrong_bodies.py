@@ -1,7 +1,8 @@
 #!/usr/bin/env python3
-"""Makes docs/WRONG_BODIES.md from what `rt must-fail` prints: python3 docs/wrong_bodies.py < LOG
+"""Makes docs/WRONG_BODIES.md anew from what `rt must-fail` or `rt ci` prints: python3 docs/wrong_bodies.py < LOG
 
-Each line of the log names an edit and the goal at which the prover refused it.
+Each line of the log names an edit and the goal at which the prover refused it. What the log does not name
+keeps its row, as long as its edit stands.
 """
 
 import pathlib
@@ -9,6 +10,8 @@ import re
 import sys
 
 TOP = pathlib.Path(__file__).resolve().parents[1]
+PAGE = TOP / "docs/WRONG_BODIES.md"
+ROW = re.compile(r"\| ([^|`]+) \| (`.*) \|")
 LINE = re.compile(r"must-fail (\w+)/([\w.+-]+)\.edit: refused, as it must be: (?:note: )?(.*)")
 HEAD = """# Wrong bodies
 
@@ -17,7 +20,7 @@ contract that is named does say what it seems to say. `./test` tries all of them
 `crates/NAME/must-fail/`. The second column names the function and the goal of it that the prover named first:
 a clause of its contract (`returns` where it has one clause without a name, with the place where it returns
 behind it), an invariant of its loop that leads to one, or what a call in it asks for. The page is made by
-`docs/wrong_bodies.py` from what the prover prints.
+`docs/wrong_bodies.py` from what the prover prints; an edit that a run did not name keeps its line.
 
 """
 
@@ -51,20 +54,42 @@ def goal_of(told):
     return f"`{name}`" if name else told[:80]
 
 
-def main():
+def title_of(edit):
+    """The name of an edit as a row has it."""
+    return re.sub(r"[_-]", " ", edit)
+
+
+def kept_rows():
+    """The rows of the page as it is, by crate and name."""
+    rows, crate = {}, None
+    for line in PAGE.read_text().split("\n") if PAGE.exists() else []:
+        if line.startswith("## "):
+            crate = line.strip("# `")
+        found = ROW.fullmatch(line)
+        if found and crate:
+            rows[crate, found[1]] = found[2]
+    return rows
+
+
+def told_rows(log):
+    """The rows of the edits that the log names, by crate and name."""
     rows = {}
-    for line in sys.stdin:
-        found = LINE.search(line)
-        if found:
-            crate, edit, told = found.groups()
-            place = re.match(r"(\S+\.(?:rt|antt)(?::\d+)?)", told)
-            rows.setdefault(crate, {})[edit] = (function_at(crate, place[1]) if place else "", goal_of(told))
-    print(HEAD, end="")
-    for crate in sorted(rows):
-        print(f"## `{crate}`\n\n| Wrong body | Refused at |\n|---|---|")
-        for edit, (function, goal) in sorted(rows[crate].items()):
-            print(f"| {re.sub(r'[_-]', ' ', edit)} | `{function}`, {goal} |")
-        print()
+    for crate, edit, told in LINE.findall(log):
+        place = re.match(r"(\S+\.(?:rt|antt)(?::\d+)?)", told)
+        function = function_at(crate, place[1]) if place else ""
+        rows[crate, title_of(edit)] = f"`{function}`, {goal_of(told)}"
+    return rows
+
+
+def main():
+    rows = {**kept_rows(), **told_rows(sys.stdin.read())}
+    page = HEAD
+    for crate in sorted((TOP / "crates").iterdir()):
+        titles = sorted(title_of(edit.stem) for edit in (crate / "must-fail").glob("*.edit"))
+        listed = [f"| {title} | {rows[crate.name, title]} |\n" for title in titles if (crate.name, title) in rows]
+        if listed:
+            page += f"## `{crate.name}`\n\n| Wrong body | Refused at |\n|---|---|\n{''.join(listed)}\n"
+    PAGE.write_text(page.rstrip("\n") + "\n")
 
 
 if __name__ == "__main__":

@@ -1,4 +1,10 @@
-"""What the tests of the compiled programs share."""
+"""What the tests of the repository share."""
+
+import pathlib
+import tempfile
+
+TOP = pathlib.Path(__file__).resolve().parents[1]
+PROGRAM = TOP / "crates/pocsag_app/out/pocsag_app"  # as the gate left it
 
 
 class Tally:
@@ -19,3 +25,12 @@ class Tally:
         """The last line, and the exit status."""
         print(f"{self.passed} passed, {self.failed} failed")
         return 0 if self.failed == 0 else 1
+
+
+def run_parts(*parts):
+    """Runs each part with a tally and one empty folder for all of them; gives the exit status."""
+    tally = Tally()
+    with tempfile.TemporaryDirectory() as name:
+        for part in parts:
+            part(tally, pathlib.Path(name))
+    return tally.end()

@@ -32,7 +32,6 @@ use std::fs::{self, File};
 use std::io::{self, Write};
 use std::process::ExitCode;
 use touring::Step;
-use tree::Tree;
 
 const NODE_LIMIT: u32 = 100_000;
 const PIECE: usize = 4_352;
@@ -110,37 +109,6 @@ fn write_transmission(tx: File, pages: &[Page], steps: &[Step], order: &[u32]) -
     sender.tx.write_all(&sender.piece)
 }
 
-fn write_node(tree: &Tree, bytes: &mut Vec<u8>) {
-    match tree {
-        Tree::Overload(set) => {
-            bytes.push(0);
-            bytes.extend(set.to_be_bytes());
-        }
-        Tree::Split { class, m, .. } => {
-            bytes.extend([1, *class]);
-            bytes.extend(m.to_be_bytes());
-        }
-        Tree::Cut { set, needed, children } => {
-            bytes.push(2);
-            bytes.extend(set.to_be_bytes());
-            bytes.push(*needed);
-            bytes.extend((children.len() as u16).to_be_bytes());
-        }
-        Tree::Open => bytes.push(3),
-        Tree::Close { children } => bytes.extend([4, children.len() as u8]),
-    }
-    for child in tree.children() {
-        write_node(child, bytes);
-    }
-}
-
-fn certificate(batches: u32, tree: &Tree) -> Vec<u8> {
-    let mut bytes = b"PCB2\0".to_vec();
-    bytes.extend(batches.to_be_bytes());
-    write_node(tree, &mut bytes);
-    bytes
-}
-
 fn main() -> io::Result<ExitCode> {
     let paths: Vec<String> = std::env::args().skip(1).collect();
     let bytes = fs::read(&paths[0])?;
@@ -157,7 +125,7 @@ fn main() -> io::Result<ExitCode> {
     };
     let order = order_of(&pages, &found.steps);
     write_transmission(tx, &pages, &found.steps, &order)?;
-    cert.write_all(&certificate(found.batches, &found.tree))?;
+    cert.write_all(&found.tree.certificate(false, found.batches))?;
     println!("pages {}\nbatches {}", pages.len(), found.batches);
     Ok(ExitCode::SUCCESS)
 }

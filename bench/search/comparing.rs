@@ -7,7 +7,6 @@ use crate::families::{FAMILIES, HARD, hard};
 use crate::promised::search;
 use crate::random::Random;
 use crate::slots::{End, Page, classes_of};
-use crate::tree::Tree;
 
 const HARD_LIMIT: u32 = 1_000_000;
 const LIMIT: u32 = 100_000;
@@ -33,7 +32,7 @@ fn write_round(path: &str, pages: &[Page], limit: u32) {
     for (word, end) in [("open", End::Open), ("closed", End::Closed)] {
         let classes = classes_of(pages, end);
         if let Ok(found) = search(&classes, limit, end) {
-            write(format!("{path}.{word}"), certificate(end, found.batches, &found.tree)).expect("a certificate");
+            write(format!("{path}.{word}"), found.tree.certificate(end == End::Closed, found.batches)).expect("a certificate");
         }
     }
 }
@@ -51,36 +50,4 @@ fn page_file(pages: &[Page]) -> String {
         };
     }
     file
-}
-
-fn certificate(end: End, batches: u32, tree: &Tree) -> Vec<u8> {
-    let mut bytes = b"PCB2".to_vec();
-    bytes.push(u8::from(end == End::Closed));
-    bytes.extend(batches.to_be_bytes());
-    push_node(tree, &mut bytes);
-    bytes
-}
-
-fn push_node(tree: &Tree, bytes: &mut Vec<u8>) {
-    match tree {
-        Tree::Overload(set) => {
-            bytes.push(0);
-            bytes.extend(set.to_be_bytes());
-        }
-        Tree::Split { class, m, .. } => {
-            bytes.extend([1, *class]);
-            bytes.extend(m.to_be_bytes());
-        }
-        Tree::Cut { set, needed, children } => {
-            bytes.push(2);
-            bytes.extend(set.to_be_bytes());
-            bytes.push(*needed);
-            bytes.extend((children.len() as u16).to_be_bytes());
-        }
-        Tree::Open => bytes.push(3),
-        Tree::Close { children } => bytes.extend([4, children.len() as u8]),
-    }
-    for child in tree.children() {
-        push_node(child, bytes);
-    }
 }

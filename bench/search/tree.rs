@@ -31,4 +31,38 @@ impl Tree {
     pub fn has_open(&self) -> bool {
         matches!(self, Tree::Open) || self.children().into_iter().any(Tree::has_open)
     }
+
+    /// The tree as a certificate of version 2 spells it.
+    fn write(&self, bytes: &mut Vec<u8>) {
+        match self {
+            Tree::Overload(set) => {
+                bytes.push(0);
+                bytes.extend(set.to_be_bytes());
+            }
+            Tree::Split { class, m, .. } => {
+                bytes.extend([1, *class]);
+                bytes.extend(m.to_be_bytes());
+            }
+            Tree::Cut { set, needed, children } => {
+                bytes.push(2);
+                bytes.extend(set.to_be_bytes());
+                bytes.push(*needed);
+                bytes.extend((children.len() as u16).to_be_bytes());
+            }
+            Tree::Open => bytes.push(3),
+            Tree::Close { children } => bytes.extend([4, children.len() as u8]),
+        }
+        for child in self.children() {
+            child.write(bytes);
+        }
+    }
+
+    /// The certificate of the tree, of version 2, for so many batches and the closed or the open end.
+    pub fn certificate(&self, is_closed: bool, batches: u32) -> Vec<u8> {
+        let mut bytes = b"PCB2".to_vec();
+        bytes.push(u8::from(is_closed));
+        bytes.extend(batches.to_be_bytes());
+        self.write(&mut bytes);
+        bytes
+    }
 }

@@ -17,9 +17,8 @@ HERE = pathlib.Path(__file__).resolve().parent
 sys.path.insert(0, str(HERE.parent))
 sys.path.insert(0, str(HERE))
 import checker
-from tally import Tally
+from tally import PROGRAM, Tally
 
-PROGRAM = HERE.parents[1] / "crates/pocsag_app/out/pocsag_app"
 HEADER = b"address,kind,message\n"
 CHANGES = 3_000
 PLANNED = 60

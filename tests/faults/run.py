@@ -15,11 +15,9 @@ import tempfile
 
 sys.dont_write_bytecode = True
 sys.path.insert(0, str(pathlib.Path(__file__).resolve().parents[1]))
-from tally import Tally
+from tally import PROGRAM, TOP, Tally
 
-TOP = pathlib.Path(__file__).resolve().parents[2]
 HERE = pathlib.Path(__file__).resolve().parent
-PROGRAM = TOP / "crates/pocsag_app/out/pocsag_app"
 TRIAL = TOP / "crates/pocsag_trial/out/pocsag_trial"
 MOST = 20_000
 

@@ -20,9 +20,8 @@ HERE = pathlib.Path(__file__).resolve().parent
 sys.path.insert(0, str(HERE.parent))
 sys.path.insert(0, str(HERE.parent / "certificates"))
 import checker
-from tally import Tally
+from tally import PROGRAM, Tally
 
-PROGRAM = HERE.parents[1] / "crates/pocsag_app/out/pocsag_app"
 ROUNDS = 1_500
 SYNC = "7cd215d8"
 IDLE = "7a89c197"

@@ -16,9 +16,8 @@ import time
 
 sys.dont_write_bytecode = True
 sys.path.insert(0, str(pathlib.Path(__file__).resolve().parents[1]))
-from tally import Tally
+from tally import TOP, Tally
 
-TOP = pathlib.Path(__file__).resolve().parents[2]
 CRATES = "low:\nmiddle: low csv\npocsag_app: clap middle low\npocsag_bench: middle\npocsag_trial: low\n"
 
 # What each stand-in does when it is called as `rt run -- --help` in the program's folder.

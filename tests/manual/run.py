@@ -13,10 +13,8 @@ import sys
 
 sys.dont_write_bytecode = True
 sys.path.insert(0, str(pathlib.Path(__file__).resolve().parents[1]))
-from tally import Tally
+from tally import PROGRAM, TOP, Tally
 
-TOP = pathlib.Path(__file__).resolve().parents[2]
-PROGRAM = TOP / "crates/pocsag_app/out/pocsag_app"
 MANUAL = TOP / "docs/pocsag.1"
 EVERYWHERE = {"-h", "--help", "-V", "--version"}
 

@@ -12,17 +12,15 @@ import pathlib
 import random
 import subprocess
 import sys
-import tempfile
 import xml.etree.ElementTree as ElementTree
 
 sys.dont_write_bytecode = True
-TOP = pathlib.Path(__file__).resolve().parents[2]
-sys.path.insert(0, str(TOP / "tests"))
+sys.path.insert(0, str(pathlib.Path(__file__).resolve().parents[1]))
+from tally import PROGRAM, TOP, run_parts
+
 sys.path.insert(0, str(TOP / "docs/pictures"))
 import make
-from tally import Tally
 
-PROGRAM = TOP / "crates/pocsag_app/out/pocsag_app"
 SVG = "{http://www.w3.org/2000/svg}"
 IDLE, TONE, MESSAGE = (bytes.fromhex(word) for word in ("7A89C197", "000026EC", "C44447B9"))
 ZERO = bytes(4)
@@ -226,19 +224,14 @@ def check_refusals(tally, folder):
             tally.check(f"{kind}: some were refused {asked}", count > 0, count)
 
 
-def main():
-    tally = Tally()
-    with tempfile.TemporaryDirectory() as name:
-        folder = pathlib.Path(name)
-        check_text(tally, folder)
-        check_list(tally, folder)
-        check_svg(tally, folder)
-        check_faults(tally, folder)
-        check_refusals(tally, folder)
+def check_pictures(tally, _folder):
     for name, text in make.pictures().items():
         kept = TOP / "docs/pictures" / name
         tally.check(f"picture {name}", kept.is_file() and kept.read_bytes() == text, "run docs/pictures/make.py")
-    return tally.end()
+
+
+def main():
+    return run_parts(check_text, check_list, check_svg, check_faults, check_refusals, check_pictures)
 
 
 if __name__ == "__main__":

@@ -12,14 +12,11 @@ import re
 import select
 import subprocess
 import sys
-import tempfile
 
 sys.dont_write_bytecode = True
 sys.path.insert(0, str(pathlib.Path(__file__).resolve().parents[1]))
-from tally import Tally
+from tally import PROGRAM, TOP, run_parts
 
-TOP = pathlib.Path(__file__).resolve().parents[2]
-PROGRAM = TOP / "crates/pocsag_app/out/pocsag_app"
 HEADER = b"address,kind,message\n"
 PREAMBLE = b"\xaa" * 72
 PAGE = TOP / "docs/OPEN_ROUND.md"
@@ -329,17 +326,15 @@ def worked_session(tally, folder):
 
 
 def main():
-    tally = Tally()
-    with tempfile.TemporaryDirectory() as folder:
-        folder = pathlib.Path(folder)
-        words_of_answers(tally, folder)
-        many_edits(tally, folder)
-        files_of_a_plan(tally, folder)
-        hard_plans(tally, folder)
-        begins_with_pages(tally, folder)
-        last_line(tally, folder)
-        worked_session(tally, folder)
-    return tally.end()
+    return run_parts(
+        words_of_answers,
+        many_edits,
+        files_of_a_plan,
+        hard_plans,
+        begins_with_pages,
+        last_line,
+        worked_session,
+    )
 
 
 if __name__ == "__main__":

@@ -9,14 +9,11 @@ import pathlib
 import shutil
 import subprocess
 import sys
-import tempfile
 
 sys.dont_write_bytecode = True
 sys.path.insert(0, str(pathlib.Path(__file__).resolve().parents[1]))
-from tally import Tally
+from tally import PROGRAM, run_parts
 
-TOP = pathlib.Path(__file__).resolve().parents[2]
-PROGRAM = TOP / "crates/pocsag_app/out/pocsag_app"
 HEADER = b"address,kind,message\n"
 PREAMBLE = b"\xaa" * 72
 SYNC = "7CD215D8"
@@ -503,23 +500,18 @@ def try_words(tally, folder):
 
 
 def main():
-    tally = Tally()
-    with tempfile.TemporaryDirectory() as name:
-        folder = pathlib.Path(name)
-        for part in (
-            try_rounds,
-            try_reports,
-            try_limits,
-            try_always,
-            try_refused,
-            try_files,
-            try_check,
-            try_receivers,
-            try_verify,
-            try_words,
-        ):
-            part(tally, folder)
-    return tally.end()
+    return run_parts(
+        try_rounds,
+        try_reports,
+        try_limits,
+        try_always,
+        try_refused,
+        try_files,
+        try_check,
+        try_receivers,
+        try_verify,
+        try_words,
+    )
 
 
 if __name__ == "__main__":

@@ -1,5 +1,6 @@
 #!/usr/bin/env python3
-"""Lists each word of specs/ that a public clause cites, and wants a row of docs/DEFINITIONS.md for it.
+"""Lists each word of specs/ that a public clause cites, and wants a row of docs/DEFINITIONS.md for it; and wants each
+word of specs/ to have one meaning: no name is given in two modules.
 
 A clause is public where it stands on a function that its crate passes on, on a method of a type that it
 passes on, on a method of a public trait, or on a command of the program. The last line is
@@ -12,10 +13,10 @@ import sys
 
 sys.dont_write_bytecode = True
 sys.path.insert(0, str(pathlib.Path(__file__).resolve().parents[1]))
-from tally import Tally
+from tally import TOP, Tally
 
-TOP = pathlib.Path(__file__).resolve().parents[2]
 IMPORT = re.compile(r"ghost use Rattle\.(pocsag_\w+)\.specs\.([\w.]+)\.\{([^}]*)\};")
+GIVEN = re.compile(r"^(?:(?:pub|record|data|abbrev|unfoldable) )+([^\s:{(]+)", re.MULTILINE)
 IGNORED_CRATES = {"pocsag_bench", "pocsag_trial"}
 
 
@@ -73,8 +74,20 @@ def contract_from(lines, place):
             return
 
 
+def check_meanings(tally):
+    """Wants each name that is given in specs/ to be given in one module alone."""
+    givers = {}
+    for file in sorted(TOP.glob("crates/*/specs/*.antt")):
+        for name in set(GIVEN.findall(file.read_text())) - {"mod", "use", "mutual"}:
+            givers.setdefault(name, []).append(f"{file.parts[-3]}.specs.{file.stem}")
+    for name, modules in sorted(givers.items()):
+        is_operator = "◌" in name
+        tally.check(f"one meaning of {name}", is_operator or len(modules) == 1, f"given in {', '.join(modules)}")
+
+
 def main():
     tally = Tally()
+    check_meanings(tally)
     page = (TOP / "docs/DEFINITIONS.md").read_text()
     rows = {word for quoted in re.findall(r"`([^`]+)`", page) for word in re.findall(r"[\w']+", quoted)}
     wanted = {}

@@ -12,7 +12,7 @@ use Rattle.pocsag_slots.specs.Numbering.{class_of_page}
 use Rattle.pocsag_batch.specs.Chains.{IsChain, Links, AreChains}
 use Rattle.pocsag_batch.specs.Placing.{class_at, page_at, places_of}
 use Rattle.pocsag_batch.proofs.ClassLists.{class_left, of_class_in, of_class_out, others_left, without}
-use Rattle.pocsag_batch.proofs.Places.{class_small}
+use Rattle.pocsag_slots.proofs.CountLemmas.{page_class_below}
 
 -- the class of the page that is read at a place
 pub class_at_item : (end : End) (R : List Page) (at : ℕ) (p : Page) → at < length R → p ≡ get_or R at p → class_of_page end p ≡ class_at end R at
@@ -89,7 +89,7 @@ takes_from end R links left c (k ∷ ks) chains is some =
     let each : All (λ x. (class_at end R x == c) ≡ true) (k ∷ ks) =
     subst (λ (v : List ℕ). All (λ x. (class_at end R x == c) ≡ true) v) is (filter_passes (λ x. class_at end R x == c) left) in
     let class : class_at end R k ≡ c = eqb-true (class_at end R k) c (All-head (λ x. (class_at end R x == c) ≡ true) k ks each) in
-    let below : class_at end R k < 136 = class_small end (page_at R k) in
+    let below : class_at end R k < 136 = page_class_below end (page_at R k) in
     let small : c < 136 = omega arith in
     let chain : IsChain links.next (slice_index links.head c) (k ∷ ks) =
     subst (λ (v : List ℕ). IsChain links.next (slice_index links.head c) v) is (chains.chain c small) in

@@ -9,13 +9,11 @@ use Rattle.pocsag_words.specs.declared.ending.End.TheVariants.{Open}
 use Rattle.pocsag_pages.specs.declared.page.Page.{Page}
 use Rattle.pocsag_pages.specs.Reading.{Reads, at_end as no_words, past_idle, past_page as page_read, BeginsNoMessage, frame_at, page_words, page_length, IsLegalFor}
 use Rattle.pocsag_batch.specs.FileOrder.{IsLeastFrom, IsInFrame, IsWhole, InOrder, at_end, past_page, IsFileOrder}
-
-at_index : (ws : List Kind) (ps : List Page) (i j : ℕ) → i ≡ j → Reads ws i ps → Reads ws j ps
-at_index ws ps i j e r = subst (λ (k : ℕ). Reads ws k ps) e r
+use Rattle.pocsag_pages.proofs.Readings.{reads_at}
 
 reads_idles : (gap i : ℕ) (ws : List Kind) (ps : List Page) → Reads ws (i + gap) ps → Reads (replicate gap Idle ++ ws) i ps
-reads_idles zero i ws ps r = at_index ws ps (i + 0) i (omega arith) r
-reads_idles (suc gap) i ws ps r = past_idle (reads_idles gap (i + 1) ws ps (at_index ws ps (i + suc gap) (i + 1 + gap) (omega arith) r))
+reads_idles zero i ws ps r = reads_at ws ps (i + 0) i (omega arith) r
+reads_idles (suc gap) i ws ps r = past_idle (reads_idles gap (i + 1) ws ps (reads_at ws ps (i + suc gap) (i + 1 + gap) (omega arith) r))
 
 reads_all_idles : (gap i : ℕ) → Reads (replicate gap Idle) i []
 reads_all_idles zero i = no_words
@@ -47,7 +45,7 @@ reads_in_order {i = i} (past_page {p = p} {R = R} gap rest least is left) =
     let here : Reads (page_words p ++ rest) (i + gap) (p ∷ R) =
     subst (λ (q : Page). Reads (page_words p ++ rest) (i + gap) (q ∷ R)) (page_at p (i + gap) least.fit)
     (page_read p.payload rest refl (begins left)
-    (at_index rest R (i + gap + page_length p) (i + gap + 1 + length p.payload) (omega arith) (reads_in_order left))) in
+    (reads_at rest R (i + gap + page_length p) (i + gap + 1 + length p.payload) (omega arith) (reads_in_order left))) in
     subst (λ (v : List Kind). Reads v i (p ∷ R)) (sym is) (reads_idles gap i (page_words p ++ rest) (p ∷ R) here)
 
 pub page_words_long : (p : Page) → length (page_words p) ≡ page_length p

@@ -11,7 +11,7 @@ use Rattle.pocsag_batch.specs.Chains.{Links, AreChains}
 use Rattle.pocsag_batch.specs.Placing.{class_at, page_at, IsOrder}
 use Rattle.pocsag_batch.proofs.Chains.{chains_added}
 use Rattle.pocsag_batch.proofs.Orders.{Stands, order_stands, stands_first, stands_run}
-use Rattle.pocsag_batch.proofs.Places.{class_small}
+use Rattle.pocsag_slots.proofs.CountLemmas.{page_class_below}
 
 -- queues of the places from here on
 record Queued (end : End) (R : List Page) (at m : ℕ) : Type 0 where
@@ -35,7 +35,7 @@ queued end R at (suc m) all =
       next = slice_set q.next at (slice_index q.head c);
       head = slice_set q.head c at;
       long = length-set q.next at (slice_index q.head c) ∙ q.long;
-      chains = chains_added end R q.next q.head at m c (omega arith) refl (class_small end (page_at R at)) q.chains;
+      chains = chains_added end R q.next q.head at m c (omega arith) refl (page_class_below end (page_at R at)) q.chains;
     }
 
 order_from : (end : End) (R : List Page) (links : Links) (order : List ℕ) (steps rest : List Step) → Stands end R links order steps rest →

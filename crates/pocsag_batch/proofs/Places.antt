@@ -14,9 +14,6 @@ use Rattle.pocsag_slots.proofs.Laying.{served_tour}
 use Rattle.pocsag_slots.proofs.Walks.{count_of-cons}
 use Rattle.pocsag_batch.specs.Placing.{all_places, class_at, page_at, places_of}
 
-pub class_small : (end : End) (p : Page) → class_of_page end p < 136
-class_small end p = class_below end (p.address % 8) (page_length p) (omega arith)
-
 pub all_within : (n : ℕ) → All (λ k. k < n) (range_with_len 0 n)
 all_within n j d h =
     let long : length (range_with_len 0 n) ≡ n = length-range_with_len 0 n in

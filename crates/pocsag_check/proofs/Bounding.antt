@@ -24,6 +24,7 @@ use Rattle.pocsag_slots.proofs.Walks.{arcs_past_run, run_length_is}
 use Rattle.pocsag_check.specs.Accepting.{Accepts, AcceptsRoot}
 use Rattle.pocsag_check.specs.Fitting.{busy, Fits}
 use Rattle.pocsag_check.proofs.Refuted.{refuted}
+use Rattle.pocsag_slots.proofs.Endings.{last_behind}
 
 busy_run : (items : List ℕ) (rest : List Kind) (i slot : ℕ) → slot < 16 →
     busy i (map Message items ++ rest) slot ≡ covered i (length items) slot + busy (i + length items) rest slot
@@ -119,17 +120,13 @@ idles_append (Stay ∷ ss) ts p q slot leads =
     omega arith
 idles_append (Run c e ∷ ss) ts p q slot leads = idles_append ss ts (finish_of c e) q slot leads.1
 
-last_more : (s : Step) (ss : List Step) → LastIsWhole ss → LastIsWhole (s ∷ ss)
-last_more s [] h = absurd h
-last_more s (t ∷ ss) h = h
-
 last_stays : (g : ℕ) → LastIsWhole (replicate (suc g) Stay)
 last_stays zero = tt
 last_stays (suc g) = last_stays g
 
 last_append : (ss : List Step) (g : ℕ) → LastIsWhole (ss ++ replicate (suc g) Stay)
 last_append [] g = last_stays g
-last_append (s ∷ ss) g = last_more s (ss ++ replicate (suc g) Stay) (last_append ss g)
+last_append (s ∷ ss) g = last_behind s (ss ++ replicate (suc g) Stay) (last_append ss g)
 
 last_as : (end : End) (ss : List Step) (g : ℕ) → LastAs end ss → LastAs end (ss ++ replicate g Stay)
 last_as Open ss g h = tt

@@ -11,6 +11,7 @@ use Rattle.pocsag_slots.specs.declared.limit.Limits.{Limits}
 use Rattle.pocsag_slots.specs.declared.way.Way.{Way}
 use Rattle.pocsag_slots.specs.Ways.{narrowed_limits}
 use Rattle.pocsag_check.specs.Accepting.{AcceptsEach, AcceptsWithin, AcceptsEachWithin}
+use Rattle.pocsag_tree.proofs.Counts.{count_of_bounds}
 
 pub row_long : (u : Bool) (k : Classes) (end : End) (b : ℕ) (l : Limits) (ws : List Way) (ts : Bounds) → AcceptsEach u k end b l ws ts → length ws ≡ count_of ts
 row_long u k end b l [] none a = refl
@@ -18,13 +19,9 @@ row_long u k end b l [] (more t ts) a = absurd a
 row_long u k end b l (w ∷ ws) none a = absurd a
 row_long u k end b l (w ∷ ws) (more t ts) a = let rest : length ws ≡ count_of ts = row_long u k end b l ws ts a.1 in omega arith
 
-count_of_trees : (ts : List Tree) → count_of (bounds_of ts) ≡ length ts
-count_of_trees [] = refl
-count_of_trees (t ∷ ts) = let rest : count_of (bounds_of ts) ≡ length ts = count_of_trees ts in omega arith
-
 pub as_long : (u : Bool) (k : Classes) (end : End) (b : ℕ) (l : Limits) (ws : List Way) (ts : List Tree) →
     AcceptsEach u k end b l ws (bounds_of ts) → length ws ≡ length ts
-as_long u k end b l ws ts a = row_long u k end b l ws (bounds_of ts) a ∙ count_of_trees ts
+as_long u k end b l ws ts a = row_long u k end b l ws (bounds_of ts) a ∙ count_of_bounds ts
 
 -- where the children so far are accepted, all are exactly where the rest are
 pub record IsLeft (u : Bool) (k : Classes) (end : End) (b : ℕ) (l : Limits) (depth : ℕ) (ws : List Way) (ts : List Tree) (i : ℕ) : Type 0 where

@@ -1,6 +1,6 @@
 -- A set that holds boundary 0, and not all boundaries, is crossed by the idles of at least two slots.
 use Rattle.std.proofs.Common.{◌≡◌, ◌⊎◌, ℕ, zero, suc, ◌+◌, ◌-◌, ◌%◌, ◌<◌, ◌≤◌, ◌||◌, Bool, true, false, not, cond, IsTrue, List, ◌++◌, length, refl, sym, ap, subst, ◌∙◌, arith, inl, inr, length-append, nat_lt, slice_index}
-use Rattle.std.proofs.lemmas.Bool.{cases_Bool, cases_eq}
+use Rattle.std.proofs.lemmas.Bool.{cases_Bool, cases_eq, not-false, not-true, not_from_false}
 use Rattle.pocsag_slots.specs.declared.class.Classes.{Classes}
 use Rattle.pocsag_slots.specs.declared.limit.Limits.{Limits}
 use Rattle.pocsag_slots.specs.declared.way.Way.{Way}
@@ -88,24 +88,12 @@ two_joined (suc n) i j f h l first second =
       | inr other ↦ omega (arith, two_joined n i j f h (omega arith) first second)
     ])
 
-flipped : (b : Bool) → b ≡ false → not b ≡ true
-flipped true h = absurd (cc)
-flipped false h = refl
-
-unflipped : (b : Bool) → not b ≡ false → b ≡ true
-unflipped true h = refl
-unflipped false h = absurd (cc)
-
-unflipped_out : (b : Bool) → not b ≡ true → b ≡ false
-unflipped_out true h = absurd (cc)
-unflipped_out false h = refl
-
 two_slots : (set : ℕ) → holds set 0 ≡ true → IsOut set → 2 ≤ length (joined_below 16 (slot_ways set))
 two_slots set home out =
     let q = out.boundary in
     let around : ℕ → Bool = λ (p : ℕ). holds set (p % 16) in
     let leaves : TurnsTrue (λ (p : ℕ). not (holds set p)) 0 q =
-    turns (λ (p : ℕ). not (holds set p)) 0 q q (omega arith) (rw home refl) (flipped (holds set q) out.out) in
+    turns (λ (p : ℕ). not (holds set p)) 0 q q (omega arith) (rw home refl) (not_from_false (holds set q) out.out) in
     let small : q % 16 ≡ q = omega (arith, out.known) in
     let back : TurnsTrue around q 16 =
     turns around q (16 - q) 16 (omega (arith, out.known)) (subst (λ (p : ℕ). holds set p ≡ false) (sym small) out.out) home in
@@ -114,8 +102,8 @@ two_slots set home out =
     let i_next : i + 1 ≡ (i + 1) % 16 = omega (arith, leaves.below, out.known) in
     let j_here : j % 16 ≡ j = omega (arith, back.below) in
     let first : idle_crosses i set ≡ true =
-    crossed_out set i (unflipped (holds set i) leaves.before)
-    (subst (λ (p : ℕ). holds set p ≡ false) i_next (unflipped_out (holds set (i + 1)) leaves.after)) in
+    crossed_out set i (not-false (holds set i) leaves.before)
+    (subst (λ (p : ℕ). holds set p ≡ false) i_next (not-true (holds set (i + 1)) leaves.after)) in
     let second : idle_crosses j set ≡ true =
     crossed_in set j (subst (λ (p : ℕ). holds set p ≡ false) j_here back.before) back.after in
     two_joined 16 i j (slot_ways set) (omega (arith, leaves.below, back.from)) back.below (one_way set i first) (one_way set j second)

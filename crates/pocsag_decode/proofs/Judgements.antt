@@ -26,6 +26,7 @@ use Rattle.pocsag_decode.proofs.Preambles.{Parts, BeginsOther, leading_is, after
 use Rattle.pocsag_decode.proofs.Transmissions.{IsWhole, codewords_of}
 use Rattle.pocsag_decode.proofs.WordByWord.{length_more, good_sync, bad_sync, good_codeword, bad_codeword, bad_orphan, bad_stays, may_sync, may_codeword}
 use Rattle.pocsag_decode.proofs.Words.{bad_on}
+use Rattle.pocsag_pages.proofs.Lengths.{body_length, synced_count}
 
 -- a word is good or bad, and bad in one way
 good_not_bad : (ws : List ℕ) (j : ℕ) (f : DecodeFault) → IsGood ws j → IsBad ws j f → ⊥
@@ -253,15 +254,6 @@ synced_good (w ∷ T) before i good r at are h =
           (synced_good T (before ++ w ∷ []) (i + 1) (word_good before w T good n are h) (omega arith) (omega arith) (All-tail IsCodeword w T are) (rest_follows before w T good n are h)))
     ]
 
-synced_count : (i : ℕ) (T : List ℕ) → length (synced i T) + (i + 15) / 16 ≡ length T + (i + length T + 15) / 16
-synced_count i [] = omega arith
-synced_count i (w ∷ T) =
-    let more = synced_count (i + 1) T in
-    elim (cases_eq (i % 16) 0) [
-      | inl e ↦ rw (eq-eqb _ _ e) (omega arith)
-      | inr n ↦ rw (ne_eqb _ _ n) (omega arith)
-    ]
-
 synced_small : (i : ℕ) (T : List ℕ) → All IsCodeword T → All (λ w. w < 2 ^ 32) (synced i T)
 synced_small i [] are = All-nil (λ w. w < 2 ^ 32)
 synced_small i (w ∷ T) are =
@@ -276,10 +268,6 @@ words_again : (ws : List ℕ) → All (λ w. w < 2 ^ 32) ws → words_of (flat_m
 words_again [] small = refl
 words_again (w ∷ ws) small =
     ap₂ (λ (x : ℕ) (l : List ℕ). x ∷ l) (from_be_bytes-to_be_bytes_4 w (All-head (λ x. x < 2 ^ 32) w ws small)) (words_again ws (All-tail (λ x. x < 2 ^ 32) w ws small))
-
-body_length : (ws : List ℕ) → length (flat_map (to_be_bytes w32) ws) ≡ 4 * length ws
-body_length [] = refl
-body_length (w ∷ ws) = let e = body_length ws in omega arith
 
 body_begins : (T : List ℕ) → BeginsOther (body_bytes T)
 body_begins [] = tt

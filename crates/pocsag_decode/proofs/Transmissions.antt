@@ -22,8 +22,9 @@ use Rattle.pocsag_decode.specs.Growing.{resumed, closed}
 use Rattle.pocsag_pages.specs.Listable.{IsListable}
 use Rattle.pocsag_decode.specs.Places.{is_message, is_idle, may_follow, IsGood, AreGood}
 use Rattle.pocsag_decode.proofs.Preambles.{parts, nil_from}
-use Rattle.pocsag_decode.proofs.WordByWord.{length_more, unsynced_count, may_sync, may_codeword, may_kept}
+use Rattle.pocsag_decode.proofs.WordByWord.{length_more, may_sync, may_codeword, may_kept}
 use Rattle.pocsag_decode.proofs.Words.{bytes_count}
+use Rattle.pocsag_pages.proofs.Lengths.{unsynced_count}
 
 -- the words so far, of which the next is w
 module _ (before : List ℕ) (w : ℕ) (ws : List ℕ) (good : AreGood (before ++ w ∷ ws)) where

@@ -15,6 +15,7 @@ use Rattle.pocsag_decode.specs.declared.growing.Growing.{Growing}
 use Rattle.pocsag_decode.specs.Growing.{resumed}
 use Rattle.pocsag_decode.specs.Places.{is_message, is_idle, index_at, before, may_follow, IsBad, no_sync, bad_word, orphan, IsGood, AreGood, HasBadWord}
 use Rattle.pocsag_decode.specs.Standing.{HasRead}
+use Rattle.pocsag_pages.proofs.Lengths.{unsynced_count}
 
 before_lt : (j : ℕ) → 1 < j → before j < j
 before_lt j h = cond_both (j % 17 == 1) (j - 2) (j - 1) (λ x. x < j) (λ e. omega arith) (λ e. omega arith)
@@ -142,16 +143,6 @@ unsynced_sync j w e = rw (eq-eqb _ _ e) refl
 
 unsynced_codeword : (j w : ℕ) → j % 17 ≢ 0 → unsynced j (w ∷ []) ≡ w ∷ []
 unsynced_codeword j w n = rw (ne_eqb _ _ n) refl
-
--- how many they are
-pub unsynced_count : (j : ℕ) (ws : List ℕ) → length (unsynced j ws) + (j + length ws + 16) / 17 ≡ length ws + (j + 16) / 17
-unsynced_count j [] = omega arith
-unsynced_count j (v ∷ ws) =
-    let more = unsynced_count (j + 1) ws in
-    elim (cases_eq (j % 17) 0) [
-      | inl e ↦ rw (eq-eqb _ _ e) (omega arith)
-      | inr n ↦ rw (ne_eqb _ _ n) (omega arith)
-    ]
 
 -- a bad word after words that were read
 module _ (place : ℕ) (growing : Growing) (ws : List ℕ) (w : ℕ) (r : HasRead place growing ws) where

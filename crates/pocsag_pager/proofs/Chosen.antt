@@ -5,6 +5,7 @@ use Rattle.std.proofs.lemmas.List.Elements.{All-head, All-tail}
 use borrow.Author.Tests.{apart_eqb}
 use Rattle.pocsag_pages.specs.declared.page.Page.{Page}
 use Rattle.pocsag_pages.specs.Reading.{AreApart}
+use Rattle.pocsag_pages.proofs.PageLists.{apart_rest}
 
 -- whether the page is for the address
 abbrev pub calls : ℕ → Page → Bool
@@ -46,9 +47,6 @@ only a (x ∷ xs) ys r e none = only_case (calls a x) x r (filter (calls a) (xs 
 nothing : (a : ℕ) (ps : List Page) → All (λ p. p.address ≢ a) ps → filter (calls a) ps ≡ []
 nothing a [] far = refl
 nothing a (p ∷ ps) far = rw (apart_eqb _ _ (All-head (λ q. q.address ≢ a) p ps far)) (nothing a ps (All-tail (λ q. q.address ≢ a) p ps far))
-
-apart_rest : (r : Page) (R : List Page) → AreApart (r ∷ R) → AreApart R
-apart_rest r R apart = λ j k d below within. apart (suc j) (suc k) d (omega arith) (omega arith)
 
 apart_first : (r : Page) (R : List Page) → AreApart (r ∷ R) → All (λ q. r.address ≢ q.address) R
 apart_first r R apart = λ k d within. apart 0 (suc k) d (omega arith) (omega arith)

@@ -16,7 +16,8 @@ use Rattle.pocsag_pager.specs.Shown.{Heard, IsMended, IsShown, said, shown_from}
 use Rattle.pocsag_pager.specs.Standing.{HaveEnded, IsElsewhere, ended_from, open_from}
 use Rattle.pocsag_pager.specs.Turns.{IsHeardAs, ending, next_open}
 use Rattle.pocsag_pager.proofs.Mending.{AreRepaired, heard_at, all_mended_same}
-use Rattle.pocsag_pager.proofs.Places.{ended_more, ending_none, last_synced, last_unsynced, next_open_elsewhere, next_open_same, open_more, shown_is, unsynced_long, unsynced_more}
+use Rattle.pocsag_pager.proofs.Places.{ended_more, ending_none, last_synced, last_unsynced, next_open_elsewhere, next_open_same, open_more, shown_is, unsynced_more}
+use Rattle.pocsag_pages.proofs.Lengths.{unsynced_count}
 
 AllZip-push_two : {A B : Type 0} (R : A → B → Type 0) (xs : List A) (ys : List B) (x : A) (y : B) → AllZip R xs ys → R x y → AllZip R (xs ++ x ∷ []) (ys ++ y ∷ [])
 AllZip-push_two R [] [] x y all here = (here, tt)
@@ -78,7 +79,7 @@ module _ (a p w : ℕ) (words : List ℕ) (s : State) (before : Option Page) (m 
   turn_open after e =
       heard_more words w m (λ ms. s ≡ Listening (open_from a 0 ms)) (λ ms. Listening after ≡ Listening (open_from a 0 ms)) not_synced is stands
       (λ ms long h.
-      let slot : length ms % 16 ≡ (p - 1) % 16 = omega (arith, unsynced_long 0 words) in
+      let slot : length ms % 16 ≡ (p - 1) % 16 = omega (arith, unsynced_count 0 words) in
       ap Listening (e ∙ next_open_same a (p - 1) (length ms) before m (sym slot)
       ∙ ap (λ (o : Option Page). next_open a (length ms) o m) (open_is s before (open_from a 0 ms) holds h)
       ∙ sym (open_more a 0 (length ms) ms m (omega arith))))

@@ -197,12 +197,3 @@ last_synced j w e = rw (eq-eqb _ _ e) refl
 pub last_unsynced : (j w : ℕ) → j % 17 ≢ 0 → last_word j w ≡ w ∷ []
 unfolding last_word
 last_unsynced j w n = rw (apart_eqb _ _ n) refl
-
-pub unsynced_long : (j : ℕ) (ws : List ℕ) → length (unsynced j ws) + (j + length ws + 16) / 17 ≡ length ws + (j + 16) / 17
-unsynced_long j [] = omega arith
-unsynced_long j (x ∷ ws) =
-    let more = unsynced_long (j + 1) ws in
-    elim (cases_eq (j % 17) 0) [
-      | inl e ↦ rw (eq-eqb _ _ e) (omega arith)
-      | inr n ↦ rw (apart_eqb _ _ n) (omega arith)
-    ]

@@ -23,6 +23,7 @@ use Rattle.pocsag_pager.specs.Faults.{bytes_fault}
 use Rattle.pocsag_pager.specs.Shown.{IsMended, IsShown, is_ours, page_of, run_of, said, shown_from}
 use Rattle.pocsag_pager.proofs.Chosen.{calls, chosen}
 use Rattle.pocsag_pager.proofs.Mending.{mended_back}
+use Rattle.pocsag_pages.proofs.Lengths.{body_length, synced_count}
 
 -- ---- the words of a transmission's bytes
 
@@ -51,19 +52,6 @@ unfolding bytes_of
 after_is [] some = absurd (omega arith)
 after_is (w ∷ T) some = refl
 
-bytes_long : (ws : List ℕ) → length (flat_map (to_be_bytes w32) ws) ≡ 4 * length ws
-bytes_long [] = refl
-bytes_long (w ∷ ws) = let more = bytes_long ws in omega arith
-
-synced_long : (i : ℕ) (T : List ℕ) → length (synced i T) + (i + 15) / 16 ≡ length T + (i + length T + 15) / 16
-synced_long i [] = omega arith
-synced_long i (w ∷ T) =
-    let more = synced_long (i + 1) T in
-    elim (cases_eq (i % 16) 0) [
-      | inl e ↦ rw (eq-eqb _ _ e) (omega arith)
-      | inr n ↦ rw (apart_eqb _ _ n) (omega arith)
-    ]
-
 -- ---- no fault
 
 no_fault_case : (n m : ℕ) → 72 ≤ n → m ≢ 0 → m % 68 ≡ 0 → (Y : List ℕ) → leading Y ≡ n → length (after_preamble Y) ≡ m → bytes_fault Y ≡ None
@@ -75,11 +63,11 @@ no_fault end T batches R Y legal damaged =
     let long : length T ≡ 16 * batches = sym (length-map T kind_of) ∙ legal.1.0.whole.1 in
     let some : 0 < batches = legal.1.0.whole.0 in
     let front : leading Y ≡ 72 = sym damaged.preamble ∙ leading_is T (omega arith) in
-    let body : length (body_bytes T) ≡ 4 * length (synced 0 T) = bytes_long (synced 0 T) in
+    let body : length (body_bytes T) ≡ 4 * length (synced 0 T) = body_length (synced 0 T) in
     let sent : length (drop (leading (bytes_of T)) (bytes_of T)) ≡ length (body_bytes T) = ap length (after_is T (omega arith)) in
     let same : length (after_preamble Y) ≡ length (body_bytes T) =
     length-drop (leading Y) Y ∙ ap₂ ◌-◌ (sym damaged.long) (sym damaged.preamble) ∙ sym (length-drop (leading (bytes_of T)) (bytes_of T)) ∙ sent in
-    let words : length (synced 0 T) ≡ 17 * batches = omega (arith, synced_long 0 T) in
+    let words : length (synced 0 T) ≡ 17 * batches = omega (arith, synced_count 0 T) in
     no_fault_case 72 (68 * batches) (omega arith) (omega arith) (omega arith) Y front (omega arith)
 
 -- ---- the codewords, each mended

@@ -8,18 +8,12 @@ use Rattle.std.proofs.lemmas.List.{length-map}
 use Rattle.std.proofs.lemmas.List.Elements.{All-cons, All-nil, All-head, All-tail}
 use Rattle.std.proofs.lemmas.Map.Keys.{apart_from_distinct}
 use Rattle.std.proofs.lemmas.Map.Steps.{length-le_from_distinct_below}
+use Rattle.std.proofs.lemmas.Bool.{or_parts}
 use Rattle.pocsag_text.specs.Text.{item_limit}
 use Rattle.pocsag_pages.specs.declared.page.Page.{Page}
 use Rattle.pocsag_pages.specs.Pages.{last_address, AreGood, IsGoodPage, addresses_of, is_bad_payload, page_fault_of}
 use Rattle.pocsag_pages.specs.Reading.{AreApart}
-
-if_none : {X : Type 0} (b : Bool) (x : X) (rest : Option X) → cond b (Some x) rest ≡ None → (b ≡ false) × (rest ≡ None)
-if_none true x rest e = absurd (cc)
-if_none false x rest e = (refl, e)
-
-neither : (a b : Bool) → (a || b) ≡ false → (a ≡ false) × (b ≡ false)
-neither true b e = absurd (cc)
-neither false b e = (refl, e)
+use Rattle.pocsag_text.proofs.Payloads.{none_from_cond}
 
 not_above : (limit n : ℕ) → nat_lt limit n ≡ false → n ≤ limit
 not_above limit n e = grind (arith, nat_tests)
@@ -33,7 +27,7 @@ not_reached limit n e = grind (arith, nat_tests)
 none_large : (items : List ℕ) → list_any (nat_le (2 ^ 20)) items ≡ false → All (λ item. item < 2 ^ 20) items
 none_large [] e = All-nil _
 none_large (x ∷ items) e =
-    let d = neither (nat_le (2 ^ 20) x) (list_any (nat_le (2 ^ 20)) items) e in
+    let d = or_parts (nat_le (2 ^ 20) x) (list_any (nat_le (2 ^ 20)) items) e in
     All-cons (λ item. item < 2 ^ 20) x items (not_reached (2 ^ 20) x d.0) (none_large items d.1)
 
 not_empty : (x : ℕ) (items : List ℕ) → nat_eq (length (x ∷ items)) 0 ≡ false
@@ -50,12 +44,12 @@ unwanted f h = grind (arith, nat_tests)
 pub good_page : (p : Page) → page_fault_of p ≡ None → IsGoodPage p
 unfolding is_bad_payload
 good_page p e =
-    let a = if_none _ _ _ e in
-    let r = if_none _ _ _ a.1 in
-    let b = if_none _ _ _ r.1 in
-    let f = neither (nat_lt 3 p.function || ((nat_eq p.function 1 || nat_eq p.function 2) && not (nat_eq (length p.payload) 0)) || nat_lt item_limit (length p.payload)) (list_any (nat_le (2 ^ 20)) p.payload) b.0 in
-    let g = neither (nat_lt 3 p.function || ((nat_eq p.function 1 || nat_eq p.function 2) && not (nat_eq (length p.payload) 0))) (nat_lt item_limit (length p.payload)) f.0 in
-    let h = neither (nat_lt 3 p.function) ((nat_eq p.function 1 || nat_eq p.function 2) && not (nat_eq (length p.payload) 0)) g.0 in
+    let a = none_from_cond _ _ _ e in
+    let r = none_from_cond _ _ _ a.1 in
+    let b = none_from_cond _ _ _ r.1 in
+    let f = or_parts (nat_lt 3 p.function || ((nat_eq p.function 1 || nat_eq p.function 2) && not (nat_eq (length p.payload) 0)) || nat_lt item_limit (length p.payload)) (list_any (nat_le (2 ^ 20)) p.payload) b.0 in
+    let g = or_parts (nat_lt 3 p.function || ((nat_eq p.function 1 || nat_eq p.function 2) && not (nat_eq (length p.payload) 0))) (nat_lt item_limit (length p.payload)) f.0 in
+    let h = or_parts (nat_lt 3 p.function) ((nat_eq p.function 1 || nat_eq p.function 2) && not (nat_eq (length p.payload) 0)) g.0 in
     record {
       address = below_next last_address p.address (not_above last_address p.address a.0);
       unreserved = r.0;

@@ -14,24 +14,14 @@ use Rattle.pocsag_pages.specs.declared.page.Page.{Page}
 use Rattle.pocsag_pages.specs.Pages.{AreGood, addresses_of, has_address, page_fault_of}
 use Rattle.pocsag_pages.specs.Drafts.{IsDraft}
 use Rattle.std.specs.Prelude.{None}
-
-or_false : (b : Bool) → (b || false) ≡ b
-or_false true = refl
-or_false false = refl
+use Rattle.std.proofs.lemmas.Bool.{not-false, not-true}
+use Rattle.pocsag_words.proofs.Tests.{or_false}
 
 either : (b c : Bool) → cond b true c ≡ (c || b)
 either true true = refl
 either true false = refl
 either false true = refl
 either false false = refl
-
-was_false : (b : Bool) → not b ≡ true → b ≡ false
-was_false true e = absurd (cc)
-was_false false e = refl
-
-was_true : (b : Bool) → not b ≡ false → b ≡ true
-was_true true e = refl
-was_true false e = absurd (cc)
 
 pub good_none : AreGood []
 good_none = record { each = All-nil _; apart = IsDistinct-from_count nat_eq_equiv [] refl }
@@ -54,10 +44,10 @@ same_test a b = grind (arith, nat_tests)
 -- what the answer of `insert` says of the pages so far
 module _ (ps : List Page) (seen : BTreeSet ℕ) (a : ℕ) (added : Bool) (d : IsDraft ps seen) (e : added ≡ not (contains nat_cmp seen a)) where
   pub was_new : added ≡ true → has_address ps a ≡ false
-  was_new h = sym (d.addresses a) ∙ was_false (contains nat_cmp seen a) (sym e ∙ h)
+  was_new h = sym (d.addresses a) ∙ not-true (contains nat_cmp seen a) (sym e ∙ h)
 
   pub was_there : added ≡ false → has_address ps a ≡ true
-  was_there h = sym (d.addresses a) ∙ was_true (contains nat_cmp seen a) (sym e ∙ h)
+  was_there h = sym (d.addresses a) ∙ not-false (contains nat_cmp seen a) (sym e ∙ h)
 
 pub draft_none : (seen : BTreeSet ℕ) → seen.keys ≡ [] → IsDraft [] seen
 draft_none seen e = record { good = good_none; addresses = λ a. rw e refl }

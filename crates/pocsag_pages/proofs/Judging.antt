@@ -11,6 +11,7 @@ use Rattle.pocsag_pages.specs.declared.fault.RoundFault.{RoundFault}
 use Rattle.pocsag_pages.specs.declared.fault.RoundFault.TheVariants as fault
 use Rattle.pocsag_pages.specs.PageList.{unless_empty}
 use Rattle.pocsag_pages.specs.PageFile.{Row, file_limit, fault_after, fault_of_row, first_fault, is_header, numbered, page_of, pages_of, pages_unless, round_of_rows, rows_of, verdict, verdict_of_rows, with_page}
+use Rattle.pocsag_words.proofs.Tests.{is_above, not_above}
 
 -- the fault of record n + 1, or else what is said of the records after it
 abbrev pub or_later : Option RecordFault → ℕ → Result (List Page) RoundFault → Result (List Page) RoundFault
@@ -132,13 +133,6 @@ bad_header header rows e = rw e refl
 pub after_header : (header : Row) (rows : List Row) → is_header header ≡ true → verdict_of_rows (header ∷ rows) ≡ round_of_rows rows
 unfolding verdict_of_rows
 after_header header rows e = rw e refl
-
--- the verdict by the size
-not_above : (limit n : ℕ) → n ≤ limit → nat_lt limit n ≡ false
-not_above limit n h = grind (arith, nat_tests)
-
-is_above : (limit n : ℕ) → limit < n → nat_lt limit n ≡ true
-is_above limit n h = grind (arith, nat_tests)
 
 pub small_file : (bytes : List ℕ) → length bytes ≤ file_limit → verdict bytes ≡ verdict_of_rows (rows_of bytes)
 unfolding verdict

@@ -1,5 +1,5 @@
 -- The first fault of a list of pages, one page at a time.
-use Rattle.std.proofs.Common.{◌≡◌, ℕ, ◌+◌, ◌^◌, ◌<◌, ◌≤◌, true, false, List, [], ◌∷◌, ◌++◌, length, get_or, take, drop, refl, sym, ap, ◌∙◌, arith}
+use Rattle.std.proofs.Common.{◌≡◌, ℕ, suc, ◌+◌, ◌^◌, ◌<◌, ◌≤◌, true, false, List, [], ◌∷◌, ◌++◌, length, get_or, take, drop, refl, sym, ap, ◌∙◌, arith}
 use Rattle.std.specs.Prelude.{Some, None}
 use Rattle.std.proofs.lemmas.List.{take_more, drop_more, length-take}
 use Rattle.pocsag_pages.specs.declared.page.Page.{Page}
@@ -10,6 +10,7 @@ use Rattle.pocsag_pages.specs.declared.fault.RoundFault.TheVariants as fault
 use Rattle.pocsag_pages.specs.Pages.{AreGood, has_address, page_fault_of}
 use Rattle.pocsag_pages.specs.PageList.{fault_of_next, first_page_fault, numbered_page}
 use Rattle.pocsag_pages.proofs.GoodPages.{few_pages}
+use Rattle.pocsag_pages.specs.Reading.{AreApart}
 
 -- the fault of the page p, which follows these, is the first; or else it is that of the rest
 module _ (before rest : List Page) (p : Page) where
@@ -53,3 +54,6 @@ module _ (ps : List Page) (i : ℕ) (p : Page) (within : i < length ps) (here : 
   pub fine : page_fault_of p ≡ None → has_address (take i ps) p.address ≡ false → fault_of_next (take i ps) p ≡ None
   unfolding fault_of_next
   fine e h = rw (e, h) refl
+
+pub apart_rest : (r : Page) (R : List Page) → AreApart (r ∷ R) → AreApart R
+apart_rest r R apart = λ j k d below within. apart (suc j) (suc k) d (omega arith) (omega arith)

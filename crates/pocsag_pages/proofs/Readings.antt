@@ -58,8 +58,8 @@ record Readings (ws : List Kind) : Type 0 where
   whole : (i : ℕ) → HasNoOrphan false ws → Reads ws i (pages_from i ws)
   part : (j : ℕ) → HasNoOrphan true ws → Follows ws j
 
-at : (ws : List Kind) (ps : List Page) (i j : ℕ) → i ≡ j → Reads ws i ps → Reads ws j ps
-at ws ps i j e r = subst (λ (k : ℕ). Reads ws k ps) e r
+pub reads_at : (ws : List Kind) (ps : List Page) (i j : ℕ) → i ≡ j → Reads ws i ps → Reads ws j ps
+reads_at ws ps i j e r = subst (λ (k : ℕ). Reads ws k ps) e r
 
 readings : (ws : List Kind) → Readings ws
 readings [] = record {
@@ -74,7 +74,7 @@ readings (Idle ∷ ws) =
         rest = Idle ∷ ws;
         run = refl;
         begins = tt;
-        reads = at _ _ j (j + 0) (omega arith) (past_idle (d.whole (j + 1) h));
+        reads = reads_at _ _ j (j + 0) (omega arith) (past_idle (d.whole (j + 1) h));
       };
     }
 readings (Address high function ∷ ws) =
@@ -87,7 +87,7 @@ readings (Address high function ∷ ws) =
         rest = Address high function ∷ ws;
         run = refl;
         begins = tt;
-        reads = at _ _ j (j + 0) (omega arith) (page_reads j h);
+        reads = reads_at _ _ j (j + 0) (omega arith) (page_reads j h);
       };
     }
 readings (Message bits ∷ ws) =
@@ -100,7 +100,7 @@ readings (Message bits ∷ ws) =
             rest = f.rest;
             run = ap (λ v. Message bits ∷ v) f.run;
             begins = f.begins;
-            reads = at _ _ (j + 1 + length (items_of ws)) (j + length (bits ∷ items_of ws)) (omega arith) f.reads;
+            reads = reads_at _ _ (j + 1 + length (items_of ws)) (j + length (bits ∷ items_of ws)) (omega arith) f.reads;
           };
     }
 

@@ -1,5 +1,5 @@
 -- The bytes of a transmission: the rules of Annex 1 on the preamble and on batches.
-use Rattle.std.specs.Prelude.{◌≡◌, ℕ, ◌+◌, ◌%◌, ◌≤◌, ◌==◌, if◌then◌else◌, List, [], ◌∷◌, ◌++◌, replicate, drop, All}
+use Rattle.std.specs.Prelude.{◌≡◌, ℕ, ◌+◌, ◌*◌, ◌%◌, ◌≤◌, ◌==◌, if◌then◌else◌, List, [], ◌∷◌, ◌++◌, replicate, drop, All}
 use Rattle.std.specs.List.{flat_map}
 use Rattle.std.specs.Int.{to_be_bytes, from_be_bytes, w32}
 use Rattle.pocsag_words.specs.Codeword.{IsCodeword}
@@ -49,3 +49,12 @@ after_preamble xs = drop (leading xs) xs
 abbrev pub unsynced : ℕ → List ℕ → List ℕ
 unsynced j [] = []
 unsynced j (w ∷ ws) = if j % 17 == 0 then unsynced (j + 1) ws else w ∷ unsynced (j + 1) ws
+
+-- The words that the bytes have at the places of codewords.
+abbrev pub codewords_in : List ℕ → List ℕ
+codewords_in X = unsynced 0 (words_of (after_preamble X))
+
+-- The bits of a transmission of so many batches, rules of Annex 1: a preamble of 576, and 544 of each batch, which are
+-- those of a synchronisation codeword and sixteen codewords of 32 bits.
+abbrev pub transmission_bits : ℕ → ℕ
+transmission_bits batches = 576 + 544 * batches

@@ -8,6 +8,7 @@ use Rattle.std.proofs.lemmas.List.Elements.{All-from_recursion}
 use Rattle.std.proofs.lemmas.List.Folds.{list_any_none}
 use Rattle.std.proofs.lemmas.Map.Keys.{IsDistinct-head, IsDistinct-tail}
 use Rattle.std.proofs.lemmas.Map.Made.{is_some-lookup}
+use Rattle.std.proofs.lemmas.Bool.{or_parts}
 use Rattle.pocsag_pages.specs.declared.page.Page.{Page}
 use Rattle.pocsag_pages.specs.Pages.{addresses_of, has_address}
 use Rattle.pocsag_plan.specs.OpenRound.{without}
@@ -82,10 +83,6 @@ takes_out a (d ∷ es) p keyed e = by (nat_eq a d.0) refl (λ later. takes_out a
           keyed = subst AreKeyed (sym (rest_later a d es f)) (keyed_cons d (remove_entry (nat_eq a) es) (key_head d es keyed) out.keyed);
         }
 
-neither : (a b : Bool) → (a || b) ≡ false → (a ≡ false) × (b ≡ false)
-neither true b e = absurd (cc)
-neither false b e = (refl, e)
-
 -- the first page is left out, or kept
 out_here : (a : ℕ) (p : Page) (ps : List Page) → nat_eq a p.address ≡ true → without (p ∷ ps) a ≡ without ps a
 out_here a p ps t = ap (λ (b : Bool). cond (not b) (p ∷ without ps a) (without ps a)) t
@@ -97,7 +94,7 @@ kept_here a p ps f = ap (λ (b : Bool). cond (not b) (p ∷ without ps a) (witho
 pub nothing_out : (a : ℕ) (ps : List Page) → has_address ps a ≡ false → without ps a ≡ ps
 nothing_out a [] e = refl
 nothing_out a (p ∷ ps) e =
-    let apart = neither (nat_eq a p.address) (has_address ps a) e in
+    let apart = or_parts (nat_eq a p.address) (has_address ps a) e in
     kept_here a p ps apart.0 ∙ ap (λ (rest : List Page). p ∷ rest) (nothing_out a ps apart.1)
 
 -- with distinct addresses the removal of the first page of an address is that of all

@@ -1,5 +1,5 @@
 -- The load of a slot against that of the slot before: the runs that start between them, and those that end.
-use Rattle.std.proofs.Common.{◌≡◌, ℕ, zero, suc, ◌+◌, ◌-◌, ◌*◌, ◌/◌, ◌%◌, ◌<◌, ◌≤◌, ◌==◌, Bool, true, false, cond, slice_index, refl, sym, subst, ◌∙◌, arith}
+use Rattle.std.proofs.Common.{◌≡◌, ℕ, zero, suc, [], ◌∷◌, ◌+◌, ◌-◌, ◌*◌, ◌/◌, ◌%◌, ◌<◌, ◌≤◌, ◌==◌, Bool, true, false, cond, slice_index, refl, sym, subst, ◌∙◌, arith}
 use Rattle.std.proofs.lemmas.Bool.Decides.{nat_tests}
 use Rattle.pocsag_slots.specs.declared.class.Classes.{Classes}
 use Rattle.pocsag_slots.specs.Cover.{covered}
@@ -14,6 +14,10 @@ use Rattle.pocsag_slots.proofs.SumLemmas.{sum_below-add, sum_below-le, sum_below
 -- the boundary before, around the batch
 abbrev pub before : ℕ → ℕ
 before p = (p + 15) % 16
+
+-- before the first class nothing starts or ends anywhere
+pub sixteen_zeros : (p : ℕ) → p < 16 → slice_index (0 ∷ 0 ∷ 0 ∷ 0 ∷ 0 ∷ 0 ∷ 0 ∷ 0 ∷ 0 ∷ 0 ∷ 0 ∷ 0 ∷ 0 ∷ 0 ∷ 0 ∷ 0 ∷ []) p ≡ 0
+sixteen_zeros p h = grind arith
 
 at_place : (i p : ℕ) → p < 16 → cond (i % 16 == p) 1 0 + (i + 15 - p) / 16 ≡ (i + 16 - p) / 16
 at_place i p h = grind (arith, nat_tests)

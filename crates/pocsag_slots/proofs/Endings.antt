@@ -21,9 +21,9 @@ late_last : (i : ℕ) → (i + 1) % 16 ≡ 0 → (i % 2 == 0) ≡ false
 late_last i h = grind (arith, nat_tests)
 
 -- the last of several steps is the last of those behind the first
-behind : (s : Step) (ss : List Step) → LastIsWhole ss → LastIsWhole (s ∷ ss)
-behind s [] h = absurd h
-behind s (t ∷ ss) h = h
+pub last_behind : (s : Step) (ss : List Step) → LastIsWhole ss → LastIsWhole (s ∷ ss)
+last_behind s [] h = absurd h
+last_behind s (t ∷ ss) h = h
 
 -- where the arcs go on, they do after the first one
 pub ends_whole : (ws : List Kind) (i : ℕ) → (i + length ws) % 16 ≡ 0 → 0 < length ws → EndsWhole ws → LastIsWhole (arcs Closed i ws)
@@ -33,9 +33,9 @@ ends_whole (Address high function ∷ []) i h some e =
     let at : (i + 1) % 16 ≡ 0 = omega arith in
     (last_class i at, late_last i at)
 ends_whole (Message bits ∷ []) i h some e = absurd e
-ends_whole (Idle ∷ (v ∷ ws)) i h some e = behind Stay (arcs Closed (i + 1) (v ∷ ws)) (ends_whole (v ∷ ws) (i + 1) (omega arith) (omega arith) e)
+ends_whole (Idle ∷ (v ∷ ws)) i h some e = last_behind Stay (arcs Closed (i + 1) (v ∷ ws)) (ends_whole (v ∷ ws) (i + 1) (omega arith) (omega arith) e)
 ends_whole (Address high function ∷ (v ∷ ws)) i h some e =
-    behind (Run (class_of Closed (frame_at i) (1 + run_length (v ∷ ws))) (i % 2 == 0)) (arcs Closed (i + 1) (v ∷ ws))
+    last_behind (Run (class_of Closed (frame_at i) (1 + run_length (v ∷ ws))) (i % 2 == 0)) (arcs Closed (i + 1) (v ∷ ws))
     (ends_whole (v ∷ ws) (i + 1) (omega arith) (omega arith) e)
 ends_whole (Message bits ∷ (v ∷ ws)) i h some e = ends_whole (v ∷ ws) (i + 1) (omega arith) (omega arith) e
 

@@ -26,6 +26,7 @@ use Rattle.pocsag_slots.proofs.CoverLemmas.{class_below, class_frame_is, covered
 use Rattle.pocsag_slots.proofs.Taking.{IsTaken, taken, left_counts}
 use Rattle.pocsag_slots.proofs.Touring.{cover_is_load}
 use Rattle.pocsag_slots.proofs.Walks.{cover_of, walk, arcs_past_run, run_length_is, run_counts}
+use Rattle.pocsag_pages.proofs.Readings.{reads_at}
 
 -- the runs among the steps are the pages, class by class
 pub record IsServed (end : End) (R : List Page) (ss : List Step) : Type 0 where
@@ -68,9 +69,6 @@ pub record IsLaid (end : End) (R : List Page) (i : ℕ) (ss : List Step) : Type 
   pub steps : arcs end i (laid end R ss) ≡ ss
   pub begins : BeginsNoMessage (laid end R ss)
   pub moved : IsPermutation R ps
-
-reads_at : (ws : List Kind) (ps : List Page) (i j : ℕ) → i ≡ j → Reads ws i ps → Reads ws j ps
-reads_at ws ps i j e r = subst (λ (n : ℕ). Reads ws n ps) e r
 
 -- no runs, no pages
 no_pages : (end : End) (R : List Page) → ((c : ℕ) → 0 ≡ count_of end R c) → R ≡ []

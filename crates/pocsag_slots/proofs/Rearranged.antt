@@ -5,13 +5,11 @@ use Rattle.std.proofs.lemmas.List.{nil_from_length}
 use Rattle.std.proofs.lemmas.List.Sorted.{IsPermutation-cons, IsPermutation-refl, IsPermutation-remove, IsPermutation-sym, IsPermutation-trans, Contains-permutation, length_permutation}
 use Rattle.pocsag_pages.specs.declared.page.Page.{Page}
 use Rattle.pocsag_pages.specs.Reading.{AreApart}
+use Rattle.pocsag_pages.proofs.PageLists.{apart_rest}
 
 tail_or_head : (r x : Page) (xs : List Page) (m : ℕ) → m < length (r ∷ xs) → get_or (r ∷ xs) m x ≡ x → (r ≡ x) ⊎ Contains xs x
 tail_or_head r x xs zero h e = inl e
 tail_or_head r x xs (suc m) h e = inr (m, omega arith, e)
-
-apart_tail : (r : Page) (R : List Page) → AreApart (r ∷ R) → AreApart R
-apart_tail r R a j k d l h = a (suc j) (suc k) d (omega arith) (omega arith)
 
 pub rearranged : (R ps : List Page) → AreApart R → length ps ≡ length R → All (Contains ps) R → IsPermutation R ps
 rearranged [] ps a long each =
@@ -30,5 +28,5 @@ rearranged (r ∷ R) ps a long each =
       | inr found ↦ found
     ] in
     IsPermutation-trans (r ∷ R) (r ∷ remove ps first.0) ps
-    (IsPermutation-cons r R (remove ps first.0) (rearranged R (remove ps first.0) (apart_tail r R a) (omega arith) others))
+    (IsPermutation-cons r R (remove ps first.0) (rearranged R (remove ps first.0) (apart_rest r R a) (omega arith) others))
     (IsPermutation-sym ps (r ∷ remove ps first.0) moved)

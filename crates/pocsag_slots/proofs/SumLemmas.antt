@@ -88,7 +88,7 @@ chosen_times : (b : Bool) (t x : ℕ) → cond b (t * x) 0 ≡ t * cond b x 0
 chosen_times true t x = refl
 chosen_times false t x = omega arith
 
-chosen_none : (b : Bool) (x : ℕ) → x ≡ 0 → cond b x 0 ≡ 0
+pub chosen_none : (b : Bool) (x : ℕ) → x ≡ 0 → cond b x 0 ≡ 0
 chosen_none true x none = none
 chosen_none false x none = refl
 

@@ -2,6 +2,7 @@
 use Rattle.std.proofs.Common.{◌≡◌, ℕ, zero, suc, ◌+◌, ◌*◌, ◌<◌, ◌≤◌, ◌&&◌, Bool, true, false, nat_lt, cond, List, [], ◌∷◌, ◌++◌, All, length, refl, arith, add-one, length-append, append_assoc, slice_index}
 use Rattle.std.proofs.lemmas.Bool.Decides.{nat_tests}
 use Rattle.std.proofs.lemmas.List.Elements.{All-append, All-cons, All-nil}
+use Rattle.std.proofs.lemmas.Bool.{and_parts}
 use Rattle.pocsag_slots.specs.declared.class.Classes.{Classes}
 use Rattle.pocsag_slots.specs.declared.limit.Limits.{Limits}
 use Rattle.pocsag_slots.specs.declared.way.Way.{Way}
@@ -46,22 +47,18 @@ class_ways_few k l set c =
     rw length-append
     (omega (arith, one_or_none (early_open k l set c) (Early c), one_or_none (late_open k l set c) (Late c)))
 
-last_part : (a b : Bool) → (a && b) ≡ true → b ≡ true
-last_part true b h = h
-last_part false b h = absurd (cc)
-
 less : (a b : ℕ) → nat_lt a b ≡ true → a < b
 less a b h = grind (arith, nat_tests)
 
 early_allowed : (k : Classes) (l : Limits) (set c : ℕ) → early_open k l set c ≡ true → 0 < slice_index l.hi c
 unfolding early_open
 early_allowed k l set c h =
-    less 0 (slice_index l.hi c) (last_part (run_crosses c true set && nat_lt 0 (slice_index k.count c)) (nat_lt 0 (slice_index l.hi c)) h)
+    less 0 (slice_index l.hi c) ((and_parts (run_crosses c true set && nat_lt 0 (slice_index k.count c)) (nat_lt 0 (slice_index l.hi c)) h).1)
 
 late_allowed : (k : Classes) (l : Limits) (set c : ℕ) → late_open k l set c ≡ true → slice_index l.lo c < slice_index k.count c
 unfolding late_open
 late_allowed k l set c h =
-    less (slice_index l.lo c) (slice_index k.count c) (last_part (run_crosses c false set) (nat_lt (slice_index l.lo c) (slice_index k.count c)) h)
+    less (slice_index l.lo c) (slice_index k.count c) ((and_parts (run_crosses c false set) (nat_lt (slice_index l.lo c) (slice_index k.count c)) h).1)
 
 slot_ways_allowed : (k : Classes) (l : Limits) (set slot : ℕ) → slot < 16 → All (MayTake k l) (slot_ways set slot)
 unfolding slot_ways

@@ -1,9 +1,9 @@
 -- Codes with their bits reversed.
 use Rattle.std.proofs.Common.{◌≡◌, ℕ, ◌+◌, ◌-◌, ◌/◌, ◌^◌, ◌<◌, ◌≤◌, length, ◌++◌, Bool, true, ◌&&◌, eqb, refl, ap, ◌∙◌, arith}
 use Rattle.std.specs.Int.{w8, reverse_bits, reverse_bits_onto}
-use Rattle.std.proofs.lemmas.Bool.{eqb-true}
+use Rattle.std.proofs.lemmas.Bool.{and_parts, eqb-true}
 use Rattle.pocsag_text.specs.Bits.{low_first, high_first, low_number, high_number}
-use Rattle.pocsag_text.proofs.Below.{all_below, passes, and_left, and_right}
+use Rattle.pocsag_text.proofs.Below.{all_below, passes, and_left}
 use Rattle.pocsag_text.proofs.BitLists.{length-low_first, length-high_first, AreBits-low_first, AreBits-high_first, low_first-low_number, high_first-high_number, high_number-lt}
 
 -- a code whose bits are reversed
@@ -31,7 +31,7 @@ mirrored_high width code narrow fits =
 mirrored_low : (width code : ℕ) → width ≤ 8 → code < 2 ^ width → mirrored width code ≡ low_number (high_first width code)
 unfolding agrees
 mirrored_low width code narrow fits =
-    eqb-true _ _ (and_right _ _ (mirrored_agrees width code narrow fits))
+    eqb-true _ _ (and_parts _ _ (mirrored_agrees width code narrow fits)).1
 
 pub high_first-mirrored : (width code : ℕ) → width ≤ 8 → code < 2 ^ width → high_first width (reverse_bits w8 code / 2 ^ (8 - width)) ≡ low_first width code
 high_first-mirrored width code narrow fits =

@@ -14,7 +14,7 @@ use Rattle.pocsag_text.specs.Text.{fault_of_place, text_fault, unless, short_of,
 use Rattle.pocsag_text.proofs.BitLists.{length-low_first}
 use Rattle.pocsag_text.proofs.Cuts.{length-cut, length-flat_map-wide}
 
-none_from_cond : {X : Type 0} (b : Bool) (x : X) (o : Option X) → cond b (Some x) o ≡ None → (b ≡ false) × (o ≡ None)
+pub none_from_cond : {X : Type 0} (b : Bool) (x : X) (o : Option X) → cond b (Some x) o ≡ None → (b ≡ false) × (o ≡ None)
 none_from_cond true x o h = cc
 none_from_cond false x o h = (refl, h)
 

@@ -2,7 +2,7 @@
 use Rattle.std.proofs.Common.{◌≡◌, ℕ, zero, suc, ◌+◌, ◌<◌, ◌≤◌, ◌==◌, Bool, true, false, cond, refl, sym, subst, ◌∙◌, arith, eq-eqb, inl, inr}
 use Rattle.std.proofs.lemmas.Bool.{cases_eq, ne_eqb}
 use Rattle.pocsag_slots.specs.Sums.{holds, sum_below, sum_over}
-use Rattle.pocsag_slots.proofs.SumLemmas.{sum_below-same, sum_below-le, sum_below-bump, sum_below-zero, term-le-sum_below, sum_over-same, sum_over-add, sum_over-sum_below}
+use Rattle.pocsag_slots.proofs.SumLemmas.{sum_below-same, sum_below-le, sum_below-bump, sum_below-zero, term-le-sum_below, sum_over-same, sum_over-add, sum_over-sum_below, chosen_none}
 use Rattle.pocsag_tour.specs.Moves.{arc_from, arc_to, outs, ins, IsBalanced, IsSpent, NoneEnters, NoneLeaves}
 use Rattle.pocsag_tour.proofs.Geometry.{from_below, to_below}
 
@@ -13,10 +13,6 @@ chosen false x h = absurd (cc)
 abbrev no_number : ℕ → ℕ
 no_number q = 0
 
-nothing : (b : Bool) (x : ℕ) → x ≡ 0 → cond b x 0 ≡ 0
-nothing true x h = h
-nothing false x h = refl
-
 -- a sum over a set of a number that stands at one member alone
 pub sum_over-hit : (set at x : ℕ) → at < 16 → sum_over set (λ q. cond (at == q) x 0) ≡ cond (holds set at) x 0
 unfolding sum_over
@@ -24,7 +20,7 @@ sum_over-hit set at x h =
     let same : (at == at) ≡ true = eq-eqb at at refl in
     let grown : sum_below 16 (λ q. cond (holds set q) (cond (at == q) x 0) 0) ≡ sum_below 16 no_number + cond (holds set at) x 0 =
     sum_below-bump 16 at (cond (holds set at) x 0) no_number (λ q. cond (holds set q) (cond (at == q) x 0) 0) h (rw same (omega arith))
-    (λ q l other. let ne : (at == q) ≡ false = ne_eqb at q (λ e. other (sym e)) in rw ne (nothing (holds set q) 0 refl)) in
+    (λ q l other. let ne : (at == q) ≡ false = ne_eqb at q (λ e. other (sym e)) in rw ne (chosen_none (holds set q) 0 refl)) in
     let none : sum_below 16 no_number ≡ 0 = sum_below-zero 16 no_number (λ q l. refl) in
     omega arith
 

@@ -9,24 +9,25 @@ use Rattle.pocsag_slots.specs.Edges.{ends_at, starts_at}
 use Rattle.pocsag_slots.proofs.Edging.{before, load_edge}
 use Rattle.pocsag_slots.proofs.SumLemmas.{sum_below-same, sum_below-add, sum_below-bump, sum_below-zero}
 use Rattle.pocsag_tour.specs.Moves.{arc_count, arc_from, arc_to, AreCounts, ins, IsBalanced, outs}
-use Rattle.pocsag_tour.proofs.Geometry.{below, from_early, from_idle, from_late, not_below, to_early, to_idle, to_late}
+use Rattle.pocsag_tour.proofs.Geometry.{from_early, from_idle, from_late, to_early, to_idle, to_late}
+use Rattle.pocsag_words.proofs.Tests.{is_above, not_above}
 
 -- the counts by kind
 pub count_early : (k : Classes) (choice : ℕ → ℕ) (b c : ℕ) → c < 136 → arc_count k choice b c ≡ choice c
 unfolding arc_count
-count_early k choice b c h = rw (below c 136 h) refl
+count_early k choice b c h = rw (is_above c 136 h) refl
 
 pub count_late : (k : Classes) (choice : ℕ → ℕ) (b c : ℕ) → c < 136 → arc_count k choice b (136 + c) ≡ slice_index k.count c - choice c
 unfolding arc_count
 count_late k choice b c h =
     let e : 136 + c - 136 ≡ c = omega arith in
-    rw (not_below (136 + c) 136 (omega arith), below (136 + c) 272 (omega arith), e) refl
+    rw (not_above (136 + c) 136 (omega arith), is_above (136 + c) 272 (omega arith), e) refl
 
 pub count_idle : (k : Classes) (choice : ℕ → ℕ) (b s : ℕ) → arc_count k choice b (272 + s) ≡ b - load k choice s
 unfolding arc_count
 count_idle k choice b s =
     let e : 272 + s - 272 ≡ s = omega arith in
-    rw (not_below (272 + s) 136 (omega arith), not_below (272 + s) 272 (omega arith), e) refl
+    rw (not_above (272 + s) 136 (omega arith), not_above (272 + s) 272 (omega arith), e) refl
 
 -- a sum in two parts
 pub sum_split : (m n : ℕ) (f : ℕ → ℕ) → sum_below (n + m) f ≡ sum_below n f + sum_below m (λ a. f (n + a))

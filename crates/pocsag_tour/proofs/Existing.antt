@@ -1,6 +1,6 @@
 -- That there is a way, without walking it: the floods and the walk over plain numbers.
 use Rattle.std.proofs.Common.{◌≡◌, ◌≢◌, ℕ, zero, suc, ◌+◌, ◌-◌, ◌^◌, ◌<◌, ◌≤◌, ◌==◌, ◌&&◌, nat_lt, Bool, true, false, not, cond, List, [], ◌∷◌, ◌++◌, ◌⊎◌, refl, sym, subst, arith, eq-eqb, inl, inr}
-use Rattle.std.proofs.lemmas.Bool.{cases_eq, eqb-true, ne_eqb}
+use Rattle.std.proofs.lemmas.Bool.{cases_eq, eqb-true, ne_eqb, not-false, not-true}
 use Rattle.std.proofs.lemmas.Bool.Decides.{nat_tests}
 use Rattle.pocsag_slots.specs.declared.step.Step.{Step}
 use Rattle.pocsag_slots.specs.Sums.{AddsMember, SetsTakeMembers, holds, sum_below}
@@ -35,14 +35,6 @@ not_both : (x y : Bool) → (x && y) ≡ false → x ≡ true → y ≡ false
 not_both true y h e = h
 not_both false y h e = absurd (cc)
 
-not_is : (x : Bool) → not x ≡ true → x ≡ false
-not_is true h = absurd (cc)
-not_is false h = refl
-
-not_is_not : (x : Bool) → not x ≡ false → x ≡ true
-not_is_not true h = refl
-not_is_not false h = absurd (cc)
-
 some : (n : ℕ) → nat_lt 0 n ≡ true → 0 < n
 some n h = grind (arith, nat_tests)
 
@@ -58,12 +50,12 @@ found_entering counts set a h e =
     let x : (nat_lt 0 (counts a) ≡ true) × ((holds set (arc_to a) && not (holds set (arc_from a))) ≡ true) =
     both (nat_lt 0 (counts a)) (holds set (arc_to a) && not (holds set (arc_from a))) e in
     let y : (holds set (arc_to a) ≡ true) × (not (holds set (arc_from a)) ≡ true) = both (holds set (arc_to a)) (not (holds set (arc_from a))) x.1 in
-    record { known = h; there = some (counts a) x.0; from = not_is (holds set (arc_from a)) y.1; to = y.0 }
+    record { known = h; there = some (counts a) x.0; from = not-true (holds set (arc_from a)) y.1; to = y.0 }
 
 none_entering : (counts : ℕ → ℕ) (set : ℕ) → ((a : ℕ) → a < 288 → enters counts set a ≡ false) → NoneEnters counts set
 unfolding enters
 none_entering counts set none a h have to =
-    not_is_not (holds set (arc_from a))
+    not-false (holds set (arc_from a))
     (not_both (holds set (arc_to a)) (not (holds set (arc_from a)))
     (not_both (nat_lt 0 (counts a)) (holds set (arc_to a) && not (holds set (arc_from a))) (none a h) (some_test (counts a) have)) to)
 
@@ -114,7 +106,7 @@ unfolding parts
 found_parting left exit p a h e =
     let x : (nat_lt 0 (left a) ≡ true) × (((arc_from a == p) && not (a == exit)) ≡ true) = both (nat_lt 0 (left a)) ((arc_from a == p) && not (a == exit)) e in
     let y : ((arc_from a == p) ≡ true) × (not (a == exit) ≡ true) = both (arc_from a == p) (not (a == exit)) x.1 in
-    let apart : (a == exit) ≡ false = not_is (a == exit) y.1 in
+    let apart : (a == exit) ≡ false = not-true (a == exit) y.1 in
     record {
       known = h;
       there = some (left a) x.0;
@@ -133,7 +125,7 @@ none_parting left exit p none b h from ne =
           (let x : ((arc_from b == p) && not (b == exit)) ≡ false =
           not_both (nat_lt 0 (left b)) ((arc_from b == p) && not (b == exit)) (none b h) (some_test (left b) (omega arith)) in
           let y : not (b == exit) ≡ false = not_both (arc_from b == p) (not (b == exit)) x (eq-eqb (arc_from b) p from) in
-          let z : (b == exit) ≡ true = not_is_not (b == exit) y in
+          let z : (b == exit) ≡ true = not-false (b == exit) y in
           ne (eqb-true b exit z))
     ]
 

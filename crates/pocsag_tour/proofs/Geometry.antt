@@ -5,57 +5,51 @@ use Rattle.pocsag_slots.specs.Numbering.{class_frame, start_of, finish_of}
 use Rattle.pocsag_slots.specs.declared.step.Step.TheVariants.{Idle as Stay, Run}
 use Rattle.pocsag_slots.proofs.CoverLemmas.{finish_below, start_below}
 use Rattle.pocsag_tour.specs.Moves.{arc_from, arc_to, arc_at, step_of}
-
--- the three ranges of arcs
-pub below : (a n : ℕ) → a < n → nat_lt a n ≡ true
-below a n h = grind (arith, nat_tests)
-
-pub not_below : (a n : ℕ) → n ≤ a → nat_lt a n ≡ false
-not_below a n h = grind (arith, nat_tests)
+use Rattle.pocsag_words.proofs.Tests.{is_above, not_above}
 
 pub from_early : (a : ℕ) → a < 136 → arc_from a ≡ start_of a true
 unfolding arc_from
-from_early a h = rw (below a 136 h) refl
+from_early a h = rw (is_above a 136 h) refl
 
 pub from_late : (c : ℕ) → c < 136 → arc_from (136 + c) ≡ start_of c false
 unfolding arc_from
 from_late c h =
     let e : 136 + c - 136 ≡ c = omega arith in
-    rw (not_below (136 + c) 136 (omega arith), below (136 + c) 272 (omega arith), e) refl
+    rw (not_above (136 + c) 136 (omega arith), is_above (136 + c) 272 (omega arith), e) refl
 
 pub from_idle : (s : ℕ) → arc_from (272 + s) ≡ s
 unfolding arc_from
 from_idle s =
-    rw (not_below (272 + s) 136 (omega arith), not_below (272 + s) 272 (omega arith)) (omega arith)
+    rw (not_above (272 + s) 136 (omega arith), not_above (272 + s) 272 (omega arith)) (omega arith)
 
 pub to_early : (a : ℕ) → a < 136 → arc_to a ≡ finish_of a true
 unfolding arc_to
-to_early a h = rw (below a 136 h) refl
+to_early a h = rw (is_above a 136 h) refl
 
 pub to_late : (c : ℕ) → c < 136 → arc_to (136 + c) ≡ finish_of c false
 unfolding arc_to
 to_late c h =
     let e : 136 + c - 136 ≡ c = omega arith in
-    rw (not_below (136 + c) 136 (omega arith), below (136 + c) 272 (omega arith), e) refl
+    rw (not_above (136 + c) 136 (omega arith), is_above (136 + c) 272 (omega arith), e) refl
 
 pub to_idle : (s : ℕ) → arc_to (272 + s) ≡ (s + 1) % 16
 unfolding arc_to
 to_idle s =
-    rw (not_below (272 + s) 136 (omega arith), not_below (272 + s) 272 (omega arith)) (omega arith)
+    rw (not_above (272 + s) 136 (omega arith), not_above (272 + s) 272 (omega arith)) (omega arith)
 
 pub step_early : (a : ℕ) → a < 136 → step_of a ≡ Run a true
 unfolding step_of
-step_early a h = rw (below a 136 h) refl
+step_early a h = rw (is_above a 136 h) refl
 
 pub step_late : (c : ℕ) → c < 136 → step_of (136 + c) ≡ Run c false
 unfolding step_of
 step_late c h =
     let e : 136 + c - 136 ≡ c = omega arith in
-    rw (not_below (136 + c) 136 (omega arith), below (136 + c) 272 (omega arith), e) refl
+    rw (not_above (136 + c) 136 (omega arith), is_above (136 + c) 272 (omega arith), e) refl
 
 pub step_idle : (s : ℕ) → step_of (272 + s) ≡ Stay
 unfolding step_of
-step_idle s = rw (not_below (272 + s) 136 (omega arith), not_below (272 + s) 272 (omega arith)) refl
+step_idle s = rw (not_above (272 + s) 136 (omega arith), not_above (272 + s) 272 (omega arith)) refl
 
 -- what holds of all early runs, late runs and idles holds of each arc
 by_test : (P : ℕ → Type 0) → ((c : ℕ) → c < 136 → P c) → ((c : ℕ) → c < 136 → P (136 + c)) → ((s : ℕ) → s < 16 → P (272 + s)) →

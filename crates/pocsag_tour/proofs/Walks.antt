@@ -10,7 +10,8 @@ use Rattle.pocsag_slots.specs.Tours.{Leads, idles}
 use Rattle.pocsag_slots.proofs.SumLemmas.{sum_below-bump}
 use Rattle.pocsag_tour.specs.Moves.{AllLeadTo, arc_from, arc_to, Home, at_root, by_exit, ins, IsBalanced, IsDeparture, IsExit, IsSpent, IsWalk, IsWay, LeadHome, NoneEnters, outs, step_of, taken}
 use Rattle.pocsag_tour.proofs.Balances.{flipped, in_term, outs_spent}
-use Rattle.pocsag_tour.proofs.Geometry.{below, not_below, by_kind, from_below, from_early, from_idle, from_late, step_early, step_idle, step_late, to_below, to_early, to_idle, to_late}
+use Rattle.pocsag_tour.proofs.Geometry.{by_kind, from_below, from_early, from_idle, from_late, step_early, step_idle, step_late, to_below, to_early, to_idle, to_late}
+use Rattle.pocsag_words.proofs.Tests.{and_false, and_true, is_above, not_above}
 
 -- one arc less of a kind
 pub record IsLess (a : ℕ) (left less : ℕ → ℕ) : Type 0 where
@@ -82,28 +83,19 @@ leads_over =
 -- how often steps take an arc, by its kind
 pub taken_early : (c : ℕ) (ss : List Step) → c < 136 → taken c ss ≡ runs c true ss
 unfolding taken
-taken_early c ss h = rw (below c 136 h) refl
+taken_early c ss h = rw (is_above c 136 h) refl
 
 pub taken_late : (c : ℕ) (ss : List Step) → c < 136 → taken (136 + c) ss ≡ runs c false ss
 unfolding taken
 taken_late c ss h =
     let e : 136 + c - 136 ≡ c = omega arith in
-    rw (not_below (136 + c) 136 (omega arith), below (136 + c) 272 (omega arith), e) refl
+    rw (not_above (136 + c) 136 (omega arith), is_above (136 + c) 272 (omega arith), e) refl
 
 pub taken_idle : (s : ℕ) (ss : List Step) → taken (272 + s) ss ≡ idles s 0 ss
 unfolding taken
 taken_idle s ss =
     let e : 272 + s - 272 ≡ s = omega arith in
-    rw (not_below (272 + s) 136 (omega arith), not_below (272 + s) 272 (omega arith), e) refl
-
--- how often one step takes an arc
-and_true : (b : Bool) → (b && true) ≡ b
-and_true true = refl
-and_true false = refl
-
-and_false : (b : Bool) → (b && false) ≡ false
-and_false true = refl
-and_false false = refl
+    rw (not_above (272 + s) 136 (omega arith), not_above (272 + s) 272 (omega arith), e) refl
 
 run_hit : (c d b a : ℕ) → (c ≡ d → b ≡ a) → (b ≡ a → c ≡ d) → ◌≡◌ {A = ℕ} (cond (d == c) 1 0) (cond (b == a) 1 0)
 run_hit c d b a to fro =

@@ -1,5 +1,5 @@
 -- What contracts say of readers and writers (this project's own).
-use Rattle.std.specs.Prelude.{◌≡◌, ℕ, ◌+◌, ◌-◌, ◌^◌, ◌<◌, ◌≤◌, List, ◌++◌, length, take, nat_lt, if◌then◌else◌}
+use Rattle.std.specs.Prelude.{◌≡◌, ℕ, ◌+◌, ◌-◌, ◌^◌, ◌<◌, ◌≤◌, List, ◌++◌, length, take, nat_lt, if◌then◌else◌, Result, OnOk, OnErr}
 
 -- One call more, in a count that stays at its greatest value.
 abbrev pub one_more : ℕ → ℕ
@@ -12,3 +12,11 @@ HasFailed before after = before < 2 ^ 64 - 1 → before < after
 -- What was taken after is what was taken before and a prefix of what was due.
 abbrev pub TookPrefix : (before after due : List ℕ) → Type 0
 TookPrefix before after due = (length before ≤ length after) × (take (length after) (before ++ due) ≡ after)
+
+-- Where the call answers, no call of the device failed, and its count stands; where it does not, one failed.
+abbrev pub CountsFailures : {X E : Type 0} → Result X E → (before after : ℕ) → Type 0
+CountsFailures result before after = OnOk result (after ≡ before) × OnErr result (HasFailed before after)
+
+-- Where the call answers, a writer took all that was due; where it does not, a prefix of that.
+abbrev pub Delivers : {X E : Type 0} → Result X E → (before after due : List ℕ) → Type 0
+Delivers result before after due = OnOk result (after ≡ before ++ due) × OnErr result (TookPrefix before after due)

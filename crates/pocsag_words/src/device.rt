@@ -1,5 +1,5 @@
 ghost use Rattle.std.specs.Prelude.{◌≡◌, ℕ, ◌<◌, ◌≤◌, List, [], ◌++◌, length, take, IfOk, OnOk, OnErr};
-ghost use Rattle.pocsag_words.specs.Devices.{one_more, HasFailed, TookPrefix};
+ghost use Rattle.pocsag_words.specs.Devices.{CountsFailures, Delivers, one_more};
 
 /// A device failed in a call; the call moved no byte.
 #[derive(Clone, Copy, PartialEq, Eq, Debug)]
@@ -56,10 +56,8 @@ pub trait Sink {
 /// Writes the bytes whole, by as many single writes as it takes. After a fault a prefix of them was
 /// taken.
 pub fn write_all<S: Sink>(sink: &mut S, bytes: &[u8]) -> Result<(), DeviceFault>
-    ensures whole { S.tells → OnOk result (S.taken sink.new ≡ S.taken sink.old ++ bytes.now) }
-    ensures part { S.tells → OnErr result (TookPrefix (S.taken sink.old) (S.taken sink.new) bytes.now) }
-    ensures succeeded { OnOk result (S.failures sink.new ≡ S.failures sink.old) }
-    ensures failed { OnErr result (HasFailed (S.failures sink.old) (S.failures sink.new)) }
+    ensures delivers { S.tells → Delivers result (S.taken sink.old) (S.taken sink.new) bytes.now }
+    ensures failures { CountsFailures result (S.failures sink.old) (S.failures sink.new) }
 {
     let mut rest = bytes;
     while !rest.is_empty() {
