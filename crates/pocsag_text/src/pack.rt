@@ -2,7 +2,7 @@ ghost use Rattle.std.specs.Prelude.{◌≡◌, ℕ, ◌^◌, ◌<◌, ◌≤◌,
 ghost use Rattle.std.specs.List.{flat_map};
 ghost use Rattle.pocsag_text.specs.Bits.{low_first};
 ghost use Rattle.pocsag_text.specs.Characters as numeric;
-ghost use Rattle.pocsag_text.specs.Text.{numeric_payload, alpha_payload, numeric_bits, alpha_bits, twenties, is_bad_byte, text_fault, character_limit, item_limit, fault_of as fault_by};
+ghost use Rattle.pocsag_text.specs.Text.{numeric_payload, alpha_payload, numeric_bits, alpha_bits, twenties, is_bad_byte, text_fault, character_limit, item_limit, fault_of};
 
 use crate::CHARACTER_LIMIT;
 use crate::character::{ALPHA_WIDTH, NUMERIC_WIDTH, SPACE_CODE, code_of, code_or_space};
@@ -26,10 +26,7 @@ pub fn pack_numeric(alloc: Global, text: &[u8]) -> Result<Vec<u32>, TextFault>
     if let Some(fault) = numeric_fault(text) {
         return Err(fault);
     }
-    match numeric_items(alloc, text) {
-        Ok(items) => Ok(items),
-        Err(OutOfMemory) => Err(TextFault::OutOfMemory),
-    }
+    Ok(numeric_items(alloc, text)?)
 }
 
 /// The payload of an alphanumeric text: items of twenty bits, each below 1,048,576. The characters
@@ -47,10 +44,7 @@ pub fn pack_alpha(alloc: Global, text: &[u8]) -> Result<Vec<u32>, TextFault>
     if let Some(fault) = alpha_fault(text) {
         return Err(fault);
     }
-    match alpha_items(alloc, text) {
-        Ok(items) => Ok(items),
-        Err(OutOfMemory) => Err(TextFault::OutOfMemory),
-    }
+    Ok(alpha_items(alloc, text)?)
 }
 
 /// The fault of a numeric text, if it has one.
@@ -85,7 +79,7 @@ fn first_bad_byte(text: &[u8]) -> Option<usize>
 
 /// The fault of a text, by the place of its first bad character and its length.
 fn fault_of(first_bad: Option<usize>, count: usize) -> Option<TextFault>
-    ensures { result ≡ fault_by first_bad count }
+    ensures { result ≡ fault_of first_bad count }
 {
     if count == 0 {
         return Some(TextFault::EmptyMessage);

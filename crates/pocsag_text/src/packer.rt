@@ -36,11 +36,8 @@ impl Packer {
     pub fn with_room(alloc: Global, items: usize) -> Result<Packer, OutOfMemory>
         ensures { IfOk result (λ p. p ≡ []) }
     {
-        let Ok(items) = Vec::with_capacity(alloc, items) else {
-            return Err(OutOfMemory);
-        };
         Ok(Packer {
-            items,
+            items: Vec::with_capacity(alloc, items)?,
             held: 0,
             count: 0,
         })
@@ -61,9 +58,7 @@ impl Packer {
             return Ok(());
         }
         let rest = count - ITEM_WIDTH;
-        let Ok(()) = self.items.push(held >> rest) else {
-            return Err(OutOfMemory);
-        };
+        self.items.push(held >> rest)?;
         self.held = held & ((1 << rest) - 1);
         self.count = rest;
         Ok(())

@@ -61,10 +61,7 @@ fn characters_of(alloc: Global, codes: &[u8]) -> Result<Vec<u8>, OutOfMemory>
     requires { All (λ code. code < 16) codes.now }
     ensures { IfOk result (λ v. v.items ≡ map numeric.character_of codes.now) }
 {
-    let Ok(text) = codes.iter().map(|code| character_of(*code)).collect(alloc) else {
-        return Err(OutOfMemory);
-    };
-    Ok(text)
+    Ok(codes.iter().map(|code| character_of(*code)).collect(alloc)?)
 }
 
 /// The length of a text without what is unwanted at its end.

@@ -52,9 +52,7 @@ impl<const W: u32> Unpacker<W> {
         let mut count = self.count + ITEM_WIDTH;
         while count >= W {
             count -= W;
-            let Ok(()) = codes.push(mirrored(W, (held >> count) as u8)) else {
-                return Err(OutOfMemory);
-            };
+            codes.push(mirrored(W, (held >> count) as u8))?;
             held &= (1 << count) - 1;
         }
         Ok(Unpacker { codes, held, count })
