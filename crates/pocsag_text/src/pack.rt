@@ -1,6 +1,6 @@
 ghost use Rattle.std.specs.Prelude.{◌≡◌, ℕ, ◌^◌, ◌<◌, ◌≤◌, ◌⊎◌, length, map, position, All, IfOk, IfErr, IsOk};
 ghost use Rattle.std.specs.List.{flat_map};
-ghost use Rattle.pocsag_text.specs.Bits.{low_first};
+ghost use Rattle.pocsag_text.specs.Bits.{low_first, AreItems};
 ghost use Rattle.pocsag_text.specs.Characters as numeric;
 ghost use Rattle.pocsag_text.specs.Text.{numeric_payload, alpha_payload, numeric_bits, alpha_bits, twenties, is_bad_byte, text_fault, character_limit, item_limit, fault_of};
 
@@ -15,7 +15,7 @@ use std::alloc::Global;
 /// the digits, `*`, `U`, the space, `-`, `]` and `[`.
 pub fn pack_numeric(alloc: Global, text: &[u8]) -> Result<Vec<u32>, TextFault>
     ensures ok { IfOk result (λ v. numeric_payload text.now ≡ Ok v.items) }
-    ensures small { IfOk result (λ v. All (λ item. item < 2 ^ 20) v.items) }
+    ensures small { IfOk result (λ v. AreItems v.items) }
     ensures few { IfOk result (λ v. length v.items ≤ item_limit) }
     ensures err { IfErr result
         (λ e. (e ≡ TextFault.OutOfMemory) ⊎ (numeric_payload text.now ≡ Err e)) }
@@ -33,7 +33,7 @@ pub fn pack_numeric(alloc: Global, text: &[u8]) -> Result<Vec<u32>, TextFault>
 /// are the bytes 1 to 127.
 pub fn pack_alpha(alloc: Global, text: &[u8]) -> Result<Vec<u32>, TextFault>
     ensures ok { IfOk result (λ v. alpha_payload text.now ≡ Ok v.items) }
-    ensures small { IfOk result (λ v. All (λ item. item < 2 ^ 20) v.items) }
+    ensures small { IfOk result (λ v. AreItems v.items) }
     ensures few { IfOk result (λ v. length v.items ≤ item_limit) }
     ensures err { IfErr result
         (λ e. (e ≡ TextFault.OutOfMemory) ⊎ (alpha_payload text.now ≡ Err e)) }
@@ -97,7 +97,7 @@ fn fault_of(first_bad: Option<usize>, count: usize) -> Option<TextFault>
 fn numeric_items(alloc: Global, text: &[u8]) -> Result<Vec<u32>, OutOfMemory>
     requires { length text.now ≤ character_limit }
     ensures items { IfOk result (λ v. v.items ≡ twenties (numeric_bits text.now)) }
-    ensures small { IfOk result (λ v. All (λ item. item < 2 ^ 20) v.items) }
+    ensures small { IfOk result (λ v. AreItems v.items) }
 {
     let mut packer = numeric_packer(alloc, text)?;
     packer.push_times(NUMERIC_WIDTH, SPACE_CODE, (5 - text.len() % 5) % 5)?;
@@ -121,7 +121,7 @@ fn alpha_items(alloc: Global, text: &[u8]) -> Result<Vec<u32>, OutOfMemory>
     requires few { length text.now ≤ character_limit }
     requires small { All (λ byte. byte < 128) text.now }
     ensures items { IfOk result (λ v. v.items ≡ twenties (alpha_bits text.now)) }
-    ensures small { IfOk result (λ v. All (λ item. item < 2 ^ 20) v.items) }
+    ensures small { IfOk result (λ v. AreItems v.items) }
 {
     let mut packer = alpha_packer(alloc, text)?;
     packer.push_times(1, 0, (20 - 7 * text.len() % 20) % 20)?;

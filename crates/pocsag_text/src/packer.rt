@@ -1,6 +1,6 @@
 ghost use Rattle.std.specs.Prelude.{◌≡◌, ℕ, ◌+◌, ◌*◌, ◌%◌, ◌^◌, ◌<◌, ◌≤◌, [], ◌++◌, length, replicate, All, IfOk, OnOk};
 ghost use Rattle.std.specs.List.{flat_map};
-ghost use Rattle.pocsag_text.specs.Bits.{low_first};
+ghost use Rattle.pocsag_text.specs.Bits.{low_first, IsCodeOf, AreItems};
 ghost use Rattle.pocsag_text.specs.Text.{twenties};
 
 use crate::character::mirrored;
@@ -45,9 +45,7 @@ impl Packer {
 
     /// Puts the lowest bits of a code behind the others, the lowest one first.
     pub fn push(&mut self, width: u32, code: u8) -> Result<(), OutOfMemory>
-        requires wide { 0 < width }
-        requires narrow { width ≤ 8 }
-        requires fits { code < 2 ^ width }
+        requires { IsCodeOf width code }
         ensures { OnOk result (self.new ≡ self.old ++ low_first width code) }
     {
         let held = self.held << width | u32::from(mirrored(width, code));
@@ -66,9 +64,7 @@ impl Packer {
 
     /// Puts the lowest bits of a code behind the others so many times.
     pub fn push_times(&mut self, width: u32, code: u8, times: usize) -> Result<(), OutOfMemory>
-        requires wide { 0 < width }
-        requires narrow { width ≤ 8 }
-        requires fits { code < 2 ^ width }
+        requires { IsCodeOf width code }
         ensures { OnOk result
             (self.new ≡ self.old ++ flat_map (low_first width) (replicate times code)) }
     {
@@ -82,7 +78,7 @@ impl Packer {
     pub fn into_items(self) -> Vec<u32>
         requires { length self % 20 ≡ 0 }
         ensures items { result.items ≡ twenties self }
-        ensures small { All (λ item. item < 2 ^ 20) result.items }
+        ensures small { AreItems result.items }
     {
         self.items
     }
