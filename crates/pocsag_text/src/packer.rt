@@ -1,6 +1,6 @@
 ghost use Rattle.std.specs.Prelude.{◌≡◌, ℕ, ◌+◌, ◌*◌, ◌%◌, ◌^◌, ◌<◌, ◌≤◌, [], ◌++◌, length, replicate, All, IfOk, OnOk};
 ghost use Rattle.std.specs.List.{flat_map};
-ghost use Rattle.pocsag_text.specs.Bits.{low_first, IsCodeOf, AreItems};
+ghost use Rattle.pocsag_text.specs.Bits.{low_first, item_width, IsCodeOf, AreItems};
 ghost use Rattle.pocsag_text.specs.Text.{twenties};
 
 use crate::character::mirrored;
@@ -76,7 +76,7 @@ impl Packer {
 
     /// The items, where no bits wait.
     pub fn into_items(self) -> Vec<u32>
-        requires { length self % 20 ≡ 0 }
+        requires { length self % item_width ≡ 0 }
         ensures items { result.items ≡ twenties self }
         ensures small { AreItems result.items }
     {
