@@ -14,6 +14,8 @@ use Rattle.pocsag_pages.specs.declared.fault.FieldFault.{FieldFault}
 use Rattle.pocsag_pages.specs.declared.fault.FieldFault.TheVariants as field
 use Rattle.pocsag_pages.specs.declared.fault.RecordFault.{RecordFault}
 use Rattle.pocsag_pages.specs.declared.fault.RecordFault.TheVariants as wrong
+use Rattle.pocsag_pages.specs.declared.fault.WholeFault.{WholeFault}
+use Rattle.pocsag_pages.specs.declared.fault.WholeFault.TheVariants as whole
 use Rattle.pocsag_pages.specs.declared.fault.RoundFault.{RoundFault}
 use Rattle.pocsag_pages.specs.declared.fault.RoundFault.TheVariants as fault
 use Rattle.pocsag_pages.specs.Pages.{last_address, page_limit, is_reserved, has_address}
@@ -117,6 +119,12 @@ record_fault_of field.EmptyMessage = wrong.EmptyMessage
 record_fault_of (field.BadCharacter place) = wrong.BadCharacter place
 record_fault_of field.TooLong = wrong.TooLong
 record_fault_of field.OutOfMemory = wrong.OutOfMemory
+
+-- Why a reader's bytes were not read whole, as a fault of the page file that it holds.
+abbrev pub round_fault_of : WholeFault → RoundFault
+round_fault_of whole.ReadFault = fault.ReadFault
+round_fault_of whole.TooLarge = fault.TooLarge
+round_fault_of whole.OutOfMemory = fault.OutOfMemory
 
 -- A page of three fields as that of their record, or their fault.
 abbrev pub of_record : Result Page FieldFault → Result Page RecordFault
