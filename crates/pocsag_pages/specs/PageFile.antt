@@ -53,10 +53,14 @@ abbrev pub at_most : ℕ → Option ℕ → Option ℕ
 at_most limit None = None
 at_most limit (Some n) = if nat_le n limit then Some n else None
 
+-- The most digits of an address.
+abbrev pub address_digits : ℕ
+address_digits = 7
+
 -- The address that a field spells, in one to seven digits.
 unfoldable pub address_of : List ℕ → Option ℕ
 address_of field =
-    if (length field == 0) || nat_lt 7 (length field) then None else at_most last_address (decimal 0 field)
+    if (length field == 0) || nat_lt address_digits (length field) then None else at_most last_address (decimal 0 field)
 
 -- The kind of page that a field names.
 unfoldable pub kind_of_field : List ℕ → Option PageKind

@@ -1,8 +1,9 @@
 ghost use Rattle.std.specs.Prelude.{◌≡◌, ◌≢◌, ◌^◌, ◌<◌, ◌≤◌, ◌⊎◌, ◌∷◌, [], length, None, All, IfErr, IfNone, IfOk, IfSome, IsOk};
 ghost use Rattle.csv.specs.Records.{fields_of};
+ghost use Rattle.pocsag_text.specs.Bits.{AreItems};
 ghost use Rattle.pocsag_text.specs.Text.{item_limit};
 ghost use Rattle.pocsag_pages.specs.Pages.{last_address, page_fault_of};
-ghost use Rattle.pocsag_pages.specs.PageFile.{address_of, decimal, function_of, is_header, kind_of_field, page_of, page_of_fields, payload_of, IsTone};
+ghost use Rattle.pocsag_pages.specs.PageFile.{address_digits, address_of, decimal, function_of, is_header, kind_of_field, page_of, page_of_fields, payload_of, IsTone};
 
 use crate::fault::{FieldFault, RecordFault};
 use crate::page::{LAST_ADDRESS, Page, Payload};
@@ -10,6 +11,9 @@ use crate::rule::is_reserved_address;
 use csv::ByteRecord;
 use pocsag_text::{pack_alpha, pack_numeric};
 use std::alloc::Global;
+
+// The most digits of an address.
+const ADDRESS_DIGITS: usize = 7;
 
 // What a page file calls the kind of a page.
 #[derive(Clone, Copy)]
@@ -56,7 +60,7 @@ pub(crate) fn is_header_row(row: &ByteRecord) -> bool
 }
 
 fn parse_decimal(digits: &[u8]) -> Option<u32>
-    requires { length digits.now ≤ 7 }
+    requires { length digits.now ≤ address_digits }
     ensures { result ≡ decimal 0 digits.now }
 {
     let mut value = 0;
@@ -77,7 +81,7 @@ fn parse_address(field: &[u8]) -> Option<u32>
     if field.is_empty() {
         return None;
     }
-    if field.len() > 7 {
+    if field.len() > ADDRESS_DIGITS {
         return None;
     }
     match parse_decimal(field) {
@@ -128,7 +132,7 @@ impl PageKind {
 #[tactic(auto, unfolding(crate::specs::PageFile::payload_of))]
 fn pack_message(alloc: Global, kind: PageKind, message: &[u8]) -> Result<Payload, FieldFault>
     ensures ok { IfOk result (λ p. payload_of kind message.now ≡ Ok p) }
-    ensures small { IfOk result (λ p. All (λ item. item < 2 ^ 20) p) }
+    ensures small { IfOk result (λ p. AreItems p) }
     ensures few { IfOk result (λ p. length p ≤ item_limit) }
     ensures silent { IfOk result (λ p. IsTone kind → p ≡ []) }
     ensures err { IfErr result
