@@ -1,7 +1,7 @@
 -- How many runs start at a boundary, and how many end there.
 use Rattle.std.specs.Prelude.{◌≡◌, ℕ, ◌+◌, ◌-◌, ◌<◌, ◌==◌, true, false, cond, List, slice_index}
 use Rattle.pocsag_slots.specs.declared.class.Classes.{Classes}
-use Rattle.pocsag_slots.specs.Numbering.{start_of, finish_of}
+use Rattle.pocsag_slots.specs.Numbering.{slot_count, start_of, finish_of}
 use Rattle.pocsag_slots.specs.Sums.{sum_below}
 
 -- The runs of a class that start at the boundary, and those that end there.
@@ -15,7 +15,7 @@ ends_at k choice p c =
 
 -- Of the first n classes, the list says of each boundary how many runs start there, or end there.
 abbrev pub CountStarts : Classes → (ℕ → ℕ) → ℕ → List ℕ → Type 0
-CountStarts k choice n starts = (p : ℕ) → p < 16 → slice_index starts p ≡ sum_below n (starts_at k choice p)
+CountStarts k choice n starts = (p : ℕ) → p < slot_count → slice_index starts p ≡ sum_below n (starts_at k choice p)
 
 abbrev pub CountEnds : Classes → (ℕ → ℕ) → ℕ → List ℕ → Type 0
-CountEnds k choice n ends = (p : ℕ) → p < 16 → slice_index ends p ≡ sum_below n (ends_at k choice p)
+CountEnds k choice n ends = (p : ℕ) → p < slot_count → slice_index ends p ≡ sum_below n (ends_at k choice p)

@@ -7,8 +7,8 @@ use crate::limit::Limits;
 use crate::set::{crosses, idle_crosses, touches};
 use arrayvec::ArrayVec;
 
-// The ways are an idle for each slot, and two runs for each class.
-const WAYS: usize = SLOTS + 2 * CLASSES;
+/// How many ways there are: an idle for each slot, and two runs for each class.
+pub const WAYS: usize = SLOTS + 2 * CLASSES;
 
 /// A way out of a set of boundaries: an idle in a slot, or an early or a late run of a class.
 #[derive(Clone, Copy, PartialEq, Eq, Debug)]
