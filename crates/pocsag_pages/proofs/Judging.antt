@@ -1,16 +1,17 @@
 -- Judging records one at a time, against the pages so far.
-use Rattle.std.proofs.Common.{◌≡◌, ℕ, ◌+◌, ◌<◌, ◌≤◌, nat_lt, Bool, true, false, ◌⊎◌, inr, List, [], ◌∷◌, ◌++◌, length, refl, sym, ap, ◌∙◌, arith}
+use Rattle.std.proofs.Common.{◌≡◌, ℕ, ◌+◌, ◌<◌, ◌≤◌, Bool, true, false, ◌⊎◌, inl, inr, List, [], ◌∷◌, ◌++◌, length, refl, sym, ap, ◌∙◌, arith}
 use Rattle.std.specs.Prelude.{Option, Some, None, Result, Ok, Err, IfOk, IfErr, if◌then◌else◌}
 use Rattle.std.proofs.Math.Seq.{append_snoc}
-use Rattle.std.proofs.lemmas.Bool.Decides.{nat_tests}
 use Rattle.std.proofs.lemmas.List.{append-nil, length-append}
 use Rattle.pocsag_pages.specs.declared.page.Page.{Page}
 use Rattle.pocsag_pages.specs.declared.fault.RecordFault.{RecordFault}
 use Rattle.pocsag_pages.specs.declared.fault.RecordFault.TheVariants as wrong
+use Rattle.pocsag_pages.specs.declared.fault.WholeFault.{WholeFault}
+use Rattle.pocsag_pages.specs.declared.fault.WholeFault.TheVariants as whole
 use Rattle.pocsag_pages.specs.declared.fault.RoundFault.{RoundFault}
 use Rattle.pocsag_pages.specs.declared.fault.RoundFault.TheVariants as fault
 use Rattle.pocsag_pages.specs.PageList.{unless_empty}
-use Rattle.pocsag_pages.specs.PageFile.{Row, file_limit, fault_after, fault_of_row, first_fault, is_header, numbered, page_of, pages_of, pages_unless, round_of_rows, rows_of, verdict, verdict_of_rows, with_page}
+use Rattle.pocsag_pages.specs.PageFile.{Row, file_limit, fault_after, fault_of_row, first_fault, is_header, numbered, page_of, pages_of, pages_unless, round_fault_of, round_of_rows, rows_of, verdict, verdict_of_rows, with_page}
 use Rattle.pocsag_words.proofs.Tests.{is_above, not_above}
 
 -- the fault of record n + 1, or else what is said of the records after it
@@ -141,3 +142,11 @@ small_file bytes h = rw (not_above file_limit (length bytes) h) refl
 pub large_file : (bytes : List ℕ) → file_limit < length bytes → verdict bytes ≡ Err fault.TooLarge
 unfolding verdict
 large_file bytes h = rw (is_above file_limit (length bytes) h) refl
+
+-- what is told where the bytes were not read whole
+pub unread :
+    (bytes : List ℕ) (w : WholeFault) (e : RoundFault) → (w ≡ whole.TooLarge → file_limit < length bytes) → e ≡ round_fault_of w →
+    (e ≡ fault.OutOfMemory) ⊎ ((e ≡ fault.ReadFault) ⊎ (verdict bytes ≡ Err e))
+unread bytes whole.ReadFault e large is = inr (inl is)
+unread bytes whole.TooLarge e large is = inr (inr (large_file bytes (large refl) ∙ ap Err (sym is)))
+unread bytes whole.OutOfMemory e large is = inl is

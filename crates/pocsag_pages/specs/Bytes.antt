@@ -3,7 +3,7 @@ use Rattle.std.specs.Prelude.{◌≡◌, ℕ, ◌+◌, ◌*◌, ◌%◌, ◌≤�
 use Rattle.std.specs.List.{flat_map}
 use Rattle.std.specs.Int.{to_be_bytes, from_be_bytes, w32}
 use Rattle.pocsag_words.specs.Codeword.{IsCodeword}
-use Rattle.pocsag_pages.specs.Reading.{IsBatchList}
+use Rattle.pocsag_pages.specs.Reading.{batch_length, IsBatchList}
 
 -- The synchronisation codeword, a rule of Annex 1.
 abbrev pub sync_word : ℕ
@@ -13,24 +13,31 @@ sync_word = 0x7cd215d8
 -- of sixteen.
 abbrev pub synced : ℕ → List ℕ → List ℕ
 synced i [] = []
-synced i (w ∷ ws) = (if i % 16 == 0 then sync_word ∷ [] else []) ++ w ∷ synced (i + 1) ws
+synced i (w ∷ ws) = (if i % batch_length == 0 then sync_word ∷ [] else []) ++ w ∷ synced (i + 1) ws
 
 -- *Bytes*: the batches, each word high byte first.
 abbrev pub body_bytes : List ℕ → List ℕ
 body_bytes T = flat_map (to_be_bytes w32) (synced 0 T)
 
+-- The bytes of a preamble, alternating bits (a rule of Annex 1), and how many there are at least.
+abbrev pub preamble_byte : ℕ
+preamble_byte = 0xaa
+
+abbrev pub preamble_length : ℕ
+preamble_length = 72
+
 -- *Bytes*: the preamble of 576 bits, 72 bytes AA, and the batches.
 unfoldable pub bytes_of : List ℕ → List ℕ
-bytes_of T = replicate 72 0xaa ++ body_bytes T
+bytes_of T = replicate preamble_length preamble_byte ++ body_bytes T
 
 -- *Sent*: 72 or more bytes AA, and the batches of a batch list.
 pub record Sent (X T : List ℕ) : Type 0 where
   pub preamble : ℕ
-  pub long : 72 ≤ preamble
+  pub long : preamble_length ≤ preamble
   pub batches : ℕ
   pub whole : IsBatchList batches T
   pub codewords : All IsCodeword T
-  pub bytes : X ≡ replicate preamble 0xaa ++ body_bytes T
+  pub bytes : X ≡ replicate preamble preamble_byte ++ body_bytes T
 
 -- The numbers of the whole words of four bytes, high byte first.
 abbrev pub words_of : List ℕ → List ℕ
@@ -40,7 +47,7 @@ words_of _ = []
 -- How many bytes AA stand first, and what follows them.
 abbrev pub leading : List ℕ → ℕ
 leading [] = 0
-leading (x ∷ xs) = if x == 0xaa then leading xs + 1 else 0
+leading (x ∷ xs) = if x == preamble_byte then leading xs + 1 else 0
 
 abbrev pub after_preamble : List ℕ → List ℕ
 after_preamble xs = drop (leading xs) xs
@@ -48,7 +55,7 @@ after_preamble xs = drop (leading xs) xs
 -- The words that are not at the place of a synchronisation codeword; the first is at place j.
 abbrev pub unsynced : ℕ → List ℕ → List ℕ
 unsynced j [] = []
-unsynced j (w ∷ ws) = if j % 17 == 0 then unsynced (j + 1) ws else w ∷ unsynced (j + 1) ws
+unsynced j (w ∷ ws) = if j % (batch_length + 1) == 0 then unsynced (j + 1) ws else w ∷ unsynced (j + 1) ws
 
 -- The words that the bytes have at the places of codewords.
 abbrev pub codewords_in : List ℕ → List ℕ

@@ -14,6 +14,8 @@ use Rattle.pocsag_pages.specs.declared.fault.FieldFault.{FieldFault}
 use Rattle.pocsag_pages.specs.declared.fault.FieldFault.TheVariants as field
 use Rattle.pocsag_pages.specs.declared.fault.RecordFault.{RecordFault}
 use Rattle.pocsag_pages.specs.declared.fault.RecordFault.TheVariants as wrong
+use Rattle.pocsag_pages.specs.declared.fault.WholeFault.{WholeFault}
+use Rattle.pocsag_pages.specs.declared.fault.WholeFault.TheVariants as whole
 use Rattle.pocsag_pages.specs.declared.fault.RoundFault.{RoundFault}
 use Rattle.pocsag_pages.specs.declared.fault.RoundFault.TheVariants as fault
 use Rattle.pocsag_pages.specs.Pages.{last_address, page_limit, is_reserved, has_address}
@@ -51,10 +53,14 @@ abbrev pub at_most : ℕ → Option ℕ → Option ℕ
 at_most limit None = None
 at_most limit (Some n) = if nat_le n limit then Some n else None
 
+-- The most digits of an address.
+abbrev pub address_digits : ℕ
+address_digits = 7
+
 -- The address that a field spells, in one to seven digits.
 unfoldable pub address_of : List ℕ → Option ℕ
 address_of field =
-    if (length field == 0) || nat_lt 7 (length field) then None else at_most last_address (decimal 0 field)
+    if (length field == 0) || nat_lt address_digits (length field) then None else at_most last_address (decimal 0 field)
 
 -- The kind of page that a field names.
 unfoldable pub kind_of_field : List ℕ → Option PageKind
@@ -117,6 +123,12 @@ record_fault_of field.EmptyMessage = wrong.EmptyMessage
 record_fault_of (field.BadCharacter place) = wrong.BadCharacter place
 record_fault_of field.TooLong = wrong.TooLong
 record_fault_of field.OutOfMemory = wrong.OutOfMemory
+
+-- Why a reader's bytes were not read whole, as a fault of the page file that it holds.
+abbrev pub round_fault_of : WholeFault → RoundFault
+round_fault_of whole.ReadFault = fault.ReadFault
+round_fault_of whole.TooLarge = fault.TooLarge
+round_fault_of whole.OutOfMemory = fault.OutOfMemory
 
 -- A page of three fields as that of their record, or their fault.
 abbrev pub of_record : Result Page FieldFault → Result Page RecordFault

@@ -1,6 +1,7 @@
 -- Which pages may stand in a round (this project's own limits).
 use Rattle.std.specs.Prelude.{◌≡◌, ◌==◌, ◌&&◌, ◌||◌, ◌⊎◌, ℕ, ◌^◌, ◌<◌, ◌≤◌, List, [], length, map, Bool, false, not, nat_lt, nat_le, if◌then◌else◌, Option, Some, None, All, nat_eq}
 use Rattle.std.specs.List.{list_any, IsDistinct}
+use Rattle.pocsag_text.specs.Bits.{item_width, AreItems}
 use Rattle.pocsag_text.specs.Text.{item_limit}
 use Rattle.pocsag_pages.specs.declared.page.Page.{Page}
 use Rattle.pocsag_pages.specs.declared.fault.PageFault.{PageFault}
@@ -14,6 +15,10 @@ last_address = 2097151
 abbrev pub page_limit : ℕ
 page_limit = 20000
 
+-- The greatest function, which has two bits (a rule of Annex 1).
+abbrev pub last_function : ℕ
+last_function = 3
+
 -- The addresses that the idle codeword and the synchronisation codeword would be read as, in each
 -- of the eight frames: they are refused with every function (this project's own).
 unfoldable pub is_reserved : ℕ → Bool
@@ -22,8 +27,8 @@ is_reserved a = (nat_le 2007664 a && nat_le a 2007671) || (nat_le 2045056 a && n
 -- A function above 3, a message for function 1 or 2, too many items, or an item of over 20 bits.
 unfoldable pub is_bad_payload : ℕ → List ℕ → Bool
 is_bad_payload function items =
-    nat_lt 3 function || ((function == 1 || function == 2) && not (length items == 0))
-    || nat_lt item_limit (length items) || list_any (nat_le (2 ^ 20)) items
+    nat_lt last_function function || ((function == 1 || function == 2) && not (length items == 0))
+    || nat_lt item_limit (length items) || list_any (nat_le (2 ^ item_width)) items
 
 -- The first rule that a page breaks.
 abbrev pub page_fault_of : Page → Option PageFault
@@ -56,5 +61,5 @@ pub record IsGoodPage (p : Page) : Type 0 where
   pub unreserved : is_reserved p.address ≡ false
   pub function : p.function < 4
   pub few : length p.payload ≤ item_limit
-  pub small : All (λ item. item < 2 ^ 20) p.payload
+  pub small : AreItems p.payload
   pub silent : (p.function ≡ 1) ⊎ (p.function ≡ 2) → p.payload ≡ []

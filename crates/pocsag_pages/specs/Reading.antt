@@ -9,13 +9,17 @@ use Rattle.pocsag_words.specs.declared.ending.End.{End}
 use Rattle.pocsag_words.specs.declared.ending.End.TheVariants.{Open, Closed}
 use Rattle.pocsag_pages.specs.declared.page.Page.{Page}
 
+-- How many codewords a batch has, the synchronisation codeword not counted (a rule of Annex 1).
+abbrev pub batch_length : ℕ
+batch_length = 16
+
 -- *Batch list*: whole batches of sixteen codewords each, at least one.
 abbrev pub IsBatchList : {X : Type 0} → ℕ → List X → Type 0
-IsBatchList batches ws = (0 < batches) × (length ws ≡ 16 * batches)
+IsBatchList batches ws = (0 < batches) × (length ws ≡ batch_length * batches)
 
 -- The frame of the codeword at an index, synchronisation codewords not counted.
 abbrev pub frame_at : ℕ → ℕ
-frame_at i = i % 16 / 2
+frame_at i = i % batch_length / 2
 
 -- No message codeword stands first.
 abbrev pub BeginsNoMessage : List Kind → Type 0

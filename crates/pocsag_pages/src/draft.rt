@@ -56,12 +56,8 @@ impl Draft {
             mut pages,
             mut seen,
         } = self;
-        let Ok(_) = seen.insert(page.address) else {
-            return Err(OutOfMemory);
-        };
-        let Ok(_) = pages.push(page) else {
-            return Err(OutOfMemory);
-        };
+        seen.insert(page.address)?;
+        pages.push(page)?;
         Ok(Draft { pages, seen })
     }
 

@@ -1,3 +1,12 @@
+ghost use Rattle.std.specs.Prelude.{◌≡◌};
+ghost use Rattle.pocsag_pages.specs.PageFile.{field_fault_of, record_fault_of, round_fault_of};
+ghost use Rattle.pocsag_pages.specs.declared.fault.RecordFault.TheVariants as wrong;
+ghost use Rattle.pocsag_pages.specs.declared.fault.RoundFault.TheVariants as fault;
+ghost use Rattle.pocsag_pages.specs.declared.fault.WholeFault.TheVariants as whole;
+
+use pocsag_text::TextFault;
+use pocsag_words::{DeviceFault, OutOfMemory};
+use std::alloc::{AllocError, AllocFailed};
 use thiserror::Error;
 
 /// Why a page may not stand in a round.
@@ -122,10 +131,20 @@ pub(crate) enum RecordFault {
     OutOfMemory,
 }
 
-impl From<FieldFault> for RecordFault {
-    ghost use Rattle.std.specs.Prelude.{◌≡◌};
-    ghost use Rattle.pocsag_pages.specs.PageFile.{record_fault_of};
+impl From<TextFault> for FieldFault {
+    ghost from_gives = { λ fault its. its ≡ field_fault_of fault };
 
+    fn from(fault: TextFault) -> FieldFault {
+        match fault {
+            TextFault::EmptyMessage => FieldFault::EmptyMessage,
+            TextFault::BadCharacter(place) => FieldFault::BadCharacter(place),
+            TextFault::TooLong => FieldFault::TooLong,
+            TextFault::OutOfMemory => FieldFault::OutOfMemory,
+        }
+    }
+}
+
+impl From<FieldFault> for RecordFault {
     ghost from_gives = { λ fault its. its ≡ record_fault_of fault };
 
     fn from(fault: FieldFault) -> RecordFault {
@@ -138,6 +157,58 @@ impl From<FieldFault> for RecordFault {
             FieldFault::BadCharacter(place) => RecordFault::BadCharacter(place),
             FieldFault::TooLong => RecordFault::TooLong,
             FieldFault::OutOfMemory => RecordFault::OutOfMemory,
+        }
+    }
+}
+
+impl From<OutOfMemory> for RecordFault {
+    ghost from_gives = { λ _ its. its ≡ wrong.OutOfMemory };
+
+    fn from(_fault: OutOfMemory) -> RecordFault {
+        RecordFault::OutOfMemory
+    }
+}
+
+impl From<DeviceFault> for WholeFault {
+    ghost from_gives = { λ _ its. its ≡ whole.ReadFault };
+
+    fn from(_fault: DeviceFault) -> WholeFault {
+        WholeFault::ReadFault
+    }
+}
+
+impl From<AllocError> for WholeFault {
+    ghost from_gives = { λ _ its. its ≡ whole.OutOfMemory };
+
+    fn from(_fault: AllocError) -> WholeFault {
+        WholeFault::OutOfMemory
+    }
+}
+
+impl From<OutOfMemory> for RoundFault {
+    ghost from_gives = { λ _ its. its ≡ fault.OutOfMemory };
+
+    fn from(_fault: OutOfMemory) -> RoundFault {
+        RoundFault::OutOfMemory
+    }
+}
+
+impl<T: Drop> From<AllocFailed<T>> for RoundFault {
+    ghost from_gives = { λ _ its. its ≡ fault.OutOfMemory };
+
+    fn from(_fault: AllocFailed<T>) -> RoundFault {
+        RoundFault::OutOfMemory
+    }
+}
+
+impl From<WholeFault> for RoundFault {
+    ghost from_gives = { λ fault its. its ≡ round_fault_of fault };
+
+    fn from(fault: WholeFault) -> RoundFault {
+        match fault {
+            WholeFault::ReadFault => RoundFault::ReadFault,
+            WholeFault::TooLarge => RoundFault::TooLarge,
+            WholeFault::OutOfMemory => RoundFault::OutOfMemory,
         }
     }
 }

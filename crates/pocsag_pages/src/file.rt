@@ -7,7 +7,7 @@ ghost use Rattle.pocsag_pages.specs.PageFile.{fault_after, numbered, page_of, pa
 
 use crate::csv_row::{next_row, rows_reader};
 use crate::draft::Draft;
-use crate::fault::{RecordFault, RoundFault, WholeFault};
+use crate::fault::{RecordFault, RoundFault};
 use crate::record::{is_header_row, page_of_row};
 use crate::round::{PAGE_LIMIT, Round};
 use crate::whole::read_whole;
@@ -55,10 +55,7 @@ fn judge(alloc: Global, draft: Draft, earlier: u32, row: &ByteRecord) -> Result<
     if earlier as usize >= PAGE_LIMIT {
         return Err(RecordFault::TooManyPages);
     }
-    match draft.with(page) {
-        Ok(longer) => Ok(longer),
-        Err(_) => Err(RecordFault::OutOfMemory),
-    }
+    Ok(draft.with(page)?)
 }
 
 // The round of the records that the reader has left; `row` is where they are read into.
@@ -75,9 +72,7 @@ fn judge_rows(
     let mut draft = Draft::new(alloc);
     let mut earlier = 0;
     loop {
-        let Ok(found) = next_row(reader, row) else {
-            return Err(RoundFault::OutOfMemory);
-        };
+        let found = next_row(reader, row)?;
         if !found {
             return draft.into_round();
         }
@@ -97,9 +92,7 @@ fn judge_file(alloc: Global, bytes: &[u8]) -> Result<Round, RoundFault>
 {
     let mut reader = rows_reader(alloc, bytes);
     let mut row = ByteRecord::new(alloc);
-    let Ok(found) = next_row(&mut reader, &mut row) else {
-        return Err(RoundFault::OutOfMemory);
-    };
+    let found = next_row(&mut reader, &mut row)?;
     if !found {
         return Err(RoundFault::BadHeader);
     }
@@ -118,10 +111,6 @@ pub fn read_round<S: Source>(alloc: Global, source: &mut S) -> Result<Round, Rou
     ensures unfailed { IfErr result (λ e. (e ≡ RoundFault.ReadFault) ⊎ (S.failures source.new ≡ S.failures source.old)) }
     ensures failed { result ≡ Err RoundFault.ReadFault → HasFailed (S.failures source.old) (S.failures source.new) }
 {
-    match read_whole(alloc, source, FILE_LIMIT) {
-        Ok(bytes) => judge_file(alloc, bytes.as_slice()),
-        Err(WholeFault::ReadFault) => Err(RoundFault::ReadFault),
-        Err(WholeFault::TooLarge) => Err(RoundFault::TooLarge),
-        Err(WholeFault::OutOfMemory) => Err(RoundFault::OutOfMemory),
-    }
+    let bytes = read_whole(alloc, source, FILE_LIMIT)?;
+    judge_file(alloc, bytes.as_slice())
 }

@@ -33,9 +33,7 @@ fn judge_pages(alloc: Global, pages: &[Page]) -> Result<(), RoundFault>
         if let Some(fault) = page_fault(page) {
             return Err(numbered(number, fault));
         }
-        let Ok(added) = seen.insert(page.address) else {
-            return Err(RoundFault::OutOfMemory);
-        };
+        let added = seen.insert(page.address)?;
         if !added {
             return Err(RoundFault::DuplicateAddress(number));
         }

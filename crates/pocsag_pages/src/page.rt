@@ -61,10 +61,9 @@ impl Payload {
     pub fn copy(&self, alloc: Global) -> Result<Payload, OutOfMemory>
         ensures { IfOk result (λ p. p ≡ self.now) }
     {
-        match self.as_slice().to_vec(alloc) {
-            Ok(items) => Ok(Payload { items }),
-            Err(_) => Err(OutOfMemory),
-        }
+        Ok(Payload {
+            items: self.as_slice().to_vec(alloc)?,
+        })
     }
 }
 

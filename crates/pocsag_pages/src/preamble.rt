@@ -1,13 +1,16 @@
 ghost use Rattle.std.specs.Prelude.{◌≡◌, ◌≤◌, length};
 ghost use Rattle.pocsag_pages.specs.Bytes.{leading};
 
+// What a preamble is made of.
+const PREAMBLE_BYTE: u8 = 0xAA;
+
 /// How many bytes AA stand first.
 pub fn leading_len(bytes: &[u8]) -> usize
     ensures value { result ≡ leading bytes.now }
     ensures within { result ≤ length bytes.now }
 {
     for (count, byte) in bytes.iter().enumerate() {
-        if *byte != 0xAA {
+        if *byte != PREAMBLE_BYTE {
             return count;
         }
     }

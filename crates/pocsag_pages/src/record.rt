@@ -1,15 +1,19 @@
 ghost use Rattle.std.specs.Prelude.{◌≡◌, ◌≢◌, ◌^◌, ◌<◌, ◌≤◌, ◌⊎◌, ◌∷◌, [], length, None, All, IfErr, IfNone, IfOk, IfSome, IsOk};
 ghost use Rattle.csv.specs.Records.{fields_of};
+ghost use Rattle.pocsag_text.specs.Bits.{AreItems};
 ghost use Rattle.pocsag_text.specs.Text.{item_limit};
 ghost use Rattle.pocsag_pages.specs.Pages.{last_address, page_fault_of};
-ghost use Rattle.pocsag_pages.specs.PageFile.{address_of, decimal, function_of, is_header, kind_of_field, page_of, page_of_fields, payload_of, field_fault_of, IsTone};
+ghost use Rattle.pocsag_pages.specs.PageFile.{address_digits, address_of, decimal, function_of, is_header, kind_of_field, page_of, page_of_fields, payload_of, IsTone};
 
 use crate::fault::{FieldFault, RecordFault};
 use crate::page::{LAST_ADDRESS, Page, Payload};
 use crate::rule::is_reserved_address;
 use csv::ByteRecord;
-use pocsag_text::{TextFault, pack_alpha, pack_numeric};
+use pocsag_text::{pack_alpha, pack_numeric};
 use std::alloc::Global;
+
+// The most digits of an address.
+const ADDRESS_DIGITS: usize = 7;
 
 // What a page file calls the kind of a page.
 #[derive(Clone, Copy)]
@@ -56,7 +60,7 @@ pub(crate) fn is_header_row(row: &ByteRecord) -> bool
 }
 
 fn parse_decimal(digits: &[u8]) -> Option<u32>
-    requires { length digits.now ≤ 7 }
+    requires { length digits.now ≤ address_digits }
     ensures { result ≡ decimal 0 digits.now }
 {
     let mut value = 0;
@@ -77,7 +81,7 @@ fn parse_address(field: &[u8]) -> Option<u32>
     if field.is_empty() {
         return None;
     }
-    if field.len() > 7 {
+    if field.len() > ADDRESS_DIGITS {
         return None;
     }
     match parse_decimal(field) {
@@ -124,42 +128,28 @@ impl PageKind {
     }
 }
 
-fn field_fault(fault: TextFault) -> FieldFault
-    ensures { result ≡ field_fault_of fault }
-{
-    match fault {
-        TextFault::EmptyMessage => FieldFault::EmptyMessage,
-        TextFault::BadCharacter(place) => FieldFault::BadCharacter(place),
-        TextFault::TooLong => FieldFault::TooLong,
-        TextFault::OutOfMemory => FieldFault::OutOfMemory,
-    }
-}
-
 // The payload of a page's message.
 #[tactic(auto, unfolding(crate::specs::PageFile::payload_of))]
 fn pack_message(alloc: Global, kind: PageKind, message: &[u8]) -> Result<Payload, FieldFault>
     ensures ok { IfOk result (λ p. payload_of kind message.now ≡ Ok p) }
-    ensures small { IfOk result (λ p. All (λ item. item < 2 ^ 20) p) }
+    ensures small { IfOk result (λ p. AreItems p) }
     ensures few { IfOk result (λ p. length p ≤ item_limit) }
     ensures silent { IfOk result (λ p. IsTone kind → p ≡ []) }
     ensures err { IfErr result
         (λ e. (e ≡ FieldFault.OutOfMemory) ⊎ (payload_of kind message.now ≡ Err e)) }
     ensures memory { result ≡ Err FieldFault.OutOfMemory → IsOk (payload_of kind message.now) }
 {
-    let packed = match kind {
+    let items = match kind {
         PageKind::Tone(_) => {
             if message.is_empty() {
                 return Ok(Payload::empty(alloc));
             }
             return Err(FieldFault::MessageForTone);
         }
-        PageKind::Numeric => pack_numeric(alloc, message),
-        PageKind::Alpha => pack_alpha(alloc, message),
+        PageKind::Numeric => pack_numeric(alloc, message)?,
+        PageKind::Alpha => pack_alpha(alloc, message)?,
     };
-    match packed {
-        Ok(items) => Ok(Payload::from_vec(items)),
-        Err(fault) => Err(field_fault(fault)),
-    }
+    Ok(Payload::from_vec(items))
 }
 
 /// The page that three fields of text spell, as those of a record of a page file. Faults, in this order:
@@ -180,15 +170,11 @@ pub fn page_of_fields(
     // Memory is wanted only by fields that spell a page.
     ensures memory { result ≡ Err FieldFault.OutOfMemory → IsOk (page_of_fields address.now kind.now message.now) }
 {
-    let Some(address) = parse_address(address) else {
-        return Err(FieldFault::BadAddress);
-    };
+    let address = parse_address(address).ok_or(FieldFault::BadAddress)?;
     if is_reserved_address(address) {
         return Err(FieldFault::ReservedAddress);
     }
-    let Some(kind) = parse_kind(kind) else {
-        return Err(FieldFault::BadKind);
-    };
+    let kind = parse_kind(kind).ok_or(FieldFault::BadKind)?;
     let payload = pack_message(alloc, kind, message)?;
     Ok(Page {
         address,
@@ -205,8 +191,6 @@ pub(crate) fn page_of_row(alloc: Global, row: &ByteRecord) -> Result<Page, Recor
     ensures err { IfErr result
         (λ e. (e ≡ RecordFault.OutOfMemory) ⊎ (page_of (fields_of row.now) ≡ Err e)) }
 {
-    let Some(fields) = three_fields(row) else {
-        return Err(RecordFault::FieldCount);
-    };
+    let fields = three_fields(row).ok_or(RecordFault::FieldCount)?;
     Ok(page_of_fields(alloc, fields.address, fields.kind, fields.message)?)
 }

@@ -1,5 +1,6 @@
 ghost use Rattle.std.specs.Prelude.{◌≡◌, ◌==◌, ◌&&◌, ◌||◌, ◌^◌, length, nat_le, not};
 ghost use Rattle.std.specs.List.{list_any};
+ghost use Rattle.pocsag_text.specs.Bits.{item_width};
 ghost use Rattle.pocsag_pages.specs.Pages.{is_bad_payload, is_reserved, page_fault_of};
 
 use crate::fault::PageFault;
@@ -7,6 +8,12 @@ use crate::page::{LAST_ADDRESS, Page};
 
 /// The greatest number of items of a message, which 4,000 characters of seven bits fill.
 pub const ITEM_LIMIT: usize = 1_400;
+
+// The greatest function, which has two bits.
+const LAST_FUNCTION: u8 = 3;
+
+// The least number of more than twenty bits.
+const ITEM_END: u32 = 1_048_576;
 
 /// Whether the address is one of the sixteen that the idle and the synchronisation codeword would be
 /// read as.
@@ -25,16 +32,16 @@ fn is_unwanted_message(function: u8, items: &[u32]) -> bool
 }
 
 fn has_large_item(items: &[u32]) -> bool
-    ensures { result ≡ list_any (nat_le (2 ^ 20)) items.now }
+    ensures { result ≡ list_any (nat_le (2 ^ item_width)) items.now }
 {
-    items.iter().any(|item| 1_048_576 <= *item)
+    items.iter().any(|item| ITEM_END <= *item)
 }
 
 #[tactic(auto, unfolding(crate::specs::Pages::is_bad_payload))]
 fn has_bad_payload(function: u8, items: &[u32]) -> bool
     ensures { result ≡ is_bad_payload function items.now }
 {
-    if function > 3 {
+    if function > LAST_FUNCTION {
         return true;
     }
     if is_unwanted_message(function, items) {

@@ -26,17 +26,13 @@ pub fn read_whole<S: Source>(
     let mut bytes = Vec::new(alloc);
     let mut piece = [0u8; PIECE];
     loop {
-        let Ok(count) = source.read(&mut piece) else {
-            return Err(WholeFault::ReadFault);
-        };
+        let count = source.read(&mut piece)?;
         if count == 0 {
             return Ok(bytes);
         }
         if count > max - bytes.len() {
             return Err(WholeFault::TooLarge);
         }
-        let Ok(_) = bytes.extend_from_slice(&piece[..count]) else {
-            return Err(WholeFault::OutOfMemory);
-        };
+        bytes.extend_from_slice(&piece[..count])?;
     }
 }

@@ -5,13 +5,13 @@ use Rattle.pocsag_pages.specs.declared.page.Page.{Page}
 use Rattle.pocsag_slots.specs.declared.class.Classes.{Classes}
 use Rattle.pocsag_slots.specs.declared.limit.Limits.{Limits}
 use Rattle.pocsag_slots.specs.Cover.{covered}
-use Rattle.pocsag_slots.specs.Numbering.{class_rest, start_of, count_of, turns_of}
+use Rattle.pocsag_slots.specs.Numbering.{class_count, slot_count, class_rest, start_of, count_of, turns_of}
 use Rattle.pocsag_slots.specs.Sums.{sum_below, sum_over}
 
 -- The table counts the pages of the list.
 pub record AreClassesOf (k : Classes) (end : End) (R : List Page) : Type 0 where
-  pub count : (c : ℕ) → c < 136 → slice_index k.count c ≡ count_of end R c
-  pub turns : (c : ℕ) → c < 136 → slice_index k.turns c ≡ turns_of end R c
+  pub count : (c : ℕ) → c < class_count → slice_index k.count c ≡ count_of end R c
+  pub turns : (c : ℕ) → c < class_count → slice_index k.turns c ≡ turns_of end R c
 
 -- How many times the runs of a class cover the slot, where so many of them start early.
 unfoldable pub class_load : Classes → ℕ → ℕ → ℕ → ℕ
@@ -22,29 +22,29 @@ class_load k slot c early =
 
 -- The load of a slot: how many times the runs cover it.
 unfoldable pub load : Classes → (ℕ → ℕ) → ℕ → ℕ
-load k choice slot = sum_below 136 (λ c. class_load k slot c (choice c))
+load k choice slot = sum_below class_count (λ c. class_load k slot c (choice c))
 
 -- No more pages start early than there are.
 abbrev pub IsChoice : Classes → (ℕ → ℕ) → Type 0
-IsChoice k choice = (c : ℕ) → c < 136 → choice c ≤ slice_index k.count c
+IsChoice k choice = (c : ℕ) → c < class_count → choice c ≤ slice_index k.count c
 
 -- The limits bound the early counts one way each, and by the counts.
 pub record AreInOrder (k : Classes) (l : Limits) : Type 0 where
-  pub order : (c : ℕ) → c < 136 → slice_index l.lo c ≤ slice_index l.hi c
-  pub counted : (c : ℕ) → c < 136 → slice_index l.hi c ≤ slice_index k.count c
+  pub order : (c : ℕ) → c < class_count → slice_index l.lo c ≤ slice_index l.hi c
+  pub counted : (c : ℕ) → c < class_count → slice_index l.hi c ≤ slice_index k.count c
 
 -- The choice is within the limits; it is admitted when also no load exceeds its cap.
 pub record IsWithin (l : Limits) (choice : ℕ → ℕ) : Type 0 where
-  pub least : (c : ℕ) → c < 136 → slice_index l.lo c ≤ choice c
-  pub most : (c : ℕ) → c < 136 → choice c ≤ slice_index l.hi c
+  pub least : (c : ℕ) → c < class_count → slice_index l.lo c ≤ choice c
+  pub most : (c : ℕ) → c < class_count → choice c ≤ slice_index l.hi c
 
 pub record IsAdmitted (k : Classes) (l : Limits) (choice : ℕ → ℕ) : Type 0 where
   pub within : IsWithin l choice
-  pub capped : (slot : ℕ) → slot < 16 → load k choice slot ≤ slice_index l.cap slot
+  pub capped : (slot : ℕ) → slot < slot_count → load k choice slot ≤ slice_index l.cap slot
 
 -- The limits that all choices are within, with one cap for each slot.
 abbrev pub limits_of_all : Classes → ℕ → Limits
-limits_of_all k batches = record { lo = replicate 136 0; hi = k.count; cap = replicate 16 batches }
+limits_of_all k batches = record { lo = replicate class_count 0; hi = k.count; cap = replicate slot_count batches }
 
 -- The minimum, over all choices within the limits, of the summed loads of a set of slots.
 pub record IsLeastLoad (k : Classes) (l : Limits) (set least : ℕ) : Type 0 where
@@ -64,7 +64,7 @@ least_of_class k l set c =
 abbrev pub ClassLoadsAddUp : Type 0
 ClassLoadsAddUp =
     (k : Classes) (set : ℕ) (choice : ℕ → ℕ) →
-    sum_over set (load k choice) ≡ sum_below 136 (λ c. class_load_over k set c (choice c))
+    sum_over set (load k choice) ≡ sum_below class_count (λ c. class_load_over k set c (choice c))
 
 -- Each choice within the limits loads the set above the sum of its caps.
 abbrev pub Overloads : Classes → Limits → ℕ → Type 0
@@ -73,7 +73,7 @@ Overloads k l set =
 
 -- So many batches carry the choice: no load is above them.
 abbrev pub AreCarried : Classes → (ℕ → ℕ) → ℕ → Type 0
-AreCarried k choice batches = (slot : ℕ) → slot < 16 → load k choice slot ≤ batches
+AreCarried k choice batches = (slot : ℕ) → slot < slot_count → load k choice slot ≤ batches
 
 -- Some choice loads no slot above b.
 pub record IsCarriedBy (k : Classes) (b : ℕ) : Type 0 where

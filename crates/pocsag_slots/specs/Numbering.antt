@@ -4,34 +4,46 @@ use Rattle.std.specs.Prelude.{sum_by}
 use Rattle.pocsag_words.specs.declared.ending.End.{End}
 use Rattle.pocsag_words.specs.declared.ending.End.TheVariants.{Open, Closed}
 use Rattle.pocsag_pages.specs.declared.page.Page.{Page}
-use Rattle.pocsag_pages.specs.Reading.{page_length}
+use Rattle.pocsag_pages.specs.Reading.{batch_length, page_length}
+
+-- How many slots a batch has, and so many boundaries: a slot is the place of a codeword in its batch.
+abbrev pub slot_count : ℕ
+slot_count = batch_length
+
+-- How many classes there are: for each of eight frames one for each rest of a length by sixteen, and
+-- then one for an address codeword alone, which only the closed end has.
+abbrev pub bare_classes : ℕ
+bare_classes = 128
+
+abbrev pub class_count : ℕ
+class_count = 136
 
 -- The class of a page of this frame and length. With the closed end an address codeword alone, which
 -- may end a transmission, is in a class of its own.
 unfoldable pub class_of : End → ℕ → ℕ → ℕ
-class_of Open frame len = frame * 16 + len % 16
-class_of Closed frame len = cond (len == 1) (128 + frame) (frame * 16 + len % 16)
+class_of Open frame len = frame * slot_count + len % slot_count
+class_of Closed frame len = cond (len == 1) (bare_classes + frame) (frame * slot_count + len % slot_count)
 
 abbrev pub class_of_page : End → Page → ℕ
 class_of_page end p = class_of end (p.address % 8) (page_length p)
 
 -- The frame of a class, and how many slots its runs cover beside their whole turns.
 unfoldable pub class_frame : ℕ → ℕ
-class_frame c = cond (nat_lt c 128) (c / 16) (c - 128)
+class_frame c = cond (nat_lt c bare_classes) (c / slot_count) (c - bare_classes)
 
 unfoldable pub class_rest : ℕ → ℕ
-class_rest c = cond (nat_lt c 128) (c % 16) 1
+class_rest c = cond (nat_lt c bare_classes) (c % slot_count) 1
 
 -- The boundary where a run of the class starts, early or late, and the one where it ends.
 unfoldable pub start_of : ℕ → Bool → ℕ
 start_of c early = 2 * class_frame c + cond early 0 1
 
 unfoldable pub finish_of : ℕ → Bool → ℕ
-finish_of c early = (start_of c early + class_rest c) % 16
+finish_of c early = (start_of c early + class_rest c) % slot_count
 
 -- How many pages of a list are in the class, and how many whole turns they take together.
 abbrev pub count_of : End → List Page → ℕ → ℕ
 count_of end R c = count_by (λ p. class_of_page end p == c) R
 
 abbrev pub turns_of : End → List Page → ℕ → ℕ
-turns_of end R c = sum_by (λ p. cond (class_of_page end p == c) (page_length p / 16) 0) R
+turns_of end R c = sum_by (λ p. cond (class_of_page end p == c) (page_length p / slot_count) 0) R

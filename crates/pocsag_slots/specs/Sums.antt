@@ -1,5 +1,6 @@
 -- Sums and lists over the numbers below a number, and sets as numbers.
 use Rattle.std.specs.Prelude.{◌≡◌, ◌≢◌, ℕ, zero, suc, ◌+◌, ◌/◌, ◌%◌, ◌^◌, ◌<◌, ◌==◌, Bool, true, false, cond, List, [], ◌++◌}
+use Rattle.pocsag_slots.specs.Numbering.{slot_count}
 
 -- f 0 + .. + f (n - 1)
 unfoldable pub sum_below : ℕ → (ℕ → ℕ) → ℕ
@@ -25,8 +26,8 @@ pub record AddsMember (set member larger : ℕ) : Type 0 where
 
 -- Each set can take each member.
 abbrev pub SetsTakeMembers : Type 0
-SetsTakeMembers = (set member : ℕ) → member < 16 → (larger : ℕ) × AddsMember set member larger
+SetsTakeMembers = (set member : ℕ) → member < slot_count → (larger : ℕ) × AddsMember set member larger
 
 -- The sum over the members of a set of slots.
 unfoldable pub sum_over : ℕ → (ℕ → ℕ) → ℕ
-sum_over set f = sum_below 16 (λ slot. cond (holds set slot) (f slot) 0)
+sum_over set f = sum_below slot_count (λ slot. cond (holds set slot) (f slot) 0)

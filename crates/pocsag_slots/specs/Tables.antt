@@ -1,15 +1,15 @@
 -- What the class tables of a round keep: it has at most 20,000 pages of at most 1,401 codewords each
 -- (this project's own limits).
 use Rattle.std.specs.Prelude.{◌≡◌, ℕ, ◌*◌, ◌<◌, ◌≤◌, List, length, slice_index}
-use Rattle.pocsag_slots.specs.Numbering.{class_rest}
+use Rattle.pocsag_slots.specs.Numbering.{bare_classes, class_count, class_rest}
 use Rattle.pocsag_slots.specs.Sums.{sum_below}
 
 -- One count and one number of whole turns for each of 136 classes. A page without a rest has at least
 -- one whole turn, and an address codeword alone, in the classes from 128 on, has none.
 pub record AreTables (count turns : List ℕ) : Type 0 where
-  pub counts : length count ≡ 136
-  pub totals : length turns ≡ 136
-  pub few : sum_below 136 (slice_index count) ≤ 20000
-  pub short : (c : ℕ) → c < 136 → slice_index turns c ≤ 87 * slice_index count c
-  pub whole : (c : ℕ) → c < 136 → class_rest c ≡ 0 → slice_index count c ≤ slice_index turns c
-  pub bare : (c : ℕ) → 128 ≤ c → c < 136 → slice_index turns c ≡ 0
+  pub counts : length count ≡ class_count
+  pub totals : length turns ≡ class_count
+  pub few : sum_below class_count (slice_index count) ≤ 20000
+  pub short : (c : ℕ) → c < class_count → slice_index turns c ≤ 87 * slice_index count c
+  pub whole : (c : ℕ) → c < class_count → class_rest c ≡ 0 → slice_index count c ≤ slice_index turns c
+  pub bare : (c : ℕ) → bare_classes ≤ c → c < class_count → slice_index turns c ≡ 0

@@ -9,18 +9,18 @@ use Rattle.pocsag_slots.specs.declared.step.Step.{Step}
 use Rattle.pocsag_slots.specs.declared.step.Step.TheVariants.{Idle as Stay, Run}
 use Rattle.pocsag_slots.specs.Arcs.{runs}
 use Rattle.pocsag_slots.specs.Loads.{load, AreClassesOf}
-use Rattle.pocsag_slots.specs.Numbering.{start_of, finish_of}
+use Rattle.pocsag_slots.specs.Numbering.{class_count, slot_count, start_of, finish_of}
 
 -- The arcs lead from boundary p to boundary q, each starting where the one before ended.
 abbrev pub Leads : ℕ → List Step → ℕ → Type 0
 Leads p [] q = p ≡ q
-Leads p (Stay ∷ ss) q = Leads ((p + 1) % 16) ss q
+Leads p (Stay ∷ ss) q = Leads ((p + 1) % slot_count) ss q
 Leads p (Run c e ∷ ss) q = (p ≡ start_of c e) × Leads (finish_of c e) ss q
 
 -- How many idles stand in the slot, where the arcs start at boundary p.
 abbrev pub idles : ℕ → ℕ → List Step → ℕ
 idles slot p [] = 0
-idles slot p (Stay ∷ ss) = cond (p == slot) 1 0 + idles slot ((p + 1) % 16) ss
+idles slot p (Stay ∷ ss) = cond (p == slot) 1 0 + idles slot ((p + 1) % slot_count) ss
 idles slot p (Run c e ∷ ss) = idles slot (finish_of c e) ss
 
 -- The last arc is an idle or a late run of class 135, an address codeword alone in slot 15.
@@ -37,10 +37,10 @@ LastAs Closed ss = LastIsWhole ss
 -- *Tour* of a choice with so many batches, for an end, from boundary 0 to boundary 0.
 pub record IsTour (k : Classes) (end : End) (choice : ℕ → ℕ) (batches : ℕ) (steps : List Step) : Type 0 where
   pub leads : Leads 0 steps 0
-  pub early : (c : ℕ) → c < 136 → runs c true steps ≡ choice c
-  pub late : (c : ℕ) → c < 136 → runs c false steps + choice c ≡ slice_index k.count c
-  pub no_other : (c : ℕ) (e : Bool) → 136 ≤ c → runs c e steps ≡ 0
-  pub idle : (slot : ℕ) → slot < 16 → idles slot 0 steps + load k choice slot ≡ batches
+  pub early : (c : ℕ) → c < class_count → runs c true steps ≡ choice c
+  pub late : (c : ℕ) → c < class_count → runs c false steps + choice c ≡ slice_index k.count c
+  pub no_other : (c : ℕ) (e : Bool) → class_count ≤ c → runs c e steps ≡ 0
+  pub idle : (slot : ℕ) → slot < slot_count → idles slot 0 steps + load k choice slot ≡ batches
   pub last : LastAs end steps
 
 -- The steps are a tour of some choice for the round and the end; the number of batches is one of 32 bits

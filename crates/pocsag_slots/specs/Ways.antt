@@ -4,7 +4,7 @@ use Rattle.pocsag_slots.specs.declared.class.Classes.{Classes}
 use Rattle.pocsag_slots.specs.declared.limit.Limits.{Limits}
 use Rattle.pocsag_slots.specs.declared.way.Way.{Way}
 use Rattle.pocsag_slots.specs.declared.way.Way.TheVariants.{IdleIn, Early, Late}
-use Rattle.pocsag_slots.specs.Numbering.{start_of, finish_of}
+use Rattle.pocsag_slots.specs.Numbering.{class_count, slot_count, start_of, finish_of}
 use Rattle.pocsag_slots.specs.Sums.{holds, joined_below}
 
 -- A run of the class has an end outside the set.
@@ -18,7 +18,7 @@ run_crosses c early set =
 
 unfoldable pub idle_crosses : ℕ → ℕ → Bool
 idle_crosses slot set =
-    cond (holds set slot) (not (holds set ((slot + 1) % 16))) (holds set ((slot + 1) % 16))
+    cond (holds set slot) (not (holds set ((slot + 1) % slot_count))) (holds set ((slot + 1) % slot_count))
 
 -- The class is certain for the set: under the limits some run of it has an end outside.
 unfoldable pub class_certain : Classes → Limits → ℕ → ℕ → Bool
@@ -43,7 +43,7 @@ unfoldable pub class_ways : Classes → Limits → ℕ → ℕ → List Way
 class_ways k l set c = cond (early_open k l set c) (Early c ∷ []) [] ++ cond (late_open k l set c) (Late c ∷ []) []
 
 unfoldable pub ways_across : Classes → Limits → ℕ → List Way
-ways_across k l set = joined_below 16 (slot_ways set) ++ joined_below 136 (class_ways k l set)
+ways_across k l set = joined_below slot_count (slot_ways set) ++ joined_below class_count (class_ways k l set)
 
 -- The ways in which a transmission with the closed end may end: an idle in the last slot, or an
 -- address codeword alone there.
@@ -52,9 +52,9 @@ ways_to_close k l = IdleIn 15 ∷ cond (nat_lt (slice_index l.lo 135) (slice_ind
 
 -- The way is open under the limits.
 abbrev pub MayTake : Classes → Limits → Way → Type 0
-MayTake k l (IdleIn slot) = slot < 16
-MayTake k l (Early c) = (c < 136) × (0 < slice_index l.hi c)
-MayTake k l (Late c) = (c < 136) × (slice_index l.lo c < slice_index k.count c)
+MayTake k l (IdleIn slot) = slot < slot_count
+MayTake k l (Early c) = (c < class_count) × (0 < slice_index l.hi c)
+MayTake k l (Late c) = (c < class_count) × (slice_index l.lo c < slice_index k.count c)
 
 -- The limits of the transmissions that take the way: at least one idle stands in the slot, so that pages
 -- cover it at most batches - 1 times, however often the way is taken; or at least one run of the class

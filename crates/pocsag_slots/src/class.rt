@@ -11,14 +11,14 @@ pub const SLOTS: usize = 16;
 /// take together.
 #[derive(Clone, Copy, PartialEq, Eq, Debug)]
 pub struct Classes {
-    pub count: [u32; 136],
-    pub turns: [u32; 136],
+    pub count: [u32; CLASSES],
+    pub turns: [u32; CLASSES],
     pub ghost tables: { AreTables count turns },
 }
 
 /// How many pages of each class start early; the others start late.
 #[derive(Clone, Copy, PartialEq, Eq, Debug)]
 pub struct Choice {
-    pub early: [u32; 136],
+    pub early: [u32; CLASSES],
     pub ghost long: { length early ≡ 136 },
 }

@@ -1,7 +1,6 @@
 ghost use Rattle.std.specs.Prelude.{◌≡◌, ℕ, ◌+◌, ◌^◌, ◌<◌, ◌==◌, if◌then◌else◌, length, slice_index};
-ghost use Rattle.pocsag_slots.specs.Edges.{ends_at, starts_at};
+ghost use Rattle.pocsag_slots.specs.Edges.{CountEnds, CountStarts};
 ghost use Rattle.pocsag_slots.specs.Loads.{IsChoice};
-ghost use Rattle.pocsag_slots.specs.Sums.{sum_below};
 
 use crate::boundary::{finish, start};
 use crate::class::{CLASSES, Choice, Classes, SLOTS};
@@ -9,11 +8,11 @@ use crate::class::{CLASSES, Choice, Classes, SLOTS};
 // How many runs of a choice start at each boundary, and how many end there.
 #[derive(Drop)]
 pub(crate) struct Edges {
-    pub(crate) starts: [u32; 16],
-    pub(crate) ends: [u32; 16],
+    pub(crate) starts: [u32; SLOTS],
+    pub(crate) ends: [u32; SLOTS],
 }
 
-fn add(sums: &mut [u32; 16], boundary: u8, more: u32)
+fn add(sums: &mut [u32; SLOTS], boundary: u8, more: u32)
     requires boundary { boundary < 16 }
     requires fits { slice_index sums.old boundary + more < 2 ^ 32 }
     ensures { (p : ℕ) → p < 16 → slice_index sums.new p ≡ slice_index sums.old p + (if boundary == p then more else 0) }
@@ -25,10 +24,10 @@ fn add(sums: &mut [u32; 16], boundary: u8, more: u32)
 fn add_class(edges: &mut Edges, classes: &Classes, choice: &Choice, class: u8)
     requires chosen { IsChoice classes.now (slice_index choice.now.early) }
     requires class { class < 136 }
-    requires starts { (p : ℕ) → p < 16 → slice_index edges.old.starts p ≡ sum_below class (starts_at classes.now (slice_index choice.now.early) p) }
-    requires ends { (p : ℕ) → p < 16 → slice_index edges.old.ends p ≡ sum_below class (ends_at classes.now (slice_index choice.now.early) p) }
-    ensures starts { (p : ℕ) → p < 16 → slice_index edges.new.starts p ≡ sum_below (class + 1) (starts_at classes.now (slice_index choice.now.early) p) }
-    ensures ends { (p : ℕ) → p < 16 → slice_index edges.new.ends p ≡ sum_below (class + 1) (ends_at classes.now (slice_index choice.now.early) p) }
+    requires starts { CountStarts classes.now (slice_index choice.now.early) class edges.old.starts }
+    requires ends { CountEnds classes.now (slice_index choice.now.early) class edges.old.ends }
+    ensures starts { CountStarts classes.now (slice_index choice.now.early) (class + 1) edges.new.starts }
+    ensures ends { CountEnds classes.now (slice_index choice.now.early) (class + 1) edges.new.ends }
 {
     if classes.count[class as usize] == 0 {
         return;
@@ -43,8 +42,8 @@ fn add_class(edges: &mut Edges, classes: &Classes, choice: &Choice, class: u8)
 
 pub(crate) fn edges_of(classes: &Classes, choice: &Choice) -> Edges
     requires { IsChoice classes.now (slice_index choice.now.early) }
-    ensures starts { (p : ℕ) → p < 16 → slice_index result.starts p ≡ sum_below 136 (starts_at classes.now (slice_index choice.now.early) p) }
-    ensures ends { (p : ℕ) → p < 16 → slice_index result.ends p ≡ sum_below 136 (ends_at classes.now (slice_index choice.now.early) p) }
+    ensures starts { CountStarts classes.now (slice_index choice.now.early) 136 result.starts }
+    ensures ends { CountEnds classes.now (slice_index choice.now.early) 136 result.ends }
 {
     let mut edges = Edges {
         starts: [0; SLOTS],

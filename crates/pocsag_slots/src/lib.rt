@@ -28,4 +28,4 @@ pub use limit::{Limits, all_limits, below_split, from_split, narrow};
 pub use load::{carries, least_load, loads, overloads};
 pub use set::{crosses, holds, size, touches, with_member};
 pub use step::Step;
-pub use way::{Way, closing_ways, is_certain, ways};
+pub use way::{WAYS, Way, closing_ways, is_certain, ways};

@@ -1,5 +1,5 @@
 ghost use Rattle.std.specs.Prelude.{◌≡◌, ◌<◌, ◌≤◌, slice_index};
-ghost use Rattle.pocsag_slots.specs.declared.class.Classes.{Classes as Table};
+ghost use Rattle.pocsag_slots.specs.declared.class.Classes.{Classes};
 ghost use Rattle.pocsag_slots.specs.Loads.{AreInOrder, limits_of_all};
 ghost use Rattle.pocsag_slots.specs.Ways.{limits_below, limits_from, MayTake, narrowed_limits};
 
@@ -9,9 +9,9 @@ use crate::way::Way;
 /// Bounds on the early count of each class, and on the load of each slot.
 #[derive(Clone, Copy, PartialEq, Eq, Debug)]
 pub struct Limits {
-    pub lo: [u32; 136],
-    pub hi: [u32; 136],
-    pub cap: [u32; 16],
+    pub lo: [u32; CLASSES],
+    pub hi: [u32; CLASSES],
+    pub cap: [u32; SLOTS],
 }
 
 /// The limits that all choices are within, with a cap of so many batches for each slot.
@@ -32,7 +32,7 @@ pub fn below_split(limits: &Limits, class: u8, m: u32) -> Limits
     requires above { slice_index limits.now.lo class < m }
     requires within { m ≤ slice_index limits.now.hi class }
     ensures value { result ≡ limits_below limits.now class m }
-    ensures ordered { (k : Table) → AreInOrder k limits.now → AreInOrder k result }
+    ensures ordered { (k : Classes) → AreInOrder k limits.now → AreInOrder k result }
 {
     let mut below = *limits;
     below.hi[class as usize] = m - 1;
@@ -45,7 +45,7 @@ pub fn from_split(limits: &Limits, class: u8, m: u32) -> Limits
     requires above { slice_index limits.now.lo class < m }
     requires within { m ≤ slice_index limits.now.hi class }
     ensures value { result ≡ limits_from limits.now class m }
-    ensures ordered { (k : Table) → AreInOrder k limits.now → AreInOrder k result }
+    ensures ordered { (k : Classes) → AreInOrder k limits.now → AreInOrder k result }
 {
     let mut from = *limits;
     from.lo[class as usize] = m;

@@ -1,6 +1,6 @@
 ghost use Rattle.std.specs.Prelude.{◌≡◌, ℕ, ◌*◌, ◌^◌, ◌<◌, ◌≤◌, ◌↔◌, IsTrue, if◌then◌else◌, length, slice_index};
 ghost use Rattle.pocsag_slots.specs.Cover.{covered};
-ghost use Rattle.pocsag_slots.specs.Loads.{AreCarried, AreInOrder, class_load as load_of_class, IsChoice, IsLeastLoad, least_of_class, load, Overloads};
+ghost use Rattle.pocsag_slots.specs.Loads.{AreCarried, AreInOrder, class_load, IsChoice, IsLeastLoad, least_of_class, load, Overloads};
 ghost use Rattle.pocsag_slots.specs.Sums.{holds, sum_over};
 
 use crate::boundary::{rest, start};
@@ -27,7 +27,7 @@ fn class_load(classes: &Classes, class: u8, early: u32, slot: u8) -> u32
     requires class { class < 136 }
     requires early { early ≤ slice_index classes.now.count class }
     requires slot { slot < 16 }
-    ensures value { result ≡ load_of_class classes.now slot class early }
+    ensures value { result ≡ class_load classes.now slot class early }
     ensures bound { result ≤ 88 * slice_index classes.now.count class }
 {
     if classes.count[class as usize] == 0 {
@@ -54,7 +54,7 @@ fn slot_load(classes: &Classes, choice: &Choice, slot: u8) -> u32
 
 /// The load of each slot under the choice: how many times the runs cover it, which is at most 88 times
 /// for each of 20,000 pages.
-pub fn loads(classes: &Classes, choice: &Choice) -> [u32; 16]
+pub fn loads(classes: &Classes, choice: &Choice) -> [u32; SLOTS]
     requires { IsChoice classes.now (slice_index choice.now.early) }
     ensures length { length result ≡ 16 }
     ensures loads { (slot : ℕ) → slot < 16 →

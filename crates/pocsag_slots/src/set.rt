@@ -1,6 +1,6 @@
 ghost use Rattle.std.specs.Prelude.{◌≡◌, ◌<◌, ◌≤◌};
-ghost use Rattle.pocsag_slots.specs.Sums.{AddsMember, holds as is_member, sum_over};
-ghost use Rattle.pocsag_slots.specs.Ways.{idle_crosses as crosses_by_idle, run_crosses, run_touches};
+ghost use Rattle.pocsag_slots.specs.Sums.{AddsMember, holds, sum_over};
+ghost use Rattle.pocsag_slots.specs.Ways.{idle_crosses, run_crosses, run_touches};
 
 use crate::boundary::{finish, start};
 use crate::class::SLOTS;
@@ -10,7 +10,7 @@ use crate::class::SLOTS;
 #[tactic(auto, unfolding(crate::specs::Sums::holds))]
 pub fn holds(set: u16, member: u8) -> bool
     requires { member < 16 }
-    ensures { result ≡ is_member set member }
+    ensures { result ≡ holds set member }
 {
     (set >> member) & 1 == 1
 }
@@ -59,7 +59,7 @@ pub fn crosses(class: u8, early: bool, set: u16) -> bool
 #[tactic(auto, unfolding(crate::specs::Ways::idle_crosses))]
 pub(crate) fn idle_crosses(slot: u8, set: u16) -> bool
     requires { slot < 16 }
-    ensures { result ≡ crosses_by_idle slot set }
+    ensures { result ≡ idle_crosses slot set }
 {
     holds(set, slot) != holds(set, (slot + 1) % 16)
 }

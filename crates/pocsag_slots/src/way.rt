@@ -1,11 +1,14 @@
 ghost use Rattle.std.specs.Prelude.{◌≡◌, ◌<◌, ◌∷◌, [], ◌++◌, All, if◌then◌else◌};
 ghost use Rattle.arrayvec.specs.ArrayVec.{array_vec_len};
-ghost use Rattle.pocsag_slots.specs.Ways.{class_certain, early_open as is_early_open, late_open as is_late_open, MayTake, ways_across, ways_to_close};
+ghost use Rattle.pocsag_slots.specs.Ways.{class_certain, early_open, late_open, MayTake, ways_across, ways_to_close};
 
 use crate::class::{CLASSES, Classes, SLOTS};
 use crate::limit::Limits;
 use crate::set::{crosses, idle_crosses, touches};
 use arrayvec::ArrayVec;
+
+/// How many ways there are: an idle for each slot, and two runs for each class.
+pub const WAYS: usize = SLOTS + 2 * CLASSES;
 
 /// A way out of a set of boundaries: an idle in a slot, or an early or a late run of a class.
 #[derive(Clone, Copy, PartialEq, Eq, Debug)]
@@ -46,7 +49,7 @@ pub fn is_certain(classes: &Classes, limits: &Limits, set: u16, class: u8) -> bo
 #[tactic(auto, unfolding(crate::specs::Ways::early_open))]
 fn is_open_early(classes: &Classes, limits: &Limits, set: u16, class: u8) -> bool
     requires { class < 136 }
-    ensures { result ≡ is_early_open classes.now limits.now set class }
+    ensures { result ≡ early_open classes.now limits.now set class }
 {
     if classes.count[class as usize] == 0 {
         return false;
@@ -57,7 +60,7 @@ fn is_open_early(classes: &Classes, limits: &Limits, set: u16, class: u8) -> boo
 #[tactic(auto, unfolding(crate::specs::Ways::late_open))]
 fn is_open_late(classes: &Classes, limits: &Limits, set: u16, class: u8) -> bool
     requires { class < 136 }
-    ensures { result ≡ is_late_open classes.now limits.now set class }
+    ensures { result ≡ late_open classes.now limits.now set class }
 {
     if classes.count[class as usize] == 0 {
         return false;
@@ -78,7 +81,7 @@ fn push_if<const N: usize>(ways: &mut ArrayVec<Way, N>, allowed: bool, way: Way)
 /// order, and then a run of a crossing class, early before late, classes in order. They do not depend
 /// on the number of batches.
 #[tactic(auto, unfolding(crate::specs::Ways::ways_across))]
-pub fn ways(classes: &Classes, limits: &Limits, set: u16, _batches: u32) -> ArrayVec<Way, 288>
+pub fn ways(classes: &Classes, limits: &Limits, set: u16, _batches: u32) -> ArrayVec<Way, WAYS>
     ensures items { result.items ≡ ways_across classes.now limits.now set }
     ensures allowed { All (MayTake classes.now limits.now) result.items }
 {

@@ -3,7 +3,7 @@ use Rattle.std.specs.Prelude.{ℕ, ◌-◌, ◌*◌, ◌/◌, ◌%◌, ◌==◌,
 use Rattle.std.specs.List.{flat_map}
 use Rattle.pocsag_text.specs.declared.fault.TextFault.{TextFault}
 use Rattle.pocsag_text.specs.declared.fault.TextFault.TheVariants as fault
-use Rattle.pocsag_text.specs.Bits.{low_first, low_number, high_number, cut, item_bits}
+use Rattle.pocsag_text.specs.Bits.{low_first, low_number, high_number, cut, item_width, numeric_width, alpha_width, item_bits}
 use Rattle.pocsag_text.specs.Characters.{character_of, code_or_space, space, space_code, is_bad_digit}
 
 -- The most characters of a text (this project's own).
@@ -44,18 +44,19 @@ short_of n count = (n - count % n) % n
 
 -- The bits cut in twenties, each read with the first bit highest (a rule of Annex 1).
 abbrev pub twenties : List ℕ → List ℕ
-twenties bits = cut 20 (high_number 0) (length bits / 20) bits
+twenties bits = cut item_width (high_number 0) (length bits / item_width) bits
 
 -- The bits of a numeric text, rules of Annex 1: the four bits of each code, the lowest first, and
 -- those of as many spaces as fill the last twenty bits.
 unfoldable pub numeric_bits : List ℕ → List ℕ
 numeric_bits text =
-    flat_map (low_first 4) (map code_or_space text ++ replicate (short_of 5 (length text)) space_code)
+    flat_map (low_first numeric_width)
+    (map code_or_space text ++ replicate (short_of (item_width / numeric_width) (length text)) space_code)
 
 -- The bits of an alphanumeric text: the seven bits of each character, the lowest first (a rule of
 -- Annex 1), and as many zeros as fill the last twenty bits.
 unfoldable pub alpha_bits : List ℕ → List ℕ
-alpha_bits text = flat_map (low_first 7) text ++ replicate (short_of 20 (7 * length text)) 0
+alpha_bits text = flat_map (low_first alpha_width) text ++ replicate (short_of item_width (alpha_width * length text)) 0
 
 -- *Payload of a text*, of a numeric one: its items, or its first fault.
 unfoldable pub numeric_payload : List ℕ → Result (List ℕ) TextFault
@@ -82,8 +83,8 @@ codes_of width items = cut width low_number (length (item_bits items) / width) (
 
 -- The text of a numeric payload: the characters of all its codes, without the spaces at its end.
 unfoldable pub numeric_text : List ℕ → List ℕ
-numeric_text items = trim_end space (map character_of (codes_of 4 items))
+numeric_text items = trim_end space (map character_of (codes_of numeric_width items))
 
 -- The text of an alphanumeric payload: all its codes, without the zeros at its end.
 unfoldable pub alpha_text : List ℕ → List ℕ
-alpha_text items = trim_end 0 (codes_of 7 items)
+alpha_text items = trim_end 0 (codes_of alpha_width items)

@@ -1,5 +1,5 @@
 ghost use Rattle.std.specs.Prelude.{◌≡◌, ℕ, ◌^◌, ◌<◌, ◌≤◌};
-ghost use Rattle.pocsag_text.specs.Bits.{low_first, high_first, low_number, high_number};
+ghost use Rattle.pocsag_text.specs.Bits.{low_first, high_first, IsCodeOf};
 ghost use Rattle.pocsag_text.specs.Characters as numeric;
 
 /// The bits of a numeric character.
@@ -50,9 +50,7 @@ pub fn character_of(code: u8) -> u8
 
 /// The lowest bits of a code, as many as its width says, in reversed order.
 pub fn mirrored(width: u32, code: u8) -> u8
-    requires wide { 0 < width }
-    requires narrow { width ≤ 8 }
-    requires fits { code < 2 ^ width }
+    requires { IsCodeOf width code }
     ensures fits { result < 2 ^ width }
     ensures packed { high_first width result ≡ low_first width code }
     ensures unpacked { low_first width result ≡ high_first width code }

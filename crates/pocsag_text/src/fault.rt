@@ -1,3 +1,7 @@
+ghost use Rattle.std.specs.Prelude.{◌≡◌};
+ghost use Rattle.pocsag_text.specs.declared.fault.TextFault.TheVariants as fault;
+
+use pocsag_words::OutOfMemory;
 use thiserror::Error;
 
 /// Why a text has no payload.
@@ -12,4 +16,12 @@ pub enum TextFault {
     TooLong,
     #[error("out of memory")]
     OutOfMemory,
+}
+
+impl From<OutOfMemory> for TextFault {
+    ghost from_gives = { λ _ e. e ≡ fault.OutOfMemory };
+
+    fn from(_fault: OutOfMemory) -> TextFault {
+        TextFault::OutOfMemory
+    }
 }

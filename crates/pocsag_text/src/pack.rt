@@ -1,21 +1,26 @@
 ghost use Rattle.std.specs.Prelude.{◌≡◌, ℕ, ◌^◌, ◌<◌, ◌≤◌, ◌⊎◌, length, map, position, All, IfOk, IfErr, IsOk};
 ghost use Rattle.std.specs.List.{flat_map};
-ghost use Rattle.pocsag_text.specs.Bits.{low_first};
+ghost use Rattle.pocsag_text.specs.Bits.{low_first, alpha_width, numeric_width, AreItems};
 ghost use Rattle.pocsag_text.specs.Characters as numeric;
-ghost use Rattle.pocsag_text.specs.Text.{numeric_payload, alpha_payload, numeric_bits, alpha_bits, twenties, is_bad_byte, text_fault, character_limit, item_limit, fault_of as fault_by};
+ghost use Rattle.pocsag_text.specs.Text.{numeric_payload, alpha_payload, numeric_bits, alpha_bits, twenties, is_bad_byte, text_fault, character_limit, item_limit, fault_of};
 
 use crate::CHARACTER_LIMIT;
 use crate::character::{ALPHA_WIDTH, NUMERIC_WIDTH, SPACE_CODE, code_of, code_or_space};
 use crate::fault::TextFault;
-use crate::packer::Packer;
+use crate::packer::{ITEM_WIDTH, Packer};
 use pocsag_words::OutOfMemory;
 use std::alloc::Global;
+
+/// The bits of an item, the numeric characters that it holds, and the bits of an alphanumeric character.
+const ITEM_BITS: usize = ITEM_WIDTH as usize;
+const ITEM_DIGITS: usize = (ITEM_WIDTH / NUMERIC_WIDTH) as usize;
+const ALPHA_BITS: usize = ALPHA_WIDTH as usize;
 
 /// The payload of a numeric text: items of twenty bits, each below 1,048,576. The characters are
 /// the digits, `*`, `U`, the space, `-`, `]` and `[`.
 pub fn pack_numeric(alloc: Global, text: &[u8]) -> Result<Vec<u32>, TextFault>
     ensures ok { IfOk result (λ v. numeric_payload text.now ≡ Ok v.items) }
-    ensures small { IfOk result (λ v. All (λ item. item < 2 ^ 20) v.items) }
+    ensures small { IfOk result (λ v. AreItems v.items) }
     ensures few { IfOk result (λ v. length v.items ≤ item_limit) }
     ensures err { IfErr result
         (λ e. (e ≡ TextFault.OutOfMemory) ⊎ (numeric_payload text.now ≡ Err e)) }
@@ -26,17 +31,14 @@ pub fn pack_numeric(alloc: Global, text: &[u8]) -> Result<Vec<u32>, TextFault>
     if let Some(fault) = numeric_fault(text) {
         return Err(fault);
     }
-    match numeric_items(alloc, text) {
-        Ok(items) => Ok(items),
-        Err(OutOfMemory) => Err(TextFault::OutOfMemory),
-    }
+    Ok(numeric_items(alloc, text)?)
 }
 
 /// The payload of an alphanumeric text: items of twenty bits, each below 1,048,576. The characters
 /// are the bytes 1 to 127.
 pub fn pack_alpha(alloc: Global, text: &[u8]) -> Result<Vec<u32>, TextFault>
     ensures ok { IfOk result (λ v. alpha_payload text.now ≡ Ok v.items) }
-    ensures small { IfOk result (λ v. All (λ item. item < 2 ^ 20) v.items) }
+    ensures small { IfOk result (λ v. AreItems v.items) }
     ensures few { IfOk result (λ v. length v.items ≤ item_limit) }
     ensures err { IfErr result
         (λ e. (e ≡ TextFault.OutOfMemory) ⊎ (alpha_payload text.now ≡ Err e)) }
@@ -47,10 +49,7 @@ pub fn pack_alpha(alloc: Global, text: &[u8]) -> Result<Vec<u32>, TextFault>
     if let Some(fault) = alpha_fault(text) {
         return Err(fault);
     }
-    match alpha_items(alloc, text) {
-        Ok(items) => Ok(items),
-        Err(OutOfMemory) => Err(TextFault::OutOfMemory),
-    }
+    Ok(alpha_items(alloc, text)?)
 }
 
 /// The fault of a numeric text, if it has one.
@@ -85,7 +84,7 @@ fn first_bad_byte(text: &[u8]) -> Option<usize>
 
 /// The fault of a text, by the place of its first bad character and its length.
 fn fault_of(first_bad: Option<usize>, count: usize) -> Option<TextFault>
-    ensures { result ≡ fault_by first_bad count }
+    ensures { result ≡ fault_of first_bad count }
 {
     if count == 0 {
         return Some(TextFault::EmptyMessage);
@@ -103,19 +102,19 @@ fn fault_of(first_bad: Option<usize>, count: usize) -> Option<TextFault>
 fn numeric_items(alloc: Global, text: &[u8]) -> Result<Vec<u32>, OutOfMemory>
     requires { length text.now ≤ character_limit }
     ensures items { IfOk result (λ v. v.items ≡ twenties (numeric_bits text.now)) }
-    ensures small { IfOk result (λ v. All (λ item. item < 2 ^ 20) v.items) }
+    ensures small { IfOk result (λ v. AreItems v.items) }
 {
     let mut packer = numeric_packer(alloc, text)?;
-    packer.push_times(NUMERIC_WIDTH, SPACE_CODE, (5 - text.len() % 5) % 5)?;
+    packer.push_times(NUMERIC_WIDTH, SPACE_CODE, (ITEM_DIGITS - text.len() % ITEM_DIGITS) % ITEM_DIGITS)?;
     Ok(packer.into_items())
 }
 
 /// The bits of the characters of a numeric text.
 fn numeric_packer(alloc: Global, text: &[u8]) -> Result<Packer, OutOfMemory>
     requires { length text.now ≤ character_limit }
-    ensures { IfOk result (λ p. p ≡ flat_map (low_first 4) (map numeric.code_or_space text.now)) }
+    ensures { IfOk result (λ p. p ≡ flat_map (low_first numeric_width) (map numeric.code_or_space text.now)) }
 {
-    let mut packer = Packer::with_room(alloc, text.len().div_ceil(5))?;
+    let mut packer = Packer::with_room(alloc, text.len().div_ceil(ITEM_DIGITS))?;
     for byte in text {
         packer.push(NUMERIC_WIDTH, code_or_space(*byte))?;
     }
@@ -127,10 +126,10 @@ fn alpha_items(alloc: Global, text: &[u8]) -> Result<Vec<u32>, OutOfMemory>
     requires few { length text.now ≤ character_limit }
     requires small { All (λ byte. byte < 128) text.now }
     ensures items { IfOk result (λ v. v.items ≡ twenties (alpha_bits text.now)) }
-    ensures small { IfOk result (λ v. All (λ item. item < 2 ^ 20) v.items) }
+    ensures small { IfOk result (λ v. AreItems v.items) }
 {
     let mut packer = alpha_packer(alloc, text)?;
-    packer.push_times(1, 0, (20 - 7 * text.len() % 20) % 20)?;
+    packer.push_times(1, 0, (ITEM_BITS - ALPHA_BITS * text.len() % ITEM_BITS) % ITEM_BITS)?;
     Ok(packer.into_items())
 }
 
@@ -138,9 +137,9 @@ fn alpha_items(alloc: Global, text: &[u8]) -> Result<Vec<u32>, OutOfMemory>
 fn alpha_packer(alloc: Global, text: &[u8]) -> Result<Packer, OutOfMemory>
     requires few { length text.now ≤ character_limit }
     requires small { All (λ byte. byte < 128) text.now }
-    ensures { IfOk result (λ p. p ≡ flat_map (low_first 7) text.now) }
+    ensures { IfOk result (λ p. p ≡ flat_map (low_first alpha_width) text.now) }
 {
-    let mut packer = Packer::with_room(alloc, (7 * text.len()).div_ceil(20))?;
+    let mut packer = Packer::with_room(alloc, (ALPHA_BITS * text.len()).div_ceil(ITEM_BITS))?;
     for byte in text {
         packer.push(ALPHA_WIDTH, *byte)?;
     }

@@ -1,6 +1,6 @@
 ghost use Rattle.std.specs.Prelude.{◌≡◌, ℕ, ◌+◌, ◌*◌, ◌%◌, ◌^◌, ◌<◌, ◌≤◌, [], ◌++◌, length, replicate, All, IfOk, OnOk};
 ghost use Rattle.std.specs.List.{flat_map};
-ghost use Rattle.pocsag_text.specs.Bits.{low_first};
+ghost use Rattle.pocsag_text.specs.Bits.{low_first, item_width, IsCodeOf, AreItems};
 ghost use Rattle.pocsag_text.specs.Text.{twenties};
 
 use crate::character::mirrored;
@@ -36,11 +36,8 @@ impl Packer {
     pub fn with_room(alloc: Global, items: usize) -> Result<Packer, OutOfMemory>
         ensures { IfOk result (λ p. p ≡ []) }
     {
-        let Ok(items) = Vec::with_capacity(alloc, items) else {
-            return Err(OutOfMemory);
-        };
         Ok(Packer {
-            items,
+            items: Vec::with_capacity(alloc, items)?,
             held: 0,
             count: 0,
         })
@@ -48,9 +45,7 @@ impl Packer {
 
     /// Puts the lowest bits of a code behind the others, the lowest one first.
     pub fn push(&mut self, width: u32, code: u8) -> Result<(), OutOfMemory>
-        requires wide { 0 < width }
-        requires narrow { width ≤ 8 }
-        requires fits { code < 2 ^ width }
+        requires { IsCodeOf width code }
         ensures { OnOk result (self.new ≡ self.old ++ low_first width code) }
     {
         let held = self.held << width | u32::from(mirrored(width, code));
@@ -61,9 +56,7 @@ impl Packer {
             return Ok(());
         }
         let rest = count - ITEM_WIDTH;
-        let Ok(()) = self.items.push(held >> rest) else {
-            return Err(OutOfMemory);
-        };
+        self.items.push(held >> rest)?;
         self.held = held & ((1 << rest) - 1);
         self.count = rest;
         Ok(())
@@ -71,9 +64,7 @@ impl Packer {
 
     /// Puts the lowest bits of a code behind the others so many times.
     pub fn push_times(&mut self, width: u32, code: u8, times: usize) -> Result<(), OutOfMemory>
-        requires wide { 0 < width }
-        requires narrow { width ≤ 8 }
-        requires fits { code < 2 ^ width }
+        requires { IsCodeOf width code }
         ensures { OnOk result
             (self.new ≡ self.old ++ flat_map (low_first width) (replicate times code)) }
     {
@@ -85,9 +76,9 @@ impl Packer {
 
     /// The items, where no bits wait.
     pub fn into_items(self) -> Vec<u32>
-        requires { length self % 20 ≡ 0 }
+        requires { length self % item_width ≡ 0 }
         ensures items { result.items ≡ twenties self }
-        ensures small { All (λ item. item < 2 ^ 20) result.items }
+        ensures small { AreItems result.items }
     {
         self.items
     }

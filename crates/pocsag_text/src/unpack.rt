@@ -1,5 +1,5 @@
 ghost use Rattle.std.specs.Prelude.{◌≡◌, ℕ, ◌^◌, ◌<◌, ◌≤◌, List, length, map, take, All, IfOk, IsSome};
-ghost use Rattle.pocsag_text.specs.Bits.{item_bits};
+ghost use Rattle.pocsag_text.specs.Bits.{item_bits, AreItems};
 ghost use Rattle.pocsag_text.specs.Characters as numeric;
 ghost use Rattle.pocsag_text.specs.Text.{numeric_payload, alpha_payload, numeric_text, alpha_text, codes_of, trim_end};
 
@@ -10,7 +10,7 @@ use std::alloc::Global;
 
 /// The text of a numeric payload, whose items are below 1,048,576. Spaces at its end are dropped.
 pub fn unpack_numeric(alloc: Global, items: &[u32]) -> Result<Vec<u8>, OutOfMemory>
-    requires { All (λ item. item < 2 ^ 20) items.now }
+    requires { AreItems items.now }
     ensures text { IfOk result (λ v. v.items ≡ numeric_text items.now) }
 
     // A text that was packed comes back without the spaces at its end.
@@ -28,7 +28,7 @@ pub fn unpack_numeric(alloc: Global, items: &[u32]) -> Result<Vec<u8>, OutOfMemo
 /// The text of an alphanumeric payload, whose items are below 1,048,576. An incomplete last
 /// character is dropped, and then zero codes at the end; zero codes inside are kept.
 pub fn unpack_alpha(alloc: Global, items: &[u32]) -> Result<Vec<u8>, OutOfMemory>
-    requires { All (λ item. item < 2 ^ 20) items.now }
+    requires { AreItems items.now }
     ensures text { IfOk result (λ v. v.items ≡ alpha_text items.now) }
 
     // A text that was packed comes back.
@@ -45,7 +45,7 @@ pub fn unpack_alpha(alloc: Global, items: &[u32]) -> Result<Vec<u8>, OutOfMemory
 fn codes_of<const W: u32>(alloc: Global, items: &[u32]) -> Result<Vec<u8>, OutOfMemory>
     requires wide { 0 < W }
     requires narrow { W ≤ 8 }
-    requires small { All (λ item. item < 2 ^ 20) items.now }
+    requires small { AreItems items.now }
     ensures codes { IfOk result (λ v. v.items ≡ codes_of W items.now) }
     ensures small { IfOk result (λ v. All (λ code. code < 2 ^ W) v.items) }
 {
@@ -61,10 +61,7 @@ fn characters_of(alloc: Global, codes: &[u8]) -> Result<Vec<u8>, OutOfMemory>
     requires { All (λ code. code < 16) codes.now }
     ensures { IfOk result (λ v. v.items ≡ map numeric.character_of codes.now) }
 {
-    let Ok(text) = codes.iter().map(|code| character_of(*code)).collect(alloc) else {
-        return Err(OutOfMemory);
-    };
-    Ok(text)
+    Ok(codes.iter().map(|code| character_of(*code)).collect(alloc)?)
 }
 
 /// The length of a text without what is unwanted at its end.

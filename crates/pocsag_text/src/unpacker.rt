@@ -1,5 +1,5 @@
 ghost use Rattle.std.specs.Prelude.{◌≡◌, ℕ, ◌/◌, ◌^◌, ◌<◌, ◌≤◌, [], ◌++◌, length, All, IfOk};
-ghost use Rattle.pocsag_text.specs.Bits.{high_first, low_number, cut};
+ghost use Rattle.pocsag_text.specs.Bits.{high_first, low_number, cut, item_width};
 
 use crate::character::mirrored;
 use crate::packer::ITEM_WIDTH;
@@ -44,17 +44,15 @@ impl<const W: u32> Unpacker<W> {
 
     /// Puts the bits of an item behind the others.
     pub fn with(self, item: u32) -> Result<Unpacker<W>, OutOfMemory>
-        requires { item < 2 ^ 20 }
-        ensures { IfOk result (λ u. u ≡ self.entry ++ high_first 20 item) }
+        requires { item < 2 ^ item_width }
+        ensures { IfOk result (λ u. u ≡ self.entry ++ high_first item_width item) }
     {
         let mut codes = self.codes;
         let mut held = self.held << ITEM_WIDTH | item;
         let mut count = self.count + ITEM_WIDTH;
         while count >= W {
             count -= W;
-            let Ok(()) = codes.push(mirrored(W, (held >> count) as u8)) else {
-                return Err(OutOfMemory);
-            };
+            codes.push(mirrored(W, (held >> count) as u8))?;
             held &= (1 << count) - 1;
         }
         Ok(Unpacker { codes, held, count })

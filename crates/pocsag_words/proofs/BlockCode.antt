@@ -4,10 +4,9 @@ use Rattle.std.specs.Int.Bits.{xor_shifted}
 use Rattle.std.specs.Int.Count.{ones_step}
 use Rattle.std.proofs.Math.Nat.{pow-suc}
 use Rattle.std.proofs.lemmas.Nat.{xor_comm, xor_lt, pow_pos, ones_le_self}
-use Rattle.std.proofs.lemmas.Bool.{and_parts}
-use borrow.Author.Tests.{ltb-true}
+use Rattle.std.proofs.lemmas.Bool.{and_parts, ltb-true}
 use Rattle.pocsag_words.specs.Carryless.{carryless}
-use Rattle.pocsag_words.specs.Codeword.{IsCodeword}
+use Rattle.pocsag_words.specs.Codeword.{generator, IsCodeword}
 use Rattle.pocsag_words.specs.Columns.{combine, columns, check_of}
 use Rattle.pocsag_words.proofs.Linear.{IsLinear-combine, IsLinear-mod, IsLinear-div, combine_image, bit_cases}
 
@@ -94,7 +93,7 @@ abbrev quotients : List ℕ
 quotients =
     1 ∷ 3 ∷ 6 ∷ 13 ∷ 26 ∷ 53 ∷ 106 ∷ 213 ∷ 427 ∷ 855 ∷ 1711 ∷ 3422 ∷ 6844 ∷ 13689 ∷ 27378 ∷ 54756 ∷ 109513 ∷ 219026 ∷ 438053 ∷ 876106 ∷ 1752212 ∷ []
 
-words_half : map (λ n. n / 2 ^ 1) words ≡ map (combine (doublings 21 0x769)) quotients
+words_half : map (λ n. n / 2 ^ 1) words ≡ map (combine (doublings 21 generator)) quotients
 unfolding combine doublings
 words_half = refl
 
@@ -112,9 +111,9 @@ words_low = refl
 
 -- the codeword of each bit of the quotient
 abbrev multiples : List ℕ
-multiples = map (λ t. 2 * t + 1) (doublings 21 0x769)
+multiples = map (λ t. 2 * t + 1) (doublings 21 generator)
 
-multiples_half : map (λ n. n / 2 ^ 1) multiples ≡ doublings 21 0x769
+multiples_half : map (λ n. n / 2 ^ 1) multiples ≡ doublings 21 generator
 unfolding doublings
 multiples_half = refl
 
@@ -158,8 +157,8 @@ IsCodeword-word_of d = record {
     combine quotients d,
     combine-lt 21 quotients d refl,
     combine_image (λ n. n / 2 ^ 1) (IsLinear-div 1) words d ∙ ap (λ ts. combine ts d) words_half
-        ∙ sym (combine_image (combine (doublings 21 0x769)) (IsLinear-combine (doublings 21 0x769)) quotients d)
-        ∙ sym (carryless_is 21 0x769 (combine quotients d)),
+        ∙ sym (combine_image (combine (doublings 21 generator)) (IsLinear-combine (doublings 21 generator)) quotients d)
+        ∙ sym (carryless_is 21 generator (combine quotients d)),
   );
   even = even_sum words d refl words_parity;
 }
@@ -175,7 +174,7 @@ unfolding doublings
 word_from_quotient w is =
     let q = is.multiple.0 in
     same_from_half w (combine multiples q)
-    (is.multiple.2 ∙ carryless_is 21 0x769 q ∙ ap (λ ts. combine ts q) (sym multiples_half) ∙ sym (combine_image (λ n. n / 2 ^ 1) (IsLinear-div 1) multiples q))
+    (is.multiple.2 ∙ carryless_is 21 generator q ∙ ap (λ ts. combine ts q) (sym multiples_half) ∙ sym (combine_image (λ n. n / 2 ^ 1) (IsLinear-div 1) multiples q))
     is.even
     (even_sum multiples q refl multiples_parity)
 

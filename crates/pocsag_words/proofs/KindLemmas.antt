@@ -1,31 +1,30 @@
 -- A codeword is known by its kind.
 use Rattle.std.proofs.Common.{◌≡◌, ◌≢◌, ℕ, ◌+◌, ◌*◌, ◌/◌, ◌%◌, ◌^◌, ◌<◌, ◌≤◌, ◌⊎◌, refl, sym, ap, ap₂, ◌∙◌, inl, inr, arith, eq-eqb, lit<}
-use Rattle.std.proofs.lemmas.Bool.{cases_eq, cases_lt}
-use borrow.Author.Tests.{lt-ltb, le-ltb, apart_eqb}
+use Rattle.std.proofs.lemmas.Bool.{cases_eq, cases_lt, lt-ltb, le-ltb, ne_eqb}
 use Rattle.pocsag_words.specs.declared.codeword.Kind.TheVariants.{Idle, Address, Message}
 use Rattle.pocsag_words.specs.Codeword.{IsCodeword}
 use Rattle.pocsag_words.specs.Columns.{combine, columns, check_of}
-use Rattle.pocsag_words.specs.Kinds.{kind_of, address_kind}
+use Rattle.pocsag_words.specs.Kinds.{idle_word, idle_bits, kind_of, address_kind}
 use Rattle.pocsag_words.proofs.BlockCode.{IsCodeword-encode, IsCodeword-from_low, check_of-lt, same_from_data}
 
-IsCodeword-idle : IsCodeword 0x7a89c197
+IsCodeword-idle : IsCodeword idle_word
 unfolding combine columns check_of
-IsCodeword-idle = IsCodeword-from_low 0x7a89c197 (lit< tt) refl
+IsCodeword-idle = IsCodeword-from_low idle_word (lit< tt) refl
 
 -- the kind, by what the number is
 abbrev HasKind : ℕ → Type 0
 HasKind w =
-    ((w ≡ 0x7a89c197) × (kind_of w ≡ Idle))
+    ((w ≡ idle_word) × (kind_of w ≡ Idle))
     ⊎ (((w / 2048 < 2 ^ 20) × (kind_of w ≡ Address (w / 2048 / 4) (w / 2048 % 4)))
     ⊎ ((2 ^ 20 ≤ w / 2048) × (kind_of w ≡ Message (w / 2048 % 2 ^ 20))))
 
 kind_cases : (w : ℕ) → HasKind w
 kind_cases w =
-    elim (cases_eq w 0x7a89c197) [
+    elim (cases_eq w idle_word) [
       | inl p ↦ inl (p, rw p refl)
       | inr n ↦ elim (cases_lt (w / 2048) (2 ^ 20)) [
-        | inl p ↦ inr (inl (p, rw (apart_eqb _ _ n, lt-ltb _ _ p) refl))
-        | inr p ↦ inr (inr (p, rw (apart_eqb _ _ n, le-ltb _ _ p) refl))
+        | inl p ↦ inr (inl (p, rw (ne_eqb _ _ n, lt-ltb _ _ p) refl))
+        | inr p ↦ inr (inr (p, rw (ne_eqb _ _ n, le-ltb _ _ p) refl))
       ]
     ]
 
@@ -51,25 +50,25 @@ same_from_kind_lem v w is also e = same_from_cases v w is also (kind_cases v) (k
 
 pub kind_of-address : (w h f : ℕ) → IsCodeword w → f < 4 → h < 2 ^ 18 → w / 2048 ≡ 4 * h + f → kind_of w ≡ address_kind h f
 kind_of-address w h f is small high e =
-    elim (cases_eq (4 * h + f) 0x0f5138) [
+    elim (cases_eq (4 * h + f) idle_bits) [
       | inl p ↦
-          let idle : w ≡ 0x7a89c197 = same_from_data w 0x7a89c197 is IsCodeword-idle (e ∙ p) in
+          let idle : w ≡ idle_word = same_from_data w idle_word is IsCodeword-idle (e ∙ p) in
           rw (eq-eqb _ _ p, idle) refl
       | inr n ↦
-          let other : w ≢ 0x7a89c197 = λ same. n (sym e ∙ ap (λ (x : ℕ). x / 2048) same) in
+          let other : w ≢ idle_word = λ same. n (sym e ∙ ap (λ (x : ℕ). x / 2048) same) in
           let low : w / 2048 < 2 ^ 20 = omega arith in
           let high_part : w / 2048 / 4 ≡ h = omega arith in
           let low_part : w / 2048 % 4 ≡ f = omega arith in
-          rw (apart_eqb _ _ n, apart_eqb _ _ other, lt-ltb _ _ low) (ap₂ Address high_part low_part)
+          rw (ne_eqb _ _ n, ne_eqb _ _ other, lt-ltb _ _ low) (ap₂ Address high_part low_part)
     ]
 
 kind_of-message : (w bits : ℕ) → IsCodeword w → bits < 2 ^ 20 → w / 2048 ≡ 2 ^ 20 + bits → kind_of w ≡ Message bits
 kind_of-message w bits is small e =
     let sum : w / 2048 ≡ 1048576 + bits = e in
-    let other : w ≢ 0x7a89c197 = λ same. omega (arith, same, sum) in
+    let other : w ≢ idle_word = λ same. omega (arith, same, sum) in
     let high : 2 ^ 20 ≤ w / 2048 = omega arith in
     let part : w / 2048 % 2 ^ 20 ≡ bits = omega arith in
-    rw (apart_eqb _ _ other, le-ltb _ _ high) (ap Message part)
+    rw (ne_eqb _ _ other, le-ltb _ _ high) (ap Message part)
 
 -- the data has a codeword
 codeword_of : (d : ℕ) → d < 2 ^ 21 → (w : ℕ) × IsCodeword w × (w / 2048 ≡ d)

@@ -2,10 +2,13 @@
 use Rattle.std.specs.Prelude.{◌≡◌, ℕ, ◌/◌, ◌%◌, ◌^◌, ◌<◌, ◌≤◌, bit_xor, count_ones}
 use Rattle.pocsag_words.specs.Carryless.{carryless}
 
--- The number is the carry-less product of 769 (hexadecimal), the generator of the Recommendation,
--- and some number below 2 ^ 21.
+-- The generator of the Recommendation: bit i stands for x ^ i.
+abbrev pub generator : ℕ
+generator = 0x769
+
+-- The number is the product, without carry, of the generator and of some number below 2 ^ 21.
 abbrev pub IsMultiple : ℕ → Type 0
-IsMultiple n = (q : ℕ) × (q < 2 ^ 21) × (n ≡ carryless 21 0x769 q)
+IsMultiple n = (q : ℕ) × (q < 2 ^ 21) × (n ≡ carryless 21 generator q)
 
 -- *Codeword*, a rule of Annex 1: the first 31 bits are a multiple of the generator, and the number
 -- of ones is even.

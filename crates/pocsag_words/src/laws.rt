@@ -2,7 +2,7 @@
 ghost use Rattle.std.specs.Prelude.{◌≡◌, ◌≢◌, ◌⊎◌, ℕ, ◌^◌, ◌<◌, ◌≤◌, bit_xor, count_ones};
 ghost use Rattle.pocsag_words.specs.Codeword.{HasNoneNear, IsCodeword, IsOnlyNear};
 ghost use Rattle.pocsag_words.specs.Kinds.{address_kind, kind_of};
-ghost use Rattle.pocsag_words.specs.declared.codeword.Kind.TheVariants.{Message as Says};
+ghost use Rattle.pocsag_words.specs.declared.codeword.Kind.TheVariants.{Message};
 
 /// Codewords of one kind are one.
 pub fn same_from_kind()
@@ -13,7 +13,7 @@ pub fn same_from_kind()
 pub fn kinds_have_codewords()
     ensures address { (high function : ℕ) → high < 2 ^ 18 → function < 4 →
         (w : ℕ) × IsCodeword w × (kind_of w ≡ address_kind high function) }
-    ensures message { (bits : ℕ) → bits < 2 ^ 20 → (w : ℕ) × IsCodeword w × (kind_of w ≡ Says bits) }
+    ensures message { (bits : ℕ) → bits < 2 ^ 20 → (w : ℕ) × IsCodeword w × (kind_of w ≡ Message bits) }
 {}
 
 /// Two different codewords differ in at least six of their bits.

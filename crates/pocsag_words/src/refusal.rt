@@ -1,3 +1,5 @@
+use std::alloc::{AllocError, AllocFailed};
+
 /// A growth was refused for want of memory.
 #[derive(Clone, Copy, PartialEq, Eq, Debug)]
 pub struct OutOfMemory;
@@ -5,3 +7,15 @@ pub struct OutOfMemory;
 /// A device did not take all of a text; what it took is a prefix of that text.
 #[derive(Clone, Copy, PartialEq, Eq, Debug)]
 pub struct WriteFault;
+
+impl From<AllocError> for OutOfMemory {
+    fn from(_fault: AllocError) -> OutOfMemory {
+        OutOfMemory
+    }
+}
+
+impl<T: Drop> From<AllocFailed<T>> for OutOfMemory {
+    fn from(_fault: AllocFailed<T>) -> OutOfMemory {
+        OutOfMemory
+    }
+}

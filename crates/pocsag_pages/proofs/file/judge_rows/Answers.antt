@@ -3,8 +3,8 @@ use Rattle.pocsag_pages.specs.PageFile.{numbered}
 use Rattle.pocsag_pages.proofs.Judging.{judged, grown_end, grown_fault, grown_on, said_ok, said_err}
 use Rattle.pocsag_pages.proofs.file.judge_rows.Goals as goal
 
-pub loop-found-init : goal.loop-found-init
-loop-found-init c = rw c.new-draft.ensures (record {
+pub loop-draft-init : goal.loop-draft-init
+loop-draft-init c = rw c.new-draft.ensures (record {
   stands = c.requires;
   even = refl;
   few = omega arith;
@@ -13,12 +13,12 @@ loop-found-init c = rw c.new-draft.ensures (record {
 
 pub returns-then-not-found-clause-ok : goal.returns-then-not-found-clause-ok
 returns-then-not-found-clause-ok c =
-    let over = c.loop-found.invariant.rest ∙ rw (c.in-Ok.ensures.none c.if-not-found.true) (grown_end c.loop-found.draft c.loop-found.earlier) in
+    let over = c.loop-draft.invariant.rest ∙ rw (c.in_ok-found.ensures.none c.if-not-found.true) (grown_end c.loop-draft.draft c.loop-draft.earlier) in
     rw c.into_round.ensures (said_ok _ _ over)
 
 pub returns-then-not-found-clause-err : goal.returns-then-not-found-clause-err
 returns-then-not-found-clause-err c =
-    let over = c.loop-found.invariant.rest ∙ rw (c.in-Ok.ensures.none c.if-not-found.true) (grown_end c.loop-found.draft c.loop-found.earlier) in
+    let over = c.loop-draft.invariant.rest ∙ rw (c.in_ok-found.ensures.none c.if-not-found.true) (grown_end c.loop-draft.draft c.loop-draft.earlier) in
     rw c.into_round.ensures (said_err _ _ over)
 
 pub returns-in-Err-clause-err : goal.returns-in-Err-clause-err
@@ -28,18 +28,18 @@ returns-in-Err-clause-err c =
       | inl e ↦ inl (c.numbered.ensures ∙ rw e refl)
       | inr f ↦
           inr
-          (c.loop-found.invariant.rest
-          ∙ rw (c.in-Ok.ensures.found c.if-not-found.false, c.numbered.ensures) (grown_fault c.loop-found.draft c.loop-found.earlier _ _ c.in-Err.fault f))
+          (c.loop-draft.invariant.rest
+          ∙ rw (c.in_ok-found.ensures.found c.if-not-found.false, c.numbered.ensures) (grown_fault c.loop-draft.draft c.loop-draft.earlier _ _ c.in-Err.fault f))
     ]
 
-pub loop-found-preserved : goal.loop-found-preserved
-loop-found-preserved c =
-    let judged_fine = c.in-Ok-judge.ensures in
+pub loop-draft-preserved : goal.loop-draft-preserved
+loop-draft-preserved c =
+    let judged_fine = c.in-Ok.ensures in
     record {
-      stands = c.in-Ok.ensures.stands c.if-not-found.false;
+      stands = c.in_ok-found.ensures.stands c.if-not-found.false;
       even = omega (arith, judged_fine.one);
       few = judged_fine.few;
       rest =
-          c.loop-found.invariant.rest
-          ∙ rw (c.in-Ok.ensures.found c.if-not-found.false, judged_fine.longer) (grown_on c.loop-found.draft c.loop-found.earlier _ _ judged_fine.fine);
+          c.loop-draft.invariant.rest
+          ∙ rw (c.in_ok-found.ensures.found c.if-not-found.false, judged_fine.longer) (grown_on c.loop-draft.draft c.loop-draft.earlier _ _ judged_fine.fine);
     }

@@ -6,13 +6,13 @@ use Rattle.pocsag_pages.proofs.Judging.{grown}
 use Rattle.pocsag_pages.proofs.file.judge_rows.Given as goal
 
 -- the round is that of the pages so far and of the records that are left
-abbrev pub invariant-loop-found : goal.invariant-loop-found
-invariant-loop-found l = record {
+abbrev pub invariant-loop-draft : goal.invariant-loop-draft
+invariant-loop-draft l = record {
   stands : StandsAt l.reader;
   even : length l.draft ≡ l.earlier;
   few : l.earlier ≤ page_limit;
   rest : round_of_rows (rows_left l.fn.reader) ≡ grown l.draft l.earlier (rows_left l.reader);
 }
 
-abbrev pub decreases-loop-found : goal.decreases-loop-found
-decreases-loop-found l = page_limit - l.earlier
+abbrev pub decreases-loop-draft : goal.decreases-loop-draft
+decreases-loop-draft l = page_limit - l.earlier

@@ -16,14 +16,14 @@ alpha_items-requires-clause-few c = (fault_none _ c.args.text.now (sym c.in_defa
 pub alpha_items-requires-clause-small : goal.alpha_items-requires-clause-small
 alpha_items-requires-clause-small c = alpha_bytes c.args.text.now (sym c.in_default.ensures)
 
-pub returns-in-Ok-clause-ok : goal.returns-in-Ok-clause-ok
-returns-in-Ok-clause-ok c =
-    alpha_payload-good c.args.text.now (sym c.in_default.ensures) ∙ ap Ok (sym c.in-Ok.ensures.items)
+pub returns-clause-ok : goal.returns-clause-ok
+returns-clause-ok c =
+    alpha_payload-good c.args.text.now (sym c.in_default.ensures) ∙ ap Ok (sym c.in_ok-alpha_items.ensures.items)
 
-pub returns-in-Ok-clause-few : goal.returns-in-Ok-clause-few
-returns-in-Ok-clause-few c =
-    rw c.in-Ok.ensures.items (few_alpha c.args.text.now (fault_none _ c.args.text.now (sym c.in_default.ensures)).0)
+pub returns-clause-few : goal.returns-clause-few
+returns-clause-few c =
+    rw c.in_ok-alpha_items.ensures.items (few_alpha c.args.text.now (fault_none _ c.args.text.now (sym c.in_default.ensures)).0)
 
-pub returns-in-Err-clause-memory : goal.returns-in-Err-clause-memory
-returns-in-Err-clause-memory c = λ m.
+pub returns-in_err-alpha_items-clause-memory : goal.returns-in_err-alpha_items-clause-memory
+returns-in_err-alpha_items-clause-memory c = λ m.
     rw (alpha_payload-good c.args.text.now (sym c.in_default.ensures)) refl

@@ -29,7 +29,7 @@ invariant_of-self-2 c =
     let few : rest < 20 = omega arith in
     let whole : p.count + c.args.width ≡ 20 + rest = omega arith in
     let below : h < 2 ^ (20 + rest) = rw whole at (held_with-lt p.count p.held c.args.width c.from.result c.self.invariant.fits lt) in
-    rw (c.in-Ok.ensures.items, held, lowest h rest few) (IsPacked-push p.items.items rest h c.self.invariant.small below few)
+    rw (c.in_ok-push.ensures.items, held, lowest h rest few) (IsPacked-push p.items.items rest h c.self.invariant.small below few)
 
 pub returns : goal.returns
 returns c =
@@ -42,4 +42,4 @@ returns c =
     let few : rest < 20 = omega arith in
     let whole : 20 + rest ≡ p.count + c.args.width = omega arith in
     let pushed : packed_bits (p.items.items ++ h / 2 ^ rest ∷ []) rest (h % 2 ^ rest) ≡ packed_bits p.items.items (p.count + c.args.width) h = packed_bits-push p.items.items rest h ∙ ap (λ n. packed_bits p.items.items n h) whole in
-    rw (c.in-Ok.ensures.items, held, lowest h rest few, pushed, ← c.self.view_is, ← bits) (packed_bits-more p.items.items p.count p.held c.args.width c.from.result lt)
+    rw (c.in_ok-push.ensures.items, held, lowest h rest few, pushed, ← c.self.view_is, ← bits) (packed_bits-more p.items.items p.count p.held c.args.width c.from.result lt)

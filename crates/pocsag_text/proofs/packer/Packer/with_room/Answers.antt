@@ -5,4 +5,4 @@ use Rattle.pocsag_text.proofs.packer.Packer.with_room.Goals as goal
 
 pub returns : goal.returns
 unfolding packed_bits high_first
-returns c = rw c.in-Ok.ensures.items refl
+returns c = rw c.in_ok-with_capacity.ensures.items refl

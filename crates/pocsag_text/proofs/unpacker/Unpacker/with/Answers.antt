@@ -17,14 +17,18 @@ overflow_cast-held g c =
     let le : 2 ^ g.row.W ≤ 2 ^ 8 = pow-le-pow_right (lit≤ tt) l.invariant.narrow in
     omega arith
 
-pub mirrored-requires-clause-fits : goal.mirrored-requires-clause-fits
-mirrored-requires-clause-fits g c =
+pub mirrored-requires : goal.mirrored-requires
+mirrored-requires g c =
     let l = c.loop-count in
-    next-lt g.row.W l.codes.items l.count l.held _ l.invariant c.loop-count-test.true
+    record {
+      wide = omega arith;
+      narrow = l.invariant.narrow;
+      fits = next-lt g.row.W l.codes.items l.count l.held _ l.invariant c.loop-count-test.true;
+    }
 
 pub loop-count-preserved : goal.loop-count-preserved
 loop-count-preserved g c =
     let l = c.loop-count in
     let few : l.count - g.row.W < 20 = omega arith in
-    rw (c.in-Ok.ensures.items, lowest l.held (l.count - g.row.W) few)
+    rw (c.in_ok-push.ensures.items, lowest l.held (l.count - g.row.W) few)
     (IsTaking-more g.row.W l.codes.items l.count l.held c.mirrored.result _ l.invariant c.loop-count-test.true c.mirrored.ensures.fits c.mirrored.ensures.unpacked)
