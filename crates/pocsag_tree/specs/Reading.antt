@@ -35,10 +35,11 @@ Gives view stopped (Err e) read = Fails e stopped read
 -- What a step of reading does with the bytes that its reader holds: it leaves no more than there were, and its answer, seen
 -- with the bytes that it leaves, is what this reading gives of those before. So it is too where some of the last bytes that
 -- it leaves are thought away, for it reads no further.
-pub record Reads {X Y : Type 0} (reading : List ℕ → Result Y CertificateFault) (seen : X → List ℕ → Y)
+pub record ReadsBy {X Y : Type 0} (reading : List ℕ → Result Y CertificateFault) (seen : X → List ℕ → Y)
     (result : Result X CertificateFault) (before after : List ℕ) : Type 0 where
   pub shrinks : length after ≤ length before
-  pub bytes : (k : ℕ) → k ≤ length after → Gives (λ x. seen x (but_last k after)) (k ≡ length after) result (reading (but_last k before))
+  pub bytes : (k : ℕ) → k ≤ length after
+      → Gives (λ x. seen x (but_last k after)) (k ≡ length after) result (reading (but_last k before))
 
 -- The count of failures after a call: one more where the reader failed, which ends the call.
 abbrev pub failed_after : {X : Type 0} → Result X CertificateFault → ℕ → ℕ
@@ -128,7 +129,8 @@ tagged_at ranges child made bytes = do
 
 unfoldable pub node_at : Ranges → (depth : ℕ) → Reader
 node_at ranges zero made bytes = Err fault.TooDeep
-node_at ranges (suc depth) made bytes = if nat_lt made most_nodes then tagged_at ranges (node_at ranges depth) made bytes else Err fault.TooMany
+node_at ranges (suc depth) made bytes =
+    if nat_lt made most_nodes then tagged_at ranges (node_at ranges depth) made bytes else Err fault.TooMany
 
 unfoldable pub mark_at : ℕ → List ℕ → Result (List ℕ) CertificateFault
 mark_at wanted bytes = do
@@ -141,7 +143,8 @@ end_of n = if n == 0 then ends.Open else ends.Closed
 unfoldable pub version_at : List ℕ → Result (Ranges × End × List ℕ) CertificateFault
 version_at bytes = do
   byte ← byte_at bytes
-  if byte.0 == 0x31 then Ok (first_ranges, ends.Open, byte.1) else if byte.0 == 0x32 then (small_at 0 1 byte.1 >>= λ end. Ok (second_ranges, end_of end.0, end.1)) else Err fault.Version
+  if byte.0 == 0x31 then Ok (first_ranges, ends.Open, byte.1) else
+    if byte.0 == 0x32 then (small_at 0 1 byte.1 >>= λ end. Ok (second_ranges, end_of end.0, end.1)) else Err fault.Version
 
 unfoldable pub long_number_at : List ℕ → Result (ℕ × List ℕ) CertificateFault
 long_number_at bytes = do

@@ -9,7 +9,7 @@ ghost use Rattle.pocsag_tree.specs.Parts.{HasFirst};
 ghost use Rattle.pocsag_tree.specs.Answers.{AnswersTriple, AnswersFault, IsFault, HasNoFault, given_before};
 ghost use Rattle.pocsag_tree.specs.declared.refusals.CertificateFault.{CertificateFault};
 ghost use Rattle.pocsag_tree.specs.declared.refusals.CertificateFault.TheVariants as fault;
-ghost use Rattle.pocsag_tree.specs.Reading.{Gives, Reads, IsNodeRead, IsBodyRead, IsRowRead, IsWanting, but_last, number_then, node_then, failed_after, byte_at, number_at, small_at, large_at, row_at, overload_at, split_at, cut_at, close_at, body_at, tagged_at, node_at, mark_at, version_at, long_number_at, batches_at, end_at, end_of, certificate_at, all_of, IsEarly};
+ghost use Rattle.pocsag_tree.specs.Reading.{Gives, ReadsBy, IsNodeRead, IsBodyRead, IsRowRead, IsWanting, but_last, number_then, node_then, failed_after, byte_at, number_at, small_at, large_at, row_at, overload_at, split_at, cut_at, close_at, body_at, tagged_at, node_at, mark_at, version_at, long_number_at, batches_at, end_at, end_of, certificate_at, all_of, IsEarly};
 
 use crate::limits::{DEPTH_LIMIT, FIRST_VERSION, NODE_LIMIT, Ranges, SECOND_VERSION};
 use crate::refusals::CertificateFault;
@@ -38,7 +38,7 @@ fn read_byte<S: Source>(source: &mut S) -> Result<Option<u8>, CertificateFault>
 #[tactic(auto, using(crate::proofs::Fronts::but_last_cons, crate::proofs::Fronts::but_last_all))]
 fn next_byte<S: Source>(source: &mut S) -> Result<u8, CertificateFault>
     ensures failures { S.failures source.new ≡ failed_after result (S.failures source.old) }
-    ensures reads { S.tells → Reads byte_at number_then result (S.held source.old) (S.held source.new) }
+    ensures reads { S.tells → ReadsBy byte_at number_then result (S.held source.old) (S.held source.new) }
 {
     match read_byte(source)? {
         Some(byte) => Ok(byte),
@@ -50,7 +50,7 @@ fn next_byte<S: Source>(source: &mut S) -> Result<u8, CertificateFault>
 #[tactic(auto, unfolding(crate::specs::Reading::number_at))]
 fn next_number<S: Source>(source: &mut S) -> Result<u16, CertificateFault>
     ensures failures { S.failures source.new ≡ failed_after result (S.failures source.old) }
-    ensures reads { S.tells → Reads number_at number_then result (S.held source.old) (S.held source.new) }
+    ensures reads { S.tells → ReadsBy number_at number_then result (S.held source.old) (S.held source.new) }
 {
     let high = next_byte(source)?;
     let low = next_byte(source)?;
@@ -62,7 +62,8 @@ fn next_number<S: Source>(source: &mut S) -> Result<u16, CertificateFault>
 fn small<S: Source>(low: u8, high: u8, source: &mut S) -> Result<u8, CertificateFault>
     ensures in_range { IfOk result (λ n. (low ≤ n) × (n ≤ high)) }
     ensures failures { S.failures source.new ≡ failed_after result (S.failures source.old) }
-    ensures reads { S.tells → Reads (small_at low high) number_then result (S.held source.old) (S.held source.new) }
+    ensures reads { S.tells → ReadsBy (small_at low high) number_then result
+        (S.held source.old) (S.held source.new) }
 {
     let number = next_byte(source)?;
     if low <= number && number <= high {
@@ -77,7 +78,8 @@ fn small<S: Source>(low: u8, high: u8, source: &mut S) -> Result<u8, Certificate
 fn large<S: Source>(low: u16, high: u16, source: &mut S) -> Result<u16, CertificateFault>
     ensures in_range { IfOk result (λ n. (low ≤ n) × (n ≤ high)) }
     ensures failures { S.failures source.new ≡ failed_after result (S.failures source.old) }
-    ensures reads { S.tells → Reads (large_at low high) number_then result (S.held source.old) (S.held source.new) }
+    ensures reads { S.tells → ReadsBy (large_at low high) number_then result
+        (S.held source.old) (S.held source.new) }
 {
     let number = next_number(source)?;
     if low <= number && number <= high {
@@ -90,7 +92,8 @@ fn large<S: Source>(low: u16, high: u16, source: &mut S) -> Result<u16, Certific
 #[tactic(auto, unfolding(crate::specs::Reading::mark_at))]
 fn mark<S: Source>(wanted: u8, source: &mut S) -> Result<(), CertificateFault>
     ensures failures { S.failures source.new ≡ failed_after result (S.failures source.old) }
-    ensures reads { S.tells → Reads (mark_at wanted) (λ _ rest. rest) result (S.held source.old) (S.held source.new) }
+    ensures reads { S.tells → ReadsBy (mark_at wanted) (λ _ rest. rest) result
+        (S.held source.old) (S.held source.new) }
 {
     if next_byte(source)? == wanted {
         Ok(())
@@ -109,7 +112,8 @@ fn end_from(byte: u8) -> End
 #[tactic(auto, unfolding(crate::specs::Reading::version_at))]
 fn version<S: Source>(source: &mut S) -> Result<(Ranges, End), CertificateFault>
     ensures failures { S.failures source.new ≡ failed_after result (S.failures source.old) }
-    ensures reads { S.tells → Reads version_at (λ x rest. (x.0, x.1, rest)) result (S.held source.old) (S.held source.new) }
+    ensures reads { S.tells → ReadsBy version_at (λ x rest. (x.0, x.1, rest)) result
+        (S.held source.old) (S.held source.new) }
 {
     let byte = next_byte(source)?;
     if byte == 0x31 {
@@ -126,7 +130,8 @@ fn version<S: Source>(source: &mut S) -> Result<(Ranges, End), CertificateFault>
 #[tactic(auto, unfolding(crate::specs::Reading::long_number_at))]
 fn next_long_number<S: Source>(source: &mut S) -> Result<u32, CertificateFault>
     ensures failures { S.failures source.new ≡ failed_after result (S.failures source.old) }
-    ensures reads { S.tells → Reads long_number_at number_then result (S.held source.old) (S.held source.new) }
+    ensures reads { S.tells → ReadsBy long_number_at number_then result
+        (S.held source.old) (S.held source.new) }
 {
     let high = next_number(source)?;
     let low = next_number(source)?;
@@ -136,7 +141,7 @@ fn next_long_number<S: Source>(source: &mut S) -> Result<u32, CertificateFault>
 #[tactic(auto, unfolding(crate::specs::Reading::batches_at))]
 fn batches<S: Source>(source: &mut S) -> Result<u32, CertificateFault>
     ensures failures { S.failures source.new ≡ failed_after result (S.failures source.old) }
-    ensures reads { S.tells → Reads batches_at number_then result (S.held source.old) (S.held source.new) }
+    ensures reads { S.tells → ReadsBy batches_at number_then result (S.held source.old) (S.held source.new) }
 {
     let number = next_long_number(source)?;
     if 1 <= number {
@@ -187,7 +192,8 @@ fn node<S: Source>(
     requires { made ≤ most_nodes }
     ensures counts { IfOk result (λ x. IsNodeRead depth made (bound_of x.0) x.1) }
     ensures failures { S.failures source.new ≡ failed_after result (S.failures source.old) }
-    ensures reads { S.tells → Reads (node_at ranges depth made) node_then result (S.held source.old) (S.held source.new) }
+    ensures reads { S.tells → ReadsBy (node_at ranges depth made) node_then result
+        (S.held source.old) (S.held source.new) }
 {
     wanted(depth, made)?;
     tagged(alloc, ranges, depth - 1, made, source)
@@ -205,7 +211,8 @@ fn tagged<S: Source>(
     requires { made < most_nodes }
     ensures counts { IfOk result (λ x. IsNodeRead (depth + 1) made (bound_of x.0) x.1) }
     ensures failures { S.failures source.new ≡ failed_after result (S.failures source.old) }
-    ensures reads { S.tells → Reads (tagged_at ranges (node_at ranges depth) made) node_then result (S.held source.old) (S.held source.new) }
+    ensures reads { S.tells → ReadsBy (tagged_at ranges (node_at ranges depth) made) node_then result
+        (S.held source.old) (S.held source.new) }
 {
     let tag = next_byte(source)?;
     if tag > ranges.tag {
@@ -227,7 +234,8 @@ fn body<S: Source>(
     requires { made ≤ most_nodes }
     ensures counts { IfOk result (λ x. IsBodyRead depth made (bound_of x.0) x.1) }
     ensures failures { S.failures source.new ≡ failed_after result (S.failures source.old) }
-    ensures reads { S.tells → Reads (body_at ranges (node_at ranges depth) tag made) node_then result (S.held source.old) (S.held source.new) }
+    ensures reads { S.tells → ReadsBy (body_at ranges (node_at ranges depth) tag made) node_then result
+        (S.held source.old) (S.held source.new) }
 {
     match tag {
         0 => overload(made, source),
@@ -243,7 +251,8 @@ fn overload<S: Source>(made: u32, source: &mut S) -> Result<(Tree, u32), Certifi
     requires { made ≤ most_nodes }
     ensures counts { IfOk result (λ x. IsBodyRead 0 made (bound_of x.0) x.1) }
     ensures failures { S.failures source.new ≡ failed_after result (S.failures source.old) }
-    ensures reads { S.tells → Reads (overload_at made) node_then result (S.held source.old) (S.held source.new) }
+    ensures reads { S.tells → ReadsBy (overload_at made) node_then result
+        (S.held source.old) (S.held source.new) }
 {
     let set = large(1, u16::MAX, source)?;
     Ok((Tree::Overload(set), made))
@@ -270,7 +279,8 @@ fn split<S: Source>(
     requires { made ≤ most_nodes }
     ensures counts { IfOk result (λ x. IsBodyRead depth made (bound_of x.0) x.1) }
     ensures failures { S.failures source.new ≡ failed_after result (S.failures source.old) }
-    ensures reads { S.tells → Reads (split_at ranges (node_at ranges depth) made) node_then result (S.held source.old) (S.held source.new) }
+    ensures reads { S.tells → ReadsBy (split_at ranges (node_at ranges depth) made) node_then result
+        (S.held source.old) (S.held source.new) }
 {
     let class = small(0, ranges.class, source)?;
     let m = large(1, ranges.m, source)?;
@@ -303,7 +313,8 @@ fn cut<S: Source>(
     requires { made ≤ most_nodes }
     ensures counts { IfOk result (λ x. IsBodyRead depth made (bound_of x.0) x.1) }
     ensures failures { S.failures source.new ≡ failed_after result (S.failures source.old) }
-    ensures reads { S.tells → Reads (cut_at ranges (node_at ranges depth) made) node_then result (S.held source.old) (S.held source.new) }
+    ensures reads { S.tells → ReadsBy (cut_at ranges (node_at ranges depth) made) node_then result
+        (S.held source.old) (S.held source.new) }
 {
     let set = large(1, u16::MAX, source)?;
     let needed = small(0, ranges.class, source)?;
@@ -331,7 +342,8 @@ fn close<S: Source>(
     requires { made ≤ most_nodes }
     ensures counts { IfOk result (λ x. IsBodyRead depth made (bound_of x.0) x.1) }
     ensures failures { S.failures source.new ≡ failed_after result (S.failures source.old) }
-    ensures reads { S.tells → Reads (close_at (node_at ranges depth) made) node_then result (S.held source.old) (S.held source.new) }
+    ensures reads { S.tells → ReadsBy (close_at (node_at ranges depth) made) node_then result
+        (S.held source.old) (S.held source.new) }
 {
     let count = small(1, 2, source)?;
     let (children, made) = row(alloc, ranges, depth, made, u16::from(count), source)?;
@@ -352,7 +364,8 @@ fn row<S: Source>(
     requires some { 1 ≤ count }
     ensures counts { IfOk result (λ x. IsRowRead depth made (bounds_of x.0.items) x.1) }
     ensures failures { S.failures source.new ≡ failed_after result (S.failures source.old) }
-    ensures reads { S.tells → Reads (row_at (node_at ranges depth) count made) (λ x rest. (bounds_of x.0.items, x.1, rest)) result (S.held source.old) (S.held source.new) }
+    ensures reads { S.tells → ReadsBy (row_at (node_at ranges depth) count made) (λ x rest. (bounds_of x.0.items, x.1, rest)) result
+        (S.held source.old) (S.held source.new) }
 {
     wanted(depth, made)?;
     let mut children = Vec::with_capacity(alloc, usize::from(count))?;
@@ -371,7 +384,8 @@ fn certificate<S: Source>(alloc: Global, source: &mut S) -> Result<Certificate, 
     ensures deep { IfOk result (λ c. depth_of (bound_of c.tree) ≤ greatest_depth) }
     ensures few { IfOk result (λ c. all_nodes (bound_of c.tree) ≤ most_nodes) }
     ensures failures { S.failures source.new ≡ failed_after result (S.failures source.old) }
-    ensures reads { S.tells → Reads certificate_at (λ c rest. (c.end, c.batches, bound_of c.tree, rest)) result (S.held source.old) (S.held source.new) }
+    ensures reads { S.tells → ReadsBy certificate_at (λ c rest. (c.end, c.batches, bound_of c.tree, rest)) result
+        (S.held source.old) (S.held source.new) }
 {
     mark(0x50, source)?;
     mark(0x43, source)?;
