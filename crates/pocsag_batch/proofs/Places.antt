@@ -1,15 +1,13 @@
 -- The places of a round: their pages, and how many of them are of a class.
-use Rattle.std.proofs.Common.{◌≡◌, ℕ, ◌+◌, ◌%◌, ◌<◌, ◌==◌, Bool, true, false, cond, List, [], ◌∷◌, All, length, map, get_or, refl, sym, ap, ◌∙◌, arith}
+use Rattle.std.proofs.Common.{◌≡◌, ℕ, ◌+◌, ◌<◌, ◌==◌, Bool, true, false, cond, List, [], ◌∷◌, All, length, map, get_or, refl, sym, ap, ◌∙◌, arith}
 use Rattle.std.specs.List.{range_with_len}
 use Rattle.std.proofs.lemmas.List.FromFn.{fill_by_all, get_or-range_with_len, length-range_with_len}
 use Rattle.pocsag_words.specs.declared.ending.End.{End}
 use Rattle.pocsag_pages.specs.declared.page.Page.{Page}
-use Rattle.pocsag_pages.specs.Reading.{page_length}
 use Rattle.pocsag_slots.specs.declared.step.Step.{Step}
 use Rattle.pocsag_slots.specs.Arcs.{runs}
-use Rattle.pocsag_slots.specs.Numbering.{class_of_page, count_of}
+use Rattle.pocsag_slots.specs.Numbering.{count_of}
 use Rattle.pocsag_slots.specs.Tours.{IsTourFor}
-use Rattle.pocsag_slots.proofs.CoverLemmas.{class_below}
 use Rattle.pocsag_slots.proofs.Laying.{served_tour}
 use Rattle.pocsag_slots.proofs.Walks.{count_of-cons}
 use Rattle.pocsag_batch.specs.Placing.{all_places, class_at, page_at, places_of}

@@ -1,10 +1,10 @@
 ghost use Rattle.std.specs.Prelude.{◌≡◌, ℕ, ◌/◌, ◌<◌, List, length};
 ghost use Rattle.pocsag_words.specs.declared.codeword.Kind.{Kind};
-ghost use Rattle.pocsag_words.specs.declared.ending.End.{End as Ending};
+ghost use Rattle.pocsag_words.specs.declared.ending.End.{End};
 ghost use Rattle.pocsag_words.specs.declared.ending.End.TheVariants.{Open};
 ghost use Rattle.pocsag_pages.specs.declared.page.Page.{Page};
 ghost use Rattle.pocsag_pages.specs.Reading.{IsLegalFor};
-ghost use Rattle.pocsag_slots.specs.declared.step.Step.{Step as Arc};
+ghost use Rattle.pocsag_slots.specs.declared.step.Step.{Step};
 ghost use Rattle.pocsag_slots.specs.Layout.{laid};
 ghost use Rattle.pocsag_slots.specs.Tours.{IsTourFor};
 ghost use Rattle.pocsag_batch.specs.FileOrder.{IsFileOrder};
@@ -27,25 +27,25 @@ pub fn file_order_exists()
 
 /// The steps of a tour have an order.
 pub fn tours_have_orders()
-    ensures { (end : Ending) (R : List Page) (steps : List Arc) →
+    ensures { (end : End) (R : List Page) (steps : List Step) →
         IsTourFor end R steps → (order : List ℕ) × IsOrder end R steps order }
 {}
 
 /// A list of steps has at most one order.
 pub fn orders_are_one()
-    ensures { (end : Ending) (R : List Page) (steps : List Arc) (order other : List ℕ) →
+    ensures { (end : End) (R : List Page) (steps : List Step) (order other : List ℕ) →
         IsOrder end R steps order → IsOrder end R steps other → order ≡ other }
 {}
 
 /// By their order, steps give the codewords that they give where each run is the first page of its class
 /// that is left.
 pub fn orders_give_layouts()
-    ensures { (end : Ending) (R : List Page) (steps : List Arc) (order : List ℕ) →
+    ensures { (end : End) (R : List Page) (steps : List Step) (order : List ℕ) →
         IsOrder end R steps order → laid_by R order steps ≡ laid end R steps }
 {}
 
 /// An order has a place of the round for each run.
 pub fn orders_have_places()
-    ensures { (end : Ending) (R : List Page) (steps : List Arc) (order : List ℕ) →
+    ensures { (end : End) (R : List Page) (steps : List Step) (order : List ℕ) →
         IsOrder end R steps order → HavePlaces (length R) order steps }
 {}

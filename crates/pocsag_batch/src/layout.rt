@@ -2,7 +2,7 @@ ghost use Rattle.std.specs.Prelude.{◌≡◌, ℕ, ◌<◌, List, map, All, IfO
 ghost use Rattle.pocsag_words.specs.Codeword.{IsCodeword};
 ghost use Rattle.pocsag_words.specs.Kinds.{kind_of};
 ghost use Rattle.pocsag_pages.specs.Reading.{IsLegalList};
-ghost use Rattle.pocsag_slots.specs.declared.class.Classes.{Classes as Table};
+ghost use Rattle.pocsag_slots.specs.declared.class.Classes.{Classes};
 ghost use Rattle.pocsag_slots.specs.Loads.{AreClassesOf};
 ghost use Rattle.pocsag_slots.specs.Tours.{IsTour, IsTourFor};
 ghost use Rattle.pocsag_slots.specs.Layout.{laid};
@@ -27,7 +27,7 @@ pub fn lay_out(
     end: End,
 ) -> Result<Batches, OutOfMemory>
     requires { IsTourFor end round.now steps.now }
-    ensures legal { IfOk result (λ T. (k : Table) (choice : ℕ → ℕ) (b : ℕ) → 0 < b → AreClassesOf k end round.now →
+    ensures legal { IfOk result (λ T. (k : Classes) (choice : ℕ → ℕ) (b : ℕ) → 0 < b → AreClassesOf k end round.now →
         IsTour k end choice b steps.now → IsLegalList end T b round.now) }
     ensures order { IfOk result (λ T. (order : List ℕ) → IsOrder end round.now steps.now order →
         map kind_of T ≡ laid_by round.now order steps.now) }

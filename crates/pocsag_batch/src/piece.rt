@@ -1,7 +1,7 @@
 ghost use Rattle.std.specs.Prelude.{◌≡◌, ◌≤◌, [], ◌++◌, length, replicate, OnOk, OnErr};
 ghost use Rattle.std.specs.Int.{to_be_bytes, w32};
 ghost use Rattle.pocsag_words.specs.Codeword.{IsCodeword};
-ghost use Rattle.pocsag_words.specs.Devices.{HasFailed, TookPrefix};
+ghost use Rattle.pocsag_words.specs.Devices.{CountsFailures, TookPrefix};
 ghost use Rattle.pocsag_batch.specs.Sending.{slot_bytes};
 
 use pocsag_words::{DeviceFault, Sink, Word, write_all};
@@ -88,8 +88,7 @@ fn make_room<S: Sink>(piece: &mut Piece, sink: &mut S) -> Result<(), DeviceFault
     ensures same { S.tells → OnOk result (S.taken sink.new ++ piece.new ≡ S.taken sink.old ++ piece.old) }
     ensures grown { S.tells → OnOk result (length (S.taken sink.old) ≤ length (S.taken sink.new)) }
     ensures part { S.tells → OnErr result (TookPrefix (S.taken sink.old) (S.taken sink.new) piece.old) }
-    ensures succeeded { OnOk result (S.failures sink.new ≡ S.failures sink.old) }
-    ensures failed { OnErr result (HasFailed (S.failures sink.old) (S.failures sink.new)) }
+    ensures failures { CountsFailures result (S.failures sink.old) (S.failures sink.new) }
 {
     if piece.len() > PIECE - 8 {
         write_all(sink, piece.as_slice())?;
@@ -109,8 +108,7 @@ pub(crate) fn put_word<S: Sink>(
     ensures codeword { OnOk result (IsCodeword word) }
     ensures grown { S.tells → OnOk result (length (S.taken sink.old) ≤ length (S.taken sink.new)) }
     ensures part { S.tells → OnErr result (TookPrefix (S.taken sink.old) (S.taken sink.new) piece.old) }
-    ensures succeeded { OnOk result (S.failures sink.new ≡ S.failures sink.old) }
-    ensures failed { OnErr result (HasFailed (S.failures sink.old) (S.failures sink.new)) }
+    ensures failures { CountsFailures result (S.failures sink.old) (S.failures sink.new) }
 {
     make_room(piece, sink)?;
     piece.push_slot(slot, word);

@@ -25,6 +25,30 @@ pub enum FirstFault {
     WriteFault,
 }
 
+impl From<RoundFault> for FirstFault {
+    ghost from_gives = { λ f e. e ≡ fault.Round f };
+
+    fn from(fault: RoundFault) -> FirstFault {
+        FirstFault::Round(fault)
+    }
+}
+
+impl From<OutOfMemory> for FirstFault {
+    ghost from_gives = { λ _ e. e ≡ fault.OutOfMemory };
+
+    fn from(_fault: OutOfMemory) -> FirstFault {
+        FirstFault::OutOfMemory
+    }
+}
+
+impl From<WriteFault> for FirstFault {
+    ghost from_gives = { λ _ e. e ≡ fault.WriteFault };
+
+    fn from(_fault: WriteFault) -> FirstFault {
+        FirstFault::WriteFault
+    }
+}
+
 /// Reads a page file up to its end, writes its round in file order with the open end, and answers how
 /// many batches that are. Nothing is written before the round is read and laid out.
 pub fn first_stream<S: Source, T: Sink>(
@@ -48,16 +72,8 @@ pub fn first_stream<S: Source, T: Sink>(
     ensures wrote { OnOk result (T.failures tx.new ≡ T.failures tx.old) }
     ensures unfailed { IfErr result (λ e. (e ≡ fault.Round round.ReadFault) ⊎ (S.failures source.new ≡ S.failures source.old)) }
 {
-    let round = match read_round(alloc, source) {
-        Ok(round) => round,
-        Err(fault) => return Err(FirstFault::Round(fault)),
-    };
-    let batches = match lay_in_order(alloc, &round) {
-        Ok(batches) => batches,
-        Err(OutOfMemory) => return Err(FirstFault::OutOfMemory),
-    };
-    match write(&batches, tx) {
-        Ok(()) => Ok(batches.count()),
-        Err(WriteFault) => Err(FirstFault::WriteFault),
-    }
+    let round = read_round(alloc, source)?;
+    let batches = lay_in_order(alloc, &round)?;
+    write(&batches, tx)?;
+    Ok(batches.count())
 }

@@ -1,7 +1,7 @@
 ghost use Rattle.std.specs.Prelude.{◌≡◌, ℕ, List, ◌++◌, All, OnOk, OnErr};
 ghost use Rattle.std.specs.Iterator.{Drains, IsFinite, Yields};
 ghost use Rattle.pocsag_words.specs.Codeword.{IsCodeword};
-ghost use Rattle.pocsag_words.specs.Devices.{HasFailed, TookPrefix};
+ghost use Rattle.pocsag_words.specs.Devices.{CountsFailures, Delivers, TookPrefix};
 ghost use Rattle.pocsag_pages.specs.Bytes.{bytes_of};
 ghost use Rattle.pocsag_batch.specs.Saying.{Sends, SendsPart};
 
@@ -19,8 +19,7 @@ fn write_words<S: Sink, I: Iterator<Item = Word>>(words: I, sink: &mut S) -> Res
         (S.taken sink.new ≡ S.taken sink.old ++ bytes_of ws)) }
     ensures part { S.tells → OnErr result ((ws : List ℕ) × (left : I) × Yields I.next_gives words ws left × All IsCodeword ws ×
         TookPrefix (S.taken sink.old) (S.taken sink.new) (bytes_of ws)) }
-    ensures succeeded { OnOk result (S.failures sink.new ≡ S.failures sink.old) }
-    ensures failed { OnErr result (HasFailed (S.failures sink.old) (S.failures sink.new)) }
+    ensures failures { CountsFailures result (S.failures sink.old) (S.failures sink.new) }
 {
     let mut piece = Piece::new();
     let mut slot = 0;
@@ -34,10 +33,8 @@ fn write_words<S: Sink, I: Iterator<Item = Word>>(words: I, sink: &mut S) -> Res
 /// Writes the transmission of the batches: the preamble of 72 bytes AA, and each batch behind its
 /// synchronisation codeword, high byte first. After `WriteFault` a prefix of it was taken.
 pub fn write<S: Sink>(batches: &Batches, sink: &mut S) -> Result<(), WriteFault>
-    ensures whole { S.tells → OnOk result (S.taken sink.new ≡ S.taken sink.old ++ bytes_of batches.now) }
-    ensures part { S.tells → OnErr result (TookPrefix (S.taken sink.old) (S.taken sink.new) (bytes_of batches.now)) }
-    ensures succeeded { OnOk result (S.failures sink.new ≡ S.failures sink.old) }
-    ensures failed { OnErr result (HasFailed (S.failures sink.old) (S.failures sink.new)) }
+    ensures delivers { S.tells → Delivers result (S.taken sink.old) (S.taken sink.new) (bytes_of batches.now) }
+    ensures failures { CountsFailures result (S.failures sink.old) (S.failures sink.new) }
 {
     match write_words(batches.words().iter().copied(), sink) {
         Ok(()) => Ok(()),
@@ -50,8 +47,7 @@ pub fn write<S: Sink>(batches: &Batches, sink: &mut S) -> Result<(), WriteFault>
 pub fn write_slots<S: Sink>(slots: Slots<'_>, sink: &mut S) -> Result<(), WriteFault>
     ensures whole { S.tells → OnOk result (Sends slots.entry (S.taken sink.old) (S.taken sink.new)) }
     ensures part { S.tells → OnErr result (SendsPart slots.entry (S.taken sink.old) (S.taken sink.new)) }
-    ensures succeeded { OnOk result (S.failures sink.new ≡ S.failures sink.old) }
-    ensures failed { OnErr result (HasFailed (S.failures sink.old) (S.failures sink.new)) }
+    ensures failures { CountsFailures result (S.failures sink.old) (S.failures sink.new) }
 {
     slots.are_sayable();
     same_from_kind();

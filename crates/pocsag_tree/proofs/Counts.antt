@@ -7,24 +7,46 @@ use Rattle.pocsag_tree.specs.declared.shape.Tree.TheVariants.{rolls-Split, rolls
 use Rattle.pocsag_tree.specs.declared.shape.Tree.TheOpen as layer
 use Rattle.pocsag_tree.specs.declared.shape.Tree.TheFolds.{fold-roll-Tree}
 use Rattle.pocsag_tree.specs.Bounds.{Bound, split, cut, close, count_of}
-use Rattle.pocsag_tree.specs.Spelling.{node, row}
+use Rattle.pocsag_tree.specs.Spelling.{node, row, split_head, cut_head, close_head}
 use Rattle.pocsag_tree.specs.Views.{bound_of, bound_step, bounds_of}
 
 pub count_of_bounds : (ts : List Tree) → count_of (bounds_of ts) ≡ length ts
 count_of_bounds [] = refl
 count_of_bounds (t ∷ ts) = omega (arith, count_of_bounds ts)
 
-pub bound_of-cut : (t : Tree) (set needed : ℕ) (children : Vec Tree) → t ≡ Cut set needed children → bound_of t ≡ cut set needed (bounds_of children.items)
-bound_of-cut t set needed children is = ap bound_of (is ∙ sym (rolls-Cut set needed children)) ∙ fold-roll-Tree Bound bound_step (layer.Cut set needed children)
+pub bound_of-cut : (t : Tree) (set needed : ℕ) (children : Vec Tree) → t ≡ Cut set needed children
+    → bound_of t ≡ cut set needed (bounds_of children.items)
+bound_of-cut t set needed children is =
+    ap bound_of (is ∙ sym (rolls-Cut set needed children)) ∙ fold-roll-Tree Bound bound_step (layer.Cut set needed children)
 
 pub bound_of-close : (t : Tree) (children : Vec Tree) → t ≡ Close children → bound_of t ≡ close (bounds_of children.items)
 bound_of-close t children is = ap bound_of (is ∙ sym (rolls-Close children)) ∙ fold-roll-Tree Bound bound_step (layer.Close children)
 
-pub bound_of-split : (t : Tree) (class m : ℕ) (below above : Box Tree) → t ≡ Split class m below above → bound_of t ≡ split class m (bound_of below.value) (bound_of above.value)
-bound_of-split t class m below above is = ap bound_of (is ∙ sym (rolls-Split class m below above)) ∙ fold-roll-Tree Bound bound_step (layer.Split class m below above)
+bound_of-split : (t : Tree) (class m : ℕ) (below above : Box Tree) → t ≡ Split class m below above
+    → bound_of t ≡ split class m (bound_of below.value) (bound_of above.value)
+bound_of-split t class m below above is =
+    ap bound_of (is ∙ sym (rolls-Split class m below above)) ∙ fold-roll-Tree Bound bound_step (layer.Split class m below above)
+
+-- the text of a node with children: its head, and the texts of the children
+pub split_text : (t : Tree) (class m : ℕ) (below above : Box Tree) → t ≡ Split class m below above
+    → node (bound_of t) ≡ split_head class m ++ (node (bound_of below.value) ++ node (bound_of above.value))
+split_text t class m below above is = ap node (bound_of-split t class m below above is)
+
+pub cut_text : (t : Tree) (set needed count : ℕ) (children : Vec Tree) → t ≡ Cut set needed children → count ≡ length children.items
+    → node (bound_of t) ≡ cut_head set needed count ++ row (bounds_of children.items)
+cut_text t set needed count children is many =
+    let same : count ≡ count_of (bounds_of children.items) = many ∙ sym (count_of_bounds children.items) in
+    rw same (ap node (bound_of-cut t set needed children is))
+
+pub close_text : (t : Tree) (count : ℕ) (children : Vec Tree) → t ≡ Close children → count ≡ length children.items
+    → node (bound_of t) ≡ close_head count ++ row (bounds_of children.items)
+close_text t count children is many =
+    let same : count ≡ count_of (bounds_of children.items) = many ∙ sym (count_of_bounds children.items) in
+    rw same (ap node (bound_of-close t children is))
 
 -- the text of the trees from one on is its own, and that of those after it
-pub row-drop : (ts : List Tree) (i : ℕ) (t : Tree) → i < length ts → t ≡ get_or ts i t → row (bounds_of (drop i ts)) ≡ node (bound_of t) ++ row (bounds_of (drop (i + 1) ts))
+pub row-drop : (ts : List Tree) (i : ℕ) (t : Tree) → i < length ts → t ≡ get_or ts i t
+    → row (bounds_of (drop i ts)) ≡ node (bound_of t) ++ row (bounds_of (drop (i + 1) ts))
 row-drop ts i t lt is =
     let first : drop i ts ≡ t ∷ drop (i + 1) ts = rw (add-one, drop-cons ts i t, ← is) refl in
     ap (λ (us : List Tree). row (bounds_of us)) first

@@ -1,11 +1,10 @@
 -- Nodes that are judged before any byte of them, and nodes of which no byte is there.
-use Rattle.std.proofs.Common.{◌≡◌, ℕ, zero, suc, ◌≤◌, ◌<◌, List, [], Result, Ok, Err, refl, arith}
+use Rattle.std.proofs.Common.{◌≡◌, ℕ, zero, suc, ◌-◌, ◌≤◌, ◌<◌, List, [], Result, Ok, Err, refl, arith}
 use Rattle.std.proofs.lemmas.Bool.{lt-ltb, le-ltb}
 use Rattle.pocsag_tree.specs.declared.limits.Ranges.{Ranges}
 use Rattle.pocsag_tree.specs.Limits.{most_nodes}
 use Rattle.pocsag_tree.specs.declared.refusals.CertificateFault.{CertificateFault}
 use Rattle.pocsag_tree.specs.declared.refusals.CertificateFault.TheVariants as fault
-use Rattle.pocsag_tree.specs.Bounds.{Bound}
 use Rattle.pocsag_tree.specs.Reading.{Fails, IsEarly, Reader, small_at, large_at, split_at, node_at, tagged_at, row_at}
 
 -- the fault of a node before any byte of it is what reading it gives, whatever its bytes
@@ -23,11 +22,20 @@ node_is_early ranges depth made bytes fault.OutOfMemory is = elim is [ ]
 node_is_early ranges zero made bytes fault.TooMany is = absurd (omega (arith, is.0))
 node_is_early ranges (suc depth) made bytes fault.TooMany is = rw (le-ltb made most_nodes is.1) refl
 
+-- a node that may stand here is read by its tag
+pub node_stands : (ranges : Ranges) (depth made : ℕ) (bytes : List ℕ) → 1 ≤ depth → made < most_nodes
+    → node_at ranges depth made bytes ≡ tagged_at ranges (node_at ranges (depth - 1)) made bytes
+unfolding node_at
+node_stands ranges zero made bytes some few = absurd (omega arith)
+node_stands ranges (suc depth) made bytes some few =
+    let left : suc depth - 1 ≡ depth = omega arith in
+    rw (lt-ltb made most_nodes few, left) refl
+
 -- a node that may stand here lacks its tag where there are no bytes
 pub node_ends : (ranges : Ranges) (depth made : ℕ) → 1 ≤ depth → made < most_nodes → node_at ranges depth made [] ≡ Err fault.Truncated
-unfolding node_at tagged_at
-node_ends ranges zero made some few = absurd (omega arith)
-node_ends ranges (suc depth) made some few = rw (lt-ltb made most_nodes few) refl
+unfolding tagged_at
+node_ends ranges depth made some few =
+    node_stands ranges depth made [] some few
 
 -- what the first node of a row gives is what the row gives
 row_fails_first : (child : Reader) (count made : ℕ) (bytes : List ℕ) (e : CertificateFault) → 1 ≤ count → child made bytes ≡ Err e → row_at child count made bytes ≡ Err e
@@ -58,14 +66,8 @@ pub row_ends_early : (ranges : Ranges) (depth count made : ℕ) (bytes : List �
 row_ends_early ranges depth count made bytes some deep few nothing =
     rw nothing (row_fails_first (node_at ranges depth) count made [] fault.Truncated some (node_ends ranges depth made deep few))
 
--- a fault of the first or of the second child is that of a `Split`
+-- a fault of the first child is that of a `Split`
 pub split_fails : (ranges : Ranges) (child : Reader) (class m made : ℕ) (bytes middle rest : List ℕ) (e : CertificateFault)
     → small_at 0 ranges.class bytes ≡ Ok (class, middle) → large_at 1 ranges.m middle ≡ Ok (m, rest) → child made rest ≡ Err e → split_at ranges child made bytes ≡ Err e
 unfolding split_at
 split_fails ranges child class m made bytes middle rest e a b is = rw (a, b, is) refl
-
-pub split_fails_later : (ranges : Ranges) (child : Reader) (class m made after : ℕ) (first : Bound) (bytes middle rest last : List ℕ) (e : CertificateFault)
-    → small_at 0 ranges.class bytes ≡ Ok (class, middle) → large_at 1 ranges.m middle ≡ Ok (m, rest) → child made rest ≡ Ok (first, after, last) → child after last ≡ Err e
-    → split_at ranges child made bytes ≡ Err e
-unfolding split_at
-split_fails_later ranges child class m made after first bytes middle rest last e a b read is = rw (a, b, read, is) refl

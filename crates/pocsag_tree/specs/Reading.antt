@@ -8,7 +8,9 @@ use Rattle.pocsag_tree.specs.declared.limits.Ranges.{Ranges}
 use Rattle.pocsag_tree.specs.Limits.{first_ranges, second_ranges, greatest_depth, most_nodes}
 use Rattle.pocsag_tree.specs.declared.refusals.CertificateFault.{CertificateFault}
 use Rattle.pocsag_tree.specs.declared.refusals.CertificateFault.TheVariants as fault
-use Rattle.pocsag_tree.specs.Bounds.{Bound, Bounds, overload, split, cut, close, unexamined, none, more}
+use Rattle.pocsag_tree.specs.Bounds.{Bound, Bounds, overload, split, cut, close, unexamined, none, more, all_nodes, all_nodes_in, depth_of, deepest}
+use Rattle.pocsag_tree.specs.declared.shape.Tree.{Tree}
+use Rattle.pocsag_tree.specs.Views.{bound_of}
 
 infixl 10 ◌>>=◌
 abbrev pub ◌>>=◌ : {A B : Type 0} → Result A CertificateFault → (A → Result B CertificateFault) → Result B CertificateFault
@@ -29,6 +31,15 @@ Fails f stopped read = read ≡ Err f
 abbrev pub Gives : {X Y : Type 0} → (X → Y) → (stopped : Type 0) → Result X CertificateFault → Result Y CertificateFault → Type 0
 Gives view stopped (Ok x) read = read ≡ Ok (view x)
 Gives view stopped (Err e) read = Fails e stopped read
+
+-- What a step of reading does with the bytes that its reader holds: it leaves no more than there were, and its answer, seen
+-- with the bytes that it leaves, is what this reading gives of those before. So it is too where some of the last bytes that
+-- it leaves are thought away, for it reads no further.
+pub record ReadsBy {X Y : Type 0} (reading : List ℕ → Result Y CertificateFault) (seen : X → List ℕ → Y)
+    (result : Result X CertificateFault) (before after : List ℕ) : Type 0 where
+  pub shrinks : length after ≤ length before
+  pub bytes : (k : ℕ) → k ≤ length after
+      → Gives (λ x. seen x (but_last k after)) (k ≡ length after) result (reading (but_last k before))
 
 -- The count of failures after a call: one more where the reader failed, which ends the call.
 abbrev pub failed_after : {X : Type 0} → Result X CertificateFault → ℕ → ℕ
@@ -56,9 +67,15 @@ large_at low high bytes = do
   n ← number_at bytes
   if nat_le low n.0 && nat_le n.0 high then Ok n else Err fault.BadField
 
+abbrev pub number_then : ℕ → List ℕ → ℕ × List ℕ
+number_then n rest = (n, rest)
+
 -- The value, how many nodes were read with it, and the bytes after it.
 abbrev pub Read : Type 0 → Type 0
 Read A = A × ℕ × List ℕ
+
+abbrev pub node_then : Tree × ℕ → List ℕ → Read Bound
+node_then x rest = (bound_of x.0, x.1, rest)
 
 abbrev pub Reader : Type 0
 Reader = ℕ → List ℕ → Result (Read Bound) CertificateFault
@@ -112,7 +129,8 @@ tagged_at ranges child made bytes = do
 
 unfoldable pub node_at : Ranges → (depth : ℕ) → Reader
 node_at ranges zero made bytes = Err fault.TooDeep
-node_at ranges (suc depth) made bytes = if nat_lt made most_nodes then tagged_at ranges (node_at ranges depth) made bytes else Err fault.TooMany
+node_at ranges (suc depth) made bytes =
+    if nat_lt made most_nodes then tagged_at ranges (node_at ranges depth) made bytes else Err fault.TooMany
 
 unfoldable pub mark_at : ℕ → List ℕ → Result (List ℕ) CertificateFault
 mark_at wanted bytes = do
@@ -125,7 +143,8 @@ end_of n = if n == 0 then ends.Open else ends.Closed
 unfoldable pub version_at : List ℕ → Result (Ranges × End × List ℕ) CertificateFault
 version_at bytes = do
   byte ← byte_at bytes
-  if byte.0 == 0x31 then Ok (first_ranges, ends.Open, byte.1) else if byte.0 == 0x32 then (small_at 0 1 byte.1 >>= λ end. Ok (second_ranges, end_of end.0, end.1)) else Err fault.Version
+  if byte.0 == 0x31 then Ok (first_ranges, ends.Open, byte.1) else
+    if byte.0 == 0x32 then (small_at 0 1 byte.1 >>= λ end. Ok (second_ranges, end_of end.0, end.1)) else Err fault.Version
 
 unfoldable pub long_number_at : List ℕ → Result (ℕ × List ℕ) CertificateFault
 long_number_at bytes = do
@@ -142,6 +161,24 @@ batches_at bytes = do
 unfoldable pub end_at : List ℕ → Result (Unit {0}) CertificateFault
 end_at [] = Ok tt
 end_at (b ∷ bytes) = Err fault.Trailing
+
+-- A node that was read: how deep it may be, how many nodes were made before it and with it, and that these are not too many.
+pub record IsNodeRead (depth made : ℕ) (tree : Bound) (reached : ℕ) : Type 0 where
+  pub deep : depth_of tree ≤ depth
+  pub counted : made + all_nodes tree ≡ reached
+  pub few : reached ≤ most_nodes
+
+-- The same of a node that is among those made before, where its children have this depth.
+pub record IsBodyRead (depth made : ℕ) (tree : Bound) (reached : ℕ) : Type 0 where
+  pub deep : depth_of tree ≤ depth + 1
+  pub counted : made + all_nodes tree ≡ reached + 1
+  pub few : reached ≤ most_nodes
+
+-- The same of several nodes.
+pub record IsRowRead (depth made : ℕ) (trees : Bounds) (reached : ℕ) : Type 0 where
+  pub deep : deepest trees ≤ depth
+  pub counted : made + all_nodes_in trees ≡ reached
+  pub few : reached ≤ most_nodes
 
 -- A certificate, and the bytes after it.
 unfoldable pub certificate_at : List ℕ → Result (End × ℕ × Bound × List ℕ) CertificateFault

@@ -2,14 +2,14 @@ ghost use Rattle.std.specs.Prelude.{◌≡◌, ℕ, ◌+◌, ◌<◌, ◌≤◌,
 ghost use Rattle.pocsag_words.specs.declared.ending.End.{End};
 ghost use Rattle.pocsag_words.specs.Devices.{HasFailed};
 ghost use Rattle.pocsag_tree.specs.Limits.{greatest_depth, most_nodes};
-ghost use Rattle.pocsag_tree.specs.Bounds.{Bound, all_nodes, all_nodes_in, depth_of, deepest};
+ghost use Rattle.pocsag_tree.specs.Bounds.{Bound, all_nodes, depth_of};
 ghost use Rattle.pocsag_tree.specs.Views.{bound_of, bounds_of};
 ghost use Rattle.pocsag_tree.specs.Spelling.{IsText};
 ghost use Rattle.pocsag_tree.specs.Parts.{HasFirst};
 ghost use Rattle.pocsag_tree.specs.Answers.{AnswersTriple, AnswersFault, IsFault, HasNoFault, given_before};
 ghost use Rattle.pocsag_tree.specs.declared.refusals.CertificateFault.{CertificateFault};
 ghost use Rattle.pocsag_tree.specs.declared.refusals.CertificateFault.TheVariants as fault;
-ghost use Rattle.pocsag_tree.specs.Reading.{Gives, IsWanting, but_last, failed_after, byte_at, number_at, small_at, large_at, row_at, overload_at, split_at, cut_at, close_at, body_at, tagged_at, node_at, mark_at, version_at, long_number_at, batches_at, end_at, end_of, certificate_at, all_of, IsEarly};
+ghost use Rattle.pocsag_tree.specs.Reading.{Gives, ReadsBy, IsNodeRead, IsBodyRead, IsRowRead, IsWanting, but_last, number_then, node_then, failed_after, byte_at, number_at, small_at, large_at, row_at, overload_at, split_at, cut_at, close_at, body_at, tagged_at, node_at, mark_at, version_at, long_number_at, batches_at, end_at, end_of, certificate_at, all_of, IsEarly};
 
 use crate::limits::{DEPTH_LIMIT, FIRST_VERSION, NODE_LIMIT, Ranges, SECOND_VERSION};
 use crate::refusals::CertificateFault;
@@ -38,10 +38,7 @@ fn read_byte<S: Source>(source: &mut S) -> Result<Option<u8>, CertificateFault>
 #[tactic(auto, using(crate::proofs::Fronts::but_last_cons, crate::proofs::Fronts::but_last_all))]
 fn next_byte<S: Source>(source: &mut S) -> Result<u8, CertificateFault>
     ensures failures { S.failures source.new ≡ failed_after result (S.failures source.old) }
-    ensures shrinks { S.tells → length (S.held source.new) ≤ length (S.held source.old) }
-    ensures bytes { S.tells → (k : ℕ) → k ≤ length (S.held source.new)
-        → Gives (λ n. (n, but_last k (S.held source.new)))
-        (k ≡ length (S.held source.new)) result (byte_at (but_last k (S.held source.old))) }
+    ensures reads { S.tells → ReadsBy byte_at number_then result (S.held source.old) (S.held source.new) }
 {
     match read_byte(source)? {
         Some(byte) => Ok(byte),
@@ -53,10 +50,7 @@ fn next_byte<S: Source>(source: &mut S) -> Result<u8, CertificateFault>
 #[tactic(auto, unfolding(crate::specs::Reading::number_at))]
 fn next_number<S: Source>(source: &mut S) -> Result<u16, CertificateFault>
     ensures failures { S.failures source.new ≡ failed_after result (S.failures source.old) }
-    ensures shrinks { S.tells → length (S.held source.new) ≤ length (S.held source.old) }
-    ensures bytes { S.tells → (k : ℕ) → k ≤ length (S.held source.new)
-        → Gives (λ n. (n, but_last k (S.held source.new)))
-        (k ≡ length (S.held source.new)) result (number_at (but_last k (S.held source.old))) }
+    ensures reads { S.tells → ReadsBy number_at number_then result (S.held source.old) (S.held source.new) }
 {
     let high = next_byte(source)?;
     let low = next_byte(source)?;
@@ -68,11 +62,8 @@ fn next_number<S: Source>(source: &mut S) -> Result<u16, CertificateFault>
 fn small<S: Source>(low: u8, high: u8, source: &mut S) -> Result<u8, CertificateFault>
     ensures in_range { IfOk result (λ n. (low ≤ n) × (n ≤ high)) }
     ensures failures { S.failures source.new ≡ failed_after result (S.failures source.old) }
-    ensures shrinks { S.tells → length (S.held source.new) ≤ length (S.held source.old) }
-    ensures bytes { S.tells → (k : ℕ) → k ≤ length (S.held source.new)
-        → Gives (λ n. (n, but_last k (S.held source.new)))
-        (k ≡ length (S.held source.new)) result
-        (small_at low high (but_last k (S.held source.old))) }
+    ensures reads { S.tells → ReadsBy (small_at low high) number_then result
+        (S.held source.old) (S.held source.new) }
 {
     let number = next_byte(source)?;
     if low <= number && number <= high {
@@ -87,11 +78,8 @@ fn small<S: Source>(low: u8, high: u8, source: &mut S) -> Result<u8, Certificate
 fn large<S: Source>(low: u16, high: u16, source: &mut S) -> Result<u16, CertificateFault>
     ensures in_range { IfOk result (λ n. (low ≤ n) × (n ≤ high)) }
     ensures failures { S.failures source.new ≡ failed_after result (S.failures source.old) }
-    ensures shrinks { S.tells → length (S.held source.new) ≤ length (S.held source.old) }
-    ensures bytes { S.tells → (k : ℕ) → k ≤ length (S.held source.new)
-        → Gives (λ n. (n, but_last k (S.held source.new)))
-        (k ≡ length (S.held source.new)) result
-        (large_at low high (but_last k (S.held source.old))) }
+    ensures reads { S.tells → ReadsBy (large_at low high) number_then result
+        (S.held source.old) (S.held source.new) }
 {
     let number = next_number(source)?;
     if low <= number && number <= high {
@@ -104,10 +92,8 @@ fn large<S: Source>(low: u16, high: u16, source: &mut S) -> Result<u16, Certific
 #[tactic(auto, unfolding(crate::specs::Reading::mark_at))]
 fn mark<S: Source>(wanted: u8, source: &mut S) -> Result<(), CertificateFault>
     ensures failures { S.failures source.new ≡ failed_after result (S.failures source.old) }
-    ensures shrinks { S.tells → length (S.held source.new) ≤ length (S.held source.old) }
-    ensures bytes { S.tells → (k : ℕ) → k ≤ length (S.held source.new)
-        → Gives (λ _. but_last k (S.held source.new))
-        (k ≡ length (S.held source.new)) result (mark_at wanted (but_last k (S.held source.old))) }
+    ensures reads { S.tells → ReadsBy (mark_at wanted) (λ _ rest. rest) result
+        (S.held source.old) (S.held source.new) }
 {
     if next_byte(source)? == wanted {
         Ok(())
@@ -126,10 +112,8 @@ fn end_from(byte: u8) -> End
 #[tactic(auto, unfolding(crate::specs::Reading::version_at))]
 fn version<S: Source>(source: &mut S) -> Result<(Ranges, End), CertificateFault>
     ensures failures { S.failures source.new ≡ failed_after result (S.failures source.old) }
-    ensures shrinks { S.tells → length (S.held source.new) ≤ length (S.held source.old) }
-    ensures bytes { S.tells → (k : ℕ) → k ≤ length (S.held source.new)
-        → Gives (λ x. (x.0, x.1, but_last k (S.held source.new)))
-        (k ≡ length (S.held source.new)) result (version_at (but_last k (S.held source.old))) }
+    ensures reads { S.tells → ReadsBy version_at (λ x rest. (x.0, x.1, rest)) result
+        (S.held source.old) (S.held source.new) }
 {
     let byte = next_byte(source)?;
     if byte == 0x31 {
@@ -146,10 +130,8 @@ fn version<S: Source>(source: &mut S) -> Result<(Ranges, End), CertificateFault>
 #[tactic(auto, unfolding(crate::specs::Reading::long_number_at))]
 fn next_long_number<S: Source>(source: &mut S) -> Result<u32, CertificateFault>
     ensures failures { S.failures source.new ≡ failed_after result (S.failures source.old) }
-    ensures shrinks { S.tells → length (S.held source.new) ≤ length (S.held source.old) }
-    ensures bytes { S.tells → (k : ℕ) → k ≤ length (S.held source.new)
-        → Gives (λ n. (n, but_last k (S.held source.new)))
-        (k ≡ length (S.held source.new)) result (long_number_at (but_last k (S.held source.old))) }
+    ensures reads { S.tells → ReadsBy long_number_at number_then result
+        (S.held source.old) (S.held source.new) }
 {
     let high = next_number(source)?;
     let low = next_number(source)?;
@@ -159,10 +141,7 @@ fn next_long_number<S: Source>(source: &mut S) -> Result<u32, CertificateFault>
 #[tactic(auto, unfolding(crate::specs::Reading::batches_at))]
 fn batches<S: Source>(source: &mut S) -> Result<u32, CertificateFault>
     ensures failures { S.failures source.new ≡ failed_after result (S.failures source.old) }
-    ensures shrinks { S.tells → length (S.held source.new) ≤ length (S.held source.old) }
-    ensures bytes { S.tells → (k : ℕ) → k ≤ length (S.held source.new)
-        → Gives (λ n. (n, but_last k (S.held source.new)))
-        (k ≡ length (S.held source.new)) result (batches_at (but_last k (S.held source.old))) }
+    ensures reads { S.tells → ReadsBy batches_at number_then result (S.held source.old) (S.held source.new) }
 {
     let number = next_long_number(source)?;
     if 1 <= number {
@@ -210,16 +189,11 @@ fn node<S: Source>(
     made: u32,
     source: &mut S,
 ) -> Result<(Tree, u32), CertificateFault>
-    requires { made ≤ 1000000 }
-    ensures deep { IfOk result (λ x. depth_of (bound_of x.0) ≤ depth) }
-    ensures counted { IfOk result (λ x. made + all_nodes (bound_of x.0) ≡ x.1) }
-    ensures few { IfOk result (λ x. x.1 ≤ 1000000) }
+    requires { made ≤ most_nodes }
+    ensures counts { IfOk result (λ x. IsNodeRead depth made (bound_of x.0) x.1) }
     ensures failures { S.failures source.new ≡ failed_after result (S.failures source.old) }
-    ensures shrinks { S.tells → length (S.held source.new) ≤ length (S.held source.old) }
-    ensures bytes { S.tells → (k : ℕ) → k ≤ length (S.held source.new)
-        → Gives (λ x. (bound_of x.0, x.1, but_last k (S.held source.new)))
-        (k ≡ length (S.held source.new)) result
-        (node_at ranges depth made (but_last k (S.held source.old))) }
+    ensures reads { S.tells → ReadsBy (node_at ranges depth made) node_then result
+        (S.held source.old) (S.held source.new) }
 {
     wanted(depth, made)?;
     tagged(alloc, ranges, depth - 1, made, source)
@@ -234,16 +208,11 @@ fn tagged<S: Source>(
     made: u32,
     source: &mut S,
 ) -> Result<(Tree, u32), CertificateFault>
-    requires { made < 1000000 }
-    ensures deep { IfOk result (λ x. depth_of (bound_of x.0) ≤ depth + 1) }
-    ensures counted { IfOk result (λ x. made + all_nodes (bound_of x.0) ≡ x.1) }
-    ensures few { IfOk result (λ x. x.1 ≤ 1000000) }
+    requires { made < most_nodes }
+    ensures counts { IfOk result (λ x. IsNodeRead (depth + 1) made (bound_of x.0) x.1) }
     ensures failures { S.failures source.new ≡ failed_after result (S.failures source.old) }
-    ensures shrinks { S.tells → length (S.held source.new) ≤ length (S.held source.old) }
-    ensures bytes { S.tells → (k : ℕ) → k ≤ length (S.held source.new)
-        → Gives (λ x. (bound_of x.0, x.1, but_last k (S.held source.new)))
-        (k ≡ length (S.held source.new)) result
-        (tagged_at ranges (node_at ranges depth) made (but_last k (S.held source.old))) }
+    ensures reads { S.tells → ReadsBy (tagged_at ranges (node_at ranges depth) made) node_then result
+        (S.held source.old) (S.held source.new) }
 {
     let tag = next_byte(source)?;
     if tag > ranges.tag {
@@ -262,16 +231,11 @@ fn body<S: Source>(
     made: u32,
     source: &mut S,
 ) -> Result<(Tree, u32), CertificateFault>
-    requires { made ≤ 1000000 }
-    ensures deep { IfOk result (λ x. depth_of (bound_of x.0) ≤ depth + 1) }
-    ensures counted { IfOk result (λ x. made + all_nodes (bound_of x.0) ≡ x.1 + 1) }
-    ensures few { IfOk result (λ x. x.1 ≤ 1000000) }
+    requires { made ≤ most_nodes }
+    ensures counts { IfOk result (λ x. IsBodyRead depth made (bound_of x.0) x.1) }
     ensures failures { S.failures source.new ≡ failed_after result (S.failures source.old) }
-    ensures shrinks { S.tells → length (S.held source.new) ≤ length (S.held source.old) }
-    ensures bytes { S.tells → (k : ℕ) → k ≤ length (S.held source.new)
-        → Gives (λ x. (bound_of x.0, x.1, but_last k (S.held source.new)))
-        (k ≡ length (S.held source.new)) result
-        (body_at ranges (node_at ranges depth) tag made (but_last k (S.held source.old))) }
+    ensures reads { S.tells → ReadsBy (body_at ranges (node_at ranges depth) tag made) node_then result
+        (S.held source.old) (S.held source.new) }
 {
     match tag {
         0 => overload(made, source),
@@ -284,16 +248,11 @@ fn body<S: Source>(
 
 #[tactic(auto, unfolding(crate::specs::Reading::overload_at))]
 fn overload<S: Source>(made: u32, source: &mut S) -> Result<(Tree, u32), CertificateFault>
-    requires { made ≤ 1000000 }
-    ensures deep { IfOk result (λ x. depth_of (bound_of x.0) ≡ 1) }
-    ensures counted { IfOk result (λ x. made + all_nodes (bound_of x.0) ≡ x.1 + 1) }
-    ensures few { IfOk result (λ x. x.1 ≤ 1000000) }
+    requires { made ≤ most_nodes }
+    ensures counts { IfOk result (λ x. IsBodyRead 0 made (bound_of x.0) x.1) }
     ensures failures { S.failures source.new ≡ failed_after result (S.failures source.old) }
-    ensures shrinks { S.tells → length (S.held source.new) ≤ length (S.held source.old) }
-    ensures bytes { S.tells → (k : ℕ) → k ≤ length (S.held source.new)
-        → Gives (λ x. (bound_of x.0, x.1, but_last k (S.held source.new)))
-        (k ≡ length (S.held source.new)) result
-        (overload_at made (but_last k (S.held source.old))) }
+    ensures reads { S.tells → ReadsBy (overload_at made) node_then result
+        (S.held source.old) (S.held source.new) }
 {
     let set = large(1, u16::MAX, source)?;
     Ok((Tree::Overload(set), made))
@@ -317,16 +276,11 @@ fn split<S: Source>(
     made: u32,
     source: &mut S,
 ) -> Result<(Tree, u32), CertificateFault>
-    requires { made ≤ 1000000 }
-    ensures deep { IfOk result (λ x. depth_of (bound_of x.0) ≤ depth + 1) }
-    ensures counted { IfOk result (λ x. made + all_nodes (bound_of x.0) ≡ x.1 + 1) }
-    ensures few { IfOk result (λ x. x.1 ≤ 1000000) }
+    requires { made ≤ most_nodes }
+    ensures counts { IfOk result (λ x. IsBodyRead depth made (bound_of x.0) x.1) }
     ensures failures { S.failures source.new ≡ failed_after result (S.failures source.old) }
-    ensures shrinks { S.tells → length (S.held source.new) ≤ length (S.held source.old) }
-    ensures bytes { S.tells → (k : ℕ) → k ≤ length (S.held source.new)
-        → Gives (λ x. (bound_of x.0, x.1, but_last k (S.held source.new)))
-        (k ≡ length (S.held source.new)) result
-        (split_at ranges (node_at ranges depth) made (but_last k (S.held source.old))) }
+    ensures reads { S.tells → ReadsBy (split_at ranges (node_at ranges depth) made) node_then result
+        (S.held source.old) (S.held source.new) }
 {
     let class = small(0, ranges.class, source)?;
     let m = large(1, ranges.m, source)?;
@@ -356,16 +310,11 @@ fn cut<S: Source>(
     made: u32,
     source: &mut S,
 ) -> Result<(Tree, u32), CertificateFault>
-    requires { made ≤ 1000000 }
-    ensures deep { IfOk result (λ x. depth_of (bound_of x.0) ≤ depth + 1) }
-    ensures counted { IfOk result (λ x. made + all_nodes (bound_of x.0) ≡ x.1 + 1) }
-    ensures few { IfOk result (λ x. x.1 ≤ 1000000) }
+    requires { made ≤ most_nodes }
+    ensures counts { IfOk result (λ x. IsBodyRead depth made (bound_of x.0) x.1) }
     ensures failures { S.failures source.new ≡ failed_after result (S.failures source.old) }
-    ensures shrinks { S.tells → length (S.held source.new) ≤ length (S.held source.old) }
-    ensures bytes { S.tells → (k : ℕ) → k ≤ length (S.held source.new)
-        → Gives (λ x. (bound_of x.0, x.1, but_last k (S.held source.new)))
-        (k ≡ length (S.held source.new)) result
-        (cut_at ranges (node_at ranges depth) made (but_last k (S.held source.old))) }
+    ensures reads { S.tells → ReadsBy (cut_at ranges (node_at ranges depth) made) node_then result
+        (S.held source.old) (S.held source.new) }
 {
     let set = large(1, u16::MAX, source)?;
     let needed = small(0, ranges.class, source)?;
@@ -390,16 +339,11 @@ fn close<S: Source>(
     made: u32,
     source: &mut S,
 ) -> Result<(Tree, u32), CertificateFault>
-    requires { made ≤ 1000000 }
-    ensures deep { IfOk result (λ x. depth_of (bound_of x.0) ≤ depth + 1) }
-    ensures counted { IfOk result (λ x. made + all_nodes (bound_of x.0) ≡ x.1 + 1) }
-    ensures few { IfOk result (λ x. x.1 ≤ 1000000) }
+    requires { made ≤ most_nodes }
+    ensures counts { IfOk result (λ x. IsBodyRead depth made (bound_of x.0) x.1) }
     ensures failures { S.failures source.new ≡ failed_after result (S.failures source.old) }
-    ensures shrinks { S.tells → length (S.held source.new) ≤ length (S.held source.old) }
-    ensures bytes { S.tells → (k : ℕ) → k ≤ length (S.held source.new)
-        → Gives (λ x. (bound_of x.0, x.1, but_last k (S.held source.new)))
-        (k ≡ length (S.held source.new)) result
-        (close_at (node_at ranges depth) made (but_last k (S.held source.old))) }
+    ensures reads { S.tells → ReadsBy (close_at (node_at ranges depth) made) node_then result
+        (S.held source.old) (S.held source.new) }
 {
     let count = small(1, 2, source)?;
     let (children, made) = row(alloc, ranges, depth, made, u16::from(count), source)?;
@@ -416,17 +360,12 @@ fn row<S: Source>(
     count: u16,
     source: &mut S,
 ) -> Result<(Vec<Tree>, u32), CertificateFault>
-    requires few { made ≤ 1000000 }
+    requires few { made ≤ most_nodes }
     requires some { 1 ≤ count }
-    ensures deep { IfOk result (λ x. deepest (bounds_of x.0.items) ≤ depth) }
-    ensures counted { IfOk result (λ x. made + all_nodes_in (bounds_of x.0.items) ≡ x.1) }
-    ensures few { IfOk result (λ x. x.1 ≤ 1000000) }
+    ensures counts { IfOk result (λ x. IsRowRead depth made (bounds_of x.0.items) x.1) }
     ensures failures { S.failures source.new ≡ failed_after result (S.failures source.old) }
-    ensures shrinks { S.tells → length (S.held source.new) ≤ length (S.held source.old) }
-    ensures bytes { S.tells → (k : ℕ) → k ≤ length (S.held source.new)
-        → Gives (λ x. (bounds_of x.0.items, x.1, but_last k (S.held source.new)))
-        (k ≡ length (S.held source.new)) result
-        (row_at (node_at ranges depth) count made (but_last k (S.held source.old))) }
+    ensures reads { S.tells → ReadsBy (row_at (node_at ranges depth) count made) (λ x rest. (bounds_of x.0.items, x.1, rest)) result
+        (S.held source.old) (S.held source.new) }
 {
     wanted(depth, made)?;
     let mut children = Vec::with_capacity(alloc, usize::from(count))?;
@@ -442,14 +381,11 @@ fn row<S: Source>(
 // A certificate, whatever comes after it.
 #[tactic(auto, unfolding(crate::specs::Reading::certificate_at))]
 fn certificate<S: Source>(alloc: Global, source: &mut S) -> Result<Certificate, CertificateFault>
-    ensures deep { IfOk result (λ c. depth_of (bound_of c.tree) ≤ 300) }
-    ensures few { IfOk result (λ c. all_nodes (bound_of c.tree) ≤ 1000000) }
+    ensures deep { IfOk result (λ c. depth_of (bound_of c.tree) ≤ greatest_depth) }
+    ensures few { IfOk result (λ c. all_nodes (bound_of c.tree) ≤ most_nodes) }
     ensures failures { S.failures source.new ≡ failed_after result (S.failures source.old) }
-    ensures shrinks { S.tells → length (S.held source.new) ≤ length (S.held source.old) }
-    ensures bytes { S.tells → (k : ℕ) → k ≤ length (S.held source.new)
-        → Gives (λ c. (c.end, c.batches, bound_of c.tree, but_last k (S.held source.new)))
-        (k ≡ length (S.held source.new)) result
-        (certificate_at (but_last k (S.held source.old))) }
+    ensures reads { S.tells → ReadsBy certificate_at (λ c rest. (c.end, c.batches, bound_of c.tree, rest)) result
+        (S.held source.old) (S.held source.new) }
 {
     mark(0x50, source)?;
     mark(0x43, source)?;
@@ -463,8 +399,8 @@ fn certificate<S: Source>(alloc: Global, source: &mut S) -> Result<Certificate, 
 // A certificate, and then the end.
 #[tactic(auto, using(crate::proofs::Fronts::but_last_none), unfolding(crate::specs::Reading::all_of))]
 fn all<S: Source>(alloc: Global, source: &mut S) -> Result<Certificate, CertificateFault>
-    ensures deep { IfOk result (λ c. depth_of (bound_of c.tree) ≤ 300) }
-    ensures few { IfOk result (λ c. all_nodes (bound_of c.tree) ≤ 1000000) }
+    ensures deep { IfOk result (λ c. depth_of (bound_of c.tree) ≤ greatest_depth) }
+    ensures few { IfOk result (λ c. all_nodes (bound_of c.tree) ≤ most_nodes) }
     ensures failures { S.failures source.new ≡ failed_after result (S.failures source.old) }
     ensures bytes { S.tells → Gives (λ c. (c.end, c.batches, bound_of c.tree)) ⊥ result
         (all_of (S.held source.old)) }

@@ -1,5 +1,5 @@
-ghost use Rattle.std.specs.Prelude.{◌≡◌, ℕ, ◌+◌, ◌<◌, ◌≤◌, ◌↔◌, ◌++◌, length, IsTrue, IsSome, IfSome, OnOk, OnErr, IsErrOf};
-ghost use Rattle.pocsag_words.specs.Devices.{HasFailed, TookPrefix};
+ghost use Rattle.std.specs.Prelude.{◌≡◌, ℕ, ◌+◌, ◌<◌, ◌≤◌, ◌↔◌, length, IsTrue, IsSome, IfSome, IsErrOf};
+ghost use Rattle.pocsag_words.specs.Devices.{CountsFailures, Delivers, HasFailed};
 ghost use Rattle.pocsag_tree.specs.Limits.{second_ranges};
 ghost use Rattle.pocsag_tree.specs.Bounds.{all_nodes, all_nodes_in, depth_of, deepest, count_of};
 ghost use Rattle.pocsag_tree.specs.Views.{bound_of, bounds_of};
@@ -119,12 +119,9 @@ fn measured_row(trees: &[Tree], depth: u32, nodes: u32) -> Option<u32>
 }
 
 fn write_split_head<S: Sink>(class: u8, m: u16, writer: &mut S) -> Result<(), DeviceFault>
-    ensures whole { S.tells → OnOk result
-        (S.taken writer.new ≡ S.taken writer.old ++ split_head class m) }
-    ensures part { S.tells → OnErr result
-        (TookPrefix (S.taken writer.old) (S.taken writer.new) (split_head class m)) }
-    ensures succeeded { OnOk result (S.failures writer.new ≡ S.failures writer.old) }
-    ensures failed { OnErr result (HasFailed (S.failures writer.old) (S.failures writer.new)) }
+    ensures delivers { S.tells → Delivers result (S.taken writer.old) (S.taken writer.new)
+        (split_head class m) }
+    ensures failures { CountsFailures result (S.failures writer.old) (S.failures writer.new) }
 {
     let m = m.to_be_bytes();
     write_all(writer, &[1, class, m[0], m[1]])
@@ -137,12 +134,9 @@ fn write_cut_head<S: Sink>(
     writer: &mut S,
 ) -> Result<(), DeviceFault>
     requires { children ≤ 288 }
-    ensures whole { S.tells → OnOk result
-        (S.taken writer.new ≡ S.taken writer.old ++ cut_head set needed children) }
-    ensures part { S.tells → OnErr result
-        (TookPrefix (S.taken writer.old) (S.taken writer.new) (cut_head set needed children)) }
-    ensures succeeded { OnOk result (S.failures writer.new ≡ S.failures writer.old) }
-    ensures failed { OnErr result (HasFailed (S.failures writer.old) (S.failures writer.new)) }
+    ensures delivers { S.tells → Delivers result (S.taken writer.old) (S.taken writer.new)
+        (cut_head set needed children) }
+    ensures failures { CountsFailures result (S.failures writer.old) (S.failures writer.new) }
 {
     let set = set.to_be_bytes();
     let count = (children as u16).to_be_bytes();
@@ -151,12 +145,9 @@ fn write_cut_head<S: Sink>(
 
 fn write_close_head<S: Sink>(children: usize, writer: &mut S) -> Result<(), DeviceFault>
     requires { children ≤ 2 }
-    ensures whole { S.tells → OnOk result
-        (S.taken writer.new ≡ S.taken writer.old ++ close_head children) }
-    ensures part { S.tells → OnErr result
-        (TookPrefix (S.taken writer.old) (S.taken writer.new) (close_head children)) }
-    ensures succeeded { OnOk result (S.failures writer.new ≡ S.failures writer.old) }
-    ensures failed { OnErr result (HasFailed (S.failures writer.old) (S.failures writer.new)) }
+    ensures delivers { S.tells → Delivers result (S.taken writer.old) (S.taken writer.new)
+        (close_head children) }
+    ensures failures { CountsFailures result (S.failures writer.old) (S.failures writer.new) }
 {
     write_all(writer, &[4, children as u8])
 }
@@ -171,12 +162,9 @@ fn byte_from(end: End) -> u8
 }
 
 fn write_head<S: Sink>(end: End, batches: u32, writer: &mut S) -> Result<(), DeviceFault>
-    ensures whole { S.tells → OnOk result
-        (S.taken writer.new ≡ S.taken writer.old ++ second_head end batches) }
-    ensures part { S.tells → OnErr result
-        (TookPrefix (S.taken writer.old) (S.taken writer.new) (second_head end batches)) }
-    ensures succeeded { OnOk result (S.failures writer.new ≡ S.failures writer.old) }
-    ensures failed { OnErr result (HasFailed (S.failures writer.old) (S.failures writer.new)) }
+    ensures delivers { S.tells → Delivers result (S.taken writer.old) (S.taken writer.new)
+        (second_head end batches) }
+    ensures failures { CountsFailures result (S.failures writer.old) (S.failures writer.new) }
 {
     let end = byte_from(end);
     let batches = batches.to_be_bytes();
@@ -192,12 +180,9 @@ fn write_head<S: Sink>(end: End, batches: u32, writer: &mut S) -> Result<(), Dev
 #[cycle(written)]
 fn write_node<S: Sink>(tree: &Tree, writer: &mut S) -> Result<(), DeviceFault>
     requires { IsInRange second_ranges (bound_of tree.now) }
-    ensures whole { S.tells → OnOk result
-        (S.taken writer.new ≡ S.taken writer.old ++ node (bound_of tree.now)) }
-    ensures part { S.tells → OnErr result
-        (TookPrefix (S.taken writer.old) (S.taken writer.new) (node (bound_of tree.now))) }
-    ensures succeeded { OnOk result (S.failures writer.new ≡ S.failures writer.old) }
-    ensures failed { OnErr result (HasFailed (S.failures writer.old) (S.failures writer.new)) }
+    ensures delivers { S.tells → Delivers result (S.taken writer.old) (S.taken writer.new)
+        (node (bound_of tree.now)) }
+    ensures failures { CountsFailures result (S.failures writer.old) (S.failures writer.new) }
 {
     match tree {
         Tree::Overload(set) => {
@@ -233,12 +218,9 @@ fn write_node<S: Sink>(tree: &Tree, writer: &mut S) -> Result<(), DeviceFault>
 #[cycle(written)]
 fn write_row<S: Sink>(trees: &[Tree], writer: &mut S) -> Result<(), DeviceFault>
     requires { AreInRange second_ranges (bounds_of trees.now) }
-    ensures whole { S.tells → OnOk result
-        (S.taken writer.new ≡ S.taken writer.old ++ row (bounds_of trees.now)) }
-    ensures part { S.tells → OnErr result
-        (TookPrefix (S.taken writer.old) (S.taken writer.new) (row (bounds_of trees.now))) }
-    ensures succeeded { OnOk result (S.failures writer.new ≡ S.failures writer.old) }
-    ensures failed { OnErr result (HasFailed (S.failures writer.old) (S.failures writer.new)) }
+    ensures delivers { S.tells → Delivers result (S.taken writer.old) (S.taken writer.new)
+        (row (bounds_of trees.now)) }
+    ensures failures { CountsFailures result (S.failures writer.old) (S.failures writer.new) }
 {
     for tree in trees {
         write_node(tree, writer)?;
@@ -253,13 +235,9 @@ fn write_text<S: Sink>(
     writer: &mut S,
 ) -> Result<(), DeviceFault>
     requires { IsInRange second_ranges (bound_of tree.now) }
-    ensures whole { S.tells → OnOk result
-        (S.taken writer.new ≡ S.taken writer.old ++ second_text end batches (bound_of tree.now)) }
-    ensures part { S.tells → OnErr result
-        (TookPrefix (S.taken writer.old) (S.taken writer.new)
-        (second_text end batches (bound_of tree.now))) }
-    ensures succeeded { OnOk result (S.failures writer.new ≡ S.failures writer.old) }
-    ensures failed { OnErr result (HasFailed (S.failures writer.old) (S.failures writer.new)) }
+    ensures delivers { S.tells → Delivers result (S.taken writer.old) (S.taken writer.new)
+        (second_text end batches (bound_of tree.now)) }
+    ensures failures { CountsFailures result (S.failures writer.old) (S.failures writer.new) }
 {
     write_head(end, batches, writer)?;
     write_node(tree, writer)
@@ -293,10 +271,7 @@ pub fn write_certificate<S: Sink>(
         → HasText second_ranges batches (bound_of tree.now) }
     ensures untouched { IsErrOf result TreeWriteFault.BadTree → writer.new ≡ writer.old }
     // The text is written whole, or a prefix of it where the writer failed.
-    ensures whole { S.tells → OnOk result
-        (S.taken writer.new ≡ S.taken writer.old ++ second_text end batches (bound_of tree.now)) }
-    ensures part { S.tells → IsErrOf result TreeWriteFault.WriteFault
-        → TookPrefix (S.taken writer.old) (S.taken writer.new)
+    ensures delivers { S.tells → Delivers result (S.taken writer.old) (S.taken writer.new)
         (second_text end batches (bound_of tree.now)) }
     ensures succeeded { ¬ IsErrOf result TreeWriteFault.WriteFault
         → S.failures writer.new ≡ S.failures writer.old }

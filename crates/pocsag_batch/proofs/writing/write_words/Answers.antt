@@ -26,5 +26,5 @@ loop-word-preserved g c =
       omega (arith, length-append came (c.in-Some.word ∷ [])),
       All-append IsCodeword came (c.in-Some.word ∷ []) c.loop-word.invariant.4
           (All-cons IsCodeword c.in-Some.word [] c.in_ok-put_word.ensures.codeword (All-nil IsCodeword)),
-      c.in_ok-put_word.ensures.succeeded ∙ c.loop-word.invariant.5,
+      c.in_ok-put_word.ensures.failures.0 ∙ c.loop-word.invariant.5,
     )

@@ -1,7 +1,6 @@
 use Rattle.std.proofs.Common.{◌≡◌, ◌+◌, ◌-◌, ◌*◌, ◌≤◌, ℕ, length, map, vec_len, vec_capacity}
-use Rattle.pocsag_tree.specs.Bounds.{all_nodes_in, deepest}
 use Rattle.pocsag_tree.specs.Views.{bound_of, bounds_of}
-use Rattle.pocsag_tree.specs.Reading.{but_last, row_at, node_at}
+use Rattle.pocsag_tree.specs.Reading.{IsRowRead, but_last, row_at, node_at}
 use Rattle.pocsag_tree.proofs.Rows.{with_front}
 use Rattle.pocsag_tree.proofs.reading.+node.Given as goal
 
@@ -29,14 +28,13 @@ decreases-tagged g l = 6 * l.depth + 4
 -- the children so far, and the reading of those that are left, are the reading of the row
 abbrev pub invariant-row-loop : goal.invariant-row-loop
 invariant-row-loop g l = record {
-  few : l.reached ≤ 1000000;
+  counts : IsRowRead l.depth l.made (bounds_of l.children.items) l.reached;
   len : vec_len l.children ≡ l.counter;
   room : vec_capacity l.children ≡ l.count;
-  deep : deepest (bounds_of l.children.items) ≤ l.depth;
-  counted : l.made + all_nodes_in (bounds_of l.children.items) ≡ l.reached;
   failures : g.S.Source.failures l.source ≡ g.S.Source.failures l.fn.source;
   shrinks : g.S.Source.tells → length (g.S.Source.held l.source) ≤ length (g.S.Source.held l.fn.source);
   bytes : g.S.Source.tells → (k : ℕ) → k ≤ length (g.S.Source.held l.source) →
-      with_front (map bound_of l.children.items) (row_at (node_at l.ranges l.depth) (l.count - l.counter) l.reached (but_last k (g.S.Source.held l.source)))
+      with_front (map bound_of l.children.items)
+      (row_at (node_at l.ranges l.depth) (l.count - l.counter) l.reached (but_last k (g.S.Source.held l.source)))
       ≡ row_at (node_at l.ranges l.depth) l.count l.made (but_last k (g.S.Source.held l.fn.source));
 }
