@@ -1,7 +1,7 @@
 ghost use Rattle.std.specs.Prelude.{◌≡◌, ◌≢◌, ℕ, ◌<◌, slice_index, IfOk, IfSome, IfNone};
 ghost use Rattle.pocsag_tour.specs.Moves.{AllLeadTo, arc_from, IsBalanced, IsDeparture, IsSpent, IsWay};
 
-use crate::arc::{arc_at, arc_step, begins, ends};
+use crate::arc::{arc_of_kind, arc_step, begins, ends};
 use crate::flood::exits_to;
 use pocsag_slots::Step;
 use std::alloc::{AllocError, Global};
@@ -13,7 +13,7 @@ fn detour(left: &[u32; 288], exit: usize, boundary: u8) -> Option<usize>
     ensures none { IfNone result ((b : ℕ) → b < 288 → arc_from b ≡ boundary → b ≢ exit → slice_index left.now b ≡ 0) }
 {
     for kind in 0..18 {
-        let arc = arc_at(boundary, kind);
+        let arc = arc_of_kind(boundary, kind);
         if arc != exit {
             if left[arc] > 0 {
                 return Some(arc);
