@@ -1,5 +1,5 @@
 -- The nodes of the free search: a node over its children, and a child that stands for its parent.
-use Rattle.std.proofs.Common.{◌≡◌, ℕ, ◌+◌, ◌^◌, ◌<◌, ◌≤◌, false, IsTrue, List, [], ◌∷◌, ◌++◌, take, get_or, length, refl, sym, ap, subst, ◌∙◌, arith, slice_index}
+use Rattle.std.proofs.Common.{◌≡◌, ℕ, ◌+◌, ◌^◌, ◌<◌, ◌≤◌, false, IsTrue, List, [], ◌∷◌, ◌++◌, take, get_or, length, refl, sym, ap, subst, ◌∙◌, arith}
 use Rattle.std.proofs.lemmas.List.{take_more}
 use Rattle.std.specs.Global.{Vec, Box}
 use Rattle.pocsag_words.specs.declared.ending.End.{End}
@@ -11,7 +11,7 @@ use Rattle.pocsag_slots.specs.Sums.{holds}
 use Rattle.pocsag_slots.specs.Ways.{MayTake, class_certain, limits_below, limits_from, narrowed_limits, ways_across, ways_to_close}
 use Rattle.pocsag_tree.specs.declared.shape.Tree.{Tree}
 use Rattle.pocsag_tree.specs.declared.shape.Tree.TheViews.{Split, Cut, Close}
-use Rattle.pocsag_tree.specs.Bounds.{Bound, Bounds, cut, close, split, none, more, closed_nodes, closed_nodes_in}
+use Rattle.pocsag_tree.specs.Bounds.{Bound, Bounds, split, none, more, closed_nodes, closed_nodes_in}
 use Rattle.pocsag_tree.specs.Views.{bound_of, bounds_of}
 use Rattle.pocsag_tree.proofs.Counts.{bound_of-cut, bound_of-close, bound_of-split}
 use Rattle.pocsag_check.specs.Accepting.{AcceptsWithin, IsClosed}

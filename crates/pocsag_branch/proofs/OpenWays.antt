@@ -1,15 +1,12 @@
 -- Where an admitted choice is apart, no way out of what it reaches is decided, and no split either.
-use Rattle.std.proofs.Common.{◌≡◌, ◌≢◌, ℕ, zero, suc, ◌+◌, ◌-◌, ◌<◌, ◌≤◌, ◌&&◌, ◌||◌, nat_lt, Bool, true, false, not, cond, List, [], ◌∷◌, ◌++◌, All, refl, sym, ap, ◌∙◌, arith, slice_index, inl, inr}
+use Rattle.std.proofs.Common.{◌≡◌, ℕ, ◌-◌, ◌<◌, ◌≤◌, ◌&&◌, ◌||◌, nat_lt, Bool, true, false, cond, [], ◌∷◌, All, refl, arith, slice_index, inl, inr}
 use Rattle.std.proofs.lemmas.Bool.{and_parts, cases_eq, cases_lt, lt-ltb, ltb-false, ltb-true}
-use Rattle.std.proofs.lemmas.Bool.Decides.{nat_tests}
-use Rattle.std.proofs.lemmas.List.Elements.{All-append, All-cons, All-nil}
+use Rattle.std.proofs.lemmas.List.Elements.{All-append, All-cons}
 use Rattle.pocsag_slots.specs.declared.class.Classes.{Classes}
 use Rattle.pocsag_slots.specs.declared.limit.Limits.{Limits}
-use Rattle.pocsag_slots.specs.declared.way.Way.{Way}
 use Rattle.pocsag_slots.specs.declared.way.Way.TheVariants.{IdleIn, Early, Late}
 use Rattle.pocsag_slots.specs.Loads.{IsAdmitted, load}
-use Rattle.pocsag_slots.specs.Numbering.{start_of, finish_of}
-use Rattle.pocsag_slots.specs.Sums.{holds, joined_below}
+use Rattle.pocsag_slots.specs.Sums.{joined_below}
 use Rattle.pocsag_slots.specs.Ways.{class_certain, class_ways, early_open, idle_crosses, late_open, run_crosses, run_touches, slot_ways, ways_across, ways_to_close}
 use Rattle.pocsag_slots.proofs.WayLemmas.{All-joined_below, All-one_or_none}
 use Rattle.pocsag_tour.specs.Reached.{HasRunOutside, IsApart, IsUnclosed, runs_of}

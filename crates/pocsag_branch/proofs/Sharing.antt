@@ -1,5 +1,5 @@
 -- The least number of batches: what a set of slots needs, and that a choice which is admitted needs no more.
-use Rattle.std.proofs.Common.{◌≡◌, ◌≢◌, ℕ, suc, ◌+◌, ◌-◌, ◌*◌, ◌/◌, ◌%◌, ◌^◌, ◌<◌, ◌≤◌, ◌==◌, min, Bool, true, false, cond, refl, sym, ap, subst, ◌∙◌, arith, slice_index, replicate, inl, inr}
+use Rattle.std.proofs.Common.{◌≡◌, ℕ, ◌+◌, ◌-◌, ◌*◌, ◌/◌, ◌%◌, ◌<◌, ◌≤◌, ◌==◌, min, Bool, true, false, cond, ap, ◌∙◌, arith, slice_index, replicate, inl, inr}
 use Rattle.std.proofs.Math.Nat.{mul-le-mul_left}
 use Rattle.std.proofs.lemmas.Bool.{cases_eq, cases_lt}
 use Rattle.std.proofs.lemmas.Bool.Decides.{nat_tests}
@@ -8,9 +8,9 @@ use Rattle.std.proofs.lemmas.List.{get_or-replicate}
 use Rattle.std.proofs.lemmas.Nat.Bits.{bit_at_ones}
 use Rattle.pocsag_slots.specs.declared.class.Classes.{Classes}
 use Rattle.pocsag_slots.specs.Cover.{covered}
-use Rattle.pocsag_slots.specs.Loads.{IsAdmitted, IsChoice, IsCarriedBy, IsLeast, IsLeastLoad, IsWithin, Overloads, class_load, limits_of_all, load}
+use Rattle.pocsag_slots.specs.Loads.{IsAdmitted, IsChoice, IsLeast, IsLeastLoad, IsWithin, Overloads, class_load, limits_of_all, load}
 use Rattle.pocsag_slots.specs.Numbering.{class_rest, start_of}
-use Rattle.pocsag_slots.specs.Sums.{holds, sum_below, sum_over}
+use Rattle.pocsag_slots.specs.Sums.{holds, sum_over}
 use Rattle.pocsag_slots.proofs.LeastLemmas.{overload_is}
 use Rattle.pocsag_slots.proofs.LoadLemmas.{covered_by, load_few, rest_below}
 use Rattle.pocsag_slots.proofs.SumLemmas.{sum_below-le, sum_over-same, sum_over-times, term-le-sum_below}

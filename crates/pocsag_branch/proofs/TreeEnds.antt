@@ -1,18 +1,17 @@
 -- What a tree says where the search ends.
-use Rattle.std.proofs.Common.{All, ◌≡◌, ℕ, zero, suc, ◌+◌, ◌-◌, ◌*◌, ◌%◌, ◌<◌, ◌≤◌, ◌||◌, Bool, true, false, IsTrue, nat_lt, List, [], ◌∷◌, ◌++◌, map, length, replicate, refl, sym, ap, subst, ◌∙◌, arith, slice_index, ◌⊎◌, inl, inr}
+use Rattle.std.proofs.Common.{All, ◌≡◌, ℕ, zero, suc, ◌+◌, ◌-◌, ◌%◌, ◌<◌, ◌≤◌, ◌||◌, Bool, true, false, List, [], ◌∷◌, ◌++◌, map, replicate, refl, sym, ap, subst, ◌∙◌, arith, slice_index, inl, inr}
 use Rattle.std.proofs.lemmas.Bool.{cases_eq, or_parts}
 use Rattle.std.proofs.lemmas.Bool.Decides.{nat_tests}
 use Rattle.std.proofs.lemmas.List.{append-nil, get_or-replicate, length-replicate}
 use Rattle.pocsag_words.specs.Kinds.{kind_of}
 use Rattle.pocsag_words.specs.declared.ending.End.{End}
-use Rattle.pocsag_pages.specs.declared.page.Page.{Page}
 use Rattle.pocsag_slots.specs.declared.class.Classes.{Classes}
 use Rattle.pocsag_slots.specs.declared.limit.Limits.{Limits}
 use Rattle.pocsag_slots.specs.declared.step.Step.{Step}
 use Rattle.pocsag_slots.specs.declared.way.Way.{Way}
 use Rattle.pocsag_slots.specs.Loads.{IsAdmitted, IsChoice, IsLeast, limits_of_all, load}
 use Rattle.pocsag_slots.specs.Numbering.{start_of}
-use Rattle.pocsag_slots.specs.Sums.{holds, sum_below}
+use Rattle.pocsag_slots.specs.Sums.{holds}
 use Rattle.pocsag_slots.specs.Tours.{IsTour}
 use Rattle.pocsag_slots.specs.Ways.{limits_below, limits_from, narrowed_limits, ways_across, ways_to_close}
 use Rattle.pocsag_slots.proofs.Fewest.{fewest}
@@ -28,7 +27,7 @@ use Rattle.pocsag_check.proofs.Bounding.{bounded}
 use Rattle.pocsag_tour.specs.Reached.{IsApart, IsReached, at_start, by_idle, IsUnclosed}
 use Rattle.pocsag_slots.proofs.CoverLemmas.{start_below}
 use Rattle.pocsag_branch.proofs.OpenWays.{closing_ways_fall}
-use Rattle.pocsag_branch.specs.Examined.{Fills, IsExamined, IsRefuted, IsTreeOf, Refuses}
+use Rattle.pocsag_branch.specs.Examined.{IsRefuted, IsTreeOf, Refuses}
 use Rattle.pocsag_branch.specs.Found.{IsBound}
 use Rattle.pocsag_branch.specs.Freed.{IsFreeTree}
 use Rattle.pocsag_branch.specs.Marks.{has_open, have_open, opens, opens_in}

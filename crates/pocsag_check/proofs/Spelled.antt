@@ -1,7 +1,6 @@
 -- An accepted tree can be written: each of its fields is in the range of version PCB2.
-use Rattle.std.proofs.Common.{◌≡◌, ℕ, ◌+◌, ◌-◌, ◌^◌, ◌<◌, ◌≤◌, Bool, false, List, [], ◌∷◌, length, nat_lt, refl, ap, arith, min, slice_index}
+use Rattle.std.proofs.Common.{◌≡◌, ℕ, ◌-◌, ◌^◌, ◌<◌, ◌≤◌, Bool, false, List, [], ◌∷◌, length, nat_lt, refl, ap, arith, min, slice_index}
 use Rattle.pocsag_words.specs.declared.ending.End.{End}
-use Rattle.pocsag_words.specs.declared.ending.End.TheVariants.{Open, Closed}
 use Rattle.pocsag_tree.specs.Limits.{most_nodes, second_ranges}
 use Rattle.pocsag_tree.specs.Bounds.{Bound, Bounds, overload, split, cut, close, unexamined, none, more, all_nodes, all_nodes_in, closed_nodes, closed_nodes_in, count_of}
 use Rattle.pocsag_tree.specs.Spelling.{AreInRange, HasText, IsInRange}

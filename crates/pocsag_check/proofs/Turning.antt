@@ -1,12 +1,11 @@
 -- A set that holds boundary 0, and not all boundaries, is crossed by the idles of at least two slots.
-use Rattle.std.proofs.Common.{◌≡◌, ◌⊎◌, ℕ, zero, suc, ◌+◌, ◌-◌, ◌%◌, ◌<◌, ◌≤◌, ◌||◌, Bool, true, false, not, cond, IsTrue, List, ◌++◌, length, refl, sym, ap, subst, ◌∙◌, arith, inl, inr, length-append, nat_lt, slice_index}
-use Rattle.std.proofs.lemmas.Bool.{cases_Bool, cases_eq, not-false, not-true, not_from_false}
+use Rattle.std.proofs.Common.{◌≡◌, ◌⊎◌, ℕ, zero, suc, ◌+◌, ◌-◌, ◌%◌, ◌<◌, ◌≤◌, ◌||◌, Bool, true, false, not, IsTrue, List, length, refl, sym, subst, arith, inl, inr, length-append}
+use Rattle.std.proofs.lemmas.Bool.{cases_eq, not-false, not-true, not_from_false}
 use Rattle.pocsag_slots.specs.declared.class.Classes.{Classes}
 use Rattle.pocsag_slots.specs.declared.limit.Limits.{Limits}
-use Rattle.pocsag_slots.specs.declared.way.Way.{Way}
 use Rattle.pocsag_slots.specs.Numbering.{start_of, finish_of}
 use Rattle.pocsag_slots.specs.Sums.{holds, joined_below}
-use Rattle.pocsag_slots.specs.Ways.{class_certain, class_ways, idle_crosses, run_touches, slot_ways, ways_across}
+use Rattle.pocsag_slots.specs.Ways.{class_certain, idle_crosses, run_touches, slot_ways, ways_across}
 use Rattle.pocsag_slots.proofs.CoverLemmas.{finish_below, start_below}
 use Rattle.pocsag_check.proofs.Refuted.{certain_is}
 

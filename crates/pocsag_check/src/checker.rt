@@ -1,13 +1,13 @@
 ghost use Rattle.std.specs.Prelude.{◌≡◌, ◌≢◌, ◌↔◌, ◌<◌, ◌≤◌, All, IsTrue, slice_index};
 ghost use Rattle.pocsag_slots.specs.Loads.{AreInOrder};
-ghost use Rattle.pocsag_slots.specs.Sums.{holds as is_member};
+ghost use Rattle.pocsag_slots.specs.Sums.{holds};
 ghost use Rattle.pocsag_slots.specs.Ways.{class_certain, MayTake};
 ghost use Rattle.pocsag_tree.specs.Views.{bound_of, bounds_of};
 ghost use Rattle.pocsag_check.specs.Accepting.{AcceptsEachWithin, AcceptsWithin, IsClosed};
 
 use pocsag_slots::{
-    Classes, Limits, Way, below_split, closing_ways, from_split, holds, is_certain, narrow,
-    overloads, ways,
+    CLASSES, Classes, Limits, Way, below_split, closing_ways, from_split, holds, is_certain,
+    narrow, overloads, ways,
 };
 use pocsag_tree::Tree;
 use pocsag_words::End;
@@ -25,7 +25,7 @@ pub(crate) struct Question {
 fn splits(limits: &Limits, class: u8, m: u16) -> bool
     ensures { IsTrue result ↔ ((class < 136) × (slice_index limits.now.lo class < m) × (m ≤ slice_index limits.now.hi class)) }
 {
-    if class >= 136 {
+    if class as usize >= CLASSES {
         return false;
     }
     limits.lo[class as usize] < u32::from(m) && u32::from(m) <= limits.hi[class as usize]
@@ -33,9 +33,9 @@ fn splits(limits: &Limits, class: u8, m: u16) -> bool
 
 // Whether the set can be cut at, with the class that is certain to leave it.
 fn cuts(classes: &Classes, limits: &Limits, batches: u32, set: u16, class: u8) -> bool
-    ensures { IsTrue result ↔ ((class < 136) × (1 ≤ batches) × IsTrue (is_member set 0) × IsTrue (class_certain classes.now limits.now set class)) }
+    ensures { IsTrue result ↔ ((class < 136) × (1 ≤ batches) × IsTrue (holds set 0) × IsTrue (class_certain classes.now limits.now set class)) }
 {
-    if class >= 136 || batches == 0 {
+    if class as usize >= CLASSES || batches == 0 {
         return false;
     }
     holds(set, 0) && is_certain(classes, limits, set, class)

@@ -14,40 +14,50 @@ use Rattle.pocsag_slots.specs.Tours.{Leads, idles, LastIsWhole}
 use Rattle.pocsag_tour.specs.declared.fault.TourFault.{TourFault}
 use Rattle.pocsag_tour.specs.declared.fault.TourFault.TheVariants.{Apart, Unclosed, OutOfMemory}
 
+-- The first late run, the first idle, and how many arcs there are.
+abbrev pub first_late : ℕ
+first_late = 136
+
+abbrev pub first_idle : ℕ
+first_idle = 272
+
+abbrev pub all_arcs : ℕ
+all_arcs = 288
+
 -- The boundaries that an arc leads from and to.
 unfoldable pub arc_from : ℕ → ℕ
-arc_from a = cond (nat_lt a 136) (start_of a true) (cond (nat_lt a 272) (start_of (a - 136) false) (a - 272))
+arc_from a = cond (nat_lt a first_late) (start_of a true) (cond (nat_lt a first_idle) (start_of (a - first_late) false) (a - first_idle))
 
 unfoldable pub arc_to : ℕ → ℕ
-arc_to a = cond (nat_lt a 136) (finish_of a true) (cond (nat_lt a 272) (finish_of (a - 136) false) ((a - 271) % 16))
+arc_to a = cond (nat_lt a first_late) (finish_of a true) (cond (nat_lt a first_idle) (finish_of (a - first_late) false) ((a - first_idle + 1) % 16))
 
 -- The step over it.
 unfoldable pub step_of : ℕ → Step
-step_of a = cond (nat_lt a 136) (Run a true) (cond (nat_lt a 272) (Run (a - 136) false) Stay)
+step_of a = cond (nat_lt a first_late) (Run a true) (cond (nat_lt a first_idle) (Run (a - first_late) false) Stay)
 
 -- How many of it there are under the choice.
 unfoldable pub arc_count : Classes → (ℕ → ℕ) → ℕ → ℕ → ℕ
 arc_count k choice batches a =
-    cond (nat_lt a 136) (choice a)
-    (cond (nat_lt a 272) (slice_index k.count (a - 136) - choice (a - 136)) (batches - load k choice (a - 272)))
+    cond (nat_lt a first_late) (choice a)
+    (cond (nat_lt a first_idle) (slice_index k.count (a - first_late) - choice (a - first_late)) (batches - load k choice (a - first_idle)))
 
 abbrev pub AreCounts : Classes → (ℕ → ℕ) → ℕ → (ℕ → ℕ) → Type 0
-AreCounts k choice batches counts = (a : ℕ) → a < 288 → counts a ≡ arc_count k choice batches a
+AreCounts k choice batches counts = (a : ℕ) → a < all_arcs → counts a ≡ arc_count k choice batches a
 
 -- How often steps from boundary 0 take an arc.
 unfoldable pub taken : ℕ → List Step → ℕ
-taken a steps = cond (nat_lt a 136) (runs a true steps) (cond (nat_lt a 272) (runs (a - 136) false steps) (idles (a - 272) 0 steps))
+taken a steps = cond (nat_lt a first_late) (runs a true steps) (cond (nat_lt a first_idle) (runs (a - first_late) false steps) (idles (a - first_idle) 0 steps))
 
 -- The arcs of a boundary by their kind: a run of each rest, the run of an address codeword alone, the idle.
 unfoldable pub arc_at : ℕ → ℕ → ℕ
-arc_at p kind = cond (kind == 17) (272 + p) (p % 2 * 136 + cond (kind == 16) (128 + p / 2) (16 * (p / 2) + kind))
+arc_at p kind = cond (kind == 17) (first_idle + p) (p % 2 * first_late + cond (kind == 16) (128 + p / 2) (16 * (p / 2) + kind))
 
 -- How many arcs leave a boundary, and how many lead to it.
 unfoldable pub outs : (ℕ → ℕ) → ℕ → ℕ
-outs left q = sum_below 288 (λ a. cond (arc_from a == q) (left a) 0)
+outs left q = sum_below all_arcs (λ a. cond (arc_from a == q) (left a) 0)
 
 unfoldable pub ins : (ℕ → ℕ) → ℕ → ℕ
-ins left q = sum_below 288 (λ a. cond (arc_to a == q) (left a) 0)
+ins left q = sum_below all_arcs (λ a. cond (arc_to a == q) (left a) 0)
 
 -- What is left of a way that has reached p and is to end at root.
 abbrev pub IsBalanced : (ℕ → ℕ) → (p root : ℕ) → Type 0
@@ -55,22 +65,22 @@ IsBalanced left p root = (q : ℕ) → q < 16 → outs left q + cond (q == root)
 
 -- Nothing leaves a boundary any more.
 abbrev pub IsSpent : (ℕ → ℕ) → ℕ → Type 0
-IsSpent left p = (a : ℕ) → a < 288 → arc_from a ≡ p → left a ≡ 0
+IsSpent left p = (a : ℕ) → a < all_arcs → arc_from a ≡ p → left a ≡ 0
 
 -- A set that no arc leaves, or that none enters.
 abbrev pub NoneLeaves : (ℕ → ℕ) → ℕ → Type 0
-NoneLeaves counts set = (a : ℕ) → a < 288 → 0 < counts a → holds set (arc_from a) ≡ true → holds set (arc_to a) ≡ true
+NoneLeaves counts set = (a : ℕ) → a < all_arcs → 0 < counts a → holds set (arc_from a) ≡ true → holds set (arc_to a) ≡ true
 
 abbrev pub NoneEnters : (ℕ → ℕ) → ℕ → Type 0
-NoneEnters counts set = (a : ℕ) → a < 288 → 0 < counts a → holds set (arc_to a) ≡ true → holds set (arc_from a) ≡ true
+NoneEnters counts set = (a : ℕ) → a < all_arcs → 0 < counts a → holds set (arc_to a) ≡ true → holds set (arc_from a) ≡ true
 
 -- Each run of the choice starts in the set.
 abbrev pub RunsStart : (ℕ → ℕ) → ℕ → Type 0
-RunsStart counts set = (a : ℕ) → a < 272 → 0 < counts a → holds set (arc_from a) ≡ true
+RunsStart counts set = (a : ℕ) → a < first_idle → 0 < counts a → holds set (arc_from a) ≡ true
 
 -- An arc that enters the set.
 pub record IsEntering (counts : ℕ → ℕ) (set a : ℕ) : Type 0 where
-  pub known : a < 288
+  pub known : a < all_arcs
   pub there : 0 < counts a
   pub from : holds set (arc_from a) ≡ false
   pub to : holds set (arc_to a) ≡ true
@@ -78,11 +88,11 @@ pub record IsEntering (counts : ℕ → ℕ) (set a : ℕ) : Type 0 where
 -- The boundaries that are reached from boundary 0 over arcs by number.
 pub data Visited (counts : ℕ → ℕ) : ℕ → Type 0 where
   at_start : Visited counts 0
-  by_arc : (a : ℕ) → a < 288 → 0 < counts a → Visited counts (arc_from a) → Visited counts (arc_to a)
+  by_arc : (a : ℕ) → a < all_arcs → 0 < counts a → Visited counts (arc_from a) → Visited counts (arc_to a)
 
 -- The last exit of a boundary: the arc that is left for last there.
 pub record IsExit (counts exits : ℕ → ℕ) (q : ℕ) : Type 0 where
-  pub known : exits q < 288
+  pub known : exits q < all_arcs
   pub leaves : arc_from (exits q) ≡ q
   pub there : 0 < counts (exits q)
 
@@ -98,19 +108,19 @@ LeadHome counts exits root set = (q : ℕ) → q < 16 → holds set q ≡ true �
 -- Whatever holds root and is entered by no arc holds the starts of all arcs.
 abbrev pub AllLeadTo : (ℕ → ℕ) → ℕ → Type 0
 AllLeadTo counts root = (set : ℕ) → holds set root ≡ true → NoneEnters counts set →
-    (a : ℕ) → a < 288 → 0 < counts a → holds set (arc_from a) ≡ true
+    (a : ℕ) → a < all_arcs → 0 < counts a → holds set (arc_from a) ≡ true
 
 -- An arc to take next from a boundary: its last exit only where no other arc is left.
 pub record IsDeparture (left : ℕ → ℕ) (exit p a : ℕ) : Type 0 where
-  pub known : a < 288
+  pub known : a < all_arcs
   pub there : 0 < left a
   pub leaves : arc_from a ≡ p
-  pub last : a ≡ exit → (b : ℕ) → b < 288 → arc_from b ≡ p → b ≢ exit → left b ≡ 0
+  pub last : a ≡ exit → (b : ℕ) → b < all_arcs → arc_from b ≡ p → b ≢ exit → left b ≡ 0
 
 -- The steps lead from boundary 0 to p, and take each arc as often as it is counted.
 pub record IsWay (counts : ℕ → ℕ) (p : ℕ) (steps : List Step) : Type 0 where
   pub leads : Leads 0 steps p
-  pub takes : (a : ℕ) → a < 288 → taken a steps ≡ counts a
+  pub takes : (a : ℕ) → a < all_arcs → taken a steps ≡ counts a
   pub no_other : (c : ℕ) (e : Bool) → 136 ≤ c → runs c e steps ≡ 0
 
 -- A walk along the arcs, with what is left of them.
@@ -118,13 +128,13 @@ pub record IsWalk (counts exits left : ℕ → ℕ) (steps : List Step) (p root 
   pub leads : Leads 0 steps p
   pub within : p < 16
   pub balanced : IsBalanced left p root
-  pub uses : (a : ℕ) → a < 288 → taken a steps + left a ≡ counts a
+  pub uses : (a : ℕ) → a < all_arcs → taken a steps + left a ≡ counts a
   pub no_other : (c : ℕ) (e : Bool) → 136 ≤ c → runs c e steps ≡ 0
   pub kept : (q : ℕ) → IsExit counts exits q → left (exits q) ≡ 0 → IsSpent left q
 
 -- An arc with which a tour for the closed end can end.
 pub record IsClosing (counts : ℕ → ℕ) (a : ℕ) : Type 0 where
-  pub known : a < 288
+  pub known : a < all_arcs
   pub there : 0 < counts a
   pub from : arc_from a ≡ 15
   pub to : arc_to a ≡ 0

@@ -1,10 +1,15 @@
 ghost use Rattle.std.specs.Prelude.{◌≡◌, ◌<◌};
-ghost use Rattle.pocsag_tour.specs.Moves.{arc_at as arc_of_kind, arc_from, arc_to, step_of};
+ghost use Rattle.pocsag_tour.specs.Moves.{arc_at, arc_from, arc_to, step_of};
 
-use pocsag_slots::{Step, finish, start};
+use pocsag_slots::{CLASSES, SLOTS, Step, finish, start};
 
-// How many arcs there are: an early and a late run of each class, and an idle in each slot.
-pub const ARCS: usize = 288;
+// The arcs by number: the early runs of the classes from 0 on, then their late runs, then the idles of the
+// slots; and how many there are.
+pub const LATE: usize = CLASSES;
+
+pub const IDLE: usize = LATE + CLASSES;
+
+pub const ARCS: usize = IDLE + SLOTS;
 
 // The boundary that the arc leads from.
 #[tactic(auto, unfolding(crate::specs::Moves::arc_from))]
@@ -13,12 +18,12 @@ pub fn begins(arc: usize) -> u8
     ensures value { result ≡ arc_from arc }
     ensures below { result < 16 }
 {
-    if arc < 136 {
+    if arc < LATE {
         start(arc as u8, true)
-    } else if arc < 272 {
-        start((arc - 136) as u8, false)
+    } else if arc < IDLE {
+        start((arc - LATE) as u8, false)
     } else {
-        (arc - 272) as u8
+        (arc - IDLE) as u8
     }
 }
 
@@ -29,12 +34,12 @@ pub fn ends(arc: usize) -> u8
     ensures value { result ≡ arc_to arc }
     ensures below { result < 16 }
 {
-    if arc < 136 {
+    if arc < LATE {
         finish(arc as u8, true)
-    } else if arc < 272 {
-        finish((arc - 136) as u8, false)
+    } else if arc < IDLE {
+        finish((arc - LATE) as u8, false)
     } else {
-        ((arc - 271) % 16) as u8
+        ((arc - IDLE + 1) % SLOTS) as u8
     }
 }
 
@@ -44,14 +49,14 @@ pub fn arc_step(arc: usize) -> Step
     requires { arc < 288 }
     ensures { result ≡ step_of arc }
 {
-    if arc < 136 {
+    if arc < LATE {
         Step::Run {
             class: arc as u8,
             early: true,
         }
-    } else if arc < 272 {
+    } else if arc < IDLE {
         Step::Run {
-            class: (arc - 136) as u8,
+            class: (arc - LATE) as u8,
             early: false,
         }
     } else {
@@ -61,18 +66,18 @@ pub fn arc_step(arc: usize) -> Step
 
 // The arc of this kind, 0 to 17, at the boundary.
 #[tactic(auto, unfolding(crate::specs::Moves::arc_at))]
-pub fn arc_at(boundary: u8, kind: u8) -> usize
+pub fn arc_of_kind(boundary: u8, kind: u8) -> usize
     requires boundary { boundary < 16 }
     requires kind { kind < 18 }
-    ensures value { result ≡ arc_of_kind boundary kind }
+    ensures value { result ≡ arc_at boundary kind }
     ensures below { result < 288 }
 {
     let place = usize::from(boundary);
     if kind == 17 {
-        272 + place
+        IDLE + place
     } else if kind == 16 {
-        place % 2 * 136 + 128 + place / 2
+        place % 2 * LATE + 128 + place / 2
     } else {
-        place % 2 * 136 + 16 * (place / 2) + usize::from(kind)
+        place % 2 * LATE + 16 * (place / 2) + usize::from(kind)
     }
 }

@@ -3,7 +3,7 @@ ghost use Rattle.pocsag_slots.specs.Loads.{IsChoice, load};
 ghost use Rattle.pocsag_slots.specs.Sums.{sum_below};
 ghost use Rattle.pocsag_tour.specs.Moves.{arc_count, AreCounts};
 
-use crate::arc::ARCS;
+use crate::arc::{ARCS, IDLE, LATE};
 use pocsag_slots::{Choice, Classes, loads};
 
 // How many of the arc there are, by the loads of the slots.
@@ -15,12 +15,12 @@ fn count_of(classes: &Classes, choice: &Choice, used: &[u32; 16], batches: u32, 
     requires arc { arc < 288 }
     ensures { result ≡ arc_count classes.now (slice_index choice.now.early) batches arc }
 {
-    if arc < 136 {
+    if arc < LATE {
         choice.early[arc]
-    } else if arc < 272 {
-        classes.count[arc - 136] - choice.early[arc - 136]
+    } else if arc < IDLE {
+        classes.count[arc - LATE] - choice.early[arc - LATE]
     } else {
-        batches - used[arc - 272]
+        batches - used[arc - IDLE]
     }
 }
 

@@ -1,3 +1,7 @@
+ghost use Rattle.std.specs.Prelude.{◌≡◌};
+ghost use Rattle.pocsag_tour.specs.declared.fault.TourFault.TheVariants.{OutOfMemory};
+
+use std::alloc::AllocError;
 use thiserror::Error;
 
 /// Why a choice was given no tour.
@@ -11,4 +15,12 @@ pub enum TourFault {
     Unclosed,
     #[error("out of memory")]
     OutOfMemory,
+}
+
+impl From<AllocError> for TourFault {
+    ghost from_gives = { λ _ fault. fault ≡ OutOfMemory };
+
+    fn from(_fault: AllocError) -> TourFault {
+        TourFault::OutOfMemory
+    }
 }

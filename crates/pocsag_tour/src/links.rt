@@ -2,7 +2,7 @@ ghost use Rattle.std.specs.Prelude.{◌≡◌, ℕ, ◌+◌, ◌<◌, ◌≤◌,
 ghost use Rattle.pocsag_slots.specs.Loads.{IsChoice};
 ghost use Rattle.pocsag_tour.specs.Links.{AddsLink, AreLinked, Follows, HaveIdles, HaveRuns};
 
-use crate::outside::runs_of;
+use crate::outside::run_count;
 use pocsag_slots::{CLASSES, Choice, Classes, SLOTS, finish, holds, loads, start, with_member};
 
 // Links the boundaries where the arc from one to the other is there.
@@ -28,8 +28,8 @@ fn link_class(links: &mut [u16; 16], classes: &Classes, choice: &Choice, batches
     if classes.count[class as usize] == 0 {
         return;
     }
-    let early = runs_of(classes, choice, class, true);
-    let late = runs_of(classes, choice, class, false);
+    let early = run_count(classes, choice, class, true);
+    let late = run_count(classes, choice, class, false);
     link(links, early > 0, start(class, true), finish(class, true));
     link(links, late > 0, start(class, false), finish(class, false));
 }

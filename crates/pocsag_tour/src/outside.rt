@@ -1,15 +1,15 @@
 ghost use Rattle.std.specs.Prelude.{◌≡◌, ◌↔◌, ◌<◌, IsTrue, slice_index, if◌then◌else◌};
 ghost use Rattle.pocsag_slots.specs.Loads.{IsChoice};
-ghost use Rattle.pocsag_tour.specs.Reached.{HasRunOutside, LiesOutside, runs_of as count_of_runs};
+ghost use Rattle.pocsag_tour.specs.Reached.{HasRunOutside, LiesOutside, runs_of};
 
 use pocsag_slots::{CLASSES, Choice, Classes, finish, holds, start};
 
 // How many runs of the class start early, or late.
 #[tactic(auto, unfolding(crate::specs::Reached::runs_of))]
-pub(crate) fn runs_of(classes: &Classes, choice: &Choice, class: u8, early: bool) -> u32
+pub(crate) fn run_count(classes: &Classes, choice: &Choice, class: u8, early: bool) -> u32
     requires chosen { IsChoice classes.now (slice_index choice.now.early) }
     requires class { class < 136 }
-    ensures { result ≡ count_of_runs classes.now (slice_index choice.now.early) class early }
+    ensures { result ≡ runs_of classes.now (slice_index choice.now.early) class early }
 {
     let early_runs = choice.early[class as usize];
     if early {
@@ -26,7 +26,7 @@ pub fn has_run_outside(classes: &Classes, choice: &Choice, set: u16, class: u8, 
     requires class { class < 136 }
     ensures { IsTrue result ↔ HasRunOutside classes.now (slice_index choice.now.early) set class early }
 {
-    runs_of(classes, choice, class, early) > 0
+    run_count(classes, choice, class, early) > 0
         && !holds(set, start(class, early))
         && !holds(set, finish(class, early))
 }

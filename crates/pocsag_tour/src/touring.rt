@@ -1,11 +1,11 @@
 ghost use Rattle.std.specs.Prelude.{◌≡◌, ℕ, ◌<◌, ◌≤◌, slice_index, IfOk, IfErr, IfSome, IfNone};
-ghost use Rattle.pocsag_words.specs.declared.ending.End.TheVariants.{Closed as EndsWhole};
+ghost use Rattle.pocsag_words.specs.declared.ending.End.TheVariants.{Closed};
 ghost use Rattle.pocsag_slots.specs.Loads.{AreCarried, IsChoice};
 ghost use Rattle.pocsag_slots.specs.Tours.{IsTour, LastAs, LastIsWhole};
 ghost use Rattle.pocsag_tour.specs.Moves.{AllLeadTo, IsBalanced, IsClosing, IsWay, NoWay};
 ghost use Rattle.pocsag_tour.specs.Reached.{IsRefused};
 
-use crate::arc::arc_step;
+use crate::arc::{ARCS, IDLE, arc_step};
 use crate::counting::{counts_of, steps_over};
 use crate::fault::TourFault;
 use crate::outside::lies_outside;
@@ -46,10 +46,7 @@ fn way(alloc: Global, counts: &[u32; 288], end: End) -> Result<Vec<Step>, TourFa
     ensures refused { IfErr result (NoWay (slice_index counts.now) end) }
 {
     match end {
-        End::Open => match walk(alloc, counts, 0, steps_over(counts)) {
-            Ok(steps) => Ok(steps),
-            Err(_) => Err(TourFault::OutOfMemory),
-        },
+        End::Open => Ok(walk(alloc, counts, 0, steps_over(counts))?),
         End::Closed => whole_way(alloc, counts),
     }
 }
@@ -59,17 +56,19 @@ fn whole_way(alloc: Global, counts: &[u32; 288]) -> Result<Vec<Step>, TourFault>
     requires balanced { IsBalanced (slice_index counts.now) 0 0 }
     requires joined { AllLeadTo (slice_index counts.now) 0 }
     ensures way { IfOk result (λ steps. IsWay (slice_index counts.now) 0 steps.items × LastIsWhole steps.items) }
-    ensures refused { IfErr result (NoWay (slice_index counts.now) EndsWhole) }
+    ensures refused { IfErr result (NoWay (slice_index counts.now) Closed) }
 {
     sets_take_members();
     match closing(counts) {
-        Some(last) => match way_with_last(alloc, counts, last) {
-            Ok(steps) => Ok(steps),
-            Err(_) => Err(TourFault::OutOfMemory),
-        },
+        Some(last) => Ok(way_with_last(alloc, counts, last)?),
         None => Err(TourFault::Unclosed),
     }
 }
+
+// The idle in slot 15, and the late run of class 135.
+const LAST_IDLE: usize = ARCS - 1;
+
+const LAST_LATE: usize = IDLE - 1;
 
 // An arc with which a tour for the closed end can end: an idle in slot 15, or else a late run of an
 // address codeword alone there.
@@ -77,11 +76,11 @@ fn closing(counts: &[u32; 288]) -> Option<usize>
     ensures found { IfSome result (IsClosing (slice_index counts.now)) }
     ensures none { IfNone result ((slice_index counts.now 287 ≡ 0) × (slice_index counts.now 271 ≡ 0)) }
 {
-    if counts[287] > 0 {
-        return Some(287);
+    if counts[LAST_IDLE] > 0 {
+        return Some(LAST_IDLE);
     }
-    if counts[271] > 0 {
-        return Some(271);
+    if counts[LAST_LATE] > 0 {
+        return Some(LAST_LATE);
     }
     None
 }

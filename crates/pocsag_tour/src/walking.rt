@@ -1,41 +1,19 @@
 ghost use Rattle.std.specs.Prelude.{◌≡◌, ◌≢◌, ℕ, ◌<◌, slice_index, IfOk, IfSome, IfNone};
 ghost use Rattle.pocsag_tour.specs.Moves.{AllLeadTo, arc_from, IsBalanced, IsDeparture, IsSpent, IsWay};
 
-use crate::arc::{ARCS, arc_at, arc_step, begins, ends};
+use crate::arc::{arc_of_kind, arc_step, begins, ends};
 use crate::flood::exits_to;
-use pocsag_slots::{SLOTS, Step};
+use pocsag_slots::Step;
 use std::alloc::{AllocError, Global};
 
-// The arc that was taken last from the boundary, where it is left and not the last exit.
-fn again(left: &[u32; 288], exit: usize, boundary: u8, taken: usize) -> Option<usize>
-    requires { boundary < 16 }
-    ensures { IfSome result (λ a. (a < 288) × (0 < slice_index left.now a) × (arc_from a ≡ boundary) × (a ≢ exit)) }
-{
-    if taken < ARCS {
-        if taken != exit {
-            if left[taken] > 0 {
-                if begins(taken) == boundary {
-                    return Some(taken);
-                }
-            }
-        }
-    }
-    None
-}
-
-// An arc from the boundary that is left, other than its last exit: the one that was taken last, for speed,
-// or else the first.
-fn detour(left: &[u32; 288], exit: usize, boundary: u8, taken: usize) -> Option<usize>
+// An arc from the boundary that is left, other than its last exit.
+fn detour(left: &[u32; 288], exit: usize, boundary: u8) -> Option<usize>
     requires { boundary < 16 }
     ensures found { IfSome result (λ a. (a < 288) × (0 < slice_index left.now a) × (arc_from a ≡ boundary) × (a ≢ exit)) }
     ensures none { IfNone result ((b : ℕ) → b < 288 → arc_from b ≡ boundary → b ≢ exit → slice_index left.now b ≡ 0) }
 {
-    match again(left, exit, boundary, taken) {
-        Some(arc) => return Some(arc),
-        None => {}
-    }
     for kind in 0..18 {
-        let arc = arc_at(boundary, kind);
+        let arc = arc_of_kind(boundary, kind);
         if arc != exit {
             if left[arc] > 0 {
                 return Some(arc);
@@ -46,13 +24,13 @@ fn detour(left: &[u32; 288], exit: usize, boundary: u8, taken: usize) -> Option<
 }
 
 // The arc to take next from the boundary: its last exit only where no other is left.
-fn departure(left: &[u32; 288], exit: usize, boundary: u8, taken: usize) -> Option<usize>
+fn departure(left: &[u32; 288], exit: usize, boundary: u8) -> Option<usize>
     requires boundary { boundary < 16 }
     requires exit { exit < 288 }
     ensures found { IfSome result (IsDeparture (slice_index left.now) exit boundary) }
     ensures none { IfNone result (IsSpent (slice_index left.now) boundary) }
 {
-    match detour(left, exit, boundary, taken) {
+    match detour(left, exit, boundary) {
         Some(arc) => Some(arc),
         None => last_exit(left, exit, boundary),
     }
@@ -88,13 +66,11 @@ pub fn walk(
     let exits = exits_to(counts, root);
     let mut left = *counts;
     let mut steps = Vec::with_capacity(alloc, room)?;
-    let mut taken = [0; SLOTS];
     let mut at = 0;
     loop {
-        match departure(&left, exits.arcs[at as usize], at, taken[at as usize]) {
+        match departure(&left, exits.arcs[at as usize], at) {
             Some(arc) => {
                 steps.push(arc_step(arc))?;
-                taken[at as usize] = arc;
                 left[arc] -= 1;
                 at = ends(arc);
             }

@@ -1,7 +1,6 @@
 use Rattle.std.proofs.Common.{◌≡◌, ℕ, ◌≤◌, Result, Ok, Err, IfOk, subst, arith}
 use Rattle.pocsag_words.specs.declared.ending.End.{End}
 use Rattle.pocsag_slots.specs.declared.class.Classes.{Classes}
-use Rattle.pocsag_slots.specs.Loads.{limits_of_all}
 use Rattle.pocsag_tree.specs.declared.shape.Tree.{Tree}
 use Rattle.pocsag_tree.specs.Bounds.{Bound}
 use Rattle.pocsag_tree.specs.Views.{bound_of}

@@ -1,5 +1,5 @@
 use Rattle.std.proofs.Common.{◌+◌, slice_index}
-use Rattle.pocsag_branch.proofs.TreeEnds.{has_room, never_apart, never_unclosed}
+use Rattle.pocsag_branch.proofs.TreeEnds.{has_room, never_apart}
 use Rattle.pocsag_branch.proofs.ending.one_more.Goals as goal
 
 pub unreachable-requires : goal.unreachable-requires

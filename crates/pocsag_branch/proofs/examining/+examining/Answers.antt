@@ -1,4 +1,4 @@
-use Rattle.std.proofs.Common.{arith, ◌∙◌}
+use Rattle.std.proofs.Common.{◌∙◌}
 use Rattle.pocsag_slots.specs.declared.way.Way.TheVariants.{IdleIn}
 use Rattle.pocsag_branch.proofs.Joining.{close_made, cut_made, row_goes_on, split_made}
 use Rattle.pocsag_branch.proofs.examining.+examining.Goals as goal

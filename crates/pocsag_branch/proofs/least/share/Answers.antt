@@ -1,4 +1,4 @@
-use Rattle.std.proofs.Common.{◌≡◌, ℕ, ◌+◌, ◌/◌, ◌%◌, ◌<◌, min, ap, ◌∙◌, arith, subst, sym}
+use Rattle.std.proofs.Common.{◌≡◌, ℕ, ◌+◌, ◌/◌, ◌%◌, ◌<◌, min, ap, ◌∙◌, subst, sym}
 use Rattle.pocsag_slots.specs.declared.limit.Limits.{Limits}
 use Rattle.pocsag_slots.specs.Loads.{IsLeastLoad, limits_of_all}
 use Rattle.pocsag_slots.specs.Sums.{sum_over}

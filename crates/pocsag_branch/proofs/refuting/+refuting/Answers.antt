@@ -1,7 +1,5 @@
-use Rattle.std.proofs.Common.{arith, ◌∙◌, refl}
 use Rattle.pocsag_slots.specs.declared.way.Way.TheVariants.{IdleIn}
-use Rattle.pocsag_tree.specs.Views.{bound_of, bounds_of}
-use Rattle.pocsag_branch.proofs.FreeNodes.{close_freed, cut_freed, free_row_goes_on, freed_before, kept, kept_in_row, split_freed}
+use Rattle.pocsag_branch.proofs.FreeNodes.{free_row_goes_on}
 use Rattle.pocsag_branch.proofs.refuting.+refuting.Goals as goal
 
 pub refute_row-loop-way-preserved : goal.refute_row-loop-way-preserved

@@ -1,4 +1,4 @@
-use Rattle.std.proofs.Common.{ℕ, ◌+◌, ◌*◌, take}
+use Rattle.std.proofs.Common.{◌+◌, ◌*◌, take}
 use Rattle.pocsag_tree.specs.Views.{bounds_of}
 use Rattle.pocsag_branch.specs.Freed.{AreFreed}
 use Rattle.pocsag_branch.specs.Undecided.{undecided}

@@ -1,4 +1,4 @@
-use Rattle.std.proofs.Common.{◌≡◌, ◌+◌, ap, refl, sym, ◌∙◌, arith, inr, slice_index, replicate, false, true, Bool, List, ◌++◌}
+use Rattle.std.proofs.Common.{◌≡◌, ◌+◌, ap, refl, sym, ◌∙◌, arith, inr, slice_index, replicate, false, true, ◌++◌}
 use Rattle.std.proofs.lemmas.List.{append-nil}
 use Rattle.pocsag_tree.specs.Views.{bound_of}
 use Rattle.pocsag_branch.proofs.TreeEnds.{closed_is, has_room, least_bound, none_unseen, some_unseen, tree_bound, tree_open, tree_whole}

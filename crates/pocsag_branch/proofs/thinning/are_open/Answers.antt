@@ -1,4 +1,4 @@
-use Rattle.std.proofs.Common.{◌<◌, ◌≤◌, All, take, get_or, length, refl, subst, arith, List}
+use Rattle.std.proofs.Common.{◌≤◌, All, get_or, length, refl, subst, arith, List}
 use Rattle.std.proofs.lemmas.List.{take_all}
 use Rattle.std.proofs.lemmas.List.Elements.{All-more}
 use Rattle.pocsag_slots.specs.declared.way.Way.{Way}

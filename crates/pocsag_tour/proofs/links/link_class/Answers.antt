@@ -5,8 +5,8 @@ use Rattle.pocsag_tour.proofs.links.link_class.Goals as goal
 more : (c : goal.After-link-2) → AreLinks c.args.classes.now (slice_index c.args.choice.now.early) c.args.batches c.link-2.new.links (c.args.class + 1)
 more c =
     runs_more c.args.classes.now (slice_index c.args.choice.now.early) c.args.batches
-    c.args.links.now c.link.new.links c.link-2.new.links c.args.class c.runs_of-early.result c.runs_of-late.result
-    c.requires.class c.runs_of-early.ensures c.runs_of-late.ensures c.link-2.array_long
+    c.args.links.now c.link.new.links c.link-2.new.links c.args.class c.run_count-early.result c.run_count-late.result
+    c.requires.class c.run_count-early.ensures c.run_count-late.ensures c.link-2.array_long
     (link_at _ _ _ _ _ _ _ c.start.ensures.value c.finish.ensures.value c.link.ensures)
     (link_at _ _ _ _ _ _ _ c.start-2.ensures.value c.finish-2.ensures.value c.link-2.ensures)
     (record { long = c.told-links; linked = c.requires.linked; runs = c.requires.runs })

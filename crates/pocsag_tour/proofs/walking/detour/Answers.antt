@@ -5,9 +5,9 @@ use Rattle.pocsag_tour.proofs.walking.detour.Goals as goal
 
 pub returns-then-left-arc-gt0-clause-found : goal.returns-then-left-arc-gt0-clause-found
 returns-then-left-arc-gt0-clause-found c = (
-  c.arc_at-arc.ensures.below,
+  c.arc_of_kind-arc.ensures.below,
   c.if-left-arc-gt0.true,
-  ap arc_from c.arc_at-arc.ensures.value ∙ from_arc_at c.args.boundary c.loop-kind.kind c.requires c.loop-kind-test.true,
+  ap arc_from c.arc_of_kind-arc.ensures.value ∙ from_arc_at c.args.boundary c.loop-kind.kind c.requires c.loop-kind-test.true,
   c.if-arc-exit.true,
 )
 
