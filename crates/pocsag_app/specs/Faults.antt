@@ -3,7 +3,6 @@ use Rattle.std.specs.Prelude.{◌≡◌, ◌⊎◌, ℕ, Result, Ok, Err}
 use Rattle.pocsag_pages.specs.declared.fault.RoundFault.TheVariants as round
 use Rattle.pocsag_pages.specs.declared.fault.WholeFault.{WholeFault}
 use Rattle.pocsag_pages.specs.declared.fault.WholeFault.TheVariants as whole
-use Rattle.pocsag_tree.specs.declared.refusals.CertificateFault.{CertificateFault}
 use Rattle.pocsag_tree.specs.declared.refusals.CertificateFault.TheVariants as certificate
 use Rattle.pocsag_decode.specs.declared.fault.DecodeFault.TheVariants as decoding
 use Rattle.pocsag_decode.specs.declared.fault.ListFault.{ListFault}
@@ -25,6 +24,8 @@ status_of (fault.Round round.ReadFault) = 3
 status_of (fault.Round round.OutOfMemory) = 3
 status_of (fault.Transmission decoding.OutOfMemory) = 3
 status_of (fault.Pager hearing.OutOfMemory) = 3
+status_of (fault.Certificate certificate.ReadFault) = 3
+status_of (fault.Certificate certificate.OutOfMemory) = 3
 status_of _ = 1
 
 -- The exit status of a command that did what it was asked, or met a fault.
@@ -47,18 +48,6 @@ fault_of_whole whole.OutOfMemory = fault.OutOfMemory
 abbrev pub fault_of_list : ListFault → Fault
 fault_of_list listing.WriteFault = fault.Write
 fault_of_list listing.OutOfMemory = fault.OutOfMemory
-
-abbrev pub fault_of_certificate : CertificateFault → Fault
-fault_of_certificate certificate.NotCertificate = fault.NotCertificate
-fault_of_certificate certificate.Version = fault.CertificateVersion
-fault_of_certificate certificate.Truncated = fault.CertificateTruncated
-fault_of_certificate certificate.Trailing = fault.CertificateTrailing
-fault_of_certificate certificate.BadTag = fault.CertificateMalformed
-fault_of_certificate certificate.BadField = fault.CertificateMalformed
-fault_of_certificate certificate.TooDeep = fault.CertificateTooDeep
-fault_of_certificate certificate.TooMany = fault.CertificateTooMany
-fault_of_certificate certificate.ReadFault = fault.Device
-fault_of_certificate certificate.OutOfMemory = fault.OutOfMemory
 
 abbrev pub fault_of_plan : PlanFault → Fault
 fault_of_plan planning.BadLimit = fault.BadLimit

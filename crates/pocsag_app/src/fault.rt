@@ -6,6 +6,8 @@ use pocsag_pager::PagerFault;
 use pocsag_pages::{RoundFault, WholeFault};
 use pocsag_plan::{BadRate, PlanFault, StreamFault};
 use pocsag_tree::CertificateFault;
+use pocsag_words::OutOfMemory;
+use std::alloc::{AllocError, AllocFailed};
 use thiserror::Error;
 
 /// Why a command did not do what it was asked.
@@ -36,20 +38,9 @@ pub enum Fault {
     /// The pager shows nothing of these bytes.
     #[error("{0}")]
     Pager(PagerFault),
-    #[error("not a certificate")]
-    NotCertificate,
-    #[error("unknown certificate version")]
-    CertificateVersion,
-    #[error("the certificate is cut short")]
-    CertificateTruncated,
-    #[error("bytes after the certificate")]
-    CertificateTrailing,
-    #[error("the certificate is malformed")]
-    CertificateMalformed,
-    #[error("the certificate is too deep")]
-    CertificateTooDeep,
-    #[error("the certificate has too many nodes")]
-    CertificateTooMany,
+    /// The bytes are no certificate.
+    #[error("{0}")]
+    Certificate(CertificateFault),
     /// What was read back from the transmission's file is not what was planned.
     #[error("the transmission does not hold the pages of the page file")]
     NotThePages,
@@ -71,8 +62,33 @@ impl Fault {
             Fault::Round(RoundFault::ReadFault | RoundFault::OutOfMemory) => 3,
             Fault::Transmission(DecodeFault::OutOfMemory) => 3,
             Fault::Pager(PagerFault::OutOfMemory) => 3,
+            Fault::Certificate(CertificateFault::ReadFault | CertificateFault::OutOfMemory) => 3,
             _ => 1,
         }
+    }
+}
+
+impl From<OutOfMemory> for Fault {
+    ghost from_gives = { λ _ e. e ≡ fault.OutOfMemory };
+
+    fn from(_refused: OutOfMemory) -> Fault {
+        Fault::OutOfMemory
+    }
+}
+
+impl From<AllocError> for Fault {
+    ghost from_gives = { λ _ e. e ≡ fault.OutOfMemory };
+
+    fn from(_refused: AllocError) -> Fault {
+        Fault::OutOfMemory
+    }
+}
+
+impl<T: Drop> From<AllocFailed<T>> for Fault {
+    ghost from_gives = { λ _ e. e ≡ fault.OutOfMemory };
+
+    fn from(_refused: AllocFailed<T>) -> Fault {
+        Fault::OutOfMemory
     }
 }
 
@@ -136,22 +152,10 @@ impl From<ListFault> for Fault {
 }
 
 impl From<CertificateFault> for Fault {
-    ghost use Rattle.pocsag_app.specs.Faults.{fault_of_certificate};
-
-    ghost from_gives = { λ refused e. e ≡ fault_of_certificate refused };
+    ghost from_gives = { λ refused e. e ≡ fault.Certificate refused };
 
     fn from(refused: CertificateFault) -> Fault {
-        match refused {
-            CertificateFault::NotCertificate => Fault::NotCertificate,
-            CertificateFault::Version => Fault::CertificateVersion,
-            CertificateFault::Truncated => Fault::CertificateTruncated,
-            CertificateFault::Trailing => Fault::CertificateTrailing,
-            CertificateFault::BadTag | CertificateFault::BadField => Fault::CertificateMalformed,
-            CertificateFault::TooDeep => Fault::CertificateTooDeep,
-            CertificateFault::TooMany => Fault::CertificateTooMany,
-            CertificateFault::ReadFault => Fault::Device,
-            CertificateFault::OutOfMemory => Fault::OutOfMemory,
-        }
+        Fault::Certificate(refused)
     }
 }
 

@@ -33,15 +33,12 @@ pub struct Lines {
 
 impl Lines {
     pub fn new(alloc: Global) -> Result<Lines, Fault> {
-        match Vec::with_capacity(alloc, LINE_LIMIT) {
-            Ok(line) => Ok(Lines {
-                line,
-                piece: [0; PIECE],
-                start: 0,
-                end: 0,
-            }),
-            Err(_) => Err(Fault::OutOfMemory),
-        }
+        Ok(Lines {
+            line: Vec::with_capacity(alloc, LINE_LIMIT)?,
+            piece: [0; PIECE],
+            start: 0,
+            end: 0,
+        })
     }
 
     /// The line that is kept.
@@ -93,9 +90,7 @@ impl Lines {
         if self.line.len() >= LINE_LIMIT {
             return Ok(Found::TooLong);
         }
-        match self.line.push(byte) {
-            Ok(()) => Ok(Found::Kept),
-            Err(_) => Err(Fault::OutOfMemory),
-        }
+        self.line.push(byte)?;
+        Ok(Found::Kept)
     }
 }

@@ -44,10 +44,7 @@ fn words_of(rt: &HostRuntime, alloc: Global) -> Result<Vec<String>, Fault> {
         Err(error) if error.kind() == IoErrorKind::OutOfMemory => return Err(Fault::OutOfMemory),
         Err(_) => return Err(Fault::Device),
     };
-    match args.collect(alloc) {
-        Ok(words) => Ok(words),
-        Err(_) => Err(Fault::OutOfMemory),
-    }
+    Ok(args.collect(alloc)?)
 }
 
 fn run(rt: &HostRuntime) -> u8 {

@@ -12,7 +12,7 @@ use crate::paths::equal_paths;
 use crate::tell::{ended, tell};
 use pocsag_decode::{ListFault, list};
 use pocsag_pages::{FieldFault, page_of_fields, read_round};
-use pocsag_plan::{AddFault, Book, NotThere};
+use pocsag_plan::{AddFault, Book, NotThere, Refused};
 use pocsag_words::{End, Sink, Source};
 use std::alloc::Global;
 use std::rt::Files;
@@ -34,6 +34,24 @@ pub enum Refusal {
     /// What was asked could not be done.
     #[error("{0}")]
     Undone(Fault),
+}
+
+impl From<FieldFault> for Refusal {
+    fn from(fault: FieldFault) -> Refusal {
+        Refusal::Field(fault)
+    }
+}
+
+impl From<Refused> for Refusal {
+    fn from(refused: Refused) -> Refusal {
+        Refusal::Add(refused.fault)
+    }
+}
+
+impl From<NotThere> for Refusal {
+    fn from(not_there: NotThere) -> Refusal {
+        Refusal::Cancel(not_there)
+    }
 }
 
 /// How the plans of an open round are made.
@@ -86,10 +104,7 @@ pub fn run_open_pages<R: Files, P: Source, I: Source, O: Sink, E: Sink>(
 // A book of the pages of a page file.
 fn book_of<P: Source>(alloc: Global, pages: &mut P) -> Result<Book, Fault> {
     let round = read_round(alloc, pages)?;
-    match Book::of_round(alloc, &round) {
-        Ok(book) => Ok(book),
-        Err(_) => Err(Fault::OutOfMemory),
-    }
+    Ok(Book::of_round(alloc, &round)?)
 }
 
 fn answer_lines<R: Files, I: Source, O: Sink>(
@@ -182,13 +197,9 @@ fn add_fields(
 ) -> Result<(), Refusal>
     ensures { OnErr result (book.new ≡ book.old) }
 {
-    match page_of_fields(alloc, address, kind, message) {
-        Ok(page) => match book.add(page) {
-            Ok(()) => Ok(()),
-            Err(refused) => Err(Refusal::Add(refused.fault)),
-        },
-        Err(fault) => Err(Refusal::Field(fault)),
-    }
+    let page = page_of_fields(alloc, address, kind, message)?;
+    book.add(page)?;
+    Ok(())
 }
 
 // What spells no address is that of no page. A page of an address codeword alone takes no memory.
@@ -198,10 +209,8 @@ fn cancel_field(alloc: Global, book: &mut Book, address: &[u8]) -> Result<(), Re
     let Ok(page) = page_of_fields(alloc, address, b"tone0", b"") else {
         return Err(Refusal::Cancel(NotThere));
     };
-    match book.cancel(page.address) {
-        Ok(_) => Ok(()),
-        Err(not_there) => Err(Refusal::Cancel(not_there)),
-    }
+    let _page = book.cancel(page.address)?;
+    Ok(())
 }
 
 // The batches of a plan, and the bound that its certificate shows.

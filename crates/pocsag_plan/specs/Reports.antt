@@ -1,6 +1,7 @@
 -- What a report tells of a plan at a rate, and its text (this project's own).
 use Rattle.std.specs.Prelude.{◌≡◌, ◌⊎◌, ℕ, ◌+◌, ◌*◌, ◌<◌, ◌≤◌, List, [], ◌∷◌, ◌++◌, codes}
 use Rattle.std.specs.Fmt.{decimal}
+use Rattle.pocsag_pages.specs.Bytes.{transmission_bits}
 use Rattle.pocsag_plan.specs.declared.airtime.Report.{Report}
 use Rattle.pocsag_plan.specs.declared.answer.Plan.{Plan}
 
@@ -8,15 +9,15 @@ use Rattle.pocsag_plan.specs.declared.answer.Plan.{Plan}
 abbrev pub IsRate : ℕ → Type 0
 IsRate rate = (rate ≡ 512) ⊎ (rate ≡ 1200) ⊎ (rate ≡ 2400)
 
--- The counts of the plan; the idles fill its batches; a preamble has 576 bits and a batch 544 (rules of
--- Annex 1); and the airtime is the least whole number of milliseconds in which so many bits are sent.
+-- The counts of the plan; the idles fill its batches; the bits are those of a transmission of so many batches; and the
+-- airtime is the least whole number of milliseconds in which so many bits are sent.
 pub record IsReport (plan : Plan) (rate : ℕ) (report : Report) : Type 0 where
   pub pages : report.pages ≡ plan.pages
   pub codewords : report.codewords ≡ plan.codewords
   pub in_order : report.in_order ≡ plan.in_order
   pub batches : report.batches ≡ plan.batches
   pub idles : report.idles + plan.codewords ≡ 16 * plan.batches
-  pub bits : report.bits ≡ 576 + 544 * plan.batches
+  pub bits : report.bits ≡ transmission_bits plan.batches
   pub enough : 1000 * report.bits ≤ rate * report.airtime_ms
   pub least : rate * report.airtime_ms < 1000 * report.bits + rate
 

@@ -1,6 +1,6 @@
 -- What `plan_stream` leaves of its writers.
-use Rattle.std.specs.Prelude.{◌≡◌, ◌⊎◌, ℕ, List, ◌++◌, Ok, Err, IsOk}
-use Rattle.pocsag_words.specs.Devices.{TookPrefix}
+use Rattle.std.specs.Prelude.{◌≡◌, ◌⊎◌, ℕ, List, ◌++◌, Result, Ok, Err, IsOk, IfErr, OnOk}
+use Rattle.pocsag_words.specs.Devices.{HasFailed, TookPrefix}
 use Rattle.pocsag_words.specs.declared.ending.End.{End}
 use Rattle.pocsag_pages.specs.PageFile.{verdict}
 use Rattle.pocsag_pages.specs.declared.fault.RoundFault.TheVariants as round
@@ -98,3 +98,16 @@ IsCertificate (fault.SearchLimit least found tree) = ⊥
 IsCertificate fault.OutOfMemory = ⊥
 IsCertificate (fault.Transmission f) = ⊥
 IsCertificate (fault.Certificate f) = Unit {0}
+
+-- The two writers take turns, whatever a stream answers. The two functions are how often each writer failed.
+pub record WritesInTurn {T C X : Type 0} (failures : T → ℕ) (certificate_failures : C → ℕ) (tx tx_after : T) (cert cert_after : C) (result : Result X StreamFault) : Type 0 where
+  -- What comes before the first write leaves both as they were;
+  pub untouched : IfErr result (λ e. IsBeforeWriting e → (tx_after ≡ tx) × (cert_after ≡ cert))
+  -- the second is as it was unless the first took all;
+  pub not_begun : IfErr result (λ e. IsTransmission e → cert_after ≡ cert)
+  -- the fault of a writer is answered only where that writer failed;
+  pub write_failed : IfErr result (λ e. IsTransmission e → HasFailed (failures tx) (failures tx_after))
+  pub certificate_failed : IfErr result (λ e. IsCertificate e → HasFailed (certificate_failures cert) (certificate_failures cert_after))
+  -- and no other failed.
+  pub write_succeeded : IfErr result (λ e. IsCertificate e → failures tx_after ≡ failures tx)
+  pub succeeded : OnOk result ((failures tx_after ≡ failures tx) × (certificate_failures cert_after ≡ certificate_failures cert))

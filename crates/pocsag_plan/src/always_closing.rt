@@ -1,6 +1,5 @@
 //! The round that an open round is sent as, where no round is refused.
 ghost use Rattle.std.specs.Prelude.{◌≡◌, ◌≤◌, ◌↔◌, ℕ, List, [], Ok, IfErr, IfOk, IsErrOf, OnOk};
-ghost use Rattle.pocsag_words.specs.Devices.{HasFailed};
 ghost use Rattle.pocsag_pages.specs.PageFile.{verdict};
 ghost use Rattle.pocsag_pages.specs.Pages.{IsRound};
 ghost use Rattle.pocsag_tree.specs.Bounds.{closed_nodes};
@@ -9,7 +8,7 @@ ghost use Rattle.pocsag_branch.specs.Found.{IsNodeLimit};
 ghost use Rattle.pocsag_plan.specs.BookPlans.{ExplainsBookAlways, ExplainsBookStreamAlways};
 ghost use Rattle.pocsag_plan.specs.BoundedStreams.{WritesBounded, WritesBoundedCertificatePart, WritesBoundedPart};
 ghost use Rattle.pocsag_plan.specs.Plans.{IsBounded, IsPlan};
-ghost use Rattle.pocsag_plan.specs.Streams.{IsBeforeWriting, IsCertificate, IsSearchLimit, IsTransmission, Writes};
+ghost use Rattle.pocsag_plan.specs.Streams.{IsCertificate, IsSearchLimit, IsTransmission, Writes, WritesInTurn};
 
 use crate::always::bounded_counted;
 use crate::book::Book;
@@ -82,18 +81,11 @@ impl Book {
         ensures explained { IfErr result (ExplainsBookStreamAlways self.now limit) }
         ensures answered { IfErr result (λ e. ¬ IsSearchLimit e) }
         ensures bad_limit { IsErrOf result StreamFault.BadLimit ↔ (¬ IsNodeLimit limit) }
-        ensures untouched { IfErr result (λ e. IsBeforeWriting e → (tx.new ≡ tx.old) × (cert.new ≡ cert.old)) }
-        ensures not_begun { IfErr result (λ e. IsTransmission e → cert.new ≡ cert.old) }
+        ensures writers { WritesInTurn T.failures C.failures tx.old tx.new cert.old cert.new result }
         ensures part { T.tells → IfErr result (λ e. IsTransmission e → (file : List ℕ) → verdict file ≡ Ok self.now →
             WritesBoundedPart file end (T.taken tx.old) (T.taken tx.new)) }
         ensures certificate_part { T.tells → C.tells → IfErr result (λ e. IsCertificate e → (file : List ℕ) → verdict file ≡ Ok self.now →
             WritesBoundedCertificatePart file end (T.taken tx.old) (T.taken tx.new) (C.taken cert.old) (C.taken cert.new)) }
-
-        // A device's fault is answered only where that device failed.
-        ensures write_failed { IfErr result (λ e. IsTransmission e → HasFailed (T.failures tx.old) (T.failures tx.new)) }
-        ensures certificate_failed { IfErr result (λ e. IsCertificate e → HasFailed (C.failures cert.old) (C.failures cert.new)) }
-        ensures write_succeeded { IfErr result (λ e. IsCertificate e → T.failures tx.new ≡ T.failures tx.old) }
-        ensures succeeded { OnOk result ((T.failures tx.new ≡ T.failures tx.old) × (C.failures cert.new ≡ C.failures cert.old)) }
     {
         let (round, bounded) = self.bounded(limit, end)?;
         send(&round, &bounded.plan, bounded.bound, end, tx, cert)?;

@@ -1,15 +1,13 @@
 //! The round that an open round is sent as.
 ghost use Rattle.std.specs.Prelude.{◌≡◌, ◌<◌, ◌≤◌, ◌↔◌, ℕ, List, [], Ok, length, IfErr, IfOk, IsErrOf, OnOk};
-ghost use Rattle.pocsag_words.specs.Devices.{HasFailed};
 ghost use Rattle.pocsag_pages.specs.PageFile.{verdict};
 ghost use Rattle.pocsag_pages.specs.Pages.{IsRound};
-ghost use Rattle.pocsag_pages.specs.declared.fault.RoundFault.TheVariants as round_fault;
 ghost use Rattle.pocsag_tree.specs.Bounds.{closed_nodes};
 ghost use Rattle.pocsag_tree.specs.Views.{bound_of};
 ghost use Rattle.pocsag_branch.specs.Found.{IsNodeLimit};
 ghost use Rattle.pocsag_plan.specs.BookPlans.{ExplainsBook, ExplainsBookStream};
 ghost use Rattle.pocsag_plan.specs.Plans.{IsPlan};
-ghost use Rattle.pocsag_plan.specs.Streams.{IsBeforeWriting, IsCertificate, IsTransmission, Writes, WritesCertificatePart, WritesPart};
+ghost use Rattle.pocsag_plan.specs.Streams.{IsCertificate, IsTransmission, Writes, WritesCertificatePart, WritesInTurn, WritesPart};
 ghost use Rattle.pocsag_plan.specs.declared.fault.StreamFault.TheVariants as fault;
 
 use crate::answer::Plan;
@@ -31,9 +29,7 @@ impl Book {
     {
         let mut copies = Vec::new(alloc);
         for page in self.pages() {
-            let Ok(()) = copies.push(page.copy(alloc)?) else {
-                return Err(OutOfMemory);
-            };
+            copies.push(page.copy(alloc)?)?;
         }
         Ok(Round::of(copies))
     }
@@ -92,18 +88,11 @@ impl Book {
         // When each fault comes, and what it leaves.
         ensures explained { IfErr result (ExplainsBookStream end self.now limit) }
         ensures bad_limit { IsErrOf result StreamFault.BadLimit ↔ (¬ IsNodeLimit limit) }
-        ensures untouched { IfErr result (λ e. IsBeforeWriting e → (tx.new ≡ tx.old) × (cert.new ≡ cert.old)) }
-        ensures not_begun { IfErr result (λ e. IsTransmission e → cert.new ≡ cert.old) }
+        ensures writers { WritesInTurn T.failures C.failures tx.old tx.new cert.old cert.new result }
         ensures part { T.tells → IfErr result (λ e. IsTransmission e → (file : List ℕ) → verdict file ≡ Ok self.now →
             WritesPart file end (T.taken tx.old) (T.taken tx.new)) }
         ensures certificate_part { T.tells → C.tells → IfErr result (λ e. IsCertificate e → (file : List ℕ) → verdict file ≡ Ok self.now →
             WritesCertificatePart file end (T.taken tx.old) (T.taken tx.new) (C.taken cert.old) (C.taken cert.new)) }
-
-        // A device's fault is answered only where that device failed.
-        ensures write_failed { IfErr result (λ e. IsTransmission e → HasFailed (T.failures tx.old) (T.failures tx.new)) }
-        ensures certificate_failed { IfErr result (λ e. IsCertificate e → HasFailed (C.failures cert.old) (C.failures cert.new)) }
-        ensures write_succeeded { IfErr result (λ e. IsCertificate e → T.failures tx.new ≡ T.failures tx.old) }
-        ensures succeeded { OnOk result ((T.failures tx.new ≡ T.failures tx.old) × (C.failures cert.new ≡ C.failures cert.old)) }
     {
         let (round, plan) = self.planned(limit, end)?;
         send(&round, &plan, plan.batches, end, tx, cert)?;

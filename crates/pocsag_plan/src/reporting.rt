@@ -5,12 +5,8 @@ ghost use Rattle.pocsag_plan.specs.Reports.{IsRate, IsReport, first_lines, last_
 use crate::airtime::Report;
 use crate::answer::Plan;
 use crate::fault::BadRate;
+use pocsag_pages::{BATCH_BITS, PREAMBLE_BITS};
 use std::fmt::{self, Display, Formatter};
-
-// The bits of a preamble, and of a batch with its synchronisation codeword.
-const PREAMBLE_BITS: u64 = 576;
-
-const BATCH_BITS: u64 = 544;
 
 /// What the plan takes on the air at a rate of 512, 1200 or 2400 bits a second.
 pub fn report(plan: &Plan, rate: u32) -> Result<Report, BadRate>

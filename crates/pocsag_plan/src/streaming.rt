@@ -7,7 +7,7 @@ ghost use Rattle.pocsag_tree.specs.Views.{bound_of};
 ghost use Rattle.pocsag_branch.specs.Found.{IsNodeLimit};
 ghost use Rattle.pocsag_plan.specs.BoundedStreams.{WritesBounded, WritesBoundedCertificatePart, WritesBoundedPart};
 ghost use Rattle.pocsag_plan.specs.Plans.{IsBounded};
-ghost use Rattle.pocsag_plan.specs.Streams.{ExplainsStream, IsBeforeWriting, IsCertificate, IsPlanOf, IsTransmission, Writes, WritesCertificatePart, WritesPart};
+ghost use Rattle.pocsag_plan.specs.Streams.{ExplainsStream, IsCertificate, IsPlanOf, IsTransmission, Writes, WritesCertificatePart, WritesInTurn, WritesPart};
 ghost use Rattle.pocsag_plan.specs.declared.fault.StreamFault.TheVariants as fault;
 ghost use Rattle.pocsag_plan.specs.declared.streaming.Unsent.TheVariants as unsent;
 
@@ -42,19 +42,15 @@ pub fn plan_stream<S: Source, T: Sink, C: Sink>(
     ensures explained { S.tells → IfErr result (ExplainsStream (S.held source.old) end limit) }
     ensures bad_limit { IsErrOf result StreamFault.BadLimit ↔ (¬ IsNodeLimit limit) }
     ensures unread { IsErrOf result StreamFault.BadLimit → source.new ≡ source.old }
-    ensures untouched { IfErr result (λ e. IsBeforeWriting e → (tx.new ≡ tx.old) × (cert.new ≡ cert.old)) }
-    ensures not_begun { IfErr result (λ e. IsTransmission e → cert.new ≡ cert.old) }
+    ensures writers { WritesInTurn T.failures C.failures tx.old tx.new cert.old cert.new result }
     ensures part { S.tells → T.tells → IfErr result (λ e. IsTransmission e →
         WritesPart (S.held source.old) end (T.taken tx.old) (T.taken tx.new)) }
     ensures certificate_part { S.tells → T.tells → C.tells → IfErr result (λ e. IsCertificate e →
         WritesCertificatePart (S.held source.old) end (T.taken tx.old) (T.taken tx.new) (C.taken cert.old) (C.taken cert.new)) }
 
-    // A device's fault is answered only where that device failed.
+    // The reader's fault is answered only where it failed.
     ensures read_failed { IsErrOf result (fault.Round round_fault.ReadFault) → HasFailed (S.failures source.old) (S.failures source.new) }
-    ensures write_failed { IfErr result (λ e. IsTransmission e → HasFailed (T.failures tx.old) (T.failures tx.new)) }
-    ensures certificate_failed { IfErr result (λ e. IsCertificate e → HasFailed (C.failures cert.old) (C.failures cert.new)) }
-    ensures write_succeeded { IfErr result (λ e. IsCertificate e → T.failures tx.new ≡ T.failures tx.old) }
-    ensures succeeded { OnOk result ((S.failures source.new ≡ S.failures source.old) × (T.failures tx.new ≡ T.failures tx.old) × (C.failures cert.new ≡ C.failures cert.old)) }
+    ensures read_succeeded { OnOk result (S.failures source.new ≡ S.failures source.old) }
 {
     if !is_node_limit(limit) {
         return Err(StreamFault::BadLimit);
