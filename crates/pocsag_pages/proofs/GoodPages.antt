@@ -47,8 +47,12 @@ good_page p e =
     let a = none_from_cond _ _ _ e in
     let r = none_from_cond _ _ _ a.1 in
     let b = none_from_cond _ _ _ r.1 in
-    let f = or_parts (nat_lt 3 p.function || ((nat_eq p.function 1 || nat_eq p.function 2) && not (nat_eq (length p.payload) 0)) || nat_lt item_limit (length p.payload)) (list_any (nat_le (2 ^ 20)) p.payload) b.0 in
-    let g = or_parts (nat_lt 3 p.function || ((nat_eq p.function 1 || nat_eq p.function 2) && not (nat_eq (length p.payload) 0))) (nat_lt item_limit (length p.payload)) f.0 in
+    let f =
+    or_parts (nat_lt 3 p.function || ((nat_eq p.function 1 || nat_eq p.function 2) && not (nat_eq (length p.payload) 0))
+    || nat_lt item_limit (length p.payload)) (list_any (nat_le (2 ^ 20)) p.payload) b.0 in
+    let g =
+    or_parts (nat_lt 3 p.function || ((nat_eq p.function 1 || nat_eq p.function 2) && not (nat_eq (length p.payload) 0)))
+    (nat_lt item_limit (length p.payload)) f.0 in
     let h = or_parts (nat_lt 3 p.function) ((nat_eq p.function 1 || nat_eq p.function 2) && not (nat_eq (length p.payload) 0)) g.0 in
     record {
       address = below_next last_address p.address (not_above last_address p.address a.0);

@@ -40,8 +40,10 @@ one_page n ps (Err e) f = absurd (cc)
 -- a record more, by the fault that it has
 one_more : (before rows : List Row) (r : Row) (o : Option RecordFault) → fault_of_row before r ≡ o
     → length (pages_of before) ≡ length before
-    → ((longer : List Row) → length (pages_of longer) ≡ length longer → pages_unless (first_fault longer rows) (longer ++ rows) ≡ grown (pages_of longer) (length longer) rows)
-    → pages_unless (first_fault before (r ∷ rows)) (before ++ r ∷ rows) ≡ or_later o (length before) (grown (pages_of before ++ pages_of (r ∷ [])) (length before + 1) rows)
+    → ((longer : List Row) → length (pages_of longer) ≡ length longer →
+    pages_unless (first_fault longer rows) (longer ++ rows) ≡ grown (pages_of longer) (length longer) rows)
+    → pages_unless (first_fault before (r ∷ rows)) (before ++ r ∷ rows)
+    ≡ or_later o (length before) (grown (pages_of before ++ pages_of (r ∷ [])) (length before + 1) rows)
 unfolding first_fault fault_of_row pages_of
 one_more before rows r (Some e) f even later = rw f refl
 one_more before rows r None f even later =
@@ -49,10 +51,13 @@ one_more before rows r None f even later =
     let pages : pages_of longer ≡ pages_of before ++ pages_of (r ∷ []) = pages_append before (r ∷ []) in
     let more : length longer ≡ length before + 1 = length-append before (r ∷ []) in
     let one : length (pages_of (r ∷ [])) ≡ 1 = one_page (length before) (pages_of before) (page_of r) f in
-    let even_on : length (pages_of longer) ≡ length longer = rw (pages, more, length-append (pages_of before) (pages_of (r ∷ []))) (omega arith) in
+    let even_on : length (pages_of longer) ≡ length longer =
+    rw (pages, more, length-append (pages_of before) (pages_of (r ∷ []))) (omega arith) in
     rw f (rw (append_snoc before r rows, pages, more) at (later longer even_on))
 
-grown_is : (before rows : List Row) → length (pages_of before) ≡ length before → pages_unless (first_fault before rows) (before ++ rows) ≡ grown (pages_of before) (length before) rows
+grown_is :
+    (before rows : List Row) → length (pages_of before) ≡ length before →
+    pages_unless (first_fault before rows) (before ++ rows) ≡ grown (pages_of before) (length before) rows
 unfolding first_fault grown fault_of_row
 grown_is before [] even = rw (append-nil before) refl
 grown_is before (r ∷ rows) even = one_more before rows r _ refl even (λ longer e. grown_is longer rows e)
@@ -68,11 +73,15 @@ module _ (ps : List Page) (n : ℕ) where
   unfolding grown
   grown_end = refl
 
-  pub grown_fault : (r : Row) (rows : List Row) (e : RecordFault) → fault_after n ps (page_of r) ≡ Some e → grown ps n (r ∷ rows) ≡ Err (numbered (n + 1) e)
+  pub grown_fault :
+      (r : Row) (rows : List Row) (e : RecordFault) → fault_after n ps (page_of r) ≡ Some e →
+      grown ps n (r ∷ rows) ≡ Err (numbered (n + 1) e)
   unfolding grown
   grown_fault r rows e f = rw f refl
 
-  pub grown_on : (r : Row) (rows : List Row) → fault_after n ps (page_of r) ≡ None → grown ps n (r ∷ rows) ≡ grown (ps ++ pages_of (r ∷ [])) (n + 1) rows
+  pub grown_on :
+      (r : Row) (rows : List Row) → fault_after n ps (page_of r) ≡ None →
+      grown ps n (r ∷ rows) ≡ grown (ps ++ pages_of (r ∷ [])) (n + 1) rows
   unfolding grown
   grown_on r rows f = rw f refl
 
@@ -104,7 +113,9 @@ not_empty : (ps : List Page) → unless_empty ps ≡ Err fault.ReadFault → ⊥
 not_empty [] h = cc
 not_empty (p ∷ ps) h = cc
 
-not_later : (o : Option RecordFault) (n : ℕ) (later : Result (List Page) RoundFault) → (later ≡ Err fault.ReadFault → ⊥) → or_later o n later ≡ Err fault.ReadFault → ⊥
+not_later :
+    (o : Option RecordFault) (n : ℕ) (later : Result (List Page) RoundFault) → (later ≡ Err fault.ReadFault → ⊥) →
+    or_later o n later ≡ Err fault.ReadFault → ⊥
 not_later None n later not h = not h
 not_later (Some e) n later not h = not_numbered (n + 1) e cc
 

@@ -47,7 +47,9 @@ module _ (ps : List Page) (i : ℕ) (p : Page) (within : i < length ps) (here : 
   unfolding fault_of_next
   broken f e = rw (e, so_far) refl
 
-  pub again : page_fault_of p ≡ None → has_address (take i ps) p.address ≡ true → fault_of_next (take i ps) p ≡ Some (fault.DuplicateAddress (i + 1))
+  pub again :
+      page_fault_of p ≡ None → has_address (take i ps) p.address ≡ true →
+      fault_of_next (take i ps) p ≡ Some (fault.DuplicateAddress (i + 1))
   unfolding fault_of_next
   again e h = rw (e, so_far, h) refl
 

@@ -24,6 +24,10 @@ class_load k slot c early =
 unfoldable pub load : Classes → (ℕ → ℕ) → ℕ → ℕ
 load k choice slot = sum_below class_count (λ c. class_load k slot c (choice c))
 
+-- The most that a slot is loaded: 88 times by each of 20,000 pages.
+abbrev pub load_limit : ℕ
+load_limit = 1760000
+
 -- No more pages start early than there are.
 abbrev pub IsChoice : Classes → (ℕ → ℕ) → Type 0
 IsChoice k choice = (c : ℕ) → c < class_count → choice c ≤ slice_index k.count c

@@ -10,29 +10,36 @@ use Rattle.pocsag_pages.specs.Reading.{batch_length, page_length}
 abbrev pub slot_count : ℕ
 slot_count = batch_length
 
--- How many classes there are: for each of eight frames one for each rest of a length by sixteen, and
--- then one for an address codeword alone, which only the closed end has.
-abbrev pub bare_classes : ℕ
-bare_classes = 128
+-- How many classes there are: for each of eight frames one for each rest of a length, and then, from the
+-- first bare one on, one for an address codeword alone, which only the closed end has.
+abbrev pub first_bare : ℕ
+first_bare = 128
 
 abbrev pub class_count : ℕ
 class_count = 136
+
+-- The class and the slot with which a transmission with the closed end may end.
+abbrev pub last_class : ℕ
+last_class = 135
+
+abbrev pub last_slot : ℕ
+last_slot = 15
 
 -- The class of a page of this frame and length. With the closed end an address codeword alone, which
 -- may end a transmission, is in a class of its own.
 unfoldable pub class_of : End → ℕ → ℕ → ℕ
 class_of Open frame len = frame * slot_count + len % slot_count
-class_of Closed frame len = cond (len == 1) (bare_classes + frame) (frame * slot_count + len % slot_count)
+class_of Closed frame len = cond (len == 1) (first_bare + frame) (frame * slot_count + len % slot_count)
 
 abbrev pub class_of_page : End → Page → ℕ
 class_of_page end p = class_of end (p.address % 8) (page_length p)
 
 -- The frame of a class, and how many slots its runs cover beside their whole turns.
 unfoldable pub class_frame : ℕ → ℕ
-class_frame c = cond (nat_lt c bare_classes) (c / slot_count) (c - bare_classes)
+class_frame c = cond (nat_lt c first_bare) (c / slot_count) (c - first_bare)
 
 unfoldable pub class_rest : ℕ → ℕ
-class_rest c = cond (nat_lt c bare_classes) (c % slot_count) 1
+class_rest c = cond (nat_lt c first_bare) (c % slot_count) 1
 
 -- The boundary where a run of the class starts, early or late, and the one where it ends.
 unfoldable pub start_of : ℕ → Bool → ℕ

@@ -9,7 +9,7 @@ use Rattle.pocsag_slots.specs.declared.step.Step.{Step}
 use Rattle.pocsag_slots.specs.declared.step.Step.TheVariants.{Idle as Stay, Run}
 use Rattle.pocsag_slots.specs.Arcs.{runs}
 use Rattle.pocsag_slots.specs.Loads.{load, AreClassesOf}
-use Rattle.pocsag_slots.specs.Numbering.{class_count, slot_count, start_of, finish_of}
+use Rattle.pocsag_slots.specs.Numbering.{class_count, last_class, slot_count, start_of, finish_of}
 
 -- The arcs lead from boundary p to boundary q, each starting where the one before ended.
 abbrev pub Leads : ℕ → List Step → ℕ → Type 0
@@ -23,11 +23,11 @@ idles slot p [] = 0
 idles slot p (Stay ∷ ss) = cond (p == slot) 1 0 + idles slot ((p + 1) % slot_count) ss
 idles slot p (Run c e ∷ ss) = idles slot (finish_of c e) ss
 
--- The last arc is an idle or a late run of class 135, an address codeword alone in slot 15.
+-- The last arc is an idle or a late run of the last class, an address codeword alone in the last slot.
 abbrev pub LastIsWhole : List Step → Type 0
 LastIsWhole [] = ⊥
 LastIsWhole (Stay ∷ []) = Unit {0}
-LastIsWhole (Run c e ∷ []) = (c ≡ 135) × (e ≡ false)
+LastIsWhole (Run c e ∷ []) = (c ≡ last_class) × (e ≡ false)
 LastIsWhole (s ∷ t ∷ ss) = LastIsWhole (t ∷ ss)
 
 abbrev pub LastAs : End → List Step → Type 0

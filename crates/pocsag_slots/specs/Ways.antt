@@ -4,7 +4,7 @@ use Rattle.pocsag_slots.specs.declared.class.Classes.{Classes}
 use Rattle.pocsag_slots.specs.declared.limit.Limits.{Limits}
 use Rattle.pocsag_slots.specs.declared.way.Way.{Way}
 use Rattle.pocsag_slots.specs.declared.way.Way.TheVariants.{IdleIn, Early, Late}
-use Rattle.pocsag_slots.specs.Numbering.{class_count, slot_count, start_of, finish_of}
+use Rattle.pocsag_slots.specs.Numbering.{class_count, last_class, last_slot, slot_count, start_of, finish_of}
 use Rattle.pocsag_slots.specs.Sums.{holds, joined_below}
 
 -- A run of the class has an end outside the set.
@@ -48,7 +48,7 @@ ways_across k l set = joined_below slot_count (slot_ways set) ++ joined_below cl
 -- The ways in which a transmission with the closed end may end: an idle in the last slot, or an
 -- address codeword alone there.
 unfoldable pub ways_to_close : Classes → Limits → List Way
-ways_to_close k l = IdleIn 15 ∷ cond (nat_lt (slice_index l.lo 135) (slice_index k.count 135)) (Late 135 ∷ []) []
+ways_to_close k l = IdleIn last_slot ∷ cond (nat_lt (slice_index l.lo last_class) (slice_index k.count last_class)) (Late last_class ∷ []) []
 
 -- The way is open under the limits.
 abbrev pub MayTake : Classes → Limits → Way → Type 0

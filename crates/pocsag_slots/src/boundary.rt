@@ -1,6 +1,8 @@
 ghost use Rattle.std.specs.Prelude.{◌≡◌, ◌<◌};
 ghost use Rattle.pocsag_slots.specs.Numbering.{class_frame, class_rest, finish_of, start_of};
 
+use crate::class::{FIRST_BARE, SLOT_COUNT};
+
 /// The frame of the class, 0 to 7.
 #[tactic(auto, unfolding(crate::specs::Numbering::class_frame))]
 pub fn frame(class: u8) -> u8
@@ -8,7 +10,7 @@ pub fn frame(class: u8) -> u8
     ensures value { result ≡ class_frame class }
     ensures below { result < 8 }
 {
-    if class < 128 { class / 16 } else { class - 128 }
+    if class < FIRST_BARE { class / SLOT_COUNT } else { class - FIRST_BARE }
 }
 
 /// How many slots a run of the class covers beside its whole turns, 0 to 15.
@@ -18,7 +20,7 @@ pub fn rest(class: u8) -> u8
     ensures value { result ≡ class_rest class }
     ensures below { result < 16 }
 {
-    if class < 128 { class % 16 } else { 1 }
+    if class < FIRST_BARE { class % SLOT_COUNT } else { 1 }
 }
 
 /// The boundary, and the slot, at which an early or a late run of the class starts.
@@ -42,5 +44,5 @@ pub fn finish(class: u8, early: bool) -> u8
     ensures value { result ≡ finish_of class early }
     ensures below { result < 16 }
 {
-    (start(class, early) + rest(class)) % 16
+    (start(class, early) + rest(class)) % SLOT_COUNT
 }

@@ -1,4 +1,5 @@
 ghost use Rattle.std.specs.Prelude.{◌≡◌, length};
+ghost use Rattle.pocsag_slots.specs.Numbering.{class_count};
 ghost use Rattle.pocsag_slots.specs.Tables.{AreTables};
 
 /// How many classes of pages there are.
@@ -6,6 +7,13 @@ pub const CLASSES: usize = 136;
 
 /// How many slots, and how many boundaries, a batch has.
 pub const SLOTS: usize = 16;
+
+// The same as the numbers that classes, slots and boundaries are.
+pub(crate) const CLASS_COUNT: u8 = CLASSES as u8;
+pub(crate) const SLOT_COUNT: u8 = SLOTS as u8;
+
+// The first class of an address codeword alone, in frame 0; only the closed end has them.
+pub(crate) const FIRST_BARE: u8 = 128;
 
 /// The pages of a round by classes: how many pages are in each class, and how many whole turns they
 /// take together.
@@ -20,5 +28,5 @@ pub struct Classes {
 #[derive(Clone, Copy, PartialEq, Eq, Debug)]
 pub struct Choice {
     pub early: [u32; CLASSES],
-    pub ghost long: { length early ≡ 136 },
+    pub ghost long: { length early ≡ class_count },
 }

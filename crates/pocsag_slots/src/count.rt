@@ -1,10 +1,11 @@
 ghost use Rattle.std.specs.Prelude.{◌≡◌, ℕ, ◌/◌, ◌<◌, ◌≤◌, length, slice_index};
 ghost use Rattle.pocsag_pages.specs.Reading.{page_length};
 ghost use Rattle.pocsag_slots.specs.Loads.{AreClassesOf};
-ghost use Rattle.pocsag_slots.specs.Numbering.{class_of_page};
+ghost use Rattle.pocsag_slots.specs.Numbering.{class_of_page, slot_count};
 ghost use Rattle.pocsag_slots.specs.Sums.{sum_below};
+ghost use Rattle.pocsag_slots.specs.Tables.{turn_limit};
 
-use crate::class::{CLASSES, Classes};
+use crate::class::{CLASSES, Classes, FIRST_BARE, SLOT_COUNT, SLOTS};
 use pocsag_pages::{Page, Round};
 use pocsag_words::End;
 
@@ -17,18 +18,18 @@ pub fn class_of(page: &Page, end: End) -> u8
     let frame = (page.address % 8) as u8;
     let message = page.payload.as_slice().len();
     match end {
-        End::Closed if message == 0 => 128 + frame,
-        _ => frame * 16 + ((1 + message) % 16) as u8,
+        End::Closed if message == 0 => FIRST_BARE + frame,
+        _ => frame * SLOT_COUNT + ((1 + message) % SLOTS) as u8,
     }
 }
 
 /// How many whole turns of sixteen codewords the page takes.
 pub fn whole_turns(page: &Page) -> u32
     requires { length page.now.payload ≤ 1400 }
-    ensures value { result ≡ page_length page.now / 16 }
-    ensures bound { result ≤ 87 }
+    ensures value { result ≡ page_length page.now / slot_count }
+    ensures bound { result ≤ turn_limit }
 {
-    ((1 + page.payload.as_slice().len()) / 16) as u32
+    ((1 + page.payload.as_slice().len()) / SLOTS) as u32
 }
 
 /// The pages of the round by classes for the end.

@@ -1,9 +1,10 @@
 ghost use Rattle.std.specs.Prelude.{◌≡◌, ℕ, ◌+◌, ◌^◌, ◌<◌, ◌==◌, if◌then◌else◌, length, slice_index};
 ghost use Rattle.pocsag_slots.specs.Edges.{CountEnds, CountStarts};
 ghost use Rattle.pocsag_slots.specs.Loads.{IsChoice};
+ghost use Rattle.pocsag_slots.specs.Numbering.{class_count};
 
 use crate::boundary::{finish, start};
-use crate::class::{CLASSES, Choice, Classes, SLOTS};
+use crate::class::{CLASS_COUNT, Choice, Classes, SLOTS};
 
 // How many runs of a choice start at each boundary, and how many end there.
 #[derive(Drop)]
@@ -42,14 +43,14 @@ fn add_class(edges: &mut Edges, classes: &Classes, choice: &Choice, class: u8)
 
 pub(crate) fn edges_of(classes: &Classes, choice: &Choice) -> Edges
     requires { IsChoice classes.now (slice_index choice.now.early) }
-    ensures starts { CountStarts classes.now (slice_index choice.now.early) 136 result.starts }
-    ensures ends { CountEnds classes.now (slice_index choice.now.early) 136 result.ends }
+    ensures starts { CountStarts classes.now (slice_index choice.now.early) class_count result.starts }
+    ensures ends { CountEnds classes.now (slice_index choice.now.early) class_count result.ends }
 {
     let mut edges = Edges {
         starts: [0; SLOTS],
         ends: [0; SLOTS],
     };
-    for class in 0..CLASSES as u8 {
+    for class in 0..CLASS_COUNT {
         add_class(&mut edges, classes, choice, class);
     }
     edges

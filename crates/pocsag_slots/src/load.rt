@@ -1,10 +1,12 @@
-ghost use Rattle.std.specs.Prelude.{◌≡◌, ℕ, ◌*◌, ◌^◌, ◌<◌, ◌≤◌, ◌↔◌, IsTrue, if◌then◌else◌, length, slice_index};
+ghost use Rattle.std.specs.Prelude.{◌≡◌, ℕ, ◌+◌, ◌*◌, ◌^◌, ◌<◌, ◌≤◌, ◌↔◌, IsTrue, if◌then◌else◌, length, slice_index};
 ghost use Rattle.pocsag_slots.specs.Cover.{covered};
-ghost use Rattle.pocsag_slots.specs.Loads.{AreCarried, AreInOrder, class_load, IsChoice, IsLeastLoad, least_of_class, load, Overloads};
+ghost use Rattle.pocsag_slots.specs.Loads.{AreCarried, AreInOrder, class_load, IsChoice, IsLeastLoad, least_of_class, load, load_limit, Overloads};
+ghost use Rattle.pocsag_slots.specs.Numbering.{slot_count};
 ghost use Rattle.pocsag_slots.specs.Sums.{holds, sum_over};
+ghost use Rattle.pocsag_slots.specs.Tables.{turn_limit};
 
 use crate::boundary::{rest, start};
-use crate::class::{CLASSES, Choice, Classes, SLOTS};
+use crate::class::{CLASS_COUNT, Choice, Classes, SLOT_COUNT, SLOTS};
 use crate::edge::edges_of;
 use crate::limit::Limits;
 use crate::set::{holds, size};
@@ -18,7 +20,7 @@ fn times_covered(first: u8, codewords: u8, slot: u8) -> u32
     ensures value { result ≡ covered first codewords slot }
     ensures once { result ≤ 1 }
 {
-    u32::from((slot + 16 - first) % 16 < codewords)
+    u32::from((slot + SLOT_COUNT - first) % SLOT_COUNT < codewords)
 }
 
 // How often the runs of the class cover the slot, where so many of them start early.
@@ -28,7 +30,7 @@ fn class_load(classes: &Classes, class: u8, early: u32, slot: u8) -> u32
     requires early { early ≤ slice_index classes.now.count class }
     requires slot { slot < 16 }
     ensures value { result ≡ class_load classes.now slot class early }
-    ensures bound { result ≤ 88 * slice_index classes.now.count class }
+    ensures bound { result ≤ (turn_limit + 1) * slice_index classes.now.count class }
 {
     if classes.count[class as usize] == 0 {
         return 0;
@@ -43,10 +45,10 @@ fn slot_load(classes: &Classes, choice: &Choice, slot: u8) -> u32
     requires choice { IsChoice classes.now (slice_index choice.now.early) }
     requires slot { slot < 16 }
     ensures value { result ≡ load classes.now (slice_index choice.now.early) slot }
-    ensures bound { result ≤ 1760000 }
+    ensures bound { result ≤ load_limit }
 {
     let mut total = 0;
-    for class in 0..CLASSES as u8 {
+    for class in 0..CLASS_COUNT {
         total += class_load(classes, class, choice.early[class as usize], slot);
     }
     total
@@ -59,7 +61,7 @@ pub fn loads(classes: &Classes, choice: &Choice) -> [u32; SLOTS]
     ensures length { length result ≡ 16 }
     ensures loads { (slot : ℕ) → slot < 16 →
         slice_index result slot ≡ load classes.now (slice_index choice.now.early) slot }
-    ensures bound { (slot : ℕ) → slot < 16 → slice_index result slot ≤ 1760000 }
+    ensures bound { (slot : ℕ) → slot < 16 → slice_index result slot ≤ load_limit }
 {
     let edges = edges_of(classes, choice);
     let mut load = slot_load(classes, choice, 0);
@@ -93,7 +95,7 @@ fn members_covered(set: u16, first: u8, codewords: u8) -> u64
 {
     let mut members = 0;
     for place in 0..codewords {
-        if holds(set, (first + place) % 16) {
+        if holds(set, (first + place) % SLOT_COUNT) {
             members += 1;
         }
     }
@@ -127,11 +129,11 @@ fn class_least(classes: &Classes, limits: &Limits, set: u16, members: u64, class
 pub fn least_load(classes: &Classes, limits: &Limits, set: u16) -> u64
     requires { AreInOrder classes.now limits.now }
     ensures least { IsLeastLoad classes.now limits.now set result }
-    ensures bound { result ≤ 28160000 }
+    ensures bound { result ≤ slot_count * load_limit }
 {
     let members = u64::from(size(set));
     let mut least = 0;
-    for class in 0..CLASSES as u8 {
+    for class in 0..CLASS_COUNT {
         least += class_least(classes, limits, set, members, class);
     }
     least
@@ -153,7 +155,7 @@ fn total_cap(limits: &Limits, set: u16) -> u64
     ensures { result ≡ sum_over set (slice_index limits.now.cap) }
 {
     let mut total = 0;
-    for slot in 0..SLOTS as u8 {
+    for slot in 0..SLOT_COUNT {
         total += member_cap(limits, set, slot);
     }
     total

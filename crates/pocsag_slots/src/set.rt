@@ -3,7 +3,7 @@ ghost use Rattle.pocsag_slots.specs.Sums.{AddsMember, holds, sum_over};
 ghost use Rattle.pocsag_slots.specs.Ways.{idle_crosses, run_crosses, run_touches};
 
 use crate::boundary::{finish, start};
-use crate::class::SLOTS;
+use crate::class::SLOT_COUNT;
 
 /// Whether the set, of slots or of boundaries, has the member, 0 to 15: bit `i` of the number stands
 /// for member `i`.
@@ -29,7 +29,7 @@ pub fn size(set: u16) -> u32
     ensures bound { result ≤ 16 }
 {
     let mut members = 0;
-    for member in 0..SLOTS as u8 {
+    for member in 0..SLOT_COUNT {
         if holds(set, member) {
             members += 1;
         }
@@ -61,5 +61,5 @@ pub(crate) fn idle_crosses(slot: u8, set: u16) -> bool
     requires { slot < 16 }
     ensures { result ≡ idle_crosses slot set }
 {
-    holds(set, slot) != holds(set, (slot + 1) % 16)
+    holds(set, slot) != holds(set, (slot + 1) % SLOT_COUNT)
 }

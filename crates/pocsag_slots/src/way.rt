@@ -2,7 +2,7 @@ ghost use Rattle.std.specs.Prelude.{◌≡◌, ◌<◌, ◌∷◌, [], ◌++◌,
 ghost use Rattle.arrayvec.specs.ArrayVec.{array_vec_len};
 ghost use Rattle.pocsag_slots.specs.Ways.{class_certain, early_open, late_open, MayTake, ways_across, ways_to_close};
 
-use crate::class::{CLASSES, Classes, SLOTS};
+use crate::class::{CLASS_COUNT, CLASSES, Classes, SLOT_COUNT, SLOTS};
 use crate::limit::Limits;
 use crate::set::{crosses, idle_crosses, touches};
 use arrayvec::ArrayVec;
@@ -86,10 +86,10 @@ pub fn ways(classes: &Classes, limits: &Limits, set: u16, _batches: u32) -> Arra
     ensures allowed { All (MayTake classes.now limits.now) result.items }
 {
     let mut found = ArrayVec::new();
-    for slot in 0..SLOTS as u8 {
+    for slot in 0..SLOT_COUNT {
         push_if(&mut found, idle_crosses(slot, set), Way::IdleIn(slot));
     }
-    for class in 0..CLASSES as u8 {
+    for class in 0..CLASS_COUNT {
         push_if(
             &mut found,
             is_open_early(classes, limits, set, class),
@@ -112,11 +112,11 @@ pub fn closing_ways(classes: &Classes, limits: &Limits) -> ArrayVec<Way, 2>
     ensures allowed { All (MayTake classes.now limits.now) result.items }
 {
     let mut found = ArrayVec::new();
-    found.push(Way::IdleIn(15));
+    found.push(Way::IdleIn(SLOT_COUNT - 1));
     push_if(
         &mut found,
-        limits.lo[135] < classes.count[135],
-        Way::Late(135),
+        limits.lo[CLASSES - 1] < classes.count[CLASSES - 1],
+        Way::Late(CLASS_COUNT - 1),
     );
     found
 }

@@ -15,4 +15,6 @@ pub passes : (n : ℕ) (p : ℕ → Bool) → all_below n p ≡ true → (k : �
 unfolding all_below
 passes zero p h k lt = absurd (omega arith)
 passes (suc n) p h k lt =
-    ⊎_elim (λ below. passes n p ((and_parts (p n) (all_below n p) h).1) k below) (λ above. let e : n ≡ k = omega arith in let P : ℕ → Type 0 = λ j. p j ≡ true in subst P e (and_left (p n) (all_below n p) h)) (cases_lt k n)
+    ⊎_elim (λ below. passes n p ((and_parts (p n) (all_below n p) h).1) k below)
+    (λ above. let e : n ≡ k = omega arith in let P : ℕ → Type 0 = λ j. p j ≡ true in subst P e (and_left (p n) (all_below n p) h))
+    (cases_lt k n)

@@ -66,7 +66,8 @@ high_first-join a b v w h =
     let lo : (v * 2 ^ b + w) % 2 ^ b ≡ w = mod_low v b w h in
     let z : b + 0 ≡ b = omega arith in
     let m : high_first b ((v * 2 ^ b + w) % 2 ^ b) ≡ high_first b (v * 2 ^ b + w) = rw z at (high_first-mod b 0 (v * 2 ^ b + w)) in
-    high_first-add a b (v * 2 ^ b + w) ∙ ap (λ x. high_first a x ++ high_first b (v * 2 ^ b + w)) hi ∙ ap (λ bits. high_first a v ++ bits) (sym m ∙ ap (high_first b) lo)
+    high_first-add a b (v * 2 ^ b + w) ∙ ap (λ x. high_first a x ++ high_first b (v * 2 ^ b + w)) hi
+    ∙ ap (λ bits. high_first a v ++ bits) (sym m ∙ ap (high_first b) lo)
 
 -- the bits of a number and of its remainder
 pub high_first-split : (a b v : ℕ) → high_first (a + b) v ≡ high_first a (v / 2 ^ b) ++ high_first b (v % 2 ^ b)
@@ -113,7 +114,8 @@ high_number-high_first v (suc n) x =
     rw (high_number-high_first (2 * v + x / 2 ^ n % 2) n x) (rw (← k) (rw e (rw (k, p) (omega arith))))
 
 -- the bits of the number that bits make behind others
-pub high_first-high_number : (bits : List ℕ) (n v : ℕ) → AreBits bits → high_first (length bits + n) (high_number v bits) ≡ high_first n v ++ bits
+pub high_first-high_number :
+    (bits : List ℕ) (n v : ℕ) → AreBits bits → high_first (length bits + n) (high_number v bits) ≡ high_first n v ++ bits
 unfolding high_number
 high_first-high_number [] n v h = rw zero-add (sym (append-nil (high_first n v)))
 high_first-high_number (b ∷ bits) n v h =

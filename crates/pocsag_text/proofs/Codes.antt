@@ -44,9 +44,27 @@ character_of-code_of b k h =
 pub code_of-none : (b : ℕ) → (b < 48) ⊎ (57 < b) → b ≢ 42 → b ≢ 85 → b ≢ 32 → b ≢ 45 → b ≢ 93 → b ≢ 91 → code_of b ≡ None
 unfolding numeric_characters
 code_of-none b range n42 n85 n32 n45 n93 n91 =
-    let out : (d : ℕ) → d < 10 → eqb (48 + d) b ≡ false = λ d h. ne_eqb (48 + d) b (⊎_elim (λ low e. omega arith) (λ high e. omega arith) range) in
+    let out : (d : ℕ) → d < 10 → eqb (48 + d) b ≡ false =
+    λ d h. ne_eqb (48 + d) b (⊎_elim (λ low e. omega arith) (λ high e. omega arith) range) in
     let s : (n : ℕ) → b ≢ n → eqb n b ≡ false = λ n h. ne_eqb n b (λ e. h (sym e)) in
-    simp (out 0 (lit< tt), out 1 (lit< tt), out 2 (lit< tt), out 3 (lit< tt), out 4 (lit< tt), out 5 (lit< tt), out 6 (lit< tt), out 7 (lit< tt), out 8 (lit< tt), out 9 (lit< tt), s 42 n42, s 85 n85, s 32 n32, s 45 n45, s 93 n93, s 91 n91)
+    simp (
+      out 0 (lit< tt),
+      out 1 (lit< tt),
+      out 2 (lit< tt),
+      out 3 (lit< tt),
+      out 4 (lit< tt),
+      out 5 (lit< tt),
+      out 6 (lit< tt),
+      out 7 (lit< tt),
+      out 8 (lit< tt),
+      out 9 (lit< tt),
+      s 42 n42,
+      s 85 n85,
+      s 32 n32,
+      s 45 n45,
+      s 93 n93,
+      s 91 n91,
+    )
 
 unwrapped : (o : Option ℕ) → ((k : ℕ) → o ≡ Some k → k < 16) → unwrap_or o 12 < 16
 unwrapped None h = lit< tt

@@ -24,11 +24,13 @@ place_none None count h =
     let t = (none_from_cond (ltb 4000 count) fault.TooLong None h).0 in (refl, grind (arith, nat_tests))
 
 -- a text without a fault is no longer than the limit and has no bad character
-pub fault_none : (is_bad : ℕ → Bool) (text : List ℕ) → text_fault is_bad text ≡ None → (length text ≤ 4000) × All (λ b. is_bad b ≡ false) text
+pub fault_none :
+    (is_bad : ℕ → Bool) (text : List ℕ) → text_fault is_bad text ≡ None → (length text ≤ 4000) × All (λ b. is_bad b ≡ false) text
 unfolding text_fault
 fault_none is_bad text h =
     let p = place_none (position is_bad text) (length text) (none_from_cond (eqb (length text) 0) fault.EmptyMessage _ h).1 in
-    let n : ltb (position_or_len is_bad text) (length text) ≡ false = (none_from_cond (ltb (position_or_len is_bad text) (length text)) (position_or_len is_bad text) None p.0).0 in
+    let n : ltb (position_or_len is_bad text) (length text) ≡ false =
+    (none_from_cond (ltb (position_or_len is_bad text) (length text)) (position_or_len is_bad text) None p.0).0 in
     let past : length text ≤ position_or_len is_bad text = grind (arith, nat_tests) in
     (p.1, All-from_get_or (λ b. is_bad b ≡ false) text 0 (λ k lt. fails_before_first is_bad text k 0 (omega arith)))
 
@@ -36,7 +38,9 @@ never_memory : (over : Bool) → cond over (Some fault.TooLong) None ≡ Some fa
 never_memory true h = cc
 never_memory false h = cc
 
-never_at_place : (b : Bool) (first_bad : Option ℕ) (count : ℕ) → cond b (Some fault.EmptyMessage) (fault_of_place first_bad count) ≡ Some fault.OutOfMemory → ⊥
+never_at_place :
+    (b : Bool) (first_bad : Option ℕ) (count : ℕ) →
+    cond b (Some fault.EmptyMessage) (fault_of_place first_bad count) ≡ Some fault.OutOfMemory → ⊥
 never_at_place true first_bad count h = cc
 never_at_place false (Some place) count h = cc
 never_at_place false None count h = never_memory (ltb 4000 count) h
@@ -81,13 +85,21 @@ length-numeric_bits : (text : List ℕ) → length (numeric_bits text) ≡ 4 * (
 unfolding numeric_bits
 length-numeric_bits text =
     let wide : (x : ℕ) → length (low_first 4 x) ≡ 4 = length-low_first 4 in
-    length-flat_map-wide 4 (low_first 4) (map code_or_space text ++ replicate (short_of 5 (length text)) 12) wide ∙ ap (λ n. 4 * n) (length-append (map code_or_space text) (replicate (short_of 5 (length text)) 12) ∙ (rw (length-map text code_or_space, length-replicate {A = ℕ} (short_of 5 (length text)) 12) refl))
+    length-flat_map-wide 4 (low_first 4) (map code_or_space text ++ replicate (short_of 5 (length text)) 12) wide ∙ ap (λ n. 4 * n) (length-append (map code_or_space text) (replicate (short_of 5 (length text)) 12) ∙ (rw (
+      length-map text code_or_space,
+      length-replicate {A =
+          ℕ} (short_of 5 (length text)) 12,
+    ) refl))
 
 pub length-alpha_bits : (text : List ℕ) → length (alpha_bits text) ≡ 7 * length text + short_of 20 (7 * length text)
 unfolding alpha_bits
 length-alpha_bits text =
     let wide : (x : ℕ) → length (low_first 7 x) ≡ 7 = length-low_first 7 in
-    length-append (flat_map (low_first 7) text) (replicate (short_of 20 (7 * length text)) 0) ∙ (rw (length-flat_map-wide 7 (low_first 7) text wide, length-replicate {A = ℕ} (short_of 20 (7 * length text)) 0) refl)
+    length-append (flat_map (low_first 7) text) (replicate (short_of 20 (7 * length text)) 0) ∙ (rw (
+      length-flat_map-wide 7 (low_first 7) text wide,
+      length-replicate {A =
+          ℕ} (short_of 20 (7 * length text)) 0,
+    ) refl)
 
 pub whole_numeric : (text : List ℕ) → length (numeric_bits text) % 20 ≡ 0
 whole_numeric text =
@@ -97,19 +109,40 @@ pub whole_alpha : (text : List ℕ) → length (alpha_bits text) % 20 ≡ 0
 whole_alpha text = rw (length-alpha_bits text) (short_twenty (7 * length text))
 
 -- how many bits there are with a fill
-pub length_filled_numeric : (text packed filled : List ℕ) (times code : ℕ) → packed ≡ flat_map (low_first 4) (map code_or_space text) → filled ≡ packed ++ flat_map (low_first 4) (replicate times code)
+pub length_filled_numeric :
+    (text packed filled : List ℕ) (times code : ℕ) → packed ≡ flat_map (low_first 4) (map code_or_space text) →
+    filled ≡ packed ++ flat_map (low_first 4) (replicate times code)
     → length filled ≡ 4 * (length text + times)
 length_filled_numeric text packed filled times code p f =
     let wide : (x : ℕ) → length (low_first 4 x) ≡ 4 = length-low_first 4 in
-    rw (f, p, length-append (flat_map (low_first 4) (map code_or_space text)) (flat_map (low_first 4) (replicate times code)), length-flat_map-wide 4 (low_first 4) (map code_or_space text) wide, length-flat_map-wide 4 (low_first 4) (replicate times code) wide, length-map text code_or_space, length-replicate {A = ℕ} times code)
+    rw (
+      f,
+      p,
+      length-append (flat_map (low_first 4) (map code_or_space text)) (flat_map (low_first 4) (replicate times code)),
+      length-flat_map-wide 4 (low_first 4) (map code_or_space text) wide,
+      length-flat_map-wide 4 (low_first 4) (replicate times code) wide,
+      length-map text code_or_space,
+      length-replicate {A =
+          ℕ} times code,
+    )
     (omega arith)
 
-pub length_filled_alpha : (text packed filled : List ℕ) (times code : ℕ) → packed ≡ flat_map (low_first 7) text → filled ≡ packed ++ flat_map (low_first 1) (replicate times code)
+pub length_filled_alpha :
+    (text packed filled : List ℕ) (times code : ℕ) → packed ≡ flat_map (low_first 7) text →
+    filled ≡ packed ++ flat_map (low_first 1) (replicate times code)
     → length filled ≡ 7 * length text + times
 length_filled_alpha text packed filled times code p f =
     let wide : (x : ℕ) → length (low_first 7 x) ≡ 7 = length-low_first 7 in
     let one : (x : ℕ) → length (low_first 1 x) ≡ 1 = length-low_first 1 in
-    rw (f, p, length-append (flat_map (low_first 7) text) (flat_map (low_first 1) (replicate times code)), length-flat_map-wide 7 (low_first 7) text wide, length-flat_map-wide 1 (low_first 1) (replicate times code) one, length-replicate {A = ℕ} times code)
+    rw (
+      f,
+      p,
+      length-append (flat_map (low_first 7) text) (flat_map (low_first 1) (replicate times code)),
+      length-flat_map-wide 7 (low_first 7) text wide,
+      length-flat_map-wide 1 (low_first 1) (replicate times code) one,
+      length-replicate {A =
+          ℕ} times code,
+    )
     (omega arith)
 
 pub few_numeric : (text : List ℕ) → length text ≤ 4000 → length (twenties (numeric_bits text)) ≤ 1400
@@ -121,7 +154,9 @@ few_alpha text h =
     rw (length-cut 20 _ (length (alpha_bits text) / 20) (alpha_bits text), length-alpha_bits text) (omega arith)
 
 -- the bits of the characters and those of the fill
-numeric_bits-parts : (text : List ℕ) → numeric_bits text ≡ flat_map (low_first 4) (map code_or_space text) ++ flat_map (low_first 4) (replicate (short_of 5 (length text)) 12)
+numeric_bits-parts :
+    (text : List ℕ) → numeric_bits text
+    ≡ flat_map (low_first 4) (map code_or_space text) ++ flat_map (low_first 4) (replicate (short_of 5 (length text)) 12)
 unfolding numeric_bits
 numeric_bits-parts text =
     flat_map-append (low_first 4) (map code_or_space text) (replicate (short_of 5 (length text)) 12)
@@ -131,16 +166,22 @@ unfolding low_first
 zeros zero = refl
 zeros (suc n) = ap (λ bits. 0 ∷ bits) (zeros n)
 
-alpha_bits-parts : (text : List ℕ) → alpha_bits text ≡ flat_map (low_first 7) text ++ flat_map (low_first 1) (replicate (short_of 20 (7 * length text)) 0)
+alpha_bits-parts :
+    (text : List ℕ) → alpha_bits text
+    ≡ flat_map (low_first 7) text ++ flat_map (low_first 1) (replicate (short_of 20 (7 * length text)) 0)
 unfolding alpha_bits
 alpha_bits-parts text =
     ap (λ bits. flat_map (low_first 7) text ++ bits) (sym (zeros (short_of 20 (7 * length text))))
 
-pub filled_numeric : (text packed filled : List ℕ) → packed ≡ flat_map (low_first 4) (map code_or_space text) → filled ≡ packed ++ flat_map (low_first 4) (replicate (short_of 5 (length text)) 12) → filled ≡ numeric_bits text
+pub filled_numeric :
+    (text packed filled : List ℕ) → packed ≡ flat_map (low_first 4) (map code_or_space text) →
+    filled ≡ packed ++ flat_map (low_first 4) (replicate (short_of 5 (length text)) 12) → filled ≡ numeric_bits text
 filled_numeric text packed filled p f =
     f ∙ ap (λ bits. bits ++ flat_map (low_first 4) (replicate (short_of 5 (length text)) 12)) p ∙ sym (numeric_bits-parts text)
 
-pub filled_alpha : (text packed filled : List ℕ) → packed ≡ flat_map (low_first 7) text → filled ≡ packed ++ flat_map (low_first 1) (replicate (short_of 20 (7 * length text)) 0) → filled ≡ alpha_bits text
+pub filled_alpha :
+    (text packed filled : List ℕ) → packed ≡ flat_map (low_first 7) text →
+    filled ≡ packed ++ flat_map (low_first 1) (replicate (short_of 20 (7 * length text)) 0) → filled ≡ alpha_bits text
 filled_alpha text packed filled p f =
     f ∙ ap (λ bits. bits ++ flat_map (low_first 1) (replicate (short_of 20 (7 * length text)) 0)) p ∙ sym (alpha_bits-parts text)
 

@@ -33,11 +33,17 @@ code-back : (width x : ℕ) → x < 2 ^ width → low_number (low_first width x)
 code-back width x lt = low_number-low_first width x ∙ mod-eq_of_lt lt
 
 -- the codes come back, and what stands behind them is cut too
-cut-codes : (width : ℕ) (codes rest : List ℕ) (n : ℕ) → All (λ x. x < 2 ^ width) codes → cut width low_number (length codes + n) (flat_map (low_first width) codes ++ rest) ≡ codes ++ cut width low_number n rest
+cut-codes :
+    (width : ℕ) (codes rest : List ℕ) (n : ℕ) → All (λ x. x < 2 ^ width) codes →
+    cut width low_number (length codes + n) (flat_map (low_first width) codes ++ rest) ≡ codes ++ cut width low_number n rest
 cut-codes width codes rest n h =
-    let back : All (λ x. low_number (low_first width x) ≡ x) codes = All-weaker (λ x. x < 2 ^ width) (λ x. low_number (low_first width x) ≡ x) (code-back width) codes h in
-    let one : cut width low_number (length codes) (flat_map (low_first width) codes) ≡ codes = ap (cut width low_number (length codes)) (sym (append-nil (flat_map (low_first width) codes))) ∙ cut-flat_map width low_number (low_first width) codes [] (length-low_first width) back in
-    cut-append width low_number (length codes) n (flat_map (low_first width) codes) rest (length-flat_map-wide width (low_first width) codes (length-low_first width)) ∙ ap (λ xs. xs ++ cut width low_number n rest) one
+    let back : All (λ x. low_number (low_first width x) ≡ x) codes =
+    All-weaker (λ x. x < 2 ^ width) (λ x. low_number (low_first width x) ≡ x) (code-back width) codes h in
+    let one : cut width low_number (length codes) (flat_map (low_first width) codes) ≡ codes =
+    ap (cut width low_number (length codes)) (sym (append-nil (flat_map (low_first width) codes)))
+    ∙ cut-flat_map width low_number (low_first width) codes [] (length-low_first width) back in
+    cut-append width low_number (length codes) n (flat_map (low_first width) codes) rest
+    (length-flat_map-wide width (low_first width) codes (length-low_first width)) ∙ ap (λ xs. xs ++ cut width low_number n rest) one
 
 low_number-zeros : (bits : List ℕ) → All (λ b. b ≡ 0) bits → low_number bits ≡ 0
 unfolding low_number
@@ -52,14 +58,21 @@ cut-zeros : (width n : ℕ) (bits : List ℕ) → All (λ b. b ≡ 0) bits → A
 unfolding cut
 cut-zeros width zero bits h = All-nil (λ z. z ≡ 0)
 cut-zeros width (suc n) bits h =
-    All-cons (λ z. z ≡ 0) (low_number (take width bits)) (cut width low_number n (drop width bits)) (low_number-zeros (take width bits) (All-take (λ b. b ≡ 0) width bits h)) (cut-zeros width n (drop width bits) (All-drop (λ b. b ≡ 0) width bits h))
+    All-cons (λ z. z ≡ 0) (low_number (take width bits)) (cut width low_number n (drop width bits))
+    (low_number-zeros (take width bits) (All-take (λ b. b ≡ 0) width bits h))
+    (cut-zeros width n (drop width bits) (All-drop (λ b. b ≡ 0) width bits h))
 
 -- the codes of an alphanumeric text's items
-codes_of-alpha : (text : List ℕ) → All (λ b. b < 128) text → codes_of 7 (twenties (alpha_bits text)) ≡ text ++ cut 7 low_number (short_of 20 (7 * length text) / 7) (replicate (short_of 20 (7 * length text)) 0)
+codes_of-alpha :
+    (text : List ℕ) → All (λ b. b < 128) text →
+    codes_of 7 (twenties (alpha_bits text))
+    ≡ text ++ cut 7 low_number (short_of 20 (7 * length text) / 7) (replicate (short_of 20 (7 * length text)) 0)
 unfolding codes_of alpha_bits
 codes_of-alpha text h =
     let bits = flat_map (low_first 7) text ++ replicate (short_of 20 (7 * length text)) 0 in
-    let are : AreBits bits = All-append (λ b. b < 2) (flat_map (low_first 7) text) (replicate (short_of 20 (7 * length text)) 0) (AreBits-flat_map 7 text) (All-replicate (λ b. b < 2) (short_of 20 (7 * length text)) 0 (lit< tt)) in
+    let are : AreBits bits =
+    All-append (λ b. b < 2) (flat_map (low_first 7) text) (replicate (short_of 20 (7 * length text)) 0) (AreBits-flat_map 7 text)
+    (All-replicate (λ b. b < 2) (short_of 20 (7 * length text)) 0 (lit< tt)) in
     let same : item_bits (twenties bits) ≡ bits = item_bits-twenties bits are (whole_alpha text) in
     let n : length bits / 7 ≡ length text + short_of 20 (7 * length text) / 7 = rw (length-alpha_bits text) (omega arith) in
     rw (same, n) (cut-codes 7 text (replicate (short_of 20 (7 * length text)) 0) (short_of 20 (7 * length text) / 7) h)
@@ -72,21 +85,28 @@ alpha_text-back text items h =
     let small : All (λ b. b < 128) text = alpha_bytes text p.0 in
     let some : All (λ b. b ≢ 0) text = All-weaker (λ b. is_bad_byte b ≡ false) (λ b. b ≢ 0) (λ b g. (good_byte b g).0) text good in
     let s = short_of 20 (7 * length text) in
-    let zeros : All (λ z. z ≡ 0) (cut 7 low_number (s / 7) (replicate s 0)) = cut-zeros 7 (s / 7) (replicate s 0) (All-replicate (λ b. b ≡ 0) s 0 refl) in
-    rw (← p.1, codes_of-alpha text small) (trim_end-append 0 text (cut 7 low_number (s / 7) (replicate s 0)) zeros ∙ trim_end-none 0 text some)
+    let zeros : All (λ z. z ≡ 0) (cut 7 low_number (s / 7) (replicate s 0)) =
+    cut-zeros 7 (s / 7) (replicate s 0) (All-replicate (λ b. b ≡ 0) s 0 refl) in
+    rw (← p.1, codes_of-alpha text small)
+    (trim_end-append 0 text (cut 7 low_number (s / 7) (replicate s 0)) zeros ∙ trim_end-none 0 text some)
 
 nothing-more : (codes : List ℕ) → codes ++ cut 4 low_number 0 [] ≡ codes
 unfolding cut
 nothing-more codes = append-nil codes
 
 -- the codes of a numeric text's items
-codes_of-numeric : (text : List ℕ) → codes_of 4 (twenties (numeric_bits text)) ≡ map code_or_space text ++ replicate (short_of 5 (length text)) 12
+codes_of-numeric :
+    (text : List ℕ) → codes_of 4 (twenties (numeric_bits text)) ≡ map code_or_space text ++ replicate (short_of 5 (length text)) 12
 unfolding codes_of numeric_bits
 codes_of-numeric text =
     let fill : List ℕ = replicate (short_of 5 (length text)) 12 in
     let codes : List ℕ = map code_or_space text ++ fill in
-    let small : All (λ x. x < 2 ^ 4) codes = All-append (λ x. x < 2 ^ 4) (map code_or_space text) fill (All-map (λ x. x < 2 ^ 4) code_or_space text (λ k d lt. code_or_space-lt _)) (All-replicate (λ x. x < 2 ^ 4) (short_of 5 (length text)) 12 (lit< tt)) in
-    let same : item_bits (twenties (flat_map (low_first 4) codes)) ≡ flat_map (low_first 4) codes = item_bits-twenties (flat_map (low_first 4) codes) (AreBits-flat_map 4 codes) (whole_numeric text) in
+    let small : All (λ x. x < 2 ^ 4) codes =
+    All-append (λ x. x < 2 ^ 4) (map code_or_space text) fill
+    (All-map (λ x. x < 2 ^ 4) code_or_space text (λ k d lt. code_or_space-lt _))
+    (All-replicate (λ x. x < 2 ^ 4) (short_of 5 (length text)) 12 (lit< tt)) in
+    let same : item_bits (twenties (flat_map (low_first 4) codes)) ≡ flat_map (low_first 4) codes =
+    item_bits-twenties (flat_map (low_first 4) codes) (AreBits-flat_map 4 codes) (whole_numeric text) in
     let len : length (flat_map (low_first 4) codes) ≡ 4 * length codes = length-flat_map-wide 4 (low_first 4) codes (length-low_first 4) in
     let n : length (flat_map (low_first 4) codes) / 4 ≡ length codes + 0 = omega arith in
     let bits : flat_map (low_first 4) codes ++ [] ≡ flat_map (low_first 4) codes = append-nil (flat_map (low_first 4) codes) in
@@ -109,4 +129,5 @@ numeric_text-back text items h =
     let p = unless_ok (text_fault is_bad_digit text) (twenties (numeric_bits text)) items h in
     let good = (fault_none is_bad_digit text p.0).1 in
     let s = short_of 5 (length text) in
-    rw (← p.1, codes_of-numeric text, map-append character_of (map code_or_space text) (replicate s 12), characters-back text good) (trim_end-append 32 text (map character_of (replicate s 12)) (spaces s))
+    rw (← p.1, codes_of-numeric text, map-append character_of (map code_or_space text) (replicate s 12), characters-back text good)
+    (trim_end-append 32 text (map character_of (replicate s 12)) (spaces s))

@@ -22,7 +22,9 @@ pub record IsTaking (width : ℕ) (codes : List ℕ) (count held : ℕ) (bits : 
   pub same : unpacked_bits width codes count held ≡ bits
 
 -- an item behind the bits that wait
-pub IsTaking-start : (width : ℕ) (codes : List ℕ) (count held item : ℕ) → IsUnpacked width codes count held → item < 2 ^ 20 → IsTaking width codes (count + 20) (held * 2 ^ 20 + item) (unpacked_bits width codes count held ++ high_first 20 item)
+pub IsTaking-start :
+    (width : ℕ) (codes : List ℕ) (count held item : ℕ) → IsUnpacked width codes count held → item < 2 ^ 20 →
+    IsTaking width codes (count + 20) (held * 2 ^ 20 + item) (unpacked_bits width codes count held ++ high_first 20 item)
 unfolding unpacked_bits
 IsTaking-start width codes count held item h lt = record {
   narrow = h.narrow;
@@ -31,11 +33,15 @@ IsTaking-start width codes count held item h lt = record {
   few = let few : count < width = h.few in omega arith;
   fits = held_with-lt count held 20 item h.fits lt;
   same =
-      ap (λ bits. flat_map (low_first width) codes ++ bits) (high_first-join count 20 held item lt) ∙ sym (append_assoc (flat_map (low_first width) codes) (high_first count held) (high_first 20 item));
+      ap (λ bits. flat_map (low_first width) codes ++ bits) (high_first-join count 20 held item lt)
+      ∙ sym (append_assoc (flat_map (low_first width) codes) (high_first count held) (high_first 20 item));
 }
 
 -- a code is taken from the front of the bits that are left
-pub IsTaking-more : (width : ℕ) (codes : List ℕ) (count held code : ℕ) (bits : List ℕ) → IsTaking width codes count held bits → width ≤ count → code < 2 ^ width → low_first width code ≡ high_first width (held / 2 ^ (count - width)) → IsTaking width (codes ++ code ∷ []) (count - width) (held % 2 ^ (count - width)) bits
+pub IsTaking-more :
+    (width : ℕ) (codes : List ℕ) (count held code : ℕ) (bits : List ℕ) → IsTaking width codes count held bits → width ≤ count →
+    code < 2 ^ width → low_first width code ≡ high_first width (held / 2 ^ (count - width)) →
+    IsTaking width (codes ++ code ∷ []) (count - width) (held % 2 ^ (count - width)) bits
 unfolding unpacked_bits
 IsTaking-more width codes count held code bits h enough lt is = record {
   narrow = h.narrow;
@@ -49,31 +55,45 @@ IsTaking-more width codes count held code bits h enough lt is = record {
     whole : width + (count - width) ≡ count
     whole = omega arith
 
-    one : flat_map (low_first width) (codes ++ code ∷ []) ≡ flat_map (low_first width) codes ++ high_first width (held / 2 ^ (count - width))
-    one = flat_map-append (low_first width) codes (code ∷ []) ∙ ap (λ x. flat_map (low_first width) codes ++ x) (append-nil (low_first width code) ∙ is)
+    one :
+        flat_map (low_first width) (codes ++ code ∷ [])
+        ≡ flat_map (low_first width) codes ++ high_first width (held / 2 ^ (count - width))
+    one =
+        flat_map-append (low_first width) codes (code ∷ [])
+        ∙ ap (λ x. flat_map (low_first width) codes ++ x) (append-nil (low_first width code) ∙ is)
 
     split : high_first width (held / 2 ^ (count - width)) ++ high_first (count - width) (held % 2 ^ (count - width)) ≡ high_first count held
     split = sym (high_first-split width (count - width) held) ∙ ap (λ n. high_first n held) whole
 
-    joined : flat_map (low_first width) (codes ++ code ∷ []) ++ high_first (count - width) (held % 2 ^ (count - width)) ≡ flat_map (low_first width) codes ++ high_first count held
+    joined :
+        flat_map (low_first width) (codes ++ code ∷ []) ++ high_first (count - width) (held % 2 ^ (count - width))
+        ≡ flat_map (low_first width) codes ++ high_first count held
     joined =
-        ap (λ x. x ++ high_first (count - width) (held % 2 ^ (count - width))) one ∙ append_assoc (flat_map (low_first width) codes) (high_first width (held / 2 ^ (count - width))) (high_first (count - width) (held % 2 ^ (count - width))) ∙ ap (λ x. flat_map (low_first width) codes ++ x) split
+        ap (λ x. x ++ high_first (count - width) (held % 2 ^ (count - width))) one
+        ∙ append_assoc (flat_map (low_first width) codes) (high_first width (held / 2 ^ (count - width)))
+        (high_first (count - width) (held % 2 ^ (count - width))) ∙ ap (λ x. flat_map (low_first width) codes ++ x) split
 
 -- the bits of the next code
-pub next-lt : (width : ℕ) (codes : List ℕ) (count held : ℕ) (bits : List ℕ) → IsTaking width codes count held bits → width ≤ count → held / 2 ^ (count - width) < 2 ^ width
+pub next-lt :
+    (width : ℕ) (codes : List ℕ) (count held : ℕ) (bits : List ℕ) → IsTaking width codes count held bits → width ≤ count →
+    held / 2 ^ (count - width) < 2 ^ width
 next-lt width codes count held bits h enough =
     let whole : width + (count - width) ≡ count = omega arith in
     let below : held < 2 ^ (width + (count - width)) = rw whole h.fits in
     shr_below held width (count - width) below
 
 -- the codes are the bits cut in pieces
-pub codes-unpacked_bits : (width : ℕ) (codes : List ℕ) (count held : ℕ) → IsUnpacked width codes count held → codes ≡ cut width low_number (length (unpacked_bits width codes count held) / width) (unpacked_bits width codes count held)
+pub codes-unpacked_bits :
+    (width : ℕ) (codes : List ℕ) (count held : ℕ) → IsUnpacked width codes count held →
+    codes ≡ cut width low_number (length (unpacked_bits width codes count held) / width) (unpacked_bits width codes count held)
 unfolding unpacked_bits
 codes-unpacked_bits width codes count held h =
     rw number (sym (cut-flat_map width low_number (low_first width) codes (high_first count held) (length-low_first width) back))
   where
     len : length (flat_map (low_first width) codes ++ high_first count held) ≡ width * length codes + count
-    len = length-append (flat_map (low_first width) codes) (high_first count held) ∙ (rw (length-flat_map-wide width (low_first width) codes (length-low_first width), length-high_first count held) refl)
+    len =
+        length-append (flat_map (low_first width) codes) (high_first count held)
+        ∙ (rw (length-flat_map-wide width (low_first width) codes (length-low_first width), length-high_first count held) refl)
 
     turned : width * length codes + count ≡ length codes * width + count
     turned = omega (arith, mul_comm width (length codes))

@@ -11,9 +11,11 @@ use crate::packer::{ITEM_WIDTH, Packer};
 use pocsag_words::OutOfMemory;
 use std::alloc::Global;
 
-/// The bits of an item, the numeric characters that it holds, and the bits of an alphanumeric character.
+// The bits of an item, the numeric characters that it holds, and the bits of an alphanumeric character.
 const ITEM_BITS: usize = ITEM_WIDTH as usize;
+
 const ITEM_DIGITS: usize = (ITEM_WIDTH / NUMERIC_WIDTH) as usize;
+
 const ALPHA_BITS: usize = ALPHA_WIDTH as usize;
 
 /// The payload of a numeric text: items of twenty bits, each below 1,048,576. The characters are
@@ -105,7 +107,8 @@ fn numeric_items(alloc: Global, text: &[u8]) -> Result<Vec<u32>, OutOfMemory>
     ensures small { IfOk result (λ v. AreItems v.items) }
 {
     let mut packer = numeric_packer(alloc, text)?;
-    packer.push_times(NUMERIC_WIDTH, SPACE_CODE, (ITEM_DIGITS - text.len() % ITEM_DIGITS) % ITEM_DIGITS)?;
+    let fill = (ITEM_DIGITS - text.len() % ITEM_DIGITS) % ITEM_DIGITS;
+    packer.push_times(NUMERIC_WIDTH, SPACE_CODE, fill)?;
     Ok(packer.into_items())
 }
 
@@ -129,7 +132,8 @@ fn alpha_items(alloc: Global, text: &[u8]) -> Result<Vec<u32>, OutOfMemory>
     ensures small { IfOk result (λ v. AreItems v.items) }
 {
     let mut packer = alpha_packer(alloc, text)?;
-    packer.push_times(1, 0, (ITEM_BITS - ALPHA_BITS * text.len() % ITEM_BITS) % ITEM_BITS)?;
+    let fill = (ITEM_BITS - ALPHA_BITS * text.len() % ITEM_BITS) % ITEM_BITS;
+    packer.push_times(1, 0, fill)?;
     Ok(packer.into_items())
 }
 

@@ -80,18 +80,21 @@ unfolding combine
 combine-lt k [] n h = pow_pos k
 combine-lt k (t ∷ ts) n h =
     let parts = and_parts (ltb t (2 ^ k)) (are_below (2 ^ k) ts) h in
-    xor_lt k (n % 2 * t) (combine ts (n / 2)) (scaled_lt (n % 2) t (2 ^ k) (omega arith) (ltb-true _ _ parts.0)) (combine-lt k ts (n / 2) parts.1)
+    xor_lt k (n % 2 * t) (combine ts (n / 2)) (scaled_lt (n % 2) t (2 ^ k) (omega arith) (ltb-true _ _ parts.0))
+    (combine-lt k ts (n / 2) parts.1)
 
 -- ---- the codewords of one data bit each make all codewords
 
 abbrev words : List ℕ
 words =
-    0xed3 ∷ 0x1376 ∷ 0x26ec ∷ 0x430b ∷ 0x8615 ∷ 0x102fa ∷ 0x205f4 ∷ 0x4053b ∷ 0x804a6 ∷ 0x10079f ∷ 0x2001ee ∷ 0x4003dc ∷ 0x8007b8 ∷ 0x10001a3 ∷ 0x2000345 ∷ 0x4000689 ∷ 0x80003c2 ∷ 0x10000784 ∷ 0x200001db ∷ 0x400003b5 ∷ 0x80000769 ∷ []
+    0xed3 ∷ 0x1376 ∷ 0x26ec ∷ 0x430b ∷ 0x8615 ∷ 0x102fa ∷ 0x205f4 ∷ 0x4053b ∷ 0x804a6 ∷ 0x10079f ∷ 0x2001ee ∷ 0x4003dc ∷ 0x8007b8 ∷
+    0x10001a3 ∷ 0x2000345 ∷ 0x4000689 ∷ 0x80003c2 ∷ 0x10000784 ∷ 0x200001db ∷ 0x400003b5 ∷ 0x80000769 ∷ []
 
 -- what each of them is the generator times of
 abbrev quotients : List ℕ
 quotients =
-    1 ∷ 3 ∷ 6 ∷ 13 ∷ 26 ∷ 53 ∷ 106 ∷ 213 ∷ 427 ∷ 855 ∷ 1711 ∷ 3422 ∷ 6844 ∷ 13689 ∷ 27378 ∷ 54756 ∷ 109513 ∷ 219026 ∷ 438053 ∷ 876106 ∷ 1752212 ∷ []
+    1 ∷ 3 ∷ 6 ∷ 13 ∷ 26 ∷ 53 ∷ 106 ∷ 213 ∷ 427 ∷ 855 ∷ 1711 ∷ 3422 ∷ 6844 ∷ 13689 ∷ 27378 ∷ 54756 ∷ 109513 ∷ 219026 ∷ 438053 ∷ 876106 ∷
+    1752212 ∷ []
 
 words_half : map (λ n. n / 2 ^ 1) words ≡ map (combine (doublings 21 generator)) quotients
 unfolding combine doublings
@@ -143,7 +146,9 @@ word_of-parts : (d : ℕ) → d < 2 ^ 21 → word_of d ≡ d * 2048 + check_of d
 word_of-parts d h = omega (arith, word_of-data d h, word_of-low d)
 
 -- a sum of codewords of even parity has even parity
-even_sum : (ts : List ℕ) (n : ℕ) → are_below (2 ^ 32) ts ≡ true → map (combine (replicate 32 1)) ts ≡ replicate 21 0 → count_ones (combine ts n) % 2 ≡ 0
+even_sum :
+    (ts : List ℕ) (n : ℕ) → are_below (2 ^ 32) ts ≡ true → map (combine (replicate 32 1)) ts ≡ replicate 21 0 →
+    count_ones (combine ts n) % 2 ≡ 0
 even_sum ts n small h =
     sym (combine_ones 32 (combine ts n) (combine-lt 32 ts n small))
     ∙ combine_image (combine (replicate 32 1)) (IsLinear-combine (replicate 32 1)) ts n
@@ -174,7 +179,8 @@ unfolding doublings
 word_from_quotient w is =
     let q = is.multiple.0 in
     same_from_half w (combine multiples q)
-    (is.multiple.2 ∙ carryless_is 21 generator q ∙ ap (λ ts. combine ts q) (sym multiples_half) ∙ sym (combine_image (λ n. n / 2 ^ 1) (IsLinear-div 1) multiples q))
+    (is.multiple.2 ∙ carryless_is 21 generator q ∙ ap (λ ts. combine ts q) (sym multiples_half)
+    ∙ sym (combine_image (λ n. n / 2 ^ 1) (IsLinear-div 1) multiples q))
     is.even
     (even_sum multiples q refl multiples_parity)
 

@@ -59,7 +59,9 @@ IsLinear-checks_of =
     let sum = IsLinear-sum _ _ IsLinear-product_of IsLinear-turned in
     record {
       at_zero = ap (λ (n : ℕ). n / 2 ^ 21) sum.at_zero;
-      at_xor = λ a b. ap (λ (n : ℕ). n / 2 ^ 21) (sum.at_xor a b) ∙ xor_shr (bit_xor (product_of a) (a % 2 * 0xffffffff)) (bit_xor (product_of b) (b % 2 * 0xffffffff)) 21;
+      at_xor =
+          λ a b. ap (λ (n : ℕ). n / 2 ^ 21) (sum.at_xor a b)
+          ∙ xor_shr (bit_xor (product_of a) (a % 2 * 0xffffffff)) (bit_xor (product_of b) (b % 2 * 0xffffffff)) 21;
     }
 
 IsLinear-syndrome_of : IsLinear syndrome_of

@@ -68,7 +68,9 @@ record IsError (syndrome e : ℕ) : Type 0 where
   pub few : count_ones e ≤ 2
   pub gives : syndrome_of e ≡ syndrome
 
-sound_at : (s : ℕ) (es : List ℕ) (i j : ℕ) → are_sound s es ≡ true → i < length es → j ≡ s + i → slice_index es i ≢ 0xffffffff → IsError j (slice_index es i)
+sound_at :
+    (s : ℕ) (es : List ℕ) (i j : ℕ) → are_sound s es ≡ true → i < length es → j ≡ s + i → slice_index es i ≢ 0xffffffff →
+    IsError j (slice_index es i)
 unfolding are_sound
 sound_at s [] i j all h e far = absurd (omega arith)
 sound_at s (x ∷ xs) zero j all h e far =
@@ -78,10 +80,15 @@ sound_at s (x ∷ xs) zero j all h e far =
       | inr holds ↦
           let first = and_parts _ _ holds in
           let second = and_parts _ _ first.1 in
-          record { fits = ltb-true _ _ second.1; few = subst (λ (n : ℕ). n ≤ 2) (ones_below_is 32 x (ltb-true _ _ second.1)) (leb-true _ _ second.0); gives = eqb-true _ _ first.0 ∙ omega arith }
+          record {
+            fits = ltb-true _ _ second.1;
+            few = subst (λ (n : ℕ). n ≤ 2) (ones_below_is 32 x (ltb-true _ _ second.1)) (leb-true _ _ second.0);
+            gives = eqb-true _ _ first.0 ∙ omega arith;
+          }
     ]
 sound_at s (x ∷ xs) (suc i) j all h e far =
-    let parts = and_parts (eqb x 0xffffffff || (eqb (syndrome_of x) s && (leb (ones_below 32 x) 2 && ltb x (2 ^ 32)))) (are_sound (s + 1) xs) all in
+    let parts =
+    and_parts (eqb x 0xffffffff || (eqb (syndrome_of x) s && (leb (ones_below 32 x) 2 && ltb x (2 ^ 32)))) (are_sound (s + 1) xs) all in
     sound_at (s + 1) xs i j parts.1 (omega arith) (omega arith) far
 
 sound : (s : ℕ) → s < 2048 → slice_index ERRORS s ≢ 0xffffffff → IsError s (slice_index ERRORS s)
@@ -116,7 +123,8 @@ mended_back n e = ap (λ (x : ℕ). bit_xor x n) (xor_comm n e) ∙ xor_cancel e
 
 pub IsOnlyNear-mended : (n e : ℕ) → n < 2 ^ 32 → e ≡ slice_index ERRORS (syndrome_of n) → e ≢ 0xffffffff → IsOnlyNear n (bit_xor n e)
 IsOnlyNear-mended n e small at far =
-    let is : IsError (syndrome_of n) e = subst (λ (x : ℕ). IsError (syndrome_of n) x) (sym at) (sound (syndrome_of n) (syndrome_of-lt n) (λ none. far (at ∙ none))) in
+    let is : IsError (syndrome_of n) e =
+    subst (λ (x : ℕ). IsError (syndrome_of n) x) (sym at) (sound (syndrome_of n) (syndrome_of-lt n) (λ none. far (at ∙ none))) in
     record {
       codeword = IsCodeword-mended n e small is;
       near = subst (λ (x : ℕ). count_ones x ≤ 2) (sym (mended_back n e)) is.few;
@@ -145,7 +153,8 @@ few_same : (v w : ℕ) → IsCodeword v → IsCodeword w → count_ones (bit_xor
 few_same v w is also few =
     let s = split 32 2 2 (bit_xor v w) (xor_lt 32 v w is.fits also.fits) few in
     let none : syndrome_of (bit_xor v w) ≡ 0 = difference_syndrome v w is ∙ syndrome_of-codeword w also in
-    let e : syndrome_of s.left ≡ syndrome_of s.right = same_from_xor _ _ (sym (syndrome_of-xor s.left s.right) ∙ ap syndrome_of (sym s.sum) ∙ none) in
+    let e : syndrome_of s.left ≡ syndrome_of s.right =
+    same_from_xor _ _ (sym (syndrome_of-xor s.left s.right) ∙ ap syndrome_of (sym s.sum) ∙ none) in
     let same : s.left ≡ s.right = sparse_same _ _ s.left_fits s.right_fits s.left_few s.right_few e in
     same_from_xor v w (s.sum ∙ ap (λ (x : ℕ). bit_xor x s.right) same ∙ xor_self s.right)
 

@@ -41,7 +41,8 @@ pub combine-xor : (ts : List ℕ) (a b : ℕ) → combine ts (bit_xor a b) ≡ b
 unfolding combine
 combine-xor [] a b = refl
 combine-xor (t ∷ ts) a b =
-    ap₂ bit_xor (ap (λ (x : ℕ). x * t) (xor_mod a b 1) ∙ xor_scaled (a % 2) (b % 2) t (bit_cases a) (bit_cases b)) (ap (combine ts) (xor_shr a b 1) ∙ combine-xor ts (a / 2) (b / 2))
+    ap₂ bit_xor (ap (λ (x : ℕ). x * t) (xor_mod a b 1) ∙ xor_scaled (a % 2) (b % 2) t (bit_cases a) (bit_cases b))
+    (ap (combine ts) (xor_shr a b 1) ∙ combine-xor ts (a / 2) (b / 2))
     ∙ xor_turned (a % 2 * t) (b % 2 * t) (combine ts (a / 2)) (combine ts (b / 2))
 
 pub IsLinear-combine : (ts : List ℕ) → IsLinear (combine ts)

@@ -14,7 +14,8 @@ combine-mod [] n = refl
 combine-mod (t ∷ ts) n =
     let k = length ts in
     let e : n % 2 ^ suc k ≡ (n / 2 % 2 ^ k) * 2 + n % 2 = rw (← add-one k) (mod-pow-add n k 1) in
-    ap₂ (λ (x y : ℕ). bit_xor (x * t) (combine ts y)) (omega (arith, e)) (omega (arith, e)) ∙ ap (bit_xor (n % 2 * t)) (combine-mod ts (n / 2))
+    ap₂ (λ (x y : ℕ). bit_xor (x * t) (combine ts y)) (omega (arith, e)) (omega (arith, e))
+    ∙ ap (bit_xor (n % 2 * t)) (combine-mod ts (n / 2))
 
 -- the bits that the first columns take, and then the others
 combine-append : (ts us : List ℕ) (n m : ℕ) → m ≡ n / 2 ^ length ts → combine (ts ++ us) n ≡ bit_xor (combine ts n) (combine us m)
@@ -53,7 +54,9 @@ read : (ts table : List ℕ) (p : ℕ) → table ≡ map (combine ts) (range_wit
 read ts table p e h = ap (λ xs. slice_index xs p) e ∙ get_or-map-range_with_len (combine ts) 0 128 p p 0 h (omega arith)
 
 -- what the three tables give together
-pub check_of_tables : (d : ℕ) → d < 2 ^ 21 → bit_xor (bit_xor (slice_index LOW_CHECKS (d % 128)) (slice_index MIDDLE_CHECKS (d / 128 % 128))) (slice_index HIGH_CHECKS (d / 16384)) ≡ check_of d
+pub check_of_tables :
+    (d : ℕ) → d < 2 ^ 21 → bit_xor (bit_xor (slice_index LOW_CHECKS (d % 128)) (slice_index MIDDLE_CHECKS (d / 128 % 128)))
+    (slice_index HIGH_CHECKS (d / 16384)) ≡ check_of d
 unfolding check_of
 check_of_tables d h =
     let low = read low_columns LOW_CHECKS (d % 128) low_table (omega arith) ∙ combine-mod low_columns d in

@@ -13,12 +13,16 @@ loop-draft-init c = rw c.new-draft.ensures (record {
 
 pub returns-then-not-found-clause-ok : goal.returns-then-not-found-clause-ok
 returns-then-not-found-clause-ok c =
-    let over = c.loop-draft.invariant.rest ∙ rw (c.in_ok-found.ensures.none c.if-not-found.true) (grown_end c.loop-draft.draft c.loop-draft.earlier) in
+    let over =
+    c.loop-draft.invariant.rest ∙ rw (c.in_ok-found.ensures.none c.if-not-found.true)
+    (grown_end c.loop-draft.draft c.loop-draft.earlier) in
     rw c.into_round.ensures (said_ok _ _ over)
 
 pub returns-then-not-found-clause-err : goal.returns-then-not-found-clause-err
 returns-then-not-found-clause-err c =
-    let over = c.loop-draft.invariant.rest ∙ rw (c.in_ok-found.ensures.none c.if-not-found.true) (grown_end c.loop-draft.draft c.loop-draft.earlier) in
+    let over =
+    c.loop-draft.invariant.rest ∙ rw (c.in_ok-found.ensures.none c.if-not-found.true)
+    (grown_end c.loop-draft.draft c.loop-draft.earlier) in
     rw c.into_round.ensures (said_err _ _ over)
 
 pub returns-in-Err-clause-err : goal.returns-in-Err-clause-err
@@ -29,7 +33,8 @@ returns-in-Err-clause-err c =
       | inr f ↦
           inr
           (c.loop-draft.invariant.rest
-          ∙ rw (c.in_ok-found.ensures.found c.if-not-found.false, c.numbered.ensures) (grown_fault c.loop-draft.draft c.loop-draft.earlier _ _ c.in-Err.fault f))
+          ∙ rw (c.in_ok-found.ensures.found c.if-not-found.false, c.numbered.ensures)
+          (grown_fault c.loop-draft.draft c.loop-draft.earlier _ _ c.in-Err.fault f))
     ]
 
 pub loop-draft-preserved : goal.loop-draft-preserved
@@ -41,5 +46,6 @@ loop-draft-preserved c =
       few = judged_fine.few;
       rest =
           c.loop-draft.invariant.rest
-          ∙ rw (c.in_ok-found.ensures.found c.if-not-found.false, judged_fine.longer) (grown_on c.loop-draft.draft c.loop-draft.earlier _ _ judged_fine.fine);
+          ∙ rw (c.in_ok-found.ensures.found c.if-not-found.false, judged_fine.longer)
+          (grown_on c.loop-draft.draft c.loop-draft.earlier _ _ judged_fine.fine);
     }

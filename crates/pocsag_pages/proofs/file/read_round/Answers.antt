@@ -5,11 +5,19 @@ use Rattle.pocsag_pages.proofs.file.read_round.Goals as goal
 
 pub returns-clause-ok : goal.returns-clause-ok
 returns-clause-ok g c = λ t.
-    rw (← c.in_ok-bytes.ensures.whole t, ← c.as_slice.ensures.value, small_file c.as_slice.result.now (omega (arith, c.in_ok-bytes.ensures.fits))) c.judge_file.ensures.ok
+    rw (
+      ← c.in_ok-bytes.ensures.whole t,
+      ← c.as_slice.ensures.value,
+      small_file c.as_slice.result.now (omega (arith, c.in_ok-bytes.ensures.fits)),
+    ) c.judge_file.ensures.ok
 
 pub returns-clause-err : goal.returns-clause-err
 returns-clause-err g c = λ t.
-    rw (← c.in_ok-bytes.ensures.whole t, ← c.as_slice.ensures.value, small_file c.as_slice.result.now (omega (arith, c.in_ok-bytes.ensures.fits)))
+    rw (
+      ← c.in_ok-bytes.ensures.whole t,
+      ← c.as_slice.ensures.value,
+      small_file c.as_slice.result.now (omega (arith, c.in_ok-bytes.ensures.fits)),
+    )
     (IfErr-weaker c.judge_file.result _ _ (λ e h. elim h [ inl memory ↦ inl memory | inr v ↦ inr (inr v) ]) c.judge_file.ensures.err)
 
 pub returns-clause-failed : goal.returns-clause-failed

@@ -12,11 +12,19 @@ loop-index-init c = record { draft = draft_none _ c.new-seen.ensures.empty; rest
 
 pub overflow_cast-number : goal.overflow_cast-number
 overflow_cast-number c =
-    omega (arith, few c.args.pages.now c.loop-index.index c.index-pages-index.result c.loop-index-test.true c.index-pages-index.is c.loop-index.invariant.draft.good)
+    omega (
+      arith,
+      few c.args.pages.now c.loop-index.index c.index-pages-index.result c.loop-index-test.true c.index-pages-index.is
+          c.loop-index.invariant.draft.good,
+    )
 
 pub overflow_add-number : goal.overflow_add-number
 overflow_add-number c =
-    omega (arith, few c.args.pages.now c.loop-index.index c.index-pages-index.result c.loop-index-test.true c.index-pages-index.is c.loop-index.invariant.draft.good)
+    omega (
+      arith,
+      few c.args.pages.now c.loop-index.index c.index-pages-index.result c.loop-index-test.true c.index-pages-index.is
+          c.loop-index.invariant.draft.good,
+    )
 
 pub returns-in-Some-clause-err : goal.returns-in-Some-clause-err
 returns-in-Some-clause-err c =
@@ -39,7 +47,9 @@ returns-then-not-added-clause-err c =
     let p = c.index-pages-index.result in
     let within = c.loop-index-test.true in
     let here = c.index-pages-index.is in
-    let there = was_there (take i ps) c.loop-index.seen p.address c.in_ok-added.added c.loop-index.invariant.draft c.in_ok-added.ensures.added c.if-not-added.true in
+    let there =
+    was_there (take i ps) c.loop-index.seen p.address c.in_ok-added.added c.loop-index.invariant.draft c.in_ok-added.ensures.added
+    c.if-not-added.true in
     let f = again ps i p within here (sym c.in_default.ensures) there in
     inr (c.loop-index.invariant.rest ∙ rw (left ps i p within here) (fault_here (take i ps) _ p _ f))
 
@@ -51,10 +61,15 @@ loop-index-preserved c =
     let within = c.loop-index-test.true in
     let here = c.index-pages-index.is in
     let unbroken : page_fault_of p ≡ None = sym c.in_default.ensures in
-    let another = was_new (take i ps) c.loop-index.seen p.address c.in_ok-added.added c.loop-index.invariant.draft c.in_ok-added.ensures.added c.if-not-added.false in
+    let another =
+    was_new (take i ps) c.loop-index.seen p.address c.in_ok-added.added c.loop-index.invariant.draft c.in_ok-added.ensures.added
+    c.if-not-added.false in
     record {
-      draft = rw (taken ps i p within here) (draft_push _ _ _ p c.loop-index.invariant.draft unbroken another c.in_ok-added.ensures.updates);
-      rest = c.loop-index.invariant.rest ∙ rw (left ps i p within here, taken ps i p within here) (fault_later (take i ps) _ p (fine ps i p within here unbroken another));
+      draft =
+          rw (taken ps i p within here) (draft_push _ _ _ p c.loop-index.invariant.draft unbroken another c.in_ok-added.ensures.updates);
+      rest =
+          c.loop-index.invariant.rest ∙ rw (left ps i p within here, taken ps i p within here)
+          (fault_later (take i ps) _ p (fine ps i p within here unbroken another));
     }
 
 pub returns-clause-ok : goal.returns-clause-ok

@@ -28,14 +28,21 @@ pub returns-then-not-is_ascii_digit : goal.returns-then-not-is_ascii_digit
 returns-then-not-is_ascii_digit c =
     let digits = c.args.digits.now in
     let i = c.loop-digit.digit-index in
-    sym (c.loop-digit.invariant.rest ∙ rw (drop_more digits i 0 c.loop-digit-test.true) (decimal_stops _ _ _ (sym c.is_ascii_digit.ensures.value ∙ c.if-not-is_ascii_digit.true)))
+    sym (c.loop-digit.invariant.rest
+    ∙ rw (drop_more digits i 0 c.loop-digit-test.true)
+    (decimal_stops _ _ _ (sym c.is_ascii_digit.ensures.value ∙ c.if-not-is_ascii_digit.true)))
 
 pub overflow_mul-value : goal.overflow_mul-value
 overflow_mul-value c = omega (arith, ten_low c.loop-digit.digit-index c.loop-digit.value (omega arith) c.loop-digit.invariant.small)
 
 pub overflow_add-value : goal.overflow_add-value
 overflow_add-value c =
-    omega (arith, ten_low c.loop-digit.digit-index c.loop-digit.value (omega arith) c.loop-digit.invariant.small, digit_small (get_or c.args.digits.now c.loop-digit.digit-index 0) (sym c.is_ascii_digit.ensures.value ∙ c.if-not-is_ascii_digit.false))
+    omega (
+      arith,
+      ten_low c.loop-digit.digit-index c.loop-digit.value (omega arith) c.loop-digit.invariant.small,
+      digit_small (get_or c.args.digits.now c.loop-digit.digit-index 0)
+          (sym c.is_ascii_digit.ensures.value ∙ c.if-not-is_ascii_digit.false),
+    )
 
 pub loop-digit-preserved : goal.loop-digit-preserved
 loop-digit-preserved c =

@@ -9,7 +9,9 @@ has_field [] i h e = absurd (omega arith)
 has_field (f ∷ rows) zero h e = cc
 has_field (f ∷ rows) (suc i) h e = has_field rows i (omega arith) e
 
-three_are : (rows : List (List ℕ)) (a b c : List ℕ) → length rows ≡ 3 → Some a ≡ field_at rows 0 → Some b ≡ field_at rows 1 → Some c ≡ field_at rows 2 → rows ≡ a ∷ b ∷ c ∷ []
+three_are :
+    (rows : List (List ℕ)) (a b c : List ℕ) → length rows ≡ 3 → Some a ≡ field_at rows 0 → Some b ≡ field_at rows 1 →
+    Some c ≡ field_at rows 2 → rows ≡ a ∷ b ∷ c ∷ []
 unfolding field_at
 three_are [] a b c n x y z = absurd (omega arith)
 three_are (f ∷ []) a b c n x y z = absurd (omega arith)
@@ -31,4 +33,5 @@ returns-in_err-get-3-clause-none c =
 
 pub returns-clause-some : goal.returns-clause-some
 returns-clause-some c =
-    three_are (fields_of c.args.row.now) _ _ _ (omega arith) c.in_ok-get.ensures.value c.in_ok-get-2.ensures.value c.in_ok-get-3.ensures.value
+    three_are (fields_of c.args.row.now) _ _ _ (omega arith) c.in_ok-get.ensures.value c.in_ok-get-2.ensures.value
+    c.in_ok-get-3.ensures.value

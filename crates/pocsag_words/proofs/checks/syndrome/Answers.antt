@@ -6,5 +6,6 @@ use Rattle.pocsag_words.proofs.checks.syndrome.Goals as goal
 pub returns : goal.returns
 unfolding syndrome_of
 returns c =
-    let value : bit_xor (c.args.number % 2048) c.check_bits.result ≡ syndrome_of c.args.number = ap (bit_xor (c.args.number % 2048)) c.check_bits.ensures.value in
+    let value : bit_xor (c.args.number % 2048) c.check_bits.result ≡ syndrome_of c.args.number =
+    ap (bit_xor (c.args.number % 2048)) c.check_bits.ensures.value in
     record { value = value; small = subst (λ (n : ℕ). n < 2048) (sym value) (syndrome_of-lt c.args.number) }

@@ -12,10 +12,13 @@ new-requires c =
 pub returns-then-error : goal.returns-then-error
 returns-then-error c =
     let at : c.error_at-error.result ≡ slice_index ERRORS c.syndrome.result = c.error_at-error.ensures in
-    HasNoneNear-from_far c.args.number c.ranges.number.fits (ap (slice_index ERRORS) (sym c.syndrome.ensures.value) ∙ sym at ∙ c.if-error.true)
+    HasNoneNear-from_far c.args.number c.ranges.number.fits
+    (ap (slice_index ERRORS) (sym c.syndrome.ensures.value) ∙ sym at ∙ c.if-error.true)
 
 pub returns-else-error : goal.returns-else-error
 returns-else-error c =
     let at : c.error_at-error.result ≡ slice_index ERRORS c.syndrome.result = c.error_at-error.ensures in
-    let near = IsOnlyNear-mended c.args.number c.error_at-error.result c.ranges.number.fits (at ∙ ap (slice_index ERRORS) c.syndrome.ensures.value) c.if-error.false in
+    let near =
+    IsOnlyNear-mended c.args.number c.error_at-error.result c.ranges.number.fits
+    (at ∙ ap (slice_index ERRORS) c.syndrome.ensures.value) c.if-error.false in
     subst (λ (v : ℕ). IsOnlyNear c.args.number v) (sym c.new.ensures) near

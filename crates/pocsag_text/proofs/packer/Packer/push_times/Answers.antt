@@ -9,4 +9,5 @@ loop-time-init c = sym (append-nil c.args.self.now)
 
 pub loop-time-preserved : goal.loop-time-preserved
 loop-time-preserved c =
-    times_more (low_first c.args.width) c.args.self.now c.loop-time.self c.push.new.self c.loop-time._time c.args.code c.loop-time.invariant c.in_ok-push.ensures
+    times_more (low_first c.args.width) c.args.self.now c.loop-time.self c.push.new.self c.loop-time._time c.args.code
+    c.loop-time.invariant c.in_ok-push.ensures

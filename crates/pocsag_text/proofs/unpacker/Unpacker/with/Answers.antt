@@ -31,4 +31,5 @@ loop-count-preserved g c =
     let l = c.loop-count in
     let few : l.count - g.row.W < 20 = omega arith in
     rw (c.in_ok-push.ensures.items, lowest l.held (l.count - g.row.W) few)
-    (IsTaking-more g.row.W l.codes.items l.count l.held c.mirrored.result _ l.invariant c.loop-count-test.true c.mirrored.ensures.fits c.mirrored.ensures.unpacked)
+    (IsTaking-more g.row.W l.codes.items l.count l.held c.mirrored.result _ l.invariant c.loop-count-test.true c.mirrored.ensures.fits
+    c.mirrored.ensures.unpacked)
