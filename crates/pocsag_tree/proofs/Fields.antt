@@ -25,6 +25,15 @@ pub guard_ok : {A : Type 0} (b : Bool) (x y : A) (d : CertificateFault) → cond
 guard_ok true x y d e = (refl, cc)
 guard_ok false x y d e = absurd cc
 
+-- a test that went the other way, and one that went this way
+pub guard_other : {A : Type 0} (b : Bool) (d : CertificateFault) (r : Result A CertificateFault) (y : A) → cond b (Err d) r ≡ Ok y → (b ≡ false) × (r ≡ Ok y)
+guard_other true d r y e = absurd cc
+guard_other false d r y e = (refl, e)
+
+pub guard_then : {A : Type 0} (b : Bool) (d : CertificateFault) (r : Result A CertificateFault) (y : A) → cond b r (Err d) ≡ Ok y → (b ≡ true) × (r ≡ Ok y)
+guard_then true d r y e = (refl, e)
+guard_then false d r y e = absurd cc
+
 -- the way that a test went
 pub chosen : {X : Type 0} (b : Bool) (x y z : X) → cond b x y ≡ z → ((b ≡ true) × (x ≡ z)) ⊎ ((b ≡ false) × (y ≡ z))
 chosen true x y z e = inl (refl, e)
@@ -106,8 +115,8 @@ pub record TwoIs (bytes : List ℕ) (n : ℕ) (rest : List ℕ) : Type 0 where
 pub number_is : (bytes : List ℕ) (x : ℕ × List ℕ) → number_at bytes ≡ Ok x → TwoIs bytes x.0 x.1
 unfolding number_at
 number_is bytes x e =
-    let a = bind_ok (byte_at bytes) (λ high. byte_at high.1 >>= λ low. Ok (high.0 * 256 + low.0, low.1)) x e in
-    let b = bind_ok (byte_at a.0.1) (λ low. Ok (a.0.0 * 256 + low.0, low.1)) x a.2 in
+    let a = bind_ok (byte_at bytes) _ x e in
+    let b = bind_ok (byte_at a.0.1) _ x a.2 in
     let high = byte_is bytes a.0 a.1 in
     let low = byte_is a.0.1 b.0 b.1 in
     let made : ℕ × List ℕ = (a.0.0 * 256 + b.0.0, b.0.1) in
@@ -165,7 +174,7 @@ range_true low high n a b = and_from (leb low n) (leb n high) (le-leb _ _ a) (le
 pub small_takes : (low high : ℕ) (bytes : List ℕ) (x : ℕ × List ℕ) → small_at low high bytes ≡ Ok x → ByteIs bytes x.0 x.1 × InRange low high x.0
 unfolding small_at
 small_takes low high bytes x e =
-    let a = bind_ok (byte_at bytes) (λ n. cond (leb low n.0 && leb n.0 high) (Ok n) (Err fault.BadField)) x e in
+    let a = bind_ok (byte_at bytes) _ x e in
     let g = guard_ok (leb low a.0.0 && leb a.0.0 high) a.0 x fault.BadField a.2 in
     subst (λ (y : ℕ × List ℕ). ByteIs bytes y.0 y.1 × InRange low high y.0) g.1 (byte_is bytes a.0 a.1, range_is low high a.0.0 g.0)
 
@@ -176,7 +185,7 @@ small_again low high n rest a b lt = rw (byte_again n rest lt, range_true low hi
 pub large_takes : (low high : ℕ) (bytes : List ℕ) (x : ℕ × List ℕ) → large_at low high bytes ≡ Ok x → (bytes ≡ to_be_bytes w16 x.0 ++ x.1) × (x.0 < 2 ^ 16) × InRange low high x.0
 unfolding large_at
 large_takes low high bytes x e =
-    let a = bind_ok (number_at bytes) (λ n. cond (leb low n.0 && leb n.0 high) (Ok n) (Err fault.BadField)) x e in
+    let a = bind_ok (number_at bytes) _ x e in
     let g = guard_ok (leb low a.0.0 && leb a.0.0 high) a.0 x fault.BadField a.2 in
     let t = number_takes bytes a.0 a.1 in
     subst (λ (y : ℕ × List ℕ). (bytes ≡ to_be_bytes w16 y.0 ++ y.1) × (y.0 < 2 ^ 16) × InRange low high y.0) g.1 (t.0, t.1, range_is low high a.0.0 g.0)
@@ -209,8 +218,8 @@ four_from_twos bytes middle rest h l p q =
 pub long_number_is : (bytes : List ℕ) (x : ℕ × List ℕ) → long_number_at bytes ≡ Ok x → FourIs bytes x.0 x.1
 unfolding long_number_at
 long_number_is bytes x e =
-    let a = bind_ok (number_at bytes) (λ high. number_at high.1 >>= λ low. Ok (high.0 * 65536 + low.0, low.1)) x e in
-    let b = bind_ok (number_at a.0.1) (λ low. Ok (a.0.0 * 65536 + low.0, low.1)) x a.2 in
+    let a = bind_ok (number_at bytes) _ x e in
+    let b = bind_ok (number_at a.0.1) _ x a.2 in
     let built : ℕ × List ℕ = (a.0.0 * 65536 + b.0.0, b.0.1) in
     subst (λ (y : ℕ × List ℕ). FourIs bytes y.0 y.1) (ok_is built x b.2)
     (four_from_twos bytes a.0.1 b.0.1 a.0.0 b.0.0 (number_is bytes a.0 a.1) (number_is a.0.1 b.0 b.1))
@@ -232,7 +241,7 @@ long_number_short bytes f e given =
 pub batches_takes : (bytes : List ℕ) (x : ℕ × List ℕ) → batches_at bytes ≡ Ok x → FourIs bytes x.0 x.1 × (1 ≤ x.0)
 unfolding batches_at
 batches_takes bytes x e =
-    let a = bind_ok (long_number_at bytes) (λ n. cond (leb 1 n.0) (Ok n) (Err fault.BadField)) x e in
+    let a = bind_ok (long_number_at bytes) _ x e in
     let g = guard_ok (leb 1 a.0.0) a.0 x fault.BadField a.2 in
     subst (λ (y : ℕ × List ℕ). FourIs bytes y.0 y.1 × (1 ≤ y.0)) g.1 (long_number_is bytes a.0 a.1, leb-true _ _ g.0)
 

@@ -11,7 +11,7 @@ use Rattle.pocsag_tree.specs.Views.{bound_of}
 use Rattle.pocsag_tree.specs.Spelling.{IsText}
 use Rattle.pocsag_tree.specs.Parts.{HasFirst}
 use Rattle.pocsag_tree.specs.Answers.{IsRefusal, AnswersTriple, AnswersFault, IsFault, HasNoFault}
-use Rattle.pocsag_tree.specs.Reading.{◌>>=◌, Fails, Gives, IsWanting, end_at, certificate_at, all_of}
+use Rattle.pocsag_tree.specs.Reading.{Fails, Gives, IsWanting, end_at, certificate_at, all_of}
 use Rattle.pocsag_tree.proofs.Fields.{bind_ok, ok_is}
 use Rattle.pocsag_tree.proofs.Rows.{fails_along}
 use Rattle.pocsag_tree.proofs.Texts.{certificate_takes, certificate_again}
@@ -26,8 +26,8 @@ end_takes (b ∷ bytes) x e = absurd cc
 pub all_takes : (bytes : List ℕ) (x : End × ℕ × Bound) → all_of bytes ≡ Ok x → IsText x.0 x.1 x.2 bytes
 unfolding all_of
 all_takes bytes x e =
-    let a = bind_ok (certificate_at bytes) (λ read. end_at read.3 >>= λ finished. Ok (read.0, read.1, read.2)) x e in
-    let b = bind_ok (end_at a.0.3) (λ finished. Ok (a.0.0, a.0.1, a.0.2)) x a.2 in
+    let a = bind_ok (certificate_at bytes) _ x e in
+    let b = bind_ok (end_at a.0.3) _ x a.2 in
     let t = certificate_takes bytes a.0 a.1 in
     let all : t.0 ≡ bytes = sym (t.2 ∙ ap (λ (y : List ℕ). t.0 ++ y) (end_takes a.0.3 b.0 b.1) ∙ append-nil t.0) in
     let built : End × ℕ × Bound = (a.0.0, a.0.1, a.0.2) in
