@@ -19,43 +19,41 @@ row_leads : (r : Ranges) (depth : ℕ) (child : Reader) → NodeLeads r depth ch
 unfolding row_at
 row_leads r depth child leads zero parts nodes bytes = λ v m. m
 row_leads r depth child leads (suc n) parts nodes bytes =
-    then_leads (at (replicate (suc n) (node r depth) ++ parts) nodes bytes) (past (replicate n (node r depth) ++ parts)) (past parts) (child nodes bytes) (λ first. row_at child n first.1 first.2 >>= λ others. Ok (more first.0 others.0, others.1, others.2))
-    (leads (replicate n (node r depth) ++ parts) nodes bytes)
-    (λ first is. then_leads (at (replicate n (node r depth) ++ parts) first.1 first.2) (past parts) (past parts) (row_at child n first.1 first.2) (λ others. Ok (more first.0 others.0, others.1, others.2))
-    (row_leads r depth child leads n parts first.1 first.2)
+    then_leads _ _ _ _ _ (leads (replicate n (node r depth) ++ parts) nodes bytes)
+    (λ first is. then_leads _ _ _ _ _ (row_leads r depth child leads n parts first.1 first.2)
     (λ others same. λ v m. m))
 
 overload_leads : (parts : List Part) (nodes : ℕ) (bytes : List ℕ) → Leads (at (field w16 1 65535 ∷ parts) nodes bytes) (past parts) (overload_at nodes bytes)
 unfolding overload_at
 overload_leads parts nodes bytes =
-    then_leads (at (field w16 1 65535 ∷ parts) nodes bytes) (λ x. at parts nodes x.1) (past parts) (large_at 1 65535 bytes) (λ set. Ok (overload set.0, nodes, set.1)) (large_leads 1 65535 nodes parts bytes) (λ x is. λ v m. m)
+    then_leads _ _ _ _ _ (large_leads 1 65535 nodes parts bytes) (λ x is. λ v m. m)
 
 split_leads : (r : Ranges) (depth : ℕ) (child : Reader) → NodeLeads r depth child → (parts : List Part) (nodes : ℕ) (bytes : List ℕ)
     → Leads (at (field w8 0 r.class ∷ field w16 1 r.m ∷ node r depth ∷ node r depth ∷ parts) nodes bytes) (past parts) (split_at r child nodes bytes)
 unfolding split_at
 split_leads r depth child leads parts nodes bytes =
-    then_leads (at (field w8 0 r.class ∷ field w16 1 r.m ∷ node r depth ∷ node r depth ∷ parts) nodes bytes) (λ x. at (field w16 1 r.m ∷ node r depth ∷ node r depth ∷ parts) nodes x.1) (past parts) (small_at 0 r.class bytes) _ (small_leads 0 r.class nodes (field w16 1 r.m ∷ node r depth ∷ node r depth ∷ parts) bytes)
-    (λ class is. then_leads (at (field w16 1 r.m ∷ node r depth ∷ node r depth ∷ parts) nodes class.1) (λ x. at (node r depth ∷ node r depth ∷ parts) nodes x.1) (past parts) (large_at 1 r.m class.1) _ (large_leads 1 r.m nodes (node r depth ∷ node r depth ∷ parts) class.1)
-    (λ m is. then_leads (at (node r depth ∷ node r depth ∷ parts) nodes m.1) (past (node r depth ∷ parts)) (past parts) (child nodes m.1) _ (leads (node r depth ∷ parts) nodes m.1)
-    (λ below is. then_leads (at (node r depth ∷ parts) below.1 below.2) (past parts) (past parts) (child below.1 below.2) _ (leads parts below.1 below.2)
+    then_leads _ _ _ _ _ (small_leads 0 r.class nodes (field w16 1 r.m ∷ node r depth ∷ node r depth ∷ parts) bytes)
+    (λ class is. then_leads _ _ _ _ _ (large_leads 1 r.m nodes (node r depth ∷ node r depth ∷ parts) class.1)
+    (λ m is. then_leads _ _ _ _ _ (leads (node r depth ∷ parts) nodes m.1)
+    (λ below is. then_leads _ _ _ _ _ (leads parts below.1 below.2)
     (λ above is. λ v m. m))))
 
 cut_leads : (r : Ranges) (depth : ℕ) (child : Reader) → NodeLeads r depth child → (parts : List Part) (nodes : ℕ) (bytes : List ℕ)
     → Leads (at (field w16 1 65535 ∷ field w8 0 r.class ∷ children r depth w16 2 r.children ∷ parts) nodes bytes) (past parts) (cut_at r child nodes bytes)
 unfolding cut_at
 cut_leads r depth child leads parts nodes bytes =
-    then_leads (at (field w16 1 65535 ∷ field w8 0 r.class ∷ children r depth w16 2 r.children ∷ parts) nodes bytes) (λ x. at (field w8 0 r.class ∷ children r depth w16 2 r.children ∷ parts) nodes x.1) (past parts) (large_at 1 65535 bytes) _ (large_leads 1 65535 nodes (field w8 0 r.class ∷ children r depth w16 2 r.children ∷ parts) bytes)
-    (λ set is. then_leads (at (field w8 0 r.class ∷ children r depth w16 2 r.children ∷ parts) nodes set.1) (λ x. at (children r depth w16 2 r.children ∷ parts) nodes x.1) (past parts) (small_at 0 r.class set.1) _ (small_leads 0 r.class nodes (children r depth w16 2 r.children ∷ parts) set.1)
-    (λ needed is. then_leads (at (children r depth w16 2 r.children ∷ parts) nodes needed.1) (λ x. at (replicate x.0 (node r depth) ++ parts) nodes x.1) (past parts) (large_at 2 r.children needed.1) _ (many_leads r depth 2 r.children nodes parts needed.1)
-    (λ count is. then_leads (at (replicate count.0 (node r depth) ++ parts) nodes count.1) (past parts) (past parts) (row_at child count.0 nodes count.1) _ (row_leads r depth child leads count.0 parts nodes count.1)
+    then_leads _ _ _ _ _ (large_leads 1 65535 nodes (field w8 0 r.class ∷ children r depth w16 2 r.children ∷ parts) bytes)
+    (λ set is. then_leads _ _ _ _ _ (small_leads 0 r.class nodes (children r depth w16 2 r.children ∷ parts) set.1)
+    (λ needed is. then_leads _ _ _ _ _ (many_leads r depth 2 r.children nodes parts needed.1)
+    (λ count is. then_leads _ _ _ _ _ (row_leads r depth child leads count.0 parts nodes count.1)
     (λ children is. λ v m. m))))
 
 close_leads : (r : Ranges) (depth : ℕ) (child : Reader) → NodeLeads r depth child → (parts : List Part) (nodes : ℕ) (bytes : List ℕ)
     → Leads (at (children r depth w8 1 2 ∷ parts) nodes bytes) (past parts) (close_at child nodes bytes)
 unfolding close_at
 close_leads r depth child leads parts nodes bytes =
-    then_leads (at (children r depth w8 1 2 ∷ parts) nodes bytes) (λ x. at (replicate x.0 (node r depth) ++ parts) nodes x.1) (past parts) (small_at 1 2 bytes) _ (few_leads r depth 1 2 nodes parts bytes)
-    (λ count is. then_leads (at (replicate count.0 (node r depth) ++ parts) nodes count.1) (past parts) (past parts) (row_at child count.0 nodes count.1) _ (row_leads r depth child leads count.0 parts nodes count.1)
+    then_leads _ _ _ _ _ (few_leads r depth 1 2 nodes parts bytes)
+    (λ count is. then_leads _ _ _ _ _ (row_leads r depth child leads count.0 parts nodes count.1)
     (λ children is. λ v m. m))
 
 -- the same test on both sides

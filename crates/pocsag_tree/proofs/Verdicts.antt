@@ -66,8 +66,7 @@ version_leads parts bytes = of_byte parts bytes (byte_at bytes) (one_byte bytes)
         (λ s. cond_both (eqb x.0 0x32) (small_at 0 1 x.1 >>= λ end. Ok (second_ranges, end_of end.0, end.1)) (Err fault.Version) (Leads (at (version ∷ parts) 0 bytes) (behind_version parts))
         (λ t. along (at (version ∷ parts) 0 bytes) (at (field w8 0 1 ∷ field w32 1 (2 ^ 32 - 1) ∷ node second_ranges 1 ∷ parts) 0 x.1) (behind_version parts) (small_at 0 1 x.1 >>= λ end. Ok (second_ranges, end_of end.0, end.1))
         (λ v m. right_part version (field w8 0 1 ∷ field w32 1 (2 ^ 32 - 1) ∷ node second_ranges 1 ∷ []) parts 0 x.0 bytes x.1 v refl (reads.value x refl) (rw (s, t) refl) m)
-        (then_leads (at (field w8 0 1 ∷ field w32 1 (2 ^ 32 - 1) ∷ node second_ranges 1 ∷ parts) 0 x.1) (λ y. at (field w32 1 (2 ^ 32 - 1) ∷ node second_ranges 1 ∷ parts) 0 y.1) (behind_version parts) (small_at 0 1 x.1) (λ end. Ok (second_ranges, end_of end.0, end.1))
-        (small_leads 0 1 0 (field w32 1 (2 ^ 32 - 1) ∷ node second_ranges 1 ∷ parts) x.1) (λ y is. λ v m. m)))
+        (then_leads _ _ _ _ _ (small_leads 0 1 0 (field w32 1 (2 ^ 32 - 1) ∷ node second_ranges 1 ∷ parts) x.1) (λ y is. λ v m. m)))
         (λ t. λ given. wrong_part version parts 0 x.0 bytes x.1 fault.Version refl (reads.value x refl) (rw (s, t) refl)))
 
 batches_leads : (nodes : ℕ) (parts : List Part) (bytes : List ℕ) → Leads (at (field w32 1 (2 ^ 32 - 1) ∷ parts) nodes bytes) (λ x. at parts nodes x.1) (batches_at bytes)
@@ -94,12 +93,12 @@ certificate_leads : (bytes : List ℕ) → Leads (at certificate 0 bytes) (λ x.
 unfolding certificate_at
 certificate_leads bytes =
     let last : End × ℕ × Bound × List ℕ → Place = λ x. at [] 0 x.3 in
-    then_leads (at certificate 0 bytes) (λ a. at (mark 0x43 ∷ mark 0x42 ∷ version ∷ []) 0 a) last (mark_at 0x50 bytes) _ (mark_leads 0x50 (mark 0x43 ∷ mark 0x42 ∷ version ∷ []) bytes)
-    (λ a is. then_leads (at (mark 0x43 ∷ mark 0x42 ∷ version ∷ []) 0 a) (λ b. at (mark 0x42 ∷ version ∷ []) 0 b) last (mark_at 0x43 a) _ (mark_leads 0x43 (mark 0x42 ∷ version ∷ []) a)
-    (λ b is. then_leads (at (mark 0x42 ∷ version ∷ []) 0 b) (λ c. at (version ∷ []) 0 c) last (mark_at 0x42 b) _ (mark_leads 0x42 (version ∷ []) b)
-    (λ c is. then_leads (at (version ∷ []) 0 c) (behind_version []) last (version_at c) _ (version_leads [] c)
-    (λ x is. then_leads (behind_version [] x) (λ y. at (node x.0 1 ∷ []) 0 y.1) last (batches_at x.2) _ (batches_leads 0 (node x.0 1 ∷ []) x.2)
-    (λ y is. then_leads (at (node x.0 1 ∷ []) 0 y.1) (past []) last (node_at x.0 greatest_depth 0 y.1) _ (node_leads x.0 greatest_depth 1 refl [] 0 y.1)
+    then_leads _ _ _ _ _ (mark_leads 0x50 (mark 0x43 ∷ mark 0x42 ∷ version ∷ []) bytes)
+    (λ a is. then_leads _ _ _ _ _ (mark_leads 0x43 (mark 0x42 ∷ version ∷ []) a)
+    (λ b is. then_leads _ _ _ _ _ (mark_leads 0x42 (version ∷ []) b)
+    (λ c is. then_leads _ _ _ _ _ (version_leads [] c)
+    (λ x is. then_leads _ _ _ _ _ (batches_leads 0 (node x.0 1 ∷ []) x.2)
+    (λ y is. then_leads _ _ _ _ _ (node_leads x.0 greatest_depth 1 refl [] 0 y.1)
     (λ tree is. λ v m. any_nodes tree.1 m))))))
 
 end_verdict : (bytes : List ℕ) (nodes : ℕ) (r : Result (Unit {0}) CertificateFault) → end_at bytes ≡ r → Leads (at [] nodes bytes) (λ _. at [] 0 []) r
@@ -122,5 +121,5 @@ pub all_verdict : (bytes : List ℕ) → HasVerdict bytes (all_of bytes)
 unfolding all_of
 all_verdict bytes =
     verdict_from bytes (certificate_at bytes >>= λ x. end_at x.3 >>= λ finished. Ok (x.0, x.1, x.2))
-    (then_leads (at certificate 0 bytes) (λ x. at [] 0 x.3) (λ _. at [] 0 []) (certificate_at bytes) (λ x. end_at x.3 >>= λ finished. Ok (x.0, x.1, x.2)) (certificate_leads bytes)
-    (λ x is. then_leads (at [] 0 x.3) (λ _. at [] 0 []) (λ _. at [] 0 []) (end_at x.3) (λ finished. Ok (x.0, x.1, x.2)) (end_verdict x.3 0 (end_at x.3) refl) (λ finished same. λ v m. m)))
+    (then_leads _ _ _ _ _ (certificate_leads bytes)
+    (λ x is. then_leads _ _ _ _ _ (end_verdict x.3 0 (end_at x.3) refl) (λ finished same. λ v m. m)))
