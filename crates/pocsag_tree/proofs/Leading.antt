@@ -37,7 +37,7 @@ then_leads from middle to (Err d) f first second = first
 pub right_part : (part : Part) (asked parts : List Part) (nodes n : ℕ) (bytes rest : List ℕ) (v : Option CertificateFault)
     → early_fault part nodes ≡ None → NumberIs (width_of part) bytes n rest → judged part n ≡ Ok asked → Meets (asked ++ parts) (nodes_with part nodes) rest v → Meets (part ∷ parts) nodes bytes v
 right_part part asked parts nodes n bytes rest v fine number judges m =
-    right fine number.long (ap (judged part) number.value ∙ judges) (subst (λ (b : List ℕ). Meets (asked ++ parts) (nodes_with part nodes) b v) (sym number.after) m)
+    right fine number.long (ap (judged part) number.value ∙ judges) (subst (λ b. Meets (asked ++ parts) (nodes_with part nodes) b v) (sym number.after) m)
 
 pub wrong_part : (part : Part) (parts : List Part) (nodes n : ℕ) (bytes rest : List ℕ) (f : CertificateFault)
     → early_fault part nodes ≡ None → NumberIs (width_of part) bytes n rest → judged part n ≡ Err f → Meets (part ∷ parts) nodes bytes (Some f)
@@ -47,7 +47,7 @@ wrong_part part parts nodes n bytes rest f fine number judges =
 pub short_part : (part : Part) (parts : List Part) (nodes : ℕ) (bytes : List ℕ) (f : CertificateFault)
     → early_fault part nodes ≡ None → IsShort (width_of part) bytes f → Meets (part ∷ parts) nodes bytes (Some f)
 short_part part parts nodes bytes f fine s =
-    subst (λ (e : CertificateFault). Meets (part ∷ parts) nodes bytes (Some e)) (sym s.truncated) (short fine s.short)
+    subst (λ e. Meets (part ∷ parts) nodes bytes (Some e)) (sym s.truncated) (short fine s.short)
 
 -- what a reader of numbers of this width gives
 pub record ReadsNumber (w : Width) (bytes : List ℕ) (r : Result (ℕ × List ℕ) CertificateFault) : Type 0 where
@@ -69,7 +69,7 @@ ranged part asked low high nodes parts bytes (Err f) fine same judges reads = λ
 ranged part asked low high nodes parts bytes (Ok x) fine same judges reads =
     cond_both (leb low x.0 && leb x.0 high) (Ok x) (Err fault.BadField)
     (Leads (record { wanted = part ∷ parts; nodes = nodes; bytes = bytes }) (λ (y : ℕ × List ℕ). record { wanted = asked y.0 ++ parts; nodes = nodes; bytes = y.1 }))
-    (λ t. λ v m. right_part part (asked x.0) parts nodes x.0 bytes x.1 v fine (reads.value x refl) (judges x.0 ∙ rw t refl) (subst (λ (n : ℕ). Meets (asked x.0 ++ parts) n x.1 v) (sym same) m))
+    (λ t. λ v m. right_part part (asked x.0) parts nodes x.0 bytes x.1 v fine (reads.value x refl) (judges x.0 ∙ rw t refl) (subst (λ n. Meets (asked x.0 ++ parts) n x.1 v) (sym same) m))
     (λ t. λ given. wrong_part part parts nodes x.0 bytes x.1 fault.BadField fine (reads.value x refl) (judges x.0 ∙ rw t refl))
 
 pub small_leads : (low high nodes : ℕ) (parts : List Part) (bytes : List ℕ)

@@ -67,7 +67,7 @@ tagged_again : (r : Ranges) (child : Reader) (t : Bound) (made nodes : ℕ) (res
 unfolding tagged_at
 tagged_again r child t made nodes rest v in_range body =
     let tag : ltb r.tag (tag_of t) ≡ false = le-ltb _ _ (tag-most r t v in_range) in
-    let text : node t ++ rest ≡ tag_of t ∷ behind t ++ rest = ap (λ (x : List ℕ). x ++ rest) (node-behind t) in
+    let text : node t ++ rest ≡ tag_of t ∷ behind t ++ rest = ap (λ x. x ++ rest) (node-behind t) in
     ap (tagged_at r child made) text ∙ rw (byte_again (tag_of t) (behind t ++ rest) (tag-small t), tag) body
 
 node_step : (r : Ranges) (d made : ℕ) (bytes : List ℕ) (x : Result (Read Bound) CertificateFault) → made < most_nodes → tagged_at r (node_at r d) made bytes ≡ x → node_at r (suc d) made bytes ≡ x
@@ -84,7 +84,7 @@ split_again : (r : Ranges) (child : Reader) (class m : ℕ) (below above : Bound
 unfolding body_at split_at
 split_again r child class m below above made first second rest v c some most p q =
     let tail = to_be_bytes w16 m ++ (node below ++ (node above ++ rest)) in
-    let text : behind (split class m below above) ++ rest ≡ class ∷ tail = ap (λ (x : List ℕ). class ∷ to_be_bytes w16 m ++ x) (append_assoc (node below) (node above) rest) in
+    let text : behind (split class m below above) ++ rest ≡ class ∷ tail = ap (λ x. class ∷ to_be_bytes w16 m ++ x) (append_assoc (node below) (node above) rest) in
     let a : small_at 0 r.class (class ∷ tail) ≡ Ok (class, tail) = small_again 0 r.class class tail (omega arith) c (omega (arith, v.class)) in
     let b : large_at 1 r.m tail ≡ Ok (m, node below ++ (node above ++ rest)) = large_again 1 r.m m (node below ++ (node above ++ rest)) some most (omega (arith, v.m)) in
     ap (split_at r child made) text ∙ rw (a, b, p, q) refl
@@ -127,7 +127,7 @@ mutual
   pub node_again : (r : Ranges) (t : Bound) (d made nodes : ℕ) (rest : List ℕ) → IsVersion r → IsInRange r t → depth_of t ≤ d → nodes ≤ most_nodes → nodes ≡ made + all_nodes t → node_at r d made (node t ++ rest) ≡ Ok (t, nodes, rest)
   node_again r (overload set) zero made nodes rest v in_range deep few is = absurd (omega arith)
   node_again r (overload set) (suc d) made nodes rest v in_range deep few is =
-      subst (λ (n : ℕ). node_at r (suc d) made (node (overload set) ++ rest) ≡ Ok (overload set, n, rest)) (sym is)
+      subst (λ n. node_at r (suc d) made (node (overload set) ++ rest) ≡ Ok (overload set, n, rest)) (sym is)
       (node_step r d made (node (overload set) ++ rest) _ (omega arith) (tagged_again r (node_at r d) (overload set) made (made + 1) rest v in_range (overload_again r (node_at r d) set (made + 1) rest in_range.0 in_range.1)))
   node_again r (split class m below above) zero made nodes rest v in_range deep few is = absurd (omega arith)
   node_again r (split class m below above) (suc d) made nodes rest v in_range deep few is =
@@ -145,13 +145,13 @@ mutual
       node_step r d made (node (close children) ++ rest) _ (omega arith) (tagged_again r (node_at r d) (close children) made nodes rest v in_range (close_again r (node_at r d) children (made + 1) nodes rest in_range p))
   node_again r unexamined zero made nodes rest v in_range deep few is = absurd (omega arith)
   node_again r unexamined (suc d) made nodes rest v in_range deep few is =
-      subst (λ (n : ℕ). node_at r (suc d) made (node unexamined ++ rest) ≡ Ok (unexamined, n, rest)) (sym is)
+      subst (λ n. node_at r (suc d) made (node unexamined ++ rest) ≡ Ok (unexamined, n, rest)) (sym is)
       (node_step r d made (node unexamined ++ rest) _ (omega arith) (tagged_again r (node_at r d) unexamined made (made + 1) rest v in_range (open_again r (node_at r d) (made + 1) rest)))
 
   row_again : (r : Ranges) (ts : Bounds) (d made nodes : ℕ) (rest : List ℕ) → IsVersion r → AreInRange r ts → deepest ts ≤ d → nodes ≤ most_nodes → nodes ≡ made + all_nodes_in ts → row_at (node_at r d) (count_of ts) made (row ts ++ rest) ≡ Ok (ts, nodes, rest)
   row_again r none d made nodes rest v in_range deep few is =
       let same : made ≡ nodes = omega arith in
-      subst (λ (n : ℕ). row_at (node_at r d) 0 made rest ≡ Ok (none, n, rest)) same (row_none (node_at r d) made rest)
+      subst (λ n. row_at (node_at r d) 0 made rest ≡ Ok (none, n, rest)) same (row_none (node_at r d) made rest)
   row_again r (more t ts) d made nodes rest v in_range deep few is =
       let first = made + all_nodes t in
       let p = node_again r t d made first (row ts ++ rest) v in_range.0 (omega arith) (omega arith) refl in

@@ -10,9 +10,9 @@ use Rattle.pocsag_tree.specs.declared.refusals.CertificateFault.{CertificateFaul
 use Rattle.pocsag_tree.specs.declared.refusals.CertificateFault.TheVariants as fault
 use Rattle.pocsag_tree.specs.Bounds.{Bound}
 use Rattle.pocsag_tree.specs.Parts.{Part, mark, version, field, node, width_of, nodes_with, Meets, whole, trailing, early, short, wrong, right, certificate}
-use Rattle.pocsag_tree.specs.Reading.{◌>>=◌, byte_at, small_at, node_at, mark_at, end_of, version_at, long_number_at, batches_at, end_at, certificate_at, all_of}
+use Rattle.pocsag_tree.specs.Reading.{◌>>=◌, byte_at, small_at, mark_at, end_of, version_at, long_number_at, batches_at, end_at, certificate_at, all_of}
 use Rattle.pocsag_tree.proofs.Fields.{ok_is, IsShort, FourIs, long_number_is, long_number_short}
-use Rattle.pocsag_tree.proofs.Leading.{Place, Leads, along, then_leads, right_part, wrong_part, short_part, ReadsNumber, one_byte, small_leads, at, past}
+use Rattle.pocsag_tree.proofs.Leading.{Place, Leads, along, then_leads, right_part, wrong_part, short_part, ReadsNumber, one_byte, small_leads, at}
 use Rattle.pocsag_tree.proofs.NodesLead.{node_leads}
 
 -- no bytes have two verdicts
@@ -36,7 +36,7 @@ one_verdict (right a k i n) w (short b l) = absurd (omega arith)
 one_verdict (right a k i n) w (wrong b l j) = absurd (let no = sym i ∙ j in cc)
 one_verdict (right {nodes} {part} {asked} {parts} {bytes} a k i n) w (right {asked = other} b l j m) =
     let same : asked ≡ other = ok_is asked other (sym i ∙ j) in
-    one_verdict n w (subst (λ (x : List Part). Meets (x ++ parts) (nodes_with part nodes) (drop (byte_len (width_of part)) bytes) w) (sym same) m)
+    one_verdict n w (subst (λ x. Meets (x ++ parts) (nodes_with part nodes) (drop (byte_len (width_of part)) bytes) w) (sym same) m)
 
 mark_leads : (byte : ℕ) (parts : List Part) (bytes : List ℕ) → Leads (at (mark byte ∷ parts) 0 bytes) (λ rest. at parts 0 rest) (mark_at byte bytes)
 unfolding mark_at
@@ -106,7 +106,7 @@ unfolding end_at
 end_verdict [] nodes (Ok x) e = λ v m. any_nodes nodes m
 end_verdict [] nodes (Err f) e = absurd cc
 end_verdict (b ∷ bytes) nodes (Ok x) e = absurd cc
-end_verdict (b ∷ bytes) nodes (Err f) e = λ given. let same : fault.Trailing ≡ f = cc in subst (λ (g : CertificateFault). Meets [] nodes (b ∷ bytes) (Some g)) same trailing
+end_verdict (b ∷ bytes) nodes (Err f) e = λ given. let same : fault.Trailing ≡ f = cc in subst (λ g. Meets [] nodes (b ∷ bytes) (Some g)) same trailing
 
 -- what reading says of the bytes is their verdict
 abbrev pub HasVerdict : {A : Type 0} → List ℕ → Result A CertificateFault → Type 0
