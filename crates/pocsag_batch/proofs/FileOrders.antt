@@ -93,15 +93,15 @@ one_gap {i = i} a b first second =
     let r : i + b ≤ i + a = second.least (i + a) first.after first.fit in
     omega arith
 
-pub one_order : {i : ℕ} {R : List Page} {ws vs : List Kind} → InOrder i R ws → InOrder i R vs → ws ≡ vs
-one_order {i = i} (at_end gap least is) (at_end gap' least' is') =
+pub one_file_order : {i : ℕ} {R : List Page} {ws vs : List Kind} → InOrder i R ws → InOrder i R vs → ws ≡ vs
+one_file_order {i = i} (at_end gap least is) (at_end gap' least' is') =
     let same : gap ≡ gap' = one_gap gap gap' least least' in
     is ∙ (ap (λ n. replicate n Idle) same ∙ sym is')
-one_order {i = i} (past_page {p = p} {R = R} gap rest least is left) (past_page gap' rest' least' is' left') =
+one_file_order {i = i} (past_page {p = p} {R = R} gap rest least is left) (past_page gap' rest' least' is' left') =
     let same : gap ≡ gap' = one_gap gap gap' least least' in
     let moved : InOrder (i + gap + page_length p) R rest' =
     subst (λ n. InOrder (i + n + page_length p) R rest') (sym same) left' in
-    let rests : rest ≡ rest' = one_order left moved in
+    let rests : rest ≡ rest' = one_file_order left moved in
     let tails : page_words p ++ rest ≡ page_words p ++ rest' = ap (λ v. page_words p ++ v) rests in
     let gaps : replicate gap Idle ≡ replicate gap' Idle = ap (λ n. replicate n Idle) same in
     is ∙ (ap (λ v. replicate gap Idle ++ v) tails
@@ -122,15 +122,15 @@ some_frame i frame small =
 some_whole : (i : ℕ) → HasLeast i IsWhole
 some_whole i = record { gap = (16 - i % 16) % 16; least = record { after = omega arith; fit = omega arith; least = λ j after fit. omega arith } }
 
-pub record HasOrder (i : ℕ) (R : List Page) : Type 0 where
+pub record HasFileOrder (i : ℕ) (R : List Page) : Type 0 where
   pub words : List Kind
   pub order : InOrder i R words
 
-pub some_order : (R : List Page) (i : ℕ) → HasOrder i R
-some_order [] i = let w = some_whole i in record { words = replicate w.gap Idle; order = at_end w.gap w.least refl }
-some_order (p ∷ R) i =
+pub some_file_order : (R : List Page) (i : ℕ) → HasFileOrder i R
+some_file_order [] i = let w = some_whole i in record { words = replicate w.gap Idle; order = at_end w.gap w.least refl }
+some_file_order (p ∷ R) i =
     let g = some_frame i (p.address % 8) (omega arith) in
-    let left = some_order R (i + g.gap + page_length p) in
+    let left = some_file_order R (i + g.gap + page_length p) in
     record {
       words = replicate g.gap Idle ++ (page_words p ++ left.words);
       order = past_page g.gap left.words g.least refl left.order;
