@@ -25,7 +25,7 @@ kept_step next at v j h ks true l rest chain =
     let same : slice_index (slice_set next at v) j ≡ slice_index next j = get_or-set_other next at j v 0 (omega arith) in
     let long : length (slice_set next at v) ≡ length next = length-set next at v in
     let within : j < length next = chain.1 in
-    (chain.0, omega arith, subst (λ (g : ℕ). IsChain (slice_set next at v) g ks) (sym same) (rest (slice_index next j) chain.2))
+    (chain.0, omega arith, subst (λ g. IsChain (slice_set next at v) g ks) (sym same) (rest (slice_index next j) chain.2))
 kept_step next at v j h ks false l rest chain = rest h chain
 
 -- a next place written before the first of the places
@@ -38,8 +38,8 @@ chain_kept next at v test (suc m) j h l chain =
 
 chain_same : (next new : List ℕ) (g h : ℕ) (ks js : List ℕ) → new ≡ next → h ≡ g → js ≡ ks → IsChain next g ks → IsChain new h js
 chain_same next new g h ks js nexts places lists chain =
-    subst (λ (v : List ℕ). IsChain v h js) (sym nexts)
-    (subst (λ (p : ℕ). IsChain next p js) (sym places) (subst (λ (v : List ℕ). IsChain next g v) (sym lists) chain))
+    subst (λ v. IsChain v h js) (sym nexts)
+    (subst (λ p. IsChain next p js) (sym places) (subst (λ v. IsChain next g v) (sym lists) chain))
 
 -- one place more in front
 pub chains_added : (end : End) (R : List Page) (next head : List ℕ) (at m c : ℕ) → at < length next → c ≡ class_at end R at → c < 136 →
@@ -62,8 +62,8 @@ chains_added end R next head at m c within class small a =
                 let first : slice_index heads d ≡ at = get_or-set_at head c d at 0 (sym (class ∙ same)) (omega arith) in
                 let after : slice_index new at ≡ slice_index head d =
                 get_or-set_same next at (slice_index head c) 0 within ∙ ap (slice_index head) (class ∙ same) in
-                subst (λ (ks : List ℕ). IsChain new (slice_index heads d) ks) (sym (of_class_in f d at left same))
-                (first, omega arith, subst (λ (g : ℕ). IsChain new g (places_of end R d left)) (sym after) kept)
+                subst (λ ks. IsChain new (slice_index heads d) ks) (sym (of_class_in f d at left same))
+                (first, omega arith, subst (λ g. IsChain new g (places_of end R d left)) (sym after) kept)
             | inr other ↦
                 let first : slice_index heads d ≡ slice_index head d = get_or-set_other head c d at 0 (λ e. other (sym (e ∙ class))) in
                 chain_same new new (slice_index head d) (slice_index heads d) (places_of end R d left) (places_of end R d (at ∷ left))
@@ -87,12 +87,12 @@ pub takes_from : (end : End) (R : List Page) (links : Links) (left : List ℕ) (
 takes_from end R links left c [] chains is some = absurd (omega arith)
 takes_from end R links left c (k ∷ ks) chains is some =
     let each : All (λ x. (class_at end R x == c) ≡ true) (k ∷ ks) =
-    subst (λ (v : List ℕ). All (λ x. (class_at end R x == c) ≡ true) v) is (filter_passes (λ x. class_at end R x == c) left) in
+    subst (λ v. All (λ x. (class_at end R x == c) ≡ true) v) is (filter_passes (λ x. class_at end R x == c) left) in
     let class : class_at end R k ≡ c = eqb-true (class_at end R k) c (All-head (λ x. (class_at end R x == c) ≡ true) k ks each) in
     let below : class_at end R k < 136 = page_class_below end (page_at R k) in
     let small : c < 136 = omega arith in
     let chain : IsChain links.next (slice_index links.head c) (k ∷ ks) =
-    subst (λ (v : List ℕ). IsChain links.next (slice_index links.head c) v) is (chains.chain c small) in
+    subst (λ v. IsChain links.next (slice_index links.head c) v) is (chains.chain c small) in
     record {
       place = k;
       others = ks;
@@ -117,13 +117,13 @@ chains_left end R links new left c k a t first nexts heads =
       long = ap length heads ∙ (length-set links.head c after ∙ many);
       chain = λ d h.
           let places : List ℕ = places_of end R d (without f c left) in
-          let head : slice_index new.head d ≡ slice_index (slice_set links.head c after) d = ap (λ (v : List ℕ). slice_index v d) heads in
+          let head : slice_index new.head d ≡ slice_index (slice_set links.head c after) d = ap (λ v. slice_index v d) heads in
           elim (cases_eq c d) [
             | inl same ↦
                 let now : slice_index new.head d ≡ slice_index links.next t.place =
                 head ∙ (get_or-set_at links.head c d after 0 (sym same) (omega arith) ∙ ap (slice_index links.next) (first ∙ t.head)) in
                 let others : places ≡ t.others =
-                ap (λ (m : ℕ). places_of end R m (without f c left)) (sym same) ∙ class_left f c left t.place t.others t.first in
+                ap (λ m. places_of end R m (without f c left)) (sym same) ∙ class_left f c left t.place t.others t.first in
                 chain_same links.next new.next (slice_index links.next t.place) (slice_index new.head d) t.others places nexts now others t.chain
             | inr other ↦
                 let now : slice_index new.head d ≡ slice_index links.head d =

@@ -1,5 +1,5 @@
 -- Lists by the classes of their elements: the elements of one class, and the list without the first of them.
-use Rattle.std.proofs.Common.{◌≡◌, ℕ, ◌==◌, Bool, cond, List, [], ◌∷◌, length, map, drop, get_or, refl, sym, ap, ◌∙◌, subst, arith, eq-eqb, inl, inr}
+use Rattle.std.proofs.Common.{◌≡◌, ℕ, ◌==◌, cond, List, [], ◌∷◌, length, map, drop, get_or, refl, sym, ap, ◌∙◌, subst, arith, eq-eqb, inl, inr}
 use Rattle.std.specs.Prelude.{filter, IsPermutation}
 use Rattle.std.proofs.lemmas.Bool.{cases_eq, ne_eqb}
 use Rattle.std.proofs.lemmas.List.Sorted.{IsPermutation-cons, IsPermutation-refl, IsPermutation-remove, IsPermutation-sym, IsPermutation-trans}
@@ -23,16 +23,16 @@ without f c [] = []
 without f c (x ∷ xs) = cond (f x == c) xs (x ∷ without f c xs)
 
 pub of_class_in : {X : Type 0} (f : X → ℕ) (c : ℕ) (x : X) (xs : List X) → f x ≡ c → of_class f c (x ∷ xs) ≡ x ∷ of_class f c xs
-of_class_in f c x xs e = ap (λ (b : Bool). cond b (x ∷ of_class f c xs) (of_class f c xs)) (eq-eqb (f x) c e)
+of_class_in f c x xs e = ap (λ b. cond b (x ∷ of_class f c xs) (of_class f c xs)) (eq-eqb (f x) c e)
 
 pub of_class_out : {X : Type 0} (f : X → ℕ) (c : ℕ) (x : X) (xs : List X) → (f x ≡ c → ⊥) → of_class f c (x ∷ xs) ≡ of_class f c xs
-of_class_out f c x xs n = ap (λ (b : Bool). cond b (x ∷ of_class f c xs) (of_class f c xs)) (ne_eqb (f x) c n)
+of_class_out f c x xs n = ap (λ b. cond b (x ∷ of_class f c xs) (of_class f c xs)) (ne_eqb (f x) c n)
 
 pub without_in : {X : Type 0} (f : X → ℕ) (c : ℕ) (x : X) (xs : List X) → f x ≡ c → without f c (x ∷ xs) ≡ xs
-without_in f c x xs e = ap (λ (b : Bool). cond b xs (x ∷ without f c xs)) (eq-eqb (f x) c e)
+without_in f c x xs e = ap (λ b. cond b xs (x ∷ without f c xs)) (eq-eqb (f x) c e)
 
 pub without_out : {X : Type 0} (f : X → ℕ) (c : ℕ) (x : X) (xs : List X) → (f x ≡ c → ⊥) → without f c (x ∷ xs) ≡ x ∷ without f c xs
-without_out f c x xs n = ap (λ (b : Bool). cond b xs (x ∷ without f c xs)) (ne_eqb (f x) c n)
+without_out f c x xs n = ap (λ b. cond b xs (x ∷ without f c xs)) (ne_eqb (f x) c n)
 
 -- the class without its first, and the other classes
 pub class_left : {X : Type 0} (f : X → ℕ) (c : ℕ) (xs : List X) (k : X) (ks : List X) → of_class f c xs ≡ k ∷ ks → of_class f c (without f c xs) ≡ ks
@@ -84,7 +84,7 @@ alike_without f x xs ys a c =
     elim (cases_eq (f x) c) [
       | inl same ↦
           let first : of_class f (f x) ys ≡ x ∷ of_class f (f x) xs = sym (a (f x)) ∙ of_class_in f (f x) x xs refl in
-          subst (λ (d : ℕ). of_class f d xs ≡ of_class f d (without f (f x) ys)) same (sym (class_left f (f x) ys x (of_class f (f x) xs) first))
+          subst (λ d. of_class f d xs ≡ of_class f d (without f (f x) ys)) same (sym (class_left f (f x) ys x (of_class f (f x) xs) first))
       | inr other ↦ sym (of_class_out f c x xs other) ∙ (a c ∙ sym (others_left f (f x) c ys other))
     ]
 
@@ -112,7 +112,7 @@ alike_same f (x ∷ xs) (y ∷ ys) m a =
     λ c.
     elim (cases_eq (f x) c) [
       | inl same ↦
-          subst (λ (d : ℕ). of_class f d xs ≡ of_class f d ys) same (rest_same x y (of_class f (f x) xs) (of_class f (f x) ys) here)
+          subst (λ d. of_class f d xs ≡ of_class f d ys) same (rest_same x y (of_class f (f x) xs) (of_class f (f x) ys) here)
       | inr other ↦ sym (of_class_out f c x xs other) ∙ (a c ∙ of_class_out f c y ys (λ e. other (class ∙ e)))
     ] in
     ap (λ z. z ∷ xs) first ∙ ap (λ v. y ∷ v) (alike_same f xs ys (rest_same (f x) (f y) (map f xs) (map f ys) m) rest)

@@ -28,25 +28,25 @@ all_idles_begin zero = tt
 all_idles_begin (suc gap) = tt
 
 pub begins : {i : ℕ} {R : List Page} {ws : List Kind} → InOrder i R ws → BeginsNoMessage ws
-begins (at_end gap least is) = subst (λ (v : List Kind). BeginsNoMessage v) (sym is) (all_idles_begin gap)
+begins (at_end gap least is) = subst (λ v. BeginsNoMessage v) (sym is) (all_idles_begin gap)
 begins (past_page {p = p} gap rest least is left) =
-    subst (λ (v : List Kind). BeginsNoMessage v) (sym is) (idles_begin gap (page_words p ++ rest) tt)
+    subst (λ v. BeginsNoMessage v) (sym is) (idles_begin gap (page_words p ++ rest) tt)
 
 page_at : (p : Page) (i : ℕ) → frame_at i ≡ p.address % 8 →
     (let q : Page = record { address = 8 * (p.address / 8) + frame_at i; function = p.function; payload = p.payload } in q) ≡ p
 page_at p i e =
     let a : 8 * (p.address / 8) + frame_at i ≡ p.address = omega arith in
-    ap (λ (n : ℕ). let q : Page = record { address = n; function = p.function; payload = p.payload } in q) a
+    ap (λ n. let q : Page = record { address = n; function = p.function; payload = p.payload } in q) a
 
 pub reads_in_order : {i : ℕ} {R : List Page} {ws : List Kind} → InOrder i R ws → Reads ws i R
 reads_in_order {i = i} (at_end gap least is) =
-    subst (λ (v : List Kind). Reads v i []) (sym is) (reads_all_idles gap i)
+    subst (λ v. Reads v i []) (sym is) (reads_all_idles gap i)
 reads_in_order {i = i} (past_page {p = p} {R = R} gap rest least is left) =
     let here : Reads (page_words p ++ rest) (i + gap) (p ∷ R) =
-    subst (λ (q : Page). Reads (page_words p ++ rest) (i + gap) (q ∷ R)) (page_at p (i + gap) least.fit)
+    subst (λ q. Reads (page_words p ++ rest) (i + gap) (q ∷ R)) (page_at p (i + gap) least.fit)
     (page_read p.payload rest refl (begins left)
     (reads_at rest R (i + gap + page_length p) (i + gap + 1 + length p.payload) (omega arith) (reads_in_order left))) in
-    subst (λ (v : List Kind). Reads v i (p ∷ R)) (sym is) (reads_idles gap i (page_words p ++ rest) (p ∷ R) here)
+    subst (λ v. Reads v i (p ∷ R)) (sym is) (reads_idles gap i (page_words p ++ rest) (p ∷ R) here)
 
 pub page_words_long : (p : Page) → length (page_words p) ≡ page_length p
 page_words_long p = let e : length (map Message p.payload) ≡ length p.payload = length-map p.payload Message in omega arith
@@ -59,18 +59,18 @@ placed_length gap p rest =
 pub whole_in_order : {i : ℕ} {R : List Page} {ws : List Kind} → InOrder i R ws → (i + length ws) % 16 ≡ 0
 whole_in_order {i = i} (at_end gap least is) =
     let long : length (replicate gap Idle) ≡ gap = length-replicate gap Idle in
-    subst (λ (v : List Kind). (i + length v) % 16 ≡ 0) (sym is)
-    (subst (λ (n : ℕ). (i + n) % 16 ≡ 0) (sym long) least.fit)
+    subst (λ v. (i + length v) % 16 ≡ 0) (sym is)
+    (subst (λ n. (i + n) % 16 ≡ 0) (sym long) least.fit)
 whole_in_order {i = i} (past_page {p = p} gap rest least is left) =
     let whole : (i + gap + page_length p + length rest) % 16 ≡ 0 = whole_in_order left in
     let long : length (replicate gap Idle ++ (page_words p ++ rest)) ≡ gap + page_length p + length rest = placed_length gap p rest in
-    subst (λ (v : List Kind). (i + length v) % 16 ≡ 0) (sym is)
-    (subst (λ (n : ℕ). (i + n) % 16 ≡ 0) (sym long) (subst (λ (n : ℕ). n % 16 ≡ 0) (omega arith) whole))
+    subst (λ v. (i + length v) % 16 ≡ 0) (sym is)
+    (subst (λ n. (i + n) % 16 ≡ 0) (sym long) (subst (λ n. n % 16 ≡ 0) (omega arith) whole))
 
 pub some_words : {i : ℕ} {p : Page} {R : List Page} {ws : List Kind} → InOrder i (p ∷ R) ws → 0 < length ws
 some_words (past_page {p = p} gap rest least is left) =
     let long : length (replicate gap Idle ++ (page_words p ++ rest)) ≡ gap + page_length p + length rest = placed_length gap p rest in
-    subst (λ (v : List Kind). 0 < length v) (sym is) (omega arith)
+    subst (λ v. 0 < length v) (sym is) (omega arith)
 
 pub legal_in_order : (R : List Page) (T : List Kind) → 0 < length R → IsFileOrder R T → IsLegalFor Open T (length T / 16) R
 legal_in_order [] T some f = absurd (omega arith)
@@ -93,19 +93,19 @@ one_gap {i = i} a b first second =
     let r : i + b ≤ i + a = second.least (i + a) first.after first.fit in
     omega arith
 
-pub one_order : {i : ℕ} {R : List Page} {ws vs : List Kind} → InOrder i R ws → InOrder i R vs → ws ≡ vs
-one_order {i = i} (at_end gap least is) (at_end gap' least' is') =
+pub one_file_order : {i : ℕ} {R : List Page} {ws vs : List Kind} → InOrder i R ws → InOrder i R vs → ws ≡ vs
+one_file_order {i = i} (at_end gap least is) (at_end gap' least' is') =
     let same : gap ≡ gap' = one_gap gap gap' least least' in
-    is ∙ (ap (λ (n : ℕ). replicate n Idle) same ∙ sym is')
-one_order {i = i} (past_page {p = p} {R = R} gap rest least is left) (past_page gap' rest' least' is' left') =
+    is ∙ (ap (λ n. replicate n Idle) same ∙ sym is')
+one_file_order {i = i} (past_page {p = p} {R = R} gap rest least is left) (past_page gap' rest' least' is' left') =
     let same : gap ≡ gap' = one_gap gap gap' least least' in
     let moved : InOrder (i + gap + page_length p) R rest' =
-    subst (λ (n : ℕ). InOrder (i + n + page_length p) R rest') (sym same) left' in
-    let rests : rest ≡ rest' = one_order left moved in
-    let tails : page_words p ++ rest ≡ page_words p ++ rest' = ap (λ (v : List Kind). page_words p ++ v) rests in
-    let gaps : replicate gap Idle ≡ replicate gap' Idle = ap (λ (n : ℕ). replicate n Idle) same in
-    is ∙ (ap (λ (v : List Kind). replicate gap Idle ++ v) tails
-    ∙ (ap (λ (v : List Kind). v ++ (page_words p ++ rest')) gaps ∙ sym is'))
+    subst (λ n. InOrder (i + n + page_length p) R rest') (sym same) left' in
+    let rests : rest ≡ rest' = one_file_order left moved in
+    let tails : page_words p ++ rest ≡ page_words p ++ rest' = ap (λ v. page_words p ++ v) rests in
+    let gaps : replicate gap Idle ≡ replicate gap' Idle = ap (λ n. replicate n Idle) same in
+    is ∙ (ap (λ v. replicate gap Idle ++ v) tails
+    ∙ (ap (λ v. v ++ (page_words p ++ rest')) gaps ∙ sym is'))
 
 -- the gap up to the least index of the frame, and up to whole batches
 record HasLeast (i : ℕ) (IsFit : ℕ → Type 0) : Type 0 where
@@ -122,15 +122,15 @@ some_frame i frame small =
 some_whole : (i : ℕ) → HasLeast i IsWhole
 some_whole i = record { gap = (16 - i % 16) % 16; least = record { after = omega arith; fit = omega arith; least = λ j after fit. omega arith } }
 
-pub record HasOrder (i : ℕ) (R : List Page) : Type 0 where
+pub record HasFileOrder (i : ℕ) (R : List Page) : Type 0 where
   pub words : List Kind
   pub order : InOrder i R words
 
-pub some_order : (R : List Page) (i : ℕ) → HasOrder i R
-some_order [] i = let w = some_whole i in record { words = replicate w.gap Idle; order = at_end w.gap w.least refl }
-some_order (p ∷ R) i =
+pub some_file_order : (R : List Page) (i : ℕ) → HasFileOrder i R
+some_file_order [] i = let w = some_whole i in record { words = replicate w.gap Idle; order = at_end w.gap w.least refl }
+some_file_order (p ∷ R) i =
     let g = some_frame i (p.address % 8) (omega arith) in
-    let left = some_order R (i + g.gap + page_length p) in
+    let left = some_file_order R (i + g.gap + page_length p) in
     record {
       words = replicate g.gap Idle ++ (page_words p ++ left.words);
       order = past_page g.gap left.words g.least refl left.order;
@@ -152,7 +152,7 @@ left_step i gap n p R least h = step h.order
         let long : length h.rest ≡ gap' + page_length p + length rest = ap length is ∙ placed_length gap' p rest in
         record {
           rest = rest;
-          order = subst (λ (g : ℕ). InOrder (i + g + page_length p) R rest) same left;
+          order = subst (λ g. InOrder (i + g + page_length p) R rest) same left;
           long = omega (arith, h.long);
         }
 

@@ -40,7 +40,7 @@ pub takes : (end : End) (R : List Page) (links : Links) (order : List ℕ) (step
     (s : Stands end R links order steps (Run c e ∷ rest)) → Takes end R links s.left c
 takes end R links order steps rest c e s =
     let one : runs c true (Run c e ∷ rest) + runs c false (Run c e ∷ rest) ≡ 1 + (runs c true rest + runs c false rest) =
-    first_runs c e rest c ∙ ap (λ (b : Bool). cond b 1 0 + (runs c true rest + runs c false rest)) (eq-eqb c c refl) in
+    first_runs c e rest c ∙ ap (λ b. cond b 1 0 + (runs c true rest + runs c false rest)) (eq-eqb c c refl) in
     let all : runs c true (Run c e ∷ rest) + runs c false (Run c e ∷ rest) ≡ length (places_of end R c s.left) = s.enough c in
     takes_from end R links s.left c (places_of end R c s.left) s.chains refl (omega arith)
 
@@ -53,14 +53,14 @@ enough_left f left c k ks e rest first enough d =
     elim (cases_eq c d) [
       | inl same ↦
           let one : runs d true (Run c e ∷ rest) + runs d false (Run c e ∷ rest) ≡ 1 + (runs d true rest + runs d false rest) =
-          first_runs c e rest d ∙ ap (λ (b : Bool). cond b 1 0 + (runs d true rest + runs d false rest)) (eq-eqb c d same) in
-          let many : length (of_class f d left) ≡ 1 + length ks = ap (λ (m : ℕ). length (of_class f m left)) (sym same) ∙ (ap length first ∙ omega arith) in
+          first_runs c e rest d ∙ ap (λ b. cond b 1 0 + (runs d true rest + runs d false rest)) (eq-eqb c d same) in
+          let many : length (of_class f d left) ≡ 1 + length ks = ap (λ m. length (of_class f m left)) (sym same) ∙ (ap length first ∙ omega arith) in
           let fewer : length (of_class f d (without f c left)) ≡ length ks =
-          ap (λ (m : ℕ). length (of_class f m (without f c left))) (sym same) ∙ ap length (class_left f c left k ks first) in
+          ap (λ m. length (of_class f m (without f c left))) (sym same) ∙ ap length (class_left f c left k ks first) in
           omega arith
       | inr other ↦
           let none : runs d true (Run c e ∷ rest) + runs d false (Run c e ∷ rest) ≡ 0 + (runs d true rest + runs d false rest) =
-          first_runs c e rest d ∙ ap (λ (b : Bool). cond b 1 0 + (runs d true rest + runs d false rest)) (ne_eqb c d other) in
+          first_runs c e rest d ∙ ap (λ b. cond b 1 0 + (runs d true rest + runs d false rest)) (ne_eqb c d other) in
           let same : length (of_class f d (without f c left)) ≡ length (of_class f d left) = ap length (others_left f c d left other) in
           omega arith
     ]
@@ -69,20 +69,20 @@ enough_left f left c k ks e rest first enough d =
 turns_left : (f : ℕ → ℕ) (order left : List ℕ) (c k : ℕ) (ks : List ℕ) → of_class f c left ≡ k ∷ ks → f k ≡ c →
     (d : ℕ) → of_class f d (order ++ k ∷ []) ++ of_class f d (without f c left) ≡ of_class f d order ++ of_class f d left
 turns_left f order left c k ks first class d =
-    ap (λ (v : List ℕ). v ++ of_class f d (without f c left)) (filter-append (λ x. f x == d) order (k ∷ []))
+    ap (λ v. v ++ of_class f d (without f c left)) (filter-append (λ x. f x == d) order (k ∷ []))
     ∙ (append_assoc (of_class f d order) (of_class f d (k ∷ [])) (of_class f d (without f c left))
-    ∙ ap (λ (v : List ℕ). of_class f d order ++ v) here)
+    ∙ ap (λ v. of_class f d order ++ v) here)
   where
     here : of_class f d (k ∷ []) ++ of_class f d (without f c left) ≡ of_class f d left
     here =
         elim (cases_eq c d) [
           | inl same ↦
-              ap (λ (v : List ℕ). v ++ of_class f d (without f c left)) (of_class_in f d k [] (class ∙ same))
-              ∙ (ap (λ (m : ℕ). k ∷ of_class f m (without f c left)) (sym same)
-              ∙ (ap (λ (v : List ℕ). k ∷ v) (class_left f c left k ks first)
-              ∙ (sym first ∙ ap (λ (m : ℕ). of_class f m left) same)))
+              ap (λ v. v ++ of_class f d (without f c left)) (of_class_in f d k [] (class ∙ same))
+              ∙ (ap (λ m. k ∷ of_class f m (without f c left)) (sym same)
+              ∙ (ap (λ v. k ∷ v) (class_left f c left k ks first)
+              ∙ (sym first ∙ ap (λ m. of_class f m left) same)))
           | inr other ↦
-              ap (λ (v : List ℕ). v ++ of_class f d (without f c left)) (of_class_out f d k [] (λ e. other (sym class ∙ e)))
+              ap (λ v. v ++ of_class f d (without f c left)) (of_class_out f d k [] (λ e. other (sym class ∙ e)))
               ∙ others_left f c d left other
         ]
 
@@ -93,16 +93,16 @@ stands_run end R links new order steps rest c k e s first nexts heads =
     let f : ℕ → ℕ = class_at end R in
     let t = takes end R links order steps rest c e s in
     let place : t.place ≡ k = sym (first ∙ t.head) in
-    let is : places_of end R c s.left ≡ k ∷ t.others = t.first ∙ ap (λ (n : ℕ). n ∷ t.others) place in
+    let is : places_of end R c s.left ≡ k ∷ t.others = t.first ∙ ap (λ n. n ∷ t.others) place in
     let class : f k ≡ c = ap f (sym place) ∙ t.class in
     record {
       left = without f c s.left;
       chains = chains_left end R links new s.left c k s.chains t first nexts heads;
       enough = enough_left f s.left c k t.others e rest is s.enough;
       classes =
-          ap (λ (v : List ℕ). v ++ run_classes rest) (map_push f order k)
+          ap (λ v. v ++ run_classes rest) (map_push f order k)
           ∙ (append_assoc (map f order) (f k ∷ []) (run_classes rest)
-          ∙ (ap (λ (n : ℕ). map f order ++ (n ∷ run_classes rest)) class ∙ s.classes));
+          ∙ (ap (λ n. map f order ++ (n ∷ run_classes rest)) class ∙ s.classes));
       in_turn = λ d. turns_left f order s.left c k t.others is class d ∙ s.in_turn d;
     }
 
@@ -111,10 +111,10 @@ pub order_stands : (end : End) (R : List Page) (links : Links) (order : List ℕ
     Stands end R links order steps rest → IsOrder end R steps order
 order_stands end R links order steps rest done s =
     let f : ℕ → ℕ = class_at end R in
-    let last : Stands end R links order steps [] = subst (λ (v : List Step). Stands end R links order steps v) done s in
+    let last : Stands end R links order steps [] = subst (λ v. Stands end R links order steps v) done s in
     let none : (c : ℕ) → places_of end R c last.left ≡ [] = λ c. nil_from_length (places_of end R c last.left) (sym (last.enough c)) in
     let turns : (c : ℕ) → places_of end R c order ≡ places_of end R c (all_places R) =
-    λ c. sym (append-nil (places_of end R c order)) ∙ (ap (λ (v : List ℕ). places_of end R c order ++ v) (sym (none c)) ∙ last.in_turn c) in
+    λ c. sym (append-nil (places_of end R c order)) ∙ (ap (λ v. places_of end R c order ++ v) (sym (none c)) ∙ last.in_turn c) in
     record {
       once = alike_permuted f (all_places R) order (λ c. sym (turns c));
       classes = sym (append-nil (map f order)) ∙ last.classes;

@@ -10,8 +10,8 @@ use Rattle.pocsag_pages.proofs.GoodPages.{good_pages}
 pub drop_at : (R : List Page) (k : ℕ) (p : Page) → k < length R → p ≡ get_or R k p → drop k R ≡ p ∷ drop (k + 1) R
 drop_at R k p h is =
     let first : drop k R ≡ get_or R k p ∷ drop (k + 1) R = rw (add-one) (drop-cons R k p h) in
-    first ∙ ap (λ (q : Page). q ∷ drop (k + 1) R) (sym is)
+    first ∙ ap (λ q. q ∷ drop (k + 1) R) (sym is)
 
 pub good_at : (R : List Page) (k : ℕ) (p : Page) → IsRound R → k < length R → p ≡ get_or R k p → IsGoodPage p
 good_at R k p r h is =
-    subst (λ (q : Page). IsGoodPage q) (sym is) (All-get_or IsGoodPage R k p h (good_pages R r.good))
+    subst (λ q. IsGoodPage q) (sym is) (All-get_or IsGoodPage R k p h (good_pages R r.good))

@@ -37,5 +37,5 @@ pub tour_serves : (end : End) (R : List Page) (steps : List Step) → IsTourFor 
     (c : ℕ) → runs c true steps + runs c false steps ≡ length (places_of end R c (all_places R))
 tour_serves end R steps t c =
     (served_tour t.table end t.choice t.batches steps R t.classes t.tour).each c
-    ∙ (ap (λ (ps : List Page). count_of end ps c) (sym (pages_placed R))
+    ∙ (ap (λ ps. count_of end ps c) (sym (pages_placed R))
     ∙ count_placed end R c (all_places R))

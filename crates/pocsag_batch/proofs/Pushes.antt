@@ -6,12 +6,12 @@ use Rattle.pocsag_words.specs.declared.codeword.Kind.{Kind}
 
 -- one codeword more of a kind
 pub pushed : (ws vs : List ℕ) (w : ℕ) (k : Kind) → vs ≡ ws ++ w ∷ [] → kind_of w ≡ k → map kind_of vs ≡ map kind_of ws ++ k ∷ []
-pushed ws vs w k e is = ap (map kind_of) e ∙ (map-append kind_of ws (w ∷ []) ∙ ap (λ (j : Kind). map kind_of ws ++ j ∷ []) is)
+pushed ws vs w k e is = ap (map kind_of) e ∙ (map-append kind_of ws (w ∷ []) ∙ ap (λ j. map kind_of ws ++ j ∷ []) is)
 
 pub pushed_more : (ws vs : List ℕ) (w : ℕ) (k : Kind) (js ks : List Kind) → vs ≡ ws ++ w ∷ [] → kind_of w ≡ k →
     map kind_of ws ≡ js ++ ks → map kind_of vs ≡ js ++ (ks ++ k ∷ [])
 pushed_more ws vs w k js ks e is so_far =
-    pushed ws vs w k e is ∙ (ap (λ (v : List Kind). v ++ k ∷ []) so_far ∙ append_assoc js ks (k ∷ []))
+    pushed ws vs w k e is ∙ (ap (λ v. v ++ k ∷ []) so_far ∙ append_assoc js ks (k ∷ []))
 
 -- one element more of a mapped list
 pub map_taken : {A : Type 0} (f : ℕ → A) (xs : List ℕ) (i : ℕ) → i < length xs → map f (take (i + 1) xs) ≡ map f (take i xs) ++ f (get_or xs i 0) ∷ []

@@ -16,8 +16,8 @@ pub record IsSent (tells : Type 0) (before taken piece came : List ℕ) : Type 0
 slot_is : (b : Bool) (w : ℕ) (ws left : List ℕ) → left ≡ flat_map (to_be_bytes w32) ws →
     (cond b (to_be_bytes w32 sync_word) [] ++ to_be_bytes w32 w) ++ left
     ≡ flat_map (to_be_bytes w32) ((if b then sync_word ∷ [] else []) ++ w ∷ ws)
-slot_is true w ws left e = ap (λ (v : List ℕ). (to_be_bytes w32 sync_word ++ to_be_bytes w32 w) ++ v) e
-slot_is false w ws left e = ap (λ (v : List ℕ). to_be_bytes w32 w ++ v) e
+slot_is true w ws left e = ap (λ v. (to_be_bytes w32 sync_word ++ to_be_bytes w32 w) ++ v) e
+slot_is false w ws left e = ap (λ v. to_be_bytes w32 w ++ v) e
 
 -- the bytes by slots are those by indices
 body_is : (ws : List ℕ) (i : ℕ) → body_from (i % 16) ws ≡ flat_map (to_be_bytes w32) (synced i ws)
@@ -25,36 +25,36 @@ body_is [] i = refl
 body_is (w ∷ ws) i =
     let next : (i % 16 + 1) % 16 ≡ (i + 1) % 16 = omega arith in
     let left : body_from ((i % 16 + 1) % 16) ws ≡ flat_map (to_be_bytes w32) (synced (i + 1) ws) =
-    ap (λ (n : ℕ). body_from n ws) next ∙ body_is ws (i + 1) in
+    ap (λ n. body_from n ws) next ∙ body_is ws (i + 1) in
     slot_is (i % 16 == 0) w (synced (i + 1) ws) (body_from ((i % 16 + 1) % 16) ws) left
 
 body_append : (ws vs : List ℕ) (slot : ℕ) → slot < 16 → body_from slot (ws ++ vs) ≡ body_from slot ws ++ body_from ((slot + length ws) % 16) vs
 body_append [] vs slot small =
     let same : slot ≡ (slot + 0) % 16 = omega arith in
-    ap (λ (n : ℕ). body_from n vs) same
+    ap (λ n. body_from n vs) same
 body_append (w ∷ ws) vs slot small =
     let below : (slot + 1) % 16 < 16 = omega arith in
     let same : ((slot + 1) % 16 + length ws) % 16 ≡ (slot + suc (length ws)) % 16 = omega arith in
-    ap (λ (v : List ℕ). slot_bytes slot w ++ v) (body_append ws vs ((slot + 1) % 16) below ∙ ap (λ (n : ℕ). body_from ((slot + 1) % 16) ws ++ body_from n vs) same)
+    ap (λ v. slot_bytes slot w ++ v) (body_append ws vs ((slot + 1) % 16) below ∙ ap (λ n. body_from ((slot + 1) % 16) ws ++ body_from n vs) same)
     ∙ sym (append_assoc (slot_bytes slot w) (body_from ((slot + 1) % 16) ws) (body_from ((slot + suc (length ws)) % 16) vs))
 
 bytes_are : (ws : List ℕ) → bytes_of ws ≡ replicate 72 0xaa ++ body_from 0 ws
 unfolding bytes_of
-bytes_are ws = ap (λ (v : List ℕ). replicate 72 0xaa ++ v) (sym (body_is ws 0))
+bytes_are ws = ap (λ v. replicate 72 0xaa ++ v) (sym (body_is ws 0))
 
 -- the transmission of more codewords begins with that of the first of them
 pub bytes_append : (ws vs : List ℕ) → bytes_of (ws ++ vs) ≡ bytes_of ws ++ body_from (length ws % 16) vs
 bytes_append ws vs =
     let same : (0 + length ws) % 16 ≡ length ws % 16 = omega arith in
     bytes_are (ws ++ vs)
-    ∙ (ap (λ (v : List ℕ). replicate 72 0xaa ++ v) (body_append ws vs 0 (omega arith) ∙ ap (λ (n : ℕ). body_from 0 ws ++ body_from n vs) same)
+    ∙ (ap (λ v. replicate 72 0xaa ++ v) (body_append ws vs 0 (omega arith) ∙ ap (λ n. body_from 0 ws ++ body_from n vs) same)
     ∙ (sym (append_assoc (replicate 72 0xaa) (body_from 0 ws) (body_from (length ws % 16) vs))
-    ∙ ap (λ (v : List ℕ). v ++ body_from (length ws % 16) vs) (sym (bytes_are ws))))
+    ∙ ap (λ v. v ++ body_from (length ws % 16) vs) (sym (bytes_are ws))))
 
 pub sent_first : (tells : Type 0) (before piece : List ℕ) → piece ≡ replicate 72 0xaa → IsSent tells before before piece []
 sent_first tells before piece e = record {
   grown = λ t. omega arith;
-  sent = λ t. ap (λ (v : List ℕ). before ++ v) (e ∙ (sym (append-nil (replicate 72 0xaa)) ∙ sym (bytes_are [])));
+  sent = λ t. ap (λ v. before ++ v) (e ∙ (sym (append-nil (replicate 72 0xaa)) ∙ sym (bytes_are [])));
 }
 
 pub sent_more : (tells : Type 0) (before taken piece came : List ℕ) (slot w : ℕ) (taken' piece' : List ℕ) → slot ≡ length came % 16 →
@@ -66,10 +66,10 @@ sent_more tells before taken piece came slot w taken' piece' at so_far more next
   grown = λ t. let a = so_far.grown t in let b = more t in omega arith;
   sent = λ t.
       next t
-      ∙ (ap (λ (v : List ℕ). v ++ slot_bytes slot w) (so_far.sent t)
+      ∙ (ap (λ v. v ++ slot_bytes slot w) (so_far.sent t)
       ∙ (append_assoc before (bytes_of came) (slot_bytes slot w)
-      ∙ ap (λ (v : List ℕ). before ++ v)
-      (ap (λ (n : ℕ). bytes_of came ++ slot_bytes n w) at
-      ∙ (ap (λ (v : List ℕ). bytes_of came ++ v) (sym (append-nil (slot_bytes (length came % 16) w)))
+      ∙ ap (λ v. before ++ v)
+      (ap (λ n. bytes_of came ++ slot_bytes n w) at
+      ∙ (ap (λ v. bytes_of came ++ v) (sym (append-nil (slot_bytes (length came % 16) w)))
       ∙ sym (bytes_append came (w ∷ []))))));
 }

@@ -25,7 +25,7 @@ module _ {S A B : Type 0} (steps : S → Option A → S → Type 0) (v : A → B
   came_first (x ∷ xs) (y ∷ ys) s t gives came =
       let here : (v x ≡ y) × AlwaysYields steps v came.0 ys = gives.1 x came.0 came.1 in
       let others : (left : List B) × (ys ≡ map v xs ++ left) = came_first xs ys came.0 t here.1 came.2 in
-      (others.0, ap (λ (z : B). z ∷ ys) (sym here.0) ∙ ap (λ (zs : List B). v x ∷ zs) others.1)
+      (others.0, ap (λ z. z ∷ ys) (sym here.0) ∙ ap (λ zs. v x ∷ zs) others.1)
 
 -- what came is the first part of all, and all of it where nothing more comes
 pub part_came : {S A B : Type 0} {steps : S → Option A → S → Type 0} {v : A → B} {s : S} {all : List B} (came : List A) (t : S) → YieldsList steps v s all → Yields steps s came t →
@@ -42,7 +42,7 @@ took_longer before after came left (grown, part) =
     let short : length after ≤ length (before ++ bytes_of came) =
     omega (arith, ap length part, length-take (length after) (before ++ bytes_of came)) in
     let whole : before ++ bytes_of (came ++ left) ≡ (before ++ bytes_of came) ++ more =
-    ap (λ (x : List ℕ). before ++ x) (bytes_append came left) ∙ sym (append_assoc before (bytes_of came) more) in
+    ap (λ x. before ++ x) (bytes_append came left) ∙ sym (append_assoc before (bytes_of came) more) in
     (grown, ap (take (length after)) whole ∙ (take-append-le (length after) (before ++ bytes_of came) more short ∙ part))
 
 -- the first of the codewords, and the others
@@ -53,7 +53,7 @@ say_split same w left (v ∷ ws) is say =
     let kind : kind_of v ≡ kind_of w = cc in
     let others : map kind_of ws ≡ left = cc in
     let first : v ≡ w = same v w (All-head IsCodeword v ws say.codewords) is kind in
-    (ws, ap (λ (u : ℕ). u ∷ ws) first, record { codewords = All-tail IsCodeword v ws say.codewords; kinds = others })
+    (ws, ap (λ u. u ∷ ws) first, record { codewords = All-tail IsCodeword v ws say.codewords; kinds = others })
 
 -- codewords that say at first what these say begin with these
 say_prefix : SameFromKind → (came : List ℕ) (left : List Kind) (ws : List ℕ) → All IsCodeword came → Say (map kind_of came ++ left) ws → (rest : List ℕ) × (ws ≡ came ++ rest)
@@ -61,7 +61,7 @@ say_prefix same [] left ws are say = (ws, refl)
 say_prefix same (w ∷ came) left ws are say =
     let split = say_split same w (map kind_of came ++ left) ws (All-head IsCodeword w came are) say in
     let others = say_prefix same came left split.0 (All-tail IsCodeword w came are) split.2 in
-    (others.0, split.1 ∙ ap (λ (v : List ℕ). w ∷ v) others.1)
+    (others.0, split.1 ∙ ap (λ v. w ∷ v) others.1)
 
 pub sends_part : SameFromKind → (said : List Kind) (before after came : List ℕ) (left : List Kind) → IsSayable said → All IsCodeword came →
     said ≡ map kind_of came ++ left → TookPrefix before after (bytes_of came) → SendsPart said before after

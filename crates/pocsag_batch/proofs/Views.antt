@@ -21,15 +21,15 @@ pub run_view : (R : List Page) (order : List ℕ) (ss : List Step) (c : ℕ) (e 
     p ≡ get_or R (get_or order 0 0) p → laid_by R order (Run c e ∷ ss) ≡ page_words p ++ laid_by R (take (length order - 1) (drop 1 order)) ss
 run_view R [] ss c e p have is = elim have [ ]
 run_view R (k ∷ order) ss c e p have is =
-    ap (λ (q : Page). page_words q ++ laid_by R order ss) (page_is R k p have.0 is)
-    ∙ ap (λ (v : List ℕ). page_words p ++ laid_by R v ss) (sym (take_rest (k ∷ order) 1))
+    ap (λ q. page_words q ++ laid_by R order ss) (page_is R k p have.0 is)
+    ∙ ap (λ v. page_words p ++ laid_by R v ss) (sym (take_rest (k ∷ order) 1))
 
 -- the page at the place that comes first is a good one
 good_first : (R : List Page) (order : List ℕ) (ss : List Step) (c : ℕ) (e : Bool) (p : Page) → All IsGoodPage R → HavePlaces (length R) order (Run c e ∷ ss) →
     p ≡ get_or R (get_or order 0 0) p → IsGoodPage p
 good_first R [] ss c e p good have is = elim have [ ]
 good_first R (k ∷ order) ss c e p good have is =
-    subst (λ (q : Page). IsGoodPage q) (sym is) (All-get_or IsGoodPage R k p have.0 good)
+    subst (λ q. IsGoodPage q) (sym is) (All-get_or IsGoodPage R k p have.0 good)
 
 -- an unreserved address never makes the idle codeword
 good_kind : (p : Page) (w : ℕ) → IsGoodPage p → kind_of w ≡ address_kind (p.address / 8) p.function → kind_of w ≡ Address (p.address / 8) p.function
@@ -42,11 +42,11 @@ pub begun_view : (R : List Page) (order items items' : List ℕ) (steps ss : Lis
     kind_of w ≡ address_kind (p.address / 8) p.function →
     left ≡ kind_of w ∷ (map Message items' ++ laid_by R (take (length order - 1) (drop 1 order)) ss)
 begun_view R order [] items' steps ss c e p s left w view none split run good have is own kind =
-    let cut : steps ≡ Run c e ∷ ss = split ∙ ap (λ (v : Step). v ∷ ss) run in
-    let here : HavePlaces (length R) order (Run c e ∷ ss) = subst (λ (v : List Step). HavePlaces (length R) order v) cut have in
+    let cut : steps ≡ Run c e ∷ ss = split ∙ ap (λ v. v ∷ ss) run in
+    let here : HavePlaces (length R) order (Run c e ∷ ss) = subst (λ v. HavePlaces (length R) order v) cut have in
     let says : kind_of w ≡ Address (p.address / 8) p.function = good_kind p w (good_first R order ss c e p good here is) kind in
     let others : List Kind = laid_by R (take (length order - 1) (drop 1 order)) ss in
     sym view ∙ (ap (laid_by R order) cut ∙ (run_view R order ss c e p here is
-    ∙ (ap (λ (v : List ℕ). Address (p.address / 8) p.function ∷ (map Message v ++ others)) (sym own)
-    ∙ ap (λ (k : Kind). k ∷ (map Message items' ++ others)) (sym says))))
+    ∙ (ap (λ v. Address (p.address / 8) p.function ∷ (map Message v ++ others)) (sym own)
+    ∙ ap (λ k. k ∷ (map Message items' ++ others)) (sym says))))
 begun_view R order (i ∷ items) items' steps ss c e p s left w view none split run good have is own kind = absurd (omega (arith, none))

@@ -3,6 +3,7 @@ ghost use Rattle.pocsag_words.specs.Codeword.{IsCodeword};
 ghost use Rattle.pocsag_batch.specs.WordLists.{AreBatches};
 
 use crate::word_list::WordList;
+use pocsag_slots::SLOTS;
 use pocsag_words::Word;
 use std::marker::Model;
 
@@ -45,6 +46,6 @@ impl Batches {
     pub fn count(&self) -> u32
         ensures { 16 * result ≡ length self.now }
     {
-        (self.words.len() / 16) as u32
+        (self.words.len() / SLOTS) as u32
     }
 }

@@ -8,6 +8,7 @@ ghost use Rattle.pocsag_batch.specs.FileOrder.{IsFileOrder, IsInFrame, IsLeastFr
 use crate::batches::Batches;
 use crate::word_list::WordList;
 use pocsag_pages::Round;
+use pocsag_slots::SLOTS;
 use pocsag_words::OutOfMemory;
 use std::alloc::Global;
 
@@ -17,11 +18,11 @@ fn gap_to_frame(index: usize, frame: usize) -> usize
     ensures least { IsLeastFrom index (IsInFrame frame) (index + result) }
     ensures near { result < 16 }
 {
-    let slot = index % 16;
+    let slot = index % SLOTS;
     if slot / 2 == frame {
         0
     } else {
-        (2 * frame + 16 - slot) % 16
+        (2 * frame + SLOTS - slot) % SLOTS
     }
 }
 
@@ -30,7 +31,7 @@ fn gap_to_whole(index: usize) -> usize
     ensures least { IsLeastFrom index IsWhole (index + result) }
     ensures near { result < 16 }
 {
-    (16 - index % 16) % 16
+    (SLOTS - index % SLOTS) % SLOTS
 }
 
 /// How many batches the round takes in file order, at least one.
@@ -42,7 +43,7 @@ pub fn in_order_batches(round: &Round) -> u32
         index += gap_to_frame(index, (page.address % 8) as usize);
         index += 1 + page.payload.as_slice().len();
     }
-    ((index + gap_to_whole(index)) / 16) as u32
+    ((index + gap_to_whole(index)) / SLOTS) as u32
 }
 
 /// The round in file order: each page in the order of the round at the first place for it, idles

@@ -17,7 +17,7 @@ const PREAMBLE: usize = 72;
 // A piece of a transmission that is not written yet.
 #[derive(Drop)]
 pub(crate) struct Piece {
-    bytes: [u8; 4_352],
+    bytes: [u8; PIECE],
     len: usize,
 }
 

@@ -15,7 +15,7 @@ use std::marker::Model;
 #[derive(Drop)]
 pub(crate) struct Queues {
     next: Vec<u32>,
-    head: [u32; 136],
+    head: [u32; CLASSES],
 }
 
 impl Model for Queues {

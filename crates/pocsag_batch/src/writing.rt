@@ -8,6 +8,7 @@ ghost use Rattle.pocsag_batch.specs.Saying.{Sends, SendsPart};
 use crate::batches::Batches;
 use crate::piece::{Piece, put_word};
 use crate::slots::Slots;
+use pocsag_slots::SLOTS;
 use pocsag_words::{DeviceFault, Sink, Word, WriteFault, same_from_kind, write_all};
 
 // Writes the transmission of the codewords that come; what was taken where the device failed is a prefix
@@ -25,7 +26,7 @@ fn write_words<S: Sink, I: Iterator<Item = Word>>(words: I, sink: &mut S) -> Res
     let mut slot = 0;
     for word in words {
         put_word(&mut piece, sink, slot, word)?;
-        slot = (slot + 1) % 16;
+        slot = (slot + 1) % SLOTS;
     }
     write_all(sink, piece.as_slice())
 }

@@ -49,4 +49,4 @@ pub row-drop : (ts : List Tree) (i : ℕ) (t : Tree) → i < length ts → t ≡
     → row (bounds_of (drop i ts)) ≡ node (bound_of t) ++ row (bounds_of (drop (i + 1) ts))
 row-drop ts i t lt is =
     let first : drop i ts ≡ t ∷ drop (i + 1) ts = rw (add-one, drop-cons ts i t, ← is) refl in
-    ap (λ (us : List Tree). row (bounds_of us)) first
+    ap (λ us. row (bounds_of us)) first

@@ -25,6 +25,15 @@ pub guard_ok : {A : Type 0} (b : Bool) (x y : A) (d : CertificateFault) → cond
 guard_ok true x y d e = (refl, cc)
 guard_ok false x y d e = absurd cc
 
+-- a test that went the other way, and one that went this way
+pub guard_other : {A : Type 0} (b : Bool) (d : CertificateFault) (r : Result A CertificateFault) (y : A) → cond b (Err d) r ≡ Ok y → (b ≡ false) × (r ≡ Ok y)
+guard_other true d r y e = absurd cc
+guard_other false d r y e = (refl, e)
+
+pub guard_then : {A : Type 0} (b : Bool) (d : CertificateFault) (r : Result A CertificateFault) (y : A) → cond b r (Err d) ≡ Ok y → (b ≡ true) × (r ≡ Ok y)
+guard_then true d r y e = (refl, e)
+guard_then false d r y e = absurd cc
+
 -- the way that a test went
 pub chosen : {X : Type 0} (b : Bool) (x y z : X) → cond b x y ≡ z → ((b ≡ true) × (x ≡ z)) ⊎ ((b ≡ false) × (y ≡ z))
 chosen true x y z e = inl (refl, e)
@@ -46,7 +55,7 @@ pub byte_is : (bytes : List ℕ) (x : ℕ × List ℕ) → byte_at bytes ≡ Ok 
 byte_is [] x e = absurd cc
 byte_is (b ∷ bytes) x e =
     let g = guard_ok (ltb b 256) (b, bytes) x fault.ReadFault e in
-    subst (λ (y : ℕ × List ℕ). ByteIs (b ∷ bytes) y.0 y.1) g.1 (record { parts = refl; small = ltb-true _ _ g.0 })
+    subst (λ y. ByteIs (b ∷ bytes) y.0 y.1) g.1 (record { parts = refl; small = ltb-true _ _ g.0 })
 
 pub byte_again : (b : ℕ) (rest : List ℕ) → b < 256 → byte_at (b ∷ rest) ≡ Ok (b, rest)
 byte_again b rest lt = rw (lt-ltb b 256 lt) refl
@@ -106,24 +115,24 @@ pub record TwoIs (bytes : List ℕ) (n : ℕ) (rest : List ℕ) : Type 0 where
 pub number_is : (bytes : List ℕ) (x : ℕ × List ℕ) → number_at bytes ≡ Ok x → TwoIs bytes x.0 x.1
 unfolding number_at
 number_is bytes x e =
-    let a = bind_ok (byte_at bytes) (λ high. byte_at high.1 >>= λ low. Ok (high.0 * 256 + low.0, low.1)) x e in
-    let b = bind_ok (byte_at a.0.1) (λ low. Ok (a.0.0 * 256 + low.0, low.1)) x a.2 in
+    let a = bind_ok (byte_at bytes) _ x e in
+    let b = bind_ok (byte_at a.0.1) _ x a.2 in
     let high = byte_is bytes a.0 a.1 in
     let low = byte_is a.0.1 b.0 b.1 in
     let made : ℕ × List ℕ = (a.0.0 * 256 + b.0.0, b.0.1) in
-    subst (λ (y : ℕ × List ℕ). TwoIs bytes y.0 y.1) (ok_is made x b.2)
-    (record { high = a.0.0; low = b.0.0; high_small = high.small; low_small = low.small; parts = high.parts ∙ ap (λ (t : List ℕ). a.0.0 ∷ t) low.parts; value = refl })
+    subst (λ y. TwoIs bytes y.0 y.1) (ok_is made x b.2)
+    (record { high = a.0.0; low = b.0.0; high_small = high.small; low_small = low.small; parts = high.parts ∙ ap (λ t. a.0.0 ∷ t) low.parts; value = refl })
 
 pub number_value : (bytes : List ℕ) (x : ℕ × List ℕ) → number_at bytes ≡ Ok x → NumberIs w16 bytes x.0 x.1
 number_value bytes x e =
     let t = number_is bytes x e in
-    subst (λ (n : ℕ). NumberIs w16 bytes n x.1) t.value (subst (λ (b : List ℕ). NumberIs w16 b (t.high * 256 + t.low) x.1) (sym t.parts) (two_is t.high t.low x.1))
+    subst (λ n. NumberIs w16 bytes n x.1) t.value (subst (λ b. NumberIs w16 b (t.high * 256 + t.low) x.1) (sym t.parts) (two_is t.high t.low x.1))
 
 pub number_takes : (bytes : List ℕ) (x : ℕ × List ℕ) → number_at bytes ≡ Ok x → (bytes ≡ to_be_bytes w16 x.0 ++ x.1) × (x.0 < 2 ^ 16)
 number_takes bytes x e =
     let t = number_is bytes x e in
     let text : to_be_bytes w16 x.0 ≡ t.high ∷ t.low ∷ [] = be_bytes_2 (t.high ∷ t.low ∷ []) x.0 refl (two_small t.high t.low t.high_small t.low_small) (omega (arith, t.value)) in
-    (t.parts ∙ ap (λ (y : List ℕ). y ++ x.1) (sym text), omega (arith, t.value, t.high_small, t.low_small))
+    (t.parts ∙ ap (λ y. y ++ x.1) (sym text), omega (arith, t.value, t.high_small, t.low_small))
 
 pub number_again : (n : ℕ) (rest : List ℕ) → n < 2 ^ 16 → number_at (to_be_bytes w16 n ++ rest) ≡ Ok (n, rest)
 unfolding number_at
@@ -165,9 +174,9 @@ range_true low high n a b = and_from (leb low n) (leb n high) (le-leb _ _ a) (le
 pub small_takes : (low high : ℕ) (bytes : List ℕ) (x : ℕ × List ℕ) → small_at low high bytes ≡ Ok x → ByteIs bytes x.0 x.1 × InRange low high x.0
 unfolding small_at
 small_takes low high bytes x e =
-    let a = bind_ok (byte_at bytes) (λ n. cond (leb low n.0 && leb n.0 high) (Ok n) (Err fault.BadField)) x e in
+    let a = bind_ok (byte_at bytes) _ x e in
     let g = guard_ok (leb low a.0.0 && leb a.0.0 high) a.0 x fault.BadField a.2 in
-    subst (λ (y : ℕ × List ℕ). ByteIs bytes y.0 y.1 × InRange low high y.0) g.1 (byte_is bytes a.0 a.1, range_is low high a.0.0 g.0)
+    subst (λ y. ByteIs bytes y.0 y.1 × InRange low high y.0) g.1 (byte_is bytes a.0 a.1, range_is low high a.0.0 g.0)
 
 pub small_again : (low high n : ℕ) (rest : List ℕ) → low ≤ n → n ≤ high → n < 256 → small_at low high (n ∷ rest) ≡ Ok (n, rest)
 unfolding small_at
@@ -176,10 +185,10 @@ small_again low high n rest a b lt = rw (byte_again n rest lt, range_true low hi
 pub large_takes : (low high : ℕ) (bytes : List ℕ) (x : ℕ × List ℕ) → large_at low high bytes ≡ Ok x → (bytes ≡ to_be_bytes w16 x.0 ++ x.1) × (x.0 < 2 ^ 16) × InRange low high x.0
 unfolding large_at
 large_takes low high bytes x e =
-    let a = bind_ok (number_at bytes) (λ n. cond (leb low n.0 && leb n.0 high) (Ok n) (Err fault.BadField)) x e in
+    let a = bind_ok (number_at bytes) _ x e in
     let g = guard_ok (leb low a.0.0 && leb a.0.0 high) a.0 x fault.BadField a.2 in
     let t = number_takes bytes a.0 a.1 in
-    subst (λ (y : ℕ × List ℕ). (bytes ≡ to_be_bytes w16 y.0 ++ y.1) × (y.0 < 2 ^ 16) × InRange low high y.0) g.1 (t.0, t.1, range_is low high a.0.0 g.0)
+    subst (λ y. (bytes ≡ to_be_bytes w16 y.0 ++ y.1) × (y.0 < 2 ^ 16) × InRange low high y.0) g.1 (t.0, t.1, range_is low high a.0.0 g.0)
 
 pub large_again : (low high n : ℕ) (rest : List ℕ) → low ≤ n → n ≤ high → n < 2 ^ 16 → large_at low high (to_be_bytes w16 n ++ rest) ≡ Ok (n, rest)
 unfolding large_at
@@ -196,23 +205,23 @@ pub record FourIs (bytes : List ℕ) (n : ℕ) (rest : List ℕ) : Type 0 where
 pub four_from_twos : (bytes middle rest : List ℕ) (h l : ℕ) → TwoIs bytes h middle → TwoIs middle l rest → FourIs bytes (h * 65536 + l) rest
 four_from_twos bytes middle rest h l p q =
     let n = (p.high * 256 + p.low) * 65536 + (q.high * 256 + q.low) in
-    let shape : bytes ≡ p.high ∷ p.low ∷ q.high ∷ q.low ∷ rest = p.parts ∙ ap (λ (t : List ℕ). p.high ∷ p.low ∷ t) q.parts in
+    let shape : bytes ≡ p.high ∷ p.low ∷ q.high ∷ q.low ∷ rest = p.parts ∙ ap (λ t. p.high ∷ p.low ∷ t) q.parts in
     let value : n ≡ h * 65536 + l = omega (arith, p.value, q.value) in
     let text : to_be_bytes w32 n ≡ p.high ∷ p.low ∷ q.high ∷ q.low ∷ [] = be_bytes_4 (p.high ∷ p.low ∷ q.high ∷ q.low ∷ []) n refl (four_small p.high p.low q.high q.low p.high_small p.low_small q.high_small q.low_small) (omega arith) in
-    subst (λ (m : ℕ). FourIs bytes m rest) value
+    subst (λ m. FourIs bytes m rest) value
     (record {
       number = rw shape (four_is p.high p.low q.high q.low rest);
-      parts = shape ∙ ap (λ (t : List ℕ). t ++ rest) (sym text);
+      parts = shape ∙ ap (λ t. t ++ rest) (sym text);
       small = omega (arith, p.high_small, p.low_small, q.high_small, q.low_small);
     })
 
 pub long_number_is : (bytes : List ℕ) (x : ℕ × List ℕ) → long_number_at bytes ≡ Ok x → FourIs bytes x.0 x.1
 unfolding long_number_at
 long_number_is bytes x e =
-    let a = bind_ok (number_at bytes) (λ high. number_at high.1 >>= λ low. Ok (high.0 * 65536 + low.0, low.1)) x e in
-    let b = bind_ok (number_at a.0.1) (λ low. Ok (a.0.0 * 65536 + low.0, low.1)) x a.2 in
+    let a = bind_ok (number_at bytes) _ x e in
+    let b = bind_ok (number_at a.0.1) _ x a.2 in
     let built : ℕ × List ℕ = (a.0.0 * 65536 + b.0.0, b.0.1) in
-    subst (λ (y : ℕ × List ℕ). FourIs bytes y.0 y.1) (ok_is built x b.2)
+    subst (λ y. FourIs bytes y.0 y.1) (ok_is built x b.2)
     (four_from_twos bytes a.0.1 b.0.1 a.0.0 b.0.0 (number_is bytes a.0 a.1) (number_is a.0.1 b.0 b.1))
 
 pub long_number_short : (bytes : List ℕ) (f : CertificateFault) → long_number_at bytes ≡ Err f → (f ≡ fault.ReadFault → ⊥) → IsShort w32 bytes f
@@ -232,9 +241,9 @@ long_number_short bytes f e given =
 pub batches_takes : (bytes : List ℕ) (x : ℕ × List ℕ) → batches_at bytes ≡ Ok x → FourIs bytes x.0 x.1 × (1 ≤ x.0)
 unfolding batches_at
 batches_takes bytes x e =
-    let a = bind_ok (long_number_at bytes) (λ n. cond (leb 1 n.0) (Ok n) (Err fault.BadField)) x e in
+    let a = bind_ok (long_number_at bytes) _ x e in
     let g = guard_ok (leb 1 a.0.0) a.0 x fault.BadField a.2 in
-    subst (λ (y : ℕ × List ℕ). FourIs bytes y.0 y.1 × (1 ≤ y.0)) g.1 (long_number_is bytes a.0 a.1, leb-true _ _ g.0)
+    subst (λ y. FourIs bytes y.0 y.1 × (1 ≤ y.0)) g.1 (long_number_is bytes a.0 a.1, leb-true _ _ g.0)
 
 pair_again : (h l : ℕ) (rest : List ℕ) → h < 256 → l < 256 → number_at (h ∷ l ∷ rest) ≡ Ok (h * 256 + l, rest)
 unfolding number_at
@@ -256,4 +265,4 @@ batches_again n rest some lt =
     let whole : (a * 256 + b) * 65536 + (c * 256 + d) ≡ n = four_whole n lt in
     let p : number_at (to_be_bytes w32 n ++ rest) ≡ Ok (a * 256 + b, c ∷ d ∷ rest) = pair_again a b (c ∷ d ∷ rest) (omega arith) (omega arith) in
     let q : number_at (c ∷ d ∷ rest) ≡ Ok (c * 256 + d, rest) = pair_again c d rest (omega arith) (omega arith) in
-    subst (λ (m : ℕ). batches_at (to_be_bytes w32 n ++ rest) ≡ Ok (m, rest)) whole (four_again (a * 256 + b) (c * 256 + d) (to_be_bytes w32 n ++ rest) (c ∷ d ∷ rest) rest p q (omega (arith, whole)))
+    subst (λ m. batches_at (to_be_bytes w32 n ++ rest) ≡ Ok (m, rest)) whole (four_again (a * 256 + b) (c * 256 + d) (to_be_bytes w32 n ++ rest) (c ∷ d ∷ rest) rest p q (omega (arith, whole)))

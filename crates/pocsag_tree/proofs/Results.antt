@@ -11,7 +11,7 @@ use Rattle.pocsag_tree.specs.Views.{bound_of}
 use Rattle.pocsag_tree.specs.Spelling.{IsText}
 use Rattle.pocsag_tree.specs.Parts.{HasFirst}
 use Rattle.pocsag_tree.specs.Answers.{IsRefusal, AnswersTriple, AnswersFault, IsFault, HasNoFault}
-use Rattle.pocsag_tree.specs.Reading.{◌>>=◌, Fails, Gives, IsWanting, end_at, certificate_at, all_of}
+use Rattle.pocsag_tree.specs.Reading.{Fails, Gives, IsWanting, end_at, certificate_at, all_of}
 use Rattle.pocsag_tree.proofs.Fields.{bind_ok, ok_is}
 use Rattle.pocsag_tree.proofs.Rows.{fails_along}
 use Rattle.pocsag_tree.proofs.Texts.{certificate_takes, certificate_again}
@@ -26,12 +26,12 @@ end_takes (b ∷ bytes) x e = absurd cc
 pub all_takes : (bytes : List ℕ) (x : End × ℕ × Bound) → all_of bytes ≡ Ok x → IsText x.0 x.1 x.2 bytes
 unfolding all_of
 all_takes bytes x e =
-    let a = bind_ok (certificate_at bytes) (λ read. end_at read.3 >>= λ finished. Ok (read.0, read.1, read.2)) x e in
-    let b = bind_ok (end_at a.0.3) (λ finished. Ok (a.0.0, a.0.1, a.0.2)) x a.2 in
+    let a = bind_ok (certificate_at bytes) _ x e in
+    let b = bind_ok (end_at a.0.3) _ x a.2 in
     let t = certificate_takes bytes a.0 a.1 in
-    let all : t.0 ≡ bytes = sym (t.2 ∙ ap (λ (y : List ℕ). t.0 ++ y) (end_takes a.0.3 b.0 b.1) ∙ append-nil t.0) in
+    let all : t.0 ≡ bytes = sym (t.2 ∙ ap (λ y. t.0 ++ y) (end_takes a.0.3 b.0 b.1) ∙ append-nil t.0) in
     let built : End × ℕ × Bound = (a.0.0, a.0.1, a.0.2) in
-    subst (λ (y : End × ℕ × Bound). IsText y.0 y.1 y.2 bytes) (ok_is built x b.2) (subst (λ (y : List ℕ). IsText a.0.0 a.0.1 a.0.2 y) all t.1)
+    subst (λ y. IsText y.0 y.1 y.2 bytes) (ok_is built x b.2) (subst (λ y. IsText a.0.0 a.0.1 a.0.2 y) all t.1)
 
 -- a text is read whole
 pub all_again : (end : End) (batches : ℕ) (tree : Bound) (bytes : List ℕ) → IsText end batches tree bytes → all_of bytes ≡ Ok (end, batches, tree)
@@ -71,7 +71,7 @@ is_only (Ok c) bytes given end batches tree is =
     let read : End × ℕ × Bound = (c.end, c.batches, bound_of c.tree) in
     let meant : End × ℕ × Bound = (end, batches, tree) in
     let same : read ≡ meant = ok_is read meant (sym given ∙ all_again end batches tree bytes is) in
-    record { same_end = ap (λ (x : End × ℕ × Bound). x.0) same; same_batches = ap (λ (x : End × ℕ × Bound). x.1) same; same_tree = ap (λ (x : End × ℕ × Bound). x.2) same }
+    record { same_end = ap (λ x. x.0) same; same_batches = ap (λ x. x.1) same; same_tree = ap (λ x. x.2) same }
 is_only (Err e) bytes given end batches tree is =
     elim (fails_is e (all_of bytes) given) [
       | inl h ↦ h
@@ -79,7 +79,7 @@ is_only (Err e) bytes given end batches tree is =
     ]
 
 verdict_at : (bytes : List ℕ) (s : Result (End × ℕ × Bound) CertificateFault) → all_of bytes ≡ s → HasVerdict bytes s
-verdict_at bytes s e = subst (λ (x : Result (End × ℕ × Bound) CertificateFault). HasVerdict bytes x) e (all_verdict bytes)
+verdict_at bytes s e = subst (λ x. HasVerdict bytes x) e (all_verdict bytes)
 
 pub is_fault : (r : Result Certificate CertificateFault) (bytes : List ℕ) → IsGiven r bytes → IfErr r (λ e. IsFault e bytes)
 is_fault (Ok c) bytes given = tt
@@ -123,7 +123,7 @@ texts_same bytes end other_end batches other_batches tree other_tree one two =
     let first : End × ℕ × Bound = (end, batches, tree) in
     let second : End × ℕ × Bound = (other_end, other_batches, other_tree) in
     let same : first ≡ second = ok_is first second (sym (all_again end batches tree bytes one) ∙ all_again other_end other_batches other_tree bytes two) in
-    (ap (λ (x : End × ℕ × Bound). x.0) same, ap (λ (x : End × ℕ × Bound). x.1) same, ap (λ (x : End × ℕ × Bound). x.2) same)
+    (ap (λ x. x.0) same, ap (λ x. x.1) same, ap (λ x. x.2) same)
 
 pub nothing_more : (bytes more : List ℕ) (end other_end : End) (batches other_batches : ℕ) (tree other_tree : Bound) → IsText end batches tree bytes → IsText other_end other_batches other_tree (bytes ++ more) → more ≡ []
 nothing_more bytes more end other_end batches other_batches tree other_tree one two =
@@ -131,7 +131,7 @@ nothing_more bytes more end other_end batches other_batches tree other_tree one 
     let second : End × ℕ × Bound × List ℕ = (other_end, other_batches, other_tree, []) in
     let whole : certificate_at (bytes ++ more) ≡ Ok second = ap certificate_at (sym (append-nil (bytes ++ more))) ∙ certificate_again other_end other_batches other_tree (bytes ++ more) [] two in
     let same : first ≡ second = ok_is first second (sym (certificate_again end batches tree bytes more one) ∙ whole) in
-    ap (λ (x : End × ℕ × Bound × List ℕ). x.3) same
+    ap (λ x. x.3) same
 
 pub same_fault : (bytes : List ℕ) (f g : CertificateFault) → HasFirst f bytes → HasFirst g bytes → f ≡ g
 same_fault bytes f g one two = let same = one_verdict one (Some g) two in cc

@@ -18,14 +18,14 @@ with_front front read = read >>= λ x. Ok (before front x.0, x.1, x.2)
 
 before-push : (front : List Bound) (t : Bound) (ts : Bounds) → before (front ++ t ∷ []) ts ≡ before front (more t ts)
 before-push [] t ts = refl
-before-push (u ∷ us) t ts = ap (λ (x : Bounds). more u x) (before-push us t ts)
+before-push (u ∷ us) t ts = ap (λ x. more u x) (before-push us t ts)
 
 before-none : (front : List Bound) → before front none ≡ bounds_from front
 before-none [] = refl
-before-none (u ∷ us) = ap (λ (x : Bounds). more u x) (before-none us)
+before-none (u ∷ us) = ap (λ x. more u x) (before-none us)
 
 regroup : (front : List Bound) (t : Bound) (read : Result (Read Bounds) CertificateFault) → with_front front (read >>= λ x. Ok (more t x.0, x.1, x.2)) ≡ with_front (front ++ t ∷ []) read
-regroup front t (Ok x) = ap (λ (ts : Bounds). Ok (ts, x.1, x.2)) (sym (before-push front t x.0))
+regroup front t (Ok x) = ap (λ ts. Ok (ts, x.1, x.2)) (sym (before-push front t x.0))
 regroup front t (Err f) = refl
 
 pub row_goes_on : (child : Reader) (front : List Bound) (count i made : ℕ) (bytes : List ℕ) (t : Bound) (after : ℕ) (rest : List ℕ) (total : Result (Read Bounds) CertificateFault)
@@ -71,7 +71,7 @@ pub row_is_done : (child : Reader) (front : List Bound) (count i made : ℕ) (by
 unfolding row_at
 row_is_done child front count i made bytes total le so_far =
     let k : count - i ≡ 0 = omega arith in
-    let one : with_front front (row_at child (count - i) made bytes) ≡ Ok (bounds_from front, made, bytes) = rw k (ap (λ (ts : Bounds). Ok (ts, made, bytes)) (before-none front)) in
+    let one : with_front front (row_at child (count - i) made bytes) ≡ Ok (bounds_from front, made, bytes) = rw k (ap (λ ts. Ok (ts, made, bytes)) (before-none front)) in
     sym so_far ∙ one
 
 -- before the first child

@@ -11,7 +11,7 @@ new-requires-2 c =
     let R = c.args.round.now in
     let ws : List ℕ = c.in_ok-words.words in
     let first : map kind_of ws ≡ laid c.args.end R c.args.steps.now =
-    c.in_ok-words.ensures.same ∙ c.new.ensures ∙ ap (λ (v : List ℕ). laid_by R v c.args.steps.now) c.deref.ensures.value
+    c.in_ok-words.ensures.same ∙ c.new.ensures ∙ ap (λ v. laid_by R v c.args.steps.now) c.deref.ensures.value
     ∙ c.orders_give_layouts.ensures c.args.end R c.args.steps.now c.in_ok-order.order.items c.in_ok-order.ensures.order in
     list_batches c.args.end R c.requires.batches ws c.requires.few
     (c.codewords_and_tours_correspond.ensures.legal c.requires.table c.args.end c.requires.choice c.requires.batches c.args.steps.now R ws
@@ -20,13 +20,13 @@ new-requires-2 c =
 pub returns-clause-first : goal.returns-clause-first
 returns-clause-first c =
     ap (map kind_of) c.new-2.ensures ∙ c.in_ok-words.ensures.same ∙ c.new.ensures
-    ∙ ap (λ (v : List ℕ). laid_by c.args.round.now v c.args.steps.now) c.deref.ensures.value
+    ∙ ap (λ v. laid_by c.args.round.now v c.args.steps.now) c.deref.ensures.value
     ∙ c.orders_give_layouts.ensures c.args.end c.args.round.now c.args.steps.now c.in_ok-order.order.items c.in_ok-order.ensures.order
 
 pub returns-clause-legal : goal.returns-clause-legal
 returns-clause-legal c k choice b some classes tour =
     c.codewords_and_tours_correspond.ensures.legal k c.args.end choice b c.args.steps.now c.args.round.now c.new-2.result some classes tour
-    (subst (λ (v : List ℕ). All IsCodeword v) (sym c.new-2.ensures) c.in_ok-words.ensures.codewords) (returns-clause-first c)
+    (subst (λ v. All IsCodeword v) (sym c.new-2.ensures) c.in_ok-words.ensures.codewords) (returns-clause-first c)
 
 pub returns-clause-order : goal.returns-clause-order
 returns-clause-order c order is =

@@ -13,65 +13,43 @@ use Rattle.pocsag_batch.proofs.placing.order_of.Goals as goal
 
 pub new-requires-clause-good : goal.new-requires-clause-good
 new-requires-clause-good c =
-    subst (λ (v : List Page). All IsGoodPage v) (sym c.pages-pages.ensures.pages) (good_pages c.args.round.now c.pages-pages.ensures.round.good)
+    subst (λ v. All IsGoodPage v) (sym c.pages-pages.ensures.pages) (good_pages c.args.round.now c.pages-pages.ensures.round.good)
 
 pub loop-step-init : goal.loop-step-init
 loop-step-init c =
     let R : List Page = c.args.round.now in
     let chains : AreChains c.args.end R c.in_ok-queues.queues (all_places R) =
-    subst (λ (v : List Page). AreChains c.args.end v c.in_ok-queues.queues (all_places v)) c.pages-pages.ensures.pages c.in_ok-queues.ensures in
-    subst (λ (v : List ℕ). Stands c.args.end R c.in_ok-queues.queues v c.args.steps.now c.args.steps.now) (sym c.in-Ok.ensures.items)
+    subst (λ v. AreChains c.args.end v c.in_ok-queues.queues (all_places v)) c.pages-pages.ensures.pages c.in_ok-queues.ensures in
+    subst (λ v. Stands c.args.end R c.in_ok-queues.queues v c.args.steps.now c.args.steps.now) (sym c.in-Ok.ensures.items)
     (stands_first c.args.end R c.in_ok-queues.queues c.args.steps.now chains c.requires)
 
 -- before a run
-before_run : (end : End) (R : List Page) (links : Links) (order : List ℕ) (steps : List Step) (i c : ℕ) (e : Bool) → i < length steps →
-    get_or steps i Stay ≡ Run c e → Stands end R links order steps (drop i steps) → Stands end R links order steps (Run c e ∷ drop (i + 1) steps)
+before_run : (end : End) (R : List Page) (links : Links) (order : List ℕ) (steps : List Step) (i c : ℕ) (e : Bool) → i < length steps
+    → get_or steps i Stay ≡ Run c e → Stands end R links order steps (drop i steps)
+    → Stands end R links order steps (Run c e ∷ drop (i + 1) steps)
 before_run end R links order steps i c e h is s =
-    let first : drop i steps ≡ Run c e ∷ drop (i + 1) steps = drop_more steps i Stay h ∙ ap (λ (step : Step). step ∷ drop (i + 1) steps) is in
-    subst (λ (rest : List Step). Stands end R links order steps rest) first s
+    let first : drop i steps ≡ Run c e ∷ drop (i + 1) steps = drop_more steps i Stay h ∙ ap (λ step. step ∷ drop (i + 1) steps) is in
+    subst (λ rest. Stands end R links order steps rest) first s
 
 pub take-requires-clause-class : goal.take-requires-clause-class
 take-requires-clause-class c =
-    let end = c.args.end in
-    let R : List Page = c.args.round.now in
-    let queues = c.loop-step.queues in
-    let order : List ℕ = c.loop-step.order.items in
-    let steps : List Step = c.args.steps.now in
-    let i = c.loop-step.step-index in
-    let class : ℕ = c.in-Run.class in
-    let early = c.in-Run.early in
-    let s = before_run end R queues order steps i class early c.loop-step-test.true c.in-Run.is c.loop-step.invariant in
-    (takes end R queues order steps (drop (i + 1) steps) class early s).small
+    let s = before_run _ _ _ _ _ _ _ _ c.loop-step-test.true c.in-Run.is c.loop-step.invariant in
+    (takes _ _ _ _ _ _ _ _ s).small
 
 pub take-requires-clause-some : goal.take-requires-clause-some
 take-requires-clause-some c =
-    let end = c.args.end in
-    let R : List Page = c.args.round.now in
-    let queues = c.loop-step.queues in
-    let order : List ℕ = c.loop-step.order.items in
-    let steps : List Step = c.args.steps.now in
-    let i = c.loop-step.step-index in
-    let class : ℕ = c.in-Run.class in
-    let early = c.in-Run.early in
-    let s = before_run end R queues order steps i class early c.loop-step-test.true c.in-Run.is c.loop-step.invariant in
-    let t = takes end R queues order steps (drop (i + 1) steps) class early s in
-    subst (λ (n : ℕ). n < length queues.next) (sym t.head) t.within
+    let s = before_run _ _ _ _ _ _ _ _ c.loop-step-test.true c.in-Run.is c.loop-step.invariant in
+    let t = takes _ _ _ _ _ _ _ _ s in
+    subst (λ n. n < length c.loop-step.queues.next) (sym t.head) t.within
 
 pub loop-step-preserved : goal.loop-step-preserved
 loop-step-preserved c =
-    let end = c.args.end in
-    let R : List Page = c.args.round.now in
-    let queues = c.loop-step.queues in
-    let order : List ℕ = c.loop-step.order.items in
     let steps : List Step = c.args.steps.now in
-    let i = c.loop-step.step-index in
-    let class : ℕ = c.in-Run.class in
-    let early = c.in-Run.early in
-    let s = before_run end R queues order steps i class early c.loop-step-test.true c.in-Run.is c.loop-step.invariant in
-    let pushed : c.push.new.self.items ≡ order ++ c.take.result ∷ [] = search rules in
-    subst (λ (v : List ℕ). Stands end R c.take.new.self v steps (drop (i + 1) steps)) (sym pushed)
-    (stands_run end R queues c.take.new.self order steps (drop (i + 1) steps) class c.take.result early s
-    c.take.ensures.place c.take.ensures.next c.take.ensures.head)
+    let rest : List Step = drop (c.loop-step.step-index + 1) steps in
+    let s = before_run _ _ _ _ _ _ _ _ c.loop-step-test.true c.in-Run.is c.loop-step.invariant in
+    let pushed : c.push.new.self.items ≡ c.loop-step.order.items ++ c.take.result ∷ [] = search rules in
+    subst (λ v. Stands c.args.end c.args.round.now c.take.new.self v steps rest) (sym pushed)
+    (stands_run _ _ _ _ _ _ _ _ _ _ s c.take.ensures.place c.take.ensures.next c.take.ensures.head)
 
 pub returns-clause-order : goal.returns-clause-order
 returns-clause-order c =

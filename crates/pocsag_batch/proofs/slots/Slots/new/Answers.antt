@@ -1,5 +1,4 @@
-use Rattle.std.proofs.Common.{ℕ, sym, ap, subst, arith, List, length, All}
-use Rattle.pocsag_pages.specs.declared.page.Page.{Page}
+use Rattle.std.proofs.Common.{sym, ap, subst, arith, length, All}
 use Rattle.pocsag_pages.specs.Pages.{IsGoodPage}
 use Rattle.pocsag_batch.specs.Placing.{HavePlaces}
 use Rattle.pocsag_pages.proofs.GoodPages.{good_pages}
@@ -7,7 +6,7 @@ use Rattle.pocsag_batch.proofs.slots.Slots.new.Goals as goal
 
 pub invariant_of-result : goal.invariant_of-result
 invariant_of-result c = (
-  subst (λ (v : List Page). All IsGoodPage v) (sym c.pages.ensures.pages) (good_pages c.args.round.now c.pages.ensures.round.good),
+  subst (λ v. All IsGoodPage v) (sym c.pages.ensures.pages) (good_pages c.args.round.now c.pages.ensures.round.good),
   λ k d h. absurd (omega arith),
-  subst (λ (n : ℕ). HavePlaces n c.args.order.now c.args.steps.now) (sym (ap length c.pages.ensures.pages)) c.requires,
+  subst (λ n. HavePlaces n c.args.order.now c.args.steps.now) (sym (ap length c.pages.ensures.pages)) c.requires,
 )

@@ -1,7 +1,6 @@
-use Rattle.std.proofs.Common.{◌≡◌, ℕ, ◌/◌, ◌<◌, List, ◌∷◌, ◌++◌, length, get_or, map, take, subst, sym, ap, ◌∙◌, All}
+use Rattle.std.proofs.Common.{◌≡◌, ℕ, ◌/◌, ◌<◌, ◌∷◌, ◌++◌, length, get_or, map, take, subst, sym, ap, ◌∙◌, All}
 use Rattle.std.proofs.lemmas.List.Elements.{All-get_or}
 use Rattle.pocsag_words.specs.Kinds.{kind_of}
-use Rattle.pocsag_words.specs.declared.codeword.Kind.{Kind}
 use Rattle.pocsag_words.specs.declared.codeword.Kind.TheVariants.{Address, Message}
 use Rattle.pocsag_slots.proofs.Sayable.{kind_unreserved}
 use Rattle.pocsag_batch.proofs.Pushes.{pushed, pushed_more, map_taken}
@@ -17,17 +16,17 @@ pub message_word-requires : goal.message_word-requires
 message_word-requires c =
     let P : ℕ → Type 0 = λ item. item < 1048576 in
     All-get_or P c.as_slice-item-items.result.now c.loop-item.item-index 0 c.loop-item-test.true
-    (subst (λ (v : List ℕ). All P v) (sym c.as_slice-item-items.ensures) c.requires.small)
+    (subst (λ v. All P v) (sym c.as_slice-item-items.ensures) c.requires.small)
 
 pub loop-item-preserved : goal.loop-item-preserved
 loop-item-preserved c =
     let p = c.args.page.now in
     let k = c.loop-item.item-index in
     let items : c.as_slice-item-items.result.now ≡ p.payload = c.as_slice-item-items.ensures in
-    let within : k < length p.payload = subst (λ (v : List ℕ). k < length v) items c.loop-item-test.true in
+    let within : k < length p.payload = subst (λ v. k < length v) items c.loop-item-test.true in
     let kind : kind_of c.message_word.result ≡ Message (get_or p.payload k 0) =
-    c.message_word.ensures.kind ∙ ap (λ (v : List ℕ). Message (get_or v k 0)) items in
+    c.message_word.ensures.kind ∙ ap (λ v. Message (get_or v k 0)) items in
     pushed_more c.loop-item.self c.push-in-loop-item.new.self c.message_word.result (Message (get_or p.payload k 0))
     (map kind_of c.args.self.now) (Address (p.address / 8) p.function ∷ map Message (take k p.payload))
     c.in_ok-push-2.ensures.more kind c.loop-item.invariant
-    ∙ ap (λ (v : List Kind). map kind_of c.args.self.now ++ Address (p.address / 8) p.function ∷ v) (sym (map_taken Message p.payload k within))
+    ∙ ap (λ v. map kind_of c.args.self.now ++ Address (p.address / 8) p.function ∷ v) (sym (map_taken Message p.payload k within))
