@@ -8,6 +8,7 @@ use Rattle.pocsag_slots.specs.declared.way.Way.TheVariants.{IdleIn, Early, Late}
 use Rattle.pocsag_slots.specs.Loads.{limits_of_all}
 use Rattle.pocsag_tree.specs.Bounds.{Bound, Bounds, closed_nodes, closed_nodes_in}
 use Rattle.pocsag_tree.specs.Views.{bound_of, bounds_of}
+use Rattle.pocsag_branch.specs.declared.question.Question.{Question}
 use Rattle.pocsag_branch.specs.declared.attempt.Halt.{Halt}
 use Rattle.pocsag_branch.specs.declared.attempt.Halt.TheVariants.{Met, Limit, OutOfMemory}
 use Rattle.pocsag_branch.specs.declared.attempt.Children.{Children}
@@ -15,10 +16,10 @@ use Rattle.pocsag_branch.specs.declared.attempt.Children.TheVariants.{Whole, Kep
 use Rattle.pocsag_branch.specs.Examined.{AreRefuted, IsAnswer, IsRefuted}
 
 -- Why an examination ends before its tree is whole.
-abbrev pub IsHalt : Classes → End → ℕ → Halt → Type 0
-IsHalt k end batches (Met answer) = IsAnswer k end batches answer.value
-IsHalt k end batches Limit = Unit {0}
-IsHalt k end batches OutOfMemory = Unit {0}
+abbrev pub IsHalt : Classes → Question → Halt → Type 0
+IsHalt k q (Met answer) = IsAnswer k q.end q.batches answer.value
+IsHalt k q Limit = Unit {0}
+IsHalt k q OutOfMemory = Unit {0}
 
 -- Whether a way that may be taken is open: the limits do not ask for it yet.
 abbrev pub IsOpen : Classes → ℕ → Limits → Way → Type 0
