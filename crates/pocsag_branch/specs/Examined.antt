@@ -82,18 +82,18 @@ pub record Fills (limit made after : ℕ) (marks : List Bool) : Type 0 where
   pub whole : 0 < unseen → after ≡ limit
 
 -- What is owed for a node, where so many were made before it and so many after it.
-pub record IsExamined (k : Classes) (end : End) (batches : ℕ) (l : Limits) (limit made after : ℕ) (t : Bound) : Type 0 where
-  pub refuted : IsRefuted true k end batches l t
-  pub shaped : IsShaped k batches l t
-  pub fills : Fills limit made after (opens t)
+pub record IsExamined (k : Classes) (q : Question) (l : Limits) (made after : ℕ) (t : Bound) : Type 0 where
+  pub refuted : IsRefuted true k q.end q.batches l t
+  pub shaped : IsShaped k q.batches l t
+  pub fills : Fills q.limit made after (opens t)
 
 -- The same for its children.
-pub record AreExamined (k : Classes) (end : End) (batches : ℕ) (l : Limits) (limit made after : ℕ) (ws : List Way) (ts : Bounds) : Type 0 where
-  pub refuted : AreRefuted true k end batches l ws ts
-  pub shaped : AreShaped k batches l ws ts
-  pub fills : Fills limit made after (opens_in ts)
+pub record AreExamined (k : Classes) (q : Question) (l : Limits) (made after : ℕ) (ws : List Way) (ts : Bounds) : Type 0 where
+  pub refuted : AreRefuted true k q.end q.batches l ws ts
+  pub shaped : AreShaped k q.batches l ws ts
+  pub fills : Fills q.limit made after (opens_in ts)
 
 -- The whole tree of a search from the limits of all choices.
-pub record IsTreeOf (k : Classes) (end : End) (batches limit : ℕ) (t : Bound) : Type 0 where
+pub record IsTreeOf (k : Classes) (q : Question) (t : Bound) : Type 0 where
   pub after : ℕ
-  pub examined : IsExamined k end batches (limits_of_all k batches) limit 0 after t
+  pub examined : IsExamined k q (limits_of_all k q.batches) 0 after t

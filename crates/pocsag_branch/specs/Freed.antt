@@ -1,6 +1,5 @@
 -- What the free search owes node by node: its trees have no promised shape.
 use Rattle.std.specs.Prelude.{◌≡◌, ℕ, ◌+◌, ◌≤◌, false, List, slice_index}
-use Rattle.pocsag_words.specs.declared.ending.End.{End}
 use Rattle.pocsag_slots.specs.declared.class.Classes.{Classes}
 use Rattle.pocsag_slots.specs.declared.limit.Limits.{Limits}
 use Rattle.pocsag_slots.specs.declared.way.Way.{Way}
@@ -29,25 +28,25 @@ IsOpen k batches l (Late c) = slice_index k.count c ≤ slice_index l.hi c
 
 -- What is owed for a node, where so many were examined before it and so many after it: the limit is not
 -- exceeded, and no node of the tree was left out of the count.
-pub record IsFreed (k : Classes) (end : End) (batches : ℕ) (l : Limits) (limit examined after : ℕ) (t : Bound) : Type 0 where
-  pub refuted : IsRefuted false k end batches l t
+pub record IsFreed (k : Classes) (q : Question) (l : Limits) (examined after : ℕ) (t : Bound) : Type 0 where
+  pub refuted : IsRefuted false k q.end q.batches l t
   pub few : examined + closed_nodes t ≤ after
-  pub within : after ≤ limit
+  pub within : after ≤ q.limit
 
 -- The same for its children.
-pub record AreFreed (k : Classes) (end : End) (batches : ℕ) (l : Limits) (limit examined after : ℕ) (ws : List Way) (ts : Bounds) : Type 0 where
-  pub refuted : AreRefuted false k end batches l ws ts
+pub record AreFreed (k : Classes) (q : Question) (l : Limits) (examined after : ℕ) (ws : List Way) (ts : Bounds) : Type 0 where
+  pub refuted : AreRefuted false k q.end q.batches l ws ts
   pub few : examined + closed_nodes_in ts ≤ after
-  pub within : after ≤ limit
+  pub within : after ≤ q.limit
 
 -- The trees of all children, or the tree of one that stands for the node.
-abbrev pub AreChildren : Classes → End → ℕ → Limits → ℕ → ℕ → ℕ → List Way → Children → Type 0
-AreChildren k end batches l limit examined after ws (Whole children) =
-    AreFreed k end batches l limit examined after ws (bounds_of children.items)
-AreChildren k end batches l limit examined after ws (Kept tree) =
-    IsFreed k end batches l limit examined after (bound_of tree)
+abbrev pub AreChildren : Classes → Question → Limits → ℕ → ℕ → List Way → Children → Type 0
+AreChildren k q l examined after ws (Whole children) =
+    AreFreed k q l examined after ws (bounds_of children.items)
+AreChildren k q l examined after ws (Kept tree) =
+    IsFreed k q l examined after (bound_of tree)
 
 -- The tree of a free search from the limits of all choices.
-pub record IsFreeTree (k : Classes) (end : End) (batches limit : ℕ) (t : Bound) : Type 0 where
-  pub refuted : IsRefuted false k end batches (limits_of_all k batches) t
-  pub few : closed_nodes t ≤ limit
+pub record IsFreeTree (k : Classes) (q : Question) (t : Bound) : Type 0 where
+  pub refuted : IsRefuted false k q.end q.batches (limits_of_all k q.batches) t
+  pub few : closed_nodes t ≤ q.limit

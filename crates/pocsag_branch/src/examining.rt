@@ -26,7 +26,7 @@ pub(crate) fn examine(
 ) -> Result<(Tree, u32), Stop>
     requires limits { AreNodeLimits classes.now question.batches limits.now }
     requires made { made ≤ question.limit }
-    ensures node { IfOk result (λ x. IsExamined classes.now question.end question.batches limits.now question.limit made x.1 (bound_of x.0)) }
+    ensures node { IfOk result (λ x. IsExamined classes.now question limits.now made x.1 (bound_of x.0)) }
     ensures stop { IfErr result (IsStop classes.now question) }
 {
     if made >= question.limit {
@@ -50,7 +50,7 @@ pub(crate) fn grow(
     requires made { made < question.limit }
     requires form { IsForm classes.now question limits.now form }
     requires shape { StandsAs classes.now question.batches limits.now form }
-    ensures node { IfOk result (λ x. IsExamined classes.now question.end question.batches limits.now question.limit made x.1 (bound_of x.0)) }
+    ensures node { IfOk result (λ x. IsExamined classes.now question limits.now made x.1 (bound_of x.0)) }
     ensures stop { IfErr result (IsStop classes.now question) }
 {
     match form {
@@ -79,7 +79,7 @@ fn cut(
     requires small { set < 2 ^ 16 }
     requires fall { All (Falls classes.now question.batches limits.now) (ways_across classes.now limits.now set) }
     requires shape { AdmitApart classes.now question.batches limits.now set }
-    ensures node { IfOk result (λ x. IsExamined classes.now question.end question.batches limits.now question.limit made x.1 (bound_of x.0)) }
+    ensures node { IfOk result (λ x. IsExamined classes.now question limits.now made x.1 (bound_of x.0)) }
     ensures stop { IfErr result (IsStop classes.now question) }
 {
     let out = ways_out(classes, limits, set, question.batches);
@@ -108,7 +108,7 @@ fn split(
     requires made { made < question.limit }
     requires point { IsSplitPoint classes.now question.batches limits.now class m }
     requires shape { AdmitSplit classes.now question.batches limits.now class m }
-    ensures node { IfOk result (λ x. IsExamined classes.now question.end question.batches limits.now question.limit made x.1 (bound_of x.0)) }
+    ensures node { IfOk result (λ x. IsExamined classes.now question limits.now made x.1 (bound_of x.0)) }
     ensures stop { IfErr result (IsStop classes.now question) }
 {
     let under = limits_under(classes, limits, question.batches, class, m);
@@ -141,7 +141,7 @@ fn close(
     requires closed { IsClosed question.end }
     requires fall { All (Falls classes.now question.batches limits.now) (ways_to_close classes.now limits.now) }
     requires shape { AdmitUnclosed classes.now question.batches limits.now }
-    ensures node { IfOk result (λ x. IsExamined classes.now question.end question.batches limits.now question.limit made x.1 (bound_of x.0)) }
+    ensures node { IfOk result (λ x. IsExamined classes.now question limits.now made x.1 (bound_of x.0)) }
     ensures stop { IfErr result (IsStop classes.now question) }
 {
     let out = ways_to_end(classes, limits, question.batches);
@@ -163,7 +163,7 @@ fn row(
     requires made { made ≤ question.limit }
     requires allowed { All (MayTake classes.now limits.now) ways.now }
     requires fall { All (Falls classes.now question.batches limits.now) ways.now }
-    ensures node { IfOk result (λ x. AreExamined classes.now question.end question.batches limits.now question.limit made x.1 ways.now (bounds_of x.0.items)) }
+    ensures node { IfOk result (λ x. AreExamined classes.now question limits.now made x.1 ways.now (bounds_of x.0.items)) }
     ensures stop { IfErr result (IsStop classes.now question) }
 {
     let mut children = Vec::new(alloc);

@@ -27,7 +27,7 @@ pub(crate) fn refute(
 ) -> Result<(Tree, u32), Halt>
     requires limits { AreNodeLimits classes.now attempt.question.batches limits.now }
     requires examined { examined ≤ attempt.question.limit }
-    ensures node { IfOk result (λ x. IsFreed classes.now attempt.question.end attempt.question.batches limits.now attempt.question.limit examined x.1 (bound_of x.0)) }
+    ensures node { IfOk result (λ x. IsFreed classes.now attempt.question limits.now examined x.1 (bound_of x.0)) }
     ensures halt { IfErr result (IsHalt classes.now attempt.question) }
 {
     if examined >= attempt.question.limit {
@@ -62,7 +62,7 @@ fn refute_cut(
     requires certain { IsTrue (class_certain classes.now limits.now set needed) }
     requires small { set < 2 ^ 16 }
     requires fall { All (Falls classes.now attempt.question.batches limits.now) (ways_across classes.now limits.now set) }
-    ensures node { IfOk result (λ x. IsFreed classes.now attempt.question.end attempt.question.batches limits.now attempt.question.limit examined x.1 (bound_of x.0)) }
+    ensures node { IfOk result (λ x. IsFreed classes.now attempt.question limits.now examined x.1 (bound_of x.0)) }
     ensures halt { IfErr result (IsHalt classes.now attempt.question) }
 {
     let out = ways_out(classes, limits, set, attempt.question.batches);
@@ -92,7 +92,7 @@ pub(crate) fn refute_close(
     requires examined { examined < attempt.question.limit }
     requires closed { IsClosed attempt.question.end }
     requires fall { All (Falls classes.now attempt.question.batches limits.now) (ways_to_close classes.now limits.now) }
-    ensures node { IfOk result (λ x. IsFreed classes.now attempt.question.end attempt.question.batches limits.now attempt.question.limit examined x.1 (bound_of x.0)) }
+    ensures node { IfOk result (λ x. IsFreed classes.now attempt.question limits.now examined x.1 (bound_of x.0)) }
     ensures halt { IfErr result (IsHalt classes.now attempt.question) }
 {
     let out = ways_to_end(classes, limits, attempt.question.batches);
@@ -116,7 +116,7 @@ fn refute_split(
     requires limits { AreNodeLimits classes.now attempt.question.batches limits.now }
     requires examined { examined < attempt.question.limit }
     requires point { IsSplitPoint classes.now attempt.question.batches limits.now class m }
-    ensures node { IfOk result (λ x. IsFreed classes.now attempt.question.end attempt.question.batches limits.now attempt.question.limit examined x.1 (bound_of x.0)) }
+    ensures node { IfOk result (λ x. IsFreed classes.now attempt.question limits.now examined x.1 (bound_of x.0)) }
     ensures halt { IfErr result (IsHalt classes.now attempt.question) }
 {
     let under = limits_under(classes, limits, attempt.question.batches, class, m);
@@ -169,7 +169,7 @@ fn refute_row(
     requires examined { examined ≤ attempt.question.limit }
     requires allowed { All (MayTake classes.now limits.now) ways.now }
     requires fall { All (Falls classes.now attempt.question.batches limits.now) ways.now }
-    ensures node { IfOk result (λ x. AreChildren classes.now attempt.question.end attempt.question.batches limits.now attempt.question.limit examined x.1 ways.now x.0) }
+    ensures node { IfOk result (λ x. AreChildren classes.now attempt.question limits.now examined x.1 ways.now x.0) }
     ensures halt { IfErr result (IsHalt classes.now attempt.question) }
 {
     let mut children = Vec::new(alloc);

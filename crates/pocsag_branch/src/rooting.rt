@@ -39,7 +39,7 @@ fn open_choice(alloc: Global, classes: &Classes, question: Question) -> Result<O
 // one for the open end alone, the root is to be closed at once.
 pub(crate) fn whole_tree(alloc: Global, classes: &Classes, question: Question) -> Result<Tree, Stop>
     requires { 0 < question.limit }
-    ensures tree { IfOk result (λ tree. IsTreeOf classes.now question.end question.batches question.limit (bound_of tree)) }
+    ensures tree { IfOk result (λ tree. IsTreeOf classes.now question (bound_of tree)) }
     ensures stop { IfErr result (IsStop classes.now question) }
 {
     decide(alloc, classes, question)?;

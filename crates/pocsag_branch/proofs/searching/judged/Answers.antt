@@ -25,7 +25,7 @@ returns-then-is_unfinished-clause-fault c =
       unseen = fills.unseen;
       some = some;
       marks = fills.layout ∙ ap (λ n. replicate n false ++ replicate fills.unseen true) full;
-      accepted = tree_open k c.args.question.end c.args.question.batches c.args.question.limit tree c.requires.tree;
+      accepted = tree_open k c.args.question tree c.requires.tree;
       shaped = c.requires.tree.examined.shaped;
     }
 
@@ -36,7 +36,7 @@ returns-clause-found c =
     let fills = c.requires.tree.examined.fills in
     let none = none_unseen tree fills.closed fills.unseen fills.layout (sym c.is_unfinished.ensures ∙ c.if-is_unfinished.false) in
     let closed = closed_is tree fills.closed fills.unseen fills.layout in
-    let accepted = tree_whole k c.args.question.end c.args.question.batches c.args.question.limit tree c.requires.tree (sym c.is_unfinished.ensures ∙ c.if-is_unfinished.false) in
+    let accepted = tree_whole k c.args.question tree c.requires.tree (sym c.is_unfinished.ensures ∙ c.if-is_unfinished.false) in
     record {
       least = c.args.question.batches;
       is_least = c.requires.least;
