@@ -2,7 +2,6 @@
 use Rattle.std.proofs.Common.{◌≡◌, ℕ, ◌+◌, ◌^◌, ◌<◌, ◌≤◌, false, IsTrue, List, [], ◌∷◌, ◌++◌, take, get_or, length, refl, sym, ap, subst, ◌∙◌, arith}
 use Rattle.std.proofs.lemmas.List.{take_more}
 use Rattle.std.specs.Global.{Vec, Box}
-use Rattle.pocsag_words.specs.declared.ending.End.{End}
 use Rattle.pocsag_slots.specs.declared.class.Classes.{Classes}
 use Rattle.pocsag_slots.specs.declared.limit.Limits.{Limits}
 use Rattle.pocsag_slots.specs.declared.way.Way.{Way}
@@ -15,6 +14,7 @@ use Rattle.pocsag_tree.specs.Bounds.{Bound, Bounds, split, none, more, closed_no
 use Rattle.pocsag_tree.specs.Views.{bound_of, bounds_of}
 use Rattle.pocsag_tree.proofs.Counts.{bound_of-cut, bound_of-close, bound_of-split}
 use Rattle.pocsag_check.specs.Accepting.{AcceptsWithin, IsClosed}
+use Rattle.pocsag_branch.specs.declared.question.Question.{Question}
 use Rattle.pocsag_branch.specs.Freed.{AreFreed, IsFreed, IsOpen}
 use Rattle.pocsag_branch.specs.Undecided.{AreNodeLimits, Falls, IsSplitPoint, undecided}
 use Rattle.pocsag_branch.proofs.Falling.{early_falls, idle_falls, late_falls}
@@ -30,97 +30,97 @@ closed_nodes_in-last : (ts : Bounds) (t : Bound) → closed_nodes_in (with_last 
 closed_nodes_in-last none t = omega arith
 closed_nodes_in-last (more s ts) t = omega (arith, closed_nodes_in-last ts t)
 
-freed_more : (k : Classes) (end : End) (b : ℕ) (l : Limits) (limit made between after : ℕ) (ws : List Way) (ts : Bounds) (w : Way) (t : Bound) →
-    AreFreed k end b l limit made between ws ts → IsFreed k end b (narrowed_limits k l w b) limit between after t →
-    undecided k b (narrowed_limits k l w b) < undecided k b l →
-    AreFreed k end b l limit made after (ws ++ w ∷ []) (with_last ts t)
-freed_more k end b l limit made between after ws ts w t a h falls =
+freed_more : (k : Classes) (q : Question) (l : Limits) (made between after : ℕ) (ws : List Way) (ts : Bounds) (w : Way) (t : Bound) →
+    AreFreed k q l made between ws ts → IsFreed k q (narrowed_limits k l w q.batches) between after t →
+    undecided k q.batches (narrowed_limits k l w q.batches) < undecided k q.batches l →
+    AreFreed k q l made after (ws ++ w ∷ []) (with_last ts t)
+freed_more k q l made between after ws ts w t a h falls =
     record {
-      refuted = refuted_more false k end b l ws ts w t a.refuted h.refuted falls;
+      refuted = refuted_more false k q.end q.batches l ws ts w t a.refuted h.refuted falls;
       few = omega (arith, a.few, h.few, closed_nodes_in-last ts t);
       within = h.within;
     }
 
 -- the loop over the ways
-pub free_row_goes_on : (k : Classes) (end : End) (b : ℕ) (l : Limits) (limit made between after i : ℕ) (ws : List Way) (ts : List Tree) (d : Way) (t : Tree)
-    (pushed : List Tree) (narrowed : Limits) → i < length ws → narrowed ≡ narrowed_limits k l (get_or ws i d) b → pushed ≡ ts ++ t ∷ [] →
-    AreFreed k end b l limit made between (take i ws) (bounds_of ts) →
-    IsFreed k end b narrowed limit between after (bound_of t) → undecided k b narrowed < undecided k b l →
-    AreFreed k end b l limit made after (take (i + 1) ws) (bounds_of pushed)
-free_row_goes_on k end b l limit made between after i ws ts d t pushed narrowed h same push a one falls =
+pub free_row_goes_on : (k : Classes) (q : Question) (l : Limits) (made between after i : ℕ) (ws : List Way) (ts : List Tree) (d : Way) (t : Tree)
+    (pushed : List Tree) (narrowed : Limits) → i < length ws → narrowed ≡ narrowed_limits k l (get_or ws i d) q.batches → pushed ≡ ts ++ t ∷ [] →
+    AreFreed k q l made between (take i ws) (bounds_of ts) →
+    IsFreed k q narrowed between after (bound_of t) → undecided k q.batches narrowed < undecided k q.batches l →
+    AreFreed k q l made after (take (i + 1) ws) (bounds_of pushed)
+free_row_goes_on k q l made between after i ws ts d t pushed narrowed h same push a one falls =
     let w : Way = get_or ws i d in
     let ways : take (i + 1) ws ≡ take i ws ++ w ∷ [] = take_more ws i d h in
     let trees : bounds_of pushed ≡ with_last (bounds_of ts) (bound_of t) = ap (λ (xs : List Tree). bounds_of xs) push ∙ bounds_of-push ts t in
-    subst (λ (v : List Way). AreFreed k end b l limit made after v (bounds_of pushed)) (sym ways)
-    (subst (λ (r : Bounds). AreFreed k end b l limit made after (take i ws ++ w ∷ []) r) (sym trees)
-    (freed_more k end b l limit made between after (take i ws) (bounds_of ts) w (bound_of t) a
-    (subst (λ (x : Limits). IsFreed k end b x limit between after (bound_of t)) same one)
-    (subst (λ (x : Limits). undecided k b x < undecided k b l) same falls)))
+    subst (λ (v : List Way). AreFreed k q l made after v (bounds_of pushed)) (sym ways)
+    (subst (λ (r : Bounds). AreFreed k q l made after (take i ws ++ w ∷ []) r) (sym trees)
+    (freed_more k q l made between after (take i ws) (bounds_of ts) w (bound_of t) a
+    (subst (λ (x : Limits). IsFreed k q x between after (bound_of t)) same one)
+    (subst (λ (x : Limits). undecided k q.batches x < undecided k q.batches l) same falls)))
 
 -- a child that the checker accepts for the parent stands for it
-pub kept : (k : Classes) (end : End) (b : ℕ) (l narrowed : Limits) (limit made between after deep : ℕ) (t : Bound) → made ≤ between →
-    IsFreed k end b narrowed limit between after t → undecided k b narrowed < undecided k b l → AcceptsWithin false k end b l deep t →
-    IsFreed k end b l limit made after t
-kept k end b l narrowed limit made between after deep t later h falls a =
+pub kept : (k : Classes) (q : Question) (l narrowed : Limits) (made between after deep : ℕ) (t : Bound) → made ≤ between →
+    IsFreed k q narrowed between after t → undecided k q.batches narrowed < undecided k q.batches l → AcceptsWithin false k q.end q.batches l deep t →
+    IsFreed k q l made after t
+kept k q l narrowed made between after deep t later h falls a =
     record {
       refuted = record { accepted = a.1; deep = omega (arith, h.refuted.deep) };
       few = omega (arith, h.few);
       within = h.within;
     }
 
-pub kept_in_row : (k : Classes) (end : End) (b : ℕ) (l narrowed : Limits) (limit made between after deep : ℕ) (ws : List Way) (ts : Bounds) (t : Bound) →
-    AreFreed k end b l limit made between ws ts →
-    IsFreed k end b narrowed limit between after t → undecided k b narrowed < undecided k b l → AcceptsWithin false k end b l deep t →
-    IsFreed k end b l limit made after t
-kept_in_row k end b l narrowed limit made between after deep ws ts t row h falls a =
-    kept k end b l narrowed limit made between after deep t (omega (arith, row.few)) h falls a
+pub kept_in_row : (k : Classes) (q : Question) (l narrowed : Limits) (made between after deep : ℕ) (ws : List Way) (ts : Bounds) (t : Bound) →
+    AreFreed k q l made between ws ts →
+    IsFreed k q narrowed between after t → undecided k q.batches narrowed < undecided k q.batches l → AcceptsWithin false k q.end q.batches l deep t →
+    IsFreed k q l made after t
+kept_in_row k q l narrowed made between after deep ws ts t row h falls a =
+    kept k q l narrowed made between after deep t (omega (arith, row.few)) h falls a
 
-pub freed_before : (k : Classes) (end : End) (b : ℕ) (l : Limits) (limit made after : ℕ) (t : Bound) → IsFreed k end b l limit (made + 1) after t →
-    IsFreed k end b l limit made after t
-freed_before k end b l limit made after t h = record { refuted = h.refuted; few = omega (arith, h.few); within = h.within }
+pub freed_before : (k : Classes) (q : Question) (l : Limits) (made after : ℕ) (t : Bound) → IsFreed k q l (made + 1) after t →
+    IsFreed k q l made after t
+freed_before k q l made after t h = record { refuted = h.refuted; few = omega (arith, h.few); within = h.within }
 
-pub cut_freed : (k : Classes) (end : End) (b : ℕ) (l : Limits) (limit made after set c : ℕ) (ws : List Way) (children : Vec Tree) → 0 < b → c < 136 →
+pub cut_freed : (k : Classes) (q : Question) (l : Limits) (made after set c : ℕ) (ws : List Way) (children : Vec Tree) → c < 136 →
     IsTrue (holds set 0) → IsTrue (class_certain k l set c) → set < 2 ^ 16 → ws ≡ ways_across k l set →
-    AreFreed k end b l limit (made + 1) after ws (bounds_of children.items) → IsFreed k end b l limit made after (bound_of (Cut set c children))
-cut_freed k end b l limit made after set c ws children some known zero certain small all a =
-    let rest : AreFreed k end b l limit (made + 1) after (ways_across k l set) (bounds_of children.items) =
-    subst (λ (v : List Way). AreFreed k end b l limit (made + 1) after v (bounds_of children.items)) all a in
-    subst (λ (t : Bound). IsFreed k end b l limit made after t) (sym (bound_of-cut (Cut set c children) set c children refl))
+    AreFreed k q l (made + 1) after ws (bounds_of children.items) → IsFreed k q l made after (bound_of (Cut set c children))
+cut_freed k q l made after set c ws children known zero certain small all a =
+    let rest : AreFreed k q l (made + 1) after (ways_across k l set) (bounds_of children.items) =
+    subst (λ (v : List Way). AreFreed k q l (made + 1) after v (bounds_of children.items)) all a in
+    subst (λ (t : Bound). IsFreed k q l made after t) (sym (bound_of-cut (Cut set c children) set c children refl))
     (record {
-      refuted = cut_refuted false k end b l set c (bounds_of children.items) some known zero certain small rest.refuted;
+      refuted = cut_refuted false k q.end q.batches l set c (bounds_of children.items) q.some known zero certain small rest.refuted;
       few = omega (arith, rest.few);
       within = rest.within;
     })
 
-pub close_freed : (k : Classes) (end : End) (b : ℕ) (l : Limits) (limit made after : ℕ) (ws : List Way) (children : Vec Tree) → 0 < b → IsClosed end →
+pub close_freed : (k : Classes) (q : Question) (l : Limits) (made after : ℕ) (ws : List Way) (children : Vec Tree) → IsClosed q.end →
     ws ≡ ways_to_close k l →
-    AreFreed k end b l limit (made + 1) after ws (bounds_of children.items) → IsFreed k end b l limit made after (bound_of (Close children))
-close_freed k end b l limit made after ws children some closed all a =
-    let rest : AreFreed k end b l limit (made + 1) after (ways_to_close k l) (bounds_of children.items) =
-    subst (λ (v : List Way). AreFreed k end b l limit (made + 1) after v (bounds_of children.items)) all a in
-    subst (λ (t : Bound). IsFreed k end b l limit made after t) (sym (bound_of-close (Close children) children refl))
+    AreFreed k q l (made + 1) after ws (bounds_of children.items) → IsFreed k q l made after (bound_of (Close children))
+close_freed k q l made after ws children closed all a =
+    let rest : AreFreed k q l (made + 1) after (ways_to_close k l) (bounds_of children.items) =
+    subst (λ (v : List Way). AreFreed k q l (made + 1) after v (bounds_of children.items)) all a in
+    subst (λ (t : Bound). IsFreed k q l made after t) (sym (bound_of-close (Close children) children refl))
     (record {
-      refuted = close_refuted false k end b l (bounds_of children.items) some closed rest.refuted;
+      refuted = close_refuted false k q.end q.batches l (bounds_of children.items) q.some closed rest.refuted;
       few = omega (arith, rest.few);
       within = rest.within;
     })
 
-pub split_freed : (k : Classes) (end : End) (b : ℕ) (l : Limits) (limit made between after c m : ℕ) (under over : Limits) (s t : Tree) (below above : Box Tree) →
-    below.value ≡ s → above.value ≡ t → IsSplitPoint k b l c m → under ≡ limits_below l c m → over ≡ limits_from l c m →
-    IsFreed k end b under limit (made + 1) between (bound_of s) → IsFreed k end b over limit between after (bound_of t) →
-    IsFreed k end b l limit made after (bound_of (Split c m below above))
-split_freed k end b l limit made between after c m under over s t below above low_is high_is point low high first second =
+pub split_freed : (k : Classes) (q : Question) (l : Limits) (made between after c m : ℕ) (under over : Limits) (s t : Tree) (below above : Box Tree) →
+    below.value ≡ s → above.value ≡ t → IsSplitPoint k q.batches l c m → under ≡ limits_below l c m → over ≡ limits_from l c m →
+    IsFreed k q under (made + 1) between (bound_of s) → IsFreed k q over between after (bound_of t) →
+    IsFreed k q l made after (bound_of (Split c m below above))
+split_freed k q l made between after c m under over s t below above low_is high_is point low high first second =
     let seen : bound_of (Split c m below above) ≡ split c m (bound_of s) (bound_of t) =
     bound_of-split (Split c m below above) c m below above refl
     ∙ ap (λ (x : Tree). split c m (bound_of x) (bound_of above.value)) low_is
     ∙ ap (λ (x : Tree). split c m (bound_of s) (bound_of x)) high_is in
-    let lower : IsFreed k end b (limits_below l c m) limit (made + 1) between (bound_of s) =
-    subst (λ (x : Limits). IsFreed k end b x limit (made + 1) between (bound_of s)) low first in
-    let upper : IsFreed k end b (limits_from l c m) limit between after (bound_of t) =
-    subst (λ (x : Limits). IsFreed k end b x limit between after (bound_of t)) high second in
-    subst (λ (x : Bound). IsFreed k end b l limit made after x) (sym seen)
+    let lower : IsFreed k q (limits_below l c m) (made + 1) between (bound_of s) =
+    subst (λ (x : Limits). IsFreed k q x (made + 1) between (bound_of s)) low first in
+    let upper : IsFreed k q (limits_from l c m) between after (bound_of t) =
+    subst (λ (x : Limits). IsFreed k q x between after (bound_of t)) high second in
+    subst (λ (x : Bound). IsFreed k q l made after x) (sym seen)
     (record {
-      refuted = split_refuted false k end b l c m (bound_of s) (bound_of t) point lower.refuted upper.refuted;
+      refuted = split_refuted false k q.end q.batches l c m (bound_of s) (bound_of t) point lower.refuted upper.refuted;
       few = omega (arith, lower.few, upper.few);
       within = upper.within;
     })

@@ -14,6 +14,7 @@ use Rattle.pocsag_tree.specs.Bounds.{Bound, Bounds, cut, close, split, none, mor
 use Rattle.pocsag_tree.specs.Views.{bound_of, bounds_of}
 use Rattle.pocsag_tree.proofs.Counts.{bound_of-cut, bound_of-close, bound_of-split}
 use Rattle.pocsag_check.specs.Accepting.{Accepts, AcceptsEach, IsClosed}
+use Rattle.pocsag_branch.specs.declared.question.Question.{Question}
 use Rattle.pocsag_branch.specs.Examined.{AreExamined, AreRefuted, Fills, IsExamined, IsRefuted}
 use Rattle.pocsag_branch.specs.Marks.{opens, opens_in}
 use Rattle.pocsag_branch.specs.Shape.{AdmitApart, AdmitSplit, AdmitUnclosed, AreShaped, IsShaped}
@@ -60,33 +61,33 @@ refuted_more u k end b l ws ts w t a h falls =
       deep = deepest-last ts t (undecided k b l) a.deep (omega (arith, h.deep));
     }
 
-pub examined_more : (k : Classes) (end : End) (b : ℕ) (l : Limits) (limit made between after : ℕ) (ws : List Way) (ts : Bounds) (w : Way) (t : Bound) →
-    AreExamined k end b l limit made between ws ts → IsExamined k end b (narrowed_limits k l w b) limit between after t →
-    undecided k b (narrowed_limits k l w b) < undecided k b l →
-    AreExamined k end b l limit made after (ws ++ w ∷ []) (with_last ts t)
-examined_more k end b l limit made between after ws ts w t a h falls =
+pub examined_more : (k : Classes) (q : Question) (l : Limits) (made between after : ℕ) (ws : List Way) (ts : Bounds) (w : Way) (t : Bound) →
+    AreExamined k q l made between ws ts → IsExamined k q (narrowed_limits k l w q.batches) between after t →
+    undecided k q.batches (narrowed_limits k l w q.batches) < undecided k q.batches l →
+    AreExamined k q l made after (ws ++ w ∷ []) (with_last ts t)
+examined_more k q l made between after ws ts w t a h falls =
     record {
-      refuted = refuted_more true k end b l ws ts w t a.refuted h.refuted falls;
-      shaped = AreShaped-last k b l ws ts w t a.shaped h.shaped;
-      fills = subst (λ (marks : List Bool). Fills limit made after marks) (sym (opens_in-last ts t))
-          (fills_join limit made between after (opens_in ts) (opens t) a.fills h.fills);
+      refuted = refuted_more true k q.end q.batches l ws ts w t a.refuted h.refuted falls;
+      shaped = AreShaped-last k q.batches l ws ts w t a.shaped h.shaped;
+      fills = subst (λ (marks : List Bool). Fills q.limit made after marks) (sym (opens_in-last ts t))
+          (fills_join q.limit made between after (opens_in ts) (opens t) a.fills h.fills);
     }
 
 -- the loop over the ways
-pub row_goes_on : (k : Classes) (end : End) (b : ℕ) (l : Limits) (limit made between after i : ℕ) (ws : List Way) (ts : List Tree) (d : Way) (t : Tree)
-    (pushed : List Tree) (narrowed : Limits) → i < length ws → narrowed ≡ narrowed_limits k l (get_or ws i d) b → pushed ≡ ts ++ t ∷ [] →
-    AreExamined k end b l limit made between (take i ws) (bounds_of ts) →
-    IsExamined k end b narrowed limit between after (bound_of t) → undecided k b narrowed < undecided k b l →
-    AreExamined k end b l limit made after (take (i + 1) ws) (bounds_of pushed)
-row_goes_on k end b l limit made between after i ws ts d t pushed narrowed h same push a one falls =
+pub row_goes_on : (k : Classes) (q : Question) (l : Limits) (made between after i : ℕ) (ws : List Way) (ts : List Tree) (d : Way) (t : Tree)
+    (pushed : List Tree) (narrowed : Limits) → i < length ws → narrowed ≡ narrowed_limits k l (get_or ws i d) q.batches → pushed ≡ ts ++ t ∷ [] →
+    AreExamined k q l made between (take i ws) (bounds_of ts) →
+    IsExamined k q narrowed between after (bound_of t) → undecided k q.batches narrowed < undecided k q.batches l →
+    AreExamined k q l made after (take (i + 1) ws) (bounds_of pushed)
+row_goes_on k q l made between after i ws ts d t pushed narrowed h same push a one falls =
     let w : Way = get_or ws i d in
     let ways : take (i + 1) ws ≡ take i ws ++ w ∷ [] = take_more ws i d h in
     let trees : bounds_of pushed ≡ with_last (bounds_of ts) (bound_of t) = ap (λ (xs : List Tree). bounds_of xs) push ∙ bounds_of-push ts t in
-    subst (λ (v : List Way). AreExamined k end b l limit made after v (bounds_of pushed)) (sym ways)
-    (subst (λ (r : Bounds). AreExamined k end b l limit made after (take i ws ++ w ∷ []) r) (sym trees)
-    (examined_more k end b l limit made between after (take i ws) (bounds_of ts) w (bound_of t) a
-    (subst (λ (x : Limits). IsExamined k end b x limit between after (bound_of t)) same one)
-    (subst (λ (x : Limits). undecided k b x < undecided k b l) same falls)))
+    subst (λ (v : List Way). AreExamined k q l made after v (bounds_of pushed)) (sym ways)
+    (subst (λ (r : Bounds). AreExamined k q l made after (take i ws ++ w ∷ []) r) (sym trees)
+    (examined_more k q l made between after (take i ws) (bounds_of ts) w (bound_of t) a
+    (subst (λ (x : Limits). IsExamined k q x between after (bound_of t)) same one)
+    (subst (λ (x : Limits). undecided k q.batches x < undecided k q.batches l) same falls)))
 
 -- a node is accepted with its children
 pub cut_refuted : (u : Bool) (k : Classes) (end : End) (b : ℕ) (l : Limits) (set c : ℕ) (ts : Bounds) → 0 < b → c < 136 → IsTrue (holds set 0) →
@@ -107,65 +108,65 @@ split_refuted u k end b l c m s t point below above =
       deep = omega (arith, below.deep, above.deep, point.below_falls, point.from_falls);
     }
 
-pub cut_examined : (k : Classes) (end : End) (b : ℕ) (l : Limits) (limit made after set c : ℕ) (ws : List Way) (ts : Bounds) → 0 < b → c < 136 →
-    IsTrue (holds set 0) → IsTrue (class_certain k l set c) → set < 2 ^ 16 → AdmitApart k b l set → ws ≡ ways_across k l set →
-    AreExamined k end b l limit (made + 1) after ws ts → IsExamined k end b l limit made after (cut set c ts)
-cut_examined k end b l limit made after set c ws ts some known zero certain small apart all a =
-    let rest : AreExamined k end b l limit (made + 1) after (ways_across k l set) ts = subst (λ (v : List Way). AreExamined k end b l limit (made + 1) after v ts) all a in
+pub cut_examined : (k : Classes) (q : Question) (l : Limits) (made after set c : ℕ) (ws : List Way) (ts : Bounds) → c < 136 →
+    IsTrue (holds set 0) → IsTrue (class_certain k l set c) → set < 2 ^ 16 → AdmitApart k q.batches l set → ws ≡ ways_across k l set →
+    AreExamined k q l (made + 1) after ws ts → IsExamined k q l made after (cut set c ts)
+cut_examined k q l made after set c ws ts known zero certain small apart all a =
+    let rest : AreExamined k q l (made + 1) after (ways_across k l set) ts = subst (λ (v : List Way). AreExamined k q l (made + 1) after v ts) all a in
     record {
-      refuted = cut_refuted true k end b l set c ts some known zero certain small rest.refuted;
+      refuted = cut_refuted true k q.end q.batches l set c ts q.some known zero certain small rest.refuted;
       shaped = (apart, rest.shaped);
-      fills = fills_node limit made after (opens_in ts) rest.fills;
+      fills = fills_node q.limit made after (opens_in ts) rest.fills;
     }
 
-pub close_examined : (k : Classes) (end : End) (b : ℕ) (l : Limits) (limit made after : ℕ) (ws : List Way) (ts : Bounds) → 0 < b → IsClosed end →
-    AdmitUnclosed k b l → ws ≡ ways_to_close k l →
-    AreExamined k end b l limit (made + 1) after ws ts → IsExamined k end b l limit made after (close ts)
-close_examined k end b l limit made after ws ts some closed unclosed all a =
-    let rest : AreExamined k end b l limit (made + 1) after (ways_to_close k l) ts = subst (λ (v : List Way). AreExamined k end b l limit (made + 1) after v ts) all a in
+pub close_examined : (k : Classes) (q : Question) (l : Limits) (made after : ℕ) (ws : List Way) (ts : Bounds) → IsClosed q.end →
+    AdmitUnclosed k q.batches l → ws ≡ ways_to_close k l →
+    AreExamined k q l (made + 1) after ws ts → IsExamined k q l made after (close ts)
+close_examined k q l made after ws ts closed unclosed all a =
+    let rest : AreExamined k q l (made + 1) after (ways_to_close k l) ts = subst (λ (v : List Way). AreExamined k q l (made + 1) after v ts) all a in
     record {
-      refuted = close_refuted true k end b l ts some closed rest.refuted;
+      refuted = close_refuted true k q.end q.batches l ts q.some closed rest.refuted;
       shaped = (unclosed, rest.shaped);
-      fills = fills_node limit made after (opens_in ts) rest.fills;
+      fills = fills_node q.limit made after (opens_in ts) rest.fills;
     }
 
-pub split_examined : (k : Classes) (end : End) (b : ℕ) (l : Limits) (limit made between after c m : ℕ) (under over : Limits) (s t : Bound) →
-    IsSplitPoint k b l c m → AdmitSplit k b l c m → under ≡ limits_below l c m → over ≡ limits_from l c m →
-    IsExamined k end b under limit (made + 1) between s → IsExamined k end b over limit between after t →
-    IsExamined k end b l limit made after (split c m s t)
-split_examined k end b l limit made between after c m under over s t point parts low high first second =
-    let below : IsExamined k end b (limits_below l c m) limit (made + 1) between s = subst (λ (x : Limits). IsExamined k end b x limit (made + 1) between s) low first in
-    let above : IsExamined k end b (limits_from l c m) limit between after t = subst (λ (x : Limits). IsExamined k end b x limit between after t) high second in
+pub split_examined : (k : Classes) (q : Question) (l : Limits) (made between after c m : ℕ) (under over : Limits) (s t : Bound) →
+    IsSplitPoint k q.batches l c m → AdmitSplit k q.batches l c m → under ≡ limits_below l c m → over ≡ limits_from l c m →
+    IsExamined k q under (made + 1) between s → IsExamined k q over between after t →
+    IsExamined k q l made after (split c m s t)
+split_examined k q l made between after c m under over s t point parts low high first second =
+    let below : IsExamined k q (limits_below l c m) (made + 1) between s = subst (λ (x : Limits). IsExamined k q x (made + 1) between s) low first in
+    let above : IsExamined k q (limits_from l c m) between after t = subst (λ (x : Limits). IsExamined k q x between after t) high second in
     record {
-      refuted = split_refuted true k end b l c m s t point below.refuted above.refuted;
+      refuted = split_refuted true k q.end q.batches l c m s t point below.refuted above.refuted;
       shaped = (parts, below.shaped, above.shaped);
-      fills = fills_node limit made after (opens s ++ opens t) (fills_join limit (made + 1) between after (opens s) (opens t) below.fills above.fills);
+      fills = fills_node q.limit made after (opens s ++ opens t) (fills_join q.limit (made + 1) between after (opens s) (opens t) below.fills above.fills);
     }
 
 -- the same of the trees
-pub cut_made : (k : Classes) (end : End) (b : ℕ) (l : Limits) (limit made after set c : ℕ) (ws : List Way) (children : Vec Tree) → 0 < b → c < 136 →
-    IsTrue (holds set 0) → IsTrue (class_certain k l set c) → set < 2 ^ 16 → AdmitApart k b l set → ws ≡ ways_across k l set →
-    AreExamined k end b l limit (made + 1) after ws (bounds_of children.items) → IsExamined k end b l limit made after (bound_of (Cut set c children))
-cut_made k end b l limit made after set c ws children some known zero certain small apart all a =
-    subst (λ (t : Bound). IsExamined k end b l limit made after t) (sym (bound_of-cut (Cut set c children) set c children refl))
-    (cut_examined k end b l limit made after set c ws (bounds_of children.items) some known zero certain small apart all a)
+pub cut_made : (k : Classes) (q : Question) (l : Limits) (made after set c : ℕ) (ws : List Way) (children : Vec Tree) → c < 136 →
+    IsTrue (holds set 0) → IsTrue (class_certain k l set c) → set < 2 ^ 16 → AdmitApart k q.batches l set → ws ≡ ways_across k l set →
+    AreExamined k q l (made + 1) after ws (bounds_of children.items) → IsExamined k q l made after (bound_of (Cut set c children))
+cut_made k q l made after set c ws children known zero certain small apart all a =
+    subst (λ (t : Bound). IsExamined k q l made after t) (sym (bound_of-cut (Cut set c children) set c children refl))
+    (cut_examined k q l made after set c ws (bounds_of children.items) known zero certain small apart all a)
 
-pub close_made : (k : Classes) (end : End) (b : ℕ) (l : Limits) (limit made after : ℕ) (ws : List Way) (children : Vec Tree) → 0 < b → IsClosed end →
-    AdmitUnclosed k b l → ws ≡ ways_to_close k l →
-    AreExamined k end b l limit (made + 1) after ws (bounds_of children.items) → IsExamined k end b l limit made after (bound_of (Close children))
-close_made k end b l limit made after ws children some closed unclosed all a =
-    subst (λ (t : Bound). IsExamined k end b l limit made after t) (sym (bound_of-close (Close children) children refl))
-    (close_examined k end b l limit made after ws (bounds_of children.items) some closed unclosed all a)
+pub close_made : (k : Classes) (q : Question) (l : Limits) (made after : ℕ) (ws : List Way) (children : Vec Tree) → IsClosed q.end →
+    AdmitUnclosed k q.batches l → ws ≡ ways_to_close k l →
+    AreExamined k q l (made + 1) after ws (bounds_of children.items) → IsExamined k q l made after (bound_of (Close children))
+close_made k q l made after ws children closed unclosed all a =
+    subst (λ (t : Bound). IsExamined k q l made after t) (sym (bound_of-close (Close children) children refl))
+    (close_examined k q l made after ws (bounds_of children.items) closed unclosed all a)
 
-pub split_made : (k : Classes) (end : End) (b : ℕ) (l : Limits) (limit made between after c m : ℕ) (under over : Limits) (s t : Tree) (below above : Box Tree) →
+pub split_made : (k : Classes) (q : Question) (l : Limits) (made between after c m : ℕ) (under over : Limits) (s t : Tree) (below above : Box Tree) →
     below.value ≡ s → above.value ≡ t →
-    IsSplitPoint k b l c m → AdmitSplit k b l c m → under ≡ limits_below l c m → over ≡ limits_from l c m →
-    IsExamined k end b under limit (made + 1) between (bound_of s) → IsExamined k end b over limit between after (bound_of t) →
-    IsExamined k end b l limit made after (bound_of (Split c m below above))
-split_made k end b l limit made between after c m under over s t below above low_is high_is point parts low high first second =
+    IsSplitPoint k q.batches l c m → AdmitSplit k q.batches l c m → under ≡ limits_below l c m → over ≡ limits_from l c m →
+    IsExamined k q under (made + 1) between (bound_of s) → IsExamined k q over between after (bound_of t) →
+    IsExamined k q l made after (bound_of (Split c m below above))
+split_made k q l made between after c m under over s t below above low_is high_is point parts low high first second =
     let seen : bound_of (Split c m below above) ≡ split c m (bound_of s) (bound_of t) =
     bound_of-split (Split c m below above) c m below above refl
     ∙ ap (λ (x : Tree). split c m (bound_of x) (bound_of above.value)) low_is
     ∙ ap (λ (x : Tree). split c m (bound_of s) (bound_of x)) high_is in
-    subst (λ (x : Bound). IsExamined k end b l limit made after x) (sym seen)
-    (split_examined k end b l limit made between after c m under over (bound_of s) (bound_of t) point parts low high first second)
+    subst (λ (x : Bound). IsExamined k q l made after x) (sym seen)
+    (split_examined k q l made between after c m under over (bound_of s) (bound_of t) point parts low high first second)

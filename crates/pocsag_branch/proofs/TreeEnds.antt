@@ -27,6 +27,7 @@ use Rattle.pocsag_check.proofs.Bounding.{bounded}
 use Rattle.pocsag_tour.specs.Reached.{IsApart, IsReached, at_start, by_idle, IsUnclosed}
 use Rattle.pocsag_slots.proofs.CoverLemmas.{start_below}
 use Rattle.pocsag_branch.proofs.OpenWays.{closing_ways_fall}
+use Rattle.pocsag_branch.specs.declared.question.Question.{Question}
 use Rattle.pocsag_branch.specs.Examined.{IsRefuted, IsTreeOf, Refuses}
 use Rattle.pocsag_branch.specs.Found.{IsBound}
 use Rattle.pocsag_branch.specs.Freed.{IsFreeTree}
@@ -195,13 +196,13 @@ refuted_accepted u k end b t h =
       root = subst (λ (n : ℕ). Accepts u k end n (limits_of_all k n) t) one h.accepted;
     }
 
-pub tree_whole : (k : Classes) (end : End) (b limit : ℕ) (t : Bound) → IsTreeOf k end b limit t → has_open t ≡ false → IsAccepted false k end (b + 1) t
-tree_whole k end b limit t of whole =
-    refuted_accepted false k end b t
-    (record { accepted = sealed t k end b (limits_of_all k b) whole of.examined.refuted.accepted; deep = of.examined.refuted.deep })
+pub tree_whole : (k : Classes) (q : Question) (t : Bound) → IsTreeOf k q t → has_open t ≡ false → IsAccepted false k q.end (q.batches + 1) t
+tree_whole k q t of whole =
+    refuted_accepted false k q.end q.batches t
+    (record { accepted = sealed t k q.end q.batches (limits_of_all k q.batches) whole of.examined.refuted.accepted; deep = of.examined.refuted.deep })
 
-pub tree_open : (k : Classes) (end : End) (b limit : ℕ) (t : Bound) → IsTreeOf k end b limit t → IsAccepted true k end (b + 1) t
-tree_open k end b limit t of = refuted_accepted true k end b t of.examined.refuted
+pub tree_open : (k : Classes) (q : Question) (t : Bound) → IsTreeOf k q t → IsAccepted true k q.end (q.batches + 1) t
+tree_open k q t of = refuted_accepted true k q.end q.batches t of.examined.refuted
 
 pub set_refutes : (k : Classes) (end : End) (b set : ℕ) → Refuses k b set → IsAccepted false k end b (overload set)
 set_refutes k end b set refuses =
@@ -255,8 +256,8 @@ least_tree k end b limit set some refuses =
     subst (λ (t : Bound). IsLeastTree k end b limit t) (sym (bound_of-overload set))
     (record { accepted = set_refutes k end b set refuses; examined = refl; few = some; shaped = tt })
 
-pub free_whole : (k : Classes) (end : End) (b limit : ℕ) (t : Bound) → IsFreeTree k end b limit t → IsAccepted false k end (b + 1) t
-free_whole k end b limit t of = refuted_accepted false k end b t of.refuted
+pub free_whole : (k : Classes) (q : Question) (t : Bound) → IsFreeTree k q t → IsAccepted false k q.end (q.batches + 1) t
+free_whole k q t of = refuted_accepted false k q.end q.batches t of.refuted
 
 -- the choice of a tour is admitted
 pub tour_admitted : (k : Classes) (end : End) (b : ℕ) (choice : ℕ → ℕ) (steps : List Step) → IsChoice k choice → IsTour k end choice b steps →

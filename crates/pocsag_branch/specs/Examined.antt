@@ -15,6 +15,7 @@ use Rattle.pocsag_tour.specs.Reached.{IsApart, IsUnclosed}
 use Rattle.pocsag_branch.specs.declared.question.Answer.{Answer}
 use Rattle.pocsag_branch.specs.declared.question.Form.{Form}
 use Rattle.pocsag_branch.specs.declared.question.Form.TheVariants.{Overload, Cut, Split, Close}
+use Rattle.pocsag_branch.specs.declared.question.Question.{Question}
 use Rattle.pocsag_branch.specs.declared.question.Stop.{Stop}
 use Rattle.pocsag_branch.specs.declared.question.Stop.TheVariants.{Met, OutOfMemory}
 use Rattle.pocsag_branch.specs.declared.question.View.{View}
@@ -35,24 +36,24 @@ pub record IsAnswer (k : Classes) (end : End) (batches : ℕ) (answer : Answer) 
   pub tour : IsTour k end (slice_index answer.choice.early) batches answer.steps.items
 
 -- Why an examination ends before its tree is whole.
-abbrev pub IsStop : Classes → End → ℕ → Stop → Type 0
-IsStop k end batches (Met answer) = IsAnswer k end batches answer.value
-IsStop k end batches OutOfMemory = Unit {0}
+abbrev pub IsStop : Classes → Question → Stop → Type 0
+IsStop k q (Met answer) = IsAnswer k q.end q.batches answer.value
+IsStop k q OutOfMemory = Unit {0}
 
 -- Why a choice that the limits admit has no tour for the end; the ways to close settle questions then.
-abbrev pub IsView : Classes → End → ℕ → Limits → (ℕ → ℕ) → View → Type 0
-IsView k end batches l choice (Apart set) = IsApart k choice batches set × (set < 2 ^ 16)
-IsView k end batches l choice Unclosed =
-    IsClosed end × IsUnclosed k choice batches × All (Falls k batches l) (ways_to_close k l)
+abbrev pub IsView : Classes → Question → Limits → (ℕ → ℕ) → View → Type 0
+IsView k q l choice (Apart set) = IsApart k choice q.batches set × (set < 2 ^ 16)
+IsView k q l choice Unclosed =
+    IsClosed q.end × IsUnclosed k choice q.batches × All (Falls k q.batches l) (ways_to_close k l)
 
 -- The node may be made there, and each of its children settles a question that is open.
-abbrev pub IsForm : Classes → End → ℕ → Limits → Form → Type 0
-IsForm k end batches l (Overload set) = IsSet set × Overloads k l set
-IsForm k end batches l (Cut set needed) =
+abbrev pub IsForm : Classes → Question → Limits → Form → Type 0
+IsForm k q l (Overload set) = IsSet set × Overloads k l set
+IsForm k q l (Cut set needed) =
     (needed < 136) × IsTrue (holds set 0) × IsTrue (class_certain k l set needed) × (set < 2 ^ 16)
-    × All (Falls k batches l) (ways_across k l set)
-IsForm k end batches l (Split c m) = IsSplitPoint k batches l c m
-IsForm k end batches l Close = IsClosed end × All (Falls k batches l) (ways_to_close k l)
+    × All (Falls k q.batches l) (ways_across k l set)
+IsForm k q l (Split c m) = IsSplitPoint k q.batches l c m
+IsForm k q l Close = IsClosed q.end × All (Falls k q.batches l) (ways_to_close k l)
 
 -- The node stands there as *Shape of the search's trees* says.
 abbrev pub StandsAs : Classes → ℕ → Limits → Form → Type 0
@@ -81,18 +82,18 @@ pub record Fills (limit made after : ℕ) (marks : List Bool) : Type 0 where
   pub whole : 0 < unseen → after ≡ limit
 
 -- What is owed for a node, where so many were made before it and so many after it.
-pub record IsExamined (k : Classes) (end : End) (batches : ℕ) (l : Limits) (limit made after : ℕ) (t : Bound) : Type 0 where
-  pub refuted : IsRefuted true k end batches l t
-  pub shaped : IsShaped k batches l t
-  pub fills : Fills limit made after (opens t)
+pub record IsExamined (k : Classes) (q : Question) (l : Limits) (made after : ℕ) (t : Bound) : Type 0 where
+  pub refuted : IsRefuted true k q.end q.batches l t
+  pub shaped : IsShaped k q.batches l t
+  pub fills : Fills q.limit made after (opens t)
 
 -- The same for its children.
-pub record AreExamined (k : Classes) (end : End) (batches : ℕ) (l : Limits) (limit made after : ℕ) (ws : List Way) (ts : Bounds) : Type 0 where
-  pub refuted : AreRefuted true k end batches l ws ts
-  pub shaped : AreShaped k batches l ws ts
-  pub fills : Fills limit made after (opens_in ts)
+pub record AreExamined (k : Classes) (q : Question) (l : Limits) (made after : ℕ) (ws : List Way) (ts : Bounds) : Type 0 where
+  pub refuted : AreRefuted true k q.end q.batches l ws ts
+  pub shaped : AreShaped k q.batches l ws ts
+  pub fills : Fills q.limit made after (opens_in ts)
 
 -- The whole tree of a search from the limits of all choices.
-pub record IsTreeOf (k : Classes) (end : End) (batches limit : ℕ) (t : Bound) : Type 0 where
+pub record IsTreeOf (k : Classes) (q : Question) (t : Bound) : Type 0 where
   pub after : ℕ
-  pub examined : IsExamined k end batches (limits_of_all k batches) limit 0 after t
+  pub examined : IsExamined k q (limits_of_all k q.batches) 0 after t

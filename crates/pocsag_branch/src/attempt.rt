@@ -1,5 +1,9 @@
+ghost use Rattle.std.specs.Prelude.{◌≡◌};
+ghost use Rattle.pocsag_branch.specs.declared.attempt.Halt.TheVariants.{OutOfMemory};
+
 use crate::question::{Answer, Question};
 use pocsag_tree::Tree;
+use std::alloc::AllocFailed;
 
 // One try of the free search: in the second it looks across other sets and takes other ways.
 #[derive(Clone, Copy)]
@@ -14,6 +18,14 @@ pub(crate) enum Halt {
     Met(Box<Answer>),
     Limit,
     OutOfMemory,
+}
+
+impl<T: Drop> From<AllocFailed<T>> for Halt {
+    ghost from_gives = { λ _ halt. halt ≡ OutOfMemory };
+
+    fn from(_fault: AllocFailed<T>) -> Halt {
+        Halt::OutOfMemory
+    }
 }
 
 // The trees of all children of a node, or the tree of one that stands for the node itself.

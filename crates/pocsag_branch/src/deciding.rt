@@ -21,8 +21,8 @@ const FUEL: u32 = 20_000;
 // close: below them an open tour can always be closed.
 fn tried(alloc: Global, classes: &Classes, attempt: Attempt) -> Result<Tree, Halt>
     requires { 0 < attempt.question.limit }
-    ensures tree { IfOk result (λ tree. IsFreeTree classes.now attempt.question.end attempt.question.batches attempt.question.limit (bound_of tree)) }
-    ensures halt { IfErr result (IsHalt classes.now attempt.question.end attempt.question.batches) }
+    ensures tree { IfOk result (λ tree. IsFreeTree classes.now attempt.question (bound_of tree)) }
+    ensures halt { IfErr result (IsHalt classes.now attempt.question) }
 {
     let limits = all_limits(classes, attempt.question.batches);
     match attempt.question.end {
@@ -53,8 +53,8 @@ fn within(question: Question, limit: u32) -> Question
 // The tree of the free search. Where the first try stops at its limit, a second one has the rest.
 pub(crate) fn free_tree(alloc: Global, classes: &Classes, question: Question) -> Result<Tree, Halt>
     requires { 0 < question.limit }
-    ensures tree { IfOk result (λ tree. IsFreeTree classes.now question.end question.batches question.limit (bound_of tree)) }
-    ensures halt { IfErr result (IsHalt classes.now question.end question.batches) }
+    ensures tree { IfOk result (λ tree. IsFreeTree classes.now question (bound_of tree)) }
+    ensures halt { IfErr result (IsHalt classes.now question) }
 {
     let short = question.limit.min(FIRST_TRY);
     let first = Attempt {
@@ -80,7 +80,7 @@ pub(crate) fn free_tree(alloc: Global, classes: &Classes, question: Question) ->
 
 // Stops where the free search meets a tour with so many batches.
 pub(crate) fn decide(alloc: Global, classes: &Classes, question: Question) -> Result<(), Stop>
-    ensures { IfErr result (IsStop classes.now question.end question.batches) }
+    ensures { IfErr result (IsStop classes.now question) }
 {
     match free_tree(alloc, classes, within(question, FUEL)) {
         Ok(_) => Ok(()),

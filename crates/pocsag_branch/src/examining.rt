@@ -14,16 +14,6 @@ use pocsag_slots::{Classes, Limits, Way};
 use pocsag_tree::Tree;
 use std::alloc::Global;
 
-fn boxed(alloc: Global, tree: Tree) -> Result<Box<Tree>, Stop>
-    ensures tree { IfOk result (λ b. b.value ≡ tree) }
-    ensures stop { IfErr result (λ stop. stop ≡ Stop.OutOfMemory) }
-{
-    match Box::new(alloc, tree) {
-        Ok(tree) => Ok(tree),
-        Err(_) => Err(Stop::OutOfMemory),
-    }
-}
-
 /// The tree of the node with these limits, and how many nodes are made after it. Once so many are made
 /// as the question allows, a node is `Open`.
 #[cycle(examining)]
@@ -36,8 +26,8 @@ pub(crate) fn examine(
 ) -> Result<(Tree, u32), Stop>
     requires limits { AreNodeLimits classes.now question.batches limits.now }
     requires made { made ≤ question.limit }
-    ensures node { IfOk result (λ x. IsExamined classes.now question.end question.batches limits.now question.limit made x.1 (bound_of x.0)) }
-    ensures stop { IfErr result (IsStop classes.now question.end question.batches) }
+    ensures node { IfOk result (λ x. IsExamined classes.now question limits.now made x.1 (bound_of x.0)) }
+    ensures stop { IfErr result (IsStop classes.now question) }
 {
     if made >= question.limit {
         return Ok((Tree::Open, made));
@@ -58,10 +48,10 @@ pub(crate) fn grow(
 ) -> Result<(Tree, u32), Stop>
     requires limits { AreNodeLimits classes.now question.batches limits.now }
     requires made { made < question.limit }
-    requires form { IsForm classes.now question.end question.batches limits.now form }
+    requires form { IsForm classes.now question limits.now form }
     requires shape { StandsAs classes.now question.batches limits.now form }
-    ensures node { IfOk result (λ x. IsExamined classes.now question.end question.batches limits.now question.limit made x.1 (bound_of x.0)) }
-    ensures stop { IfErr result (IsStop classes.now question.end question.batches) }
+    ensures node { IfOk result (λ x. IsExamined classes.now question limits.now made x.1 (bound_of x.0)) }
+    ensures stop { IfErr result (IsStop classes.now question) }
 {
     match form {
         Form::Overload(set) => Ok((Tree::Overload(set), made + 1)),
@@ -89,8 +79,8 @@ fn cut(
     requires small { set < 2 ^ 16 }
     requires fall { All (Falls classes.now question.batches limits.now) (ways_across classes.now limits.now set) }
     requires shape { AdmitApart classes.now question.batches limits.now set }
-    ensures node { IfOk result (λ x. IsExamined classes.now question.end question.batches limits.now question.limit made x.1 (bound_of x.0)) }
-    ensures stop { IfErr result (IsStop classes.now question.end question.batches) }
+    ensures node { IfOk result (λ x. IsExamined classes.now question limits.now made x.1 (bound_of x.0)) }
+    ensures stop { IfErr result (IsStop classes.now question) }
 {
     let out = ways_out(classes, limits, set, question.batches);
     let (children, after) = row(alloc, classes, question, limits, &out, made + 1)?;
@@ -118,15 +108,15 @@ fn split(
     requires made { made < question.limit }
     requires point { IsSplitPoint classes.now question.batches limits.now class m }
     requires shape { AdmitSplit classes.now question.batches limits.now class m }
-    ensures node { IfOk result (λ x. IsExamined classes.now question.end question.batches limits.now question.limit made x.1 (bound_of x.0)) }
-    ensures stop { IfErr result (IsStop classes.now question.end question.batches) }
+    ensures node { IfOk result (λ x. IsExamined classes.now question limits.now made x.1 (bound_of x.0)) }
+    ensures stop { IfErr result (IsStop classes.now question) }
 {
     let under = limits_under(classes, limits, question.batches, class, m);
     let (below, between) = examine(alloc, classes, question, &under, made + 1)?;
     let over = limits_over(classes, limits, question.batches, class, m);
     let (from, after) = examine(alloc, classes, question, &over, between)?;
-    let below = boxed(alloc, below)?;
-    let from = boxed(alloc, from)?;
+    let below = Box::new(alloc, below)?;
+    let from = Box::new(alloc, from)?;
     Ok((
         Tree::Split {
             class,
@@ -151,8 +141,8 @@ fn close(
     requires closed { IsClosed question.end }
     requires fall { All (Falls classes.now question.batches limits.now) (ways_to_close classes.now limits.now) }
     requires shape { AdmitUnclosed classes.now question.batches limits.now }
-    ensures node { IfOk result (λ x. IsExamined classes.now question.end question.batches limits.now question.limit made x.1 (bound_of x.0)) }
-    ensures stop { IfErr result (IsStop classes.now question.end question.batches) }
+    ensures node { IfOk result (λ x. IsExamined classes.now question limits.now made x.1 (bound_of x.0)) }
+    ensures stop { IfErr result (IsStop classes.now question) }
 {
     let out = ways_to_end(classes, limits, question.batches);
     let (children, after) = row(alloc, classes, question, limits, &out, made + 1)?;
@@ -173,17 +163,15 @@ fn row(
     requires made { made ≤ question.limit }
     requires allowed { All (MayTake classes.now limits.now) ways.now }
     requires fall { All (Falls classes.now question.batches limits.now) ways.now }
-    ensures node { IfOk result (λ x. AreExamined classes.now question.end question.batches limits.now question.limit made x.1 ways.now (bounds_of x.0.items)) }
-    ensures stop { IfErr result (IsStop classes.now question.end question.batches) }
+    ensures node { IfOk result (λ x. AreExamined classes.now question limits.now made x.1 ways.now (bounds_of x.0.items)) }
+    ensures stop { IfErr result (IsStop classes.now question) }
 {
     let mut children = Vec::new(alloc);
     let mut after = made;
     for way in ways {
         let narrowed = child_limits(classes, limits, *way, question.batches);
         let (child, next) = examine(alloc, classes, question, &narrowed, after)?;
-        let Ok(()) = children.push(child) else {
-            return Err(Stop::OutOfMemory);
-        };
+        children.push(child)?;
         after = next;
     }
     Ok((children, after))

@@ -1,4 +1,8 @@
+ghost use Rattle.std.specs.Prelude.{◌≡◌};
+ghost use Rattle.pocsag_branch.specs.declared.fault.SearchFault.TheVariants.{OutOfMemory};
+
 use pocsag_tree::Tree;
+use std::alloc::AllocError;
 use thiserror::Error;
 
 /// Why the search gave no answer.
@@ -10,4 +14,12 @@ pub enum SearchFault {
     SearchLimit { least: u32, found: u32, tree: Tree },
     #[error("out of memory")]
     OutOfMemory,
+}
+
+impl From<AllocError> for SearchFault {
+    ghost from_gives = { λ _ fault. fault ≡ OutOfMemory };
+
+    fn from(_fault: AllocError) -> SearchFault {
+        SearchFault::OutOfMemory
+    }
 }

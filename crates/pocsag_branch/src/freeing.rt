@@ -22,8 +22,8 @@ pub(crate) fn look_freely(
     limits: &Limits,
 ) -> Result<Form, Halt>
     requires { AreNodeLimits classes.now attempt.question.batches limits.now }
-    ensures form { IfOk result (IsForm classes.now attempt.question.end attempt.question.batches limits.now) }
-    ensures halt { IfErr result (IsHalt classes.now attempt.question.end attempt.question.batches) }
+    ensures form { IfOk result (IsForm classes.now attempt.question limits.now) }
+    ensures halt { IfErr result (IsHalt classes.now attempt.question) }
 {
     match choose(classes, limits) {
         Ok(choice) => form_seen(alloc, classes, attempt, limits, &choice),
@@ -40,8 +40,8 @@ fn form_seen(
 ) -> Result<Form, Halt>
     requires limits { AreNodeLimits classes.now attempt.question.batches limits.now }
     requires admitted { IsAdmitted classes.now limits.now (slice_index choice.now.early) }
-    ensures form { IfOk result (IsForm classes.now attempt.question.end attempt.question.batches limits.now) }
-    ensures halt { IfErr result (IsHalt classes.now attempt.question.end attempt.question.batches) }
+    ensures form { IfOk result (IsForm classes.now attempt.question limits.now) }
+    ensures halt { IfErr result (IsHalt classes.now attempt.question) }
 {
     match view(alloc, classes, attempt.question, limits, choice) {
         Ok(View::Apart(set)) => Ok(free_form_at(classes, attempt, limits, choice, set)),
@@ -63,7 +63,7 @@ fn free_form_at(
     requires limits { AreNodeLimits classes.now attempt.question.batches limits.now }
     requires admitted { IsAdmitted classes.now limits.now (slice_index choice.now.early) }
     requires apart { IsApart classes.now (slice_index choice.now.early) attempt.question.batches set }
-    ensures { IsForm classes.now attempt.question.end attempt.question.batches limits.now result }
+    ensures { IsForm classes.now attempt.question limits.now result }
 {
     if !attempt.second {
         if let Some(cut) = thinner(classes, attempt.question, limits, set) {
@@ -77,8 +77,8 @@ fn free_form_at(
 // A split in place of a cut, at a run way that is open.
 fn split_first(classes: &Classes, attempt: Attempt, limits: &Limits, form: Form) -> Form
     requires limits { AreNodeLimits classes.now attempt.question.batches limits.now }
-    requires form { IsForm classes.now attempt.question.end attempt.question.batches limits.now form }
-    ensures { IsForm classes.now attempt.question.end attempt.question.batches limits.now result }
+    requires form { IsForm classes.now attempt.question limits.now form }
+    ensures { IsForm classes.now attempt.question limits.now result }
 {
     match form {
         Form::Cut { set, .. } => match open_run(classes, attempt, limits, set) {
@@ -92,7 +92,7 @@ fn split_first(classes: &Classes, attempt: Attempt, limits: &Limits, form: Form)
 // The split at the first run way across the set that is open, in the second try at the last one.
 fn open_run(classes: &Classes, attempt: Attempt, limits: &Limits, set: u16) -> Option<Form>
     requires limits { AreNodeLimits classes.now attempt.question.batches limits.now }
-    ensures { IfSome result (IsForm classes.now attempt.question.end attempt.question.batches limits.now) }
+    ensures { IfSome result (IsForm classes.now attempt.question limits.now) }
 {
     let out = ways(classes, limits, set, attempt.question.batches);
     open_among(classes, attempt, limits, &out)
@@ -101,7 +101,7 @@ fn open_run(classes: &Classes, attempt: Attempt, limits: &Limits, set: u16) -> O
 fn open_among(classes: &Classes, attempt: Attempt, limits: &Limits, out: &[Way]) -> Option<Form>
     requires limits { AreNodeLimits classes.now attempt.question.batches limits.now }
     requires allowed { All (MayTake classes.now limits.now) out.now }
-    ensures { IfSome result (IsForm classes.now attempt.question.end attempt.question.batches limits.now) }
+    ensures { IfSome result (IsForm classes.now attempt.question limits.now) }
 {
     let mut best = None;
     for way in out {
@@ -122,7 +122,7 @@ fn split_at(classes: &Classes, attempt: Attempt, limits: &Limits, way: Way) -> O
     requires limits { AreNodeLimits classes.now attempt.question.batches limits.now }
     requires way { MayTake classes.now limits.now way }
     requires open_way { IsOpen classes.now attempt.question.batches limits.now way }
-    ensures { IfSome result (IsForm classes.now attempt.question.end attempt.question.batches limits.now) }
+    ensures { IfSome result (IsForm classes.now attempt.question limits.now) }
 {
     let _limit = limits.cap[0];
     let _batches = attempt.question.batches;

@@ -22,9 +22,9 @@ pub(crate) fn look(
     limits: &Limits,
 ) -> Result<Form, Stop>
     requires { AreNodeLimits classes.now question.batches limits.now }
-    ensures form { IfOk result (IsForm classes.now question.end question.batches limits.now) }
+    ensures form { IfOk result (IsForm classes.now question limits.now) }
     ensures shape { IfOk result (StandsAs classes.now question.batches limits.now) }
-    ensures stop { IfErr result (IsStop classes.now question.end question.batches) }
+    ensures stop { IfErr result (IsStop classes.now question) }
 {
     match choose(classes, limits) {
         Ok(choice) => {
@@ -45,9 +45,9 @@ pub(crate) fn form_for(
 ) -> Result<Form, Stop>
     requires limits { AreNodeLimits classes.now question.batches limits.now }
     requires admitted { IsAdmitted classes.now limits.now (slice_index choice.now.early) }
-    ensures form { IfOk result (IsForm classes.now question.end question.batches limits.now) }
+    ensures form { IfOk result (IsForm classes.now question limits.now) }
     ensures shape { IfOk result (StandsAs classes.now question.batches limits.now) }
-    ensures stop { IfErr result (IsStop classes.now question.end question.batches) }
+    ensures stop { IfErr result (IsStop classes.now question) }
 {
     match view(alloc, classes, question, limits, choice)? {
         View::Apart(set) => Ok(form_at(classes, question, limits, choice, set)),
@@ -65,8 +65,8 @@ pub(crate) fn view(
 ) -> Result<View, Stop>
     requires limits { AreNodeLimits classes.now question.batches limits.now }
     requires admitted { IsAdmitted classes.now limits.now (slice_index choice.now.early) }
-    ensures view { IfOk result (IsView classes.now question.end question.batches limits.now (slice_index choice.now.early)) }
-    ensures stop { IfErr result (IsStop classes.now question.end question.batches) }
+    ensures view { IfOk result (IsView classes.now question limits.now (slice_index choice.now.early)) }
+    ensures stop { IfErr result (IsStop classes.now question) }
 {
     let set = reached(classes, choice, question.batches);
     if lies_outside(classes, choice, set) {
@@ -90,7 +90,7 @@ fn met(
 ) -> Stop
     requires choice { IsChoice classes.now (slice_index choice.now.early) }
     requires tour { IsTour classes.now question.end (slice_index choice.now.early) question.batches steps.items }
-    ensures { IsStop classes.now question.end question.batches result }
+    ensures { IsStop classes.now question result }
 {
     let _pages = classes.count[0];
     let _batches = question.batches;
@@ -115,7 +115,7 @@ pub(crate) fn form_at(
     requires limits { AreNodeLimits classes.now question.batches limits.now }
     requires admitted { IsAdmitted classes.now limits.now (slice_index choice.now.early) }
     requires apart { IsApart classes.now (slice_index choice.now.early) question.batches set }
-    ensures form { IsForm classes.now question.end question.batches limits.now result }
+    ensures form { IsForm classes.now question limits.now result }
     ensures shape { StandsAs classes.now question.batches limits.now result }
 {
     match certain_class(classes, limits, set) {
@@ -136,7 +136,7 @@ fn split_point(
     requires admitted { IsAdmitted classes.now limits.now (slice_index choice.now.early) }
     requires apart { IsApart classes.now (slice_index choice.now.early) question.batches set }
     requires uncertain { NoneCertain classes.now limits.now set }
-    ensures form { IsForm classes.now question.end question.batches limits.now result }
+    ensures form { IsForm classes.now question limits.now result }
     ensures shape { StandsAs classes.now question.batches limits.now result }
 {
     let _batches = question.batches;

@@ -1,29 +1,29 @@
 ghost use Rattle.std.specs.Prelude.{◌≡◌};
 ghost use Rattle.pocsag_tree.specs.Views.{bound_of, bounds_of};
-ghost use Rattle.pocsag_branch.specs.Marks.{has_open as is_open_somewhere, have_open};
+ghost use Rattle.pocsag_branch.specs.Marks.{has_open, have_open};
 
 use pocsag_tree::Tree;
 
 // Whether some node of the tree is `Open`.
 #[cycle(opening)]
-pub(crate) fn has_open(tree: &Tree) -> bool
-    ensures { result ≡ is_open_somewhere (bound_of tree.now) }
+pub(crate) fn is_unfinished(tree: &Tree) -> bool
+    ensures { result ≡ has_open (bound_of tree.now) }
 {
     match tree {
         Tree::Overload(_) => false,
-        Tree::Split { below, from, .. } => has_open(below) || has_open(from),
-        Tree::Cut { children, .. } => any_open(children),
-        Tree::Close { children } => any_open(children),
+        Tree::Split { below, from, .. } => is_unfinished(below) || is_unfinished(from),
+        Tree::Cut { children, .. } => any_unfinished(children),
+        Tree::Close { children } => any_unfinished(children),
         Tree::Open => true,
     }
 }
 
 #[cycle(opening)]
-fn any_open(trees: &[Tree]) -> bool
+fn any_unfinished(trees: &[Tree]) -> bool
     ensures { result ≡ have_open (bounds_of trees.now) }
 {
     for tree in trees {
-        if has_open(tree) {
+        if is_unfinished(tree) {
             return true;
         }
     }

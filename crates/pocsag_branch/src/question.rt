@@ -1,7 +1,9 @@
-ghost use Rattle.std.specs.Prelude.{◌<◌};
+ghost use Rattle.std.specs.Prelude.{◌≡◌, ◌<◌};
+ghost use Rattle.pocsag_branch.specs.declared.question.Stop.TheVariants.{OutOfMemory};
 
 use pocsag_slots::{Choice, Step};
 use pocsag_words::End;
+use std::alloc::AllocFailed;
 
 // What is asked of a node beside its limits: the end, the batches that are to be refuted, and how many
 // nodes may be made.
@@ -25,6 +27,14 @@ pub(crate) struct Answer {
 pub(crate) enum Stop {
     Met(Box<Answer>),
     OutOfMemory,
+}
+
+impl<T: Drop> From<AllocFailed<T>> for Stop {
+    ghost from_gives = { λ _ stop. stop ≡ OutOfMemory };
+
+    fn from(_fault: AllocFailed<T>) -> Stop {
+        Stop::OutOfMemory
+    }
 }
 
 // Which node is to be made.

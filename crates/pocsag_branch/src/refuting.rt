@@ -16,16 +16,6 @@ use pocsag_slots::{Classes, Limits, Way};
 use pocsag_tree::Tree;
 use std::alloc::Global;
 
-fn boxed(alloc: Global, tree: Tree) -> Result<Box<Tree>, Halt>
-    ensures tree { IfOk result (λ b. b.value ≡ tree) }
-    ensures halt { IfErr result (λ halt. halt ≡ Halt.OutOfMemory) }
-{
-    match Box::new(alloc, tree) {
-        Ok(tree) => Ok(tree),
-        Err(_) => Err(Halt::OutOfMemory),
-    }
-}
-
 /// A tree that refutes the node with these limits, and how many nodes are examined after it.
 #[cycle(refuting)]
 pub(crate) fn refute(
@@ -37,8 +27,8 @@ pub(crate) fn refute(
 ) -> Result<(Tree, u32), Halt>
     requires limits { AreNodeLimits classes.now attempt.question.batches limits.now }
     requires examined { examined ≤ attempt.question.limit }
-    ensures node { IfOk result (λ x. IsFreed classes.now attempt.question.end attempt.question.batches limits.now attempt.question.limit examined x.1 (bound_of x.0)) }
-    ensures halt { IfErr result (IsHalt classes.now attempt.question.end attempt.question.batches) }
+    ensures node { IfOk result (λ x. IsFreed classes.now attempt.question limits.now examined x.1 (bound_of x.0)) }
+    ensures halt { IfErr result (IsHalt classes.now attempt.question) }
 {
     if examined >= attempt.question.limit {
         return Err(Halt::Limit);
@@ -72,8 +62,8 @@ fn refute_cut(
     requires certain { IsTrue (class_certain classes.now limits.now set needed) }
     requires small { set < 2 ^ 16 }
     requires fall { All (Falls classes.now attempt.question.batches limits.now) (ways_across classes.now limits.now set) }
-    ensures node { IfOk result (λ x. IsFreed classes.now attempt.question.end attempt.question.batches limits.now attempt.question.limit examined x.1 (bound_of x.0)) }
-    ensures halt { IfErr result (IsHalt classes.now attempt.question.end attempt.question.batches) }
+    ensures node { IfOk result (λ x. IsFreed classes.now attempt.question limits.now examined x.1 (bound_of x.0)) }
+    ensures halt { IfErr result (IsHalt classes.now attempt.question) }
 {
     let out = ways_out(classes, limits, set, attempt.question.batches);
     let (children, after) = refute_row(alloc, classes, attempt, limits, &out, examined + 1)?;
@@ -102,8 +92,8 @@ pub(crate) fn refute_close(
     requires examined { examined < attempt.question.limit }
     requires closed { IsClosed attempt.question.end }
     requires fall { All (Falls classes.now attempt.question.batches limits.now) (ways_to_close classes.now limits.now) }
-    ensures node { IfOk result (λ x. IsFreed classes.now attempt.question.end attempt.question.batches limits.now attempt.question.limit examined x.1 (bound_of x.0)) }
-    ensures halt { IfErr result (IsHalt classes.now attempt.question.end attempt.question.batches) }
+    ensures node { IfOk result (λ x. IsFreed classes.now attempt.question limits.now examined x.1 (bound_of x.0)) }
+    ensures halt { IfErr result (IsHalt classes.now attempt.question) }
 {
     let out = ways_to_end(classes, limits, attempt.question.batches);
     let (children, after) = refute_row(alloc, classes, attempt, limits, &out, examined + 1)?;
@@ -126,8 +116,8 @@ fn refute_split(
     requires limits { AreNodeLimits classes.now attempt.question.batches limits.now }
     requires examined { examined < attempt.question.limit }
     requires point { IsSplitPoint classes.now attempt.question.batches limits.now class m }
-    ensures node { IfOk result (λ x. IsFreed classes.now attempt.question.end attempt.question.batches limits.now attempt.question.limit examined x.1 (bound_of x.0)) }
-    ensures halt { IfErr result (IsHalt classes.now attempt.question.end attempt.question.batches) }
+    ensures node { IfOk result (λ x. IsFreed classes.now attempt.question limits.now examined x.1 (bound_of x.0)) }
+    ensures halt { IfErr result (IsHalt classes.now attempt.question) }
 {
     let under = limits_under(classes, limits, attempt.question.batches, class, m);
     let (below, between) = refute(alloc, classes, attempt, &under, examined + 1)?;
@@ -151,8 +141,8 @@ fn refute_split(
     ) {
         return Ok((from, after));
     }
-    let below = boxed(alloc, below)?;
-    let from = boxed(alloc, from)?;
+    let below = Box::new(alloc, below)?;
+    let from = Box::new(alloc, from)?;
     Ok((
         Tree::Split {
             class,
@@ -179,8 +169,8 @@ fn refute_row(
     requires examined { examined ≤ attempt.question.limit }
     requires allowed { All (MayTake classes.now limits.now) ways.now }
     requires fall { All (Falls classes.now attempt.question.batches limits.now) ways.now }
-    ensures node { IfOk result (λ x. AreChildren classes.now attempt.question.end attempt.question.batches limits.now attempt.question.limit examined x.1 ways.now x.0) }
-    ensures halt { IfErr result (IsHalt classes.now attempt.question.end attempt.question.batches) }
+    ensures node { IfOk result (λ x. AreChildren classes.now attempt.question limits.now examined x.1 ways.now x.0) }
+    ensures halt { IfErr result (IsHalt classes.now attempt.question) }
 {
     let mut children = Vec::new(alloc);
     let mut after = examined;
@@ -196,9 +186,7 @@ fn refute_row(
         ) {
             return Ok((Children::Kept(child), next));
         }
-        let Ok(()) = children.push(child) else {
-            return Err(Halt::OutOfMemory);
-        };
+        children.push(child)?;
         after = next;
     }
     Ok((Children::Whole(children), after))

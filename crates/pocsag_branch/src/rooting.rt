@@ -15,7 +15,7 @@ use std::alloc::Global;
 // With the closed end, a choice that has a tour for the open end, if the free search meets one.
 fn open_choice(alloc: Global, classes: &Classes, question: Question) -> Result<Option<Choice>, Stop>
     ensures choice { IfOk result (λ found. IfSome found (λ choice. IsAdmitted classes.now (limits_of_all classes.now question.batches) (slice_index choice.early))) }
-    ensures stop { IfErr result (IsStop classes.now question.end question.batches) }
+    ensures stop { IfErr result (IsStop classes.now question) }
 {
     let open = Question {
         end: End::Open,
@@ -39,8 +39,8 @@ fn open_choice(alloc: Global, classes: &Classes, question: Question) -> Result<O
 // one for the open end alone, the root is to be closed at once.
 pub(crate) fn whole_tree(alloc: Global, classes: &Classes, question: Question) -> Result<Tree, Stop>
     requires { 0 < question.limit }
-    ensures tree { IfOk result (λ tree. IsTreeOf classes.now question.end question.batches question.limit (bound_of tree)) }
-    ensures stop { IfErr result (IsStop classes.now question.end question.batches) }
+    ensures tree { IfOk result (λ tree. IsTreeOf classes.now question (bound_of tree)) }
+    ensures stop { IfErr result (IsStop classes.now question) }
 {
     decide(alloc, classes, question)?;
     let limits = all_limits(classes, question.batches);

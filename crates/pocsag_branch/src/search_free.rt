@@ -48,18 +48,8 @@ pub fn search_freely(
             least.set,
             Box::into_inner(answer),
         )),
-        Err(Halt::Limit) => Err(limited(alloc, classes, end)),
+        Err(Halt::Limit) => Err(FreeFault::SearchLimit(near(alloc, classes, end)?)),
         Err(Halt::OutOfMemory) => Err(FreeFault::OutOfMemory),
-    }
-}
-
-fn limited(alloc: Global, classes: &Classes, end: End) -> FreeFault
-    requires { HasPage classes.now }
-    ensures { IsFreeFault classes.now end result }
-{
-    match near(alloc, classes, end) {
-        Ok(near) => FreeFault::SearchLimit(near),
-        Err(_) => FreeFault::OutOfMemory,
     }
 }
 
@@ -75,13 +65,11 @@ fn freed(
     requires least { IsLeast classes.now question.batches }
     requires small { question.batches ≤ 1760000 }
     requires admitted { IsAdmitted classes.now (limits_of_all classes.now question.batches) (slice_index choice.now.early) }
-    requires tree { IsFreeTree classes.now question.end question.batches question.limit (bound_of tree) }
+    requires tree { IsFreeTree classes.now question (bound_of tree) }
     ensures found { IfOk result (IsFoundFreely classes.now question.end question.limit) }
     ensures fault { IfErr result (λ fault. fault ≡ FreeFault.OutOfMemory) }
 {
-    let Ok(steps) = one_more(alloc, classes, choice, question.batches, question.end) else {
-        return Err(FreeFault::OutOfMemory);
-    };
+    let steps = one_more(alloc, classes, choice, question.batches, question.end)?;
     Ok(Found {
         batches: question.batches + 1,
         choice: *choice,

@@ -8,7 +8,7 @@ use crate::answer::Found;
 use crate::ending::{one_more, settled};
 use crate::fault::SearchFault;
 use crate::least::least_of;
-use crate::opening::has_open;
+use crate::opening::is_unfinished;
 use crate::question::{Question, Stop};
 use crate::rooting::whole_tree;
 use pocsag_slots::{Choice, Classes, tours_have_codewords};
@@ -62,22 +62,20 @@ fn judged(
     requires least { IsLeast classes.now question.batches }
     requires small { question.batches ≤ 1760000 }
     requires admitted { IsAdmitted classes.now (limits_of_all classes.now question.batches) (slice_index choice.now.early) }
-    requires tree { IsTreeOf classes.now question.end question.batches question.limit (bound_of tree) }
+    requires tree { IsTreeOf classes.now question (bound_of tree) }
     ensures found { IfOk result (IsFound classes.now question.end question.limit) }
     ensures fault { IfErr result (IsSearchFault classes.now question.end question.limit) }
 {
     spare_batches_have_tours();
     tours_have_codewords();
-    if has_open(&tree) {
+    if is_unfinished(&tree) {
         return Err(SearchFault::SearchLimit {
             least: question.batches,
             found: question.batches + 1,
             tree,
         });
     }
-    let Ok(steps) = one_more(alloc, classes, choice, question.batches, question.end) else {
-        return Err(SearchFault::OutOfMemory);
-    };
+    let steps = one_more(alloc, classes, choice, question.batches, question.end)?;
     Ok(Found {
         batches: question.batches + 1,
         choice: *choice,

@@ -1,5 +1,5 @@
 ghost use Rattle.std.specs.Prelude.{◌≡◌, ℕ, ◌<◌, ◌≤◌, ◌^◌, ◌↔◌, All, IsTrue, IfSome, length, true};
-ghost use Rattle.pocsag_slots.specs.Sums.{holds as is_member};
+ghost use Rattle.pocsag_slots.specs.Sums.{holds};
 ghost use Rattle.pocsag_slots.specs.Ways.{class_certain, MayTake, ways_across};
 ghost use Rattle.pocsag_branch.specs.Examined.{IsForm};
 ghost use Rattle.pocsag_branch.specs.Freed.{IsOpen};
@@ -91,7 +91,7 @@ struct Growing {
     into: [u32; 16],
     across: u32,
     ghost long: { length into ≡ 16 },
-    ghost zero: { is_member set 0 ≡ true },
+    ghost zero: { holds set 0 ≡ true },
 }
 
 // The set with the boundary more.
@@ -130,8 +130,8 @@ fn nearest(growing: &Growing) -> Option<u8>
 // A cut at the set, where a class is certain for it and all ways across are open.
 fn cut_at(classes: &Classes, question: Question, limits: &Limits, set: u16) -> Option<Form>
     requires limits { AreNodeLimits classes.now question.batches limits.now }
-    requires zero { is_member set 0 ≡ true }
-    ensures { IfSome result (IsForm classes.now question.end question.batches limits.now) }
+    requires zero { holds set 0 ≡ true }
+    ensures { IfSome result (IsForm classes.now question limits.now) }
 {
     let needed = certain_class(classes, limits, set)?;
     let out = ways(classes, limits, set, question.batches);
@@ -159,7 +159,7 @@ pub(crate) fn thinner(
     reached: u16,
 ) -> Option<Form>
     requires { AreNodeLimits classes.now question.batches limits.now }
-    ensures { IfSome result (IsForm classes.now question.end question.batches limits.now) }
+    ensures { IfSome result (IsForm classes.now question limits.now) }
 {
     let between = ways_between(classes, limits, question.batches);
     let mut least = ways_across_reached(classes, limits, question.batches, reached);

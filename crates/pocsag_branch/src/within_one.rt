@@ -1,5 +1,9 @@
+ghost use Rattle.std.specs.Prelude.{◌≡◌};
+ghost use Rattle.pocsag_branch.specs.declared.within_one.FreeFault.TheVariants.{OutOfMemory};
+
 use pocsag_slots::{Choice, Step};
 use pocsag_tree::Tree;
+use std::alloc::AllocError;
 use thiserror::Error;
 
 /// A transmission of at most one batch more than the fewest: a choice of starts with the steps of its tour
@@ -20,4 +24,12 @@ pub enum FreeFault {
     SearchLimit(Near),
     #[error("out of memory")]
     OutOfMemory,
+}
+
+impl From<AllocError> for FreeFault {
+    ghost from_gives = { λ _ fault. fault ≡ OutOfMemory };
+
+    fn from(_fault: AllocError) -> FreeFault {
+        FreeFault::OutOfMemory
+    }
 }

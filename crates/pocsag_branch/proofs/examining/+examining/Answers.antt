@@ -5,26 +5,26 @@ use Rattle.pocsag_branch.proofs.examining.+examining.Goals as goal
 
 pub close-returns-clause-node : goal.close-returns-clause-node
 close-returns-clause-node t c =
-    close_made c.args.classes.now c.args.question.end c.args.question.batches c.args.limits.now c.args.question.limit c.args.made c.in_ok-children.after
-    c.deref.result.now c.in_ok-children.children c.args.question.some c.requires.closed c.requires.shape
+    close_made c.args.classes.now c.args.question c.args.limits.now c.args.made c.in_ok-children.after
+    c.deref.result.now c.in_ok-children.children c.requires.closed c.requires.shape
     (c.deref.ensures.0 ∙ c.ways_to_end-out.ensures.items) c.in_ok-children.ensures.node
 
 pub cut-returns-clause-node : goal.cut-returns-clause-node
 cut-returns-clause-node t c =
-    cut_made c.args.classes.now c.args.question.end c.args.question.batches c.args.limits.now c.args.question.limit c.args.made c.in_ok-children.after
-    c.args.set c.args.needed c.deref.result.now c.in_ok-children.children c.args.question.some c.requires.needed c.requires.zero c.requires.certain
+    cut_made c.args.classes.now c.args.question c.args.limits.now c.args.made c.in_ok-children.after
+    c.args.set c.args.needed c.deref.result.now c.in_ok-children.children c.requires.needed c.requires.zero c.requires.certain
     c.requires.small c.requires.shape (c.deref.ensures.0 ∙ c.ways_out-out.ensures.items) c.in_ok-children.ensures.node
 
 pub row-loop-way-preserved : goal.row-loop-way-preserved
 row-loop-way-preserved t c =
-    row_goes_on c.args.classes.now c.args.question.end c.args.question.batches c.args.limits.now c.args.question.limit c.args.made c.loop-way.after
+    row_goes_on c.args.classes.now c.args.question c.args.limits.now c.args.made c.loop-way.after
     c.in_ok-child.next c.loop-way.way-index c.args.ways.now c.loop-way.children.items (IdleIn 0) c.in_ok-child.child c.push.new.self.items
-    c.child_limits-narrowed.result c.loop-way-test.true c.child_limits-narrowed.ensures.value c.in-Ok.ensures.items c.loop-way.invariant
+    c.child_limits-narrowed.result c.loop-way-test.true c.child_limits-narrowed.ensures.value c.in_ok-push.ensures.items c.loop-way.invariant
     c.in_ok-child.ensures.node c.child_limits-narrowed.ensures.falls
 
 pub split-returns-clause-node : goal.split-returns-clause-node
 split-returns-clause-node t c =
-    split_made c.args.classes.now c.args.question.end c.args.question.batches c.args.limits.now c.args.question.limit c.args.made c.in_ok-below.between
+    split_made c.args.classes.now c.args.question c.args.limits.now c.args.made c.in_ok-below.between
     c.in_ok-from.after c.args.class c.args.m c.limits_under-under.result c.limits_over-over.result c.in_ok-below.below c.in_ok-from.from
-    c.in_ok-below-2.below c.in_ok-from-2.from c.in_ok-below-2.ensures.tree c.in_ok-from-2.ensures.tree
+    c.in_ok-below-2.below c.in_ok-from-2.from c.in_ok-below-2.ensures.ok c.in_ok-from-2.ensures.ok
     c.requires.point c.requires.shape c.limits_under-under.ensures.value c.limits_over-over.ensures.value c.in_ok-below.ensures.node c.in_ok-from.ensures.node

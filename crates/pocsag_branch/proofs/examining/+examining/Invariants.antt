@@ -24,4 +24,4 @@ decreases-row l = 4 * undecided l.classes.now l.question.batches l.limits.now
 
 abbrev pub invariant-row-loop-way : goal.invariant-row-loop-way
 invariant-row-loop-way l =
-    AreExamined l.classes l.question.end l.question.batches l.limits l.question.limit l.made l.after (take l.way-index l.ways) (bounds_of l.children.items)
+    AreExamined l.classes l.question l.limits l.made l.after (take l.way-index l.ways) (bounds_of l.children.items)

@@ -21,4 +21,4 @@ decreases-refute_row l = 4 * undecided l.classes.now l.attempt.question.batches 
 
 abbrev pub invariant-refute_row-loop-way : goal.invariant-refute_row-loop-way
 invariant-refute_row-loop-way l =
-    AreFreed l.classes l.attempt.question.end l.attempt.question.batches l.limits l.attempt.question.limit l.examined l.after (take l.way-index l.ways) (bounds_of l.children.items)
+    AreFreed l.classes l.attempt.question l.limits l.examined l.after (take l.way-index l.ways) (bounds_of l.children.items)

@@ -7,13 +7,13 @@ pub returns-clause-found : goal.returns-clause-found
 returns-clause-found c =
     let k = c.args.classes.now in
     let tree = bound_of c.args.tree in
-    let accepted = free_whole k c.args.question.end c.args.question.batches c.args.question.limit tree c.requires.tree in
+    let accepted = free_whole k c.args.question tree c.requires.tree in
     record {
       least = c.args.question.batches;
       is_least = c.requires.least;
       or_one_more = inr refl;
       choice = λ d h. c.requires.admitted.within.most d h;
-      tour = c.in-Ok.ensures;
+      tour = c.in_ok-steps.ensures;
       accepted = accepted;
       bound = tree_bound k c.args.question.end (c.args.question.batches + 1) tree accepted;
       few = c.requires.tree.few;

@@ -4,12 +4,12 @@ use Rattle.pocsag_tree.specs.Views.{bound_of}
 use Rattle.pocsag_branch.proofs.TreeEnds.{closed_is, has_room, least_bound, none_unseen, some_unseen, tree_bound, tree_open, tree_whole}
 use Rattle.pocsag_branch.proofs.searching.judged.Goals as goal
 
-pub returns-then-has_open-clause-fault : goal.returns-then-has_open-clause-fault
-returns-then-has_open-clause-fault c =
+pub returns-then-is_unfinished-clause-fault : goal.returns-then-is_unfinished-clause-fault
+returns-then-is_unfinished-clause-fault c =
     let k = c.args.classes.now in
     let tree = bound_of c.args.tree in
     let fills = c.requires.tree.examined.fills in
-    let some = some_unseen tree fills.closed fills.unseen fills.layout (sym c.if-has_open.ensures) in
+    let some = some_unseen tree fills.closed fills.unseen fills.layout (sym c.if-is_unfinished.ensures) in
     let full : fills.closed ≡ c.args.question.limit = omega (arith, fills.spent, fills.whole some) in
     record {
       is_least = c.requires.least;
@@ -25,7 +25,7 @@ returns-then-has_open-clause-fault c =
       unseen = fills.unseen;
       some = some;
       marks = fills.layout ∙ ap (λ n. replicate n false ++ replicate fills.unseen true) full;
-      accepted = tree_open k c.args.question.end c.args.question.batches c.args.question.limit tree c.requires.tree;
+      accepted = tree_open k c.args.question tree c.requires.tree;
       shaped = c.requires.tree.examined.shaped;
     }
 
@@ -34,15 +34,15 @@ returns-clause-found c =
     let k = c.args.classes.now in
     let tree = bound_of c.args.tree in
     let fills = c.requires.tree.examined.fills in
-    let none = none_unseen tree fills.closed fills.unseen fills.layout (sym c.has_open.ensures ∙ c.if-has_open.false) in
+    let none = none_unseen tree fills.closed fills.unseen fills.layout (sym c.is_unfinished.ensures ∙ c.if-is_unfinished.false) in
     let closed = closed_is tree fills.closed fills.unseen fills.layout in
-    let accepted = tree_whole k c.args.question.end c.args.question.batches c.args.question.limit tree c.requires.tree (sym c.has_open.ensures ∙ c.if-has_open.false) in
+    let accepted = tree_whole k c.args.question tree c.requires.tree (sym c.is_unfinished.ensures ∙ c.if-is_unfinished.false) in
     record {
       least = c.args.question.batches;
       is_least = c.requires.least;
       or_one_more = inr refl;
       choice = λ d h. c.requires.admitted.within.most d h;
-      tour = c.in-Ok.ensures;
+      tour = c.in_ok-steps.ensures;
       accepted = accepted;
       bound = tree_bound k c.args.question.end (c.args.question.batches + 1) tree accepted;
       examined = fills.layout ∙ ap (λ n. replicate fills.closed false ++ replicate n true) none ∙ append-nil (replicate fills.closed false)
