@@ -5,7 +5,7 @@ use Rattle.pocsag_pages.specs.Bytes.{Sent, leading, after_preamble, words_of}
 use Rattle.pocsag_pages.specs.Reading.{ReadsWords}
 use Rattle.pocsag_decode.specs.declared.fault.DecodeFault.{DecodeFault}
 use Rattle.pocsag_decode.specs.declared.fault.DecodeFault.TheVariants as fault
-use Rattle.pocsag_decode.specs.Places.{AreGood, HasBadWord}
+use Rattle.pocsag_decode.specs.Places.{AllMayStand, HasBadWord}
 
 -- The whole words after the preamble.
 abbrev pub words : List ℕ → List ℕ
@@ -22,7 +22,7 @@ pub data HasFaultThere : List ℕ → DecodeFault → Type 0 where
 pub data HasFaultOfEnd : List ℕ → DecodeFault → Type 0 where
   short : {X : List ℕ} → leading X < 72 → after_preamble X ≡ [] → HasFaultOfEnd X fault.ShortPreamble
   no_batch : {X : List ℕ} → 72 ≤ leading X → after_preamble X ≡ [] → HasFaultOfEnd X fault.NoBatch
-  cut : {X : List ℕ} → 72 ≤ leading X → AreGood (words X) → length (after_preamble X) % 68 ≢ 0 → HasFaultOfEnd X fault.Truncated
+  cut : {X : List ℕ} → 72 ≤ leading X → AllMayStand (words X) → length (after_preamble X) % 68 ≢ 0 → HasFaultOfEnd X fault.Truncated
 
 -- *Fault of a transmission*.
 abbrev pub HasFault : List ℕ → DecodeFault → Type 0

@@ -1,3 +1,7 @@
+ghost use Rattle.std.specs.Prelude.{◌≡◌};
+ghost use Rattle.pocsag_decode.specs.declared.fault.DecodeFault.TheVariants as fault;
+
+use std::alloc::AllocError;
 use thiserror::Error;
 
 /// Why bytes are no transmission that reads as pages. Batches, and codewords without those of
@@ -41,4 +45,12 @@ pub enum ListFault {
     /// Nothing was written.
     #[error("out of memory")]
     OutOfMemory,
+}
+
+impl From<AllocError> for DecodeFault {
+    ghost from_gives = { λ _ e. e ≡ fault.OutOfMemory };
+
+    fn from(_refused: AllocError) -> DecodeFault {
+        DecodeFault::OutOfMemory
+    }
 }

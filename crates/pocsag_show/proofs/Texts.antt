@@ -4,8 +4,9 @@ use Rattle.std.proofs.lemmas.List.{length-map}
 use Rattle.pocsag_words.specs.Codeword.{IsCodeword}
 use Rattle.pocsag_words.specs.Kinds.{kind_of}
 use Rattle.pocsag_pages.specs.declared.page.Page.{Page}
+use Rattle.pocsag_pages.specs.Bytes.{codewords_in}
 use Rattle.pocsag_decode.specs.Faults.{IsPastPreamble, ReadsAs}
-use Rattle.pocsag_decode.proofs.Judgements.{codewords_are, reads_whole}
+use Rattle.pocsag_decode.proofs.SentBytes.{codewords_are, reads_whole}
 use Rattle.std.proofs.lemmas.List.Elements.{All-from_get_or}
 use Rattle.std.specs.Result.{IsErr, IsErrAnd, MatchResult}
 use Rattle.pocsag_pages.specs.Listable.{IsListable}
@@ -16,7 +17,7 @@ use Rattle.pocsag_show.specs.declared.fault.ShowFault.TheVariants as fault
 use Rattle.pocsag_show.specs.declared.grid.Grid.{Grid}
 use Rattle.pocsag_show.specs.Picture.{grid_text, picture}
 use Rattle.pocsag_show.specs.Showing.{Explains, IsTextOf}
-use Rattle.pocsag_show.specs.Taking.{IsGridOf, codewords_in}
+use Rattle.pocsag_show.specs.Taking.{IsGridOf}
 
 module _ (X : List ℕ) (ps : List Page) (r : ReadsAs X ps) where
   same : codewords_in X ≡ r.codewords

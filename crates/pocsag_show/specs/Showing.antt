@@ -37,6 +37,6 @@ Explains X fault.WriteFault = (pages : List Page) × ReadsAs X pages
 Explains X fault.OutOfMemory = IsPastPreamble X
 
 -- The decoder's fault passed up: want of memory keeps its name.
-abbrev pub fault_of : DecodeFault → ShowFault
-fault_of decoding.OutOfMemory = fault.OutOfMemory
-fault_of f = fault.Transmission f
+abbrev pub fault_passed_on : DecodeFault → ShowFault
+fault_passed_on decoding.OutOfMemory = fault.OutOfMemory
+fault_passed_on f = fault.Transmission f

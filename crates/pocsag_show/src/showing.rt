@@ -1,5 +1,5 @@
-ghost use Rattle.std.specs.Prelude.{◌≡◌, ◌≢◌, ◌++◌, List, IfErr, MatchResult, OnErr, OnOk};
-ghost use Rattle.pocsag_words.specs.Devices.{HasFailed, TookPrefix};
+ghost use Rattle.std.specs.Prelude.{◌≡◌, ◌≢◌, List, IfErr, MatchResult, OnOk};
+ghost use Rattle.pocsag_words.specs.Devices.{CountsFailures, Delivers, HasFailed};
 ghost use Rattle.pocsag_pages.specs.declared.page.Page.{Page as page};
 ghost use Rattle.pocsag_decode.specs.Faults.{ReadsAs};
 ghost use Rattle.pocsag_show.specs.Picture.{grid_text};
@@ -40,16 +40,12 @@ fn svg_of(alloc: Global, bytes: &[u8]) -> Result<Vec<u8>, ShowFault>
 
 // Hands a whole text to the writer.
 fn deliver<S: Sink>(text: &[u8], sink: &mut S) -> Result<(), ShowFault>
-    ensures whole { S.tells → OnOk result (S.taken sink.new ≡ S.taken sink.old ++ text.now) }
-    ensures part { S.tells → OnErr result (TookPrefix (S.taken sink.old) (S.taken sink.new) text.now) }
+    ensures delivers { S.tells → Delivers result (S.taken sink.old) (S.taken sink.new) text.now }
     ensures fault { IfErr result (λ e. e ≡ ShowFault.WriteFault) }
-    ensures succeeded { OnOk result (S.failures sink.new ≡ S.failures sink.old) }
-    ensures failed { OnErr result (HasFailed (S.failures sink.old) (S.failures sink.new)) }
+    ensures failures { CountsFailures result (S.failures sink.old) (S.failures sink.new) }
 {
-    match write_all(sink, text) {
-        Ok(()) => Ok(()),
-        Err(_) => Err(ShowFault::WriteFault),
-    }
+    write_all(sink, text)?;
+    Ok(())
 }
 
 /// Writes the text of a transmission: a line of totals, a line with the numbers of the frames, and a
