@@ -1,6 +1,8 @@
 ghost use Rattle.std.specs.Prelude.{◌≡◌};
 ghost use Rattle.pocsag_decode.specs.declared.fault.DecodeFault.TheVariants as fault;
+ghost use Rattle.pocsag_decode.specs.declared.fault.ListFault.TheVariants as listing;
 
+use pocsag_words::DeviceFault;
 use std::alloc::AllocError;
 use thiserror::Error;
 
@@ -52,5 +54,21 @@ impl From<AllocError> for DecodeFault {
 
     fn from(_refused: AllocError) -> DecodeFault {
         DecodeFault::OutOfMemory
+    }
+}
+
+impl From<AllocError> for ListFault {
+    ghost from_gives = { λ _ e. e ≡ listing.OutOfMemory };
+
+    fn from(_refused: AllocError) -> ListFault {
+        ListFault::OutOfMemory
+    }
+}
+
+impl From<DeviceFault> for ListFault {
+    ghost from_gives = { λ _ e. e ≡ listing.WriteFault };
+
+    fn from(_refused: DeviceFault) -> ListFault {
+        ListFault::WriteFault
     }
 }

@@ -2,7 +2,7 @@ ghost use Rattle.std.specs.Prelude.{◌≡◌, ℕ, ◌+◌, ◌<◌, ◌^◌, �
 ghost use Rattle.std.specs.Fmt.{decimal};
 ghost use Rattle.csv.specs.Writing.{row_text, default_writer};
 ghost use Rattle.pocsag_pages.specs.Listable.{IsListable};
-ghost use Rattle.pocsag_decode.specs.Lines.{IsReady, text_in};
+ghost use Rattle.pocsag_decode.specs.Lines.{IsReady, PutsRow};
 ghost use Rattle.pocsag_show.specs.Judged.{IsJudged};
 ghost use Rattle.pocsag_show.specs.Places.{place_header, place_record, place_rows};
 ghost use Rattle.pocsag_show.specs.Showing.{IsTextOf};
@@ -22,8 +22,7 @@ fn put_record(
     fields: &[&[u8]; 7],
 ) -> Result<(), AllocError>
     requires { IsReady writer.old }
-    ensures ready { OnOk result (IsReady writer.new) }
-    ensures text { OnOk result (text_in writer.new ≡ text_in writer.old ++ row_text default_writer (map (λ field. field.now) fields.now)) }
+    ensures { PutsRow result writer.old writer.new (map (λ field. field.now) fields.now) }
 {
     let row = ByteRecord::from_fields(alloc, fields)?;
     match writer.write_byte_record(&row) {
@@ -47,8 +46,7 @@ fn put_place(
 ) -> Result<(), AllocError>
     requires ready { IsReady writer.old }
     requires listable { IsListable page.now }
-    ensures ready { OnOk result (IsReady writer.new) }
-    ensures text { OnOk result (text_in writer.new ≡ text_in writer.old ++ row_text default_writer (place_record start page.now)) }
+    ensures { PutsRow result writer.old writer.new (place_record start page.now) }
 {
     let items = page.payload.as_slice();
     let batch = decimal(alloc, start / 16 + 1)?;

@@ -1,10 +1,10 @@
 ghost use Rattle.std.specs.Prelude.{◌≡◌, ◌≢◌, List, IfErr, MatchResult, OnOk};
-ghost use Rattle.pocsag_words.specs.Devices.{CountsFailures, Delivers, HasFailed};
+ghost use Rattle.pocsag_words.specs.Devices.{CountsFailures, Delivers};
 ghost use Rattle.pocsag_pages.specs.declared.page.Page.{Page as page};
-ghost use Rattle.pocsag_decode.specs.Faults.{ReadsAs};
+ghost use Rattle.pocsag_decode.specs.Faults.{ReadsAs, TellsFailures};
 ghost use Rattle.pocsag_show.specs.Picture.{grid_text};
 ghost use Rattle.pocsag_show.specs.Places.{place_listing};
-ghost use Rattle.pocsag_show.specs.Showing.{Explains, IsTextOf, Shows, ShowsPart};
+ghost use Rattle.pocsag_show.specs.Showing.{Explains, ExplainsReading, IsTextOf, Shows, ShowsPart};
 
 use crate::drawing::drawing_of;
 use crate::fault::ShowFault;
@@ -16,7 +16,7 @@ use std::alloc::Global;
 
 // The text of a transmission, or its first fault.
 fn text_of(alloc: Global, bytes: &[u8]) -> Result<Vec<u8>, ShowFault>
-    ensures { MatchResult result (λ v. IsTextOf grid_text bytes.now v.items) (λ e. e ≢ ShowFault.WriteFault × Explains bytes.now e) }
+    ensures { MatchResult result (λ v. IsTextOf grid_text bytes.now v.items) (ExplainsReading bytes.now) }
 {
     let judged = judge(alloc, bytes)?;
     Ok(picture_of(alloc, &judged.grid)?)
@@ -24,7 +24,7 @@ fn text_of(alloc: Global, bytes: &[u8]) -> Result<Vec<u8>, ShowFault>
 
 // The listing of a transmission, or its first fault.
 fn places_of(alloc: Global, bytes: &[u8]) -> Result<Vec<u8>, ShowFault>
-    ensures { MatchResult result (λ v. IsTextOf place_listing bytes.now v.items) (λ e. e ≢ ShowFault.WriteFault × Explains bytes.now e) }
+    ensures { MatchResult result (λ v. IsTextOf place_listing bytes.now v.items) (ExplainsReading bytes.now) }
 {
     let judged = judge(alloc, bytes)?;
     Ok(listing_of(alloc, &judged)?)
@@ -32,7 +32,7 @@ fn places_of(alloc: Global, bytes: &[u8]) -> Result<Vec<u8>, ShowFault>
 
 // The drawing of a transmission, or its first fault.
 fn svg_of(alloc: Global, bytes: &[u8]) -> Result<Vec<u8>, ShowFault>
-    ensures { MatchResult result (λ v. (pages : List page) × ReadsAs bytes.now pages) (λ e. e ≢ ShowFault.WriteFault × Explains bytes.now e) }
+    ensures { MatchResult result (λ v. (pages : List page) × ReadsAs bytes.now pages) (ExplainsReading bytes.now) }
 {
     let judged = judge(alloc, bytes)?;
     Ok(drawing_of(alloc, &judged)?)
@@ -59,8 +59,7 @@ pub fn show_text<S: Sink>(alloc: Global, bytes: &[u8], sink: &mut S) -> Result<(
     ensures untouched { IfErr result (λ e. e ≢ ShowFault.WriteFault → sink.new ≡ sink.old) }
 
     // A device's fault is answered only where that device failed.
-    ensures succeeded { OnOk result (S.failures sink.new ≡ S.failures sink.old) }
-    ensures failed { result ≡ Err ShowFault.WriteFault → HasFailed (S.failures sink.old) (S.failures sink.new) }
+    ensures failures { TellsFailures result ShowFault.WriteFault (S.failures sink.old) (S.failures sink.new) }
 {
     let text = text_of(alloc, bytes)?;
     deliver(text.as_slice(), sink)
@@ -77,8 +76,7 @@ pub fn show_list<S: Sink>(alloc: Global, bytes: &[u8], sink: &mut S) -> Result<(
     ensures untouched { IfErr result (λ e. e ≢ ShowFault.WriteFault → sink.new ≡ sink.old) }
 
     // A device's fault is answered only where that device failed.
-    ensures succeeded { OnOk result (S.failures sink.new ≡ S.failures sink.old) }
-    ensures failed { result ≡ Err ShowFault.WriteFault → HasFailed (S.failures sink.old) (S.failures sink.new) }
+    ensures failures { TellsFailures result ShowFault.WriteFault (S.failures sink.old) (S.failures sink.new) }
 {
     let text = places_of(alloc, bytes)?;
     deliver(text.as_slice(), sink)
@@ -92,8 +90,7 @@ pub fn show_svg<S: Sink>(alloc: Global, bytes: &[u8], sink: &mut S) -> Result<()
     ensures untouched { IfErr result (λ e. e ≢ ShowFault.WriteFault → sink.new ≡ sink.old) }
 
     // A device's fault is answered only where that device failed.
-    ensures succeeded { OnOk result (S.failures sink.new ≡ S.failures sink.old) }
-    ensures failed { result ≡ Err ShowFault.WriteFault → HasFailed (S.failures sink.old) (S.failures sink.new) }
+    ensures failures { TellsFailures result ShowFault.WriteFault (S.failures sink.old) (S.failures sink.new) }
 {
     let text = svg_of(alloc, bytes)?;
     deliver(text.as_slice(), sink)
