@@ -10,7 +10,9 @@ use Rattle.pocsag_decode.specs.Carried.{size_of}
 use Rattle.pocsag_decode.specs.Faults.{HasFaultThere, HasFaultOfEnd, IsPastPreamble, RefusesPiece, no_memory, fault_there}
 use Rattle.pocsag_decode.specs.Standing.{StandsAfter, StandsIn}
 use Rattle.pocsag_decode.proofs.Preambles.{begun_leading, begun_after, alone_leading, alone_after, count_is, nil_or, nil_from}
-use Rattle.pocsag_decode.proofs.Words.{size_is, Refuses}
+use Rattle.pocsag_decode.specs.Taking.{Refuses}
+use Rattle.pocsag_decode.proofs.Transmissions.{IsWhole}
+use Rattle.pocsag_decode.proofs.Words.{size_is}
 
 append_nil_right : (xs ys : List ℕ) → xs ++ ys ≡ [] → ys ≡ []
 append_nil_right [] ys e = e
@@ -50,6 +52,17 @@ module _ (d : Decoder) (X : List ℕ) (s : StandsAfter d X) where
   pub cut_end : 72 ≤ d.leading → ¬ (size_of d.body.place d.body.carry % 68 ≡ 0) → HasFaultOfEnd X fault.Truncated
   cut_end h n = HasFaultOfEnd.cut (let p = s.preamble in omega arith) s.words.read.good (λ z. n (ap (λ (x : ℕ). x % 68) body_size ∙ z))
 
+  pub ended_whole : 72 ≤ d.leading → 0 < size_of d.body.place d.body.carry → size_of d.body.place d.body.carry % 68 ≡ 0 → IsWhole X
+  ended_whole long some whole =
+      let size = body_size in
+      record {
+        small = s.bytes;
+        long = let p = s.preamble in omega arith;
+        some = omega arith;
+        good = s.words.read.good;
+        batches = omega arith;
+      }
+
   -- one piece more
   module _ (new : Decoder) (Z rest : List ℕ) (few : length X + length Z < 2 ^ 64) (after : after_preamble (X ++ Z) ≡ after_preamble X ++ rest) (leads : new.leading ≡ leading (X ++ Z)) where
     fed : new.has_failed ≡ d.has_failed → All (λ b. b < 256) Z → (after_preamble (X ++ Z) ≢ [] → 72 ≤ new.leading) → StandsIn new.body (after_preamble X ++ rest) → StandsAfter new (X ++ Z)
@@ -79,6 +92,6 @@ module _ (d : Decoder) (X : List ℕ) (s : StandsAfter d X) where
     past : 72 ≤ new.leading → rest ≢ [] → IsPastPreamble (X ++ Z)
     past h n = record { long = omega arith; more = λ z. n (append_nil_right (after_preamble X) rest (sym after ∙ z)) }
 
-    pub refused_body : (f : DecodeFault) → 72 ≤ new.leading → rest ≢ [] → length rest ≤ length Z → Refuses f (words_of (after_preamble X ++ rest)) → RefusesPiece X Z f
+    pub refused_body : (f : DecodeFault) → 72 ≤ new.leading → rest ≢ [] → length rest ≤ length Z → Refuses (words_of (after_preamble X ++ rest)) f → RefusesPiece X Z f
     refused_body f h n within (inl e) = subst (RefusesPiece X Z) (sym e) (no_memory few (λ z. n (nil_from rest (let l = ap length z in omega arith))) (past h n))
     refused_body f h n within (inr b) = fault_there few (HasFaultThere.bad (omega arith) (rw after b))

@@ -12,7 +12,7 @@ use Rattle.pocsag_words.specs.Kinds.{kind_of, IsInRange}
 use Rattle.pocsag_words.specs.declared.codeword.Kind.{Kind}
 use Rattle.pocsag_words.specs.declared.codeword.Kind.TheVariants.{Idle, Address, Message}
 use Rattle.pocsag_pages.specs.declared.page.Page.{Page}
-use Rattle.pocsag_pages.specs.Bytes.{sync_word, synced, unsynced, words_of, leading, after_preamble, Sent}
+use Rattle.pocsag_pages.specs.Bytes.{codewords_in, sync_word, synced, unsynced, words_of, leading, after_preamble, Sent}
 use Rattle.pocsag_pages.specs.Plain.{HasNoOrphan, items_of, pages_from}
 use Rattle.pocsag_pages.proofs.Readings.{plain_reads}
 use Rattle.pocsag_decode.specs.declared.growing.OpenPage.{OpenPage}
@@ -20,24 +20,24 @@ use Rattle.pocsag_decode.specs.Carried.{unfinished}
 use Rattle.pocsag_decode.specs.Faults.{words, ReadsAs}
 use Rattle.pocsag_decode.specs.Growing.{resumed, closed}
 use Rattle.pocsag_pages.specs.Listable.{IsListable}
-use Rattle.pocsag_decode.specs.Places.{is_message, is_idle, may_follow, IsGood, AreGood}
+use Rattle.pocsag_decode.specs.Places.{is_message, is_idle, may_follow, MayStandAt, AllMayStand}
 use Rattle.pocsag_decode.proofs.Preambles.{parts, nil_from}
 use Rattle.pocsag_decode.proofs.WordByWord.{length_more, may_sync, may_codeword, may_kept}
 use Rattle.pocsag_decode.proofs.Words.{bytes_count}
 use Rattle.pocsag_pages.proofs.Lengths.{unsynced_count}
 
 -- the words so far, of which the next is w
-module _ (before : List ℕ) (w : ℕ) (ws : List ℕ) (good : AreGood (before ++ w ∷ ws)) where
+module _ (before : List ℕ) (w : ℕ) (ws : List ℕ) (good : AllMayStand (before ++ w ∷ ws)) where
   turned : (before ++ w ∷ []) ++ ws ≡ before ++ w ∷ ws
   turned = append_assoc before (w ∷ []) ws
 
-  pub good_rest : AreGood ((before ++ w ∷ []) ++ ws)
-  good_rest = subst AreGood (sym turned) good
+  pub good_rest : AllMayStand ((before ++ w ∷ []) ++ ws)
+  good_rest = subst AllMayStand (sym turned) good
 
   at_w : slice_index (before ++ w ∷ ws) (length before) ≡ w
   at_w = get_or-append_seam before w ws 0
 
-  w_is_good : IsGood (before ++ w ∷ ws) (length before)
+  w_is_good : MayStandAt (before ++ w ∷ ws) (length before)
   w_is_good = good (length before) (let l = length-append before (w ∷ ws) in omega arith)
 
   pub w_is_sync : length before % 17 ≡ 0 → w ≡ sync_word
@@ -49,7 +49,7 @@ module _ (before : List ℕ) (w : ℕ) (ws : List ℕ) (good : AreGood (before +
   pub w_follows : length before % 17 ≢ 0 → IsTrue (is_message (kind_of w)) → IsTrue (may_follow before (length before))
   w_follows n m = sym (may_kept before (w ∷ ws) (length before) (omega arith)) ∙ w_is_good.follows n (subst (λ (x : ℕ). IsTrue (is_message (kind_of x))) (sym at_w) m)
 
-pub codewords_good : (before ws : List ℕ) → AreGood (before ++ ws) → All IsCodeword (unsynced (length before) ws)
+pub codewords_good : (before ws : List ℕ) → AllMayStand (before ++ ws) → All IsCodeword (unsynced (length before) ws)
 codewords_good before [] good = All-nil IsCodeword
 codewords_good before (w ∷ ws) good =
     let rest : All IsCodeword (unsynced (length before + 1) ws) = rw (← length_more before w) (codewords_good (before ++ w ∷ []) ws (good_rest before w ws good)) in
@@ -63,7 +63,7 @@ no_orphan_cons may Idle ks f h = h
 no_orphan_cons may (Address high function) ks f h = h
 no_orphan_cons may (Message bits) ks f h = (f refl, h)
 
-pub none_is_orphan : (before ws : List ℕ) → AreGood (before ++ ws) → HasNoOrphan (may_follow before (length before)) (map kind_of (unsynced (length before) ws))
+pub none_is_orphan : (before ws : List ℕ) → AllMayStand (before ++ ws) → HasNoOrphan (may_follow before (length before)) (map kind_of (unsynced (length before) ws))
 none_is_orphan before [] good = tt
 none_is_orphan before (w ∷ ws) good =
     let rest = none_is_orphan (before ++ w ∷ []) ws (good_rest before w ws good) in
@@ -73,7 +73,7 @@ none_is_orphan before (w ∷ ws) good =
     ]
 
 -- the words are the codewords with the synchronisation codewords between them
-pub resynced : (before ws : List ℕ) → AreGood (before ++ ws) → length before % 17 ≢ 1 → (length before + length ws) % 17 ≡ 0 → (i : ℕ) → i + (length before + 16) / 17 ≡ length before
+pub resynced : (before ws : List ℕ) → AllMayStand (before ++ ws) → length before % 17 ≢ 1 → (length before + length ws) % 17 ≡ 0 → (i : ℕ) → i + (length before + 16) / 17 ≡ length before
     → synced i (unsynced (length before) ws) ≡ ws
 resynced before [] good r whole i at = refl
 resynced before (w ∷ []) good r whole i at =
@@ -82,7 +82,7 @@ resynced before (w ∷ []) good r whole i at =
     rw (ne_eqb _ _ n, ne_eqb _ _ j) refl
 resynced before (w ∷ v ∷ ws) good r whole i at =
     let next = before ++ w ∷ [] in
-    let next_good : AreGood (next ++ v ∷ ws) = good_rest before w (v ∷ ws) good in
+    let next_good : AllMayStand (next ++ v ∷ ws) = good_rest before w (v ∷ ws) good in
     let next_length : length next ≡ length before + 1 = length_more before w in
     elim (cases_eq (length before % 17) 0) [
       | inl e ↦
@@ -135,11 +135,8 @@ pub record IsWhole (X : List ℕ) : Type 0 where
   pub small : All (λ b. b < 256) X
   pub long : 72 ≤ leading X
   pub some : 0 < length (after_preamble X)
-  pub good : AreGood (words X)
+  pub good : AllMayStand (words X)
   pub batches : length (after_preamble X) % 68 ≡ 0
-
-abbrev pub codewords_of : List ℕ → List ℕ
-codewords_of X = unsynced 0 (words X)
 
 module _ (X : List ℕ) (h : IsWhole X) where
   words_count : 4 * length (words X) + length (unfinished (after_preamble X)) ≡ length (after_preamble X)
@@ -151,10 +148,10 @@ module _ (X : List ℕ) (h : IsWhole X) where
   whole_words : length (words X) % 17 ≡ 0
   whole_words = let w = words_count in let b = h.batches in let s = unfinished_short (after_preamble X) in omega arith
 
-  pub are_codewords : All IsCodeword (codewords_of X)
+  pub are_codewords : All IsCodeword (codewords_in X)
   are_codewords = codewords_good [] (words X) h.good
 
-  is_sent : Sent X (codewords_of X)
+  is_sent : Sent X (codewords_in X)
   is_sent = record {
     preamble = leading X;
     long = h.long;
@@ -170,16 +167,16 @@ module _ (X : List ℕ) (h : IsWhole X) where
     bytes =
         let m = whole_words in
         let after : flat_map (to_be_bytes w32) (words X) ≡ after_preamble X = bytes_are (after_preamble X) (All-drop (λ b. b < 256) (leading X) X h.small) none_left in
-        let again : synced 0 (codewords_of X) ≡ words X = resynced [] (words X) h.good (omega arith) (omega arith) 0 (omega arith) in
+        let again : synced 0 (codewords_in X) ≡ words X = resynced [] (words X) h.good (omega arith) (omega arith) 0 (omega arith) in
         (parts X).whole
         ∙ ap (λ (l : List ℕ). replicate (leading X) 0xaa ++ l) (sym (ap (flat_map (to_be_bytes w32)) again ∙ after));
   }
 
-  pub whole_reads : (ps : List Page) → ps ≡ pages_from 0 (map kind_of (codewords_of X)) → ReadsAs X ps
+  pub whole_reads : (ps : List Page) → ps ≡ pages_from 0 (map kind_of (codewords_in X)) → ReadsAs X ps
   whole_reads ps e = record {
-    codewords = codewords_of X;
+    codewords = codewords_in X;
     sent = is_sent;
-    reads = plain_reads (map kind_of (codewords_of X)) 0 ps (none_is_orphan [] (words X) h.good) e;
+    reads = plain_reads (map kind_of (codewords_in X)) 0 ps (none_is_orphan [] (words X) h.good) e;
   }
 
 -- the pages at the end
@@ -218,6 +215,6 @@ pages_listable (Address high function ∷ ks) i h =
     All-cons IsListable _ (pages_from (i + 1) ks) (record { function = (All-head IsInRange (Address high function) ks h).1; items = items_small ks rest }) (pages_listable ks (i + 1) rest)
 pages_listable (Message bits ∷ ks) i h = pages_listable ks (i + 1) (All-tail IsInRange (Message bits) ks h)
 
-pub whole_listable : (X : List ℕ) → IsWhole X → (ps : List Page) → ps ≡ pages_from 0 (map kind_of (codewords_of X)) → All IsListable ps
+pub whole_listable : (X : List ℕ) → IsWhole X → (ps : List Page) → ps ≡ pages_from 0 (map kind_of (codewords_in X)) → All IsListable ps
 whole_listable X h ps e =
-    subst (All IsListable) (sym e) (pages_listable (map kind_of (codewords_of X)) 0 (All-map IsInRange kind_of (codewords_of X) (All-weaker IsCodeword (λ w. IsInRange (kind_of w)) (λ w c. kind_fits w c.fits) (codewords_of X) (are_codewords X h))))
+    subst (All IsListable) (sym e) (pages_listable (map kind_of (codewords_in X)) 0 (All-map IsInRange kind_of (codewords_in X) (All-weaker IsCodeword (λ w. IsInRange (kind_of w)) (λ w c. kind_fits w c.fits) (codewords_in X) (are_codewords X h))))

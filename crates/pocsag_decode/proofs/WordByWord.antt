@@ -13,9 +13,9 @@ use Rattle.pocsag_decode.specs.declared.fault.DecodeFault.{DecodeFault}
 use Rattle.pocsag_decode.specs.declared.fault.DecodeFault.TheVariants as fault
 use Rattle.pocsag_decode.specs.declared.growing.Growing.{Growing}
 use Rattle.pocsag_decode.specs.Growing.{resumed}
-use Rattle.pocsag_decode.specs.Places.{is_message, is_idle, index_at, before, may_follow, IsBad, no_sync, bad_word, orphan, IsGood, AreGood, HasBadWord}
+use Rattle.pocsag_decode.specs.Places.{is_message, is_idle, index_at, before, may_follow, IsBad, no_sync, bad_word, orphan, MayStandAt, AllMayStand, HasBadWord}
 use Rattle.pocsag_decode.specs.Standing.{HasRead}
-use Rattle.pocsag_pages.proofs.Lengths.{unsynced_count}
+use Rattle.pocsag_pages.proofs.Lengths.{unsynced_codeword, unsynced_count, unsynced_more, unsynced_sync}
 
 before_lt : (j : ℕ) → 1 < j → before j < j
 before_lt j h = cond_both (j % 17 == 1) (j - 2) (j - 1) (λ x. x < j) (λ e. omega arith) (λ e. omega arith)
@@ -29,7 +29,7 @@ may_kept ws zs j h =
       | inr p ↦ rw (le-ltb 1 j p) refl
     ]
 
-same_good : (ws vs : List ℕ) (j : ℕ) → slice_index vs j ≡ slice_index ws j → may_follow vs j ≡ may_follow ws j → IsGood ws j → IsGood vs j
+same_good : (ws vs : List ℕ) (j : ℕ) → slice_index vs j ≡ slice_index ws j → may_follow vs j ≡ may_follow ws j → MayStandAt ws j → MayStandAt vs j
 same_good ws vs j e m g = record {
   sync = λ s. e ∙ g.sync s;
   codeword = λ s. subst IsCodeword (sym e) (g.codeword s);
@@ -43,7 +43,7 @@ same_bad ws vs j f e m (orphan a b c d) =
     orphan a (subst IsCodeword (sym e) b) (subst (λ (x : ℕ). IsTrue (is_message (kind_of x))) (sym e) c) (m ∙ d)
 
 -- a place keeps its judgement however the words go on
-pub good_kept : (ws zs : List ℕ) (j : ℕ) → j < length ws → IsGood ws j → IsGood (ws ++ zs) j
+pub good_kept : (ws zs : List ℕ) (j : ℕ) → j < length ws → MayStandAt ws j → MayStandAt (ws ++ zs) j
 good_kept ws zs j h g = same_good ws (ws ++ zs) j (get_or_append_left ws zs 0 j h) (may_kept ws zs j (omega arith)) g
 
 pub bad_stays : (ws zs : List ℕ) (f : DecodeFault) → HasBadWord ws f → HasBadWord (ws ++ zs) f
@@ -65,14 +65,14 @@ module _ (ws : List ℕ) (w : ℕ) where
   may_last : may_follow (ws ++ w ∷ []) (length ws) ≡ may_follow ws (length ws)
   may_last = may_kept ws (w ∷ []) (length ws) (omega arith)
 
-  good_more : AreGood ws → IsGood (ws ++ w ∷ []) (length ws) → AreGood (ws ++ w ∷ [])
+  good_more : AllMayStand ws → MayStandAt (ws ++ w ∷ []) (length ws) → AllMayStand (ws ++ w ∷ [])
   good_more good last = λ j h.
       elim (cases_eq j (length ws)) [
-        | inl e ↦ subst (IsGood (ws ++ w ∷ [])) (sym e) last
+        | inl e ↦ subst (MayStandAt (ws ++ w ∷ [])) (sym e) last
         | inr n ↦ let lt : j < length ws = let l = length_more in omega arith in good_kept ws (w ∷ []) j lt (good j lt)
       ]
 
-  bad_more : (f : DecodeFault) → AreGood ws → IsBad (ws ++ w ∷ []) (length ws) f → HasBadWord (ws ++ w ∷ []) f
+  bad_more : (f : DecodeFault) → AllMayStand ws → IsBad (ws ++ w ∷ []) (length ws) f → HasBadWord (ws ++ w ∷ []) f
   bad_more f good last = record {
     place = length ws;
     there = let l = length_more in omega arith;
@@ -80,7 +80,7 @@ module _ (ws : List ℕ) (w : ℕ) where
     least = λ j h. good_kept ws (w ∷ []) j h (good j h);
   }
 
-  pub good_sync : AreGood ws → length ws % 17 ≡ 0 → w ≡ sync_word → AreGood (ws ++ w ∷ [])
+  pub good_sync : AllMayStand ws → length ws % 17 ≡ 0 → w ≡ sync_word → AllMayStand (ws ++ w ∷ [])
   good_sync good s e =
       good_more good (record {
         sync = λ _. is_last ∙ e;
@@ -88,10 +88,10 @@ module _ (ws : List ℕ) (w : ℕ) where
         follows = λ n. absurd (n s);
       })
 
-  pub bad_sync : AreGood ws → length ws % 17 ≡ 0 → w ≢ sync_word → HasBadWord (ws ++ w ∷ []) (fault.NoSync (length ws / 17))
+  pub bad_sync : AllMayStand ws → length ws % 17 ≡ 0 → w ≢ sync_word → HasBadWord (ws ++ w ∷ []) (fault.NoSync (length ws / 17))
   bad_sync good s e = bad_more _ good (no_sync s (λ h. e (sym is_last ∙ h)))
 
-  pub good_codeword : AreGood ws → length ws % 17 ≢ 0 → IsCodeword w → (IsTrue (is_message (kind_of w)) → IsTrue (may_follow ws (length ws))) → AreGood (ws ++ w ∷ [])
+  pub good_codeword : AllMayStand ws → length ws % 17 ≢ 0 → IsCodeword w → (IsTrue (is_message (kind_of w)) → IsTrue (may_follow ws (length ws))) → AllMayStand (ws ++ w ∷ [])
   good_codeword good s c follows =
       good_more good (record {
         sync = λ z. absurd (s z);
@@ -99,10 +99,10 @@ module _ (ws : List ℕ) (w : ℕ) where
         follows = λ _ m. may_last ∙ follows (subst (λ (x : ℕ). IsTrue (is_message (kind_of x))) is_last m);
       })
 
-  pub bad_codeword : AreGood ws → length ws % 17 ≢ 0 → ¬ IsCodeword w → HasBadWord (ws ++ w ∷ []) (fault.BadWord (index_at (length ws)))
+  pub bad_codeword : AllMayStand ws → length ws % 17 ≢ 0 → ¬ IsCodeword w → HasBadWord (ws ++ w ∷ []) (fault.BadWord (index_at (length ws)))
   bad_codeword good s c = bad_more _ good (bad_word s (λ h. c (subst IsCodeword is_last h)))
 
-  pub bad_orphan : AreGood ws → length ws % 17 ≢ 0 → IsCodeword w → IsTrue (is_message (kind_of w)) → may_follow ws (length ws) ≡ false
+  pub bad_orphan : AllMayStand ws → length ws % 17 ≢ 0 → IsCodeword w → IsTrue (is_message (kind_of w)) → may_follow ws (length ws) ≡ false
       → HasBadWord (ws ++ w ∷ []) (fault.Orphan (index_at (length ws)))
   bad_orphan good s c m f =
       bad_more _ good (orphan s (subst IsCodeword (sym is_last) c) (subst (λ (x : ℕ). IsTrue (is_message (kind_of x))) (sym is_last) m) (may_last ∙ f))
@@ -126,23 +126,6 @@ module _ (ws : List ℕ) (w : ℕ) where
       let other : (length ws + 1) % 17 ≢ 1 = omega arith in
       let place : length ws + 1 - 1 ≡ length ws = omega arith in
       rw (length_more, ne_eqb _ _ other, lt-ltb 1 (length ws + 1) (omega arith), place) (ap (λ (x : ℕ). not (is_idle (kind_of x))) is_last)
-
--- the codewords of one word more
-pub unsynced_more : (j : ℕ) (ws zs : List ℕ) → unsynced j (ws ++ zs) ≡ unsynced j ws ++ unsynced (j + length ws) zs
-unsynced_more j [] zs = ap (λ (n : ℕ). unsynced n zs) (omega arith)
-unsynced_more j (v ∷ ws) zs =
-    let more : unsynced (j + 1) (ws ++ zs) ≡ unsynced (j + 1) ws ++ unsynced (j + length (v ∷ ws)) zs =
-    unsynced_more (j + 1) ws zs ∙ ap (λ (n : ℕ). unsynced (j + 1) ws ++ unsynced n zs) (omega arith) in
-    elim (cases_eq (j % 17) 0) [
-      | inl e ↦ rw (eq-eqb _ _ e) more
-      | inr n ↦ rw (ne_eqb _ _ n) (ap (λ (l : List ℕ). v ∷ l) more)
-    ]
-
-unsynced_sync : (j w : ℕ) → j % 17 ≡ 0 → unsynced j (w ∷ []) ≡ []
-unsynced_sync j w e = rw (eq-eqb _ _ e) refl
-
-unsynced_codeword : (j w : ℕ) → j % 17 ≢ 0 → unsynced j (w ∷ []) ≡ w ∷ []
-unsynced_codeword j w n = rw (ne_eqb _ _ n) refl
 
 -- a bad word after words that were read
 module _ (place : ℕ) (growing : Growing) (ws : List ℕ) (w : ℕ) (r : HasRead place growing ws) where

@@ -1,17 +1,16 @@
 -- Bytes that go on: their whole words, and what follows these.
-use Rattle.std.proofs.Common.{◌≡◌, ◌≢◌, ◌⊎◌, ℕ, ◌+◌, ◌*◌, List, [], ◌∷◌, ◌++◌, length, take, drop, refl, sym, ap, ap₂, ◌∙◌, subst, inl, inr, arith, append_assoc, true, false, ◌==◌}
+use Rattle.std.proofs.Common.{◌≡◌, ◌≢◌, ℕ, ◌+◌, ◌*◌, List, [], ◌∷◌, ◌++◌, length, take, drop, refl, sym, ap, ap₂, ◌∙◌, subst, inl, inr, arith, append_assoc, true, false, ◌==◌}
 use Rattle.std.proofs.lemmas.Bool.{eqb-true, false≢true}
 use Rattle.std.specs.Int.{from_be_bytes, w32}
 use Rattle.std.proofs.lemmas.List.{append-nil, length-append, take-append-drop}
 use Rattle.pocsag_pages.specs.Bytes.{words_of}
 use Rattle.pocsag_decode.specs.declared.fault.DecodeFault.{DecodeFault}
-use Rattle.pocsag_decode.specs.declared.fault.DecodeFault.TheVariants as fault
 use Rattle.pocsag_decode.specs.declared.body.Body.{Body}
 use Rattle.pocsag_decode.specs.declared.carry.Carry.{Carry}
 use Rattle.pocsag_decode.specs.Carried.{carried, size_of, unfinished}
 use Rattle.pocsag_decode.specs.Places.{HasBadWord}
 use Rattle.pocsag_decode.specs.Standing.{HasRead, StandsIn}
-use Rattle.pocsag_decode.specs.Taking.{IsTaking}
+use Rattle.pocsag_decode.specs.Taking.{IsTaking, Refuses}
 use Rattle.pocsag_decode.proofs.WordByWord.{bad_stays}
 
 pub words_on : (Y Z : List ℕ) → words_of (Y ++ Z) ≡ words_of Y ++ words_of (unfinished Y ++ Z)
@@ -56,11 +55,7 @@ byte_more b old new Y x is none one s =
       carry = sym (rest_on Y (x ∷ []) ∙ (ap (λ (l : List ℕ). unfinished (l ++ x ∷ [])) left ∙ one));
     }
 
--- want of memory, or a bad word
-abbrev pub Refuses : DecodeFault → List ℕ → Type 0
-Refuses f ws = (f ≡ fault.OutOfMemory) ⊎ HasBadWord ws f
-
-pub refuses : (f : DecodeFault) (ws vs : List ℕ) → (HasBadWord ws f → HasBadWord vs f) → Refuses f ws → Refuses f vs
+pub refuses : (f : DecodeFault) (ws vs : List ℕ) → (HasBadWord ws f → HasBadWord vs f) → Refuses ws f → Refuses vs f
 refuses f ws vs h (inl p) = inl p
 refuses f ws vs h (inr p) = inr (h p)
 
@@ -111,7 +106,7 @@ module _ (first now : Body) (bytes rest front back : List ℕ) (t : IsTaking fir
         };
   }
 
-  pub not_taken : (f : DecodeFault) → ((Y : List ℕ) → StandsIn now Y → Refuses f (words_of (Y ++ front))) → (Y : List ℕ) → StandsIn first Y → Refuses f (words_of (Y ++ bytes))
+  pub not_taken : (f : DecodeFault) → ((Y : List ℕ) → StandsIn now Y → Refuses (words_of (Y ++ front)) f) → (Y : List ℕ) → StandsIn first Y → Refuses (words_of (Y ++ bytes)) f
   not_taken f bad Y h =
       let s = t.before Y h in
       let all : (s.eaten ++ front) ++ back ≡ Y ++ bytes = append_assoc s.eaten front back ∙ (ap (λ (l : List ℕ). s.eaten ++ l) (sym e) ∙ s.all) in

@@ -1,11 +1,16 @@
 -- *Fault of a transmission*, and what bytes without one say.
-use Rattle.std.specs.Prelude.{◌≡◌, ◌≢◌, ◌⊎◌, ℕ, ◌+◌, ◌%◌, ◌^◌, ◌<◌, ◌≤◌, List, [], ◌++◌, length}
+use Rattle.std.specs.Prelude.{◌≡◌, ◌≢◌, ◌⊎◌, ℕ, ◌+◌, ◌%◌, ◌^◌, ◌<◌, ◌≤◌, List, [], ◌++◌, length, Result, Err, OnOk}
+use Rattle.pocsag_words.specs.Devices.{HasFailed}
 use Rattle.pocsag_pages.specs.declared.page.Page.{Page}
 use Rattle.pocsag_pages.specs.Bytes.{Sent, leading, after_preamble, words_of}
 use Rattle.pocsag_pages.specs.Reading.{ReadsWords}
 use Rattle.pocsag_decode.specs.declared.fault.DecodeFault.{DecodeFault}
 use Rattle.pocsag_decode.specs.declared.fault.DecodeFault.TheVariants as fault
-use Rattle.pocsag_decode.specs.Places.{AreGood, HasBadWord}
+use Rattle.pocsag_decode.specs.Places.{AllMayStand, HasBadWord}
+
+-- Where the call answers, no call of the device failed; where it answers this fault, one failed.
+abbrev pub TellsFailures : {T E : Type 0} → Result T E → E → (before after : ℕ) → Type 0
+TellsFailures result fault before after = OnOk result (after ≡ before) × (result ≡ Err fault → HasFailed before after)
 
 -- The whole words after the preamble.
 abbrev pub words : List ℕ → List ℕ
@@ -22,7 +27,7 @@ pub data HasFaultThere : List ℕ → DecodeFault → Type 0 where
 pub data HasFaultOfEnd : List ℕ → DecodeFault → Type 0 where
   short : {X : List ℕ} → leading X < 72 → after_preamble X ≡ [] → HasFaultOfEnd X fault.ShortPreamble
   no_batch : {X : List ℕ} → 72 ≤ leading X → after_preamble X ≡ [] → HasFaultOfEnd X fault.NoBatch
-  cut : {X : List ℕ} → 72 ≤ leading X → AreGood (words X) → length (after_preamble X) % 68 ≢ 0 → HasFaultOfEnd X fault.Truncated
+  cut : {X : List ℕ} → 72 ≤ leading X → AllMayStand (words X) → length (after_preamble X) % 68 ≢ 0 → HasFaultOfEnd X fault.Truncated
 
 -- *Fault of a transmission*.
 abbrev pub HasFault : List ℕ → DecodeFault → Type 0

@@ -41,17 +41,17 @@ pub data IsBad : List ℕ → ℕ → DecodeFault → Type 0 where
       → may_follow ws j ≡ false → IsBad ws j (fault.Orphan (index_at j))
 
 -- The word at a place is not bad.
-pub record IsGood (ws : List ℕ) (j : ℕ) : Type 0 where
+pub record MayStandAt (ws : List ℕ) (j : ℕ) : Type 0 where
   pub sync : j % 17 ≡ 0 → slice_index ws j ≡ sync_word
   pub codeword : j % 17 ≢ 0 → IsCodeword (slice_index ws j)
   pub follows : j % 17 ≢ 0 → IsTrue (is_message (kind_of (slice_index ws j))) → IsTrue (may_follow ws j)
 
-abbrev pub AreGood : List ℕ → Type 0
-AreGood ws = (j : ℕ) → j < length ws → IsGood ws j
+abbrev pub AllMayStand : List ℕ → Type 0
+AllMayStand ws = (j : ℕ) → j < length ws → MayStandAt ws j
 
 -- The least bad word is bad in this way.
 pub record HasBadWord (ws : List ℕ) (f : DecodeFault) : Type 0 where
   pub place : ℕ
   pub there : place < length ws
   pub bad : IsBad ws place f
-  pub least : (j : ℕ) → j < place → IsGood ws j
+  pub least : (j : ℕ) → j < place → MayStandAt ws j

@@ -9,13 +9,13 @@ use Rattle.pocsag_decode.specs.declared.body.Body.{Body}
 use Rattle.pocsag_decode.specs.declared.state.Decoder.{Decoder}
 use Rattle.pocsag_decode.specs.Carried.{carried, unfinished}
 use Rattle.pocsag_decode.specs.Growing.{resumed}
-use Rattle.pocsag_decode.specs.Places.{AreGood, may_follow}
+use Rattle.pocsag_decode.specs.Places.{AllMayStand, may_follow}
 
 -- So many whole words were read, none of them bad; the pages that they read as so far and whether a
 -- message codeword may follow are held.
 pub record HasRead (place : ℕ) (growing : Growing) (ws : List ℕ) : Type 0 where
   pub count : place ≡ length ws
-  pub good : AreGood ws
+  pub good : AllMayStand ws
   pub may : is_some growing.current ≡ may_follow ws (length ws)
   -- Whatever codewords follow: the finished pages, the open page with what comes of its message, and
   -- the pages that follow.

@@ -1,8 +1,44 @@
 -- Bytes on their way into a decoder.
-use Rattle.std.specs.Prelude.{◌≡◌, ℕ, ◌+◌, List, ◌++◌, length}
+use Rattle.std.specs.Prelude.{◌≡◌, ◌⊎◌, ℕ, ◌+◌, ◌≤◌, List, [], ◌∷◌, ◌++◌, length, Result, OnOk, IfErr}
+use Rattle.pocsag_pages.specs.Bytes.{words_of}
 use Rattle.pocsag_decode.specs.declared.body.Body.{Body}
+use Rattle.pocsag_decode.specs.declared.fault.DecodeFault.{DecodeFault}
+use Rattle.pocsag_decode.specs.declared.fault.DecodeFault.TheVariants as fault
 use Rattle.pocsag_decode.specs.Carried.{size_of}
-use Rattle.pocsag_decode.specs.Standing.{StandsIn}
+use Rattle.pocsag_decode.specs.Places.{HasBadWord}
+use Rattle.pocsag_decode.specs.Standing.{HasRead, StandsIn}
+
+-- Want of memory, or a bad word among these.
+abbrev pub Refuses : List ℕ → DecodeFault → Type 0
+Refuses ws f = (f ≡ fault.OutOfMemory) ⊎ HasBadWord ws f
+
+-- One whole word more, where the call answers, and never two.
+abbrev pub CountsWord : {T : Type 0} → Result T DecodeFault → (before after : Body) → Type 0
+CountsWord result before after = OnOk result (after.place ≡ before.place + 1) × (after.place ≤ before.place + 1)
+
+-- The word was read after those that were read before, where the call answers.
+abbrev pub ReadsWord : {T : Type 0} → Result T DecodeFault → (before after : Body) → ℕ → Type 0
+ReadsWord result before after word =
+    (ws : List ℕ) → HasRead before.place before.growing ws → OnOk result (HasRead after.place after.growing (ws ++ word ∷ []))
+
+-- Where it does not, memory was wanting, or a word is bad among those and this one.
+abbrev pub RefusesWord : {T : Type 0} → Result T DecodeFault → (before : Body) → ℕ → Type 0
+RefusesWord result before word =
+    (ws : List ℕ) → HasRead before.place before.growing ws → IfErr result (Refuses (ws ++ word ∷ []))
+
+-- So many bytes more, where the call answers, and never more than these.
+abbrev pub CountsBytes : {T : Type 0} → Result T DecodeFault → (before after : Body) → ℕ → Type 0
+CountsBytes result before after count =
+    OnOk result (size_of after.place after.carry ≡ size_of before.place before.carry + count)
+    × (size_of after.place after.carry ≤ size_of before.place before.carry + count)
+
+-- It stands after the bytes before and these, where the call answers.
+abbrev pub StandsWith : {T : Type 0} → Result T DecodeFault → (before after : Body) → List ℕ → Type 0
+StandsWith result before after bytes = (Y : List ℕ) → StandsIn before Y → OnOk result (StandsIn after (Y ++ bytes))
+
+-- Where it does not, memory was wanting, or a word of all these bytes is bad.
+abbrev pub RefusesBytes : {T : Type 0} → Result T DecodeFault → (before : Body) → List ℕ → Type 0
+RefusesBytes result before bytes = (Y : List ℕ) → StandsIn before Y → IfErr result (Refuses (words_of (Y ++ bytes)))
 
 -- It stands after all of these bytes but the rest.
 pub record StandsBefore (b : Body) (Y rest : List ℕ) : Type 0 where

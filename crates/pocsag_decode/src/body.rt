@@ -1,17 +1,17 @@
-ghost use Rattle.std.specs.Prelude.{◌≡◌, ◌≢◌, ◌⊎◌, ◌↔◌, ℕ, ◌+◌, ◌*◌, ◌%◌, ◌^◌, ◌<◌, ◌≤◌, ◌∷◌, ◌++◌, [], List, length, IsTrue, IfErr, IfOk, OnOk};
+ghost use Rattle.std.specs.Prelude.{◌≡◌, ◌≢◌, ◌↔◌, ℕ, ◌+◌, ◌*◌, ◌%◌, ◌^◌, ◌<◌, ◌≤◌, ◌∷◌, ◌++◌, [], length, IsTrue, IfOk};
 ghost use Rattle.std.specs.Int.{from_be_bytes, w32};
-ghost use Rattle.pocsag_pages.specs.Bytes.{words_of};
 ghost use Rattle.pocsag_decode.specs.Carried.{carried, size_of};
 ghost use Rattle.pocsag_decode.specs.Growing.{closed};
-ghost use Rattle.pocsag_decode.specs.Places.{HasBadWord, is_message};
-ghost use Rattle.pocsag_decode.specs.Standing.{HasRead, StandsIn};
+ghost use Rattle.pocsag_decode.specs.Places.{is_message};
+ghost use Rattle.pocsag_decode.specs.Standing.{StandsIn};
+ghost use Rattle.pocsag_decode.specs.Taking.{CountsBytes, CountsWord, ReadsWord, RefusesBytes, RefusesWord, StandsWith};
 
 use crate::carry::Carry;
 use crate::fault::DecodeFault;
 use crate::growing::Growing;
 use pocsag_pages::Page;
-use pocsag_words::{Kind, OutOfMemory, from_raw};
-use std::alloc::Global;
+use pocsag_words::{Kind, from_raw};
+use std::alloc::{AllocError, Global};
 
 // The synchronisation codeword.
 const SYNC: u32 = 0x7CD2_15D8;
@@ -72,12 +72,9 @@ impl Body {
         requires small { self.old.place < 2 ^ 62 }
         requires sync { self.old.place % 17 ≡ 0 }
         ensures carry { self.new.carry ≡ self.old.carry }
-        ensures place { OnOk result (self.new.place ≡ self.old.place + 1) }
-        ensures most { self.new.place ≤ self.old.place + 1 }
-        ensures read { (ws : List ℕ) → HasRead self.old.place self.old.growing ws →
-            OnOk result (HasRead self.new.place self.new.growing (ws ++ word ∷ [])) }
-        ensures bad { (ws : List ℕ) → HasRead self.old.place self.old.growing ws →
-            IfErr result (λ e. (e ≡ DecodeFault.OutOfMemory) ⊎ HasBadWord (ws ++ word ∷ []) e) }
+        ensures count { CountsWord result self.old self.new }
+        ensures read { ReadsWord result self.old self.new word }
+        ensures bad { RefusesWord result self.old word }
     {
         if word != SYNC {
             return Err(DecodeFault::NoSync(self.place / BATCH));
@@ -90,12 +87,9 @@ impl Body {
         requires small { self.old.place < 2 ^ 62 }
         requires other { 0 < self.old.place % 17 }
         ensures carry { self.new.carry ≡ self.old.carry }
-        ensures place { OnOk result (self.new.place ≡ self.old.place + 1) }
-        ensures most { self.new.place ≤ self.old.place + 1 }
-        ensures read { (ws : List ℕ) → HasRead self.old.place self.old.growing ws →
-            OnOk result (HasRead self.new.place self.new.growing (ws ++ number ∷ [])) }
-        ensures bad { (ws : List ℕ) → HasRead self.old.place self.old.growing ws →
-            IfErr result (λ e. (e ≡ DecodeFault.OutOfMemory) ⊎ HasBadWord (ws ++ number ∷ []) e) }
+        ensures count { CountsWord result self.old self.new }
+        ensures read { ReadsWord result self.old self.new number }
+        ensures bad { RefusesWord result self.old number }
     {
         let Some(word) = from_raw(number) else {
             return Err(DecodeFault::BadWord(self.place - self.place / BATCH - 1));
@@ -105,25 +99,18 @@ impl Body {
             return Err(DecodeFault::Orphan(self.place - self.place / BATCH - 1));
         }
         let frame = (self.place % BATCH - 1) as u32 / 2;
-        match self.growing.take(frame, kind) {
-            Ok(()) => {
-                self.place += 1;
-                Ok(())
-            }
-            Err(OutOfMemory) => Err(DecodeFault::OutOfMemory),
-        }
+        self.growing.take(frame, kind)?;
+        self.place += 1;
+        Ok(())
     }
 
     #[inline(always)]
     fn take_word(&mut self, word: u32) -> Result<(), DecodeFault>
         requires { self.old.place < 2 ^ 62 }
         ensures carry { self.new.carry ≡ self.old.carry }
-        ensures place { OnOk result (self.new.place ≡ self.old.place + 1) }
-        ensures most { self.new.place ≤ self.old.place + 1 }
-        ensures read { (ws : List ℕ) → HasRead self.old.place self.old.growing ws →
-            OnOk result (HasRead self.new.place self.new.growing (ws ++ word ∷ [])) }
-        ensures bad { (ws : List ℕ) → HasRead self.old.place self.old.growing ws →
-            IfErr result (λ e. (e ≡ DecodeFault.OutOfMemory) ⊎ HasBadWord (ws ++ word ∷ []) e) }
+        ensures count { CountsWord result self.old self.new }
+        ensures read { ReadsWord result self.old self.new word }
+        ensures bad { RefusesWord result self.old word }
     {
         if self.place % BATCH == 0 {
             self.take_sync(word)
@@ -137,30 +124,24 @@ impl Body {
         requires carry { carried self.old.carry ≡ [] }
         requires whole { length bytes.now % 4 ≡ 0 }
         requires few { size_of self.old.place self.old.carry + length bytes.now < 2 ^ 64 }
-        ensures size { OnOk result (size_of self.new.place self.new.carry ≡ size_of self.old.place self.old.carry + length bytes.now) }
-        ensures most { size_of self.new.place self.new.carry ≤ size_of self.old.place self.old.carry + length bytes.now }
-        ensures stands { (Y : List ℕ) → StandsIn self.old Y → OnOk result (StandsIn self.new (Y ++ bytes.now)) }
-        ensures bad { (Y : List ℕ) → StandsIn self.old Y →
-            IfErr result (λ e. (e ≡ DecodeFault.OutOfMemory) ⊎ HasBadWord (words_of (Y ++ bytes.now)) e) }
+        ensures count { CountsBytes result self.old self.new (length bytes.now) }
+        ensures stands { StandsWith result self.old self.new bytes.now }
+        ensures bad { RefusesBytes result self.old bytes.now }
     {
         let mut rest = bytes;
         while !rest.is_empty() {
             let (front, tail) = rest.split_at(4);
-            match self.take_word(word_of(front)) {
-                Ok(()) => rest = tail,
-                Err(fault) => return Err(fault),
-            }
+            self.take_word(word_of(front))?;
+            rest = tail;
         }
         Ok(())
     }
 
     fn take_byte(&mut self, byte: u8) -> Result<(), DecodeFault>
         requires { size_of self.old.place self.old.carry + 1 < 2 ^ 64 }
-        ensures size { OnOk result (size_of self.new.place self.new.carry ≡ size_of self.old.place self.old.carry + 1) }
-        ensures most { size_of self.new.place self.new.carry ≤ size_of self.old.place self.old.carry + 1 }
-        ensures stands { (Y : List ℕ) → StandsIn self.old Y → OnOk result (StandsIn self.new (Y ++ byte ∷ [])) }
-        ensures bad { (Y : List ℕ) → StandsIn self.old Y →
-            IfErr result (λ e. (e ≡ DecodeFault.OutOfMemory) ⊎ HasBadWord (words_of (Y ++ byte ∷ [])) e) }
+        ensures count { CountsBytes result self.old self.new 1 }
+        ensures stands { StandsWith result self.old self.new (byte ∷ []) }
+        ensures bad { RefusesBytes result self.old (byte ∷ []) }
     {
         match self.carry {
             Carry::None => {
@@ -198,11 +179,9 @@ impl Body {
     fn take_front(&mut self, front: &[u8]) -> Result<(), DecodeFault>
         requires whole { length front.now ≢ 1 → (carried self.old.carry ≡ []) × (length front.now % 4 ≡ 0) }
         requires few { size_of self.old.place self.old.carry + length front.now < 2 ^ 64 }
-        ensures size { OnOk result (size_of self.new.place self.new.carry ≡ size_of self.old.place self.old.carry + length front.now) }
-        ensures most { size_of self.new.place self.new.carry ≤ size_of self.old.place self.old.carry + length front.now }
-        ensures stands { (Y : List ℕ) → StandsIn self.old Y → OnOk result (StandsIn self.new (Y ++ front.now)) }
-        ensures bad { (Y : List ℕ) → StandsIn self.old Y →
-            IfErr result (λ e. (e ≡ DecodeFault.OutOfMemory) ⊎ HasBadWord (words_of (Y ++ front.now)) e) }
+        ensures count { CountsBytes result self.old self.new (length front.now) }
+        ensures stands { StandsWith result self.old self.new front.now }
+        ensures bad { RefusesBytes result self.old front.now }
     {
         match front {
             [byte] => self.take_byte(*byte),
@@ -213,19 +192,15 @@ impl Body {
     // Takes the next bytes after the preamble.
     pub(crate) fn take(&mut self, bytes: &[u8]) -> Result<(), DecodeFault>
         requires { size_of self.old.place self.old.carry + length bytes.now < 2 ^ 64 }
-        ensures size { OnOk result (size_of self.new.place self.new.carry ≡ size_of self.old.place self.old.carry + length bytes.now) }
-        ensures most { size_of self.new.place self.new.carry ≤ size_of self.old.place self.old.carry + length bytes.now }
-        ensures stands { (Y : List ℕ) → StandsIn self.old Y → OnOk result (StandsIn self.new (Y ++ bytes.now)) }
-        ensures bad { (Y : List ℕ) → StandsIn self.old Y →
-            IfErr result (λ e. (e ≡ DecodeFault.OutOfMemory) ⊎ HasBadWord (words_of (Y ++ bytes.now)) e) }
+        ensures count { CountsBytes result self.old self.new (length bytes.now) }
+        ensures stands { StandsWith result self.old self.new bytes.now }
+        ensures bad { RefusesBytes result self.old bytes.now }
     {
         let mut rest = bytes;
         while !rest.is_empty() {
             let (front, tail) = rest.split_at(self.next_len(rest.len()));
-            match self.take_front(front) {
-                Ok(()) => rest = tail,
-                Err(fault) => return Err(fault),
-            }
+            self.take_front(front)?;
+            rest = tail;
         }
         Ok(())
     }
@@ -245,7 +220,7 @@ impl Body {
     }
 
     // Hands the pages out.
-    pub(crate) fn finish(&mut self) -> Result<Vec<Page>, OutOfMemory>
+    pub(crate) fn finish(&mut self) -> Result<Vec<Page>, AllocError>
         ensures same { IfOk result (λ v. v.items ≡ self.old.growing.pages.items ++ closed self.old.growing.current) }
         ensures place { self.new.place ≡ self.old.place }
         ensures carry { self.new.carry ≡ self.old.carry }

@@ -9,7 +9,6 @@ use crate::body::Body;
 use crate::fault::DecodeFault;
 use crate::state::Decoder;
 use pocsag_pages::{Page, leading_len};
-use pocsag_words::OutOfMemory;
 use std::alloc::Global;
 
 // The fewest bytes AA that a transmission begins with.
@@ -69,13 +68,8 @@ impl Decoder {
         }
         let judged = self.judge_end();
         self.has_failed = true;
-        match judged {
-            Ok(()) => match self.body.finish() {
-                Ok(pages) => Ok(pages),
-                Err(OutOfMemory) => Err(DecodeFault::OutOfMemory),
-            },
-            Err(fault) => Err(fault),
-        }
+        judged?;
+        Ok(self.body.finish()?)
     }
 
     // How many bytes came.

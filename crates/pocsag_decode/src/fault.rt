@@ -1,3 +1,9 @@
+ghost use Rattle.std.specs.Prelude.{◌≡◌};
+ghost use Rattle.pocsag_decode.specs.declared.fault.DecodeFault.TheVariants as fault;
+ghost use Rattle.pocsag_decode.specs.declared.fault.ListFault.TheVariants as listing;
+
+use pocsag_words::DeviceFault;
+use std::alloc::AllocError;
 use thiserror::Error;
 
 /// Why bytes are no transmission that reads as pages. Batches, and codewords without those of
@@ -41,4 +47,28 @@ pub enum ListFault {
     /// Nothing was written.
     #[error("out of memory")]
     OutOfMemory,
+}
+
+impl From<AllocError> for DecodeFault {
+    ghost from_gives = { λ _ e. e ≡ fault.OutOfMemory };
+
+    fn from(_refused: AllocError) -> DecodeFault {
+        DecodeFault::OutOfMemory
+    }
+}
+
+impl From<AllocError> for ListFault {
+    ghost from_gives = { λ _ e. e ≡ listing.OutOfMemory };
+
+    fn from(_refused: AllocError) -> ListFault {
+        ListFault::OutOfMemory
+    }
+}
+
+impl From<DeviceFault> for ListFault {
+    ghost from_gives = { λ _ e. e ≡ listing.WriteFault };
+
+    fn from(_refused: DeviceFault) -> ListFault {
+        ListFault::WriteFault
+    }
 }

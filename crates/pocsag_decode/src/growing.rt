@@ -6,8 +6,8 @@ ghost use Rattle.pocsag_decode.specs.Places.{is_message, is_idle};
 ghost use Rattle.pocsag_decode.specs.Growing.{resumed, closed};
 
 use pocsag_pages::{Page, Payload};
-use pocsag_words::{Kind, OutOfMemory};
-use std::alloc::Global;
+use pocsag_words::Kind;
+use std::alloc::{AllocError, Global};
 use std::mem;
 
 // A page whose message may still grow.
@@ -48,7 +48,7 @@ impl Growing {
     }
 
     // Takes one codeword more, which stands in this frame.
-    pub(crate) fn take(&mut self, frame: u32, kind: Kind) -> Result<(), OutOfMemory>
+    pub(crate) fn take(&mut self, frame: u32, kind: Kind) -> Result<(), AllocError>
         requires ranges { IsInRange kind }
         requires frame { frame < 8 }
         requires follows { IsTrue (is_message kind) → IsTrue (is_some self.old.current) }
@@ -74,7 +74,7 @@ impl Growing {
     }
 
     // Finishes the open page.
-    fn close(&mut self) -> Result<(), OutOfMemory>
+    fn close(&mut self) -> Result<(), AllocError>
         ensures pages { OnOk result (self.new.pages.items ≡ self.old.pages.items ++ closed self.old.current) }
         ensures current { OnOk result (self.new.current ≡ None) }
     {
@@ -87,17 +87,15 @@ impl Growing {
             items,
         } = page;
         let payload = Payload::from_vec(items);
-        match self.pages.push(Page {
+        self.pages.push(Page {
             address,
             function,
             payload,
-        }) {
-            Ok(()) => Ok(()),
-            Err(_) => Err(OutOfMemory),
-        }
+        })?;
+        Ok(())
     }
 
-    fn take_message(&mut self, bits: u32) -> Result<(), OutOfMemory>
+    fn take_message(&mut self, bits: u32) -> Result<(), AllocError>
         requires { IsTrue (is_some self.old.current) }
         ensures reads { OnOk result ((i : ℕ) (ks : List Kind) →
             self.old.pages.items ++ resumed i self.old.current (Kind.Message bits ∷ ks)
@@ -105,16 +103,13 @@ impl Growing {
         ensures current { OnOk result (is_some self.new.current ≡ true) }
     {
         match &mut self.current {
-            Some(page) => match page.items.push(bits) {
-                Ok(()) => Ok(()),
-                Err(_) => Err(OutOfMemory),
-            },
+            Some(page) => Ok(page.items.push(bits)?),
             None => unreachable!(),
         }
     }
 
     // Finishes the open page and hands all the pages out.
-    pub(crate) fn finish(&mut self) -> Result<Vec<Page>, OutOfMemory>
+    pub(crate) fn finish(&mut self) -> Result<Vec<Page>, AllocError>
         ensures { IfOk result (λ v. v.items ≡ self.old.pages.items ++ closed self.old.current) }
     {
         self.close()?;

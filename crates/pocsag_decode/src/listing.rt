@@ -1,9 +1,9 @@
 ghost use Rattle.std.specs.Prelude.{◌≡◌, ◌≢◌, ◌^◌, ◌<◌, ◌∷◌, ◌++◌, [], length, All, OnOk, IfOk};
 ghost use Rattle.std.specs.List.{flat_map};
 ghost use Rattle.std.specs.Fmt.{decimal};
-ghost use Rattle.csv.specs.Writing.{row_text, default_writer};
-ghost use Rattle.pocsag_words.specs.Devices.{HasFailed, TookPrefix};
-ghost use Rattle.pocsag_decode.specs.Lines.{IsReady, text_in};
+ghost use Rattle.pocsag_words.specs.Devices.{TookPrefix};
+ghost use Rattle.pocsag_decode.specs.Lines.{IsReady, PutsRow};
+ghost use Rattle.pocsag_decode.specs.Faults.{TellsFailures};
 ghost use Rattle.pocsag_pages.specs.Listable.{IsListable};
 ghost use Rattle.pocsag_decode.specs.Listing.{header, hex_digit, hex_digits, kind_field, listing, message_field, record_of};
 
@@ -12,7 +12,7 @@ use csv::{ByteRecord, Writer};
 use pocsag_pages::Page;
 use pocsag_text::{unpack_alpha, unpack_numeric};
 use pocsag_words::{OutOfMemory, Sink, write_all};
-use std::alloc::Global;
+use std::alloc::{AllocError, Global};
 
 fn hex_digit(digit: u32) -> u8
     requires { digit < 16 }
@@ -95,38 +95,33 @@ fn put_record(
     address: &[u8],
     kind: &[u8],
     message: &[u8],
-) -> Result<(), OutOfMemory>
+) -> Result<(), AllocError>
     requires { IsReady writer.old }
-    ensures ready { OnOk result (IsReady writer.new) }
-    ensures text { OnOk result (text_in writer.new
-        ≡ text_in writer.old ++ row_text default_writer (address.now ∷ kind.now ∷ message.now ∷ [])) }
+    ensures { PutsRow result writer.old writer.new (address.now ∷ kind.now ∷ message.now ∷ []) }
 {
-    let Ok(row) = ByteRecord::from_fields(alloc, &[address, kind, message]) else {
-        return Err(OutOfMemory);
-    };
+    let row = ByteRecord::from_fields(alloc, &[address, kind, message])?;
     match writer.write_byte_record(&row) {
         Ok(()) => Ok(()),
-        Err(_) => Err(OutOfMemory),
+        Err(_) => Err(AllocError),
     }
 }
 
-fn put_page(alloc: Global, writer: &mut Writer<Vec<u8>>, page: &Page) -> Result<(), OutOfMemory>
+fn put_page(alloc: Global, writer: &mut Writer<Vec<u8>>, page: &Page) -> Result<(), AllocError>
     requires ready { IsReady writer.old }
     requires listable { IsListable page.now }
-    ensures ready { OnOk result (IsReady writer.new) }
-    ensures text { OnOk result (text_in writer.new ≡ text_in writer.old ++ row_text default_writer (record_of page.now)) }
+    ensures { PutsRow result writer.old writer.new (record_of page.now) }
 {
-    let Ok(address) = format!(in alloc; "{}", page.address) else {
-        return Err(OutOfMemory);
-    };
+    let address = format!(in alloc; "{}", page.address)?;
     let items = page.payload.as_slice();
-    let message = message_of(alloc, page.function, items)?;
+    let Ok(message) = message_of(alloc, page.function, items) else {
+        return Err(AllocError);
+    };
     let kind = kind_of_page(page.function, items);
     put_record(alloc, writer, address.as_bytes(), kind, message.as_slice())
 }
 
 #[tactic(auto, unfolding(crate::specs::Listing::listing))]
-fn listing_of(alloc: Global, pages: &[Page]) -> Result<Vec<u8>, OutOfMemory>
+fn listing_of(alloc: Global, pages: &[Page]) -> Result<Vec<u8>, AllocError>
     requires { All IsListable pages.now }
     ensures { IfOk result (λ v. v.items ≡ listing pages.now) }
 {
@@ -137,7 +132,7 @@ fn listing_of(alloc: Global, pages: &[Page]) -> Result<Vec<u8>, OutOfMemory>
     }
     match writer.into_inner() {
         Ok(text) => Ok(text),
-        Err(_) => Err(OutOfMemory),
+        Err(_) => Err(AllocError),
     }
 }
 
@@ -152,14 +147,9 @@ pub fn list<S: Sink>(alloc: Global, pages: &[Page], sink: &mut S) -> Result<(), 
     ensures untouched { result ≡ Err ListFault.OutOfMemory → sink.new ≡ sink.old }
 
     // A device's fault is answered only where that device failed.
-    ensures succeeded { OnOk result (S.failures sink.new ≡ S.failures sink.old) }
-    ensures failed { result ≡ Err ListFault.WriteFault → HasFailed (S.failures sink.old) (S.failures sink.new) }
+    ensures failures { TellsFailures result ListFault.WriteFault (S.failures sink.old) (S.failures sink.new) }
 {
-    match listing_of(alloc, pages) {
-        Ok(text) => match write_all(sink, text.as_slice()) {
-            Ok(()) => Ok(()),
-            Err(_) => Err(ListFault::WriteFault),
-        },
-        Err(OutOfMemory) => Err(ListFault::OutOfMemory),
-    }
+    let text = listing_of(alloc, pages)?;
+    write_all(sink, text.as_slice())?;
+    Ok(())
 }

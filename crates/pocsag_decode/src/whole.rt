@@ -18,8 +18,6 @@ pub fn decode(alloc: Global, bytes: &[u8]) -> Result<Vec<Page>, DecodeFault>
     ensures memory { result ≡ Err DecodeFault.OutOfMemory → IsPastPreamble bytes.now }
 {
     let mut decoder = Decoder::new(alloc);
-    match decoder.feed(bytes) {
-        Ok(()) => decoder.finish(),
-        Err(fault) => Err(fault),
-    }
+    decoder.feed(bytes)?;
+    decoder.finish()
 }

@@ -1,8 +1,7 @@
 -- The page of an address, in a list that has each page of a round and no more pages.
 use Rattle.std.proofs.Common.{◌≡◌, ◌≢◌, ℕ, zero, suc, ◌+◌, ◌<◌, Bool, true, false, cond, nat_eq, List, [], ◌∷◌, ◌++◌, length, get_or, filter, All, Contains, refl, sym, ap, subst, ◌∙◌, inl, inr, arith, length-append, eqb-true}
-use Rattle.std.proofs.lemmas.Bool.{cases_Bool}
+use Rattle.std.proofs.lemmas.Bool.{cases_Bool, ne_eqb}
 use Rattle.std.proofs.lemmas.List.Elements.{All-head, All-tail}
-use borrow.Author.Tests.{apart_eqb}
 use Rattle.pocsag_pages.specs.declared.page.Page.{Page}
 use Rattle.pocsag_pages.specs.Reading.{AreApart}
 use Rattle.pocsag_pages.proofs.PageLists.{apart_rest}
@@ -46,7 +45,7 @@ only a (x ∷ xs) ys r e none = only_case (calls a x) x r (filter (calls a) (xs 
 
 nothing : (a : ℕ) (ps : List Page) → All (λ p. p.address ≢ a) ps → filter (calls a) ps ≡ []
 nothing a [] far = refl
-nothing a (p ∷ ps) far = rw (apart_eqb _ _ (All-head (λ q. q.address ≢ a) p ps far)) (nothing a ps (All-tail (λ q. q.address ≢ a) p ps far))
+nothing a (p ∷ ps) far = rw (ne_eqb _ _ (All-head (λ q. q.address ≢ a) p ps far)) (nothing a ps (All-tail (λ q. q.address ≢ a) p ps far))
 
 apart_first : (r : Page) (R : List Page) → AreApart (r ∷ R) → All (λ q. r.address ≢ q.address) R
 apart_first r R apart = λ k d within. apart 0 (suc k) d (omega arith) (omega arith)

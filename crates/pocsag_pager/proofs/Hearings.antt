@@ -12,12 +12,12 @@ use Rattle.pocsag_pages.specs.Bytes.{unsynced}
 use Rattle.pocsag_pages.specs.Reading.{frame_at}
 use Rattle.pocsag_pager.specs.declared.pager.State.{State}
 use Rattle.pocsag_pager.specs.declared.pager.State.TheVariants.{Listening}
-use Rattle.pocsag_pager.specs.Shown.{Heard, IsMended, IsShown, said, shown_from}
+use Rattle.pocsag_pager.specs.Shown.{HoldsOnceMended, IsMended, AreShown, said, shown_from}
 use Rattle.pocsag_pager.specs.Standing.{HaveEnded, IsElsewhere, ended_from, open_from}
 use Rattle.pocsag_pager.specs.Turns.{IsHeardAs, ending, next_open}
 use Rattle.pocsag_pager.proofs.Mending.{AreRepaired, heard_at, all_mended_same}
-use Rattle.pocsag_pager.proofs.Places.{ended_more, ending_none, last_synced, last_unsynced, next_open_elsewhere, next_open_same, open_more, shown_is, unsynced_more}
-use Rattle.pocsag_pages.proofs.Lengths.{unsynced_count}
+use Rattle.pocsag_pager.proofs.Places.{ended_more, ending_none, next_open_elsewhere, next_open_same, open_more, shown_is}
+use Rattle.pocsag_pages.proofs.Lengths.{unsynced_codeword, unsynced_count, unsynced_more, unsynced_sync}
 
 AllZip-push_two : {A B : Type 0} (R : A → B → Type 0) (xs : List A) (ys : List B) (x : A) (y : B) → AllZip R xs ys → R x y → AllZip R (xs ++ x ∷ []) (ys ++ y ∷ [])
 AllZip-push_two R [] [] x y all here = (here, tt)
@@ -26,27 +26,27 @@ AllZip-push_two R (u ∷ xs) [] x y all here = absurd all
 AllZip-push_two R (u ∷ xs) (v ∷ ys) x y all here = (all.0, AllZip-push_two R xs ys x y all.1 here)
 
 -- the fact that holds of what was heard gives another
-pub heard_then : (words : List ℕ) (P Q : List (Option Kind) → Type 0) → Heard words P → ((ms : List (Option Kind)) → P ms → Q ms) → Heard words Q
+pub heard_then : (words : List ℕ) (P Q : List (Option Kind) → Type 0) → HoldsOnceMended words P → ((ms : List (Option Kind)) → P ms → Q ms) → HoldsOnceMended words Q
 heard_then words P Q h f = record { mended = h.mended; each = h.each; holds = f (map said h.mended) h.holds }
 
 -- two facts of what was heard hold of the same
-pub heard_both : (words : List ℕ) (P Q : List (Option Kind) → Type 0) → Heard words P → Heard words Q → Heard words (λ ms. P ms × Q ms)
+pub heard_both : (words : List ℕ) (P Q : List (Option Kind) → Type 0) → HoldsOnceMended words P → HoldsOnceMended words Q → HoldsOnceMended words (λ ms. P ms × Q ms)
 heard_both words P Q h k =
     let same : k.mended ≡ h.mended = all_mended_same (unsynced 0 words) _ _ k.each h.each in
     record { mended = h.mended; each = h.each; holds = (h.holds, subst (λ (ms : List (Option ℕ)). Q (map said ms)) same k.holds) }
 
-pub heard_skip : (words : List ℕ) (w : ℕ) (P : List (Option Kind) → Type 0) → length words % 17 ≡ 0 → Heard words P → Heard (words ++ w ∷ []) P
+pub heard_skip : (words : List ℕ) (w : ℕ) (P : List (Option Kind) → Type 0) → length words % 17 ≡ 0 → HoldsOnceMended words P → HoldsOnceMended (words ++ w ∷ []) P
 heard_skip words w P place h =
     let same : unsynced 0 (words ++ w ∷ []) ≡ unsynced 0 words =
-    unsynced_more 0 words w ∙ ap (λ xs. unsynced 0 words ++ xs) (last_synced (0 + length words) w (omega arith)) ∙ append-nil (unsynced 0 words) in
+    unsynced_more 0 words (w ∷ []) ∙ ap (λ xs. unsynced 0 words ++ xs) (unsynced_sync (0 + length words) w (omega arith)) ∙ append-nil (unsynced 0 words) in
     record { mended = h.mended; each = subst (λ (ws : List ℕ). AllZip IsMended ws h.mended) (sym same) h.each; holds = h.holds }
 
-pub heard_more : (words : List ℕ) (w : ℕ) (m : Option Kind) (P Q : List (Option Kind) → Type 0) → length words % 17 ≢ 0 → IsHeardAs w m → Heard words P
-    → ((ms : List (Option Kind)) → length ms ≡ length (unsynced 0 words) → P ms → Q (ms ++ m ∷ [])) → Heard (words ++ w ∷ []) Q
+pub heard_more : (words : List ℕ) (w : ℕ) (m : Option Kind) (P Q : List (Option Kind) → Type 0) → length words % 17 ≢ 0 → IsHeardAs w m → HoldsOnceMended words P
+    → ((ms : List (Option Kind)) → length ms ≡ length (unsynced 0 words) → P ms → Q (ms ++ m ∷ [])) → HoldsOnceMended (words ++ w ∷ []) Q
 heard_more words w m P Q place is h f =
     let inside : (0 + length words) % 17 ≢ 0 = λ e. place (omega arith) in
     let same : unsynced 0 (words ++ w ∷ []) ≡ unsynced 0 words ++ w ∷ [] =
-    unsynced_more 0 words w ∙ ap (λ xs. unsynced 0 words ++ xs) (last_unsynced (0 + length words) w inside) in
+    unsynced_more 0 words (w ∷ []) ∙ ap (λ xs. unsynced 0 words ++ xs) (unsynced_codeword (0 + length words) w inside) in
     let long : length (map said h.mended) ≡ length (unsynced 0 words) =
     length-map h.mended said ∙ AllZip-long IsMended (unsynced 0 words) h.mended h.each in
     let joined : map said (h.mended ++ is.mended ∷ []) ≡ map said h.mended ++ m ∷ [] =
@@ -60,7 +60,7 @@ heard_more words w m P Q place is h f =
 
 -- the page that is open, as the code holds it
 abbrev pub IsOpen : List ℕ → ℕ → State → Type 0
-IsOpen words a state = Heard words (λ ms. state ≡ Listening (open_from a 0 ms))
+IsOpen words a state = HoldsOnceMended words (λ ms. state ≡ Listening (open_from a 0 ms))
 
 open_is : (s : State) (before o : Option Page) → s ≡ Listening before → s ≡ Listening o → before ≡ o
 open_is s before o e h = cc
@@ -173,7 +173,7 @@ pass_all law a q s words (w ∷ more) ps small place holds far known =
 -- ---- the end
 
 pub all_shown : (a : ℕ) (words : List ℕ) (s : State) (before : Option Page) (ps : List Page) → s ≡ Listening before → IsOpen words a s → HaveEnded words a ps
-    → IsShown words a (ps ++ option_to_list before)
+    → AreShown words a (ps ++ option_to_list before)
 all_shown a words s before ps holds stands have =
     heard_then words (λ ms. (s ≡ Listening (open_from a 0 ms)) × (ps ≡ ended_from a 0 ms)) (λ ms. ps ++ option_to_list before ≡ shown_from a 0 ms)
     (heard_both words (λ ms. s ≡ Listening (open_from a 0 ms)) (λ ms. ps ≡ ended_from a 0 ms) stands have)

@@ -1,14 +1,13 @@
 -- The receiver, one word at a time, against the list of places.
 use Rattle.std.proofs.Common.{◌≡◌, ◌≢◌, ℕ, ◌+◌, ◌/◌, ◌%◌, Bool, true, false, not, ◌&&◌, cond, nat_eq, List, [], ◌∷◌, ◌++◌, length, refl, ap, ◌∙◌, inl, inr, arith, add-zero, eq-eqb}
 use Rattle.std.specs.Prelude.{Option, Some, None, option_to_list}
-use Rattle.std.proofs.lemmas.Bool.{cases_eq}
-use borrow.Author.Tests.{apart_eqb}
+use Rattle.std.proofs.lemmas.Bool.{cases_eq, ne_eqb}
 use Rattle.pocsag_words.specs.declared.codeword.Kind.{Kind}
 use Rattle.pocsag_words.specs.declared.codeword.Kind.TheVariants.{Idle, Address, Message}
 use Rattle.pocsag_pages.specs.declared.page.Page.{Page}
 use Rattle.pocsag_pages.specs.Bytes.{unsynced}
 use Rattle.pocsag_pages.specs.Reading.{frame_at}
-use Rattle.pocsag_pager.specs.Shown.{is_ours, page_of, run_of, shown_from}
+use Rattle.pocsag_pager.specs.Shown.{is_ours, page_called, run_of, shown_from}
 use Rattle.pocsag_pager.specs.Standing.{ended_from, is_run, open_from}
 use Rattle.pocsag_pager.specs.Turns.{ending, next_open}
 
@@ -42,7 +41,7 @@ shown_is a i [] = refl
 shown_is a i (None ∷ ms) = shown_is a (i + 1) ms
 shown_is a i (Some Idle ∷ ms) = shown_is a (i + 1) ms
 shown_is a i (Some (Address high function) ∷ ms) =
-    shown_case (page_of a function ms) (shown_from a (i + 1) ms) (ended_from a (i + 1) ms) (open_from a (i + 1) ms) (is_ours a i high) (is_run ms)
+    shown_case (page_called a function ms) (shown_from a (i + 1) ms) (ended_from a (i + 1) ms) (open_from a (i + 1) ms) (is_ours a i high) (is_run ms)
     (shown_is a (i + 1) ms) (run_shown a (i + 1) ms) (run_ended a (i + 1) ms)
 shown_is a i (Some (Message bits) ∷ ms) = shown_is a (i + 1) ms
 
@@ -74,7 +73,7 @@ run_stops (Some Idle ∷ ms) m e = refl
 run_stops (Some (Address high function) ∷ ms) m e = refl
 run_stops (Some (Message bits) ∷ ms) m e = ap (λ xs. bits ∷ xs) (run_stops ms m e)
 
-with_run : (a function : ℕ) (ms ns : List (Option Kind)) → run_of ms ≡ run_of ns → page_of a function ms ≡ page_of a function ns
+with_run : (a function : ℕ) (ms ns : List (Option Kind)) → run_of ms ≡ run_of ns → page_called a function ms ≡ page_called a function ns
 with_run a function ms ns e = ap (λ (xs : List ℕ). (record { address = a; function = function; payload = xs })) e
 
 ended_case : (p q : Page) (E F : List Page) (O : Option Page) (m : Option Kind) (ours run more : Bool) → F ≡ E ++ option_to_list (ending O m)
@@ -102,12 +101,12 @@ pub ended_more : (a i : ℕ) (ms : List (Option Kind)) (m : Option Kind)
     → ended_from a i (ms ++ m ∷ []) ≡ ended_from a i ms ++ option_to_list (ending (open_from a i ms) m)
 ended_more a i [] None = refl
 ended_more a i [] (Some Idle) = refl
-ended_more a i [] (Some (Address high function)) = no_end (is_ours a i high) (page_of a function [])
+ended_more a i [] (Some (Address high function)) = no_end (is_ours a i high) (page_called a function [])
 ended_more a i [] (Some (Message bits)) = refl
 ended_more a i (None ∷ ms) m = ended_more a (i + 1) ms m
 ended_more a i (Some Idle ∷ ms) m = ended_more a (i + 1) ms m
 ended_more a i (Some (Address high function) ∷ ms) m =
-    ended_case (page_of a function ms) (page_of a function (ms ++ m ∷ [])) (ended_from a (i + 1) ms) (ended_from a (i + 1) (ms ++ m ∷ []))
+    ended_case (page_called a function ms) (page_called a function (ms ++ m ∷ [])) (ended_from a (i + 1) ms) (ended_from a (i + 1) (ms ++ m ∷ []))
     (open_from a (i + 1) ms) m (is_ours a i high) (is_run ms) (is_run (ms ++ m ∷ [])) (ended_more a (i + 1) ms m) (run_more ms m)
     (λ e. with_run a function (ms ++ m ∷ []) ms (run_stops ms m e)) (run_ended a (i + 1) ms) (run_open a (i + 1) ms)
 ended_more a i (Some (Message bits) ∷ ms) m = ended_more a (i + 1) ms m
@@ -132,12 +131,12 @@ open_more a i j [] None e = refl
 open_more a i j [] (Some Idle) e = refl
 open_more a i j [] (Some (Address high function)) e =
     let same : i ≡ j = omega arith in
-    rw same (and_true (is_ours a j high) (Some (page_of a function [])) None)
+    rw same (and_true (is_ours a j high) (Some (page_called a function [])) None)
 open_more a i j [] (Some (Message bits)) e = refl
 open_more a i j (None ∷ ms) m e = open_more a (i + 1) j ms m (omega arith)
 open_more a i j (Some Idle ∷ ms) m e = open_more a (i + 1) j ms m (omega arith)
 open_more a i j (Some (Address high function) ∷ ms) m e =
-    open_case a j (page_of a function ms) (page_of a function (ms ++ m ∷ [])) (open_from a (i + 1) ms) (open_from a (i + 1) (ms ++ m ∷ []))
+    open_case a j (page_called a function ms) (page_called a function (ms ++ m ∷ [])) (open_from a (i + 1) ms) (open_from a (i + 1) (ms ++ m ∷ []))
     m (is_ours a i high) (is_run ms) (is_run (ms ++ m ∷ [])) (open_more a (i + 1) j ms m (omega arith)) (run_more ms m)
     (λ t. ap (λ (xs : List ℕ). (record { address = a; function = function; payload = xs })) (run_grows ms m t))
 open_more a i j (Some (Message bits) ∷ ms) m e = open_more a (i + 1) j ms m (omega arith)
@@ -151,14 +150,14 @@ is_ours_same a j k high e = ap (λ (n : ℕ). nat_eq (n / 2) (a % 8) && nat_eq h
 pub next_open_same : (a j k : ℕ) (before : Option Page) (m : Option Kind) → j % 16 ≡ k % 16 → next_open a j before m ≡ next_open a k before m
 next_open_same a j k before None e = refl
 next_open_same a j k before (Some Idle) e = refl
-next_open_same a j k before (Some (Address high function)) e = ap (λ b. cond b (Some (page_of a function [])) None) (is_ours_same a j k high e)
+next_open_same a j k before (Some (Address high function)) e = ap (λ b. cond b (Some (page_called a function [])) None) (is_ours_same a j k high e)
 next_open_same a j k before (Some (Message bits)) e = refl
 
 -- ---- a word in another frame
 
 is_ours_elsewhere : (a j high : ℕ) → frame_at j ≢ a % 8 → is_ours a j high ≡ false
 unfolding is_ours
-is_ours_elsewhere a j high n = rw (apart_eqb _ _ n) refl
+is_ours_elsewhere a j high n = rw (ne_eqb _ _ n) refl
 
 pub next_open_elsewhere : (a j : ℕ) (m : Option Kind) → frame_at j ≢ a % 8 → next_open a j None m ≡ None
 next_open_elsewhere a j None n = refl
@@ -171,29 +170,3 @@ ending_none None = refl
 ending_none (Some Idle) = refl
 ending_none (Some (Address high function)) = refl
 ending_none (Some (Message bits)) = refl
-
--- ---- the words that are not at the place of a synchronisation codeword
-
-unsynced_case : (b : Bool) (x : ℕ) (F U T : List ℕ) → F ≡ U ++ T → cond b F (x ∷ F) ≡ cond b U (x ∷ U) ++ T
-unsynced_case true x F U T e = e
-unsynced_case false x F U T e = ap (λ xs. x ∷ xs) e
-
--- the last word, unless it is at the place of a synchronisation codeword
-pub last_word : ℕ → ℕ → List ℕ
-last_word j w = cond (nat_eq (j % 17) 0) [] (w ∷ [])
-
-pub unsynced_more : (j : ℕ) (ws : List ℕ) (w : ℕ) → unsynced j (ws ++ w ∷ []) ≡ unsynced j ws ++ last_word (j + length ws) w
-unfolding last_word
-unsynced_more j [] w = rw add-zero refl
-unsynced_more j (x ∷ ws) w =
-    let here : j + 1 + length ws ≡ j + length (x ∷ ws) = omega arith in
-    unsynced_case (nat_eq (j % 17) 0) x (unsynced (j + 1) (ws ++ w ∷ [])) (unsynced (j + 1) ws) (last_word (j + length (x ∷ ws)) w)
-    (unsynced_more (j + 1) ws w ∙ ap (λ (n : ℕ). unsynced (j + 1) ws ++ last_word n w) here)
-
-pub last_synced : (j w : ℕ) → j % 17 ≡ 0 → last_word j w ≡ []
-unfolding last_word
-last_synced j w e = rw (eq-eqb _ _ e) refl
-
-pub last_unsynced : (j w : ℕ) → j % 17 ≢ 0 → last_word j w ≡ w ∷ []
-unfolding last_word
-last_unsynced j w n = rw (apart_eqb _ _ n) refl

@@ -3,12 +3,11 @@ use Rattle.std.proofs.Common.{◌≡◌, ◌≢◌, ℕ, ◌+◌, ◌*◌, ◌-�
 use Rattle.std.specs.Prelude.{Option, Some, None}
 use Rattle.std.specs.Int.{to_be_bytes, w32}
 use Rattle.std.specs.List.{AllZip, flat_map}
-use Rattle.std.proofs.lemmas.Bool.{cases_eq}
+use Rattle.std.proofs.lemmas.Bool.{cases_eq, le-ltb, ne_eqb}
 use Rattle.std.proofs.lemmas.Bool.Decides.{nat_tests}
 use Rattle.std.proofs.lemmas.List.{length-map, length-drop}
 use Rattle.std.proofs.lemmas.List.Elements.{All-head, All-tail}
 use Rattle.std.proofs.lemmas.Nat.{from_be_bytes-to_be_bytes_4}
-use borrow.Author.Tests.{apart_eqb, le-ltb}
 use Rattle.pocsag_words.specs.Codeword.{IsCodeword, IsNear}
 use Rattle.pocsag_words.specs.Kinds.{kind_of}
 use Rattle.pocsag_words.specs.declared.codeword.Kind.{Kind}
@@ -20,7 +19,7 @@ use Rattle.pocsag_pages.specs.Plain.{HasNoOrphan, items_of, pages_from}
 use Rattle.pocsag_pages.specs.Reading.{AreApart, IsLegalList, Reads, frame_at}
 use Rattle.pocsag_pager.specs.Damage.{IsDamaged}
 use Rattle.pocsag_pager.specs.Faults.{bytes_fault}
-use Rattle.pocsag_pager.specs.Shown.{IsMended, IsShown, is_ours, page_of, run_of, said, shown_from}
+use Rattle.pocsag_pager.specs.Shown.{IsMended, AreShown, is_ours, page_called, run_of, said, shown_from}
 use Rattle.pocsag_pager.proofs.Chosen.{calls, chosen}
 use Rattle.pocsag_pager.proofs.Mending.{mended_back}
 use Rattle.pocsag_pages.proofs.Lengths.{body_length, synced_count}
@@ -56,7 +55,7 @@ after_is (w ∷ T) some = refl
 
 no_fault_case : (n m : ℕ) → 72 ≤ n → m ≢ 0 → m % 68 ≡ 0 → (Y : List ℕ) → leading Y ≡ n → length (after_preamble Y) ≡ m → bytes_fault Y ≡ None
 unfolding bytes_fault
-no_fault_case n m long some whole Y e h = rw (h, e, le-ltb _ _ long, apart_eqb _ _ some, eq-eqb _ _ whole) refl
+no_fault_case n m long some whole Y e h = rw (h, e, le-ltb _ _ long, ne_eqb _ _ some, eq-eqb _ _ whole) refl
 
 pub no_fault : (end : End) (T : List ℕ) (batches : ℕ) (R : List Page) (Y : List ℕ) → IsLegalList end T batches R → IsDamaged (bytes_of T) Y → bytes_fault Y ≡ None
 no_fault end T batches R Y legal damaged =
@@ -80,14 +79,14 @@ first_word i j w T (y ∷ z ∷ zs) e first near more =
     let here : j % 17 ≡ 0 = omega arith in
     let next : (j + 1) % 17 ≢ 0 = λ wrong. absurd (omega arith) in
     let two : j + 1 + 1 ≡ j + 2 = omega arith in
-    rw (eq-eqb _ _ here, apart_eqb _ _ next, two) (near.1.0, more zs near.1.1)
+    rw (eq-eqb _ _ here, ne_eqb _ _ next, two) (near.1.0, more zs near.1.1)
 
 next_word : (i j w : ℕ) (T ys : List ℕ) → j ≡ i + (i + 15) / 16 → i % 16 ≢ 0 → AllZip IsNear (w ∷ synced (i + 1) T) ys
     → ((zs : List ℕ) → AllZip IsNear (synced (i + 1) T) zs → AllZip IsNear T (unsynced (j + 1) zs)) → AllZip IsNear (w ∷ T) (unsynced j ys)
 next_word i j w T [] e n near more = absurd near
 next_word i j w T (y ∷ ys) e n near more =
     let here : j % 17 ≢ 0 = λ wrong. absurd (omega arith) in
-    rw (apart_eqb _ _ here) (near.0, more ys near.1)
+    rw (ne_eqb _ _ here) (near.0, more ys near.1)
 
 near_unsynced : (i j : ℕ) (T ys : List ℕ) → j ≡ i + (i + 15) / 16 → AllZip IsNear (synced i T) ys → AllZip IsNear T (unsynced j ys)
 near_unsynced i j [] [] e near = tt
@@ -95,7 +94,7 @@ near_unsynced i j [] (y ∷ ys) e near = absurd near
 near_unsynced i j (w ∷ T) ys e near =
     elim (cases_eq (i % 16) 0) [
       | inl first ↦ first_word i j w T ys e first (rw (eq-eqb _ _ first) at near) (λ zs. near_unsynced (i + 1) (j + 2) T zs (omega arith))
-      | inr n ↦ next_word i j w T ys e n (rw (apart_eqb _ _ n) at near) (λ zs. near_unsynced (i + 1) (j + 1) T zs (omega arith))
+      | inr n ↦ next_word i j w T ys e n (rw (ne_eqb _ _ n) at near) (λ zs. near_unsynced (i + 1) (j + 1) T zs (omega arith))
     ]
 
 -- ---- what is shown of codewords that are all repaired
@@ -129,8 +128,8 @@ shown_is_chosen a i [] = refl
 shown_is_chosen a i (Idle ∷ ks) = shown_is_chosen a (i + 1) ks
 shown_is_chosen a i (Address high function ∷ ks) =
     let q : Page = record { address = 8 * high + frame_at i; function = function; payload = items_of ks } in
-    ap (λ b. cond b (page_of a function (map Some ks) ∷ shown_from a (i + 1) (map Some ks)) (shown_from a (i + 1) (map Some ks))) (ours_is a i high)
-    ∙ page_case (nat_eq (8 * high + frame_at i) a) (page_of a function (map Some ks)) q (shown_from a (i + 1) (map Some ks)) (filter (calls a) (pages_from (i + 1) ks))
+    ap (λ b. cond b (page_called a function (map Some ks) ∷ shown_from a (i + 1) (map Some ks)) (shown_from a (i + 1) (map Some ks))) (ours_is a i high)
+    ∙ page_case (nat_eq (8 * high + frame_at i) a) (page_called a function (map Some ks)) q (shown_from a (i + 1) (map Some ks)) (filter (calls a) (pages_from (i + 1) ks))
     (λ ours. ap₂ (λ (address : ℕ) (items : List ℕ). (record { address = address; function = function; payload = items })) (sym (eqb-true _ _ ours)) (run_is ks))
     (shown_is_chosen a (i + 1) ks)
 shown_is_chosen a i (Message bits ∷ ks) = shown_is_chosen a (i + 1) ks
@@ -140,7 +139,7 @@ abbrev pub ArePlain : Type 0
 ArePlain = (ws : List Kind) (i : ℕ) (ps : List Page) → Reads ws i ps ↔ (HasNoOrphan false ws × (ps ≡ pages_from i ws))
 
 pub repaired : ArePlain → (end : End) (T : List ℕ) (batches : ℕ) (R : List Page) (Y : List ℕ) (a : ℕ) (ps : List Page) → AreApart R
-    → IsLegalList end T batches R → IsDamaged (bytes_of T) Y → IsShown (words_of (after_preamble Y)) a ps → ps ≡ filter (calls a) R
+    → IsLegalList end T batches R → IsDamaged (bytes_of T) Y → AreShown (words_of (after_preamble Y)) a ps → ps ≡ filter (calls a) R
 repaired law end T batches R Y a ps apart legal damaged h =
     let read = legal.1.0 in
     let long : length T ≡ 16 * batches = sym (length-map T kind_of) ∙ read.whole.1 in

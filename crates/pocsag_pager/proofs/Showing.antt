@@ -7,10 +7,10 @@ use Rattle.pocsag_words.specs.declared.codeword.Kind.TheVariants.{Idle, Address,
 use Rattle.pocsag_pages.specs.declared.page.Page.{Page}
 use Rattle.pocsag_pages.specs.Bytes.{unsynced}
 use Rattle.pocsag_pages.specs.Listable.{IsListable}
-use Rattle.pocsag_pager.specs.Shown.{IsShown, is_ours, page_of, run_of, said, shown_from}
+use Rattle.pocsag_pager.specs.Shown.{AreShown, is_ours, page_called, run_of, said, shown_from}
 use Rattle.pocsag_pager.proofs.Mending.{all_mended_same}
 
-pub one_list : (words : List ℕ) (a : ℕ) (ps qs : List Page) → IsShown words a ps → IsShown words a qs → ps ≡ qs
+pub one_list : (words : List ℕ) (a : ℕ) (ps qs : List Page) → AreShown words a ps → AreShown words a qs → ps ≡ qs
 one_list words a ps qs h k =
     h.holds ∙ ap (λ (ms : List (Option ℕ)). shown_from a 0 (map said ms)) (all_mended_same (unsynced 0 words) h.mended k.mended h.each k.each) ∙ sym k.holds
 
@@ -51,8 +51,8 @@ listable a i [] h = All-nil _
 listable a i (None ∷ ms) h = listable a (i + 1) ms h.1
 listable a i (Some Idle ∷ ms) h = listable a (i + 1) ms h.1
 listable a i (Some (Address high function) ∷ ms) h =
-    listed (is_ours a i high) (page_of a function ms) (shown_from a (i + 1) ms) (record { function = h.0; items = run_small ms h.1 }) (listable a (i + 1) ms h.1)
+    listed (is_ours a i high) (page_called a function ms) (shown_from a (i + 1) ms) (record { function = h.0; items = run_small ms h.1 }) (listable a (i + 1) ms h.1)
 listable a i (Some (Message bits) ∷ ms) h = listable a (i + 1) ms h.1
 
-pub shown_listable : (words : List ℕ) (a : ℕ) (ps : List Page) → IsShown words a ps → All IsListable ps
+pub shown_listable : (words : List ℕ) (a : ℕ) (ps : List Page) → AreShown words a ps → All IsListable ps
 shown_listable words a ps h = subst (All IsListable) (sym h.holds) (listable a 0 (map said h.mended) (all_small h.mended))

@@ -7,7 +7,7 @@ use Rattle.std.proofs.lemmas.List.{map-append, take_more, length-take, take-appe
 use Rattle.std.proofs.lemmas.List.Elements.{All-cons, All-nil}
 use Rattle.pocsag_pages.specs.declared.page.Page.{Page}
 use Rattle.pocsag_pages.specs.Bytes.{words_of}
-use Rattle.pocsag_pager.specs.Shown.{IsShown}
+use Rattle.pocsag_pager.specs.Shown.{AreShown}
 use Rattle.pocsag_pager.specs.Standing.{HaveEnded}
 
 pub chunk_words : (n : ℕ) (xs : List ℕ) → n ≡ length xs / 4 → map (from_be_bytes w32) (first_chunks 4 n xs) ≡ words_of xs
@@ -36,10 +36,10 @@ ended_at ws vs a b ps qs words address pages have =
     subst (λ (xs : List ℕ). HaveEnded xs b qs) (sym words)
     (subst (λ (n : ℕ). HaveEnded ws n qs) (sym address) (subst (λ (rs : List Page). HaveEnded ws a rs) (sym pages) have))
 
-pub shown_at : (ws vs : List ℕ) (a b : ℕ) (ps qs : List Page) → vs ≡ ws → b ≡ a → qs ≡ ps → IsShown ws a ps → IsShown vs b qs
+pub shown_at : (ws vs : List ℕ) (a b : ℕ) (ps qs : List Page) → vs ≡ ws → b ≡ a → qs ≡ ps → AreShown ws a ps → AreShown vs b qs
 shown_at ws vs a b ps qs words address pages shown =
-    subst (λ (xs : List ℕ). IsShown xs b qs) (sym words)
-    (subst (λ (n : ℕ). IsShown ws n qs) (sym address) (subst (λ (rs : List Page). IsShown ws a rs) (sym pages) shown))
+    subst (λ (xs : List ℕ). AreShown xs b qs) (sym words)
+    (subst (λ (n : ℕ). AreShown ws n qs) (sym address) (subst (λ (rs : List Page). AreShown ws a rs) (sym pages) shown))
 
 pub by_result : {X E : Type 0} (r : Result X E) (P : X → Type 0) (Q : E → Type 0) → IfOk r P → IfErr r Q → MatchResult r P Q
 by_result (Ok x) P Q ok err = ok

@@ -21,5 +21,5 @@ bytes_fault bytes =
     else if not (length (after_preamble bytes) % 68 == 0) then Some fault.Truncated else None
 
 -- The first fault of an address and a transmission's bytes.
-abbrev pub fault_of : ℕ → List ℕ → Option PagerFault
-fault_of a bytes = option_or (address_fault a) (bytes_fault bytes)
+abbrev pub hearing_fault : ℕ → List ℕ → Option PagerFault
+hearing_fault a bytes = option_or (address_fault a) (bytes_fault bytes)

@@ -21,7 +21,7 @@ said (Some w) = Some (kind_of w)
 
 -- The fact holds of what the words say once those at the places of synchronisation codewords are
 -- left out, whatever they hold, and each other word is mended.
-pub record Heard (words : List ℕ) (P : List (Option Kind) → Type 0) : Type 0 where
+pub record HoldsOnceMended (words : List ℕ) (P : List (Option Kind) → Type 0) : Type 0 where
   pub mended : List (Option ℕ)
   pub each : AllZip IsMended (unsynced 0 words) mended
   pub holds : P (map said mended)
@@ -40,8 +40,8 @@ unfoldable pub is_ours : ℕ → ℕ → ℕ → Bool
 is_ours a i high = (frame_at i == a % 8) && (high == a / 8)
 
 -- The page of an address codeword with this function, before these words.
-abbrev pub page_of : ℕ → ℕ → List (Option Kind) → Page
-page_of a function ms = record { address = a; function = function; payload = run_of ms }
+abbrev pub page_called : ℕ → ℕ → List (Option Kind) → Page
+page_called a function ms = record { address = a; function = function; payload = run_of ms }
 
 -- The pages of the address, by rising index; the first word is at this index.
 abbrev pub shown_from : ℕ → ℕ → List (Option Kind) → List Page
@@ -49,10 +49,10 @@ shown_from a i [] = []
 shown_from a i (None ∷ ms) = shown_from a (i + 1) ms
 shown_from a i (Some Idle ∷ ms) = shown_from a (i + 1) ms
 shown_from a i (Some (Address high function) ∷ ms) =
-    if is_ours a i high then page_of a function ms ∷ shown_from a (i + 1) ms else shown_from a (i + 1) ms
+    if is_ours a i high then page_called a function ms ∷ shown_from a (i + 1) ms else shown_from a (i + 1) ms
 shown_from a i (Some (Message bits) ∷ ms) = shown_from a (i + 1) ms
 
 -- *Shown* (this project's own): these are the pages that a pager of the address shows of the words
 -- after a preamble.
-abbrev pub IsShown : List ℕ → ℕ → List Page → Type 0
-IsShown words a ps = Heard words (λ ms. ps ≡ shown_from a 0 ms)
+abbrev pub AreShown : List ℕ → ℕ → List Page → Type 0
+AreShown words a ps = HoldsOnceMended words (λ ms. ps ≡ shown_from a 0 ms)

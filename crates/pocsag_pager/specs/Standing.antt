@@ -1,11 +1,14 @@
 -- Where a pager stands after words, which it does not store (this project's own).
-use Rattle.std.specs.Prelude.{◌≡◌, ℕ, ◌+◌, ◌*◌, ◌%◌, ◌≤◌, ◌⊎◌, ◌&&◌, not, if◌then◌else◌, List, [], ◌∷◌, length, Bool, true, false, Option, Some, None}
+use Rattle.std.specs.Prelude.{◌≡◌, ℕ, ◌+◌, ◌*◌, ◌%◌, ◌≤◌, ◌⊎◌, ◌&&◌, not, if◌then◌else◌, List, [], ◌∷◌, ◌++◌, length, Bool, true, false, Option, Some, None, Result, OnOk, IfErr}
 use Rattle.pocsag_words.specs.declared.codeword.Kind.{Kind}
 use Rattle.pocsag_words.specs.declared.codeword.Kind.TheVariants.{Idle, Address, Message}
 use Rattle.pocsag_pages.specs.declared.page.Page.{Page}
+use Rattle.pocsag_pages.specs.Bytes.{words_of}
+use Rattle.pocsag_pager.specs.declared.fault.PagerFault.{PagerFault}
+use Rattle.pocsag_pager.specs.declared.fault.PagerFault.TheVariants as fault
 use Rattle.pocsag_pager.specs.declared.pager.Pager.{Pager}
 use Rattle.pocsag_pager.specs.declared.pager.State.TheVariants.{Listening, Failed}
-use Rattle.pocsag_pager.specs.Shown.{Heard, is_ours, page_of}
+use Rattle.pocsag_pager.specs.Shown.{HoldsOnceMended, is_ours, page_called}
 
 -- Whether all of these are message codewords, so that a page before them is still open.
 abbrev pub is_run : List (Option Kind) → Bool
@@ -21,7 +24,7 @@ ended_from a i [] = []
 ended_from a i (None ∷ ms) = ended_from a (i + 1) ms
 ended_from a i (Some Idle ∷ ms) = ended_from a (i + 1) ms
 ended_from a i (Some (Address high function) ∷ ms) =
-    if is_ours a i high && not (is_run ms) then page_of a function ms ∷ ended_from a (i + 1) ms else ended_from a (i + 1) ms
+    if is_ours a i high && not (is_run ms) then page_called a function ms ∷ ended_from a (i + 1) ms else ended_from a (i + 1) ms
 ended_from a i (Some (Message bits) ∷ ms) = ended_from a (i + 1) ms
 
 -- The page of *Shown* that is still open, if there is one.
@@ -30,16 +33,16 @@ open_from a i [] = None
 open_from a i (None ∷ ms) = open_from a (i + 1) ms
 open_from a i (Some Idle ∷ ms) = open_from a (i + 1) ms
 open_from a i (Some (Address high function) ∷ ms) =
-    if is_ours a i high && is_run ms then Some (page_of a function ms) else open_from a (i + 1) ms
+    if is_ours a i high && is_run ms then Some (page_called a function ms) else open_from a (i + 1) ms
 open_from a i (Some (Message bits) ∷ ms) = open_from a (i + 1) ms
 
 -- These are the pages of *Shown* that have ended within the words.
 abbrev pub HaveEnded : List ℕ → ℕ → List Page → Type 0
-HaveEnded words a ps = Heard words (λ ms. ps ≡ ended_from a 0 ms)
+HaveEnded words a ps = HoldsOnceMended words (λ ms. ps ≡ ended_from a 0 ms)
 
 -- The address of a pager.
-abbrev pub address_of : Pager → ℕ
-address_of p = p.address
+abbrev pub pager_address : Pager → ℕ
+pager_address p = p.address
 
 -- The pager answers `Failed` to every call.
 abbrev pub IsOver : Pager → Type 0
@@ -49,12 +52,21 @@ IsOver p = p.state ≡ Failed
 -- that is still open.
 pub record Stands (p : Pager) (words : List ℕ) : Type 0 where
   pub place : p.place ≡ length words % 17
-  pub open_page : Heard words (λ ms. p.state ≡ Listening (open_from p.address 0 ms))
+  pub open_page : HoldsOnceMended words (λ ms. p.state ≡ Listening (open_from p.address 0 ms))
 
 -- The pager has heard these words, and these are the pages that have ended.
 pub record HasHeard (p : Pager) (words : List ℕ) (ps : List Page) : Type 0 where
   pub stands : Stands p words
-  pub ended : HaveEnded words (address_of p) ps
+  pub ended : HaveEnded words (pager_address p) ps
+
+-- Where the call answers, the pager has heard the words of the bytes more, and their pages were kept behind the others;
+-- where it does not, memory was wanting. The address stays.
+abbrev pub Hears : {T : Type 0} → Result T PagerFault → (before after : Pager) → (pages_before pages_after : List Page) → List ℕ → Type 0
+Hears result before after pages_before pages_after bytes = record {
+  heard : (words : List ℕ) → HasHeard before words pages_before → OnOk result (HasHeard after (words ++ words_of bytes) pages_after);
+  memory : (words : List ℕ) → HasHeard before words pages_before → IfErr result (λ e. e ≡ fault.OutOfMemory);
+  address : pager_address after ≡ pager_address before;
+}
 
 -- So many places of a batch, from this one on, are all before the address's frame or all after it.
 abbrev pub IsElsewhere : ℕ → ℕ → ℕ → Type 0

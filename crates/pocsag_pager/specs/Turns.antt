@@ -3,7 +3,7 @@ use Rattle.std.specs.Prelude.{◌≡◌, ℕ, if◌then◌else◌, [], ◌∷◌
 use Rattle.pocsag_words.specs.declared.codeword.Kind.{Kind}
 use Rattle.pocsag_words.specs.declared.codeword.Kind.TheVariants.{Idle, Address, Message}
 use Rattle.pocsag_pages.specs.declared.page.Page.{Page}
-use Rattle.pocsag_pager.specs.Shown.{IsMended, is_ours, page_of, said}
+use Rattle.pocsag_pager.specs.Shown.{IsMended, is_ours, page_called, said}
 
 -- The word says this once it is mended.
 pub record IsHeardAs (w : ℕ) (heard : Option Kind) : Type 0 where
@@ -20,7 +20,7 @@ longer bits (Some p) = Some (record p { payload = p.payload ++ bits ∷ [] })
 abbrev pub next_open : ℕ → ℕ → Option Page → Option Kind → Option Page
 next_open a i before None = None
 next_open a i before (Some Idle) = None
-next_open a i before (Some (Address high function)) = if is_ours a i high then Some (page_of a function []) else None
+next_open a i before (Some (Address high function)) = if is_ours a i high then Some (page_called a function []) else None
 next_open a i before (Some (Message bits)) = longer bits before
 
 -- The page that ends at a word, where this one was open before it.

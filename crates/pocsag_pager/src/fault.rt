@@ -1,3 +1,7 @@
+ghost use Rattle.std.specs.Prelude.{◌≡◌};
+ghost use Rattle.pocsag_pager.specs.declared.fault.PagerFault.TheVariants as fault;
+
+use std::alloc::AllocError;
 use thiserror::Error;
 
 /// Why a pager shows no pages.
@@ -23,4 +27,12 @@ pub enum PagerFault {
     /// The pager has run out of memory or has been ended before.
     #[error("the pager hears no more")]
     Failed,
+}
+
+impl From<AllocError> for PagerFault {
+    ghost from_gives = { λ _ e. e ≡ fault.OutOfMemory };
+
+    fn from(_refused: AllocError) -> PagerFault {
+        PagerFault::OutOfMemory
+    }
 }

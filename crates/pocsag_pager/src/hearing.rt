@@ -5,16 +5,22 @@ ghost use Rattle.pocsag_pages.specs.Bytes.{after_preamble, bytes_of, leading, wo
 ghost use Rattle.pocsag_pages.specs.Pages.{IsRound};
 ghost use Rattle.pocsag_pages.specs.Reading.{IsLegalList};
 ghost use Rattle.pocsag_pager.specs.Damage.{IsDamaged};
-ghost use Rattle.pocsag_pager.specs.Faults.{address_fault, bytes_fault, fault_of};
+ghost use Rattle.pocsag_pager.specs.Faults.{address_fault, bytes_fault, hearing_fault};
 ghost use Rattle.pocsag_pages.specs.Listable.{IsListable};
-ghost use Rattle.pocsag_pager.specs.Shown.{IsShown};
-ghost use Rattle.pocsag_pager.specs.Standing.{HasHeard, Stands, address_of};
+ghost use Rattle.pocsag_pager.specs.Shown.{AreShown};
+ghost use Rattle.pocsag_pager.specs.Standing.{Hears, Stands, pager_address};
 
 use crate::fault::PagerFault;
 use crate::laws::{damage_is_repaired, shown_pages_are_one_list};
 use crate::pager::Pager;
 use pocsag_pages::{Page, leading_len};
-use std::alloc::Global;
+use std::alloc::{AllocError, Global};
+
+// The fewest bytes AA that a transmission begins with.
+const PREAMBLE: usize = 72;
+
+// The bytes of a batch, those of its synchronisation codeword among them.
+const BATCH_BYTES: usize = 68;
 
 // The bytes after the leading bytes AA, of which there are so many.
 fn after_leading(bytes: &[u8], count: usize) -> &[u8]
@@ -35,13 +41,13 @@ fn batches_of(bytes: &[u8]) -> Result<&[u8], PagerFault>
 {
     let count = leading_len(bytes);
     let rest = after_leading(bytes, count);
-    if count < 72 {
+    if count < PREAMBLE {
         return Err(PagerFault::ShortPreamble);
     }
     if rest.is_empty() {
         return Err(PagerFault::NoBatch);
     }
-    if rest.len() % 68 != 0 {
+    if rest.len() % BATCH_BYTES != 0 {
         return Err(PagerFault::Truncated);
     }
     Ok(rest)
@@ -49,24 +55,18 @@ fn batches_of(bytes: &[u8]) -> Result<&[u8], PagerFault>
 
 // Keeps the page, if there is one.
 #[inline(always)]
-fn keep(pages: &mut Vec<Page>, page: Option<Page>) -> Result<(), PagerFault>
-    ensures ok { OnOk result (pages.new.items ≡ pages.old.items ++ option_to_list page) }
-    ensures err { IfErr result (λ e. e ≡ PagerFault.OutOfMemory) }
+fn keep(pages: &mut Vec<Page>, page: Option<Page>) -> Result<(), AllocError>
+    ensures { OnOk result (pages.new.items ≡ pages.old.items ++ option_to_list page) }
 {
-    let Some(page) = page else {
-        return Ok(());
-    };
-    match pages.push(page) {
-        Ok(_) => Ok(()),
-        Err(_) => Err(PagerFault::OutOfMemory),
+    if let Some(page) = page {
+        pages.push(page)?;
     }
+    Ok(())
 }
 
 // Hears the words of these bytes, and keeps the pages that end.
 fn hear_each(pager: &mut Pager, pages: &mut Vec<Page>, bytes: &[u8]) -> Result<(), PagerFault>
-    ensures ok { (words : List ℕ) → HasHeard pager.old words pages.old.items → OnOk result (HasHeard pager.new (words ++ words_of bytes.now) pages.new.items) }
-    ensures err { (words : List ℕ) → HasHeard pager.old words pages.old.items → IfErr result (λ e. e ≡ PagerFault.OutOfMemory) }
-    ensures address { address_of pager.new ≡ address_of pager.old }
+    ensures { Hears result pager.old pager.new pages.old.items pages.new.items bytes.now }
 {
     let (words, _) = bytes.as_chunks::<4>();
     for word in words {
@@ -78,9 +78,7 @@ fn hear_each(pager: &mut Pager, pages: &mut Vec<Page>, bytes: &[u8]) -> Result<(
 
 // The same, where the words are passed over unheard if they change nothing.
 fn hear_part(pager: &mut Pager, pages: &mut Vec<Page>, bytes: &[u8]) -> Result<(), PagerFault>
-    ensures ok { (words : List ℕ) → HasHeard pager.old words pages.old.items → OnOk result (HasHeard pager.new (words ++ words_of bytes.now) pages.new.items) }
-    ensures err { (words : List ℕ) → HasHeard pager.old words pages.old.items → IfErr result (λ e. e ≡ PagerFault.OutOfMemory) }
-    ensures address { address_of pager.new ≡ address_of pager.old }
+    ensures { Hears result pager.old pager.new pages.old.items pages.new.items bytes.now }
 {
     let count = bytes.len() / 4;
     if pager.passes(count) {
@@ -93,9 +91,7 @@ fn hear_part(pager: &mut Pager, pages: &mut Vec<Page>, bytes: &[u8]) -> Result<(
 // Hears a batch in three parts: what is before the address's frame, the frame, and what is after it.
 fn hear_batch(pager: &mut Pager, pages: &mut Vec<Page>, batch: &[u8]) -> Result<(), PagerFault>
     requires { length batch.now ≡ 68 }
-    ensures ok { (words : List ℕ) → HasHeard pager.old words pages.old.items → OnOk result (HasHeard pager.new (words ++ words_of batch.now) pages.new.items) }
-    ensures err { (words : List ℕ) → HasHeard pager.old words pages.old.items → IfErr result (λ e. e ≡ PagerFault.OutOfMemory) }
-    ensures address { address_of pager.new ≡ address_of pager.old }
+    ensures { Hears result pager.old pager.new pages.old.items pages.new.items batch.now }
 {
     let (before, rest) = batch.split_at(4 + 8 * pager.frame());
     let (frame, after) = rest.split_at(8);
@@ -108,12 +104,13 @@ fn hear_batch(pager: &mut Pager, pages: &mut Vec<Page>, batch: &[u8]) -> Result<
 fn hear_batches(alloc: Global, mut pager: Pager, bytes: &[u8]) -> Result<Vec<Page>, PagerFault>
     requires pager { Stands pager [] }
     requires whole { length bytes.now % 68 ≡ 0 }
-    ensures shown { IfOk result (λ pages. IsShown (words_of bytes.now) (address_of pager) pages.items) }
+    ensures shown { IfOk result (λ pages. AreShown (words_of bytes.now) (pager_address pager) pages.items) }
     ensures err { IfErr result (λ e. e ≡ PagerFault.OutOfMemory) }
 {
     let mut pages = Vec::new(alloc);
-    for i in 0..bytes.len() / 68 {
-        hear_batch(&mut pager, &mut pages, &bytes[68 * i..68 * i + 68])?;
+    for i in 0..bytes.len() / BATCH_BYTES {
+        let start = BATCH_BYTES * i;
+        hear_batch(&mut pager, &mut pages, &bytes[start..start + BATCH_BYTES])?;
     }
     let last = pager.end()?;
     keep(&mut pages, last)?;
@@ -125,9 +122,9 @@ fn hear_batches(alloc: Global, mut pager: Pager, bytes: &[u8]) -> Result<Vec<Pag
 /// bytes AA stand first), `NoBatch` (nothing follows them), `Truncated` (what follows them is not
 /// whole batches of 68 bytes); then `OutOfMemory`.
 pub fn hear_all(alloc: Global, bytes: &[u8], address: u32) -> Result<Vec<Page>, PagerFault>
-    ensures shown { IfOk result (λ pages. IsShown (words_of (after_preamble bytes.now)) address pages.items) }
-    ensures ok { OnOk result (fault_of address bytes.now ≡ None) }
-    ensures err { IfErr result (λ e. (fault_of address bytes.now ≡ Some e) ⊎ ((fault_of address bytes.now ≡ None) × (e ≡ PagerFault.OutOfMemory))) }
+    ensures shown { IfOk result (λ pages. AreShown (words_of (after_preamble bytes.now)) address pages.items) }
+    ensures ok { OnOk result (hearing_fault address bytes.now ≡ None) }
+    ensures err { IfErr result (λ e. (hearing_fault address bytes.now ≡ Some e) ⊎ ((hearing_fault address bytes.now ≡ None) × (e ≡ PagerFault.OutOfMemory))) }
     ensures listable { IfOk result (λ pages. All IsListable pages.items) }
 
     // *Damage repaired*: of a transmission that is legal for a round, with at most two wrong bits in

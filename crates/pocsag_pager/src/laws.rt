@@ -8,7 +8,7 @@ ghost use Rattle.pocsag_pages.specs.Reading.{IsLegalList};
 ghost use Rattle.pocsag_pager.specs.Damage.{IsDamaged};
 ghost use Rattle.pocsag_pager.specs.Faults.{bytes_fault};
 ghost use Rattle.pocsag_pages.specs.Listable.{IsListable};
-ghost use Rattle.pocsag_pager.specs.Shown.{IsShown};
+ghost use Rattle.pocsag_pager.specs.Shown.{AreShown};
 
 use pocsag_pages::{readings_are_plain, rounds_are_apart};
 
@@ -18,7 +18,7 @@ pub fn damage_is_repaired()
     ensures whole { (end : End) (T : List ℕ) (batches : ℕ) (R : List Page) (Y : List ℕ) →
         IsLegalList end T batches R → IsDamaged (bytes_of T) Y → bytes_fault Y ≡ None }
     ensures shown { (end : End) (T : List ℕ) (batches : ℕ) (R : List Page) (Y : List ℕ) (a : ℕ) (ps : List Page) →
-        IsRound R → IsLegalList end T batches R → IsDamaged (bytes_of T) Y → IsShown (words_of (after_preamble Y)) a ps →
+        IsRound R → IsLegalList end T batches R → IsDamaged (bytes_of T) Y → AreShown (words_of (after_preamble Y)) a ps →
         ps ≡ filter (λ p. p.address == a) R }
 {
     readings_are_plain();
@@ -27,6 +27,6 @@ pub fn damage_is_repaired()
 
 /// There is at most one list of pages that is shown, and its pages may be listed.
 pub fn shown_pages_are_one_list()
-    ensures one { (words : List ℕ) (a : ℕ) (ps qs : List Page) → IsShown words a ps → IsShown words a qs → ps ≡ qs }
-    ensures listable { (words : List ℕ) (a : ℕ) (ps : List Page) → IsShown words a ps → All IsListable ps }
+    ensures one { (words : List ℕ) (a : ℕ) (ps qs : List Page) → AreShown words a ps → AreShown words a qs → ps ≡ qs }
+    ensures listable { (words : List ℕ) (a : ℕ) (ps : List Page) → AreShown words a ps → All IsListable ps }
 {}

@@ -8,6 +8,9 @@ use pocsag_words::numbers_are_repaired;
 use std::alloc::Global;
 use std::mem;
 
+// The words of a batch, its synchronisation codeword among them.
+const BATCH: u32 = 17;
+
 // Where a pager is.
 #[derive(Drop)]
 pub(crate) enum State {
@@ -34,14 +37,14 @@ impl Pager {
     ghost use Rattle.std.specs.Bool.{OnTrue};
     ghost use Rattle.pocsag_pages.specs.declared.page.Page.{Page};
     ghost use Rattle.pocsag_pager.specs.Faults.{address_fault};
-    ghost use Rattle.pocsag_pager.specs.Shown.{IsShown};
-    ghost use Rattle.pocsag_pager.specs.Standing.{HasHeard, HaveEnded, IsElsewhere, IsOver, Stands, address_of};
+    ghost use Rattle.pocsag_pager.specs.Shown.{AreShown};
+    ghost use Rattle.pocsag_pager.specs.Standing.{HasHeard, HaveEnded, IsElsewhere, IsOver, Stands, pager_address};
 
     /// A pager that has heard nothing yet, which takes no memory. It refuses an address above
     /// 2,097,151 (`BadAddress`) and then a reserved one (`ReservedAddress`).
     pub fn new(alloc: Global, address: u32) -> Result<Pager, PagerFault>
         ensures stands { IfOk result (λ p. Stands p []) }
-        ensures address { IfOk result (λ p. address_of p ≡ address) }
+        ensures address { IfOk result (λ p. pager_address p ≡ address) }
         ensures ok { OnOk result (address_fault address ≡ None) }
         ensures err { IfErr result (λ e. address_fault address ≡ Some e) }
     {
@@ -64,15 +67,15 @@ impl Pager {
 
         // Where these are the pages of *Shown* that had ended, with the answer they are those that
         // have ended now.
-        ensures ended { (words : List ℕ) (ps : List Page) → Stands self.old words → HaveEnded words (address_of self.old) ps →
-            IfOk result (λ page. HaveEnded (words ++ word ∷ []) (address_of self.old) (ps ++ option_to_list page)) }
-        ensures address { address_of self.new ≡ address_of self.old }
+        ensures ended { (words : List ℕ) (ps : List Page) → Stands self.old words → HaveEnded words (pager_address self.old) ps →
+            IfOk result (λ page. HaveEnded (words ++ word ∷ []) (pager_address self.old) (ps ++ option_to_list page)) }
+        ensures address { pager_address self.new ≡ pager_address self.old }
         ensures failed { IsOver self.old → result ≡ Err PagerFault.Failed }
         ensures memory { IfErr result (λ e. (e ≡ PagerFault.OutOfMemory) ⊎ IsOver self.old) }
         ensures over { OnErr result (IsOver self.new) }
     {
         let place = self.place;
-        self.place = (place + 1) % 17;
+        self.place = (place + 1) % BATCH;
         let heard = heard_as(word);
         if self.waits() && place > 0 && !opens(self.address, place - 1, heard) {
             return Ok(None);
@@ -84,23 +87,20 @@ impl Pager {
             self.state = State::Listening(kept);
             return Ok(None);
         }
-        let Ok(change) = change_at(self.alloc, self.address, place - 1, kept, heard) else {
-            return Err(PagerFault::OutOfMemory);
-        };
-        let Change { kept, ended } = change;
+        let Change { kept, ended } = change_at(self.alloc, self.address, place - 1, kept, heard)?;
         self.state = State::Listening(kept);
         Ok(ended)
     }
 
     /// The page that is still open, which takes no memory. From then on the pager answers `Failed`.
     pub fn end(&mut self) -> Result<Option<Page>, PagerFault>
-        ensures shown { (words : List ℕ) (ps : List Page) → Stands self.old words → HaveEnded words (address_of self.old) ps →
-            IfOk result (λ page. IsShown words (address_of self.old) (ps ++ option_to_list page)) }
+        ensures shown { (words : List ℕ) (ps : List Page) → Stands self.old words → HaveEnded words (pager_address self.old) ps →
+            IfOk result (λ page. AreShown words (pager_address self.old) (ps ++ option_to_list page)) }
         ensures ok { (words : List ℕ) → Stands self.old words → IsOk result }
         ensures failed { IsOver self.old → result ≡ Err PagerFault.Failed }
         ensures err { IfErr result (λ e. (e ≡ PagerFault.Failed) × IsOver self.old) }
         ensures over { IsOver self.new }
-        ensures address { address_of self.new ≡ address_of self.old }
+        ensures address { pager_address self.new ≡ pager_address self.old }
     {
         match mem::replace(&mut self.state, State::Failed) {
             State::Listening(kept) => Ok(kept),
@@ -110,7 +110,7 @@ impl Pager {
 
     // The frame of the address.
     pub(crate) fn frame(&self) -> usize
-        ensures { result ≡ address_of self.now % 8 }
+        ensures { result ≡ pager_address self.now % 8 }
     {
         self.address as usize % 8
     }
@@ -126,31 +126,32 @@ impl Pager {
     // address can stand among them.
     pub(crate) fn passes(&self, count: usize) -> bool
         ensures open_page { OnTrue result (self.now.state ≡ State.Listening None) }
-        ensures places { OnTrue result (IsElsewhere (address_of self.now) self.now.place count) }
+        ensures places { OnTrue result (IsElsewhere (pager_address self.now) self.now.place count) }
     {
         if !self.waits() {
             return false;
         }
         let first = self.place as usize;
         let frame = 1 + 2 * self.frame();
-        if count > 17 {
+        let words = BATCH as usize;
+        if count > words {
             return false;
         }
         if first + count <= frame {
             return true;
         }
-        frame + 2 <= first && first + count <= 17
+        frame + 2 <= first && first + count <= words
     }
 
     // Passes over the next words, so many, unheard.
     pub(crate) fn pass(&mut self, count: usize)
         requires open_page { self.old.state ≡ State.Listening None }
-        requires places { IsElsewhere (address_of self.old) self.old.place count }
+        requires places { IsElsewhere (pager_address self.old) self.old.place count }
         ensures heard { (words more : List ℕ) (ps : List Page) → HasHeard self.old words ps → All (λ w. w < 2 ^ 32) more → length more ≡ count →
             HasHeard self.new (words ++ more) ps }
-        ensures address { address_of self.new ≡ address_of self.old }
+        ensures address { pager_address self.new ≡ pager_address self.old }
     {
         numbers_are_repaired();
-        self.place = (self.place + count as u32) % 17;
+        self.place = (self.place + count as u32) % BATCH;
     }
 }

@@ -4,8 +4,8 @@ ghost use Rattle.pocsag_pager.specs.Shown.{is_ours};
 ghost use Rattle.pocsag_pager.specs.Turns.{IsHeardAs, ending, next_open};
 
 use pocsag_pages::{Page, Payload};
-use pocsag_words::{Kind, OutOfMemory, repair};
-use std::alloc::Global;
+use pocsag_words::{Kind, repair};
+use std::alloc::{AllocError, Global};
 
 // What the word says once it is mended; `None` where no codeword is within two bits.
 pub(crate) fn heard_as(word: u32) -> Option<Kind>
@@ -38,7 +38,7 @@ pub(crate) fn opens(address: u32, slot: u32, heard: Option<Kind>) -> bool
 }
 
 // The page with the bits of one more message codeword.
-fn extended(page: Page, bits: u32) -> Result<Page, OutOfMemory>
+fn extended(page: Page, bits: u32) -> Result<Page, AllocError>
     ensures { IfOk result (λ p. p ≡ record page { payload = page.payload ++ bits ∷ [] }) }
 {
     let Page {
@@ -47,9 +47,7 @@ fn extended(page: Page, bits: u32) -> Result<Page, OutOfMemory>
         payload,
     } = page;
     let mut items = payload.into_vec();
-    let Ok(_) = items.push(bits) else {
-        return Err(OutOfMemory);
-    };
+    items.push(bits)?;
     Ok(Page {
         address,
         function,
@@ -70,7 +68,7 @@ pub(crate) fn change_at(
     slot: u32,
     kept: Option<Page>,
     heard: Option<Kind>,
-) -> Result<Change, OutOfMemory>
+) -> Result<Change, AllocError>
     requires { slot < 16 }
     ensures kept { IfOk result (λ c. c.kept ≡ next_open address slot kept heard) }
     ensures ended { IfOk result (λ c. c.ended ≡ ending kept heard) }
@@ -102,7 +100,6 @@ pub(crate) fn change_at(
                 Ok(Change { kept: None, ended })
             }
         }
-        Some(Kind::Idle) => Ok(Change { kept: None, ended }),
-        None => Ok(Change { kept: None, ended }),
+        Some(Kind::Idle) | None => Ok(Change { kept: None, ended }),
     }
 }

@@ -8,9 +8,10 @@ use Rattle.pocsag_words.specs.Codeword.{IsCodeword}
 use Rattle.pocsag_words.specs.Kinds.{kind_of}
 use Rattle.pocsag_words.specs.declared.codeword.Kind.{Kind}
 use Rattle.pocsag_pages.specs.Bytes.{unsynced, words_of}
-use Rattle.pocsag_decode.proofs.WordByWord.{unsynced_more}
+use Rattle.pocsag_pages.proofs.Lengths.{unsynced_more}
+use Rattle.pocsag_decode.specs.Places.{is_idle}
 use Rattle.pocsag_show.specs.declared.grid.Grid.{Grid}
-use Rattle.pocsag_show.specs.Grid.{idles_in, is_idle, pages_in}
+use Rattle.pocsag_show.specs.Grid.{idles_in, pages_in}
 use Rattle.pocsag_show.specs.Taking.{IsGridOf, IsUnderWay, Took, kinds_from, letters_from}
 use Rattle.pocsag_show.proofs.Letters.{count-append, index-letters, length-letters, letters-append}
 

@@ -1,11 +1,12 @@
 -- The codewords that bytes are sent from, and the text of the bytes.
-use Rattle.std.proofs.Common.{◌≡◌, ◌≢◌, ℕ, ◌*◌, ◌%◌, ◌<◌, ◌≤◌, List, get_or, Fits, w8, length, map, Result, Ok, Err, All, ap, sym, subst, ◌∙◌, arith}
+use Rattle.std.proofs.Common.{◌≡◌, ℕ, ◌*◌, ◌%◌, ◌<◌, ◌≤◌, List, get_or, Fits, w8, length, map, Result, Ok, Err, All, ap, sym, subst, ◌∙◌, arith}
 use Rattle.std.proofs.lemmas.List.{length-map}
 use Rattle.pocsag_words.specs.Codeword.{IsCodeword}
 use Rattle.pocsag_words.specs.Kinds.{kind_of}
 use Rattle.pocsag_pages.specs.declared.page.Page.{Page}
+use Rattle.pocsag_pages.specs.Bytes.{codewords_in}
 use Rattle.pocsag_decode.specs.Faults.{IsPastPreamble, ReadsAs}
-use Rattle.pocsag_decode.proofs.Judgements.{codewords_are, reads_whole}
+use Rattle.pocsag_decode.proofs.SentBytes.{codewords_are, reads_whole}
 use Rattle.std.proofs.lemmas.List.Elements.{All-from_get_or}
 use Rattle.std.specs.Result.{IsErr, IsErrAnd, MatchResult}
 use Rattle.pocsag_pages.specs.Listable.{IsListable}
@@ -15,8 +16,8 @@ use Rattle.pocsag_show.specs.declared.fault.ShowFault.{ShowFault}
 use Rattle.pocsag_show.specs.declared.fault.ShowFault.TheVariants as fault
 use Rattle.pocsag_show.specs.declared.grid.Grid.{Grid}
 use Rattle.pocsag_show.specs.Picture.{grid_text, picture}
-use Rattle.pocsag_show.specs.Showing.{Explains, IsTextOf}
-use Rattle.pocsag_show.specs.Taking.{IsGridOf, codewords_in}
+use Rattle.pocsag_show.specs.Showing.{Explains, ExplainsReading, IsTextOf}
+use Rattle.pocsag_show.specs.Taking.{IsGridOf}
 
 module _ (X : List ℕ) (ps : List Page) (r : ReadsAs X ps) where
   same : codewords_in X ≡ r.codewords
@@ -62,6 +63,6 @@ kinds_whole X judged j = let n = j.grid.count in let m = j.whole in omega arith
 
 -- want of memory past the preamble
 pub wanting : {T : Type 0} (X : List ℕ) (r : Result T ShowFault) (Good : T → Type 0) → IsPastPreamble X → IsErr r → IsErrAnd r (λ e. e ≡ fault.OutOfMemory)
-    → MatchResult r Good (λ e. (e ≢ fault.WriteFault) × Explains X e)
+    → MatchResult r Good (ExplainsReading X)
 wanting X (Ok v) Good past err is = absurd (cc)
 wanting X (Err e) Good past err is = (λ w. cc, subst (Explains X) (sym is) past)

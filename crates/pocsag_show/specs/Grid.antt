@@ -3,6 +3,7 @@ use Rattle.std.specs.Prelude.{ℕ, ◌+◌, ◌-◌, ◌%◌, Bool, true, false,
 use Rattle.std.specs.List.{count_by}
 use Rattle.pocsag_words.specs.declared.codeword.Kind.{Kind}
 use Rattle.pocsag_words.specs.declared.codeword.Kind.TheVariants.{Idle, Address, Message}
+use Rattle.pocsag_decode.specs.Places.{is_idle}
 
 -- The letters of the pages, which are numbered from 0 in order of transmission: A to Z in turn, or a
 -- to z in turn.
@@ -16,11 +17,6 @@ abbrev pub is_address : Kind → Bool
 is_address Idle = false
 is_address (Address high function) = true
 is_address (Message bits) = false
-
-abbrev pub is_idle : Kind → Bool
-is_idle Idle = true
-is_idle (Address high function) = false
-is_idle (Message bits) = false
 
 -- How many pages begin in the codewords, each with its address codeword, and how many are idle.
 abbrev pub pages_in : List Kind → ℕ

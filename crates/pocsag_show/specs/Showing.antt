@@ -1,5 +1,5 @@
 -- What showing a transmission leaves of its writer, and when each fault comes.
-use Rattle.std.specs.Prelude.{◌≡◌, ℕ, List, ◌++◌, map}
+use Rattle.std.specs.Prelude.{◌≡◌, ◌≢◌, ℕ, List, ◌++◌, map}
 use Rattle.pocsag_words.specs.Devices.{TookPrefix}
 use Rattle.pocsag_words.specs.declared.codeword.Kind.{Kind}
 use Rattle.pocsag_words.specs.Kinds.{kind_of}
@@ -36,7 +36,11 @@ Explains X (fault.Transmission f) = HasFault X f
 Explains X fault.WriteFault = (pages : List Page) × ReadsAs X pages
 Explains X fault.OutOfMemory = IsPastPreamble X
 
+-- The same of what comes before the first write.
+abbrev pub ExplainsReading : List ℕ → ShowFault → Type 0
+ExplainsReading X f = (f ≢ fault.WriteFault) × Explains X f
+
 -- The decoder's fault passed up: want of memory keeps its name.
-abbrev pub fault_of : DecodeFault → ShowFault
-fault_of decoding.OutOfMemory = fault.OutOfMemory
-fault_of f = fault.Transmission f
+abbrev pub fault_passed_on : DecodeFault → ShowFault
+fault_passed_on decoding.OutOfMemory = fault.OutOfMemory
+fault_passed_on f = fault.Transmission f

@@ -3,13 +3,9 @@ use Rattle.std.specs.Prelude.{◌≡◌, ℕ, ◌+◌, ◌*◌, ◌<◌, ◌&&�
 use Rattle.pocsag_words.specs.Codeword.{IsCodeword}
 use Rattle.pocsag_words.specs.Kinds.{kind_of}
 use Rattle.pocsag_words.specs.declared.codeword.Kind.{Kind}
-use Rattle.pocsag_pages.specs.Bytes.{after_preamble, unsynced, words_of}
+use Rattle.pocsag_pages.specs.Bytes.{unsynced, words_of}
 use Rattle.pocsag_show.specs.declared.grid.Grid.{Grid}
 use Rattle.pocsag_show.specs.Grid.{idles_in, letter_after, letter_at, pages_in}
-
--- The words that the bytes have at the places of codewords.
-abbrev pub codewords_in : List ℕ → List ℕ
-codewords_in X = unsynced 0 (words_of (after_preamble X))
 
 -- The letters of the codewords, before which so many pages began.
 abbrev pub letters_from : ℕ → List Kind → List ℕ

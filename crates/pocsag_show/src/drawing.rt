@@ -8,8 +8,7 @@ use crate::starts::capitals;
 use crate::style::put_style;
 use pocsag_decode::{kind_of_page, message_of};
 use pocsag_pages::Page;
-use pocsag_words::OutOfMemory;
-use std::alloc::Global;
+use std::alloc::{AllocError, Global};
 
 // Measures of the drawing: the left side of the first cell, the width of a cell, the upper side of the
 // first row, the height of a cell, from row to row, and what stays free below and at the right.
@@ -34,7 +33,7 @@ fn put_head(
     text: &mut Vec<u8>,
     judged: &Judged,
     rows: usize,
-) -> Result<(), OutOfMemory>
+) -> Result<(), AllocError>
     requires some { 0 < rows }
     requires few { rows < 2 ^ 59 }
 {
@@ -68,7 +67,7 @@ fn put_head(
 }
 
 // Writes the numbers of the frames over the first row.
-fn put_frame_numbers(alloc: Global, text: &mut Vec<u8>) -> Result<(), OutOfMemory> {
+fn put_frame_numbers(alloc: Global, text: &mut Vec<u8>) -> Result<(), AllocError> {
     for frame in 0..8usize {
         let x = LEFT + CELL * (2 * frame + 1);
         let y = TOP - 8;
@@ -81,7 +80,7 @@ fn put_frame_numbers(alloc: Global, text: &mut Vec<u8>) -> Result<(), OutOfMemor
 }
 
 // Writes the numbers of the batches, and the synchronisation codeword of each.
-fn put_rows(alloc: Global, text: &mut Vec<u8>, rows: usize) -> Result<(), OutOfMemory>
+fn put_rows(alloc: Global, text: &mut Vec<u8>, rows: usize) -> Result<(), AllocError>
     requires { rows < 2 ^ 59 }
 {
     for row in 0..rows {
@@ -105,7 +104,7 @@ fn put_rows(alloc: Global, text: &mut Vec<u8>, rows: usize) -> Result<(), OutOfM
 }
 
 // Writes the lines between the frames, over all rows.
-fn put_frame_lines(alloc: Global, text: &mut Vec<u8>, rows: usize) -> Result<(), OutOfMemory>
+fn put_frame_lines(alloc: Global, text: &mut Vec<u8>, rows: usize) -> Result<(), AllocError>
     requires { rows < 2 ^ 59 }
 {
     let top = TOP - 4;
@@ -119,7 +118,7 @@ fn put_frame_lines(alloc: Global, text: &mut Vec<u8>, rows: usize) -> Result<(),
 }
 
 // Writes a rectangle for each row in which the codewords from one index to another stand.
-fn put_run(alloc: Global, text: &mut Vec<u8>, from: usize, to: usize) -> Result<(), OutOfMemory>
+fn put_run(alloc: Global, text: &mut Vec<u8>, from: usize, to: usize) -> Result<(), AllocError>
     requires { to < 2 ^ 63 }
 {
     let mut at = from;
@@ -139,7 +138,7 @@ fn put_run(alloc: Global, text: &mut Vec<u8>, from: usize, to: usize) -> Result<
 }
 
 // Writes the idle codewords from one index to another.
-fn put_idles(alloc: Global, text: &mut Vec<u8>, from: usize, to: usize) -> Result<(), OutOfMemory>
+fn put_idles(alloc: Global, text: &mut Vec<u8>, from: usize, to: usize) -> Result<(), AllocError>
     requires { to < 2 ^ 63 }
 {
     if from >= to {
@@ -151,7 +150,7 @@ fn put_idles(alloc: Global, text: &mut Vec<u8>, from: usize, to: usize) -> Resul
 }
 
 // Writes a byte of a message so that it stands for itself: a control character as its picture.
-fn put_escaped(alloc: Global, text: &mut Vec<u8>, byte: u8) -> Result<(), OutOfMemory> {
+fn put_escaped(alloc: Global, text: &mut Vec<u8>, byte: u8) -> Result<(), AllocError> {
     match byte {
         b'&' => put(text, b"&amp;"),
         b'<' => put(text, b"&lt;"),
@@ -168,7 +167,7 @@ fn put_escaped(alloc: Global, text: &mut Vec<u8>, byte: u8) -> Result<(), OutOfM
 }
 
 // Writes what is told of a page: its letter, address, kind and message.
-fn put_told(alloc: Global, text: &mut Vec<u8>, letter: u8, page: &Page) -> Result<(), OutOfMemory>
+fn put_told(alloc: Global, text: &mut Vec<u8>, letter: u8, page: &Page) -> Result<(), AllocError>
     requires { IsListable page.now }
 {
     let items = page.payload.as_slice();
@@ -180,7 +179,9 @@ fn put_told(alloc: Global, text: &mut Vec<u8>, letter: u8, page: &Page) -> Resul
         return Ok(());
     }
     put(text, b": ")?;
-    let message = message_of(alloc, page.function, items)?;
+    let Ok(message) = message_of(alloc, page.function, items) else {
+        return Err(AllocError);
+    };
     for byte in message.as_slice() {
         put_escaped(alloc, text, *byte)?;
     }
@@ -195,7 +196,7 @@ fn put_page(
     page: &Page,
     from: usize,
     to: usize,
-) -> Result<(), OutOfMemory>
+) -> Result<(), AllocError>
     requires listable { IsListable page.now }
     requires few { to < 2 ^ 63 }
     requires order { from ≤ to }
@@ -223,7 +224,7 @@ fn put_pages(
     starts: &[usize],
     pages: &[Page],
     end: usize,
-) -> Result<(), OutOfMemory>
+) -> Result<(), AllocError>
     requires listable { All IsListable pages.now }
     requires few { end < 2 ^ 63 }
 {
@@ -240,7 +241,7 @@ fn put_pages(
 }
 
 /// The drawing of a transmission that was judged, as SVG 1.1.
-pub(crate) fn drawing_of(alloc: Global, judged: &Judged) -> Result<Vec<u8>, OutOfMemory>
+pub(crate) fn drawing_of(alloc: Global, judged: &Judged) -> Result<Vec<u8>, AllocError>
     requires listable { All IsListable judged.now.pages.items }
     requires some { 16 ≤ length judged.now.grid.letters.items }
 {

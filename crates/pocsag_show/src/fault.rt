@@ -2,7 +2,8 @@ ghost use Rattle.std.specs.Prelude.{◌≡◌};
 ghost use Rattle.pocsag_show.specs.declared.fault.ShowFault.TheVariants as fault;
 
 use pocsag_decode::DecodeFault;
-use pocsag_words::OutOfMemory;
+use pocsag_words::DeviceFault;
+use std::alloc::AllocError;
 use thiserror::Error;
 
 /// Why a transmission was not shown.
@@ -19,18 +20,26 @@ pub enum ShowFault {
     OutOfMemory,
 }
 
-impl From<OutOfMemory> for ShowFault {
+impl From<AllocError> for ShowFault {
     ghost from_gives = { λ _ e. e ≡ fault.OutOfMemory };
 
-    fn from(_refused: OutOfMemory) -> ShowFault {
+    fn from(_refused: AllocError) -> ShowFault {
         ShowFault::OutOfMemory
     }
 }
 
-impl From<DecodeFault> for ShowFault {
-    ghost use Rattle.pocsag_show.specs.Showing.{fault_of};
+impl From<DeviceFault> for ShowFault {
+    ghost from_gives = { λ _ e. e ≡ fault.WriteFault };
 
-    ghost from_gives = { λ refused e. e ≡ fault_of refused };
+    fn from(_refused: DeviceFault) -> ShowFault {
+        ShowFault::WriteFault
+    }
+}
+
+impl From<DecodeFault> for ShowFault {
+    ghost use Rattle.pocsag_show.specs.Showing.{fault_passed_on};
+
+    ghost from_gives = { λ refused e. e ≡ fault_passed_on refused };
 
     fn from(refused: DecodeFault) -> ShowFault {
         match refused {

@@ -1,5 +1,5 @@
-ghost use Rattle.std.specs.Prelude.{◌≢◌, MatchResult};
-ghost use Rattle.pocsag_show.specs.Showing.{Explains};
+ghost use Rattle.std.specs.Prelude.{MatchResult};
+ghost use Rattle.pocsag_show.specs.Showing.{ExplainsReading};
 ghost use Rattle.pocsag_show.specs.Judged.{IsJudged};
 
 use crate::fault::ShowFault;
@@ -10,7 +10,7 @@ use std::alloc::Global;
 
 /// The pages of a transmission and the grid of its codewords, or its first fault.
 pub(crate) fn judge(alloc: Global, bytes: &[u8]) -> Result<Judged, ShowFault>
-    ensures { MatchResult result (IsJudged bytes.now) (λ e. e ≢ ShowFault.WriteFault × Explains bytes.now e) }
+    ensures { MatchResult result (IsJudged bytes.now) (ExplainsReading bytes.now) }
 {
     let pages = decode(alloc, bytes)?;
     let grid = grid_of(alloc, bytes)?;

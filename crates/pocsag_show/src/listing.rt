@@ -2,7 +2,7 @@ ghost use Rattle.std.specs.Prelude.{◌≡◌, ℕ, ◌+◌, ◌<◌, ◌^◌, �
 ghost use Rattle.std.specs.Fmt.{decimal};
 ghost use Rattle.csv.specs.Writing.{row_text, default_writer};
 ghost use Rattle.pocsag_pages.specs.Listable.{IsListable};
-ghost use Rattle.pocsag_decode.specs.Lines.{IsReady, text_in};
+ghost use Rattle.pocsag_decode.specs.Lines.{IsReady, PutsRow};
 ghost use Rattle.pocsag_show.specs.Judged.{IsJudged};
 ghost use Rattle.pocsag_show.specs.Places.{place_header, place_record, place_rows};
 ghost use Rattle.pocsag_show.specs.Showing.{IsTextOf};
@@ -13,35 +13,28 @@ use crate::starts::capitals;
 use csv::{ByteRecord, Writer};
 use pocsag_decode::{kind_of_page, message_of};
 use pocsag_pages::Page;
-use pocsag_words::OutOfMemory;
-use std::alloc::Global;
+use std::alloc::{AllocError, Global};
 
 // Writes one record.
 fn put_record(
     alloc: Global,
     writer: &mut Writer<Vec<u8>>,
     fields: &[&[u8]; 7],
-) -> Result<(), OutOfMemory>
+) -> Result<(), AllocError>
     requires { IsReady writer.old }
-    ensures ready { OnOk result (IsReady writer.new) }
-    ensures text { OnOk result (text_in writer.new ≡ text_in writer.old ++ row_text default_writer (map (λ field. field.now) fields.now)) }
+    ensures { PutsRow result writer.old writer.new (map (λ field. field.now) fields.now) }
 {
-    let Ok(row) = ByteRecord::from_fields(alloc, fields) else {
-        return Err(OutOfMemory);
-    };
+    let row = ByteRecord::from_fields(alloc, fields)?;
     match writer.write_byte_record(&row) {
         Ok(()) => Ok(()),
-        Err(_) => Err(OutOfMemory),
+        Err(_) => Err(AllocError),
     }
 }
 
-fn decimal(alloc: Global, number: usize) -> Result<String, OutOfMemory>
+fn decimal(alloc: Global, number: usize) -> Result<String, AllocError>
     ensures { IfOk result (λ text. string_bytes text ≡ decimal number) }
 {
-    match format!(in alloc; "{number}") {
-        Ok(text) => Ok(text),
-        Err(_) => Err(OutOfMemory),
-    }
+    format!(in alloc; "{number}")
 }
 
 // Writes the record of a page that begins at an index.
@@ -50,11 +43,10 @@ fn put_place(
     writer: &mut Writer<Vec<u8>>,
     start: usize,
     page: &Page,
-) -> Result<(), OutOfMemory>
+) -> Result<(), AllocError>
     requires ready { IsReady writer.old }
     requires listable { IsListable page.now }
-    ensures ready { OnOk result (IsReady writer.new) }
-    ensures text { OnOk result (text_in writer.new ≡ text_in writer.old ++ row_text default_writer (place_record start page.now)) }
+    ensures { PutsRow result writer.old writer.new (place_record start page.now) }
 {
     let items = page.payload.as_slice();
     let batch = decimal(alloc, start / 16 + 1)?;
@@ -62,7 +54,9 @@ fn put_place(
     let slot = decimal(alloc, start % 16)?;
     let codewords = decimal(alloc, 1 + items.len())?;
     let address = decimal(alloc, page.address as usize)?;
-    let message = message_of(alloc, page.function, items)?;
+    let Ok(message) = message_of(alloc, page.function, items) else {
+        return Err(AllocError);
+    };
     let fields = [
         batch.as_bytes(),
         frame.as_bytes(),
@@ -76,7 +70,7 @@ fn put_place(
 }
 
 // The listing of pages that begin at these indices.
-fn rows_of(alloc: Global, starts: &[usize], pages: &[Page]) -> Result<Vec<u8>, OutOfMemory>
+fn rows_of(alloc: Global, starts: &[usize], pages: &[Page]) -> Result<Vec<u8>, AllocError>
     requires { All IsListable pages.now }
     ensures { IfOk result (λ v. v.items ≡ row_text default_writer place_header ++ place_rows starts.now pages.now) }
 {
@@ -99,12 +93,12 @@ fn rows_of(alloc: Global, starts: &[usize], pages: &[Page]) -> Result<Vec<u8>, O
     }
     match writer.into_inner() {
         Ok(text) => Ok(text),
-        Err(_) => Err(OutOfMemory),
+        Err(_) => Err(AllocError),
     }
 }
 
 /// The listing of a transmission that was judged.
-pub(crate) fn listing_of(alloc: Global, judged: &Judged) -> Result<Vec<u8>, OutOfMemory>
+pub(crate) fn listing_of(alloc: Global, judged: &Judged) -> Result<Vec<u8>, AllocError>
     requires { All IsListable judged.now.pages.items }
     ensures { (X : List ℕ) → IsJudged X judged.now → IfOk result (λ v. IsTextOf place_listing X v.items) }
 {

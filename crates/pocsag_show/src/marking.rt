@@ -3,8 +3,8 @@ ghost use Rattle.pocsag_show.specs.Grid.{letter_after};
 ghost use Rattle.pocsag_show.specs.Taking.{Took};
 
 use crate::grid::Grid;
-use pocsag_words::{Kind, OutOfMemory};
-use std::alloc::Global;
+use pocsag_words::Kind;
+use std::alloc::{AllocError, Global};
 
 // The letter of a codeword where so many pages began before it.
 fn letter_after(pages: u64, kind: Kind) -> u8
@@ -31,12 +31,10 @@ impl Grid {
     }
 
     /// Takes the next codeword.
-    pub(crate) fn take(&mut self, kind: Kind) -> Result<(), OutOfMemory>
+    pub(crate) fn take(&mut self, kind: Kind) -> Result<(), AllocError>
         ensures { OnOk result (Took self.old self.new (kind ∷ [])) }
     {
-        let Ok(()) = self.letters.push(letter_after(self.pages, kind)) else {
-            return Err(OutOfMemory);
-        };
+        self.letters.push(letter_after(self.pages, kind))?;
         match kind {
             Kind::Idle => self.idles += 1,
             Kind::Address { .. } => self.pages += 1,

@@ -6,16 +6,11 @@ ghost use Rattle.pocsag_show.specs.Taking.{IsGridOf};
 
 use crate::grid::Grid;
 use crate::pieces::put;
-use pocsag_words::OutOfMemory;
-use std::alloc::Global;
+use pocsag_pages::{BATCH_BITS, PREAMBLE_BITS};
+use std::alloc::{AllocError, Global};
 
 /// The codewords of a batch, without its synchronisation codeword.
 pub(crate) const CODEWORDS: usize = 16;
-
-// The bits of a preamble, and of a batch with its synchronisation codeword.
-const PREAMBLE_BITS: u128 = 576;
-
-const BATCH_BITS: u128 = 544;
 
 // The idle codewords in per cent of all, to the nearest whole one.
 #[tactic(auto, unfolding(crate::specs::Picture::share))]
@@ -32,36 +27,26 @@ fn airtime(batches: u64, rate: u32) -> u128
     requires { 0 < rate }
     ensures { result ≡ airtime batches rate }
 {
-    let bits = PREAMBLE_BITS + BATCH_BITS * u128::from(batches);
+    let bits = u128::from(PREAMBLE_BITS) + u128::from(BATCH_BITS) * u128::from(batches);
     (1000 * bits + (u128::from(rate) - 1)) / u128::from(rate)
 }
 
-fn put_spaces(text: &mut Vec<u8>, count: usize) -> Result<(), OutOfMemory>
+fn put_spaces(text: &mut Vec<u8>, count: usize) -> Result<(), AllocError>
     requires { count < 4 }
     ensures { OnOk result (text.new.items ≡ text.old.items ++ replicate count 32) }
 {
     let len = text.len() + count;
-    match text.resize(len, b' ') {
-        Ok(()) => Ok(()),
-        Err(_) => Err(OutOfMemory),
-    }
+    text.resize(len, b' ')
 }
 
 // Writes how long so many batches last at a rate.
 #[tactic(auto, unfolding(crate::specs::Picture::airtime_part))]
-fn put_airtime(
-    alloc: Global,
-    text: &mut Vec<u8>,
-    batches: u64,
-    rate: u32,
-) -> Result<(), OutOfMemory>
+fn put_airtime(alloc: Global, text: &mut Vec<u8>, batches: u64, rate: u32) -> Result<(), AllocError>
     requires { 0 < rate }
     ensures { OnOk result (text.new.items ≡ text.old.items ++ airtime_part batches rate) }
 {
     let airtime = airtime(batches, rate);
-    let Ok(part) = format!(in alloc; "{airtime} ms at {rate} bit/s") else {
-        return Err(OutOfMemory);
-    };
+    let part = format!(in alloc; "{airtime} ms at {rate} bit/s")?;
     put(text, part.as_bytes())
 }
 
@@ -72,31 +57,27 @@ fn put_counts(
     text: &mut Vec<u8>,
     batches: u64,
     codewords: u64,
-) -> Result<(), OutOfMemory>
+) -> Result<(), AllocError>
     ensures { OnOk result (text.new.items ≡ text.old.items ++ counts_part batches codewords) }
 {
-    let Ok(part) = format!(in alloc; "batches {batches}, codewords {codewords}") else {
-        return Err(OutOfMemory);
-    };
+    let part = format!(in alloc; "batches {batches}, codewords {codewords}")?;
     put(text, part.as_bytes())
 }
 
 // Writes how many idle codewords there are, and their share.
 #[tactic(auto, unfolding(crate::specs::Picture::idles_part))]
-fn put_idles(alloc: Global, text: &mut Vec<u8>, batches: u64, idles: u64) -> Result<(), OutOfMemory>
+fn put_idles(alloc: Global, text: &mut Vec<u8>, batches: u64, idles: u64) -> Result<(), AllocError>
     requires { 0 < batches }
     ensures { OnOk result (text.new.items ≡ text.old.items ++ idles_part batches idles) }
 {
     let percent = share(idles, batches);
-    let Ok(part) = format!(in alloc; ", idles {idles} ({percent}%)") else {
-        return Err(OutOfMemory);
-    };
+    let part = format!(in alloc; ", idles {idles} ({percent}%)")?;
     put(text, part.as_bytes())
 }
 
 // Writes how long so many batches last at the three rates.
 #[tactic(auto, unfolding(crate::specs::Picture::airtimes_part))]
-fn put_airtimes(alloc: Global, text: &mut Vec<u8>, batches: u64) -> Result<(), OutOfMemory>
+fn put_airtimes(alloc: Global, text: &mut Vec<u8>, batches: u64) -> Result<(), AllocError>
     ensures { OnOk result (text.new.items ≡ text.old.items ++ airtimes_part batches) }
 {
     put_airtime(alloc, text, batches, 512)?;
@@ -114,7 +95,7 @@ pub(crate) fn put_totals(
     batches: u64,
     codewords: u64,
     idles: u64,
-) -> Result<(), OutOfMemory>
+) -> Result<(), AllocError>
     requires { 0 < batches }
     ensures { OnOk result (text.new.items ≡ text.old.items ++ totals_line batches codewords idles) }
 {
@@ -127,12 +108,10 @@ pub(crate) fn put_totals(
 
 // Writes a number at the right of three columns, and spaces up to the fifth.
 #[tactic(auto, unfolding(crate::specs::Picture::number_column))]
-fn put_number(alloc: Global, text: &mut Vec<u8>, number: u64) -> Result<(), OutOfMemory>
+fn put_number(alloc: Global, text: &mut Vec<u8>, number: u64) -> Result<(), AllocError>
     ensures { OnOk result (text.new.items ≡ text.old.items ++ number_column number) }
 {
-    let Ok(digits) = format!(in alloc; "{number}") else {
-        return Err(OutOfMemory);
-    };
+    let digits = format!(in alloc; "{number}")?;
     put_spaces(text, 3usize.saturating_sub(digits.len()))?;
     put(text, digits.as_bytes())?;
     put_spaces(text, 2usize.saturating_sub(digits.len().saturating_sub(3)))
@@ -145,7 +124,7 @@ fn put_frame(
     letters: &[u8],
     batch: usize,
     frame: usize,
-) -> Result<(), OutOfMemory>
+) -> Result<(), AllocError>
     requires frame { frame < 8 }
     requires whole { 16 * batch + 16 ≤ length letters.now }
     ensures { OnOk result (text.new.items ≡ text.old.items ++ frame_cells (slice_index letters.now) batch frame) }
@@ -155,7 +134,7 @@ fn put_frame(
 }
 
 // Writes the eight frames of a batch.
-fn put_frames(text: &mut Vec<u8>, letters: &[u8], batch: usize) -> Result<(), OutOfMemory>
+fn put_frames(text: &mut Vec<u8>, letters: &[u8], batch: usize) -> Result<(), AllocError>
     requires { 16 * batch + 16 ≤ length letters.now }
     ensures { OnOk result (text.new.items ≡ text.old.items
         ++ flat_map (frame_cells (slice_index letters.now) batch) (range_with_len 0 8)) }
@@ -173,7 +152,7 @@ fn put_batch(
     text: &mut Vec<u8>,
     letters: &[u8],
     batch: usize,
-) -> Result<(), OutOfMemory>
+) -> Result<(), AllocError>
     requires { 16 * batch + 16 ≤ length letters.now }
     ensures { OnOk result (text.new.items ≡ text.old.items ++ batch_line (slice_index letters.now) batch) }
 {
@@ -189,7 +168,7 @@ fn put_batches(
     text: &mut Vec<u8>,
     letters: &[u8],
     batches: usize,
-) -> Result<(), OutOfMemory>
+) -> Result<(), AllocError>
     requires { 16 * batches ≤ length letters.now }
     ensures { OnOk result (text.new.items ≡ text.old.items ++ batch_lines (slice_index letters.now) batches) }
 {
@@ -200,7 +179,7 @@ fn put_batches(
 }
 
 /// The text of the grid of whole batches, of which there is one at least.
-pub(crate) fn picture_of(alloc: Global, grid: &Grid) -> Result<Vec<u8>, OutOfMemory>
+pub(crate) fn picture_of(alloc: Global, grid: &Grid) -> Result<Vec<u8>, AllocError>
     requires { 16 ≤ length grid.now.letters.items }
     ensures { (ks : List Kind) → IsGridOf ks grid.now → length ks % 16 ≡ 0 → IfOk result (λ v. v.items ≡ picture ks) }
 {

@@ -2,13 +2,13 @@ ghost use Rattle.std.specs.Prelude.{◌≡◌, ◌≢◌, ◌%◌, ◌∷◌, []
 ghost use Rattle.std.specs.Int.{from_be_bytes, w32};
 ghost use Rattle.pocsag_words.specs.Codeword.{IsCodeword};
 ghost use Rattle.pocsag_words.specs.Kinds.{kind_of};
-ghost use Rattle.pocsag_pages.specs.Bytes.{unsynced};
-ghost use Rattle.pocsag_show.specs.Taking.{IsGridOf, Took, codewords_in};
+ghost use Rattle.pocsag_pages.specs.Bytes.{codewords_in, unsynced};
+ghost use Rattle.pocsag_show.specs.Taking.{IsGridOf, Took};
 
 use crate::grid::Grid;
 use pocsag_pages::leading_len;
-use pocsag_words::{OutOfMemory, from_raw};
-use std::alloc::Global;
+use pocsag_words::from_raw;
+use std::alloc::{AllocError, Global};
 
 // The words of a batch, its synchronisation codeword among them.
 const BATCH: u64 = 17;
@@ -22,7 +22,7 @@ fn word_of(bytes: &[u8]) -> u32
 }
 
 // Takes the word at a place, which is counted from 0 with the synchronisation codewords.
-fn take_word(grid: &mut Grid, place: u64, number: u32) -> Result<(), OutOfMemory>
+fn take_word(grid: &mut Grid, place: u64, number: u32) -> Result<(), AllocError>
     requires { place % 17 ≢ 0 → IsCodeword number }
     ensures { OnOk result (Took grid.old grid.new (map kind_of (unsynced place (number ∷ [])))) }
 {
@@ -36,7 +36,7 @@ fn take_word(grid: &mut Grid, place: u64, number: u32) -> Result<(), OutOfMemory
 }
 
 /// The grid of the codewords that the bytes are sent from.
-pub(crate) fn grid_of(alloc: Global, bytes: &[u8]) -> Result<Grid, OutOfMemory>
+pub(crate) fn grid_of(alloc: Global, bytes: &[u8]) -> Result<Grid, AllocError>
     requires { All IsCodeword (codewords_in bytes.now) }
     ensures { IfOk result (IsGridOf (map kind_of (codewords_in bytes.now))) }
 {

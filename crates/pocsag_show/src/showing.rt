@@ -1,10 +1,10 @@
-ghost use Rattle.std.specs.Prelude.{◌≡◌, ◌≢◌, ◌++◌, List, IfErr, MatchResult, OnErr, OnOk};
-ghost use Rattle.pocsag_words.specs.Devices.{HasFailed, TookPrefix};
+ghost use Rattle.std.specs.Prelude.{◌≡◌, ◌≢◌, List, IfErr, MatchResult, OnOk};
+ghost use Rattle.pocsag_words.specs.Devices.{CountsFailures, Delivers};
 ghost use Rattle.pocsag_pages.specs.declared.page.Page.{Page as page};
-ghost use Rattle.pocsag_decode.specs.Faults.{ReadsAs};
+ghost use Rattle.pocsag_decode.specs.Faults.{ReadsAs, TellsFailures};
 ghost use Rattle.pocsag_show.specs.Picture.{grid_text};
 ghost use Rattle.pocsag_show.specs.Places.{place_listing};
-ghost use Rattle.pocsag_show.specs.Showing.{Explains, IsTextOf, Shows, ShowsPart};
+ghost use Rattle.pocsag_show.specs.Showing.{Explains, ExplainsReading, IsTextOf, Shows, ShowsPart};
 
 use crate::drawing::drawing_of;
 use crate::fault::ShowFault;
@@ -16,7 +16,7 @@ use std::alloc::Global;
 
 // The text of a transmission, or its first fault.
 fn text_of(alloc: Global, bytes: &[u8]) -> Result<Vec<u8>, ShowFault>
-    ensures { MatchResult result (λ v. IsTextOf grid_text bytes.now v.items) (λ e. e ≢ ShowFault.WriteFault × Explains bytes.now e) }
+    ensures { MatchResult result (λ v. IsTextOf grid_text bytes.now v.items) (ExplainsReading bytes.now) }
 {
     let judged = judge(alloc, bytes)?;
     Ok(picture_of(alloc, &judged.grid)?)
@@ -24,7 +24,7 @@ fn text_of(alloc: Global, bytes: &[u8]) -> Result<Vec<u8>, ShowFault>
 
 // The listing of a transmission, or its first fault.
 fn places_of(alloc: Global, bytes: &[u8]) -> Result<Vec<u8>, ShowFault>
-    ensures { MatchResult result (λ v. IsTextOf place_listing bytes.now v.items) (λ e. e ≢ ShowFault.WriteFault × Explains bytes.now e) }
+    ensures { MatchResult result (λ v. IsTextOf place_listing bytes.now v.items) (ExplainsReading bytes.now) }
 {
     let judged = judge(alloc, bytes)?;
     Ok(listing_of(alloc, &judged)?)
@@ -32,7 +32,7 @@ fn places_of(alloc: Global, bytes: &[u8]) -> Result<Vec<u8>, ShowFault>
 
 // The drawing of a transmission, or its first fault.
 fn svg_of(alloc: Global, bytes: &[u8]) -> Result<Vec<u8>, ShowFault>
-    ensures { MatchResult result (λ v. (pages : List page) × ReadsAs bytes.now pages) (λ e. e ≢ ShowFault.WriteFault × Explains bytes.now e) }
+    ensures { MatchResult result (λ v. (pages : List page) × ReadsAs bytes.now pages) (ExplainsReading bytes.now) }
 {
     let judged = judge(alloc, bytes)?;
     Ok(drawing_of(alloc, &judged)?)
@@ -40,16 +40,12 @@ fn svg_of(alloc: Global, bytes: &[u8]) -> Result<Vec<u8>, ShowFault>
 
 // Hands a whole text to the writer.
 fn deliver<S: Sink>(text: &[u8], sink: &mut S) -> Result<(), ShowFault>
-    ensures whole { S.tells → OnOk result (S.taken sink.new ≡ S.taken sink.old ++ text.now) }
-    ensures part { S.tells → OnErr result (TookPrefix (S.taken sink.old) (S.taken sink.new) text.now) }
+    ensures delivers { S.tells → Delivers result (S.taken sink.old) (S.taken sink.new) text.now }
     ensures fault { IfErr result (λ e. e ≡ ShowFault.WriteFault) }
-    ensures succeeded { OnOk result (S.failures sink.new ≡ S.failures sink.old) }
-    ensures failed { OnErr result (HasFailed (S.failures sink.old) (S.failures sink.new)) }
+    ensures failures { CountsFailures result (S.failures sink.old) (S.failures sink.new) }
 {
-    match write_all(sink, text) {
-        Ok(()) => Ok(()),
-        Err(_) => Err(ShowFault::WriteFault),
-    }
+    write_all(sink, text)?;
+    Ok(())
 }
 
 /// Writes the text of a transmission: a line of totals, a line with the numbers of the frames, and a
@@ -63,8 +59,7 @@ pub fn show_text<S: Sink>(alloc: Global, bytes: &[u8], sink: &mut S) -> Result<(
     ensures untouched { IfErr result (λ e. e ≢ ShowFault.WriteFault → sink.new ≡ sink.old) }
 
     // A device's fault is answered only where that device failed.
-    ensures succeeded { OnOk result (S.failures sink.new ≡ S.failures sink.old) }
-    ensures failed { result ≡ Err ShowFault.WriteFault → HasFailed (S.failures sink.old) (S.failures sink.new) }
+    ensures failures { TellsFailures result ShowFault.WriteFault (S.failures sink.old) (S.failures sink.new) }
 {
     let text = text_of(alloc, bytes)?;
     deliver(text.as_slice(), sink)
@@ -81,8 +76,7 @@ pub fn show_list<S: Sink>(alloc: Global, bytes: &[u8], sink: &mut S) -> Result<(
     ensures untouched { IfErr result (λ e. e ≢ ShowFault.WriteFault → sink.new ≡ sink.old) }
 
     // A device's fault is answered only where that device failed.
-    ensures succeeded { OnOk result (S.failures sink.new ≡ S.failures sink.old) }
-    ensures failed { result ≡ Err ShowFault.WriteFault → HasFailed (S.failures sink.old) (S.failures sink.new) }
+    ensures failures { TellsFailures result ShowFault.WriteFault (S.failures sink.old) (S.failures sink.new) }
 {
     let text = places_of(alloc, bytes)?;
     deliver(text.as_slice(), sink)
@@ -96,8 +90,7 @@ pub fn show_svg<S: Sink>(alloc: Global, bytes: &[u8], sink: &mut S) -> Result<()
     ensures untouched { IfErr result (λ e. e ≢ ShowFault.WriteFault → sink.new ≡ sink.old) }
 
     // A device's fault is answered only where that device failed.
-    ensures succeeded { OnOk result (S.failures sink.new ≡ S.failures sink.old) }
-    ensures failed { result ≡ Err ShowFault.WriteFault → HasFailed (S.failures sink.old) (S.failures sink.new) }
+    ensures failures { TellsFailures result ShowFault.WriteFault (S.failures sink.old) (S.failures sink.new) }
 {
     let text = svg_of(alloc, bytes)?;
     deliver(text.as_slice(), sink)

@@ -1,6 +1,5 @@
 use crate::pieces::{put, put_made};
-use pocsag_words::OutOfMemory;
-use std::alloc::Global;
+use std::alloc::{AllocError, Global};
 
 // The style in light and then what differs in dark, where the hues follow each.
 const LIGHT: &[u8] = b"<style type=\"text/css\">
@@ -22,7 +21,7 @@ text{fill:#eee}
 ";
 
 // Writes a rule for each of the 26 hues, in steps that keep neighbours apart.
-fn put_hues(alloc: Global, text: &mut Vec<u8>, lightness: u8) -> Result<(), OutOfMemory> {
+fn put_hues(alloc: Global, text: &mut Vec<u8>, lightness: u8) -> Result<(), AllocError> {
     for number in 0..26u32 {
         let hue = 137 * number % 360;
         put_made(
@@ -34,7 +33,7 @@ fn put_hues(alloc: Global, text: &mut Vec<u8>, lightness: u8) -> Result<(), OutO
 }
 
 /// Writes the style sheet, for light and for dark.
-pub(crate) fn put_style(alloc: Global, text: &mut Vec<u8>) -> Result<(), OutOfMemory> {
+pub(crate) fn put_style(alloc: Global, text: &mut Vec<u8>) -> Result<(), AllocError> {
     put(text, LIGHT)?;
     put_hues(alloc, text, 70)?;
     put(text, DARK)?;

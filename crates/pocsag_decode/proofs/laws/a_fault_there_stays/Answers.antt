@@ -1,4 +1,4 @@
-use Rattle.pocsag_decode.proofs.Judgements.{there_stays}
+use Rattle.pocsag_decode.proofs.OneFault.{there_stays}
 use Rattle.pocsag_decode.proofs.laws.a_fault_there_stays.Goals as goal
 
 pub returns : goal.returns

@@ -1,4 +1,4 @@
-use Rattle.pocsag_decode.proofs.Judgements.{one_fault}
+use Rattle.pocsag_decode.proofs.OneFault.{one_fault}
 use Rattle.pocsag_decode.proofs.laws.faults_are_one.Goals as goal
 
 pub returns : goal.returns

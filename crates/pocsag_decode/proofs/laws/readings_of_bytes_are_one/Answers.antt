@@ -1,4 +1,4 @@
-use Rattle.pocsag_decode.proofs.Judgements.{one_reading}
+use Rattle.pocsag_decode.proofs.SentBytes.{one_reading}
 use Rattle.pocsag_decode.proofs.laws.readings_of_bytes_are_one.Goals as goal
 
 pub returns : goal.returns

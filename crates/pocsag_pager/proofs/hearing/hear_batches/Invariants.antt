@@ -1,10 +1,10 @@
 use Rattle.std.proofs.Common.{◌≡◌, ◌*◌, take}
 use Rattle.pocsag_pages.specs.Bytes.{words_of}
-use Rattle.pocsag_pager.specs.Standing.{HasHeard, address_of}
+use Rattle.pocsag_pager.specs.Standing.{HasHeard, pager_address}
 use Rattle.pocsag_pager.proofs.hearing.hear_batches.Given as goal
 
 abbrev pub invariant-loop-i : goal.invariant-loop-i
 invariant-loop-i l = record {
   heard : HasHeard l.pager (words_of (take (68 * l.i) l.bytes)) l.pages.items;
-  address : address_of l.pager ≡ address_of l.fn.pager;
+  address : pager_address l.pager ≡ pager_address l.fn.pager;
 }

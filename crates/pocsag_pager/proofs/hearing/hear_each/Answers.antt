@@ -20,17 +20,21 @@ loop-word-preserved c =
           ∙ sym (append_assoc words so_far (c.from_be_bytes.result ∷ [])) in
           record {
             stands = subst (Stands c.hear.new.self) (sym more) (answer.stands (words ++ so_far) before.stands);
-            ended = ended_at _ _ _ _ _ _ more c.hear.ensures.address c.in_ok-keep.ensures.ok (answer.ended (words ++ so_far) loop.pages.items before.stands before.ended);
+            ended = ended_at _ _ _ _ _ _ more c.hear.ensures.address c.in_ok-keep.ensures (answer.ended (words ++ so_far) loop.pages.items before.stands before.ended);
           };
       address = c.hear.ensures.address ∙ loop.invariant.address;
     }
 
-pub returns-clause-ok : goal.returns-clause-ok
-returns-clause-ok c = λ words h.
-    let loop = c.loop-word in
-    let chunks = c.as_chunks.result.0.now in
-    let long : length chunks ≡ length c.args.bytes.now / 4 = c.as_chunks.ensures.front_len in
-    let whole : map (from_be_bytes w32) (take loop.word-index chunks) ≡ words_of c.args.bytes.now =
-    ap (map (from_be_bytes w32)) (take_all loop.word-index chunks (omega arith) ∙ c.as_chunks.ensures.front)
-    ∙ chunk_words (length c.args.bytes.now / 4) c.args.bytes.now refl in
-    subst (λ (ws : List ℕ). HasHeard loop.pager (words ++ ws) loop.pages.items) whole (loop.invariant.heard words h)
+pub returns : goal.returns
+returns c = record {
+  heard = λ words h.
+      let loop = c.loop-word in
+      let chunks = c.as_chunks.result.0.now in
+      let long : length chunks ≡ length c.args.bytes.now / 4 = c.as_chunks.ensures.front_len in
+      let whole : map (from_be_bytes w32) (take loop.word-index chunks) ≡ words_of c.args.bytes.now =
+      ap (map (from_be_bytes w32)) (take_all loop.word-index chunks (omega arith) ∙ c.as_chunks.ensures.front)
+      ∙ chunk_words (length c.args.bytes.now / 4) c.args.bytes.now refl in
+      subst (λ (ws : List ℕ). HasHeard loop.pager (words ++ ws) loop.pages.items) whole (loop.invariant.heard words h);
+  memory = λ words h. tt;
+  address = c.loop-word.invariant.address;
+}

@@ -2,7 +2,11 @@ use Rattle.pocsag_pages.specs.Bytes.{words_of}
 use Rattle.pocsag_pager.proofs.WholeWords.{words_long, words_small}
 use Rattle.pocsag_pager.proofs.hearing.hear_part.Goals as goal
 
-pub returns-then-passes-clause-ok : goal.returns-then-passes-clause-ok
-returns-then-passes-clause-ok c = λ words h.
+pub returns-then-passes : goal.returns-then-passes
+returns-then-passes c =
     let bytes = c.args.bytes.now in
-    c.pass.ensures.heard words (words_of bytes) _ h (words_small bytes (λ i. (c.type_inv.bytes i).fits)) (words_long bytes)
+    record {
+      heard = λ words h. c.pass.ensures.heard words (words_of bytes) _ h (words_small bytes (λ i. (c.type_inv.bytes i).fits)) (words_long bytes);
+      memory = λ words h. tt;
+      address = c.pass.ensures.address;
+    }

@@ -15,8 +15,8 @@ returns-then-not-is_open-clause-bad c =
     let message = sym (c.if-is_message.ensures ∙ ap is_message (c.kind-kind.ensures.kind ∙ ap kind_of is.1)) in
     inr (refused_orphan _ _ ws _ r c.requires.other is.0 message (sym (c.if-not-is_open.ensures)))
 
-pub returns-in-Ok-clause-read : goal.returns-in-Ok-clause-read
-returns-in-Ok-clause-read c =
+pub returns-clause-read : goal.returns-clause-read
+returns-clause-read c =
     λ ws r.
     let is = c.in-Some.ensures in
     read_codeword _ _ _ _ ws _ c.requires.other refl is.0 c.kind-kind.result (c.kind-kind.ensures.kind ∙ ap kind_of is.1)
@@ -24,4 +24,4 @@ returns-in-Ok-clause-read c =
       | else-is_message-via-then-is_message+else-not-is_open w ↦ search rules
       | else-is_message-via-else-is_message w ↦ search rules
     ])
-    (c.in-Ok.ensures.current) (c.in-Ok.ensures.reads) r
+    (c.in_ok-take.ensures.current) (c.in_ok-take.ensures.reads) r

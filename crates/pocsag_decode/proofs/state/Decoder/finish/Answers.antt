@@ -1,46 +1,29 @@
-use Rattle.std.proofs.Common.{map, arith}
+use Rattle.std.proofs.Common.{map}
 use Rattle.pocsag_words.specs.Kinds.{kind_of}
-use Rattle.pocsag_decode.proofs.Feeding.{body_size}
-use Rattle.pocsag_decode.proofs.Judgements.{never_memory, whole_no_fault}
-use Rattle.pocsag_decode.proofs.Transmissions.{codewords_of, pages_end, whole_reads, whole_listable}
+use Rattle.pocsag_pages.specs.Bytes.{codewords_in}
+use Rattle.pocsag_decode.proofs.Feeding.{ended_whole}
+use Rattle.pocsag_decode.proofs.Judgements.{whole_no_fault}
+use Rattle.pocsag_decode.proofs.OneFault.{answered, never_memory}
+use Rattle.pocsag_decode.proofs.Transmissions.{pages_end, whole_reads, whole_listable}
 use Rattle.pocsag_decode.proofs.state.Decoder.finish.Goals as goal
 
-pub returns-in-Ok-finish-clause-finished : goal.returns-in-Ok-finish-clause-finished
-returns-in-Ok-finish-clause-finished c = λ X s.
-    let size = body_size _ X s in
-    let ends = c.in-Ok.ensures in
-    whole_reads X (record {
-      small = s.bytes;
-      long = let p = s.preamble in let l = ends.long in omega arith;
-      some = let l = ends.some in omega arith;
-      good = s.words.read.good;
-      batches = let l = ends.whole in omega arith;
-    }) _ (pages_end _ _ _ (map kind_of (codewords_of X)) s.words.read.pages _ c.in-Ok-finish.ensures.same)
+pub returns-clause-finished : goal.returns-clause-finished
+returns-clause-finished c = λ X s.
+    let ends = c.in_ok-judged.ensures in
+    whole_reads X (ended_whole _ X s ends.long ends.some ends.whole) _
+    (pages_end _ _ _ (map kind_of (codewords_in X)) s.words.read.pages _ c.in_ok-finish.ensures.same)
 
-pub returns-in-Ok-finish-clause-listable : goal.returns-in-Ok-finish-clause-listable
-returns-in-Ok-finish-clause-listable c = λ X s.
-    let size = body_size _ X s in
-    let ends = c.in-Ok.ensures in
-    whole_listable X (record {
-      small = s.bytes;
-      long = let p = s.preamble in let l = ends.long in omega arith;
-      some = let l = ends.some in omega arith;
-      good = s.words.read.good;
-      batches = let l = ends.whole in omega arith;
-    }) _ (pages_end _ _ _ (map kind_of (codewords_of X)) s.words.read.pages _ c.in-Ok-finish.ensures.same)
+pub returns-clause-listable : goal.returns-clause-listable
+returns-clause-listable c = λ X s.
+    let ends = c.in_ok-judged.ensures in
+    whole_listable X (ended_whole _ X s ends.long ends.some ends.whole) _
+    (pages_end _ _ _ (map kind_of (codewords_in X)) s.words.read.pages _ c.in_ok-finish.ensures.same)
 
-pub returns-in-Err-clause-memory : goal.returns-in-Err-clause-memory
-returns-in-Err-clause-memory c = λ X s e.
-    absurd (never_memory X c.in-Err.fault (c.in-Err.ensures.fault X s) cc)
+pub returns-in_err-judged-clause-memory : goal.returns-in_err-judged-clause-memory
+returns-in_err-judged-clause-memory c = λ X s e.
+    absurd (never_memory X _ (c.in_err-judged.ensures.fault X s) (answered _ _ _ e c.from_residual.ensures.1))
 
-pub returns-in-Err-finish-clause-memory : goal.returns-in-Err-finish-clause-memory
-returns-in-Err-finish-clause-memory c = λ X s e.
-    let size = body_size _ X s in
-    let ends = c.in-Ok.ensures in
-    whole_no_fault X (record {
-      small = s.bytes;
-      long = let p = s.preamble in let l = ends.long in omega arith;
-      some = let l = ends.some in omega arith;
-      good = s.words.read.good;
-      batches = let l = ends.whole in omega arith;
-    })
+pub returns-in_err-finish-clause-memory : goal.returns-in_err-finish-clause-memory
+returns-in_err-finish-clause-memory c = λ X s e.
+    let ends = c.in_ok-judged.ensures in
+    whole_no_fault X (ended_whole _ X s ends.long ends.some ends.whole)

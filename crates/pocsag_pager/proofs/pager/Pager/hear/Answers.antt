@@ -25,7 +25,7 @@ returns-clause-stands c = λ words s.
       place = place_more self.place words c.args.word s.place;
       open_page =
           turn_open self.address self.place c.args.word words self.state c.in-Listening.kept c.heard_as-heard.result s.place inside
-          (sym c.in-Listening.ensures.value) c.heard_as-heard.ensures s.open_page c.in-Ok.change.kept c.in-Ok.ensures.kept;
+          (sym c.in-Listening.ensures.value) c.heard_as-heard.ensures s.open_page _ c.in_ok-kept.ensures.kept;
     }
 
 pub returns-clause-ended : goal.returns-clause-ended
@@ -33,7 +33,7 @@ returns-clause-ended c = λ words ps s have.
     let self = c.args.self.now in
     let inside : 0 < self.place = omega arith in
     turn_ended self.address self.place c.args.word words self.state c.in-Listening.kept c.heard_as-heard.result s.place inside
-    (sym c.in-Listening.ensures.value) c.heard_as-heard.ensures s.open_page ps c.in-Ok.change.ended c.in-Ok.ensures.ended have
+    (sym c.in-Listening.ensures.value) c.heard_as-heard.ensures s.open_page ps _ c.in_ok-kept.ensures.ended have
 
 pub returns-then-not-opens-clause-stands : goal.returns-then-not-opens-clause-stands
 returns-then-not-opens-clause-stands c = λ words s.
