@@ -11,8 +11,8 @@ use Rattle.pocsag_check.specs.Accepting.{IsAcceptedFor}
 use Rattle.pocsag_branch.specs.Found.{IsNodeLimit}
 use Rattle.pocsag_decode.specs.Faults.{ReadsAs}
 use Rattle.pocsag_decode.specs.Listing.{listing}
-use Rattle.pocsag_pager.specs.Faults.{fault_of}
-use Rattle.pocsag_pager.specs.Shown.{IsShown}
+use Rattle.pocsag_pager.specs.Faults.{hearing_fault}
+use Rattle.pocsag_pager.specs.Shown.{AreShown}
 use Rattle.pocsag_plan.specs.declared.airtime.Report.{Report}
 use Rattle.pocsag_plan.specs.declared.answer.Plan.{Plan}
 use Rattle.pocsag_plan.specs.Plans.{NoneHasFewer}
@@ -77,9 +77,9 @@ pub record Decoded (bytes out_before out_after : List ℕ) : Type 0 where
 
 -- `hear`: the pages that a pager of the address shows of the bytes were listed.
 pub record HeardAndListed (address : ℕ) (bytes out_before out_after : List ℕ) : Type 0 where
-  pub taken : fault_of address bytes ≡ None
+  pub taken : hearing_fault address bytes ≡ None
   pub pages : List Page
-  pub shown : IsShown (words_of (after_preamble bytes)) address pages
+  pub shown : AreShown (words_of (after_preamble bytes)) address pages
   pub listed : out_after ≡ out_before ++ listing pages
 
 -- `report`: the report of a plan of the page file's round was told.
