@@ -1,13 +1,12 @@
 -- What is sent by a plan is what the headline with its bound says.
 use Rattle.std.proofs.Common.{◌≡◌, ◌<◌, ℕ, List, length, ap, arith, refl, sym, subst, ◌∙◌, Ok, Err, slice_index}
 use Rattle.std.specs.Prelude.{IsErrOf}
+use Rattle.pocsag_words.specs.Devices.{HasFailed}
 use Rattle.pocsag_words.specs.declared.codeword.Kind.{Kind}
 use Rattle.pocsag_words.specs.declared.ending.End.{End}
 use Rattle.pocsag_pages.specs.declared.page.Page.{Page}
 use Rattle.pocsag_pages.specs.Bytes.{bytes_of}
 use Rattle.pocsag_pages.specs.PageFile.{verdict}
-use Rattle.pocsag_tree.specs.declared.refusals.TreeWriteFault.{TreeWriteFault}
-use Rattle.pocsag_tree.specs.declared.refusals.TreeWriteFault.TheVariants.{BadTree, WriteFault}
 use Rattle.pocsag_tree.specs.Spelling.{second_text}
 use Rattle.pocsag_tree.specs.Bounds.{Bound}
 use Rattle.pocsag_tree.specs.Views.{bound_of}
@@ -24,7 +23,7 @@ use Rattle.pocsag_plan.specs.declared.streaming.Unsent.TheVariants as unsent
 use Rattle.pocsag_plan.specs.Headline.{Headline}
 use Rattle.pocsag_plan.specs.Plans.{IsBounded}
 use Rattle.pocsag_plan.specs.Sending.{fault_of_unsent}
-use Rattle.pocsag_plan.specs.Streams.{IsCertificate, IsTransmission}
+use Rattle.pocsag_plan.specs.Streams.{IsCertificate, IsTransmission, WritesInTurn}
 
 pub due : (end : End) (R : List Page) (plan : Plan) (bound : ℕ) → IsBounded end R plan bound → (steps : List Step) (order : List ℕ) (said : List Kind) (U : List ℕ) →
     steps ≡ plan.steps.items → order ≡ plan.order.items → said ≡ laid_by R order steps → Say said U →
@@ -55,11 +54,6 @@ has_places end R plan bound is steps order these places =
     (subst (λ (v : List ℕ). HavePlaces (length R) v plan.steps.items) (sym places)
     (order_has_places end R plan.steps.items plan.order.items is.order))
 
--- what has a text is not refused
-pub unwritten : (e : TreeWriteFault) (P : Type 0) → P → (IsErrOf {T = Unit {0}} (Err e) BadTree → ¬ P) → IsErrOf {T = Unit {0}} (Err e) WriteFault
-unwritten BadTree P has bad = absurd (bad refl has)
-unwritten WriteFault P has bad = refl
-
 -- where the bound is the batches, it is the headline
 pub tight : (file : List ℕ) (end : End) (batches bound : ℕ) (tree : Bound) (sent certificate : List ℕ) → bound ≡ batches →
     BoundedHeadline file end batches bound tree sent certificate → Headline file end batches tree sent certificate
@@ -85,3 +79,27 @@ transmission_of unsent.Certificate P known is = absurd is
 pub certificate_of : (e : Unsent) (P : Type 0) → (IsErrOf {T = Unit {0}} (Err e) unsent.Certificate → P) → IsCertificate (fault_of_unsent e) → P
 certificate_of unsent.Transmission P known is = absurd is
 certificate_of unsent.Certificate P known is = known refl
+
+-- what is known of both writers where a fault is answered is what a stream owes of them
+pub in_turn : {T C X : Type 0} (failures : T → ℕ) (certificate_failures : C → ℕ) (tx tx_after : T) (cert cert_after : C) (e : Unsent)
+    → (IsErrOf {T = Unit {0}} (Err e) unsent.Transmission → cert_after ≡ cert)
+    → (IsErrOf {T = Unit {0}} (Err e) unsent.Transmission → HasFailed (failures tx) (failures tx_after))
+    → (IsErrOf {T = Unit {0}} (Err e) unsent.Certificate → HasFailed (certificate_failures cert) (certificate_failures cert_after))
+    → (IsErrOf {T = Unit {0}} (Err e) unsent.Certificate → failures tx_after ≡ failures tx)
+    → WritesInTurn {X = X} failures certificate_failures tx tx_after cert cert_after (Err (fault_of_unsent e))
+in_turn failures certificate_failures tx tx_after cert cert_after unsent.Transmission not_begun failed certificate_failed succeeded = record {
+  untouched = λ before. absurd before;
+  not_begun = λ _. not_begun refl;
+  write_failed = λ _. failed refl;
+  certificate_failed = λ other. absurd other;
+  write_succeeded = λ other. absurd other;
+  succeeded = tt;
+}
+in_turn failures certificate_failures tx tx_after cert cert_after unsent.Certificate not_begun failed certificate_failed succeeded = record {
+  untouched = λ before. absurd before;
+  not_begun = λ other. absurd other;
+  write_failed = λ other. absurd other;
+  certificate_failed = λ _. certificate_failed refl;
+  write_succeeded = λ _. succeeded refl;
+  succeeded = tt;
+}

@@ -1,4 +1,4 @@
-use Rattle.pocsag_plan.proofs.Due.{due, has_places, tight, unwritten}
+use Rattle.pocsag_plan.proofs.Due.{due, has_places, tight}
 use Rattle.pocsag_plan.proofs.streaming.send.Goals as goal
 
 pub new-slots-requires : goal.new-slots-requires
@@ -42,7 +42,7 @@ returns-in-Ok-write_certificate-clause-whole g c = λ tells cert_tells file read
       headline = due c.args.end c.args.round.now c.args.plan.now c.args.bound c.requires c.deref.result.now c.deref-2.result.now c.new-slots.result sent.words
           c.deref.ensures.value c.deref-2.ensures.value c.new-slots.ensures sent.say file read;
       transmission = sent.taken;
-      text = c.in-Ok-write_certificate.ensures.whole cert_tells;
+      text = (c.in-Ok-write_certificate.ensures.delivers cert_tells).0;
     }
 
 pub returns-in-Ok-write_certificate-clause-fewest : goal.returns-in-Ok-write_certificate-clause-fewest
@@ -55,7 +55,7 @@ returns-in-Ok-write_certificate-clause-fewest g c = λ tells cert_tells same fil
           (due c.args.end c.args.round.now c.args.plan.now c.args.bound c.requires c.deref.result.now c.deref-2.result.now c.new-slots.result sent.words
           c.deref.ensures.value c.deref-2.ensures.value c.new-slots.ensures sent.say file read);
       transmission = sent.taken;
-      text = c.in-Ok-write_certificate.ensures.whole cert_tells;
+      text = (c.in-Ok-write_certificate.ensures.delivers cert_tells).0;
     }
 
 pub returns-in-Err-clause-certificate_part : goal.returns-in-Err-clause-certificate_part
@@ -70,7 +70,7 @@ returns-in-Err-clause-certificate_part g c = λ tells cert_tells failed file rea
       headline = due c.args.end c.args.round.now c.args.plan.now c.args.bound c.requires c.deref.result.now c.deref-2.result.now c.new-slots.result sent.words
           c.deref.ensures.value c.deref-2.ensures.value c.new-slots.ensures sent.say file read;
       transmission = sent.taken;
-      part = c.in-Err.ensures.part cert_tells (unwritten c.in-Err.field-0 _ c.requires.text c.in-Err.ensures.bad);
+      part = (c.in-Err.ensures.delivers cert_tells).1;
     }
 
 pub returns-in-Err-clause-fewest_certificate_part : goal.returns-in-Err-clause-fewest_certificate_part
@@ -85,5 +85,5 @@ returns-in-Err-clause-fewest_certificate_part g c = λ tells cert_tells same fai
           (due c.args.end c.args.round.now c.args.plan.now c.args.bound c.requires c.deref.result.now c.deref-2.result.now c.new-slots.result sent.words
           c.deref.ensures.value c.deref-2.ensures.value c.new-slots.ensures sent.say file read);
       transmission = sent.taken;
-      part = c.in-Err.ensures.part cert_tells (unwritten c.in-Err.field-0 _ c.requires.text c.in-Err.ensures.bad);
+      part = (c.in-Err.ensures.delivers cert_tells).1;
     }

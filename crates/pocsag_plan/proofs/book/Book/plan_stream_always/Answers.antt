@@ -1,7 +1,7 @@
 use Rattle.std.proofs.Common.{◌≡◌, Ok, rules}
 use Rattle.std.proofs.lemmas.Result.{err_from_is_err_and}
 use Rattle.pocsag_pages.specs.PageFile.{verdict}
-use Rattle.pocsag_plan.proofs.Due.{certificate_of, transmission_of}
+use Rattle.pocsag_plan.proofs.Due.{certificate_of, in_turn, transmission_of}
 use Rattle.pocsag_plan.proofs.book.Book.plan_stream_always.Goals as goal
 
 pub returns-in_err-send-clause-part : goal.returns-in_err-send-clause-part
@@ -9,13 +9,19 @@ returns-in_err-send-clause-part g c = λ tx_tells.
     let p = err_from_is_err_and c.from_residual-in_err-send.result c.from_residual-in_err-send.ensures.1 in
     rw (p.1, p.2)
     (transmission_of c.in_err-send.field-0.0 _ (λ failed file read.
-        let its : verdict file ≡ Ok c.in_ok-round.round = search rules in
-        c.in_err-send.ensures.part tx_tells failed file its))
+    let its : verdict file ≡ Ok c.in_ok-round.round = search rules in
+    c.in_err-send.ensures.part tx_tells failed file its))
 
 pub returns-in_err-send-clause-certificate_part : goal.returns-in_err-send-clause-certificate_part
 returns-in_err-send-clause-certificate_part g c = λ tx_tells cert_tells.
     let p = err_from_is_err_and c.from_residual-in_err-send.result c.from_residual-in_err-send.ensures.1 in
     rw (p.1, p.2)
     (certificate_of c.in_err-send.field-0.0 _ (λ failed file read.
-        let its : verdict file ≡ Ok c.in_ok-round.round = search rules in
-        c.in_err-send.ensures.certificate_part tx_tells cert_tells failed file its))
+    let its : verdict file ≡ Ok c.in_ok-round.round = search rules in
+    c.in_err-send.ensures.certificate_part tx_tells cert_tells failed file its))
+
+pub returns-in_err-send-clause-writers : goal.returns-in_err-send-clause-writers
+returns-in_err-send-clause-writers g c =
+    let p = err_from_is_err_and c.from_residual-in_err-send.result c.from_residual-in_err-send.ensures.1 in
+    let send = c.in_err-send.ensures in
+    rw (p.1, p.2) (in_turn _ _ _ _ _ _ c.in_err-send.field-0.0 send.not_begun send.failed send.certificate_failed send.certificate_succeeded)
