@@ -72,31 +72,44 @@ pub starts_few : (k : Classes) (choice : ℕ → ℕ) (p n : ℕ) → n ≤ 136 
 starts_few k choice p n h chosen =
     let each : sum_below n (starts_at k choice p) ≤ sum_below n (slice_index k.count) =
     sum_below-le n (starts_at k choice p) (slice_index k.count) (λ c l.
-    omega (arith, part_few (start_of c true == p) (choice c), part_few (start_of c false == p) (slice_index k.count c - choice c), chosen c (omega arith))) in
+    omega (
+      arith,
+      part_few (start_of c true == p) (choice c),
+      part_few (start_of c false == p) (slice_index k.count c - choice c),
+      chosen c (omega arith),
+    )) in
     omega (arith, sum_below-part n 136 (slice_index k.count) h, k.tables.few)
 
 pub ends_few : (k : Classes) (choice : ℕ → ℕ) (p n : ℕ) → n ≤ 136 → IsChoice k choice → sum_below n (ends_at k choice p) ≤ 20000
 ends_few k choice p n h chosen =
     let each : sum_below n (ends_at k choice p) ≤ sum_below n (slice_index k.count) =
     sum_below-le n (ends_at k choice p) (slice_index k.count) (λ c l.
-    omega (arith, part_few (finish_of c true == p) (choice c), part_few (finish_of c false == p) (slice_index k.count c - choice c), chosen c (omega arith))) in
+    omega (
+      arith,
+      part_few (finish_of c true == p) (choice c),
+      part_few (finish_of c false == p) (slice_index k.count c - choice c),
+      chosen c (omega arith),
+    )) in
     omega (arith, sum_below-part n 136 (slice_index k.count) h, k.tables.few)
 
 -- the sums with one class more
 same_test : (a b p x y : ℕ) → a ≡ b → x ≡ y → cond (a == p) x 0 ≡ cond (b == p) y 0
 same_test a b p x y e f = rw (e, f) refl
 
-pub class_added : (f : ℕ → ℕ) (n old one two a b s t p x y : ℕ) → old ≡ sum_below n f → one ≡ old + cond (a == p) x 0 → two ≡ one + cond (b == p) y 0 →
+pub class_added :
+    (f : ℕ → ℕ) (n old one two a b s t p x y : ℕ) → old ≡ sum_below n f → one ≡ old + cond (a == p) x 0 → two ≡ one + cond (b == p) y 0 →
     a ≡ s → b ≡ t → f n ≡ cond (s == p) x 0 + cond (t == p) y 0 → two ≡ sum_below (n + 1) f
 class_added f n old one two a b s t p x y so_far first second start finish here =
     omega (arith, sum_below_more n f, same_test a s p x x start refl, same_test b t p y y finish refl)
 
 -- a class without pages adds nothing
-pub none_start : (k : Classes) (choice : ℕ → ℕ) (p c : ℕ) → slice_index k.count c ≡ 0 → choice c ≤ slice_index k.count c → starts_at k choice p c ≡ 0
+pub none_start :
+    (k : Classes) (choice : ℕ → ℕ) (p c : ℕ) → slice_index k.count c ≡ 0 → choice c ≤ slice_index k.count c → starts_at k choice p c ≡ 0
 none_start k choice p c none few =
     omega (arith, part_few (start_of c true == p) (choice c), part_few (start_of c false == p) (slice_index k.count c - choice c))
 
-pub none_end : (k : Classes) (choice : ℕ → ℕ) (p c : ℕ) → slice_index k.count c ≡ 0 → choice c ≤ slice_index k.count c → ends_at k choice p c ≡ 0
+pub none_end :
+    (k : Classes) (choice : ℕ → ℕ) (p c : ℕ) → slice_index k.count c ≡ 0 → choice c ≤ slice_index k.count c → ends_at k choice p c ≡ 0
 none_end k choice p c none few =
     omega (arith, part_few (finish_of c true == p) (choice c), part_few (finish_of c false == p) (slice_index k.count c - choice c))
 
@@ -114,8 +127,10 @@ pub load_step : (k : Classes) (choice : ℕ → ℕ) (slot last starts ends : �
     IsStep k choice slot last starts ends
 load_step k choice slot last starts ends chosen h some was first second =
     let back : before slot ≡ slot - 1 = omega arith in
-    let edge : load k choice slot + sum_below 136 (ends_at k choice slot) ≡ load k choice (slot - 1) + sum_below 136 (starts_at k choice slot) =
-    subst (λ (p : ℕ). load k choice slot + sum_below 136 (ends_at k choice slot) ≡ load k choice p + sum_below 136 (starts_at k choice slot)) back (load_edge k choice slot h) in
+    let edge : load k choice slot + sum_below 136 (ends_at k choice slot)
+    ≡ load k choice (slot - 1) + sum_below 136 (starts_at k choice slot) =
+    subst (λ (p : ℕ). load k choice slot + sum_below 136 (ends_at k choice slot)
+    ≡ load k choice p + sum_below 136 (starts_at k choice slot)) back (load_edge k choice slot h) in
     record {
       few = omega (arith, load_few k choice (slot - 1) (omega arith) chosen, starts_few k choice slot 136 (omega arith) chosen);
       enough = omega arith;
