@@ -84,22 +84,20 @@ short_twenty n = omega arith
 length-numeric_bits : (text : List ℕ) → length (numeric_bits text) ≡ 4 * (length text + short_of 5 (length text))
 unfolding numeric_bits
 length-numeric_bits text =
-    let wide : (x : ℕ) → length (low_first 4 x) ≡ 4 = length-low_first 4 in
-    length-flat_map-wide 4 (low_first 4) (map code_or_space text ++ replicate (short_of 5 (length text)) 12) wide ∙ ap (λ n. 4 * n) (length-append (map code_or_space text) (replicate (short_of 5 (length text)) 12) ∙ (rw (
-      length-map text code_or_space,
-      length-replicate {A =
-          ℕ} (short_of 5 (length text)) 12,
-    ) refl))
+    let n = short_of 5 (length text) in
+    let codes = map code_or_space text in
+    let filled = length-replicate {A = ℕ} n 12 in
+    let joined = length-append codes (replicate n 12) in
+    let wide = length-flat_map-wide 4 (low_first 4) (codes ++ replicate n 12) (length-low_first 4) in
+    omega (arith, wide, joined, filled, length-map text code_or_space)
 
 pub length-alpha_bits : (text : List ℕ) → length (alpha_bits text) ≡ 7 * length text + short_of 20 (7 * length text)
 unfolding alpha_bits
 length-alpha_bits text =
-    let wide : (x : ℕ) → length (low_first 7 x) ≡ 7 = length-low_first 7 in
-    length-append (flat_map (low_first 7) text) (replicate (short_of 20 (7 * length text)) 0) ∙ (rw (
-      length-flat_map-wide 7 (low_first 7) text wide,
-      length-replicate {A =
-          ℕ} (short_of 20 (7 * length text)) 0,
-    ) refl)
+    let n = short_of 20 (7 * length text) in
+    let filled = length-replicate {A = ℕ} n 0 in
+    let joined = length-append (flat_map (low_first 7) text) (replicate n 0) in
+    omega (arith, joined, filled, length-flat_map-wide 7 (low_first 7) text (length-low_first 7))
 
 pub whole_numeric : (text : List ℕ) → length (numeric_bits text) % 20 ≡ 0
 whole_numeric text =
@@ -107,43 +105,6 @@ whole_numeric text =
 
 pub whole_alpha : (text : List ℕ) → length (alpha_bits text) % 20 ≡ 0
 whole_alpha text = rw (length-alpha_bits text) (short_twenty (7 * length text))
-
--- how many bits there are with a fill
-pub length_filled_numeric :
-    (text packed filled : List ℕ) (times code : ℕ) → packed ≡ flat_map (low_first 4) (map code_or_space text) →
-    filled ≡ packed ++ flat_map (low_first 4) (replicate times code)
-    → length filled ≡ 4 * (length text + times)
-length_filled_numeric text packed filled times code p f =
-    let wide : (x : ℕ) → length (low_first 4 x) ≡ 4 = length-low_first 4 in
-    rw (
-      f,
-      p,
-      length-append (flat_map (low_first 4) (map code_or_space text)) (flat_map (low_first 4) (replicate times code)),
-      length-flat_map-wide 4 (low_first 4) (map code_or_space text) wide,
-      length-flat_map-wide 4 (low_first 4) (replicate times code) wide,
-      length-map text code_or_space,
-      length-replicate {A =
-          ℕ} times code,
-    )
-    (omega arith)
-
-pub length_filled_alpha :
-    (text packed filled : List ℕ) (times code : ℕ) → packed ≡ flat_map (low_first 7) text →
-    filled ≡ packed ++ flat_map (low_first 1) (replicate times code)
-    → length filled ≡ 7 * length text + times
-length_filled_alpha text packed filled times code p f =
-    let wide : (x : ℕ) → length (low_first 7 x) ≡ 7 = length-low_first 7 in
-    let one : (x : ℕ) → length (low_first 1 x) ≡ 1 = length-low_first 1 in
-    rw (
-      f,
-      p,
-      length-append (flat_map (low_first 7) text) (flat_map (low_first 1) (replicate times code)),
-      length-flat_map-wide 7 (low_first 7) text wide,
-      length-flat_map-wide 1 (low_first 1) (replicate times code) one,
-      length-replicate {A =
-          ℕ} times code,
-    )
-    (omega arith)
 
 pub few_numeric : (text : List ℕ) → length text ≤ 4000 → length (twenties (numeric_bits text)) ≤ 1400
 few_numeric text h =

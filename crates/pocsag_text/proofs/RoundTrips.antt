@@ -1,13 +1,12 @@
 -- A text that was packed comes back.
 use Rattle.std.proofs.Common.{◌≡◌, ◌≢◌, ℕ, zero, suc, ◌+◌, ◌*◌, ◌/◌, ◌%◌, ◌^◌, ◌<◌, List, [], ◌∷◌, ◌++◌, length, map, replicate, take, drop, Ok, All, false, refl, sym, ap, ◌∙◌, arith, lit<}
 use Rattle.std.specs.List.{flat_map}
-use Rattle.std.proofs.Math.Nat.{mod-eq_of_lt}
 use Rattle.std.proofs.lemmas.List.{append-nil, map-append}
 use Rattle.std.proofs.lemmas.List.Elements.{All-nil, All-cons, All-head, All-tail, All-append, All-map, All-replicate, All-take, All-drop, All-weaker}
 use Rattle.pocsag_text.specs.Bits.{low_first, high_first, low_number, high_number, cut, item_bits}
 use Rattle.pocsag_text.specs.Characters.{code_or_space, character_of, is_bad_digit}
 use Rattle.pocsag_text.specs.Text.{text_fault, short_of, twenties, is_bad_byte, numeric_bits, alpha_bits, numeric_payload, alpha_payload, codes_of, numeric_text, alpha_text, trim_end}
-use Rattle.pocsag_text.proofs.BitLists.{AreBits, AreBits-low_first, length-low_first, high_first-high_number, low_number-low_first}
+use Rattle.pocsag_text.proofs.BitLists.{AreBits, AreBits-low_first, length-low_first, high_first-high_number, code-back}
 use Rattle.pocsag_text.proofs.Codes.{character_of-code_or_space, code_or_space-lt, space_is}
 use Rattle.pocsag_text.proofs.Cuts.{cut-append, cut-flat_map, flat_map-cut, length-flat_map-wide}
 use Rattle.pocsag_text.proofs.Payloads.{alpha_bytes, fault_none, good_byte, unless_ok, whole_numeric, whole_alpha, length-alpha_bits}
@@ -28,9 +27,6 @@ piece-back piece l h =
 item_bits-twenties : (bits : List ℕ) → AreBits bits → length bits % 20 ≡ 0 → item_bits (twenties bits) ≡ bits
 item_bits-twenties bits h whole =
     flat_map-cut 20 (high_number 0) (high_first 20) (length bits / 20) bits piece-back h (omega arith)
-
-code-back : (width x : ℕ) → x < 2 ^ width → low_number (low_first width x) ≡ x
-code-back width x lt = low_number-low_first width x ∙ mod-eq_of_lt lt
 
 -- the codes come back, and what stands behind them is cut too
 cut-codes :

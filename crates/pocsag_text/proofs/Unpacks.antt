@@ -2,13 +2,13 @@
 use Rattle.std.proofs.Common.{◌≡◌, ℕ, ◌+◌, ◌-◌, ◌*◌, ◌/◌, ◌%◌, ◌^◌, ◌<◌, ◌≤◌, List, [], ◌∷◌, ◌++◌, length, All, refl, sym, ap, ◌∙◌, arith}
 use Rattle.std.specs.List.{flat_map}
 use Rattle.std.proofs.lemmas.Nat.{shr_below, mod_below, pow_pos, div-mul-add}
-use Rattle.std.proofs.Math.Nat.{mul_comm, mod-eq_of_lt}
+use Rattle.std.proofs.Math.Nat.{mul_comm}
 use Rattle.std.proofs.lemmas.List.{append_assoc, append-nil, length-append}
 use Rattle.std.proofs.lemmas.List.Concat.{flat_map-append}
 use Rattle.std.proofs.lemmas.List.Elements.{All-push, All-weaker}
 use Rattle.pocsag_text.specs.Bits.{low_first, high_first, low_number, cut}
 use Rattle.pocsag_text.specs.Packing.{unpacked_bits, IsUnpacked}
-use Rattle.pocsag_text.proofs.BitLists.{high_first-join, high_first-split, length-low_first, length-high_first, low_number-low_first}
+use Rattle.pocsag_text.proofs.BitLists.{high_first-join, high_first-split, length-low_first, length-high_first, code-back}
 use Rattle.pocsag_text.proofs.Cuts.{cut-flat_map, length-flat_map-wide}
 use Rattle.pocsag_text.proofs.Packs.{held_with-lt}
 
@@ -101,8 +101,5 @@ codes-unpacked_bits width codes count held h =
     number : length (flat_map (low_first width) codes ++ high_first count held) / width ≡ length codes
     number = ap (λ n. n / width) (len ∙ turned) ∙ div-mul-add (length codes) width count h.few
 
-    code-back : (x : ℕ) → x < 2 ^ width → low_number (low_first width x) ≡ x
-    code-back x lt = low_number-low_first width x ∙ mod-eq_of_lt lt
-
     back : All (λ x. low_number (low_first width x) ≡ x) codes
-    back = All-weaker (λ x. x < 2 ^ width) (λ x. low_number (low_first width x) ≡ x) code-back codes h.small
+    back = All-weaker (λ x. x < 2 ^ width) (λ x. low_number (low_first width x) ≡ x) (code-back width) codes h.small
