@@ -74,13 +74,7 @@ pub unless_ok : (o : Option TextFault) (items good : List ℕ) → unless o item
 unless_ok None items good h = (refl, cc)
 unless_ok (Some e) items good h = cc
 
--- the fill makes a multiple
-short_five : (n : ℕ) → (n + short_of 5 n) % 5 ≡ 0
-short_five n = omega arith
-
-short_twenty : (n : ℕ) → (n + short_of 20 n) % 20 ≡ 0
-short_twenty n = omega arith
-
+-- the fill makes a multiple of twenty bits
 length-numeric_bits : (text : List ℕ) → length (numeric_bits text) ≡ 4 * (length text + short_of 5 (length text))
 unfolding numeric_bits
 length-numeric_bits text =
@@ -100,11 +94,10 @@ length-alpha_bits text =
     omega (arith, joined, filled, length-flat_map-wide 7 (low_first 7) text (length-low_first 7))
 
 pub whole_numeric : (text : List ℕ) → length (numeric_bits text) % 20 ≡ 0
-whole_numeric text =
-    rw (length-numeric_bits text) (omega (arith, short_five (length text)))
+whole_numeric text = omega (arith, length-numeric_bits text)
 
 pub whole_alpha : (text : List ℕ) → length (alpha_bits text) % 20 ≡ 0
-whole_alpha text = rw (length-alpha_bits text) (short_twenty (7 * length text))
+whole_alpha text = omega (arith, length-alpha_bits text)
 
 pub few_numeric : (text : List ℕ) → length text ≤ 4000 → length (twenties (numeric_bits text)) ≤ 1400
 few_numeric text h =
@@ -115,36 +108,23 @@ few_alpha text h =
     rw (length-cut 20 _ (length (alpha_bits text) / 20) (alpha_bits text), length-alpha_bits text) (omega arith)
 
 -- the bits of the characters and those of the fill
-numeric_bits-parts :
-    (text : List ℕ) → numeric_bits text
-    ≡ flat_map (low_first 4) (map code_or_space text) ++ flat_map (low_first 4) (replicate (short_of 5 (length text)) 12)
-unfolding numeric_bits
-numeric_bits-parts text =
-    flat_map-append (low_first 4) (map code_or_space text) (replicate (short_of 5 (length text)) 12)
-
 zeros : (n : ℕ) → flat_map (low_first 1) (replicate n 0) ≡ replicate n 0
 unfolding low_first
 zeros zero = refl
 zeros (suc n) = ap (λ bits. 0 ∷ bits) (zeros n)
 
-alpha_bits-parts :
-    (text : List ℕ) → alpha_bits text
-    ≡ flat_map (low_first 7) text ++ flat_map (low_first 1) (replicate (short_of 20 (7 * length text)) 0)
-unfolding alpha_bits
-alpha_bits-parts text =
-    ap (λ bits. flat_map (low_first 7) text ++ bits) (sym (zeros (short_of 20 (7 * length text))))
-
 pub filled_numeric :
     (text packed filled : List ℕ) → packed ≡ flat_map (low_first 4) (map code_or_space text) →
     filled ≡ packed ++ flat_map (low_first 4) (replicate (short_of 5 (length text)) 12) → filled ≡ numeric_bits text
+unfolding numeric_bits
 filled_numeric text packed filled p f =
-    f ∙ ap (λ bits. bits ++ flat_map (low_first 4) (replicate (short_of 5 (length text)) 12)) p ∙ sym (numeric_bits-parts text)
+    rw (f, p) (sym (flat_map-append (low_first 4) (map code_or_space text) (replicate (short_of 5 (length text)) 12)))
 
 pub filled_alpha :
     (text packed filled : List ℕ) → packed ≡ flat_map (low_first 7) text →
     filled ≡ packed ++ flat_map (low_first 1) (replicate (short_of 20 (7 * length text)) 0) → filled ≡ alpha_bits text
-filled_alpha text packed filled p f =
-    f ∙ ap (λ bits. bits ++ flat_map (low_first 1) (replicate (short_of 20 (7 * length text)) 0)) p ∙ sym (alpha_bits-parts text)
+unfolding alpha_bits
+filled_alpha text packed filled p f = rw (f, p, zeros (short_of 20 (7 * length text))) refl
 
 -- what the contracts of the packers say, from what the parts gave
 pub alpha_bytes : (text : List ℕ) → text_fault is_bad_byte text ≡ None → All (λ b. b < 128) text
