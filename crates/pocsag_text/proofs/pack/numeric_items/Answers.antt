@@ -4,7 +4,8 @@ use Rattle.pocsag_text.proofs.Payloads.{filled_numeric, whole_numeric}
 use Rattle.pocsag_text.proofs.pack.numeric_items.Goals as goal
 
 pub into_items-requires : goal.into_items-requires
-into_items-requires c = rw (filled_numeric c.args.text.now _ _ c.in_ok-packer.ensures c.in_ok-push_times.ensures) (whole_numeric c.args.text.now)
+into_items-requires c =
+    rw (filled_numeric c.args.text.now _ _ c.in_ok-packer.ensures c.in_ok-push_times.ensures) (whole_numeric c.args.text.now)
 
 pub returns-clause-items : goal.returns-clause-items
 returns-clause-items c =
