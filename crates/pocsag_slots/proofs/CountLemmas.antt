@@ -56,8 +56,7 @@ count_in end p R c e = count_of-cons end p R c ∙ ap (λ (b : Bool). cond b 1 0
 count_out : (end : End) (p : Page) (R : List Page) (c : ℕ) → class_of_page end p ≢ c → count_of end (p ∷ R) c ≡ 0 + count_of end R c
 count_out end p R c e = count_of-cons end p R c ∙ ap (λ (b : Bool). cond b 1 0 + count_of end R c) (ne_eqb _ _ e)
 
-turns_in :
-    (end : End) (p : Page) (R : List Page) (c : ℕ) → class_of_page end p ≡ c →
+turns_in : (end : End) (p : Page) (R : List Page) (c : ℕ) → class_of_page end p ≡ c →
     turns_of end (p ∷ R) c ≡ page_length p / 16 + turns_of end R c
 turns_in end p R c e = turns_of-cons end p R c ∙ ap (λ (b : Bool). cond b (page_length p / 16) 0 + turns_of end R c) (eq-eqb _ _ e)
 
@@ -156,8 +155,8 @@ more_counted counts turns end R i p at whole h item class long_run so_far =
           turns_next;
     }
 
-pub tables_sum :
-    (counts turns : List ℕ) (end : End) (R : List Page) → AreCounted counts turns end R → sum_below 136 (slice_index counts) ≡ length R
+pub tables_sum : (counts turns : List ℕ) (end : End) (R : List Page) → AreCounted counts turns end R →
+    sum_below 136 (slice_index counts) ≡ length R
 tables_sum counts turns end R of = sum_below-same 136 (slice_index counts) (count_of end R) of.each ∙ counts_sum end R
 
 -- the tables of a round keep what tables do

@@ -96,20 +96,19 @@ ends_few k choice p n h chosen =
 same_test : (a b p x y : ℕ) → a ≡ b → x ≡ y → cond (a == p) x 0 ≡ cond (b == p) y 0
 same_test a b p x y e f = rw (e, f) refl
 
-pub class_added :
-    (f : ℕ → ℕ) (n old one two a b s t p x y : ℕ) → old ≡ sum_below n f → one ≡ old + cond (a == p) x 0 → two ≡ one + cond (b == p) y 0 →
-    a ≡ s → b ≡ t → f n ≡ cond (s == p) x 0 + cond (t == p) y 0 → two ≡ sum_below (n + 1) f
+pub class_added : (f : ℕ → ℕ) (n old one two a b s t p x y : ℕ) → old ≡ sum_below n f → one ≡ old + cond (a == p) x 0 →
+    two ≡ one + cond (b == p) y 0 → a ≡ s → b ≡ t → f n ≡ cond (s == p) x 0 + cond (t == p) y 0 → two ≡ sum_below (n + 1) f
 class_added f n old one two a b s t p x y so_far first second start finish here =
     omega (arith, sum_below_more n f, same_test a s p x x start refl, same_test b t p y y finish refl)
 
 -- a class without pages adds nothing
-pub none_start :
-    (k : Classes) (choice : ℕ → ℕ) (p c : ℕ) → slice_index k.count c ≡ 0 → choice c ≤ slice_index k.count c → starts_at k choice p c ≡ 0
+pub none_start : (k : Classes) (choice : ℕ → ℕ) (p c : ℕ) → slice_index k.count c ≡ 0 → choice c ≤ slice_index k.count c →
+    starts_at k choice p c ≡ 0
 none_start k choice p c none few =
     omega (arith, part_few (start_of c true == p) (choice c), part_few (start_of c false == p) (slice_index k.count c - choice c))
 
-pub none_end :
-    (k : Classes) (choice : ℕ → ℕ) (p c : ℕ) → slice_index k.count c ≡ 0 → choice c ≤ slice_index k.count c → ends_at k choice p c ≡ 0
+pub none_end : (k : Classes) (choice : ℕ → ℕ) (p c : ℕ) → slice_index k.count c ≡ 0 → choice c ≤ slice_index k.count c →
+    ends_at k choice p c ≡ 0
 none_end k choice p c none few =
     omega (arith, part_few (finish_of c true == p) (choice c), part_few (finish_of c false == p) (slice_index k.count c - choice c))
 

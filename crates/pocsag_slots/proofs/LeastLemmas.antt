@@ -171,15 +171,14 @@ least_of_class_is k l set c =
     omega arith
 
 -- a class without pages loads no set
-over_none :
-    (k : Classes) (set c early : ℕ) → c < 136 → early ≤ slice_index k.count c → slice_index k.count c ≡ 0 →
+over_none : (k : Classes) (set c early : ℕ) → c < 136 → early ≤ slice_index k.count c → slice_index k.count c ≡ 0 →
     class_load_over k set c early ≡ 0
 unfolding class_load_over
 over_none k set c early h some none =
     sum_over-same set (λ slot. class_load k slot c early) (λ slot. 0) (λ slot s. load_none k slot c early s h some none) ∙ sum_over-none set
 
-pub least_none :
-    (k : Classes) (l : Limits) (set c : ℕ) → c < 136 → AreInOrder k l → slice_index k.count c ≡ 0 → least_of_class k l set c ≡ 0
+pub least_none : (k : Classes) (l : Limits) (set c : ℕ) → c < 136 → AreInOrder k l → slice_index k.count c ≡ 0 →
+    least_of_class k l set c ≡ 0
 unfolding least_of_class
 least_none k l set c h ordered none =
     omega (arith, over_none k set c (slice_index l.lo c) h (omega (arith, ordered.order c h, ordered.counted c h)) none)

@@ -42,8 +42,7 @@ more_sayable k said w is kind (ws, say) = (
   },
 )
 
-pub items_sayable :
-    HaveCodewords → (items : List ℕ) (said : List Kind) → All (λ item. item < 2 ^ 20) items → IsSayable said →
+pub items_sayable : HaveCodewords → (items : List ℕ) (said : List Kind) → All (λ item. item < 2 ^ 20) items → IsSayable said →
     IsSayable (map Message items ++ said)
 items_sayable have [] said small rest = rest
 items_sayable have (i ∷ items) said small rest =
@@ -70,8 +69,7 @@ page_sayable have p said good rest =
     more_sayable (Address (p.address / 8) p.function) (map Message p.payload ++ said) found.0 found.1 kind
     (items_sayable have p.payload said good.small rest)
 
-laid_sayable :
-    HaveCodewords → (end : End) (R : List Page) (steps : List Step) → All IsGoodPage R → IsServed end R steps →
+laid_sayable : HaveCodewords → (end : End) (R : List Page) (steps : List Step) → All IsGoodPage R → IsServed end R steps →
     IsSayable (laid end R steps)
 laid_sayable have end R [] good s = none_sayable
 laid_sayable have end R (Stay ∷ ss) good s = idle_sayable have (laid end R ss) (laid_sayable have end R ss good (record { each = s.each }))

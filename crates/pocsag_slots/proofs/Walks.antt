@@ -19,8 +19,8 @@ use Rattle.pocsag_slots.proofs.CoverLemmas.{class_below, class_rest_is, start_is
 use Rattle.pocsag_slots.proofs.SumLemmas.{sum_below-zero, sum_below-bump}
 
 -- a run of message codewords is no arc
-pub arcs_past_run :
-    (end : End) (items : List ℕ) (rest : List Kind) (i : ℕ) → arcs end i (map Message items ++ rest) ≡ arcs end (i + length items) rest
+pub arcs_past_run : (end : End) (items : List ℕ) (rest : List Kind) (i : ℕ) →
+    arcs end i (map Message items ++ rest) ≡ arcs end (i + length items) rest
 arcs_past_run end [] rest i = let e : i ≡ i + 0 = omega arith in ap (λ (n : ℕ). arcs end n rest) e
 arcs_past_run end (b ∷ items) rest i =
     let e : i + 1 + length items ≡ i + length (b ∷ items) = omega arith in
@@ -100,18 +100,16 @@ run_none : (b e f : Bool) (n : ℕ) → b ≡ false → n ≡ 0 → cond (b && c
 run_none true e f n h z = cc
 run_none false e f n h z = omega arith
 
-choose_start :
-    (e : Bool) (c n slot : ℕ) → cond e (covered (start_of c true) n slot) (covered (start_of c false) n slot)
-    ≡ covered (start_of c e) n slot
+choose_start : (e : Bool) (c n slot : ℕ) →
+    cond e (covered (start_of c true) n slot) (covered (start_of c false) n slot) ≡ covered (start_of c e) n slot
 choose_start true c n slot = refl
 choose_start false c n slot = refl
 
-pub count_of-cons :
-    (end : End) (p : Page) (ps : List Page) (c : ℕ) → count_of end (p ∷ ps) c ≡ cond (class_of_page end p == c) 1 0 + count_of end ps c
+pub count_of-cons : (end : End) (p : Page) (ps : List Page) (c : ℕ) →
+    count_of end (p ∷ ps) c ≡ cond (class_of_page end p == c) 1 0 + count_of end ps c
 count_of-cons end p ps c = sum_by-cons (λ q. cond (class_of_page end q == c) 1 0) p ps
 
-pub turns_of-cons :
-    (end : End) (p : Page) (ps : List Page) (c : ℕ) →
+pub turns_of-cons : (end : End) (p : Page) (ps : List Page) (c : ℕ) →
     turns_of end (p ∷ ps) c ≡ cond (class_of_page end p == c) (page_length p / 16) 0 + turns_of end ps c
 turns_of-cons end p ps c = sum_by-cons (λ q. cond (class_of_page end q == c) (page_length q / 16) 0) p ps
 

@@ -113,8 +113,8 @@ high_number-high_first v (suc n) x =
     rw (high_number-high_first (2 * v + x / 2 ^ n % 2) n x, e, pow-suc 2 n) (omega arith)
 
 -- the bits of the number that bits make behind others
-pub high_first-high_number :
-    (bits : List ℕ) (n v : ℕ) → AreBits bits → high_first (length bits + n) (high_number v bits) ≡ high_first n v ++ bits
+pub high_first-high_number : (bits : List ℕ) (n v : ℕ) → AreBits bits →
+    high_first (length bits + n) (high_number v bits) ≡ high_first n v ++ bits
 unfolding high_number
 high_first-high_number [] n v h = rw zero-add (sym (append-nil (high_first n v)))
 high_first-high_number (b ∷ bits) n v h =

@@ -24,8 +24,8 @@ place_none None count h =
     let t = (none_from_cond (ltb 4000 count) fault.TooLong None h).0 in (refl, grind (arith, nat_tests))
 
 -- a text without a fault is no longer than the limit and has no bad character
-pub fault_none :
-    (is_bad : ℕ → Bool) (text : List ℕ) → text_fault is_bad text ≡ None → (length text ≤ 4000) × All (λ b. is_bad b ≡ false) text
+pub fault_none : (is_bad : ℕ → Bool) (text : List ℕ) → text_fault is_bad text ≡ None → (length text ≤ 4000)
+    × All (λ b. is_bad b ≡ false) text
 unfolding text_fault
 fault_none is_bad text h =
     let p = place_none (position is_bad text) (length text) (none_from_cond (eqb (length text) 0) fault.EmptyMessage _ h).1 in
@@ -38,8 +38,7 @@ never_memory : (over : Bool) → cond over (Some fault.TooLong) None ≡ Some fa
 never_memory true h = cc
 never_memory false h = cc
 
-never_at_place :
-    (b : Bool) (first_bad : Option ℕ) (count : ℕ) →
+never_at_place : (b : Bool) (first_bad : Option ℕ) (count : ℕ) →
     cond b (Some fault.EmptyMessage) (fault_of_place first_bad count) ≡ Some fault.OutOfMemory → ⊥
 never_at_place true first_bad count h = cc
 never_at_place false (Some place) count h = cc
@@ -113,15 +112,13 @@ unfolding low_first
 zeros zero = refl
 zeros (suc n) = ap (λ bits. 0 ∷ bits) (zeros n)
 
-pub filled_numeric :
-    (text packed filled : List ℕ) → packed ≡ flat_map (low_first 4) (map code_or_space text) →
+pub filled_numeric : (text packed filled : List ℕ) → packed ≡ flat_map (low_first 4) (map code_or_space text) →
     filled ≡ packed ++ flat_map (low_first 4) (replicate (short_of 5 (length text)) 12) → filled ≡ numeric_bits text
 unfolding numeric_bits
 filled_numeric text packed filled p f =
     rw (f, p) (sym (flat_map-append (low_first 4) (map code_or_space text) (replicate (short_of 5 (length text)) 12)))
 
-pub filled_alpha :
-    (text packed filled : List ℕ) → packed ≡ flat_map (low_first 7) text →
+pub filled_alpha : (text packed filled : List ℕ) → packed ≡ flat_map (low_first 7) text →
     filled ≡ packed ++ flat_map (low_first 1) (replicate (short_of 20 (7 * length text)) 0) → filled ≡ alpha_bits text
 unfolding alpha_bits
 filled_alpha text packed filled p f = rw (f, p, zeros (short_of 20 (7 * length text))) refl

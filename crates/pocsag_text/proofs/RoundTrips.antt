@@ -29,8 +29,7 @@ item_bits-twenties bits h whole =
     flat_map-cut 20 (high_number 0) (high_first 20) (length bits / 20) bits piece-back h (omega arith)
 
 -- the codes come back, and what stands behind them is cut too
-cut-codes :
-    (width : ℕ) (codes rest : List ℕ) (n : ℕ) → All (λ x. x < 2 ^ width) codes →
+cut-codes : (width : ℕ) (codes rest : List ℕ) (n : ℕ) → All (λ x. x < 2 ^ width) codes →
     cut width low_number (length codes + n) (flat_map (low_first width) codes ++ rest) ≡ codes ++ cut width low_number n rest
 cut-codes width codes rest n h =
     let back : All (λ x. low_number (low_first width x) ≡ x) codes =
@@ -59,8 +58,7 @@ cut-zeros width (suc n) bits h =
     (cut-zeros width n (drop width bits) (All-drop (λ b. b ≡ 0) width bits h))
 
 -- the codes of an alphanumeric text's items
-codes_of-alpha :
-    (text : List ℕ) → All (λ b. b < 128) text →
+codes_of-alpha : (text : List ℕ) → All (λ b. b < 128) text →
     codes_of 7 (twenties (alpha_bits text))
     ≡ text ++ cut 7 low_number (short_of 20 (7 * length text) / 7) (replicate (short_of 20 (7 * length text)) 0)
 unfolding codes_of alpha_bits
@@ -91,8 +89,8 @@ unfolding cut
 nothing-more codes = append-nil codes
 
 -- the codes of a numeric text's items
-codes_of-numeric :
-    (text : List ℕ) → codes_of 4 (twenties (numeric_bits text)) ≡ map code_or_space text ++ replicate (short_of 5 (length text)) 12
+codes_of-numeric : (text : List ℕ) →
+    codes_of 4 (twenties (numeric_bits text)) ≡ map code_or_space text ++ replicate (short_of 5 (length text)) 12
 unfolding codes_of numeric_bits
 codes_of-numeric text =
     let fill : List ℕ = replicate (short_of 5 (length text)) 12 in

@@ -22,8 +22,7 @@ pub record IsTaking (width : ℕ) (codes : List ℕ) (count held : ℕ) (bits : 
   pub same : unpacked_bits width codes count held ≡ bits
 
 -- an item behind the bits that wait
-pub IsTaking-start :
-    (width : ℕ) (codes : List ℕ) (count held item : ℕ) → IsUnpacked width codes count held → item < 2 ^ 20 →
+pub IsTaking-start : (width : ℕ) (codes : List ℕ) (count held item : ℕ) → IsUnpacked width codes count held → item < 2 ^ 20 →
     IsTaking width codes (count + 20) (held * 2 ^ 20 + item) (unpacked_bits width codes count held ++ high_first 20 item)
 unfolding unpacked_bits
 IsTaking-start width codes count held item h lt = record {
@@ -38,9 +37,8 @@ IsTaking-start width codes count held item h lt = record {
 }
 
 -- a code is taken from the front of the bits that are left
-pub IsTaking-more :
-    (width : ℕ) (codes : List ℕ) (count held code : ℕ) (bits : List ℕ) → IsTaking width codes count held bits → width ≤ count →
-    code < 2 ^ width → low_first width code ≡ high_first width (held / 2 ^ (count - width)) →
+pub IsTaking-more : (width : ℕ) (codes : List ℕ) (count held code : ℕ) (bits : List ℕ) → IsTaking width codes count held bits →
+    width ≤ count → code < 2 ^ width → low_first width code ≡ high_first width (held / 2 ^ (count - width)) →
     IsTaking width (codes ++ code ∷ []) (count - width) (held % 2 ^ (count - width)) bits
 unfolding unpacked_bits
 IsTaking-more width codes count held code bits h enough lt is = record {
@@ -74,8 +72,7 @@ IsTaking-more width codes count held code bits h enough lt is = record {
         (high_first (count - width) (held % 2 ^ (count - width))) ∙ ap (λ x. flat_map (low_first width) codes ++ x) split
 
 -- the bits of the next code
-pub next-lt :
-    (width : ℕ) (codes : List ℕ) (count held : ℕ) (bits : List ℕ) → IsTaking width codes count held bits → width ≤ count →
+pub next-lt : (width : ℕ) (codes : List ℕ) (count held : ℕ) (bits : List ℕ) → IsTaking width codes count held bits → width ≤ count →
     held / 2 ^ (count - width) < 2 ^ width
 next-lt width codes count held bits h enough =
     let whole : width + (count - width) ≡ count = omega arith in
@@ -83,8 +80,7 @@ next-lt width codes count held bits h enough =
     shr_below held width (count - width) below
 
 -- the codes are the bits cut in pieces
-pub codes-unpacked_bits :
-    (width : ℕ) (codes : List ℕ) (count held : ℕ) → IsUnpacked width codes count held →
+pub codes-unpacked_bits : (width : ℕ) (codes : List ℕ) (count held : ℕ) → IsUnpacked width codes count held →
     codes ≡ cut width low_number (length (unpacked_bits width codes count held) / width) (unpacked_bits width codes count held)
 unfolding unpacked_bits
 codes-unpacked_bits width codes count held h =

@@ -24,9 +24,8 @@ whole counts turns end S i low high of =
     let all : i ≡ length S = omega arith in
     subst (λ (ps : List Page). AreCounted counts turns end ps) (ap (λ (n : ℕ). take n S) all ∙ take-length S) of
 
-few_so_far :
-    (counts turns : List ℕ) (end : End) (S : List Page) (i at more : ℕ) → IsRound S → AreCounted counts turns end (take i S) → at < 136 →
-    more ≤ 87 → (slice_index counts at ≤ 20000) × (slice_index turns at + more ≤ 1740087)
+few_so_far : (counts turns : List ℕ) (end : End) (S : List Page) (i at more : ℕ) → IsRound S → AreCounted counts turns end (take i S) →
+    at < 136 → more ≤ 87 → (slice_index counts at ≤ 20000) × (slice_index turns at + more ≤ 1740087)
 few_so_far counts turns end S i at more round of h l =
     let short : All IsShort (take i S) = All-take IsShort i S (all_short S round) in
     let few : length (take i S) ≤ 20000 = omega (arith, length-take i S, round.few) in
