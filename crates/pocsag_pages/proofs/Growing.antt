@@ -34,8 +34,8 @@ has_push ps p a =
     rw addresses_push (list_any-append (nat_eq a) (addresses_of ps) (p.address ∷ [])
     ∙ ap (λ b. has_address ps a || b) (or_false (nat_eq a p.address)))
 
-pub good_push :
-    (ps : List Page) (p : Page) → AreGood ps → page_fault_of p ≡ None → has_address ps p.address ≡ false → AreGood (ps ++ p ∷ [])
+pub good_push : (ps : List Page) (p : Page) → AreGood ps → page_fault_of p ≡ None → has_address ps p.address ≡ false →
+    AreGood (ps ++ p ∷ [])
 good_push ps p good fine another = record {
   each = All-push (λ q. page_fault_of q ≡ None) ps p good.each fine;
   apart = rw addresses_push (IsDistinct-push nat_eq_equiv (addresses_of ps) p.address good.apart another);
@@ -55,9 +55,8 @@ module _ (ps : List Page) (seen : BTreeSet ℕ) (a : ℕ) (added : Bool) (d : Is
 pub draft_none : (seen : BTreeSet ℕ) → seen.keys ≡ [] → IsDraft [] seen
 draft_none seen e = record { good = good_none; addresses = λ a. rw e refl }
 
-pub draft_push :
-    (ps : List Page) (seen more : BTreeSet ℕ) (p : Page) → IsDraft ps seen → page_fault_of p ≡ None → has_address ps p.address ≡ false
-    → Updates nat_cmp seen more p.address true → IsDraft (ps ++ p ∷ []) more
+pub draft_push : (ps : List Page) (seen more : BTreeSet ℕ) (p : Page) → IsDraft ps seen → page_fault_of p ≡ None →
+    has_address ps p.address ≡ false → Updates nat_cmp seen more p.address true → IsDraft (ps ++ p ∷ []) more
 draft_push ps seen more p d fine another u = record {
   good = good_push ps p d.good fine another;
   addresses = λ a. u.0 a ∙ (rw (same_test p.address a, d.addresses a, has_push ps p a) (either (nat_eq a p.address) (has_address ps a)));

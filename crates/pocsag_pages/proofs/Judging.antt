@@ -55,8 +55,7 @@ one_more before rows r None f even later =
     rw (pages, more, length-append (pages_of before) (pages_of (r ∷ []))) (omega arith) in
     rw f (rw (append_snoc before r rows, pages, more) at (later longer even_on))
 
-grown_is :
-    (before rows : List Row) → length (pages_of before) ≡ length before →
+grown_is : (before rows : List Row) → length (pages_of before) ≡ length before →
     pages_unless (first_fault before rows) (before ++ rows) ≡ grown (pages_of before) (length before) rows
 unfolding first_fault grown fault_of_row
 grown_is before [] even = rw (append-nil before) refl
@@ -113,8 +112,7 @@ not_empty : (ps : List Page) → unless_empty ps ≡ Err fault.ReadFault → ⊥
 not_empty [] h = cc
 not_empty (p ∷ ps) h = cc
 
-not_later :
-    (o : Option RecordFault) (n : ℕ) (later : Result (List Page) RoundFault) → (later ≡ Err fault.ReadFault → ⊥) →
+not_later : (o : Option RecordFault) (n : ℕ) (later : Result (List Page) RoundFault) → (later ≡ Err fault.ReadFault → ⊥) →
     or_later o n later ≡ Err fault.ReadFault → ⊥
 not_later None n later not h = not h
 not_later (Some e) n later not h = not_numbered (n + 1) e cc
@@ -155,9 +153,8 @@ unfolding verdict
 large_file bytes h = rw (is_above file_limit (length bytes) h) refl
 
 -- what is told where the bytes were not read whole
-pub unread :
-    (bytes : List ℕ) (w : WholeFault) (e : RoundFault) → (w ≡ whole.TooLarge → file_limit < length bytes) → e ≡ round_fault_of w →
-    (e ≡ fault.OutOfMemory) ⊎ ((e ≡ fault.ReadFault) ⊎ (verdict bytes ≡ Err e))
+pub unread : (bytes : List ℕ) (w : WholeFault) (e : RoundFault) → (w ≡ whole.TooLarge → file_limit < length bytes) →
+    e ≡ round_fault_of w → (e ≡ fault.OutOfMemory) ⊎ ((e ≡ fault.ReadFault) ⊎ (verdict bytes ≡ Err e))
 unread bytes whole.ReadFault e large is = inr (inl is)
 unread bytes whole.TooLarge e large is = inr (inr (large_file bytes (large refl) ∙ ap Err (sym is)))
 unread bytes whole.OutOfMemory e large is = inl is

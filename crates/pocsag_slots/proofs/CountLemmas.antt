@@ -38,11 +38,13 @@ grown xs f g at more long h each next c l =
     elim (cases_eq at c) [
       | inl same ↦
           let fits : at < length xs = omega arith in
-          let now : slice_index (slice_set xs at (slice_index xs at + more)) at ≡ slice_index xs at + more = get_or-set_same xs at (slice_index xs at + more) 0 fits in
+          let now : slice_index (slice_set xs at (slice_index xs at + more)) at ≡ slice_index xs at + more =
+          get_or-set_same xs at (slice_index xs at + more) 0 fits in
           let test : cond (at == at) more 0 ≡ more = grind (arith, nat_tests) in
           subst (λ (n : ℕ). slice_index (slice_set xs at (slice_index xs at + more)) n ≡ g n) same (omega (arith, each at h, next at))
       | inr other ↦
-          let now : slice_index (slice_set xs at (slice_index xs at + more)) c ≡ slice_index xs c = get_or-set_other xs at c (slice_index xs at + more) 0 (λ e. other (sym e)) in
+          let now : slice_index (slice_set xs at (slice_index xs at + more)) c ≡ slice_index xs c =
+          get_or-set_other xs at c (slice_index xs at + more) 0 (λ e. other (sym e)) in
           let test : cond (at == c) more 0 ≡ 0 = grind (arith, nat_tests) in
           omega (arith, each c l, next c)
     ]
@@ -54,7 +56,8 @@ count_in end p R c e = count_of-cons end p R c ∙ ap (λ (b : Bool). cond b 1 0
 count_out : (end : End) (p : Page) (R : List Page) (c : ℕ) → class_of_page end p ≢ c → count_of end (p ∷ R) c ≡ 0 + count_of end R c
 count_out end p R c e = count_of-cons end p R c ∙ ap (λ (b : Bool). cond b 1 0 + count_of end R c) (ne_eqb _ _ e)
 
-turns_in : (end : End) (p : Page) (R : List Page) (c : ℕ) → class_of_page end p ≡ c → turns_of end (p ∷ R) c ≡ page_length p / 16 + turns_of end R c
+turns_in : (end : End) (p : Page) (R : List Page) (c : ℕ) → class_of_page end p ≡ c →
+    turns_of end (p ∷ R) c ≡ page_length p / 16 + turns_of end R c
 turns_in end p R c e = turns_of-cons end p R c ∙ ap (λ (b : Bool). cond b (page_length p / 16) 0 + turns_of end R c) (eq-eqb _ _ e)
 
 turns_out : (end : End) (p : Page) (R : List Page) (c : ℕ) → class_of_page end p ≢ c → turns_of end (p ∷ R) c ≡ 0 + turns_of end R c
@@ -77,7 +80,8 @@ turns_whole end c (p ∷ R) h =
     let rest = turns_whole end c R h in
     elim (cases_eq (class_of_page end p) c) [
       | inl same ↦
-          let of : class_rest (class_of_page end p) ≡ page_length p % 16 = class_rest_is end (p.address % 8) (page_length p) (omega arith) in
+          let of : class_rest (class_of_page end p) ≡ page_length p % 16 =
+          class_rest_is end (p.address % 8) (page_length p) (omega arith) in
           let none : page_length p % 16 ≡ 0 = sym of ∙ (ap class_rest same ∙ h) in
           omega (arith, count_in end p R c same, turns_in end p R c same)
       | inr other ↦ omega (arith, count_out end p R c other, turns_out end p R c other)
@@ -146,10 +150,13 @@ more_counted counts turns end R i p at whole h item class long_run so_far =
       long = length-set counts at (slice_index counts at + 1) ∙ so_far.long;
       turns_long = length-set turns at (slice_index turns at + whole) ∙ so_far.turns_long;
       each = grown counts (count_of end (take i R)) (count_of end (take (i + 1) R)) at 1 so_far.long fits so_far.each count_next;
-      each_turns = grown turns (turns_of end (take i R)) (turns_of end (take (i + 1) R)) at whole so_far.turns_long fits so_far.each_turns turns_next;
+      each_turns =
+          grown turns (turns_of end (take i R)) (turns_of end (take (i + 1) R)) at whole so_far.turns_long fits so_far.each_turns
+          turns_next;
     }
 
-pub tables_sum : (counts turns : List ℕ) (end : End) (R : List Page) → AreCounted counts turns end R → sum_below 136 (slice_index counts) ≡ length R
+pub tables_sum : (counts turns : List ℕ) (end : End) (R : List Page) → AreCounted counts turns end R →
+    sum_below 136 (slice_index counts) ≡ length R
 tables_sum counts turns end R of = sum_below-same 136 (slice_index counts) (count_of end R) of.each ∙ counts_sum end R
 
 -- the tables of a round keep what tables do

@@ -68,37 +68,36 @@ pub part_few : (b : Bool) (x : ℕ) → cond b x 0 ≤ x
 part_few true x = omega arith
 part_few false x = omega arith
 
+sums_few : (k : Classes) (f : ℕ → ℕ) (n : ℕ) → n ≤ 136 → ((c : ℕ) → c < n → f c ≤ slice_index k.count c) → sum_below n f ≤ 20000
+sums_few k f n h each =
+    omega (arith, sum_below-le n f (slice_index k.count) each, sum_below-part n 136 (slice_index k.count) h, k.tables.few)
+
+parts_few : (b d : Bool) (x y : ℕ) → x ≤ y → cond b x 0 + cond d (y - x) 0 ≤ y
+parts_few b d x y h = omega (arith, part_few b x, part_few d (y - x))
+
 pub starts_few : (k : Classes) (choice : ℕ → ℕ) (p n : ℕ) → n ≤ 136 → IsChoice k choice → sum_below n (starts_at k choice p) ≤ 20000
-starts_few k choice p n h chosen =
-    let each : sum_below n (starts_at k choice p) ≤ sum_below n (slice_index k.count) =
-    sum_below-le n (starts_at k choice p) (slice_index k.count) (λ c l.
-    omega (arith, part_few (start_of c true == p) (choice c), part_few (start_of c false == p) (slice_index k.count c - choice c), chosen c (omega arith))) in
-    omega (arith, sum_below-part n 136 (slice_index k.count) h, k.tables.few)
+starts_few k choice p n h chosen = sums_few k _ n h (λ c l. parts_few _ _ _ _ (chosen c (omega arith)))
 
 pub ends_few : (k : Classes) (choice : ℕ → ℕ) (p n : ℕ) → n ≤ 136 → IsChoice k choice → sum_below n (ends_at k choice p) ≤ 20000
-ends_few k choice p n h chosen =
-    let each : sum_below n (ends_at k choice p) ≤ sum_below n (slice_index k.count) =
-    sum_below-le n (ends_at k choice p) (slice_index k.count) (λ c l.
-    omega (arith, part_few (finish_of c true == p) (choice c), part_few (finish_of c false == p) (slice_index k.count c - choice c), chosen c (omega arith))) in
-    omega (arith, sum_below-part n 136 (slice_index k.count) h, k.tables.few)
+ends_few k choice p n h chosen = sums_few k _ n h (λ c l. parts_few _ _ _ _ (chosen c (omega arith)))
 
 -- the sums with one class more
 same_test : (a b p x y : ℕ) → a ≡ b → x ≡ y → cond (a == p) x 0 ≡ cond (b == p) y 0
 same_test a b p x y e f = rw (e, f) refl
 
-pub class_added : (f : ℕ → ℕ) (n old one two a b s t p x y : ℕ) → old ≡ sum_below n f → one ≡ old + cond (a == p) x 0 → two ≡ one + cond (b == p) y 0 →
-    a ≡ s → b ≡ t → f n ≡ cond (s == p) x 0 + cond (t == p) y 0 → two ≡ sum_below (n + 1) f
+pub class_added : (f : ℕ → ℕ) (n old one two a b s t p x y : ℕ) → old ≡ sum_below n f → one ≡ old + cond (a == p) x 0 →
+    two ≡ one + cond (b == p) y 0 → a ≡ s → b ≡ t → f n ≡ cond (s == p) x 0 + cond (t == p) y 0 → two ≡ sum_below (n + 1) f
 class_added f n old one two a b s t p x y so_far first second start finish here =
     omega (arith, sum_below_more n f, same_test a s p x x start refl, same_test b t p y y finish refl)
 
 -- a class without pages adds nothing
-pub none_start : (k : Classes) (choice : ℕ → ℕ) (p c : ℕ) → slice_index k.count c ≡ 0 → choice c ≤ slice_index k.count c → starts_at k choice p c ≡ 0
-none_start k choice p c none few =
-    omega (arith, part_few (start_of c true == p) (choice c), part_few (start_of c false == p) (slice_index k.count c - choice c))
+pub none_start : (k : Classes) (choice : ℕ → ℕ) (p c : ℕ) → slice_index k.count c ≡ 0 → choice c ≤ slice_index k.count c →
+    starts_at k choice p c ≡ 0
+none_start k choice p c none few = omega (arith, parts_few (start_of c true == p) (start_of c false == p) (choice c) (slice_index k.count c) few)
 
-pub none_end : (k : Classes) (choice : ℕ → ℕ) (p c : ℕ) → slice_index k.count c ≡ 0 → choice c ≤ slice_index k.count c → ends_at k choice p c ≡ 0
-none_end k choice p c none few =
-    omega (arith, part_few (finish_of c true == p) (choice c), part_few (finish_of c false == p) (slice_index k.count c - choice c))
+pub none_end : (k : Classes) (choice : ℕ → ℕ) (p c : ℕ) → slice_index k.count c ≡ 0 → choice c ≤ slice_index k.count c →
+    ends_at k choice p c ≡ 0
+none_end k choice p c none few = omega (arith, parts_few (finish_of c true == p) (finish_of c false == p) (choice c) (slice_index k.count c) few)
 
 pub class_skipped : (f : ℕ → ℕ) (n old : ℕ) → old ≡ sum_below n f → f n ≡ 0 → old ≡ sum_below (n + 1) f
 class_skipped f n old so_far none = omega (arith, sum_below_more n f)
@@ -114,8 +113,10 @@ pub load_step : (k : Classes) (choice : ℕ → ℕ) (slot last starts ends : �
     IsStep k choice slot last starts ends
 load_step k choice slot last starts ends chosen h some was first second =
     let back : before slot ≡ slot - 1 = omega arith in
-    let edge : load k choice slot + sum_below 136 (ends_at k choice slot) ≡ load k choice (slot - 1) + sum_below 136 (starts_at k choice slot) =
-    subst (λ (p : ℕ). load k choice slot + sum_below 136 (ends_at k choice slot) ≡ load k choice p + sum_below 136 (starts_at k choice slot)) back (load_edge k choice slot h) in
+    let edge : load k choice slot + sum_below 136 (ends_at k choice slot)
+    ≡ load k choice (slot - 1) + sum_below 136 (starts_at k choice slot) =
+    subst (λ (p : ℕ). load k choice slot + sum_below 136 (ends_at k choice slot)
+    ≡ load k choice p + sum_below 136 (starts_at k choice slot)) back (load_edge k choice slot h) in
     record {
       few = omega (arith, load_few k choice (slot - 1) (omega arith) chosen, starts_few k choice slot 136 (omega arith) chosen);
       enough = omega arith;

@@ -33,7 +33,8 @@ ends_whole (Address high function ∷ []) i h some e =
     let at : (i + 1) % 16 ≡ 0 = omega arith in
     (last_class i at, late_last i at)
 ends_whole (Message bits ∷ []) i h some e = absurd e
-ends_whole (Idle ∷ (v ∷ ws)) i h some e = last_behind Stay (arcs Closed (i + 1) (v ∷ ws)) (ends_whole (v ∷ ws) (i + 1) (omega arith) (omega arith) e)
+ends_whole (Idle ∷ (v ∷ ws)) i h some e =
+    last_behind Stay (arcs Closed (i + 1) (v ∷ ws)) (ends_whole (v ∷ ws) (i + 1) (omega arith) (omega arith) e)
 ends_whole (Address high function ∷ (v ∷ ws)) i h some e =
     last_behind (Run (class_of Closed (frame_at i) (1 + run_length (v ∷ ws))) (i % 2 == 0)) (arcs Closed (i + 1) (v ∷ ws))
     (ends_whole (v ∷ ws) (i + 1) (omega arith) (omega arith) e)

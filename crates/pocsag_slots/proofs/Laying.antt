@@ -42,14 +42,16 @@ starts_here : (end : End) (i : ℕ) (p : Page) (c : ℕ) (e : Bool) → class_of
 unfolding start_of
 starts_here end i p c e class start =
     let small : p.address % 8 < 8 = omega arith in
-    let frame : class_frame c ≡ p.address % 8 = subst (λ (k : ℕ). class_frame k ≡ p.address % 8) class (class_frame_is end (p.address % 8) (page_length p) small) in
+    let frame : class_frame c ≡ p.address % 8 =
+    subst (λ (k : ℕ). class_frame k ≡ p.address % 8) class (class_frame_is end (p.address % 8) (page_length p) small) in
     let here : frame_at i ≡ p.address % 8 = at_frame e start frame in
     let parity : (i % 2 == 0) ≡ e = at_parity e start in
     record {
       frame = here;
       early = parity;
       finish =
-          let f : finish_of (class_of end (frame_at i) (page_length p)) (i % 2 == 0) ≡ (i + page_length p) % 16 = finish_is end i (page_length p) in
+          let f : finish_of (class_of end (frame_at i) (page_length p)) (i % 2 == 0) ≡ (i + page_length p) % 16 =
+          finish_is end i (page_length p) in
           let same : class_of end (frame_at i) (page_length p) ≡ c = ap (λ (k : ℕ). class_of end k (page_length p)) here ∙ class in
           subst (λ (b : Bool). finish_of c b ≡ (i + page_length p) % 16) parity
           (subst (λ (k : ℕ). finish_of k (i % 2 == 0) ≡ (i + page_length p) % 16) same f);
@@ -87,7 +89,8 @@ first_runs c e ss d = omega (arith, run_counts (c == d) e)
 
 pub some_left : (end : End) (R : List Page) (c : ℕ) (e : Bool) (ss : List Step) → IsServed end R (Run c e ∷ ss) → 0 < count_of end R c
 some_left end R c e ss s =
-    let first : runs c true (Run c e ∷ ss) + runs c false (Run c e ∷ ss) ≡ cond (c == c) 1 0 + (runs c true ss + runs c false ss) = first_runs c e ss c in
+    let first : runs c true (Run c e ∷ ss) + runs c false (Run c e ∷ ss) ≡ cond (c == c) 1 0 + (runs c true ss + runs c false ss) =
+    first_runs c e ss c in
     let same : (c == c) ≡ true = eq-eqb c c refl in
     let one : runs c true (Run c e ∷ ss) + runs c false (Run c e ∷ ss) ≡ 1 + (runs c true ss + runs c false ss) = first ∙ rw same refl in
     let all = s.each c in
@@ -100,7 +103,8 @@ served_left end R c e ss p left s t = record {
 }
 
 lay_run : (end : End) (i : ℕ) (p : Page) (R left : List Page) (c : ℕ) (e : Bool) (ss : List Step) (T : List Kind) (ps : List Page) →
-    StartsHere end i p c e → class_of_page end p ≡ c → Reads T (i + page_length p) ps → arcs end (i + page_length p) T ≡ ss → BeginsNoMessage T →
+    StartsHere end i p c e → class_of_page end p ≡ c → Reads T (i + page_length p) ps → arcs end (i + page_length p) T ≡ ss →
+    BeginsNoMessage T →
     Reads (page_words p ++ T) i (p ∷ ps) × (arcs end i (page_words p ++ T) ≡ Run c e ∷ ss)
 lay_run end i p R left c e ss T ps here class reads steps begins = (
   subst (λ (q : Page). Reads (page_words p ++ T) i (q ∷ ps)) page_is
@@ -129,7 +133,14 @@ lay_run end i p R left c e ss T ps here class reads steps begins = (
 pub lay : (end : End) (ss : List Step) (R : List Page) (i : ℕ) (q : ℕ) → Leads (i % 16) ss q → IsServed end R ss → IsLaid end R i ss
 lay end [] R i q leads s =
     let none : R ≡ [] = no_pages end R (λ c. s.each c) in
-    record { ps = []; reads = at_end; steps = refl; begins = tt; moved = subst (λ (v : List Page). IsPermutation v []) (sym none) (IsPermutation-refl []) }
+    record {
+      ps =
+          [];
+      reads = at_end;
+      steps = refl;
+      begins = tt;
+      moved = subst (λ (v : List Page). IsPermutation v []) (sym none) (IsPermutation-refl []);
+    }
 lay end (Stay ∷ ss) R i q leads s =
     let next : (i % 16 + 1) % 16 ≡ (i + 1) % 16 = omega arith in
     let rest = lay end ss R (i + 1) q (subst (λ (n : ℕ). Leads n ss q) next leads) (record { each = s.each }) in
@@ -145,7 +156,8 @@ lay end (Run c e ∷ ss) R i q leads s =
     let left = without_first end c R in
     let t = taken end c R (some_left end R c e ss s) in
     let here = starts_here end i p c e t.class leads.0 in
-    let rest = lay end ss left (i + page_length p) q (subst (λ (n : ℕ). Leads n ss q) here.finish leads.1) (served_left end R c e ss p left s t) in
+    let rest =
+    lay end ss left (i + page_length p) q (subst (λ (n : ℕ). Leads n ss q) here.finish leads.1) (served_left end R c e ss p left s t) in
     let one = lay_run end i p R left c e ss (laid end left ss) rest.ps here t.class rest.reads rest.steps rest.begins in
     record {
       ps = p ∷ rest.ps;
@@ -206,7 +218,8 @@ no_class end [] c h = refl
 no_class end (p ∷ R) c h =
     let small : class_of_page end p < 136 = class_below end (p.address % 8) (page_length p) (omega arith) in
     let other : (class_of_page end p == c) ≡ false = ne_eqb (class_of_page end p) c (λ same. absurd (omega arith)) in
-    let all : count_of end (p ∷ R) c ≡ cond (class_of_page end p == c) 1 0 + count_of end R c = sum_by-cons (λ q. cond (class_of_page end q == c) 1 0) p R in
+    let all : count_of end (p ∷ R) c ≡ cond (class_of_page end p == c) 1 0 + count_of end R c =
+    sum_by-cons (λ q. cond (class_of_page end q == c) 1 0) p R in
     let rest : count_of end R c ≡ 0 = no_class end R c h in
     all ∙ rw other (omega arith)
 

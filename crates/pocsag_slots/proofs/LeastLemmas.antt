@@ -33,7 +33,8 @@ members_more set first n =
     sum_over-at set at (covered (first + n) 1) (omega arith)
     (covered_one (first + n) at ∙ grind (arith, nat_tests))
     (λ slot h other. covered_one (first + n) slot ∙ grind (arith, nat_tests)) in
-    sum_over-same set (covered first (n + 1)) (λ slot. covered first n slot + covered (first + n) 1 slot) (λ slot h. covered_split first n 1 slot h)
+    sum_over-same set (covered first (n + 1)) (λ slot. covered first n slot + covered (first + n) 1 slot)
+    (λ slot h. covered_split first n 1 slot h)
     ∙ sum_over-add set (covered first n) (covered (first + n) 1)
     ∙ ap (λ (m : ℕ). sum_over set (covered first n) + m) one
 
@@ -55,7 +56,8 @@ class_load_over_is k set c early =
     let split : sum_over set (λ slot. t * 1 + (early * a slot + late * b slot))
     ≡ sum_over set (λ slot. t * 1) + sum_over set (λ slot. early * a slot + late * b slot) =
     sum_over-add set (λ slot. t * 1) (λ slot. early * a slot + late * b slot) in
-    let runs : sum_over set (λ slot. early * a slot + late * b slot) ≡ sum_over set (λ slot. early * a slot) + sum_over set (λ slot. late * b slot) =
+    let runs : sum_over set (λ slot. early * a slot + late * b slot)
+    ≡ sum_over set (λ slot. early * a slot) + sum_over set (λ slot. late * b slot) =
     sum_over-add set (λ slot. early * a slot) (λ slot. late * b slot) in
     let by_early : sum_over set (λ slot. early * a slot) ≡ early * sum_over set a = sum_over-times set early a in
     let by_late : sum_over set (λ slot. late * b slot) ≡ late * sum_over set b = sum_over-times set late b in
@@ -138,7 +140,11 @@ least_is k l set ordered =
           omega (arith, load_over k set choice);
       met = (
         cheapest k l set,
-        record { least = λ c h. (cheapest_low k l set c (ordered.order c h)).0; most = λ c h. (cheapest_low k l set c (ordered.order c h)).1 },
+        record {
+          least =
+              λ c h. (cheapest_low k l set c (ordered.order c h)).0;
+          most = λ c h. (cheapest_low k l set c (ordered.order c h)).1;
+        },
         load_over k set (cheapest k l set)
             ∙ sum_below-same 136 _ (least_of_class k l set) (λ c h. cheapest_is k l set c),
       );
@@ -165,12 +171,14 @@ least_of_class_is k l set c =
     omega arith
 
 -- a class without pages loads no set
-over_none : (k : Classes) (set c early : ℕ) → c < 136 → early ≤ slice_index k.count c → slice_index k.count c ≡ 0 → class_load_over k set c early ≡ 0
+over_none : (k : Classes) (set c early : ℕ) → c < 136 → early ≤ slice_index k.count c → slice_index k.count c ≡ 0 →
+    class_load_over k set c early ≡ 0
 unfolding class_load_over
 over_none k set c early h some none =
     sum_over-same set (λ slot. class_load k slot c early) (λ slot. 0) (λ slot s. load_none k slot c early s h some none) ∙ sum_over-none set
 
-pub least_none : (k : Classes) (l : Limits) (set c : ℕ) → c < 136 → AreInOrder k l → slice_index k.count c ≡ 0 → least_of_class k l set c ≡ 0
+pub least_none : (k : Classes) (l : Limits) (set c : ℕ) → c < 136 → AreInOrder k l → slice_index k.count c ≡ 0 →
+    least_of_class k l set c ≡ 0
 unfolding least_of_class
 least_none k l set c h ordered none =
     omega (arith, over_none k set c (slice_index l.lo c) h (omega (arith, ordered.order c h, ordered.counted c h)) none)

@@ -22,7 +22,8 @@ rearranged (r ∷ R) ps a long each =
     let others : All (Contains (remove ps first.0)) R =
     λ j d h.
     let x : Page = get_or R j d in
-    let there : Contains (r ∷ remove ps first.0) x = Contains-permutation ps (r ∷ remove ps first.0) x moved (each (suc j) d (omega arith)) in
+    let there : Contains (r ∷ remove ps first.0) x =
+    Contains-permutation ps (r ∷ remove ps first.0) x moved (each (suc j) d (omega arith)) in
     elim (tail_or_head r x (remove ps first.0) there.0 there.1 there.2) [
       | inl same ↦ absurd (a 0 (suc j) d (omega arith) (omega arith) (ap (λ (p : Page). p.address) same))
       | inr found ↦ found

@@ -34,10 +34,16 @@ none_sayable = ([], record { codewords = All-nil IsCodeword; kinds = refl })
 more_sayable : (k : Kind) (said : List Kind) (w : ℕ) → IsCodeword w → kind_of w ≡ k → IsSayable said → IsSayable (k ∷ said)
 more_sayable k said w is kind (ws, say) = (
   w ∷ ws,
-  record { codewords = All-cons IsCodeword w ws is say.codewords; kinds = ap (λ (j : Kind). j ∷ map kind_of ws) kind ∙ ap (λ (v : List Kind). k ∷ v) say.kinds },
+  record {
+    codewords =
+        All-cons IsCodeword w ws is say.codewords;
+    kinds = ap (λ (j : Kind). j ∷ map kind_of ws) kind
+        ∙ ap (λ (v : List Kind). k ∷ v) say.kinds;
+  },
 )
 
-pub items_sayable : HaveCodewords → (items : List ℕ) (said : List Kind) → All (λ item. item < 2 ^ 20) items → IsSayable said → IsSayable (map Message items ++ said)
+pub items_sayable : HaveCodewords → (items : List ℕ) (said : List Kind) → All (λ item. item < 2 ^ 20) items → IsSayable said →
+    IsSayable (map Message items ++ said)
 items_sayable have [] said small rest = rest
 items_sayable have (i ∷ items) said small rest =
     let found = have.message i (small 0 0 (omega arith)) in
@@ -63,7 +69,8 @@ page_sayable have p said good rest =
     more_sayable (Address (p.address / 8) p.function) (map Message p.payload ++ said) found.0 found.1 kind
     (items_sayable have p.payload said good.small rest)
 
-laid_sayable : HaveCodewords → (end : End) (R : List Page) (steps : List Step) → All IsGoodPage R → IsServed end R steps → IsSayable (laid end R steps)
+laid_sayable : HaveCodewords → (end : End) (R : List Page) (steps : List Step) → All IsGoodPage R → IsServed end R steps →
+    IsSayable (laid end R steps)
 laid_sayable have end R [] good s = none_sayable
 laid_sayable have end R (Stay ∷ ss) good s = idle_sayable have (laid end R ss) (laid_sayable have end R ss good (record { each = s.each }))
 laid_sayable have end R (Run c e ∷ ss) good s =
@@ -77,5 +84,6 @@ laid_sayable have end R (Run c e ∷ ss) good s =
 pub tour_said : HaveCodewords → (k : Classes) (end : End) (choice : ℕ → ℕ) (b : ℕ) (steps : List Step) (R : List Page) → 0 < b → IsRound R →
     AreClassesOf k end R → IsTour k end choice b steps → (U : List ℕ) × (map kind_of U ≡ laid end R steps) × IsLegalList end U b R
 tour_said have k end choice b steps R some round classes tour =
-    let said : IsSayable (laid end R steps) = laid_sayable have end R steps (good_pages R round.good) (served_tour k end choice b steps R classes tour) in
+    let said : IsSayable (laid end R steps) =
+    laid_sayable have end R steps (good_pages R round.good) (served_tour k end choice b steps R classes tour) in
     (said.0, said.1.kinds, laid_list_legal k end choice b steps R said.0 some classes tour said.1.codewords said.1.kinds)

@@ -22,7 +22,8 @@ sum_below-zero (suc n) f h =
     omega (arith, sum_below-zero n f (λ k l. h k (omega arith)), h n (omega arith))
 
 -- one term grows by x, and the others stay
-pub sum_below-bump : (n k x : ℕ) (f g : ℕ → ℕ) → k < n → g k ≡ f k + x → ((j : ℕ) → j < n → j ≢ k → g j ≡ f j) → sum_below n g ≡ sum_below n f + x
+pub sum_below-bump : (n k x : ℕ) (f g : ℕ → ℕ) → k < n → g k ≡ f k + x → ((j : ℕ) → j < n → j ≢ k → g j ≡ f j) →
+    sum_below n g ≡ sum_below n f + x
 unfolding sum_below
 sum_below-bump zero k x f g h e o = absurd (omega arith)
 sum_below-bump (suc n) k x f g h e o =

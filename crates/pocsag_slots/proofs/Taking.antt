@@ -41,6 +41,8 @@ taken end c (p ∷ R) some =
 pub left_counts : (end : End) (c : ℕ) (R : List Page) (p : Page) (left : List Page) → IsTaken end c R p left →
     (d : ℕ) → count_of end R d ≡ cond (c == d) 1 0 + count_of end left d
 left_counts end c R p left t d =
-    let all : count_of end (p ∷ left) d ≡ count_of end R d = sum_by-IsPermutation (λ q. cond (class_of_page end q == d) 1 0) R (p ∷ left) t.moved in
-    let first : count_of end (p ∷ left) d ≡ cond (class_of_page end p == d) 1 0 + count_of end left d = sum_by-cons (λ q. cond (class_of_page end q == d) 1 0) p left in
+    let all : count_of end (p ∷ left) d ≡ count_of end R d =
+    sum_by-IsPermutation (λ q. cond (class_of_page end q == d) 1 0) R (p ∷ left) t.moved in
+    let first : count_of end (p ∷ left) d ≡ cond (class_of_page end p == d) 1 0 + count_of end left d =
+    sum_by-cons (λ q. cond (class_of_page end q == d) 1 0) p left in
     sym all ∙ (first ∙ ap (λ (k : ℕ). cond (k == d) 1 0 + count_of end left d) t.class)

@@ -56,7 +56,8 @@ toured k end T R b apart classes legal =
       idle = λ slot h.
           let cover : idles slot 0 (arcs end 0 T) + cover_of end ps (arcs end 0 T) slot ≡ covered 0 (length T) slot = w.covers slot h in
           let same : load k (early_in end T) slot ≡ cover_of end ps (arcs end 0 T) slot =
-          cover_is_load k end ps (arcs end 0 T) (early_in end T) slot (λ c l. classes.turns c l ∙ sym (turns c)) (λ c l. refl) (λ c l. omega (arith, all c l)) in
+          cover_is_load k end ps (arcs end 0 T) (early_in end T) slot (λ c l. classes.turns c l ∙ sym (turns c)) (λ c l. refl)
+          (λ c l. omega (arith, all c l)) in
           let whole : covered 0 (length T) slot ≡ b = ap (λ (n : ℕ). covered 0 n slot) long ∙ covered_batches b slot h in
           omega arith;
       last = ends_as end T (omega arith) (omega arith) legal.1;

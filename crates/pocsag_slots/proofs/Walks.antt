@@ -19,7 +19,8 @@ use Rattle.pocsag_slots.proofs.CoverLemmas.{class_below, class_rest_is, start_is
 use Rattle.pocsag_slots.proofs.SumLemmas.{sum_below-zero, sum_below-bump}
 
 -- a run of message codewords is no arc
-pub arcs_past_run : (end : End) (items : List ℕ) (rest : List Kind) (i : ℕ) → arcs end i (map Message items ++ rest) ≡ arcs end (i + length items) rest
+pub arcs_past_run : (end : End) (items : List ℕ) (rest : List Kind) (i : ℕ) →
+    arcs end i (map Message items ++ rest) ≡ arcs end (i + length items) rest
 arcs_past_run end [] rest i = let e : i ≡ i + 0 = omega arith in ap (λ (n : ℕ). arcs end n rest) e
 arcs_past_run end (b ∷ items) rest i =
     let e : i + 1 + length items ≡ i + length (b ∷ items) = omega arith in
@@ -88,7 +89,8 @@ run_counts true false = refl
 run_counts false e = refl
 
 run_covers : (b e : Bool) (len turns early late early_cover late_cover : ℕ) →
-    (cond b len 0 + turns) + (cond (b && cond true e (not e)) 1 0 + early) * early_cover + (cond (b && cond false e (not e)) 1 0 + late) * late_cover
+    (cond b len 0 + turns) + (cond (b && cond true e (not e)) 1 0 + early) * early_cover
+    + (cond (b && cond false e (not e)) 1 0 + late) * late_cover
     ≡ (turns + early * early_cover + late * late_cover) + cond b (len + cond e early_cover late_cover) 0
 run_covers true true len turns early late early_cover late_cover = omega arith
 run_covers true false len turns early late early_cover late_cover = omega arith
@@ -98,14 +100,17 @@ run_none : (b e f : Bool) (n : ℕ) → b ≡ false → n ≡ 0 → cond (b && c
 run_none true e f n h z = cc
 run_none false e f n h z = omega arith
 
-choose_start : (e : Bool) (c n slot : ℕ) → cond e (covered (start_of c true) n slot) (covered (start_of c false) n slot) ≡ covered (start_of c e) n slot
+choose_start : (e : Bool) (c n slot : ℕ) →
+    cond e (covered (start_of c true) n slot) (covered (start_of c false) n slot) ≡ covered (start_of c e) n slot
 choose_start true c n slot = refl
 choose_start false c n slot = refl
 
-pub count_of-cons : (end : End) (p : Page) (ps : List Page) (c : ℕ) → count_of end (p ∷ ps) c ≡ cond (class_of_page end p == c) 1 0 + count_of end ps c
+pub count_of-cons : (end : End) (p : Page) (ps : List Page) (c : ℕ) →
+    count_of end (p ∷ ps) c ≡ cond (class_of_page end p == c) 1 0 + count_of end ps c
 count_of-cons end p ps c = sum_by-cons (λ q. cond (class_of_page end q == c) 1 0) p ps
 
-pub turns_of-cons : (end : End) (p : Page) (ps : List Page) (c : ℕ) → turns_of end (p ∷ ps) c ≡ cond (class_of_page end p == c) (page_length p / 16) 0 + turns_of end ps c
+pub turns_of-cons : (end : End) (p : Page) (ps : List Page) (c : ℕ) →
+    turns_of end (p ∷ ps) c ≡ cond (class_of_page end p == c) (page_length p / 16) 0 + turns_of end ps c
 turns_of-cons end p ps c = sum_by-cons (λ q. cond (class_of_page end q == c) (page_length q / 16) 0) p ps
 
 -- the run of a page of class d covers the slots from its start on
@@ -115,13 +120,15 @@ unfolding cover_of
 cover_of-cons end p ps ss d e slot small is =
     let term : (c : ℕ) → class_cover end (p ∷ ps) (Run d e ∷ ss) slot c
     ≡ class_cover end ps ss slot c
-    + cond (d == c) (page_length p / 16 + cond e (covered (start_of c true) (class_rest c) slot) (covered (start_of c false) (class_rest c) slot)) 0 =
+    + cond (d == c)
+    (page_length p / 16 + cond e (covered (start_of c true) (class_rest c) slot) (covered (start_of c false) (class_rest c) slot)) 0 =
     λ c.
     let turns : turns_of end (p ∷ ps) c ≡ cond (d == c) (page_length p / 16) 0 + turns_of end ps c =
     subst (λ (k : ℕ). turns_of end (p ∷ ps) c ≡ cond (k == c) (page_length p / 16) 0 + turns_of end ps c) is (turns_of-cons end p ps c) in
     rw turns (run_covers (d == c) e (page_length p / 16) (turns_of end ps c) (runs c true ss) (runs c false ss)
     (covered (start_of c true) (class_rest c) slot) (covered (start_of c false) (class_rest c) slot)) in
-    sum_below-bump 136 d (page_length p / 16 + covered (start_of d e) (class_rest d) slot) (class_cover end ps ss slot) (class_cover end (p ∷ ps) (Run d e ∷ ss) slot) small
+    sum_below-bump 136 d (page_length p / 16 + covered (start_of d e) (class_rest d) slot) (class_cover end ps ss slot)
+    (class_cover end (p ∷ ps) (Run d e ∷ ss) slot) small
     (let same : (d == d) ≡ true = eq-eqb d d refl in
     term d ∙ rw (same, choose_start e d (class_rest d) slot) refl)
     (λ c l ne.
@@ -138,7 +145,8 @@ walk_page end i m p ps ss d d_is frame w =
     let small : d < 136 = subst (λ (k : ℕ). k < 136) (sym d_is) (class_below end (frame_at i) n (omega arith)) in
     let start : start_of d e ≡ i % 16 = subst (λ (k : ℕ). start_of k e ≡ i % 16) (sym d_is) (start_is end i n) in
     let finish : finish_of d e ≡ (i + n) % 16 = subst (λ (k : ℕ). finish_of k e ≡ (i + n) % 16) (sym d_is) (finish_is end i n) in
-    let rest : class_rest d ≡ n % 16 = subst (λ (k : ℕ). class_rest k ≡ n % 16) (sym d_is) (class_rest_is end (frame_at i) n (omega arith)) in
+    let rest : class_rest d ≡ n % 16 =
+    subst (λ (k : ℕ). class_rest k ≡ n % 16) (sym d_is) (class_rest_is end (frame_at i) n (omega arith)) in
     record {
       leads = (
         sym start,
@@ -166,13 +174,19 @@ walk end {i = i} (past_page {high = high} {function = function} {ws = ws} {ps = 
     let p : Page = record { address = 8 * high + frame_at i; function = function; payload = items } in
     let long : run_length ws ≡ length items = ap run_length e ∙ run_length_is items rest b in
     let left : arcs end (i + 1) ws ≡ arcs end (i + page_length p) rest =
-    ap (arcs end (i + 1)) e ∙ (arcs_past_run end items rest (i + 1) ∙ (let f : i + 1 + length items ≡ i + page_length p = omega arith in ap (λ (n : ℕ). arcs end n rest) f)) in
+    ap (arcs end (i + 1)) e
+    ∙ (arcs_past_run end items rest (i + 1)
+    ∙ (let f : i + 1 + length items ≡ i + page_length p = omega arith in ap (λ (n : ℕ). arcs end n rest) f)) in
     let all : length (Address high function ∷ ws) ≡ page_length p + length rest =
     omega (arith, ap length e, length-append (map Message items) rest, length-map items Message) in
     let class_is : class_of end (frame_at i) (1 + run_length ws) ≡ class_of end (frame_at i) (page_length p) =
     ap (λ (n : ℕ). class_of end (frame_at i) (1 + n)) long in
     let rest_walks : IsWalk end (i + page_length p) (length rest) ps (arcs end (i + page_length p) rest) =
     subst (λ (n : ℕ). IsWalk end n (length rest) ps (arcs end n rest)) (omega arith) (walk end r) in
-    let walks = walk_page end i (length rest) p ps (arcs end (i + page_length p) rest) (class_of end (frame_at i) (1 + run_length ws)) class_is (omega arith) rest_walks in
-    subst (λ (ss : List Step). IsWalk end i (length (Address high function ∷ ws)) (p ∷ ps) (Run (class_of end (frame_at i) (1 + run_length ws)) (i % 2 == 0) ∷ ss)) (sym left)
-    (subst (λ (n : ℕ). IsWalk end i n (p ∷ ps) (Run (class_of end (frame_at i) (1 + run_length ws)) (i % 2 == 0) ∷ arcs end (i + page_length p) rest)) (sym all) walks)
+    let walks =
+    walk_page end i (length rest) p ps (arcs end (i + page_length p) rest) (class_of end (frame_at i) (1 + run_length ws)) class_is
+    (omega arith) rest_walks in
+    subst (λ (ss : List Step). IsWalk end i (length (Address high function ∷ ws)) (p ∷ ps)
+    (Run (class_of end (frame_at i) (1 + run_length ws)) (i % 2 == 0) ∷ ss)) (sym left)
+    (subst (λ (n : ℕ). IsWalk end i n (p ∷ ps)
+    (Run (class_of end (frame_at i) (1 + run_length ws)) (i % 2 == 0) ∷ arcs end (i + page_length p) rest)) (sym all) walks)

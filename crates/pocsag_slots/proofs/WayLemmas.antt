@@ -53,12 +53,14 @@ less a b h = grind (arith, nat_tests)
 early_allowed : (k : Classes) (l : Limits) (set c : ℕ) → early_open k l set c ≡ true → 0 < slice_index l.hi c
 unfolding early_open
 early_allowed k l set c h =
-    less 0 (slice_index l.hi c) ((and_parts (run_crosses c true set && nat_lt 0 (slice_index k.count c)) (nat_lt 0 (slice_index l.hi c)) h).1)
+    less 0 (slice_index l.hi c)
+    ((and_parts (run_crosses c true set && nat_lt 0 (slice_index k.count c)) (nat_lt 0 (slice_index l.hi c)) h).1)
 
 late_allowed : (k : Classes) (l : Limits) (set c : ℕ) → late_open k l set c ≡ true → slice_index l.lo c < slice_index k.count c
 unfolding late_open
 late_allowed k l set c h =
-    less (slice_index l.lo c) (slice_index k.count c) ((and_parts (run_crosses c false set) (nat_lt (slice_index l.lo c) (slice_index k.count c)) h).1)
+    less (slice_index l.lo c) (slice_index k.count c)
+    ((and_parts (run_crosses c false set) (nat_lt (slice_index l.lo c) (slice_index k.count c)) h).1)
 
 slot_ways_allowed : (k : Classes) (l : Limits) (set slot : ℕ) → slot < 16 → All (MayTake k l) (slot_ways set slot)
 unfolding slot_ways
@@ -87,7 +89,11 @@ pub classes_few : (k : Classes) (l : Limits) (set n : ℕ) (found : List Way) �
     found ≡ joined_below 16 (slot_ways set) ++ joined_below n (class_ways k l set) → length found ≤ 16 + 2 * n
 classes_few k l set n found e =
     rw (e, length-append)
-    (omega (arith, length-joined_below 16 1 (slot_ways set) (slot_ways_few set), length-joined_below n 2 (class_ways k l set) (class_ways_few k l set)))
+    (omega (
+      arith,
+      length-joined_below 16 1 (slot_ways set) (slot_ways_few set),
+      length-joined_below n 2 (class_ways k l set) (class_ways_few k l set),
+    ))
 
 -- one slot, and one class, more
 pub slot_added : (set n : ℕ) (b : Bool) (found next : List Way) → b ≡ idle_crosses n set → found ≡ joined_below n (slot_ways set) →

@@ -2,6 +2,7 @@
 use Rattle.std.specs.Prelude.{◌≡◌, ℕ, ◌+◌, ◌-◌, ◌*◌, ◌<◌, ◌≤◌, true, false, List, slice_index, replicate, min}
 use Rattle.pocsag_words.specs.declared.ending.End.{End}
 use Rattle.pocsag_pages.specs.declared.page.Page.{Page}
+use Rattle.pocsag_slots.specs.declared.class.Choice.{Choice}
 use Rattle.pocsag_slots.specs.declared.class.Classes.{Classes}
 use Rattle.pocsag_slots.specs.declared.limit.Limits.{Limits}
 use Rattle.pocsag_slots.specs.Cover.{covered}
@@ -27,6 +28,10 @@ load k choice slot = sum_below class_count (λ c. class_load k slot c (choice c)
 -- The most that a slot is loaded: 88 times by each of 20,000 pages.
 abbrev pub load_limit : ℕ
 load_limit = 1760000
+
+-- How many pages of each class start early by a choice.
+abbrev pub early_of : Choice → ℕ → ℕ
+early_of choice = slice_index choice.early
 
 -- No more pages start early than there are.
 abbrev pub IsChoice : Classes → (ℕ → ℕ) → Type 0

@@ -48,7 +48,8 @@ ways_across k l set = joined_below slot_count (slot_ways set) ++ joined_below cl
 -- The ways in which a transmission with the closed end may end: an idle in the last slot, or an
 -- address codeword alone there.
 unfoldable pub ways_to_close : Classes → Limits → List Way
-ways_to_close k l = IdleIn last_slot ∷ cond (nat_lt (slice_index l.lo last_class) (slice_index k.count last_class)) (Late last_class ∷ []) []
+ways_to_close k l =
+    IdleIn last_slot ∷ cond (nat_lt (slice_index l.lo last_class) (slice_index k.count last_class)) (Late last_class ∷ []) []
 
 -- The way is open under the limits.
 abbrev pub MayTake : Classes → Limits → Way → Type 0

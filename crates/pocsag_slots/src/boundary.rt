@@ -10,7 +10,11 @@ pub fn frame(class: u8) -> u8
     ensures value { result ≡ class_frame class }
     ensures below { result < 8 }
 {
-    if class < FIRST_BARE { class / SLOT_COUNT } else { class - FIRST_BARE }
+    if class < FIRST_BARE {
+        class / SLOT_COUNT
+    } else {
+        class - FIRST_BARE
+    }
 }
 
 /// How many slots a run of the class covers beside its whole turns, 0 to 15.
@@ -20,7 +24,11 @@ pub fn rest(class: u8) -> u8
     ensures value { result ≡ class_rest class }
     ensures below { result < 16 }
 {
-    if class < FIRST_BARE { class % SLOT_COUNT } else { 1 }
+    if class < FIRST_BARE {
+        class % SLOT_COUNT
+    } else {
+        1
+    }
 }
 
 /// The boundary, and the slot, at which an early or a late run of the class starts.

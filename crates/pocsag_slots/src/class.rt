@@ -10,6 +10,7 @@ pub const SLOTS: usize = 16;
 
 // The same as the numbers that classes, slots and boundaries are.
 pub(crate) const CLASS_COUNT: u8 = CLASSES as u8;
+
 pub(crate) const SLOT_COUNT: u8 = SLOTS as u8;
 
 // The first class of an address codeword alone, in frame 0; only the closed end has them.

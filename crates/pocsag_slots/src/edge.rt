@@ -1,6 +1,6 @@
 ghost use Rattle.std.specs.Prelude.{◌≡◌, ℕ, ◌+◌, ◌^◌, ◌<◌, ◌==◌, if◌then◌else◌, length, slice_index};
 ghost use Rattle.pocsag_slots.specs.Edges.{CountEnds, CountStarts};
-ghost use Rattle.pocsag_slots.specs.Loads.{IsChoice};
+ghost use Rattle.pocsag_slots.specs.Loads.{early_of, IsChoice};
 ghost use Rattle.pocsag_slots.specs.Numbering.{class_count};
 
 use crate::boundary::{finish, start};
@@ -23,12 +23,12 @@ fn add(sums: &mut [u32; SLOTS], boundary: u8, more: u32)
 
 // Adds the runs of the class.
 fn add_class(edges: &mut Edges, classes: &Classes, choice: &Choice, class: u8)
-    requires chosen { IsChoice classes.now (slice_index choice.now.early) }
+    requires chosen { IsChoice classes.now (early_of choice.now) }
     requires class { class < 136 }
-    requires starts { CountStarts classes.now (slice_index choice.now.early) class edges.old.starts }
-    requires ends { CountEnds classes.now (slice_index choice.now.early) class edges.old.ends }
-    ensures starts { CountStarts classes.now (slice_index choice.now.early) (class + 1) edges.new.starts }
-    ensures ends { CountEnds classes.now (slice_index choice.now.early) (class + 1) edges.new.ends }
+    requires starts { CountStarts classes.now (early_of choice.now) class edges.old.starts }
+    requires ends { CountEnds classes.now (early_of choice.now) class edges.old.ends }
+    ensures starts { CountStarts classes.now (early_of choice.now) (class + 1) edges.new.starts }
+    ensures ends { CountEnds classes.now (early_of choice.now) (class + 1) edges.new.ends }
 {
     if classes.count[class as usize] == 0 {
         return;
@@ -42,9 +42,9 @@ fn add_class(edges: &mut Edges, classes: &Classes, choice: &Choice, class: u8)
 }
 
 pub(crate) fn edges_of(classes: &Classes, choice: &Choice) -> Edges
-    requires { IsChoice classes.now (slice_index choice.now.early) }
-    ensures starts { CountStarts classes.now (slice_index choice.now.early) class_count result.starts }
-    ensures ends { CountEnds classes.now (slice_index choice.now.early) class_count result.ends }
+    requires { IsChoice classes.now (early_of choice.now) }
+    ensures starts { CountStarts classes.now (early_of choice.now) class_count result.starts }
+    ensures ends { CountEnds classes.now (early_of choice.now) class_count result.ends }
 {
     let mut edges = Edges {
         starts: [0; SLOTS],

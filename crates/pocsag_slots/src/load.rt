@@ -1,6 +1,6 @@
 ghost use Rattle.std.specs.Prelude.{◌≡◌, ℕ, ◌+◌, ◌*◌, ◌^◌, ◌<◌, ◌≤◌, ◌↔◌, IsTrue, if◌then◌else◌, length, slice_index};
 ghost use Rattle.pocsag_slots.specs.Cover.{covered};
-ghost use Rattle.pocsag_slots.specs.Loads.{AreCarried, AreInOrder, class_load, IsChoice, IsLeastLoad, least_of_class, load, load_limit, Overloads};
+ghost use Rattle.pocsag_slots.specs.Loads.{AreCarried, AreInOrder, class_load, early_of, IsChoice, IsLeastLoad, least_of_class, load, load_limit, Overloads};
 ghost use Rattle.pocsag_slots.specs.Numbering.{slot_count};
 ghost use Rattle.pocsag_slots.specs.Sums.{holds, sum_over};
 ghost use Rattle.pocsag_slots.specs.Tables.{turn_limit};
@@ -42,9 +42,9 @@ fn class_load(classes: &Classes, class: u8, early: u32, slot: u8) -> u32
 }
 
 fn slot_load(classes: &Classes, choice: &Choice, slot: u8) -> u32
-    requires choice { IsChoice classes.now (slice_index choice.now.early) }
+    requires choice { IsChoice classes.now (early_of choice.now) }
     requires slot { slot < 16 }
-    ensures value { result ≡ load classes.now (slice_index choice.now.early) slot }
+    ensures value { result ≡ load classes.now (early_of choice.now) slot }
     ensures bound { result ≤ load_limit }
 {
     let mut total = 0;
@@ -57,10 +57,10 @@ fn slot_load(classes: &Classes, choice: &Choice, slot: u8) -> u32
 /// The load of each slot under the choice: how many times the runs cover it, which is at most 88 times
 /// for each of 20,000 pages.
 pub fn loads(classes: &Classes, choice: &Choice) -> [u32; SLOTS]
-    requires { IsChoice classes.now (slice_index choice.now.early) }
+    requires { IsChoice classes.now (early_of choice.now) }
     ensures length { length result ≡ 16 }
     ensures loads { (slot : ℕ) → slot < 16 →
-        slice_index result slot ≡ load classes.now (slice_index choice.now.early) slot }
+        slice_index result slot ≡ load classes.now (early_of choice.now) slot }
     ensures bound { (slot : ℕ) → slot < 16 → slice_index result slot ≤ load_limit }
 {
     let edges = edges_of(classes, choice);
@@ -75,8 +75,8 @@ pub fn loads(classes: &Classes, choice: &Choice) -> [u32; SLOTS]
 
 /// Whether so many batches carry the loads of the choice: no slot is loaded above them.
 pub fn carries(classes: &Classes, choice: &Choice, batches: u32) -> bool
-    requires { IsChoice classes.now (slice_index choice.now.early) }
-    ensures { IsTrue result ↔ AreCarried classes.now (slice_index choice.now.early) batches }
+    requires { IsChoice classes.now (early_of choice.now) }
+    ensures { IsTrue result ↔ AreCarried classes.now (early_of choice.now) batches }
 {
     for load in loads(classes, choice) {
         if load > batches {

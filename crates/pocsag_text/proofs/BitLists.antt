@@ -1,6 +1,6 @@
 -- Lists of bits and the numbers that they make.
-use Rattle.std.proofs.Common.{◌≡◌, ℕ, zero, suc, ◌+◌, ◌*◌, ◌/◌, ◌%◌, ◌^◌, ◌<◌, List, [], ◌∷◌, ◌++◌, length, All, refl, sym, ap, ◌∙◌, arith, zero-add}
-use Rattle.std.proofs.Math.Nat.{pow-suc}
+use Rattle.std.proofs.Common.{◌≡◌, ℕ, zero, suc, ◌+◌, ◌*◌, ◌/◌, ◌%◌, ◌^◌, ◌<◌, List, [], ◌∷◌, ◌++◌, length, All, refl, sym, ap, ◌∙◌, arith, zero-add, add-one}
+use Rattle.std.proofs.Math.Nat.{pow-suc, mod-eq_of_lt}
 use Rattle.std.proofs.lemmas.Nat.{shr-shr, mod-pow-add, field_of, shr_high, mod_low}
 use Rattle.std.proofs.lemmas.List.{append-nil, append_assoc}
 use Rattle.std.proofs.lemmas.List.Elements.{All-nil, All-cons, All-head, All-tail}
@@ -44,9 +44,7 @@ high_first-add (suc a) b v =
 
 -- the lowest bit of a remainder
 mod-two : (m x : ℕ) → x % 2 ^ (m + 1) % 2 ≡ x % 2
-mod-two m x =
-    let e : x % 2 ^ (m + 1) ≡ (x / 2 ^ 1 % 2 ^ m) * 2 ^ 1 + x % 2 ^ 1 = mod-pow-add x m 1 in
-    rw e (omega arith)
+mod-two m x = rw (mod-pow-add x m 1) (omega arith)
 
 -- only the lowest bits count
 high_first-mod : (n m v : ℕ) → high_first n (v % 2 ^ (n + m)) ≡ high_first n v
@@ -89,18 +87,20 @@ pub low_number-low_first : (n v : ℕ) → low_number (low_first n v) ≡ v % 2 
 unfolding low_first low_number
 low_number-low_first zero v = omega arith
 low_number-low_first (suc n) v =
-    let e : v % 2 ^ (n + 1) ≡ (v / 2 ^ 1 % 2 ^ n) * 2 ^ 1 + v % 2 ^ 1 = mod-pow-add v n 1 in
-    let k : n + 1 ≡ suc n = omega arith in
-    rw (low_number-low_first n (v / 2)) (rw (← k) (rw e (omega arith)))
+    let e : v % 2 ^ suc n ≡ (v / 2 % 2 ^ n) * 2 + v % 2 = rw (← add-one n) (mod-pow-add v n 1) in
+    omega (arith, e, low_number-low_first n (v / 2))
+
+pub code-back : (width x : ℕ) → x < 2 ^ width → low_number (low_first width x) ≡ x
+code-back width x lt = low_number-low_first width x ∙ mod-eq_of_lt lt
 
 -- the bits of the number that bits make
 pub low_first-low_number : (bits : List ℕ) → AreBits bits → low_first (length bits) (low_number bits) ≡ bits
 unfolding low_first low_number
 low_first-low_number [] h = refl
 low_first-low_number (b ∷ bits) h =
-    let small : b < 2 = All-head (λ x. x < 2) b bits h in
-    let m : (b + 2 * low_number bits) % 2 ≡ b = omega arith in
-    let d : (b + 2 * low_number bits) / 2 ≡ low_number bits = omega arith in
+    let small = All-head (λ x. x < 2) b bits h in
+    let m : (b + 2 * low_number bits) % 2 ≡ b = omega (arith, small) in
+    let d : (b + 2 * low_number bits) / 2 ≡ low_number bits = omega (arith, small) in
     rw (m, d) (ap (λ rest. b ∷ rest) (low_first-low_number bits (All-tail (λ x. x < 2) b bits h)))
 
 -- the number that the highest bits make behind others
@@ -108,14 +108,13 @@ pub high_number-high_first : (v n x : ℕ) → high_number v (high_first n x) �
 unfolding high_first high_number
 high_number-high_first v zero x = omega arith
 high_number-high_first v (suc n) x =
-    let e : x % 2 ^ (1 + n) ≡ (x / 2 ^ n % 2 ^ 1) * 2 ^ n + x % 2 ^ n = mod-pow-add x 1 n in
     let k : 1 + n ≡ suc n = omega arith in
-    let p : 2 ^ suc n ≡ 2 ^ n * 2 = pow-suc 2 n in
-    rw (high_number-high_first (2 * v + x / 2 ^ n % 2) n x) (rw (← k) (rw e (rw (k, p) (omega arith))))
+    let e : x % 2 ^ suc n ≡ (x / 2 ^ n % 2 ^ 1) * 2 ^ n + x % 2 ^ n = rw k at (mod-pow-add x 1 n) in
+    rw (high_number-high_first (2 * v + x / 2 ^ n % 2) n x, e, pow-suc 2 n) (omega arith)
 
 -- the bits of the number that bits make behind others
-pub high_first-high_number :
-    (bits : List ℕ) (n v : ℕ) → AreBits bits → high_first (length bits + n) (high_number v bits) ≡ high_first n v ++ bits
+pub high_first-high_number : (bits : List ℕ) (n v : ℕ) → AreBits bits →
+    high_first (length bits + n) (high_number v bits) ≡ high_first n v ++ bits
 unfolding high_number
 high_first-high_number [] n v h = rw zero-add (sym (append-nil (high_first n v)))
 high_first-high_number (b ∷ bits) n v h =
@@ -131,6 +130,5 @@ high_number-lt [] v n h lt = rw zero-add lt
 high_number-lt (b ∷ bits) v n h lt =
     let small : b < 2 = All-head (λ x. x < 2) b bits h in
     let k : suc (length bits) + n ≡ length bits + suc n = omega arith in
-    let p : 2 ^ suc n ≡ 2 ^ n * 2 = pow-suc 2 n in
-    let below : 2 * v + b < 2 ^ suc n = rw p (omega arith) in
+    let below : 2 * v + b < 2 ^ suc n = omega (arith, pow-suc 2 n) in
     rw k (high_number-lt bits (2 * v + b) (suc n) (All-tail (λ x. x < 2) b bits h) below)

@@ -12,8 +12,7 @@ length-cut width read zero bits = refl
 length-cut width read (suc n) bits = ap suc (length-cut width read n (drop width bits))
 
 -- a list that is cut in two parts
-pub cut-append :
-    (width : ℕ) (read : List ℕ → ℕ) (m n : ℕ) (xs ys : List ℕ) → length xs ≡ width * m →
+pub cut-append : (width : ℕ) (read : List ℕ → ℕ) (m n : ℕ) (xs ys : List ℕ) → length xs ≡ width * m →
     cut width read (m + n) (xs ++ ys) ≡ cut width read m xs ++ cut width read n ys
 unfolding cut
 cut-append width read zero n xs ys h =
@@ -29,8 +28,7 @@ cut-append width read (suc m) n xs ys h =
     rw (k, t, d) (ap (λ rest. read (take width xs) ∷ rest) (cut-append width read m n (drop width xs) ys l))
 
 -- what was written in pieces is read again
-pub cut-flat_map :
-    (width : ℕ) (read : List ℕ → ℕ) (write : ℕ → List ℕ) (xs rest : List ℕ) → ((x : ℕ) → length (write x) ≡ width) →
+pub cut-flat_map : (width : ℕ) (read : List ℕ → ℕ) (write : ℕ → List ℕ) (xs rest : List ℕ) → ((x : ℕ) → length (write x) ≡ width) →
     All (λ x. read (write x) ≡ x) xs → cut width read (length xs) (flat_map write xs ++ rest) ≡ xs
 unfolding cut
 cut-flat_map width read write [] rest wide h = refl
@@ -44,8 +42,7 @@ cut-flat_map width read write (x ∷ xs) rest wide h =
     rw (a, t, d, r) (ap (λ ys. x ∷ ys) (cut-flat_map width read write xs rest wide (All-tail (λ y. read (write y) ≡ y) x xs h)))
 
 -- the pieces joined again
-pub flat_map-cut :
-    (width : ℕ) (read : List ℕ → ℕ) (write : ℕ → List ℕ) (n : ℕ) (bits : List ℕ) →
+pub flat_map-cut : (width : ℕ) (read : List ℕ → ℕ) (write : ℕ → List ℕ) (n : ℕ) (bits : List ℕ) →
     ((piece : List ℕ) → length piece ≡ width → AreBits piece → write (read piece) ≡ piece) → AreBits bits → length bits ≡ width * n →
     flat_map write (cut width read n bits) ≡ bits
 unfolding cut
@@ -60,8 +57,8 @@ flat_map-cut width read write (suc n) bits back h l =
     rw (first, others) (take-append-drop width bits)
 
 -- the length of pieces that are joined
-pub length-flat_map-wide :
-    (width : ℕ) (write : ℕ → List ℕ) (xs : List ℕ) → ((x : ℕ) → length (write x) ≡ width) → length (flat_map write xs) ≡ width * length xs
+pub length-flat_map-wide : (width : ℕ) (write : ℕ → List ℕ) (xs : List ℕ) → ((x : ℕ) → length (write x) ≡ width) →
+    length (flat_map write xs) ≡ width * length xs
 length-flat_map-wide width write [] wide = omega arith
 length-flat_map-wide width write (x ∷ xs) wide =
     let r = length-flat_map-wide width write xs wide in

@@ -33,8 +33,8 @@ unfolding agrees
 mirrored_low width code narrow fits =
     eqb-true _ _ (and_parts _ _ (mirrored_agrees width code narrow fits)).1
 
-pub high_first-mirrored :
-    (width code : ℕ) → width ≤ 8 → code < 2 ^ width → high_first width (reverse_bits w8 code / 2 ^ (8 - width)) ≡ low_first width code
+pub high_first-mirrored : (width code : ℕ) → width ≤ 8 → code < 2 ^ width →
+    high_first width (reverse_bits w8 code / 2 ^ (8 - width)) ≡ low_first width code
 high_first-mirrored width code narrow fits =
     let bits = low_first width code in
     let len : length bits + 0 ≡ width = omega (arith, length-low_first width code) in
@@ -42,8 +42,8 @@ high_first-mirrored width code narrow fits =
     rw len at (high_first-high_number bits 0 0 (AreBits-low_first width code)) in
     ap (high_first width) (mirrored_high width code narrow fits) ∙ b ∙ (unfold high_first in refl)
 
-pub low_first-mirrored :
-    (width code : ℕ) → width ≤ 8 → code < 2 ^ width → low_first width (reverse_bits w8 code / 2 ^ (8 - width)) ≡ high_first width code
+pub low_first-mirrored : (width code : ℕ) → width ≤ 8 → code < 2 ^ width →
+    low_first width (reverse_bits w8 code / 2 ^ (8 - width)) ≡ high_first width code
 low_first-mirrored width code narrow fits =
     let bits = high_first width code in
     let len : length bits ≡ width = length-high_first width code in

@@ -13,8 +13,7 @@ use Rattle.pocsag_text.proofs.BitLists.{high_first-join, high_first-split, lengt
 use Rattle.pocsag_text.proofs.Cuts.{cut-flat_map, length-flat_map-wide}
 
 -- the bits that wait, and a code behind them
-pub held_with :
-    (count held width low : ℕ) → count + width ≤ 32 → held < 2 ^ count → low < 2 ^ width →
+pub held_with : (count held width low : ℕ) → count + width ≤ 32 → held < 2 ^ count → low < 2 ^ width →
     bit_or (held * 2 ^ width % 4294967296) low ≡ held * 2 ^ width + low
 held_with count held width low few fits lt =
     ap (λ h. bit_or h low) (shl_whole held count width 32 fits few) ∙ or_shifted held width low lt
@@ -29,16 +28,15 @@ pub lowest : (n rest : ℕ) → rest < 20 → bit_and n (1 * 2 ^ rest % 42949672
 lowest n rest few =
     ap (λ p. bit_and n (p - 1)) (one_shl rest 32 (omega arith)) ∙ and_mask n rest
 
-pub packed_bits-more :
-    (items : List ℕ) (count held width low : ℕ) → low < 2 ^ width →
+pub packed_bits-more : (items : List ℕ) (count held width low : ℕ) → low < 2 ^ width →
     packed_bits items (count + width) (held * 2 ^ width + low) ≡ packed_bits items count held ++ high_first width low
 unfolding packed_bits
 packed_bits-more items count held width low lt =
     ap (λ bits. item_bits items ++ bits) (high_first-join count width held low lt)
     ∙ sym (append_assoc (item_bits items) (high_first count held) (high_first width low))
 
-pub packed_bits-push :
-    (items : List ℕ) (rest h : ℕ) → packed_bits (items ++ h / 2 ^ rest ∷ []) rest (h % 2 ^ rest) ≡ packed_bits items (20 + rest) h
+pub packed_bits-push : (items : List ℕ) (rest h : ℕ) →
+    packed_bits (items ++ h / 2 ^ rest ∷ []) rest (h % 2 ^ rest) ≡ packed_bits items (20 + rest) h
 unfolding packed_bits
 packed_bits-push items rest h =
     let one : item_bits (items ++ h / 2 ^ rest ∷ []) ≡ item_bits items ++ high_first 20 (h / 2 ^ rest) =
@@ -48,8 +46,7 @@ packed_bits-push items rest h =
     ∙ append_assoc (item_bits items) (high_first 20 (h / 2 ^ rest)) (high_first rest (h % 2 ^ rest))
     ∙ ap (λ bits. item_bits items ++ bits) (sym (high_first-split 20 rest h))
 
-pub IsPacked-more :
-    (items : List ℕ) (count held width low : ℕ) → IsPacked items count held → low < 2 ^ width → count + width < 20 →
+pub IsPacked-more : (items : List ℕ) (count held width low : ℕ) → IsPacked items count held → low < 2 ^ width → count + width < 20 →
     IsPacked items (count + width) (held * 2 ^ width + low)
 IsPacked-more items count held width low h lt few = record {
   small = h.small;
@@ -57,8 +54,7 @@ IsPacked-more items count held width low h lt few = record {
   fits = held_with-lt count held width low h.fits lt;
 }
 
-pub IsPacked-push :
-    (items : List ℕ) (rest h : ℕ) → All (λ item. item < 2 ^ 20) items → h < 2 ^ (20 + rest) → rest < 20 →
+pub IsPacked-push : (items : List ℕ) (rest h : ℕ) → All (λ item. item < 2 ^ 20) items → h < 2 ^ (20 + rest) → rest < 20 →
     IsPacked (items ++ h / 2 ^ rest ∷ []) rest (h % 2 ^ rest)
 IsPacked-push items rest h small lt few = record {
   small = All-push (λ item. item < 2 ^ 20) items (h / 2 ^ rest) small (shr_below h 20 rest lt);
@@ -67,9 +63,8 @@ IsPacked-push items rest h small lt few = record {
 }
 
 -- the items are the bits cut in twenties where no bits wait
-pub twenties-packed_bits :
-    (items : List ℕ) (count held : ℕ) → IsPacked items count held → length (packed_bits items count held) % 20 ≡ 0 →
-    items ≡ twenties (packed_bits items count held)
+pub twenties-packed_bits : (items : List ℕ) (count held : ℕ) → IsPacked items count held →
+    length (packed_bits items count held) % 20 ≡ 0 → items ≡ twenties (packed_bits items count held)
 unfolding packed_bits
 twenties-packed_bits items count held h whole =
     let wide : (x : ℕ) → length (high_first 20 x) ≡ 20 = length-high_first 20 in
@@ -86,9 +81,8 @@ twenties-packed_bits items count held h whole =
     item-back x lt = high_number-high_first 0 20 x ∙ omega arith
 
 -- one code more of many
-pub times_more :
-    (f : ℕ → List ℕ) (before now after : List ℕ) (n code : ℕ) → now ≡ before ++ flat_map f (replicate n code) → after ≡ now ++ f code →
-    after ≡ before ++ flat_map f (replicate (n + 1) code)
+pub times_more : (f : ℕ → List ℕ) (before now after : List ℕ) (n code : ℕ) → now ≡ before ++ flat_map f (replicate n code) →
+    after ≡ now ++ f code → after ≡ before ++ flat_map f (replicate (n + 1) code)
 times_more f before now after n code was is =
     is ∙ ap (λ bits. bits ++ f code) was ∙ flat_map_more f before (replicate n code) code
     ∙ ap (λ codes. before ++ flat_map f codes) (replicate_more n code)

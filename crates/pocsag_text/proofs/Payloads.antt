@@ -24,8 +24,8 @@ place_none None count h =
     let t = (none_from_cond (ltb 4000 count) fault.TooLong None h).0 in (refl, grind (arith, nat_tests))
 
 -- a text without a fault is no longer than the limit and has no bad character
-pub fault_none :
-    (is_bad : ℕ → Bool) (text : List ℕ) → text_fault is_bad text ≡ None → (length text ≤ 4000) × All (λ b. is_bad b ≡ false) text
+pub fault_none : (is_bad : ℕ → Bool) (text : List ℕ) → text_fault is_bad text ≡ None → (length text ≤ 4000)
+    × All (λ b. is_bad b ≡ false) text
 unfolding text_fault
 fault_none is_bad text h =
     let p = place_none (position is_bad text) (length text) (none_from_cond (eqb (length text) 0) fault.EmptyMessage _ h).1 in
@@ -38,8 +38,7 @@ never_memory : (over : Bool) → cond over (Some fault.TooLong) None ≡ Some fa
 never_memory true h = cc
 never_memory false h = cc
 
-never_at_place :
-    (b : Bool) (first_bad : Option ℕ) (count : ℕ) →
+never_at_place : (b : Bool) (first_bad : Option ℕ) (count : ℕ) →
     cond b (Some fault.EmptyMessage) (fault_of_place first_bad count) ≡ Some fault.OutOfMemory → ⊥
 never_at_place true first_bad count h = cc
 never_at_place false (Some place) count h = cc
@@ -74,76 +73,30 @@ pub unless_ok : (o : Option TextFault) (items good : List ℕ) → unless o item
 unless_ok None items good h = (refl, cc)
 unless_ok (Some e) items good h = cc
 
--- the fill makes a multiple
-short_five : (n : ℕ) → (n + short_of 5 n) % 5 ≡ 0
-short_five n = omega arith
-
-short_twenty : (n : ℕ) → (n + short_of 20 n) % 20 ≡ 0
-short_twenty n = omega arith
-
+-- the fill makes a multiple of twenty bits
 length-numeric_bits : (text : List ℕ) → length (numeric_bits text) ≡ 4 * (length text + short_of 5 (length text))
 unfolding numeric_bits
 length-numeric_bits text =
-    let wide : (x : ℕ) → length (low_first 4 x) ≡ 4 = length-low_first 4 in
-    length-flat_map-wide 4 (low_first 4) (map code_or_space text ++ replicate (short_of 5 (length text)) 12) wide ∙ ap (λ n. 4 * n) (length-append (map code_or_space text) (replicate (short_of 5 (length text)) 12) ∙ (rw (
-      length-map text code_or_space,
-      length-replicate {A =
-          ℕ} (short_of 5 (length text)) 12,
-    ) refl))
+    let n = short_of 5 (length text) in
+    let codes = map code_or_space text in
+    let filled = length-replicate {A = ℕ} n 12 in
+    let joined = length-append codes (replicate n 12) in
+    let wide = length-flat_map-wide 4 (low_first 4) (codes ++ replicate n 12) (length-low_first 4) in
+    omega (arith, wide, joined, filled, length-map text code_or_space)
 
 pub length-alpha_bits : (text : List ℕ) → length (alpha_bits text) ≡ 7 * length text + short_of 20 (7 * length text)
 unfolding alpha_bits
 length-alpha_bits text =
-    let wide : (x : ℕ) → length (low_first 7 x) ≡ 7 = length-low_first 7 in
-    length-append (flat_map (low_first 7) text) (replicate (short_of 20 (7 * length text)) 0) ∙ (rw (
-      length-flat_map-wide 7 (low_first 7) text wide,
-      length-replicate {A =
-          ℕ} (short_of 20 (7 * length text)) 0,
-    ) refl)
+    let n = short_of 20 (7 * length text) in
+    let filled = length-replicate {A = ℕ} n 0 in
+    let joined = length-append (flat_map (low_first 7) text) (replicate n 0) in
+    omega (arith, joined, filled, length-flat_map-wide 7 (low_first 7) text (length-low_first 7))
 
 pub whole_numeric : (text : List ℕ) → length (numeric_bits text) % 20 ≡ 0
-whole_numeric text =
-    rw (length-numeric_bits text) (omega (arith, short_five (length text)))
+whole_numeric text = omega (arith, length-numeric_bits text)
 
 pub whole_alpha : (text : List ℕ) → length (alpha_bits text) % 20 ≡ 0
-whole_alpha text = rw (length-alpha_bits text) (short_twenty (7 * length text))
-
--- how many bits there are with a fill
-pub length_filled_numeric :
-    (text packed filled : List ℕ) (times code : ℕ) → packed ≡ flat_map (low_first 4) (map code_or_space text) →
-    filled ≡ packed ++ flat_map (low_first 4) (replicate times code)
-    → length filled ≡ 4 * (length text + times)
-length_filled_numeric text packed filled times code p f =
-    let wide : (x : ℕ) → length (low_first 4 x) ≡ 4 = length-low_first 4 in
-    rw (
-      f,
-      p,
-      length-append (flat_map (low_first 4) (map code_or_space text)) (flat_map (low_first 4) (replicate times code)),
-      length-flat_map-wide 4 (low_first 4) (map code_or_space text) wide,
-      length-flat_map-wide 4 (low_first 4) (replicate times code) wide,
-      length-map text code_or_space,
-      length-replicate {A =
-          ℕ} times code,
-    )
-    (omega arith)
-
-pub length_filled_alpha :
-    (text packed filled : List ℕ) (times code : ℕ) → packed ≡ flat_map (low_first 7) text →
-    filled ≡ packed ++ flat_map (low_first 1) (replicate times code)
-    → length filled ≡ 7 * length text + times
-length_filled_alpha text packed filled times code p f =
-    let wide : (x : ℕ) → length (low_first 7 x) ≡ 7 = length-low_first 7 in
-    let one : (x : ℕ) → length (low_first 1 x) ≡ 1 = length-low_first 1 in
-    rw (
-      f,
-      p,
-      length-append (flat_map (low_first 7) text) (flat_map (low_first 1) (replicate times code)),
-      length-flat_map-wide 7 (low_first 7) text wide,
-      length-flat_map-wide 1 (low_first 1) (replicate times code) one,
-      length-replicate {A =
-          ℕ} times code,
-    )
-    (omega arith)
+whole_alpha text = omega (arith, length-alpha_bits text)
 
 pub few_numeric : (text : List ℕ) → length text ≤ 4000 → length (twenties (numeric_bits text)) ≤ 1400
 few_numeric text h =
@@ -154,36 +107,21 @@ few_alpha text h =
     rw (length-cut 20 _ (length (alpha_bits text) / 20) (alpha_bits text), length-alpha_bits text) (omega arith)
 
 -- the bits of the characters and those of the fill
-numeric_bits-parts :
-    (text : List ℕ) → numeric_bits text
-    ≡ flat_map (low_first 4) (map code_or_space text) ++ flat_map (low_first 4) (replicate (short_of 5 (length text)) 12)
-unfolding numeric_bits
-numeric_bits-parts text =
-    flat_map-append (low_first 4) (map code_or_space text) (replicate (short_of 5 (length text)) 12)
-
 zeros : (n : ℕ) → flat_map (low_first 1) (replicate n 0) ≡ replicate n 0
 unfolding low_first
 zeros zero = refl
 zeros (suc n) = ap (λ bits. 0 ∷ bits) (zeros n)
 
-alpha_bits-parts :
-    (text : List ℕ) → alpha_bits text
-    ≡ flat_map (low_first 7) text ++ flat_map (low_first 1) (replicate (short_of 20 (7 * length text)) 0)
-unfolding alpha_bits
-alpha_bits-parts text =
-    ap (λ bits. flat_map (low_first 7) text ++ bits) (sym (zeros (short_of 20 (7 * length text))))
-
-pub filled_numeric :
-    (text packed filled : List ℕ) → packed ≡ flat_map (low_first 4) (map code_or_space text) →
+pub filled_numeric : (text packed filled : List ℕ) → packed ≡ flat_map (low_first 4) (map code_or_space text) →
     filled ≡ packed ++ flat_map (low_first 4) (replicate (short_of 5 (length text)) 12) → filled ≡ numeric_bits text
+unfolding numeric_bits
 filled_numeric text packed filled p f =
-    f ∙ ap (λ bits. bits ++ flat_map (low_first 4) (replicate (short_of 5 (length text)) 12)) p ∙ sym (numeric_bits-parts text)
+    rw (f, p) (sym (flat_map-append (low_first 4) (map code_or_space text) (replicate (short_of 5 (length text)) 12)))
 
-pub filled_alpha :
-    (text packed filled : List ℕ) → packed ≡ flat_map (low_first 7) text →
+pub filled_alpha : (text packed filled : List ℕ) → packed ≡ flat_map (low_first 7) text →
     filled ≡ packed ++ flat_map (low_first 1) (replicate (short_of 20 (7 * length text)) 0) → filled ≡ alpha_bits text
-filled_alpha text packed filled p f =
-    f ∙ ap (λ bits. bits ++ flat_map (low_first 1) (replicate (short_of 20 (7 * length text)) 0)) p ∙ sym (alpha_bits-parts text)
+unfolding alpha_bits
+filled_alpha text packed filled p f = rw (f, p, zeros (short_of 20 (7 * length text))) refl
 
 -- what the contracts of the packers say, from what the parts gave
 pub alpha_bytes : (text : List ℕ) → text_fault is_bad_byte text ≡ None → All (λ b. b < 128) text

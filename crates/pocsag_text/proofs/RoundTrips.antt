@@ -1,13 +1,12 @@
 -- A text that was packed comes back.
 use Rattle.std.proofs.Common.{◌≡◌, ◌≢◌, ℕ, zero, suc, ◌+◌, ◌*◌, ◌/◌, ◌%◌, ◌^◌, ◌<◌, List, [], ◌∷◌, ◌++◌, length, map, replicate, take, drop, Ok, All, false, refl, sym, ap, ◌∙◌, arith, lit<}
 use Rattle.std.specs.List.{flat_map}
-use Rattle.std.proofs.Math.Nat.{mod-eq_of_lt}
 use Rattle.std.proofs.lemmas.List.{append-nil, map-append}
 use Rattle.std.proofs.lemmas.List.Elements.{All-nil, All-cons, All-head, All-tail, All-append, All-map, All-replicate, All-take, All-drop, All-weaker}
 use Rattle.pocsag_text.specs.Bits.{low_first, high_first, low_number, high_number, cut, item_bits}
 use Rattle.pocsag_text.specs.Characters.{code_or_space, character_of, is_bad_digit}
 use Rattle.pocsag_text.specs.Text.{text_fault, short_of, twenties, is_bad_byte, numeric_bits, alpha_bits, numeric_payload, alpha_payload, codes_of, numeric_text, alpha_text, trim_end}
-use Rattle.pocsag_text.proofs.BitLists.{AreBits, AreBits-low_first, length-low_first, high_first-high_number, low_number-low_first}
+use Rattle.pocsag_text.proofs.BitLists.{AreBits, AreBits-low_first, length-low_first, high_first-high_number, code-back}
 use Rattle.pocsag_text.proofs.Codes.{character_of-code_or_space, code_or_space-lt, space_is}
 use Rattle.pocsag_text.proofs.Cuts.{cut-append, cut-flat_map, flat_map-cut, length-flat_map-wide}
 use Rattle.pocsag_text.proofs.Payloads.{alpha_bytes, fault_none, good_byte, unless_ok, whole_numeric, whole_alpha, length-alpha_bits}
@@ -29,12 +28,8 @@ item_bits-twenties : (bits : List ℕ) → AreBits bits → length bits % 20 ≡
 item_bits-twenties bits h whole =
     flat_map-cut 20 (high_number 0) (high_first 20) (length bits / 20) bits piece-back h (omega arith)
 
-code-back : (width x : ℕ) → x < 2 ^ width → low_number (low_first width x) ≡ x
-code-back width x lt = low_number-low_first width x ∙ mod-eq_of_lt lt
-
 -- the codes come back, and what stands behind them is cut too
-cut-codes :
-    (width : ℕ) (codes rest : List ℕ) (n : ℕ) → All (λ x. x < 2 ^ width) codes →
+cut-codes : (width : ℕ) (codes rest : List ℕ) (n : ℕ) → All (λ x. x < 2 ^ width) codes →
     cut width low_number (length codes + n) (flat_map (low_first width) codes ++ rest) ≡ codes ++ cut width low_number n rest
 cut-codes width codes rest n h =
     let back : All (λ x. low_number (low_first width x) ≡ x) codes =
@@ -63,8 +58,7 @@ cut-zeros width (suc n) bits h =
     (cut-zeros width n (drop width bits) (All-drop (λ b. b ≡ 0) width bits h))
 
 -- the codes of an alphanumeric text's items
-codes_of-alpha :
-    (text : List ℕ) → All (λ b. b < 128) text →
+codes_of-alpha : (text : List ℕ) → All (λ b. b < 128) text →
     codes_of 7 (twenties (alpha_bits text))
     ≡ text ++ cut 7 low_number (short_of 20 (7 * length text) / 7) (replicate (short_of 20 (7 * length text)) 0)
 unfolding codes_of alpha_bits
@@ -95,8 +89,8 @@ unfolding cut
 nothing-more codes = append-nil codes
 
 -- the codes of a numeric text's items
-codes_of-numeric :
-    (text : List ℕ) → codes_of 4 (twenties (numeric_bits text)) ≡ map code_or_space text ++ replicate (short_of 5 (length text)) 12
+codes_of-numeric : (text : List ℕ) →
+    codes_of 4 (twenties (numeric_bits text)) ≡ map code_or_space text ++ replicate (short_of 5 (length text)) 12
 unfolding codes_of numeric_bits
 codes_of-numeric text =
     let fill : List ℕ = replicate (short_of 5 (length text)) 12 in

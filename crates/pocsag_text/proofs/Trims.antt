@@ -43,8 +43,8 @@ trim_end-wanted c n xs some within wanted =
     let more : take n xs ≡ take (n - 1) xs ++ get_or xs (n - 1) 0 ∷ [] = rw k at (take_more xs (n - 1) 0 (omega arith)) in
     rw more (trim_end-push c (take (n - 1) xs) (get_or xs (n - 1) 0) wanted)
 
-pub trim_end-unwanted :
-    (c n : ℕ) (xs : List ℕ) → 0 < n → n ≤ length xs → get_or xs (n - 1) 0 ≡ c → trim_end c (take (n - 1) xs) ≡ trim_end c (take n xs)
+pub trim_end-unwanted : (c n : ℕ) (xs : List ℕ) → 0 < n → n ≤ length xs → get_or xs (n - 1) 0 ≡ c →
+    trim_end c (take (n - 1) xs) ≡ trim_end c (take n xs)
 trim_end-unwanted c n xs some within unwanted =
     let k : n - 1 + 1 ≡ n = omega arith in
     let more : take n xs ≡ take (n - 1) xs ++ get_or xs (n - 1) 0 ∷ [] = rw k at (take_more xs (n - 1) 0 (omega arith)) in

@@ -2,13 +2,13 @@
 use Rattle.std.proofs.Common.{◌≡◌, ℕ, ◌+◌, ◌-◌, ◌*◌, ◌/◌, ◌%◌, ◌^◌, ◌<◌, ◌≤◌, List, [], ◌∷◌, ◌++◌, length, All, refl, sym, ap, ◌∙◌, arith}
 use Rattle.std.specs.List.{flat_map}
 use Rattle.std.proofs.lemmas.Nat.{shr_below, mod_below, pow_pos, div-mul-add}
-use Rattle.std.proofs.Math.Nat.{mul_comm, mod-eq_of_lt}
+use Rattle.std.proofs.Math.Nat.{mul_comm}
 use Rattle.std.proofs.lemmas.List.{append_assoc, append-nil, length-append}
 use Rattle.std.proofs.lemmas.List.Concat.{flat_map-append}
 use Rattle.std.proofs.lemmas.List.Elements.{All-push, All-weaker}
 use Rattle.pocsag_text.specs.Bits.{low_first, high_first, low_number, cut}
 use Rattle.pocsag_text.specs.Packing.{unpacked_bits, IsUnpacked}
-use Rattle.pocsag_text.proofs.BitLists.{high_first-join, high_first-split, length-low_first, length-high_first, low_number-low_first}
+use Rattle.pocsag_text.proofs.BitLists.{high_first-join, high_first-split, length-low_first, length-high_first, code-back}
 use Rattle.pocsag_text.proofs.Cuts.{cut-flat_map, length-flat_map-wide}
 use Rattle.pocsag_text.proofs.Packs.{held_with-lt}
 
@@ -22,8 +22,7 @@ pub record IsTaking (width : ℕ) (codes : List ℕ) (count held : ℕ) (bits : 
   pub same : unpacked_bits width codes count held ≡ bits
 
 -- an item behind the bits that wait
-pub IsTaking-start :
-    (width : ℕ) (codes : List ℕ) (count held item : ℕ) → IsUnpacked width codes count held → item < 2 ^ 20 →
+pub IsTaking-start : (width : ℕ) (codes : List ℕ) (count held item : ℕ) → IsUnpacked width codes count held → item < 2 ^ 20 →
     IsTaking width codes (count + 20) (held * 2 ^ 20 + item) (unpacked_bits width codes count held ++ high_first 20 item)
 unfolding unpacked_bits
 IsTaking-start width codes count held item h lt = record {
@@ -38,9 +37,8 @@ IsTaking-start width codes count held item h lt = record {
 }
 
 -- a code is taken from the front of the bits that are left
-pub IsTaking-more :
-    (width : ℕ) (codes : List ℕ) (count held code : ℕ) (bits : List ℕ) → IsTaking width codes count held bits → width ≤ count →
-    code < 2 ^ width → low_first width code ≡ high_first width (held / 2 ^ (count - width)) →
+pub IsTaking-more : (width : ℕ) (codes : List ℕ) (count held code : ℕ) (bits : List ℕ) → IsTaking width codes count held bits →
+    width ≤ count → code < 2 ^ width → low_first width code ≡ high_first width (held / 2 ^ (count - width)) →
     IsTaking width (codes ++ code ∷ []) (count - width) (held % 2 ^ (count - width)) bits
 unfolding unpacked_bits
 IsTaking-more width codes count held code bits h enough lt is = record {
@@ -74,8 +72,7 @@ IsTaking-more width codes count held code bits h enough lt is = record {
         (high_first (count - width) (held % 2 ^ (count - width))) ∙ ap (λ x. flat_map (low_first width) codes ++ x) split
 
 -- the bits of the next code
-pub next-lt :
-    (width : ℕ) (codes : List ℕ) (count held : ℕ) (bits : List ℕ) → IsTaking width codes count held bits → width ≤ count →
+pub next-lt : (width : ℕ) (codes : List ℕ) (count held : ℕ) (bits : List ℕ) → IsTaking width codes count held bits → width ≤ count →
     held / 2 ^ (count - width) < 2 ^ width
 next-lt width codes count held bits h enough =
     let whole : width + (count - width) ≡ count = omega arith in
@@ -83,8 +80,7 @@ next-lt width codes count held bits h enough =
     shr_below held width (count - width) below
 
 -- the codes are the bits cut in pieces
-pub codes-unpacked_bits :
-    (width : ℕ) (codes : List ℕ) (count held : ℕ) → IsUnpacked width codes count held →
+pub codes-unpacked_bits : (width : ℕ) (codes : List ℕ) (count held : ℕ) → IsUnpacked width codes count held →
     codes ≡ cut width low_number (length (unpacked_bits width codes count held) / width) (unpacked_bits width codes count held)
 unfolding unpacked_bits
 codes-unpacked_bits width codes count held h =
@@ -101,8 +97,5 @@ codes-unpacked_bits width codes count held h =
     number : length (flat_map (low_first width) codes ++ high_first count held) / width ≡ length codes
     number = ap (λ n. n / width) (len ∙ turned) ∙ div-mul-add (length codes) width count h.few
 
-    code-back : (x : ℕ) → x < 2 ^ width → low_number (low_first width x) ≡ x
-    code-back x lt = low_number-low_first width x ∙ mod-eq_of_lt lt
-
     back : All (λ x. low_number (low_first width x) ≡ x) codes
-    back = All-weaker (λ x. x < 2 ^ width) (λ x. low_number (low_first width x) ≡ x) code-back codes h.small
+    back = All-weaker (λ x. x < 2 ^ width) (λ x. low_number (low_first width x) ≡ x) (code-back width) codes h.small

@@ -146,8 +146,7 @@ word_of-parts : (d : ℕ) → d < 2 ^ 21 → word_of d ≡ d * 2048 + check_of d
 word_of-parts d h = omega (arith, word_of-data d h, word_of-low d)
 
 -- a sum of codewords of even parity has even parity
-even_sum :
-    (ts : List ℕ) (n : ℕ) → are_below (2 ^ 32) ts ≡ true → map (combine (replicate 32 1)) ts ≡ replicate 21 0 →
+even_sum : (ts : List ℕ) (n : ℕ) → are_below (2 ^ 32) ts ≡ true → map (combine (replicate 32 1)) ts ≡ replicate 21 0 →
     count_ones (combine ts n) % 2 ≡ 0
 even_sum ts n small h =
     sym (combine_ones 32 (combine ts n) (combine-lt 32 ts n small))

@@ -68,8 +68,7 @@ record IsError (syndrome e : ℕ) : Type 0 where
   pub few : count_ones e ≤ 2
   pub gives : syndrome_of e ≡ syndrome
 
-sound_at :
-    (s : ℕ) (es : List ℕ) (i j : ℕ) → are_sound s es ≡ true → i < length es → j ≡ s + i → slice_index es i ≢ 0xffffffff →
+sound_at : (s : ℕ) (es : List ℕ) (i j : ℕ) → are_sound s es ≡ true → i < length es → j ≡ s + i → slice_index es i ≢ 0xffffffff →
     IsError j (slice_index es i)
 unfolding are_sound
 sound_at s [] i j all h e far = absurd (omega arith)

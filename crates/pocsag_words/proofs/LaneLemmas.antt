@@ -34,8 +34,7 @@ pub turned : (n : ℕ) → cond (top 31 (cond (eqb (bit_and n 1) 1) 0xffffffff 0
 turned n = turned_at (n % 2) (bit_and n 1) (and_mask n 1) (bit_cases n)
 
 -- a lane of what was computed from eight numbers of a list
-pub lane_at :
-    (f : ℕ → ℕ) (xs ys : List ℕ) (start k : ℕ) → ys ≡ map f (chunk 0 8 (drop start xs)) → start + 8 ≤ length xs → k < 8 →
+pub lane_at : (f : ℕ → ℕ) (xs ys : List ℕ) (start k : ℕ) → ys ≡ map f (chunk 0 8 (drop start xs)) → start + 8 ≤ length xs → k < 8 →
     slice_index ys k ≡ f (slice_index xs (start + k))
 lane_at f xs ys start k e room h =
     let long : k < length (chunk 0 8 (drop start xs)) =
@@ -44,9 +43,8 @@ lane_at f xs ys start k e room h =
     ∙ ap f (get_or-chunk 0 8 (drop start xs) k 0 h ∙ ap (slice_index (drop start xs)) (omega arith) ∙ get_or-drop start xs k 0)
 
 -- one flag more
-pub TellFirst-set :
-    (numbers : List ℕ) (flags : List Bool) (n m : ℕ) (b : Bool) → m ≡ n + 1 → n < length flags → TellFirst n numbers flags →
-    IsTrue b ↔ IsCodeword (slice_index numbers n) → TellFirst m numbers (set flags n b)
+pub TellFirst-set : (numbers : List ℕ) (flags : List Bool) (n m : ℕ) (b : Bool) → m ≡ n + 1 → n < length flags →
+    TellFirst n numbers flags → IsTrue b ↔ IsCodeword (slice_index numbers n) → TellFirst m numbers (set flags n b)
 TellFirst-set numbers flags n m b e h before here k small =
     elim (cases_eq k n) [
       | inl same ↦

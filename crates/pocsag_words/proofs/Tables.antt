@@ -54,8 +54,8 @@ read : (ts table : List ℕ) (p : ℕ) → table ≡ map (combine ts) (range_wit
 read ts table p e h = ap (λ xs. slice_index xs p) e ∙ get_or-map-range_with_len (combine ts) 0 128 p p 0 h (omega arith)
 
 -- what the three tables give together
-pub check_of_tables :
-    (d : ℕ) → d < 2 ^ 21 → bit_xor (bit_xor (slice_index LOW_CHECKS (d % 128)) (slice_index MIDDLE_CHECKS (d / 128 % 128)))
+pub check_of_tables : (d : ℕ) → d < 2 ^ 21 →
+    bit_xor (bit_xor (slice_index LOW_CHECKS (d % 128)) (slice_index MIDDLE_CHECKS (d / 128 % 128)))
     (slice_index HIGH_CHECKS (d / 16384)) ≡ check_of d
 unfolding check_of
 check_of_tables d h =

@@ -3,6 +3,9 @@ ghost use Rattle.std.specs.Prelude.{◌≡◌, ◌*◌, ◌+◌, ◌^◌, ◌<�
 ghost use Rattle.pocsag_words.specs.Codeword.{IsCodeword};
 ghost use Rattle.pocsag_words.specs.Columns.{check_of, syndrome_of};
 
+// The lowest data bit of a codeword: below it stand the check bits and the parity bit.
+pub(crate) const DATA_UNIT: u32 = 2048;
+
 // What each number of the lowest seven data bits adds, without carry.
 const LOW_CHECKS: [u32; 128] = [
     0x000, 0x6d3, 0x376, 0x5a5, 0x6ec, 0x03f, 0x59a, 0x349, 0x30b, 0x5d8, 0x07d, 0x6ae, 0x5e7,
@@ -70,7 +73,7 @@ pub(crate) fn syndrome(number: u32) -> u32
     ensures value { result ≡ syndrome_of number }
     ensures small { result < 2048 }
 {
-    number % 2048 ^ check_bits(number / 2048)
+    number % DATA_UNIT ^ check_bits(number / DATA_UNIT)
 }
 
 /// Whether the number is a codeword.

@@ -3,7 +3,7 @@ ghost use Rattle.std.specs.Option.{SomeIff};
 ghost use Rattle.pocsag_words.specs.Codeword.{IsCodeword};
 ghost use Rattle.pocsag_words.specs.Kinds.{kind_of, address_kind};
 
-use crate::checks::{check_bits, is_codeword};
+use crate::checks::{DATA_UNIT, check_bits, is_codeword};
 use std::marker::Model;
 
 /// The idle codeword.
@@ -71,7 +71,7 @@ impl Word {
         ensures ranges { IsInRange result }
     {
         let number = self.raw();
-        let bits = number / 2048;
+        let bits = number / DATA_UNIT;
         if number == IDLE {
             Kind::Idle
         } else if bits < MESSAGE {
@@ -132,6 +132,6 @@ fn encode(bits: u32) -> Word
     ensures only { (w : ℕ) → IsCodeword w → w / 2048 ≡ bits → w ≡ result }
 {
     Word {
-        number: 2048 * bits + check_bits(bits),
+        number: DATA_UNIT * bits + check_bits(bits),
     }
 }

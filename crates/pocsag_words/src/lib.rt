@@ -2,6 +2,8 @@
 //! Codewords of Radio Paging Code No. 1 (Recommendation ITU-R M.584-2, Annex 1), and the devices,
 //! ends and faults that the crates above share. Nothing here takes memory.
 
+#[cfg(test)]
+mod cases;
 mod checks;
 mod codeword;
 mod correction;
@@ -12,8 +14,6 @@ mod laws;
 mod memory_sink;
 mod memory_source;
 mod refusal;
-#[cfg(test)]
-mod tests;
 
 pub use codeword::{Kind, Word, address_word, from_raw, message_word};
 pub use correction::repair;

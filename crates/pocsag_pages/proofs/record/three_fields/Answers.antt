@@ -9,8 +9,7 @@ has_field [] i h e = absurd (omega arith)
 has_field (f ∷ rows) zero h e = cc
 has_field (f ∷ rows) (suc i) h e = has_field rows i (omega arith) e
 
-three_are :
-    (rows : List (List ℕ)) (a b c : List ℕ) → length rows ≡ 3 → Some a ≡ field_at rows 0 → Some b ≡ field_at rows 1 →
+three_are : (rows : List (List ℕ)) (a b c : List ℕ) → length rows ≡ 3 → Some a ≡ field_at rows 0 → Some b ≡ field_at rows 1 →
     Some c ≡ field_at rows 2 → rows ≡ a ∷ b ∷ c ∷ []
 unfolding field_at
 three_are [] a b c n x y z = absurd (omega arith)

@@ -24,8 +24,8 @@ whole counts turns end S i low high of =
     let all : i ≡ length S = omega arith in
     subst (λ (ps : List Page). AreCounted counts turns end ps) (ap (λ (n : ℕ). take n S) all ∙ take-length S) of
 
-few_so_far : (counts turns : List ℕ) (end : End) (S : List Page) (i at more : ℕ) → IsRound S → AreCounted counts turns end (take i S) → at < 136 →
-    more ≤ 87 → (slice_index counts at ≤ 20000) × (slice_index turns at + more ≤ 1740087)
+few_so_far : (counts turns : List ℕ) (end : End) (S : List Page) (i at more : ℕ) → IsRound S → AreCounted counts turns end (take i S) →
+    at < 136 → more ≤ 87 → (slice_index counts at ≤ 20000) × (slice_index turns at + more ≤ 1740087)
 few_so_far counts turns end S i at more round of h l =
     let short : All IsShort (take i S) = All-take IsShort i S (all_short S round) in
     let few : length (take i S) ≤ 20000 = omega (arith, length-take i S, round.few) in
@@ -44,12 +44,14 @@ overflow_add-turns c =
     omega (
       arith,
       (few_so_far c.loop-page.count c.loop-page.turns c.args.end _ c.loop-page.page-index c.class_of-class.result c.whole_turns.result
-          (of_round _ _ c.pages-page-items.ensures.pages c.pages-page-items.ensures.round) c.loop-page.invariant c.class_of-class.ensures.below c.whole_turns.ensures.bound).1,
+          (of_round _ _ c.pages-page-items.ensures.pages c.pages-page-items.ensures.round) c.loop-page.invariant
+          c.class_of-class.ensures.below c.whole_turns.ensures.bound).1,
     )
 
 pub loop-page-preserved : goal.loop-page-preserved
 loop-page-preserved c =
-    more_counted c.loop-page.count c.loop-page.turns c.args.end _ c.loop-page.page-index c.page-item.result c.class_of-class.result c.whole_turns.result
+    more_counted c.loop-page.count c.loop-page.turns c.args.end _ c.loop-page.page-index c.page-item.result c.class_of-class.result
+    c.whole_turns.result
     c.loop-page-test.true c.page-item.is c.class_of-class.ensures.value c.whole_turns.ensures.value c.loop-page.invariant
 
 pub invariant_of-result : goal.invariant_of-result
@@ -57,17 +59,22 @@ invariant_of-result c =
     let round = of_round _ _ c.pages-page-items.ensures.pages c.pages-page-items.ensures.round in
     record {
       tables = tables_of c.loop-page.count c.loop-page.turns c.args.end c.pages-page-items.result.now
-          (whole c.loop-page.count c.loop-page.turns c.args.end _ c.loop-page.page-index c.loop-page-test.false c.loop-page.auto.page-index-end c.loop-page.invariant)
+          (whole c.loop-page.count c.loop-page.turns c.args.end _ c.loop-page.page-index c.loop-page-test.false
+          c.loop-page.auto.page-index-end c.loop-page.invariant)
           round.few (all_short _ round);
     }
 
 pub returns-clause-pages : goal.returns-clause-pages
 returns-clause-pages c =
     tables_sum c.loop-page.count c.loop-page.turns c.args.end c.pages-page-items.result.now
-    (whole c.loop-page.count c.loop-page.turns c.args.end _ c.loop-page.page-index c.loop-page-test.false c.loop-page.auto.page-index-end c.loop-page.invariant)
+    (whole c.loop-page.count c.loop-page.turns c.args.end _ c.loop-page.page-index c.loop-page-test.false c.loop-page.auto.page-index-end
+    c.loop-page.invariant)
     ∙ ap length c.pages-page-items.ensures.pages
 
 pub returns-clause-open_end : goal.returns-clause-open_end
 returns-clause-open_end c open_end k l h =
-    let of = whole c.loop-page.count c.loop-page.turns c.args.end _ c.loop-page.page-index c.loop-page-test.false c.loop-page.auto.page-index-end c.loop-page.invariant in
-    (subst (λ (end : End). AreCounted c.loop-page.count c.loop-page.turns end c.pages-page-items.result.now) open_end of).each k h ∙ count_bare k c.pages-page-items.result.now l
+    let of =
+    whole c.loop-page.count c.loop-page.turns c.args.end _ c.loop-page.page-index c.loop-page-test.false
+    c.loop-page.auto.page-index-end c.loop-page.invariant in
+    (subst (λ (end : End). AreCounted c.loop-page.count c.loop-page.turns end c.pages-page-items.result.now) open_end of).each k h
+    ∙ count_bare k c.pages-page-items.result.now l

@@ -10,12 +10,14 @@ part a b x = part_few (a == b) x
 pub returns-then-classes-class-eq0-clause-starts : goal.returns-then-classes-class-eq0-clause-starts
 returns-then-classes-class-eq0-clause-starts c p h =
     class_skipped _ c.args.class _ (c.requires.starts p h)
-    (none_start c.args.classes.now (slice_index c.args.choice.now.early) p c.args.class (omega arith) (c.requires.chosen c.args.class c.requires.class))
+    (none_start c.args.classes.now (slice_index c.args.choice.now.early) p c.args.class (omega arith)
+    (c.requires.chosen c.args.class c.requires.class))
 
 pub returns-then-classes-class-eq0-clause-ends : goal.returns-then-classes-class-eq0-clause-ends
 returns-then-classes-class-eq0-clause-ends c p h =
     class_skipped _ c.args.class _ (c.requires.ends p h)
-    (none_end c.args.classes.now (slice_index c.args.choice.now.early) p c.args.class (omega arith) (c.requires.chosen c.args.class c.requires.class))
+    (none_end c.args.classes.now (slice_index c.args.choice.now.early) p c.args.class (omega arith)
+    (c.requires.chosen c.args.class c.requires.class))
 
 pub add-requires-clause-fits : goal.add-requires-clause-fits
 add-requires-clause-fits c =
@@ -66,7 +68,8 @@ returns-clause-starts c p h =
     let k = c.args.classes.now in
     let choice = slice_index c.args.choice.now.early in
     let n = c.args.class in
-    class_added (starts_at k choice p) n (slice_index c.args.edges.now.starts p) (slice_index c.add.new.sums p) (slice_index c.add-2.new.sums p)
+    class_added (starts_at k choice p) n (slice_index c.args.edges.now.starts p) (slice_index c.add.new.sums p)
+    (slice_index c.add-2.new.sums p)
     c.start.result c.start-2.result _ _ p (choice n) (slice_index k.count n - choice n)
     (c.requires.starts p h) (c.add.ensures p h) (c.add-2.ensures p h) c.start.ensures.value c.start-2.ensures.value refl
 
@@ -75,6 +78,7 @@ returns-clause-ends c p h =
     let k = c.args.classes.now in
     let choice = slice_index c.args.choice.now.early in
     let n = c.args.class in
-    class_added (ends_at k choice p) n (slice_index c.args.edges.now.ends p) (slice_index c.add-3.new.sums p) (slice_index c.add-4.new.sums p)
+    class_added (ends_at k choice p) n (slice_index c.args.edges.now.ends p) (slice_index c.add-3.new.sums p)
+    (slice_index c.add-4.new.sums p)
     c.finish.result c.finish-2.result _ _ p (choice n) (slice_index k.count n - choice n)
     (c.requires.ends p h) (c.add-3.ensures p h) (c.add-4.ensures p h) c.finish.ensures.value c.finish-2.ensures.value refl

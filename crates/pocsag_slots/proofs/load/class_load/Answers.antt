@@ -5,11 +5,22 @@ use Rattle.pocsag_slots.proofs.load.class_load.Goals as goal
 
 pub overflow_add-result : goal.overflow_add-result
 overflow_add-result c =
-    omega (arith, mul-le-mul_left c.args.early c.times_covered.ensures.once, count_few c.args.classes.now c.args.class c.requires.class, c.args.classes.now.tables.short c.args.class c.requires.class)
+    omega (
+      arith,
+      mul-le-mul_left c.args.early c.times_covered.ensures.once,
+      count_few c.args.classes.now c.args.class c.requires.class,
+      c.args.classes.now.tables.short c.args.class c.requires.class,
+    )
 
 pub overflow_add-result-2 : goal.overflow_add-result-2
 overflow_add-result-2 c =
-    omega (arith, mul-le-mul_left c.args.early c.times_covered.ensures.once, mul-le-mul_left (slice_index c.args.classes.now.count c.args.class - c.args.early) c.times_covered-2.ensures.once, count_few c.args.classes.now c.args.class c.requires.class, c.args.classes.now.tables.short c.args.class c.requires.class)
+    omega (
+      arith,
+      mul-le-mul_left c.args.early c.times_covered.ensures.once,
+      mul-le-mul_left (slice_index c.args.classes.now.count c.args.class - c.args.early) c.times_covered-2.ensures.once,
+      count_few c.args.classes.now c.args.class c.requires.class,
+      c.args.classes.now.tables.short c.args.class c.requires.class,
+    )
 
 pub returns-then-classes-class-eq0-clause-value : goal.returns-then-classes-class-eq0-clause-value
 returns-then-classes-class-eq0-clause-value c =

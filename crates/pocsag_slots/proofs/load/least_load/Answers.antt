@@ -7,8 +7,10 @@ pub loop-class-init : goal.loop-class-init
 loop-class-init c = (sym (sum_below_none _), omega arith)
 
 pub loop-class-preserved : goal.loop-class-preserved
-loop-class-preserved c =
-    (summed _ _ _ _ c.loop-class.invariant.0 c.class_least-least.ensures.value, omega (arith, c.loop-class.invariant.1, c.class_least-least.ensures.bound))
+loop-class-preserved c = (
+  summed _ _ _ _ c.loop-class.invariant.0 c.class_least-least.ensures.value,
+  omega (arith, c.loop-class.invariant.1, c.class_least-least.ensures.bound),
+)
 
 least : goal.returns-clause-least
 least c =

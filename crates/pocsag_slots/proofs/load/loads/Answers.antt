@@ -24,22 +24,32 @@ loads_more k choice slot found now h long so_far here = record {
 
 pub overflow_add-load : goal.overflow_add-load
 overflow_add-load c =
-    let s = load_step c.args.classes.now (slice_index c.args.choice.now.early) c.loop-slot.slot c.loop-slot.load _ _ c.requires (omega arith) (omega arith)
-    c.loop-slot.invariant.last (c.edges_of-edges.ensures.starts c.loop-slot.slot (omega arith)) (c.edges_of-edges.ensures.ends c.loop-slot.slot (omega arith)) in
+    let s = load_step c.args.classes.now (slice_index c.args.choice.now.early) c.loop-slot.slot c.loop-slot.load _ _ c.requires
+    (omega arith) (omega arith)
+    c.loop-slot.invariant.last (c.edges_of-edges.ensures.starts c.loop-slot.slot (omega arith))
+    (c.edges_of-edges.ensures.ends c.loop-slot.slot (omega arith)) in
     omega (arith, s.few)
 
 pub overflow_sub-load : goal.overflow_sub-load
 overflow_sub-load c =
-    (load_step c.args.classes.now (slice_index c.args.choice.now.early) c.loop-slot.slot c.loop-slot.load _ _ c.requires (omega arith) (omega arith)
-    c.loop-slot.invariant.last (c.edges_of-edges.ensures.starts c.loop-slot.slot (omega arith)) (c.edges_of-edges.ensures.ends c.loop-slot.slot (omega arith))).enough
+    (load_step c.args.classes.now (slice_index c.args.choice.now.early) c.loop-slot.slot c.loop-slot.load _ _ c.requires (omega arith)
+    (omega arith)
+    c.loop-slot.invariant.last (c.edges_of-edges.ensures.starts c.loop-slot.slot (omega arith))
+    (c.edges_of-edges.ensures.ends c.loop-slot.slot (omega arith))).enough
 
 pub loop-slot-preserved : goal.loop-slot-preserved
 loop-slot-preserved c =
     let choice = slice_index c.args.choice.now.early in
     let s = load_step c.args.classes.now choice c.loop-slot.slot c.loop-slot.load _ _ c.requires (omega arith) (omega arith)
-    c.loop-slot.invariant.last (c.edges_of-edges.ensures.starts c.loop-slot.slot (omega arith)) (c.edges_of-edges.ensures.ends c.loop-slot.slot (omega arith)) in
-    loads_more c.args.classes.now choice c.loop-slot.slot c.loop-slot.found _ (omega arith) c.loop-slot.invariant.long c.loop-slot.invariant.loads s.next
+    c.loop-slot.invariant.last (c.edges_of-edges.ensures.starts c.loop-slot.slot (omega arith))
+    (c.edges_of-edges.ensures.ends c.loop-slot.slot (omega arith)) in
+    loads_more c.args.classes.now choice c.loop-slot.slot c.loop-slot.found _ (omega arith) c.loop-slot.invariant.long
+    c.loop-slot.invariant.loads s.next
 
 pub returns-clause-bound : goal.returns-clause-bound
 returns-clause-bound c slot h =
-    omega (arith, c.loop-slot.invariant.loads slot (omega arith), load_few c.args.classes.now (slice_index c.args.choice.now.early) slot h c.requires)
+    omega (
+      arith,
+      c.loop-slot.invariant.loads slot (omega arith),
+      load_few c.args.classes.now (slice_index c.args.choice.now.early) slot h c.requires,
+    )

@@ -13,7 +13,9 @@ loop-class-preserved c = summed _ _ _ _ c.loop-class.invariant c.class_load-tota
 pub overflow_add-total : goal.overflow_add-total
 overflow_add-total c =
     let more = summed _ _ _ _ c.loop-class.invariant c.class_load-total.ensures.value in
-    let few = loads_few c.args.classes.now (slice_index c.args.choice.now.early) c.args.slot (c.loop-class.class + 1) c.requires.slot (omega arith) c.requires.choice in
+    let few =
+    loads_few c.args.classes.now (slice_index c.args.choice.now.early) c.args.slot (c.loop-class.class + 1) c.requires.slot
+    (omega arith) c.requires.choice in
     omega (arith, more, few)
 
 whole : goal.returns-clause-value
@@ -27,4 +29,9 @@ returns-clause-value c = whole c
 
 pub returns-clause-bound : goal.returns-clause-bound
 returns-clause-bound c =
-    omega (arith, loads_few c.args.classes.now (slice_index c.args.choice.now.early) c.args.slot c.loop-class.class c.requires.slot (omega arith) c.requires.choice, c.loop-class.invariant)
+    omega (
+      arith,
+      loads_few c.args.classes.now (slice_index c.args.choice.now.early) c.args.slot c.loop-class.class c.requires.slot
+          (omega arith) c.requires.choice,
+      c.loop-class.invariant,
+    )

@@ -21,11 +21,19 @@ loop-class-init c =
 
 pub push_if-requires-in-loop-class : goal.push_if-requires-in-loop-class
 push_if-requires-in-loop-class c =
-    omega (arith, classes_few c.args.classes.now c.args.limits.now c.args.set c.loop-class.class c.loop-class.found.items c.loop-class.invariant)
+    omega (
+      arith,
+      classes_few c.args.classes.now c.args.limits.now c.args.set c.loop-class.class c.loop-class.found.items
+          c.loop-class.invariant,
+    )
 
 pub push_if-requires-in-loop-class-2 : goal.push_if-requires-in-loop-class-2
 push_if-requires-in-loop-class-2 c =
-    omega (arith, early_few c.args.classes.now c.args.limits.now c.args.set c.loop-class.class c.is_open_early.result c.loop-class.found.items c.push_if-in-loop-class.new.ways.items c.loop-class.invariant c.push_if-in-loop-class.ensures)
+    omega (
+      arith,
+      early_few c.args.classes.now c.args.limits.now c.args.set c.loop-class.class c.is_open_early.result
+          c.loop-class.found.items c.push_if-in-loop-class.new.ways.items c.loop-class.invariant c.push_if-in-loop-class.ensures,
+    )
 
 pub loop-class-preserved : goal.loop-class-preserved
 loop-class-preserved c =

@@ -6,8 +6,7 @@ use Rattle.pocsag_text.proofs.Codes.{code_of-character_of}
 use Rattle.pocsag_text.proofs.RoundTrips.{numeric_text-back}
 use Rattle.pocsag_text.proofs.unpack.unpack_numeric.Goals as goal
 
-whole :
-    (text now made read codes items : List ℕ) (len : ℕ) → text ≡ take len made → now ≡ made → take len now ≡ trim_end 32 now →
+whole : (text now made read codes items : List ℕ) (len : ℕ) → text ≡ take len made → now ≡ made → take len now ≡ trim_end 32 now →
     made ≡ map character_of read → read ≡ codes → codes ≡ codes_of 4 items → text ≡ numeric_text items
 unfolding numeric_text
 whole text now made read codes items len t n e m r c =
@@ -16,8 +15,7 @@ whole text now made read codes items len t n e m r c =
 allowed : (k : ℕ) → k < 16 → IsSome (code_of (character_of k))
 allowed k h = rw (code_of-character_of k h) refl
 
-all_allowed :
-    (text made read codes : List ℕ) (len : ℕ) → text ≡ take len made → made ≡ map character_of read → read ≡ codes →
+all_allowed : (text made read codes : List ℕ) (len : ℕ) → text ≡ take len made → made ≡ map character_of read → read ≡ codes →
     All (λ k. k < 16) codes → All (λ c. IsSome (code_of c)) text
 all_allowed text made read codes len t m r h =
     let some : All (λ k. IsSome (code_of (character_of k))) codes =
