@@ -15,7 +15,8 @@ use Rattle.pocsag_batch.proofs.ClassLists.{class_left, of_class_in, of_class_out
 use Rattle.pocsag_slots.proofs.CountLemmas.{page_class_below}
 
 -- the class of the page that is read at a place
-pub class_at_item : (end : End) (R : List Page) (at : ℕ) (p : Page) → at < length R → p ≡ get_or R at p → class_of_page end p ≡ class_at end R at
+pub class_at_item : (end : End) (R : List Page) (at : ℕ) (p : Page) → at < length R → p ≡ get_or R at p
+    → class_of_page end p ≡ class_at end R at
 class_at_item end R at p h is = ap (class_of_page end) (is ∙ get_or_default R at p _ h)
 
 kept_step : (next : List ℕ) (at v j h : ℕ) (ks : List ℕ) (b : Bool) → at < j →
@@ -124,7 +125,8 @@ chains_left end R links new left c k a t first nexts heads =
                 head ∙ (get_or-set_at links.head c d after 0 (sym same) (omega arith) ∙ ap (slice_index links.next) (first ∙ t.head)) in
                 let others : places ≡ t.others =
                 ap (λ m. places_of end R m (without f c left)) (sym same) ∙ class_left f c left t.place t.others t.first in
-                chain_same links.next new.next (slice_index links.next t.place) (slice_index new.head d) t.others places nexts now others t.chain
+                chain_same links.next new.next (slice_index links.next t.place)
+                (slice_index new.head d) t.others places nexts now others t.chain
             | inr other ↦
                 let now : slice_index new.head d ≡ slice_index links.head d =
                 head ∙ get_or-set_other links.head c d after 0 (λ e. other (sym e)) in

@@ -35,7 +35,8 @@ pub without_out : {X : Type 0} (f : X → ℕ) (c : ℕ) (x : X) (xs : List X) �
 without_out f c x xs n = ap (λ b. cond b xs (x ∷ without f c xs)) (ne_eqb (f x) c n)
 
 -- the class without its first, and the other classes
-pub class_left : {X : Type 0} (f : X → ℕ) (c : ℕ) (xs : List X) (k : X) (ks : List X) → of_class f c xs ≡ k ∷ ks → of_class f c (without f c xs) ≡ ks
+pub class_left : {X : Type 0} (f : X → ℕ) (c : ℕ) (xs : List X) (k : X) (ks : List X) → of_class f c xs ≡ k ∷ ks
+    → of_class f c (without f c xs) ≡ ks
 class_left f c [] k ks e = never_none k ks (sym e)
 class_left f c (x ∷ xs) k ks e =
     elim (cases_eq (f x) c) [
@@ -60,7 +61,8 @@ swapped : {X : Type 0} (x y : X) (xs : List X) → IsPermutation (x ∷ y ∷ xs
 swapped x y xs = IsPermutation-remove (x ∷ y ∷ xs) 1 y (omega arith) refl
 
 -- the first of the class may be moved to the front
-pub first_moved : {X : Type 0} (f : X → ℕ) (c : ℕ) (xs : List X) (k : X) (ks : List X) → of_class f c xs ≡ k ∷ ks → IsPermutation xs (k ∷ without f c xs)
+pub first_moved : {X : Type 0} (f : X → ℕ) (c : ℕ) (xs : List X) (k : X) (ks : List X) → of_class f c xs ≡ k ∷ ks
+    → IsPermutation xs (k ∷ without f c xs)
 first_moved f c [] k ks e = never_none k ks (sym e)
 first_moved f c (x ∷ xs) k ks e =
     elim (cases_eq (f x) c) [

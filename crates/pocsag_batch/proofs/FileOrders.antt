@@ -54,7 +54,13 @@ page_words_long p = let e : length (map Message p.payload) ≡ length p.payload 
 placed_length : (gap : ℕ) (p : Page) (rest : List Kind) →
     length (replicate gap Idle ++ (page_words p ++ rest)) ≡ gap + page_length p + length rest
 placed_length gap p rest =
-    omega (arith, length-append (replicate gap Idle) (page_words p ++ rest), length-append (page_words p) rest, length-replicate gap Idle, length-map p.payload Message)
+    omega (
+      arith,
+      length-append (replicate gap Idle) (page_words p ++ rest),
+      length-append (page_words p) rest,
+      length-replicate gap Idle,
+      length-map p.payload Message,
+    )
 
 pub whole_in_order : {i : ℕ} {R : List Page} {ws : List Kind} → InOrder i R ws → (i + length ws) % 16 ≡ 0
 whole_in_order {i = i} (at_end gap least is) =
@@ -116,11 +122,17 @@ some_frame : (i frame : ℕ) → frame < 8 → HasLeast i (IsInFrame frame)
 some_frame i frame small =
     elim (cases_eq (i % 16 / 2) frame) [
       | inl same ↦ record { gap = 0; least = record { after = omega arith; fit = omega arith; least = λ j after fit. omega arith } }
-      | inr other ↦ record { gap = (2 * frame + 16 - i % 16) % 16; least = record { after = omega arith; fit = omega arith; least = λ j after fit. omega arith } }
+      | inr other ↦ record {
+        gap = (2 * frame + 16 - i % 16) % 16;
+        least = record { after = omega arith; fit = omega arith; least = λ j after fit. omega arith };
+      }
     ]
 
 some_whole : (i : ℕ) → HasLeast i IsWhole
-some_whole i = record { gap = (16 - i % 16) % 16; least = record { after = omega arith; fit = omega arith; least = λ j after fit. omega arith } }
+some_whole i = record {
+  gap = (16 - i % 16) % 16;
+  least = record { after = omega arith; fit = omega arith; least = λ j after fit. omega arith };
+}
 
 pub record HasFileOrder (i : ℕ) (R : List Page) : Type 0 where
   pub words : List Kind
@@ -143,7 +155,8 @@ pub record HasLeft (i : ℕ) (R : List Page) (n : ℕ) : Type 0 where
   pub long : n ≡ i + length rest
 
 -- the next page takes the least place for it
-pub left_step : (i gap n : ℕ) (p : Page) (R : List Page) → IsLeastFrom i (IsInFrame (p.address % 8)) (i + gap) → HasLeft i (p ∷ R) n → HasLeft (i + gap + page_length p) R n
+pub left_step : (i gap n : ℕ) (p : Page) (R : List Page) → IsLeastFrom i (IsInFrame (p.address % 8)) (i + gap) → HasLeft i (p ∷ R) n
+    → HasLeft (i + gap + page_length p) R n
 left_step i gap n p R least h = step h.order
   where
     step : InOrder i (p ∷ R) h.rest → HasLeft (i + gap + page_length p) R n
@@ -155,12 +168,3 @@ left_step i gap n p R least h = step h.order
           order = subst (λ g. InOrder (i + g + page_length p) R rest) same left;
           long = omega (arith, h.long);
         }
-
-pub left_end : (i gap n : ℕ) → IsLeastFrom i IsWhole (i + gap) → HasLeft i [] n → n ≡ i + gap
-left_end i gap n least h = step h.order
-  where
-    step : InOrder i [] h.rest → n ≡ i + gap
-    step (at_end gap' least' is) =
-        let same : gap' ≡ gap = one_gap gap' gap least' least in
-        let long : length h.rest ≡ gap' = ap length is ∙ length-replicate gap' Idle in
-        omega (arith, h.long)

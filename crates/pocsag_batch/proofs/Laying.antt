@@ -14,14 +14,28 @@ use Rattle.pocsag_batch.proofs.FileOrders.{page_words_long, whole_in_order, some
 
 pub idled_length : (gap : ℕ) (ws vs : List ℕ) → map kind_of vs ≡ map kind_of ws ++ replicate gap Idle → length vs ≡ length ws + gap
 idled_length gap ws vs idles =
-    omega (arith, ap length idles, length-append (map kind_of ws) (replicate gap Idle), length-replicate gap Idle, length-map ws kind_of, length-map vs kind_of)
+    omega (
+      arith,
+      ap length idles,
+      length-append (map kind_of ws) (replicate gap Idle),
+      length-replicate gap Idle,
+      length-map ws kind_of,
+      length-map vs kind_of,
+    )
 
 pub laid_length : (p : Page) (gap : ℕ) (ws vs us : List ℕ) →
     map kind_of vs ≡ map kind_of ws ++ replicate gap Idle → map kind_of us ≡ map kind_of vs ++ page_words p →
     length us ≡ length ws + gap + page_length p
 laid_length p gap ws vs us idles page =
     let a : length vs ≡ length ws + gap = idled_length gap ws vs idles in
-    omega (arith, ap length page, length-append (map kind_of vs) (page_words p), page_words_long p, length-map us kind_of, length-map vs kind_of)
+    omega (
+      arith,
+      ap length page,
+      length-append (map kind_of vs) (page_words p),
+      page_words_long p,
+      length-map us kind_of,
+      length-map vs kind_of,
+    )
 
 pub laid_more : (R left : List Page) (p : Page) (gap : ℕ) (ws vs us : List ℕ) →
     map kind_of vs ≡ map kind_of ws ++ replicate gap Idle → map kind_of us ≡ map kind_of vs ++ page_words p →
@@ -58,7 +72,8 @@ laid_batches (p ∷ R) vs some few f =
     let same : length (map kind_of vs) ≡ length vs = length-map vs kind_of in
     record { some = omega arith; whole = omega arith; few = few }
 
-pub laid_legal : (R : List Page) (vs : List ℕ) → 0 < length R → IsFileOrder R (map kind_of vs) → IsLegalFor Open (map kind_of vs) (length vs / 16) R
+pub laid_legal : (R : List Page) (vs : List ℕ) → 0 < length R → IsFileOrder R (map kind_of vs)
+    → IsLegalFor Open (map kind_of vs) (length vs / 16) R
 laid_legal R vs some f =
     subst (λ n. IsLegalFor Open (map kind_of vs) (n / 16) R) (length-map vs kind_of) (legal_in_order R (map kind_of vs) some f)
 

@@ -26,7 +26,8 @@ pub record Stands (end : End) (R : List Page) (links : Links) (order : List ℕ)
   pub classes : map (class_at end R) order ++ run_classes rest ≡ run_classes steps
   pub in_turn : (c : ℕ) → places_of end R c order ++ places_of end R c left ≡ places_of end R c (all_places R)
 
-pub stands_first : (end : End) (R : List Page) (links : Links) (steps : List Step) → AreChains end R links (all_places R) → IsTourFor end R steps →
+pub stands_first : (end : End) (R : List Page) (links : Links) (steps : List Step) → AreChains end R links (all_places R)
+    → IsTourFor end R steps →
     Stands end R links [] steps steps
 stands_first end R links steps chains tour = record {
   left = all_places R;
@@ -54,7 +55,8 @@ enough_left f left c k ks e rest first enough d =
       | inl same ↦
           let one : runs d true (Run c e ∷ rest) + runs d false (Run c e ∷ rest) ≡ 1 + (runs d true rest + runs d false rest) =
           first_runs c e rest d ∙ ap (λ b. cond b 1 0 + (runs d true rest + runs d false rest)) (eq-eqb c d same) in
-          let many : length (of_class f d left) ≡ 1 + length ks = ap (λ m. length (of_class f m left)) (sym same) ∙ (ap length first ∙ omega arith) in
+          let many : length (of_class f d left) ≡ 1 + length ks = ap (λ m. length (of_class f m left)) (sym same)
+          ∙ (ap length first ∙ omega arith) in
           let fewer : length (of_class f d (without f c left)) ≡ length ks =
           ap (λ m. length (of_class f m (without f c left))) (sym same) ∙ ap length (class_left f c left k ks first) in
           omega arith
@@ -121,14 +123,19 @@ order_stands end R links order steps rest done s =
       in_turn = turns;
     }
 
-have_places : (f : ℕ → ℕ) (n : ℕ) (order : List ℕ) (steps : List Step) → map f order ≡ run_classes steps → All (λ k. k < n) order → HavePlaces n order steps
+have_places : (f : ℕ → ℕ) (n : ℕ) (order : List ℕ) (steps : List Step) → map f order ≡ run_classes steps → All (λ k. k < n) order
+    → HavePlaces n order steps
 have_places f n order [] m h = tt
 have_places f n order (Stay ∷ ss) m h = have_places f n order ss m h
 have_places f n [] (Run c e ∷ ss) m h = never_none c (run_classes ss) (sym m)
-have_places f n (k ∷ order) (Run c e ∷ ss) m h =
-    (All-head (λ j. j < n) k order h, have_places f n order ss (rest_same (f k) c (map f order) (run_classes ss) m) (All-tail (λ j. j < n) k order h))
+have_places f n (k ∷ order) (Run c e ∷ ss) m h = (
+  All-head (λ j. j < n) k order h,
+  have_places f n order ss (rest_same (f k) c (map f order) (run_classes ss) m)
+      (All-tail (λ j. j < n) k order h),
+)
 
-pub order_has_places : (end : End) (R : List Page) (steps : List Step) (order : List ℕ) → IsOrder end R steps order → HavePlaces (length R) order steps
+pub order_has_places : (end : End) (R : List Page) (steps : List Step) (order : List ℕ) → IsOrder end R steps order
+    → HavePlaces (length R) order steps
 order_has_places end R steps order o =
     have_places (class_at end R) (length R) order steps o.classes
     (All-permutation (λ k. k < length R) (all_places R) order o.once (all_within (length R)))

@@ -17,26 +17,31 @@ page_is : (R : List Page) (k : ℕ) (p : Page) → k < length R → p ≡ get_or
 page_is R k p within is = get_or_default R k _ p within ∙ sym is
 
 -- a run is the page at the place that comes first, and the other places are left
-pub run_view : (R : List Page) (order : List ℕ) (ss : List Step) (c : ℕ) (e : Bool) (p : Page) → HavePlaces (length R) order (Run c e ∷ ss) →
-    p ≡ get_or R (get_or order 0 0) p → laid_by R order (Run c e ∷ ss) ≡ page_words p ++ laid_by R (take (length order - 1) (drop 1 order)) ss
+pub run_view : (R : List Page) (order : List ℕ) (ss : List Step) (c : ℕ) (e : Bool) (p : Page)
+    → HavePlaces (length R) order (Run c e ∷ ss) →
+    p ≡ get_or R (get_or order 0 0) p
+    → laid_by R order (Run c e ∷ ss) ≡ page_words p ++ laid_by R (take (length order - 1) (drop 1 order)) ss
 run_view R [] ss c e p have is = elim have [ ]
 run_view R (k ∷ order) ss c e p have is =
     ap (λ q. page_words q ++ laid_by R order ss) (page_is R k p have.0 is)
     ∙ ap (λ v. page_words p ++ laid_by R v ss) (sym (take_rest (k ∷ order) 1))
 
 -- the page at the place that comes first is a good one
-good_first : (R : List Page) (order : List ℕ) (ss : List Step) (c : ℕ) (e : Bool) (p : Page) → All IsGoodPage R → HavePlaces (length R) order (Run c e ∷ ss) →
+good_first : (R : List Page) (order : List ℕ) (ss : List Step) (c : ℕ) (e : Bool) (p : Page) → All IsGoodPage R
+    → HavePlaces (length R) order (Run c e ∷ ss) →
     p ≡ get_or R (get_or order 0 0) p → IsGoodPage p
 good_first R [] ss c e p good have is = elim have [ ]
 good_first R (k ∷ order) ss c e p good have is =
     subst (λ q. IsGoodPage q) (sym is) (All-get_or IsGoodPage R k p have.0 good)
 
 -- an unreserved address never makes the idle codeword
-good_kind : (p : Page) (w : ℕ) → IsGoodPage p → kind_of w ≡ address_kind (p.address / 8) p.function → kind_of w ≡ Address (p.address / 8) p.function
+good_kind : (p : Page) (w : ℕ) → IsGoodPage p → kind_of w ≡ address_kind (p.address / 8) p.function
+    → kind_of w ≡ Address (p.address / 8) p.function
 good_kind p w good kind = kind ∙ kind_unreserved p.address p.function good.address good.function good.unreserved
 
 -- the codewords that are left where a page begins
-pub begun_view : (R : List Page) (order items items' : List ℕ) (steps ss : List Step) (c : ℕ) (e : Bool) (p : Page) (s : Step) (left : List Kind) (w : ℕ) →
+pub begun_view : (R : List Page) (order items items' : List ℕ) (steps ss : List Step) (c : ℕ) (e : Bool) (p : Page) (s : Step)
+    (left : List Kind) (w : ℕ) →
     map Message items ++ laid_by R order steps ≡ left → length items ≡ 0 → steps ≡ s ∷ ss → s ≡ Run c e →
     All IsGoodPage R → HavePlaces (length R) order steps → p ≡ get_or R (get_or order 0 0) p → items' ≡ p.payload →
     kind_of w ≡ address_kind (p.address / 8) p.function →

@@ -16,7 +16,8 @@ use Rattle.pocsag_tree.proofs.Leading.{Place, Leads, along, then_leads, right_pa
 use Rattle.pocsag_tree.proofs.NodesLead.{node_leads}
 
 -- no bytes have two verdicts
-pub one_verdict : {parts : List Part} {nodes : ℕ} {bytes : List ℕ} {v : Option CertificateFault} → Meets parts nodes bytes v → (w : Option CertificateFault) → Meets parts nodes bytes w → v ≡ w
+pub one_verdict : {parts : List Part} {nodes : ℕ} {bytes : List ℕ} {v : Option CertificateFault} → Meets parts nodes bytes v
+    → (w : Option CertificateFault) → Meets parts nodes bytes w → v ≡ w
 one_verdict whole w whole = refl
 one_verdict trailing w trailing = refl
 one_verdict (early a) w (early b) = sym a ∙ b
@@ -38,15 +39,18 @@ one_verdict (right {nodes} {part} {asked} {parts} {bytes} a k i n) w (right {ask
     let same : asked ≡ other = ok_is asked other (sym i ∙ j) in
     one_verdict n w (subst (λ x. Meets (x ++ parts) (nodes_with part nodes) (drop (byte_len (width_of part)) bytes) w) (sym same) m)
 
-mark_leads : (byte : ℕ) (parts : List Part) (bytes : List ℕ) → Leads (at (mark byte ∷ parts) 0 bytes) (λ rest. at parts 0 rest) (mark_at byte bytes)
+mark_leads : (byte : ℕ) (parts : List Part) (bytes : List ℕ)
+    → Leads (at (mark byte ∷ parts) 0 bytes) (λ rest. at parts 0 rest) (mark_at byte bytes)
 unfolding mark_at
 mark_leads byte parts bytes = marked byte parts bytes (byte_at bytes) (one_byte bytes)
   where
     marked : (byte : ℕ) (parts : List Part) (bytes : List ℕ) (r : Result (ℕ × List ℕ) CertificateFault) → ReadsNumber w8 bytes r
-        → Leads (at (mark byte ∷ parts) 0 bytes) (λ rest. at parts 0 rest) (r >>= λ read. cond (eqb read.0 byte) (Ok read.1) (Err fault.NotCertificate))
+        → Leads (at (mark byte ∷ parts) 0 bytes) (λ rest. at parts 0 rest)
+        (r >>= λ read. cond (eqb read.0 byte) (Ok read.1) (Err fault.NotCertificate))
     marked byte parts bytes (Err f) reads = λ given. short_part (mark byte) parts 0 bytes f refl (reads.ends f refl given)
     marked byte parts bytes (Ok x) reads =
-        cond_both (eqb x.0 byte) (Ok x.1) (Err fault.NotCertificate) (Leads (at (mark byte ∷ parts) 0 bytes) (λ (rest : List ℕ). at parts 0 rest))
+        cond_both (eqb x.0 byte) (Ok x.1) (Err fault.NotCertificate)
+        (Leads (at (mark byte ∷ parts) 0 bytes) (λ (rest : List ℕ). at parts 0 rest))
         (λ t. λ v m. right_part (mark byte) [] parts 0 x.0 bytes x.1 v refl (reads.value x refl) (rw t refl) m)
         (λ t. λ given. wrong_part (mark byte) parts 0 x.0 bytes x.1 fault.NotCertificate refl (reads.value x refl) (rw t refl))
 
@@ -58,31 +62,46 @@ unfolding version_at
 version_leads parts bytes = of_byte parts bytes (byte_at bytes) (one_byte bytes)
   where
     of_byte : (parts : List Part) (bytes : List ℕ) (r : Result (ℕ × List ℕ) CertificateFault) → ReadsNumber w8 bytes r
-        → Leads (at (version ∷ parts) 0 bytes) (behind_version parts) (r >>= λ byte. cond (eqb byte.0 0x31) (Ok (first_ranges, ends.Open, byte.1)) (cond (eqb byte.0 0x32) (small_at 0 1 byte.1 >>= λ end. Ok (second_ranges, end_of end.0, end.1)) (Err fault.Version)))
+        → Leads (at (version ∷ parts) 0 bytes) (behind_version parts)
+        (r >>= λ byte. cond (eqb byte.0 0x31) (Ok (first_ranges, ends.Open, byte.1))
+        (cond (eqb byte.0 0x32) (small_at 0 1 byte.1 >>= λ end. Ok (second_ranges, end_of end.0, end.1)) (Err fault.Version)))
     of_byte parts bytes (Err f) reads = λ given. short_part version parts 0 bytes f refl (reads.ends f refl given)
     of_byte parts bytes (Ok x) reads =
-        cond_both (eqb x.0 0x31) (Ok (first_ranges, ends.Open, x.1)) (cond (eqb x.0 0x32) (small_at 0 1 x.1 >>= λ end. Ok (second_ranges, end_of end.0, end.1)) (Err fault.Version)) (Leads (at (version ∷ parts) 0 bytes) (behind_version parts))
-        (λ t. λ v m. right_part version (field w32 1 (2 ^ 32 - 1) ∷ node first_ranges 1 ∷ []) parts 0 x.0 bytes x.1 v refl (reads.value x refl) (rw t refl) m)
-        (λ s. cond_both (eqb x.0 0x32) (small_at 0 1 x.1 >>= λ end. Ok (second_ranges, end_of end.0, end.1)) (Err fault.Version) (Leads (at (version ∷ parts) 0 bytes) (behind_version parts))
-        (λ t. along (at (version ∷ parts) 0 bytes) (at (field w8 0 1 ∷ field w32 1 (2 ^ 32 - 1) ∷ node second_ranges 1 ∷ parts) 0 x.1) (behind_version parts) (small_at 0 1 x.1 >>= λ end. Ok (second_ranges, end_of end.0, end.1))
-        (λ v m. right_part version (field w8 0 1 ∷ field w32 1 (2 ^ 32 - 1) ∷ node second_ranges 1 ∷ []) parts 0 x.0 bytes x.1 v refl (reads.value x refl) (rw (s, t) refl) m)
+        cond_both (eqb x.0 0x31) (Ok (first_ranges, ends.Open, x.1))
+        (cond (eqb x.0 0x32) (small_at 0 1 x.1 >>= λ end. Ok (second_ranges, end_of end.0, end.1)) (Err fault.Version))
+        (Leads (at (version ∷ parts) 0 bytes) (behind_version parts))
+        (λ t. λ v m. right_part version (field w32 1 (2 ^ 32 - 1) ∷ node first_ranges 1 ∷ []) parts 0 x.0 bytes x.1 v refl
+        (reads.value x refl) (rw t refl) m)
+        (λ s. cond_both (eqb x.0 0x32) (small_at 0 1 x.1 >>= λ end. Ok (second_ranges, end_of end.0, end.1)) (Err fault.Version)
+        (Leads (at (version ∷ parts) 0 bytes) (behind_version parts))
+        (λ t. along (at (version ∷ parts) 0 bytes) (at (field w8 0 1 ∷ field w32 1 (2 ^ 32 - 1) ∷ node second_ranges 1 ∷ parts) 0 x.1)
+        (behind_version parts) (small_at 0 1 x.1 >>= λ end. Ok (second_ranges, end_of end.0, end.1))
+        (λ v m. right_part version (field w8 0 1 ∷ field w32 1 (2 ^ 32 - 1) ∷ node second_ranges 1 ∷ []) parts 0 x.0 bytes x.1 v refl
+        (reads.value x refl) (rw (s, t) refl) m)
         (then_leads _ _ _ _ _ (small_leads 0 1 0 (field w32 1 (2 ^ 32 - 1) ∷ node second_ranges 1 ∷ parts) x.1) (λ y is. λ v m. m)))
         (λ t. λ given. wrong_part version parts 0 x.0 bytes x.1 fault.Version refl (reads.value x refl) (rw (s, t) refl)))
 
-batches_leads : (nodes : ℕ) (parts : List Part) (bytes : List ℕ) → Leads (at (field w32 1 (2 ^ 32 - 1) ∷ parts) nodes bytes) (λ x. at parts nodes x.1) (batches_at bytes)
+batches_leads : (nodes : ℕ) (parts : List Part) (bytes : List ℕ)
+    → Leads (at (field w32 1 (2 ^ 32 - 1) ∷ parts) nodes bytes) (λ x. at parts nodes x.1) (batches_at bytes)
 unfolding batches_at
 batches_leads nodes parts bytes = of_number nodes parts bytes (long_number_at bytes) (λ x. long_number_is bytes x) (long_number_short bytes)
   where
-    of_number : (nodes : ℕ) (parts : List Part) (bytes : List ℕ) (r : Result (ℕ × List ℕ) CertificateFault) → ((x : ℕ × List ℕ) → r ≡ Ok x → FourIs bytes x.0 x.1)
+    of_number : (nodes : ℕ) (parts : List Part) (bytes : List ℕ) (r : Result (ℕ × List ℕ) CertificateFault)
+        → ((x : ℕ × List ℕ) → r ≡ Ok x → FourIs bytes x.0 x.1)
         → ((f : CertificateFault) → r ≡ Err f → (f ≡ fault.ReadFault → ⊥) → IsShort w32 bytes f)
-        → Leads (at (field w32 1 (2 ^ 32 - 1) ∷ parts) nodes bytes) (λ x. at parts nodes x.1) (r >>= λ n. cond (leb 1 n.0) (Ok n) (Err fault.BadField))
-    of_number nodes parts bytes (Err f) value ends = λ given. short_part (field w32 1 (2 ^ 32 - 1)) parts nodes bytes f refl (ends f refl given)
+        → Leads (at (field w32 1 (2 ^ 32 - 1) ∷ parts) nodes bytes) (λ x. at parts nodes x.1)
+        (r >>= λ n. cond (leb 1 n.0) (Ok n) (Err fault.BadField))
+    of_number nodes parts bytes (Err f) value ends =
+        λ given. short_part (field w32 1 (2 ^ 32 - 1)) parts nodes bytes f refl (ends f refl given)
     of_number nodes parts bytes (Ok x) value ends =
         let four = value x refl in
         let most : leb x.0 (2 ^ 32 - 1) ≡ true = le-leb x.0 (2 ^ 32 - 1) (omega (arith, four.small)) in
-        cond_both (leb 1 x.0) (Ok x) (Err fault.BadField) (Leads (at (field w32 1 (2 ^ 32 - 1) ∷ parts) nodes bytes) (λ (y : ℕ × List ℕ). at parts nodes y.1))
-        (λ t. λ v m. right_part (field w32 1 (2 ^ 32 - 1)) [] parts nodes x.0 bytes x.1 v refl four.number (rw (and_from (leb 1 x.0) (leb x.0 (2 ^ 32 - 1)) t most) refl) m)
-        (λ t. λ given. wrong_part (field w32 1 (2 ^ 32 - 1)) parts nodes x.0 bytes x.1 fault.BadField refl four.number (rw (and_left (leb 1 x.0) (leb x.0 (2 ^ 32 - 1)) t) refl))
+        cond_both (leb 1 x.0) (Ok x) (Err fault.BadField)
+        (Leads (at (field w32 1 (2 ^ 32 - 1) ∷ parts) nodes bytes) (λ (y : ℕ × List ℕ). at parts nodes y.1))
+        (λ t. λ v m. right_part (field w32 1 (2 ^ 32 - 1)) [] parts nodes x.0 bytes x.1 v refl four.number
+        (rw (and_from (leb 1 x.0) (leb x.0 (2 ^ 32 - 1)) t most) refl) m)
+        (λ t. λ given. wrong_part (field w32 1 (2 ^ 32 - 1)) parts nodes x.0 bytes x.1 fault.BadField refl four.number
+        (rw (and_left (leb 1 x.0) (leb x.0 (2 ^ 32 - 1)) t) refl))
 
 -- where nothing is wanted, the nodes do not matter
 any_nodes : {nodes : ℕ} {bytes : List ℕ} {v : Option CertificateFault} (other : ℕ) → Meets [] nodes bytes v → Meets [] other bytes v
@@ -101,19 +120,22 @@ certificate_leads bytes =
     (λ y is. then_leads _ _ _ _ _ (node_leads x.0 greatest_depth 1 refl [] 0 y.1)
     (λ tree is. λ v m. any_nodes tree.1 m))))))
 
-end_verdict : (bytes : List ℕ) (nodes : ℕ) (r : Result (Unit {0}) CertificateFault) → end_at bytes ≡ r → Leads (at [] nodes bytes) (λ _. at [] 0 []) r
+end_verdict : (bytes : List ℕ) (nodes : ℕ) (r : Result (Unit {0}) CertificateFault) → end_at bytes ≡ r
+    → Leads (at [] nodes bytes) (λ _. at [] 0 []) r
 unfolding end_at
 end_verdict [] nodes (Ok x) e = λ v m. any_nodes nodes m
 end_verdict [] nodes (Err f) e = absurd cc
 end_verdict (b ∷ bytes) nodes (Ok x) e = absurd cc
-end_verdict (b ∷ bytes) nodes (Err f) e = λ given. let same : fault.Trailing ≡ f = cc in subst (λ g. Meets [] nodes (b ∷ bytes) (Some g)) same trailing
+end_verdict (b ∷ bytes) nodes (Err f) e = λ given. let same : fault.Trailing ≡ f = cc in
+    subst (λ g. Meets [] nodes (b ∷ bytes) (Some g)) same trailing
 
 -- what reading says of the bytes is their verdict
 abbrev pub HasVerdict : {A : Type 0} → List ℕ → Result A CertificateFault → Type 0
 HasVerdict bytes (Ok x) = Meets certificate 0 bytes None
 HasVerdict bytes (Err f) = (f ≡ fault.ReadFault → ⊥) → Meets certificate 0 bytes (Some f)
 
-verdict_from : {A : Type 0} (bytes : List ℕ) (r : Result A CertificateFault) → Leads (at certificate 0 bytes) (λ _. at [] 0 []) r → HasVerdict bytes r
+verdict_from : {A : Type 0} (bytes : List ℕ) (r : Result A CertificateFault) → Leads (at certificate 0 bytes) (λ _. at [] 0 []) r
+    → HasVerdict bytes r
 verdict_from bytes (Ok x) leads = leads None whole
 verdict_from bytes (Err f) leads = leads
 

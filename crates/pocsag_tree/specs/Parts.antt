@@ -47,7 +47,9 @@ judged (node r depth) tag = if nat_lt r.tag tag then Err fault.BadTag else Ok (a
 
 -- The fault of a part before any byte of it is read, where so many nodes were read before.
 abbrev pub early_fault : Part → (nodes : ℕ) → Option CertificateFault
-early_fault (node r depth) nodes = if nat_lt greatest_depth depth then Some fault.TooDeep else if nat_lt nodes most_nodes then None else Some fault.TooMany
+early_fault (node r depth) nodes =
+    if nat_lt greatest_depth depth then Some fault.TooDeep else
+    if nat_lt nodes most_nodes then None else Some fault.TooMany
 early_fault _ nodes = None
 
 -- How many nodes were read, with this part.

@@ -144,7 +144,7 @@ unfoldable pub version_at : List ℕ → Result (Ranges × End × List ℕ) Cert
 version_at bytes = do
   byte ← byte_at bytes
   if byte.0 == 0x31 then Ok (first_ranges, ends.Open, byte.1) else
-    if byte.0 == 0x32 then (small_at 0 1 byte.1 >>= λ end. Ok (second_ranges, end_of end.0, end.1)) else Err fault.Version
+      if byte.0 == 0x32 then (small_at 0 1 byte.1 >>= λ end. Ok (second_ranges, end_of end.0, end.1)) else Err fault.Version
 
 unfoldable pub long_number_at : List ℕ → Result (ℕ × List ℕ) CertificateFault
 long_number_at bytes = do

@@ -15,8 +15,10 @@ loop-page-preserved c =
     let long : length c.as_slice.result.now ≡ length p.payload = ap length c.as_slice.ensures in
     let few : length p.payload ≤ 1400 = good.few in (
       λ T f.
-          subst (λ n. HasLeft (c.loop-page.index + c.gap_to_frame-index.result + (1 + n)) (drop (k + 1) c.args.round.now) (length T)) (sym long)
-          (left_step c.loop-page.index c.gap_to_frame-index.result (length T) p (drop (k + 1) c.args.round.now) c.gap_to_frame-index.ensures.least
+          subst (λ n. HasLeft (c.loop-page.index + c.gap_to_frame-index.result + (1 + n)) (drop (k + 1) c.args.round.now) (length T))
+          (sym long)
+          (left_step c.loop-page.index c.gap_to_frame-index.result (length T) p
+          (drop (k + 1) c.args.round.now) c.gap_to_frame-index.ensures.least
           (subst (λ v. HasLeft c.loop-page.index v (length T)) (drop_at c.args.round.now k p within is) (c.loop-page.invariant.0 T f))),
       omega arith,
     )

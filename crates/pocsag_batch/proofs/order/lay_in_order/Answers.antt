@@ -30,7 +30,8 @@ loop-page-preserved c =
       laid_more R (drop (k + 1) R) p gap c.loop-page.words c.push_idles.new.self c.push_page.new.self
           c.in_ok-push_idles.ensures c.in_ok-push_page.ensures
           (rw c.len.ensures at c.gap_to_frame.ensures.least)
-          (λ U order. c.loop-page.invariant.0 U (subst (λ v. InOrder (length c.loop-page.words) v U) (sym (drop_at R k p within is)) order)),
+          (λ U order. c.loop-page.invariant.0 U
+          (subst (λ v. InOrder (length c.loop-page.words) v U) (sym (drop_at R k p within is)) order)),
       omega arith,
     )
 

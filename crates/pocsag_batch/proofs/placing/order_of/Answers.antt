@@ -53,7 +53,8 @@ loop-step-preserved c =
 
 pub returns-clause-order : goal.returns-clause-order
 returns-clause-order c =
-    order_stands c.args.end c.args.round.now c.loop-step.queues c.loop-step.order.items c.args.steps.now (drop c.loop-step.step-index c.args.steps.now)
+    order_stands c.args.end c.args.round.now c.loop-step.queues c.loop-step.order.items c.args.steps.now
+    (drop c.loop-step.step-index c.args.steps.now)
     (drop_all c.loop-step.step-index c.args.steps.now c.loop-step-test.false) c.loop-step.invariant
 
 pub returns-clause-places : goal.returns-clause-places
