@@ -70,7 +70,7 @@ pub byte_short : (bytes : List ℕ) (f : CertificateFault) → byte_at bytes ≡
 byte_short [] f e given = (cc, refl)
 byte_short (b ∷ bytes) f e given =
     elim (chosen (ltb b 256) (Ok (b, bytes)) (Err fault.ReadFault) (Err f) e) [
-      | inl h ↦ absurd (let no = h.1 in cc)
+      | inl h ↦ absurd cc
       | inr h ↦ absurd (given (let no = h.1 in cc))
     ]
 
@@ -241,8 +241,7 @@ unfolding long_number_at
 long_number_is bytes x e =
     let a = bind_ok (number_at bytes) _ x e in
     let b = bind_ok (number_at a.0.1) _ x a.2 in
-    let built : ℕ × List ℕ = (a.0.0 * 65536 + b.0.0, b.0.1) in
-    subst (λ y. FourIs bytes y.0 y.1) (ok_is built x b.2)
+    rw (← ok_is _ x b.2)
     (four_from_twos bytes a.0.1 b.0.1 a.0.0 b.0.0 (number_is bytes a.0 a.1) (number_is a.0.1 b.0 b.1))
 
 pub long_number_short : (bytes : List ℕ) (f : CertificateFault) → long_number_at bytes ≡ Err f → (f ≡ fault.ReadFault → ⊥)

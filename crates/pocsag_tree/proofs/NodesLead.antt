@@ -22,13 +22,13 @@ row_leads r depth child leads zero parts nodes bytes = λ v m. m
 row_leads r depth child leads (suc n) parts nodes bytes =
     then_leads _ _ _ _ _ (leads (replicate n (node r depth) ++ parts) nodes bytes)
     (λ first is. then_leads _ _ _ _ _ (row_leads r depth child leads n parts first.1 first.2)
-    (λ others same. λ v m. m))
+    (λ others same v m. m))
 
 overload_leads : (parts : List Part) (nodes : ℕ) (bytes : List ℕ)
     → Leads (at (field w16 1 65535 ∷ parts) nodes bytes) (past parts) (overload_at nodes bytes)
 unfolding overload_at
 overload_leads parts nodes bytes =
-    then_leads _ _ _ _ _ (large_leads 1 65535 nodes parts bytes) (λ x is. λ v m. m)
+    then_leads _ _ _ _ _ (large_leads 1 65535 nodes parts bytes) (λ x is v m. m)
 
 split_leads : (r : Ranges) (depth : ℕ) (child : Reader) → NodeLeads r depth child → (parts : List Part) (nodes : ℕ) (bytes : List ℕ)
     → Leads (at (field w8 0 r.class ∷ field w16 1 r.m ∷ node r depth ∷ node r depth ∷ parts) nodes bytes) (past parts)
@@ -39,7 +39,7 @@ split_leads r depth child leads parts nodes bytes =
     (λ class is. then_leads _ _ _ _ _ (large_leads 1 r.m nodes (node r depth ∷ node r depth ∷ parts) class.1)
     (λ m is. then_leads _ _ _ _ _ (leads (node r depth ∷ parts) nodes m.1)
     (λ below is. then_leads _ _ _ _ _ (leads parts below.1 below.2)
-    (λ above is. λ v m. m))))
+    (λ above is v m. m))))
 
 cut_leads : (r : Ranges) (depth : ℕ) (child : Reader) → NodeLeads r depth child → (parts : List Part) (nodes : ℕ) (bytes : List ℕ)
     → Leads (at (field w16 1 65535 ∷ field w8 0 r.class ∷ children r depth w16 2 r.children ∷ parts) nodes bytes) (past parts)
@@ -50,7 +50,7 @@ cut_leads r depth child leads parts nodes bytes =
     (λ set is. then_leads _ _ _ _ _ (small_leads 0 r.class nodes (children r depth w16 2 r.children ∷ parts) set.1)
     (λ needed is. then_leads _ _ _ _ _ (many_leads r depth 2 r.children nodes parts needed.1)
     (λ count is. then_leads _ _ _ _ _ (row_leads r depth child leads count.0 parts nodes count.1)
-    (λ children is. λ v m. m))))
+    (λ children is v m. m))))
 
 close_leads : (r : Ranges) (depth : ℕ) (child : Reader) → NodeLeads r depth child → (parts : List Part) (nodes : ℕ) (bytes : List ℕ)
     → Leads (at (children r depth w8 1 2 ∷ parts) nodes bytes) (past parts) (close_at child nodes bytes)
@@ -58,7 +58,7 @@ unfolding close_at
 close_leads r depth child leads parts nodes bytes =
     then_leads _ _ _ _ _ (few_leads r depth 1 2 nodes parts bytes)
     (λ count is. then_leads _ _ _ _ _ (row_leads r depth child leads count.0 parts nodes count.1)
-    (λ children is. λ v m. m))
+    (λ children is v m. m))
 
 -- the same test on both sides
 same_way : {A B : Type 0} (b : Bool) (x y : A) (s t : B) (P : A → B → Type 0) → P x s → P y t → P (cond b x y) (cond b s t)
@@ -91,7 +91,7 @@ tag_leads r depth child leads parts nodes bytes (Err f) reads fine =
 tag_leads r depth child leads parts nodes bytes (Ok tag) reads fine =
     cond_both (ltb r.tag tag.0) (Err fault.BadTag) (body_at r child tag.0 (nodes + 1) tag.1)
     (Leads (at (node r depth ∷ parts) nodes bytes) (past parts))
-    (λ t. λ given. wrong_part (node r depth) parts nodes tag.0 bytes tag.1 fault.BadTag fine (reads.value tag refl) (rw t refl))
+    (λ t given. wrong_part (node r depth) parts nodes tag.0 bytes tag.1 fault.BadTag fine (reads.value tag refl) (rw t refl))
     (λ t. along (at (node r depth ∷ parts) nodes bytes) (at (asked_by r (depth + 1) tag.0 ++ parts) (nodes + 1) tag.1) (past parts)
     (body_at r child tag.0 (nodes + 1) tag.1)
     (λ v m. right_part (node r depth) (asked_by r (depth + 1) tag.0) parts nodes tag.0 bytes tag.1 v fine (reads.value tag refl)
@@ -114,4 +114,4 @@ node_leads r (suc left) depth is parts nodes bytes =
     (Leads (at (node r depth ∷ parts) nodes bytes) (past parts))
     (λ t. tagged_leads r depth (node_at r left) (node_leads r left (depth + 1) (omega arith)) parts nodes bytes (omega arith)
     (ltb-true _ _ t))
-    (λ t. λ given. early (rw (le-ltb greatest_depth depth (omega arith), t) refl))
+    (λ t given. early (rw (le-ltb greatest_depth depth (omega arith), t) refl))

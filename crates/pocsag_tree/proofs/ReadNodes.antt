@@ -45,8 +45,7 @@ row_takes r d child takes (suc n) made bytes x few e =
     let b = bind_ok (row_at child n a.0.1 a.0.2) _ x a.2 in
     let p = takes made bytes a.0 a.1 in
     let q = row_takes r d child takes n a.0.1 a.0.2 b.0 p.few b.1 in
-    let built : Read Bounds = (more a.0.0 b.0.0, b.0.1, b.0.2) in
-    subst (λ y. TakesRow r d made (suc n) bytes y) (ok_is built x b.2)
+    rw (← ok_is _ x b.2)
     (record {
       parts = p.parts ∙ ap (λ t. node a.0.0 ++ t) q.parts ∙ sym (append_assoc (node a.0.0) (row b.0.0) b.0.2);
       in_range = (p.in_range, q.in_range);
@@ -71,8 +70,7 @@ unfolding overload_at
 overload_takes r d made bytes x few e =
     let a = bind_ok (large_at 1 65535 bytes) _ x e in
     let p = large_takes 1 65535 bytes a.0 a.1 in
-    let built : Read Bound = (overload a.0.0, made, a.0.1) in
-    subst (λ y. TakesBody r d made 0 bytes y) (ok_is built x a.2)
+    rw (← ok_is _ x a.2)
     (record { parts = p.0; same_tag = refl; in_range = (p.2.least, p.1); deep = omega arith; counted = refl; few = few })
 
 split_takes : (r : Ranges) (d : ℕ) (child : Reader) → TakesAll r d child → (made : ℕ) (bytes : List ℕ) (x : Read Bound)
@@ -95,8 +93,7 @@ split_takes r d child takes made bytes x e =
     ∙ sym (append_assoc (node below.0) (node above.0) above.2) in
     let whole : bytes ≡ behind (split class.0 m.0 below.0 above.0) ++ above.2 = p.0.parts ∙ ap (λ y. class.0 ∷ y) q.0
     ∙ ap (λ y. class.0 ∷ to_be_bytes w16 m.0 ++ y) children in
-    let built : Read Bound = (split class.0 m.0 below.0 above.0, above.1, above.2) in
-    subst (λ y. TakesBody r d made 1 bytes y) (ok_is built x f.2)
+    rw (← ok_is _ x f.2)
     (record {
       parts = whole;
       same_tag = refl;
@@ -126,8 +123,7 @@ cut_takes r d child takes made bytes x few e =
     let whole : bytes ≡ behind (cut set.0 needed.0 children.0) ++ children.2 = p.0
     ∙ ap (λ y. to_be_bytes w16 set.0 ++ y)
     (q.0.parts ∙ ap (λ y. needed.0 ∷ y) (number ∙ ap (λ y. to_be_bytes w16 (count_of children.0) ++ y) t.parts)) in
-    let built : Read Bound = (cut set.0 needed.0 children.0, children.1, children.2) in
-    subst (λ y. TakesBody r d made 2 bytes y) (ok_is built x f.2)
+    rw (← ok_is _ x f.2)
     (record {
       parts = whole;
       same_tag = refl;
@@ -149,8 +145,7 @@ close_takes r d child takes made bytes x four few e =
     let t = row_takes r d child takes count.0 made count.1 children few b.1 in
     let whole : bytes ≡ behind (close children.0) ++ children.2 = p.0.parts ∙ ap (λ n. n ∷ count.1) (sym t.count)
     ∙ ap (λ y. count_of children.0 ∷ y) t.parts in
-    let built : Read Bound = (close children.0, children.1, children.2) in
-    subst (λ y. TakesBody r d made 4 bytes y) (ok_is built x b.2)
+    rw (← ok_is _ x b.2)
     (record {
       parts = whole;
       same_tag = refl;
@@ -163,8 +158,7 @@ close_takes r d child takes made bytes x four few e =
 open_takes : (r : Ranges) (d made : ℕ) (bytes : List ℕ) (x : Read Bound) → made ≤ most_nodes → done (unexamined, made, bytes) ≡ Ok x
     → TakesBody r d made 3 bytes x
 open_takes r d made bytes x few e =
-    let built : Read Bound = (unexamined, made, bytes) in
-    subst (λ y. TakesBody r d made 3 bytes y) (ok_is built x e)
+    rw (← ok_is _ x e)
     (record { parts = refl; same_tag = refl; in_range = tt; deep = omega arith; counted = refl; few = few })
 
 body_takes : (r : Ranges) (d : ℕ) (child : Reader) → TakesAll r d child → IsVersion r → (tag made : ℕ) (bytes : List ℕ) (x : Read Bound)

@@ -30,8 +30,8 @@ all_takes bytes x e =
     let b = bind_ok (end_at a.0.3) _ x a.2 in
     let t = certificate_takes bytes a.0 a.1 in
     let all : t.0 ≡ bytes = sym (t.2 ∙ ap (λ y. t.0 ++ y) (end_takes a.0.3 b.0 b.1) ∙ append-nil t.0) in
-    let built : End × ℕ × Bound = (a.0.0, a.0.1, a.0.2) in
-    subst (λ y. IsText y.0 y.1 y.2 bytes) (ok_is built x b.2) (subst (λ y. IsText a.0.0 a.0.1 a.0.2 y) all t.1)
+    rw (← ok_is _ x b.2)
+    (subst (λ y. IsText a.0.0 a.0.1 a.0.2 y) all t.1)
 
 -- a text is read whole
 pub all_again : (end : End) (batches : ℕ) (tree : Bound) (bytes : List ℕ) → IsText end batches tree bytes

@@ -106,8 +106,7 @@ certificate_takes bytes x e =
     let tree = g.0 in
     let mark : bytes ≡ 0x50 ∷ 0x43 ∷ 0x42 ∷ c.0 = mark_takes 0x50 bytes a.0 a.1 ∙ ap (λ y. 0x50 ∷ y) (mark_takes 0x43 a.0 b.0 b.1)
     ∙ ap (λ y. 0x50 ∷ 0x43 ∷ y) (mark_takes 0x42 b.0 c.0 c.1) in
-    let built : End × ℕ × Bound × List ℕ = (version.1, batches.0, tree.0, tree.2) in
-    subst (λ y. IsTextThen y.0 y.1 y.2 bytes y.3) (ok_is built x g.2)
+    rw (← ok_is _ x g.2)
     (elim (version_takes c.0 version d.1) [
       | inl h ↦
           let t = rest_takes first_ranges first_ranges-is version.2 batches tree f.1

@@ -21,20 +21,20 @@ pub one_verdict : {parts : List Part} {nodes : ℕ} {bytes : List ℕ} {v : Opti
 one_verdict whole w whole = refl
 one_verdict trailing w trailing = refl
 one_verdict (early a) w (early b) = sym a ∙ b
-one_verdict (early a) w (short b l) = absurd (let no = sym a ∙ b in cc)
-one_verdict (early a) w (wrong b l j) = absurd (let no = sym a ∙ b in cc)
-one_verdict (early a) w (right b l j m) = absurd (let no = sym a ∙ b in cc)
-one_verdict (short a k) w (early b) = absurd (let no = sym a ∙ b in cc)
+one_verdict (early a) w (short b l) = absurd cc
+one_verdict (early a) w (wrong b l j) = absurd cc
+one_verdict (early a) w (right b l j m) = absurd cc
+one_verdict (short a k) w (early b) = absurd cc
 one_verdict (short a k) w (short b l) = refl
 one_verdict (short a k) w (wrong b l j) = absurd (omega arith)
 one_verdict (short a k) w (right b l j m) = absurd (omega arith)
-one_verdict (wrong a k i) w (early b) = absurd (let no = sym a ∙ b in cc)
+one_verdict (wrong a k i) w (early b) = absurd cc
 one_verdict (wrong a k i) w (short b l) = absurd (omega arith)
 one_verdict (wrong {f} a k i) w (wrong {f = g} b l j) = let same : Err f ≡ Err g = sym i ∙ j in cc
-one_verdict (wrong a k i) w (right b l j m) = absurd (let no = sym i ∙ j in cc)
-one_verdict (right a k i n) w (early b) = absurd (let no = sym a ∙ b in cc)
+one_verdict (wrong a k i) w (right b l j m) = absurd cc
+one_verdict (right a k i n) w (early b) = absurd cc
 one_verdict (right a k i n) w (short b l) = absurd (omega arith)
-one_verdict (right a k i n) w (wrong b l j) = absurd (let no = sym i ∙ j in cc)
+one_verdict (right a k i n) w (wrong b l j) = absurd cc
 one_verdict (right {nodes} {part} {asked} {parts} {bytes} a k i n) w (right {asked = other} b l j m) =
     let same : asked ≡ other = ok_is asked other (sym i ∙ j) in
     one_verdict n w (subst (λ x. Meets (x ++ parts) (nodes_with part nodes) (drop (byte_len (width_of part)) bytes) w) (sym same) m)
@@ -51,8 +51,8 @@ mark_leads byte parts bytes = marked byte parts bytes (byte_at bytes) (one_byte 
     marked byte parts bytes (Ok x) reads =
         cond_both (eqb x.0 byte) (Ok x.1) (Err fault.NotCertificate)
         (Leads (at (mark byte ∷ parts) 0 bytes) (λ (rest : List ℕ). at parts 0 rest))
-        (λ t. λ v m. right_part (mark byte) [] parts 0 x.0 bytes x.1 v refl (reads.value x refl) (rw t refl) m)
-        (λ t. λ given. wrong_part (mark byte) parts 0 x.0 bytes x.1 fault.NotCertificate refl (reads.value x refl) (rw t refl))
+        (λ t v m. right_part (mark byte) [] parts 0 x.0 bytes x.1 v refl (reads.value x refl) (rw t refl) m)
+        (λ t given. wrong_part (mark byte) parts 0 x.0 bytes x.1 fault.NotCertificate refl (reads.value x refl) (rw t refl))
 
 abbrev behind_version : List Part → Ranges × End × List ℕ → Place
 behind_version parts x = at (field w32 1 (2 ^ 32 - 1) ∷ node x.0 1 ∷ parts) 0 x.2
@@ -70,7 +70,7 @@ version_leads parts bytes = of_byte parts bytes (byte_at bytes) (one_byte bytes)
         cond_both (eqb x.0 0x31) (Ok (first_ranges, ends.Open, x.1))
         (cond (eqb x.0 0x32) (small_at 0 1 x.1 >>= λ end. Ok (second_ranges, end_of end.0, end.1)) (Err fault.Version))
         (Leads (at (version ∷ parts) 0 bytes) (behind_version parts))
-        (λ t. λ v m. right_part version (field w32 1 (2 ^ 32 - 1) ∷ node first_ranges 1 ∷ []) parts 0 x.0 bytes x.1 v refl
+        (λ t v m. right_part version (field w32 1 (2 ^ 32 - 1) ∷ node first_ranges 1 ∷ []) parts 0 x.0 bytes x.1 v refl
         (reads.value x refl) (rw t refl) m)
         (λ s. cond_both (eqb x.0 0x32) (small_at 0 1 x.1 >>= λ end. Ok (second_ranges, end_of end.0, end.1)) (Err fault.Version)
         (Leads (at (version ∷ parts) 0 bytes) (behind_version parts))
@@ -78,8 +78,8 @@ version_leads parts bytes = of_byte parts bytes (byte_at bytes) (one_byte bytes)
         (behind_version parts) (small_at 0 1 x.1 >>= λ end. Ok (second_ranges, end_of end.0, end.1))
         (λ v m. right_part version (field w8 0 1 ∷ field w32 1 (2 ^ 32 - 1) ∷ node second_ranges 1 ∷ []) parts 0 x.0 bytes x.1 v refl
         (reads.value x refl) (rw (s, t) refl) m)
-        (then_leads _ _ _ _ _ (small_leads 0 1 0 (field w32 1 (2 ^ 32 - 1) ∷ node second_ranges 1 ∷ parts) x.1) (λ y is. λ v m. m)))
-        (λ t. λ given. wrong_part version parts 0 x.0 bytes x.1 fault.Version refl (reads.value x refl) (rw (s, t) refl)))
+        (then_leads _ _ _ _ _ (small_leads 0 1 0 (field w32 1 (2 ^ 32 - 1) ∷ node second_ranges 1 ∷ parts) x.1) (λ y is v m. m)))
+        (λ t given. wrong_part version parts 0 x.0 bytes x.1 fault.Version refl (reads.value x refl) (rw (s, t) refl)))
 
 batches_leads : (nodes : ℕ) (parts : List Part) (bytes : List ℕ)
     → Leads (at (field w32 1 (2 ^ 32 - 1) ∷ parts) nodes bytes) (λ x. at parts nodes x.1) (batches_at bytes)
@@ -98,9 +98,9 @@ batches_leads nodes parts bytes = of_number nodes parts bytes (long_number_at by
         let most : leb x.0 (2 ^ 32 - 1) ≡ true = le-leb x.0 (2 ^ 32 - 1) (omega (arith, four.small)) in
         cond_both (leb 1 x.0) (Ok x) (Err fault.BadField)
         (Leads (at (field w32 1 (2 ^ 32 - 1) ∷ parts) nodes bytes) (λ (y : ℕ × List ℕ). at parts nodes y.1))
-        (λ t. λ v m. right_part (field w32 1 (2 ^ 32 - 1)) [] parts nodes x.0 bytes x.1 v refl four.number
+        (λ t v m. right_part (field w32 1 (2 ^ 32 - 1)) [] parts nodes x.0 bytes x.1 v refl four.number
         (rw (and_from (leb 1 x.0) (leb x.0 (2 ^ 32 - 1)) t most) refl) m)
-        (λ t. λ given. wrong_part (field w32 1 (2 ^ 32 - 1)) parts nodes x.0 bytes x.1 fault.BadField refl four.number
+        (λ t given. wrong_part (field w32 1 (2 ^ 32 - 1)) parts nodes x.0 bytes x.1 fault.BadField refl four.number
         (rw (and_left (leb 1 x.0) (leb x.0 (2 ^ 32 - 1)) t) refl))
 
 -- where nothing is wanted, the nodes do not matter
@@ -118,7 +118,7 @@ certificate_leads bytes =
     (λ c is. then_leads _ _ _ _ _ (version_leads [] c)
     (λ x is. then_leads _ _ _ _ _ (batches_leads 0 (node x.0 1 ∷ []) x.2)
     (λ y is. then_leads _ _ _ _ _ (node_leads x.0 greatest_depth 1 refl [] 0 y.1)
-    (λ tree is. λ v m. any_nodes tree.1 m))))))
+    (λ tree is v m. any_nodes tree.1 m))))))
 
 end_verdict : (bytes : List ℕ) (nodes : ℕ) (r : Result (Unit {0}) CertificateFault) → end_at bytes ≡ r
     → Leads (at [] nodes bytes) (λ _. at [] 0 []) r
@@ -144,4 +144,4 @@ unfolding all_of
 all_verdict bytes =
     verdict_from bytes (certificate_at bytes >>= λ x. end_at x.3 >>= λ finished. Ok (x.0, x.1, x.2))
     (then_leads _ _ _ _ _ (certificate_leads bytes)
-    (λ x is. then_leads _ _ _ _ _ (end_verdict x.3 0 (end_at x.3) refl) (λ finished same. λ v m. m)))
+    (λ x is. then_leads _ _ _ _ _ (end_verdict x.3 0 (end_at x.3) refl) (λ finished same v m. m)))
