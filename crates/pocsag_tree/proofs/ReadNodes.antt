@@ -166,18 +166,17 @@ body_takes : (r : Ranges) (d : ℕ) (child : Reader) → TakesAll r d child → 
 unfolding body_at
 body_takes r d child takes v tag made bytes x le few e =
     elim (chosen (eqb tag 0) (overload_at made bytes) _ (Ok x) e) [
-      | inl h ↦ subst (λ n. TakesBody r d made n bytes x) (sym (eqb-true tag 0 h.0)) (overload_takes r d made bytes x few h.1)
+      | inl h ↦ rw (eqb-true tag 0 h.0) (overload_takes r d made bytes x few h.1)
       | inr h ↦ elim (chosen (eqb tag 1) (split_at r child made bytes) _ (Ok x) h.1) [
-        | inl i ↦ subst (λ n. TakesBody r d made n bytes x) (sym (eqb-true tag 1 i.0)) (split_takes r d child takes made bytes x i.1)
+        | inl i ↦ rw (eqb-true tag 1 i.0) (split_takes r d child takes made bytes x i.1)
         | inr i ↦ elim (chosen (eqb tag 2) (cut_at r child made bytes) _ (Ok x) i.1) [
-          | inl j ↦ subst (λ n. TakesBody r d made n bytes x) (sym (eqb-true tag 2 j.0)) (cut_takes r d child takes made bytes x few j.1)
+          | inl j ↦ rw (eqb-true tag 2 j.0) (cut_takes r d child takes made bytes x few j.1)
           | inr j ↦ elim (chosen (eqb tag 3) (Ok (unexamined, made, bytes)) _ (Ok x) j.1) [
-            | inl k ↦ subst (λ n. TakesBody r d made n bytes x) (sym (eqb-true tag 3 k.0)) (open_takes r d made bytes x few k.1)
+            | inl k ↦ rw (eqb-true tag 3 k.0) (open_takes r d made bytes x few k.1)
             | inr k ↦
                 let none_below : tag ≡ 4 = four_left tag (eqb-false tag 0 h.0) (eqb-false tag 1 i.0) (eqb-false tag 2 j.0)
                 (eqb-false tag 3 k.0) (omega (arith, le, v.most_tag)) in
-                subst (λ n. TakesBody r d made n bytes x) (sym none_below)
-                (close_takes r d child takes made bytes x (omega (arith, none_below, le)) few k.1)
+                rw none_below (close_takes r d child takes made bytes x (omega (arith, none_below, le)) few k.1)
           ]
         ]
       ]

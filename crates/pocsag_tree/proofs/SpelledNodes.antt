@@ -91,7 +91,7 @@ split_again r child class m below above made first second rest v c some most p q
     let tail = to_be_bytes w16 m ++ (node below ++ (node above ++ rest)) in
     let text : behind (split class m below above) ++ rest ≡ class ∷ tail =
     ap (λ x. class ∷ to_be_bytes w16 m ++ x) (append_assoc (node below) (node above) rest) in
-    let a : small_at 0 r.class (class ∷ tail) ≡ Ok (class, tail) =
+    let a =
     small_again 0 r.class class tail (omega arith) c (omega (arith, v.class)) in
     let b : large_at 1 r.m tail ≡ Ok (m, node below ++ (node above ++ rest)) =
     large_again 1 r.m m (node below ++ (node above ++ rest)) some most (omega (arith, v.m)) in
@@ -143,34 +143,34 @@ mutual
   node_again r (overload set) zero made nodes rest v in_range deep few is = absurd (omega arith)
   node_again r (overload set) (suc d) made nodes rest v in_range deep few is =
       subst (λ n. node_at r (suc d) made (node (overload set) ++ rest) ≡ Ok (overload set, n, rest)) (sym is)
-      (node_step r d made (node (overload set) ++ rest) _ (omega arith)
-      (tagged_again r (node_at r d) (overload set) made (made + 1) rest v in_range
-      (overload_again r (node_at r d) set (made + 1) rest in_range.0 in_range.1)))
+      (node_step _ _ _ _ _ (omega arith)
+      (tagged_again _ _ _ _ _ _ v in_range
+      (overload_again _ _ _ _ _ in_range.0 in_range.1)))
   node_again r (split class m below above) zero made nodes rest v in_range deep few is = absurd (omega arith)
   node_again r (split class m below above) (suc d) made nodes rest v in_range deep few is =
       let first = made + 1 + all_nodes below in
       let p = node_again r below d (made + 1) first (node above ++ rest) v in_range.3 (omega arith) (omega arith) refl in
       let q = node_again r above d first nodes rest v in_range.4 (omega arith) few (omega arith) in
-      node_step r d made (node (split class m below above) ++ rest) _ (omega arith)
-      (tagged_again r (node_at r d) (split class m below above) made nodes rest v in_range
-      (split_again r (node_at r d) class m below above (made + 1) first nodes rest v in_range.0 in_range.1 in_range.2 p q))
+      node_step _ _ _ _ _ (omega arith)
+      (tagged_again _ _ _ _ _ _ v in_range
+      (split_again _ _ _ _ _ _ _ _ _ _ v in_range.0 in_range.1 in_range.2 p q))
   node_again r (cut set needed children) zero made nodes rest v in_range deep few is = absurd (omega arith)
   node_again r (cut set needed children) (suc d) made nodes rest v in_range deep few is =
       let p = row_again r children d (made + 1) nodes rest v in_range.4 (omega arith) few (omega arith) in
-      node_step r d made (node (cut set needed children) ++ rest) _ (omega arith)
-      (tagged_again r (node_at r d) (cut set needed children) made nodes rest v in_range
-      (cut_again r (node_at r d) set needed children (made + 1) nodes rest v in_range p))
+      node_step _ _ _ _ _ (omega arith)
+      (tagged_again _ _ _ _ _ _ v in_range
+      (cut_again _ _ _ _ _ _ _ _ v in_range p))
   node_again r (close children) zero made nodes rest v in_range deep few is = absurd (omega arith)
   node_again r (close children) (suc d) made nodes rest v in_range deep few is =
       let p = row_again r children d (made + 1) nodes rest v in_range.3 (omega arith) few (omega arith) in
-      node_step r d made (node (close children) ++ rest) _ (omega arith)
-      (tagged_again r (node_at r d) (close children) made nodes rest v in_range
-      (close_again r (node_at r d) children (made + 1) nodes rest in_range p))
+      node_step _ _ _ _ _ (omega arith)
+      (tagged_again _ _ _ _ _ _ v in_range
+      (close_again _ _ _ _ _ _ in_range p))
   node_again r unexamined zero made nodes rest v in_range deep few is = absurd (omega arith)
   node_again r unexamined (suc d) made nodes rest v in_range deep few is =
       subst (λ n. node_at r (suc d) made (node unexamined ++ rest) ≡ Ok (unexamined, n, rest)) (sym is)
-      (node_step r d made (node unexamined ++ rest) _ (omega arith)
-      (tagged_again r (node_at r d) unexamined made (made + 1) rest v in_range (open_again r (node_at r d) (made + 1) rest)))
+      (node_step _ _ _ _ _ (omega arith)
+      (tagged_again _ _ _ _ _ _ v in_range (open_again _ _ _ _)))
 
   row_again : (r : Ranges) (ts : Bounds) (d made nodes : ℕ) (rest : List ℕ) → IsVersion r → AreInRange r ts → deepest ts ≤ d
       → nodes ≤ most_nodes → nodes ≡ made + all_nodes_in ts
@@ -182,4 +182,4 @@ mutual
       let first = made + all_nodes t in
       let p = node_again r t d made first (row ts ++ rest) v in_range.0 (omega arith) (omega arith) refl in
       let q = row_again r ts d first nodes rest v in_range.1 (omega arith) few (omega arith) in
-      row_more (node_at r d) t ts made first nodes rest p q
+      row_more _ t ts made first nodes rest p q
