@@ -19,6 +19,13 @@ pub record Place : Type 0 where
 abbrev pub MeetsAt : Place → Option CertificateFault → Type 0
 MeetsAt p v = Meets p.wanted p.nodes p.bytes v
 
+-- the place of nodes that are wanted, and the place behind what was read
+abbrev pub at : List Part → ℕ → List ℕ → Place
+at parts nodes bytes = record { wanted = parts; nodes = nodes; bytes = bytes }
+
+abbrev pub past : {A : Type 0} → List Part → Read A → Place
+past parts x = record { wanted = parts; nodes = x.1; bytes = x.2 }
+
 -- Reading at a place leads to a place with the same verdict, or meets the verdict itself.
 abbrev pub Leads : {A : Type 0} → Place → (A → Place) → Result A CertificateFault → Type 0
 Leads from to (Ok x) = (v : Option CertificateFault) → MeetsAt (to x) v → MeetsAt from v
@@ -71,53 +78,42 @@ ranged : (part : Part) (asked : ℕ → List Part) (low high nodes : ℕ) (parts
     → early_fault part nodes ≡ None → nodes_with part nodes ≡ nodes
     → ((n : ℕ) → judged part n ≡ cond (leb low n && leb n high) (Ok (asked n)) (Err fault.BadField))
     → ReadsNumber (width_of part) bytes r
-    → Leads (record { wanted = part ∷ parts; nodes = nodes; bytes = bytes })
-    (λ x. record { wanted = asked x.0 ++ parts; nodes = nodes; bytes = x.1 })
+    → Leads (at (part ∷ parts) nodes bytes) (λ x. at (asked x.0 ++ parts) nodes x.1)
     (r >>= λ n. cond (leb low n.0 && leb n.0 high) (Ok n) (Err fault.BadField))
 ranged part asked low high nodes parts bytes (Err f) fine same judges reads =
-    λ given. short_part part parts nodes bytes f fine (reads.ends f refl given)
+    λ given. short_part _ _ _ _ _ fine (reads.ends f refl given)
 ranged part asked low high nodes parts bytes (Ok x) fine same judges reads =
     cond_both (leb low x.0 && leb x.0 high) (Ok x) (Err fault.BadField)
-    (Leads (record { wanted = part ∷ parts; nodes = nodes; bytes = bytes })
-    (λ (y : ℕ × List ℕ). record { wanted = asked y.0 ++ parts; nodes = nodes; bytes = y.1 }))
+    (Leads (at (part ∷ parts) nodes bytes) (λ (y : ℕ × List ℕ). at (asked y.0 ++ parts) nodes y.1))
     (λ t v m. right_part part (asked x.0) parts nodes x.0 bytes x.1 v fine (reads.value x refl) (judges x.0 ∙ rw t refl)
     (subst (λ n. Meets (asked x.0 ++ parts) n x.1 v) (sym same) m))
     (λ t given. wrong_part part parts nodes x.0 bytes x.1 fault.BadField fine (reads.value x refl) (judges x.0 ∙ rw t refl))
 
 pub small_leads : (low high nodes : ℕ) (parts : List Part) (bytes : List ℕ)
-    → Leads (record { wanted = field w8 low high ∷ parts; nodes = nodes; bytes = bytes })
-    (λ x. record { wanted = parts; nodes = nodes; bytes = x.1 }) (small_at low high bytes)
+    → Leads (at (field w8 low high ∷ parts) nodes bytes) (λ x. at parts nodes x.1) (small_at low high bytes)
 unfolding small_at
 small_leads low high nodes parts bytes =
     ranged (field w8 low high) (λ n. []) low high nodes parts bytes (byte_at bytes) refl refl (λ n. refl) (one_byte bytes)
 
 pub large_leads : (low high nodes : ℕ) (parts : List Part) (bytes : List ℕ)
-    → Leads (record { wanted = field w16 low high ∷ parts; nodes = nodes; bytes = bytes })
-    (λ x. record { wanted = parts; nodes = nodes; bytes = x.1 }) (large_at low high bytes)
+    → Leads (at (field w16 low high ∷ parts) nodes bytes) (λ x. at parts nodes x.1) (large_at low high bytes)
 unfolding large_at
 large_leads low high nodes parts bytes =
     ranged (field w16 low high) (λ n. []) low high nodes parts bytes (number_at bytes) refl refl (λ n. refl) (two_bytes bytes)
 
 -- the number of the children of a `Close`, and of a `Cut`
 pub few_leads : (r : Ranges) (depth low high nodes : ℕ) (parts : List Part) (bytes : List ℕ)
-    → Leads (record { wanted = children r depth w8 low high ∷ parts; nodes = nodes; bytes = bytes })
-    (λ x. record { wanted = replicate x.0 (node r depth) ++ parts; nodes = nodes; bytes = x.1 }) (small_at low high bytes)
+    → Leads (at (children r depth w8 low high ∷ parts) nodes bytes)
+    (λ x. at (replicate x.0 (node r depth) ++ parts) nodes x.1) (small_at low high bytes)
 unfolding small_at
 few_leads r depth low high nodes parts bytes =
     ranged (children r depth w8 low high) (λ n. replicate n (node r depth)) low high nodes parts bytes (byte_at bytes) refl refl (λ n. refl)
     (one_byte bytes)
 
 pub many_leads : (r : Ranges) (depth low high nodes : ℕ) (parts : List Part) (bytes : List ℕ)
-    → Leads (record { wanted = children r depth w16 low high ∷ parts; nodes = nodes; bytes = bytes })
-    (λ x. record { wanted = replicate x.0 (node r depth) ++ parts; nodes = nodes; bytes = x.1 }) (large_at low high bytes)
+    → Leads (at (children r depth w16 low high ∷ parts) nodes bytes)
+    (λ x. at (replicate x.0 (node r depth) ++ parts) nodes x.1) (large_at low high bytes)
 unfolding large_at
 many_leads r depth low high nodes parts bytes =
     ranged (children r depth w16 low high) (λ n. replicate n (node r depth)) low high nodes parts bytes (number_at bytes) refl refl
     (λ n. refl) (two_bytes bytes)
-
--- the place of nodes that are wanted, and the place behind what was read
-abbrev pub at : List Part → ℕ → List ℕ → Place
-at parts nodes bytes = record { wanted = parts; nodes = nodes; bytes = bytes }
-
-abbrev pub past : {A : Type 0} → List Part → Read A → Place
-past parts x = record { wanted = parts; nodes = x.1; bytes = x.2 }

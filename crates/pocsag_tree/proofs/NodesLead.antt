@@ -87,7 +87,7 @@ tag_leads : (r : Ranges) (depth : ℕ) (child : Reader) → NodeLeads r (depth +
     → Leads (at (node r depth ∷ parts) nodes bytes) (past parts)
     (tag >>= λ tag. cond (ltb r.tag tag.0) (Err fault.BadTag) (body_at r child tag.0 (nodes + 1) tag.1))
 tag_leads r depth child leads parts nodes bytes (Err f) reads fine =
-    λ given. short_part (node r depth) parts nodes bytes f fine (reads.ends f refl given)
+    λ given. short_part _ _ _ _ _ fine (reads.ends f refl given)
 tag_leads r depth child leads parts nodes bytes (Ok tag) reads fine =
     cond_both (ltb r.tag tag.0) (Err fault.BadTag) (body_at r child tag.0 (nodes + 1) tag.1)
     (Leads (at (node r depth ∷ parts) nodes bytes) (past parts))

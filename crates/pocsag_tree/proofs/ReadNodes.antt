@@ -5,7 +5,7 @@ use Rattle.std.proofs.lemmas.Bool.{ltb-true, ltb-false, eqb-true, eqb-false}
 use Rattle.pocsag_tree.specs.declared.limits.Ranges.{Ranges}
 use Rattle.pocsag_tree.specs.Limits.{most_nodes}
 use Rattle.pocsag_tree.specs.declared.refusals.CertificateFault.TheVariants as fault
-use Rattle.pocsag_tree.specs.Bounds.{Bound, Bounds, overload, split, cut, close, unexamined, none, more, count_of, all_nodes, all_nodes_in, depth_of, deepest}
+use Rattle.pocsag_tree.specs.Bounds.{Bound, Bounds, split, cut, close, unexamined, none, count_of, all_nodes, all_nodes_in, depth_of, deepest}
 use Rattle.pocsag_tree.specs.Spelling.{IsInRange, AreInRange, node, row}
 use Rattle.pocsag_tree.specs.Reading.{Read, Reader, byte_at, small_at, large_at, row_at, overload_at, split_at, cut_at, close_at, body_at, tagged_at, node_at}
 use Rattle.pocsag_tree.proofs.Fields.{bind_ok, chosen, done, ok_is, byte_is, small_takes, large_takes}

@@ -47,7 +47,7 @@ mark_leads byte parts bytes = marked byte parts bytes (byte_at bytes) (one_byte 
     marked : (byte : ℕ) (parts : List Part) (bytes : List ℕ) (r : Result (ℕ × List ℕ) CertificateFault) → ReadsNumber w8 bytes r
         → Leads (at (mark byte ∷ parts) 0 bytes) (λ rest. at parts 0 rest)
         (r >>= λ read. cond (eqb read.0 byte) (Ok read.1) (Err fault.NotCertificate))
-    marked byte parts bytes (Err f) reads = λ given. short_part (mark byte) parts 0 bytes f refl (reads.ends f refl given)
+    marked byte parts bytes (Err f) reads = λ given. short_part _ _ _ _ _ refl (reads.ends f refl given)
     marked byte parts bytes (Ok x) reads =
         cond_both (eqb x.0 byte) (Ok x.1) (Err fault.NotCertificate)
         (Leads (at (mark byte ∷ parts) 0 bytes) (λ (rest : List ℕ). at parts 0 rest))
@@ -65,7 +65,7 @@ version_leads parts bytes = of_byte parts bytes (byte_at bytes) (one_byte bytes)
         → Leads (at (version ∷ parts) 0 bytes) (behind_version parts)
         (r >>= λ byte. cond (eqb byte.0 0x31) (Ok (first_ranges, ends.Open, byte.1))
         (cond (eqb byte.0 0x32) (small_at 0 1 byte.1 >>= λ end. Ok (second_ranges, end_of end.0, end.1)) (Err fault.Version)))
-    of_byte parts bytes (Err f) reads = λ given. short_part version parts 0 bytes f refl (reads.ends f refl given)
+    of_byte parts bytes (Err f) reads = λ given. short_part _ _ _ _ _ refl (reads.ends f refl given)
     of_byte parts bytes (Ok x) reads =
         cond_both (eqb x.0 0x31) (Ok (first_ranges, ends.Open, x.1))
         (cond (eqb x.0 0x32) (small_at 0 1 x.1 >>= λ end. Ok (second_ranges, end_of end.0, end.1)) (Err fault.Version))
@@ -92,7 +92,7 @@ batches_leads nodes parts bytes = of_number nodes parts bytes (long_number_at by
         → Leads (at (field w32 1 (2 ^ 32 - 1) ∷ parts) nodes bytes) (λ x. at parts nodes x.1)
         (r >>= λ n. cond (leb 1 n.0) (Ok n) (Err fault.BadField))
     of_number nodes parts bytes (Err f) value ends =
-        λ given. short_part (field w32 1 (2 ^ 32 - 1)) parts nodes bytes f refl (ends f refl given)
+        λ given. short_part _ _ _ _ _ refl (ends f refl given)
     of_number nodes parts bytes (Ok x) value ends =
         let four = value x refl in
         let most : leb x.0 (2 ^ 32 - 1) ≡ true = le-leb x.0 (2 ^ 32 - 1) (omega (arith, four.small)) in
