@@ -85,9 +85,9 @@ ranged part asked low high nodes parts bytes (Err f) fine same judges reads =
 ranged part asked low high nodes parts bytes (Ok x) fine same judges reads =
     cond_both (leb low x.0 && leb x.0 high) (Ok x) (Err fault.BadField)
     (Leads (at (part ∷ parts) nodes bytes) (λ (y : ℕ × List ℕ). at (asked y.0 ++ parts) nodes y.1))
-    (λ t v m. right_part part (asked x.0) parts nodes x.0 bytes x.1 v fine (reads.value x refl) (judges x.0 ∙ rw t refl)
+    (λ t v m. right_part _ (asked x.0) _ _ _ _ _ _ fine (reads.value x refl) (judges x.0 ∙ rw t refl)
     (subst (λ n. Meets (asked x.0 ++ parts) n x.1 v) (sym same) m))
-    (λ t given. wrong_part part parts nodes x.0 bytes x.1 fault.BadField fine (reads.value x refl) (judges x.0 ∙ rw t refl))
+    (λ t given. wrong_part _ _ _ _ _ _ _ fine (reads.value x refl) (judges x.0 ∙ rw t refl))
 
 pub small_leads : (low high nodes : ℕ) (parts : List Part) (bytes : List ℕ)
     → Leads (at (field w8 low high ∷ parts) nodes bytes) (λ x. at parts nodes x.1) (small_at low high bytes)

@@ -91,10 +91,10 @@ tag_leads r depth child leads parts nodes bytes (Err f) reads fine =
 tag_leads r depth child leads parts nodes bytes (Ok tag) reads fine =
     cond_both (ltb r.tag tag.0) (Err fault.BadTag) (body_at r child tag.0 (nodes + 1) tag.1)
     (Leads (at (node r depth ∷ parts) nodes bytes) (past parts))
-    (λ t given. wrong_part (node r depth) parts nodes tag.0 bytes tag.1 fault.BadTag fine (reads.value tag refl) (rw t refl))
+    (λ t given. wrong_part _ _ _ _ _ _ _ fine (reads.value tag refl) (rw t refl))
     (λ t. along (at (node r depth ∷ parts) nodes bytes) (at (asked_by r (depth + 1) tag.0 ++ parts) (nodes + 1) tag.1) (past parts)
     (body_at r child tag.0 (nodes + 1) tag.1)
-    (λ v m. right_part (node r depth) (asked_by r (depth + 1) tag.0) parts nodes tag.0 bytes tag.1 v fine (reads.value tag refl)
+    (λ v m. right_part _ (asked_by r (depth + 1) tag.0) _ _ _ _ _ _ fine (reads.value tag refl)
     (rw t refl) m)
     (body_leads r (depth + 1) child leads tag.0 parts (nodes + 1) tag.1))
 

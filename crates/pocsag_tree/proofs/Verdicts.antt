@@ -51,8 +51,8 @@ mark_leads byte parts bytes = marked byte parts bytes (byte_at bytes) (one_byte 
     marked byte parts bytes (Ok x) reads =
         cond_both (eqb x.0 byte) (Ok x.1) (Err fault.NotCertificate)
         (Leads (at (mark byte ∷ parts) 0 bytes) (λ (rest : List ℕ). at parts 0 rest))
-        (λ t v m. right_part (mark byte) [] parts 0 x.0 bytes x.1 v refl (reads.value x refl) (rw t refl) m)
-        (λ t given. wrong_part (mark byte) parts 0 x.0 bytes x.1 fault.NotCertificate refl (reads.value x refl) (rw t refl))
+        (λ t v m. right_part _ [] _ _ _ _ _ _ refl (reads.value x refl) (rw t refl) m)
+        (λ t given. wrong_part _ _ _ _ _ _ _ refl (reads.value x refl) (rw t refl))
 
 abbrev behind_version : List Part → Ranges × End × List ℕ → Place
 behind_version parts x = at (field w32 1 (2 ^ 32 - 1) ∷ node x.0 1 ∷ parts) 0 x.2
@@ -70,16 +70,16 @@ version_leads parts bytes = of_byte parts bytes (byte_at bytes) (one_byte bytes)
         cond_both (eqb x.0 0x31) (Ok (first_ranges, ends.Open, x.1))
         (cond (eqb x.0 0x32) (small_at 0 1 x.1 >>= λ end. Ok (second_ranges, end_of end.0, end.1)) (Err fault.Version))
         (Leads (at (version ∷ parts) 0 bytes) (behind_version parts))
-        (λ t v m. right_part version (field w32 1 (2 ^ 32 - 1) ∷ node first_ranges 1 ∷ []) parts 0 x.0 bytes x.1 v refl
+        (λ t v m. right_part _ (field w32 1 (2 ^ 32 - 1) ∷ node first_ranges 1 ∷ []) _ _ _ _ _ _ refl
         (reads.value x refl) (rw t refl) m)
         (λ s. cond_both (eqb x.0 0x32) (small_at 0 1 x.1 >>= λ end. Ok (second_ranges, end_of end.0, end.1)) (Err fault.Version)
         (Leads (at (version ∷ parts) 0 bytes) (behind_version parts))
         (λ t. along (at (version ∷ parts) 0 bytes) (at (field w8 0 1 ∷ field w32 1 (2 ^ 32 - 1) ∷ node second_ranges 1 ∷ parts) 0 x.1)
         (behind_version parts) (small_at 0 1 x.1 >>= λ end. Ok (second_ranges, end_of end.0, end.1))
-        (λ v m. right_part version (field w8 0 1 ∷ field w32 1 (2 ^ 32 - 1) ∷ node second_ranges 1 ∷ []) parts 0 x.0 bytes x.1 v refl
+        (λ v m. right_part _ (field w8 0 1 ∷ field w32 1 (2 ^ 32 - 1) ∷ node second_ranges 1 ∷ []) _ _ _ _ _ _ refl
         (reads.value x refl) (rw (s, t) refl) m)
         (then_leads _ _ _ _ _ (small_leads 0 1 0 (field w32 1 (2 ^ 32 - 1) ∷ node second_ranges 1 ∷ parts) x.1) (λ y is v m. m)))
-        (λ t given. wrong_part version parts 0 x.0 bytes x.1 fault.Version refl (reads.value x refl) (rw (s, t) refl)))
+        (λ t given. wrong_part _ _ _ _ _ _ _ refl (reads.value x refl) (rw (s, t) refl)))
 
 batches_leads : (nodes : ℕ) (parts : List Part) (bytes : List ℕ)
     → Leads (at (field w32 1 (2 ^ 32 - 1) ∷ parts) nodes bytes) (λ x. at parts nodes x.1) (batches_at bytes)
@@ -98,9 +98,9 @@ batches_leads nodes parts bytes = of_number nodes parts bytes (long_number_at by
         let most : leb x.0 (2 ^ 32 - 1) ≡ true = le-leb x.0 (2 ^ 32 - 1) (omega (arith, four.small)) in
         cond_both (leb 1 x.0) (Ok x) (Err fault.BadField)
         (Leads (at (field w32 1 (2 ^ 32 - 1) ∷ parts) nodes bytes) (λ (y : ℕ × List ℕ). at parts nodes y.1))
-        (λ t v m. right_part (field w32 1 (2 ^ 32 - 1)) [] parts nodes x.0 bytes x.1 v refl four.number
+        (λ t v m. right_part _ [] _ _ _ _ _ _ refl four.number
         (rw (and_from (leb 1 x.0) (leb x.0 (2 ^ 32 - 1)) t most) refl) m)
-        (λ t given. wrong_part (field w32 1 (2 ^ 32 - 1)) parts nodes x.0 bytes x.1 fault.BadField refl four.number
+        (λ t given. wrong_part _ _ _ _ _ _ _ refl four.number
         (rw (and_left (leb 1 x.0) (leb x.0 (2 ^ 32 - 1)) t) refl))
 
 -- where nothing is wanted, the nodes do not matter
