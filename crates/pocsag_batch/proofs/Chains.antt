@@ -26,7 +26,7 @@ kept_step next at v j h ks true l rest chain =
     let same : slice_index (slice_set next at v) j ≡ slice_index next j = get_or-set_other next at j v 0 (omega arith) in
     let long : length (slice_set next at v) ≡ length next = length-set next at v in
     let within : j < length next = chain.1 in
-    (chain.0, omega arith, subst (λ g. IsChain (slice_set next at v) g ks) (sym same) (rest (slice_index next j) chain.2))
+    (chain.0, omega arith, rw same (rest (slice_index next j) chain.2))
 kept_step next at v j h ks false l rest chain = rest h chain
 
 -- a next place written before the first of the places
@@ -39,8 +39,8 @@ chain_kept next at v test (suc m) j h l chain =
 
 chain_same : (next new : List ℕ) (g h : ℕ) (ks js : List ℕ) → new ≡ next → h ≡ g → js ≡ ks → IsChain next g ks → IsChain new h js
 chain_same next new g h ks js nexts places lists chain =
-    subst (λ v. IsChain v h js) (sym nexts)
-    (subst (λ p. IsChain next p js) (sym places) (subst (λ v. IsChain next g v) (sym lists) chain))
+    rw nexts
+    (rw places (rw lists chain))
 
 -- one place more in front
 pub chains_added : (end : End) (R : List Page) (next head : List ℕ) (at m c : ℕ) → at < length next → c ≡ class_at end R at → c < 136 →
@@ -63,8 +63,8 @@ chains_added end R next head at m c within class small a =
                 let first : slice_index heads d ≡ at = get_or-set_at head c d at 0 (sym (class ∙ same)) (omega arith) in
                 let after : slice_index new at ≡ slice_index head d =
                 get_or-set_same next at (slice_index head c) 0 within ∙ ap (slice_index head) (class ∙ same) in
-                subst (λ ks. IsChain new (slice_index heads d) ks) (sym (of_class_in f d at left same))
-                (first, omega arith, subst (λ g. IsChain new g (places_of end R d left)) (sym after) kept)
+                rw (of_class_in f d at left same)
+                (first, omega arith, rw after kept)
             | inr other ↦
                 let first : slice_index heads d ≡ slice_index head d = get_or-set_other head c d at 0 (λ e. other (sym (e ∙ class))) in
                 chain_same new new (slice_index head d) (slice_index heads d) (places_of end R d left) (places_of end R d (at ∷ left))

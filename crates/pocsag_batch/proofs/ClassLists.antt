@@ -69,10 +69,10 @@ first_moved f c (x ∷ xs) k ks e =
       | inl same ↦
           let first : x ≡ k = first_same x k (of_class f c xs) ks (sym (of_class_in f c x xs same) ∙ e) in
           let all : x ∷ xs ≡ k ∷ without f c (x ∷ xs) = ap (λ y. y ∷ xs) first ∙ ap (λ v. k ∷ v) (sym (without_in f c x xs same)) in
-          subst (λ v. IsPermutation (x ∷ xs) v) all (IsPermutation-refl (x ∷ xs))
+          rw (← all) (IsPermutation-refl (x ∷ xs))
       | inr other ↦
           let rest : IsPermutation xs (k ∷ without f c xs) = first_moved f c xs k ks (sym (of_class_out f c x xs other) ∙ e) in
-          subst (λ v. IsPermutation (x ∷ xs) (k ∷ v)) (sym (without_out f c x xs other))
+          rw (without_out f c x xs other)
           (IsPermutation-trans (x ∷ xs) (x ∷ k ∷ without f c xs) (k ∷ x ∷ without f c xs)
           (IsPermutation-cons x xs (k ∷ without f c xs) rest) (swapped x k (without f c xs)))
     ]
@@ -86,7 +86,7 @@ alike_without f x xs ys a c =
     elim (cases_eq (f x) c) [
       | inl same ↦
           let first : of_class f (f x) ys ≡ x ∷ of_class f (f x) xs = sym (a (f x)) ∙ of_class_in f (f x) x xs refl in
-          subst (λ d. of_class f d xs ≡ of_class f d (without f (f x) ys)) same (sym (class_left f (f x) ys x (of_class f (f x) xs) first))
+          rw (← same) (sym (class_left f (f x) ys x (of_class f (f x) xs) first))
       | inr other ↦ sym (of_class_out f c x xs other) ∙ (a c ∙ sym (others_left f (f x) c ys other))
     ]
 
@@ -114,7 +114,7 @@ alike_same f (x ∷ xs) (y ∷ ys) m a =
     λ c.
     elim (cases_eq (f x) c) [
       | inl same ↦
-          subst (λ d. of_class f d xs ≡ of_class f d ys) same (rest_same x y (of_class f (f x) xs) (of_class f (f x) ys) here)
+          rw (← same) (rest_same x y (of_class f (f x) xs) (of_class f (f x) ys) here)
       | inr other ↦ sym (of_class_out f c x xs other) ∙ (a c ∙ of_class_out f c y ys (λ e. other (class ∙ e)))
     ] in
     ap (λ z. z ∷ xs) first ∙ ap (λ v. y ∷ v) (alike_same f xs ys (rest_same (f x) (f y) (map f xs) (map f ys) m) rest)

@@ -45,13 +45,13 @@ pub laid_more : (R left : List Page) (p : Page) (gap : ℕ) (ws vs us : List ℕ
 laid_more R left p gap ws vs us idles page least so_far U order =
     let long : length us ≡ length ws + gap + page_length p = laid_length p gap ws vs us idles page in
     let here : InOrder (length ws) (p ∷ left) (replicate gap Idle ++ (page_words p ++ U)) =
-    past_page gap U least refl (subst (λ n. InOrder n left U) long order) in
+    past_page gap U least refl (rw (← long) order) in
     let whole : map kind_of us ++ U ≡ map kind_of ws ++ (replicate gap Idle ++ (page_words p ++ U)) =
     ap (λ v. v ++ U) page
     ∙ (ap (λ v. (v ++ page_words p) ++ U) idles
     ∙ (append_assoc (map kind_of ws ++ replicate gap Idle) (page_words p) U
     ∙ append_assoc (map kind_of ws) (replicate gap Idle) (page_words p ++ U))) in
-    subst (λ v. IsFileOrder R v) (sym whole) (so_far (replicate gap Idle ++ (page_words p ++ U)) here)
+    rw whole (so_far (replicate gap Idle ++ (page_words p ++ U)) here)
 
 pub laid_last : (R : List Page) (k gap : ℕ) (ws vs : List ℕ) → length R ≤ k →
     map kind_of vs ≡ map kind_of ws ++ replicate gap Idle →
@@ -61,8 +61,8 @@ pub laid_last : (R : List Page) (k gap : ℕ) (ws vs : List ℕ) → length R �
 laid_last R k gap ws vs all idles least so_far =
     let none : drop k R ≡ [] = drop_all k R all in
     let last : InOrder (length ws) (drop k R) (replicate gap Idle) =
-    subst (λ left. InOrder (length ws) left (replicate gap Idle)) (sym none) (at_end gap least refl) in
-    subst (λ v. IsFileOrder R v) (sym idles) (so_far (replicate gap Idle) last)
+    rw none (at_end gap least refl) in
+    rw idles (so_far (replicate gap Idle) last)
 
 pub laid_batches : (R : List Page) (vs : List ℕ) → 0 < length R → length vs < 2 ^ 36 → IsFileOrder R (map kind_of vs) → AreBatches vs
 laid_batches [] vs some few f = absurd (omega arith)
@@ -75,7 +75,7 @@ laid_batches (p ∷ R) vs some few f =
 pub laid_legal : (R : List Page) (vs : List ℕ) → 0 < length R → IsFileOrder R (map kind_of vs)
     → IsLegalFor Open (map kind_of vs) (length vs / 16) R
 laid_legal R vs some f =
-    subst (λ n. IsLegalFor Open (map kind_of vs) (n / 16) R) (length-map vs kind_of) (legal_in_order R (map kind_of vs) some f)
+    rw (← (length-map vs kind_of)) (legal_in_order R (map kind_of vs) some f)
 
 pub list_batches : (end : End) (R : List Page) (b : ℕ) (ws : List ℕ) → b < 2 ^ 32 → IsLegalList end ws b R → AreBatches ws
 list_batches end R b ws few legal =

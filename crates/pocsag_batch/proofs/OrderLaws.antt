@@ -56,7 +56,7 @@ laid_left end R (Run c e ∷ ss) (k ∷ order) left m a =
     let first : places_of end R c left ≡ k ∷ places_of end R c order = sym (a c) ∙ of_class_in f c k order class in
     let page : first_of end c (map (page_at R) left) ≡ page_at R k = first_page end R c left k (places_of end R c order) first in
     let others : AreAlike f order (without f c left) =
-    subst (λ d. AreAlike f order (without f d left)) class (alike_without f k order left a) in
+    rw (← class) (alike_without f k order left a) in
     let rest : laid_by R order ss ≡ laid end (map (page_at R) (without f c left)) ss =
     laid_left end R ss order (without f c left) (rest_same (f k) c (map f order) (run_classes ss) m) others in
     ap (λ ws. page_words (page_at R k) ++ ws) rest

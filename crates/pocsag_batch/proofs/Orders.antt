@@ -113,7 +113,7 @@ pub order_stands : (end : End) (R : List Page) (links : Links) (order : List ℕ
     Stands end R links order steps rest → IsOrder end R steps order
 order_stands end R links order steps rest done s =
     let f : ℕ → ℕ = class_at end R in
-    let last : Stands end R links order steps [] = subst (λ v. Stands end R links order steps v) done s in
+    let last : Stands end R links order steps [] = rw (← done) s in
     let none : (c : ℕ) → places_of end R c last.left ≡ [] = λ c. nil_from_length (places_of end R c last.left) (sym (last.enough c)) in
     let turns : (c : ℕ) → places_of end R c order ≡ places_of end R c (all_places R) =
     λ c. sym (append-nil (places_of end R c order)) ∙ (ap (λ v. places_of end R c order ++ v) (sym (none c)) ∙ last.in_turn c) in

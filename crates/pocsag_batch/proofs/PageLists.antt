@@ -14,4 +14,4 @@ drop_at R k p h is =
 
 pub good_at : (R : List Page) (k : ℕ) (p : Page) → IsRound R → k < length R → p ≡ get_or R k p → IsGoodPage p
 good_at R k p r h is =
-    subst (λ q. IsGoodPage q) (sym is) (All-get_or IsGoodPage R k p h (good_pages R r.good))
+    rw is (All-get_or IsGoodPage R k p h (good_pages R r.good))

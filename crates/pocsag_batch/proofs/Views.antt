@@ -32,7 +32,7 @@ good_first : (R : List Page) (order : List ℕ) (ss : List Step) (c : ℕ) (e : 
     p ≡ get_or R (get_or order 0 0) p → IsGoodPage p
 good_first R [] ss c e p good have is = elim have [ ]
 good_first R (k ∷ order) ss c e p good have is =
-    subst (λ q. IsGoodPage q) (sym is) (All-get_or IsGoodPage R k p have.0 good)
+    rw is (All-get_or IsGoodPage R k p have.0 good)
 
 -- an unreserved address never makes the idle codeword
 good_kind : (p : Page) (w : ℕ) → IsGoodPage p → kind_of w ≡ address_kind (p.address / 8) p.function
@@ -48,7 +48,7 @@ pub begun_view : (R : List Page) (order items items' : List ℕ) (steps ss : Lis
     left ≡ kind_of w ∷ (map Message items' ++ laid_by R (take (length order - 1) (drop 1 order)) ss)
 begun_view R order [] items' steps ss c e p s left w view none split run good have is own kind =
     let cut : steps ≡ Run c e ∷ ss = split ∙ ap (λ v. v ∷ ss) run in
-    let here : HavePlaces (length R) order (Run c e ∷ ss) = subst (λ v. HavePlaces (length R) order v) cut have in
+    let here : HavePlaces (length R) order (Run c e ∷ ss) = rw (← cut) have in
     let says : kind_of w ≡ Address (p.address / 8) p.function = good_kind p w (good_first R order ss c e p good here is) kind in
     let others : List Kind = laid_by R (take (length order - 1) (drop 1 order)) ss in
     sym view ∙ (ap (laid_by R order) cut ∙ (run_view R order ss c e p here is

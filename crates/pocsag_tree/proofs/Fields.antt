@@ -59,7 +59,7 @@ pub byte_is : (bytes : List ℕ) (x : ℕ × List ℕ) → byte_at bytes ≡ Ok 
 byte_is [] x e = absurd cc
 byte_is (b ∷ bytes) x e =
     let g = guard_ok (ltb b 256) (b, bytes) x fault.ReadFault e in
-    subst (λ y. ByteIs (b ∷ bytes) y.0 y.1) g.1 (record { parts = refl; small = ltb-true _ _ g.0 })
+    rw (← g.1) (record { parts = refl; small = ltb-true _ _ g.0 })
 
 pub byte_again : (b : ℕ) (rest : List ℕ) → b < 256 → byte_at (b ∷ rest) ≡ Ok (b, rest)
 byte_again b rest lt = rw (lt-ltb b 256 lt) refl
@@ -124,15 +124,13 @@ number_is bytes x e =
     let b = bind_ok (byte_at a.0.1) _ x a.2 in
     let high = byte_is bytes a.0 a.1 in
     let low = byte_is a.0.1 b.0 b.1 in
-    let made : ℕ × List ℕ = (a.0.0 * 256 + b.0.0, b.0.1) in
-    subst (λ y. TwoIs bytes y.0 y.1) (ok_is made x b.2)
+    rw (← ok_is _ x b.2)
     (record {
       high = a.0.0;
       low = b.0.0;
       high_small = high.small;
       low_small = low.small;
-      parts = high.parts
-          ∙ ap (λ t. a.0.0 ∷ t) low.parts;
+      parts = high.parts ∙ ap (λ t. a.0.0 ∷ t) low.parts;
       value = refl;
     })
 
@@ -160,12 +158,12 @@ number_again n rest lt =
 pub number_short : (bytes : List ℕ) (f : CertificateFault) → number_at bytes ≡ Err f → (f ≡ fault.ReadFault → ⊥) → IsShort w16 bytes f
 unfolding number_at
 number_short bytes f e given =
-    elim (bind_err (byte_at bytes) (λ high. byte_at high.1 >>= λ low. Ok (high.0 * 256 + low.0, low.1)) f e) [
+    elim (bind_err (byte_at bytes) _ f e) [
       | inl h ↦ let s = byte_short bytes f h given in record { truncated = s.0; short = rw s.1 (omega arith) }
-      | inr h ↦ elim (bind_err (byte_at h.0.1) (λ low. Ok (h.0.0 * 256 + low.0, low.1)) f h.2) [
+      | inr h ↦ elim (bind_err (byte_at h.0.1) _ f h.2) [
         | inl k ↦ let s = byte_short h.0.1 f k given in let first = byte_is bytes h.0 h.1 in
             record { truncated = s.0; short = rw (first.parts, s.1) (omega arith) }
-        | inr k ↦ absurd (let no = k.2 in cc)
+        | inr k ↦ absurd cc
       ]
     ]
 
@@ -193,7 +191,7 @@ unfolding small_at
 small_takes low high bytes x e =
     let a = bind_ok (byte_at bytes) _ x e in
     let g = guard_ok (leb low a.0.0 && leb a.0.0 high) a.0 x fault.BadField a.2 in
-    subst (λ y. ByteIs bytes y.0 y.1 × InRange low high y.0) g.1 (byte_is bytes a.0 a.1, range_is low high a.0.0 g.0)
+    rw (← g.1) (byte_is bytes a.0 a.1, range_is low high a.0.0 g.0)
 
 pub small_again : (low high n : ℕ) (rest : List ℕ) → low ≤ n → n ≤ high → n < 256 → small_at low high (n ∷ rest) ≡ Ok (n, rest)
 unfolding small_at
@@ -206,7 +204,7 @@ large_takes low high bytes x e =
     let a = bind_ok (number_at bytes) _ x e in
     let g = guard_ok (leb low a.0.0 && leb a.0.0 high) a.0 x fault.BadField a.2 in
     let t = number_takes bytes a.0 a.1 in
-    subst (λ y. (bytes ≡ to_be_bytes w16 y.0 ++ y.1) × (y.0 < 2 ^ 16) × InRange low high y.0) g.1 (t.0, t.1, range_is low high a.0.0 g.0)
+    rw (← g.1) (t.0, t.1, range_is low high a.0.0 g.0)
 
 pub large_again : (low high n : ℕ) (rest : List ℕ) → low ≤ n → n ≤ high → n < 2 ^ 16
     → large_at low high (to_be_bytes w16 n ++ rest) ≡ Ok (n, rest)
@@ -229,7 +227,7 @@ four_from_twos bytes middle rest h l p q =
     let text : to_be_bytes w32 n ≡ p.high ∷ p.low ∷ q.high ∷ q.low ∷ [] =
     be_bytes_4 (p.high ∷ p.low ∷ q.high ∷ q.low ∷ []) n refl
     (four_small p.high p.low q.high q.low p.high_small p.low_small q.high_small q.low_small) (omega arith) in
-    subst (λ m. FourIs bytes m rest) value
+    rw (← value)
     (record {
       number = rw shape (four_is p.high p.low q.high q.low rest);
       parts = shape ∙ ap (λ t. t ++ rest) (sym text);
@@ -248,14 +246,14 @@ pub long_number_short : (bytes : List ℕ) (f : CertificateFault) → long_numbe
     → IsShort w32 bytes f
 unfolding long_number_at
 long_number_short bytes f e given =
-    elim (bind_err (number_at bytes) (λ high. number_at high.1 >>= λ low. Ok (high.0 * 65536 + low.0, low.1)) f e) [
+    elim (bind_err (number_at bytes) _ f e) [
       | inl h ↦ let s = number_short bytes f h given in record { truncated = s.truncated; short = omega (arith, s.short) }
-      | inr h ↦ elim (bind_err (number_at h.0.1) (λ low. Ok (h.0.0 * 65536 + low.0, low.1)) f h.2) [
+      | inr h ↦ elim (bind_err (number_at h.0.1) _ f h.2) [
         | inl k ↦
             let s = number_short h.0.1 f k given in
             let first = number_is bytes h.0 h.1 in
             record { truncated = s.truncated; short = omega (arith, s.short, ap length first.parts) }
-        | inr k ↦ absurd (let no = k.2 in cc)
+        | inr k ↦ absurd cc
       ]
     ]
 
@@ -264,7 +262,7 @@ unfolding batches_at
 batches_takes bytes x e =
     let a = bind_ok (long_number_at bytes) _ x e in
     let g = guard_ok (leb 1 a.0.0) a.0 x fault.BadField a.2 in
-    subst (λ y. FourIs bytes y.0 y.1 × (1 ≤ y.0)) g.1 (long_number_is bytes a.0 a.1, leb-true _ _ g.0)
+    rw (← g.1) (long_number_is bytes a.0 a.1, leb-true _ _ g.0)
 
 pair_again : (h l : ℕ) (rest : List ℕ) → h < 256 → l < 256 → number_at (h ∷ l ∷ rest) ≡ Ok (h * 256 + l, rest)
 unfolding number_at

@@ -48,7 +48,7 @@ pub right_part : (part : Part) (asked parts : List Part) (nodes n : ℕ) (bytes 
     → Meets (asked ++ parts) (nodes_with part nodes) rest v → Meets (part ∷ parts) nodes bytes v
 right_part part asked parts nodes n bytes rest v fine number judges m =
     right fine number.long (ap (judged part) number.value ∙ judges)
-    (subst (λ b. Meets (asked ++ parts) (nodes_with part nodes) b v) (sym number.after) m)
+    (rw number.after m)
 
 pub wrong_part : (part : Part) (parts : List Part) (nodes n : ℕ) (bytes rest : List ℕ) (f : CertificateFault)
     → early_fault part nodes ≡ None → NumberIs (width_of part) bytes n rest → judged part n ≡ Err f
@@ -59,7 +59,7 @@ wrong_part part parts nodes n bytes rest f fine number judges =
 pub short_part : (part : Part) (parts : List Part) (nodes : ℕ) (bytes : List ℕ) (f : CertificateFault)
     → early_fault part nodes ≡ None → IsShort (width_of part) bytes f → Meets (part ∷ parts) nodes bytes (Some f)
 short_part part parts nodes bytes f fine s =
-    subst (λ e. Meets (part ∷ parts) nodes bytes (Some e)) (sym s.truncated) (short fine s.short)
+    rw s.truncated (short fine s.short)
 
 -- what a reader of numbers of this width gives
 pub record ReadsNumber (w : Width) (bytes : List ℕ) (r : Result (ℕ × List ℕ) CertificateFault) : Type 0 where
@@ -86,7 +86,7 @@ ranged part asked low high nodes parts bytes (Ok x) fine same judges reads =
     cond_both (leb low x.0 && leb x.0 high) (Ok x) (Err fault.BadField)
     (Leads (at (part ∷ parts) nodes bytes) (λ (y : ℕ × List ℕ). at (asked y.0 ++ parts) nodes y.1))
     (λ t v m. right_part _ (asked x.0) _ _ _ _ _ _ fine (reads.value x refl) (judges x.0 ∙ rw t refl)
-    (subst (λ n. Meets (asked x.0 ++ parts) n x.1 v) (sym same) m))
+    (rw same m))
     (λ t given. wrong_part _ _ _ _ _ _ _ fine (reads.value x refl) (judges x.0 ∙ rw t refl))
 
 pub small_leads : (low high nodes : ℕ) (parts : List Part) (bytes : List ℕ)

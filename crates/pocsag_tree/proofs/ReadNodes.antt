@@ -38,7 +38,7 @@ row_takes : (r : Ranges) (d : ℕ) (child : Reader) → TakesAll r d child → (
     → row_at child n made bytes ≡ Ok x → TakesRow r d made n bytes x
 unfolding row_at
 row_takes r d child takes zero made bytes x few e =
-    subst (λ y. TakesRow r d made 0 bytes y) (ok_is (none, made, bytes) x e)
+    rw (← (ok_is (none, made, bytes) x e))
     (record { parts = refl; in_range = tt; deep = omega arith; counted = omega arith; few = few; count = refl })
 row_takes r d child takes (suc n) made bytes x few e =
     let a = bind_ok (child made bytes) _ x e in

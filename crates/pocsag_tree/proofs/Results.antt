@@ -85,7 +85,7 @@ is_only (Err e) bytes given end batches tree is =
     ]
 
 verdict_at : (bytes : List ℕ) (s : Result (End × ℕ × Bound) CertificateFault) → all_of bytes ≡ s → HasVerdict bytes s
-verdict_at bytes s e = subst (λ x. HasVerdict bytes x) e (all_verdict bytes)
+verdict_at bytes s e = rw (← e) (all_verdict bytes)
 
 pub is_fault : (r : Result Certificate CertificateFault) (bytes : List ℕ) → IsGiven r bytes → IfErr r (λ e. IsFault e bytes)
 is_fault (Ok c) bytes given = tt

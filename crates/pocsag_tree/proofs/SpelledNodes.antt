@@ -142,7 +142,7 @@ mutual
       → nodes ≤ most_nodes → nodes ≡ made + all_nodes t → node_at r d made (node t ++ rest) ≡ Ok (t, nodes, rest)
   node_again r (overload set) zero made nodes rest v in_range deep few is = absurd (omega arith)
   node_again r (overload set) (suc d) made nodes rest v in_range deep few is =
-      subst (λ n. node_at r (suc d) made (node (overload set) ++ rest) ≡ Ok (overload set, n, rest)) (sym is)
+      rw is
       (node_step _ _ _ _ _ (omega arith)
       (tagged_again _ _ _ _ _ _ v in_range
       (overload_again _ _ _ _ _ in_range.0 in_range.1)))
@@ -168,7 +168,7 @@ mutual
       (close_again _ _ _ _ _ _ in_range p))
   node_again r unexamined zero made nodes rest v in_range deep few is = absurd (omega arith)
   node_again r unexamined (suc d) made nodes rest v in_range deep few is =
-      subst (λ n. node_at r (suc d) made (node unexamined ++ rest) ≡ Ok (unexamined, n, rest)) (sym is)
+      rw is
       (node_step _ _ _ _ _ (omega arith)
       (tagged_again _ _ _ _ _ _ v in_range (open_again _ _ _ _)))
 
@@ -177,7 +177,7 @@ mutual
       → row_at (node_at r d) (count_of ts) made (row ts ++ rest) ≡ Ok (ts, nodes, rest)
   row_again r none d made nodes rest v in_range deep few is =
       let same : made ≡ nodes = omega arith in
-      subst (λ n. row_at (node_at r d) 0 made rest ≡ Ok (none, n, rest)) same (row_none (node_at r d) made rest)
+      rw (← same) (row_none (node_at r d) made rest)
   row_again r (more t ts) d made nodes rest v in_range deep few is =
       let first = made + all_nodes t in
       let p = node_again r t d made first (row ts ++ rest) v in_range.0 (omega arith) (omega arith) refl in

@@ -51,7 +51,7 @@ version_takes bytes x e =
     elim (chosen (eqb a.0.0 0x31) (Ok (first_ranges, ends.Open, a.0.1)) _ (Ok x) a.2) [
       | inl h ↦
           let built : Ranges × End × List ℕ = (first_ranges, ends.Open, a.0.1) in
-          inl (subst (λ y. IsFirst y bytes) (ok_is built x h.1) (refl, refl, first.parts ∙ ap (λ n. n ∷ a.0.1) (eqb-true _ _ h.0)))
+          inl (rw (← (ok_is built x h.1)) (refl, refl, first.parts ∙ ap (λ n. n ∷ a.0.1) (eqb-true _ _ h.0)))
       | inr h ↦
           let g = guard_then (eqb a.0.0 0x32) fault.Version (small_at 0 1 a.0.1 >>= λ end. Ok (second_ranges, end_of end.0, end.1)) x h.1 in
           let b = bind_ok (small_at 0 1 a.0.1) _ x g.1 in
@@ -59,7 +59,7 @@ version_takes bytes x e =
           let built : Ranges × End × List ℕ = (second_ranges, end_of b.0.0, b.0.1) in
           let whole : bytes ≡ 0x32 ∷ end_byte (end_of b.0.0) ∷ b.0.1 = first.parts ∙ ap (λ n. n ∷ a.0.1) (eqb-true _ _ g.0)
           ∙ ap (λ y. 0x32 ∷ y) p.0.parts ∙ ap (λ n. 0x32 ∷ n ∷ b.0.1) (sym (end_byte-of b.0.0 p.1.most)) in
-          inr (subst (λ y. IsSecond y bytes) (ok_is built x b.2) (refl, whole))
+          inr (rw (← (ok_is built x b.2)) (refl, whole))
     ]
 
 first_again : (rest : List ℕ) → version_at (0x31 ∷ rest) ≡ Ok (first_ranges, ends.Open, rest)
@@ -110,14 +110,14 @@ certificate_takes bytes x e =
     (elim (version_takes c.0 version d.1) [
       | inl h ↦
           let t = rest_takes first_ranges first_ranges-is version.2 batches tree f.1
-          (subst (λ r. node_at r greatest_depth 0 batches.1 ≡ Ok tree) h.0 g.1) in
+          (rw (← h.0) g.1) in
           let parts : bytes ≡ first_text batches.0 tree.0 ++ tree.2 = mark
           ∙ ap (λ y. 0x50 ∷ 0x43 ∷ 0x42 ∷ y) (h.2 ∙ ap (λ y. 0x31 ∷ y) t.parts)
           ∙ sym (append_assoc (first_head batches.0) (node tree.0) tree.2) in
           (first_text batches.0 tree.0, inr (record { open_end = h.1; has_text = t.has_text; text = refl }), parts)
       | inr h ↦
           let t = rest_takes second_ranges second_ranges-is version.2 batches tree f.1
-          (subst (λ r. node_at r greatest_depth 0 batches.1 ≡ Ok tree) h.0 g.1) in
+          (rw (← h.0) g.1) in
           let parts : bytes ≡ second_text version.1 batches.0 tree.0 ++ tree.2 = mark
           ∙ ap (λ y. 0x50 ∷ 0x43 ∷ 0x42 ∷ y) (h.1 ∙ ap (λ y. 0x32 ∷ end_byte version.1 ∷ y) t.parts)
           ∙ sym (append_assoc (second_head version.1 batches.0) (node tree.0) tree.2) in

@@ -37,7 +37,7 @@ one_verdict (right a k i n) w (short b l) = absurd (omega arith)
 one_verdict (right a k i n) w (wrong b l j) = absurd cc
 one_verdict (right {nodes} {part} {asked} {parts} {bytes} a k i n) w (right {asked = other} b l j m) =
     let same : asked ≡ other = ok_is asked other (sym i ∙ j) in
-    one_verdict n w (subst (λ x. Meets (x ++ parts) (nodes_with part nodes) (drop (byte_len (width_of part)) bytes) w) (sym same) m)
+    one_verdict n w (rw same m)
 
 mark_leads : (byte : ℕ) (parts : List Part) (bytes : List ℕ)
     → Leads (at (mark byte ∷ parts) 0 bytes) (λ rest. at parts 0 rest) (mark_at byte bytes)
@@ -127,7 +127,7 @@ end_verdict [] nodes (Ok x) e = λ v m. any_nodes nodes m
 end_verdict [] nodes (Err f) e = absurd cc
 end_verdict (b ∷ bytes) nodes (Ok x) e = absurd cc
 end_verdict (b ∷ bytes) nodes (Err f) e = λ given. let same : fault.Trailing ≡ f = cc in
-    subst (λ g. Meets [] nodes (b ∷ bytes) (Some g)) same trailing
+    rw (← same) trailing
 
 -- what reading says of the bytes is their verdict
 abbrev pub HasVerdict : {A : Type 0} → List ℕ → Result A CertificateFault → Type 0

@@ -24,4 +24,4 @@ returns-in-Err-clause-delivers g c t =
     let all : c.args.batches.now ≡ done.0 ++ part.0 = part.1 ∙ ap (λ ws. ws ++ part.0) (map-id done.0) in
     let before : List ℕ = g.S.Sink.taken c.args.sink.now in
     let after : List ℕ = g.S.Sink.taken c.write_words.new.sink in
-    (tt, subst (λ ws. TookPrefix before after (bytes_of ws)) (sym all) (took_longer before after done.0 part.0 done.4))
+    (tt, rw all (took_longer before after done.0 part.0 done.4))
