@@ -1,5 +1,5 @@
 -- The loop of `order_of`: each run takes the first place of its class that is left, and then the places are an order.
-use Rattle.std.proofs.Common.{◌≡◌, ℕ, ◌+◌, ◌<◌, ◌==◌, Bool, true, false, cond, List, [], ◌∷◌, ◌++◌, All, length, map, refl, sym, ap, ◌∙◌, subst, arith, eq-eqb, inl, inr, slice_index, slice_set, append_assoc}
+use Rattle.std.proofs.Common.{◌≡◌, ℕ, ◌+◌, ◌<◌, ◌==◌, Bool, true, false, cond, List, [], ◌∷◌, ◌++◌, All, length, map, refl, sym, ap, ◌∙◌, arith, eq-eqb, inl, inr, slice_index, slice_set, append_assoc}
 use Rattle.std.proofs.lemmas.Bool.{cases_eq, ne_eqb}
 use Rattle.std.proofs.lemmas.List.{append-nil, map_push, nil_from_length}
 use Rattle.std.proofs.lemmas.List.Elements.{All-head, All-tail, filter-append}

@@ -1,5 +1,4 @@
-use Rattle.std.proofs.Common.{◌≡◌, ℕ, List, map, sym, ap, ◌∙◌, subst, All}
-use Rattle.pocsag_words.specs.Codeword.{IsCodeword}
+use Rattle.std.proofs.Common.{◌≡◌, ℕ, List, map, sym, ap, ◌∙◌}
 use Rattle.pocsag_words.specs.Kinds.{kind_of}
 use Rattle.pocsag_slots.specs.Layout.{laid}
 use Rattle.pocsag_batch.specs.Placing.{laid_by}

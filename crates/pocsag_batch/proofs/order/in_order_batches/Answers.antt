@@ -1,6 +1,6 @@
-use Rattle.std.proofs.Common.{◌≡◌, ◌+◌, ◌<◌, ◌≤◌, length, get_or, drop, subst, sym, arith, ap}
+use Rattle.std.proofs.Common.{◌≡◌, ◌+◌, ◌<◌, ◌≤◌, length, get_or, drop, arith, ap}
 use Rattle.pocsag_pages.specs.declared.page.Page.{Page}
-use Rattle.pocsag_batch.proofs.FileOrders.{HasLeft, left_step}
+use Rattle.pocsag_batch.proofs.FileOrders.{left_step}
 use Rattle.pocsag_batch.proofs.PageLists.{drop_at, good_at}
 use Rattle.pocsag_batch.proofs.order.in_order_batches.Goals as goal
 

@@ -1,9 +1,6 @@
-use Rattle.std.proofs.Common.{◌≡◌, ◌+◌, ◌*◌, ◌<◌, ◌≤◌, length, get_or, drop, map, subst, sym, ap, ◌∙◌, arith, All}
-use Rattle.pocsag_words.specs.Codeword.{IsCodeword}
-use Rattle.pocsag_words.specs.Kinds.{kind_of}
+use Rattle.std.proofs.Common.{◌≡◌, ◌+◌, ◌*◌, ◌<◌, ◌≤◌, length, get_or, drop, sym, ap, ◌∙◌, arith}
 use Rattle.pocsag_pages.specs.declared.page.Page.{Page}
 use Rattle.pocsag_pages.specs.Pages.{IsRound}
-use Rattle.pocsag_batch.specs.FileOrder.{InOrder, IsFileOrder}
 use Rattle.pocsag_batch.proofs.Laying.{idled_length, laid_length, laid_more, laid_last, laid_batches, laid_legal}
 use Rattle.pocsag_batch.proofs.PageLists.{drop_at, good_at}
 use Rattle.pocsag_batch.proofs.order.lay_in_order.Goals as goal

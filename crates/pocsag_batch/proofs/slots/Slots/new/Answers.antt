@@ -1,6 +1,4 @@
-use Rattle.std.proofs.Common.{sym, ap, subst, arith, length, All}
-use Rattle.pocsag_pages.specs.Pages.{IsGoodPage}
-use Rattle.pocsag_batch.specs.Placing.{HavePlaces}
+use Rattle.std.proofs.Common.{ap, arith, length}
 use Rattle.pocsag_pages.proofs.GoodPages.{good_pages}
 use Rattle.pocsag_batch.proofs.slots.Slots.new.Goals as goal
 
