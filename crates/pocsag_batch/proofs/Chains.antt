@@ -15,7 +15,8 @@ use Rattle.pocsag_batch.proofs.ClassLists.{class_left, of_class_in, of_class_out
 use Rattle.pocsag_slots.proofs.CountLemmas.{page_class_below}
 
 -- the class of the page that is read at a place
-pub class_at_item : (end : End) (R : List Page) (at : ℕ) (p : Page) → at < length R → p ≡ get_or R at p → class_of_page end p ≡ class_at end R at
+pub class_at_item : (end : End) (R : List Page) (at : ℕ) (p : Page) → at < length R → p ≡ get_or R at p
+    → class_of_page end p ≡ class_at end R at
 class_at_item end R at p h is = ap (class_of_page end) (is ∙ get_or_default R at p _ h)
 
 kept_step : (next : List ℕ) (at v j h : ℕ) (ks : List ℕ) (b : Bool) → at < j →
@@ -25,7 +26,7 @@ kept_step next at v j h ks true l rest chain =
     let same : slice_index (slice_set next at v) j ≡ slice_index next j = get_or-set_other next at j v 0 (omega arith) in
     let long : length (slice_set next at v) ≡ length next = length-set next at v in
     let within : j < length next = chain.1 in
-    (chain.0, omega arith, subst (λ g. IsChain (slice_set next at v) g ks) (sym same) (rest (slice_index next j) chain.2))
+    (chain.0, omega arith, rw same (rest (slice_index next j) chain.2))
 kept_step next at v j h ks false l rest chain = rest h chain
 
 -- a next place written before the first of the places
@@ -38,8 +39,8 @@ chain_kept next at v test (suc m) j h l chain =
 
 chain_same : (next new : List ℕ) (g h : ℕ) (ks js : List ℕ) → new ≡ next → h ≡ g → js ≡ ks → IsChain next g ks → IsChain new h js
 chain_same next new g h ks js nexts places lists chain =
-    subst (λ v. IsChain v h js) (sym nexts)
-    (subst (λ p. IsChain next p js) (sym places) (subst (λ v. IsChain next g v) (sym lists) chain))
+    rw nexts
+    (rw places (rw lists chain))
 
 -- one place more in front
 pub chains_added : (end : End) (R : List Page) (next head : List ℕ) (at m c : ℕ) → at < length next → c ≡ class_at end R at → c < 136 →
@@ -62,8 +63,8 @@ chains_added end R next head at m c within class small a =
                 let first : slice_index heads d ≡ at = get_or-set_at head c d at 0 (sym (class ∙ same)) (omega arith) in
                 let after : slice_index new at ≡ slice_index head d =
                 get_or-set_same next at (slice_index head c) 0 within ∙ ap (slice_index head) (class ∙ same) in
-                subst (λ ks. IsChain new (slice_index heads d) ks) (sym (of_class_in f d at left same))
-                (first, omega arith, subst (λ g. IsChain new g (places_of end R d left)) (sym after) kept)
+                rw (of_class_in f d at left same)
+                (first, omega arith, rw after kept)
             | inr other ↦
                 let first : slice_index heads d ≡ slice_index head d = get_or-set_other head c d at 0 (λ e. other (sym (e ∙ class))) in
                 chain_same new new (slice_index head d) (slice_index heads d) (places_of end R d left) (places_of end R d (at ∷ left))
@@ -124,7 +125,8 @@ chains_left end R links new left c k a t first nexts heads =
                 head ∙ (get_or-set_at links.head c d after 0 (sym same) (omega arith) ∙ ap (slice_index links.next) (first ∙ t.head)) in
                 let others : places ≡ t.others =
                 ap (λ m. places_of end R m (without f c left)) (sym same) ∙ class_left f c left t.place t.others t.first in
-                chain_same links.next new.next (slice_index links.next t.place) (slice_index new.head d) t.others places nexts now others t.chain
+                chain_same links.next new.next (slice_index links.next t.place)
+                (slice_index new.head d) t.others places nexts now others t.chain
             | inr other ↦
                 let now : slice_index new.head d ≡ slice_index links.head d =
                 head ∙ get_or-set_other links.head c d after 0 (λ e. other (sym e)) in

@@ -1,5 +1,5 @@
 -- Lists by the classes of their elements: the elements of one class, and the list without the first of them.
-use Rattle.std.proofs.Common.{◌≡◌, ℕ, ◌==◌, cond, List, [], ◌∷◌, length, map, drop, get_or, refl, sym, ap, ◌∙◌, subst, arith, eq-eqb, inl, inr}
+use Rattle.std.proofs.Common.{◌≡◌, ℕ, ◌==◌, cond, List, [], ◌∷◌, length, map, drop, get_or, refl, sym, ap, ◌∙◌, arith, eq-eqb, inl, inr}
 use Rattle.std.specs.Prelude.{filter, IsPermutation}
 use Rattle.std.proofs.lemmas.Bool.{cases_eq, ne_eqb}
 use Rattle.std.proofs.lemmas.List.Sorted.{IsPermutation-cons, IsPermutation-refl, IsPermutation-remove, IsPermutation-sym, IsPermutation-trans}
@@ -35,7 +35,8 @@ pub without_out : {X : Type 0} (f : X → ℕ) (c : ℕ) (x : X) (xs : List X) �
 without_out f c x xs n = ap (λ b. cond b xs (x ∷ without f c xs)) (ne_eqb (f x) c n)
 
 -- the class without its first, and the other classes
-pub class_left : {X : Type 0} (f : X → ℕ) (c : ℕ) (xs : List X) (k : X) (ks : List X) → of_class f c xs ≡ k ∷ ks → of_class f c (without f c xs) ≡ ks
+pub class_left : {X : Type 0} (f : X → ℕ) (c : ℕ) (xs : List X) (k : X) (ks : List X) → of_class f c xs ≡ k ∷ ks
+    → of_class f c (without f c xs) ≡ ks
 class_left f c [] k ks e = never_none k ks (sym e)
 class_left f c (x ∷ xs) k ks e =
     elim (cases_eq (f x) c) [
@@ -60,17 +61,18 @@ swapped : {X : Type 0} (x y : X) (xs : List X) → IsPermutation (x ∷ y ∷ xs
 swapped x y xs = IsPermutation-remove (x ∷ y ∷ xs) 1 y (omega arith) refl
 
 -- the first of the class may be moved to the front
-pub first_moved : {X : Type 0} (f : X → ℕ) (c : ℕ) (xs : List X) (k : X) (ks : List X) → of_class f c xs ≡ k ∷ ks → IsPermutation xs (k ∷ without f c xs)
+pub first_moved : {X : Type 0} (f : X → ℕ) (c : ℕ) (xs : List X) (k : X) (ks : List X) → of_class f c xs ≡ k ∷ ks
+    → IsPermutation xs (k ∷ without f c xs)
 first_moved f c [] k ks e = never_none k ks (sym e)
 first_moved f c (x ∷ xs) k ks e =
     elim (cases_eq (f x) c) [
       | inl same ↦
           let first : x ≡ k = first_same x k (of_class f c xs) ks (sym (of_class_in f c x xs same) ∙ e) in
           let all : x ∷ xs ≡ k ∷ without f c (x ∷ xs) = ap (λ y. y ∷ xs) first ∙ ap (λ v. k ∷ v) (sym (without_in f c x xs same)) in
-          subst (λ v. IsPermutation (x ∷ xs) v) all (IsPermutation-refl (x ∷ xs))
+          rw (← all) (IsPermutation-refl (x ∷ xs))
       | inr other ↦
           let rest : IsPermutation xs (k ∷ without f c xs) = first_moved f c xs k ks (sym (of_class_out f c x xs other) ∙ e) in
-          subst (λ v. IsPermutation (x ∷ xs) (k ∷ v)) (sym (without_out f c x xs other))
+          rw (without_out f c x xs other)
           (IsPermutation-trans (x ∷ xs) (x ∷ k ∷ without f c xs) (k ∷ x ∷ without f c xs)
           (IsPermutation-cons x xs (k ∷ without f c xs) rest) (swapped x k (without f c xs)))
     ]
@@ -84,7 +86,7 @@ alike_without f x xs ys a c =
     elim (cases_eq (f x) c) [
       | inl same ↦
           let first : of_class f (f x) ys ≡ x ∷ of_class f (f x) xs = sym (a (f x)) ∙ of_class_in f (f x) x xs refl in
-          subst (λ d. of_class f d xs ≡ of_class f d (without f (f x) ys)) same (sym (class_left f (f x) ys x (of_class f (f x) xs) first))
+          rw (← same) (sym (class_left f (f x) ys x (of_class f (f x) xs) first))
       | inr other ↦ sym (of_class_out f c x xs other) ∙ (a c ∙ sym (others_left f (f x) c ys other))
     ]
 
@@ -112,7 +114,7 @@ alike_same f (x ∷ xs) (y ∷ ys) m a =
     λ c.
     elim (cases_eq (f x) c) [
       | inl same ↦
-          subst (λ d. of_class f d xs ≡ of_class f d ys) same (rest_same x y (of_class f (f x) xs) (of_class f (f x) ys) here)
+          rw (← same) (rest_same x y (of_class f (f x) xs) (of_class f (f x) ys) here)
       | inr other ↦ sym (of_class_out f c x xs other) ∙ (a c ∙ of_class_out f c y ys (λ e. other (class ∙ e)))
     ] in
     ap (λ z. z ∷ xs) first ∙ ap (λ v. y ∷ v) (alike_same f xs ys (rest_same (f x) (f y) (map f xs) (map f ys) m) rest)

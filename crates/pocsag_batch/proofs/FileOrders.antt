@@ -28,9 +28,9 @@ all_idles_begin zero = tt
 all_idles_begin (suc gap) = tt
 
 pub begins : {i : ℕ} {R : List Page} {ws : List Kind} → InOrder i R ws → BeginsNoMessage ws
-begins (at_end gap least is) = subst (λ v. BeginsNoMessage v) (sym is) (all_idles_begin gap)
+begins (at_end gap least is) = rw is (all_idles_begin gap)
 begins (past_page {p = p} gap rest least is left) =
-    subst (λ v. BeginsNoMessage v) (sym is) (idles_begin gap (page_words p ++ rest) tt)
+    rw is (idles_begin gap (page_words p ++ rest) tt)
 
 page_at : (p : Page) (i : ℕ) → frame_at i ≡ p.address % 8 →
     (let q : Page = record { address = 8 * (p.address / 8) + frame_at i; function = p.function; payload = p.payload } in q) ≡ p
@@ -54,7 +54,13 @@ page_words_long p = let e : length (map Message p.payload) ≡ length p.payload 
 placed_length : (gap : ℕ) (p : Page) (rest : List Kind) →
     length (replicate gap Idle ++ (page_words p ++ rest)) ≡ gap + page_length p + length rest
 placed_length gap p rest =
-    omega (arith, length-append (replicate gap Idle) (page_words p ++ rest), length-append (page_words p) rest, length-replicate gap Idle, length-map p.payload Message)
+    omega (
+      arith,
+      length-append (replicate gap Idle) (page_words p ++ rest),
+      length-append (page_words p) rest,
+      length-replicate gap Idle,
+      length-map p.payload Message,
+    )
 
 pub whole_in_order : {i : ℕ} {R : List Page} {ws : List Kind} → InOrder i R ws → (i + length ws) % 16 ≡ 0
 whole_in_order {i = i} (at_end gap least is) =
@@ -70,7 +76,7 @@ whole_in_order {i = i} (past_page {p = p} gap rest least is left) =
 pub some_words : {i : ℕ} {p : Page} {R : List Page} {ws : List Kind} → InOrder i (p ∷ R) ws → 0 < length ws
 some_words (past_page {p = p} gap rest least is left) =
     let long : length (replicate gap Idle ++ (page_words p ++ rest)) ≡ gap + page_length p + length rest = placed_length gap p rest in
-    subst (λ v. 0 < length v) (sym is) (omega arith)
+    rw is (omega arith)
 
 pub legal_in_order : (R : List Page) (T : List Kind) → 0 < length R → IsFileOrder R T → IsLegalFor Open T (length T / 16) R
 legal_in_order [] T some f = absurd (omega arith)
@@ -100,7 +106,7 @@ one_file_order {i = i} (at_end gap least is) (at_end gap' least' is') =
 one_file_order {i = i} (past_page {p = p} {R = R} gap rest least is left) (past_page gap' rest' least' is' left') =
     let same : gap ≡ gap' = one_gap gap gap' least least' in
     let moved : InOrder (i + gap + page_length p) R rest' =
-    subst (λ n. InOrder (i + n + page_length p) R rest') (sym same) left' in
+    rw same left' in
     let rests : rest ≡ rest' = one_file_order left moved in
     let tails : page_words p ++ rest ≡ page_words p ++ rest' = ap (λ v. page_words p ++ v) rests in
     let gaps : replicate gap Idle ≡ replicate gap' Idle = ap (λ n. replicate n Idle) same in
@@ -116,11 +122,17 @@ some_frame : (i frame : ℕ) → frame < 8 → HasLeast i (IsInFrame frame)
 some_frame i frame small =
     elim (cases_eq (i % 16 / 2) frame) [
       | inl same ↦ record { gap = 0; least = record { after = omega arith; fit = omega arith; least = λ j after fit. omega arith } }
-      | inr other ↦ record { gap = (2 * frame + 16 - i % 16) % 16; least = record { after = omega arith; fit = omega arith; least = λ j after fit. omega arith } }
+      | inr other ↦ record {
+        gap = (2 * frame + 16 - i % 16) % 16;
+        least = record { after = omega arith; fit = omega arith; least = λ j after fit. omega arith };
+      }
     ]
 
 some_whole : (i : ℕ) → HasLeast i IsWhole
-some_whole i = record { gap = (16 - i % 16) % 16; least = record { after = omega arith; fit = omega arith; least = λ j after fit. omega arith } }
+some_whole i = record {
+  gap = (16 - i % 16) % 16;
+  least = record { after = omega arith; fit = omega arith; least = λ j after fit. omega arith };
+}
 
 pub record HasFileOrder (i : ℕ) (R : List Page) : Type 0 where
   pub words : List Kind
@@ -143,7 +155,8 @@ pub record HasLeft (i : ℕ) (R : List Page) (n : ℕ) : Type 0 where
   pub long : n ≡ i + length rest
 
 -- the next page takes the least place for it
-pub left_step : (i gap n : ℕ) (p : Page) (R : List Page) → IsLeastFrom i (IsInFrame (p.address % 8)) (i + gap) → HasLeft i (p ∷ R) n → HasLeft (i + gap + page_length p) R n
+pub left_step : (i gap n : ℕ) (p : Page) (R : List Page) → IsLeastFrom i (IsInFrame (p.address % 8)) (i + gap) → HasLeft i (p ∷ R) n
+    → HasLeft (i + gap + page_length p) R n
 left_step i gap n p R least h = step h.order
   where
     step : InOrder i (p ∷ R) h.rest → HasLeft (i + gap + page_length p) R n
@@ -152,15 +165,6 @@ left_step i gap n p R least h = step h.order
         let long : length h.rest ≡ gap' + page_length p + length rest = ap length is ∙ placed_length gap' p rest in
         record {
           rest = rest;
-          order = subst (λ g. InOrder (i + g + page_length p) R rest) same left;
+          order = rw (← same) left;
           long = omega (arith, h.long);
         }
-
-pub left_end : (i gap n : ℕ) → IsLeastFrom i IsWhole (i + gap) → HasLeft i [] n → n ≡ i + gap
-left_end i gap n least h = step h.order
-  where
-    step : InOrder i [] h.rest → n ≡ i + gap
-    step (at_end gap' least' is) =
-        let same : gap' ≡ gap = one_gap gap' gap least' least in
-        let long : length h.rest ≡ gap' = ap length is ∙ length-replicate gap' Idle in
-        omega (arith, h.long)

@@ -1,5 +1,5 @@
 -- The loop that lays a round in file order, and the batches of a legal list.
-use Rattle.std.proofs.Common.{◌≡◌, ℕ, ◌+◌, ◌*◌, ◌/◌, ◌%◌, ◌^◌, ◌<◌, ◌≤◌, List, [], ◌∷◌, ◌++◌, length, map, replicate, drop, refl, sym, ap, ◌∙◌, subst, arith, append_assoc, length-append}
+use Rattle.std.proofs.Common.{◌≡◌, ℕ, ◌+◌, ◌*◌, ◌/◌, ◌%◌, ◌^◌, ◌<◌, ◌≤◌, List, [], ◌∷◌, ◌++◌, length, map, replicate, drop, refl, ap, ◌∙◌, arith, append_assoc, length-append}
 use Rattle.std.proofs.lemmas.List.{drop_all, length-map, length-replicate}
 use Rattle.pocsag_words.specs.Kinds.{kind_of}
 use Rattle.pocsag_words.specs.declared.codeword.Kind.{Kind}
@@ -14,14 +14,28 @@ use Rattle.pocsag_batch.proofs.FileOrders.{page_words_long, whole_in_order, some
 
 pub idled_length : (gap : ℕ) (ws vs : List ℕ) → map kind_of vs ≡ map kind_of ws ++ replicate gap Idle → length vs ≡ length ws + gap
 idled_length gap ws vs idles =
-    omega (arith, ap length idles, length-append (map kind_of ws) (replicate gap Idle), length-replicate gap Idle, length-map ws kind_of, length-map vs kind_of)
+    omega (
+      arith,
+      ap length idles,
+      length-append (map kind_of ws) (replicate gap Idle),
+      length-replicate gap Idle,
+      length-map ws kind_of,
+      length-map vs kind_of,
+    )
 
 pub laid_length : (p : Page) (gap : ℕ) (ws vs us : List ℕ) →
     map kind_of vs ≡ map kind_of ws ++ replicate gap Idle → map kind_of us ≡ map kind_of vs ++ page_words p →
     length us ≡ length ws + gap + page_length p
 laid_length p gap ws vs us idles page =
     let a : length vs ≡ length ws + gap = idled_length gap ws vs idles in
-    omega (arith, ap length page, length-append (map kind_of vs) (page_words p), page_words_long p, length-map us kind_of, length-map vs kind_of)
+    omega (
+      arith,
+      ap length page,
+      length-append (map kind_of vs) (page_words p),
+      page_words_long p,
+      length-map us kind_of,
+      length-map vs kind_of,
+    )
 
 pub laid_more : (R left : List Page) (p : Page) (gap : ℕ) (ws vs us : List ℕ) →
     map kind_of vs ≡ map kind_of ws ++ replicate gap Idle → map kind_of us ≡ map kind_of vs ++ page_words p →
@@ -31,13 +45,13 @@ pub laid_more : (R left : List Page) (p : Page) (gap : ℕ) (ws vs us : List ℕ
 laid_more R left p gap ws vs us idles page least so_far U order =
     let long : length us ≡ length ws + gap + page_length p = laid_length p gap ws vs us idles page in
     let here : InOrder (length ws) (p ∷ left) (replicate gap Idle ++ (page_words p ++ U)) =
-    past_page gap U least refl (subst (λ n. InOrder n left U) long order) in
+    past_page gap U least refl (rw (← long) order) in
     let whole : map kind_of us ++ U ≡ map kind_of ws ++ (replicate gap Idle ++ (page_words p ++ U)) =
     ap (λ v. v ++ U) page
     ∙ (ap (λ v. (v ++ page_words p) ++ U) idles
     ∙ (append_assoc (map kind_of ws ++ replicate gap Idle) (page_words p) U
     ∙ append_assoc (map kind_of ws) (replicate gap Idle) (page_words p ++ U))) in
-    subst (λ v. IsFileOrder R v) (sym whole) (so_far (replicate gap Idle ++ (page_words p ++ U)) here)
+    rw whole (so_far (replicate gap Idle ++ (page_words p ++ U)) here)
 
 pub laid_last : (R : List Page) (k gap : ℕ) (ws vs : List ℕ) → length R ≤ k →
     map kind_of vs ≡ map kind_of ws ++ replicate gap Idle →
@@ -47,8 +61,8 @@ pub laid_last : (R : List Page) (k gap : ℕ) (ws vs : List ℕ) → length R �
 laid_last R k gap ws vs all idles least so_far =
     let none : drop k R ≡ [] = drop_all k R all in
     let last : InOrder (length ws) (drop k R) (replicate gap Idle) =
-    subst (λ left. InOrder (length ws) left (replicate gap Idle)) (sym none) (at_end gap least refl) in
-    subst (λ v. IsFileOrder R v) (sym idles) (so_far (replicate gap Idle) last)
+    rw none (at_end gap least refl) in
+    rw idles (so_far (replicate gap Idle) last)
 
 pub laid_batches : (R : List Page) (vs : List ℕ) → 0 < length R → length vs < 2 ^ 36 → IsFileOrder R (map kind_of vs) → AreBatches vs
 laid_batches [] vs some few f = absurd (omega arith)
@@ -58,9 +72,10 @@ laid_batches (p ∷ R) vs some few f =
     let same : length (map kind_of vs) ≡ length vs = length-map vs kind_of in
     record { some = omega arith; whole = omega arith; few = few }
 
-pub laid_legal : (R : List Page) (vs : List ℕ) → 0 < length R → IsFileOrder R (map kind_of vs) → IsLegalFor Open (map kind_of vs) (length vs / 16) R
+pub laid_legal : (R : List Page) (vs : List ℕ) → 0 < length R → IsFileOrder R (map kind_of vs)
+    → IsLegalFor Open (map kind_of vs) (length vs / 16) R
 laid_legal R vs some f =
-    subst (λ n. IsLegalFor Open (map kind_of vs) (n / 16) R) (length-map vs kind_of) (legal_in_order R (map kind_of vs) some f)
+    rw (← (length-map vs kind_of)) (legal_in_order R (map kind_of vs) some f)
 
 pub list_batches : (end : End) (R : List Page) (b : ℕ) (ws : List ℕ) → b < 2 ^ 32 → IsLegalList end ws b R → AreBatches ws
 list_batches end R b ws few legal =

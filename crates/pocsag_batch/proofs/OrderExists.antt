@@ -42,7 +42,8 @@ order_from : (end : End) (R : List Page) (links : Links) (order : List ℕ) (ste
     (all : List ℕ) × IsOrder end R steps all
 order_from end R links order steps [] s = (order, order_stands end R links order steps [] refl s)
 order_from end R links order steps (Stay ∷ rest) s =
-    order_from end R links order steps rest (record { left = s.left; chains = s.chains; enough = s.enough; classes = s.classes; in_turn = s.in_turn })
+    order_from end R links order steps rest
+    (record { left = s.left; chains = s.chains; enough = s.enough; classes = s.classes; in_turn = s.in_turn })
 order_from end R links order steps (Run c e ∷ rest) s =
     let k : ℕ = slice_index links.head c in
     let new : Links = record { next = links.next; head = slice_set links.head c (slice_index links.next k) } in

@@ -1,5 +1,5 @@
 -- A layout's order is the only one, and the codewords by it are those of the steps.
-use Rattle.std.proofs.Common.{◌≡◌, ℕ, ◌==◌, Bool, true, false, cond, List, [], ◌∷◌, ◌++◌, map, refl, sym, ap, ◌∙◌, subst, eq-eqb, inl, inr}
+use Rattle.std.proofs.Common.{◌≡◌, ℕ, ◌==◌, Bool, true, false, cond, List, [], ◌∷◌, ◌++◌, map, refl, sym, ap, ◌∙◌, eq-eqb, inl, inr}
 use Rattle.std.proofs.lemmas.Bool.{cases_eq, ne_eqb}
 use Rattle.pocsag_words.specs.declared.codeword.Kind.TheVariants.{Idle}
 use Rattle.pocsag_words.specs.declared.ending.End.{End}
@@ -12,7 +12,8 @@ use Rattle.pocsag_batch.specs.Placing.{all_places, class_at, page_at, places_of,
 use Rattle.pocsag_batch.proofs.ClassLists.{AreAlike, alike_same, alike_without, first_same, never_none, of_class_in, of_class_out, rest_same, without}
 use Rattle.pocsag_batch.proofs.Places.{pages_placed}
 
-pub one_order : (end : End) (R : List Page) (steps : List Step) (order other : List ℕ) → IsOrder end R steps order → IsOrder end R steps other → order ≡ other
+pub one_order : (end : End) (R : List Page) (steps : List Step) (order other : List ℕ) → IsOrder end R steps order
+    → IsOrder end R steps other → order ≡ other
 one_order end R steps order other o p =
     alike_same (class_at end R) order other (o.classes ∙ sym p.classes) (λ c. o.in_turn c ∙ sym (p.in_turn c))
 
@@ -40,7 +41,8 @@ other_pages : (end : End) (R : List Page) (c : ℕ) (left : List ℕ) →
     without_first end c (map (page_at R) left) ≡ map (page_at R) (without (class_at end R) c left)
 other_pages end R c [] = refl
 other_pages end R c (x ∷ left) =
-    other_step R (class_at end R x == c) x left (without (class_at end R) c left) (without_first end c (map (page_at R) left)) (other_pages end R c left)
+    other_step R (class_at end R x == c) x left (without (class_at end R) c left) (without_first end c (map (page_at R) left))
+    (other_pages end R c left)
 
 -- an order of the places that are left
 laid_left : (end : End) (R : List Page) (steps : List Step) (order left : List ℕ) → map (class_at end R) order ≡ run_classes steps →
@@ -53,13 +55,15 @@ laid_left end R (Run c e ∷ ss) (k ∷ order) left m a =
     let class : f k ≡ c = first_same (f k) c (map f order) (run_classes ss) m in
     let first : places_of end R c left ≡ k ∷ places_of end R c order = sym (a c) ∙ of_class_in f c k order class in
     let page : first_of end c (map (page_at R) left) ≡ page_at R k = first_page end R c left k (places_of end R c order) first in
-    let others : AreAlike f order (without f c left) = subst (λ d. AreAlike f order (without f d left)) class (alike_without f k order left a) in
+    let others : AreAlike f order (without f c left) =
+    rw (← class) (alike_without f k order left a) in
     let rest : laid_by R order ss ≡ laid end (map (page_at R) (without f c left)) ss =
     laid_left end R ss order (without f c left) (rest_same (f k) c (map f order) (run_classes ss) m) others in
     ap (λ ws. page_words (page_at R k) ++ ws) rest
     ∙ (ap (λ p. page_words p ++ laid end (map (page_at R) (without f c left)) ss) (sym page)
     ∙ ap (λ ps. page_words (first_of end c (map (page_at R) left)) ++ laid end ps ss) (sym (other_pages end R c left)))
 
-pub order_lays : (end : End) (R : List Page) (steps : List Step) (order : List ℕ) → IsOrder end R steps order → laid_by R order steps ≡ laid end R steps
+pub order_lays : (end : End) (R : List Page) (steps : List Step) (order : List ℕ) → IsOrder end R steps order
+    → laid_by R order steps ≡ laid end R steps
 order_lays end R steps order o =
     laid_left end R steps order (all_places R) o.classes o.in_turn ∙ ap (λ ps. laid end ps steps) (pages_placed R)

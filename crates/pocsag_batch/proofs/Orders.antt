@@ -1,5 +1,5 @@
 -- The loop of `order_of`: each run takes the first place of its class that is left, and then the places are an order.
-use Rattle.std.proofs.Common.{◌≡◌, ℕ, ◌+◌, ◌<◌, ◌==◌, Bool, true, false, cond, List, [], ◌∷◌, ◌++◌, All, length, map, refl, sym, ap, ◌∙◌, subst, arith, eq-eqb, inl, inr, slice_index, slice_set, append_assoc}
+use Rattle.std.proofs.Common.{◌≡◌, ℕ, ◌+◌, ◌<◌, ◌==◌, Bool, true, false, cond, List, [], ◌∷◌, ◌++◌, All, length, map, refl, sym, ap, ◌∙◌, arith, eq-eqb, inl, inr, slice_index, slice_set, append_assoc}
 use Rattle.std.proofs.lemmas.Bool.{cases_eq, ne_eqb}
 use Rattle.std.proofs.lemmas.List.{append-nil, map_push, nil_from_length}
 use Rattle.std.proofs.lemmas.List.Elements.{All-head, All-tail, filter-append}
@@ -26,7 +26,8 @@ pub record Stands (end : End) (R : List Page) (links : Links) (order : List ℕ)
   pub classes : map (class_at end R) order ++ run_classes rest ≡ run_classes steps
   pub in_turn : (c : ℕ) → places_of end R c order ++ places_of end R c left ≡ places_of end R c (all_places R)
 
-pub stands_first : (end : End) (R : List Page) (links : Links) (steps : List Step) → AreChains end R links (all_places R) → IsTourFor end R steps →
+pub stands_first : (end : End) (R : List Page) (links : Links) (steps : List Step) → AreChains end R links (all_places R)
+    → IsTourFor end R steps →
     Stands end R links [] steps steps
 stands_first end R links steps chains tour = record {
   left = all_places R;
@@ -54,7 +55,8 @@ enough_left f left c k ks e rest first enough d =
       | inl same ↦
           let one : runs d true (Run c e ∷ rest) + runs d false (Run c e ∷ rest) ≡ 1 + (runs d true rest + runs d false rest) =
           first_runs c e rest d ∙ ap (λ b. cond b 1 0 + (runs d true rest + runs d false rest)) (eq-eqb c d same) in
-          let many : length (of_class f d left) ≡ 1 + length ks = ap (λ m. length (of_class f m left)) (sym same) ∙ (ap length first ∙ omega arith) in
+          let many : length (of_class f d left) ≡ 1 + length ks = ap (λ m. length (of_class f m left)) (sym same)
+          ∙ (ap length first ∙ omega arith) in
           let fewer : length (of_class f d (without f c left)) ≡ length ks =
           ap (λ m. length (of_class f m (without f c left))) (sym same) ∙ ap length (class_left f c left k ks first) in
           omega arith
@@ -111,7 +113,7 @@ pub order_stands : (end : End) (R : List Page) (links : Links) (order : List ℕ
     Stands end R links order steps rest → IsOrder end R steps order
 order_stands end R links order steps rest done s =
     let f : ℕ → ℕ = class_at end R in
-    let last : Stands end R links order steps [] = subst (λ v. Stands end R links order steps v) done s in
+    let last : Stands end R links order steps [] = rw (← done) s in
     let none : (c : ℕ) → places_of end R c last.left ≡ [] = λ c. nil_from_length (places_of end R c last.left) (sym (last.enough c)) in
     let turns : (c : ℕ) → places_of end R c order ≡ places_of end R c (all_places R) =
     λ c. sym (append-nil (places_of end R c order)) ∙ (ap (λ v. places_of end R c order ++ v) (sym (none c)) ∙ last.in_turn c) in
@@ -121,14 +123,19 @@ order_stands end R links order steps rest done s =
       in_turn = turns;
     }
 
-have_places : (f : ℕ → ℕ) (n : ℕ) (order : List ℕ) (steps : List Step) → map f order ≡ run_classes steps → All (λ k. k < n) order → HavePlaces n order steps
+have_places : (f : ℕ → ℕ) (n : ℕ) (order : List ℕ) (steps : List Step) → map f order ≡ run_classes steps → All (λ k. k < n) order
+    → HavePlaces n order steps
 have_places f n order [] m h = tt
 have_places f n order (Stay ∷ ss) m h = have_places f n order ss m h
 have_places f n [] (Run c e ∷ ss) m h = never_none c (run_classes ss) (sym m)
-have_places f n (k ∷ order) (Run c e ∷ ss) m h =
-    (All-head (λ j. j < n) k order h, have_places f n order ss (rest_same (f k) c (map f order) (run_classes ss) m) (All-tail (λ j. j < n) k order h))
+have_places f n (k ∷ order) (Run c e ∷ ss) m h = (
+  All-head (λ j. j < n) k order h,
+  have_places f n order ss (rest_same (f k) c (map f order) (run_classes ss) m)
+      (All-tail (λ j. j < n) k order h),
+)
 
-pub order_has_places : (end : End) (R : List Page) (steps : List Step) (order : List ℕ) → IsOrder end R steps order → HavePlaces (length R) order steps
+pub order_has_places : (end : End) (R : List Page) (steps : List Step) (order : List ℕ) → IsOrder end R steps order
+    → HavePlaces (length R) order steps
 order_has_places end R steps order o =
     have_places (class_at end R) (length R) order steps o.classes
     (All-permutation (λ k. k < length R) (all_places R) order o.once (all_within (length R)))

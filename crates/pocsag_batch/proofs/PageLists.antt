@@ -1,5 +1,5 @@
 -- The pages of a round one after another.
-use Rattle.std.proofs.Common.{◌≡◌, ℕ, ◌+◌, ◌<◌, List, ◌∷◌, length, get_or, drop, sym, ap, ◌∙◌, subst, add-one}
+use Rattle.std.proofs.Common.{◌≡◌, ℕ, ◌+◌, ◌<◌, List, ◌∷◌, length, get_or, drop, sym, ap, ◌∙◌, add-one}
 use Rattle.std.proofs.Math.Seq.{drop-cons}
 use Rattle.std.proofs.lemmas.List.Elements.{All-get_or}
 use Rattle.pocsag_pages.specs.declared.page.Page.{Page}
@@ -14,4 +14,4 @@ drop_at R k p h is =
 
 pub good_at : (R : List Page) (k : ℕ) (p : Page) → IsRound R → k < length R → p ≡ get_or R k p → IsGoodPage p
 good_at R k p r h is =
-    subst (λ q. IsGoodPage q) (sym is) (All-get_or IsGoodPage R k p h (good_pages R r.good))
+    rw is (All-get_or IsGoodPage R k p h (good_pages R r.good))

@@ -25,7 +25,8 @@ counted : (b : Bool) (n k : ℕ) (ks : List ℕ) → n ≡ length ks → cond b 
 counted true n k ks e = omega arith
 counted false n k ks e = omega arith
 
-count_placed : (end : End) (R : List Page) (c : ℕ) (places : List ℕ) → count_of end (map (page_at R) places) c ≡ length (places_of end R c places)
+count_placed : (end : End) (R : List Page) (c : ℕ) (places : List ℕ)
+    → count_of end (map (page_at R) places) c ≡ length (places_of end R c places)
 count_placed end R c [] = refl
 count_placed end R c (k ∷ places) =
     let pages : List Page = map (page_at R) places in

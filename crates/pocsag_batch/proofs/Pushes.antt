@@ -14,5 +14,6 @@ pushed_more ws vs w k js ks e is so_far =
     pushed ws vs w k e is ∙ (ap (λ v. v ++ k ∷ []) so_far ∙ append_assoc js ks (k ∷ []))
 
 -- one element more of a mapped list
-pub map_taken : {A : Type 0} (f : ℕ → A) (xs : List ℕ) (i : ℕ) → i < length xs → map f (take (i + 1) xs) ≡ map f (take i xs) ++ f (get_or xs i 0) ∷ []
+pub map_taken : {A : Type 0} (f : ℕ → A) (xs : List ℕ) (i : ℕ) → i < length xs
+    → map f (take (i + 1) xs) ≡ map f (take i xs) ++ f (get_or xs i 0) ∷ []
 map_taken f xs i h = ap (map f) (take_more xs i 0 h) ∙ map-append f (take i xs) (get_or xs i 0 ∷ [])

@@ -21,6 +21,7 @@ laid_sayable have R (k ∷ order) (Run c e ∷ ss) good places =
     (laid_sayable have R order ss good places.1)
 
 pub left_sayable : HaveCodewords → (R : List Page) (order items : List ℕ) (steps : List Step) (said : List Kind) →
-    map Message items ++ laid_by R order steps ≡ said → All IsGoodPage R → All (λ item. item < 2 ^ 20) items → HavePlaces (length R) order steps → IsSayable said
+    map Message items ++ laid_by R order steps ≡ said → All IsGoodPage R → All (λ item. item < 2 ^ 20) items
+    → HavePlaces (length R) order steps → IsSayable said
 left_sayable have R order items steps said view good small places =
     subst IsSayable view (items_sayable have items (laid_by R order steps) small (laid_sayable have R order steps good places))

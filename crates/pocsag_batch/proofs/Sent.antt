@@ -28,14 +28,16 @@ body_is (w ∷ ws) i =
     ap (λ n. body_from n ws) next ∙ body_is ws (i + 1) in
     slot_is (i % 16 == 0) w (synced (i + 1) ws) (body_from ((i % 16 + 1) % 16) ws) left
 
-body_append : (ws vs : List ℕ) (slot : ℕ) → slot < 16 → body_from slot (ws ++ vs) ≡ body_from slot ws ++ body_from ((slot + length ws) % 16) vs
+body_append : (ws vs : List ℕ) (slot : ℕ) → slot < 16
+    → body_from slot (ws ++ vs) ≡ body_from slot ws ++ body_from ((slot + length ws) % 16) vs
 body_append [] vs slot small =
     let same : slot ≡ (slot + 0) % 16 = omega arith in
     ap (λ n. body_from n vs) same
 body_append (w ∷ ws) vs slot small =
     let below : (slot + 1) % 16 < 16 = omega arith in
     let same : ((slot + 1) % 16 + length ws) % 16 ≡ (slot + suc (length ws)) % 16 = omega arith in
-    ap (λ v. slot_bytes slot w ++ v) (body_append ws vs ((slot + 1) % 16) below ∙ ap (λ n. body_from ((slot + 1) % 16) ws ++ body_from n vs) same)
+    ap (λ v. slot_bytes slot w ++ v)
+    (body_append ws vs ((slot + 1) % 16) below ∙ ap (λ n. body_from ((slot + 1) % 16) ws ++ body_from n vs) same)
     ∙ sym (append_assoc (slot_bytes slot w) (body_from ((slot + 1) % 16) ws) (body_from ((slot + suc (length ws)) % 16) vs))
 
 bytes_are : (ws : List ℕ) → bytes_of ws ≡ replicate 72 0xaa ++ body_from 0 ws

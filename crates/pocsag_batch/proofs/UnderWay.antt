@@ -19,7 +19,8 @@ abbrev pub SameFromKind : Type 0
 SameFromKind = (v w : ℕ) → IsCodeword v → IsCodeword w → kind_of v ≡ kind_of w → v ≡ w
 
 module _ {S A B : Type 0} (steps : S → Option A → S → Type 0) (v : A → B) where
-  came_first : (came : List A) (all : List B) (s t : S) → AlwaysYields steps v s all → Yields steps s came t → (left : List B) × (all ≡ map v came ++ left)
+  came_first : (came : List A) (all : List B) (s t : S) → AlwaysYields steps v s all → Yields steps s came t
+      → (left : List B) × (all ≡ map v came ++ left)
   came_first [] all s t gives came = (all, refl)
   came_first (x ∷ xs) [] s t gives came = absurd (gives x came.0 came.1)
   came_first (x ∷ xs) (y ∷ ys) s t gives came =
@@ -28,15 +29,18 @@ module _ {S A B : Type 0} (steps : S → Option A → S → Type 0) (v : A → B
       (others.0, ap (λ z. z ∷ ys) (sym here.0) ∙ ap (λ zs. v x ∷ zs) others.1)
 
 -- what came is the first part of all, and all of it where nothing more comes
-pub part_came : {S A B : Type 0} {steps : S → Option A → S → Type 0} {v : A → B} {s : S} {all : List B} (came : List A) (t : S) → YieldsList steps v s all → Yields steps s came t →
+pub part_came : {S A B : Type 0} {steps : S → Option A → S → Type 0} {v : A → B} {s : S} {all : List B} (came : List A) (t : S)
+    → YieldsList steps v s all → Yields steps s came t →
     (left : List B) × (all ≡ map v came ++ left)
 part_came {S} {A} {B} {steps} {v} {s} {all} came t gives yields = came_first steps v came all s t gives.runs yields
 
-pub all_came : {S A B : Type 0} {steps : S → Option A → S → Type 0} {v : A → B} {s : S} {all : List B} (came : List A) → YieldsList steps v s all → Drains steps s came → map v came ≡ all
+pub all_came : {S A B : Type 0} {steps : S → Option A → S → Type 0} {v : A → B} {s : S} {all : List B} (came : List A)
+    → YieldsList steps v s all → Drains steps s came → map v came ≡ all
 all_came came gives drained = items_from_drains came (drained.1.0, drained.1.1, λ u. (drained.0, drained.1.2)) gives
 
 -- a prefix of the transmission of the first codewords is one of the transmission of all
-pub took_longer : (before after came left : List ℕ) → TookPrefix before after (bytes_of came) → TookPrefix before after (bytes_of (came ++ left))
+pub took_longer : (before after came left : List ℕ) → TookPrefix before after (bytes_of came)
+    → TookPrefix before after (bytes_of (came ++ left))
 took_longer before after came left (grown, part) =
     let more : List ℕ = body_from (length came % 16) left in
     let short : length after ≤ length (before ++ bytes_of came) =
@@ -46,7 +50,8 @@ took_longer before after came left (grown, part) =
     (grown, ap (take (length after)) whole ∙ (take-append-le (length after) (before ++ bytes_of came) more short ∙ part))
 
 -- the first of the codewords, and the others
-say_split : SameFromKind → (w : ℕ) (left : List Kind) (ws : List ℕ) → IsCodeword w → Say (kind_of w ∷ left) ws → (rest : List ℕ) × (ws ≡ w ∷ rest) × Say left rest
+say_split : SameFromKind → (w : ℕ) (left : List Kind) (ws : List ℕ) → IsCodeword w → Say (kind_of w ∷ left) ws
+    → (rest : List ℕ) × (ws ≡ w ∷ rest) × Say left rest
 say_split same w left [] is say = absurd (omega (arith, ap length say.kinds))
 say_split same w left (v ∷ ws) is say =
     let both : kind_of v ∷ map kind_of ws ≡ kind_of w ∷ left = say.kinds in
@@ -56,7 +61,8 @@ say_split same w left (v ∷ ws) is say =
     (ws, ap (λ u. u ∷ ws) first, record { codewords = All-tail IsCodeword v ws say.codewords; kinds = others })
 
 -- codewords that say at first what these say begin with these
-say_prefix : SameFromKind → (came : List ℕ) (left : List Kind) (ws : List ℕ) → All IsCodeword came → Say (map kind_of came ++ left) ws → (rest : List ℕ) × (ws ≡ came ++ rest)
+say_prefix : SameFromKind → (came : List ℕ) (left : List Kind) (ws : List ℕ) → All IsCodeword came → Say (map kind_of came ++ left) ws
+    → (rest : List ℕ) × (ws ≡ came ++ rest)
 say_prefix same [] left ws are say = (ws, refl)
 say_prefix same (w ∷ came) left ws are say =
     let split = say_split same w (map kind_of came ++ left) ws (All-head IsCodeword w came are) say in

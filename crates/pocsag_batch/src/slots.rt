@@ -33,7 +33,8 @@ impl<'a> Model for Slots<'a> {
 
     ghost view = { λ s. map Message s.items.now ++ laid_by s.pages.now s.order.now s.steps.now };
 
-    ghost invariant = { λ s. All IsGoodPage s.pages.now × All (λ item. item < 2 ^ 20) s.items.now × HavePlaces (length s.pages.now) s.order.now s.steps.now };
+    ghost invariant = { λ s. All IsGoodPage s.pages.now × All (λ item. item < 2 ^ 20) s.items.now
+        × HavePlaces (length s.pages.now) s.order.now s.steps.now };
 }
 
 impl<'a> Slots<'a> {

@@ -8,7 +8,8 @@ use Rattle.pocsag_tree.specs.declared.refusals.CertificateFault.TheVariants as f
 use Rattle.pocsag_tree.specs.Reading.{Fails, IsEarly, Reader, small_at, large_at, split_at, node_at, tagged_at, row_at}
 
 -- the fault of a node before any byte of it is what reading it gives, whatever its bytes
-pub node_is_early : (ranges : Ranges) (depth made : ℕ) (bytes : List ℕ) (e : CertificateFault) → IsEarly depth made e → node_at ranges depth made bytes ≡ Err e
+pub node_is_early : (ranges : Ranges) (depth made : ℕ) (bytes : List ℕ) (e : CertificateFault) → IsEarly depth made e
+    → node_at ranges depth made bytes ≡ Err e
 unfolding node_at
 node_is_early ranges depth made bytes fault.TooDeep is = rw is refl
 node_is_early ranges depth made bytes fault.NotCertificate is = elim is [ ]
@@ -38,13 +39,15 @@ node_ends ranges depth made some few =
     node_stands ranges depth made [] some few
 
 -- what the first node of a row gives is what the row gives
-row_fails_first : (child : Reader) (count made : ℕ) (bytes : List ℕ) (e : CertificateFault) → 1 ≤ count → child made bytes ≡ Err e → row_at child count made bytes ≡ Err e
+row_fails_first : (child : Reader) (count made : ℕ) (bytes : List ℕ) (e : CertificateFault) → 1 ≤ count → child made bytes ≡ Err e
+    → row_at child count made bytes ≡ Err e
 unfolding row_at
 row_fails_first child zero made bytes e some is = absurd (omega arith)
 row_fails_first child (suc count) made bytes e some is = rw is refl
 
 -- a fault that is judged early is told as it is
-pub told : {A : Type 0} (depth made : ℕ) (e : CertificateFault) (stopped : Type 0) (read : Result A CertificateFault) → IsEarly depth made e → read ≡ Err e → Fails e stopped read
+pub told : {A : Type 0} (depth made : ℕ) (e : CertificateFault) (stopped : Type 0) (read : Result A CertificateFault) → IsEarly depth made e
+    → read ≡ Err e → Fails e stopped read
 told depth made fault.TooDeep stopped read is same = same
 told depth made fault.TooMany stopped read is same = same
 told depth made fault.NotCertificate stopped read is same = elim is [ ]
@@ -56,10 +59,12 @@ told depth made fault.BadField stopped read is same = elim is [ ]
 told depth made fault.ReadFault stopped read is same = elim is [ ]
 told depth made fault.OutOfMemory stopped read is same = elim is [ ]
 
-pub row_is_early : (ranges : Ranges) (depth count made : ℕ) (bytes : List ℕ) (e : CertificateFault) (stopped : Type 0) → 1 ≤ count → IsEarly depth made e
+pub row_is_early : (ranges : Ranges) (depth count made : ℕ) (bytes : List ℕ) (e : CertificateFault) (stopped : Type 0) → 1 ≤ count
+    → IsEarly depth made e
     → Fails e stopped (row_at (node_at ranges depth) count made bytes)
 row_is_early ranges depth count made bytes e stopped some is =
-    told depth made e stopped (row_at (node_at ranges depth) count made bytes) is (row_fails_first (node_at ranges depth) count made bytes e some (node_is_early ranges depth made bytes e is))
+    told depth made e stopped (row_at (node_at ranges depth) count made bytes) is
+    (row_fails_first (node_at ranges depth) count made bytes e some (node_is_early ranges depth made bytes e is))
 
 pub row_ends_early : (ranges : Ranges) (depth count made : ℕ) (bytes : List ℕ) → 1 ≤ count → 1 ≤ depth → made < most_nodes → bytes ≡ []
     → row_at (node_at ranges depth) count made bytes ≡ Err fault.Truncated
@@ -68,6 +73,7 @@ row_ends_early ranges depth count made bytes some deep few nothing =
 
 -- a fault of the first child is that of a `Split`
 pub split_fails : (ranges : Ranges) (child : Reader) (class m made : ℕ) (bytes middle rest : List ℕ) (e : CertificateFault)
-    → small_at 0 ranges.class bytes ≡ Ok (class, middle) → large_at 1 ranges.m middle ≡ Ok (m, rest) → child made rest ≡ Err e → split_at ranges child made bytes ≡ Err e
+    → small_at 0 ranges.class bytes ≡ Ok (class, middle) → large_at 1 ranges.m middle ≡ Ok (m, rest) → child made rest ≡ Err e
+    → split_at ranges child made bytes ≡ Err e
 unfolding split_at
 split_fails ranges child class m made bytes middle rest e a b is = rw (a, b, is) refl

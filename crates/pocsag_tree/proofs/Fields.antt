@@ -11,12 +11,14 @@ use Rattle.pocsag_tree.specs.Reading.{◌>>=◌, byte_at, number_at, small_at, l
 -- ---- steps that may fail
 
 -- the value of a step that did not fail
-pub bind_ok : {A B : Type 0} (r : Result A CertificateFault) (f : A → Result B CertificateFault) (y : B) → (r >>= f) ≡ Ok y → (x : A) × (r ≡ Ok x) × (f x ≡ Ok y)
+pub bind_ok : {A B : Type 0} (r : Result A CertificateFault) (f : A → Result B CertificateFault) (y : B) → (r >>= f) ≡ Ok y
+    → (x : A) × (r ≡ Ok x) × (f x ≡ Ok y)
 bind_ok (Ok x) f y e = (x, refl, e)
 bind_ok (Err d) f y e = absurd cc
 
 -- where the fault came from
-pub bind_err : {A B : Type 0} (r : Result A CertificateFault) (f : A → Result B CertificateFault) (d : CertificateFault) → (r >>= f) ≡ Err d → (r ≡ Err d) ⊎ ((x : A) × (r ≡ Ok x) × (f x ≡ Err d))
+pub bind_err : {A B : Type 0} (r : Result A CertificateFault) (f : A → Result B CertificateFault) (d : CertificateFault) → (r >>= f) ≡ Err d
+    → (r ≡ Err d) ⊎ ((x : A) × (r ≡ Ok x) × (f x ≡ Err d))
 bind_err (Ok x) f d e = inr (x, refl, e)
 bind_err (Err c) f d e = inl (let same : c ≡ d = cc in ap Err same)
 
@@ -26,11 +28,13 @@ guard_ok true x y d e = (refl, cc)
 guard_ok false x y d e = absurd cc
 
 -- a test that went the other way, and one that went this way
-pub guard_other : {A : Type 0} (b : Bool) (d : CertificateFault) (r : Result A CertificateFault) (y : A) → cond b (Err d) r ≡ Ok y → (b ≡ false) × (r ≡ Ok y)
+pub guard_other : {A : Type 0} (b : Bool) (d : CertificateFault) (r : Result A CertificateFault) (y : A) → cond b (Err d) r ≡ Ok y
+    → (b ≡ false) × (r ≡ Ok y)
 guard_other true d r y e = absurd cc
 guard_other false d r y e = (refl, e)
 
-pub guard_then : {A : Type 0} (b : Bool) (d : CertificateFault) (r : Result A CertificateFault) (y : A) → cond b r (Err d) ≡ Ok y → (b ≡ true) × (r ≡ Ok y)
+pub guard_then : {A : Type 0} (b : Bool) (d : CertificateFault) (r : Result A CertificateFault) (y : A) → cond b r (Err d) ≡ Ok y
+    → (b ≡ true) × (r ≡ Ok y)
 guard_then true d r y e = (refl, e)
 guard_then false d r y e = absurd cc
 
@@ -55,17 +59,18 @@ pub byte_is : (bytes : List ℕ) (x : ℕ × List ℕ) → byte_at bytes ≡ Ok 
 byte_is [] x e = absurd cc
 byte_is (b ∷ bytes) x e =
     let g = guard_ok (ltb b 256) (b, bytes) x fault.ReadFault e in
-    subst (λ y. ByteIs (b ∷ bytes) y.0 y.1) g.1 (record { parts = refl; small = ltb-true _ _ g.0 })
+    rw (← g.1) (record { parts = refl; small = ltb-true _ _ g.0 })
 
 pub byte_again : (b : ℕ) (rest : List ℕ) → b < 256 → byte_at (b ∷ rest) ≡ Ok (b, rest)
 byte_again b rest lt = rw (lt-ltb b 256 lt) refl
 
 -- the end came, since no reader gives a number from 256 on
-pub byte_short : (bytes : List ℕ) (f : CertificateFault) → byte_at bytes ≡ Err f → (f ≡ fault.ReadFault → ⊥) → (f ≡ fault.Truncated) × (bytes ≡ [])
+pub byte_short : (bytes : List ℕ) (f : CertificateFault) → byte_at bytes ≡ Err f → (f ≡ fault.ReadFault → ⊥)
+    → (f ≡ fault.Truncated) × (bytes ≡ [])
 byte_short [] f e given = (cc, refl)
 byte_short (b ∷ bytes) f e given =
     elim (chosen (ltb b 256) (Ok (b, bytes)) (Err fault.ReadFault) (Err f) e) [
-      | inl h ↦ absurd (let no = h.1 in cc)
+      | inl h ↦ absurd cc
       | inr h ↦ absurd (given (let no = h.1 in cc))
     ]
 
@@ -119,19 +124,27 @@ number_is bytes x e =
     let b = bind_ok (byte_at a.0.1) _ x a.2 in
     let high = byte_is bytes a.0 a.1 in
     let low = byte_is a.0.1 b.0 b.1 in
-    let made : ℕ × List ℕ = (a.0.0 * 256 + b.0.0, b.0.1) in
-    subst (λ y. TwoIs bytes y.0 y.1) (ok_is made x b.2)
-    (record { high = a.0.0; low = b.0.0; high_small = high.small; low_small = low.small; parts = high.parts ∙ ap (λ t. a.0.0 ∷ t) low.parts; value = refl })
+    rw (← ok_is _ x b.2)
+    (record {
+      high = a.0.0;
+      low = b.0.0;
+      high_small = high.small;
+      low_small = low.small;
+      parts = high.parts ∙ ap (λ t. a.0.0 ∷ t) low.parts;
+      value = refl;
+    })
 
 pub number_value : (bytes : List ℕ) (x : ℕ × List ℕ) → number_at bytes ≡ Ok x → NumberIs w16 bytes x.0 x.1
 number_value bytes x e =
     let t = number_is bytes x e in
-    subst (λ n. NumberIs w16 bytes n x.1) t.value (subst (λ b. NumberIs w16 b (t.high * 256 + t.low) x.1) (sym t.parts) (two_is t.high t.low x.1))
+    subst (λ n. NumberIs w16 bytes n x.1) t.value
+    (subst (λ b. NumberIs w16 b (t.high * 256 + t.low) x.1) (sym t.parts) (two_is t.high t.low x.1))
 
 pub number_takes : (bytes : List ℕ) (x : ℕ × List ℕ) → number_at bytes ≡ Ok x → (bytes ≡ to_be_bytes w16 x.0 ++ x.1) × (x.0 < 2 ^ 16)
 number_takes bytes x e =
     let t = number_is bytes x e in
-    let text : to_be_bytes w16 x.0 ≡ t.high ∷ t.low ∷ [] = be_bytes_2 (t.high ∷ t.low ∷ []) x.0 refl (two_small t.high t.low t.high_small t.low_small) (omega (arith, t.value)) in
+    let text : to_be_bytes w16 x.0 ≡ t.high ∷ t.low ∷ [] =
+    be_bytes_2 (t.high ∷ t.low ∷ []) x.0 refl (two_small t.high t.low t.high_small t.low_small) (omega (arith, t.value)) in
     (t.parts ∙ ap (λ y. y ++ x.1) (sym text), omega (arith, t.value, t.high_small, t.low_small))
 
 pub number_again : (n : ℕ) (rest : List ℕ) → n < 2 ^ 16 → number_at (to_be_bytes w16 n ++ rest) ≡ Ok (n, rest)
@@ -145,11 +158,12 @@ number_again n rest lt =
 pub number_short : (bytes : List ℕ) (f : CertificateFault) → number_at bytes ≡ Err f → (f ≡ fault.ReadFault → ⊥) → IsShort w16 bytes f
 unfolding number_at
 number_short bytes f e given =
-    elim (bind_err (byte_at bytes) (λ high. byte_at high.1 >>= λ low. Ok (high.0 * 256 + low.0, low.1)) f e) [
+    elim (bind_err (byte_at bytes) _ f e) [
       | inl h ↦ let s = byte_short bytes f h given in record { truncated = s.0; short = rw s.1 (omega arith) }
-      | inr h ↦ elim (bind_err (byte_at h.0.1) (λ low. Ok (h.0.0 * 256 + low.0, low.1)) f h.2) [
-        | inl k ↦ let s = byte_short h.0.1 f k given in let first = byte_is bytes h.0 h.1 in record { truncated = s.0; short = rw (first.parts, s.1) (omega arith) }
-        | inr k ↦ absurd (let no = k.2 in cc)
+      | inr h ↦ elim (bind_err (byte_at h.0.1) _ f h.2) [
+        | inl k ↦ let s = byte_short h.0.1 f k given in let first = byte_is bytes h.0 h.1 in
+            record { truncated = s.0; short = rw (first.parts, s.1) (omega arith) }
+        | inr k ↦ absurd cc
       ]
     ]
 
@@ -171,26 +185,29 @@ range_is low high n e = let p = and_parts (leb low n) (leb n high) e in record {
 pub range_true : (low high n : ℕ) → low ≤ n → n ≤ high → (leb low n && leb n high) ≡ true
 range_true low high n a b = and_from (leb low n) (leb n high) (le-leb _ _ a) (le-leb _ _ b)
 
-pub small_takes : (low high : ℕ) (bytes : List ℕ) (x : ℕ × List ℕ) → small_at low high bytes ≡ Ok x → ByteIs bytes x.0 x.1 × InRange low high x.0
+pub small_takes : (low high : ℕ) (bytes : List ℕ) (x : ℕ × List ℕ) → small_at low high bytes ≡ Ok x
+    → ByteIs bytes x.0 x.1 × InRange low high x.0
 unfolding small_at
 small_takes low high bytes x e =
     let a = bind_ok (byte_at bytes) _ x e in
     let g = guard_ok (leb low a.0.0 && leb a.0.0 high) a.0 x fault.BadField a.2 in
-    subst (λ y. ByteIs bytes y.0 y.1 × InRange low high y.0) g.1 (byte_is bytes a.0 a.1, range_is low high a.0.0 g.0)
+    rw (← g.1) (byte_is bytes a.0 a.1, range_is low high a.0.0 g.0)
 
 pub small_again : (low high n : ℕ) (rest : List ℕ) → low ≤ n → n ≤ high → n < 256 → small_at low high (n ∷ rest) ≡ Ok (n, rest)
 unfolding small_at
 small_again low high n rest a b lt = rw (byte_again n rest lt, range_true low high n a b) refl
 
-pub large_takes : (low high : ℕ) (bytes : List ℕ) (x : ℕ × List ℕ) → large_at low high bytes ≡ Ok x → (bytes ≡ to_be_bytes w16 x.0 ++ x.1) × (x.0 < 2 ^ 16) × InRange low high x.0
+pub large_takes : (low high : ℕ) (bytes : List ℕ) (x : ℕ × List ℕ) → large_at low high bytes ≡ Ok x
+    → (bytes ≡ to_be_bytes w16 x.0 ++ x.1) × (x.0 < 2 ^ 16) × InRange low high x.0
 unfolding large_at
 large_takes low high bytes x e =
     let a = bind_ok (number_at bytes) _ x e in
     let g = guard_ok (leb low a.0.0 && leb a.0.0 high) a.0 x fault.BadField a.2 in
     let t = number_takes bytes a.0 a.1 in
-    subst (λ y. (bytes ≡ to_be_bytes w16 y.0 ++ y.1) × (y.0 < 2 ^ 16) × InRange low high y.0) g.1 (t.0, t.1, range_is low high a.0.0 g.0)
+    rw (← g.1) (t.0, t.1, range_is low high a.0.0 g.0)
 
-pub large_again : (low high n : ℕ) (rest : List ℕ) → low ≤ n → n ≤ high → n < 2 ^ 16 → large_at low high (to_be_bytes w16 n ++ rest) ≡ Ok (n, rest)
+pub large_again : (low high n : ℕ) (rest : List ℕ) → low ≤ n → n ≤ high → n < 2 ^ 16
+    → large_at low high (to_be_bytes w16 n ++ rest) ≡ Ok (n, rest)
 unfolding large_at
 large_again low high n rest a b lt = rw (number_again n rest lt, range_true low high n a b) refl
 
@@ -207,8 +224,10 @@ four_from_twos bytes middle rest h l p q =
     let n = (p.high * 256 + p.low) * 65536 + (q.high * 256 + q.low) in
     let shape : bytes ≡ p.high ∷ p.low ∷ q.high ∷ q.low ∷ rest = p.parts ∙ ap (λ t. p.high ∷ p.low ∷ t) q.parts in
     let value : n ≡ h * 65536 + l = omega (arith, p.value, q.value) in
-    let text : to_be_bytes w32 n ≡ p.high ∷ p.low ∷ q.high ∷ q.low ∷ [] = be_bytes_4 (p.high ∷ p.low ∷ q.high ∷ q.low ∷ []) n refl (four_small p.high p.low q.high q.low p.high_small p.low_small q.high_small q.low_small) (omega arith) in
-    subst (λ m. FourIs bytes m rest) value
+    let text : to_be_bytes w32 n ≡ p.high ∷ p.low ∷ q.high ∷ q.low ∷ [] =
+    be_bytes_4 (p.high ∷ p.low ∷ q.high ∷ q.low ∷ []) n refl
+    (four_small p.high p.low q.high q.low p.high_small p.low_small q.high_small q.low_small) (omega arith) in
+    rw (← value)
     (record {
       number = rw shape (four_is p.high p.low q.high q.low rest);
       parts = shape ∙ ap (λ t. t ++ rest) (sym text);
@@ -220,21 +239,21 @@ unfolding long_number_at
 long_number_is bytes x e =
     let a = bind_ok (number_at bytes) _ x e in
     let b = bind_ok (number_at a.0.1) _ x a.2 in
-    let built : ℕ × List ℕ = (a.0.0 * 65536 + b.0.0, b.0.1) in
-    subst (λ y. FourIs bytes y.0 y.1) (ok_is built x b.2)
+    rw (← ok_is _ x b.2)
     (four_from_twos bytes a.0.1 b.0.1 a.0.0 b.0.0 (number_is bytes a.0 a.1) (number_is a.0.1 b.0 b.1))
 
-pub long_number_short : (bytes : List ℕ) (f : CertificateFault) → long_number_at bytes ≡ Err f → (f ≡ fault.ReadFault → ⊥) → IsShort w32 bytes f
+pub long_number_short : (bytes : List ℕ) (f : CertificateFault) → long_number_at bytes ≡ Err f → (f ≡ fault.ReadFault → ⊥)
+    → IsShort w32 bytes f
 unfolding long_number_at
 long_number_short bytes f e given =
-    elim (bind_err (number_at bytes) (λ high. number_at high.1 >>= λ low. Ok (high.0 * 65536 + low.0, low.1)) f e) [
+    elim (bind_err (number_at bytes) _ f e) [
       | inl h ↦ let s = number_short bytes f h given in record { truncated = s.truncated; short = omega (arith, s.short) }
-      | inr h ↦ elim (bind_err (number_at h.0.1) (λ low. Ok (h.0.0 * 65536 + low.0, low.1)) f h.2) [
+      | inr h ↦ elim (bind_err (number_at h.0.1) _ f h.2) [
         | inl k ↦
             let s = number_short h.0.1 f k given in
             let first = number_is bytes h.0 h.1 in
             record { truncated = s.truncated; short = omega (arith, s.short, ap length first.parts) }
-        | inr k ↦ absurd (let no = k.2 in cc)
+        | inr k ↦ absurd cc
       ]
     ]
 
@@ -243,7 +262,7 @@ unfolding batches_at
 batches_takes bytes x e =
     let a = bind_ok (long_number_at bytes) _ x e in
     let g = guard_ok (leb 1 a.0.0) a.0 x fault.BadField a.2 in
-    subst (λ y. FourIs bytes y.0 y.1 × (1 ≤ y.0)) g.1 (long_number_is bytes a.0 a.1, leb-true _ _ g.0)
+    rw (← g.1) (long_number_is bytes a.0 a.1, leb-true _ _ g.0)
 
 pair_again : (h l : ℕ) (rest : List ℕ) → h < 256 → l < 256 → number_at (h ∷ l ∷ rest) ≡ Ok (h * 256 + l, rest)
 unfolding number_at
@@ -252,7 +271,8 @@ pair_again h l rest p q = rw (byte_again h (l ∷ rest) p, byte_again l rest q) 
 four_whole : (n : ℕ) → n < 2 ^ 32 → (n / 16777216 % 256 * 256 + n / 65536 % 256) * 65536 + (n / 256 % 256 * 256 + n % 256) ≡ n
 four_whole n lt = omega arith
 
-four_again : (h l : ℕ) (bytes middle rest : List ℕ) → number_at bytes ≡ Ok (h, middle) → number_at middle ≡ Ok (l, rest) → 1 ≤ h * 65536 + l → batches_at bytes ≡ Ok (h * 65536 + l, rest)
+four_again : (h l : ℕ) (bytes middle rest : List ℕ) → number_at bytes ≡ Ok (h, middle) → number_at middle ≡ Ok (l, rest) → 1 ≤ h * 65536 + l
+    → batches_at bytes ≡ Ok (h * 65536 + l, rest)
 unfolding batches_at long_number_at
 four_again h l bytes middle rest p q some = rw (p, q, le-leb 1 (h * 65536 + l) some) refl
 
@@ -263,6 +283,8 @@ batches_again n rest some lt =
     let c = n / 256 % 256 in
     let d = n % 256 in
     let whole : (a * 256 + b) * 65536 + (c * 256 + d) ≡ n = four_whole n lt in
-    let p : number_at (to_be_bytes w32 n ++ rest) ≡ Ok (a * 256 + b, c ∷ d ∷ rest) = pair_again a b (c ∷ d ∷ rest) (omega arith) (omega arith) in
+    let p : number_at (to_be_bytes w32 n ++ rest) ≡ Ok (a * 256 + b, c ∷ d ∷ rest) =
+    pair_again a b (c ∷ d ∷ rest) (omega arith) (omega arith) in
     let q : number_at (c ∷ d ∷ rest) ≡ Ok (c * 256 + d, rest) = pair_again c d rest (omega arith) (omega arith) in
-    subst (λ m. batches_at (to_be_bytes w32 n ++ rest) ≡ Ok (m, rest)) whole (four_again (a * 256 + b) (c * 256 + d) (to_be_bytes w32 n ++ rest) (c ∷ d ∷ rest) rest p q (omega (arith, whole)))
+    subst (λ m. batches_at (to_be_bytes w32 n ++ rest) ≡ Ok (m, rest)) whole
+    (four_again (a * 256 + b) (c * 256 + d) (to_be_bytes w32 n ++ rest) (c ∷ d ∷ rest) rest p q (omega (arith, whole)))

@@ -30,18 +30,21 @@ all_takes bytes x e =
     let b = bind_ok (end_at a.0.3) _ x a.2 in
     let t = certificate_takes bytes a.0 a.1 in
     let all : t.0 ≡ bytes = sym (t.2 ∙ ap (λ y. t.0 ++ y) (end_takes a.0.3 b.0 b.1) ∙ append-nil t.0) in
-    let built : End × ℕ × Bound = (a.0.0, a.0.1, a.0.2) in
-    subst (λ y. IsText y.0 y.1 y.2 bytes) (ok_is built x b.2) (subst (λ y. IsText a.0.0 a.0.1 a.0.2 y) all t.1)
+    rw (← ok_is _ x b.2)
+    (subst (λ y. IsText a.0.0 a.0.1 a.0.2 y) all t.1)
 
 -- a text is read whole
-pub all_again : (end : End) (batches : ℕ) (tree : Bound) (bytes : List ℕ) → IsText end batches tree bytes → all_of bytes ≡ Ok (end, batches, tree)
+pub all_again : (end : End) (batches : ℕ) (tree : Bound) (bytes : List ℕ) → IsText end batches tree bytes
+    → all_of bytes ≡ Ok (end, batches, tree)
 unfolding all_of end_at
 all_again end batches tree bytes is =
-    let read : certificate_at bytes ≡ Ok (end, batches, tree, []) = ap certificate_at (sym (append-nil bytes)) ∙ certificate_again end batches tree bytes [] is in
+    let read : certificate_at bytes ≡ Ok (end, batches, tree, []) = ap certificate_at (sym (append-nil bytes))
+    ∙ certificate_again end batches tree bytes [] is in
     rw read refl
 
 -- a fault is a refusal, or that of reading
-fails_is : {Y : Type 0} (e : CertificateFault) (read : Result Y CertificateFault) → Fails e ⊥ read → IsRefusal e ⊎ ((read ≡ Err e) × (e ≡ fault.ReadFault → ⊥))
+fails_is : {Y : Type 0} (e : CertificateFault) (read : Result Y CertificateFault) → Fails e ⊥ read
+    → IsRefusal e ⊎ ((read ≡ Err e) × (e ≡ fault.ReadFault → ⊥))
 fails_is fault.ReadFault read h = inl tt
 fails_is fault.OutOfMemory read h = inl tt
 fails_is fault.NotCertificate read h = inr (h, λ no. cc)
@@ -54,7 +57,8 @@ fails_is fault.TooDeep read h = inr (h, λ no. cc)
 fails_is fault.TooMany read h = inr (h, λ no. cc)
 
 -- a fault behind a certificate is the fault of the whole
-pub all_ends : (e : CertificateFault) (bytes rest : List ℕ) (end : End) (batches : ℕ) (tree : Bound) → certificate_at bytes ≡ Ok (end, batches, tree, rest) → Fails e ⊥ (end_at rest) → Fails e ⊥ (all_of bytes)
+pub all_ends : (e : CertificateFault) (bytes rest : List ℕ) (end : End) (batches : ℕ) (tree : Bound)
+    → certificate_at bytes ≡ Ok (end, batches, tree, rest) → Fails e ⊥ (end_at rest) → Fails e ⊥ (all_of bytes)
 unfolding all_of
 all_ends e bytes rest end batches tree read h = fails_along e ⊥ (end_at rest) (all_of bytes) (λ f is. rw (read, is) refl) h
 
@@ -62,11 +66,13 @@ all_ends e bytes rest end batches tree read h = fails_along e ⊥ (end_at rest) 
 abbrev pub IsGiven : Result Certificate CertificateFault → List ℕ → Type 0
 IsGiven r bytes = Gives (λ c. (c.end, c.batches, bound_of c.tree)) ⊥ r (all_of bytes)
 
-pub is_found : (r : Result Certificate CertificateFault) (bytes : List ℕ) → IsGiven r bytes → IfOk r (λ c. IsText c.end c.batches (bound_of c.tree) bytes)
+pub is_found : (r : Result Certificate CertificateFault) (bytes : List ℕ) → IsGiven r bytes
+    → IfOk r (λ c. IsText c.end c.batches (bound_of c.tree) bytes)
 is_found (Ok c) bytes given = all_takes bytes (c.end, c.batches, bound_of c.tree) given
 is_found (Err e) bytes given = tt
 
-pub is_only : (r : Result Certificate CertificateFault) (bytes : List ℕ) → IsGiven r bytes → (end : End) (batches : ℕ) (tree : Bound) → IsText end batches tree bytes → AnswersTriple r end batches tree
+pub is_only : (r : Result Certificate CertificateFault) (bytes : List ℕ) → IsGiven r bytes → (end : End) (batches : ℕ) (tree : Bound)
+    → IsText end batches tree bytes → AnswersTriple r end batches tree
 is_only (Ok c) bytes given end batches tree is =
     let read : End × ℕ × Bound = (c.end, c.batches, bound_of c.tree) in
     let meant : End × ℕ × Bound = (end, batches, tree) in
@@ -79,7 +85,7 @@ is_only (Err e) bytes given end batches tree is =
     ]
 
 verdict_at : (bytes : List ℕ) (s : Result (End × ℕ × Bound) CertificateFault) → all_of bytes ≡ s → HasVerdict bytes s
-verdict_at bytes s e = subst (λ x. HasVerdict bytes x) e (all_verdict bytes)
+verdict_at bytes s e = rw (← e) (all_verdict bytes)
 
 pub is_fault : (r : Result Certificate CertificateFault) (bytes : List ℕ) → IsGiven r bytes → IfErr r (λ e. IsFault e bytes)
 is_fault (Ok c) bytes given = tt
@@ -89,8 +95,10 @@ is_fault (Err e) bytes given =
       | inr h ↦ inr (verdict_at bytes (Err e) h.0 h.1)
     ]
 
-pub is_first : (r : Result Certificate CertificateFault) (bytes : List ℕ) → IsGiven r bytes → (f : CertificateFault) → HasFirst f bytes → AnswersFault r f
-is_first (Ok c) bytes given f first = absurd (let no = one_verdict first None (verdict_at bytes (Ok (c.end, c.batches, bound_of c.tree)) given) in cc)
+pub is_first : (r : Result Certificate CertificateFault) (bytes : List ℕ) → IsGiven r bytes → (f : CertificateFault) → HasFirst f bytes
+    → AnswersFault r f
+is_first (Ok c) bytes given f first =
+    absurd (let no = one_verdict first None (verdict_at bytes (Ok (c.end, c.batches, bound_of c.tree)) given) in cc)
 is_first (Err e) bytes given f first =
     elim (fails_is e (all_of bytes) given) [
       | inl h ↦ inl h
@@ -102,7 +110,8 @@ pub is_wanting : (bytes : List ℕ) → IsWanting (certificate_at bytes) → Has
 unfolding all_of end_at
 is_wanting bytes h = of_read bytes (certificate_at bytes) refl h
   where
-    of_read : (bytes : List ℕ) (r : Result (End × ℕ × Bound × List ℕ) CertificateFault) → certificate_at bytes ≡ r → IsWanting r → HasNoFault bytes
+    of_read : (bytes : List ℕ) (r : Result (End × ℕ × Bound × List ℕ) CertificateFault) → certificate_at bytes ≡ r → IsWanting r
+        → HasNoFault bytes
     of_read bytes (Ok x) is h =
         let read : all_of bytes ≡ Ok (x.0, x.1, x.2) = rw (is, h) refl in
         inr (verdict_at bytes (Ok (x.0, x.1, x.2)) read)
@@ -117,24 +126,30 @@ is_short bytes is = verdict_at bytes (Err fault.Truncated) (rw is refl) (λ no. 
 
 -- ---- laws
 
-pub texts_same : (bytes : List ℕ) (end other_end : End) (batches other_batches : ℕ) (tree other_tree : Bound) → IsText end batches tree bytes → IsText other_end other_batches other_tree bytes
+pub texts_same : (bytes : List ℕ) (end other_end : End) (batches other_batches : ℕ) (tree other_tree : Bound)
+    → IsText end batches tree bytes → IsText other_end other_batches other_tree bytes
     → (end ≡ other_end) × (batches ≡ other_batches) × (tree ≡ other_tree)
 texts_same bytes end other_end batches other_batches tree other_tree one two =
     let first : End × ℕ × Bound = (end, batches, tree) in
     let second : End × ℕ × Bound = (other_end, other_batches, other_tree) in
-    let same : first ≡ second = ok_is first second (sym (all_again end batches tree bytes one) ∙ all_again other_end other_batches other_tree bytes two) in
+    let same : first ≡ second = ok_is first second
+    (sym (all_again end batches tree bytes one) ∙ all_again other_end other_batches other_tree bytes two) in
     (ap (λ x. x.0) same, ap (λ x. x.1) same, ap (λ x. x.2) same)
 
-pub nothing_more : (bytes more : List ℕ) (end other_end : End) (batches other_batches : ℕ) (tree other_tree : Bound) → IsText end batches tree bytes → IsText other_end other_batches other_tree (bytes ++ more) → more ≡ []
+pub nothing_more : (bytes more : List ℕ) (end other_end : End) (batches other_batches : ℕ) (tree other_tree : Bound)
+    → IsText end batches tree bytes → IsText other_end other_batches other_tree (bytes ++ more) → more ≡ []
 nothing_more bytes more end other_end batches other_batches tree other_tree one two =
     let first : End × ℕ × Bound × List ℕ = (end, batches, tree, more) in
     let second : End × ℕ × Bound × List ℕ = (other_end, other_batches, other_tree, []) in
-    let whole : certificate_at (bytes ++ more) ≡ Ok second = ap certificate_at (sym (append-nil (bytes ++ more))) ∙ certificate_again other_end other_batches other_tree (bytes ++ more) [] two in
+    let whole : certificate_at (bytes ++ more) ≡ Ok second = ap certificate_at (sym (append-nil (bytes ++ more)))
+    ∙ certificate_again other_end other_batches other_tree (bytes ++ more) [] two in
     let same : first ≡ second = ok_is first second (sym (certificate_again end batches tree bytes more one) ∙ whole) in
     ap (λ x. x.3) same
 
 pub same_fault : (bytes : List ℕ) (f g : CertificateFault) → HasFirst f bytes → HasFirst g bytes → f ≡ g
 same_fault bytes f g one two = let same = one_verdict one (Some g) two in cc
 
-pub no_fault : (bytes : List ℕ) (end : End) (batches : ℕ) (tree : Bound) (f : CertificateFault) → IsText end batches tree bytes → HasFirst f bytes → ⊥
-no_fault bytes end batches tree f is first = let no = one_verdict first None (verdict_at bytes (Ok (end, batches, tree)) (all_again end batches tree bytes is)) in cc
+pub no_fault : (bytes : List ℕ) (end : End) (batches : ℕ) (tree : Bound) (f : CertificateFault) → IsText end batches tree bytes
+    → HasFirst f bytes → ⊥
+no_fault bytes end batches tree f is first = let no =
+    one_verdict first None (verdict_at bytes (Ok (end, batches, tree)) (all_again end batches tree bytes is)) in cc

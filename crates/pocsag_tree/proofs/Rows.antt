@@ -24,21 +24,26 @@ before-none : (front : List Bound) → before front none ≡ bounds_from front
 before-none [] = refl
 before-none (u ∷ us) = ap (λ x. more u x) (before-none us)
 
-regroup : (front : List Bound) (t : Bound) (read : Result (Read Bounds) CertificateFault) → with_front front (read >>= λ x. Ok (more t x.0, x.1, x.2)) ≡ with_front (front ++ t ∷ []) read
+regroup : (front : List Bound) (t : Bound) (read : Result (Read Bounds) CertificateFault)
+    → with_front front (read >>= λ x. Ok (more t x.0, x.1, x.2)) ≡ with_front (front ++ t ∷ []) read
 regroup front t (Ok x) = ap (λ ts. Ok (ts, x.1, x.2)) (sym (before-push front t x.0))
 regroup front t (Err f) = refl
 
-pub row_goes_on : (child : Reader) (front : List Bound) (count i made : ℕ) (bytes : List ℕ) (t : Bound) (after : ℕ) (rest : List ℕ) (total : Result (Read Bounds) CertificateFault)
+pub row_goes_on : (child : Reader) (front : List Bound) (count i made : ℕ) (bytes : List ℕ) (t : Bound) (after : ℕ) (rest : List ℕ)
+    (total : Result (Read Bounds) CertificateFault)
     → i < count → child made bytes ≡ Ok (t, after, rest)
-    → with_front front (row_at child (count - i) made bytes) ≡ total → with_front (front ++ t ∷ []) (row_at child (count - (i + 1)) after rest) ≡ total
+    → with_front front (row_at child (count - i) made bytes) ≡ total
+    → with_front (front ++ t ∷ []) (row_at child (count - (i + 1)) after rest) ≡ total
 unfolding row_at
 row_goes_on child front count i made bytes t after rest total lt h so_far =
     let k : count - i ≡ suc (count - (i + 1)) = omega arith in
-    let one : with_front front (row_at child (count - i) made bytes) ≡ with_front (front ++ t ∷ []) (row_at child (count - (i + 1)) after rest) = rw (k, h) (regroup front t (row_at child (count - (i + 1)) after rest)) in
+    let one : with_front front (row_at child (count - i) made bytes) ≡ with_front (front ++ t ∷ [])
+    (row_at child (count - (i + 1)) after rest) = rw (k, h) (regroup front t (row_at child (count - (i + 1)) after rest)) in
     sym one ∙ so_far
 
 -- a fault of a child is the fault of the row
-row_fails : (e : CertificateFault) (child : Reader) (front : List Bound) (count i made : ℕ) (bytes : List ℕ) (total : Result (Read Bounds) CertificateFault)
+row_fails : (e : CertificateFault) (child : Reader) (front : List Bound) (count i made : ℕ) (bytes : List ℕ)
+    (total : Result (Read Bounds) CertificateFault)
     → i < count → child made bytes ≡ Err e
     → with_front front (row_at child (count - i) made bytes) ≡ total → total ≡ Err e
 unfolding row_at
@@ -48,7 +53,8 @@ row_fails e child front count i made bytes total lt h so_far =
     sym so_far ∙ one
 
 -- where a fault of one reading is the fault of another, so is what a function returned
-pub fails_along : {A B : Type 0} (e : CertificateFault) (stopped : Type 0) (r : Result A CertificateFault) (s : Result B CertificateFault) → ((f : CertificateFault) → r ≡ Err f → s ≡ Err f) → Fails e stopped r → Fails e stopped s
+pub fails_along : {A B : Type 0} (e : CertificateFault) (stopped : Type 0) (r : Result A CertificateFault) (s : Result B CertificateFault)
+    → ((f : CertificateFault) → r ≡ Err f → s ≡ Err f) → Fails e stopped r → Fails e stopped s
 fails_along fault.ReadFault stopped r s along h = λ here. along fault.Truncated (h here)
 fails_along fault.OutOfMemory stopped r s along h = λ here. along fault.Truncated (h here)
 fails_along fault.NotCertificate stopped r s along h = along fault.NotCertificate h
@@ -60,7 +66,8 @@ fails_along fault.BadField stopped r s along h = along fault.BadField h
 fails_along fault.TooDeep stopped r s along h = along fault.TooDeep h
 fails_along fault.TooMany stopped r s along h = along fault.TooMany h
 
-pub row_ends : (e : CertificateFault) (stopped : Type 0) (child : Reader) (front : List Bound) (count i made : ℕ) (bytes : List ℕ) (total : Result (Read Bounds) CertificateFault)
+pub row_ends : (e : CertificateFault) (stopped : Type 0) (child : Reader) (front : List Bound) (count i made : ℕ) (bytes : List ℕ)
+    (total : Result (Read Bounds) CertificateFault)
     → i < count → Fails e stopped (child made bytes)
     → with_front front (row_at child (count - i) made bytes) ≡ total → Fails e stopped total
 row_ends e stopped child front count i made bytes total lt h so_far =
@@ -71,11 +78,13 @@ pub row_is_done : (child : Reader) (front : List Bound) (count i made : ℕ) (by
 unfolding row_at
 row_is_done child front count i made bytes total le so_far =
     let k : count - i ≡ 0 = omega arith in
-    let one : with_front front (row_at child (count - i) made bytes) ≡ Ok (bounds_from front, made, bytes) = rw k (ap (λ ts. Ok (ts, made, bytes)) (before-none front)) in
+    let one : with_front front (row_at child (count - i) made bytes) ≡ Ok (bounds_from front, made, bytes) =
+    rw k (ap (λ ts. Ok (ts, made, bytes)) (before-none front)) in
     sym so_far ∙ one
 
 -- before the first child
-pub row_starts : (child : Reader) (items : List Tree) (count made : ℕ) (bytes : List ℕ) → items ≡ [] → with_front (map bound_of items) (row_at child (count - 0) made bytes) ≡ row_at child count made bytes
+pub row_starts : (child : Reader) (items : List Tree) (count made : ℕ) (bytes : List ℕ) → items ≡ []
+    → with_front (map bound_of items) (row_at child (count - 0) made bytes) ≡ row_at child count made bytes
 row_starts child items count made bytes is =
     let k : count - 0 ≡ count = omega arith in
     rw (is, k) (none_before (row_at child count made bytes))
@@ -85,7 +94,8 @@ row_starts child items count made bytes is =
     none_before (Err f) = refl
 
 -- counts of a row with one tree more
-pub nodes-push : (ts : List Tree) (t : Tree) → all_nodes_in (bounds_of (ts ++ t ∷ [])) ≡ all_nodes_in (bounds_of ts) + all_nodes (bound_of t)
+pub nodes-push : (ts : List Tree) (t : Tree)
+    → all_nodes_in (bounds_of (ts ++ t ∷ [])) ≡ all_nodes_in (bounds_of ts) + all_nodes (bound_of t)
 nodes-push [] t = omega arith
 nodes-push (u ∷ us) t = omega (arith, nodes-push us t)
 

@@ -5,12 +5,16 @@ use Rattle.std.specs.Result.{IsErrAnd}
 use Rattle.pocsag_words.specs.Devices.{Delivers, TookPrefix}
 
 -- a prefix of the first piece is a prefix of the text
-pub took_first : (before after text piece rest : List ℕ) → text ≡ piece ++ rest → TookPrefix before after piece → TookPrefix before after text
+pub took_first : (before after text piece rest : List ℕ) → text ≡ piece ++ rest → TookPrefix before after piece
+    → TookPrefix before after text
 took_first before after text piece rest is took =
     let short : length after ≤ length (before ++ piece) = omega (arith, length-take (length after) (before ++ piece), ap length took.1) in
     let front : take (length after) ((before ++ piece) ++ rest) ≡ take (length after) (before ++ piece) =
-        take-append-le (length after) (before ++ piece) rest short in
-    (took.0, ap (λ t. take (length after) (before ++ t)) is ∙ ap (take (length after)) (sym (append_assoc before piece rest)) ∙ front ∙ took.1)
+    take-append-le (length after) (before ++ piece) rest short in (
+      took.0,
+      ap (λ t. take (length after) (before ++ t)) is ∙ ap (take (length after)) (sym (append_assoc before piece rest)) ∙ front
+          ∙ took.1,
+    )
 
 -- a prefix of what is left is a prefix of the text
 pub took_left : (before middle after text rest : List ℕ) → length before ≤ length middle → middle ++ rest ≡ before ++ text
@@ -27,7 +31,8 @@ piece_left before middle text piece rest is whole =
 pub took_then : (before middle after text piece rest : List ℕ) → text ≡ piece ++ rest → middle ≡ before ++ piece
     → TookPrefix middle after rest → TookPrefix before after text
 took_then before middle after text piece rest is whole took =
-    took_left before middle after text rest (omega (arith, length-append before piece, ap length whole)) (piece_left before middle text piece rest is whole) took
+    took_left before middle after text rest (omega (arith, length-append before piece, ap length whole))
+    (piece_left before middle text piece rest is whole) took
 
 -- the same at the end of a function, whose answer is that of the last piece
 pub delivers_then : {X E : Type 0} (r : Result X E) (before middle after text piece rest : List ℕ) → text ≡ piece ++ rest

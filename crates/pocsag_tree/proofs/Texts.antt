@@ -1,5 +1,5 @@
 -- The two laws of *Certificate text*: what is read is spelled so, and what is spelled so is read.
-use Rattle.std.proofs.Common.{◌≡◌, ℕ, zero, suc, ◌<◌, ◌≤◌, ◌⊎◌, inl, inr, eqb, List, ◌∷◌, ◌++◌, Ok, refl, sym, ap, subst, ◌∙◌, append_assoc, arith, lit<}
+use Rattle.std.proofs.Common.{◌≡◌, ℕ, zero, suc, ◌<◌, ◌≤◌, ◌⊎◌, inl, inr, eqb, List, ◌∷◌, ◌++◌, Ok, refl, sym, ap, ◌∙◌, append_assoc, arith, lit<}
 use Rattle.std.specs.Int.{w32, to_be_bytes}
 use Rattle.std.proofs.lemmas.Bool.{eqb-true, eq-eqb}
 use Rattle.pocsag_words.specs.declared.ending.End.{End}
@@ -51,14 +51,15 @@ version_takes bytes x e =
     elim (chosen (eqb a.0.0 0x31) (Ok (first_ranges, ends.Open, a.0.1)) _ (Ok x) a.2) [
       | inl h ↦
           let built : Ranges × End × List ℕ = (first_ranges, ends.Open, a.0.1) in
-          inl (subst (λ y. IsFirst y bytes) (ok_is built x h.1) (refl, refl, first.parts ∙ ap (λ n. n ∷ a.0.1) (eqb-true _ _ h.0)))
+          inl (rw (← (ok_is built x h.1)) (refl, refl, first.parts ∙ ap (λ n. n ∷ a.0.1) (eqb-true _ _ h.0)))
       | inr h ↦
           let g = guard_then (eqb a.0.0 0x32) fault.Version (small_at 0 1 a.0.1 >>= λ end. Ok (second_ranges, end_of end.0, end.1)) x h.1 in
           let b = bind_ok (small_at 0 1 a.0.1) _ x g.1 in
           let p = small_takes 0 1 a.0.1 b.0 b.1 in
           let built : Ranges × End × List ℕ = (second_ranges, end_of b.0.0, b.0.1) in
-          let whole : bytes ≡ 0x32 ∷ end_byte (end_of b.0.0) ∷ b.0.1 = first.parts ∙ ap (λ n. n ∷ a.0.1) (eqb-true _ _ g.0) ∙ ap (λ y. 0x32 ∷ y) p.0.parts ∙ ap (λ n. 0x32 ∷ n ∷ b.0.1) (sym (end_byte-of b.0.0 p.1.most)) in
-          inr (subst (λ y. IsSecond y bytes) (ok_is built x b.2) (refl, whole))
+          let whole : bytes ≡ 0x32 ∷ end_byte (end_of b.0.0) ∷ b.0.1 = first.parts ∙ ap (λ n. n ∷ a.0.1) (eqb-true _ _ g.0)
+          ∙ ap (λ y. 0x32 ∷ y) p.0.parts ∙ ap (λ n. 0x32 ∷ n ∷ b.0.1) (sym (end_byte-of b.0.0 p.1.most)) in
+          inr (rw (← (ok_is built x b.2)) (refl, whole))
     ]
 
 first_again : (rest : List ℕ) → version_at (0x31 ∷ rest) ≡ Ok (first_ranges, ends.Open, rest)
@@ -75,12 +76,19 @@ record TakesRest (r : Ranges) (bytes : List ℕ) (batches : ℕ) (tree : Bound) 
   has_text : HasText r batches tree
   parts : bytes ≡ to_be_bytes w32 batches ++ (node tree ++ rest)
 
-rest_takes : (r : Ranges) → IsVersion r → (bytes : List ℕ) (batches : ℕ × List ℕ) (tree : Read Bound) → batches_at bytes ≡ Ok batches → node_at r greatest_depth 0 batches.1 ≡ Ok tree → TakesRest r bytes batches.0 tree.0 tree.2
+rest_takes : (r : Ranges) → IsVersion r → (bytes : List ℕ) (batches : ℕ × List ℕ) (tree : Read Bound) → batches_at bytes ≡ Ok batches
+    → node_at r greatest_depth 0 batches.1 ≡ Ok tree → TakesRest r bytes batches.0 tree.0 tree.2
 rest_takes r v bytes batches tree p q =
     let four = batches_takes bytes batches p in
     let t = node_takes r v greatest_depth 0 batches.1 tree q in
     record {
-      has_text = record { some_batch = four.1; four_bytes = four.0.small; in_range = t.in_range; depth = t.deep; nodes = omega (arith, t.counted, t.few) };
+      has_text = record {
+        some_batch = four.1;
+        four_bytes = four.0.small;
+        in_range = t.in_range;
+        depth = t.deep;
+        nodes = omega (arith, t.counted, t.few);
+      };
       parts = four.0.parts ∙ ap (λ y. to_be_bytes w32 batches.0 ++ y) t.parts;
     }
 
@@ -96,23 +104,30 @@ certificate_takes bytes x e =
     let batches = f.0 in
     let g = bind_ok (node_at version.0 greatest_depth 0 batches.1) _ x f.2 in
     let tree = g.0 in
-    let mark : bytes ≡ 0x50 ∷ 0x43 ∷ 0x42 ∷ c.0 = mark_takes 0x50 bytes a.0 a.1 ∙ ap (λ y. 0x50 ∷ y) (mark_takes 0x43 a.0 b.0 b.1) ∙ ap (λ y. 0x50 ∷ 0x43 ∷ y) (mark_takes 0x42 b.0 c.0 c.1) in
-    let built : End × ℕ × Bound × List ℕ = (version.1, batches.0, tree.0, tree.2) in
-    subst (λ y. IsTextThen y.0 y.1 y.2 bytes y.3) (ok_is built x g.2)
+    let mark : bytes ≡ 0x50 ∷ 0x43 ∷ 0x42 ∷ c.0 = mark_takes 0x50 bytes a.0 a.1 ∙ ap (λ y. 0x50 ∷ y) (mark_takes 0x43 a.0 b.0 b.1)
+    ∙ ap (λ y. 0x50 ∷ 0x43 ∷ y) (mark_takes 0x42 b.0 c.0 c.1) in
+    rw (← ok_is _ x g.2)
     (elim (version_takes c.0 version d.1) [
       | inl h ↦
-          let t = rest_takes first_ranges first_ranges-is version.2 batches tree f.1 (subst (λ r. node_at r greatest_depth 0 batches.1 ≡ Ok tree) h.0 g.1) in
-          let parts : bytes ≡ first_text batches.0 tree.0 ++ tree.2 = mark ∙ ap (λ y. 0x50 ∷ 0x43 ∷ 0x42 ∷ y) (h.2 ∙ ap (λ y. 0x31 ∷ y) t.parts) ∙ sym (append_assoc (first_head batches.0) (node tree.0) tree.2) in
+          let t = rest_takes first_ranges first_ranges-is version.2 batches tree f.1
+          (rw (← h.0) g.1) in
+          let parts : bytes ≡ first_text batches.0 tree.0 ++ tree.2 = mark
+          ∙ ap (λ y. 0x50 ∷ 0x43 ∷ 0x42 ∷ y) (h.2 ∙ ap (λ y. 0x31 ∷ y) t.parts)
+          ∙ sym (append_assoc (first_head batches.0) (node tree.0) tree.2) in
           (first_text batches.0 tree.0, inr (record { open_end = h.1; has_text = t.has_text; text = refl }), parts)
       | inr h ↦
-          let t = rest_takes second_ranges second_ranges-is version.2 batches tree f.1 (subst (λ r. node_at r greatest_depth 0 batches.1 ≡ Ok tree) h.0 g.1) in
-          let parts : bytes ≡ second_text version.1 batches.0 tree.0 ++ tree.2 = mark ∙ ap (λ y. 0x50 ∷ 0x43 ∷ 0x42 ∷ y) (h.1 ∙ ap (λ y. 0x32 ∷ end_byte version.1 ∷ y) t.parts) ∙ sym (append_assoc (second_head version.1 batches.0) (node tree.0) tree.2) in
+          let t = rest_takes second_ranges second_ranges-is version.2 batches tree f.1
+          (rw (← h.0) g.1) in
+          let parts : bytes ≡ second_text version.1 batches.0 tree.0 ++ tree.2 = mark
+          ∙ ap (λ y. 0x50 ∷ 0x43 ∷ 0x42 ∷ y) (h.1 ∙ ap (λ y. 0x32 ∷ end_byte version.1 ∷ y) t.parts)
+          ∙ sym (append_assoc (second_head version.1 batches.0) (node tree.0) tree.2) in
           (second_text version.1 batches.0 tree.0, inl (record { has_text = t.has_text; text = refl }), parts)
     ])
 
 -- a certificate behind its version
 rest_again : (r : Ranges) (end : End) (batches : ℕ) (tree : Bound) (bytes rest : List ℕ) → IsVersion r → HasText r batches tree
-    → version_at bytes ≡ Ok (r, end, to_be_bytes w32 batches ++ (node tree ++ rest)) → certificate_at (0x50 ∷ 0x43 ∷ 0x42 ∷ bytes) ≡ Ok (end, batches, tree, rest)
+    → version_at bytes ≡ Ok (r, end, to_be_bytes w32 batches ++ (node tree ++ rest))
+    → certificate_at (0x50 ∷ 0x43 ∷ 0x42 ∷ bytes) ≡ Ok (end, batches, tree, rest)
 unfolding certificate_at
 rest_again r end batches tree bytes rest v has version =
     let a = mark_again 0x50 (0x43 ∷ 0x42 ∷ bytes) (lit< tt) in
@@ -122,10 +137,18 @@ rest_again r end batches tree bytes rest v has version =
     let f = node_again r tree greatest_depth 0 (all_nodes tree) rest v has.in_range has.depth has.nodes (omega arith) in
     rw (a, b, c, version, d, f) refl
 
-pub certificate_again : (end : End) (batches : ℕ) (tree : Bound) (text rest : List ℕ) → IsText end batches tree text → certificate_at (text ++ rest) ≡ Ok (end, batches, tree, rest)
+pub certificate_again : (end : End) (batches : ℕ) (tree : Bound) (text rest : List ℕ) → IsText end batches tree text
+    → certificate_at (text ++ rest) ≡ Ok (end, batches, tree, rest)
 certificate_again end batches tree text rest (inl is) =
-    let regrouped : text ++ rest ≡ 0x50 ∷ 0x43 ∷ 0x42 ∷ 0x32 ∷ end_byte end ∷ to_be_bytes w32 batches ++ (node tree ++ rest) = ap (λ t. t ++ rest) is.text ∙ append_assoc (second_head end batches) (node tree) rest in
-    ap certificate_at regrouped ∙ rest_again second_ranges end batches tree (0x32 ∷ end_byte end ∷ to_be_bytes w32 batches ++ (node tree ++ rest)) rest second_ranges-is is.has_text (second_again end (to_be_bytes w32 batches ++ (node tree ++ rest)))
+    let regrouped : text ++ rest ≡ 0x50 ∷ 0x43 ∷ 0x42 ∷ 0x32 ∷ end_byte end ∷ to_be_bytes w32 batches ++ (node tree ++ rest) =
+    ap (λ t. t ++ rest) is.text ∙ append_assoc (second_head end batches) (node tree) rest in
+    ap certificate_at regrouped ∙ rest_again second_ranges end batches tree
+    (0x32 ∷ end_byte end ∷ to_be_bytes w32 batches ++ (node tree ++ rest)) rest second_ranges-is is.has_text
+    (second_again end (to_be_bytes w32 batches ++ (node tree ++ rest)))
 certificate_again end batches tree text rest (inr is) =
-    let regrouped : text ++ rest ≡ 0x50 ∷ 0x43 ∷ 0x42 ∷ 0x31 ∷ to_be_bytes w32 batches ++ (node tree ++ rest) = ap (λ t. t ++ rest) is.text ∙ append_assoc (first_head batches) (node tree) rest in
-    ap certificate_at regrouped ∙ rest_again first_ranges end batches tree (0x31 ∷ to_be_bytes w32 batches ++ (node tree ++ rest)) rest first_ranges-is is.has_text (first_again (to_be_bytes w32 batches ++ (node tree ++ rest)) ∙ ap (λ e. Ok (first_ranges, e, to_be_bytes w32 batches ++ (node tree ++ rest))) (sym is.open_end))
+    let regrouped : text ++ rest ≡ 0x50 ∷ 0x43 ∷ 0x42 ∷ 0x31 ∷ to_be_bytes w32 batches ++ (node tree ++ rest) = ap (λ t. t ++ rest) is.text
+    ∙ append_assoc (first_head batches) (node tree) rest in
+    ap certificate_at regrouped ∙ rest_again first_ranges end batches tree
+    (0x31 ∷ to_be_bytes w32 batches ++ (node tree ++ rest)) rest first_ranges-is is.has_text
+    (first_again (to_be_bytes w32 batches ++ (node tree ++ rest))
+    ∙ ap (λ e. Ok (first_ranges, e, to_be_bytes w32 batches ++ (node tree ++ rest))) (sym is.open_end))

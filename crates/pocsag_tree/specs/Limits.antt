@@ -1,5 +1,5 @@
 -- The limits of certificates (this project's own).
-use Rattle.std.specs.Prelude.{ℕ}
+use Rattle.std.specs.Prelude.{ℕ, ◌-◌, ◌^◌}
 use Rattle.pocsag_tree.specs.declared.limits.Ranges.{Ranges}
 
 -- How deep a tree may be; the root alone has depth 1.
@@ -9,6 +9,13 @@ greatest_depth = 300
 -- How many nodes a certificate may have, `Open` nodes counted.
 abbrev pub most_nodes : ℕ
 most_nodes = 1000000
+
+-- The greatest set of 16 members, as a number, and the greatest number of batches.
+abbrev pub greatest_set : ℕ
+greatest_set = 2 ^ 16 - 1
+
+abbrev pub most_batches : ℕ
+most_batches = 2 ^ 32 - 1
 
 -- The greatest class, number m of a `Split`, number of children of a `Cut`, and tag, in version PCB1 and in
 -- version PCB2.

@@ -5,7 +5,7 @@
 use Rattle.std.specs.Prelude.{◌≡◌, ℕ, ◌+◌, ◌-◌, ◌^◌, ◌<◌, ◌≤◌, ◌==◌, ◌&&◌, nat_lt, nat_le, if◌then◌else◌, List, [], ◌∷◌, ◌++◌, length, take, drop, replicate, Option, Some, None, Result, Ok, Err}
 use Rattle.std.specs.Int.{Width, w8, w16, w32, byte_len, from_be_bytes}
 use Rattle.pocsag_tree.specs.declared.limits.Ranges.{Ranges}
-use Rattle.pocsag_tree.specs.Limits.{first_ranges, second_ranges, greatest_depth, most_nodes}
+use Rattle.pocsag_tree.specs.Limits.{first_ranges, second_ranges, greatest_depth, greatest_set, most_batches, most_nodes}
 use Rattle.pocsag_tree.specs.declared.refusals.CertificateFault.{CertificateFault}
 use Rattle.pocsag_tree.specs.declared.refusals.CertificateFault.TheVariants as fault
 
@@ -28,9 +28,9 @@ width_of (node r depth) = w8
 -- What a node asks for behind its tag, its children at the given depth.
 abbrev pub asked_by : Ranges → (depth tag : ℕ) → List Part
 asked_by r depth tag =
-    if tag == 0 then field w16 1 65535 ∷ [] else
+    if tag == 0 then field w16 1 greatest_set ∷ [] else
     if tag == 1 then field w8 0 r.class ∷ field w16 1 r.m ∷ node r depth ∷ node r depth ∷ [] else
-    if tag == 2 then field w16 1 65535 ∷ field w8 0 r.class ∷ children r depth w16 2 r.children ∷ [] else
+    if tag == 2 then field w16 1 greatest_set ∷ field w8 0 r.class ∷ children r depth w16 2 r.children ∷ [] else
     if tag == 3 then [] else
     children r depth w8 1 2 ∷ []
 
@@ -38,8 +38,8 @@ asked_by r depth tag =
 abbrev pub judged : Part → ℕ → Result (List Part) CertificateFault
 judged (mark byte) n = if n == byte then Ok [] else Err fault.NotCertificate
 judged version n =
-    if n == 0x31 then Ok (field w32 1 (2 ^ 32 - 1) ∷ node first_ranges 1 ∷ []) else
-    if n == 0x32 then Ok (field w8 0 1 ∷ field w32 1 (2 ^ 32 - 1) ∷ node second_ranges 1 ∷ []) else
+    if n == 0x31 then Ok (field w32 1 most_batches ∷ node first_ranges 1 ∷ []) else
+    if n == 0x32 then Ok (field w8 0 1 ∷ field w32 1 most_batches ∷ node second_ranges 1 ∷ []) else
     Err fault.Version
 judged (field width low high) n = if nat_le low n && nat_le n high then Ok [] else Err fault.BadField
 judged (children r depth width low high) n = if nat_le low n && nat_le n high then Ok (replicate n (node r depth)) else Err fault.BadField
@@ -47,7 +47,9 @@ judged (node r depth) tag = if nat_lt r.tag tag then Err fault.BadTag else Ok (a
 
 -- The fault of a part before any byte of it is read, where so many nodes were read before.
 abbrev pub early_fault : Part → (nodes : ℕ) → Option CertificateFault
-early_fault (node r depth) nodes = if nat_lt greatest_depth depth then Some fault.TooDeep else if nat_lt nodes most_nodes then None else Some fault.TooMany
+early_fault (node r depth) nodes =
+    if nat_lt greatest_depth depth then Some fault.TooDeep else
+    if nat_lt nodes most_nodes then None else Some fault.TooMany
 early_fault _ nodes = None
 
 -- How many nodes were read, with this part.

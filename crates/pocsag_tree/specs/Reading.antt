@@ -5,7 +5,7 @@ use Rattle.pocsag_words.specs.declared.ending.End.{End}
 use Rattle.pocsag_words.specs.declared.ending.End.TheVariants as ends
 use Rattle.pocsag_words.specs.Devices.{one_more}
 use Rattle.pocsag_tree.specs.declared.limits.Ranges.{Ranges}
-use Rattle.pocsag_tree.specs.Limits.{first_ranges, second_ranges, greatest_depth, most_nodes}
+use Rattle.pocsag_tree.specs.Limits.{first_ranges, second_ranges, greatest_depth, greatest_set, most_nodes}
 use Rattle.pocsag_tree.specs.declared.refusals.CertificateFault.{CertificateFault}
 use Rattle.pocsag_tree.specs.declared.refusals.CertificateFault.TheVariants as fault
 use Rattle.pocsag_tree.specs.Bounds.{Bound, Bounds, overload, split, cut, close, unexamined, none, more, all_nodes, all_nodes_in, depth_of, deepest}
@@ -89,7 +89,7 @@ row_at child (suc n) made bytes = do
 
 unfoldable pub overload_at : Reader
 overload_at made bytes = do
-  set ← large_at 1 65535 bytes
+  set ← large_at 1 greatest_set bytes
   Ok (overload set.0, made, set.1)
 
 unfoldable pub split_at : Ranges → Reader → Reader
@@ -102,7 +102,7 @@ split_at ranges child made bytes = do
 
 unfoldable pub cut_at : Ranges → Reader → Reader
 cut_at ranges child made bytes = do
-  set ← large_at 1 65535 bytes
+  set ← large_at 1 greatest_set bytes
   needed ← small_at 0 ranges.class set.1
   count ← large_at 2 ranges.children needed.1
   children ← row_at child count.0 made count.1
@@ -144,7 +144,7 @@ unfoldable pub version_at : List ℕ → Result (Ranges × End × List ℕ) Cert
 version_at bytes = do
   byte ← byte_at bytes
   if byte.0 == 0x31 then Ok (first_ranges, ends.Open, byte.1) else
-    if byte.0 == 0x32 then (small_at 0 1 byte.1 >>= λ end. Ok (second_ranges, end_of end.0, end.1)) else Err fault.Version
+      if byte.0 == 0x32 then (small_at 0 1 byte.1 >>= λ end. Ok (second_ranges, end_of end.0, end.1)) else Err fault.Version
 
 unfoldable pub long_number_at : List ℕ → Result (ℕ × List ℕ) CertificateFault
 long_number_at bytes = do

@@ -17,7 +17,8 @@ abbrev mutual
   pub IsInRange : Ranges → Bound → Type 0
   IsInRange r (overload set) = IsSet set
   IsInRange r (split class m below above) = (class ≤ r.class) × (1 ≤ m) × (m ≤ r.m) × IsInRange r below × IsInRange r above
-  IsInRange r (cut set needed children) = IsSet set × (needed ≤ r.class) × (2 ≤ count_of children) × (count_of children ≤ r.children) × AreInRange r children
+  IsInRange r (cut set needed children) = IsSet set × (needed ≤ r.class) × (2 ≤ count_of children)
+      × (count_of children ≤ r.children) × AreInRange r children
   IsInRange r (close children) = (4 ≤ r.tag) × (1 ≤ count_of children) × (count_of children ≤ 2) × AreInRange r children
   IsInRange r unexamined = Unit {0}
 

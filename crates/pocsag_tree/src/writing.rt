@@ -1,6 +1,6 @@
 ghost use Rattle.std.specs.Prelude.{◌≡◌, ℕ, ◌+◌, ◌<◌, ◌≤◌, ◌↔◌, length, IsTrue, IsSome, IfSome, IsErrOf};
 ghost use Rattle.pocsag_words.specs.Devices.{CountsFailures, Delivers, HasFailed};
-ghost use Rattle.pocsag_tree.specs.Limits.{second_ranges};
+ghost use Rattle.pocsag_tree.specs.Limits.{most_nodes, second_ranges};
 ghost use Rattle.pocsag_tree.specs.Bounds.{all_nodes, all_nodes_in, depth_of, deepest, count_of};
 ghost use Rattle.pocsag_tree.specs.Views.{bound_of, bounds_of};
 ghost use Rattle.pocsag_tree.specs.Spelling.{IsInRange, AreInRange, HasText, IsSet, split_head, cut_head, close_head, node, row, end_byte, second_head, second_text};
@@ -11,13 +11,14 @@ use crate::shape::Tree;
 use pocsag_words::{DeviceFault, End, Sink, write_all};
 
 fn are_split_fields(class: u8, m: u16) -> bool
-    ensures { IsTrue result ↔ ((class ≤ 135) × (1 ≤ m) × (m ≤ 20000)) }
+    ensures { IsTrue result ↔ ((class ≤ second_ranges.class) × (1 ≤ m) × (m ≤ second_ranges.m)) }
 {
     class <= SECOND_VERSION.class && 1 <= m && m <= SECOND_VERSION.m
 }
 
 fn are_cut_fields(set: u16, needed: u8, children: usize) -> bool
-    ensures { IsTrue result ↔ ((1 ≤ set) × (needed ≤ 135) × (2 ≤ children) × (children ≤ 288)) }
+    ensures { IsTrue result ↔ ((1 ≤ set) × (needed ≤ second_ranges.class)
+        × (2 ≤ children) × (children ≤ second_ranges.children)) }
 {
     1 <= set
         && needed <= SECOND_VERSION.class
@@ -35,10 +36,10 @@ fn is_close_count(children: usize) -> bool
 // range, no node deeper than this, and not too many nodes. It looks at no node that is deeper.
 #[cycle(measured)]
 fn measured(tree: &Tree, depth: u32, nodes: u32) -> Option<u32>
-    requires { nodes ≤ 1000000 }
+    requires { nodes ≤ most_nodes }
     ensures fits { IsSome result ↔ (IsInRange second_ranges (bound_of tree.now)
         × (depth_of (bound_of tree.now) ≤ depth)
-        × (nodes + all_nodes (bound_of tree.now) ≤ 1000000)) }
+        × (nodes + all_nodes (bound_of tree.now) ≤ most_nodes)) }
     ensures count { IfSome result (λ n. n ≡ nodes + all_nodes (bound_of tree.now)) }
 {
     if depth == 0 {
@@ -53,10 +54,10 @@ fn measured(tree: &Tree, depth: u32, nodes: u32) -> Option<u32>
 // The same where the node itself is counted already, and its children have this depth.
 #[cycle(measured)]
 fn measured_node(tree: &Tree, depth: u32, nodes: u32) -> Option<u32>
-    requires { nodes ≤ 1000000 }
+    requires { nodes ≤ most_nodes }
     ensures fits { IsSome result ↔ (IsInRange second_ranges (bound_of tree.now)
         × (depth_of (bound_of tree.now) ≤ depth + 1)
-        × (nodes + all_nodes (bound_of tree.now) ≤ 1000001)) }
+        × (nodes + all_nodes (bound_of tree.now) ≤ most_nodes + 1)) }
     ensures count { IfSome result (λ n. n + 1 ≡ nodes + all_nodes (bound_of tree.now)) }
 {
     match tree {
@@ -102,10 +103,10 @@ fn measured_node(tree: &Tree, depth: u32, nodes: u32) -> Option<u32>
 
 #[cycle(measured)]
 fn measured_row(trees: &[Tree], depth: u32, nodes: u32) -> Option<u32>
-    requires { nodes ≤ 1000000 }
+    requires { nodes ≤ most_nodes }
     ensures fits { IsSome result ↔ (AreInRange second_ranges (bounds_of trees.now)
         × (deepest (bounds_of trees.now) ≤ depth)
-        × (nodes + all_nodes_in (bounds_of trees.now) ≤ 1000000)) }
+        × (nodes + all_nodes_in (bounds_of trees.now) ≤ most_nodes)) }
     ensures count { IfSome result (λ n. n ≡ nodes + all_nodes_in (bounds_of trees.now)) }
 {
     let mut reached = nodes;
@@ -133,7 +134,7 @@ fn write_cut_head<S: Sink>(
     children: usize,
     writer: &mut S,
 ) -> Result<(), DeviceFault>
-    requires { children ≤ 288 }
+    requires { children ≤ second_ranges.children }
     ensures delivers { S.tells → Delivers result (S.taken writer.old) (S.taken writer.new)
         (cut_head set needed children) }
     ensures failures { CountsFailures result (S.failures writer.old) (S.failures writer.new) }

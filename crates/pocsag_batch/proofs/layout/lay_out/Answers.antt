@@ -1,5 +1,4 @@
-use Rattle.std.proofs.Common.{◌≡◌, ℕ, List, map, sym, ap, ◌∙◌, subst, All}
-use Rattle.pocsag_words.specs.Codeword.{IsCodeword}
+use Rattle.std.proofs.Common.{◌≡◌, ℕ, List, map, sym, ap, ◌∙◌}
 use Rattle.pocsag_words.specs.Kinds.{kind_of}
 use Rattle.pocsag_slots.specs.Layout.{laid}
 use Rattle.pocsag_batch.specs.Placing.{laid_by}
@@ -26,7 +25,7 @@ returns-clause-first c =
 pub returns-clause-legal : goal.returns-clause-legal
 returns-clause-legal c k choice b some classes tour =
     c.codewords_and_tours_correspond.ensures.legal k c.args.end choice b c.args.steps.now c.args.round.now c.new-2.result some classes tour
-    (subst (λ v. All IsCodeword v) (sym c.new-2.ensures) c.in_ok-words.ensures.codewords) (returns-clause-first c)
+    (rw c.new-2.ensures c.in_ok-words.ensures.codewords) (returns-clause-first c)
 
 pub returns-clause-order : goal.returns-clause-order
 returns-clause-order c order is =

@@ -1,6 +1,6 @@
-use Rattle.std.proofs.Common.{◌≡◌, ◌+◌, ◌<◌, ◌≤◌, length, get_or, drop, subst, sym, arith, ap}
+use Rattle.std.proofs.Common.{◌≡◌, ◌+◌, ◌<◌, ◌≤◌, length, get_or, drop, arith, ap}
 use Rattle.pocsag_pages.specs.declared.page.Page.{Page}
-use Rattle.pocsag_batch.proofs.FileOrders.{HasLeft, left_step}
+use Rattle.pocsag_batch.proofs.FileOrders.{left_step}
 use Rattle.pocsag_batch.proofs.PageLists.{drop_at, good_at}
 use Rattle.pocsag_batch.proofs.order.in_order_batches.Goals as goal
 
@@ -9,14 +9,15 @@ loop-page-preserved c =
     let p : Page = c.page-item.result in
     let k = c.loop-page.page-index in
     let pages : c.pages-page-items.result.now ≡ c.args.round.now = c.pages-page-items.ensures.pages in
-    let within : k < length c.args.round.now = subst (λ v. k < length v) pages c.loop-page-test.true in
-    let is : p ≡ get_or c.args.round.now k p = subst (λ v. p ≡ get_or v k p) pages c.page-item.is in
+    let within : k < length c.args.round.now = rw (← pages) c.loop-page-test.true in
+    let is : p ≡ get_or c.args.round.now k p = rw (← pages) c.page-item.is in
     let good = good_at c.args.round.now k p c.pages-page-items.ensures.round within is in
     let long : length c.as_slice.result.now ≡ length p.payload = ap length c.as_slice.ensures in
     let few : length p.payload ≤ 1400 = good.few in (
       λ T f.
-          subst (λ n. HasLeft (c.loop-page.index + c.gap_to_frame-index.result + (1 + n)) (drop (k + 1) c.args.round.now) (length T)) (sym long)
-          (left_step c.loop-page.index c.gap_to_frame-index.result (length T) p (drop (k + 1) c.args.round.now) c.gap_to_frame-index.ensures.least
-          (subst (λ v. HasLeft c.loop-page.index v (length T)) (drop_at c.args.round.now k p within is) (c.loop-page.invariant.0 T f))),
+          rw long
+          (left_step c.loop-page.index c.gap_to_frame-index.result (length T) p
+          (drop (k + 1) c.args.round.now) c.gap_to_frame-index.ensures.least
+          (rw (← (drop_at c.args.round.now k p within is)) (c.loop-page.invariant.0 T f))),
       omega arith,
     )

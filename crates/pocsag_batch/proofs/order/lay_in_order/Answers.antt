@@ -1,9 +1,6 @@
-use Rattle.std.proofs.Common.{◌≡◌, ◌+◌, ◌*◌, ◌<◌, ◌≤◌, length, get_or, drop, map, subst, sym, ap, ◌∙◌, arith, All}
-use Rattle.pocsag_words.specs.Codeword.{IsCodeword}
-use Rattle.pocsag_words.specs.Kinds.{kind_of}
+use Rattle.std.proofs.Common.{◌≡◌, ◌+◌, ◌*◌, ◌<◌, ◌≤◌, length, get_or, drop, sym, ap, ◌∙◌, arith}
 use Rattle.pocsag_pages.specs.declared.page.Page.{Page}
 use Rattle.pocsag_pages.specs.Pages.{IsRound}
-use Rattle.pocsag_batch.specs.FileOrder.{InOrder, IsFileOrder}
 use Rattle.pocsag_batch.proofs.Laying.{idled_length, laid_length, laid_more, laid_last, laid_batches, laid_legal}
 use Rattle.pocsag_batch.proofs.PageLists.{drop_at, good_at}
 use Rattle.pocsag_batch.proofs.order.lay_in_order.Goals as goal
@@ -11,7 +8,7 @@ use Rattle.pocsag_batch.proofs.order.lay_in_order.Goals as goal
 pub push_page-requires : goal.push_page-requires
 push_page-requires c =
     good_at c.pages-page-items.result.now c.loop-page.page-index c.page-item.result
-    (subst (λ v. IsRound v) (sym c.pages-page-items.ensures.pages) c.pages-page-items.ensures.round) c.loop-page-test.true c.page-item.is
+    (rw c.pages-page-items.ensures.pages c.pages-page-items.ensures.round) c.loop-page-test.true c.page-item.is
 
 pub loop-page-preserved : goal.loop-page-preserved
 loop-page-preserved c =
@@ -19,8 +16,8 @@ loop-page-preserved c =
     let p : Page = c.page-item.result in
     let k = c.loop-page.page-index in
     let pages : c.pages-page-items.result.now ≡ R = c.pages-page-items.ensures.pages in
-    let within : k < length R = subst (λ v. k < length v) pages c.loop-page-test.true in
-    let is : p ≡ get_or R k p = subst (λ v. p ≡ get_or v k p) pages c.page-item.is in
+    let within : k < length R = rw (← pages) c.loop-page-test.true in
+    let is : p ≡ get_or R k p = rw (← pages) c.page-item.is in
     let good = good_at R k p c.pages-page-items.ensures.round within is in
     let gap = c.gap_to_frame.result in
     let long : length c.push_page.new.self ≡ length c.loop-page.words + gap + (1 + length p.payload) =
@@ -30,7 +27,8 @@ loop-page-preserved c =
       laid_more R (drop (k + 1) R) p gap c.loop-page.words c.push_idles.new.self c.push_page.new.self
           c.in_ok-push_idles.ensures c.in_ok-push_page.ensures
           (rw c.len.ensures at c.gap_to_frame.ensures.least)
-          (λ U order. c.loop-page.invariant.0 U (subst (λ v. InOrder (length c.loop-page.words) v U) (sym (drop_at R k p within is)) order)),
+          (λ U order. c.loop-page.invariant.0 U
+          (rw (drop_at R k p within is) order)),
       omega arith,
     )
 
@@ -53,12 +51,12 @@ pub returns-clause-order : goal.returns-clause-order
 returns-clause-order c =
     let R = c.args.round.now in
     let pages : length c.pages-page-items.result.now ≡ length R = ap length c.pages-page-items.ensures.pages in
-    subst (λ v. IsFileOrder R (map kind_of v)) (sym c.new.ensures)
+    rw c.new.ensures
     (laid_last R c.loop-page.page-index c.gap_to_whole.result c.loop-page.words c.push_idles-2.new.self (omega arith)
     c.in_ok-push_idles-2.ensures (rw c.len-2.ensures at c.gap_to_whole.ensures.least) c.loop-page.invariant.0)
 
 pub returns-clause-legal : goal.returns-clause-legal
 returns-clause-legal c = (
-  subst (λ v. All IsCodeword v) (c.words-2.view_is ∙ sym c.new.ensures) c.words-2.invariant,
+  rw (← (c.words-2.view_is ∙ sym c.new.ensures)) c.words-2.invariant,
   laid_legal c.args.round.now c.new.result c.pages-page-items.ensures.round.some (returns-clause-order c),
 )

@@ -1,8 +1,7 @@
-use Rattle.std.proofs.Common.{rules, ◌≡◌, ℕ, Bool, ◌+◌, ◌<◌, List, [], ◌∷◌, ◌++◌, All, drop, length, get_or, sym, ap, ◌∙◌, subst}
+use Rattle.std.proofs.Common.{rules, ◌≡◌, ℕ, Bool, ◌+◌, ◌<◌, List, [], ◌∷◌, ◌++◌, drop, length, get_or, ap, ◌∙◌}
 use Rattle.std.proofs.lemmas.List.{drop_all, drop_more}
 use Rattle.pocsag_words.specs.declared.ending.End.{End}
 use Rattle.pocsag_pages.specs.declared.page.Page.{Page}
-use Rattle.pocsag_pages.specs.Pages.{IsGoodPage}
 use Rattle.pocsag_pages.proofs.GoodPages.{good_pages}
 use Rattle.pocsag_slots.specs.declared.step.Step.{Step}
 use Rattle.pocsag_slots.specs.declared.step.Step.TheVariants.{Idle as Stay, Run}
@@ -13,14 +12,14 @@ use Rattle.pocsag_batch.proofs.placing.order_of.Goals as goal
 
 pub new-requires-clause-good : goal.new-requires-clause-good
 new-requires-clause-good c =
-    subst (λ v. All IsGoodPage v) (sym c.pages-pages.ensures.pages) (good_pages c.args.round.now c.pages-pages.ensures.round.good)
+    rw c.pages-pages.ensures.pages (good_pages c.args.round.now c.pages-pages.ensures.round.good)
 
 pub loop-step-init : goal.loop-step-init
 loop-step-init c =
     let R : List Page = c.args.round.now in
     let chains : AreChains c.args.end R c.in_ok-queues.queues (all_places R) =
-    subst (λ v. AreChains c.args.end v c.in_ok-queues.queues (all_places v)) c.pages-pages.ensures.pages c.in_ok-queues.ensures in
-    subst (λ v. Stands c.args.end R c.in_ok-queues.queues v c.args.steps.now c.args.steps.now) (sym c.in-Ok.ensures.items)
+    rw (← c.pages-pages.ensures.pages) c.in_ok-queues.ensures in
+    rw c.in-Ok.ensures.items
     (stands_first c.args.end R c.in_ok-queues.queues c.args.steps.now chains c.requires)
 
 -- before a run
@@ -29,7 +28,7 @@ before_run : (end : End) (R : List Page) (links : Links) (order : List ℕ) (ste
     → Stands end R links order steps (Run c e ∷ drop (i + 1) steps)
 before_run end R links order steps i c e h is s =
     let first : drop i steps ≡ Run c e ∷ drop (i + 1) steps = drop_more steps i Stay h ∙ ap (λ step. step ∷ drop (i + 1) steps) is in
-    subst (λ rest. Stands end R links order steps rest) first s
+    rw (← first) s
 
 pub take-requires-clause-class : goal.take-requires-clause-class
 take-requires-clause-class c =
@@ -40,7 +39,7 @@ pub take-requires-clause-some : goal.take-requires-clause-some
 take-requires-clause-some c =
     let s = before_run _ _ _ _ _ _ _ _ c.loop-step-test.true c.in-Run.is c.loop-step.invariant in
     let t = takes _ _ _ _ _ _ _ _ s in
-    subst (λ n. n < length c.loop-step.queues.next) (sym t.head) t.within
+    rw t.head t.within
 
 pub loop-step-preserved : goal.loop-step-preserved
 loop-step-preserved c =
@@ -48,12 +47,13 @@ loop-step-preserved c =
     let rest : List Step = drop (c.loop-step.step-index + 1) steps in
     let s = before_run _ _ _ _ _ _ _ _ c.loop-step-test.true c.in-Run.is c.loop-step.invariant in
     let pushed : c.push.new.self.items ≡ c.loop-step.order.items ++ c.take.result ∷ [] = search rules in
-    subst (λ v. Stands c.args.end c.args.round.now c.take.new.self v steps rest) (sym pushed)
+    rw pushed
     (stands_run _ _ _ _ _ _ _ _ _ _ s c.take.ensures.place c.take.ensures.next c.take.ensures.head)
 
 pub returns-clause-order : goal.returns-clause-order
 returns-clause-order c =
-    order_stands c.args.end c.args.round.now c.loop-step.queues c.loop-step.order.items c.args.steps.now (drop c.loop-step.step-index c.args.steps.now)
+    order_stands c.args.end c.args.round.now c.loop-step.queues c.loop-step.order.items c.args.steps.now
+    (drop c.loop-step.step-index c.args.steps.now)
     (drop_all c.loop-step.step-index c.args.steps.now c.loop-step-test.false) c.loop-step.invariant
 
 pub returns-clause-places : goal.returns-clause-places

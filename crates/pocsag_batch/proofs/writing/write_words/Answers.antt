@@ -20,7 +20,8 @@ loop-word-preserved g c =
     let goes = c.in-Some.ensures.goes.on c.loop-word.invariant.1 in (
       goes.0,
       goes.1,
-      sent_more g.S.Sink.tells (g.S.Sink.taken c.args.sink.now) (g.S.Sink.taken c.loop-word.sink) c.loop-word.piece came c.loop-word.slot c.in-Some.word
+      sent_more g.S.Sink.tells (g.S.Sink.taken c.args.sink.now)
+          (g.S.Sink.taken c.loop-word.sink) c.loop-word.piece came c.loop-word.slot c.in-Some.word
           (g.S.Sink.taken c.put_word.new.sink) c.put_word.new.piece c.loop-word.invariant.3 c.loop-word.invariant.2
           (λ t. c.in_ok-put_word.ensures.grown t) (λ t. c.in_ok-put_word.ensures.same t),
       omega (arith, length-append came (c.in-Some.word ∷ [])),

@@ -46,7 +46,8 @@ row-loop-init g t c =
       room = search rules;
       failures = refl;
       shrinks = λ tells. omega arith;
-      bytes = λ tells k le. row_starts (node_at c.args.ranges c.args.depth) c.in_ok-children.children.items c.args.count c.args.made _ items;
+      bytes = λ tells k le. row_starts
+          (node_at c.args.ranges c.args.depth) c.in_ok-children.children.items c.args.count c.args.made _ items;
     }
 
 pub row-loop-preserved : goal.row-loop-preserved
@@ -56,9 +57,9 @@ row-loop-preserved g t c =
     let more = c.in_ok-child.ensures.counts in
     let items = c.push_reserved.ensures.items in
     let seen : map bound_of c.push_reserved.new.self.items ≡ map bound_of c.loop.children.items ++ bound_of child ∷ [] =
-        rw items (map_push _ c.loop.children.items child) in
+    rw items (map_push _ c.loop.children.items child) in
     let counted : all_nodes_in (bounds_of c.push_reserved.new.self.items) ≡ all_nodes_in (bounds_of (c.loop.children.items ++ child ∷ [])) =
-        rw items in
+    rw items in
     let deep : deepest (bounds_of c.push_reserved.new.self.items) ≡ deepest (bounds_of (c.loop.children.items ++ child ∷ [])) = rw items in
     record {
       counts = record {

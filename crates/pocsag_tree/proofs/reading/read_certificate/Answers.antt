@@ -17,8 +17,10 @@ returns-clause-first g c = λ tells. is_first c.all.result (g.S.Source.held c.ar
 
 pub returns-clause-in_place : goal.returns-clause-in_place
 unfolding but_last
-returns-clause-in_place g c = λ tells is. is_wanting (but_last (length (g.S.Source.held c.all.new.source)) (g.S.Source.held c.args.reader.now)) (c.all.ensures.wanting tells is)
+returns-clause-in_place g c = λ tells is. is_wanting
+    (but_last (length (g.S.Source.held c.all.new.source)) (g.S.Source.held c.args.reader.now)) (c.all.ensures.wanting tells is)
 
 pub returns-clause-room : goal.returns-clause-room
 unfolding but_last
-returns-clause-room g c = λ tells is. is_short (but_last (length (g.S.Source.held c.all.new.source)) (g.S.Source.held c.args.reader.now)) (c.all.ensures.room tells is)
+returns-clause-room g c = λ tells is. is_short (but_last (length (g.S.Source.held c.all.new.source)) (g.S.Source.held c.args.reader.now))
+    (c.all.ensures.room tells is)

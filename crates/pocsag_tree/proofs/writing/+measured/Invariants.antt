@@ -1,6 +1,6 @@
 use Rattle.std.proofs.Common.{◌≡◌, ◌+◌, ◌*◌, ◌≤◌, drop}
 use Rattle.std.specs.Prelude.{◌↔◌}
-use Rattle.pocsag_tree.specs.Limits.{second_ranges}
+use Rattle.pocsag_tree.specs.Limits.{most_nodes, second_ranges}
 use Rattle.pocsag_tree.specs.Bounds.{all_nodes_in, deepest}
 use Rattle.pocsag_tree.specs.Views.{bounds_of}
 use Rattle.pocsag_tree.specs.Spelling.{AreInRange}
@@ -18,7 +18,7 @@ decreases-measured_node l = 3 * l.depth + 2
 -- the row has a text where the trees that are left have one, and so do the others
 abbrev pub invariant-measured_row-loop-tree : goal.invariant-measured_row-loop-tree
 invariant-measured_row-loop-tree l = record {
-  few : l.reached ≤ 1000000;
+  few : l.reached ≤ most_nodes;
   counted : l.reached + all_nodes_in (bounds_of (drop l.tree-index l.trees)) ≡ l.nodes + all_nodes_in (bounds_of l.trees);
   left : (AreInRange second_ranges (bounds_of l.trees) × (deepest (bounds_of l.trees) ≤ l.depth))
       ↔ (AreInRange second_ranges (bounds_of (drop l.tree-index l.trees)) × (deepest (bounds_of (drop l.tree-index l.trees)) ≤ l.depth));

@@ -9,7 +9,8 @@ use Rattle.pocsag_tree.proofs.writing.+written.Goals as goal
 
 -- ---- a `Split`
 
-pub write_node-returns-in_err-write_split_head-in-Split-clause-delivers : goal.write_node-returns-in_err-write_split_head-in-Split-clause-delivers
+pub write_node-returns-in_err-write_split_head-in-Split-clause-delivers :
+    goal.write_node-returns-in_err-write_split_head-in-Split-clause-delivers
 write_node-returns-in_err-write_split_head-in-Split-clause-delivers g t c = λ tells.
     let text = split_text c.args.tree.now c.in-Split.class c.in-Split.m c.in-Split.below c.in-Split.from c.in-Split.is in
     stopped _ c.from_residual.result _ _ _ c.from_residual.ensures.1
@@ -40,13 +41,15 @@ write_node-write_cut_head-requires g t c =
 
 pub write_node-returns-in_err-write_cut_head-in-Cut-clause-delivers : goal.write_node-returns-in_err-write_cut_head-in-Cut-clause-delivers
 write_node-returns-in_err-write_cut_head-in-Cut-clause-delivers g t c = λ tells.
-    let text = cut_text c.args.tree.now c.in-Cut.set c.in-Cut.needed c.len.result c.in-Cut.children c.in-Cut.is (omega (arith, c.in-Cut.children.ok.0, c.len.ensures)) in
+    let text = cut_text c.args.tree.now c.in-Cut.set c.in-Cut.needed c.len.result c.in-Cut.children c.in-Cut.is
+    (omega (arith, c.in-Cut.children.ok.0, c.len.ensures)) in
     stopped _ c.from_residual-in_err-write_cut_head-in-Cut.result _ _ _ c.from_residual-in_err-write_cut_head-in-Cut.ensures.1
     (took_first _ _ _ _ _ text (c.in_err-write_cut_head-in-Cut.ensures.delivers tells).1)
 
 pub write_node-returns-in_ok-write_cut_head-in-Cut-clause-delivers : goal.write_node-returns-in_ok-write_cut_head-in-Cut-clause-delivers
 write_node-returns-in_ok-write_cut_head-in-Cut-clause-delivers g t c = λ tells.
-    let text = cut_text c.args.tree.now c.in-Cut.set c.in-Cut.needed c.len.result c.in-Cut.children c.in-Cut.is (omega (arith, c.in-Cut.children.ok.0, c.len.ensures)) in
+    let text = cut_text c.args.tree.now c.in-Cut.set c.in-Cut.needed c.len.result c.in-Cut.children c.in-Cut.is
+    (omega (arith, c.in-Cut.children.ok.0, c.len.ensures)) in
     let children = rw c.deref-in-Cut.ensures.value at (c.write_row.ensures.delivers tells) in
     delivers_then c.write_row.result _ _ _ _ _ _ text (c.in_ok-write_cut_head-in-Cut.ensures.delivers tells).0 children
 
@@ -58,15 +61,19 @@ write_node-write_close_head-requires g t c =
     let in_range : IsInRange second_ranges (close (bounds_of c.in-Close.children.items)) = rw is at c.requires in
     omega (arith, in_range.2, count_of_bounds c.in-Close.children.items, c.in-Close.children.ok.0, c.len-in-Close.ensures)
 
-pub write_node-returns-in_err-write_close_head-in-Close-clause-delivers : goal.write_node-returns-in_err-write_close_head-in-Close-clause-delivers
+pub write_node-returns-in_err-write_close_head-in-Close-clause-delivers :
+    goal.write_node-returns-in_err-write_close_head-in-Close-clause-delivers
 write_node-returns-in_err-write_close_head-in-Close-clause-delivers g t c = λ tells.
-    let text = close_text c.args.tree.now c.len-in-Close.result c.in-Close.children c.in-Close.is (omega (arith, c.in-Close.children.ok.0, c.len-in-Close.ensures)) in
+    let text = close_text c.args.tree.now c.len-in-Close.result c.in-Close.children c.in-Close.is
+    (omega (arith, c.in-Close.children.ok.0, c.len-in-Close.ensures)) in
     stopped _ c.from_residual-in_err-write_close_head-in-Close.result _ _ _ c.from_residual-in_err-write_close_head-in-Close.ensures.1
     (took_first _ _ _ _ _ text (c.in_err-write_close_head-in-Close.ensures.delivers tells).1)
 
-pub write_node-returns-in_ok-write_close_head-in-Close-clause-delivers : goal.write_node-returns-in_ok-write_close_head-in-Close-clause-delivers
+pub write_node-returns-in_ok-write_close_head-in-Close-clause-delivers :
+    goal.write_node-returns-in_ok-write_close_head-in-Close-clause-delivers
 write_node-returns-in_ok-write_close_head-in-Close-clause-delivers g t c = λ tells.
-    let text = close_text c.args.tree.now c.len-in-Close.result c.in-Close.children c.in-Close.is (omega (arith, c.in-Close.children.ok.0, c.len-in-Close.ensures)) in
+    let text = close_text c.args.tree.now c.len-in-Close.result c.in-Close.children c.in-Close.is
+    (omega (arith, c.in-Close.children.ok.0, c.len-in-Close.ensures)) in
     let children = rw c.deref-in-Close.ensures.value at (c.write_row-in-Close.ensures.delivers tells) in
     delivers_then c.write_row-in-Close.result _ _ _ _ _ _ text (c.in_ok-write_close_head-in-Close.ensures.delivers tells).0 children
 

@@ -1,4 +1,4 @@
-use Rattle.std.proofs.Common.{◌≡◌, ◌≤◌, ℕ, ◌+◌, ◌-◌, ◌<◌, suc, List, length, slice_index, slice_set, ◌∙◌, subst, arith}
+use Rattle.std.proofs.Common.{◌≡◌, ◌≤◌, ℕ, ◌+◌, ◌-◌, ◌<◌, suc, List, length, slice_index, slice_set, ◌∙◌, arith}
 use Rattle.std.specs.List.{range_with_len}
 use Rattle.std.proofs.lemmas.List.{length-set}
 use Rattle.pocsag_pages.specs.declared.page.Page.{Page}
@@ -22,11 +22,11 @@ loop-place-preserved c =
     let left : place ≡ at + 1 = omega arith in
     let many : suc (length R - place) ≡ length R - at = omega arith in
     let before : AreChains c.args.end R (record { next = next; head = head }) (range_with_len (at + 1) (length R - place)) =
-    subst (λ n. AreChains c.args.end R (record { next = next; head = head }) (range_with_len n (length R - place))) left c.loop-place.invariant.2 in
+    rw (← left) c.loop-place.invariant.2 in
     let is : class ≡ class_at c.args.end R at =
     c.class_of-class.ensures.value ∙ class_at_item c.args.end R at c.index-pages-place.result (omega arith) c.index-pages-place.is in (
       omega arith,
       length-set next at (slice_index head class) ∙ long,
-      subst (λ m. AreChains c.args.end R (record { next = linked; head = slice_set head class at }) (range_with_len at m)) many
+      rw (← many)
           (chains_added c.args.end R next head at (length R - place) class (omega arith) is c.class_of-class.ensures.below before),
     )

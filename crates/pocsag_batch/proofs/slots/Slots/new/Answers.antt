@@ -1,12 +1,10 @@
-use Rattle.std.proofs.Common.{sym, ap, subst, arith, length, All}
-use Rattle.pocsag_pages.specs.Pages.{IsGoodPage}
-use Rattle.pocsag_batch.specs.Placing.{HavePlaces}
+use Rattle.std.proofs.Common.{ap, arith, length}
 use Rattle.pocsag_pages.proofs.GoodPages.{good_pages}
 use Rattle.pocsag_batch.proofs.slots.Slots.new.Goals as goal
 
 pub invariant_of-result : goal.invariant_of-result
 invariant_of-result c = (
-  subst (λ v. All IsGoodPage v) (sym c.pages.ensures.pages) (good_pages c.args.round.now c.pages.ensures.round.good),
+  rw c.pages.ensures.pages (good_pages c.args.round.now c.pages.ensures.round.good),
   λ k d h. absurd (omega arith),
-  subst (λ n. HavePlaces n c.args.order.now c.args.steps.now) (sym (ap length c.pages.ensures.pages)) c.requires,
+  rw (ap length c.pages.ensures.pages) c.requires,
 )

@@ -1,4 +1,4 @@
-use Rattle.std.proofs.Common.{◌≡◌, ℕ, ◌/◌, ◌<◌, ◌∷◌, ◌++◌, length, get_or, map, take, subst, sym, ap, ◌∙◌, All}
+use Rattle.std.proofs.Common.{◌≡◌, ℕ, ◌/◌, ◌<◌, ◌∷◌, ◌++◌, length, get_or, map, take, sym, ap, ◌∙◌}
 use Rattle.std.proofs.lemmas.List.Elements.{All-get_or}
 use Rattle.pocsag_words.specs.Kinds.{kind_of}
 use Rattle.pocsag_words.specs.declared.codeword.Kind.TheVariants.{Address, Message}
@@ -16,14 +16,14 @@ pub message_word-requires : goal.message_word-requires
 message_word-requires c =
     let P : ℕ → Type 0 = λ item. item < 1048576 in
     All-get_or P c.as_slice-item-items.result.now c.loop-item.item-index 0 c.loop-item-test.true
-    (subst (λ v. All P v) (sym c.as_slice-item-items.ensures) c.requires.small)
+    (rw c.as_slice-item-items.ensures c.requires.small)
 
 pub loop-item-preserved : goal.loop-item-preserved
 loop-item-preserved c =
     let p = c.args.page.now in
     let k = c.loop-item.item-index in
     let items : c.as_slice-item-items.result.now ≡ p.payload = c.as_slice-item-items.ensures in
-    let within : k < length p.payload = subst (λ v. k < length v) items c.loop-item-test.true in
+    let within : k < length p.payload = rw (← items) c.loop-item-test.true in
     let kind : kind_of c.message_word.result ≡ Message (get_or p.payload k 0) =
     c.message_word.ensures.kind ∙ ap (λ v. Message (get_or v k 0)) items in
     pushed_more c.loop-item.self c.push-in-loop-item.new.self c.message_word.result (Message (get_or p.payload k 0))
