@@ -73,7 +73,8 @@ inside_run set c e ss own rest = record {
         subst (λ (n : ℕ). run_touches n f set ≡ false) same.0 (subst (λ (g : Bool). run_touches c g set ≡ false) same.1 own)
     go d f false is some = rest.each d f (omega arith)
 
-pub crosses_or_stays : (set : ℕ) (ss : List Step) (p q : ℕ) → p < 16 → holds set p ≡ true → Leads p ss q → Crossed set p ss ⊎ IsInside set ss
+pub crosses_or_stays : (set : ℕ) (ss : List Step) (p q : ℕ) → p < 16 → holds set p ≡ true → Leads p ss q →
+    Crossed set p ss ⊎ IsInside set ss
 crosses_or_stays set [] p q small here leads = inr (record { each = λ c e some. absurd (omega arith) })
 crosses_or_stays set (Stay ∷ ss) p q small here leads =
     elim (cases_Bool (holds set ((p + 1) % 16))) [

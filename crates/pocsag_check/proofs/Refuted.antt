@@ -100,7 +100,8 @@ ends_by (Run c e ∷ []) p small leads whole =
     by_last_run (subst (λ (d : ℕ). 0 < runs 135 false (Run d e ∷ [])) (sym whole.0)
     (subst (λ (f : Bool). 0 < runs 135 false (Run 135 f ∷ [])) (sym whole.1) (omega arith)))
 ends_by (Stay ∷ (t ∷ ss)) p small leads whole = more_idle p (t ∷ ss) (ends_by (t ∷ ss) ((p + 1) % 16) (omega arith) leads whole)
-ends_by (Run c e ∷ (t ∷ ss)) p small leads whole = more_run p c e (t ∷ ss) (ends_by (t ∷ ss) (finish_of c e) (finish_small c e) leads.1 whole)
+ends_by (Run c e ∷ (t ∷ ss)) p small leads whole =
+    more_run p c e (t ∷ ss) (ends_by (t ∷ ss) (finish_of c e) (finish_small c e) leads.1 whole)
 
 closing_way : (k : Classes) (l : Limits) (choice : ℕ → ℕ) (b : ℕ) (steps : List Step) →
     IsTour k Closed choice b steps → IsAdmitted k l choice → AnyTaken k choice b (ways_to_close k l)
@@ -126,7 +127,8 @@ mutual
       ]
   refuted (cut set c children) k end l choice b steps tour a accepted =
       elim (crosses_or_stays set steps 0 0 (omega arith) accepted.2 tour.leads) [
-        | inl crossed ↦ each_refuted children (ways_across k l set) k end l choice b steps tour a accepted.5 (taken_way k end l choice b set steps tour a crossed)
+        | inl crossed ↦ each_refuted children (ways_across k l set) k end l choice b steps tour a accepted.5
+            (taken_way k end l choice b set steps tour a crossed)
         | inr inside ↦ not_inside k end l choice b set c steps accepted.0 tour a accepted.3 inside
       ]
   refuted (close children) k Open l choice b steps tour a accepted = absurd accepted.0

@@ -25,7 +25,8 @@ pub any_right : (k : Classes) (choice : ℕ → ℕ) (b : ℕ) (ws vs : List Way
 any_right k choice b [] vs t = t
 any_right k choice b (w ∷ ws) vs t = inr (any_right k choice b ws vs t)
 
-pub any_joined : (k : Classes) (choice : ℕ → ℕ) (b n j : ℕ) (f : ℕ → List Way) → j < n → AnyTaken k choice b (f j) → AnyTaken k choice b (joined_below n f)
+pub any_joined : (k : Classes) (choice : ℕ → ℕ) (b n j : ℕ) (f : ℕ → List Way) → j < n → AnyTaken k choice b (f j) →
+    AnyTaken k choice b (joined_below n f)
 unfolding joined_below
 any_joined k choice b zero j f h t = absurd (omega arith)
 any_joined k choice b (suc n) j f h t =

@@ -17,14 +17,16 @@ pub record TurnsTrue (f : ℕ → Bool) (n m : ℕ) : Type 0 where
   pub before : f at ≡ false
   pub after : f (at + 1) ≡ true
 
-turns_next : (f : ℕ → Bool) (n m : ℕ) → n < m → f n ≡ false → (f (n + 1) ≡ false → TurnsTrue f (n + 1) m) → (b : Bool) → f (n + 1) ≡ b → TurnsTrue f n m
+turns_next : (f : ℕ → Bool) (n m : ℕ) → n < m → f n ≡ false → (f (n + 1) ≡ false → TurnsTrue f (n + 1) m) → (b : Bool) → f (n + 1) ≡ b →
+    TurnsTrue f n m
 turns_next f n m h low later true is = record { at = n; from = omega arith; below = h; before = low; after = is }
 turns_next f n m h low later false is =
     let rest = later is in
     record { at = rest.at; from = omega (arith, rest.from); below = rest.below; before = rest.before; after = rest.after }
 
 turns : (f : ℕ → Bool) (n d m : ℕ) → n + d ≡ m → f n ≡ false → f m ≡ true → TurnsTrue f n m
-turns f n zero m e low high = absurd (let same : n ≡ m = omega arith in let here : f m ≡ false = subst (λ (i : ℕ). f i ≡ false) same low in cc)
+turns f n zero m e low high = absurd (let same : n ≡ m = omega arith in let here : f m ≡ false =
+    subst (λ (i : ℕ). f i ≡ false) same low in cc)
 turns f n (suc d) m e low high = turns_next f n m (omega arith) low (λ is. turns f (n + 1) d m (omega arith) is high) (f (n + 1)) refl
 
 -- some boundary is not held
