@@ -42,15 +42,18 @@ freed_more k q l made between after ws ts w t a h falls =
     }
 
 -- the loop over the ways
-pub free_row_goes_on : (k : Classes) (q : Question) (l : Limits) (made between after i : ℕ) (ws : List Way) (ts : List Tree) (d : Way) (t : Tree)
-    (pushed : List Tree) (narrowed : Limits) → i < length ws → narrowed ≡ narrowed_limits k l (get_or ws i d) q.batches → pushed ≡ ts ++ t ∷ [] →
+pub free_row_goes_on : (k : Classes) (q : Question) (l : Limits) (made between after i : ℕ) (ws : List Way) (ts : List Tree) (d : Way)
+    (t : Tree)
+    (pushed : List Tree) (narrowed : Limits) → i < length ws → narrowed ≡ narrowed_limits k l (get_or ws i d) q.batches →
+    pushed ≡ ts ++ t ∷ [] →
     AreFreed k q l made between (take i ws) (bounds_of ts) →
     IsFreed k q narrowed between after (bound_of t) → undecided k q.batches narrowed < undecided k q.batches l →
     AreFreed k q l made after (take (i + 1) ws) (bounds_of pushed)
 free_row_goes_on k q l made between after i ws ts d t pushed narrowed h same push a one falls =
     let w : Way = get_or ws i d in
     let ways : take (i + 1) ws ≡ take i ws ++ w ∷ [] = take_more ws i d h in
-    let trees : bounds_of pushed ≡ with_last (bounds_of ts) (bound_of t) = ap (λ (xs : List Tree). bounds_of xs) push ∙ bounds_of-push ts t in
+    let trees : bounds_of pushed ≡ with_last (bounds_of ts) (bound_of t) = ap (λ (xs : List Tree). bounds_of xs) push
+    ∙ bounds_of-push ts t in
     subst (λ (v : List Way). AreFreed k q l made after v (bounds_of pushed)) (sym ways)
     (subst (λ (r : Bounds). AreFreed k q l made after (take i ws ++ w ∷ []) r) (sym trees)
     (freed_more k q l made between after (take i ws) (bounds_of ts) w (bound_of t) a
@@ -59,7 +62,8 @@ free_row_goes_on k q l made between after i ws ts d t pushed narrowed h same pus
 
 -- a child that the checker accepts for the parent stands for it
 pub kept : (k : Classes) (q : Question) (l narrowed : Limits) (made between after deep : ℕ) (t : Bound) → made ≤ between →
-    IsFreed k q narrowed between after t → undecided k q.batches narrowed < undecided k q.batches l → AcceptsWithin false k q.end q.batches l deep t →
+    IsFreed k q narrowed between after t → undecided k q.batches narrowed < undecided k q.batches l →
+    AcceptsWithin false k q.end q.batches l deep t →
     IsFreed k q l made after t
 kept k q l narrowed made between after deep t later h falls a =
     record {
@@ -68,9 +72,11 @@ kept k q l narrowed made between after deep t later h falls a =
       within = h.within;
     }
 
-pub kept_in_row : (k : Classes) (q : Question) (l narrowed : Limits) (made between after deep : ℕ) (ws : List Way) (ts : Bounds) (t : Bound) →
+pub kept_in_row : (k : Classes) (q : Question) (l narrowed : Limits) (made between after deep : ℕ) (ws : List Way) (ts : Bounds)
+    (t : Bound) →
     AreFreed k q l made between ws ts →
-    IsFreed k q narrowed between after t → undecided k q.batches narrowed < undecided k q.batches l → AcceptsWithin false k q.end q.batches l deep t →
+    IsFreed k q narrowed between after t → undecided k q.batches narrowed < undecided k q.batches l →
+    AcceptsWithin false k q.end q.batches l deep t →
     IsFreed k q l made after t
 kept_in_row k q l narrowed made between after deep ws ts t row h falls a =
     kept k q l narrowed made between after deep t (omega (arith, row.few)) h falls a
@@ -105,7 +111,8 @@ close_freed k q l made after ws children closed all a =
       within = rest.within;
     })
 
-pub split_freed : (k : Classes) (q : Question) (l : Limits) (made between after c m : ℕ) (under over : Limits) (s t : Tree) (below above : Box Tree) →
+pub split_freed : (k : Classes) (q : Question) (l : Limits) (made between after c m : ℕ) (under over : Limits) (s t : Tree)
+    (below above : Box Tree) →
     below.value ≡ s → above.value ≡ t → IsSplitPoint k q.batches l c m → under ≡ limits_below l c m → over ≡ limits_from l c m →
     IsFreed k q under (made + 1) between (bound_of s) → IsFreed k q over between after (bound_of t) →
     IsFreed k q l made after (bound_of (Split c m below above))

@@ -49,7 +49,8 @@ class_least k l set c early other h ordered within among shut =
           let shift : class_load_over k set c (other c) + d * cond (holds set (start_of c true)) 1 0
           ≡ class_load_over k set c (other c + d) + d * cond (holds set (finish_of c true)) 1 0 =
           class_load_over_shift k set c (other c) d h (omega (arith, within.most c h, ordered.counted c h)) in
-          fewer (class_load_over k set c (other c)) (class_load_over k set c (early c)) d (holds set (start_of c true)) (holds set (finish_of c true))
+          fewer (class_load_over k set c (other c)) (class_load_over k set c (early c)) d (holds set (start_of c true))
+          (holds set (finish_of c true))
           (rw is at shift)
           (λ held out. omega (arith, ((shut.each (start_of c true) (start_low c h) held).each c h).to_late refl out, among.least c h))
       | inr up ↦
@@ -58,7 +59,8 @@ class_least k l set c early other h ordered within among shut =
           let shift : class_load_over k set c (early c) + d * cond (holds set (start_of c true)) 1 0
           ≡ class_load_over k set c (early c + d) + d * cond (holds set (finish_of c true)) 1 0 =
           class_load_over_shift k set c (early c) d h (omega (arith, among.most c h, ordered.counted c h)) in
-          greater (class_load_over k set c (early c)) (class_load_over k set c (other c)) d (holds set (start_of c true)) (holds set (finish_of c true))
+          greater (class_load_over k set c (early c)) (class_load_over k set c (other c)) d (holds set (start_of c true))
+          (holds set (finish_of c true))
           (rw is at shift)
           (λ held out. omega (arith, ((shut.each (finish_of c true) (finish_low c) held).each c h).to_early refl out, among.most c h))
     ]
@@ -124,7 +126,8 @@ overload_less n before after slot to moved h some above relieved =
       | inl is ↦
           let there : load n.classes after to + moved * 0 ≡ load n.classes before to + moved * 1 =
           rw (same_slot_other slot to (λ same. apart (sym same)), same_slot_same to) at (relieved.loads to relieved.to_fits) in
-          subst (λ (t : ℕ). load n.classes after t - slice_index n.limits.cap t ≤ load n.classes before t - slice_index n.limits.cap t) (sym is)
+          subst (λ (t : ℕ). load n.classes after t - slice_index n.limits.cap t ≤ load n.classes before t - slice_index n.limits.cap t)
+          (sym is)
           (omega (arith, relieved.room))
       | inr other ↦
           let there : load n.classes after s + moved * same_slot slot s ≡ load n.classes before s + moved * 0 =

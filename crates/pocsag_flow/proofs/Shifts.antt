@@ -40,7 +40,8 @@ members_first set i n =
     let here : cond (holds set ((i + 0) % 16)) 1 0 ≡ in_set set (i % 16) = ap (λ (m : ℕ). cond (holds set (m % 16)) 1 0) place in
     let split : sum_over set (covered i (1 + n)) ≡ sum_over set (λ slot. covered i 1 slot + covered (i + 1) n slot) =
     sum_over-same set _ _ (λ slot h. covered_split i 1 n slot h) in
-    let added : sum_over set (λ slot. covered i 1 slot + covered (i + 1) n slot) ≡ sum_over set (covered i 1) + sum_over set (covered (i + 1) n) =
+    let added : sum_over set (λ slot. covered i 1 slot + covered (i + 1) n slot) ≡
+    sum_over set (covered i 1) + sum_over set (covered (i + 1) n) =
     sum_over-add set (covered i 1) (covered (i + 1) n) in
     omega arith
 

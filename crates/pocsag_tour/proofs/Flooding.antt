@@ -28,7 +28,8 @@ home_grows counts exits more root set grown kept _ at_root = at_root
 home_grows counts exits more root set grown kept _ (by_exit q held exit rest) =
     let k : (holds grown q ≡ true) × (more q ≡ exits q) = kept q held in
     by_exit q k.0 (exit_kept counts exits more q k.1 exit)
-    (subst (λ (a : ℕ). Home counts more root grown (arc_to a)) (sym k.1) (home_grows counts exits more root set grown kept (arc_to (exits q)) rest))
+    (subst (λ (a : ℕ). Home counts more root grown (arc_to a)) (sym k.1)
+    (home_grows counts exits more root set grown kept (arc_to (exits q)) rest))
 
 pub homes_start : (counts exits : ℕ → ℕ) (root set : ℕ) → ((i : ℕ) → i ≢ root → holds set i ≡ false) → LeadHome counts exits root set
 homes_start counts exits root set alone q h held = subst (Home counts exits root set) (sym (lone set root q alone held)) at_root
@@ -40,7 +41,8 @@ pub homes_more : (counts exits more : ℕ → ℕ) (root set grown a : ℕ) → 
 homes_more counts exits more root set grown a homes enters new same held others q h in_grown =
     let kept : (p : ℕ) → holds set p ≡ true → (holds grown p ≡ true) × (more p ≡ exits p) =
     λ p in_set.
-    let ne : p ≢ arc_from a = λ e. absurd (let x : holds set (arc_from a) ≡ true = subst (λ (i : ℕ). holds set i ≡ true) e in_set in let y : holds set (arc_from a) ≡ false = enters.from in cc) in
+    let ne : p ≢ arc_from a = λ e. absurd (let x : holds set (arc_from a) ≡ true = subst (λ (i : ℕ). holds set i ≡ true) e in_set in
+    let y : holds set (arc_from a) ≡ false = enters.from in cc) in
     (others p ne ∙ in_set, same p ne) in
     elim (cases_eq q (arc_from a)) [
       | inl here ↦

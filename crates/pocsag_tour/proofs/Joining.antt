@@ -24,7 +24,8 @@ chosen_some false x h = absurd (omega arith)
 some_out : (counts : ℕ → ℕ) (p : ℕ) → 0 < outs counts p → Leaves counts p
 unfolding outs
 some_out counts p some =
-    let t : (a : ℕ) × (a < 288) × (0 < cond (arc_from a == p) (counts a) 0) = positive_term 288 (λ a. cond (arc_from a == p) (counts a) 0) some in
+    let t : (a : ℕ) × (a < 288) × (0 < cond (arc_from a == p) (counts a) 0) =
+    positive_term 288 (λ a. cond (arc_from a == p) (counts a) 0) some in
     let b : ((arc_from t.0 == p) ≡ true) × (0 < counts t.0) = chosen_some (arc_from t.0 == p) (counts t.0) t.2 in
     record { arc = t.0; known = t.1; there = b.1; from = eqb-true (arc_from t.0) p b.0 }
 
@@ -45,7 +46,8 @@ idle_inside counts set balanced home none runs zero s e some =
     (none (272 + s) (omega arith) some (subst (λ (p : ℕ). holds set p ≡ true) last home))
 idle_inside counts set balanced home none runs (suc d) s e some =
     let next : arc_to (272 + s) ≡ s + 1 = (let x : arc_to (272 + s) ≡ (s + 1) % 16 = to_idle s in omega arith) in
-    let in_some : counts (272 + s) ≤ ins counts (s + 1) = subst (λ (p : ℕ). counts (272 + s) ≤ ins counts p) next (in_term counts (272 + s) (omega arith)) in
+    let in_some : counts (272 + s) ≤ ins counts (s + 1) =
+    subst (λ (p : ℕ). counts (272 + s) ≤ ins counts p) next (in_term counts (272 + s) (omega arith)) in
     let out : Leaves counts (s + 1) = some_out counts (s + 1) (omega (arith, balanced (s + 1) (omega arith), in_some)) in
     let there : holds set (s + 1) ≡ true =
     by_kind (λ a. 0 < counts a → arc_from a ≡ s + 1 → holds set (s + 1) ≡ true)
@@ -64,7 +66,8 @@ arc_inside counts set balanced home none runs =
     by_kind (λ a. 0 < counts a → holds set (arc_from a) ≡ true)
     (λ c h some. runs c (omega arith) some)
     (λ c h some. runs (136 + c) (omega arith) some)
-    (λ s h some. subst (λ (p : ℕ). holds set p ≡ true) (sym (from_idle s)) (idle_inside counts set balanced home none runs (15 - s) s (omega arith) some))
+    (λ s h some. subst (λ (p : ℕ). holds set p ≡ true) (sym (from_idle s))
+    (idle_inside counts set balanced home none runs (15 - s) s (omega arith) some))
 
 visited_in : (counts : ℕ → ℕ) (set : ℕ) → holds set 0 ≡ true → NoneLeaves counts set → (p : ℕ) → Visited counts p → holds set p ≡ true
 visited_in counts set home none _ at_start = home
@@ -78,10 +81,13 @@ joined_open counts set balanced home closed visited runs other held none a h som
     visited_in counts other held (balance_leaves counts other balanced none) (arc_from a) (visited (arc_from a) (from_below a h) inside)
 
 -- without the arc that is to be the last
-pub balanced_without : (counts less : ℕ → ℕ) (a : ℕ) → IsBalanced counts 0 0 → IsClosing counts a → IsLess a counts less → IsBalanced less 0 15
+pub balanced_without : (counts less : ℕ → ℕ) (a : ℕ) → IsBalanced counts 0 0 → IsClosing counts a → IsLess a counts less →
+    IsBalanced less 0 15
 balanced_without counts less a balanced z l q h =
-    let o : outs counts q ≡ outs less q + cond (15 == q) 1 0 = subst (λ (p : ℕ). outs counts q ≡ outs less q + cond (p == q) 1 0) z.from (outs_less a counts less z.known l q) in
-    let i : ins counts q ≡ ins less q + cond (0 == q) 1 0 = subst (λ (p : ℕ). ins counts q ≡ ins less q + cond (p == q) 1 0) z.to (ins_less a counts less z.known l q) in
+    let o : outs counts q ≡ outs less q + cond (15 == q) 1 0 =
+    subst (λ (p : ℕ). outs counts q ≡ outs less q + cond (p == q) 1 0) z.from (outs_less a counts less z.known l q) in
+    let i : ins counts q ≡ ins less q + cond (0 == q) 1 0 =
+    subst (λ (p : ℕ). ins counts q ≡ ins less q + cond (p == q) 1 0) z.to (ins_less a counts less z.known l q) in
     omega (arith, balanced q h, flipped q 15, flipped q 0)
 
 holds_if : (b : Bool) → ◌≡◌ {A = ℕ} (cond b 1 0) 1 → b ≡ true
@@ -96,7 +102,8 @@ cond_few : (b : Bool) → cond b 1 0 ≤ 1
 cond_few true = omega arith
 cond_few false = omega arith
 
-pub joined_closed : (counts less : ℕ → ℕ) (a : ℕ) → IsBalanced counts 0 0 → AllLeadTo counts 0 → IsClosing counts a → IsLess a counts less → AllLeadTo less 15
+pub joined_closed : (counts less : ℕ → ℕ) (a : ℕ) → IsBalanced counts 0 0 → AllLeadTo counts 0 → IsClosing counts a →
+    IsLess a counts less → AllLeadTo less 15
 joined_closed counts less a balanced all z l set held none b h some =
     let sums : outs_over less set + cond (holds set 15) 1 0 ≡ ins_over less set + cond (holds set 0) 1 0 =
     set_balance less 0 15 set (omega arith) (omega arith) (balanced_without counts less a balanced z l) in
@@ -136,7 +143,8 @@ pub closed_way : (counts less : ℕ → ℕ) (a : ℕ) (ss : List Step) → IsCl
 closed_way counts less a ss z l w =
     let leads : Leads 0 ss (arc_from a) = subst (λ (p : ℕ). Leads 0 ss p) (sym z.from) w.leads in (
       record {
-        leads = subst (λ (p : ℕ). Leads 0 (ss ++ (step_of a ∷ [])) p) z.to (leads_push 0 (arc_from a) (arc_to a) ss (step_of a) leads (leads_over a z.known));
+        leads = subst (λ (p : ℕ). Leads 0 (ss ++ (step_of a ∷ [])) p) z.to
+            (leads_push 0 (arc_from a) (arc_to a) ss (step_of a) leads (leads_over a z.known));
         takes = λ b h. closed_takes counts less a ss z.known l leads w.takes b h;
         no_other = none_push a ss z.known w.no_other;
       },

@@ -79,10 +79,12 @@ runs_more k choice batches links one two c early late h is_early is_late long fi
       (linked_more k choice batches (slice_index links) (slice_index one) early c true is_early h so_far.linked first) second;
   runs = λ d e low some.
       elim (cases_eq d c) [
-        | inl same ↦ subst (λ (b : ℕ). 0 < runs_of k choice b e → holds (slice_index two (start_of b e)) (finish_of b e) ≡ true) (sym same) (own e) some
+        | inl same ↦ subst (λ (b : ℕ). 0 < runs_of k choice b e → holds (slice_index two (start_of b e)) (finish_of b e) ≡ true)
+            (sym same) (own e) some
         | inr other ↦
             let there : start_of d e < 16 = start_below d e (omega arith) in
-            second.kept (start_of d e) (finish_of d e) there (first.kept (start_of d e) (finish_of d e) there (so_far.runs d e (omega arith) some))
+            second.kept (start_of d e) (finish_of d e) there
+            (first.kept (start_of d e) (finish_of d e) there (so_far.runs d e (omega arith) some))
       ];
 }
   where
@@ -93,7 +95,8 @@ runs_more k choice batches links one two c early late h is_early is_late long fi
     own false some = second.held (lt-ltb 0 late (subst (λ (m : ℕ). 0 < m) (sym is_late) some))
 
 -- a class without pages has no runs
-no_runs : (k : Classes) (choice : ℕ → ℕ) (c : ℕ) (early : Bool) → slice_index k.count c ≡ 0 → choice c ≤ slice_index k.count c → runs_of k choice c early ≡ 0
+no_runs : (k : Classes) (choice : ℕ → ℕ) (c : ℕ) (early : Bool) → slice_index k.count c ≡ 0 → choice c ≤ slice_index k.count c →
+    runs_of k choice c early ≡ 0
 unfolding runs_of
 no_runs k choice c true none few = omega arith
 no_runs k choice c false none few = omega arith
@@ -102,15 +105,18 @@ pub runs_none : (k : Classes) (choice : ℕ → ℕ) (links : ℕ → ℕ) (c : 
     HaveRuns k choice links c → HaveRuns k choice links (c + 1)
 runs_none k choice links c none few so_far d e low some =
     elim (cases_eq d c) [
-      | inl same ↦ absurd (let here : 0 < runs_of k choice c e = subst (λ (b : ℕ). 0 < runs_of k choice b e) same some in omega (arith, no_runs k choice c e none few))
+      | inl same ↦ absurd (let here : 0 < runs_of k choice c e = subst (λ (b : ℕ). 0 < runs_of k choice b e) same some in
+          omega (arith, no_runs k choice c e none few))
       | inr other ↦ so_far d e (omega arith) some
     ]
 
-pub no_links : (k : Classes) (choice : ℕ → ℕ) (batches : ℕ) (links : List ℕ) → length links ≡ 16 → ((p : ℕ) → p < 16 → slice_index links p ≡ 0) →
+pub no_links : (k : Classes) (choice : ℕ → ℕ) (batches : ℕ) (links : List ℕ) → length links ≡ 16 →
+    ((p : ℕ) → p < 16 → slice_index links p ≡ 0) →
     AreLinks k choice batches links 0
 no_links k choice batches links long none = record {
   long = long;
-  linked = λ p q h held. absurd (let out : holds (slice_index links p) q ≡ false = ap (λ (s : ℕ). holds s q) (none p h) ∙ holds_nothing q in cc);
+  linked = λ p q h held. absurd (let out : holds (slice_index links p) q ≡ false = ap (λ (s : ℕ). holds s q) (none p h)
+      ∙ holds_nothing q in cc);
   runs = λ c e h. absurd (omega arith);
 }
 
@@ -185,7 +191,8 @@ pub follows_all : (links : ℕ → ℕ) (set grown n : ℕ) → 16 ≤ n → IsG
 follows_all links set grown n all g = record { kept = g.kept; linked = λ p q l was to. g.linked p q (omega arith) was to; led = g.led }
 
 -- what is led to from boundary 0 is what is reached
-led_reached : (k : Classes) (choice : ℕ → ℕ) (batches : ℕ) (links : ℕ → ℕ) → AreLinked k choice batches links → (q : ℕ) → IsLed links q → IsReached k choice batches q
+led_reached : (k : Classes) (choice : ℕ → ℕ) (batches : ℕ) (links : ℕ → ℕ) → AreLinked k choice batches links → (q : ℕ) → IsLed links q →
+    IsReached k choice batches q
 led_reached k choice batches links linked _ at_start = start
 led_reached k choice batches links linked _ (by_link p q h held rest) =
     reached_on p q (linked p q h held) (led_reached k choice batches links linked p rest)
@@ -194,18 +201,22 @@ led_reached k choice batches links linked _ (by_link p q h held rest) =
     reached_on _ _ (by_idle s h some) r = on_idle s h some r
     reached_on _ _ (by_run c e h some) r = on_run c e h some r
 
-reached_led : (k : Classes) (choice : ℕ → ℕ) (batches : ℕ) (links : ℕ → ℕ) (set : ℕ) → HaveRuns k choice links 136 → HaveIdles k choice batches links 16 →
+reached_led : (k : Classes) (choice : ℕ → ℕ) (batches : ℕ) (links : ℕ → ℕ) (set : ℕ) → HaveRuns k choice links 136 →
+    HaveIdles k choice batches links 16 →
     holds set 0 ≡ true → ((p q : ℕ) → p < 16 → holds set p ≡ true → holds (links p) q ≡ true → holds set q ≡ true) →
     (p : ℕ) → IsReached k choice batches p → holds set p ≡ true
 reached_led k choice batches links set runs idles home closed _ start = home
 reached_led k choice batches links set runs idles home closed _ (on_idle s h some rest) =
     closed s ((s + 1) % 16) h (reached_led k choice batches links set runs idles home closed s rest) (idles s h some)
 reached_led k choice batches links set runs idles home closed _ (on_run c e h some rest) =
-    closed (start_of c e) (finish_of c e) (start_below c e h) (reached_led k choice batches links set runs idles home closed (start_of c e) rest) (runs c e h some)
+    closed (start_of c e) (finish_of c e) (start_below c e h)
+    (reached_led k choice batches links set runs idles home closed (start_of c e) rest) (runs c e h some)
 
 pub all_reached : (k : Classes) (choice : ℕ → ℕ) (batches : ℕ) (links : ℕ → ℕ) (set : ℕ) → AreLinked k choice batches links →
     HaveRuns k choice links 136 → HaveIdles k choice batches links 16 → holds set 0 ≡ true →
     ((p q : ℕ) → p < 16 → holds set p ≡ true → holds (links p) q ≡ true → holds set q ≡ true) →
     ((q : ℕ) → holds set q ≡ true → IsLed links q) → AreReached k choice batches set
-all_reached k choice batches links set linked runs idles home closed led p h =
-    ((λ held. led_reached k choice batches links linked p (led p held)), (λ r. reached_led k choice batches links set runs idles home closed p r))
+all_reached k choice batches links set linked runs idles home closed led p h = (
+  (λ held. led_reached k choice batches links linked p (led p held)),
+  (λ r. reached_led k choice batches links set runs idles home closed p r),
+)

@@ -19,7 +19,8 @@ abbrev HasIdles : (ℕ → ℕ) → Type 0
 HasIdles counts = (s : ℕ) → s < 16 → 0 < counts (272 + s)
 
 -- the idles lead from each boundary to boundary 0
-idles_lead : (counts : ℕ → ℕ) (set : ℕ) → HasIdles counts → holds set 0 ≡ true → NoneEnters counts set → (d s : ℕ) → s + d ≡ 15 → holds set s ≡ true
+idles_lead : (counts : ℕ → ℕ) (set : ℕ) → HasIdles counts → holds set 0 ≡ true → NoneEnters counts set → (d s : ℕ) → s + d ≡ 15 →
+    holds set s ≡ true
 idles_lead counts set idle home none zero s e =
     let last : 0 ≡ arc_to (272 + s) = (let x : arc_to (272 + s) ≡ (s + 1) % 16 = to_idle s in omega arith) in
     subst (λ (p : ℕ). holds set p ≡ true) (from_idle s)

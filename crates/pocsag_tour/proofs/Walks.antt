@@ -18,7 +18,8 @@ pub record IsLess (a : ℕ) (left less : ℕ → ℕ) : Type 0 where
   pub here : left a ≡ less a + 1
   pub other : (b : ℕ) → b ≢ a → less b ≡ left b
 
-pub less_by_set : (xs : List ℕ) (a : ℕ) → a < length xs → 0 < slice_index xs a → IsLess a (slice_index xs) (slice_index (slice_set xs a (slice_index xs a - 1)))
+pub less_by_set : (xs : List ℕ) (a : ℕ) → a < length xs → 0 < slice_index xs a →
+    IsLess a (slice_index xs) (slice_index (slice_set xs a (slice_index xs a - 1)))
 less_by_set xs a h some =
     record {
       here = omega (arith, get_or-set_same xs a (slice_index xs a - 1) 0 h);
@@ -39,7 +40,8 @@ one_more false x y h = refl
 same_term : (b : Bool) (x y : ℕ) → y ≡ x → cond b y 0 ≡ cond b x 0
 same_term b x y h = rw h refl
 
-pub outs_less : (a : ℕ) (left less : ℕ → ℕ) → a < 288 → IsLess a left less → (q : ℕ) → outs left q ≡ outs less q + cond (arc_from a == q) 1 0
+pub outs_less : (a : ℕ) (left less : ℕ → ℕ) → a < 288 → IsLess a left less → (q : ℕ) →
+    outs left q ≡ outs less q + cond (arc_from a == q) 1 0
 unfolding outs
 outs_less a left less h l q =
     sum_below-bump 288 a (cond (arc_from a == q) 1 0) (λ b. cond (arc_from b == q) (less b) 0) (λ b. cond (arc_from b == q) (left b) 0) h
@@ -63,7 +65,8 @@ runs_push c e [] s = omega arith
 runs_push c e (Stay ∷ ss) s = runs_push c e ss s
 runs_push c e (Run d f ∷ ss) s = omega (arith, runs_push c e ss s)
 
-idles_push : (slot q p : ℕ) (ss : List Step) (s : Step) → Leads q ss p → idles slot q (ss ++ (s ∷ [])) ≡ idles slot q ss + idles slot p (s ∷ [])
+idles_push : (slot q p : ℕ) (ss : List Step) (s : Step) → Leads q ss p →
+    idles slot q (ss ++ (s ∷ [])) ≡ idles slot q ss + idles slot p (s ∷ [])
 idles_push slot q p [] s l = ap (λ (n : ℕ). idles slot n (s ∷ [])) l ∙ omega arith
 idles_push slot q p (Stay ∷ ss) s l = omega (arith, idles_push slot ((q + 1) % 16) p ss s l)
 idles_push slot q p (Run d f ∷ ss) s l = idles_push slot (finish_of d f) p ss s l.1
@@ -138,9 +141,21 @@ pub taken_push : (a : ℕ) (ss : List Step) → a < 288 → Leads 0 ss (arc_from
     (b : ℕ) → b < 288 → taken b (ss ++ (step_of a ∷ [])) ≡ taken b ss + cond (b == a) 1 0
 taken_push a ss h l =
     by_kind (λ b. taken b (ss ++ (step_of a ∷ [])) ≡ taken b ss + cond (b == a) 1 0)
-    (λ c m. omega (arith, taken_early c ss m, taken_early c (ss ++ (step_of a ∷ [])) m, runs_push c true ss (step_of a), early_step c m a h))
+    (λ c m. omega (
+      arith,
+      taken_early c ss m,
+      taken_early c (ss ++ (step_of a ∷ [])) m,
+      runs_push c true ss (step_of a),
+      early_step c m a h,
+    ))
     (λ c m. omega (arith, taken_late c ss m, taken_late c (ss ++ (step_of a ∷ [])) m, runs_push c false ss (step_of a), late_step c m a h))
-    (λ s m. omega (arith, taken_idle s ss, taken_idle s (ss ++ (step_of a ∷ [])), idles_push s 0 (arc_from a) ss (step_of a) l, idle_step s m a h))
+    (λ s m. omega (
+      arith,
+      taken_idle s ss,
+      taken_idle s (ss ++ (step_of a ∷ [])),
+      idles_push s 0 (arc_from a) ss (step_of a) l,
+      idle_step s m a h,
+    ))
 
 run_beyond : (b e f : Bool) → b ≡ false → cond (b && cond e f (not f)) 1 0 + 0 ≡ 0
 run_beyond true e f h = absurd (cc)
@@ -171,7 +186,8 @@ walk_start counts exits root balanced =
       kept = λ q e none. absurd (omega (arith, e.there, none));
     }
 
-on_balance : (a p root : ℕ) (left less : ℕ → ℕ) → a < 288 → arc_from a ≡ p → IsLess a left less → IsBalanced left p root → IsBalanced less (arc_to a) root
+on_balance : (a p root : ℕ) (left less : ℕ → ℕ) → a < 288 → arc_from a ≡ p → IsLess a left less → IsBalanced left p root →
+    IsBalanced less (arc_to a) root
 on_balance a p root left less h from l balanced q m =
     let was : outs left q + cond (q == root) 1 0 ≡ ins left q + cond (q == arc_from a) 1 0 =
     subst (λ (n : ℕ). outs left q + cond (q == root) 1 0 ≡ ins left q + cond (q == n) 1 0) (sym from) (balanced q m) in
@@ -238,7 +254,12 @@ spent_home counts exits left root set balanced spent kept _ at_root = spent
 spent_home counts exits left root set balanced spent kept _ (by_exit q held e rest) =
     let next : IsSpent left (arc_to (exits q)) = spent_home counts exits left root set balanced spent kept (arc_to (exits q)) rest in
     kept q e
-    (omega (arith, balanced (arc_to (exits q)) (to_below (exits q) e.known), outs_spent left (arc_to (exits q)) next, in_term left (exits q) e.known))
+    (omega (
+      arith,
+      balanced (arc_to (exits q)) (to_below (exits q) e.known),
+      outs_spent left (arc_to (exits q)) next,
+      in_term left (exits q) e.known,
+    ))
 
 pub walk_end : (counts exits left : ℕ → ℕ) (p root set : ℕ) (ss : List Step) → IsWalk counts exits left ss p root → IsSpent left p →
     AllLeadTo counts root → holds set root ≡ true → NoneEnters counts set → LeadHome counts exits root set → IsWay counts root ss
@@ -254,7 +275,8 @@ walk_end counts exits left p root set ss w spent all held none homes =
             | inr some ↦
                 let in_set : holds set (arc_from a) ≡ true = all set held none a h (omega arith) in
                 let gone : left a ≡ 0 =
-                spent_home counts exits left root set balanced there w.kept (arc_from a) (homes (arc_from a) (from_below a h) in_set) a h refl in
+                spent_home counts exits left root set balanced there w.kept (arc_from a)
+                (homes (arc_from a) (from_below a h) in_set) a h refl in
                 omega (arith, w.uses a h)
           ];
       no_other = w.no_other;

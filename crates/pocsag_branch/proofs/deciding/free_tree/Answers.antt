@@ -11,7 +11,8 @@ use Rattle.pocsag_branch.specs.Examined.{IsRefuted}
 use Rattle.pocsag_branch.specs.Freed.{IsFreeTree}
 use Rattle.pocsag_branch.proofs.deciding.free_tree.Goals as goal
 
-same_tree : (k : Classes) (q r : Question) (t : Bound) → r.end ≡ q.end → r.batches ≡ q.batches → r.limit ≤ q.limit → IsFreeTree k r t → IsFreeTree k q t
+same_tree : (k : Classes) (q r : Question) (t : Bound) → r.end ≡ q.end → r.batches ≡ q.batches → r.limit ≤ q.limit → IsFreeTree k r t →
+    IsFreeTree k q t
 same_tree k q r t same_end same_batches less h =
     record {
       refuted = subst (λ (x : End). IsRefuted false k x q.batches (limits_of_all k q.batches) t) same_end
@@ -27,4 +28,5 @@ within_limit k q r (Err halt) same_end same_batches less h = h
 pub returns-else-question-short-clause-tree : goal.returns-else-question-short-clause-tree
 returns-else-question-short-clause-tree c =
     within_limit c.args.classes.now c.args.question c.within-in-Err-Limit.result c.tried-in-Err-Limit.result
-    c.within-in-Err-Limit.ensures.end c.within-in-Err-Limit.ensures.batches (omega (arith, c.within-in-Err-Limit.ensures.limit)) c.tried-in-Err-Limit.ensures.tree
+    c.within-in-Err-Limit.ensures.end c.within-in-Err-Limit.ensures.batches
+    (omega (arith, c.within-in-Err-Limit.ensures.limit)) c.tried-in-Err-Limit.ensures.tree

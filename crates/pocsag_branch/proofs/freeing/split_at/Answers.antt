@@ -14,11 +14,13 @@ overflow_cast-result-in-Late c =
 pub returns-in-Early : goal.returns-in-Early
 returns-in-Early c =
     let may = subst (λ (w : Way). MayTake c.args.classes.now c.args.limits.now w) c.in-Early.is c.requires.way in
-    let free = subst (λ (w : Way). IsOpen c.args.classes.now c.args.attempt.question.batches c.args.limits.now w) c.in-Early.is c.requires.open_way in
+    let free = subst (λ (w : Way). IsOpen c.args.classes.now c.args.attempt.question.batches c.args.limits.now w) c.in-Early.is
+    c.requires.open_way in
     splits_at_one c.args.classes.now c.args.attempt.question.batches c.args.limits.now c.requires.limits c.in-Early.class may.0 free may.1
 
 pub returns-in-Late : goal.returns-in-Late
 returns-in-Late c =
     let may = subst (λ (w : Way). MayTake c.args.classes.now c.args.limits.now w) c.in-Late.is c.requires.way in
-    let free = subst (λ (w : Way). IsOpen c.args.classes.now c.args.attempt.question.batches c.args.limits.now w) c.in-Late.is c.requires.open_way in
+    let free = subst (λ (w : Way). IsOpen c.args.classes.now c.args.attempt.question.batches c.args.limits.now w) c.in-Late.is
+    c.requires.open_way in
     splits_at_count c.args.classes.now c.args.attempt.question.batches c.args.limits.now c.requires.limits c.in-Late.class may.0 free may.1

@@ -9,6 +9,7 @@ returns-in-Err-Unclosed-clause-view c =
     let refused = rw c.in-Err-Unclosed.field-0-is at c.in-Err-Unclosed.ensures.refused in (
       subst (λ (e : End). IsClosed e) (sym refused.0) tt,
       refused.1,
-      closing_fall c.args.classes.now c.args.question.batches c.args.limits.now (slice_index c.args.choice.now.early) c.requires.limits c.requires.admitted
+      closing_fall c.args.classes.now c.args.question.batches c.args.limits.now
+          (slice_index c.args.choice.now.early) c.requires.limits c.requires.admitted
           refused.1 c.args.question.some,
     )

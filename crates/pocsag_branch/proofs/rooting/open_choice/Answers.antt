@@ -8,7 +8,9 @@ use Rattle.pocsag_branch.proofs.rooting.open_choice.Goals as goal
 pub returns-in-Err-Met-clause-choice : goal.returns-in-Err-Met-clause-choice
 returns-in-Err-Met-clause-choice c =
     let met = rw c.in-Err-Met.field-0-is at c.in-Err-Met.ensures in
-    subst (λ (a : Answer). IsAdmitted c.args.classes.now (limits_of_all c.args.classes.now c.args.question.batches) (slice_index a.choice.early))
+    subst (λ (a : Answer). IsAdmitted c.args.classes.now (limits_of_all c.args.classes.now c.args.question.batches)
+    (slice_index a.choice.early))
     (sym c.into_inner-met.ensures)
-    (tour_admitted c.args.classes.now Open c.args.question.batches (slice_index c.in-Err-Met.answer.value.choice.early) c.in-Err-Met.answer.value.steps.items
+    (tour_admitted c.args.classes.now Open c.args.question.batches
+    (slice_index c.in-Err-Met.answer.value.choice.early) c.in-Err-Met.answer.value.steps.items
     met.choice met.tour)

@@ -5,7 +5,8 @@ use Rattle.pocsag_flow.proofs.way.+push.Goals as goal
 pub enter-returns-else-load-cap : goal.enter-returns-else-load-cap
 enter-returns-else-load-cap t c =
     record {
-      pushes = entered c.args.network.now c.args.search.now (record c.args.search.now { reached = c.with_member-search.result }) c.leave.new.search
+      pushes = entered c.args.network.now c.args.search.now
+          (record c.args.search.now { reached = c.with_member-search.result }) c.leave.new.search
           c.args.slot c.args.most c.leave.result refl c.with_member-search.ensures.held c.with_member-search.ensures.others c.requires.apart
           (c.with_member-search.ensures.grows c.requires.apart)
           (omega (arith, c.requires.network.loads c.args.slot c.requires.slot))

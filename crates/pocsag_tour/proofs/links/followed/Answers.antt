@@ -16,8 +16,14 @@ loop-boundary-preserved c =
           let held : holds c.loop-boundary.grown c.loop-boundary.boundary ≡ true = cc in
           record {
             grown = subst (λ (s : ℕ). IsGrown links c.args.set s (c.loop-boundary.boundary + 1)) (sym w.grown-is)
-                (grown_link links c.args.set c.loop-boundary.grown c.loop-boundary.boundary c.loop-boundary-test.true held c.loop-boundary.invariant.grown);
-            more = omega (arith, w.grown-is, c.loop-boundary.invariant.more, le_or_l c.loop-boundary.grown (links c.loop-boundary.boundary));
+                (grown_link links c.args.set c.loop-boundary.grown c.loop-boundary.boundary c.loop-boundary-test.true held
+                c.loop-boundary.invariant.grown);
+            more = omega (
+              arith,
+              w.grown-is,
+              c.loop-boundary.invariant.more,
+              le_or_l c.loop-boundary.grown (links c.loop-boundary.boundary),
+            );
           }
       | else-holds w ↦
           let out : holds c.loop-boundary.grown c.loop-boundary.boundary ≡ false = cc in
@@ -30,4 +36,5 @@ loop-boundary-preserved c =
 
 pub returns-clause-follows : goal.returns-clause-follows
 returns-clause-follows c =
-    follows_all (slice_index c.args.links.now) c.args.set c.loop-boundary.grown c.loop-boundary.boundary (omega arith) c.loop-boundary.invariant.grown
+    follows_all (slice_index c.args.links.now) c.args.set c.loop-boundary.grown c.loop-boundary.boundary
+    (omega arith) c.loop-boundary.invariant.grown

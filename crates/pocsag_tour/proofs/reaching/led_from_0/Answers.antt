@@ -7,7 +7,8 @@ use Rattle.pocsag_tour.proofs.reaching.led_from_0.Goals as goal
 pub loop-set-init : goal.loop-set-init
 loop-set-init c = record {
   start = c.with_member-set.ensures.held;
-  led = λ q held. subst (IsLed (slice_index c.args.links.now)) (sym (lone c.with_member-set.result 0 q (c.with_member-set.ensures.alone refl) held)) at_start;
+  led = λ q held. subst (IsLed (slice_index c.args.links.now))
+      (sym (lone c.with_member-set.result 0 q (c.with_member-set.ensures.alone refl) held)) at_start;
 }
 
 pub loop-set-preserved : goal.loop-set-preserved
