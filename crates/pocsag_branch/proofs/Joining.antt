@@ -1,5 +1,5 @@
 -- A node over the row of its children, and one child more.
-use Rattle.std.proofs.Common.{◌≡◌, ℕ, ◌+◌, ◌<◌, ◌≤◌, ◌^◌, Bool, true, IsTrue, List, [], ◌∷◌, ◌++◌, take, get_or, length, refl, sym, ap, subst, ◌∙◌, arith, append_assoc}
+use Rattle.std.proofs.Common.{◌≡◌, ℕ, ◌+◌, ◌<◌, ◌≤◌, ◌^◌, Bool, true, IsTrue, List, [], ◌∷◌, ◌++◌, take, get_or, length, refl, sym, ap, ◌∙◌, arith, append_assoc}
 use Rattle.std.proofs.lemmas.List.{append-nil, take_more}
 use Rattle.pocsag_words.specs.declared.ending.End.{End}
 use Rattle.pocsag_slots.specs.declared.class.Classes.{Classes}
@@ -15,7 +15,7 @@ use Rattle.pocsag_tree.specs.Views.{bound_of, bounds_of}
 use Rattle.pocsag_tree.proofs.Counts.{bound_of-cut, bound_of-close, bound_of-split}
 use Rattle.pocsag_check.specs.Accepting.{Accepts, AcceptsEach, IsClosed}
 use Rattle.pocsag_branch.specs.declared.question.Question.{Question}
-use Rattle.pocsag_branch.specs.Examined.{AreExamined, AreRefuted, Fills, IsExamined, IsRefuted}
+use Rattle.pocsag_branch.specs.Examined.{AreExamined, AreRefuted, IsExamined, IsRefuted}
 use Rattle.pocsag_branch.specs.Marks.{opens, opens_in}
 use Rattle.pocsag_branch.specs.Shape.{AdmitApart, AdmitSplit, AdmitUnclosed, AreShaped, IsShaped}
 use Rattle.pocsag_branch.specs.Undecided.{IsSplitPoint, undecided}
@@ -71,8 +71,7 @@ examined_more k q l made between after ws ts w t a h falls =
     record {
       refuted = refuted_more true k q.end q.batches l ws ts w t a.refuted h.refuted falls;
       shaped = AreShaped-last k q.batches l ws ts w t a.shaped h.shaped;
-      fills = subst (λ (marks : List Bool). Fills q.limit made after marks) (sym (opens_in-last ts t))
-          (fills_join q.limit made between after (opens_in ts) (opens t) a.fills h.fills);
+      fills = rw (opens_in-last ts t) (fills_join q.limit made between after (opens_in ts) (opens t) a.fills h.fills);
     }
 
 -- the loop over the ways
@@ -87,11 +86,9 @@ row_goes_on k q l made between after i ws ts d t pushed narrowed h same push a o
     let ways : take (i + 1) ws ≡ take i ws ++ w ∷ [] = take_more ws i d h in
     let trees : bounds_of pushed ≡ with_last (bounds_of ts) (bound_of t) = ap (λ (xs : List Tree). bounds_of xs) push
     ∙ bounds_of-push ts t in
-    subst (λ (v : List Way). AreExamined k q l made after v (bounds_of pushed)) (sym ways)
-    (subst (λ (r : Bounds). AreExamined k q l made after (take i ws ++ w ∷ []) r) (sym trees)
-    (examined_more k q l made between after (take i ws) (bounds_of ts) w (bound_of t) a
-    (subst (λ (x : Limits). IsExamined k q x between after (bound_of t)) same one)
-    (subst (λ (x : Limits). undecided k q.batches x < undecided k q.batches l) same falls)))
+    rw ways (rw trees (examined_more k q l made between after (take i ws) (bounds_of ts) w (bound_of t) a
+    (rw same at one)
+    (rw same at falls)))
 
 -- a node is accepted with its children
 pub cut_refuted : (u : Bool) (k : Classes) (end : End) (b : ℕ) (l : Limits) (set c : ℕ) (ts : Bounds) → 0 < b → c < 136 →
@@ -118,7 +115,7 @@ pub cut_examined : (k : Classes) (q : Question) (l : Limits) (made after set c :
     AreExamined k q l (made + 1) after ws ts → IsExamined k q l made after (cut set c ts)
 cut_examined k q l made after set c ws ts known zero certain small apart all a =
     let rest : AreExamined k q l (made + 1) after (ways_across k l set) ts =
-    subst (λ (v : List Way). AreExamined k q l (made + 1) after v ts) all a in
+    rw all at a in
     record {
       refuted = cut_refuted true k q.end q.batches l set c ts q.some known zero certain small rest.refuted;
       shaped = (apart, rest.shaped);
@@ -130,7 +127,7 @@ pub close_examined : (k : Classes) (q : Question) (l : Limits) (made after : ℕ
     AreExamined k q l (made + 1) after ws ts → IsExamined k q l made after (close ts)
 close_examined k q l made after ws ts closed unclosed all a =
     let rest : AreExamined k q l (made + 1) after (ways_to_close k l) ts =
-    subst (λ (v : List Way). AreExamined k q l (made + 1) after v ts) all a in
+    rw all at a in
     record {
       refuted = close_refuted true k q.end q.batches l ts q.some closed rest.refuted;
       shaped = (unclosed, rest.shaped);
@@ -143,8 +140,8 @@ pub split_examined : (k : Classes) (q : Question) (l : Limits) (made between aft
     IsExamined k q l made after (split c m s t)
 split_examined k q l made between after c m under over s t point parts low high first second =
     let below : IsExamined k q (limits_below l c m) (made + 1) between s =
-    subst (λ (x : Limits). IsExamined k q x (made + 1) between s) low first in
-    let above : IsExamined k q (limits_from l c m) between after t = subst (λ (x : Limits). IsExamined k q x between after t) high second in
+    rw low at first in
+    let above : IsExamined k q (limits_from l c m) between after t = rw high at second in
     record {
       refuted = split_refuted true k q.end q.batches l c m s t point below.refuted above.refuted;
       shaped = (parts, below.shaped, above.shaped);
@@ -157,15 +154,13 @@ pub cut_made : (k : Classes) (q : Question) (l : Limits) (made after set c : ℕ
     IsTrue (holds set 0) → IsTrue (class_certain k l set c) → set < 2 ^ 16 → AdmitApart k q.batches l set → ws ≡ ways_across k l set →
     AreExamined k q l (made + 1) after ws (bounds_of children.items) → IsExamined k q l made after (bound_of (Cut set c children))
 cut_made k q l made after set c ws children known zero certain small apart all a =
-    subst (λ (t : Bound). IsExamined k q l made after t) (sym (bound_of-cut (Cut set c children) set c children refl))
-    (cut_examined k q l made after set c ws (bounds_of children.items) known zero certain small apart all a)
+    rw (bound_of-cut (Cut set c children) set c children refl) (cut_examined k q l made after set c ws (bounds_of children.items) known zero certain small apart all a)
 
 pub close_made : (k : Classes) (q : Question) (l : Limits) (made after : ℕ) (ws : List Way) (children : Vec Tree) → IsClosed q.end →
     AdmitUnclosed k q.batches l → ws ≡ ways_to_close k l →
     AreExamined k q l (made + 1) after ws (bounds_of children.items) → IsExamined k q l made after (bound_of (Close children))
 close_made k q l made after ws children closed unclosed all a =
-    subst (λ (t : Bound). IsExamined k q l made after t) (sym (bound_of-close (Close children) children refl))
-    (close_examined k q l made after ws (bounds_of children.items) closed unclosed all a)
+    rw (bound_of-close (Close children) children refl) (close_examined k q l made after ws (bounds_of children.items) closed unclosed all a)
 
 pub split_made : (k : Classes) (q : Question) (l : Limits) (made between after c m : ℕ) (under over : Limits) (s t : Tree)
     (below above : Box Tree) →
@@ -178,5 +173,4 @@ split_made k q l made between after c m under over s t below above low_is high_i
     bound_of-split (Split c m below above) c m below above refl
     ∙ ap (λ (x : Tree). split c m (bound_of x) (bound_of above.value)) low_is
     ∙ ap (λ (x : Tree). split c m (bound_of s) (bound_of x)) high_is in
-    subst (λ (x : Bound). IsExamined k q l made after x) (sym seen)
-    (split_examined k q l made between after c m under over (bound_of s) (bound_of t) point parts low high first second)
+    rw seen (split_examined k q l made between after c m under over (bound_of s) (bound_of t) point parts low high first second)

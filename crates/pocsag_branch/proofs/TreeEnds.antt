@@ -1,5 +1,5 @@
 -- What a tree says where the search ends.
-use Rattle.std.proofs.Common.{All, ◌≡◌, ℕ, zero, suc, ◌+◌, ◌-◌, ◌%◌, ◌<◌, ◌≤◌, ◌||◌, Bool, true, false, List, [], ◌∷◌, ◌++◌, map, replicate, refl, sym, ap, subst, ◌∙◌, arith, slice_index, inl, inr}
+use Rattle.std.proofs.Common.{All, ◌≡◌, ℕ, zero, suc, ◌+◌, ◌-◌, ◌%◌, ◌<◌, ◌≤◌, ◌||◌, Bool, true, false, List, [], ◌∷◌, ◌++◌, map, replicate, refl, sym, ap, ◌∙◌, arith, slice_index, inl, inr}
 use Rattle.std.proofs.lemmas.Bool.{cases_eq, or_parts}
 use Rattle.std.proofs.lemmas.Bool.Decides.{nat_tests}
 use Rattle.std.proofs.lemmas.List.{append-nil, get_or-replicate, length-replicate}
@@ -201,7 +201,7 @@ refuted_accepted u k end b t h =
     record {
       some = omega arith;
       shallow = omega (arith, h.deep, undecided_few k b (limits_of_all k b));
-      root = subst (λ (n : ℕ). Accepts u k end n (limits_of_all k n) t) one h.accepted;
+      root = rw one at h.accepted;
     }
 
 pub tree_whole : (k : Classes) (q : Question) (t : Bound) → IsTreeOf k q t → has_open t ≡ false → IsAccepted false k q.end (q.batches + 1) t
@@ -237,8 +237,7 @@ all_reached : (k : Classes) (choice : ℕ → ℕ) (b p : ℕ) → ((slot : ℕ)
 all_reached k choice b zero room h = at_start
 all_reached k choice b (suc p) room h =
     let next : (p + 1) % 16 ≡ suc p = omega arith in
-    subst (λ (q : ℕ). IsReached k choice b q) next
-    (by_idle p (omega arith) (room p (omega arith)) (all_reached k choice b p room (omega arith)))
+    rw next at (by_idle p (omega arith) (room p (omega arith)) (all_reached k choice b p room (omega arith)))
 
 pub never_apart : (k : Classes) (choice : ℕ → ℕ) (b set : ℕ) → ((slot : ℕ) → slot < 16 → load k choice slot < b) →
     IsApart k choice b set → ⊥
@@ -267,8 +266,7 @@ pub record IsLeastTree (k : Classes) (end : End) (b limit : ℕ) (t : Bound) : T
 pub least_tree : (k : Classes) (end : End) (b limit set : ℕ) → 1 ≤ limit → Refuses k b set →
     IsLeastTree k end b limit (bound_of (Overload set))
 least_tree k end b limit set some refuses =
-    subst (λ (t : Bound). IsLeastTree k end b limit t) (sym (bound_of-overload set))
-    (record { accepted = set_refutes k end b set refuses; examined = refl; few = some; shaped = tt })
+    rw (bound_of-overload set) (record { accepted = set_refutes k end b set refuses; examined = refl; few = some; shaped = tt })
 
 pub free_whole : (k : Classes) (q : Question) (t : Bound) → IsFreeTree k q t → IsAccepted false k q.end (q.batches + 1) t
 free_whole k q t of = refuted_accepted false k q.end q.batches t of.refuted

@@ -93,11 +93,10 @@ leads_stays zero i = omega arith
 leads_stays (suc g) i =
     let next : (i + 1) % 16 ≡ (i % 16 + 1) % 16 = omega arith in
     let last : (i + 1 + g) % 16 ≡ (i + suc g) % 16 = omega arith in
-    subst (λ (p : ℕ). Leads p (replicate g Stay) ((i + suc g) % 16)) next
-    (subst (λ (q : ℕ). Leads ((i + 1) % 16) (replicate g Stay) q) last (leads_stays g (i + 1)))
+    rw next at (rw last at (leads_stays g (i + 1)))
 
 leads_append : (ss ts : List Step) (p q r : ℕ) → Leads p ss q → Leads q ts r → Leads p (ss ++ ts) r
-leads_append [] ts p q r first second = subst (λ (n : ℕ). Leads n ts r) (sym first) second
+leads_append [] ts p q r first second = rw first second
 leads_append (Stay ∷ ss) ts p q r first second = leads_append ss ts ((p + 1) % 16) q r first second
 leads_append (Run c e ∷ ss) ts p q r first second = (first.0, leads_append ss ts (finish_of c e) q r first.1 second)
 
@@ -116,7 +115,7 @@ idles_stays zero i slot = refl
 idles_stays (suc g) i slot =
     let next : (i + 1) % 16 ≡ (i % 16 + 1) % 16 = omega arith in
     let rest : idles slot ((i % 16 + 1) % 16) (replicate g Stay) ≡ covered (i + 1) g slot =
-    subst (λ (p : ℕ). idles slot p (replicate g Stay) ≡ covered (i + 1) g slot) next (idles_stays g (i + 1) slot) in
+    rw next at (idles_stays g (i + 1) slot) in
     omega arith
 
 idles_append : (ss ts : List Step) (p q slot : ℕ) → Leads p ss q → idles slot p (ss ++ ts) ≡ idles slot p ss + idles slot q ts
@@ -137,7 +136,7 @@ last_append (s ∷ ss) g = last_behind s (ss ++ replicate (suc g) Stay) (last_ap
 
 last_as : (end : End) (ss : List Step) (g : ℕ) → LastAs end ss → LastAs end (ss ++ replicate g Stay)
 last_as Open ss g h = tt
-last_as Closed ss zero h = subst (λ (v : List Step). LastIsWhole v) (sym (append-nil ss)) h
+last_as Closed ss zero h = rw (append-nil ss) h
 last_as Closed ss (suc g) h = last_append ss g
 
 lengthened : (k : Classes) (end : End) (choice : ℕ → ℕ) (n m : ℕ) (steps : List Step) →

@@ -1,5 +1,5 @@
 -- An accepted node is met by no tour.
-use Rattle.std.proofs.Common.{◌≡◌, ℕ, ◌+◌, ◌-◌, ◌<◌, ◌≤◌, Bool, true, false, cond, List, [], ◌∷◌, length, sym, ap, subst, arith, slice_index, slice_set, ◌⊎◌, inl, inr, min, max}
+use Rattle.std.proofs.Common.{◌≡◌, ℕ, ◌+◌, ◌-◌, ◌<◌, ◌≤◌, Bool, true, false, cond, List, [], ◌∷◌, length, ap, arith, slice_index, slice_set, ◌⊎◌, inl, inr, min, max}
 use Rattle.std.proofs.lemmas.Bool.{cases_lt, cases_eq}
 use Rattle.std.proofs.lemmas.List.{get_or-set_same, get_or-set_other, set_past}
 use Rattle.pocsag_slots.specs.declared.class.Classes.{Classes}
@@ -17,7 +17,7 @@ low_set xs c v d n h here =
     elim (cases_eq d c) [
       | inr other ↦ rw (get_or-set_other xs c d v 0 other) h
       | inl same ↦ elim (cases_lt c (length xs)) [
-        | inl within ↦ subst (λ (j : ℕ). slice_index (slice_set xs c v) j ≤ n) (sym same) (rw (get_or-set_same xs c v 0 within) (here same))
+        | inl within ↦ rw same (rw (get_or-set_same xs c v 0 within) (here same))
         | inr past ↦ rw (set_past xs c v past) h
       ]
     ]
@@ -27,7 +27,7 @@ high_set xs c v d n h here =
     elim (cases_eq d c) [
       | inr other ↦ rw (get_or-set_other xs c d v 0 other) h
       | inl same ↦ elim (cases_lt c (length xs)) [
-        | inl within ↦ subst (λ (j : ℕ). n ≤ slice_index (slice_set xs c v) j) (sym same) (rw (get_or-set_same xs c v 0 within) (here same))
+        | inl within ↦ rw same (rw (get_or-set_same xs c v 0 within) (here same))
         | inr past ↦ rw (set_past xs c v past) h
       ]
     ]

@@ -1,5 +1,5 @@
 -- The loop over the children of a node.
-use Rattle.std.proofs.Common.{◌≡◌, ℕ, zero, suc, ◌+◌, ◌<◌, ◌≤◌, Bool, List, [], ◌∷◌, length, get_or, drop, refl, sym, ap, subst, ◌∙◌, arith, add-one, max}
+use Rattle.std.proofs.Common.{◌≡◌, ℕ, zero, suc, ◌+◌, ◌<◌, ◌≤◌, Bool, List, [], ◌∷◌, length, get_or, drop, refl, sym, ap, ◌∙◌, arith, add-one, max}
 use Rattle.std.proofs.Math.Seq.{drop-cons}
 use Rattle.std.proofs.lemmas.List.{drop_all}
 use Rattle.pocsag_words.specs.declared.ending.End.{End}
@@ -50,9 +50,7 @@ pub one_first : (u : Bool) (k : Classes) (end : End) (b : ℕ) (l : Limits) (dep
     × AcceptsEachWithin u k end b l depth (drop (i + 1) ws) (bounds_of (drop (i + 1) ts))
 one_first u k end b l depth ws ts i w t h g w_is t_is a =
     let both : AcceptsEachWithin u k end b l depth (w ∷ drop (i + 1) ws) (more (bound_of t) (bounds_of (drop (i + 1) ts))) =
-    subst (λ (v : List Way). AcceptsEachWithin u k end b l depth v (more (bound_of t) (bounds_of (drop (i + 1) ts))))
-    (drop_way ws i w h w_is)
-    (subst (λ (v : Bounds). AcceptsEachWithin u k end b l depth (drop i ws) v) (drop_tree ts i t g t_is) a) in
+    rw (drop_way ws i w h w_is) at (rw (drop_tree ts i t g t_is) at a) in
     let deep : max (depth_of (bound_of t)) (deepest (bounds_of (drop (i + 1) ts))) ≤ depth = both.0 in
     ((omega arith, both.1.0), (omega arith, both.1.1))
 
@@ -65,15 +63,12 @@ pub one_more : (u : Bool) (k : Classes) (end : End) (b : ℕ) (l : Limits) (dept
 one_more u k end b l depth ws ts i w t h g w_is t_is first rest =
     let deep : depth_of (bound_of t) ≤ depth = first.0 in
     let others : deepest (bounds_of (drop (i + 1) ts)) ≤ depth = rest.0 in
-    subst (λ (v : List Way). AcceptsEachWithin u k end b l depth v (bounds_of (drop i ts))) (sym (drop_way ws i w h w_is))
-    (subst (λ (v : Bounds). AcceptsEachWithin u k end b l depth (w ∷ drop (i + 1) ws) v) (sym (drop_tree ts i t g t_is))
-    (omega arith, (first.1, rest.1)))
+    rw (drop_way ws i w h w_is) (rw (drop_tree ts i t g t_is) (omega arith, (first.1, rest.1)))
 
 pub none_left : (u : Bool) (k : Classes) (end : End) (b : ℕ) (l : Limits) (depth : ℕ) (ws : List Way) (ts : List Tree) (i : ℕ) →
     length ws ≤ i → length ts ≤ i → AcceptsEachWithin u k end b l depth (drop i ws) (bounds_of (drop i ts))
 none_left u k end b l depth ws ts i h g =
-    subst (λ (v : List Way). AcceptsEachWithin u k end b l depth v (bounds_of (drop i ts))) (sym (drop_all i ws h))
-    (subst (λ (v : List Tree). AcceptsEachWithin u k end b l depth [] (bounds_of v)) (sym (drop_all i ts g)) (omega arith, tt))
+    rw (drop_all i ws h) (rw (drop_all i ts g) (omega arith, tt))
 
 -- the way at a place is so whatever stands for one past the end
 pub way_at : (ws : List Way) (i : ℕ) (d : Way) → i < length ws → get_or ws i d ≡ get_or ws i (get_or ws i d)

@@ -1,5 +1,5 @@
 -- What the steps of the search for a way do, each by the steps inside it.
-use Rattle.std.proofs.Common.{◌≡◌, ◌≢◌, ℕ, ◌+◌, ◌-◌, ◌*◌, ◌<◌, ◌≤◌, ◌⊎◌, true, false, refl, sym, ap, ◌∙◌, subst, arith, inl, inr, List, length, slice_index, slice_set, get_or-set_same, get_or-set_other, length-set}
+use Rattle.std.proofs.Common.{◌≡◌, ◌≢◌, ℕ, ◌+◌, ◌-◌, ◌*◌, ◌<◌, ◌≤◌, ◌⊎◌, true, false, refl, sym, ap, ◌∙◌, arith, inl, inr, List, length, slice_index, slice_set, get_or-set_same, get_or-set_other, length-set}
 use Rattle.std.proofs.lemmas.Bool.{cases_eq, cases_lt}
 use Rattle.std.proofs.lemmas.Bool.Decides.{nat_tests}
 use Rattle.std.proofs.lemmas.List.{set-get_or}
@@ -70,7 +70,7 @@ entered n before mid after slot most moved same here others out more full p clos
               | inl is ↦
                   let shut : IsClosed n.limits (slice_index before.early) after.reached slot = rw (p.same none ∙ same) at (closed none) in
                   let stuck : IsStuck n (slice_index before.early) after.reached slot = record { closed = shut; full = full } in
-                  subst (λ (t : ℕ). IsStuck n (slice_index before.early) after.reached t) (sym is) stuck
+                  rw is stuck
               | inr other ↦
                   let stuck : AreStuck n (slice_index before.early) mid.reached after.reached = rw same at (p.stuck none) in
                   stuck.each s l held (others s other ∙ new)
@@ -115,7 +115,7 @@ left_more n before now after slot most moved class l p none leads =
             | inl low ↦ leads_larger n.limits (slice_index before.early) after.reached now.reached tried slot p.grows (l.leads tried low)
             | inr high ↦
                 let is : class ≡ tried = omega arith in
-                subst (λ (t : ℕ). LeadsInto n.limits (slice_index before.early) after.reached t slot) is here
+                rw is at here
           ];
     }
 
@@ -190,14 +190,12 @@ set_within l early class e h size low high within =
     record {
       least = λ c k.
           elim (cases_eq c class) [
-            | inl is ↦ subst (λ (t : ℕ). slice_index l.lo t ≤ slice_index (slice_set early class e) t) (sym is)
-                (omega (arith, set_here early class e h size))
+            | inl is ↦ rw is (omega (arith, set_here early class e h size))
             | inr other ↦ omega (arith, set_other early class e c other, within.least c k)
           ];
       most = λ c k.
           elim (cases_eq c class) [
-            | inl is ↦ subst (λ (t : ℕ). slice_index (slice_set early class e) t ≤ slice_index l.hi t) (sym is)
-                (omega (arith, set_here early class e h size))
+            | inl is ↦ rw is (omega (arith, set_here early class e h size))
             | inr other ↦ omega (arith, set_other early class e c other, within.most c k)
           ];
     }
@@ -286,17 +284,13 @@ shifted_is loads from to moved slot h l apart fits =
           get_or-set_other mid to from v 0 (λ same. apart (sym same)) in
           let one : same_slot from from ≡ 1 = same_slot_same from in
           let none : same_slot to from ≡ 0 = same_slot_other to from apart in
-          subst (λ (t : ℕ). slice_index (slice_set mid to v) t + moved * same_slot from t ≡ slice_index loads t + moved * same_slot to t)
-          (sym is)
-          (rw (one, none) (omega arith))
+          rw is (rw (one, none) (omega arith))
       | inr other ↦ elim (cases_eq slot to) [
         | inl is ↦
             let here : slice_index (slice_set mid to v) to ≡ v = get_or-set_same mid to v 0 size in
             let one : same_slot to to ≡ 1 = same_slot_same to in
             let none : same_slot from to ≡ 0 = same_slot_other from to (λ same. apart (sym same)) in
-            subst (λ (t : ℕ). slice_index (slice_set mid to v) t + moved * same_slot from t ≡ slice_index loads t + moved * same_slot to t)
-            (sym is)
-            (rw (one, none) (omega arith))
+            rw is (rw (one, none) (omega arith))
         | inr else ↦
             let here : slice_index (slice_set mid to v) slot ≡ slice_index mid slot = get_or-set_other mid to slot v 0 else in
             let there : slice_index mid slot ≡ slice_index loads slot =

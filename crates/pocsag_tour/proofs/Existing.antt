@@ -1,5 +1,5 @@
 -- That there is a way, without walking it: the floods and the walk over plain numbers.
-use Rattle.std.proofs.Common.{◌≡◌, ◌≢◌, ℕ, zero, suc, ◌+◌, ◌-◌, ◌^◌, ◌<◌, ◌≤◌, ◌==◌, ◌&&◌, nat_lt, Bool, true, false, not, cond, List, [], ◌∷◌, ◌++◌, ◌⊎◌, refl, sym, subst, arith, eq-eqb, inl, inr}
+use Rattle.std.proofs.Common.{◌≡◌, ◌≢◌, ℕ, zero, suc, ◌+◌, ◌-◌, ◌^◌, ◌<◌, ◌≤◌, ◌==◌, ◌&&◌, nat_lt, Bool, true, false, not, cond, List, [], ◌∷◌, ◌++◌, ◌⊎◌, refl, arith, eq-eqb, inl, inr}
 use Rattle.std.proofs.lemmas.Bool.{cases_eq, eqb-true, ne_eqb, not-false, not-true}
 use Rattle.std.proofs.lemmas.Bool.Decides.{nat_tests}
 use Rattle.pocsag_slots.specs.declared.step.Step.{Step}
@@ -23,7 +23,7 @@ seek (suc n) f =
     seek_last n f true is none = inl (n, omega arith, is)
     seek_last n f false is none = inr (λ a h.
         elim (cases_eq a n) [
-          | inl same ↦ subst (λ (i : ℕ). f i ≡ false) (sym same) is
+          | inl same ↦ rw same is
           | inr other ↦ none a (omega arith)
         ])
 

@@ -23,7 +23,7 @@ either_bit a b h l e =
 holds_either : (a b i : ℕ) → holds (bit_or a b) i ≡ true → (holds a i ≡ true) ⊎ (holds b i ≡ true)
 unfolding holds
 holds_either a b i held =
-    either_bit (bit_at a i) (bit_at b i) (bit_at-lt a i) (bit_at-lt b i) (subst (λ (n : ℕ). (n == 1) ≡ true) (bit_at_or a b i) held)
+    either_bit (bit_at a i) (bit_at b i) (bit_at-lt a i) (bit_at-lt b i) (rw (bit_at_or a b i) at held)
 
 left_bit : (a b : ℕ) → b < 2 → (a == 1) ≡ true → (max a b == 1) ≡ true
 left_bit a b h e = grind (arith, nat_tests)
@@ -34,12 +34,12 @@ right_bit a b h e = grind (arith, nat_tests)
 holds_left : (a b i : ℕ) → holds a i ≡ true → holds (bit_or a b) i ≡ true
 unfolding holds
 holds_left a b i held =
-    subst (λ (n : ℕ). (n == 1) ≡ true) (sym (bit_at_or a b i)) (left_bit (bit_at a i) (bit_at b i) (bit_at-lt b i) held)
+    rw (bit_at_or a b i) (left_bit (bit_at a i) (bit_at b i) (bit_at-lt b i) held)
 
 holds_right : (a b i : ℕ) → holds b i ≡ true → holds (bit_or a b) i ≡ true
 unfolding holds
 holds_right a b i held =
-    subst (λ (n : ℕ). (n == 1) ≡ true) (sym (bit_at_or a b i)) (right_bit (bit_at a i) (bit_at b i) (bit_at-lt a i) held)
+    rw (bit_at_or a b i) (right_bit (bit_at a i) (bit_at b i) (bit_at-lt a i) held)
 
 pub holds_nothing : (i : ℕ) → holds 0 i ≡ false
 unfolding holds
@@ -48,7 +48,7 @@ holds_nothing i = ap (λ (n : ℕ). n == 1) (bit_at-zero i)
 pub link_at : (there : Bool) (links more : ℕ → ℕ) (from to p q : ℕ) → from ≡ p → to ≡ q → AddsLink there links more from to →
     AddsLink there links more p q
 link_at there links more from to p q at end adds =
-    subst (λ (a : ℕ). AddsLink there links more a q) at (subst (λ (b : ℕ). AddsLink there links more from b) end adds)
+    rw at at (rw end at adds)
 
 -- the links of the classes so far
 pub record AreLinks (k : Classes) (choice : ℕ → ℕ) (batches : ℕ) (links : List ℕ) (n : ℕ) : Type 0 where
@@ -62,9 +62,7 @@ linked_more k choice batches links more n c e is h linked adds p q l held =
     elim (adds.only p q l held) [
       | inl was ↦ linked p q l was
       | inr new ↦
-          subst (λ (a : ℕ). IsLinked k choice batches a q) (sym new.1)
-          (subst (λ (b : ℕ). IsLinked k choice batches (start_of c e) b) (sym new.2)
-          (by_run c e h (subst (λ (m : ℕ). 0 < m) is (ltb-true 0 n new.0))))
+          rw new.1 (rw new.2 (by_run c e h (rw is at (ltb-true 0 n new.0))))
     ]
 
 pub runs_more : (k : Classes) (choice : ℕ → ℕ) (batches : ℕ) (links one two : List ℕ) (c early late : ℕ) →
@@ -105,7 +103,7 @@ pub runs_none : (k : Classes) (choice : ℕ → ℕ) (links : ℕ → ℕ) (c : 
     HaveRuns k choice links c → HaveRuns k choice links (c + 1)
 runs_none k choice links c none few so_far d e low some =
     elim (cases_eq d c) [
-      | inl same ↦ absurd (let here : 0 < runs_of k choice c e = subst (λ (b : ℕ). 0 < runs_of k choice b e) same some in
+      | inl same ↦ absurd (let here : 0 < runs_of k choice c e = rw same at some in
           omega (arith, no_runs k choice c e none few))
       | inr other ↦ so_far d e (omega arith) some
     ]
@@ -166,7 +164,7 @@ grown_link links set grown p h held g = record {
   kept = λ q was. holds_left grown (links p) q (g.kept q was);
   linked = λ b q l was to.
       elim (cases_eq b p) [
-        | inl same ↦ holds_right grown (links p) q (subst (λ (i : ℕ). holds (links i) q ≡ true) same to)
+        | inl same ↦ holds_right grown (links p) q (rw same at to)
         | inr other ↦ holds_left grown (links p) q (g.linked b q (omega arith) was to)
       ];
   led = λ all q now.
@@ -181,7 +179,7 @@ grown_pass links set grown p out g = record {
   kept = g.kept;
   linked = λ b q l was to.
       elim (cases_eq b p) [
-        | inl same ↦ absurd (let here : holds grown p ≡ true = subst (λ (i : ℕ). holds grown i ≡ true) same (g.kept b was) in cc)
+        | inl same ↦ absurd (let here : holds grown p ≡ true = rw same at (g.kept b was) in cc)
         | inr other ↦ g.linked b q (omega arith) was to
       ];
   led = g.led;

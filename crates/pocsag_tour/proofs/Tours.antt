@@ -81,30 +81,26 @@ some_idle k choice b counts are s h = are (272 + s) (omega arith) ∙ count_idle
 run_stays : (k : Classes) (choice : ℕ → ℕ) (b : ℕ) (counts : ℕ → ℕ) (set : ℕ) → AreCounts k choice b counts → NoneLeaves counts set →
     (c : ℕ) (e : Bool) → c < 136 → 0 < runs_of k choice c e → holds set (start_of c e) ≡ true → holds set (finish_of c e) ≡ true
 run_stays k choice b counts set are none c e h some held =
-    subst (λ (p : ℕ). holds set p ≡ true) (arc_finishes c e h)
-    (none (arc_of c e) (arc_known c e h) (subst (λ (n : ℕ). 0 < n) (sym (arc_counts k choice b counts are c e h)) some)
-    (subst (λ (p : ℕ). holds set p ≡ true) (sym (arc_starts c e h)) held))
+    rw (arc_finishes c e h) at (none (arc_of c e) (arc_known c e h) (rw (arc_counts k choice b counts are c e h) some)
+    (rw (arc_starts c e h) held))
 
 run_from : (k : Classes) (choice : ℕ → ℕ) (b : ℕ) (counts : ℕ → ℕ) (set : ℕ) → AreCounts k choice b counts → NoneEnters counts set →
     (c : ℕ) (e : Bool) → c < 136 → 0 < runs_of k choice c e → holds set (finish_of c e) ≡ true → holds set (start_of c e) ≡ true
 run_from k choice b counts set are none c e h some held =
-    subst (λ (p : ℕ). holds set p ≡ true) (arc_starts c e h)
-    (none (arc_of c e) (arc_known c e h) (subst (λ (n : ℕ). 0 < n) (sym (arc_counts k choice b counts are c e h)) some)
-    (subst (λ (p : ℕ). holds set p ≡ true) (sym (arc_finishes c e h)) held))
+    rw (arc_starts c e h) at (none (arc_of c e) (arc_known c e h) (rw (arc_counts k choice b counts are c e h) some)
+    (rw (arc_finishes c e h) held))
 
 idle_stays : (k : Classes) (choice : ℕ → ℕ) (b : ℕ) (counts : ℕ → ℕ) (set : ℕ) → AreCounts k choice b counts → NoneLeaves counts set →
     (s : ℕ) → s < 16 → load k choice s < b → holds set s ≡ true → holds set ((s + 1) % 16) ≡ true
 idle_stays k choice b counts set are none s h some held =
     let there : 0 < counts (272 + s) = omega (arith, some_idle k choice b counts are s h) in
-    subst (λ (p : ℕ). holds set p ≡ true) (to_idle s)
-    (none (272 + s) (omega arith) there (subst (λ (p : ℕ). holds set p ≡ true) (sym (from_idle s)) held))
+    rw (to_idle s) at (none (272 + s) (omega arith) there (rw (from_idle s) held))
 
 idle_from : (k : Classes) (choice : ℕ → ℕ) (b : ℕ) (counts : ℕ → ℕ) (set : ℕ) → AreCounts k choice b counts → NoneEnters counts set →
     (s : ℕ) → s < 16 → load k choice s < b → holds set ((s + 1) % 16) ≡ true → holds set s ≡ true
 idle_from k choice b counts set are none s h some held =
     let there : 0 < counts (272 + s) = omega (arith, some_idle k choice b counts are s h) in
-    subst (λ (p : ℕ). holds set p ≡ true) (from_idle s)
-    (none (272 + s) (omega arith) there (subst (λ (p : ℕ). holds set p ≡ true) (sym (to_idle s)) held))
+    rw (from_idle s) at (none (272 + s) (omega arith) there (rw (to_idle s) held))
 
 -- an arc leads on to what is reached
 reached_by : (k : Classes) (choice : ℕ → ℕ) (b : ℕ) (counts : ℕ → ℕ) → AreCounts k choice b counts →
@@ -112,10 +108,10 @@ reached_by : (k : Classes) (choice : ℕ → ℕ) (b : ℕ) (counts : ℕ → �
 reached_by k choice b counts are =
     by_kind (λ a. 0 < counts a → IsReached k choice b (arc_from a) → IsReached k choice b (arc_to a))
     (λ c h some r. subst (IsReached k choice b) (sym (to_early c h))
-    (by_run c true h (subst (λ (n : ℕ). 0 < n) (are c (omega arith) ∙ early_runs k choice b c h) some)
+    (by_run c true h (rw (are c (omega arith) ∙ early_runs k choice b c h) at some)
     (subst (IsReached k choice b) (from_early c h) r)))
     (λ c h some r. subst (IsReached k choice b) (sym (to_late c h))
-    (by_run c false h (subst (λ (n : ℕ). 0 < n) (are (136 + c) (omega arith) ∙ late_runs k choice b c h) some)
+    (by_run c false h (rw (are (136 + c) (omega arith) ∙ late_runs k choice b c h) at some)
     (subst (IsReached k choice b) (from_late c h) r)))
     (λ s h some r. subst (IsReached k choice b) (sym (to_idle s))
     (by_idle s h (omega (arith, some_idle k choice b counts are s h)) (subst (IsReached k choice b) (from_idle s) r)))
@@ -159,11 +155,11 @@ lies_outside : (k : Classes) (choice : ℕ → ℕ) (b : ℕ) (counts : ℕ → 
 lies_outside k choice b counts set are none =
     by_kind (λ a. a < 272 → 0 < counts a → holds set (arc_from a) ≡ false → LiesOutside k choice set)
     (λ c h low some out. outside_of k choice b counts set are none c true h
-    (subst (λ (n : ℕ). 0 < n) (are c (omega arith) ∙ early_runs k choice b c h) some)
-    (subst (λ (p : ℕ). holds set p ≡ false) (from_early c h) out))
+    (rw (are c (omega arith) ∙ early_runs k choice b c h) at some)
+    (rw (from_early c h) at out))
     (λ c h low some out. outside_of k choice b counts set are none c false h
-    (subst (λ (n : ℕ). 0 < n) (are (136 + c) (omega arith) ∙ late_runs k choice b c h) some)
-    (subst (λ (p : ℕ). holds set p ≡ false) (from_late c h) out))
+    (rw (are (136 + c) (omega arith) ∙ late_runs k choice b c h) at some)
+    (rw (from_late c h) at out))
     (λ s h low some out. absurd (omega arith))
 
 -- what is reached is visited over arcs by number
@@ -176,7 +172,7 @@ reached_visited k choice b counts are _ (by_idle s h some rest) =
     (by_arc (272 + s) (omega arith) there (subst (Visited counts) (sym (from_idle s)) (reached_visited k choice b counts are s rest)))
 reached_visited k choice b counts are _ (by_run c e h some rest) =
     subst (Visited counts) (arc_finishes c e h)
-    (by_arc (arc_of c e) (arc_known c e h) (subst (λ (n : ℕ). 0 < n) (sym (arc_counts k choice b counts are c e h)) some)
+    (by_arc (arc_of c e) (arc_known c e h) (rw (arc_counts k choice b counts are c e h) some)
     (subst (Visited counts) (sym (arc_starts c e h)) (reached_visited k choice b counts are (start_of c e) rest)))
 
 -- the set of all boundaries that are reached

@@ -1,5 +1,5 @@
 -- What a walk keeps, and that it ends as a way over all arcs.
-use Rattle.std.proofs.Common.{◌≡◌, ◌≢◌, ℕ, ◌+◌, ◌-◌, ◌%◌, ◌<◌, ◌≤◌, ◌==◌, ◌&&◌, Bool, true, false, not, cond, List, [], ◌∷◌, ◌++◌, length, slice_index, slice_set, refl, sym, ap, subst, ◌∙◌, arith, eq-eqb, inl, inr, get_or-set_same, get_or-set_other}
+use Rattle.std.proofs.Common.{◌≡◌, ◌≢◌, ℕ, ◌+◌, ◌-◌, ◌%◌, ◌<◌, ◌≤◌, ◌==◌, ◌&&◌, Bool, true, false, not, cond, List, [], ◌∷◌, ◌++◌, length, slice_index, slice_set, refl, sym, ap, ◌∙◌, arith, eq-eqb, inl, inr, get_or-set_same, get_or-set_other}
 use Rattle.std.proofs.lemmas.Bool.{cases_eq, ne_eqb}
 use Rattle.pocsag_slots.specs.declared.step.Step.{Step}
 use Rattle.pocsag_slots.specs.declared.step.Step.TheVariants.{Idle as Stay, Run}
@@ -72,7 +72,7 @@ idles_push slot q p (Stay ∷ ss) s l = omega (arith, idles_push slot ((q + 1) %
 idles_push slot q p (Run d f ∷ ss) s l = idles_push slot (finish_of d f) p ss s l.1
 
 pub leads_push : (q p r : ℕ) (ss : List Step) (s : Step) → Leads q ss p → Leads p (s ∷ []) r → Leads q (ss ++ (s ∷ [])) r
-leads_push q p r [] s l m = subst (λ (n : ℕ). Leads n (s ∷ []) r) (sym l) m
+leads_push q p r [] s l m = rw l m
 leads_push q p r (Stay ∷ ss) s l m = leads_push ((q + 1) % 16) p r ss s l m
 leads_push q p r (Run d f ∷ ss) s l m = (l.0, leads_push (finish_of d f) p r ss s l.1 m)
 
@@ -190,7 +190,7 @@ on_balance : (a p root : ℕ) (left less : ℕ → ℕ) → a < 288 → arc_from
     IsBalanced less (arc_to a) root
 on_balance a p root left less h from l balanced q m =
     let was : outs left q + cond (q == root) 1 0 ≡ ins left q + cond (q == arc_from a) 1 0 =
-    subst (λ (n : ℕ). outs left q + cond (q == root) 1 0 ≡ ins left q + cond (q == n) 1 0) (sym from) (balanced q m) in
+    rw from (balanced q m) in
     omega (arith, was, outs_less a left less h l q, ins_less a left less h l q, flipped q (arc_from a), flipped q (arc_to a))
 
 zero_of : (x y : ℕ) → x ≤ y → y ≡ 0 → x ≡ 0
@@ -204,7 +204,7 @@ on_kept counts exits left less a p d l kept q e none b m from =
       | inl same ↦
           let at : p ≡ q = sym d.leaves ∙ (ap arc_from (sym same) ∙ e.leaves) in
           elim (cases_eq b a) [
-            | inl it ↦ subst (λ (n : ℕ). less n ≡ 0) (same ∙ sym it) none
+            | inl it ↦ rw (same ∙ sym it) at none
             | inr other ↦
                 zero_of (less b) (left b) (less_le a left less l b)
                 (d.last (sym same ∙ ap exits (sym at)) b m (from ∙ sym at) (λ x. other (x ∙ (ap exits at ∙ same))))
@@ -220,7 +220,7 @@ on_uses counts left less a ss h leads l uses b m =
     elim (cases_eq b a) [
       | inl same ↦
           let one : ◌≡◌ {A = ℕ} (cond (b == a) 1 0) 1 = (let t : (b == a) ≡ true = eq-eqb b a same in rw t refl) in
-          let here : left b ≡ less b + 1 = subst (λ (n : ℕ). left n ≡ less n + 1) (sym same) l.here in
+          let here : left b ≡ less b + 1 = rw same l.here in
           omega (arith, uses b m)
       | inr other ↦ omega (arith, uses b m, no_hit b a other, l.other b other)
     ]
@@ -228,7 +228,7 @@ on_uses counts left less a ss h leads l uses b m =
 pub walk_on : (counts exits left less : ℕ → ℕ) (a p root : ℕ) (ss : List Step) → IsWalk counts exits left ss p root →
     IsDeparture left (exits p) p a → IsLess a left less → IsWalk counts exits less (ss ++ (step_of a ∷ [])) (arc_to a) root
 walk_on counts exits left less a p root ss w d l =
-    let leads : Leads 0 ss (arc_from a) = subst (λ (n : ℕ). Leads 0 ss n) (sym d.leaves) w.leads in
+    let leads : Leads 0 ss (arc_from a) = rw d.leaves w.leads in
     record {
       leads = leads_push 0 (arc_from a) (arc_to a) ss (step_of a) leads (leads_over a d.known);
       within = to_below a d.known;
@@ -265,10 +265,10 @@ pub walk_end : (counts exits left : ℕ → ℕ) (p root set : ℕ) (ss : List S
     AllLeadTo counts root → holds set root ≡ true → NoneEnters counts set → LeadHome counts exits root set → IsWay counts root ss
 walk_end counts exits left p root set ss w spent all held none homes =
     let at : p ≡ root = stuck left p root w.within w.balanced spent in
-    let balanced : IsBalanced left root root = subst (λ (n : ℕ). IsBalanced left n root) at w.balanced in
-    let there : IsSpent left root = subst (λ (n : ℕ). IsSpent left n) at spent in
+    let balanced : IsBalanced left root root = rw at at w.balanced in
+    let there : IsSpent left root = rw at at spent in
     record {
-      leads = subst (λ (n : ℕ). Leads 0 ss n) at w.leads;
+      leads = rw at at w.leads;
       takes = λ a h.
           elim (cases_eq (counts a) 0) [
             | inl never ↦ omega (arith, w.uses a h)

@@ -1,5 +1,4 @@
-use Rattle.std.proofs.Common.{◌≡◌, ◌<◌, refl, sym, arith, length, get_or, IsTrue, subst}
-use Rattle.pocsag_slots.specs.declared.limit.Limits.{Limits}
+use Rattle.std.proofs.Common.{◌≡◌, ◌<◌, refl, arith, length, get_or, IsTrue}
 use Rattle.pocsag_slots.specs.declared.way.Way.{Way}
 use Rattle.pocsag_slots.specs.declared.way.Way.TheVariants.{IdleIn}
 use Rattle.pocsag_slots.specs.Ways.{narrowed_limits}
@@ -27,9 +26,7 @@ check_each-returns-then-not-check_node t c =
           (way_at c.args.ways.now i (IdleIn 0) some)
           c.index-children-place.is (c.loop-place.invariant.rest a) in
           let yes : IsTrue c.check_node.result = c.check_node.ensures.1
-          (subst (λ (l : Limits). AcceptsWithin c.args.question.takes_open c.args.classes.now c.args.question.end c.args.question.batches
-          l c.args.depth (bound_of c.index-children-place.result))
-          (sym c.narrow-narrowed.ensures.value) parts.0) in
+          (rw c.narrow-narrowed.ensures.value parts.0) in
           let no = c.if-not-check_node.true in
           absurd (cc yes),
     )
@@ -44,9 +41,7 @@ check_each-loop-place-preserved t c =
     c.check_node.ensures.0 (cc) in
     let here : AcceptsWithin c.args.question.takes_open c.args.classes.now c.args.question.end c.args.question.batches
     (narrowed_limits c.args.classes.now c.args.limits.now w c.args.question.batches) c.args.depth (bound_of c.index-children-place.result) =
-    subst (λ (l : Limits). AcceptsWithin c.args.question.takes_open c.args.classes.now c.args.question.end c.args.question.batches l
-    c.args.depth (bound_of c.index-children-place.result))
-    c.narrow-narrowed.ensures.value yes in
+    rw c.narrow-narrowed.ensures.value at yes in
     record {
       rest = λ a. (one_first c.args.question.takes_open c.args.classes.now c.args.question.end c.args.question.batches c.args.limits.now
           c.args.depth c.args.ways.now c.args.children.now i w c.index-children-place.result some c.loop-place-test.true

@@ -1,5 +1,4 @@
-use Rattle.std.proofs.Common.{◌≡◌, ℕ, true, refl, subst, sym, slice_index}
-use Rattle.pocsag_slots.specs.Sums.{holds}
+use Rattle.std.proofs.Common.{refl, subst, sym, slice_index}
 use Rattle.pocsag_tour.specs.Links.{IsLed, at_start}
 use Rattle.pocsag_tour.proofs.Flooding.{lone}
 use Rattle.pocsag_tour.proofs.reaching.led_from_0.Goals as goal
@@ -21,6 +20,6 @@ pub returns : goal.returns
 returns c = record {
   start = c.loop-set.invariant.start;
   closed = λ p q h held to.
-      subst (λ (s : ℕ). holds s q ≡ true) c.if-grown-set.true (c.followed-grown.ensures.follows.linked p q h held to);
+      rw c.if-grown-set.true at (c.followed-grown.ensures.follows.linked p q h held to);
   led = c.loop-set.invariant.led;
 }
