@@ -71,11 +71,9 @@ kept k q l narrowed made between after deep t later h falls a =
     }
 
 pub kept_in_row : (k : Classes) (q : Question) (l narrowed : Limits) (made between after deep : ℕ) (ws : List Way) (ts : Bounds)
-    (t : Bound) →
-    AreFreed k q l made between ws ts →
+    (t : Bound) → AreFreed k q l made between ws ts →
     IsFreed k q narrowed between after t → undecided k q.batches narrowed < undecided k q.batches l →
-    AcceptsWithin false k q.end q.batches l deep t →
-    IsFreed k q l made after t
+    AcceptsWithin false k q.end q.batches l deep t → IsFreed k q l made after t
 kept_in_row k q l narrowed made between after deep ws ts t row h falls a =
     kept k q l narrowed made between after deep t (omega (arith, row.few)) h falls a
 

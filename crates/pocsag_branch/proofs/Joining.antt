@@ -163,8 +163,7 @@ close_made k q l made after ws children closed unclosed all a =
     rw (bound_of-close (Close children) children refl) (close_examined k q l made after ws (bounds_of children.items) closed unclosed all a)
 
 pub split_made : (k : Classes) (q : Question) (l : Limits) (made between after c m : ℕ) (under over : Limits) (s t : Tree)
-    (below above : Box Tree) →
-    below.value ≡ s → above.value ≡ t →
+    (below above : Box Tree) → below.value ≡ s → above.value ≡ t →
     IsSplitPoint k q.batches l c m → AdmitSplit k q.batches l c m → under ≡ limits_below l c m → over ≡ limits_from l c m →
     IsExamined k q under (made + 1) between (bound_of s) → IsExamined k q over between after (bound_of t) →
     IsExamined k q l made after (bound_of (Split c m below above))

@@ -63,8 +63,7 @@ late_uncertain true false false low high h there e = absurd (cc)
 late_uncertain false early late low high h there e = absurd (cc)
 
 early_free : (k : Classes) (l : Limits) (set c : ℕ) → class_certain k l set c ≡ false → 0 < slice_index k.count c →
-    run_touches c true set ≡ true →
-    slice_index l.lo c ≡ 0
+    run_touches c true set ≡ true → slice_index l.lo c ≡ 0
 unfolding class_certain
 early_free k l set c uncertain some touches =
     let free = early_uncertain (nat_lt 0 (slice_index k.count c)) (run_touches c true set) (run_touches c false set)
@@ -73,8 +72,7 @@ early_free k l set c uncertain some touches =
     omega (arith, ltb-false 0 (slice_index l.lo c) free)
 
 late_free : (k : Classes) (l : Limits) (set c : ℕ) → class_certain k l set c ≡ false → 0 < slice_index k.count c →
-    run_touches c false set ≡ true →
-    slice_index k.count c ≤ slice_index l.hi c
+    run_touches c false set ≡ true → slice_index k.count c ≤ slice_index l.hi c
 unfolding class_certain
 late_free k l set c uncertain some touches =
     ltb-false (slice_index l.hi c) (slice_index k.count c)

@@ -32,8 +32,7 @@ unfolding sum_over
 sum_over-le set f g h = sum_below-le 16 _ _ (λ slot l. part-le (holds set slot) (f slot) (g slot) (h slot l))
 
 sum_over-all : (set x : ℕ) → sum_over set (λ slot. x) ≡ x * members set
-sum_over-all set x =
-    sum_over-same set (λ slot. x) (λ slot. x * 1) (λ slot l. omega arith) ∙ sum_over-times set x (λ slot. 1)
+sum_over-all set x = sum_over-same set (λ slot. x) (λ slot. x * 1) (λ slot l. omega arith) ∙ sum_over-times set x (λ slot. 1)
 
 caps_are : (k : Classes) (set b : ℕ) → sum_over set (slice_index (limits_of_all k b).cap) ≡ b * members set
 caps_are k set b =

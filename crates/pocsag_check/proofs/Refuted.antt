@@ -94,10 +94,8 @@ finish_small c e = omega arith
 
 ends_by : (ss : List Step) (p : ℕ) → p < 16 → Leads p ss 0 → LastIsWhole ss → EndsBy p ss
 ends_by [] p small leads whole = absurd whole
-ends_by (Stay ∷ []) p small leads whole =
-    by_last_idle (let e : p ≡ 15 = omega arith in rw e (omega arith))
-ends_by (Run c e ∷ []) p small leads whole =
-    by_last_run (rw whole.0 (rw whole.1 (omega arith)))
+ends_by (Stay ∷ []) p small leads whole = by_last_idle (let e : p ≡ 15 = omega arith in rw e (omega arith))
+ends_by (Run c e ∷ []) p small leads whole = by_last_run (rw whole.0 (rw whole.1 (omega arith)))
 ends_by (Stay ∷ (t ∷ ss)) p small leads whole = more_idle p (t ∷ ss) (ends_by (t ∷ ss) ((p + 1) % 16) (omega arith) leads whole)
 ends_by (Run c e ∷ (t ∷ ss)) p small leads whole =
     more_run p c e (t ∷ ss) (ends_by (t ∷ ss) (finish_of c e) (finish_small c e) leads.1 whole)

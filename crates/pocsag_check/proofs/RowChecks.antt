@@ -43,8 +43,7 @@ drop_tree ts i t h is =
     ap (λ (v : List Tree). bounds_of v) same
 
 pub one_first : (u : Bool) (k : Classes) (end : End) (b : ℕ) (l : Limits) (depth : ℕ) (ws : List Way) (ts : List Tree) (i : ℕ) (w : Way)
-    (t : Tree) →
-    i < length ws → i < length ts → w ≡ get_or ws i w → t ≡ get_or ts i t →
+    (t : Tree) → i < length ws → i < length ts → w ≡ get_or ws i w → t ≡ get_or ts i t →
     AcceptsEachWithin u k end b l depth (drop i ws) (bounds_of (drop i ts)) →
     AcceptsWithin u k end b (narrowed_limits k l w b) depth (bound_of t)
     × AcceptsEachWithin u k end b l depth (drop (i + 1) ws) (bounds_of (drop (i + 1) ts))
@@ -55,8 +54,7 @@ one_first u k end b l depth ws ts i w t h g w_is t_is a =
     ((omega arith, both.1.0), (omega arith, both.1.1))
 
 pub one_more : (u : Bool) (k : Classes) (end : End) (b : ℕ) (l : Limits) (depth : ℕ) (ws : List Way) (ts : List Tree) (i : ℕ) (w : Way)
-    (t : Tree) →
-    i < length ws → i < length ts → w ≡ get_or ws i w → t ≡ get_or ts i t →
+    (t : Tree) → i < length ws → i < length ts → w ≡ get_or ws i w → t ≡ get_or ts i t →
     AcceptsWithin u k end b (narrowed_limits k l w b) depth (bound_of t) →
     AcceptsEachWithin u k end b l depth (drop (i + 1) ws) (bounds_of (drop (i + 1) ts)) →
     AcceptsEachWithin u k end b l depth (drop i ws) (bounds_of (drop i ts))
@@ -67,8 +65,7 @@ one_more u k end b l depth ws ts i w t h g w_is t_is first rest =
 
 pub none_left : (u : Bool) (k : Classes) (end : End) (b : ℕ) (l : Limits) (depth : ℕ) (ws : List Way) (ts : List Tree) (i : ℕ) →
     length ws ≤ i → length ts ≤ i → AcceptsEachWithin u k end b l depth (drop i ws) (bounds_of (drop i ts))
-none_left u k end b l depth ws ts i h g =
-    rw (drop_all i ws h) (rw (drop_all i ts g) (omega arith, tt))
+none_left u k end b l depth ws ts i h g = rw (drop_all i ws h) (rw (drop_all i ts g) (omega arith, tt))
 
 -- the way at a place is so whatever stands for one past the end
 pub way_at : (ws : List Way) (i : ℕ) (d : Way) → i < length ws → get_or ws i d ≡ get_or ws i (get_or ws i d)

@@ -25,8 +25,7 @@ turns_next f n m h low later false is =
     record { at = rest.at; from = omega (arith, rest.from); below = rest.below; before = rest.before; after = rest.after }
 
 turns : (f : ℕ → Bool) (n d m : ℕ) → n + d ≡ m → f n ≡ false → f m ≡ true → TurnsTrue f n m
-turns f n zero m e low high = absurd (let same : n ≡ m = omega arith in let here : f m ≡ false =
-    rw same at low in cc)
+turns f n zero m e low high = absurd (let same : n ≡ m = omega arith in let here : f m ≡ false = rw same at low in cc)
 turns f n (suc d) m e low high = turns_next f n m (omega arith) low (λ is. turns f (n + 1) d m (omega arith) is high) (f (n + 1)) refl
 
 -- some boundary is not held
@@ -112,5 +111,4 @@ two_slots set home out =
 pub two_ways : (k : Classes) (l : Limits) (set c : ℕ) → c < 136 → IsTrue (holds set 0) → IsTrue (class_certain k l set c) →
     2 ≤ length (ways_across k l set)
 unfolding ways_across
-two_ways k l set c h home certain =
-    rw length-append (omega (arith, two_slots set home (certain_out k l set c h certain)))
+two_ways k l set c h home certain = rw length-append (omega (arith, two_slots set home (certain_out k l set c h certain)))

@@ -38,8 +38,7 @@ pub record IsShut (l : Limits) (early : ℕ → ℕ) (set : ℕ) : Type 0 where
   pub each : (slot : ℕ) → slot < 16 → holds set slot ≡ true → IsClosed l early set slot
 
 class_least : (k : Classes) (l : Limits) (set c : ℕ) (early other : ℕ → ℕ) → c < 136 → AreInOrder k l →
-    IsWithin l early → IsWithin l other → IsShut l early set →
-    class_load_over k set c (early c) ≤ class_load_over k set c (other c)
+    IsWithin l early → IsWithin l other → IsShut l early set → class_load_over k set c (early c) ≤ class_load_over k set c (other c)
 unfolding in_set
 class_least k l set c early other h ordered within among shut =
     elim (cases_lt (other c) (early c)) [

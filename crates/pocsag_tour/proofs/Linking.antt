@@ -33,13 +33,11 @@ right_bit a b h e = grind (arith, nat_tests)
 
 holds_left : (a b i : ℕ) → holds a i ≡ true → holds (bit_or a b) i ≡ true
 unfolding holds
-holds_left a b i held =
-    rw (bit_at_or a b i) (left_bit (bit_at a i) (bit_at b i) (bit_at-lt b i) held)
+holds_left a b i held = rw (bit_at_or a b i) (left_bit (bit_at a i) (bit_at b i) (bit_at-lt b i) held)
 
 holds_right : (a b i : ℕ) → holds b i ≡ true → holds (bit_or a b) i ≡ true
 unfolding holds
-holds_right a b i held =
-    rw (bit_at_or a b i) (right_bit (bit_at a i) (bit_at b i) (bit_at-lt a i) held)
+holds_right a b i held = rw (bit_at_or a b i) (right_bit (bit_at a i) (bit_at b i) (bit_at-lt a i) held)
 
 pub holds_nothing : (i : ℕ) → holds 0 i ≡ false
 unfolding holds
@@ -47,8 +45,7 @@ holds_nothing i = ap (λ (n : ℕ). n == 1) (bit_at-zero i)
 
 pub link_at : (there : Bool) (links more : ℕ → ℕ) (from to p q : ℕ) → from ≡ p → to ≡ q → AddsLink there links more from to →
     AddsLink there links more p q
-link_at there links more from to p q at end adds =
-    rw at at (rw end at adds)
+link_at there links more from to p q at end adds = rw at at (rw end at adds)
 
 -- the links of the classes so far
 pub record AreLinks (k : Classes) (choice : ℕ → ℕ) (batches : ℕ) (links : List ℕ) (n : ℕ) : Type 0 where

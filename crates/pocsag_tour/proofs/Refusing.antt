@@ -102,8 +102,7 @@ low_test d n true t some none = is_less d t
 low_test d n false t some none = absurd (let z : n ≡ 0 = none (is_more d t) in omega arith)
 
 known_runs : (k : Classes) (choice : ℕ → ℕ) (b : ℕ) (end : End) (ss : List Step) → IsTour k end choice b ss → (d : ℕ) (f : Bool) →
-    0 < runs d f ss →
-    (d < 136) × (0 < runs_of k choice d f)
+    0 < runs d f ss → (d < 136) × (0 < runs_of k choice d f)
 known_runs k choice b end ss t d f some =
     let low : d < 136 = low_test d (runs d f ss) (nat_lt d 136) refl some (t.no_other d f) in
     (low, rw (runs_are k choice b end ss t d f low) at some)

@@ -180,13 +180,11 @@ pub reached_start : (k : Classes) (choice : ℕ → ℕ) (b set : ℕ) → AreRe
 reached_start k choice b set exact = (exact 0 (omega arith)).1 at_start
 
 pub reached_members : (k : Classes) (choice : ℕ → ℕ) (b : ℕ) (counts : ℕ → ℕ) (set : ℕ) → AreCounts k choice b counts →
-    AreReached k choice b set →
-    (p : ℕ) → p < 16 → holds set p ≡ true → Visited counts p
+    AreReached k choice b set → (p : ℕ) → p < 16 → holds set p ≡ true → Visited counts p
 reached_members k choice b counts set are exact p h held = reached_visited k choice b counts are p ((exact p h).0 held)
 
 pub reached_closed : (k : Classes) (choice : ℕ → ℕ) (b : ℕ) (counts : ℕ → ℕ) (set : ℕ) → AreCounts k choice b counts →
-    AreReached k choice b set →
-    NoneLeaves counts set
+    AreReached k choice b set → NoneLeaves counts set
 reached_closed k choice b counts set are exact a h some held =
     (exact (arc_to a) (to_below a h)).1 (reached_by k choice b counts are a h some ((exact (arc_from a) (from_below a h)).0 held))
 

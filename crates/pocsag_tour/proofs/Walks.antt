@@ -56,8 +56,7 @@ ins_less a left less h l q =
     (λ b m ne. same_term (arc_to b == q) (less b) (left b) (sym (l.other b ne)))
 
 pub sum_less : (a : ℕ) (left less : ℕ → ℕ) → a < 288 → IsLess a left less → sum_below 288 less < sum_below 288 left
-sum_less a left less h l =
-    omega (arith, sum_below-bump 288 a 1 less left h l.here (λ b m ne. sym (l.other b ne)))
+sum_less a left less h l = omega (arith, sum_below-bump 288 a 1 less left h l.here (λ b m ne. sym (l.other b ne)))
 
 -- steps with one more at their end
 runs_push : (c : ℕ) (e : Bool) (ss : List Step) (s : Step) → runs c e (ss ++ (s ∷ [])) ≡ runs c e ss + runs c e (s ∷ [])

@@ -7,8 +7,7 @@ use Rattle.pocsag_branch.proofs.least.share.Goals.{After-from, After-div_ceil}
 
 least : (c : After-from) → IsLeastLoad c.args.classes.now
     (limits_of_all c.args.classes.now c.args.batches) c.args.set c.least_load-load.result
-least c =
-    rw c.all_limits.ensures.value at c.least_load-load.ensures.least
+least c = rw c.all_limits.ensures.value at c.least_load-load.ensures.least
 
 rounded : (c : After-div_ceil) → c.div_ceil.result ≡ c.least_load-load.result / sum_over c.args.set (λ slot. 1) + min 1
     (c.least_load-load.result % sum_over c.args.set (λ slot. 1))
