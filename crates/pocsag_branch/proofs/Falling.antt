@@ -17,7 +17,8 @@ sum_below-fall n k f g h less others =
 -- one number changes
 module _ (k : Classes) (batches : ℕ) (l : Limits) where
   lo_falls : (c v : ℕ) → c < 136 → length l.lo ≡ 136 →
-      class_left v (slice_index l.hi c) (slice_index k.count c) < class_left (slice_index l.lo c) (slice_index l.hi c) (slice_index k.count c) →
+      class_left v (slice_index l.hi c) (slice_index k.count c) < class_left (slice_index l.lo c) (slice_index l.hi c)
+      (slice_index k.count c) →
       undecided k batches (record l { lo = slice_set l.lo c v }) < undecided k batches l
   unfolding undecided
   lo_falls c v h long less =
@@ -30,7 +31,8 @@ module _ (k : Classes) (batches : ℕ) (l : Limits) where
       omega arith
 
   hi_falls : (c v : ℕ) → c < 136 → length l.hi ≡ 136 →
-      class_left (slice_index l.lo c) v (slice_index k.count c) < class_left (slice_index l.lo c) (slice_index l.hi c) (slice_index k.count c) →
+      class_left (slice_index l.lo c) v (slice_index k.count c) < class_left (slice_index l.lo c) (slice_index l.hi c)
+      (slice_index k.count c) →
       undecided k batches (record l { hi = slice_set l.hi c v }) < undecided k batches l
   unfolding undecided
   hi_falls c v h long less =
@@ -89,7 +91,8 @@ module _ (k : Classes) (batches : ℕ) (l : Limits) (limits : AreNodeLimits k ba
       lo_falls k batches l c (max (slice_index l.lo c) 1) h limits.lo_long
       (rw one (early_settled (slice_index l.lo c) (slice_index l.hi c) (slice_index k.count c) none some))
 
-  pub late_falls : (c : ℕ) → c < 136 → slice_index k.count c ≤ slice_index l.hi c → slice_index l.lo c < slice_index k.count c → Falls k batches l (Late c)
+  pub late_falls : (c : ℕ) → c < 136 → slice_index k.count c ≤ slice_index l.hi c → slice_index l.lo c < slice_index k.count c →
+      Falls k batches l (Late c)
   late_falls c h all some =
       let less : min (slice_index l.hi c) (slice_index k.count c - 1) ≡ slice_index k.count c - 1 = omega arith in
       hi_falls k batches l c (min (slice_index l.hi c) (slice_index k.count c - 1)) h limits.hi_long

@@ -24,7 +24,8 @@ pub fills_join : (limit made between after : ℕ) (xs ys : List Bool) → Fills 
 fills_join limit made between after xs ys f g =
     elim (cases_eq f.unseen 0) [
       | inl none ↦
-          let first : xs ≡ replicate f.closed false = f.layout ∙ ap (λ (n : ℕ). replicate f.closed false ++ replicate n true) none ∙ append-nil (replicate f.closed false) in
+          let first : xs ≡ replicate f.closed false = f.layout ∙ ap (λ (n : ℕ). replicate f.closed false ++ replicate n true) none
+          ∙ append-nil (replicate f.closed false) in
           record {
             closed = f.closed + g.closed;
             unseen = g.unseen;

@@ -1,5 +1,5 @@
 -- The nodes of the free search: a node over its children, and a child that stands for its parent.
-use Rattle.std.proofs.Common.{◌≡◌, ℕ, ◌+◌, ◌^◌, ◌<◌, ◌≤◌, false, IsTrue, List, [], ◌∷◌, ◌++◌, take, get_or, length, refl, sym, ap, subst, ◌∙◌, arith}
+use Rattle.std.proofs.Common.{◌≡◌, ℕ, ◌+◌, ◌^◌, ◌<◌, ◌≤◌, false, IsTrue, List, [], ◌∷◌, ◌++◌, take, get_or, length, refl, ap, ◌∙◌, arith}
 use Rattle.std.proofs.lemmas.List.{take_more}
 use Rattle.std.specs.Global.{Vec, Box}
 use Rattle.pocsag_slots.specs.declared.class.Classes.{Classes}
@@ -42,24 +42,26 @@ freed_more k q l made between after ws ts w t a h falls =
     }
 
 -- the loop over the ways
-pub free_row_goes_on : (k : Classes) (q : Question) (l : Limits) (made between after i : ℕ) (ws : List Way) (ts : List Tree) (d : Way) (t : Tree)
-    (pushed : List Tree) (narrowed : Limits) → i < length ws → narrowed ≡ narrowed_limits k l (get_or ws i d) q.batches → pushed ≡ ts ++ t ∷ [] →
+pub free_row_goes_on : (k : Classes) (q : Question) (l : Limits) (made between after i : ℕ) (ws : List Way) (ts : List Tree) (d : Way)
+    (t : Tree)
+    (pushed : List Tree) (narrowed : Limits) → i < length ws → narrowed ≡ narrowed_limits k l (get_or ws i d) q.batches →
+    pushed ≡ ts ++ t ∷ [] →
     AreFreed k q l made between (take i ws) (bounds_of ts) →
     IsFreed k q narrowed between after (bound_of t) → undecided k q.batches narrowed < undecided k q.batches l →
     AreFreed k q l made after (take (i + 1) ws) (bounds_of pushed)
 free_row_goes_on k q l made between after i ws ts d t pushed narrowed h same push a one falls =
     let w : Way = get_or ws i d in
     let ways : take (i + 1) ws ≡ take i ws ++ w ∷ [] = take_more ws i d h in
-    let trees : bounds_of pushed ≡ with_last (bounds_of ts) (bound_of t) = ap (λ (xs : List Tree). bounds_of xs) push ∙ bounds_of-push ts t in
-    subst (λ (v : List Way). AreFreed k q l made after v (bounds_of pushed)) (sym ways)
-    (subst (λ (r : Bounds). AreFreed k q l made after (take i ws ++ w ∷ []) r) (sym trees)
-    (freed_more k q l made between after (take i ws) (bounds_of ts) w (bound_of t) a
-    (subst (λ (x : Limits). IsFreed k q x between after (bound_of t)) same one)
-    (subst (λ (x : Limits). undecided k q.batches x < undecided k q.batches l) same falls)))
+    let trees : bounds_of pushed ≡ with_last (bounds_of ts) (bound_of t) = ap (λ (xs : List Tree). bounds_of xs) push
+    ∙ bounds_of-push ts t in
+    rw ways (rw trees (freed_more k q l made between after (take i ws) (bounds_of ts) w (bound_of t) a
+    (rw same at one)
+    (rw same at falls)))
 
 -- a child that the checker accepts for the parent stands for it
 pub kept : (k : Classes) (q : Question) (l narrowed : Limits) (made between after deep : ℕ) (t : Bound) → made ≤ between →
-    IsFreed k q narrowed between after t → undecided k q.batches narrowed < undecided k q.batches l → AcceptsWithin false k q.end q.batches l deep t →
+    IsFreed k q narrowed between after t → undecided k q.batches narrowed < undecided k q.batches l →
+    AcceptsWithin false k q.end q.batches l deep t →
     IsFreed k q l made after t
 kept k q l narrowed made between after deep t later h falls a =
     record {
@@ -68,10 +70,10 @@ kept k q l narrowed made between after deep t later h falls a =
       within = h.within;
     }
 
-pub kept_in_row : (k : Classes) (q : Question) (l narrowed : Limits) (made between after deep : ℕ) (ws : List Way) (ts : Bounds) (t : Bound) →
-    AreFreed k q l made between ws ts →
-    IsFreed k q narrowed between after t → undecided k q.batches narrowed < undecided k q.batches l → AcceptsWithin false k q.end q.batches l deep t →
-    IsFreed k q l made after t
+pub kept_in_row : (k : Classes) (q : Question) (l narrowed : Limits) (made between after deep : ℕ) (ws : List Way) (ts : Bounds)
+    (t : Bound) → AreFreed k q l made between ws ts →
+    IsFreed k q narrowed between after t → undecided k q.batches narrowed < undecided k q.batches l →
+    AcceptsWithin false k q.end q.batches l deep t → IsFreed k q l made after t
 kept_in_row k q l narrowed made between after deep ws ts t row h falls a =
     kept k q l narrowed made between after deep t (omega (arith, row.few)) h falls a
 
@@ -84,9 +86,8 @@ pub cut_freed : (k : Classes) (q : Question) (l : Limits) (made after set c : �
     AreFreed k q l (made + 1) after ws (bounds_of children.items) → IsFreed k q l made after (bound_of (Cut set c children))
 cut_freed k q l made after set c ws children known zero certain small all a =
     let rest : AreFreed k q l (made + 1) after (ways_across k l set) (bounds_of children.items) =
-    subst (λ (v : List Way). AreFreed k q l (made + 1) after v (bounds_of children.items)) all a in
-    subst (λ (t : Bound). IsFreed k q l made after t) (sym (bound_of-cut (Cut set c children) set c children refl))
-    (record {
+    rw all at a in
+    rw (bound_of-cut (Cut set c children) set c children refl) (record {
       refuted = cut_refuted false k q.end q.batches l set c (bounds_of children.items) q.some known zero certain small rest.refuted;
       few = omega (arith, rest.few);
       within = rest.within;
@@ -97,15 +98,15 @@ pub close_freed : (k : Classes) (q : Question) (l : Limits) (made after : ℕ) (
     AreFreed k q l (made + 1) after ws (bounds_of children.items) → IsFreed k q l made after (bound_of (Close children))
 close_freed k q l made after ws children closed all a =
     let rest : AreFreed k q l (made + 1) after (ways_to_close k l) (bounds_of children.items) =
-    subst (λ (v : List Way). AreFreed k q l (made + 1) after v (bounds_of children.items)) all a in
-    subst (λ (t : Bound). IsFreed k q l made after t) (sym (bound_of-close (Close children) children refl))
-    (record {
+    rw all at a in
+    rw (bound_of-close (Close children) children refl) (record {
       refuted = close_refuted false k q.end q.batches l (bounds_of children.items) q.some closed rest.refuted;
       few = omega (arith, rest.few);
       within = rest.within;
     })
 
-pub split_freed : (k : Classes) (q : Question) (l : Limits) (made between after c m : ℕ) (under over : Limits) (s t : Tree) (below above : Box Tree) →
+pub split_freed : (k : Classes) (q : Question) (l : Limits) (made between after c m : ℕ) (under over : Limits) (s t : Tree)
+    (below above : Box Tree) →
     below.value ≡ s → above.value ≡ t → IsSplitPoint k q.batches l c m → under ≡ limits_below l c m → over ≡ limits_from l c m →
     IsFreed k q under (made + 1) between (bound_of s) → IsFreed k q over between after (bound_of t) →
     IsFreed k q l made after (bound_of (Split c m below above))
@@ -115,11 +116,10 @@ split_freed k q l made between after c m under over s t below above low_is high_
     ∙ ap (λ (x : Tree). split c m (bound_of x) (bound_of above.value)) low_is
     ∙ ap (λ (x : Tree). split c m (bound_of s) (bound_of x)) high_is in
     let lower : IsFreed k q (limits_below l c m) (made + 1) between (bound_of s) =
-    subst (λ (x : Limits). IsFreed k q x (made + 1) between (bound_of s)) low first in
+    rw low at first in
     let upper : IsFreed k q (limits_from l c m) between after (bound_of t) =
-    subst (λ (x : Limits). IsFreed k q x between after (bound_of t)) high second in
-    subst (λ (x : Bound). IsFreed k q l made after x) (sym seen)
-    (record {
+    rw high at second in
+    rw seen (record {
       refuted = split_refuted false k q.end q.batches l c m (bound_of s) (bound_of t) point lower.refuted upper.refuted;
       few = omega (arith, lower.few, upper.few);
       within = upper.within;

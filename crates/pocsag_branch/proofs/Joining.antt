@@ -1,5 +1,5 @@
 -- A node over the row of its children, and one child more.
-use Rattle.std.proofs.Common.{◌≡◌, ℕ, ◌+◌, ◌<◌, ◌≤◌, ◌^◌, Bool, true, IsTrue, List, [], ◌∷◌, ◌++◌, take, get_or, length, refl, sym, ap, subst, ◌∙◌, arith, append_assoc}
+use Rattle.std.proofs.Common.{◌≡◌, ℕ, ◌+◌, ◌<◌, ◌≤◌, ◌^◌, Bool, true, IsTrue, List, [], ◌∷◌, ◌++◌, take, get_or, length, refl, sym, ap, ◌∙◌, arith, append_assoc}
 use Rattle.std.proofs.lemmas.List.{append-nil, take_more}
 use Rattle.pocsag_words.specs.declared.ending.End.{End}
 use Rattle.pocsag_slots.specs.declared.class.Classes.{Classes}
@@ -15,7 +15,7 @@ use Rattle.pocsag_tree.specs.Views.{bound_of, bounds_of}
 use Rattle.pocsag_tree.proofs.Counts.{bound_of-cut, bound_of-close, bound_of-split}
 use Rattle.pocsag_check.specs.Accepting.{Accepts, AcceptsEach, IsClosed}
 use Rattle.pocsag_branch.specs.declared.question.Question.{Question}
-use Rattle.pocsag_branch.specs.Examined.{AreExamined, AreRefuted, Fills, IsExamined, IsRefuted}
+use Rattle.pocsag_branch.specs.Examined.{AreExamined, AreRefuted, IsExamined, IsRefuted}
 use Rattle.pocsag_branch.specs.Marks.{opens, opens_in}
 use Rattle.pocsag_branch.specs.Shape.{AdmitApart, AdmitSplit, AdmitUnclosed, AreShaped, IsShaped}
 use Rattle.pocsag_branch.specs.Undecided.{IsSplitPoint, undecided}
@@ -32,7 +32,8 @@ bounds_of-push (s ∷ ts) t = ap (λ (r : Bounds). more (bound_of s) r) (bounds_
 
 opens_in-last : (ts : Bounds) (t : Bound) → opens_in (with_last ts t) ≡ opens_in ts ++ opens t
 opens_in-last none t = append-nil (opens t)
-opens_in-last (more s ts) t = ap (λ (xs : List Bool). opens s ++ xs) (opens_in-last ts t) ∙ sym (append_assoc (opens s) (opens_in ts) (opens t))
+opens_in-last (more s ts) t = ap (λ (xs : List Bool). opens s ++ xs) (opens_in-last ts t)
+    ∙ sym (append_assoc (opens s) (opens_in ts) (opens t))
 
 deepest-last : (ts : Bounds) (t : Bound) (d : ℕ) → deepest ts ≤ d → depth_of t ≤ d → deepest (with_last ts t) ≤ d
 deepest-last none t d h g = omega arith
@@ -53,7 +54,8 @@ AreShaped-last k b l (v ∷ ws) none w t a h = absurd a
 AreShaped-last k b l (v ∷ ws) (more s ts) w t a h = (a.0, AreShaped-last k b l ws ts w t a.1 h)
 
 pub refuted_more : (u : Bool) (k : Classes) (end : End) (b : ℕ) (l : Limits) (ws : List Way) (ts : Bounds) (w : Way) (t : Bound) →
-    AreRefuted u k end b l ws ts → IsRefuted u k end b (narrowed_limits k l w b) t → undecided k b (narrowed_limits k l w b) < undecided k b l →
+    AreRefuted u k end b l ws ts → IsRefuted u k end b (narrowed_limits k l w b) t →
+    undecided k b (narrowed_limits k l w b) < undecided k b l →
     AreRefuted u k end b l (ws ++ w ∷ []) (with_last ts t)
 refuted_more u k end b l ws ts w t a h falls =
     record {
@@ -69,28 +71,28 @@ examined_more k q l made between after ws ts w t a h falls =
     record {
       refuted = refuted_more true k q.end q.batches l ws ts w t a.refuted h.refuted falls;
       shaped = AreShaped-last k q.batches l ws ts w t a.shaped h.shaped;
-      fills = subst (λ (marks : List Bool). Fills q.limit made after marks) (sym (opens_in-last ts t))
-          (fills_join q.limit made between after (opens_in ts) (opens t) a.fills h.fills);
+      fills = rw (opens_in-last ts t) (fills_join q.limit made between after (opens_in ts) (opens t) a.fills h.fills);
     }
 
 -- the loop over the ways
 pub row_goes_on : (k : Classes) (q : Question) (l : Limits) (made between after i : ℕ) (ws : List Way) (ts : List Tree) (d : Way) (t : Tree)
-    (pushed : List Tree) (narrowed : Limits) → i < length ws → narrowed ≡ narrowed_limits k l (get_or ws i d) q.batches → pushed ≡ ts ++ t ∷ [] →
+    (pushed : List Tree) (narrowed : Limits) → i < length ws → narrowed ≡ narrowed_limits k l (get_or ws i d) q.batches →
+    pushed ≡ ts ++ t ∷ [] →
     AreExamined k q l made between (take i ws) (bounds_of ts) →
     IsExamined k q narrowed between after (bound_of t) → undecided k q.batches narrowed < undecided k q.batches l →
     AreExamined k q l made after (take (i + 1) ws) (bounds_of pushed)
 row_goes_on k q l made between after i ws ts d t pushed narrowed h same push a one falls =
     let w : Way = get_or ws i d in
     let ways : take (i + 1) ws ≡ take i ws ++ w ∷ [] = take_more ws i d h in
-    let trees : bounds_of pushed ≡ with_last (bounds_of ts) (bound_of t) = ap (λ (xs : List Tree). bounds_of xs) push ∙ bounds_of-push ts t in
-    subst (λ (v : List Way). AreExamined k q l made after v (bounds_of pushed)) (sym ways)
-    (subst (λ (r : Bounds). AreExamined k q l made after (take i ws ++ w ∷ []) r) (sym trees)
-    (examined_more k q l made between after (take i ws) (bounds_of ts) w (bound_of t) a
-    (subst (λ (x : Limits). IsExamined k q x between after (bound_of t)) same one)
-    (subst (λ (x : Limits). undecided k q.batches x < undecided k q.batches l) same falls)))
+    let trees : bounds_of pushed ≡ with_last (bounds_of ts) (bound_of t) = ap (λ (xs : List Tree). bounds_of xs) push
+    ∙ bounds_of-push ts t in
+    rw ways (rw trees (examined_more k q l made between after (take i ws) (bounds_of ts) w (bound_of t) a
+    (rw same at one)
+    (rw same at falls)))
 
 -- a node is accepted with its children
-pub cut_refuted : (u : Bool) (k : Classes) (end : End) (b : ℕ) (l : Limits) (set c : ℕ) (ts : Bounds) → 0 < b → c < 136 → IsTrue (holds set 0) →
+pub cut_refuted : (u : Bool) (k : Classes) (end : End) (b : ℕ) (l : Limits) (set c : ℕ) (ts : Bounds) → 0 < b → c < 136 →
+    IsTrue (holds set 0) →
     IsTrue (class_certain k l set c) → set < 2 ^ 16 → AreRefuted u k end b l (ways_across k l set) ts → IsRefuted u k end b l (cut set c ts)
 cut_refuted u k end b l set c ts some known zero certain small a =
     record { accepted = (known, omega arith, zero, certain, small, a.accepted); deep = omega (arith, a.deep) }
@@ -112,7 +114,8 @@ pub cut_examined : (k : Classes) (q : Question) (l : Limits) (made after set c :
     IsTrue (holds set 0) → IsTrue (class_certain k l set c) → set < 2 ^ 16 → AdmitApart k q.batches l set → ws ≡ ways_across k l set →
     AreExamined k q l (made + 1) after ws ts → IsExamined k q l made after (cut set c ts)
 cut_examined k q l made after set c ws ts known zero certain small apart all a =
-    let rest : AreExamined k q l (made + 1) after (ways_across k l set) ts = subst (λ (v : List Way). AreExamined k q l (made + 1) after v ts) all a in
+    let rest : AreExamined k q l (made + 1) after (ways_across k l set) ts =
+    rw all at a in
     record {
       refuted = cut_refuted true k q.end q.batches l set c ts q.some known zero certain small rest.refuted;
       shaped = (apart, rest.shaped);
@@ -123,7 +126,8 @@ pub close_examined : (k : Classes) (q : Question) (l : Limits) (made after : ℕ
     AdmitUnclosed k q.batches l → ws ≡ ways_to_close k l →
     AreExamined k q l (made + 1) after ws ts → IsExamined k q l made after (close ts)
 close_examined k q l made after ws ts closed unclosed all a =
-    let rest : AreExamined k q l (made + 1) after (ways_to_close k l) ts = subst (λ (v : List Way). AreExamined k q l (made + 1) after v ts) all a in
+    let rest : AreExamined k q l (made + 1) after (ways_to_close k l) ts =
+    rw all at a in
     record {
       refuted = close_refuted true k q.end q.batches l ts q.some closed rest.refuted;
       shaped = (unclosed, rest.shaped);
@@ -135,12 +139,14 @@ pub split_examined : (k : Classes) (q : Question) (l : Limits) (made between aft
     IsExamined k q under (made + 1) between s → IsExamined k q over between after t →
     IsExamined k q l made after (split c m s t)
 split_examined k q l made between after c m under over s t point parts low high first second =
-    let below : IsExamined k q (limits_below l c m) (made + 1) between s = subst (λ (x : Limits). IsExamined k q x (made + 1) between s) low first in
-    let above : IsExamined k q (limits_from l c m) between after t = subst (λ (x : Limits). IsExamined k q x between after t) high second in
+    let below : IsExamined k q (limits_below l c m) (made + 1) between s =
+    rw low at first in
+    let above : IsExamined k q (limits_from l c m) between after t = rw high at second in
     record {
       refuted = split_refuted true k q.end q.batches l c m s t point below.refuted above.refuted;
       shaped = (parts, below.shaped, above.shaped);
-      fills = fills_node q.limit made after (opens s ++ opens t) (fills_join q.limit (made + 1) between after (opens s) (opens t) below.fills above.fills);
+      fills = fills_node q.limit made after (opens s ++ opens t)
+          (fills_join q.limit (made + 1) between after (opens s) (opens t) below.fills above.fills);
     }
 
 -- the same of the trees
@@ -148,18 +154,16 @@ pub cut_made : (k : Classes) (q : Question) (l : Limits) (made after set c : ℕ
     IsTrue (holds set 0) → IsTrue (class_certain k l set c) → set < 2 ^ 16 → AdmitApart k q.batches l set → ws ≡ ways_across k l set →
     AreExamined k q l (made + 1) after ws (bounds_of children.items) → IsExamined k q l made after (bound_of (Cut set c children))
 cut_made k q l made after set c ws children known zero certain small apart all a =
-    subst (λ (t : Bound). IsExamined k q l made after t) (sym (bound_of-cut (Cut set c children) set c children refl))
-    (cut_examined k q l made after set c ws (bounds_of children.items) known zero certain small apart all a)
+    rw (bound_of-cut (Cut set c children) set c children refl) (cut_examined k q l made after set c ws (bounds_of children.items) known zero certain small apart all a)
 
 pub close_made : (k : Classes) (q : Question) (l : Limits) (made after : ℕ) (ws : List Way) (children : Vec Tree) → IsClosed q.end →
     AdmitUnclosed k q.batches l → ws ≡ ways_to_close k l →
     AreExamined k q l (made + 1) after ws (bounds_of children.items) → IsExamined k q l made after (bound_of (Close children))
 close_made k q l made after ws children closed unclosed all a =
-    subst (λ (t : Bound). IsExamined k q l made after t) (sym (bound_of-close (Close children) children refl))
-    (close_examined k q l made after ws (bounds_of children.items) closed unclosed all a)
+    rw (bound_of-close (Close children) children refl) (close_examined k q l made after ws (bounds_of children.items) closed unclosed all a)
 
-pub split_made : (k : Classes) (q : Question) (l : Limits) (made between after c m : ℕ) (under over : Limits) (s t : Tree) (below above : Box Tree) →
-    below.value ≡ s → above.value ≡ t →
+pub split_made : (k : Classes) (q : Question) (l : Limits) (made between after c m : ℕ) (under over : Limits) (s t : Tree)
+    (below above : Box Tree) → below.value ≡ s → above.value ≡ t →
     IsSplitPoint k q.batches l c m → AdmitSplit k q.batches l c m → under ≡ limits_below l c m → over ≡ limits_from l c m →
     IsExamined k q under (made + 1) between (bound_of s) → IsExamined k q over between after (bound_of t) →
     IsExamined k q l made after (bound_of (Split c m below above))
@@ -168,5 +172,4 @@ split_made k q l made between after c m under over s t below above low_is high_i
     bound_of-split (Split c m below above) c m below above refl
     ∙ ap (λ (x : Tree). split c m (bound_of x) (bound_of above.value)) low_is
     ∙ ap (λ (x : Tree). split c m (bound_of s) (bound_of x)) high_is in
-    subst (λ (x : Bound). IsExamined k q l made after x) (sym seen)
-    (split_examined k q l made between after c m under over (bound_of s) (bound_of t) point parts low high first second)
+    rw seen (split_examined k q l made between after c m under over (bound_of s) (bound_of t) point parts low high first second)

@@ -26,13 +26,15 @@ unfolding runs_of
 late_runs k choice c = refl
 
 -- the tests of a way that crosses
-early_parts : (k : Classes) (l : Limits) (set c : ℕ) → early_open k l set c ≡ true → (run_crosses c true set ≡ true) × (0 < slice_index l.hi c)
+early_parts : (k : Classes) (l : Limits) (set c : ℕ) → early_open k l set c ≡ true → (run_crosses c true set ≡ true)
+    × (0 < slice_index l.hi c)
 unfolding early_open
 early_parts k l set c h =
     let both = and_parts (run_crosses c true set && nat_lt 0 (slice_index k.count c)) (nat_lt 0 (slice_index l.hi c)) h in
     ((and_parts (run_crosses c true set) (nat_lt 0 (slice_index k.count c)) both.0).0, ltb-true 0 (slice_index l.hi c) both.1)
 
-late_parts : (k : Classes) (l : Limits) (set c : ℕ) → late_open k l set c ≡ true → (run_crosses c false set ≡ true) × (slice_index l.lo c < slice_index k.count c)
+late_parts : (k : Classes) (l : Limits) (set c : ℕ) → late_open k l set c ≡ true → (run_crosses c false set ≡ true)
+    × (slice_index l.lo c < slice_index k.count c)
 unfolding late_open
 late_parts k l set c h =
     let both = and_parts (run_crosses c false set) (nat_lt (slice_index l.lo c) (slice_index k.count c)) h in
@@ -60,24 +62,27 @@ late_uncertain true false true low false h there e = refl
 late_uncertain true false false low high h there e = absurd (cc)
 late_uncertain false early late low high h there e = absurd (cc)
 
-early_free : (k : Classes) (l : Limits) (set c : ℕ) → class_certain k l set c ≡ false → 0 < slice_index k.count c → run_touches c true set ≡ true →
-    slice_index l.lo c ≡ 0
+early_free : (k : Classes) (l : Limits) (set c : ℕ) → class_certain k l set c ≡ false → 0 < slice_index k.count c →
+    run_touches c true set ≡ true → slice_index l.lo c ≡ 0
 unfolding class_certain
 early_free k l set c uncertain some touches =
     let free = early_uncertain (nat_lt 0 (slice_index k.count c)) (run_touches c true set) (run_touches c false set)
-    (nat_lt 0 (slice_index l.lo c)) (nat_lt (slice_index l.hi c) (slice_index k.count c)) uncertain (lt-ltb 0 (slice_index k.count c) some) touches in
+    (nat_lt 0 (slice_index l.lo c)) (nat_lt (slice_index l.hi c) (slice_index k.count c)) uncertain
+    (lt-ltb 0 (slice_index k.count c) some) touches in
     omega (arith, ltb-false 0 (slice_index l.lo c) free)
 
-late_free : (k : Classes) (l : Limits) (set c : ℕ) → class_certain k l set c ≡ false → 0 < slice_index k.count c → run_touches c false set ≡ true →
-    slice_index k.count c ≤ slice_index l.hi c
+late_free : (k : Classes) (l : Limits) (set c : ℕ) → class_certain k l set c ≡ false → 0 < slice_index k.count c →
+    run_touches c false set ≡ true → slice_index k.count c ≤ slice_index l.hi c
 unfolding class_certain
 late_free k l set c uncertain some touches =
     ltb-false (slice_index l.hi c) (slice_index k.count c)
     (late_uncertain (nat_lt 0 (slice_index k.count c)) (run_touches c true set) (run_touches c false set)
-    (nat_lt 0 (slice_index l.lo c)) (nat_lt (slice_index l.hi c) (slice_index k.count c)) uncertain (lt-ltb 0 (slice_index k.count c) some) touches)
+    (nat_lt 0 (slice_index l.lo c)) (nat_lt (slice_index l.hi c) (slice_index k.count c)) uncertain
+    (lt-ltb 0 (slice_index k.count c) some) touches)
 
 -- where slot 15 may be left to idles, and each page of class 135 may start late
-pub closing_ways_fall : (k : Classes) (batches : ℕ) (l : Limits) → AreNodeLimits k batches l → 0 < batches → batches ≤ slice_index l.cap 15 →
+pub closing_ways_fall : (k : Classes) (batches : ℕ) (l : Limits) → AreNodeLimits k batches l → 0 < batches →
+    batches ≤ slice_index l.cap 15 →
     slice_index k.count 135 ≤ slice_index l.hi 135 → All (Falls k batches l) (ways_to_close k l)
 unfolding ways_to_close
 closing_ways_fall k batches l limits some full none =
@@ -86,7 +91,8 @@ closing_ways_fall k batches l limits some full none =
     (All-one_or_none (Falls k batches l) (nat_lt (slice_index l.lo 135) (slice_index k.count 135)) (Late 135)
     (λ allowed. late_falls k batches l limits 135 (omega arith) none (ltb-true (slice_index l.lo 135) (slice_index k.count 135) allowed)))
 
-module _ (k : Classes) (batches : ℕ) (l : Limits) (choice : ℕ → ℕ) (limits : AreNodeLimits k batches l) (admitted : IsAdmitted k l choice) where
+module _ (k : Classes) (batches : ℕ) (l : Limits) (choice : ℕ → ℕ) (limits : AreNodeLimits k batches l)
+    (admitted : IsAdmitted k l choice) where
   -- an arc that crosses what is reached does not stand
   no_early : (set c : ℕ) → IsApart k choice batches set → c < 136 → run_crosses c true set ≡ true → slice_index l.lo c ≡ 0
   no_early set c apart h crosses =
@@ -96,7 +102,8 @@ module _ (k : Classes) (batches : ℕ) (l : Limits) (choice : ℕ → ℕ) (limi
         | inr some ↦ absurd (never_both (run_crosses c true set) crosses (apart.no_run c true h (omega (arith, early_runs k choice c))))
       ]
 
-  no_late : (set c : ℕ) → IsApart k choice batches set → c < 136 → run_crosses c false set ≡ true → slice_index k.count c ≤ slice_index l.hi c
+  no_late : (set c : ℕ) → IsApart k choice batches set → c < 136 → run_crosses c false set ≡ true →
+      slice_index k.count c ≤ slice_index l.hi c
   no_late set c apart h crosses =
       let high : choice c ≤ slice_index l.hi c = admitted.within.most c h in
       elim (cases_lt (choice c) (slice_index k.count c)) [

@@ -32,14 +32,14 @@ unfolding sum_over
 sum_over-le set f g h = sum_below-le 16 _ _ (λ slot l. part-le (holds set slot) (f slot) (g slot) (h slot l))
 
 sum_over-all : (set x : ℕ) → sum_over set (λ slot. x) ≡ x * members set
-sum_over-all set x =
-    sum_over-same set (λ slot. x) (λ slot. x * 1) (λ slot l. omega arith) ∙ sum_over-times set x (λ slot. 1)
+sum_over-all set x = sum_over-same set (λ slot. x) (λ slot. x * 1) (λ slot l. omega arith) ∙ sum_over-times set x (λ slot. 1)
 
 caps_are : (k : Classes) (set b : ℕ) → sum_over set (slice_index (limits_of_all k b).cap) ≡ b * members set
 caps_are k set b =
     sum_over-same set (slice_index (limits_of_all k b).cap) (λ slot. b) (λ slot l. get_or-replicate 16 slot b 0 l) ∙ sum_over-all set b
 
-loads_most : (k : Classes) (set b : ℕ) (choice : ℕ → ℕ) → ((slot : ℕ) → slot < 16 → load k choice slot ≤ b) → sum_over set (load k choice) ≤ b * members set
+loads_most : (k : Classes) (set b : ℕ) (choice : ℕ → ℕ) → ((slot : ℕ) → slot < 16 → load k choice slot ≤ b) →
+    sum_over set (load k choice) ≤ b * members set
 loads_most k set b choice h = omega (arith, sum_over-le set (load k choice) (λ slot. b) h, sum_over-all set b)
 
 within_all : (k : Classes) (a b : ℕ) (choice : ℕ → ℕ) → IsWithin (limits_of_all k a) choice → IsWithin (limits_of_all k b) choice
@@ -156,7 +156,8 @@ some_load k choice c slot h some = omega (arith, term-le-sum_below 136 c (λ d. 
 times_one : (n m x : ℕ) → 0 < n → x ≡ 1 → 0 < m + n * x
 times_one n m x some is = rw is (omega arith)
 
-page_loads : (k : Classes) (choice : ℕ → ℕ) (c : ℕ) → c < 136 → 0 < slice_index k.count c → (slot : ℕ) × (slot < 16) × (0 < class_load k slot c (choice c))
+page_loads : (k : Classes) (choice : ℕ → ℕ) (c : ℕ) → c < 136 → 0 < slice_index k.count c → (slot : ℕ) × (slot < 16)
+    × (0 < class_load k slot c (choice c))
 unfolding class_load
 page_loads k choice c h some =
     elim (cases_eq (class_rest c) 0) [

@@ -1,5 +1,5 @@
 -- What a tree says where the search ends.
-use Rattle.std.proofs.Common.{All, ◌≡◌, ℕ, zero, suc, ◌+◌, ◌-◌, ◌%◌, ◌<◌, ◌≤◌, ◌||◌, Bool, true, false, List, [], ◌∷◌, ◌++◌, map, replicate, refl, sym, ap, subst, ◌∙◌, arith, slice_index, inl, inr}
+use Rattle.std.proofs.Common.{All, ◌≡◌, ℕ, zero, suc, ◌+◌, ◌-◌, ◌%◌, ◌<◌, ◌≤◌, ◌||◌, Bool, true, false, List, [], ◌∷◌, ◌++◌, map, replicate, refl, sym, ap, ◌∙◌, arith, slice_index, inl, inr}
 use Rattle.std.proofs.lemmas.Bool.{cases_eq, or_parts}
 use Rattle.std.proofs.lemmas.Bool.Decides.{nat_tests}
 use Rattle.std.proofs.lemmas.List.{append-nil, get_or-replicate, length-replicate}
@@ -66,7 +66,8 @@ all_node_limits k batches =
 
 -- a tree without `Open` is accepted as it is
 mutual
-  sealed : (t : Bound) (k : Classes) (end : End) (b : ℕ) (l : Limits) → has_open t ≡ false → Accepts true k end b l t → Accepts false k end b l t
+  sealed : (t : Bound) (k : Classes) (end : End) (b : ℕ) (l : Limits) → has_open t ≡ false → Accepts true k end b l t →
+      Accepts false k end b l t
   sealed (overload set) k end b l whole a = a
   sealed (split c m s t) k end b l whole a =
       let both = or_parts (has_open s) (has_open t) whole in
@@ -126,14 +127,16 @@ mutual
 
   marks_open : (t : Bound) → some_open (opens t) ≡ has_open t
   marks_open (overload set) = refl
-  marks_open (split c m s t) = some_open-append (opens s) (opens t) ∙ ap (λ (x : Bool). x || some_open (opens t)) (marks_open s) ∙ ap (λ (x : Bool). has_open s || x) (marks_open t)
+  marks_open (split c m s t) = some_open-append (opens s) (opens t) ∙ ap (λ (x : Bool). x || some_open (opens t)) (marks_open s)
+      ∙ ap (λ (x : Bool). has_open s || x) (marks_open t)
   marks_open (cut set c ts) = marks_open_in ts
   marks_open (close ts) = marks_open_in ts
   marks_open unexamined = refl
 
   marks_open_in : (ts : Bounds) → some_open (opens_in ts) ≡ have_open ts
   marks_open_in none = refl
-  marks_open_in (more t ts) = some_open-append (opens t) (opens_in ts) ∙ ap (λ (x : Bool). x || some_open (opens_in ts)) (marks_open t) ∙ ap (λ (x : Bool). has_open t || x) (marks_open_in ts)
+  marks_open_in (more t ts) = some_open-append (opens t) (opens_in ts) ∙ ap (λ (x : Bool). x || some_open (opens_in ts)) (marks_open t)
+      ∙ ap (λ (x : Bool). has_open t || x) (marks_open_in ts)
 
 mutual
   unfolding closed_in
@@ -158,24 +161,28 @@ some_is_suc : (n : ℕ) → 0 < n → (m : ℕ) × (n ≡ suc m)
 some_is_suc zero h = absurd (omega arith)
 some_is_suc (suc m) h = (m, refl)
 
-pub none_unseen : (t : Bound) (closed unseen : ℕ) → opens t ≡ replicate closed false ++ replicate unseen true → has_open t ≡ false → unseen ≡ 0
+pub none_unseen : (t : Bound) (closed unseen : ℕ) → opens t ≡ replicate closed false ++ replicate unseen true → has_open t ≡ false →
+    unseen ≡ 0
 none_unseen t closed unseen layout whole =
     elim (cases_eq unseen 0) [
       | inl zero_of ↦ zero_of
       | inr some ↦
           let one = some_is_suc unseen (omega arith) in
-          let there : some_open (opens t) ≡ true = ap some_open (layout ∙ ap (λ (n : ℕ). replicate closed false ++ replicate n true) one.1) ∙ open_after closed one.0 in
+          let there : some_open (opens t) ≡ true =
+          ap some_open (layout ∙ ap (λ (n : ℕ). replicate closed false ++ replicate n true) one.1) ∙ open_after closed one.0 in
           let not_there : some_open (opens t) ≡ false = marks_open t ∙ whole in
           absurd (cc)
     ]
 
-pub some_unseen : (t : Bound) (closed unseen : ℕ) → opens t ≡ replicate closed false ++ replicate unseen true → has_open t ≡ true → 0 < unseen
+pub some_unseen : (t : Bound) (closed unseen : ℕ) → opens t ≡ replicate closed false ++ replicate unseen true → has_open t ≡ true →
+    0 < unseen
 some_unseen t closed unseen layout open_somewhere =
     elim (cases_eq unseen 0) [
       | inr some ↦ omega arith
       | inl no_open ↦
           let not_there : some_open (opens t) ≡ false =
-          ap some_open (layout ∙ ap (λ (n : ℕ). replicate closed false ++ replicate n true) no_open ∙ append-nil (replicate closed false)) ∙ some_open-replicate closed in
+          ap some_open (layout ∙ ap (λ (n : ℕ). replicate closed false ++ replicate n true) no_open ∙ append-nil (replicate closed false))
+          ∙ some_open-replicate closed in
           let there : some_open (opens t) ≡ true = marks_open t ∙ open_somewhere in
           absurd (cc)
     ]
@@ -187,19 +194,23 @@ closed_is t closed unseen layout =
     ∙ omega (arith, closed_in-closed closed, closed_in-open unseen))
 
 -- a tree that refutes the root is accepted for one batch more
-pub refuted_accepted : (u : Bool) (k : Classes) (end : End) (b : ℕ) (t : Bound) → IsRefuted u k end b (limits_of_all k b) t → IsAccepted u k end (b + 1) t
+pub refuted_accepted : (u : Bool) (k : Classes) (end : End) (b : ℕ) (t : Bound) → IsRefuted u k end b (limits_of_all k b) t →
+    IsAccepted u k end (b + 1) t
 refuted_accepted u k end b t h =
     let one : b ≡ b + 1 - 1 = omega arith in
     record {
       some = omega arith;
       shallow = omega (arith, h.deep, undecided_few k b (limits_of_all k b));
-      root = subst (λ (n : ℕ). Accepts u k end n (limits_of_all k n) t) one h.accepted;
+      root = rw one at h.accepted;
     }
 
 pub tree_whole : (k : Classes) (q : Question) (t : Bound) → IsTreeOf k q t → has_open t ≡ false → IsAccepted false k q.end (q.batches + 1) t
 tree_whole k q t of whole =
     refuted_accepted false k q.end q.batches t
-    (record { accepted = sealed t k q.end q.batches (limits_of_all k q.batches) whole of.examined.refuted.accepted; deep = of.examined.refuted.deep })
+    (record {
+      accepted = sealed t k q.end q.batches (limits_of_all k q.batches) whole of.examined.refuted.accepted;
+      deep = of.examined.refuted.deep;
+    })
 
 pub tree_open : (k : Classes) (q : Question) (t : Bound) → IsTreeOf k q t → IsAccepted true k q.end (q.batches + 1) t
 tree_open k q t of = refuted_accepted true k q.end q.batches t of.examined.refuted
@@ -226,10 +237,10 @@ all_reached : (k : Classes) (choice : ℕ → ℕ) (b p : ℕ) → ((slot : ℕ)
 all_reached k choice b zero room h = at_start
 all_reached k choice b (suc p) room h =
     let next : (p + 1) % 16 ≡ suc p = omega arith in
-    subst (λ (q : ℕ). IsReached k choice b q) next
-    (by_idle p (omega arith) (room p (omega arith)) (all_reached k choice b p room (omega arith)))
+    rw next at (by_idle p (omega arith) (room p (omega arith)) (all_reached k choice b p room (omega arith)))
 
-pub never_apart : (k : Classes) (choice : ℕ → ℕ) (b set : ℕ) → ((slot : ℕ) → slot < 16 → load k choice slot < b) → IsApart k choice b set → ⊥
+pub never_apart : (k : Classes) (choice : ℕ → ℕ) (b set : ℕ) → ((slot : ℕ) → slot < 16 → load k choice slot < b) →
+    IsApart k choice b set → ⊥
 never_apart k choice b set room apart =
     let run = apart.outside.run in
     let at : ℕ = start_of apart.outside.class apart.outside.early in
@@ -241,7 +252,8 @@ never_apart k choice b set room apart =
 pub never_unclosed : (k : Classes) (choice : ℕ → ℕ) (b : ℕ) → ((slot : ℕ) → slot < 16 → load k choice slot < b) → IsUnclosed k choice b → ⊥
 never_unclosed k choice b room unclosed = omega (arith, room 15 (omega arith), unclosed.no_idle)
 
-pub has_room : (k : Classes) (choice : ℕ → ℕ) (b : ℕ) → IsAdmitted k (limits_of_all k b) choice → (slot : ℕ) → slot < 16 → load k choice slot < b + 1
+pub has_room : (k : Classes) (choice : ℕ → ℕ) (b : ℕ) → IsAdmitted k (limits_of_all k b) choice → (slot : ℕ) → slot < 16 →
+    load k choice slot < b + 1
 has_room k choice b admitted slot h = omega (arith, admitted.capped slot h, get_or-replicate 16 slot b 0 h)
 
 -- the one node that refutes one batch less
@@ -251,16 +263,17 @@ pub record IsLeastTree (k : Classes) (end : End) (b limit : ℕ) (t : Bound) : T
   pub few : closed_nodes t ≤ limit
   pub shaped : IsShaped k b (limits_of_all k b) t
 
-pub least_tree : (k : Classes) (end : End) (b limit set : ℕ) → 1 ≤ limit → Refuses k b set → IsLeastTree k end b limit (bound_of (Overload set))
+pub least_tree : (k : Classes) (end : End) (b limit set : ℕ) → 1 ≤ limit → Refuses k b set →
+    IsLeastTree k end b limit (bound_of (Overload set))
 least_tree k end b limit set some refuses =
-    subst (λ (t : Bound). IsLeastTree k end b limit t) (sym (bound_of-overload set))
-    (record { accepted = set_refutes k end b set refuses; examined = refl; few = some; shaped = tt })
+    rw (bound_of-overload set) (record { accepted = set_refutes k end b set refuses; examined = refl; few = some; shaped = tt })
 
 pub free_whole : (k : Classes) (q : Question) (t : Bound) → IsFreeTree k q t → IsAccepted false k q.end (q.batches + 1) t
 free_whole k q t of = refuted_accepted false k q.end q.batches t of.refuted
 
 -- the choice of a tour is admitted
-pub tour_admitted : (k : Classes) (end : End) (b : ℕ) (choice : ℕ → ℕ) (steps : List Step) → IsChoice k choice → IsTour k end choice b steps →
+pub tour_admitted : (k : Classes) (end : End) (b : ℕ) (choice : ℕ → ℕ) (steps : List Step) → IsChoice k choice →
+    IsTour k end choice b steps →
     IsAdmitted k (limits_of_all k b) choice
 tour_admitted k end b choice steps among tour =
     record {

@@ -24,6 +24,10 @@ use Rattle.pocsag_branch.specs.Marks.{opens, opens_in}
 use Rattle.pocsag_branch.specs.Shape.{AdmitApart, AdmitSplit, AdmitUnclosed, IsShaped, AreShaped}
 use Rattle.pocsag_branch.specs.Undecided.{Falls, IsSplitPoint, undecided}
 
+-- No round's least number of batches is greater.
+abbrev pub greatest_least : ℕ
+greatest_least = 1760000
+
 -- The set refuses one batch less.
 pub record Refuses (k : Classes) (batches set : ℕ) : Type 0 where
   pub some : 0 < batches

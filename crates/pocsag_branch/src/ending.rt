@@ -1,7 +1,7 @@
-ghost use Rattle.std.specs.Prelude.{◌≡◌, ◌+◌, ◌≤◌, IfOk, slice_index};
+ghost use Rattle.std.specs.Prelude.{◌+◌, ◌≤◌, IfOk, slice_index};
 ghost use Rattle.pocsag_slots.specs.Loads.{IsAdmitted, IsLeast, limits_of_all};
 ghost use Rattle.pocsag_slots.specs.Tours.{IsTour};
-ghost use Rattle.pocsag_branch.specs.Examined.{IsAnswer, Refuses};
+ghost use Rattle.pocsag_branch.specs.Examined.{greatest_least, IsAnswer, Refuses};
 ghost use Rattle.pocsag_branch.specs.Found.{IsFound, IsNodeLimit};
 
 use crate::answer::Found;
@@ -39,7 +39,7 @@ pub(crate) fn one_more(
     end: End,
 ) -> Result<Vec<Step>, AllocError>
     requires admitted { IsAdmitted classes.now (limits_of_all classes.now batches) (slice_index choice.now.early) }
-    requires small { batches ≤ 1760000 }
+    requires small { batches ≤ greatest_least }
     ensures { IfOk result (λ steps. IsTour classes.now end (slice_index choice.now.early) (batches + 1) steps.items) }
 {
     match tour(alloc, classes, choice, batches + 1, end) {

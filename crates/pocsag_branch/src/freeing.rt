@@ -1,8 +1,8 @@
-ghost use Rattle.std.specs.Prelude.{◌≡◌, ℕ, ◌+◌, ◌<◌, ◌≤◌, ◌^◌, All, IsTrue, IfErr, IfOk, IfSome, slice_index};
+ghost use Rattle.std.specs.Prelude.{◌<◌, All, IfErr, IfOk, IfSome, slice_index};
 ghost use Rattle.pocsag_slots.specs.Loads.{IsAdmitted};
 ghost use Rattle.pocsag_slots.specs.Ways.{MayTake};
 ghost use Rattle.pocsag_tour.specs.Reached.{IsApart};
-ghost use Rattle.pocsag_branch.specs.Examined.{IsForm, IsStop};
+ghost use Rattle.pocsag_branch.specs.Examined.{IsForm};
 ghost use Rattle.pocsag_branch.specs.Freed.{IsHalt, IsOpen};
 ghost use Rattle.pocsag_branch.specs.Undecided.{AreNodeLimits};
 

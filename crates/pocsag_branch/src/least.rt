@@ -1,7 +1,7 @@
 ghost use Rattle.std.specs.Prelude.{◌<◌, ◌≤◌, slice_index};
 ghost use Rattle.pocsag_slots.specs.Loads.{IsAdmitted, IsLeast, limits_of_all, Overloads};
 ghost use Rattle.pocsag_tree.specs.Spelling.{IsSet};
-ghost use Rattle.pocsag_branch.specs.Examined.{Refuses};
+ghost use Rattle.pocsag_branch.specs.Examined.{greatest_least, Refuses};
 ghost use Rattle.pocsag_branch.specs.Found.{HasPage};
 
 use pocsag_flow::{ChooseFault, choose};
@@ -22,7 +22,7 @@ fn share(classes: &Classes, batches: u32, set: u16) -> u32
     requires over { Overloads classes.now (limits_of_all classes.now batches) set }
     ensures refuses { Refuses classes.now result set }
     ensures more { batches < result }
-    ensures bound { result ≤ 1760000 }
+    ensures bound { result ≤ greatest_least }
 {
     let load = least_load(classes, &all_limits(classes, batches), set);
     load.div_ceil(u64::from(size(set))) as u32
@@ -35,7 +35,7 @@ pub(crate) fn least_of(classes: &Classes) -> Least
     ensures refuses { Refuses classes.now result.batches result.set }
     ensures admitted { IsAdmitted classes.now (limits_of_all classes.now result.batches) (slice_index result.choice.early) }
     ensures least { IsLeast classes.now result.batches }
-    ensures bound { result.batches ≤ 1760000 }
+    ensures bound { result.batches ≤ greatest_least }
 {
     let mut set = 0xFFFF;
     let mut batches = share(classes, 0, set);

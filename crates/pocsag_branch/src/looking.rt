@@ -1,10 +1,10 @@
-ghost use Rattle.std.specs.Prelude.{◌≡◌, ◌≢◌, ℕ, ◌<◌, ◌≤◌, ◌↔◌, false, IsTrue, IfErr, IfOk, IfSome, IfNone, slice_index};
-ghost use Rattle.pocsag_slots.specs.Loads.{IsAdmitted, IsChoice, load};
+ghost use Rattle.std.specs.Prelude.{◌<◌, false, IfErr, IfOk, slice_index};
+ghost use Rattle.pocsag_slots.specs.Loads.{IsAdmitted, IsChoice};
 ghost use Rattle.pocsag_slots.specs.Tours.{IsTour};
 ghost use Rattle.pocsag_tour.specs.Reached.{IsApart};
 ghost use Rattle.pocsag_branch.specs.Examined.{IsForm, IsStop, IsView, StandsAs};
-ghost use Rattle.pocsag_branch.specs.Shape.{AdmitSplit, NoneCertain, SplitsAt};
-ghost use Rattle.pocsag_branch.specs.Undecided.{AreNodeLimits, IsSplitPoint};
+ghost use Rattle.pocsag_branch.specs.Shape.{NoneCertain};
+ghost use Rattle.pocsag_branch.specs.Undecided.{AreNodeLimits};
 
 use crate::climbing::climbed;
 use crate::narrowing::certain_class;

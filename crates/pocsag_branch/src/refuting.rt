@@ -1,9 +1,8 @@
-ghost use Rattle.std.specs.Prelude.{◌≡◌, ℕ, ◌+◌, ◌<◌, ◌≤◌, ◌^◌, All, IsTrue, IfErr, IfOk};
+ghost use Rattle.std.specs.Prelude.{◌+◌, ◌<◌, ◌≤◌, ◌^◌, All, IsTrue, IfErr, IfOk};
 ghost use Rattle.pocsag_slots.specs.Sums.{holds};
 ghost use Rattle.pocsag_slots.specs.Ways.{class_certain, MayTake, ways_across, ways_to_close};
 ghost use Rattle.pocsag_tree.specs.Views.{bound_of};
 ghost use Rattle.pocsag_check.specs.Accepting.{IsClosed};
-ghost use Rattle.pocsag_branch.specs.Examined.{IsForm};
 ghost use Rattle.pocsag_branch.specs.Freed.{AreChildren, IsFreed, IsHalt};
 ghost use Rattle.pocsag_branch.specs.Undecided.{AreNodeLimits, Falls, IsSplitPoint};
 

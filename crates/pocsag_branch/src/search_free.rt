@@ -1,7 +1,7 @@
 ghost use Rattle.std.specs.Prelude.{◌≡◌, ◌≤◌, IfErr, IfOk, slice_index};
 ghost use Rattle.pocsag_slots.specs.Loads.{IsAdmitted, IsLeast, limits_of_all};
 ghost use Rattle.pocsag_tree.specs.Views.{bound_of};
-ghost use Rattle.pocsag_branch.specs.Examined.{Refuses};
+ghost use Rattle.pocsag_branch.specs.Examined.{greatest_least};
 ghost use Rattle.pocsag_branch.specs.Found.{HasPage, IsNodeLimit};
 ghost use Rattle.pocsag_branch.specs.Freed.{IsFreeTree};
 ghost use Rattle.pocsag_branch.specs.Freely.{IsFoundFreely, IsFreeFault, IsNear};
@@ -63,7 +63,7 @@ fn freed(
     tree: Tree,
 ) -> Result<Found, FreeFault>
     requires least { IsLeast classes.now question.batches }
-    requires small { question.batches ≤ 1760000 }
+    requires small { question.batches ≤ greatest_least }
     requires admitted { IsAdmitted classes.now (limits_of_all classes.now question.batches) (slice_index choice.now.early) }
     requires tree { IsFreeTree classes.now question (bound_of tree) }
     ensures found { IfOk result (IsFoundFreely classes.now question.end question.limit) }

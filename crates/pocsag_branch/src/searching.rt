@@ -1,7 +1,7 @@
-ghost use Rattle.std.specs.Prelude.{◌≡◌, ◌+◌, ◌≤◌, IfErr, IfOk, slice_index};
+ghost use Rattle.std.specs.Prelude.{◌+◌, ◌≤◌, IfErr, IfOk, slice_index};
 ghost use Rattle.pocsag_slots.specs.Loads.{IsAdmitted, IsLeast, limits_of_all};
 ghost use Rattle.pocsag_tree.specs.Views.{bound_of};
-ghost use Rattle.pocsag_branch.specs.Examined.{IsTreeOf};
+ghost use Rattle.pocsag_branch.specs.Examined.{greatest_least, IsTreeOf};
 ghost use Rattle.pocsag_branch.specs.Found.{HasPage, IsFound, IsNodeLimit, IsSearchFault};
 
 use crate::answer::Found;
@@ -60,7 +60,7 @@ fn judged(
     tree: Tree,
 ) -> Result<Found, SearchFault>
     requires least { IsLeast classes.now question.batches }
-    requires small { question.batches ≤ 1760000 }
+    requires small { question.batches ≤ greatest_least }
     requires admitted { IsAdmitted classes.now (limits_of_all classes.now question.batches) (slice_index choice.now.early) }
     requires tree { IsTreeOf classes.now question (bound_of tree) }
     ensures found { IfOk result (IsFound classes.now question.end question.limit) }

@@ -1,6 +1,6 @@
-ghost use Rattle.std.specs.Prelude.{◌≡◌, ℕ, ◌<◌, ◌≤◌, ◌^◌, ◌↔◌, All, IsTrue, IfSome, length, true};
+ghost use Rattle.std.specs.Prelude.{◌≡◌, ◌<◌, ◌↔◌, All, IsTrue, IfSome, length, true};
 ghost use Rattle.pocsag_slots.specs.Sums.{holds};
-ghost use Rattle.pocsag_slots.specs.Ways.{class_certain, MayTake, ways_across};
+ghost use Rattle.pocsag_slots.specs.Ways.{MayTake};
 ghost use Rattle.pocsag_branch.specs.Examined.{IsForm};
 ghost use Rattle.pocsag_branch.specs.Freed.{IsOpen};
 ghost use Rattle.pocsag_branch.specs.Undecided.{AreNodeLimits, Falls};

@@ -31,7 +31,8 @@ busy_run : (items : List ℕ) (rest : List Kind) (i slot : ℕ) → slot < 16 �
 unfolding covered
 busy_run [] rest i slot h = let e : i ≡ i + 0 = omega arith in ap (λ (n : ℕ). busy n rest slot) e ∙ omega arith
 busy_run (b ∷ items) rest i slot h =
-    let left : busy (i + 1) (map Message items ++ rest) slot ≡ covered (i + 1) (length items) slot + busy (i + 1 + length items) rest slot = busy_run items rest (i + 1) slot h in
+    let left : busy (i + 1) (map Message items ++ rest) slot ≡
+    covered (i + 1) (length items) slot + busy (i + 1 + length items) rest slot = busy_run items rest (i + 1) slot h in
     let e : i + 1 + length items ≡ i + length (b ∷ items) = omega arith in
     let f : busy (i + 1 + length items) rest slot ≡ busy (i + length (b ∷ items)) rest slot = ap (λ (n : ℕ). busy n rest slot) e in
     omega arith
@@ -42,7 +43,8 @@ busy_or_idle : (end : End) {ws : List Kind} {i : ℕ} {ps : List Page} → Reads
 unfolding covered
 busy_or_idle end at_end slot h = refl
 busy_or_idle end {i = i} (past_idle {ws = ws} r) slot h =
-    let left : busy (i + 1) ws slot + idles slot ((i + 1) % 16) (arcs end (i + 1) ws) ≡ covered (i + 1) (length ws) slot = busy_or_idle end r slot h in
+    let left : busy (i + 1) ws slot + idles slot ((i + 1) % 16) (arcs end (i + 1) ws) ≡ covered (i + 1) (length ws) slot =
+    busy_or_idle end r slot h in
     let next : (i + 1) % 16 ≡ (i % 16 + 1) % 16 = omega arith in
     let same : idles slot ((i + 1) % 16) (arcs end (i + 1) ws) ≡ idles slot ((i % 16 + 1) % 16) (arcs end (i + 1) ws) =
     ap (λ (n : ℕ). idles slot n (arcs end (i + 1) ws)) next in
@@ -57,16 +59,20 @@ busy_or_idle end {i = i} (past_page {high = high} {function = function} {ws = ws
     let finish : finish_of (class_of end (frame_at i) (1 + run_length ws)) (i % 2 == 0) ≡ (i + n) % 16 =
     ap (λ (m : ℕ). finish_of (class_of end (frame_at i) (1 + m)) (i % 2 == 0)) long ∙ finish_is end i n in
     let at : (i + n) % 16 ≡ (i + 1 + length items) % 16 = omega arith in
-    let steps : arcs end (i + 1) ws ≡ arcs end (i + 1 + length items) rest = ap (arcs end (i + 1)) e ∙ arcs_past_run end items rest (i + 1) in
+    let steps : arcs end (i + 1) ws ≡ arcs end (i + 1 + length items) rest = ap (arcs end (i + 1)) e
+    ∙ arcs_past_run end items rest (i + 1) in
     let stay : idles slot (finish_of (class_of end (frame_at i) (1 + run_length ws)) (i % 2 == 0)) (arcs end (i + 1) ws)
     ≡ idles slot ((i + 1 + length items) % 16) (arcs end (i + 1 + length items) rest) =
-    ap (λ (m : ℕ). idles slot m (arcs end (i + 1) ws)) (finish ∙ at) ∙ ap (λ (v : List Step). idles slot ((i + 1 + length items) % 16) v) steps in
-    let all : length ws ≡ length items + length rest = omega (arith, ap length e, length-append (map Message items) rest, length-map items Message) in
+    ap (λ (m : ℕ). idles slot m (arcs end (i + 1) ws)) (finish ∙ at)
+    ∙ ap (λ (v : List Step). idles slot ((i + 1 + length items) % 16) v) steps in
+    let all : length ws ≡ length items + length rest =
+    omega (arith, ap length e, length-append (map Message items) rest, length-map items Message) in
     let whole : covered (i + 1) (length ws) slot ≡ covered (i + 1) (length items) slot + covered (i + 1 + length items) (length rest) slot =
     ap (λ (m : ℕ). covered (i + 1) m slot) all ∙ covered_split (i + 1) (length items) (length rest) slot h in
     omega arith
 
-pub none_fits : (k : Classes) (end : End) (R : List Page) (T : List Kind) (b : ℕ) (l : Limits) (t : Bound) → AreApart R → AreClassesOf k end R →
+pub none_fits : (k : Classes) (end : End) (R : List Page) (T : List Kind) (b : ℕ) (l : Limits) (t : Bound) → AreApart R →
+    AreClassesOf k end R →
     Accepts false k end b l t → Fits T end R b l → ⊥
 none_fits k end R T b l t apart classes accepted fits =
     let tour = toured k end T R b apart classes fits.legal in
@@ -87,11 +93,10 @@ leads_stays zero i = omega arith
 leads_stays (suc g) i =
     let next : (i + 1) % 16 ≡ (i % 16 + 1) % 16 = omega arith in
     let last : (i + 1 + g) % 16 ≡ (i + suc g) % 16 = omega arith in
-    subst (λ (p : ℕ). Leads p (replicate g Stay) ((i + suc g) % 16)) next
-    (subst (λ (q : ℕ). Leads ((i + 1) % 16) (replicate g Stay) q) last (leads_stays g (i + 1)))
+    rw next at (rw last at (leads_stays g (i + 1)))
 
 leads_append : (ss ts : List Step) (p q r : ℕ) → Leads p ss q → Leads q ts r → Leads p (ss ++ ts) r
-leads_append [] ts p q r first second = subst (λ (n : ℕ). Leads n ts r) (sym first) second
+leads_append [] ts p q r first second = rw first second
 leads_append (Stay ∷ ss) ts p q r first second = leads_append ss ts ((p + 1) % 16) q r first second
 leads_append (Run c e ∷ ss) ts p q r first second = (first.0, leads_append ss ts (finish_of c e) q r first.1 second)
 
@@ -110,13 +115,14 @@ idles_stays zero i slot = refl
 idles_stays (suc g) i slot =
     let next : (i + 1) % 16 ≡ (i % 16 + 1) % 16 = omega arith in
     let rest : idles slot ((i % 16 + 1) % 16) (replicate g Stay) ≡ covered (i + 1) g slot =
-    subst (λ (p : ℕ). idles slot p (replicate g Stay) ≡ covered (i + 1) g slot) next (idles_stays g (i + 1) slot) in
+    rw next at (idles_stays g (i + 1) slot) in
     omega arith
 
 idles_append : (ss ts : List Step) (p q slot : ℕ) → Leads p ss q → idles slot p (ss ++ ts) ≡ idles slot p ss + idles slot q ts
 idles_append [] ts p q slot leads = let same : idles slot p ts ≡ idles slot q ts = ap (λ (n : ℕ). idles slot n ts) leads in omega arith
 idles_append (Stay ∷ ss) ts p q slot leads =
-    let rest : idles slot ((p + 1) % 16) (ss ++ ts) ≡ idles slot ((p + 1) % 16) ss + idles slot q ts = idles_append ss ts ((p + 1) % 16) q slot leads in
+    let rest : idles slot ((p + 1) % 16) (ss ++ ts) ≡ idles slot ((p + 1) % 16) ss + idles slot q ts =
+    idles_append ss ts ((p + 1) % 16) q slot leads in
     omega arith
 idles_append (Run c e ∷ ss) ts p q slot leads = idles_append ss ts (finish_of c e) q slot leads.1
 
@@ -130,7 +136,7 @@ last_append (s ∷ ss) g = last_behind s (ss ++ replicate (suc g) Stay) (last_ap
 
 last_as : (end : End) (ss : List Step) (g : ℕ) → LastAs end ss → LastAs end (ss ++ replicate g Stay)
 last_as Open ss g h = tt
-last_as Closed ss zero h = subst (λ (v : List Step). LastIsWhole v) (sym (append-nil ss)) h
+last_as Closed ss zero h = rw (append-nil ss) h
 last_as Closed ss (suc g) h = last_append ss g
 
 lengthened : (k : Classes) (end : End) (choice : ℕ → ℕ) (n m : ℕ) (steps : List Step) →
@@ -139,7 +145,8 @@ lengthened k end choice n m steps tour = record {
   leads = leads_append steps (replicate (16 * m) Stay) 0 0 0 tour.leads
       (subst (λ (q : ℕ). Leads 0 (replicate (16 * m) Stay) q) (omega arith) (leads_stays (16 * m) 0));
   early = λ c h. runs_append steps (16 * m) c true ∙ tour.early c h;
-  late = λ c h. let same : runs c false (steps ++ replicate (16 * m) Stay) ≡ runs c false steps = runs_append steps (16 * m) c false in omega (arith, tour.late c h);
+  late = λ c h. let same : runs c false (steps ++ replicate (16 * m) Stay) ≡ runs c false steps = runs_append steps (16 * m) c false in
+      omega (arith, tour.late c h);
   no_other = λ c e h. runs_append steps (16 * m) c e ∙ tour.no_other c e h;
   idle = λ slot h.
       let both : idles slot 0 (steps ++ replicate (16 * m) Stay) ≡ idles slot 0 steps + idles slot 0 (replicate (16 * m) Stay) =
@@ -150,7 +157,8 @@ lengthened k end choice n m steps tour = record {
 }
 
 -- each choice of a tour is within the limits of all
-pub admitted_all : (k : Classes) (end : End) (choice : ℕ → ℕ) (b : ℕ) (steps : List Step) → IsTour k end choice b steps → IsAdmitted k (limits_of_all k b) choice
+pub admitted_all : (k : Classes) (end : End) (choice : ℕ → ℕ) (b : ℕ) (steps : List Step) → IsTour k end choice b steps →
+    IsAdmitted k (limits_of_all k b) choice
 admitted_all k end choice b steps tour = record {
   within = record {
     least = λ c h. subst (λ (n : ℕ). n ≤ choice c) (sym (get_or-replicate 136 c 0 0 h)) (omega arith);

@@ -1,5 +1,5 @@
 -- A tour that starts inside a set of boundaries crosses it, or all its runs stay inside.
-use Rattle.std.proofs.Common.{◌≡◌, ℕ, ◌+◌, ◌%◌, ◌<◌, ◌==◌, ◌&&◌, Bool, true, false, not, cond, List, [], ◌∷◌, refl, subst, arith, ◌⊎◌, inl, inr, eq-eqb}
+use Rattle.std.proofs.Common.{◌≡◌, ℕ, ◌+◌, ◌%◌, ◌<◌, ◌==◌, ◌&&◌, Bool, true, false, not, cond, List, [], ◌∷◌, refl, arith, ◌⊎◌, inl, inr, eq-eqb}
 use Rattle.std.proofs.lemmas.Bool.{cases_Bool, eqb-true}
 use Rattle.pocsag_slots.specs.declared.step.Step.{Step}
 use Rattle.pocsag_slots.specs.declared.step.Step.TheVariants.{Idle as Stay, Run}
@@ -70,10 +70,11 @@ inside_run set c e ss own rest = record {
     go : (d : ℕ) (f : Bool) (b : Bool) → ((c == d) && cond f e (not e)) ≡ b → 0 < cond b 1 0 + runs d f ss → run_touches d f set ≡ false
     go d f true is some =
         let same = own_counted c d e f is in
-        subst (λ (n : ℕ). run_touches n f set ≡ false) same.0 (subst (λ (g : Bool). run_touches c g set ≡ false) same.1 own)
+        rw same.0 at (rw same.1 at own)
     go d f false is some = rest.each d f (omega arith)
 
-pub crosses_or_stays : (set : ℕ) (ss : List Step) (p q : ℕ) → p < 16 → holds set p ≡ true → Leads p ss q → Crossed set p ss ⊎ IsInside set ss
+pub crosses_or_stays : (set : ℕ) (ss : List Step) (p q : ℕ) → p < 16 → holds set p ≡ true → Leads p ss q →
+    Crossed set p ss ⊎ IsInside set ss
 crosses_or_stays set [] p q small here leads = inr (record { each = λ c e some. absurd (omega arith) })
 crosses_or_stays set (Stay ∷ ss) p q small here leads =
     elim (cases_Bool (holds set ((p + 1) % 16))) [
@@ -84,7 +85,7 @@ crosses_or_stays set (Stay ∷ ss) p q small here leads =
       ]
     ]
 crosses_or_stays set (Run c e ∷ ss) p q small here leads =
-    let start : holds set (start_of c e) ≡ true = subst (λ (n : ℕ). holds set n ≡ true) leads.0 here in
+    let start : holds set (start_of c e) ≡ true = rw leads.0 at here in
     elim (cases_Bool (holds set (finish_of c e))) [
       | inr out ↦ inl (by_run c e (run_leaves set c e start out) (own_run c e ss))
       | inl still ↦ elim (crosses_or_stays set ss (finish_of c e) q (finish_below c e) still leads.1) [

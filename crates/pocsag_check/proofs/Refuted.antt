@@ -1,5 +1,5 @@
 -- No tour of an admitted choice meets an accepted node.
-use Rattle.std.proofs.Common.{◌≡◌, ℕ, ◌+◌, ◌%◌, ◌<◌, ◌≤◌, ◌&&◌, ◌||◌, Bool, true, false, IsTrue, List, [], ◌∷◌, refl, sym, subst, arith, slice_index, ◌⊎◌, inl, inr, nat_lt}
+use Rattle.std.proofs.Common.{◌≡◌, ℕ, ◌+◌, ◌%◌, ◌<◌, ◌≤◌, ◌&&◌, ◌||◌, Bool, true, false, IsTrue, List, [], ◌∷◌, refl, arith, slice_index, ◌⊎◌, inl, inr, nat_lt}
 use Rattle.std.proofs.lemmas.Bool.{cases_lt}
 use Rattle.std.proofs.lemmas.Bool.Decides.{nat_tests}
 use Rattle.pocsag_words.specs.declared.ending.End.{End}
@@ -94,13 +94,11 @@ finish_small c e = omega arith
 
 ends_by : (ss : List Step) (p : ℕ) → p < 16 → Leads p ss 0 → LastIsWhole ss → EndsBy p ss
 ends_by [] p small leads whole = absurd whole
-ends_by (Stay ∷ []) p small leads whole =
-    by_last_idle (let e : p ≡ 15 = omega arith in subst (λ (q : ℕ). 0 < idles 15 q (Stay ∷ [])) (sym e) (omega arith))
-ends_by (Run c e ∷ []) p small leads whole =
-    by_last_run (subst (λ (d : ℕ). 0 < runs 135 false (Run d e ∷ [])) (sym whole.0)
-    (subst (λ (f : Bool). 0 < runs 135 false (Run 135 f ∷ [])) (sym whole.1) (omega arith)))
+ends_by (Stay ∷ []) p small leads whole = by_last_idle (let e : p ≡ 15 = omega arith in rw e (omega arith))
+ends_by (Run c e ∷ []) p small leads whole = by_last_run (rw whole.0 (rw whole.1 (omega arith)))
 ends_by (Stay ∷ (t ∷ ss)) p small leads whole = more_idle p (t ∷ ss) (ends_by (t ∷ ss) ((p + 1) % 16) (omega arith) leads whole)
-ends_by (Run c e ∷ (t ∷ ss)) p small leads whole = more_run p c e (t ∷ ss) (ends_by (t ∷ ss) (finish_of c e) (finish_small c e) leads.1 whole)
+ends_by (Run c e ∷ (t ∷ ss)) p small leads whole =
+    more_run p c e (t ∷ ss) (ends_by (t ∷ ss) (finish_of c e) (finish_small c e) leads.1 whole)
 
 closing_way : (k : Classes) (l : Limits) (choice : ℕ → ℕ) (b : ℕ) (steps : List Step) →
     IsTour k Closed choice b steps → IsAdmitted k l choice → AnyTaken k choice b (ways_to_close k l)
@@ -126,7 +124,8 @@ mutual
       ]
   refuted (cut set c children) k end l choice b steps tour a accepted =
       elim (crosses_or_stays set steps 0 0 (omega arith) accepted.2 tour.leads) [
-        | inl crossed ↦ each_refuted children (ways_across k l set) k end l choice b steps tour a accepted.5 (taken_way k end l choice b set steps tour a crossed)
+        | inl crossed ↦ each_refuted children (ways_across k l set) k end l choice b steps tour a accepted.5
+            (taken_way k end l choice b set steps tour a crossed)
         | inr inside ↦ not_inside k end l choice b set c steps accepted.0 tour a accepted.3 inside
       ]
   refuted (close children) k Open l choice b steps tour a accepted = absurd accepted.0

@@ -1,5 +1,5 @@
 -- An accepted node is met by no tour.
-use Rattle.std.proofs.Common.{◌≡◌, ℕ, ◌+◌, ◌-◌, ◌<◌, ◌≤◌, Bool, true, false, cond, List, [], ◌∷◌, length, sym, ap, subst, arith, slice_index, slice_set, ◌⊎◌, inl, inr, min, max}
+use Rattle.std.proofs.Common.{◌≡◌, ℕ, ◌+◌, ◌-◌, ◌<◌, ◌≤◌, Bool, true, false, cond, List, [], ◌∷◌, length, ap, arith, slice_index, slice_set, ◌⊎◌, inl, inr, min, max}
 use Rattle.std.proofs.lemmas.Bool.{cases_lt, cases_eq}
 use Rattle.std.proofs.lemmas.List.{get_or-set_same, get_or-set_other, set_past}
 use Rattle.pocsag_slots.specs.declared.class.Classes.{Classes}
@@ -17,7 +17,7 @@ low_set xs c v d n h here =
     elim (cases_eq d c) [
       | inr other ↦ rw (get_or-set_other xs c d v 0 other) h
       | inl same ↦ elim (cases_lt c (length xs)) [
-        | inl within ↦ subst (λ (j : ℕ). slice_index (slice_set xs c v) j ≤ n) (sym same) (rw (get_or-set_same xs c v 0 within) (here same))
+        | inl within ↦ rw same (rw (get_or-set_same xs c v 0 within) (here same))
         | inr past ↦ rw (set_past xs c v past) h
       ]
     ]
@@ -27,7 +27,7 @@ high_set xs c v d n h here =
     elim (cases_eq d c) [
       | inr other ↦ rw (get_or-set_other xs c d v 0 other) h
       | inl same ↦ elim (cases_lt c (length xs)) [
-        | inl within ↦ subst (λ (j : ℕ). n ≤ slice_index (slice_set xs c v) j) (sym same) (rw (get_or-set_same xs c v 0 within) (here same))
+        | inl within ↦ rw same (rw (get_or-set_same xs c v 0 within) (here same))
         | inr past ↦ rw (set_past xs c v past) h
       ]
     ]
@@ -44,10 +44,12 @@ sum_over-le set f g h = sum_below-le 16 _ _ (λ slot l. at (holds set slot) slot
 pub not_overloaded : (k : Classes) (l : Limits) (choice : ℕ → ℕ) (set : ℕ) → IsAdmitted k l choice → Overloads k l set → ⊥
 not_overloaded k l choice set admitted over =
     let above : sum_over set (slice_index l.cap) < sum_over set (load k choice) = over choice admitted.within in
-    let below : sum_over set (load k choice) ≤ sum_over set (slice_index l.cap) = sum_over-le set (load k choice) (slice_index l.cap) admitted.capped in
+    let below : sum_over set (load k choice) ≤ sum_over set (slice_index l.cap) =
+    sum_over-le set (load k choice) (slice_index l.cap) admitted.capped in
     absurd (omega arith)
 
-pub admitted_below : (k : Classes) (l : Limits) (choice : ℕ → ℕ) (c m : ℕ) → IsAdmitted k l choice → choice c < m → IsAdmitted k (limits_below l c m) choice
+pub admitted_below : (k : Classes) (l : Limits) (choice : ℕ → ℕ) (c m : ℕ) → IsAdmitted k l choice → choice c < m →
+    IsAdmitted k (limits_below l c m) choice
 admitted_below k l choice c m a h = record {
   within = record {
     least = a.within.least;
@@ -57,7 +59,8 @@ admitted_below k l choice c m a h = record {
   capped = a.capped;
 }
 
-pub admitted_from : (k : Classes) (l : Limits) (choice : ℕ → ℕ) (c m : ℕ) → IsAdmitted k l choice → m ≤ choice c → IsAdmitted k (limits_from l c m) choice
+pub admitted_from : (k : Classes) (l : Limits) (choice : ℕ → ℕ) (c m : ℕ) → IsAdmitted k l choice → m ≤ choice c →
+    IsAdmitted k (limits_from l c m) choice
 admitted_from k l choice c m a h = record {
   within = record {
     least = λ d small. low_set l.lo c m d (choice d) (a.within.least d small)
@@ -77,7 +80,8 @@ abbrev pub AnyTaken : Classes → (ℕ → ℕ) → ℕ → List Way → Type 0
 AnyTaken k choice b [] = ⊥
 AnyTaken k choice b (w ∷ ws) = Takes k choice b w ⊎ AnyTaken k choice b ws
 
-pub admitted_narrowed : (k : Classes) (l : Limits) (choice : ℕ → ℕ) (b : ℕ) (w : Way) → IsAdmitted k l choice → Takes k choice b w → IsAdmitted k (narrowed_limits k l w b) choice
+pub admitted_narrowed : (k : Classes) (l : Limits) (choice : ℕ → ℕ) (b : ℕ) (w : Way) → IsAdmitted k l choice → Takes k choice b w →
+    IsAdmitted k (narrowed_limits k l w b) choice
 admitted_narrowed k l choice b (IdleIn slot) a t = record {
   within = record { least = a.within.least; most = a.within.most };
   capped = λ s small.

@@ -1,5 +1,5 @@
 -- The loop over the children of a node.
-use Rattle.std.proofs.Common.{◌≡◌, ℕ, zero, suc, ◌+◌, ◌<◌, ◌≤◌, Bool, List, [], ◌∷◌, length, get_or, drop, refl, sym, ap, subst, ◌∙◌, arith, add-one, max}
+use Rattle.std.proofs.Common.{◌≡◌, ℕ, zero, suc, ◌+◌, ◌<◌, ◌≤◌, Bool, List, [], ◌∷◌, length, get_or, drop, refl, sym, ap, ◌∙◌, arith, add-one, max}
 use Rattle.std.proofs.Math.Seq.{drop-cons}
 use Rattle.std.proofs.lemmas.List.{drop_all}
 use Rattle.pocsag_words.specs.declared.ending.End.{End}
@@ -13,7 +13,8 @@ use Rattle.pocsag_slots.specs.Ways.{narrowed_limits}
 use Rattle.pocsag_check.specs.Accepting.{AcceptsEach, AcceptsWithin, AcceptsEachWithin}
 use Rattle.pocsag_tree.proofs.Counts.{count_of_bounds}
 
-pub row_long : (u : Bool) (k : Classes) (end : End) (b : ℕ) (l : Limits) (ws : List Way) (ts : Bounds) → AcceptsEach u k end b l ws ts → length ws ≡ count_of ts
+pub row_long : (u : Bool) (k : Classes) (end : End) (b : ℕ) (l : Limits) (ws : List Way) (ts : Bounds) → AcceptsEach u k end b l ws ts →
+    length ws ≡ count_of ts
 row_long u k end b l [] none a = refl
 row_long u k end b l [] (more t ts) a = absurd a
 row_long u k end b l (w ∷ ws) none a = absurd a
@@ -24,7 +25,8 @@ pub as_long : (u : Bool) (k : Classes) (end : End) (b : ℕ) (l : Limits) (ws : 
 as_long u k end b l ws ts a = row_long u k end b l ws (bounds_of ts) a ∙ count_of_bounds ts
 
 -- where the children so far are accepted, all are exactly where the rest are
-pub record IsLeft (u : Bool) (k : Classes) (end : End) (b : ℕ) (l : Limits) (depth : ℕ) (ws : List Way) (ts : List Tree) (i : ℕ) : Type 0 where
+pub record IsLeft (u : Bool) (k : Classes) (end : End) (b : ℕ) (l : Limits) (depth : ℕ) (ws : List Way) (ts : List Tree)
+    (i : ℕ) : Type 0 where
   pub rest : AcceptsEachWithin u k end b l depth ws (bounds_of ts) → AcceptsEachWithin u k end b l depth (drop i ws) (bounds_of (drop i ts))
   pub all : AcceptsEachWithin u k end b l depth (drop i ws) (bounds_of (drop i ts)) → AcceptsEachWithin u k end b l depth ws (bounds_of ts)
 
@@ -33,40 +35,37 @@ drop_way ws i w h is =
     let first : drop i ws ≡ get_or ws i w ∷ drop (i + 1) ws = rw (add-one) (drop-cons ws i w h) in
     first ∙ ap (λ (v : Way). v ∷ drop (i + 1) ws) (sym is)
 
-drop_tree : (ts : List Tree) (i : ℕ) (t : Tree) → i < length ts → t ≡ get_or ts i t → bounds_of (drop i ts) ≡ more (bound_of t) (bounds_of (drop (i + 1) ts))
+drop_tree : (ts : List Tree) (i : ℕ) (t : Tree) → i < length ts → t ≡ get_or ts i t →
+    bounds_of (drop i ts) ≡ more (bound_of t) (bounds_of (drop (i + 1) ts))
 drop_tree ts i t h is =
     let first : drop i ts ≡ get_or ts i t ∷ drop (i + 1) ts = rw (add-one) (drop-cons ts i t h) in
     let same : drop i ts ≡ t ∷ drop (i + 1) ts = first ∙ ap (λ (v : Tree). v ∷ drop (i + 1) ts) (sym is) in
     ap (λ (v : List Tree). bounds_of v) same
 
-pub one_first : (u : Bool) (k : Classes) (end : End) (b : ℕ) (l : Limits) (depth : ℕ) (ws : List Way) (ts : List Tree) (i : ℕ) (w : Way) (t : Tree) →
-    i < length ws → i < length ts → w ≡ get_or ws i w → t ≡ get_or ts i t →
+pub one_first : (u : Bool) (k : Classes) (end : End) (b : ℕ) (l : Limits) (depth : ℕ) (ws : List Way) (ts : List Tree) (i : ℕ) (w : Way)
+    (t : Tree) → i < length ws → i < length ts → w ≡ get_or ws i w → t ≡ get_or ts i t →
     AcceptsEachWithin u k end b l depth (drop i ws) (bounds_of (drop i ts)) →
-    AcceptsWithin u k end b (narrowed_limits k l w b) depth (bound_of t) × AcceptsEachWithin u k end b l depth (drop (i + 1) ws) (bounds_of (drop (i + 1) ts))
+    AcceptsWithin u k end b (narrowed_limits k l w b) depth (bound_of t)
+    × AcceptsEachWithin u k end b l depth (drop (i + 1) ws) (bounds_of (drop (i + 1) ts))
 one_first u k end b l depth ws ts i w t h g w_is t_is a =
     let both : AcceptsEachWithin u k end b l depth (w ∷ drop (i + 1) ws) (more (bound_of t) (bounds_of (drop (i + 1) ts))) =
-    subst (λ (v : List Way). AcceptsEachWithin u k end b l depth v (more (bound_of t) (bounds_of (drop (i + 1) ts)))) (drop_way ws i w h w_is)
-    (subst (λ (v : Bounds). AcceptsEachWithin u k end b l depth (drop i ws) v) (drop_tree ts i t g t_is) a) in
+    rw (drop_way ws i w h w_is) at (rw (drop_tree ts i t g t_is) at a) in
     let deep : max (depth_of (bound_of t)) (deepest (bounds_of (drop (i + 1) ts))) ≤ depth = both.0 in
     ((omega arith, both.1.0), (omega arith, both.1.1))
 
-pub one_more : (u : Bool) (k : Classes) (end : End) (b : ℕ) (l : Limits) (depth : ℕ) (ws : List Way) (ts : List Tree) (i : ℕ) (w : Way) (t : Tree) →
-    i < length ws → i < length ts → w ≡ get_or ws i w → t ≡ get_or ts i t →
+pub one_more : (u : Bool) (k : Classes) (end : End) (b : ℕ) (l : Limits) (depth : ℕ) (ws : List Way) (ts : List Tree) (i : ℕ) (w : Way)
+    (t : Tree) → i < length ws → i < length ts → w ≡ get_or ws i w → t ≡ get_or ts i t →
     AcceptsWithin u k end b (narrowed_limits k l w b) depth (bound_of t) →
     AcceptsEachWithin u k end b l depth (drop (i + 1) ws) (bounds_of (drop (i + 1) ts)) →
     AcceptsEachWithin u k end b l depth (drop i ws) (bounds_of (drop i ts))
 one_more u k end b l depth ws ts i w t h g w_is t_is first rest =
     let deep : depth_of (bound_of t) ≤ depth = first.0 in
     let others : deepest (bounds_of (drop (i + 1) ts)) ≤ depth = rest.0 in
-    subst (λ (v : List Way). AcceptsEachWithin u k end b l depth v (bounds_of (drop i ts))) (sym (drop_way ws i w h w_is))
-    (subst (λ (v : Bounds). AcceptsEachWithin u k end b l depth (w ∷ drop (i + 1) ws) v) (sym (drop_tree ts i t g t_is))
-    (omega arith, (first.1, rest.1)))
+    rw (drop_way ws i w h w_is) (rw (drop_tree ts i t g t_is) (omega arith, (first.1, rest.1)))
 
 pub none_left : (u : Bool) (k : Classes) (end : End) (b : ℕ) (l : Limits) (depth : ℕ) (ws : List Way) (ts : List Tree) (i : ℕ) →
     length ws ≤ i → length ts ≤ i → AcceptsEachWithin u k end b l depth (drop i ws) (bounds_of (drop i ts))
-none_left u k end b l depth ws ts i h g =
-    subst (λ (v : List Way). AcceptsEachWithin u k end b l depth v (bounds_of (drop i ts))) (sym (drop_all i ws h))
-    (subst (λ (v : List Tree). AcceptsEachWithin u k end b l depth [] (bounds_of v)) (sym (drop_all i ts g)) (omega arith, tt))
+none_left u k end b l depth ws ts i h g = rw (drop_all i ws h) (rw (drop_all i ts g) (omega arith, tt))
 
 -- the way at a place is so whatever stands for one past the end
 pub way_at : (ws : List Way) (i : ℕ) (d : Way) → i < length ws → get_or ws i d ≡ get_or ws i (get_or ws i d)

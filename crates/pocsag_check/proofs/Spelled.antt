@@ -55,7 +55,8 @@ unfolding ways_to_close
 some_ending k l = omega arith
 
 mutual
-  in_range : (t : Bound) (u : Bool) (k : Classes) (end : End) (b : ℕ) (l : Limits) → AreCounted k l → Accepts u k end b l t → IsInRange second_ranges t
+  in_range : (t : Bound) (u : Bool) (k : Classes) (end : End) (b : ℕ) (l : Limits) → AreCounted k l → Accepts u k end b l t →
+      IsInRange second_ranges t
   in_range (overload set) u k end b l of a = a.0
   in_range (split c m below above) u k end b l of a = (
     omega (arith, a.0),

@@ -17,7 +17,8 @@ same_tables : (k : Classes) (count turns : List ℕ) (tables : AreTables count t
 same_tables k count turns tables e f =
     subst (λ (c : List ℕ). (t : AreTables c turns) → k ≡ record { count = c; turns = turns; tables = t }) e
     (subst (λ (d : List ℕ). (t : AreTables k.count d) → k ≡ record { count = k.count; turns = d; tables = t }) f
-    (λ t. ap (λ (s : AreTables k.count k.turns). let r : Classes = record { count = k.count; turns = k.turns; tables = s } in r) (tables_prop k.count k.turns k.tables t)))
+    (λ t. ap (λ (s : AreTables k.count k.turns). let r : Classes = record { count = k.count; turns = k.turns; tables = s } in r)
+    (tables_prop k.count k.turns k.tables t)))
     tables
 
 pub one_table : (k j : Classes) (end : End) (R : List Page) → AreClassesOf k end R → AreClassesOf j end R → k ≡ j

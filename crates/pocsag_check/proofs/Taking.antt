@@ -1,5 +1,5 @@
 -- A tour that crosses a set takes one of its ways.
-use Rattle.std.proofs.Common.{◌≡◌, ℕ, zero, suc, ◌+◌, ◌<◌, ◌≤◌, true, false, cond, List, [], ◌∷◌, ◌++◌, subst, arith, slice_index, inl, inr, nat_lt}
+use Rattle.std.proofs.Common.{◌≡◌, ℕ, zero, suc, ◌+◌, ◌<◌, ◌≤◌, true, false, cond, List, [], ◌∷◌, ◌++◌, arith, slice_index, inl, inr, nat_lt}
 use Rattle.std.proofs.lemmas.Bool.{cases_eq, cases_lt}
 use Rattle.std.proofs.lemmas.Bool.Decides.{nat_tests}
 use Rattle.pocsag_words.specs.declared.ending.End.{End}
@@ -25,12 +25,13 @@ pub any_right : (k : Classes) (choice : ℕ → ℕ) (b : ℕ) (ws vs : List Way
 any_right k choice b [] vs t = t
 any_right k choice b (w ∷ ws) vs t = inr (any_right k choice b ws vs t)
 
-pub any_joined : (k : Classes) (choice : ℕ → ℕ) (b n j : ℕ) (f : ℕ → List Way) → j < n → AnyTaken k choice b (f j) → AnyTaken k choice b (joined_below n f)
+pub any_joined : (k : Classes) (choice : ℕ → ℕ) (b n j : ℕ) (f : ℕ → List Way) → j < n → AnyTaken k choice b (f j) →
+    AnyTaken k choice b (joined_below n f)
 unfolding joined_below
 any_joined k choice b zero j f h t = absurd (omega arith)
 any_joined k choice b (suc n) j f h t =
     elim (cases_eq j n) [
-      | inl same ↦ any_right k choice b (joined_below n f) (f n) (subst (λ (i : ℕ). AnyTaken k choice b (f i)) same t)
+      | inl same ↦ any_right k choice b (joined_below n f) (f n) (rw same at t)
       | inr other ↦ any_left k choice b (joined_below n f) (f n) (any_joined k choice b n j f (omega arith) t)
     ]
 

@@ -1,5 +1,5 @@
 -- A set that holds boundary 0, and not all boundaries, is crossed by the idles of at least two slots.
-use Rattle.std.proofs.Common.{◌≡◌, ◌⊎◌, ℕ, zero, suc, ◌+◌, ◌-◌, ◌%◌, ◌<◌, ◌≤◌, ◌||◌, Bool, true, false, not, IsTrue, List, length, refl, sym, subst, arith, inl, inr, length-append}
+use Rattle.std.proofs.Common.{◌≡◌, ◌⊎◌, ℕ, zero, suc, ◌+◌, ◌-◌, ◌%◌, ◌<◌, ◌≤◌, ◌||◌, Bool, true, false, not, IsTrue, List, length, refl, arith, inl, inr, length-append}
 use Rattle.std.proofs.lemmas.Bool.{cases_eq, not-false, not-true, not_from_false}
 use Rattle.pocsag_slots.specs.declared.class.Classes.{Classes}
 use Rattle.pocsag_slots.specs.declared.limit.Limits.{Limits}
@@ -17,14 +17,15 @@ pub record TurnsTrue (f : ℕ → Bool) (n m : ℕ) : Type 0 where
   pub before : f at ≡ false
   pub after : f (at + 1) ≡ true
 
-turns_next : (f : ℕ → Bool) (n m : ℕ) → n < m → f n ≡ false → (f (n + 1) ≡ false → TurnsTrue f (n + 1) m) → (b : Bool) → f (n + 1) ≡ b → TurnsTrue f n m
+turns_next : (f : ℕ → Bool) (n m : ℕ) → n < m → f n ≡ false → (f (n + 1) ≡ false → TurnsTrue f (n + 1) m) → (b : Bool) → f (n + 1) ≡ b →
+    TurnsTrue f n m
 turns_next f n m h low later true is = record { at = n; from = omega arith; below = h; before = low; after = is }
 turns_next f n m h low later false is =
     let rest = later is in
     record { at = rest.at; from = omega (arith, rest.from); below = rest.below; before = rest.before; after = rest.after }
 
 turns : (f : ℕ → Bool) (n d m : ℕ) → n + d ≡ m → f n ≡ false → f m ≡ true → TurnsTrue f n m
-turns f n zero m e low high = absurd (let same : n ≡ m = omega arith in let here : f m ≡ false = subst (λ (i : ℕ). f i ≡ false) same low in cc)
+turns f n zero m e low high = absurd (let same : n ≡ m = omega arith in let here : f m ≡ false = rw same at low in cc)
 turns f n (suc d) m e low high = turns_next f n m (omega arith) low (λ is. turns f (n + 1) d m (omega arith) is high) (f (n + 1)) refl
 
 -- some boundary is not held
@@ -71,7 +72,7 @@ one_joined zero i f h some = absurd (omega arith)
 one_joined (suc n) i f h some =
     rw length-append
     (elim (cases_eq i n) [
-      | inl same ↦ let here : 1 ≤ length (f n) = subst (λ (k : ℕ). 1 ≤ length (f k)) same some in omega arith
+      | inl same ↦ let here : 1 ≤ length (f n) = rw same at some in omega arith
       | inr other ↦ omega (arith, one_joined n i f (omega arith) some)
     ])
 
@@ -82,7 +83,7 @@ two_joined (suc n) i j f h l first second =
     rw length-append
     (elim (cases_eq j n) [
       | inl same ↦
-          let here : 1 ≤ length (f n) = subst (λ (k : ℕ). 1 ≤ length (f k)) same second in
+          let here : 1 ≤ length (f n) = rw same at second in
           omega (arith, one_joined n i f (omega arith) first)
       | inr other ↦ omega (arith, two_joined n i j f h (omega arith) first second)
     ])
@@ -95,20 +96,19 @@ two_slots set home out =
     turns (λ (p : ℕ). not (holds set p)) 0 q q (omega arith) (rw home refl) (not_from_false (holds set q) out.out) in
     let small : q % 16 ≡ q = omega (arith, out.known) in
     let back : TurnsTrue around q 16 =
-    turns around q (16 - q) 16 (omega (arith, out.known)) (subst (λ (p : ℕ). holds set p ≡ false) (sym small) out.out) home in
+    turns around q (16 - q) 16 (omega (arith, out.known)) (rw small out.out) home in
     let i = leaves.at in
     let j = back.at in
     let i_next : i + 1 ≡ (i + 1) % 16 = omega (arith, leaves.below, out.known) in
     let j_here : j % 16 ≡ j = omega (arith, back.below) in
     let first : idle_crosses i set ≡ true =
     crossed_out set i (not-false (holds set i) leaves.before)
-    (subst (λ (p : ℕ). holds set p ≡ false) i_next (not-true (holds set (i + 1)) leaves.after)) in
+    (rw i_next at (not-true (holds set (i + 1)) leaves.after)) in
     let second : idle_crosses j set ≡ true =
-    crossed_in set j (subst (λ (p : ℕ). holds set p ≡ false) j_here back.before) back.after in
+    crossed_in set j (rw j_here at back.before) back.after in
     two_joined 16 i j (slot_ways set) (omega (arith, leaves.below, back.from)) back.below (one_way set i first) (one_way set j second)
 
 pub two_ways : (k : Classes) (l : Limits) (set c : ℕ) → c < 136 → IsTrue (holds set 0) → IsTrue (class_certain k l set c) →
     2 ≤ length (ways_across k l set)
 unfolding ways_across
-two_ways k l set c h home certain =
-    rw length-append (omega (arith, two_slots set home (certain_out k l set c h certain)))
+two_ways k l set c h home certain = rw length-append (omega (arith, two_slots set home (certain_out k l set c h certain)))

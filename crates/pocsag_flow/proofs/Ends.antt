@@ -1,6 +1,6 @@
 -- Where nothing leads out of a set of full slots, no choice within the limits loads it less; and what
 -- a way takes from the overload.
-use Rattle.std.proofs.Common.{◌≡◌, ◌≢◌, ℕ, ◌+◌, ◌-◌, ◌*◌, ◌<◌, ◌≤◌, Bool, cond, true, false, refl, sym, subst, arith, inl, inr, slice_index}
+use Rattle.std.proofs.Common.{◌≡◌, ◌≢◌, ℕ, ◌+◌, ◌-◌, ◌*◌, ◌<◌, ◌≤◌, Bool, cond, true, false, refl, sym, arith, inl, inr, slice_index}
 use Rattle.std.proofs.lemmas.Bool.{cases_eq, cases_lt}
 use Rattle.pocsag_slots.specs.declared.class.Classes.{Classes}
 use Rattle.pocsag_slots.specs.declared.limit.Limits.{Limits}
@@ -38,8 +38,7 @@ pub record IsShut (l : Limits) (early : ℕ → ℕ) (set : ℕ) : Type 0 where
   pub each : (slot : ℕ) → slot < 16 → holds set slot ≡ true → IsClosed l early set slot
 
 class_least : (k : Classes) (l : Limits) (set c : ℕ) (early other : ℕ → ℕ) → c < 136 → AreInOrder k l →
-    IsWithin l early → IsWithin l other → IsShut l early set →
-    class_load_over k set c (early c) ≤ class_load_over k set c (other c)
+    IsWithin l early → IsWithin l other → IsShut l early set → class_load_over k set c (early c) ≤ class_load_over k set c (other c)
 unfolding in_set
 class_least k l set c early other h ordered within among shut =
     elim (cases_lt (other c) (early c)) [
@@ -49,7 +48,8 @@ class_least k l set c early other h ordered within among shut =
           let shift : class_load_over k set c (other c) + d * cond (holds set (start_of c true)) 1 0
           ≡ class_load_over k set c (other c + d) + d * cond (holds set (finish_of c true)) 1 0 =
           class_load_over_shift k set c (other c) d h (omega (arith, within.most c h, ordered.counted c h)) in
-          fewer (class_load_over k set c (other c)) (class_load_over k set c (early c)) d (holds set (start_of c true)) (holds set (finish_of c true))
+          fewer (class_load_over k set c (other c)) (class_load_over k set c (early c)) d (holds set (start_of c true))
+          (holds set (finish_of c true))
           (rw is at shift)
           (λ held out. omega (arith, ((shut.each (start_of c true) (start_low c h) held).each c h).to_late refl out, among.least c h))
       | inr up ↦
@@ -58,7 +58,8 @@ class_least k l set c early other h ordered within among shut =
           let shift : class_load_over k set c (early c) + d * cond (holds set (start_of c true)) 1 0
           ≡ class_load_over k set c (early c + d) + d * cond (holds set (finish_of c true)) 1 0 =
           class_load_over_shift k set c (early c) d h (omega (arith, among.most c h, ordered.counted c h)) in
-          greater (class_load_over k set c (early c)) (class_load_over k set c (other c)) d (holds set (start_of c true)) (holds set (finish_of c true))
+          greater (class_load_over k set c (early c)) (class_load_over k set c (other c)) d (holds set (start_of c true))
+          (holds set (finish_of c true))
           (rw is at shift)
           (λ held out. omega (arith, ((shut.each (finish_of c true) (finish_low c) held).each c h).to_early refl out, among.most c h))
     ]
@@ -93,7 +94,7 @@ shut_overloads law n before after slot most moved h ordered within alone above p
     let stuck : (s : ℕ) → s < 16 → holds after.reached s ≡ true → IsStuck n (slice_index before.early) after.reached s =
     λ s l held.
     elim (cases_eq s slot) [
-      | inl is ↦ subst (λ (t : ℕ). IsStuck n (slice_index before.early) after.reached t) (sym is) at_slot
+      | inl is ↦ rw is at_slot
       | inr other ↦ (p.stuck none).each s l held (alone s other)
     ] in
     let least = shut_least law n.classes n.limits after.reached (slice_index before.early) choice ordered within among
@@ -107,7 +108,7 @@ pub way_apart : (n : Network) (before after : ℕ → ℕ) (slot to moved : ℕ)
     slice_index n.limits.cap slot < load n.classes before slot → Relieves n before after slot to moved → to ≢ slot
 way_apart n before after slot to moved above relieved same =
     let room : load n.classes before slot + moved ≤ slice_index n.limits.cap slot =
-    subst (λ (t : ℕ). load n.classes before t + moved ≤ slice_index n.limits.cap t) same relieved.room in
+    rw same at relieved.room in
     omega arith
 
 -- a way takes something from the overload
@@ -124,8 +125,7 @@ overload_less n before after slot to moved h some above relieved =
       | inl is ↦
           let there : load n.classes after to + moved * 0 ≡ load n.classes before to + moved * 1 =
           rw (same_slot_other slot to (λ same. apart (sym same)), same_slot_same to) at (relieved.loads to relieved.to_fits) in
-          subst (λ (t : ℕ). load n.classes after t - slice_index n.limits.cap t ≤ load n.classes before t - slice_index n.limits.cap t) (sym is)
-          (omega (arith, relieved.room))
+          rw is (omega (arith, relieved.room))
       | inr other ↦
           let there : load n.classes after s + moved * same_slot slot s ≡ load n.classes before s + moved * 0 =
           rw (same_slot_other to s (λ same. other (sym same))) at (relieved.loads s l) in

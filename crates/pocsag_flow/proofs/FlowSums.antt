@@ -16,7 +16,8 @@ sum_below-change (suc n) c x y f g h e o =
           let right : g c ≡ g n = ap g same in
           omega arith
       | inr other ↦
-          let rest : sum_below n f + x ≡ sum_below n g + y = sum_below-change n c x y f g (omega arith) e (λ k l ne. o k (omega arith) ne) in
+          let rest : sum_below n f + x ≡ sum_below n g + y =
+          sum_below-change n c x y f g (omega arith) e (λ k l ne. o k (omega arith) ne) in
           let here : f n ≡ g n = o n (omega arith) (λ same. other (sym same)) in
           omega arith
     ]

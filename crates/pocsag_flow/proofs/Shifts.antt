@@ -30,8 +30,7 @@ covered_shift i n slot h =
     let same : covered i (n + 1) slot ≡ covered i (1 + n) slot = ap (λ (m : ℕ). covered i m slot) order in
     omega (arith, covered_one i slot, covered_one (i + n) slot)
 
-members_first : (set i n : ℕ) →
-    sum_over set (covered i (1 + n)) ≡ in_set set (i % 16) + sum_over set (covered (i + 1) n)
+members_first : (set i n : ℕ) → sum_over set (covered i (1 + n)) ≡ in_set set (i % 16) + sum_over set (covered (i + 1) n)
 unfolding in_set
 members_first set i n =
     let some : sum_over set (covered i (0 + 1)) ≡ sum_over set (covered i 0) + cond (holds set ((i + 0) % 16)) 1 0 = members_more set i 0 in
@@ -40,7 +39,8 @@ members_first set i n =
     let here : cond (holds set ((i + 0) % 16)) 1 0 ≡ in_set set (i % 16) = ap (λ (m : ℕ). cond (holds set (m % 16)) 1 0) place in
     let split : sum_over set (covered i (1 + n)) ≡ sum_over set (λ slot. covered i 1 slot + covered (i + 1) n slot) =
     sum_over-same set _ _ (λ slot h. covered_split i 1 n slot h) in
-    let added : sum_over set (λ slot. covered i 1 slot + covered (i + 1) n slot) ≡ sum_over set (covered i 1) + sum_over set (covered (i + 1) n) =
+    let added : sum_over set (λ slot. covered i 1 slot + covered (i + 1) n slot) ≡
+    sum_over set (covered i 1) + sum_over set (covered (i + 1) n) =
     sum_over-add set (covered i 1) (covered (i + 1) n) in
     omega arith
 
@@ -66,8 +66,7 @@ late_is : (c : ℕ) → start_of c false ≡ start_of c true + 1
 unfolding start_of
 late_is c = omega arith
 
-run_shift : (c slot : ℕ) → c < 136 → slot < 16 →
-    covered (start_of c true) (class_rest c) slot + same_slot (finish_of c true) slot
+run_shift : (c slot : ℕ) → c < 136 → slot < 16 → covered (start_of c true) (class_rest c) slot + same_slot (finish_of c true) slot
     ≡ covered (start_of c false) (class_rest c) slot + same_slot (start_of c true) slot
 unfolding finish_of
 run_shift c slot h l =
@@ -75,8 +74,7 @@ run_shift c slot h l =
     let low : start_of c true % 16 ≡ start_of c true = omega (arith, start_low c h) in
     rw (late_is c) (rw low at shift)
 
-run_members : (set c : ℕ) → c < 136 →
-    sum_over set (covered (start_of c true) (class_rest c)) + in_set set (finish_of c true)
+run_members : (set c : ℕ) → c < 136 → sum_over set (covered (start_of c true) (class_rest c)) + in_set set (finish_of c true)
     ≡ sum_over set (covered (start_of c false) (class_rest c)) + in_set set (start_of c true)
 unfolding finish_of
 run_members set c h =

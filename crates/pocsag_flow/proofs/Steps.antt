@@ -1,5 +1,5 @@
 -- What the steps of the search for a way do, each by the steps inside it.
-use Rattle.std.proofs.Common.{◌≡◌, ◌≢◌, ℕ, ◌+◌, ◌-◌, ◌*◌, ◌<◌, ◌≤◌, ◌⊎◌, true, false, refl, sym, ap, ◌∙◌, subst, arith, inl, inr, List, length, slice_index, slice_set, get_or-set_same, get_or-set_other, length-set}
+use Rattle.std.proofs.Common.{◌≡◌, ◌≢◌, ℕ, ◌+◌, ◌-◌, ◌*◌, ◌<◌, ◌≤◌, ◌⊎◌, true, false, refl, sym, ap, ◌∙◌, arith, inl, inr, List, length, slice_index, slice_set, get_or-set_same, get_or-set_other, length-set}
 use Rattle.std.proofs.lemmas.Bool.{cases_eq, cases_lt}
 use Rattle.std.proofs.lemmas.Bool.Decides.{nat_tests}
 use Rattle.std.proofs.lemmas.List.{set-get_or}
@@ -70,7 +70,7 @@ entered n before mid after slot most moved same here others out more full p clos
               | inl is ↦
                   let shut : IsClosed n.limits (slice_index before.early) after.reached slot = rw (p.same none ∙ same) at (closed none) in
                   let stuck : IsStuck n (slice_index before.early) after.reached slot = record { closed = shut; full = full } in
-                  subst (λ (t : ℕ). IsStuck n (slice_index before.early) after.reached t) (sym is) stuck
+                  rw is stuck
               | inr other ↦
                   let stuck : AreStuck n (slice_index before.early) mid.reached after.reached = rw same at (p.stuck none) in
                   stuck.each s l held (others s other ∙ new)
@@ -115,7 +115,7 @@ left_more n before now after slot most moved class l p none leads =
             | inl low ↦ leads_larger n.limits (slice_index before.early) after.reached now.reached tried slot p.grows (l.leads tried low)
             | inr high ↦
                 let is : class ≡ tried = omega arith in
-                subst (λ (t : ℕ). LeadsInto n.limits (slice_index before.early) after.reached t slot) is here
+                rw is at here
           ];
     }
 
@@ -138,7 +138,8 @@ pub pushed_on : (n : Network) (before mid after : Search) (class from to most am
     ≡ load n.classes (slice_index mid.early) slot + moved * same_slot to slot) →
     (moved ≡ 0 → after.early ≡ mid.early) →
     Pushes n before after from most moved
-pushed_on n before mid after class from to most amount moved low low_to held out between p fits reached ended within size others loads still =
+pushed_on n before mid after class from to most amount moved low low_to held out between p fits reached ended within size others
+    loads still =
     let apart : from ≢ to = not_slot before.reached from to held out in
     let in_set : (s : ℕ) → IsOf before.reached from s → holds before.reached s ≡ true =
     λ s is. elim is [ inl inside ↦ inside | inr here ↦ ap (holds before.reached) here ∙ held ] in
@@ -183,17 +184,18 @@ set_other : (early : List ℕ) (class e c : ℕ) → c ≢ class → slice_index
 set_other early class e c ne = get_or-set_other early class c e 0 ne
 
 set_within : (l : Limits) (early : List ℕ) (class e : ℕ) → class < 136 → length early ≡ 136 →
-    slice_index l.lo class ≤ e → e ≤ slice_index l.hi class → IsWithin l (slice_index early) → IsWithin l (slice_index (slice_set early class e))
+    slice_index l.lo class ≤ e → e ≤ slice_index l.hi class → IsWithin l (slice_index early) →
+    IsWithin l (slice_index (slice_set early class e))
 set_within l early class e h size low high within =
     record {
       least = λ c k.
           elim (cases_eq c class) [
-            | inl is ↦ subst (λ (t : ℕ). slice_index l.lo t ≤ slice_index (slice_set early class e) t) (sym is) (omega (arith, set_here early class e h size))
+            | inl is ↦ rw is (omega (arith, set_here early class e h size))
             | inr other ↦ omega (arith, set_other early class e c other, within.least c k)
           ];
       most = λ c k.
           elim (cases_eq c class) [
-            | inl is ↦ subst (λ (t : ℕ). slice_index (slice_set early class e) t ≤ slice_index l.hi t) (sym is) (omega (arith, set_here early class e h size))
+            | inl is ↦ rw is (omega (arith, set_here early class e h size))
             | inr other ↦ omega (arith, set_other early class e c other, within.most c k)
           ];
     }
@@ -206,46 +208,62 @@ pub moved_late : (n : Network) (before mid : Search) (class most amount moved : 
     IsNetworkOf n before → holds before.reached (start_of class true) ≡ true → holds before.reached (finish_of class true) ≡ false →
     amount + slice_index n.limits.lo class ≤ slice_index before.early class → amount ≤ most →
     Pushes n before mid (finish_of class true) amount moved →
-    Pushes n before (record { early = slice_set mid.early class (slice_index mid.early class - moved); reached = mid.reached; end = mid.end })
+    Pushes n before (record {
+      early = slice_set mid.early class (slice_index mid.early class - moved);
+      reached = mid.reached;
+      end = mid.end;
+    })
     (start_of class true) most moved
 moved_late n before mid class most amount moved h network held out room fits p =
     let after : List ℕ = slice_set mid.early class (slice_index mid.early class - moved) in
     let kept : slice_index mid.early class ≡ slice_index before.early class = p.kept.each class h (inl held) (inr refl) in
-    let here : slice_index after class ≡ slice_index mid.early class - moved = set_here mid.early class (slice_index mid.early class - moved) h p.size in
+    let here : slice_index after class ≡ slice_index mid.early class - moved =
+    set_here mid.early class (slice_index mid.early class - moved) h p.size in
     let moves : Moves (slice_index mid.early) (slice_index after) class moved =
     record {
       here = omega (arith, here, kept, p.bounded, room);
       others = λ c k ne. set_other mid.early class (slice_index mid.early class - moved) c ne;
     } in
-    pushed_on n before mid (record { early = after; reached = mid.reached; end = mid.end }) class (start_of class true) (finish_of class true) most amount moved
+    pushed_on n before mid (record { early = after; reached = mid.reached; end = mid.end }) class (start_of class true)
+    (finish_of class true) most amount moved
     (start_low class h) (finish_low class) held out (inr refl) p fits refl refl
-    (set_within n.limits mid.early class (slice_index mid.early class - moved) h p.size (omega (arith, kept, p.bounded, room)) (omega (arith, p.within.most class h)) p.within)
+    (set_within n.limits mid.early class (slice_index mid.early class - moved) h p.size (omega (arith, kept, p.bounded, room))
+    (omega (arith, p.within.most class h)) p.within)
     (length-set mid.early class (slice_index mid.early class - moved) ∙ p.size)
     moves.others
-    (λ slot l. load_moved n.classes (slice_index mid.early) (slice_index after) class moved slot h l (omega (arith, p.within.most class h, network.ordered.counted class h)) moves)
+    (λ slot l. load_moved n.classes (slice_index mid.early) (slice_index after) class moved slot h l
+    (omega (arith, p.within.most class h, network.ordered.counted class h)) moves)
     (λ none. set_still mid.early class (slice_index mid.early class - moved) (omega (arith, none)))
 
 pub moved_early : (n : Network) (before mid : Search) (class most amount moved : ℕ) → class < 136 →
     IsNetworkOf n before → holds before.reached (finish_of class true) ≡ true → holds before.reached (start_of class true) ≡ false →
     slice_index before.early class + amount ≤ slice_index n.limits.hi class → amount ≤ most →
     Pushes n before mid (start_of class true) amount moved →
-    Pushes n before (record { early = slice_set mid.early class (slice_index mid.early class + moved); reached = mid.reached; end = mid.end })
+    Pushes n before (record {
+      early = slice_set mid.early class (slice_index mid.early class + moved);
+      reached = mid.reached;
+      end = mid.end;
+    })
     (finish_of class true) most moved
 moved_early n before mid class most amount moved h network held out room fits p =
     let after : List ℕ = slice_set mid.early class (slice_index mid.early class + moved) in
     let kept : slice_index mid.early class ≡ slice_index before.early class = p.kept.each class h (inr refl) (inl held) in
-    let here : slice_index after class ≡ slice_index mid.early class + moved = set_here mid.early class (slice_index mid.early class + moved) h p.size in
+    let here : slice_index after class ≡ slice_index mid.early class + moved =
+    set_here mid.early class (slice_index mid.early class + moved) h p.size in
     let moves : Moves (slice_index after) (slice_index mid.early) class moved =
     record {
       here = sym here;
       others = λ c k ne. sym (set_other mid.early class (slice_index mid.early class + moved) c ne);
     } in
-    pushed_on n before mid (record { early = after; reached = mid.reached; end = mid.end }) class (finish_of class true) (start_of class true) most amount moved
+    pushed_on n before mid (record { early = after; reached = mid.reached; end = mid.end }) class (finish_of class true)
+    (start_of class true) most amount moved
     (finish_low class) (start_low class h) held out (inl refl) p fits refl refl
-    (set_within n.limits mid.early class (slice_index mid.early class + moved) h p.size (omega (arith, p.within.least class h)) (omega (arith, kept, p.bounded, room)) p.within)
+    (set_within n.limits mid.early class (slice_index mid.early class + moved) h p.size (omega (arith, p.within.least class h))
+    (omega (arith, kept, p.bounded, room)) p.within)
     (length-set mid.early class (slice_index mid.early class + moved) ∙ p.size)
     (λ c k ne. sym (moves.others c k ne))
-    (λ slot l. sym (load_moved n.classes (slice_index after) (slice_index mid.early) class moved slot h l (omega (arith, here, kept, p.bounded, room, network.ordered.counted class h)) moves))
+    (λ slot l. sym (load_moved n.classes (slice_index after) (slice_index mid.early) class moved slot h l
+    (omega (arith, here, kept, p.bounded, room, network.ordered.counted class h)) moves))
     (λ none. set_still mid.early class (slice_index mid.early class + moved) (omega (arith, none)))
 
 -- the loads of a switch from one slot to another
@@ -262,21 +280,21 @@ shifted_is loads from to moved slot h l apart fits =
     let size : to < length mid = omega (arith, length-set loads from (slice_index loads from - moved)) in
     elim (cases_eq slot from) [
       | inl is ↦
-          let here : slice_index (slice_set mid to v) from ≡ slice_index mid from = get_or-set_other mid to from v 0 (λ same. apart (sym same)) in
+          let here : slice_index (slice_set mid to v) from ≡ slice_index mid from =
+          get_or-set_other mid to from v 0 (λ same. apart (sym same)) in
           let one : same_slot from from ≡ 1 = same_slot_same from in
           let none : same_slot to from ≡ 0 = same_slot_other to from apart in
-          subst (λ (t : ℕ). slice_index (slice_set mid to v) t + moved * same_slot from t ≡ slice_index loads t + moved * same_slot to t) (sym is)
-          (rw (one, none) (omega arith))
+          rw is (rw (one, none) (omega arith))
       | inr other ↦ elim (cases_eq slot to) [
         | inl is ↦
             let here : slice_index (slice_set mid to v) to ≡ v = get_or-set_same mid to v 0 size in
             let one : same_slot to to ≡ 1 = same_slot_same to in
             let none : same_slot from to ≡ 0 = same_slot_other from to (λ same. apart (sym same)) in
-            subst (λ (t : ℕ). slice_index (slice_set mid to v) t + moved * same_slot from t ≡ slice_index loads t + moved * same_slot to t) (sym is)
-            (rw (one, none) (omega arith))
+            rw is (rw (one, none) (omega arith))
         | inr else ↦
             let here : slice_index (slice_set mid to v) slot ≡ slice_index mid slot = get_or-set_other mid to slot v 0 else in
-            let there : slice_index mid slot ≡ slice_index loads slot = get_or-set_other loads from slot (slice_index loads from - moved) 0 other in
+            let there : slice_index mid slot ≡ slice_index loads slot =
+            get_or-set_other loads from slot (slice_index loads from - moved) 0 other in
             let none : same_slot from slot ≡ 0 = same_slot_other from slot (λ same. other (sym same)) in
             let nothing : same_slot to slot ≡ 0 = same_slot_other to slot (λ same. else (sym same)) in
             rw (none, nothing) (omega arith)

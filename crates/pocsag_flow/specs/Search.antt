@@ -16,6 +16,11 @@ pub record IsNetworkOf (n : Network) (s : Search) : Type 0 where
   pub size : length s.early ≡ 136
   pub loads : (slot : ℕ) → slot < 16 → slice_index n.loads slot ≡ load n.classes (slice_index s.early) slot
 
+-- Some load may be pushed in the network: what each step of the search asks.
+pub record MayPush (n : Network) (s : Search) (most : ℕ) : Type 0 where
+  pub network : IsNetworkOf n s
+  pub some : 0 < most
+
 -- The choice is within the limits, and these are its loads.
 pub record IsStanding (k : Classes) (l : Limits) (s : Standing) : Type 0 where
   pub within : IsWithin l (slice_index s.early)

@@ -1,6 +1,5 @@
 ghost use Rattle.std.specs.Prelude.{◌≡◌, ◌≢◌, ℕ, ◌+◌, ◌*◌, ◌^◌, ◌<◌, ◌≤◌, IfErr, IfNone, IfOk, IfSome, length, slice_index};
-ghost use Rattle.pocsag_slots.specs.Loads.{AreInOrder, IsAdmitted, IsLeastLoad, IsWithin, load, Overloads};
-ghost use Rattle.pocsag_slots.specs.Sums.{sum_over};
+ghost use Rattle.pocsag_slots.specs.Loads.{AreInOrder, IsAdmitted, IsWithin, Overloads};
 ghost use Rattle.pocsag_tree.specs.Spelling.{IsSet};
 ghost use Rattle.pocsag_flow.specs.Choosing.{IsBelowLeast, overload, set_of};
 ghost use Rattle.pocsag_flow.specs.Search.{IsStanding, same_slot};

@@ -1,7 +1,7 @@
-ghost use Rattle.std.specs.Prelude.{◌≡◌, ◌<◌, ◌≤◌, false, true, slice_index};
+ghost use Rattle.std.specs.Prelude.{◌≡◌, ◌<◌, false, true, slice_index};
 ghost use Rattle.pocsag_slots.specs.Numbering.{finish_of, start_of};
 ghost use Rattle.pocsag_slots.specs.Sums.{holds};
-ghost use Rattle.pocsag_flow.specs.Search.{IsClosed, IsNetworkOf, LeadsInto, Pushes};
+ghost use Rattle.pocsag_flow.specs.Search.{IsClosed, LeadsInto, MayPush, Pushes};
 
 use crate::network::{Network, Search};
 use pocsag_slots::{CLASSES, finish, holds, start, with_member};
@@ -9,10 +9,9 @@ use pocsag_slots::{CLASSES, finish, holds, start, with_member};
 // Moves up to `most` into the slot, which is not reached yet, and on where it has no room.
 #[cycle(push)]
 fn enter(network: &Network, search: &mut Search, slot: u8, most: u32) -> u32
-    requires network { IsNetworkOf network.now search.old }
+    requires may { MayPush network.now search.old most }
     requires slot { slot < 16 }
     requires apart { holds search.old.reached slot ≡ false }
-    requires most { 0 < most }
     ensures pushes { Pushes network.now search.old search.new slot most result }
 {
     search.reached = with_member(search.reached, slot);
@@ -30,10 +29,9 @@ fn enter(network: &Network, search: &mut Search, slot: u8, most: u32) -> u32
 // the first class that leads to one.
 #[cycle(push)]
 pub(crate) fn leave(network: &Network, search: &mut Search, slot: u8, most: u32) -> u32
-    requires network { IsNetworkOf network.now search.old }
+    requires may { MayPush network.now search.old most }
     requires slot { slot < 16 }
     requires reached { holds search.old.reached slot ≡ true }
-    requires most { 0 < most }
     ensures pushes { Pushes network.now search.old search.new slot most result }
     ensures closed { result ≡ 0 → IsClosed network.now.limits (slice_index search.new.early) search.new.reached slot }
 {
@@ -53,9 +51,8 @@ pub(crate) fn leave(network: &Network, search: &mut Search, slot: u8, most: u32)
 // Moves up to `most` out of the slot by the first class that leads straight into a slot with room.
 #[cycle(push)]
 fn leave_straight(network: &Network, search: &mut Search, slot: u8, most: u32) -> u32
-    requires network { IsNetworkOf network.now search.old }
+    requires may { MayPush network.now search.old most }
     requires reached { holds search.old.reached slot ≡ true }
-    requires most { 0 < most }
     ensures pushes { Pushes network.now search.old search.new slot most result }
 {
     for class in 0..CLASSES as u8 {
@@ -69,10 +66,9 @@ fn leave_straight(network: &Network, search: &mut Search, slot: u8, most: u32) -
 
 #[cycle(push)]
 fn switch_straight(network: &Network, search: &mut Search, class: u8, slot: u8, most: u32) -> u32
-    requires network { IsNetworkOf network.now search.old }
+    requires may { MayPush network.now search.old most }
     requires class { class < 136 }
     requires reached { holds search.old.reached slot ≡ true }
-    requires most { 0 < most }
     ensures pushes { Pushes network.now search.old search.new slot most result }
 {
     if leads_to_room(network, class, slot) {
@@ -110,10 +106,9 @@ fn has_room(network: &Network, slot: u8) -> bool
 #[inline(always)]
 #[cycle(push)]
 fn switch(network: &Network, search: &mut Search, class: u8, slot: u8, most: u32) -> u32
-    requires network { IsNetworkOf network.now search.old }
+    requires may { MayPush network.now search.old most }
     requires class { class < 136 }
     requires reached { holds search.old.reached slot ≡ true }
-    requires most { 0 < most }
     ensures pushes { Pushes network.now search.old search.new slot most result }
     ensures leads { result ≡ 0 → LeadsInto network.now.limits (slice_index search.new.early) search.new.reached class slot }
 {
@@ -143,12 +138,11 @@ fn switch(network: &Network, search: &mut Search, class: u8, slot: u8, most: u32
 // Moves up to `most` runs of the class from early to late.
 #[cycle(push)]
 fn to_late(network: &Network, search: &mut Search, class: u8, most: u32) -> u32
-    requires network { IsNetworkOf network.now search.old }
+    requires may { MayPush network.now search.old most }
     requires class { class < 136 }
     requires reached { holds search.old.reached (start_of class true) ≡ true }
     requires apart { holds search.old.reached (finish_of class true) ≡ false }
     requires room { slice_index network.now.limits.lo class < slice_index search.old.early class }
-    requires most { 0 < most }
     ensures pushes { Pushes network.now search.old search.new (start_of class true) most result }
     ensures reached { holds search.new.reached (finish_of class true) ≡ true }
 {
@@ -161,12 +155,11 @@ fn to_late(network: &Network, search: &mut Search, class: u8, most: u32) -> u32
 // Moves up to `most` runs of the class from late to early.
 #[cycle(push)]
 fn to_early(network: &Network, search: &mut Search, class: u8, most: u32) -> u32
-    requires network { IsNetworkOf network.now search.old }
+    requires may { MayPush network.now search.old most }
     requires class { class < 136 }
     requires reached { holds search.old.reached (finish_of class true) ≡ true }
     requires apart { holds search.old.reached (start_of class true) ≡ false }
     requires room { slice_index search.old.early class < slice_index network.now.limits.hi class }
-    requires most { 0 < most }
     ensures pushes { Pushes network.now search.old search.new (finish_of class true) most result }
     ensures reached { holds search.new.reached (start_of class true) ≡ true }
 {

@@ -1,5 +1,5 @@
 -- Sums of counts over the arcs of boundaries and of sets of boundaries.
-use Rattle.std.proofs.Common.{◌≡◌, ℕ, zero, suc, ◌+◌, ◌<◌, ◌≤◌, ◌==◌, Bool, true, false, cond, refl, sym, subst, ◌∙◌, arith, eq-eqb, inl, inr}
+use Rattle.std.proofs.Common.{◌≡◌, ℕ, zero, suc, ◌+◌, ◌<◌, ◌≤◌, ◌==◌, Bool, true, false, cond, refl, sym, ◌∙◌, arith, eq-eqb, inl, inr}
 use Rattle.std.proofs.lemmas.Bool.{cases_eq, ne_eqb}
 use Rattle.pocsag_slots.specs.Sums.{holds, sum_below, sum_over}
 use Rattle.pocsag_slots.proofs.SumLemmas.{sum_below-same, sum_below-le, sum_below-bump, sum_below-zero, term-le-sum_below, sum_over-same, sum_over-add, sum_over-sum_below, chosen_none}
@@ -74,7 +74,7 @@ sum_tight (suc n) f g le tight k l =
     elim (cases_eq k n) [
       | inl same ↦
           let here : g n ≤ f n = omega (arith, le n (omega arith)) in
-          subst (λ (j : ℕ). g j ≤ f j) (sym same) here
+          rw same here
       | inr other ↦ sum_tight n f g (λ j m. le j (omega arith)) (omega (arith, le n (omega arith))) k (omega arith)
     ]
 

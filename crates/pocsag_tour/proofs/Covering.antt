@@ -61,7 +61,8 @@ outs_are k choice b counts are p h =
     let runs : sum_below 136 (starts_at k choice p) ≡ sum_below 136 f + sum_below 136 (λ c. f (136 + c)) =
     sum_below-same 136 (starts_at k choice p) (λ c. f c + f (136 + c)) (λ c l.
     let x : cond (start_of c true == p) (choice c) 0 ≡ cond (arc_from c == p) (counts c) 0 =
-    term_is (choice c) (counts c) (start_of c true == p) (arc_from c == p) (sym (are c (omega arith) ∙ count_early k choice b c l)) (ap (λ (m : ℕ). m == p) (sym (from_early c l))) in
+    term_is (choice c) (counts c) (start_of c true == p) (arc_from c == p) (sym (are c (omega arith) ∙ count_early k choice b c l))
+    (ap (λ (m : ℕ). m == p) (sym (from_early c l))) in
     let y : cond (start_of c false == p) (slice_index k.count c - choice c) 0 ≡ cond (arc_from (136 + c) == p) (counts (136 + c)) 0 =
     term_is (slice_index k.count c - choice c) (counts (136 + c)) (start_of c false == p) (arc_from (136 + c) == p)
     (sym (are (136 + c) (omega arith) ∙ count_late k choice b c l)) (ap (λ (m : ℕ). m == p) (sym (from_late c l))) in
@@ -82,7 +83,8 @@ ins_are k choice b counts are p h =
     let runs : sum_below 136 (ends_at k choice p) ≡ sum_below 136 f + sum_below 136 (λ c. f (136 + c)) =
     sum_below-same 136 (ends_at k choice p) (λ c. f c + f (136 + c)) (λ c l.
     let x : cond (finish_of c true == p) (choice c) 0 ≡ cond (arc_to c == p) (counts c) 0 =
-    term_is (choice c) (counts c) (finish_of c true == p) (arc_to c == p) (sym (are c (omega arith) ∙ count_early k choice b c l)) (ap (λ (m : ℕ). m == p) (sym (to_early c l))) in
+    term_is (choice c) (counts c) (finish_of c true == p) (arc_to c == p) (sym (are c (omega arith) ∙ count_early k choice b c l))
+    (ap (λ (m : ℕ). m == p) (sym (to_early c l))) in
     let y : cond (finish_of c false == p) (slice_index k.count c - choice c) 0 ≡ cond (arc_to (136 + c) == p) (counts (136 + c)) 0 =
     term_is (slice_index k.count c - choice c) (counts (136 + c)) (finish_of c false == p) (arc_to (136 + c) == p)
     (sym (are (136 + c) (omega arith) ∙ count_late k choice b c l)) (ap (λ (m : ℕ). m == p) (sym (to_late c l))) in
@@ -102,4 +104,11 @@ pub balanced_start : (k : Classes) (choice : ℕ → ℕ) (b : ℕ) (counts : �
     ((slot : ℕ) → slot < 16 → load k choice slot ≤ b) → IsBalanced counts 0 0
 balanced_start k choice b counts are within q h =
     let low : before q < 16 = omega arith in
-    omega (arith, outs_are k choice b counts are q h, ins_are k choice b counts are q h, load_edge k choice q h, within q h, within (before q) low)
+    omega (
+      arith,
+      outs_are k choice b counts are q h,
+      ins_are k choice b counts are q h,
+      load_edge k choice q h,
+      within q h,
+      within (before q) low,
+    )

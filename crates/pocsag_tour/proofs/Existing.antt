@@ -1,5 +1,5 @@
 -- That there is a way, without walking it: the floods and the walk over plain numbers.
-use Rattle.std.proofs.Common.{◌≡◌, ◌≢◌, ℕ, zero, suc, ◌+◌, ◌-◌, ◌^◌, ◌<◌, ◌≤◌, ◌==◌, ◌&&◌, nat_lt, Bool, true, false, not, cond, List, [], ◌∷◌, ◌++◌, ◌⊎◌, refl, sym, subst, arith, eq-eqb, inl, inr}
+use Rattle.std.proofs.Common.{◌≡◌, ◌≢◌, ℕ, zero, suc, ◌+◌, ◌-◌, ◌^◌, ◌<◌, ◌≤◌, ◌==◌, ◌&&◌, nat_lt, Bool, true, false, not, cond, List, [], ◌∷◌, ◌++◌, ◌⊎◌, refl, arith, eq-eqb, inl, inr}
 use Rattle.std.proofs.lemmas.Bool.{cases_eq, eqb-true, ne_eqb, not-false, not-true}
 use Rattle.std.proofs.lemmas.Bool.Decides.{nat_tests}
 use Rattle.pocsag_slots.specs.declared.step.Step.{Step}
@@ -23,7 +23,7 @@ seek (suc n) f =
     seek_last n f true is none = inl (n, omega arith, is)
     seek_last n f false is none = inr (λ a h.
         elim (cases_eq a n) [
-          | inl same ↦ subst (λ (i : ℕ). f i ≡ false) (sym same) is
+          | inl same ↦ rw same is
           | inr other ↦ none a (omega arith)
         ])
 
@@ -49,7 +49,8 @@ unfolding enters
 found_entering counts set a h e =
     let x : (nat_lt 0 (counts a) ≡ true) × ((holds set (arc_to a) && not (holds set (arc_from a))) ≡ true) =
     both (nat_lt 0 (counts a)) (holds set (arc_to a) && not (holds set (arc_from a))) e in
-    let y : (holds set (arc_to a) ≡ true) × (not (holds set (arc_from a)) ≡ true) = both (holds set (arc_to a)) (not (holds set (arc_from a))) x.1 in
+    let y : (holds set (arc_to a) ≡ true) × (not (holds set (arc_from a)) ≡ true) =
+    both (holds set (arc_to a)) (not (holds set (arc_from a))) x.1 in
     record { known = h; there = some (counts a) x.0; from = not-true (holds set (arc_from a)) y.1; to = y.0 }
 
 none_entering : (counts : ℕ → ℕ) (set : ℕ) → ((a : ℕ) → a < 288 → enters counts set a ≡ false) → NoneEnters counts set
@@ -104,7 +105,8 @@ parts left exit p a = nat_lt 0 (left a) && ((arc_from a == p) && not (a == exit)
 found_parting : (left : ℕ → ℕ) (exit p a : ℕ) → a < 288 → parts left exit p a ≡ true → IsDeparture left exit p a
 unfolding parts
 found_parting left exit p a h e =
-    let x : (nat_lt 0 (left a) ≡ true) × (((arc_from a == p) && not (a == exit)) ≡ true) = both (nat_lt 0 (left a)) ((arc_from a == p) && not (a == exit)) e in
+    let x : (nat_lt 0 (left a) ≡ true) × (((arc_from a == p) && not (a == exit)) ≡ true) =
+    both (nat_lt 0 (left a)) ((arc_from a == p) && not (a == exit)) e in
     let y : ((arc_from a == p) ≡ true) × (not (a == exit) ≡ true) = both (arc_from a == p) (not (a == exit)) x.1 in
     let apart : (a == exit) ≡ false = not-true (a == exit) y.1 in
     record {
@@ -137,18 +139,29 @@ next left exit p =
     ]
   where
     next_last : (left : ℕ → ℕ) (exit p : ℕ) → ((b : ℕ) → b < 288 → arc_from b ≡ p → b ≢ exit → left b ≡ 0) →
-        (((a : ℕ) × (a < 288) × ((nat_lt 0 (left a) && (arc_from a == p)) ≡ true)) ⊎ ((a : ℕ) → a < 288 → (nat_lt 0 (left a) && (arc_from a == p)) ≡ false)) →
+        (((a : ℕ) × (a < 288) × ((nat_lt 0 (left a) && (arc_from a == p)) ≡ true)) ⊎
+        ((a : ℕ) → a < 288 → (nat_lt 0 (left a) && (arc_from a == p)) ≡ false)) →
         ((a : ℕ) × IsDeparture left exit p a) ⊎ IsSpent left p
     next_last left exit p others (inl found) =
-        let x : (nat_lt 0 (left found.0) ≡ true) × ((arc_from found.0 == p) ≡ true) = both (nat_lt 0 (left found.0)) (arc_from found.0 == p) found.2 in
-        inl (found.0, record { known = found.1; there = some (left found.0) x.0; leaves = eqb-true (arc_from found.0) p x.1; last = λ same. others })
+        let x : (nat_lt 0 (left found.0) ≡ true) × ((arc_from found.0 == p) ≡ true) =
+        both (nat_lt 0 (left found.0)) (arc_from found.0 == p) found.2 in
+        inl (
+          found.0,
+          record {
+            known = found.1;
+            there = some (left found.0) x.0;
+            leaves = eqb-true (arc_from found.0) p x.1;
+            last = λ same. others;
+          },
+        )
     next_last left exit p others (inr none) =
         inr (λ a h from.
         elim (cases_eq (left a) 0) [
           | inl zero_left ↦ zero_left
           | inr have ↦
               absurd
-              (let x : (arc_from a == p) ≡ false = not_both (nat_lt 0 (left a)) (arc_from a == p) (none a h) (some_test (left a) (omega arith)) in
+              (let x : (arc_from a == p) ≡ false = not_both (nat_lt 0 (left a)) (arc_from a == p) (none a h)
+              (some_test (left a) (omega arith)) in
               let y : (arc_from a == p) ≡ true = eq-eqb (arc_from a) p from in
               cc)
         ])
@@ -177,7 +190,8 @@ go_on counts root h all tree (suc fuel) left p ss few w =
       | inr spent ↦ (ss, walk_end counts tree.exits left p root tree.set ss w spent all tree.root_in tree.closed tree.homes)
     ]
 
-pub way_exists : SetsTakeMembers → (counts : ℕ → ℕ) (root : ℕ) → root < 16 → IsBalanced counts 0 root → AllLeadTo counts root → (steps : List Step) × IsWay counts root steps
+pub way_exists : SetsTakeMembers → (counts : ℕ → ℕ) (root : ℕ) → root < 16 → IsBalanced counts 0 root → AllLeadTo counts root →
+    (steps : List Step) × IsWay counts root steps
 way_exists law counts root h balanced all =
     let tree : IsTree counts root = tree_exists law counts root h in
     go_on counts root h all tree (suc (sum_below 288 counts)) counts 0 [] (omega arith) (walk_start counts tree.exits root balanced)

@@ -16,9 +16,9 @@ lone set member q alone held =
 exit_kept : (counts exits more : ℕ → ℕ) (q : ℕ) → more q ≡ exits q → IsExit counts exits q → IsExit counts more q
 exit_kept counts exits more q same e =
     record {
-      known = subst (λ (a : ℕ). a < 288) (sym same) e.known;
-      leaves = subst (λ (a : ℕ). arc_from a ≡ q) (sym same) e.leaves;
-      there = subst (λ (a : ℕ). 0 < counts a) (sym same) e.there;
+      known = rw same e.known;
+      leaves = rw same e.leaves;
+      there = rw same e.there;
     }
 
 pub home_grows : (counts exits more : ℕ → ℕ) (root set grown : ℕ) →
@@ -28,7 +28,7 @@ home_grows counts exits more root set grown kept _ at_root = at_root
 home_grows counts exits more root set grown kept _ (by_exit q held exit rest) =
     let k : (holds grown q ≡ true) × (more q ≡ exits q) = kept q held in
     by_exit q k.0 (exit_kept counts exits more q k.1 exit)
-    (subst (λ (a : ℕ). Home counts more root grown (arc_to a)) (sym k.1) (home_grows counts exits more root set grown kept (arc_to (exits q)) rest))
+    (rw k.1 (home_grows counts exits more root set grown kept (arc_to (exits q)) rest))
 
 pub homes_start : (counts exits : ℕ → ℕ) (root set : ℕ) → ((i : ℕ) → i ≢ root → holds set i ≡ false) → LeadHome counts exits root set
 homes_start counts exits root set alone q h held = subst (Home counts exits root set) (sym (lone set root q alone held)) at_root
@@ -40,7 +40,8 @@ pub homes_more : (counts exits more : ℕ → ℕ) (root set grown a : ℕ) → 
 homes_more counts exits more root set grown a homes enters new same held others q h in_grown =
     let kept : (p : ℕ) → holds set p ≡ true → (holds grown p ≡ true) × (more p ≡ exits p) =
     λ p in_set.
-    let ne : p ≢ arc_from a = λ e. absurd (let x : holds set (arc_from a) ≡ true = subst (λ (i : ℕ). holds set i ≡ true) e in_set in let y : holds set (arc_from a) ≡ false = enters.from in cc) in
+    let ne : p ≢ arc_from a = λ e. absurd (let x : holds set (arc_from a) ≡ true = rw e at in_set in
+    let y : holds set (arc_from a) ≡ false = enters.from in cc) in
     (others p ne ∙ in_set, same p ne) in
     elim (cases_eq q (arc_from a)) [
       | inl here ↦
@@ -49,11 +50,11 @@ homes_more counts exits more root set grown a homes enters new same held others 
           subst (Home counts more root grown) (sym here)
           (by_exit (arc_from a) held
           (record {
-            known = subst (λ (b : ℕ). b < 288) (sym new) enters.known;
-            leaves = subst (λ (b : ℕ). arc_from b ≡ arc_from a) (sym new) refl;
-            there = subst (λ (b : ℕ). 0 < counts b) (sym new) enters.there;
+            known = rw new enters.known;
+            leaves = rw new refl;
+            there = rw new enters.there;
           })
-          (subst (λ (b : ℕ). Home counts more root grown (arc_to b)) (sym new) next))
+          (rw new next))
       | inr other ↦ home_grows counts exits more root set grown kept q (homes q h (sym (others q other) ∙ in_grown))
     ]
 
@@ -62,7 +63,7 @@ pub grown_keeps : (set grown member q : ℕ) → holds grown member ≡ true →
     holds set q ≡ true → holds grown q ≡ true
 grown_keeps set grown member q held others was =
     elim (cases_eq q member) [
-      | inl same ↦ subst (λ (i : ℕ). holds grown i ≡ true) (sym same) held
+      | inl same ↦ rw same held
       | inr other ↦ others q other ∙ was
     ]
 
@@ -71,7 +72,7 @@ pub exits_low : (exits : List ℕ) (at a : ℕ) → ((q : ℕ) → q < 16 → sl
     (q : ℕ) → q < 16 → slice_index (slice_set exits at a) q < 288
 exits_low exits at a known here low q h =
     elim (cases_eq q at) [
-      | inl same ↦ subst (λ (i : ℕ). slice_index (slice_set exits at a) i < 288) (sym same) (rw (get_or-set_same exits at a 0 here) low)
+      | inl same ↦ rw same (rw (get_or-set_same exits at a 0 here) low)
       | inr other ↦ rw (get_or-set_other exits at q a 0 other) (known q h)
     ]
 

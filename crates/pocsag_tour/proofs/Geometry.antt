@@ -19,8 +19,7 @@ from_late c h =
 
 pub from_idle : (s : ℕ) → arc_from (272 + s) ≡ s
 unfolding arc_from
-from_idle s =
-    rw (not_above (272 + s) 136 (omega arith), not_above (272 + s) 272 (omega arith)) (omega arith)
+from_idle s = rw (not_above (272 + s) 136 (omega arith), not_above (272 + s) 272 (omega arith)) (omega arith)
 
 pub to_early : (a : ℕ) → a < 136 → arc_to a ≡ finish_of a true
 unfolding arc_to
@@ -34,8 +33,7 @@ to_late c h =
 
 pub to_idle : (s : ℕ) → arc_to (272 + s) ≡ (s + 1) % 16
 unfolding arc_to
-to_idle s =
-    rw (not_above (272 + s) 136 (omega arith), not_above (272 + s) 272 (omega arith)) (omega arith)
+to_idle s = rw (not_above (272 + s) 136 (omega arith), not_above (272 + s) 272 (omega arith)) (omega arith)
 
 pub step_early : (a : ℕ) → a < 136 → step_of a ≡ Run a true
 unfolding step_of

@@ -1,5 +1,5 @@
 -- Where all runs start where boundary 0 leads, all arcs lead back to it.
-use Rattle.std.proofs.Common.{◌≡◌, ℕ, zero, suc, ◌+◌, ◌-◌, ◌%◌, ◌<◌, ◌≤◌, ◌==◌, Bool, true, false, cond, List, [], ◌∷◌, ◌++◌, refl, sym, ap, subst, ◌∙◌, arith, eq-eqb, inl, inr}
+use Rattle.std.proofs.Common.{◌≡◌, ℕ, zero, suc, ◌+◌, ◌-◌, ◌%◌, ◌<◌, ◌≤◌, ◌==◌, Bool, true, false, cond, List, [], ◌∷◌, ◌++◌, refl, sym, ap, ◌∙◌, arith, eq-eqb, inl, inr}
 use Rattle.std.proofs.lemmas.Bool.{cases_eq, eqb-true, ne_eqb}
 use Rattle.pocsag_slots.specs.declared.step.Step.{Step}
 use Rattle.pocsag_slots.specs.declared.step.Step.TheVariants.{Idle as Stay, Run}
@@ -24,7 +24,8 @@ chosen_some false x h = absurd (omega arith)
 some_out : (counts : ℕ → ℕ) (p : ℕ) → 0 < outs counts p → Leaves counts p
 unfolding outs
 some_out counts p some =
-    let t : (a : ℕ) × (a < 288) × (0 < cond (arc_from a == p) (counts a) 0) = positive_term 288 (λ a. cond (arc_from a == p) (counts a) 0) some in
+    let t : (a : ℕ) × (a < 288) × (0 < cond (arc_from a == p) (counts a) 0) =
+    positive_term 288 (λ a. cond (arc_from a == p) (counts a) 0) some in
     let b : ((arc_from t.0 == p) ≡ true) × (0 < counts t.0) = chosen_some (arc_from t.0 == p) (counts t.0) t.2 in
     record { arc = t.0; known = t.1; there = b.1; from = eqb-true (arc_from t.0) p b.0 }
 
@@ -41,22 +42,21 @@ idle_inside : (counts : ℕ → ℕ) (set : ℕ) → IsBalanced counts 0 0 → h
     (d s : ℕ) → s + d ≡ 15 → 0 < counts (272 + s) → holds set s ≡ true
 idle_inside counts set balanced home none runs zero s e some =
     let last : 0 ≡ arc_to (272 + s) = (let x : arc_to (272 + s) ≡ (s + 1) % 16 = to_idle s in omega arith) in
-    subst (λ (p : ℕ). holds set p ≡ true) (from_idle s)
-    (none (272 + s) (omega arith) some (subst (λ (p : ℕ). holds set p ≡ true) last home))
+    rw (from_idle s) at (none (272 + s) (omega arith) some (rw last at home))
 idle_inside counts set balanced home none runs (suc d) s e some =
     let next : arc_to (272 + s) ≡ s + 1 = (let x : arc_to (272 + s) ≡ (s + 1) % 16 = to_idle s in omega arith) in
-    let in_some : counts (272 + s) ≤ ins counts (s + 1) = subst (λ (p : ℕ). counts (272 + s) ≤ ins counts p) next (in_term counts (272 + s) (omega arith)) in
+    let in_some : counts (272 + s) ≤ ins counts (s + 1) =
+    rw next at (in_term counts (272 + s) (omega arith)) in
     let out : Leaves counts (s + 1) = some_out counts (s + 1) (omega (arith, balanced (s + 1) (omega arith), in_some)) in
     let there : holds set (s + 1) ≡ true =
     by_kind (λ a. 0 < counts a → arc_from a ≡ s + 1 → holds set (s + 1) ≡ true)
-    (λ c h have from. subst (λ (p : ℕ). holds set p ≡ true) from (runs c (omega arith) have))
-    (λ c h have from. subst (λ (p : ℕ). holds set p ≡ true) from (runs (136 + c) (omega arith) have))
+    (λ c h have from. rw from at (runs c (omega arith) have))
+    (λ c h have from. rw from at (runs (136 + c) (omega arith) have))
     (λ t h have from.
     let at : t ≡ s + 1 = sym (from_idle t) ∙ from in
-    idle_inside counts set balanced home none runs d (s + 1) (omega arith) (subst (λ (p : ℕ). 0 < counts (272 + p)) at have))
+    idle_inside counts set balanced home none runs d (s + 1) (omega arith) (rw at at have))
     out.arc out.known out.there out.from in
-    subst (λ (p : ℕ). holds set p ≡ true) (from_idle s)
-    (none (272 + s) (omega arith) some (subst (λ (p : ℕ). holds set p ≡ true) (sym next) there))
+    rw (from_idle s) at (none (272 + s) (omega arith) some (rw next there))
 
 pub arc_inside : (counts : ℕ → ℕ) (set : ℕ) → IsBalanced counts 0 0 → holds set 0 ≡ true → NoneEnters counts set → RunsStart counts set →
     (a : ℕ) → a < 288 → 0 < counts a → holds set (arc_from a) ≡ true
@@ -64,7 +64,7 @@ arc_inside counts set balanced home none runs =
     by_kind (λ a. 0 < counts a → holds set (arc_from a) ≡ true)
     (λ c h some. runs c (omega arith) some)
     (λ c h some. runs (136 + c) (omega arith) some)
-    (λ s h some. subst (λ (p : ℕ). holds set p ≡ true) (sym (from_idle s)) (idle_inside counts set balanced home none runs (15 - s) s (omega arith) some))
+    (λ s h some. rw (from_idle s) (idle_inside counts set balanced home none runs (15 - s) s (omega arith) some))
 
 visited_in : (counts : ℕ → ℕ) (set : ℕ) → holds set 0 ≡ true → NoneLeaves counts set → (p : ℕ) → Visited counts p → holds set p ≡ true
 visited_in counts set home none _ at_start = home
@@ -78,10 +78,13 @@ joined_open counts set balanced home closed visited runs other held none a h som
     visited_in counts other held (balance_leaves counts other balanced none) (arc_from a) (visited (arc_from a) (from_below a h) inside)
 
 -- without the arc that is to be the last
-pub balanced_without : (counts less : ℕ → ℕ) (a : ℕ) → IsBalanced counts 0 0 → IsClosing counts a → IsLess a counts less → IsBalanced less 0 15
+pub balanced_without : (counts less : ℕ → ℕ) (a : ℕ) → IsBalanced counts 0 0 → IsClosing counts a → IsLess a counts less →
+    IsBalanced less 0 15
 balanced_without counts less a balanced z l q h =
-    let o : outs counts q ≡ outs less q + cond (15 == q) 1 0 = subst (λ (p : ℕ). outs counts q ≡ outs less q + cond (p == q) 1 0) z.from (outs_less a counts less z.known l q) in
-    let i : ins counts q ≡ ins less q + cond (0 == q) 1 0 = subst (λ (p : ℕ). ins counts q ≡ ins less q + cond (p == q) 1 0) z.to (ins_less a counts less z.known l q) in
+    let o : outs counts q ≡ outs less q + cond (15 == q) 1 0 =
+    rw z.from at (outs_less a counts less z.known l q) in
+    let i : ins counts q ≡ ins less q + cond (0 == q) 1 0 =
+    rw z.to at (ins_less a counts less z.known l q) in
     omega (arith, balanced q h, flipped q 15, flipped q 0)
 
 holds_if : (b : Bool) → ◌≡◌ {A = ℕ} (cond b 1 0) 1 → b ≡ true
@@ -96,7 +99,8 @@ cond_few : (b : Bool) → cond b 1 0 ≤ 1
 cond_few true = omega arith
 cond_few false = omega arith
 
-pub joined_closed : (counts less : ℕ → ℕ) (a : ℕ) → IsBalanced counts 0 0 → AllLeadTo counts 0 → IsClosing counts a → IsLess a counts less → AllLeadTo less 15
+pub joined_closed : (counts less : ℕ → ℕ) (a : ℕ) → IsBalanced counts 0 0 → AllLeadTo counts 0 → IsClosing counts a →
+    IsLess a counts less → AllLeadTo less 15
 joined_closed counts less a balanced all z l set held none b h some =
     let sums : outs_over less set + cond (holds set 15) 1 0 ≡ ins_over less set + cond (holds set 0) 1 0 =
     set_balance less 0 15 set (omega arith) (omega arith) (balanced_without counts less a balanced z l) in
@@ -105,8 +109,8 @@ joined_closed counts less a balanced all z l set held none b h some =
     all set home
     (λ d m have to.
     elim (cases_eq d a) [
-      | inl same ↦ subst (λ (p : ℕ). holds set p ≡ true) (sym (ap arc_from same ∙ z.from)) held
-      | inr other ↦ none d m (subst (λ (n : ℕ). 0 < n) (sym (l.other d other)) have) to
+      | inl same ↦ rw (ap arc_from same ∙ z.from) held
+      | inr other ↦ none d m (rw (l.other d other) have) to
     ])
     b h (let le : less b ≤ counts b = less_le a counts less l b in omega arith)
 
@@ -124,7 +128,7 @@ closed_takes counts less a ss h l leads takes b m =
     elim (cases_eq b a) [
       | inl same ↦
           let one : ◌≡◌ {A = ℕ} (cond (b == a) 1 0) 1 = if_holds (b == a) (eq-eqb b a same) in
-          let here : counts b ≡ less b + 1 = subst (λ (n : ℕ). counts n ≡ less n + 1) (sym same) l.here in
+          let here : counts b ≡ less b + 1 = rw same l.here in
           omega (arith, takes b m)
       | inr other ↦
           let none : ◌≡◌ {A = ℕ} (cond (b == a) 1 0) 0 = (let t : (b == a) ≡ false = ne_eqb b a other in rw t refl) in
@@ -134,9 +138,9 @@ closed_takes counts less a ss h l leads takes b m =
 pub closed_way : (counts less : ℕ → ℕ) (a : ℕ) (ss : List Step) → IsClosing counts a → IsLess a counts less → IsWay less 15 ss →
     IsWay counts 0 (ss ++ (step_of a ∷ [])) × LastIsWhole (ss ++ (step_of a ∷ []))
 closed_way counts less a ss z l w =
-    let leads : Leads 0 ss (arc_from a) = subst (λ (p : ℕ). Leads 0 ss p) (sym z.from) w.leads in (
+    let leads : Leads 0 ss (arc_from a) = rw z.from w.leads in (
       record {
-        leads = subst (λ (p : ℕ). Leads 0 (ss ++ (step_of a ∷ [])) p) z.to (leads_push 0 (arc_from a) (arc_to a) ss (step_of a) leads (leads_over a z.known));
+        leads = rw z.to at (leads_push 0 (arc_from a) (arc_to a) ss (step_of a) leads (leads_over a z.known));
         takes = λ b h. closed_takes counts less a ss z.known l leads w.takes b h;
         no_other = none_push a ss z.known w.no_other;
       },

@@ -23,7 +23,7 @@ either_bit a b h l e =
 holds_either : (a b i : ℕ) → holds (bit_or a b) i ≡ true → (holds a i ≡ true) ⊎ (holds b i ≡ true)
 unfolding holds
 holds_either a b i held =
-    either_bit (bit_at a i) (bit_at b i) (bit_at-lt a i) (bit_at-lt b i) (subst (λ (n : ℕ). (n == 1) ≡ true) (bit_at_or a b i) held)
+    either_bit (bit_at a i) (bit_at b i) (bit_at-lt a i) (bit_at-lt b i) (rw (bit_at_or a b i) at held)
 
 left_bit : (a b : ℕ) → b < 2 → (a == 1) ≡ true → (max a b == 1) ≡ true
 left_bit a b h e = grind (arith, nat_tests)
@@ -33,13 +33,11 @@ right_bit a b h e = grind (arith, nat_tests)
 
 holds_left : (a b i : ℕ) → holds a i ≡ true → holds (bit_or a b) i ≡ true
 unfolding holds
-holds_left a b i held =
-    subst (λ (n : ℕ). (n == 1) ≡ true) (sym (bit_at_or a b i)) (left_bit (bit_at a i) (bit_at b i) (bit_at-lt b i) held)
+holds_left a b i held = rw (bit_at_or a b i) (left_bit (bit_at a i) (bit_at b i) (bit_at-lt b i) held)
 
 holds_right : (a b i : ℕ) → holds b i ≡ true → holds (bit_or a b) i ≡ true
 unfolding holds
-holds_right a b i held =
-    subst (λ (n : ℕ). (n == 1) ≡ true) (sym (bit_at_or a b i)) (right_bit (bit_at a i) (bit_at b i) (bit_at-lt a i) held)
+holds_right a b i held = rw (bit_at_or a b i) (right_bit (bit_at a i) (bit_at b i) (bit_at-lt a i) held)
 
 pub holds_nothing : (i : ℕ) → holds 0 i ≡ false
 unfolding holds
@@ -47,8 +45,7 @@ holds_nothing i = ap (λ (n : ℕ). n == 1) (bit_at-zero i)
 
 pub link_at : (there : Bool) (links more : ℕ → ℕ) (from to p q : ℕ) → from ≡ p → to ≡ q → AddsLink there links more from to →
     AddsLink there links more p q
-link_at there links more from to p q at end adds =
-    subst (λ (a : ℕ). AddsLink there links more a q) at (subst (λ (b : ℕ). AddsLink there links more from b) end adds)
+link_at there links more from to p q at end adds = rw at at (rw end at adds)
 
 -- the links of the classes so far
 pub record AreLinks (k : Classes) (choice : ℕ → ℕ) (batches : ℕ) (links : List ℕ) (n : ℕ) : Type 0 where
@@ -62,9 +59,7 @@ linked_more k choice batches links more n c e is h linked adds p q l held =
     elim (adds.only p q l held) [
       | inl was ↦ linked p q l was
       | inr new ↦
-          subst (λ (a : ℕ). IsLinked k choice batches a q) (sym new.1)
-          (subst (λ (b : ℕ). IsLinked k choice batches (start_of c e) b) (sym new.2)
-          (by_run c e h (subst (λ (m : ℕ). 0 < m) is (ltb-true 0 n new.0))))
+          rw new.1 (rw new.2 (by_run c e h (rw is at (ltb-true 0 n new.0))))
     ]
 
 pub runs_more : (k : Classes) (choice : ℕ → ℕ) (batches : ℕ) (links one two : List ℕ) (c early late : ℕ) →
@@ -79,10 +74,12 @@ runs_more k choice batches links one two c early late h is_early is_late long fi
       (linked_more k choice batches (slice_index links) (slice_index one) early c true is_early h so_far.linked first) second;
   runs = λ d e low some.
       elim (cases_eq d c) [
-        | inl same ↦ subst (λ (b : ℕ). 0 < runs_of k choice b e → holds (slice_index two (start_of b e)) (finish_of b e) ≡ true) (sym same) (own e) some
+        | inl same ↦ subst (λ (b : ℕ). 0 < runs_of k choice b e → holds (slice_index two (start_of b e)) (finish_of b e) ≡ true)
+            (sym same) (own e) some
         | inr other ↦
             let there : start_of d e < 16 = start_below d e (omega arith) in
-            second.kept (start_of d e) (finish_of d e) there (first.kept (start_of d e) (finish_of d e) there (so_far.runs d e (omega arith) some))
+            second.kept (start_of d e) (finish_of d e) there
+            (first.kept (start_of d e) (finish_of d e) there (so_far.runs d e (omega arith) some))
       ];
 }
   where
@@ -93,7 +90,8 @@ runs_more k choice batches links one two c early late h is_early is_late long fi
     own false some = second.held (lt-ltb 0 late (subst (λ (m : ℕ). 0 < m) (sym is_late) some))
 
 -- a class without pages has no runs
-no_runs : (k : Classes) (choice : ℕ → ℕ) (c : ℕ) (early : Bool) → slice_index k.count c ≡ 0 → choice c ≤ slice_index k.count c → runs_of k choice c early ≡ 0
+no_runs : (k : Classes) (choice : ℕ → ℕ) (c : ℕ) (early : Bool) → slice_index k.count c ≡ 0 → choice c ≤ slice_index k.count c →
+    runs_of k choice c early ≡ 0
 unfolding runs_of
 no_runs k choice c true none few = omega arith
 no_runs k choice c false none few = omega arith
@@ -102,15 +100,18 @@ pub runs_none : (k : Classes) (choice : ℕ → ℕ) (links : ℕ → ℕ) (c : 
     HaveRuns k choice links c → HaveRuns k choice links (c + 1)
 runs_none k choice links c none few so_far d e low some =
     elim (cases_eq d c) [
-      | inl same ↦ absurd (let here : 0 < runs_of k choice c e = subst (λ (b : ℕ). 0 < runs_of k choice b e) same some in omega (arith, no_runs k choice c e none few))
+      | inl same ↦ absurd (let here : 0 < runs_of k choice c e = rw same at some in
+          omega (arith, no_runs k choice c e none few))
       | inr other ↦ so_far d e (omega arith) some
     ]
 
-pub no_links : (k : Classes) (choice : ℕ → ℕ) (batches : ℕ) (links : List ℕ) → length links ≡ 16 → ((p : ℕ) → p < 16 → slice_index links p ≡ 0) →
+pub no_links : (k : Classes) (choice : ℕ → ℕ) (batches : ℕ) (links : List ℕ) → length links ≡ 16 →
+    ((p : ℕ) → p < 16 → slice_index links p ≡ 0) →
     AreLinks k choice batches links 0
 no_links k choice batches links long none = record {
   long = long;
-  linked = λ p q h held. absurd (let out : holds (slice_index links p) q ≡ false = ap (λ (s : ℕ). holds s q) (none p h) ∙ holds_nothing q in cc);
+  linked = λ p q h held. absurd (let out : holds (slice_index links p) q ≡ false = ap (λ (s : ℕ). holds s q) (none p h)
+      ∙ holds_nothing q in cc);
   runs = λ c e h. absurd (omega arith);
 }
 
@@ -160,7 +161,7 @@ grown_link links set grown p h held g = record {
   kept = λ q was. holds_left grown (links p) q (g.kept q was);
   linked = λ b q l was to.
       elim (cases_eq b p) [
-        | inl same ↦ holds_right grown (links p) q (subst (λ (i : ℕ). holds (links i) q ≡ true) same to)
+        | inl same ↦ holds_right grown (links p) q (rw same at to)
         | inr other ↦ holds_left grown (links p) q (g.linked b q (omega arith) was to)
       ];
   led = λ all q now.
@@ -175,7 +176,7 @@ grown_pass links set grown p out g = record {
   kept = g.kept;
   linked = λ b q l was to.
       elim (cases_eq b p) [
-        | inl same ↦ absurd (let here : holds grown p ≡ true = subst (λ (i : ℕ). holds grown i ≡ true) same (g.kept b was) in cc)
+        | inl same ↦ absurd (let here : holds grown p ≡ true = rw same at (g.kept b was) in cc)
         | inr other ↦ g.linked b q (omega arith) was to
       ];
   led = g.led;
@@ -185,7 +186,8 @@ pub follows_all : (links : ℕ → ℕ) (set grown n : ℕ) → 16 ≤ n → IsG
 follows_all links set grown n all g = record { kept = g.kept; linked = λ p q l was to. g.linked p q (omega arith) was to; led = g.led }
 
 -- what is led to from boundary 0 is what is reached
-led_reached : (k : Classes) (choice : ℕ → ℕ) (batches : ℕ) (links : ℕ → ℕ) → AreLinked k choice batches links → (q : ℕ) → IsLed links q → IsReached k choice batches q
+led_reached : (k : Classes) (choice : ℕ → ℕ) (batches : ℕ) (links : ℕ → ℕ) → AreLinked k choice batches links → (q : ℕ) → IsLed links q →
+    IsReached k choice batches q
 led_reached k choice batches links linked _ at_start = start
 led_reached k choice batches links linked _ (by_link p q h held rest) =
     reached_on p q (linked p q h held) (led_reached k choice batches links linked p rest)
@@ -194,18 +196,22 @@ led_reached k choice batches links linked _ (by_link p q h held rest) =
     reached_on _ _ (by_idle s h some) r = on_idle s h some r
     reached_on _ _ (by_run c e h some) r = on_run c e h some r
 
-reached_led : (k : Classes) (choice : ℕ → ℕ) (batches : ℕ) (links : ℕ → ℕ) (set : ℕ) → HaveRuns k choice links 136 → HaveIdles k choice batches links 16 →
+reached_led : (k : Classes) (choice : ℕ → ℕ) (batches : ℕ) (links : ℕ → ℕ) (set : ℕ) → HaveRuns k choice links 136 →
+    HaveIdles k choice batches links 16 →
     holds set 0 ≡ true → ((p q : ℕ) → p < 16 → holds set p ≡ true → holds (links p) q ≡ true → holds set q ≡ true) →
     (p : ℕ) → IsReached k choice batches p → holds set p ≡ true
 reached_led k choice batches links set runs idles home closed _ start = home
 reached_led k choice batches links set runs idles home closed _ (on_idle s h some rest) =
     closed s ((s + 1) % 16) h (reached_led k choice batches links set runs idles home closed s rest) (idles s h some)
 reached_led k choice batches links set runs idles home closed _ (on_run c e h some rest) =
-    closed (start_of c e) (finish_of c e) (start_below c e h) (reached_led k choice batches links set runs idles home closed (start_of c e) rest) (runs c e h some)
+    closed (start_of c e) (finish_of c e) (start_below c e h)
+    (reached_led k choice batches links set runs idles home closed (start_of c e) rest) (runs c e h some)
 
 pub all_reached : (k : Classes) (choice : ℕ → ℕ) (batches : ℕ) (links : ℕ → ℕ) (set : ℕ) → AreLinked k choice batches links →
     HaveRuns k choice links 136 → HaveIdles k choice batches links 16 → holds set 0 ≡ true →
     ((p q : ℕ) → p < 16 → holds set p ≡ true → holds (links p) q ≡ true → holds set q ≡ true) →
     ((q : ℕ) → holds set q ≡ true → IsLed links q) → AreReached k choice batches set
-all_reached k choice batches links set linked runs idles home closed led p h =
-    ((λ held. led_reached k choice batches links linked p (led p held)), (λ r. reached_led k choice batches links set runs idles home closed p r))
+all_reached k choice batches links set linked runs idles home closed led p h = (
+  (λ held. led_reached k choice batches links linked p (led p held)),
+  (λ r. reached_led k choice batches links set runs idles home closed p r),
+)

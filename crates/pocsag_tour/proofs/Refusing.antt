@@ -1,5 +1,5 @@
 -- What is refused has no tour.
-use Rattle.std.proofs.Common.{◌≡◌, ℕ, ◌+◌, ◌%◌, ◌<◌, ◌≤◌, ◌==◌, ◌&&◌, ◌⊎◌, nat_lt, Bool, true, false, not, cond, List, [], ◌∷◌, refl, sym, subst, ◌∙◌, arith, eq-eqb, inl, inr}
+use Rattle.std.proofs.Common.{◌≡◌, ℕ, ◌+◌, ◌%◌, ◌<◌, ◌≤◌, ◌==◌, ◌&&◌, ◌⊎◌, nat_lt, Bool, true, false, not, cond, List, [], ◌∷◌, refl, subst, ◌∙◌, arith, eq-eqb, inl, inr}
 use Rattle.std.proofs.lemmas.Bool.{eqb-true}
 use Rattle.std.proofs.lemmas.Bool.Decides.{nat_tests}
 use Rattle.pocsag_words.specs.declared.ending.End.{End}
@@ -101,18 +101,22 @@ low_test : (d n : ℕ) (b : Bool) → nat_lt d 136 ≡ b → 0 < n → (136 ≤ 
 low_test d n true t some none = is_less d t
 low_test d n false t some none = absurd (let z : n ≡ 0 = none (is_more d t) in omega arith)
 
-known_runs : (k : Classes) (choice : ℕ → ℕ) (b : ℕ) (end : End) (ss : List Step) → IsTour k end choice b ss → (d : ℕ) (f : Bool) → 0 < runs d f ss →
-    (d < 136) × (0 < runs_of k choice d f)
+known_runs : (k : Classes) (choice : ℕ → ℕ) (b : ℕ) (end : End) (ss : List Step) → IsTour k end choice b ss → (d : ℕ) (f : Bool) →
+    0 < runs d f ss → (d < 136) × (0 < runs_of k choice d f)
 known_runs k choice b end ss t d f some =
     let low : d < 136 = low_test d (runs d f ss) (nat_lt d 136) refl some (t.no_other d f) in
-    (low, subst (λ (n : ℕ). 0 < n) (runs_are k choice b end ss t d f low) some)
+    (low, rw (runs_are k choice b end ss t d f low) at some)
 
-pub never_apart : (k : Classes) (end : End) (choice : ℕ → ℕ) (b set : ℕ) (ss : List Step) → IsApart k choice b set → IsTour k end choice b ss → ⊥
+pub never_apart : (k : Classes) (end : End) (choice : ℕ → ℕ) (b set : ℕ) (ss : List Step) → IsApart k choice b set →
+    IsTour k end choice b ss → ⊥
 never_apart k end choice b set ss a t =
     let o = a.outside in
-    let there : 0 < runs o.class o.early ss = subst (λ (n : ℕ). 0 < n) (sym (runs_are k choice b end ss t o.class o.early o.run.known)) o.run.there in
+    let there : 0 < runs o.class o.early ss =
+    rw (runs_are k choice b end ss t o.class o.early o.run.known) o.run.there in
     let reached : IsReached k choice b (start_of o.class o.early) =
-    all_reached k choice b o.class o.early 0 ss (known_runs k choice b end ss t) (λ s h some. omega (arith, t.idle s h, some)) (omega arith) at_start t.leads there in
-    let inside : holds set (start_of o.class o.early) ≡ true = (a.exact (start_of o.class o.early) (start_below o.class o.early o.run.known)).1 reached in
+    all_reached k choice b o.class o.early 0 ss (known_runs k choice b end ss t) (λ s h some. omega (arith, t.idle s h, some))
+    (omega arith) at_start t.leads there in
+    let inside : holds set (start_of o.class o.early) ≡ true =
+    (a.exact (start_of o.class o.early) (start_below o.class o.early o.run.known)).1 reached in
     let apart : holds set (start_of o.class o.early) ≡ false = o.run.starts in
     absurd (cc)

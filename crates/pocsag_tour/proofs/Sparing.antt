@@ -1,5 +1,5 @@
 -- With an idle in each slot all arcs lead to one another, and there is a tour for either end.
-use Rattle.std.proofs.Common.{◌≡◌, ℕ, zero, suc, ◌+◌, ◌-◌, ◌%◌, ◌<◌, ◌≤◌, true, List, refl, subst, arith}
+use Rattle.std.proofs.Common.{◌≡◌, ℕ, zero, suc, ◌+◌, ◌-◌, ◌%◌, ◌<◌, ◌≤◌, true, List, refl, arith}
 use Rattle.pocsag_words.specs.declared.ending.End.{End}
 use Rattle.pocsag_words.specs.declared.ending.End.TheVariants.{Open, Closed}
 use Rattle.pocsag_slots.specs.declared.class.Classes.{Classes}
@@ -19,16 +19,15 @@ abbrev HasIdles : (ℕ → ℕ) → Type 0
 HasIdles counts = (s : ℕ) → s < 16 → 0 < counts (272 + s)
 
 -- the idles lead from each boundary to boundary 0
-idles_lead : (counts : ℕ → ℕ) (set : ℕ) → HasIdles counts → holds set 0 ≡ true → NoneEnters counts set → (d s : ℕ) → s + d ≡ 15 → holds set s ≡ true
+idles_lead : (counts : ℕ → ℕ) (set : ℕ) → HasIdles counts → holds set 0 ≡ true → NoneEnters counts set → (d s : ℕ) → s + d ≡ 15 →
+    holds set s ≡ true
 idles_lead counts set idle home none zero s e =
     let last : 0 ≡ arc_to (272 + s) = (let x : arc_to (272 + s) ≡ (s + 1) % 16 = to_idle s in omega arith) in
-    subst (λ (p : ℕ). holds set p ≡ true) (from_idle s)
-    (none (272 + s) (omega arith) (idle s (omega arith)) (subst (λ (p : ℕ). holds set p ≡ true) last home))
+    rw (from_idle s) at (none (272 + s) (omega arith) (idle s (omega arith)) (rw last at home))
 idles_lead counts set idle home none (suc d) s e =
     let next : s + 1 ≡ arc_to (272 + s) = (let x : arc_to (272 + s) ≡ (s + 1) % 16 = to_idle s in omega arith) in
     let there : holds set (s + 1) ≡ true = idles_lead counts set idle home none d (s + 1) (omega arith) in
-    subst (λ (p : ℕ). holds set p ≡ true) (from_idle s)
-    (none (272 + s) (omega arith) (idle s (omega arith)) (subst (λ (p : ℕ). holds set p ≡ true) next there))
+    rw (from_idle s) at (none (272 + s) (omega arith) (idle s (omega arith)) (rw next at there))
 
 all_lead : (counts : ℕ → ℕ) → HasIdles counts → AllLeadTo counts 0
 all_lead counts idle set home none a h some =

@@ -18,14 +18,22 @@ use Rattle.pocsag_tour.proofs.Geometry.{by_kind, from_below, from_early, from_id
 use Rattle.pocsag_tour.proofs.Joining.{balance_enters}
 use Rattle.pocsag_tour.proofs.Walks.{taken_early, taken_idle, taken_late}
 
-pub tour_of : (k : Classes) (end : End) (choice : ℕ → ℕ) (b : ℕ) (counts : ℕ → ℕ) (ss : List Step) → AreCounts k choice b counts → IsChoice k choice →
+pub tour_of : (k : Classes) (end : End) (choice : ℕ → ℕ) (b : ℕ) (counts : ℕ → ℕ) (ss : List Step) → AreCounts k choice b counts →
+    IsChoice k choice →
     ((slot : ℕ) → slot < 16 → load k choice slot ≤ b) → IsWay counts 0 ss → LastAs end ss → IsTour k end choice b ss
 tour_of k end choice b counts ss are chosen within w last =
     record {
       leads = w.leads;
       early = λ c h. sym (taken_early c ss h) ∙ (w.takes c (omega arith) ∙ (are c (omega arith) ∙ count_early k choice b c h));
       late = λ c h.
-          omega (arith, taken_late c ss h, w.takes (136 + c) (omega arith), are (136 + c) (omega arith), count_late k choice b c h, chosen c h);
+          omega (
+            arith,
+            taken_late c ss h,
+            w.takes (136 + c) (omega arith),
+            are (136 + c) (omega arith),
+            count_late k choice b c h,
+            chosen c h,
+          );
       no_other = w.no_other;
       idle = λ s h.
           omega (arith, taken_idle s ss, w.takes (272 + s) (omega arith), are (272 + s) (omega arith), count_idle k choice b s, within s h);
@@ -73,30 +81,26 @@ some_idle k choice b counts are s h = are (272 + s) (omega arith) ∙ count_idle
 run_stays : (k : Classes) (choice : ℕ → ℕ) (b : ℕ) (counts : ℕ → ℕ) (set : ℕ) → AreCounts k choice b counts → NoneLeaves counts set →
     (c : ℕ) (e : Bool) → c < 136 → 0 < runs_of k choice c e → holds set (start_of c e) ≡ true → holds set (finish_of c e) ≡ true
 run_stays k choice b counts set are none c e h some held =
-    subst (λ (p : ℕ). holds set p ≡ true) (arc_finishes c e h)
-    (none (arc_of c e) (arc_known c e h) (subst (λ (n : ℕ). 0 < n) (sym (arc_counts k choice b counts are c e h)) some)
-    (subst (λ (p : ℕ). holds set p ≡ true) (sym (arc_starts c e h)) held))
+    rw (arc_finishes c e h) at (none (arc_of c e) (arc_known c e h) (rw (arc_counts k choice b counts are c e h) some)
+    (rw (arc_starts c e h) held))
 
 run_from : (k : Classes) (choice : ℕ → ℕ) (b : ℕ) (counts : ℕ → ℕ) (set : ℕ) → AreCounts k choice b counts → NoneEnters counts set →
     (c : ℕ) (e : Bool) → c < 136 → 0 < runs_of k choice c e → holds set (finish_of c e) ≡ true → holds set (start_of c e) ≡ true
 run_from k choice b counts set are none c e h some held =
-    subst (λ (p : ℕ). holds set p ≡ true) (arc_starts c e h)
-    (none (arc_of c e) (arc_known c e h) (subst (λ (n : ℕ). 0 < n) (sym (arc_counts k choice b counts are c e h)) some)
-    (subst (λ (p : ℕ). holds set p ≡ true) (sym (arc_finishes c e h)) held))
+    rw (arc_starts c e h) at (none (arc_of c e) (arc_known c e h) (rw (arc_counts k choice b counts are c e h) some)
+    (rw (arc_finishes c e h) held))
 
 idle_stays : (k : Classes) (choice : ℕ → ℕ) (b : ℕ) (counts : ℕ → ℕ) (set : ℕ) → AreCounts k choice b counts → NoneLeaves counts set →
     (s : ℕ) → s < 16 → load k choice s < b → holds set s ≡ true → holds set ((s + 1) % 16) ≡ true
 idle_stays k choice b counts set are none s h some held =
     let there : 0 < counts (272 + s) = omega (arith, some_idle k choice b counts are s h) in
-    subst (λ (p : ℕ). holds set p ≡ true) (to_idle s)
-    (none (272 + s) (omega arith) there (subst (λ (p : ℕ). holds set p ≡ true) (sym (from_idle s)) held))
+    rw (to_idle s) at (none (272 + s) (omega arith) there (rw (from_idle s) held))
 
 idle_from : (k : Classes) (choice : ℕ → ℕ) (b : ℕ) (counts : ℕ → ℕ) (set : ℕ) → AreCounts k choice b counts → NoneEnters counts set →
     (s : ℕ) → s < 16 → load k choice s < b → holds set ((s + 1) % 16) ≡ true → holds set s ≡ true
 idle_from k choice b counts set are none s h some held =
     let there : 0 < counts (272 + s) = omega (arith, some_idle k choice b counts are s h) in
-    subst (λ (p : ℕ). holds set p ≡ true) (from_idle s)
-    (none (272 + s) (omega arith) there (subst (λ (p : ℕ). holds set p ≡ true) (sym (to_idle s)) held))
+    rw (from_idle s) at (none (272 + s) (omega arith) there (rw (to_idle s) held))
 
 -- an arc leads on to what is reached
 reached_by : (k : Classes) (choice : ℕ → ℕ) (b : ℕ) (counts : ℕ → ℕ) → AreCounts k choice b counts →
@@ -104,9 +108,11 @@ reached_by : (k : Classes) (choice : ℕ → ℕ) (b : ℕ) (counts : ℕ → �
 reached_by k choice b counts are =
     by_kind (λ a. 0 < counts a → IsReached k choice b (arc_from a) → IsReached k choice b (arc_to a))
     (λ c h some r. subst (IsReached k choice b) (sym (to_early c h))
-    (by_run c true h (subst (λ (n : ℕ). 0 < n) (are c (omega arith) ∙ early_runs k choice b c h) some) (subst (IsReached k choice b) (from_early c h) r)))
+    (by_run c true h (rw (are c (omega arith) ∙ early_runs k choice b c h) at some)
+    (subst (IsReached k choice b) (from_early c h) r)))
     (λ c h some r. subst (IsReached k choice b) (sym (to_late c h))
-    (by_run c false h (subst (λ (n : ℕ). 0 < n) (are (136 + c) (omega arith) ∙ late_runs k choice b c h) some) (subst (IsReached k choice b) (from_late c h) r)))
+    (by_run c false h (rw (are (136 + c) (omega arith) ∙ late_runs k choice b c h) at some)
+    (subst (IsReached k choice b) (from_late c h) r)))
     (λ s h some r. subst (IsReached k choice b) (sym (to_idle s))
     (by_idle s h (omega (arith, some_idle k choice b counts are s h)) (subst (IsReached k choice b) (from_idle s) r)))
 
@@ -148,12 +154,17 @@ lies_outside : (k : Classes) (choice : ℕ → ℕ) (b : ℕ) (counts : ℕ → 
     (a : ℕ) → a < 288 → a < 272 → 0 < counts a → holds set (arc_from a) ≡ false → LiesOutside k choice set
 lies_outside k choice b counts set are none =
     by_kind (λ a. a < 272 → 0 < counts a → holds set (arc_from a) ≡ false → LiesOutside k choice set)
-    (λ c h low some out. outside_of k choice b counts set are none c true h (subst (λ (n : ℕ). 0 < n) (are c (omega arith) ∙ early_runs k choice b c h) some) (subst (λ (p : ℕ). holds set p ≡ false) (from_early c h) out))
-    (λ c h low some out. outside_of k choice b counts set are none c false h (subst (λ (n : ℕ). 0 < n) (are (136 + c) (omega arith) ∙ late_runs k choice b c h) some) (subst (λ (p : ℕ). holds set p ≡ false) (from_late c h) out))
+    (λ c h low some out. outside_of k choice b counts set are none c true h
+    (rw (are c (omega arith) ∙ early_runs k choice b c h) at some)
+    (rw (from_early c h) at out))
+    (λ c h low some out. outside_of k choice b counts set are none c false h
+    (rw (are (136 + c) (omega arith) ∙ late_runs k choice b c h) at some)
+    (rw (from_late c h) at out))
     (λ s h low some out. absurd (omega arith))
 
 -- what is reached is visited over arcs by number
-reached_visited : (k : Classes) (choice : ℕ → ℕ) (b : ℕ) (counts : ℕ → ℕ) → AreCounts k choice b counts → (p : ℕ) → IsReached k choice b p → Visited counts p
+reached_visited : (k : Classes) (choice : ℕ → ℕ) (b : ℕ) (counts : ℕ → ℕ) → AreCounts k choice b counts → (p : ℕ) →
+    IsReached k choice b p → Visited counts p
 reached_visited k choice b counts are _ at_start = visited_start
 reached_visited k choice b counts are _ (by_idle s h some rest) =
     let there : 0 < counts (272 + s) = omega (arith, some_idle k choice b counts are s h) in
@@ -161,19 +172,19 @@ reached_visited k choice b counts are _ (by_idle s h some rest) =
     (by_arc (272 + s) (omega arith) there (subst (Visited counts) (sym (from_idle s)) (reached_visited k choice b counts are s rest)))
 reached_visited k choice b counts are _ (by_run c e h some rest) =
     subst (Visited counts) (arc_finishes c e h)
-    (by_arc (arc_of c e) (arc_known c e h) (subst (λ (n : ℕ). 0 < n) (sym (arc_counts k choice b counts are c e h)) some)
+    (by_arc (arc_of c e) (arc_known c e h) (rw (arc_counts k choice b counts are c e h) some)
     (subst (Visited counts) (sym (arc_starts c e h)) (reached_visited k choice b counts are (start_of c e) rest)))
 
 -- the set of all boundaries that are reached
 pub reached_start : (k : Classes) (choice : ℕ → ℕ) (b set : ℕ) → AreReached k choice b set → holds set 0 ≡ true
 reached_start k choice b set exact = (exact 0 (omega arith)).1 at_start
 
-pub reached_members : (k : Classes) (choice : ℕ → ℕ) (b : ℕ) (counts : ℕ → ℕ) (set : ℕ) → AreCounts k choice b counts → AreReached k choice b set →
-    (p : ℕ) → p < 16 → holds set p ≡ true → Visited counts p
+pub reached_members : (k : Classes) (choice : ℕ → ℕ) (b : ℕ) (counts : ℕ → ℕ) (set : ℕ) → AreCounts k choice b counts →
+    AreReached k choice b set → (p : ℕ) → p < 16 → holds set p ≡ true → Visited counts p
 reached_members k choice b counts set are exact p h held = reached_visited k choice b counts are p ((exact p h).0 held)
 
-pub reached_closed : (k : Classes) (choice : ℕ → ℕ) (b : ℕ) (counts : ℕ → ℕ) (set : ℕ) → AreCounts k choice b counts → AreReached k choice b set →
-    NoneLeaves counts set
+pub reached_closed : (k : Classes) (choice : ℕ → ℕ) (b : ℕ) (counts : ℕ → ℕ) (set : ℕ) → AreCounts k choice b counts →
+    AreReached k choice b set → NoneLeaves counts set
 reached_closed k choice b counts set are exact a h some held =
     (exact (arc_to a) (to_below a h)).1 (reached_by k choice b counts are a h some ((exact (arc_from a) (from_below a h)).0 held))
 
@@ -185,17 +196,23 @@ reached_entered k choice b counts set are within exact =
 own_counts : (k : Classes) (choice : ℕ → ℕ) (b : ℕ) → AreCounts k choice b (arc_count k choice b)
 own_counts k choice b a h = refl
 
-pub no_run_crosses : (k : Classes) (choice : ℕ → ℕ) (b set : ℕ) → AreCarried k choice b → AreReached k choice b set → NoRunCrosses k choice set
+pub no_run_crosses : (k : Classes) (choice : ℕ → ℕ) (b set : ℕ) → AreCarried k choice b → AreReached k choice b set →
+    NoRunCrosses k choice set
 no_run_crosses k choice b set within exact c e h some =
     let counts : ℕ → ℕ = arc_count k choice b in
-    run_same c e set (run_stays k choice b counts set (own_counts k choice b) (reached_closed k choice b counts set (own_counts k choice b) exact) c e h some)
-    (run_from k choice b counts set (own_counts k choice b) (reached_entered k choice b counts set (own_counts k choice b) within exact) c e h some)
+    run_same c e set (run_stays k choice b counts set (own_counts k choice b)
+    (reached_closed k choice b counts set (own_counts k choice b) exact) c e h some)
+    (run_from k choice b counts set (own_counts k choice b)
+    (reached_entered k choice b counts set (own_counts k choice b) within exact) c e h some)
 
-pub no_idle_crosses : (k : Classes) (choice : ℕ → ℕ) (b set : ℕ) → AreCarried k choice b → AreReached k choice b set → NoIdleCrosses k choice b set
+pub no_idle_crosses : (k : Classes) (choice : ℕ → ℕ) (b set : ℕ) → AreCarried k choice b → AreReached k choice b set →
+    NoIdleCrosses k choice b set
 no_idle_crosses k choice b set within exact s h some =
     let counts : ℕ → ℕ = arc_count k choice b in
-    idle_same s set (idle_stays k choice b counts set (own_counts k choice b) (reached_closed k choice b counts set (own_counts k choice b) exact) s h some)
-    (idle_from k choice b counts set (own_counts k choice b) (reached_entered k choice b counts set (own_counts k choice b) within exact) s h some)
+    idle_same s set (idle_stays k choice b counts set (own_counts k choice b)
+    (reached_closed k choice b counts set (own_counts k choice b) exact) s h some)
+    (idle_from k choice b counts set (own_counts k choice b)
+    (reached_entered k choice b counts set (own_counts k choice b) within exact) s h some)
 
 in_or_out : (b : Bool) → (b ≡ true) ⊎ (b ≡ false)
 in_or_out true = inl refl
@@ -207,7 +224,8 @@ pub runs_start : (k : Classes) (choice : ℕ → ℕ) (b : ℕ) (counts : ℕ �
 runs_start k choice b counts set are within exact none a h some =
     elim (in_or_out (holds set (arc_from a))) [
       | inl held ↦ held
-      | inr out ↦ absurd (none (lies_outside k choice b counts set are (reached_entered k choice b counts set are within exact) a (omega arith) h some out))
+      | inr out ↦ absurd (none (lies_outside k choice b counts set are (reached_entered k choice b counts set are within exact) a
+          (omega arith) h some out))
     ]
 
 pub unclosed : (k : Classes) (choice : ℕ → ℕ) (b : ℕ) (counts : ℕ → ℕ) (ss : List Step) → AreCounts k choice b counts → IsChoice k choice →
@@ -222,10 +240,12 @@ unclosed k choice b counts ss are chosen within w idle late =
     }
 
 -- why there was no way says why there is no tour
-pub refused : (k : Classes) (choice : ℕ → ℕ) (b : ℕ) (counts : ℕ → ℕ) (end : End) (fault : TourFault) → AreCounts k choice b counts → IsChoice k choice →
+pub refused : (k : Classes) (choice : ℕ → ℕ) (b : ℕ) (counts : ℕ → ℕ) (end : End) (fault : TourFault) → AreCounts k choice b counts →
+    IsChoice k choice →
     ((slot : ℕ) → slot < 16 → load k choice slot ≤ b) → NoWay counts end fault → IsRefused k choice b end fault
 refused k choice b counts end (Apart set) are chosen within never = absurd never
-refused k choice b counts end Unclosed are chosen within known = (known.0, unclosed k choice b counts known.3.0 are chosen within known.3.1 known.1 known.2)
+refused k choice b counts end Unclosed are chosen within known =
+    (known.0, unclosed k choice b counts known.3.0 are chosen within known.3.1 known.1 known.2)
 refused k choice b counts end OutOfMemory are chosen within known = tt
 
 -- the two arcs that may close

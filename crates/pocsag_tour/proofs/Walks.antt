@@ -1,5 +1,5 @@
 -- What a walk keeps, and that it ends as a way over all arcs.
-use Rattle.std.proofs.Common.{◌≡◌, ◌≢◌, ℕ, ◌+◌, ◌-◌, ◌%◌, ◌<◌, ◌≤◌, ◌==◌, ◌&&◌, Bool, true, false, not, cond, List, [], ◌∷◌, ◌++◌, length, slice_index, slice_set, refl, sym, ap, subst, ◌∙◌, arith, eq-eqb, inl, inr, get_or-set_same, get_or-set_other}
+use Rattle.std.proofs.Common.{◌≡◌, ◌≢◌, ℕ, ◌+◌, ◌-◌, ◌%◌, ◌<◌, ◌≤◌, ◌==◌, ◌&&◌, Bool, true, false, not, cond, List, [], ◌∷◌, ◌++◌, length, slice_index, slice_set, refl, sym, ap, ◌∙◌, arith, eq-eqb, inl, inr, get_or-set_same, get_or-set_other}
 use Rattle.std.proofs.lemmas.Bool.{cases_eq, ne_eqb}
 use Rattle.pocsag_slots.specs.declared.step.Step.{Step}
 use Rattle.pocsag_slots.specs.declared.step.Step.TheVariants.{Idle as Stay, Run}
@@ -18,7 +18,8 @@ pub record IsLess (a : ℕ) (left less : ℕ → ℕ) : Type 0 where
   pub here : left a ≡ less a + 1
   pub other : (b : ℕ) → b ≢ a → less b ≡ left b
 
-pub less_by_set : (xs : List ℕ) (a : ℕ) → a < length xs → 0 < slice_index xs a → IsLess a (slice_index xs) (slice_index (slice_set xs a (slice_index xs a - 1)))
+pub less_by_set : (xs : List ℕ) (a : ℕ) → a < length xs → 0 < slice_index xs a →
+    IsLess a (slice_index xs) (slice_index (slice_set xs a (slice_index xs a - 1)))
 less_by_set xs a h some =
     record {
       here = omega (arith, get_or-set_same xs a (slice_index xs a - 1) 0 h);
@@ -39,7 +40,8 @@ one_more false x y h = refl
 same_term : (b : Bool) (x y : ℕ) → y ≡ x → cond b y 0 ≡ cond b x 0
 same_term b x y h = rw h refl
 
-pub outs_less : (a : ℕ) (left less : ℕ → ℕ) → a < 288 → IsLess a left less → (q : ℕ) → outs left q ≡ outs less q + cond (arc_from a == q) 1 0
+pub outs_less : (a : ℕ) (left less : ℕ → ℕ) → a < 288 → IsLess a left less → (q : ℕ) →
+    outs left q ≡ outs less q + cond (arc_from a == q) 1 0
 unfolding outs
 outs_less a left less h l q =
     sum_below-bump 288 a (cond (arc_from a == q) 1 0) (λ b. cond (arc_from b == q) (less b) 0) (λ b. cond (arc_from b == q) (left b) 0) h
@@ -54,8 +56,7 @@ ins_less a left less h l q =
     (λ b m ne. same_term (arc_to b == q) (less b) (left b) (sym (l.other b ne)))
 
 pub sum_less : (a : ℕ) (left less : ℕ → ℕ) → a < 288 → IsLess a left less → sum_below 288 less < sum_below 288 left
-sum_less a left less h l =
-    omega (arith, sum_below-bump 288 a 1 less left h l.here (λ b m ne. sym (l.other b ne)))
+sum_less a left less h l = omega (arith, sum_below-bump 288 a 1 less left h l.here (λ b m ne. sym (l.other b ne)))
 
 -- steps with one more at their end
 runs_push : (c : ℕ) (e : Bool) (ss : List Step) (s : Step) → runs c e (ss ++ (s ∷ [])) ≡ runs c e ss + runs c e (s ∷ [])
@@ -63,13 +64,14 @@ runs_push c e [] s = omega arith
 runs_push c e (Stay ∷ ss) s = runs_push c e ss s
 runs_push c e (Run d f ∷ ss) s = omega (arith, runs_push c e ss s)
 
-idles_push : (slot q p : ℕ) (ss : List Step) (s : Step) → Leads q ss p → idles slot q (ss ++ (s ∷ [])) ≡ idles slot q ss + idles slot p (s ∷ [])
+idles_push : (slot q p : ℕ) (ss : List Step) (s : Step) → Leads q ss p →
+    idles slot q (ss ++ (s ∷ [])) ≡ idles slot q ss + idles slot p (s ∷ [])
 idles_push slot q p [] s l = ap (λ (n : ℕ). idles slot n (s ∷ [])) l ∙ omega arith
 idles_push slot q p (Stay ∷ ss) s l = omega (arith, idles_push slot ((q + 1) % 16) p ss s l)
 idles_push slot q p (Run d f ∷ ss) s l = idles_push slot (finish_of d f) p ss s l.1
 
 pub leads_push : (q p r : ℕ) (ss : List Step) (s : Step) → Leads q ss p → Leads p (s ∷ []) r → Leads q (ss ++ (s ∷ [])) r
-leads_push q p r [] s l m = subst (λ (n : ℕ). Leads n (s ∷ []) r) (sym l) m
+leads_push q p r [] s l m = rw l m
 leads_push q p r (Stay ∷ ss) s l m = leads_push ((q + 1) % 16) p r ss s l m
 leads_push q p r (Run d f ∷ ss) s l m = (l.0, leads_push (finish_of d f) p r ss s l.1 m)
 
@@ -138,9 +140,21 @@ pub taken_push : (a : ℕ) (ss : List Step) → a < 288 → Leads 0 ss (arc_from
     (b : ℕ) → b < 288 → taken b (ss ++ (step_of a ∷ [])) ≡ taken b ss + cond (b == a) 1 0
 taken_push a ss h l =
     by_kind (λ b. taken b (ss ++ (step_of a ∷ [])) ≡ taken b ss + cond (b == a) 1 0)
-    (λ c m. omega (arith, taken_early c ss m, taken_early c (ss ++ (step_of a ∷ [])) m, runs_push c true ss (step_of a), early_step c m a h))
+    (λ c m. omega (
+      arith,
+      taken_early c ss m,
+      taken_early c (ss ++ (step_of a ∷ [])) m,
+      runs_push c true ss (step_of a),
+      early_step c m a h,
+    ))
     (λ c m. omega (arith, taken_late c ss m, taken_late c (ss ++ (step_of a ∷ [])) m, runs_push c false ss (step_of a), late_step c m a h))
-    (λ s m. omega (arith, taken_idle s ss, taken_idle s (ss ++ (step_of a ∷ [])), idles_push s 0 (arc_from a) ss (step_of a) l, idle_step s m a h))
+    (λ s m. omega (
+      arith,
+      taken_idle s ss,
+      taken_idle s (ss ++ (step_of a ∷ [])),
+      idles_push s 0 (arc_from a) ss (step_of a) l,
+      idle_step s m a h,
+    ))
 
 run_beyond : (b e f : Bool) → b ≡ false → cond (b && cond e f (not f)) 1 0 + 0 ≡ 0
 run_beyond true e f h = absurd (cc)
@@ -171,10 +185,11 @@ walk_start counts exits root balanced =
       kept = λ q e none. absurd (omega (arith, e.there, none));
     }
 
-on_balance : (a p root : ℕ) (left less : ℕ → ℕ) → a < 288 → arc_from a ≡ p → IsLess a left less → IsBalanced left p root → IsBalanced less (arc_to a) root
+on_balance : (a p root : ℕ) (left less : ℕ → ℕ) → a < 288 → arc_from a ≡ p → IsLess a left less → IsBalanced left p root →
+    IsBalanced less (arc_to a) root
 on_balance a p root left less h from l balanced q m =
     let was : outs left q + cond (q == root) 1 0 ≡ ins left q + cond (q == arc_from a) 1 0 =
-    subst (λ (n : ℕ). outs left q + cond (q == root) 1 0 ≡ ins left q + cond (q == n) 1 0) (sym from) (balanced q m) in
+    rw from (balanced q m) in
     omega (arith, was, outs_less a left less h l q, ins_less a left less h l q, flipped q (arc_from a), flipped q (arc_to a))
 
 zero_of : (x y : ℕ) → x ≤ y → y ≡ 0 → x ≡ 0
@@ -188,7 +203,7 @@ on_kept counts exits left less a p d l kept q e none b m from =
       | inl same ↦
           let at : p ≡ q = sym d.leaves ∙ (ap arc_from (sym same) ∙ e.leaves) in
           elim (cases_eq b a) [
-            | inl it ↦ subst (λ (n : ℕ). less n ≡ 0) (same ∙ sym it) none
+            | inl it ↦ rw (same ∙ sym it) at none
             | inr other ↦
                 zero_of (less b) (left b) (less_le a left less l b)
                 (d.last (sym same ∙ ap exits (sym at)) b m (from ∙ sym at) (λ x. other (x ∙ (ap exits at ∙ same))))
@@ -204,7 +219,7 @@ on_uses counts left less a ss h leads l uses b m =
     elim (cases_eq b a) [
       | inl same ↦
           let one : ◌≡◌ {A = ℕ} (cond (b == a) 1 0) 1 = (let t : (b == a) ≡ true = eq-eqb b a same in rw t refl) in
-          let here : left b ≡ less b + 1 = subst (λ (n : ℕ). left n ≡ less n + 1) (sym same) l.here in
+          let here : left b ≡ less b + 1 = rw same l.here in
           omega (arith, uses b m)
       | inr other ↦ omega (arith, uses b m, no_hit b a other, l.other b other)
     ]
@@ -212,7 +227,7 @@ on_uses counts left less a ss h leads l uses b m =
 pub walk_on : (counts exits left less : ℕ → ℕ) (a p root : ℕ) (ss : List Step) → IsWalk counts exits left ss p root →
     IsDeparture left (exits p) p a → IsLess a left less → IsWalk counts exits less (ss ++ (step_of a ∷ [])) (arc_to a) root
 walk_on counts exits left less a p root ss w d l =
-    let leads : Leads 0 ss (arc_from a) = subst (λ (n : ℕ). Leads 0 ss n) (sym d.leaves) w.leads in
+    let leads : Leads 0 ss (arc_from a) = rw d.leaves w.leads in
     record {
       leads = leads_push 0 (arc_from a) (arc_to a) ss (step_of a) leads (leads_over a d.known);
       within = to_below a d.known;
@@ -238,23 +253,29 @@ spent_home counts exits left root set balanced spent kept _ at_root = spent
 spent_home counts exits left root set balanced spent kept _ (by_exit q held e rest) =
     let next : IsSpent left (arc_to (exits q)) = spent_home counts exits left root set balanced spent kept (arc_to (exits q)) rest in
     kept q e
-    (omega (arith, balanced (arc_to (exits q)) (to_below (exits q) e.known), outs_spent left (arc_to (exits q)) next, in_term left (exits q) e.known))
+    (omega (
+      arith,
+      balanced (arc_to (exits q)) (to_below (exits q) e.known),
+      outs_spent left (arc_to (exits q)) next,
+      in_term left (exits q) e.known,
+    ))
 
 pub walk_end : (counts exits left : ℕ → ℕ) (p root set : ℕ) (ss : List Step) → IsWalk counts exits left ss p root → IsSpent left p →
     AllLeadTo counts root → holds set root ≡ true → NoneEnters counts set → LeadHome counts exits root set → IsWay counts root ss
 walk_end counts exits left p root set ss w spent all held none homes =
     let at : p ≡ root = stuck left p root w.within w.balanced spent in
-    let balanced : IsBalanced left root root = subst (λ (n : ℕ). IsBalanced left n root) at w.balanced in
-    let there : IsSpent left root = subst (λ (n : ℕ). IsSpent left n) at spent in
+    let balanced : IsBalanced left root root = rw at at w.balanced in
+    let there : IsSpent left root = rw at at spent in
     record {
-      leads = subst (λ (n : ℕ). Leads 0 ss n) at w.leads;
+      leads = rw at at w.leads;
       takes = λ a h.
           elim (cases_eq (counts a) 0) [
             | inl never ↦ omega (arith, w.uses a h)
             | inr some ↦
                 let in_set : holds set (arc_from a) ≡ true = all set held none a h (omega arith) in
                 let gone : left a ≡ 0 =
-                spent_home counts exits left root set balanced there w.kept (arc_from a) (homes (arc_from a) (from_below a h) in_set) a h refl in
+                spent_home counts exits left root set balanced there w.kept (arc_from a)
+                (homes (arc_from a) (from_below a h) in_set) a h refl in
                 omega (arith, w.uses a h)
           ];
       no_other = w.no_other;

@@ -29,7 +29,8 @@ unfoldable pub arc_from : ℕ → ℕ
 arc_from a = cond (nat_lt a first_late) (start_of a true) (cond (nat_lt a first_idle) (start_of (a - first_late) false) (a - first_idle))
 
 unfoldable pub arc_to : ℕ → ℕ
-arc_to a = cond (nat_lt a first_late) (finish_of a true) (cond (nat_lt a first_idle) (finish_of (a - first_late) false) ((a - first_idle + 1) % 16))
+arc_to a = cond (nat_lt a first_late) (finish_of a true)
+    (cond (nat_lt a first_idle) (finish_of (a - first_late) false) ((a - first_idle + 1) % 16))
 
 -- The step over it.
 unfoldable pub step_of : ℕ → Step
@@ -46,7 +47,8 @@ AreCounts k choice batches counts = (a : ℕ) → a < all_arcs → counts a ≡ 
 
 -- How often steps from boundary 0 take an arc.
 unfoldable pub taken : ℕ → List Step → ℕ
-taken a steps = cond (nat_lt a first_late) (runs a true steps) (cond (nat_lt a first_idle) (runs (a - first_late) false steps) (idles (a - first_idle) 0 steps))
+taken a steps = cond (nat_lt a first_late) (runs a true steps)
+    (cond (nat_lt a first_idle) (runs (a - first_late) false steps) (idles (a - first_idle) 0 steps))
 
 -- The arcs of a boundary by their kind: a run of each rest, the run of an address codeword alone, the idle.
 unfoldable pub arc_at : ℕ → ℕ → ℕ

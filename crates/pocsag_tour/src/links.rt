@@ -1,4 +1,4 @@
-ghost use Rattle.std.specs.Prelude.{◌≡◌, ℕ, ◌+◌, ◌<◌, ◌≤◌, length, slice_index};
+ghost use Rattle.std.specs.Prelude.{◌≡◌, ◌+◌, ◌<◌, ◌≤◌, length, slice_index};
 ghost use Rattle.pocsag_slots.specs.Loads.{IsChoice};
 ghost use Rattle.pocsag_tour.specs.Links.{AddsLink, AreLinked, Follows, HaveIdles, HaveRuns};
 

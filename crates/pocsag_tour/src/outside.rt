@@ -1,4 +1,4 @@
-ghost use Rattle.std.specs.Prelude.{◌≡◌, ◌↔◌, ◌<◌, IsTrue, slice_index, if◌then◌else◌};
+ghost use Rattle.std.specs.Prelude.{◌≡◌, ◌↔◌, ◌<◌, IsTrue, slice_index};
 ghost use Rattle.pocsag_slots.specs.Loads.{IsChoice};
 ghost use Rattle.pocsag_tour.specs.Reached.{HasRunOutside, LiesOutside, runs_of};
 

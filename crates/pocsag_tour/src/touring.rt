@@ -1,4 +1,4 @@
-ghost use Rattle.std.specs.Prelude.{◌≡◌, ℕ, ◌<◌, ◌≤◌, slice_index, IfOk, IfErr, IfSome, IfNone};
+ghost use Rattle.std.specs.Prelude.{◌≡◌, ◌<◌, ◌≤◌, slice_index, IfOk, IfErr, IfSome, IfNone};
 ghost use Rattle.pocsag_words.specs.declared.ending.End.TheVariants.{Closed};
 ghost use Rattle.pocsag_slots.specs.Loads.{AreCarried, IsChoice};
 ghost use Rattle.pocsag_slots.specs.Tours.{IsTour, LastAs, LastIsWhole};

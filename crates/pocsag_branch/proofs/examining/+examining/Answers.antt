@@ -19,7 +19,8 @@ pub row-loop-way-preserved : goal.row-loop-way-preserved
 row-loop-way-preserved t c =
     row_goes_on c.args.classes.now c.args.question c.args.limits.now c.args.made c.loop-way.after
     c.in_ok-child.next c.loop-way.way-index c.args.ways.now c.loop-way.children.items (IdleIn 0) c.in_ok-child.child c.push.new.self.items
-    c.child_limits-narrowed.result c.loop-way-test.true c.child_limits-narrowed.ensures.value c.in_ok-push.ensures.items c.loop-way.invariant
+    c.child_limits-narrowed.result c.loop-way-test.true c.child_limits-narrowed.ensures.value c.in_ok-push.ensures.items
+    c.loop-way.invariant
     c.in_ok-child.ensures.node c.child_limits-narrowed.ensures.falls
 
 pub split-returns-clause-node : goal.split-returns-clause-node
@@ -27,4 +28,5 @@ split-returns-clause-node t c =
     split_made c.args.classes.now c.args.question c.args.limits.now c.args.made c.in_ok-below.between
     c.in_ok-from.after c.args.class c.args.m c.limits_under-under.result c.limits_over-over.result c.in_ok-below.below c.in_ok-from.from
     c.in_ok-below-2.below c.in_ok-from-2.from c.in_ok-below-2.ensures.ok c.in_ok-from-2.ensures.ok
-    c.requires.point c.requires.shape c.limits_under-under.ensures.value c.limits_over-over.ensures.value c.in_ok-below.ensures.node c.in_ok-from.ensures.node
+    c.requires.point c.requires.shape c.limits_under-under.ensures.value c.limits_over-over.ensures.value c.in_ok-below.ensures.node
+    c.in_ok-from.ensures.node

@@ -23,5 +23,4 @@ abbrev pub decreases-row : goal.decreases-row
 decreases-row l = 4 * undecided l.classes.now l.question.batches l.limits.now
 
 abbrev pub invariant-row-loop-way : goal.invariant-row-loop-way
-invariant-row-loop-way l =
-    AreExamined l.classes l.question l.limits l.made l.after (take l.way-index l.ways) (bounds_of l.children.items)
+invariant-row-loop-way l = AreExamined l.classes l.question l.limits l.made l.after (take l.way-index l.ways) (bounds_of l.children.items)

@@ -1,24 +1,21 @@
-use Rattle.std.proofs.Common.{arith, subst}
+use Rattle.std.proofs.Common.{arith}
 use Rattle.pocsag_slots.proofs.LoadLemmas.{count_few}
-use Rattle.pocsag_slots.specs.declared.way.Way.{Way}
-use Rattle.pocsag_slots.specs.Ways.{MayTake}
-use Rattle.pocsag_branch.specs.Freed.{IsOpen}
 use Rattle.pocsag_branch.proofs.Falling.{splits_at_count, splits_at_one}
 use Rattle.pocsag_branch.proofs.freeing.split_at.Goals as goal
 
 pub overflow_cast-result-in-Late : goal.overflow_cast-result-in-Late
 overflow_cast-result-in-Late c =
-    let may = subst (λ (w : Way). MayTake c.args.classes.now c.args.limits.now w) c.in-Late.is c.requires.way in
+    let may = rw c.in-Late.is at c.requires.way in
     omega (arith, count_few c.args.classes.now c.in-Late.class may.0)
 
 pub returns-in-Early : goal.returns-in-Early
 returns-in-Early c =
-    let may = subst (λ (w : Way). MayTake c.args.classes.now c.args.limits.now w) c.in-Early.is c.requires.way in
-    let free = subst (λ (w : Way). IsOpen c.args.classes.now c.args.attempt.question.batches c.args.limits.now w) c.in-Early.is c.requires.open_way in
+    let may = rw c.in-Early.is at c.requires.way in
+    let free = rw c.in-Early.is at c.requires.open_way in
     splits_at_one c.args.classes.now c.args.attempt.question.batches c.args.limits.now c.requires.limits c.in-Early.class may.0 free may.1
 
 pub returns-in-Late : goal.returns-in-Late
 returns-in-Late c =
-    let may = subst (λ (w : Way). MayTake c.args.classes.now c.args.limits.now w) c.in-Late.is c.requires.way in
-    let free = subst (λ (w : Way). IsOpen c.args.classes.now c.args.attempt.question.batches c.args.limits.now w) c.in-Late.is c.requires.open_way in
+    let may = rw c.in-Late.is at c.requires.way in
+    let free = rw c.in-Late.is at c.requires.open_way in
     splits_at_count c.args.classes.now c.args.attempt.question.batches c.args.limits.now c.requires.limits c.in-Late.class may.0 free may.1

@@ -1,14 +1,11 @@
-use Rattle.std.proofs.Common.{slice_index, sym, subst}
+use Rattle.std.proofs.Common.{slice_index}
 use Rattle.pocsag_words.specs.declared.ending.End.TheVariants.{Open}
-use Rattle.pocsag_slots.specs.Loads.{IsAdmitted, limits_of_all}
-use Rattle.pocsag_branch.specs.declared.question.Answer.{Answer}
 use Rattle.pocsag_branch.proofs.TreeEnds.{tour_admitted}
 use Rattle.pocsag_branch.proofs.rooting.open_choice.Goals as goal
 
 pub returns-in-Err-Met-clause-choice : goal.returns-in-Err-Met-clause-choice
 returns-in-Err-Met-clause-choice c =
     let met = rw c.in-Err-Met.field-0-is at c.in-Err-Met.ensures in
-    subst (λ (a : Answer). IsAdmitted c.args.classes.now (limits_of_all c.args.classes.now c.args.question.batches) (slice_index a.choice.early))
-    (sym c.into_inner-met.ensures)
-    (tour_admitted c.args.classes.now Open c.args.question.batches (slice_index c.in-Err-Met.answer.value.choice.early) c.in-Err-Met.answer.value.steps.items
+    rw c.into_inner-met.ensures (tour_admitted c.args.classes.now Open c.args.question.batches
+    (slice_index c.in-Err-Met.answer.value.choice.early) c.in-Err-Met.answer.value.steps.items
     met.choice met.tour)

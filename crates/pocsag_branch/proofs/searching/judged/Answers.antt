@@ -16,10 +16,12 @@ returns-then-is_unfinished-clause-fault c =
       bound = least_bound k c.args.question.end c.args.question.batches c.requires.least;
       one_more = refl;
       sent = λ R round counted.
-          let toured = c.spare_batches_have_tours.ensures k c.args.question.end (slice_index c.args.choice.now.early) (c.args.question.batches + 1)
+          let toured = c.spare_batches_have_tours.ensures k c.args.question.end (slice_index c.args.choice.now.early)
+          (c.args.question.batches + 1)
           (λ d h. c.requires.admitted.within.most d h)
           (has_room k (slice_index c.args.choice.now.early) c.args.question.batches c.requires.admitted) in
-          let said = c.tours_have_codewords.ensures k c.args.question.end (slice_index c.args.choice.now.early) (c.args.question.batches + 1) toured.0 R
+          let said = c.tours_have_codewords.ensures k c.args.question.end (slice_index c.args.choice.now.early)
+          (c.args.question.batches + 1) toured.0 R
           (omega arith) round counted toured.1 in
           (said.0, said.2);
       unseen = fills.unseen;

@@ -1,7 +1,6 @@
-use Rattle.std.proofs.Common.{◌≤◌, All, get_or, length, refl, subst, arith, List}
+use Rattle.std.proofs.Common.{◌≤◌, get_or, length, refl, arith}
 use Rattle.std.proofs.lemmas.List.{take_all}
 use Rattle.std.proofs.lemmas.List.Elements.{All-more}
-use Rattle.pocsag_slots.specs.declared.way.Way.{Way}
 use Rattle.pocsag_slots.specs.declared.way.Way.TheVariants.{IdleIn}
 use Rattle.pocsag_branch.specs.Undecided.{Falls}
 use Rattle.pocsag_branch.proofs.FreeNodes.{open_falls}
@@ -10,12 +9,13 @@ use Rattle.pocsag_branch.proofs.thinning.are_open.Goals as goal
 pub loop-way-preserved : goal.loop-way-preserved
 loop-way-preserved c =
     let i = c.loop-way.way-index in
-    All-more (Falls c.args.classes.now c.args.batches c.args.limits.now) c.args.out.now i (IdleIn 0) c.loop-way-test.true c.loop-way.invariant
-    (open_falls c.args.classes.now c.args.batches c.args.limits.now (get_or c.args.out.now i (IdleIn 0)) c.requires.batches c.requires.limits
+    All-more (Falls c.args.classes.now c.args.batches c.args.limits.now) c.args.out.now i
+    (IdleIn 0) c.loop-way-test.true c.loop-way.invariant
+    (open_falls c.args.classes.now c.args.batches c.args.limits.now
+    (get_or c.args.out.now i (IdleIn 0)) c.requires.batches c.requires.limits
     (c.requires.allowed i (IdleIn 0) c.loop-way-test.true) (c.if-not-is_open.ensures.0 refl))
 
 pub returns : goal.returns
 returns c = λ held.
     let few : length c.args.out.now ≤ c.loop-way.way-index = omega arith in
-    subst (λ (ws : List Way). All (Falls c.args.classes.now c.args.batches c.args.limits.now) ws)
-    (take_all c.loop-way.way-index c.args.out.now few) c.loop-way.invariant
+    rw (take_all c.loop-way.way-index c.args.out.now few) at c.loop-way.invariant

@@ -27,7 +27,8 @@ pub shifted-requires-clause-given : goal.shifted-requires-clause-given
 shifted-requires-clause-given c =
     let n : Network = record { classes = c.args.classes.now; limits = c.args.limits.now; loads = c.args.standing.now.loads } in
     let some : 0 < c.leave-moved.result = omega arith in
-    let few = given_few n (slice_index c.args.standing.now.early) (slice_index c.leave-moved.new.search.early) c.args.slot c.leave-moved.new.search.end c.leave-moved.result
+    let few = given_few n (slice_index c.args.standing.now.early)
+    (slice_index c.leave-moved.new.search.early) c.args.slot c.leave-moved.new.search.end c.leave-moved.result
     c.requires.ordered c.leave-moved.ensures.pushes.within
     (omega (arith, c.requires.above, c.requires.standing.loads c.args.slot c.requires.slot))
     (c.leave-moved.ensures.pushes.relieved some) in
@@ -37,7 +38,8 @@ pub returns-clause-less : goal.returns-clause-less
 returns-clause-less c =
     let n : Network = record { classes = c.args.classes.now; limits = c.args.limits.now; loads = c.args.standing.now.loads } in
     let some : 0 < c.leave-moved.result = omega arith in
-    overload_less n (slice_index c.args.standing.now.early) (slice_index c.leave-moved.new.search.early) c.args.slot c.leave-moved.new.search.end c.leave-moved.result
+    overload_less n (slice_index c.args.standing.now.early)
+    (slice_index c.leave-moved.new.search.early) c.args.slot c.leave-moved.new.search.end c.leave-moved.result
     c.requires.slot some
     (omega (arith, c.requires.above, c.requires.standing.loads c.args.slot c.requires.slot))
     (c.leave-moved.ensures.pushes.relieved some)

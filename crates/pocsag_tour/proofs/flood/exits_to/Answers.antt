@@ -21,7 +21,8 @@ loop-arc-preserved c =
           c.with_member-set-in-Some.ensures.held c.with_member-set-in-Some.ensures.others c.loop-arc.invariant.root;
       long = length-set c.loop-arc.arcs c.begins-from.result c.in-Some.arc ∙ c.loop-arc.invariant.long;
       known = exits_low c.loop-arc.arcs c.begins-from.result c.in-Some.arc c.loop-arc.invariant.known here c.in-Some.ensures.found.known;
-      homes = homes_written (slice_index c.args.counts.now) c.loop-arc.arcs c.args.root c.loop-arc.set c.with_member-set-in-Some.result c.in-Some.arc c.begins-from.result
+      homes = homes_written (slice_index c.args.counts.now) c.loop-arc.arcs c.args.root c.loop-arc.set c.with_member-set-in-Some.result
+          c.in-Some.arc c.begins-from.result
           c.begins-from.ensures.value here c.loop-arc.invariant.homes c.in-Some.ensures.found
           c.with_member-set-in-Some.ensures.held c.with_member-set-in-Some.ensures.others;
     }

@@ -1,7 +1,7 @@
-use Rattle.std.proofs.Common.{◌≡◌, ◌+◌, true, false, arith, slice_index, subst, sym, ℕ}
+use Rattle.std.proofs.Common.{◌≡◌, true, false, arith, slice_index}
 use Rattle.std.proofs.lemmas.Nat.{le_or_l}
 use Rattle.pocsag_slots.specs.Sums.{holds}
-use Rattle.pocsag_tour.proofs.Linking.{IsGrown, follows_all, grown_link, grown_pass, grown_start}
+use Rattle.pocsag_tour.proofs.Linking.{follows_all, grown_link, grown_pass, grown_start}
 use Rattle.pocsag_tour.proofs.links.followed.Goals as goal
 use Rattle.pocsag_tour.proofs.links.followed.Goals.{then-holds, else-holds}
 
@@ -15,19 +15,24 @@ loop-boundary-preserved c =
       | then-holds w ↦
           let held : holds c.loop-boundary.grown c.loop-boundary.boundary ≡ true = cc in
           record {
-            grown = subst (λ (s : ℕ). IsGrown links c.args.set s (c.loop-boundary.boundary + 1)) (sym w.grown-is)
-                (grown_link links c.args.set c.loop-boundary.grown c.loop-boundary.boundary c.loop-boundary-test.true held c.loop-boundary.invariant.grown);
-            more = omega (arith, w.grown-is, c.loop-boundary.invariant.more, le_or_l c.loop-boundary.grown (links c.loop-boundary.boundary));
+            grown = rw w.grown-is (grown_link links c.args.set c.loop-boundary.grown c.loop-boundary.boundary c.loop-boundary-test.true held
+                c.loop-boundary.invariant.grown);
+            more = omega (
+              arith,
+              w.grown-is,
+              c.loop-boundary.invariant.more,
+              le_or_l c.loop-boundary.grown (links c.loop-boundary.boundary),
+            );
           }
       | else-holds w ↦
           let out : holds c.loop-boundary.grown c.loop-boundary.boundary ≡ false = cc in
           record {
-            grown = subst (λ (s : ℕ). IsGrown links c.args.set s (c.loop-boundary.boundary + 1)) (sym w.grown-is)
-                (grown_pass links c.args.set c.loop-boundary.grown c.loop-boundary.boundary out c.loop-boundary.invariant.grown);
+            grown = rw w.grown-is (grown_pass links c.args.set c.loop-boundary.grown c.loop-boundary.boundary out c.loop-boundary.invariant.grown);
             more = omega (arith, w.grown-is, c.loop-boundary.invariant.more);
           }
     ]
 
 pub returns-clause-follows : goal.returns-clause-follows
 returns-clause-follows c =
-    follows_all (slice_index c.args.links.now) c.args.set c.loop-boundary.grown c.loop-boundary.boundary (omega arith) c.loop-boundary.invariant.grown
+    follows_all (slice_index c.args.links.now) c.args.set c.loop-boundary.grown c.loop-boundary.boundary
+    (omega arith) c.loop-boundary.invariant.grown

@@ -2,7 +2,8 @@ use Rattle.std.proofs.Common.{◌+◌, slice_index, arith}
 use Rattle.pocsag_tour.proofs.Linking.{AreLinks, link_at, runs_more, runs_none}
 use Rattle.pocsag_tour.proofs.links.link_class.Goals as goal
 
-more : (c : goal.After-link-2) → AreLinks c.args.classes.now (slice_index c.args.choice.now.early) c.args.batches c.link-2.new.links (c.args.class + 1)
+more : (c : goal.After-link-2) → AreLinks c.args.classes.now (slice_index c.args.choice.now.early) c.args.batches c.link-2.new.links
+    (c.args.class + 1)
 more c =
     runs_more c.args.classes.now (slice_index c.args.choice.now.early) c.args.batches
     c.args.links.now c.link.new.links c.link-2.new.links c.args.class c.run_count-early.result c.run_count-late.result
@@ -19,4 +20,5 @@ returns-clause-runs c = (more c).runs
 
 pub returns-then-classes-class-eq0-clause-runs : goal.returns-then-classes-class-eq0-clause-runs
 returns-then-classes-class-eq0-clause-runs c =
-    runs_none c.args.classes.now (slice_index c.args.choice.now.early) (slice_index c.args.links.now) c.args.class (omega arith) (c.requires.chosen c.args.class c.requires.class) c.requires.runs
+    runs_none c.args.classes.now (slice_index c.args.choice.now.early) (slice_index c.args.links.now) c.args.class (omega arith)
+    (c.requires.chosen c.args.class c.requires.class) c.requires.runs

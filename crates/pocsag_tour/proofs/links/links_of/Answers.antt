@@ -4,7 +4,11 @@ use Rattle.pocsag_tour.proofs.links.links_of.Goals as goal
 
 pub loop-slot-init : goal.loop-slot-init
 loop-slot-init c = record {
-  of_runs = record { long = c.run_links-links.ensures.length; linked = c.run_links-links.ensures.linked; runs = c.run_links-links.ensures.runs };
+  of_runs = record {
+    long = c.run_links-links.ensures.length;
+    linked = c.run_links-links.ensures.linked;
+    runs = c.run_links-links.ensures.runs;
+  };
   idles = λ s h. absurd (omega arith);
 }
 

@@ -1,5 +1,4 @@
-use Rattle.std.proofs.Common.{◌≡◌, ℕ, true, refl, subst, sym, slice_index}
-use Rattle.pocsag_slots.specs.Sums.{holds}
+use Rattle.std.proofs.Common.{refl, subst, sym, slice_index}
 use Rattle.pocsag_tour.specs.Links.{IsLed, at_start}
 use Rattle.pocsag_tour.proofs.Flooding.{lone}
 use Rattle.pocsag_tour.proofs.reaching.led_from_0.Goals as goal
@@ -7,7 +6,8 @@ use Rattle.pocsag_tour.proofs.reaching.led_from_0.Goals as goal
 pub loop-set-init : goal.loop-set-init
 loop-set-init c = record {
   start = c.with_member-set.ensures.held;
-  led = λ q held. subst (IsLed (slice_index c.args.links.now)) (sym (lone c.with_member-set.result 0 q (c.with_member-set.ensures.alone refl) held)) at_start;
+  led = λ q held. subst (IsLed (slice_index c.args.links.now))
+      (sym (lone c.with_member-set.result 0 q (c.with_member-set.ensures.alone refl) held)) at_start;
 }
 
 pub loop-set-preserved : goal.loop-set-preserved
@@ -20,6 +20,6 @@ pub returns : goal.returns
 returns c = record {
   start = c.loop-set.invariant.start;
   closed = λ p q h held to.
-      subst (λ (s : ℕ). holds s q ≡ true) c.if-grown-set.true (c.followed-grown.ensures.follows.linked p q h held to);
+      rw c.if-grown-set.true at (c.followed-grown.ensures.follows.linked p q h held to);
   led = c.loop-set.invariant.led;
 }

@@ -30,18 +30,21 @@ way-requires-clause-joined c =
     (reached_closed k choice c.args.batches counts set c.counts_of.ensures.counts exact)
     (reached_members k choice c.args.batches counts set c.counts_of.ensures.counts exact)
     (runs_start k choice c.args.batches counts set c.counts_of.ensures.counts c.requires.within exact
-    (λ outside. let yes : IsTrue c.lies_outside.result = c.lies_outside.ensures.1 outside in let no = c.if-lies_outside.false in absurd (cc yes)))
+    (λ outside. let yes : IsTrue c.lies_outside.result = c.lies_outside.ensures.1 outside in let no = c.if-lies_outside.false in
+    absurd (cc yes)))
 
 pub returns-clause-tour : goal.returns-clause-tour
 returns-clause-tour c =
     ok_by _ _ c.way.result
-    (λ steps w. tour_of c.args.classes.now c.args.end (slice_index c.args.choice.now.early) c.args.batches (slice_index c.counts_of.result) steps.items
+    (λ steps w. tour_of c.args.classes.now c.args.end (slice_index c.args.choice.now.early) c.args.batches
+    (slice_index c.counts_of.result) steps.items
     c.counts_of.ensures.counts c.requires.chosen c.requires.within w.0 w.1)
     c.way.ensures.way
 
 pub returns-clause-refused : goal.returns-clause-refused
 returns-clause-refused c =
     err_by _ _ c.way.result
-    (λ fault no. refused c.args.classes.now (slice_index c.args.choice.now.early) c.args.batches (slice_index c.counts_of.result) c.args.end fault
+    (λ fault no. refused c.args.classes.now (slice_index c.args.choice.now.early) c.args.batches
+    (slice_index c.counts_of.result) c.args.end fault
     c.counts_of.ensures.counts c.requires.chosen c.requires.within no)
     c.way.ensures.refused

@@ -1,7 +1,5 @@
-use Rattle.std.proofs.Common.{◌≡◌, ◌-◌, List, [], ◌∷◌, ◌++◌, arith, sym, subst, slice_index, slice_set}
-use Rattle.pocsag_slots.specs.declared.step.Step.{Step}
-use Rattle.pocsag_slots.specs.Tours.{LastIsWhole}
-use Rattle.pocsag_tour.specs.Moves.{IsWay, step_of}
+use Rattle.std.proofs.Common.{◌≡◌, ◌-◌, [], ◌∷◌, ◌++◌, arith, slice_index, slice_set}
+use Rattle.pocsag_tour.specs.Moves.{step_of}
 use Rattle.pocsag_tour.proofs.Joining.{balanced_without, closed_way, joined_closed}
 use Rattle.pocsag_tour.proofs.Walks.{less_by_set}
 use Rattle.pocsag_tour.proofs.touring.way_with_last.Goals as goal
@@ -24,8 +22,7 @@ pub returns : goal.returns
 returns c =
     let z = c.requires.last in
     let pushed : c.push.new.self.items ≡ c.in_ok-steps.steps.items ++ (step_of c.args.last ∷ []) = cc c.in_ok-push.ensures.items in
-    subst (λ (ss : List Step). IsWay (slice_index c.args.counts.now) 0 ss × LastIsWhole ss) (sym pushed)
-    (closed_way (slice_index c.args.counts.now)
+    rw pushed (closed_way (slice_index c.args.counts.now)
     (slice_index (slice_set c.args.counts.now c.args.last (slice_index c.args.counts.now c.args.last - 1))) c.args.last
     c.in_ok-steps.steps.items z (less_by_set c.args.counts.now c.args.last (omega (arith, z.known, c.told-counts)) z.there)
     c.in_ok-steps.ensures)

@@ -1,4 +1,4 @@
-use Rattle.std.proofs.Common.{◌≡◌, ℕ, ◌<◌, arith, sym, ap, subst, ◌∙◌, slice_index}
+use Rattle.std.proofs.Common.{◌≡◌, ◌<◌, arith, sym, ap, ◌∙◌}
 use Rattle.pocsag_tour.specs.Moves.{arc_at, arc_from}
 use Rattle.pocsag_tour.proofs.Geometry.{arc_of_kind, from_arc_at, kind_below, kind_of}
 use Rattle.pocsag_tour.proofs.walking.detour.Goals as goal
@@ -13,7 +13,6 @@ returns-then-left-arc-gt0-clause-found c = (
 
 pub returns-clause-none : goal.returns-clause-none
 returns-clause-none c b h from ne =
-    let here : arc_at c.args.boundary (kind_of b) ≡ b = subst (λ (p : ℕ). arc_at p (kind_of b) ≡ b) from (arc_of_kind b h) in
+    let here : arc_at c.args.boundary (kind_of b) ≡ b = rw from at (arc_of_kind b h) in
     let low : kind_of b < c.loop-kind.kind = omega (arith, kind_below b, c.loop-kind-test.false) in
-    subst (λ (a : ℕ). slice_index c.args.left.now a ≡ 0) here
-    (c.loop-kind.invariant (kind_of b) low (λ e. ne (sym here ∙ e)))
+    rw here at (c.loop-kind.invariant (kind_of b) low (λ e. ne (sym here ∙ e)))
