@@ -19,12 +19,14 @@ append_nil_right [] ys e = e
 append_nil_right (x ∷ xs) ys e = absurd (cc)
 
 -- how a piece goes on after the bytes AA
-pub skips_begun : (X Z : List ℕ) (leads size : ℕ) → leads ≡ leading X → size ≡ length (after_preamble X) → ¬ (size ≡ 0) → (leads ≡ leading (X ++ Z)) × (after_preamble (X ++ Z) ≡ after_preamble X ++ Z)
+pub skips_begun : (X Z : List ℕ) (leads size : ℕ) → leads ≡ leading X → size ≡ length (after_preamble X) → ¬ (size ≡ 0)
+    → (leads ≡ leading (X ++ Z)) × (after_preamble (X ++ Z) ≡ after_preamble X ++ Z)
 skips_begun X Z leads size e s n =
     let some : after_preamble X ≢ [] = λ z. n (s ∙ ap length z) in
     (e ∙ sym (begun_leading X Z some), begun_after X Z some)
 
-pub skips_alone : (X Z rest : List ℕ) (leads size count : ℕ) → leads ≡ leading X → size ≡ length (after_preamble X) → size ≡ 0 → count ≡ leading Z → rest ≡ drop count Z
+pub skips_alone : (X Z rest : List ℕ) (leads size count : ℕ) → leads ≡ leading X → size ≡ length (after_preamble X) → size ≡ 0
+    → count ≡ leading Z → rest ≡ drop count Z
     → (leads + count ≡ leading (X ++ Z)) × (after_preamble (X ++ Z) ≡ after_preamble X ++ rest)
 skips_alone X Z rest leads size count e s z c r =
     let none : after_preamble X ≡ [] = nil_from (after_preamble X) (sym s ∙ z) in (
@@ -64,8 +66,10 @@ module _ (d : Decoder) (X : List ℕ) (s : StandsAfter d X) where
       }
 
   -- one piece more
-  module _ (new : Decoder) (Z rest : List ℕ) (few : length X + length Z < 2 ^ 64) (after : after_preamble (X ++ Z) ≡ after_preamble X ++ rest) (leads : new.leading ≡ leading (X ++ Z)) where
-    fed : new.has_failed ≡ d.has_failed → All (λ b. b < 256) Z → (after_preamble (X ++ Z) ≢ [] → 72 ≤ new.leading) → StandsIn new.body (after_preamble X ++ rest) → StandsAfter new (X ++ Z)
+  module _ (new : Decoder) (Z rest : List ℕ) (few : length X + length Z < 2 ^ 64)
+      (after : after_preamble (X ++ Z) ≡ after_preamble X ++ rest) (leads : new.leading ≡ leading (X ++ Z)) where
+    fed : new.has_failed ≡ d.has_failed → All (λ b. b < 256) Z → (after_preamble (X ++ Z) ≢ [] → 72 ≤ new.leading)
+        → StandsIn new.body (after_preamble X ++ rest) → StandsAfter new (X ++ Z)
     fed works bytes past stands = record {
       works = works ∙ s.works;
       bytes = All-append (λ b. b < 256) X Z s.bytes bytes;
@@ -76,22 +80,28 @@ module _ (d : Decoder) (X : List ℕ) (s : StandsAfter d X) where
     }
 
     -- nothing but bytes AA came
-    pub fed_preamble : new.has_failed ≡ d.has_failed → All (λ b. b < 256) Z → d.leading ≤ new.leading → new.body ≡ d.body → rest ≡ [] → StandsAfter new (X ++ Z)
+    pub fed_preamble : new.has_failed ≡ d.has_failed → All (λ b. b < 256) Z → d.leading ≤ new.leading → new.body ≡ d.body → rest ≡ []
+        → StandsAfter new (X ++ Z)
     fed_preamble works bytes more same e =
-        let same_after : after_preamble X ++ rest ≡ after_preamble X = ap (λ (l : List ℕ). after_preamble X ++ l) e ∙ append-nil (after_preamble X) in
+        let same_after : after_preamble X ++ rest ≡ after_preamble X =
+        ap (λ (l : List ℕ). after_preamble X ++ l) e ∙ append-nil (after_preamble X) in
         fed works bytes
         (λ n. let p = s.past (λ z. n (after ∙ (same_after ∙ z))) in let q = s.preamble in omega arith)
         (rw (same_after, same) s.words)
 
-    pub fed_body : new.has_failed ≡ d.has_failed → All (λ b. b < 256) Z → 72 ≤ new.leading → StandsIn new.body (after_preamble X ++ rest) → StandsAfter new (X ++ Z)
+    pub fed_body : new.has_failed ≡ d.has_failed → All (λ b. b < 256) Z → 72 ≤ new.leading → StandsIn new.body (after_preamble X ++ rest)
+        → StandsAfter new (X ++ Z)
     fed_body works bytes long stands = fed works bytes (λ n. long) stands
 
     pub refused_short : new.leading < 72 → rest ≢ [] → RefusesPiece X Z fault.ShortPreamble
-    refused_short h n = fault_there few (HasFaultThere.short (omega arith) (λ z. n (append_nil_right (after_preamble X) rest (sym after ∙ z))))
+    refused_short h n =
+        fault_there few (HasFaultThere.short (omega arith) (λ z. n (append_nil_right (after_preamble X) rest (sym after ∙ z))))
 
     past : 72 ≤ new.leading → rest ≢ [] → IsPastPreamble (X ++ Z)
     past h n = record { long = omega arith; more = λ z. n (append_nil_right (after_preamble X) rest (sym after ∙ z)) }
 
-    pub refused_body : (f : DecodeFault) → 72 ≤ new.leading → rest ≢ [] → length rest ≤ length Z → Refuses (words_of (after_preamble X ++ rest)) f → RefusesPiece X Z f
-    refused_body f h n within (inl e) = subst (RefusesPiece X Z) (sym e) (no_memory few (λ z. n (nil_from rest (let l = ap length z in omega arith))) (past h n))
+    pub refused_body : (f : DecodeFault) → 72 ≤ new.leading → rest ≢ [] → length rest ≤ length Z
+        → Refuses (words_of (after_preamble X ++ rest)) f → RefusesPiece X Z f
+    refused_body f h n within (inl e) =
+        subst (RefusesPiece X Z) (sym e) (no_memory few (λ z. n (nil_from rest (let l = ap length z in omega arith))) (past h n))
     refused_body f h n within (inr b) = fault_there few (HasFaultThere.bad (omega arith) (rw after b))

@@ -57,7 +57,9 @@ judged before [] good = inl (rw (append-nil before) good)
 judged before (w ∷ ws) good =
     elim (judged_more before w good) [
       | inl g ↦ subst AreJudged (append_assoc before (w ∷ []) ws) (judged (before ++ w ∷ []) ws g)
-      | inr b ↦ inr (b.0, subst (λ (l : List ℕ). HasBadWord l b.0) (append_assoc before (w ∷ []) ws) (bad_stays (before ++ w ∷ []) ws b.0 b.1))
+      | inr b ↦
+          let stays = bad_stays (before ++ w ∷ []) ws b.0 b.1 in
+          inr (b.0, subst (λ (l : List ℕ). HasBadWord l b.0) (append_assoc before (w ∷ []) ws) stays)
     ]
 
 pub none_good : AllMayStand []

@@ -33,7 +33,8 @@ no_orphan_tail may Idle ks h = h
 no_orphan_tail may (Address high function) ks h = h
 no_orphan_tail may (Message bits) ks h = h.1
 
-module _ (before : List ℕ) (w : ℕ) (T : List ℕ) (good : AllMayStand before) (n : length before % 17 ≢ 0) (are : All IsCodeword (w ∷ T)) (h : HasNoOrphan (may_follow before (length before)) (map kind_of (w ∷ T))) where
+module _ (before : List ℕ) (w : ℕ) (T : List ℕ) (good : AllMayStand before) (n : length before % 17 ≢ 0)
+    (are : All IsCodeword (w ∷ T)) (h : HasNoOrphan (may_follow before (length before)) (map kind_of (w ∷ T))) where
   word_good : AllMayStand (before ++ w ∷ [])
   word_good = good_codeword before w good n (All-head IsCodeword w T are) (no_orphan_head _ (kind_of w) (map kind_of T) h)
 
@@ -53,13 +54,16 @@ synced_good (w ∷ T) before i good r at are h =
           let n : length first % 17 ≢ 0 = omega arith in
           let h' : HasNoOrphan (may_follow first (length first)) (map kind_of (w ∷ T)) = rw (may_sync before sync_word z) h in
           let next_length : length (first ++ w ∷ []) ≡ length before + 2 = let l = length_more first w in omega arith in
-          rw (eq-eqb _ _ e) (subst AllMayStand (append_assoc first (w ∷ []) (synced (i + 1) T) ∙ append_assoc before (sync_word ∷ []) (w ∷ synced (i + 1) T))
-          (synced_good T (first ++ w ∷ []) (i + 1) (word_good first w T first_good n are h') (omega arith) (omega arith) (All-tail IsCodeword w T are) (rest_follows first w T first_good n are h')))
+          rw (eq-eqb _ _ e)
+          (subst AllMayStand (append_assoc first (w ∷ []) (synced (i + 1) T) ∙ append_assoc before (sync_word ∷ []) (w ∷ synced (i + 1) T))
+          (synced_good T (first ++ w ∷ []) (i + 1) (word_good first w T first_good n are h') (omega arith) (omega arith)
+          (All-tail IsCodeword w T are) (rest_follows first w T first_good n are h')))
       | inr m ↦
           let n : length before % 17 ≢ 0 = omega arith in
           let next_length : length (before ++ w ∷ []) ≡ length before + 1 = length_more before w in
           rw (ne_eqb _ _ m) (subst AllMayStand (append_assoc before (w ∷ []) (synced (i + 1) T))
-          (synced_good T (before ++ w ∷ []) (i + 1) (word_good before w T good n are h) (omega arith) (omega arith) (All-tail IsCodeword w T are) (rest_follows before w T good n are h)))
+          (synced_good T (before ++ w ∷ []) (i + 1) (word_good before w T good n are h) (omega arith) (omega arith)
+          (All-tail IsCodeword w T are) (rest_follows before w T good n are h)))
     ]
 
 synced_small : (i : ℕ) (T : List ℕ) → All IsCodeword T → All (λ w. w < 2 ^ 32) (synced i T)
@@ -75,7 +79,8 @@ synced_small i (w ∷ T) are =
 words_again : (ws : List ℕ) → All (λ w. w < 2 ^ 32) ws → words_of (flat_map (to_be_bytes w32) ws) ≡ ws
 words_again [] small = refl
 words_again (w ∷ ws) small =
-    ap₂ (λ (x : ℕ) (l : List ℕ). x ∷ l) (from_be_bytes-to_be_bytes_4 w (All-head (λ x. x < 2 ^ 32) w ws small)) (words_again ws (All-tail (λ x. x < 2 ^ 32) w ws small))
+    ap₂ (λ (x : ℕ) (l : List ℕ). x ∷ l) (from_be_bytes-to_be_bytes_4 w (All-head (λ x. x < 2 ^ 32) w ws small))
+    (words_again ws (All-tail (λ x. x < 2 ^ 32) w ws small))
 
 body_begins : (T : List ℕ) → BeginsOther (body_bytes T)
 body_begins [] = tt
@@ -97,7 +102,8 @@ reads_whole X ps small r =
       long = let l = leading_is X s.preamble (body_bytes T) p in let long = s.long in omega arith;
       some = omega arith;
       good =
-          rw (after, words_again (synced 0 T) (synced_small 0 T s.codewords)) (synced_good T [] 0 none_good (omega arith) (omega arith) s.codewords plain.no_orphan);
+          rw (after, words_again (synced 0 T) (synced_small 0 T s.codewords))
+          (synced_good T [] 0 none_good (omega arith) (omega arith) s.codewords plain.no_orphan);
       batches = omega arith;
     }
 
@@ -109,7 +115,8 @@ unsynced_synced (w ∷ T) i j r at =
       | inl e ↦
           let z : j % 17 ≡ 0 = omega arith in
           let m : (j + 1) % 17 ≢ 0 = omega arith in
-          rw (eq-eqb _ _ e, eq-eqb _ _ z, ne_eqb _ _ m) (ap (λ (l : List ℕ). w ∷ l) (unsynced_synced T (i + 1) (j + 1 + 1) (omega arith) (omega arith)))
+          rw (eq-eqb _ _ e, eq-eqb _ _ z, ne_eqb _ _ m)
+          (ap (λ (l : List ℕ). w ∷ l) (unsynced_synced T (i + 1) (j + 1 + 1) (omega arith) (omega arith)))
       | inr n ↦
           let m : j % 17 ≢ 0 = omega arith in
           rw (ne_eqb _ _ n, ne_eqb _ _ m) (ap (λ (l : List ℕ). w ∷ l) (unsynced_synced T (i + 1) (j + 1) (omega arith) (omega arith)))
@@ -117,12 +124,14 @@ unsynced_synced (w ∷ T) i j r at =
 
 pub codewords_are : (X T : List ℕ) → Sent X T → codewords_in X ≡ T
 codewords_are X T s =
-    let after : after_preamble X ≡ body_bytes T = after_is X s.preamble (body_bytes T) (record { whole = s.bytes; other = body_begins T }) in
+    let after : after_preamble X ≡ body_bytes T =
+    after_is X s.preamble (body_bytes T) (record { whole = s.bytes; other = body_begins T }) in
     ap (λ (Y : List ℕ). unsynced 0 (words_of Y)) after
     ∙ (ap (unsynced 0) (words_again (synced 0 T) (synced_small 0 T s.codewords)) ∙ unsynced_synced T 0 0 (omega arith) (omega arith))
 
 read_pages : (X : List ℕ) (ps : List Page) → ReadsAs X ps → ps ≡ pages_from 0 (map kind_of (codewords_in X))
-read_pages X ps r = (reads_plainly r.reads).pages ∙ ap (λ (T : List ℕ). pages_from 0 (map kind_of T)) (sym (codewords_are X r.codewords r.sent))
+read_pages X ps r =
+    (reads_plainly r.reads).pages ∙ ap (λ (T : List ℕ). pages_from 0 (map kind_of T)) (sym (codewords_are X r.codewords r.sent))
 
 pub one_reading : (X : List ℕ) (ps qs : List Page) → ReadsAs X ps → ReadsAs X qs → ps ≡ qs
 one_reading X ps qs r s = read_pages X ps r ∙ sym (read_pages X qs s)

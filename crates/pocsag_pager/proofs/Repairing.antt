@@ -39,7 +39,8 @@ back_case false w rest small e = word_back w (flat_map (to_be_bytes w32) rest) s
 words_back : (i : ℕ) (T : List ℕ) → All IsCodeword T → words_of (flat_map (to_be_bytes w32) (synced i T)) ≡ synced i T
 words_back i [] codewords = refl
 words_back i (w ∷ T) codewords =
-    back_case (nat_eq (i % 16) 0) w (synced (i + 1) T) (All-head IsCodeword w T codewords).fits (words_back (i + 1) T (All-tail IsCodeword w T codewords))
+    back_case (nat_eq (i % 16) 0) w (synced (i + 1) T) (All-head IsCodeword w T codewords).fits
+    (words_back (i + 1) T (All-tail IsCodeword w T codewords))
 
 leading_is : (T : List ℕ) → 0 < length T → leading (bytes_of T) ≡ 72
 unfolding bytes_of
@@ -53,11 +54,13 @@ after_is (w ∷ T) some = refl
 
 -- ---- no fault
 
-no_fault_case : (n m : ℕ) → 72 ≤ n → m ≢ 0 → m % 68 ≡ 0 → (Y : List ℕ) → leading Y ≡ n → length (after_preamble Y) ≡ m → bytes_fault Y ≡ None
+no_fault_case : (n m : ℕ) → 72 ≤ n → m ≢ 0 → m % 68 ≡ 0 → (Y : List ℕ) → leading Y ≡ n → length (after_preamble Y) ≡ m
+    → bytes_fault Y ≡ None
 unfolding bytes_fault
 no_fault_case n m long some whole Y e h = rw (h, e, le-ltb _ _ long, ne_eqb _ _ some, eq-eqb _ _ whole) refl
 
-pub no_fault : (end : End) (T : List ℕ) (batches : ℕ) (R : List Page) (Y : List ℕ) → IsLegalList end T batches R → IsDamaged (bytes_of T) Y → bytes_fault Y ≡ None
+pub no_fault : (end : End) (T : List ℕ) (batches : ℕ) (R : List Page) (Y : List ℕ) → IsLegalList end T batches R → IsDamaged (bytes_of T) Y
+    → bytes_fault Y ≡ None
 no_fault end T batches R Y legal damaged =
     let long : length T ≡ 16 * batches = sym (length-map T kind_of) ∙ legal.1.0.whole.1 in
     let some : 0 < batches = legal.1.0.whole.0 in
@@ -65,7 +68,8 @@ no_fault end T batches R Y legal damaged =
     let body : length (body_bytes T) ≡ 4 * length (synced 0 T) = body_length (synced 0 T) in
     let sent : length (drop (leading (bytes_of T)) (bytes_of T)) ≡ length (body_bytes T) = ap length (after_is T (omega arith)) in
     let same : length (after_preamble Y) ≡ length (body_bytes T) =
-    length-drop (leading Y) Y ∙ ap₂ ◌-◌ (sym damaged.long) (sym damaged.preamble) ∙ sym (length-drop (leading (bytes_of T)) (bytes_of T)) ∙ sent in
+    length-drop (leading Y) Y ∙ ap₂ ◌-◌ (sym damaged.long) (sym damaged.preamble) ∙ sym (length-drop (leading (bytes_of T)) (bytes_of T))
+    ∙ sent in
     let words : length (synced 0 T) ≡ 17 * batches = omega (arith, synced_count 0 T) in
     no_fault_case 72 (68 * batches) (omega arith) (omega arith) (omega arith) Y front (omega arith)
 
@@ -99,7 +103,8 @@ near_unsynced i j (w ∷ T) ys e near =
 
 -- ---- what is shown of codewords that are all repaired
 
-all_back : (T ys : List ℕ) (ms : List (Option ℕ)) → All IsCodeword T → AllZip IsNear T ys → AllZip IsMended ys ms → map said ms ≡ map Some (map kind_of T)
+all_back : (T ys : List ℕ) (ms : List (Option ℕ)) → All IsCodeword T → AllZip IsNear T ys → AllZip IsMended ys ms
+    → map said ms ≡ map Some (map kind_of T)
 all_back [] [] [] codewords near mended = refl
 all_back [] [] (m ∷ ms) codewords near mended = absurd mended
 all_back [] (y ∷ ys) ms codewords near mended = absurd near
@@ -128,9 +133,12 @@ shown_is_chosen a i [] = refl
 shown_is_chosen a i (Idle ∷ ks) = shown_is_chosen a (i + 1) ks
 shown_is_chosen a i (Address high function ∷ ks) =
     let q : Page = record { address = 8 * high + frame_at i; function = function; payload = items_of ks } in
-    ap (λ b. cond b (page_called a function (map Some ks) ∷ shown_from a (i + 1) (map Some ks)) (shown_from a (i + 1) (map Some ks))) (ours_is a i high)
-    ∙ page_case (nat_eq (8 * high + frame_at i) a) (page_called a function (map Some ks)) q (shown_from a (i + 1) (map Some ks)) (filter (calls a) (pages_from (i + 1) ks))
-    (λ ours. ap₂ (λ (address : ℕ) (items : List ℕ). (record { address = address; function = function; payload = items })) (sym (eqb-true _ _ ours)) (run_is ks))
+    ap (λ b. cond b (page_called a function (map Some ks) ∷ shown_from a (i + 1) (map Some ks)) (shown_from a (i + 1) (map Some ks)))
+    (ours_is a i high)
+    ∙ page_case (nat_eq (8 * high + frame_at i) a) (page_called a function (map Some ks)) q (shown_from a (i + 1) (map Some ks))
+    (filter (calls a) (pages_from (i + 1) ks))
+    (λ ours. ap₂ (λ (address : ℕ) (items : List ℕ). (record { address = address; function = function; payload = items }))
+    (sym (eqb-true _ _ ours)) (run_is ks))
     (shown_is_chosen a (i + 1) ks)
 shown_is_chosen a i (Message bits ∷ ks) = shown_is_chosen a (i + 1) ks
 
@@ -145,8 +153,10 @@ repaired law end T batches R Y a ps apart legal damaged h =
     let long : length T ≡ 16 * batches = sym (length-map T kind_of) ∙ read.whole.1 in
     let some : 0 < batches = read.whole.0 in
     let sent : words_of (after_preamble (bytes_of T)) ≡ synced 0 T = ap words_of (after_is T (omega arith)) ∙ words_back 0 T legal.0 in
-    let near : AllZip IsNear (synced 0 T) (words_of (after_preamble Y)) = subst (λ (xs : List ℕ). AllZip IsNear xs (words_of (after_preamble Y))) sent damaged.words in
-    let kinds = all_back T (unsynced 0 (words_of (after_preamble Y))) h.mended legal.0 (near_unsynced 0 0 T (words_of (after_preamble Y)) (omega arith) near) h.each in
+    let near : AllZip IsNear (synced 0 T) (words_of (after_preamble Y)) =
+    subst (λ (xs : List ℕ). AllZip IsNear xs (words_of (after_preamble Y))) sent damaged.words in
+    let kinds = all_back T (unsynced 0 (words_of (after_preamble Y))) h.mended legal.0
+    (near_unsynced 0 0 T (words_of (after_preamble Y)) (omega arith) near) h.each in
     let plain = (law (map kind_of T) 0 read.ps).0 read.reads in
     h.holds ∙ ap (shown_from a 0) kinds ∙ shown_is_chosen a 0 (map kind_of T) ∙ ap (filter (calls a)) (sym (plain.1))
     ∙ chosen a R read.ps apart read.as_many read.each

@@ -85,13 +85,15 @@ words_small (a ∷ b ∷ c ∷ d ∷ xs) h =
     All-cons (λ w. w < 2 ^ 32) (from_be_bytes w32 (a ∷ b ∷ c ∷ d ∷ [])) (words_of xs) (word_small a b c d (h 0) (h 1) (h 2) (h 3))
     (words_small xs (λ i. h (suc (suc (suc (suc i))))))
 
-pub three_parts : (k n : ℕ) (words xs before rest frame after : List ℕ) → n ≡ 4 * k → n ≤ length xs → 8 ≤ length rest → before ≡ take n xs → rest ≡ drop n xs
+pub three_parts : (k n : ℕ) (words xs before rest frame after : List ℕ) → n ≡ 4 * k → n ≤ length xs → 8 ≤ length rest → before ≡ take n xs
+    → rest ≡ drop n xs
     → frame ≡ take 8 rest → after ≡ drop 8 rest → ((words ++ words_of before) ++ words_of frame) ++ words_of after ≡ words ++ words_of xs
 three_parts k n words xs before rest frame after e within room b r f a =
     let both : List ℕ → List ℕ → List ℕ = λ ys zs. words_of ys ++ words_of zs in
     let second : words_of frame ++ words_of after ≡ words_of rest = ap₂ both f a ∙ sym (words_split 2 8 rest refl room) in
     let first : words_of before ++ words_of rest ≡ words_of xs = ap₂ both b r ∙ sym (words_split k n xs e within) in
-    append_assoc (words ++ words_of before) (words_of frame) (words_of after) ∙ append_assoc words (words_of before) (words_of frame ++ words_of after)
+    append_assoc (words ++ words_of before) (words_of frame) (words_of after)
+    ∙ append_assoc words (words_of before) (words_of frame ++ words_of after)
     ∙ ap (λ ws. words ++ ws) (ap (λ ws. words_of before ++ ws) second ∙ first)
 
 pub next_batch : (i : ℕ) (xs : List ℕ) → 68 * i + 68 ≤ length xs

@@ -6,7 +6,9 @@ pub returns-then-passes : goal.returns-then-passes
 returns-then-passes c =
     let bytes = c.args.bytes.now in
     record {
-      heard = λ words h. c.pass.ensures.heard words (words_of bytes) _ h (words_small bytes (λ i. (c.type_inv.bytes i).fits)) (words_long bytes);
+      heard =
+          λ words h. c.pass.ensures.heard words (words_of bytes) _ h (words_small bytes (λ i. (c.type_inv.bytes i).fits))
+          (words_long bytes);
       memory = λ words h. tt;
       address = c.pass.ensures.address;
     }
