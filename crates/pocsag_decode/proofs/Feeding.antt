@@ -1,6 +1,6 @@
 -- A decoder that stands after some bytes, and one piece more or the end.
-use Rattle.std.proofs.Common.{◌≡◌, ◌≢◌, ℕ, ◌+◌, ◌%◌, ◌^◌, ◌<◌, ◌≤◌, List, [], ◌∷◌, ◌++◌, length, drop, sym, ap, ◌∙◌, subst, inl, inr, arith, All}
-use Rattle.std.proofs.lemmas.List.{append-nil, length-append}
+use Rattle.std.proofs.Common.{◌≡◌, ◌≢◌, ℕ, ◌+◌, ◌%◌, ◌^◌, ◌<◌, ◌≤◌, List, [], ◌++◌, length, drop, sym, ap, ◌∙◌, subst, inl, inr, arith, All}
+use Rattle.std.proofs.lemmas.List.{append-nil, length-append, nil_from_length}
 use Rattle.std.proofs.lemmas.List.Elements.{All-append}
 use Rattle.pocsag_pages.specs.Bytes.{leading, after_preamble, words_of}
 use Rattle.pocsag_decode.specs.declared.fault.DecodeFault.{DecodeFault}
@@ -9,14 +9,13 @@ use Rattle.pocsag_decode.specs.declared.state.Decoder.{Decoder}
 use Rattle.pocsag_decode.specs.Carried.{size_of}
 use Rattle.pocsag_decode.specs.Faults.{HasFaultThere, HasFaultOfEnd, IsPastPreamble, RefusesPiece, no_memory, fault_there}
 use Rattle.pocsag_decode.specs.Standing.{StandsAfter, StandsIn}
-use Rattle.pocsag_decode.proofs.Preambles.{begun_leading, begun_after, alone_leading, alone_after, count_is, nil_or, nil_from}
+use Rattle.pocsag_decode.proofs.Preambles.{begun_leading, begun_after, alone_leading, alone_after, count_is, nil_or}
 use Rattle.pocsag_decode.specs.Taking.{Refuses}
 use Rattle.pocsag_decode.proofs.Transmissions.{IsWhole}
 use Rattle.pocsag_decode.proofs.Words.{size_is}
 
 append_nil_right : (xs ys : List ℕ) → xs ++ ys ≡ [] → ys ≡ []
-append_nil_right [] ys e = e
-append_nil_right (x ∷ xs) ys e = absurd (cc)
+append_nil_right xs ys e = nil_from_length ys (let l = ap length e in omega (arith, length-append xs ys))
 
 -- how a piece goes on after the bytes AA
 pub skips_begun : (X Z : List ℕ) (leads size : ℕ) → leads ≡ leading X → size ≡ length (after_preamble X) → ¬ (size ≡ 0)
@@ -29,7 +28,7 @@ pub skips_alone : (X Z rest : List ℕ) (leads size count : ℕ) → leads ≡ l
     → count ≡ leading Z → rest ≡ drop count Z
     → (leads + count ≡ leading (X ++ Z)) × (after_preamble (X ++ Z) ≡ after_preamble X ++ rest)
 skips_alone X Z rest leads size count e s z c r =
-    let none : after_preamble X ≡ [] = nil_from (after_preamble X) (sym s ∙ z) in (
+    let none : after_preamble X ≡ [] = nil_from_length (after_preamble X) (sym s ∙ z) in (
       let l = alone_leading X Z none in omega arith,
       alone_after X Z none ∙ ap (λ (l : List ℕ). after_preamble X ++ l) (sym (r ∙ ap (λ (n : ℕ). drop n Z) c)),
     )
@@ -49,7 +48,7 @@ module _ (d : Decoder) (X : List ℕ) (s : StandsAfter d X) where
       ]
 
   pub no_batch_end : 72 ≤ d.leading → size_of d.body.place d.body.carry ≡ 0 → HasFaultOfEnd X fault.NoBatch
-  no_batch_end h z = HasFaultOfEnd.no_batch (let p = s.preamble in omega arith) (nil_from (after_preamble X) (sym body_size ∙ z))
+  no_batch_end h z = HasFaultOfEnd.no_batch (let p = s.preamble in omega arith) (nil_from_length (after_preamble X) (sym body_size ∙ z))
 
   pub cut_end : 72 ≤ d.leading → ¬ (size_of d.body.place d.body.carry % 68 ≡ 0) → HasFaultOfEnd X fault.Truncated
   cut_end h n = HasFaultOfEnd.cut (let p = s.preamble in omega arith) s.words.read.good (λ z. n (ap (λ (x : ℕ). x % 68) body_size ∙ z))
@@ -103,5 +102,5 @@ module _ (d : Decoder) (X : List ℕ) (s : StandsAfter d X) where
     pub refused_body : (f : DecodeFault) → 72 ≤ new.leading → rest ≢ [] → length rest ≤ length Z
         → Refuses (words_of (after_preamble X ++ rest)) f → RefusesPiece X Z f
     refused_body f h n within (inl e) =
-        subst (RefusesPiece X Z) (sym e) (no_memory few (λ z. n (nil_from rest (let l = ap length z in omega arith))) (past h n))
+        subst (RefusesPiece X Z) (sym e) (no_memory few (λ z. n (nil_from_length rest (let l = ap length z in omega arith))) (past h n))
     refused_body f h n within (inr b) = fault_there few (HasFaultThere.bad (omega arith) (rw after b))

@@ -90,7 +90,3 @@ module _ (X Z : List ℕ) where
 pub nil_or : (l : List ℕ) → (l ≡ []) ⊎ (l ≢ [])
 nil_or [] = inl refl
 nil_or (x ∷ l) = inr (λ e. cc)
-
-pub nil_from : (l : List ℕ) → length l ≡ 0 → l ≡ []
-nil_from [] e = refl
-nil_from (x ∷ l) e = absurd (omega arith)

@@ -1,11 +1,8 @@
 -- Bytes that are sent are whole, and sent from one list of codewords.
-use Rattle.std.proofs.Common.{◌≡◌, ◌≢◌, ℕ, lit<, not, ◌+◌, ◌*◌, ◌/◌, ◌%◌, ◌^◌, ◌<◌, Bool, List, [], ◌∷◌, ◌++◌, length, map, IsTrue, All, refl, sym, ap, ap₂, ◌∙◌, subst, inl, inr, arith, append_assoc}
-use Rattle.std.specs.Int.{to_be_bytes, w32}
-use Rattle.std.specs.List.{flat_map}
+use Rattle.std.proofs.Common.{◌≡◌, ◌≢◌, ℕ, not, ◌+◌, ◌*◌, ◌/◌, ◌%◌, ◌<◌, Bool, List, [], ◌∷◌, ◌++◌, length, map, IsTrue, All, refl, sym, ap, ◌∙◌, subst, inl, inr, arith, append_assoc}
 use Rattle.std.proofs.lemmas.Bool.{cases_eq, eq-eqb, ne_eqb, true≢false}
 use Rattle.std.proofs.lemmas.List.{append-nil}
-use Rattle.std.proofs.lemmas.List.Elements.{All-nil, All-cons, All-head, All-tail}
-use Rattle.std.proofs.lemmas.Nat.{from_be_bytes-to_be_bytes_4}
+use Rattle.std.proofs.lemmas.List.Elements.{All-head, All-tail}
 use Rattle.pocsag_words.specs.Codeword.{IsCodeword}
 use Rattle.pocsag_words.specs.Kinds.{kind_of}
 use Rattle.pocsag_words.specs.declared.codeword.Kind.{Kind}
@@ -19,7 +16,7 @@ use Rattle.pocsag_decode.specs.Places.{is_message, is_idle, may_follow, AllMaySt
 use Rattle.pocsag_decode.proofs.Preambles.{Parts, BeginsOther, leading_is, after_is}
 use Rattle.pocsag_decode.proofs.Transmissions.{IsWhole}
 use Rattle.pocsag_decode.proofs.WordByWord.{length_more, good_sync, good_codeword, may_sync, may_codeword}
-use Rattle.pocsag_pages.proofs.Lengths.{body_length, synced_count}
+use Rattle.pocsag_pages.proofs.Lengths.{body_length, synced_count, synced_small, words_again}
 use Rattle.pocsag_decode.proofs.Judgements.{none_good}
 
 -- the words of what was sent
@@ -65,22 +62,6 @@ synced_good (w ∷ T) before i good r at are h =
           (synced_good T (before ++ w ∷ []) (i + 1) (word_good before w T good n are h) (omega arith) (omega arith)
           (All-tail IsCodeword w T are) (rest_follows before w T good n are h)))
     ]
-
-synced_small : (i : ℕ) (T : List ℕ) → All IsCodeword T → All (λ w. w < 2 ^ 32) (synced i T)
-synced_small i [] are = All-nil (λ w. w < 2 ^ 32)
-synced_small i (w ∷ T) are =
-    let small : w < 2 ^ 32 = (All-head IsCodeword w T are).fits in
-    let rest = All-cons (λ x. x < 2 ^ 32) w (synced (i + 1) T) small (synced_small (i + 1) T (All-tail IsCodeword w T are)) in
-    elim (cases_eq (i % 16) 0) [
-      | inl e ↦ rw (eq-eqb _ _ e) (All-cons (λ x. x < 2 ^ 32) sync_word (w ∷ synced (i + 1) T) (lit< tt) rest)
-      | inr n ↦ rw (ne_eqb _ _ n) rest
-    ]
-
-words_again : (ws : List ℕ) → All (λ w. w < 2 ^ 32) ws → words_of (flat_map (to_be_bytes w32) ws) ≡ ws
-words_again [] small = refl
-words_again (w ∷ ws) small =
-    ap₂ (λ (x : ℕ) (l : List ℕ). x ∷ l) (from_be_bytes-to_be_bytes_4 w (All-head (λ x. x < 2 ^ 32) w ws small))
-    (words_again ws (All-tail (λ x. x < 2 ^ 32) w ws small))
 
 body_begins : (T : List ℕ) → BeginsOther (body_bytes T)
 body_begins [] = tt

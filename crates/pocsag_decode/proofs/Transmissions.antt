@@ -4,7 +4,7 @@ use Rattle.std.specs.Int.{to_be_bytes, from_be_bytes, w32}
 use Rattle.std.specs.List.{flat_map}
 use Rattle.std.proofs.Math.Seq.{get_or-append_seam}
 use Rattle.std.proofs.lemmas.Bool.{cases_eq, cases_lt, lt-ltb, le-ltb, eq-eqb, ne_eqb}
-use Rattle.std.proofs.lemmas.List.{append-nil, length-append}
+use Rattle.std.proofs.lemmas.List.{append-nil, length-append, nil_from_length}
 use Rattle.std.proofs.lemmas.List.Elements.{All-nil, All-cons, All-head, All-tail, All-map, All-weaker, All-drop}
 use Rattle.std.proofs.lemmas.Nat.{be_bytes_4}
 use Rattle.pocsag_words.specs.Codeword.{IsCodeword}
@@ -21,10 +21,10 @@ use Rattle.pocsag_decode.specs.Faults.{words, ReadsAs}
 use Rattle.pocsag_decode.specs.Growing.{resumed, closed}
 use Rattle.pocsag_pages.specs.Listable.{IsListable}
 use Rattle.pocsag_decode.specs.Places.{is_message, is_idle, may_follow, MayStandAt, AllMayStand}
-use Rattle.pocsag_decode.proofs.Preambles.{parts, nil_from}
+use Rattle.pocsag_decode.proofs.Preambles.{parts}
 use Rattle.pocsag_decode.proofs.WordByWord.{length_more, may_sync, may_codeword, may_kept}
 use Rattle.pocsag_decode.proofs.Words.{bytes_count}
-use Rattle.pocsag_pages.proofs.Lengths.{unsynced_count}
+use Rattle.pocsag_pages.proofs.Lengths.{unsynced_count, words_long}
 
 -- the words so far, of which the next is w
 module _ (before : List ℕ) (w : ℕ) (ws : List ℕ) (good : AllMayStand (before ++ w ∷ ws)) where
@@ -135,12 +135,8 @@ bytes_are (a ∷ b ∷ c ∷ d ∷ Y) small e =
     (All-head (λ x. x < 256) c (d ∷ Y) s₂) (All-head (λ x. x < 256) d Y s₃) in
     ap₂ (λ (x y : List ℕ). x ++ y) four (bytes_are Y s₄ e)
 
-pub unfinished_short : (Y : List ℕ) → length (unfinished Y) < 4
-unfinished_short [] = lit< tt
-unfinished_short (a ∷ []) = lit< tt
-unfinished_short (a ∷ b ∷ []) = lit< tt
-unfinished_short (a ∷ b ∷ c ∷ []) = lit< tt
-unfinished_short (a ∷ b ∷ c ∷ d ∷ Y) = unfinished_short Y
+unfinished_short : (Y : List ℕ) → length (unfinished Y) < 4
+unfinished_short Y = let n = bytes_count Y in let m = words_long Y in omega arith
 
 -- what bytes with no fault are
 pub record IsWhole (X : List ℕ) : Type 0 where
@@ -156,7 +152,7 @@ module _ (X : List ℕ) (h : IsWhole X) where
 
   none_left : unfinished (after_preamble X) ≡ []
   none_left =
-      nil_from (unfinished (after_preamble X))
+      nil_from_length (unfinished (after_preamble X))
       (let w = words_count in let b = h.batches in let s = unfinished_short (after_preamble X) in omega arith)
 
   whole_words : length (words X) % 17 ≡ 0

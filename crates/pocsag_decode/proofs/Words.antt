@@ -2,8 +2,9 @@
 use Rattle.std.proofs.Common.{◌≡◌, ◌≢◌, ℕ, ◌+◌, ◌*◌, List, [], ◌∷◌, ◌++◌, length, take, drop, refl, sym, ap, ap₂, ◌∙◌, subst, inl, inr, arith, append_assoc, true, false, ◌==◌}
 use Rattle.std.proofs.lemmas.Bool.{eqb-true, false≢true}
 use Rattle.std.specs.Int.{from_be_bytes, w32}
-use Rattle.std.proofs.lemmas.List.{append-nil, length-append, take-append-drop}
+use Rattle.std.proofs.lemmas.List.{append-nil, length-append, nil_from_length, take-append-drop}
 use Rattle.pocsag_pages.specs.Bytes.{words_of}
+use Rattle.pocsag_pages.proofs.Lengths.{first_word, words_long}
 use Rattle.pocsag_decode.specs.declared.fault.DecodeFault.{DecodeFault}
 use Rattle.pocsag_decode.specs.declared.body.Body.{Body}
 use Rattle.pocsag_decode.specs.declared.carry.Carry.{Carry}
@@ -62,20 +63,10 @@ refuses f ws vs h (inr p) = inr (h p)
 
 -- four bytes
 four_words : (l : List ℕ) → length l ≡ 4 → words_of l ≡ from_be_bytes w32 l ∷ []
-four_words [] e = absurd (omega arith)
-four_words (a ∷ []) e = absurd (omega arith)
-four_words (a ∷ b ∷ []) e = absurd (omega arith)
-four_words (a ∷ b ∷ c ∷ []) e = absurd (omega arith)
-four_words (a ∷ b ∷ c ∷ d ∷ []) e = refl
-four_words (a ∷ b ∷ c ∷ d ∷ x ∷ l) e = absurd (omega arith)
+four_words l e = ap words_of (sym (append-nil l)) ∙ first_word l [] e
 
 four_left : (l : List ℕ) → length l ≡ 4 → unfinished l ≡ []
-four_left [] e = refl
-four_left (a ∷ []) e = absurd (omega arith)
-four_left (a ∷ b ∷ []) e = absurd (omega arith)
-four_left (a ∷ b ∷ c ∷ []) e = absurd (omega arith)
-four_left (a ∷ b ∷ c ∷ d ∷ []) e = refl
-four_left (a ∷ b ∷ c ∷ d ∷ x ∷ l) e = absurd (omega arith)
+four_left l e = nil_from_length (unfinished l) (let n = bytes_count l in let m = words_long l in omega arith)
 
 -- bytes that make a word whole
 module _ (b : Body) (Y Z : List ℕ) (w : ℕ) (s : StandsIn b Y)
@@ -84,12 +75,12 @@ module _ (b : Body) (Y Z : List ℕ) (w : ℕ) (s : StandsIn b Y)
   words_are =
       words_on Y Z
       ∙ ap (λ (l : List ℕ). words_of Y ++ l)
-      (ap (λ (l : List ℕ). words_of (l ++ Z)) (sym s.carry) ∙ (four_words (carried b.carry ++ Z) e ∙ ap (λ (x : ℕ). x ∷ []) (sym is)))
+      (ap (λ (l : List ℕ). words_of (l ++ Z)) (sym s.carry) ∙ (four_words _ e ∙ ap (λ (x : ℕ). x ∷ []) (sym is)))
 
   pub word_more : (new : Body) → HasRead new.place new.growing (words_of Y ++ w ∷ []) → carried new.carry ≡ [] → StandsIn new (Y ++ Z)
   word_more new r none = record {
     read = rw words_are r;
-    carry = none ∙ sym (rest_on Y Z ∙ (ap (λ (l : List ℕ). unfinished (l ++ Z)) (sym s.carry) ∙ four_left (carried b.carry ++ Z) e));
+    carry = none ∙ sym (rest_on Y Z ∙ (ap (λ (l : List ℕ). unfinished (l ++ Z)) (sym s.carry) ∙ four_left _ e));
   }
 
   pub bad_word_more : (f : DecodeFault) → HasBadWord (words_of Y ++ w ∷ []) f → HasBadWord (words_of (Y ++ Z)) f

@@ -12,19 +12,13 @@ use Rattle.pocsag_pager.specs.Turns.{ending, next_open}
 
 -- ---- a run of message codewords has no page of its own
 
-run_shown : (a i : ℕ) (ms : List (Option Kind)) → is_run ms ≡ true → shown_from a i ms ≡ []
-run_shown a i [] e = refl
-run_shown a i (None ∷ ms) e = absurd (cc)
-run_shown a i (Some Idle ∷ ms) e = absurd (cc)
-run_shown a i (Some (Address high function) ∷ ms) e = absurd (cc)
-run_shown a i (Some (Message bits) ∷ ms) e = run_shown a (i + 1) ms e
-
-run_ended : (a i : ℕ) (ms : List (Option Kind)) → is_run ms ≡ true → ended_from a i ms ≡ []
-run_ended a i [] e = refl
-run_ended a i (None ∷ ms) e = absurd (cc)
-run_ended a i (Some Idle ∷ ms) e = absurd (cc)
-run_ended a i (Some (Address high function) ∷ ms) e = absurd (cc)
-run_ended a i (Some (Message bits) ∷ ms) e = run_ended a (i + 1) ms e
+run_has_none : (a i : ℕ) (ms : List (Option Kind)) → is_run ms ≡ true
+    → (shown_from a i ms ≡ []) × (ended_from a i ms ≡ []) × (open_from a i ms ≡ None)
+run_has_none a i [] e = (refl, refl, refl)
+run_has_none a i (None ∷ ms) e = absurd (cc)
+run_has_none a i (Some Idle ∷ ms) e = absurd (cc)
+run_has_none a i (Some (Address high function) ∷ ms) e = absurd (cc)
+run_has_none a i (Some (Message bits) ∷ ms) e = run_has_none a (i + 1) ms e
 
 -- ---- what is shown is what has ended and what is still open
 
@@ -42,7 +36,7 @@ shown_is a i (Some Idle ∷ ms) = shown_is a (i + 1) ms
 shown_is a i (Some (Address high function) ∷ ms) =
     shown_case (page_called a function ms) (shown_from a (i + 1) ms) (ended_from a (i + 1) ms) (open_from a (i + 1) ms) (is_ours a i high)
     (is_run ms)
-    (shown_is a (i + 1) ms) (run_shown a (i + 1) ms) (run_ended a (i + 1) ms)
+    (shown_is a (i + 1) ms) (λ e. (run_has_none a (i + 1) ms e).0) (λ e. (run_has_none a (i + 1) ms e).1)
 shown_is a i (Some (Message bits) ∷ ms) = shown_is a (i + 1) ms
 
 -- ---- one more word
@@ -87,13 +81,6 @@ ended_case p q E F O (Some Idle) true true more e r s h o = rw (r, s r, e, h ref
 ended_case p q E F O (Some (Address high function)) true true more e r s h o = rw (r, s r, e, h refl, o refl) refl
 ended_case p q E F O (Some (Message bits)) true true more e r s h o = rw (r, e, h refl) refl
 
-run_open : (a i : ℕ) (ms : List (Option Kind)) → is_run ms ≡ true → open_from a i ms ≡ None
-run_open a i [] e = refl
-run_open a i (None ∷ ms) e = absurd (cc)
-run_open a i (Some Idle ∷ ms) e = absurd (cc)
-run_open a i (Some (Address high function) ∷ ms) e = absurd (cc)
-run_open a i (Some (Message bits) ∷ ms) e = run_open a (i + 1) ms e
-
 no_end : (b : Bool) (p : Page) → cond (b && false) (p ∷ []) [] ≡ []
 no_end true p = refl
 no_end false p = refl
@@ -110,7 +97,8 @@ ended_more a i (Some (Address high function) ∷ ms) m =
     ended_case (page_called a function ms) (page_called a function (ms ++ m ∷ [])) (ended_from a (i + 1) ms)
     (ended_from a (i + 1) (ms ++ m ∷ []))
     (open_from a (i + 1) ms) m (is_ours a i high) (is_run ms) (is_run (ms ++ m ∷ [])) (ended_more a (i + 1) ms m) (run_more ms m)
-    (λ e. with_run a function (ms ++ m ∷ []) ms (run_stops ms m e)) (run_ended a (i + 1) ms) (run_open a (i + 1) ms)
+    (λ e. with_run a function (ms ++ m ∷ []) ms (run_stops ms m e)) (λ e. (run_has_none a (i + 1) ms e).1)
+    (λ e. (run_has_none a (i + 1) ms e).2)
 ended_more a i (Some (Message bits) ∷ ms) m = ended_more a (i + 1) ms m
 
 open_case : (a j : ℕ) (p q : Page) (O N : Option Page) (m : Option Kind) (ours run more : Bool) → N ≡ next_open a j O m

@@ -1,13 +1,11 @@
 -- A damaged transmission is heard as it was sent.
-use Rattle.std.proofs.Common.{◌≡◌, ◌≢◌, ℕ, ◌+◌, ◌*◌, ◌-◌, ◌/◌, ◌%◌, ◌^◌, ◌<◌, ◌≤◌, Bool, true, false, cond, nat_eq, List, [], ◌∷◌, ◌++◌, length, map, drop, filter, All, refl, sym, ap, ap₂, subst, ◌∙◌, inl, inr, arith, lit<, eq-eqb, eqb-true, ◌↔◌}
+use Rattle.std.proofs.Common.{◌≡◌, ◌≢◌, ℕ, ◌+◌, ◌*◌, ◌-◌, ◌/◌, ◌%◌, ◌<◌, ◌≤◌, Bool, true, false, cond, nat_eq, List, [], ◌∷◌, length, map, drop, filter, All, refl, sym, ap, ap₂, subst, ◌∙◌, inl, inr, arith, eq-eqb, eqb-true, ◌↔◌}
 use Rattle.std.specs.Prelude.{Option, Some, None}
-use Rattle.std.specs.Int.{to_be_bytes, w32}
-use Rattle.std.specs.List.{AllZip, flat_map}
+use Rattle.std.specs.List.{AllZip}
 use Rattle.std.proofs.lemmas.Bool.{cases_eq, le-ltb, ne_eqb}
 use Rattle.std.proofs.lemmas.Bool.Decides.{nat_tests}
 use Rattle.std.proofs.lemmas.List.{length-map, length-drop}
 use Rattle.std.proofs.lemmas.List.Elements.{All-head, All-tail}
-use Rattle.std.proofs.lemmas.Nat.{from_be_bytes-to_be_bytes_4}
 use Rattle.pocsag_words.specs.Codeword.{IsCodeword, IsNear}
 use Rattle.pocsag_words.specs.Kinds.{kind_of}
 use Rattle.pocsag_words.specs.declared.codeword.Kind.{Kind}
@@ -22,25 +20,9 @@ use Rattle.pocsag_pager.specs.Faults.{bytes_fault}
 use Rattle.pocsag_pager.specs.Shown.{IsMended, AreShown, is_ours, page_called, run_of, said, shown_from}
 use Rattle.pocsag_pager.proofs.Chosen.{calls, chosen}
 use Rattle.pocsag_pager.proofs.Mending.{mended_back}
-use Rattle.pocsag_pages.proofs.Lengths.{body_length, synced_count}
+use Rattle.pocsag_pages.proofs.Lengths.{body_length, synced_count, synced_small, words_again}
 
--- ---- the words of a transmission's bytes
-
-word_back : (w : ℕ) (rest : List ℕ) → w < 2 ^ 32 → words_of (to_be_bytes w32 w ++ rest) ≡ w ∷ words_of rest
-word_back w rest small = ap (λ x. x ∷ words_of rest) (from_be_bytes-to_be_bytes_4 w small)
-
-back_case : (b : Bool) (w : ℕ) (rest : List ℕ) → w < 2 ^ 32 → words_of (flat_map (to_be_bytes w32) rest) ≡ rest
-    → words_of (flat_map (to_be_bytes w32) ((cond b (sync_word ∷ []) []) ++ w ∷ rest)) ≡ (cond b (sync_word ∷ []) []) ++ w ∷ rest
-back_case true w rest small e =
-    word_back sync_word (to_be_bytes w32 w ++ flat_map (to_be_bytes w32) rest) (lit< tt)
-    ∙ ap (λ xs. sync_word ∷ xs) (word_back w (flat_map (to_be_bytes w32) rest) small ∙ ap (λ xs. w ∷ xs) e)
-back_case false w rest small e = word_back w (flat_map (to_be_bytes w32) rest) small ∙ ap (λ xs. w ∷ xs) e
-
-words_back : (i : ℕ) (T : List ℕ) → All IsCodeword T → words_of (flat_map (to_be_bytes w32) (synced i T)) ≡ synced i T
-words_back i [] codewords = refl
-words_back i (w ∷ T) codewords =
-    back_case (nat_eq (i % 16) 0) w (synced (i + 1) T) (All-head IsCodeword w T codewords).fits
-    (words_back (i + 1) T (All-tail IsCodeword w T codewords))
+-- ---- the front of a transmission's bytes
 
 leading_is : (T : List ℕ) → 0 < length T → leading (bytes_of T) ≡ 72
 unfolding bytes_of
@@ -152,7 +134,7 @@ repaired law end T batches R Y a ps apart legal damaged h =
     let read = legal.1.0 in
     let long : length T ≡ 16 * batches = sym (length-map T kind_of) ∙ read.whole.1 in
     let some : 0 < batches = read.whole.0 in
-    let sent : words_of (after_preamble (bytes_of T)) ≡ synced 0 T = ap words_of (after_is T (omega arith)) ∙ words_back 0 T legal.0 in
+    let sent : words_of (after_preamble (bytes_of T)) ≡ synced 0 T = ap words_of (after_is T (omega arith)) ∙ words_again (synced 0 T) (synced_small 0 T legal.0) in
     let near : AllZip IsNear (synced 0 T) (words_of (after_preamble Y)) =
     subst (λ (xs : List ℕ). AllZip IsNear xs (words_of (after_preamble Y))) sent damaged.words in
     let kinds = all_back T (unsynced 0 (words_of (after_preamble Y))) h.mended legal.0

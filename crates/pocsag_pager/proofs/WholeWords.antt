@@ -1,6 +1,6 @@
 -- The words of bytes, taken four bytes at a time.
 use Rattle.std.proofs.Common.{◌≡◌, ℕ, zero, suc, ◌+◌, ◌-◌, ◌*◌, ◌/◌, ◌^◌, ◌<◌, ◌≤◌, All, drop, List, [], ◌∷◌, ◌++◌, length, get_or, take, map, refl, sym, ap, ap₂, subst, ◌∙◌, arith, append_assoc, take-add}
-use Rattle.std.specs.Prelude.{Option, Some, None, Result, Ok, Err, IfOk, IfErr, MatchResult}
+use Rattle.std.specs.Prelude.{Option, Some, None}
 use Rattle.std.specs.Int.{from_be_bytes, w32}
 use Rattle.std.specs.Simd.{first_chunks}
 use Rattle.std.proofs.lemmas.List.{map-append, take_more, length-take, take-append-drop}
@@ -41,26 +41,11 @@ shown_at ws vs a b ps qs words address pages shown =
     subst (λ (xs : List ℕ). AreShown xs b qs) (sym words)
     (subst (λ (n : ℕ). AreShown ws n qs) (sym address) (subst (λ (rs : List Page). AreShown ws a rs) (sym pages) shown))
 
-pub by_result : {X E : Type 0} (r : Result X E) (P : X → Type 0) (Q : E → Type 0) → IfOk r P → IfErr r Q → MatchResult r P Q
-by_result (Ok x) P Q ok err = ok
-by_result (Err e) P Q ok err = err
-
-pub if_ok_then : {X E : Type 0} (r : Result X E) (P Q : X → Type 0) → ((x : X) → P x → Q x) → IfOk r P → IfOk r Q
-if_ok_then (Ok x) P Q f ok = f x ok
-if_ok_then (Err e) P Q f ok = ok
-
 pub not_both : {X : Type 0} (o : Option X) (x : X) → o ≡ None → o ≡ Some x → ⊥
 not_both None x none some = cc
 not_both (Some y) x none some = cc
 
 -- ---- lists of bytes in parts
-
-pub words_long : (xs : List ℕ) → length (words_of xs) ≡ length xs / 4
-words_long [] = refl
-words_long (a ∷ []) = refl
-words_long (a ∷ b ∷ []) = refl
-words_long (a ∷ b ∷ c ∷ []) = refl
-words_long (a ∷ b ∷ c ∷ d ∷ xs) = let rest = words_long xs in omega arith
 
 words_append : (k : ℕ) (xs ys : List ℕ) → length xs ≡ 4 * k → words_of (xs ++ ys) ≡ words_of xs ++ words_of ys
 words_append k [] ys e = refl

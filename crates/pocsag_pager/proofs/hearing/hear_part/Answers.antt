@@ -1,5 +1,6 @@
 use Rattle.pocsag_pages.specs.Bytes.{words_of}
-use Rattle.pocsag_pager.proofs.WholeWords.{words_long, words_small}
+use Rattle.pocsag_pages.proofs.Lengths.{words_long}
+use Rattle.pocsag_pager.proofs.WholeWords.{words_small}
 use Rattle.pocsag_pager.proofs.hearing.hear_part.Goals as goal
 
 pub returns-then-passes : goal.returns-then-passes
