@@ -136,19 +136,15 @@ module _ (ws : List ℕ) (w : ℕ) where
 
 -- a bad word after words that were read
 module _ (place : ℕ) (growing : Growing) (ws : List ℕ) (w : ℕ) (r : HasRead place growing ws) where
-  at_end : (f : ℕ → DecodeFault) → HasBadWord (ws ++ w ∷ []) (f (length ws)) → HasBadWord (ws ++ w ∷ []) (f place)
-  at_end f b = subst (λ (n : ℕ). HasBadWord (ws ++ w ∷ []) (f n)) (sym r.count) b
-
   pub refused_sync : place % 17 ≡ 0 → w ≢ sync_word → HasBadWord (ws ++ w ∷ []) (fault.NoSync (place / 17))
-  refused_sync s e = at_end (λ n. fault.NoSync (n / 17)) (bad_sync ws w r.good (subst (λ (n : ℕ). n % 17 ≡ 0) r.count s) e)
+  refused_sync s e = let n = r.count in rw n (bad_sync ws w r.good (omega arith) e)
 
   pub refused_codeword : 0 < place % 17 → ¬ IsCodeword w → HasBadWord (ws ++ w ∷ []) (fault.BadWord (index_at place))
-  refused_codeword s c = at_end (λ n. fault.BadWord (index_at n)) (bad_codeword ws w r.good (let n = r.count in omega arith) c)
+  refused_codeword s c = let n = r.count in rw n (bad_codeword ws w r.good (omega arith) c)
 
   pub refused_orphan : 0 < place % 17 → IsCodeword w → IsTrue (is_message (kind_of w)) → is_some growing.current ≡ false
       → HasBadWord (ws ++ w ∷ []) (fault.Orphan (index_at place))
-  refused_orphan s c m f =
-      at_end (λ n. fault.Orphan (index_at n)) (bad_orphan ws w r.good (let n = r.count in omega arith) c m (sym r.may ∙ f))
+  refused_orphan s c m f = let n = r.count in rw n (bad_orphan ws w r.good (omega arith) c m (sym r.may ∙ f))
 
 pub read_sync : (place : ℕ) (growing : Growing) (ws : List ℕ) (w : ℕ) → place % 17 ≡ 0 → w ≡ sync_word → HasRead place growing ws
     → HasRead (place + 1) growing (ws ++ w ∷ [])
