@@ -1,6 +1,6 @@
 -- A decoder that stands after some bytes, and one piece more or the end.
-use Rattle.std.proofs.Common.{◌≡◌, ◌≢◌, ℕ, ◌+◌, ◌%◌, ◌^◌, ◌<◌, ◌≤◌, List, [], ◌∷◌, ◌++◌, length, drop, sym, ap, ◌∙◌, subst, inl, inr, arith, All}
-use Rattle.std.proofs.lemmas.List.{append-nil, length-append}
+use Rattle.std.proofs.Common.{◌≡◌, ◌≢◌, ℕ, ◌+◌, ◌%◌, ◌^◌, ◌<◌, ◌≤◌, List, [], ◌++◌, length, drop, sym, ap, ◌∙◌, subst, inl, inr, arith, All}
+use Rattle.std.proofs.lemmas.List.{append-nil, length-append, nil_from_length}
 use Rattle.std.proofs.lemmas.List.Elements.{All-append}
 use Rattle.pocsag_pages.specs.Bytes.{leading, after_preamble, words_of}
 use Rattle.pocsag_decode.specs.declared.fault.DecodeFault.{DecodeFault}
@@ -9,25 +9,26 @@ use Rattle.pocsag_decode.specs.declared.state.Decoder.{Decoder}
 use Rattle.pocsag_decode.specs.Carried.{size_of}
 use Rattle.pocsag_decode.specs.Faults.{HasFaultThere, HasFaultOfEnd, IsPastPreamble, RefusesPiece, no_memory, fault_there}
 use Rattle.pocsag_decode.specs.Standing.{StandsAfter, StandsIn}
-use Rattle.pocsag_decode.proofs.Preambles.{begun_leading, begun_after, alone_leading, alone_after, count_is, nil_or, nil_from}
+use Rattle.pocsag_decode.proofs.Preambles.{begun_leading, begun_after, alone_leading, alone_after, count_is, nil_or}
 use Rattle.pocsag_decode.specs.Taking.{Refuses}
 use Rattle.pocsag_decode.proofs.Transmissions.{IsWhole}
 use Rattle.pocsag_decode.proofs.Words.{size_is}
 
 append_nil_right : (xs ys : List ℕ) → xs ++ ys ≡ [] → ys ≡ []
-append_nil_right [] ys e = e
-append_nil_right (x ∷ xs) ys e = absurd (cc)
+append_nil_right xs ys e = nil_from_length ys (let l = ap length e in omega (arith, length-append xs ys))
 
 -- how a piece goes on after the bytes AA
-pub skips_begun : (X Z : List ℕ) (leads size : ℕ) → leads ≡ leading X → size ≡ length (after_preamble X) → ¬ (size ≡ 0) → (leads ≡ leading (X ++ Z)) × (after_preamble (X ++ Z) ≡ after_preamble X ++ Z)
+pub skips_begun : (X Z : List ℕ) (leads size : ℕ) → leads ≡ leading X → size ≡ length (after_preamble X) → ¬ (size ≡ 0)
+    → (leads ≡ leading (X ++ Z)) × (after_preamble (X ++ Z) ≡ after_preamble X ++ Z)
 skips_begun X Z leads size e s n =
     let some : after_preamble X ≢ [] = λ z. n (s ∙ ap length z) in
     (e ∙ sym (begun_leading X Z some), begun_after X Z some)
 
-pub skips_alone : (X Z rest : List ℕ) (leads size count : ℕ) → leads ≡ leading X → size ≡ length (after_preamble X) → size ≡ 0 → count ≡ leading Z → rest ≡ drop count Z
+pub skips_alone : (X Z rest : List ℕ) (leads size count : ℕ) → leads ≡ leading X → size ≡ length (after_preamble X) → size ≡ 0
+    → count ≡ leading Z → rest ≡ drop count Z
     → (leads + count ≡ leading (X ++ Z)) × (after_preamble (X ++ Z) ≡ after_preamble X ++ rest)
 skips_alone X Z rest leads size count e s z c r =
-    let none : after_preamble X ≡ [] = nil_from (after_preamble X) (sym s ∙ z) in (
+    let none : after_preamble X ≡ [] = nil_from_length (after_preamble X) (sym s ∙ z) in (
       let l = alone_leading X Z none in omega arith,
       alone_after X Z none ∙ ap (λ (l : List ℕ). after_preamble X ++ l) (sym (r ∙ ap (λ (n : ℕ). drop n Z) c)),
     )
@@ -47,7 +48,7 @@ module _ (d : Decoder) (X : List ℕ) (s : StandsAfter d X) where
       ]
 
   pub no_batch_end : 72 ≤ d.leading → size_of d.body.place d.body.carry ≡ 0 → HasFaultOfEnd X fault.NoBatch
-  no_batch_end h z = HasFaultOfEnd.no_batch (let p = s.preamble in omega arith) (nil_from (after_preamble X) (sym body_size ∙ z))
+  no_batch_end h z = HasFaultOfEnd.no_batch (let p = s.preamble in omega arith) (nil_from_length (after_preamble X) (sym body_size ∙ z))
 
   pub cut_end : 72 ≤ d.leading → ¬ (size_of d.body.place d.body.carry % 68 ≡ 0) → HasFaultOfEnd X fault.Truncated
   cut_end h n = HasFaultOfEnd.cut (let p = s.preamble in omega arith) s.words.read.good (λ z. n (ap (λ (x : ℕ). x % 68) body_size ∙ z))
@@ -64,8 +65,10 @@ module _ (d : Decoder) (X : List ℕ) (s : StandsAfter d X) where
       }
 
   -- one piece more
-  module _ (new : Decoder) (Z rest : List ℕ) (few : length X + length Z < 2 ^ 64) (after : after_preamble (X ++ Z) ≡ after_preamble X ++ rest) (leads : new.leading ≡ leading (X ++ Z)) where
-    fed : new.has_failed ≡ d.has_failed → All (λ b. b < 256) Z → (after_preamble (X ++ Z) ≢ [] → 72 ≤ new.leading) → StandsIn new.body (after_preamble X ++ rest) → StandsAfter new (X ++ Z)
+  module _ (new : Decoder) (Z rest : List ℕ) (few : length X + length Z < 2 ^ 64)
+      (after : after_preamble (X ++ Z) ≡ after_preamble X ++ rest) (leads : new.leading ≡ leading (X ++ Z)) where
+    fed : new.has_failed ≡ d.has_failed → All (λ b. b < 256) Z → (after_preamble (X ++ Z) ≢ [] → 72 ≤ new.leading)
+        → StandsIn new.body (after_preamble X ++ rest) → StandsAfter new (X ++ Z)
     fed works bytes past stands = record {
       works = works ∙ s.works;
       bytes = All-append (λ b. b < 256) X Z s.bytes bytes;
@@ -76,22 +79,28 @@ module _ (d : Decoder) (X : List ℕ) (s : StandsAfter d X) where
     }
 
     -- nothing but bytes AA came
-    pub fed_preamble : new.has_failed ≡ d.has_failed → All (λ b. b < 256) Z → d.leading ≤ new.leading → new.body ≡ d.body → rest ≡ [] → StandsAfter new (X ++ Z)
+    pub fed_preamble : new.has_failed ≡ d.has_failed → All (λ b. b < 256) Z → d.leading ≤ new.leading → new.body ≡ d.body → rest ≡ []
+        → StandsAfter new (X ++ Z)
     fed_preamble works bytes more same e =
-        let same_after : after_preamble X ++ rest ≡ after_preamble X = ap (λ (l : List ℕ). after_preamble X ++ l) e ∙ append-nil (after_preamble X) in
+        let same_after : after_preamble X ++ rest ≡ after_preamble X =
+        ap (λ (l : List ℕ). after_preamble X ++ l) e ∙ append-nil (after_preamble X) in
         fed works bytes
         (λ n. let p = s.past (λ z. n (after ∙ (same_after ∙ z))) in let q = s.preamble in omega arith)
         (rw (same_after, same) s.words)
 
-    pub fed_body : new.has_failed ≡ d.has_failed → All (λ b. b < 256) Z → 72 ≤ new.leading → StandsIn new.body (after_preamble X ++ rest) → StandsAfter new (X ++ Z)
+    pub fed_body : new.has_failed ≡ d.has_failed → All (λ b. b < 256) Z → 72 ≤ new.leading → StandsIn new.body (after_preamble X ++ rest)
+        → StandsAfter new (X ++ Z)
     fed_body works bytes long stands = fed works bytes (λ n. long) stands
 
     pub refused_short : new.leading < 72 → rest ≢ [] → RefusesPiece X Z fault.ShortPreamble
-    refused_short h n = fault_there few (HasFaultThere.short (omega arith) (λ z. n (append_nil_right (after_preamble X) rest (sym after ∙ z))))
+    refused_short h n =
+        fault_there few (HasFaultThere.short (omega arith) (λ z. n (append_nil_right (after_preamble X) rest (sym after ∙ z))))
 
     past : 72 ≤ new.leading → rest ≢ [] → IsPastPreamble (X ++ Z)
     past h n = record { long = omega arith; more = λ z. n (append_nil_right (after_preamble X) rest (sym after ∙ z)) }
 
-    pub refused_body : (f : DecodeFault) → 72 ≤ new.leading → rest ≢ [] → length rest ≤ length Z → Refuses (words_of (after_preamble X ++ rest)) f → RefusesPiece X Z f
-    refused_body f h n within (inl e) = subst (RefusesPiece X Z) (sym e) (no_memory few (λ z. n (nil_from rest (let l = ap length z in omega arith))) (past h n))
+    pub refused_body : (f : DecodeFault) → 72 ≤ new.leading → rest ≢ [] → length rest ≤ length Z
+        → Refuses (words_of (after_preamble X ++ rest)) f → RefusesPiece X Z f
+    refused_body f h n within (inl e) =
+        subst (RefusesPiece X Z) (sym e) (no_memory few (λ z. n (nil_from_length rest (let l = ap length z in omega arith))) (past h n))
     refused_body f h n within (inr b) = fault_there few (HasFaultThere.bad (omega arith) (rw after b))

@@ -1,7 +1,7 @@
 -- Each word can be judged, and bytes with no fault are whole batches of good words.
 use Rattle.std.proofs.Common.{◌≡◌, ◌≢◌, ◌⊎◌, ℕ, ◌/◌, ◌%◌, ◌^◌, ◌<◌, ◌≤◌, Bool, true, false, List, [], ◌∷◌, ◌++◌, length, All, refl, sym, ap, ◌∙◌, subst, inl, inr, arith, append_assoc}
 use Rattle.std.proofs.lemmas.Bool.{cases_eq, cases_lt, true≢false}
-use Rattle.std.proofs.lemmas.List.{append-nil}
+use Rattle.std.proofs.lemmas.List.{append-nil, nil_from_length}
 use Rattle.pocsag_words.specs.Codeword.{IsCodeword}
 use Rattle.pocsag_words.specs.Columns.{syndrome_of}
 use Rattle.pocsag_words.specs.Kinds.{kind_of}
@@ -13,7 +13,7 @@ use Rattle.pocsag_decode.specs.Faults.{words, HasFaultThere, HasFaultOfEnd, IsFa
 use Rattle.pocsag_decode.specs.declared.state.Decoder.{Decoder}
 use Rattle.pocsag_decode.specs.Standing.{StandsAfter}
 use Rattle.pocsag_decode.specs.Places.{is_message, index_at, may_follow, AllMayStand, HasBadWord}
-use Rattle.pocsag_decode.proofs.Preambles.{nil_or, nil_from}
+use Rattle.pocsag_decode.proofs.Preambles.{nil_or}
 use Rattle.pocsag_decode.proofs.Transmissions.{IsWhole}
 use Rattle.pocsag_decode.proofs.WordByWord.{good_sync, bad_sync, good_codeword, bad_codeword, bad_orphan, bad_stays}
 use Rattle.pocsag_decode.proofs.OneFault.{all_good}
@@ -57,7 +57,9 @@ judged before [] good = inl (rw (append-nil before) good)
 judged before (w ∷ ws) good =
     elim (judged_more before w good) [
       | inl g ↦ subst AreJudged (append_assoc before (w ∷ []) ws) (judged (before ++ w ∷ []) ws g)
-      | inr b ↦ inr (b.0, subst (λ (l : List ℕ). HasBadWord l b.0) (append_assoc before (w ∷ []) ws) (bad_stays (before ++ w ∷ []) ws b.0 b.1))
+      | inr b ↦
+          let stays = bad_stays (before ++ w ∷ []) ws b.0 b.1 in
+          inr (b.0, subst (λ (l : List ℕ). HasBadWord l b.0) (append_assoc before (w ∷ []) ws) stays)
     ]
 
 pub none_good : AllMayStand []
@@ -77,7 +79,7 @@ no_fault_whole X small none = record { small = small; long = long; some = some; 
 
   some : 0 < length (after_preamble X)
   some = elim (cases_eq (length (after_preamble X)) 0) [
-    | inl e ↦ absurd (none fault.NoBatch (inr (HasFaultOfEnd.no_batch long (nil_from (after_preamble X) e))))
+    | inl e ↦ absurd (none fault.NoBatch (inr (HasFaultOfEnd.no_batch long (nil_from_length (after_preamble X) e))))
     | inr n ↦ omega arith
   ]
 

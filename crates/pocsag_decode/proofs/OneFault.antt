@@ -1,7 +1,8 @@
 -- Bytes have one fault, which stays however they go on, and is never want of memory.
-use Rattle.std.proofs.Common.{◌≡◌, ◌≢◌, ℕ, List, [], ◌∷◌, ◌++◌, length, refl, sym, ap, ◌∙◌, subst, inl, inr, arith}
+use Rattle.std.proofs.Common.{◌≡◌, ◌≢◌, ℕ, List, [], ◌++◌, length, refl, sym, ap, ◌∙◌, subst, inl, inr, arith}
 use Rattle.std.specs.Prelude.{Result, Ok, Err}
 use Rattle.std.specs.Result.{IsErrAnd}
+use Rattle.std.proofs.lemmas.List.{length-append, nil_from_length}
 use Rattle.std.proofs.lemmas.Bool.{cases_order, true≢false}
 use Rattle.pocsag_pages.specs.Bytes.{words_of, after_preamble}
 use Rattle.pocsag_decode.specs.declared.fault.DecodeFault.{DecodeFault}
@@ -74,8 +75,7 @@ one_fault X f g (inr a) (inl b) = sym (there_end X g f b a)
 one_fault X f g (inr a) (inr b) = end_end X f g a b
 
 append_nil_left : (xs ys : List ℕ) → xs ++ ys ≡ [] → xs ≡ []
-append_nil_left [] ys e = refl
-append_nil_left (x ∷ xs) ys e = absurd (cc)
+append_nil_left xs ys e = nil_from_length xs (let l = ap length e in omega (arith, length-append xs ys))
 
 pub there_stays : (X Z : List ℕ) (f : DecodeFault) → HasFaultThere X f → HasFaultThere (X ++ Z) f
 there_stays X Z f (HasFaultThere.short a b) =

@@ -51,7 +51,9 @@ begins_on (y ∷ Y) Z n o = o
 module _ (X Z : List ℕ) where
   pub count_is : length X ≡ leading X + length (after_preamble X)
   count_is =
-      ap length (parts X).whole ∙ (length-append (replicate (leading X) 0xaa) (after_preamble X) ∙ ap (λ (n : ℕ). n + length (after_preamble X)) (length-replicate (leading X) 0xaa))
+      ap length (parts X).whole
+      ∙ (length-append (replicate (leading X) 0xaa) (after_preamble X)
+      ∙ ap (λ (n : ℕ). n + length (after_preamble X)) (length-replicate (leading X) 0xaa))
 
   -- another byte than AA came: Z follows it
   begun : after_preamble X ≢ [] → Parts (X ++ Z) (leading X) (after_preamble X ++ Z)
@@ -70,7 +72,8 @@ module _ (X Z : List ℕ) where
   alone : after_preamble X ≡ [] → Parts (X ++ Z) (leading X + leading Z) (after_preamble Z)
   alone e = record {
     whole =
-        let only : X ≡ replicate (leading X) 0xaa = (parts X).whole ∙ (ap (λ (l : List ℕ). replicate (leading X) 0xaa ++ l) e ∙ append-nil (replicate (leading X) 0xaa)) in
+        let only : X ≡ replicate (leading X) 0xaa =
+        (parts X).whole ∙ (ap (λ (l : List ℕ). replicate (leading X) 0xaa ++ l) e ∙ append-nil (replicate (leading X) 0xaa)) in
         ap₂ (λ (x z : List ℕ). x ++ z) only (parts Z).whole
         ∙ (sym (append_assoc (replicate (leading X) 0xaa) (replicate (leading Z) 0xaa) (after_preamble Z))
         ∙ ap (λ (l : List ℕ). l ++ after_preamble Z) (replicate-append-replicate (leading X) (leading Z) 0xaa));
@@ -81,12 +84,9 @@ module _ (X Z : List ℕ) where
   alone_leading e = leading_is (X ++ Z) (leading X + leading Z) (after_preamble Z) (alone e)
 
   pub alone_after : after_preamble X ≡ [] → after_preamble (X ++ Z) ≡ after_preamble X ++ after_preamble Z
-  alone_after e = after_is (X ++ Z) (leading X + leading Z) (after_preamble Z) (alone e) ∙ sym (ap (λ (l : List ℕ). l ++ after_preamble Z) e)
+  alone_after e =
+      after_is (X ++ Z) (leading X + leading Z) (after_preamble Z) (alone e) ∙ sym (ap (λ (l : List ℕ). l ++ after_preamble Z) e)
 
 pub nil_or : (l : List ℕ) → (l ≡ []) ⊎ (l ≢ [])
 nil_or [] = inl refl
 nil_or (x ∷ l) = inr (λ e. cc)
-
-pub nil_from : (l : List ℕ) → length l ≡ 0 → l ≡ []
-nil_from [] e = refl
-nil_from (x ∷ l) e = absurd (omega arith)

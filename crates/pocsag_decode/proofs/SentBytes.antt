@@ -1,11 +1,8 @@
 -- Bytes that are sent are whole, and sent from one list of codewords.
-use Rattle.std.proofs.Common.{◌≡◌, ◌≢◌, ℕ, lit<, not, ◌+◌, ◌*◌, ◌/◌, ◌%◌, ◌^◌, ◌<◌, Bool, List, [], ◌∷◌, ◌++◌, length, map, IsTrue, All, refl, sym, ap, ap₂, ◌∙◌, subst, inl, inr, arith, append_assoc}
-use Rattle.std.specs.Int.{to_be_bytes, w32}
-use Rattle.std.specs.List.{flat_map}
+use Rattle.std.proofs.Common.{◌≡◌, ◌≢◌, ℕ, not, ◌+◌, ◌*◌, ◌/◌, ◌%◌, ◌<◌, Bool, List, [], ◌∷◌, ◌++◌, length, map, IsTrue, All, refl, sym, ap, ◌∙◌, subst, inl, inr, arith, append_assoc}
 use Rattle.std.proofs.lemmas.Bool.{cases_eq, eq-eqb, ne_eqb, true≢false}
 use Rattle.std.proofs.lemmas.List.{append-nil}
-use Rattle.std.proofs.lemmas.List.Elements.{All-nil, All-cons, All-head, All-tail}
-use Rattle.std.proofs.lemmas.Nat.{from_be_bytes-to_be_bytes_4}
+use Rattle.std.proofs.lemmas.List.Elements.{All-head, All-tail}
 use Rattle.pocsag_words.specs.Codeword.{IsCodeword}
 use Rattle.pocsag_words.specs.Kinds.{kind_of}
 use Rattle.pocsag_words.specs.declared.codeword.Kind.{Kind}
@@ -19,7 +16,7 @@ use Rattle.pocsag_decode.specs.Places.{is_message, is_idle, may_follow, AllMaySt
 use Rattle.pocsag_decode.proofs.Preambles.{Parts, BeginsOther, leading_is, after_is}
 use Rattle.pocsag_decode.proofs.Transmissions.{IsWhole}
 use Rattle.pocsag_decode.proofs.WordByWord.{length_more, good_sync, good_codeword, may_sync, may_codeword}
-use Rattle.pocsag_pages.proofs.Lengths.{body_length, synced_count}
+use Rattle.pocsag_pages.proofs.Lengths.{body_length, synced_count, synced_small, words_again}
 use Rattle.pocsag_decode.proofs.Judgements.{none_good}
 
 -- the words of what was sent
@@ -33,7 +30,8 @@ no_orphan_tail may Idle ks h = h
 no_orphan_tail may (Address high function) ks h = h
 no_orphan_tail may (Message bits) ks h = h.1
 
-module _ (before : List ℕ) (w : ℕ) (T : List ℕ) (good : AllMayStand before) (n : length before % 17 ≢ 0) (are : All IsCodeword (w ∷ T)) (h : HasNoOrphan (may_follow before (length before)) (map kind_of (w ∷ T))) where
+module _ (before : List ℕ) (w : ℕ) (T : List ℕ) (good : AllMayStand before) (n : length before % 17 ≢ 0)
+    (are : All IsCodeword (w ∷ T)) (h : HasNoOrphan (may_follow before (length before)) (map kind_of (w ∷ T))) where
   word_good : AllMayStand (before ++ w ∷ [])
   word_good = good_codeword before w good n (All-head IsCodeword w T are) (no_orphan_head _ (kind_of w) (map kind_of T) h)
 
@@ -53,29 +51,17 @@ synced_good (w ∷ T) before i good r at are h =
           let n : length first % 17 ≢ 0 = omega arith in
           let h' : HasNoOrphan (may_follow first (length first)) (map kind_of (w ∷ T)) = rw (may_sync before sync_word z) h in
           let next_length : length (first ++ w ∷ []) ≡ length before + 2 = let l = length_more first w in omega arith in
-          rw (eq-eqb _ _ e) (subst AllMayStand (append_assoc first (w ∷ []) (synced (i + 1) T) ∙ append_assoc before (sync_word ∷ []) (w ∷ synced (i + 1) T))
-          (synced_good T (first ++ w ∷ []) (i + 1) (word_good first w T first_good n are h') (omega arith) (omega arith) (All-tail IsCodeword w T are) (rest_follows first w T first_good n are h')))
+          rw (eq-eqb _ _ e)
+          (subst AllMayStand (append_assoc first (w ∷ []) (synced (i + 1) T) ∙ append_assoc before (sync_word ∷ []) (w ∷ synced (i + 1) T))
+          (synced_good T (first ++ w ∷ []) (i + 1) (word_good first w T first_good n are h') (omega arith) (omega arith)
+          (All-tail IsCodeword w T are) (rest_follows first w T first_good n are h')))
       | inr m ↦
           let n : length before % 17 ≢ 0 = omega arith in
           let next_length : length (before ++ w ∷ []) ≡ length before + 1 = length_more before w in
           rw (ne_eqb _ _ m) (subst AllMayStand (append_assoc before (w ∷ []) (synced (i + 1) T))
-          (synced_good T (before ++ w ∷ []) (i + 1) (word_good before w T good n are h) (omega arith) (omega arith) (All-tail IsCodeword w T are) (rest_follows before w T good n are h)))
+          (synced_good T (before ++ w ∷ []) (i + 1) (word_good before w T good n are h) (omega arith) (omega arith)
+          (All-tail IsCodeword w T are) (rest_follows before w T good n are h)))
     ]
-
-synced_small : (i : ℕ) (T : List ℕ) → All IsCodeword T → All (λ w. w < 2 ^ 32) (synced i T)
-synced_small i [] are = All-nil (λ w. w < 2 ^ 32)
-synced_small i (w ∷ T) are =
-    let small : w < 2 ^ 32 = (All-head IsCodeword w T are).fits in
-    let rest = All-cons (λ x. x < 2 ^ 32) w (synced (i + 1) T) small (synced_small (i + 1) T (All-tail IsCodeword w T are)) in
-    elim (cases_eq (i % 16) 0) [
-      | inl e ↦ rw (eq-eqb _ _ e) (All-cons (λ x. x < 2 ^ 32) sync_word (w ∷ synced (i + 1) T) (lit< tt) rest)
-      | inr n ↦ rw (ne_eqb _ _ n) rest
-    ]
-
-words_again : (ws : List ℕ) → All (λ w. w < 2 ^ 32) ws → words_of (flat_map (to_be_bytes w32) ws) ≡ ws
-words_again [] small = refl
-words_again (w ∷ ws) small =
-    ap₂ (λ (x : ℕ) (l : List ℕ). x ∷ l) (from_be_bytes-to_be_bytes_4 w (All-head (λ x. x < 2 ^ 32) w ws small)) (words_again ws (All-tail (λ x. x < 2 ^ 32) w ws small))
 
 body_begins : (T : List ℕ) → BeginsOther (body_bytes T)
 body_begins [] = tt
@@ -97,7 +83,8 @@ reads_whole X ps small r =
       long = let l = leading_is X s.preamble (body_bytes T) p in let long = s.long in omega arith;
       some = omega arith;
       good =
-          rw (after, words_again (synced 0 T) (synced_small 0 T s.codewords)) (synced_good T [] 0 none_good (omega arith) (omega arith) s.codewords plain.no_orphan);
+          rw (after, words_again (synced 0 T) (synced_small 0 T s.codewords))
+          (synced_good T [] 0 none_good (omega arith) (omega arith) s.codewords plain.no_orphan);
       batches = omega arith;
     }
 
@@ -109,7 +96,8 @@ unsynced_synced (w ∷ T) i j r at =
       | inl e ↦
           let z : j % 17 ≡ 0 = omega arith in
           let m : (j + 1) % 17 ≢ 0 = omega arith in
-          rw (eq-eqb _ _ e, eq-eqb _ _ z, ne_eqb _ _ m) (ap (λ (l : List ℕ). w ∷ l) (unsynced_synced T (i + 1) (j + 1 + 1) (omega arith) (omega arith)))
+          rw (eq-eqb _ _ e, eq-eqb _ _ z, ne_eqb _ _ m)
+          (ap (λ (l : List ℕ). w ∷ l) (unsynced_synced T (i + 1) (j + 1 + 1) (omega arith) (omega arith)))
       | inr n ↦
           let m : j % 17 ≢ 0 = omega arith in
           rw (ne_eqb _ _ n, ne_eqb _ _ m) (ap (λ (l : List ℕ). w ∷ l) (unsynced_synced T (i + 1) (j + 1) (omega arith) (omega arith)))
@@ -117,12 +105,14 @@ unsynced_synced (w ∷ T) i j r at =
 
 pub codewords_are : (X T : List ℕ) → Sent X T → codewords_in X ≡ T
 codewords_are X T s =
-    let after : after_preamble X ≡ body_bytes T = after_is X s.preamble (body_bytes T) (record { whole = s.bytes; other = body_begins T }) in
+    let after : after_preamble X ≡ body_bytes T =
+    after_is X s.preamble (body_bytes T) (record { whole = s.bytes; other = body_begins T }) in
     ap (λ (Y : List ℕ). unsynced 0 (words_of Y)) after
     ∙ (ap (unsynced 0) (words_again (synced 0 T) (synced_small 0 T s.codewords)) ∙ unsynced_synced T 0 0 (omega arith) (omega arith))
 
 read_pages : (X : List ℕ) (ps : List Page) → ReadsAs X ps → ps ≡ pages_from 0 (map kind_of (codewords_in X))
-read_pages X ps r = (reads_plainly r.reads).pages ∙ ap (λ (T : List ℕ). pages_from 0 (map kind_of T)) (sym (codewords_are X r.codewords r.sent))
+read_pages X ps r =
+    (reads_plainly r.reads).pages ∙ ap (λ (T : List ℕ). pages_from 0 (map kind_of T)) (sym (codewords_are X r.codewords r.sent))
 
 pub one_reading : (X : List ℕ) (ps qs : List Page) → ReadsAs X ps → ReadsAs X qs → ps ≡ qs
 one_reading X ps qs r s = read_pages X ps r ∙ sym (read_pages X qs s)

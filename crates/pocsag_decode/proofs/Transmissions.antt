@@ -4,7 +4,7 @@ use Rattle.std.specs.Int.{to_be_bytes, from_be_bytes, w32}
 use Rattle.std.specs.List.{flat_map}
 use Rattle.std.proofs.Math.Seq.{get_or-append_seam}
 use Rattle.std.proofs.lemmas.Bool.{cases_eq, cases_lt, lt-ltb, le-ltb, eq-eqb, ne_eqb}
-use Rattle.std.proofs.lemmas.List.{append-nil, length-append}
+use Rattle.std.proofs.lemmas.List.{append-nil, length-append, nil_from_length}
 use Rattle.std.proofs.lemmas.List.Elements.{All-nil, All-cons, All-head, All-tail, All-map, All-weaker, All-drop}
 use Rattle.std.proofs.lemmas.Nat.{be_bytes_4}
 use Rattle.pocsag_words.specs.Codeword.{IsCodeword}
@@ -21,10 +21,10 @@ use Rattle.pocsag_decode.specs.Faults.{words, ReadsAs}
 use Rattle.pocsag_decode.specs.Growing.{resumed, closed}
 use Rattle.pocsag_pages.specs.Listable.{IsListable}
 use Rattle.pocsag_decode.specs.Places.{is_message, is_idle, may_follow, MayStandAt, AllMayStand}
-use Rattle.pocsag_decode.proofs.Preambles.{parts, nil_from}
+use Rattle.pocsag_decode.proofs.Preambles.{parts}
 use Rattle.pocsag_decode.proofs.WordByWord.{length_more, may_sync, may_codeword, may_kept}
 use Rattle.pocsag_decode.proofs.Words.{bytes_count}
-use Rattle.pocsag_pages.proofs.Lengths.{unsynced_count}
+use Rattle.pocsag_pages.proofs.Lengths.{unsynced_count, words_long}
 
 -- the words so far, of which the next is w
 module _ (before : List ℕ) (w : ℕ) (ws : List ℕ) (good : AllMayStand (before ++ w ∷ ws)) where
@@ -47,33 +47,41 @@ module _ (before : List ℕ) (w : ℕ) (ws : List ℕ) (good : AllMayStand (befo
   w_is_codeword n = subst IsCodeword at_w (w_is_good.codeword n)
 
   pub w_follows : length before % 17 ≢ 0 → IsTrue (is_message (kind_of w)) → IsTrue (may_follow before (length before))
-  w_follows n m = sym (may_kept before (w ∷ ws) (length before) (omega arith)) ∙ w_is_good.follows n (subst (λ (x : ℕ). IsTrue (is_message (kind_of x))) (sym at_w) m)
+  w_follows n m =
+      sym (may_kept before (w ∷ ws) (length before) (omega arith))
+      ∙ w_is_good.follows n (subst (λ (x : ℕ). IsTrue (is_message (kind_of x))) (sym at_w) m)
 
 pub codewords_good : (before ws : List ℕ) → AllMayStand (before ++ ws) → All IsCodeword (unsynced (length before) ws)
 codewords_good before [] good = All-nil IsCodeword
 codewords_good before (w ∷ ws) good =
-    let rest : All IsCodeword (unsynced (length before + 1) ws) = rw (← length_more before w) (codewords_good (before ++ w ∷ []) ws (good_rest before w ws good)) in
+    let rest : All IsCodeword (unsynced (length before + 1) ws) =
+    rw (← length_more before w) (codewords_good (before ++ w ∷ []) ws (good_rest before w ws good)) in
     elim (cases_eq (length before % 17) 0) [
       | inl e ↦ rw (eq-eqb _ _ e) rest
       | inr n ↦ rw (ne_eqb _ _ n) (All-cons IsCodeword w (unsynced (length before + 1) ws) (w_is_codeword before w ws good n) rest)
     ]
 
-no_orphan_cons : (may : Bool) (k : Kind) (ks : List Kind) → (IsTrue (is_message k) → IsTrue may) → HasNoOrphan (not (is_idle k)) ks → HasNoOrphan may (k ∷ ks)
+no_orphan_cons : (may : Bool) (k : Kind) (ks : List Kind) → (IsTrue (is_message k) → IsTrue may) → HasNoOrphan (not (is_idle k)) ks
+    → HasNoOrphan may (k ∷ ks)
 no_orphan_cons may Idle ks f h = h
 no_orphan_cons may (Address high function) ks f h = h
 no_orphan_cons may (Message bits) ks f h = (f refl, h)
 
-pub none_is_orphan : (before ws : List ℕ) → AllMayStand (before ++ ws) → HasNoOrphan (may_follow before (length before)) (map kind_of (unsynced (length before) ws))
+pub none_is_orphan : (before ws : List ℕ) → AllMayStand (before ++ ws)
+    → HasNoOrphan (may_follow before (length before)) (map kind_of (unsynced (length before) ws))
 none_is_orphan before [] good = tt
 none_is_orphan before (w ∷ ws) good =
     let rest = none_is_orphan (before ++ w ∷ []) ws (good_rest before w ws good) in
     elim (cases_eq (length before % 17) 0) [
       | inl e ↦ rw (eq-eqb _ _ e) (rw (← may_sync before w e, ← length_more before w) rest)
-      | inr n ↦ rw (ne_eqb _ _ n) (no_orphan_cons _ (kind_of w) _ (w_follows before w ws good n) (rw (← may_codeword before w n, ← length_more before w) rest))
+      | inr n ↦
+          rw (ne_eqb _ _ n) (no_orphan_cons _ (kind_of w) _ (w_follows before w ws good n)
+          (rw (← may_codeword before w n, ← length_more before w) rest))
     ]
 
 -- the words are the codewords with the synchronisation codewords between them
-pub resynced : (before ws : List ℕ) → AllMayStand (before ++ ws) → length before % 17 ≢ 1 → (length before + length ws) % 17 ≡ 0 → (i : ℕ) → i + (length before + 16) / 17 ≡ length before
+pub resynced : (before ws : List ℕ) → AllMayStand (before ++ ws) → length before % 17 ≢ 1 → (length before + length ws) % 17 ≡ 0 → (i : ℕ)
+    → i + (length before + 16) / 17 ≡ length before
     → synced i (unsynced (length before) ws) ≡ ws
 resynced before [] good r whole i at = refl
 resynced before (w ∷ []) good r whole i at =
@@ -90,8 +98,10 @@ resynced before (w ∷ v ∷ ws) good r whole i at =
           let j : i % 16 ≡ 0 = omega arith in
           let last_length : length (next ++ v ∷ []) ≡ length before + 1 + 1 = length_more next v ∙ ap (λ (x : ℕ). x + 1) next_length in
           let rest : synced (i + 1) (unsynced (length before + 1 + 1) ws) ≡ ws =
-          rw (← last_length) (resynced (next ++ v ∷ []) ws (good_rest next v ws next_good) (omega arith) (omega arith) (i + 1) (omega arith)) in
-          rw (eq-eqb _ _ e, ne_eqb _ _ m, eq-eqb _ _ j) (ap₂ (λ (x : ℕ) (l : List ℕ). x ∷ v ∷ l) (sym (w_is_sync before w (v ∷ ws) good e)) rest)
+          rw (← last_length)
+          (resynced (next ++ v ∷ []) ws (good_rest next v ws next_good) (omega arith) (omega arith) (i + 1) (omega arith)) in
+          rw (eq-eqb _ _ e, ne_eqb _ _ m, eq-eqb _ _ j)
+          (ap₂ (λ (x : ℕ) (l : List ℕ). x ∷ v ∷ l) (sym (w_is_sync before w (v ∷ ws) good e)) rest)
       | inr n ↦
           let j : i % 16 ≢ 0 = omega arith in
           let rest : synced (i + 1) (unsynced (length before + 1) (v ∷ ws)) ≡ v ∷ ws =
@@ -100,7 +110,8 @@ resynced before (w ∷ v ∷ ws) good r whole i at =
     ]
 
 -- four bytes are those of their word
-four_bytes : (a b c d : ℕ) → a < 256 → b < 256 → c < 256 → d < 256 → to_be_bytes w32 (from_be_bytes w32 (a ∷ b ∷ c ∷ d ∷ [])) ≡ a ∷ b ∷ c ∷ d ∷ []
+four_bytes : (a b c d : ℕ) → a < 256 → b < 256 → c < 256 → d < 256
+    → to_be_bytes w32 (from_be_bytes w32 (a ∷ b ∷ c ∷ d ∷ [])) ≡ a ∷ b ∷ c ∷ d ∷ []
 four_bytes a b c d p q r s = be_bytes_4 (a ∷ b ∷ c ∷ d ∷ []) (from_be_bytes w32 (a ∷ b ∷ c ∷ d ∷ [])) refl (each) refl where
   each : (i : ℕ) → get_or (a ∷ b ∷ c ∷ d ∷ []) i 0 < 256
   each zero = p
@@ -120,15 +131,12 @@ bytes_are (a ∷ b ∷ c ∷ d ∷ Y) small e =
     let s₂ = All-tail (λ x. x < 256) b (c ∷ d ∷ Y) s₁ in
     let s₃ = All-tail (λ x. x < 256) c (d ∷ Y) s₂ in
     let s₄ = All-tail (λ x. x < 256) d Y s₃ in
-    let four = four_bytes a b c d (All-head (λ x. x < 256) a (b ∷ c ∷ d ∷ Y) small) (All-head (λ x. x < 256) b (c ∷ d ∷ Y) s₁) (All-head (λ x. x < 256) c (d ∷ Y) s₂) (All-head (λ x. x < 256) d Y s₃) in
+    let four = four_bytes a b c d (All-head (λ x. x < 256) a (b ∷ c ∷ d ∷ Y) small) (All-head (λ x. x < 256) b (c ∷ d ∷ Y) s₁)
+    (All-head (λ x. x < 256) c (d ∷ Y) s₂) (All-head (λ x. x < 256) d Y s₃) in
     ap₂ (λ (x y : List ℕ). x ++ y) four (bytes_are Y s₄ e)
 
-pub unfinished_short : (Y : List ℕ) → length (unfinished Y) < 4
-unfinished_short [] = lit< tt
-unfinished_short (a ∷ []) = lit< tt
-unfinished_short (a ∷ b ∷ []) = lit< tt
-unfinished_short (a ∷ b ∷ c ∷ []) = lit< tt
-unfinished_short (a ∷ b ∷ c ∷ d ∷ Y) = unfinished_short Y
+unfinished_short : (Y : List ℕ) → length (unfinished Y) < 4
+unfinished_short Y = let n = bytes_count Y in let m = words_long Y in omega arith
 
 -- what bytes with no fault are
 pub record IsWhole (X : List ℕ) : Type 0 where
@@ -143,7 +151,9 @@ module _ (X : List ℕ) (h : IsWhole X) where
   words_count = sym (bytes_count (after_preamble X))
 
   none_left : unfinished (after_preamble X) ≡ []
-  none_left = nil_from (unfinished (after_preamble X)) (let w = words_count in let b = h.batches in let s = unfinished_short (after_preamble X) in omega arith)
+  none_left =
+      nil_from_length (unfinished (after_preamble X))
+      (let w = words_count in let b = h.batches in let s = unfinished_short (after_preamble X) in omega arith)
 
   whole_words : length (words X) % 17 ≡ 0
   whole_words = let w = words_count in let b = h.batches in let s = unfinished_short (after_preamble X) in omega arith
@@ -166,7 +176,8 @@ module _ (X : List ℕ) (h : IsWhole X) where
     codewords = are_codewords;
     bytes =
         let m = whole_words in
-        let after : flat_map (to_be_bytes w32) (words X) ≡ after_preamble X = bytes_are (after_preamble X) (All-drop (λ b. b < 256) (leading X) X h.small) none_left in
+        let after : flat_map (to_be_bytes w32) (words X) ≡ after_preamble X =
+        bytes_are (after_preamble X) (All-drop (λ b. b < 256) (leading X) X h.small) none_left in
         let again : synced 0 (codewords_in X) ≡ words X = resynced [] (words X) h.good (omega arith) (omega arith) 0 (omega arith) in
         (parts X).whole
         ∙ ap (λ (l : List ℕ). replicate (leading X) 0xaa ++ l) (sym (ap (flat_map (to_be_bytes w32)) again ∙ after));
@@ -182,9 +193,11 @@ module _ (X : List ℕ) (h : IsWhole X) where
 -- the pages at the end
 resumed_end : (n : ℕ) (o : Option OpenPage) → resumed n o [] ≡ closed o
 resumed_end n None = refl
-resumed_end n (Some p) = ap (λ (l : List ℕ). record { address = p.address; function = p.function; payload = l } ∷ []) (append-nil p.items.items)
+resumed_end n (Some p) =
+    ap (λ (l : List ℕ). record { address = p.address; function = p.function; payload = l } ∷ []) (append-nil p.items.items)
 
-pub pages_end : (pages : List Page) (o : Option OpenPage) (n : ℕ) (ks : List Kind) → ((more : List Kind) → pages_from 0 (ks ++ more) ≡ pages ++ resumed n o more)
+pub pages_end : (pages : List Page) (o : Option OpenPage) (n : ℕ) (ks : List Kind)
+    → ((more : List Kind) → pages_from 0 (ks ++ more) ≡ pages ++ resumed n o more)
     → (ps : List Page) → ps ≡ pages ++ closed o → ps ≡ pages_from 0 ks
 pages_end pages o n ks h ps e =
     e ∙ (ap (λ (l : List Page). pages ++ l) (sym (resumed_end n o)) ∙ (sym (h []) ∙ ap (λ (l : List Kind). pages_from 0 l) (append-nil ks)))
@@ -205,16 +218,22 @@ items_small [] h = All-nil (λ item. item < 2 ^ 20)
 items_small (Idle ∷ ks) h = All-nil (λ item. item < 2 ^ 20)
 items_small (Address high function ∷ ks) h = All-nil (λ item. item < 2 ^ 20)
 items_small (Message bits ∷ ks) h =
-    All-cons (λ item. item < 2 ^ 20) bits (items_of ks) (All-head IsInRange (Message bits) ks h) (items_small ks (All-tail IsInRange (Message bits) ks h))
+    All-cons (λ item. item < 2 ^ 20) bits (items_of ks) (All-head IsInRange (Message bits) ks h)
+    (items_small ks (All-tail IsInRange (Message bits) ks h))
 
 pages_listable : (ks : List Kind) (i : ℕ) → All IsInRange ks → All IsListable (pages_from i ks)
 pages_listable [] i h = All-nil IsListable
 pages_listable (Idle ∷ ks) i h = pages_listable ks (i + 1) (All-tail IsInRange Idle ks h)
 pages_listable (Address high function ∷ ks) i h =
     let rest = All-tail IsInRange (Address high function) ks h in
-    All-cons IsListable _ (pages_from (i + 1) ks) (record { function = (All-head IsInRange (Address high function) ks h).1; items = items_small ks rest }) (pages_listable ks (i + 1) rest)
+    All-cons IsListable _ (pages_from (i + 1) ks)
+    (record { function = (All-head IsInRange (Address high function) ks h).1; items = items_small ks rest })
+    (pages_listable ks (i + 1) rest)
 pages_listable (Message bits ∷ ks) i h = pages_listable ks (i + 1) (All-tail IsInRange (Message bits) ks h)
 
 pub whole_listable : (X : List ℕ) → IsWhole X → (ps : List Page) → ps ≡ pages_from 0 (map kind_of (codewords_in X)) → All IsListable ps
 whole_listable X h ps e =
-    subst (All IsListable) (sym e) (pages_listable (map kind_of (codewords_in X)) 0 (All-map IsInRange kind_of (codewords_in X) (All-weaker IsCodeword (λ w. IsInRange (kind_of w)) (λ w c. kind_fits w c.fits) (codewords_in X) (are_codewords X h))))
+    subst (All IsListable) (sym e)
+    (pages_listable (map kind_of (codewords_in X)) 0
+    (All-map IsInRange kind_of (codewords_in X)
+    (All-weaker IsCodeword (λ w. IsInRange (kind_of w)) (λ w c. kind_fits w c.fits) (codewords_in X) (are_codewords X h))))

@@ -29,14 +29,16 @@ may_kept ws zs j h =
       | inr p ↦ rw (le-ltb 1 j p) refl
     ]
 
-same_good : (ws vs : List ℕ) (j : ℕ) → slice_index vs j ≡ slice_index ws j → may_follow vs j ≡ may_follow ws j → MayStandAt ws j → MayStandAt vs j
+same_good : (ws vs : List ℕ) (j : ℕ) → slice_index vs j ≡ slice_index ws j → may_follow vs j ≡ may_follow ws j → MayStandAt ws j
+    → MayStandAt vs j
 same_good ws vs j e m g = record {
   sync = λ s. e ∙ g.sync s;
   codeword = λ s. subst IsCodeword (sym e) (g.codeword s);
   follows = λ s t. m ∙ g.follows s (subst (λ (x : ℕ). IsTrue (is_message (kind_of x))) e t);
 }
 
-same_bad : (ws vs : List ℕ) (j : ℕ) (f : DecodeFault) → slice_index vs j ≡ slice_index ws j → may_follow vs j ≡ may_follow ws j → IsBad ws j f → IsBad vs j f
+same_bad : (ws vs : List ℕ) (j : ℕ) (f : DecodeFault) → slice_index vs j ≡ slice_index ws j → may_follow vs j ≡ may_follow ws j
+    → IsBad ws j f → IsBad vs j f
 same_bad ws vs j f e m (no_sync a b) = no_sync a (λ h. b (sym e ∙ h))
 same_bad ws vs j f e m (bad_word a b) = bad_word a (λ h. b (subst IsCodeword e h))
 same_bad ws vs j f e m (orphan a b c d) =
@@ -50,7 +52,9 @@ pub bad_stays : (ws zs : List ℕ) (f : DecodeFault) → HasBadWord ws f → Has
 bad_stays ws zs f b = record {
   place = b.place;
   there = let t = b.there in let l = length-append ws zs in omega arith;
-  bad = same_bad ws (ws ++ zs) b.place f (get_or_append_left ws zs 0 b.place b.there) (may_kept ws zs b.place (let t = b.there in omega arith)) b.bad;
+  bad =
+      same_bad ws (ws ++ zs) b.place f (get_or_append_left ws zs 0 b.place b.there)
+      (may_kept ws zs b.place (let t = b.there in omega arith)) b.bad;
   least = λ j h. good_kept ws zs j (let t = b.there in omega arith) (b.least j h);
 }
 
@@ -91,7 +95,8 @@ module _ (ws : List ℕ) (w : ℕ) where
   pub bad_sync : AllMayStand ws → length ws % 17 ≡ 0 → w ≢ sync_word → HasBadWord (ws ++ w ∷ []) (fault.NoSync (length ws / 17))
   bad_sync good s e = bad_more _ good (no_sync s (λ h. e (sym is_last ∙ h)))
 
-  pub good_codeword : AllMayStand ws → length ws % 17 ≢ 0 → IsCodeword w → (IsTrue (is_message (kind_of w)) → IsTrue (may_follow ws (length ws))) → AllMayStand (ws ++ w ∷ [])
+  pub good_codeword : AllMayStand ws → length ws % 17 ≢ 0 → IsCodeword w
+      → (IsTrue (is_message (kind_of w)) → IsTrue (may_follow ws (length ws))) → AllMayStand (ws ++ w ∷ [])
   good_codeword good s c follows =
       good_more good (record {
         sync = λ z. absurd (s z);
@@ -105,7 +110,8 @@ module _ (ws : List ℕ) (w : ℕ) where
   pub bad_orphan : AllMayStand ws → length ws % 17 ≢ 0 → IsCodeword w → IsTrue (is_message (kind_of w)) → may_follow ws (length ws) ≡ false
       → HasBadWord (ws ++ w ∷ []) (fault.Orphan (index_at (length ws)))
   bad_orphan good s c m f =
-      bad_more _ good (orphan s (subst IsCodeword (sym is_last) c) (subst (λ (x : ℕ). IsTrue (is_message (kind_of x))) (sym is_last) m) (may_last ∙ f))
+      bad_more _ good
+      (orphan s (subst IsCodeword (sym is_last) c) (subst (λ (x : ℕ). IsTrue (is_message (kind_of x))) (sym is_last) m) (may_last ∙ f))
 
   -- after a synchronisation codeword a message may follow as before it
   pub may_sync : length ws % 17 ≡ 0 → may_follow (ws ++ w ∷ []) (length (ws ++ w ∷ [])) ≡ may_follow ws (length ws)
@@ -116,7 +122,8 @@ module _ (ws : List ℕ) (w : ℕ) where
             let zero : length ws % 17 ≢ 1 = omega arith in
             let lt : length ws - 1 < length ws = omega arith in
             let place : length ws + 1 - 2 ≡ length ws - 1 = omega arith in
-            rw (eq-eqb _ _ one, ne_eqb _ _ zero, lt-ltb 1 (length ws + 1) (omega arith), lt-ltb 1 (length ws) (omega arith), place) (ap (λ (x : ℕ). not (is_idle (kind_of x))) (get_or_append_left ws (w ∷ []) 0 (length ws - 1) lt))
+            rw (eq-eqb _ _ one, ne_eqb _ _ zero, lt-ltb 1 (length ws + 1) (omega arith), lt-ltb 1 (length ws) (omega arith), place)
+            (ap (λ (x : ℕ). not (is_idle (kind_of x))) (get_or_append_left ws (w ∷ []) 0 (length ws - 1) lt))
         | inr p ↦ rw (le-ltb 1 (length ws + 1) (omega arith), le-ltb 1 (length ws) (omega arith)) refl
       ])
 
@@ -129,24 +136,24 @@ module _ (ws : List ℕ) (w : ℕ) where
 
 -- a bad word after words that were read
 module _ (place : ℕ) (growing : Growing) (ws : List ℕ) (w : ℕ) (r : HasRead place growing ws) where
-  at_end : (f : ℕ → DecodeFault) → HasBadWord (ws ++ w ∷ []) (f (length ws)) → HasBadWord (ws ++ w ∷ []) (f place)
-  at_end f b = subst (λ (n : ℕ). HasBadWord (ws ++ w ∷ []) (f n)) (sym r.count) b
-
   pub refused_sync : place % 17 ≡ 0 → w ≢ sync_word → HasBadWord (ws ++ w ∷ []) (fault.NoSync (place / 17))
-  refused_sync s e = at_end (λ n. fault.NoSync (n / 17)) (bad_sync ws w r.good (subst (λ (n : ℕ). n % 17 ≡ 0) r.count s) e)
+  refused_sync s e = let n = r.count in rw n (bad_sync ws w r.good (omega arith) e)
 
   pub refused_codeword : 0 < place % 17 → ¬ IsCodeword w → HasBadWord (ws ++ w ∷ []) (fault.BadWord (index_at place))
-  refused_codeword s c = at_end (λ n. fault.BadWord (index_at n)) (bad_codeword ws w r.good (let n = r.count in omega arith) c)
+  refused_codeword s c = let n = r.count in rw n (bad_codeword ws w r.good (omega arith) c)
 
-  pub refused_orphan : 0 < place % 17 → IsCodeword w → IsTrue (is_message (kind_of w)) → is_some growing.current ≡ false → HasBadWord (ws ++ w ∷ []) (fault.Orphan (index_at place))
-  refused_orphan s c m f = at_end (λ n. fault.Orphan (index_at n)) (bad_orphan ws w r.good (let n = r.count in omega arith) c m (sym r.may ∙ f))
+  pub refused_orphan : 0 < place % 17 → IsCodeword w → IsTrue (is_message (kind_of w)) → is_some growing.current ≡ false
+      → HasBadWord (ws ++ w ∷ []) (fault.Orphan (index_at place))
+  refused_orphan s c m f = let n = r.count in rw n (bad_orphan ws w r.good (omega arith) c m (sym r.may ∙ f))
 
-pub read_sync : (place : ℕ) (growing : Growing) (ws : List ℕ) (w : ℕ) → place % 17 ≡ 0 → w ≡ sync_word → HasRead place growing ws → HasRead (place + 1) growing (ws ++ w ∷ [])
+pub read_sync : (place : ℕ) (growing : Growing) (ws : List ℕ) (w : ℕ) → place % 17 ≡ 0 → w ≡ sync_word → HasRead place growing ws
+    → HasRead (place + 1) growing (ws ++ w ∷ [])
 read_sync place growing ws w s e r =
     let n : place ≡ length ws = r.count in
     let s' : length ws % 17 ≡ 0 = subst (λ (x : ℕ). x % 17 ≡ 0) n s in
     let same : unsynced 0 (ws ++ w ∷ []) ≡ unsynced 0 ws =
-    unsynced_more 0 ws (w ∷ []) ∙ (ap (λ (l : List ℕ). unsynced 0 ws ++ l) (unsynced_sync (0 + length ws) w (omega arith)) ∙ append-nil (unsynced 0 ws)) in
+    unsynced_more 0 ws (w ∷ [])
+    ∙ (ap (λ (l : List ℕ). unsynced 0 ws ++ l) (unsynced_sync (0 + length ws) w (omega arith)) ∙ append-nil (unsynced 0 ws)) in
     record {
       count = let l = length_more ws w in omega arith;
       good = good_sync ws w r.good s' e;
@@ -160,7 +167,8 @@ Grows before after frame kind =
     (i : ℕ) (ks : List Kind) → frame ≡ frame_at i
     → before.pages.items ++ resumed i before.current (kind ∷ ks) ≡ after.pages.items ++ resumed (i + 1) after.current ks
 
-pub read_codeword : (place frame : ℕ) (growing after : Growing) (ws : List ℕ) (w : ℕ) → 0 < place % 17 → frame ≡ (place % 17 - 1) / 2 → IsCodeword w
+pub read_codeword : (place frame : ℕ) (growing after : Growing) (ws : List ℕ) (w : ℕ) → 0 < place % 17 → frame ≡ (place % 17 - 1) / 2
+    → IsCodeword w
     → (kind : Kind) → kind ≡ kind_of w
     → (IsTrue (is_message kind) → IsTrue (is_some growing.current)) → is_some after.current ≡ not (is_idle kind)
     → Grows growing after frame kind
@@ -177,6 +185,13 @@ read_codeword place frame growing after ws w s at c kind is follows current grow
       good = good_codeword ws w r.good s' c (λ m. sym r.may ∙ follows (ap is_message is ∙ m));
       may = current ∙ (ap (λ (k : Kind). not (is_idle k)) is ∙ sym (may_codeword ws w s'));
       pages = λ ks.
-          rw (more, map-append kind_of (unsynced 0 ws) (w ∷ []), append_assoc (map kind_of (unsynced 0 ws)) (kind_of w ∷ []) ks, length-append (unsynced 0 ws) (w ∷ []))
-          (subst (λ (k : Kind). pages_from 0 (map kind_of (unsynced 0 ws) ++ k ∷ ks) ≡ after.pages.items ++ resumed (length (unsynced 0 ws) + 1) after.current ks) is (r.pages (kind ∷ ks) ∙ grows (length (unsynced 0 ws)) ks frame_is));
+          rw (
+            more,
+            map-append kind_of (unsynced 0 ws) (w ∷ []),
+            append_assoc (map kind_of (unsynced 0 ws)) (kind_of w ∷ []) ks,
+            length-append (unsynced 0 ws) (w ∷ []),
+          )
+          (subst (λ (k : Kind). pages_from 0 (map kind_of (unsynced 0 ws) ++ k ∷ ks)
+          ≡ after.pages.items ++ resumed (length (unsynced 0 ws) + 1) after.current ks) is
+          (r.pages (kind ∷ ks) ∙ grows (length (unsynced 0 ws)) ks frame_is));
     }

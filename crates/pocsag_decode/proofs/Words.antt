@@ -2,8 +2,9 @@
 use Rattle.std.proofs.Common.{◌≡◌, ◌≢◌, ℕ, ◌+◌, ◌*◌, List, [], ◌∷◌, ◌++◌, length, take, drop, refl, sym, ap, ap₂, ◌∙◌, subst, inl, inr, arith, append_assoc, true, false, ◌==◌}
 use Rattle.std.proofs.lemmas.Bool.{eqb-true, false≢true}
 use Rattle.std.specs.Int.{from_be_bytes, w32}
-use Rattle.std.proofs.lemmas.List.{append-nil, length-append, take-append-drop}
+use Rattle.std.proofs.lemmas.List.{append-nil, length-append, nil_from_length, take-append-drop}
 use Rattle.pocsag_pages.specs.Bytes.{words_of}
+use Rattle.pocsag_pages.proofs.Lengths.{first_word, words_long}
 use Rattle.pocsag_decode.specs.declared.fault.DecodeFault.{DecodeFault}
 use Rattle.pocsag_decode.specs.declared.body.Body.{Body}
 use Rattle.pocsag_decode.specs.declared.carry.Carry.{Carry}
@@ -46,7 +47,8 @@ pub bad_on : (Y Z : List ℕ) (f : DecodeFault) → HasBadWord (words_of Y) f �
 bad_on Y Z f b = subst (λ (ws : List ℕ). HasBadWord ws f) (sym (words_on Y Z)) (bad_stays (words_of Y) (words_of (unfinished Y ++ Z)) f b)
 
 -- a byte that makes no word whole
-pub byte_more : (b : Body) (old new : Carry) (Y : List ℕ) (x : ℕ) → b.carry ≡ old → words_of (carried old ++ x ∷ []) ≡ [] → unfinished (carried old ++ x ∷ []) ≡ carried new
+pub byte_more : (b : Body) (old new : Carry) (Y : List ℕ) (x : ℕ) → b.carry ≡ old → words_of (carried old ++ x ∷ []) ≡ []
+    → unfinished (carried old ++ x ∷ []) ≡ carried new
     → StandsIn b Y → StandsIn (record b { carry = new }) (Y ++ x ∷ [])
 byte_more b old new Y x is none one s =
     let left : unfinished Y ≡ carried old = sym s.carry ∙ ap carried is in
@@ -61,32 +63,24 @@ refuses f ws vs h (inr p) = inr (h p)
 
 -- four bytes
 four_words : (l : List ℕ) → length l ≡ 4 → words_of l ≡ from_be_bytes w32 l ∷ []
-four_words [] e = absurd (omega arith)
-four_words (a ∷ []) e = absurd (omega arith)
-four_words (a ∷ b ∷ []) e = absurd (omega arith)
-four_words (a ∷ b ∷ c ∷ []) e = absurd (omega arith)
-four_words (a ∷ b ∷ c ∷ d ∷ []) e = refl
-four_words (a ∷ b ∷ c ∷ d ∷ x ∷ l) e = absurd (omega arith)
+four_words l e = ap words_of (sym (append-nil l)) ∙ first_word l [] e
 
 four_left : (l : List ℕ) → length l ≡ 4 → unfinished l ≡ []
-four_left [] e = refl
-four_left (a ∷ []) e = absurd (omega arith)
-four_left (a ∷ b ∷ []) e = absurd (omega arith)
-four_left (a ∷ b ∷ c ∷ []) e = absurd (omega arith)
-four_left (a ∷ b ∷ c ∷ d ∷ []) e = refl
-four_left (a ∷ b ∷ c ∷ d ∷ x ∷ l) e = absurd (omega arith)
+four_left l e = nil_from_length (unfinished l) (let n = bytes_count l in let m = words_long l in omega arith)
 
 -- bytes that make a word whole
-module _ (b : Body) (Y Z : List ℕ) (w : ℕ) (s : StandsIn b Y) (e : length (carried b.carry ++ Z) ≡ 4) (is : w ≡ from_be_bytes w32 (carried b.carry ++ Z)) where
+module _ (b : Body) (Y Z : List ℕ) (w : ℕ) (s : StandsIn b Y)
+    (e : length (carried b.carry ++ Z) ≡ 4) (is : w ≡ from_be_bytes w32 (carried b.carry ++ Z)) where
   words_are : words_of (Y ++ Z) ≡ words_of Y ++ w ∷ []
   words_are =
       words_on Y Z
-      ∙ ap (λ (l : List ℕ). words_of Y ++ l) (ap (λ (l : List ℕ). words_of (l ++ Z)) (sym s.carry) ∙ (four_words (carried b.carry ++ Z) e ∙ ap (λ (x : ℕ). x ∷ []) (sym is)))
+      ∙ ap (λ (l : List ℕ). words_of Y ++ l)
+      (ap (λ (l : List ℕ). words_of (l ++ Z)) (sym s.carry) ∙ (four_words _ e ∙ ap (λ (x : ℕ). x ∷ []) (sym is)))
 
   pub word_more : (new : Body) → HasRead new.place new.growing (words_of Y ++ w ∷ []) → carried new.carry ≡ [] → StandsIn new (Y ++ Z)
   word_more new r none = record {
     read = rw words_are r;
-    carry = none ∙ sym (rest_on Y Z ∙ (ap (λ (l : List ℕ). unfinished (l ++ Z)) (sym s.carry) ∙ four_left (carried b.carry ++ Z) e));
+    carry = none ∙ sym (rest_on Y Z ∙ (ap (λ (l : List ℕ). unfinished (l ++ Z)) (sym s.carry) ∙ four_left _ e));
   }
 
   pub bad_word_more : (f : DecodeFault) → HasBadWord (words_of Y ++ w ∷ []) f → HasBadWord (words_of (Y ++ Z)) f
@@ -94,7 +88,8 @@ module _ (b : Body) (Y Z : List ℕ) (w : ℕ) (s : StandsIn b Y) (e : length (c
 
 -- a part of the bytes more
 module _ (first now : Body) (bytes rest front back : List ℕ) (t : IsTaking first now bytes rest) (e : rest ≡ front ++ back) where
-  pub taken : (new : Body) → size_of new.place new.carry ≡ size_of now.place now.carry + length front → ((Y : List ℕ) → StandsIn now Y → StandsIn new (Y ++ front)) → IsTaking first new bytes back
+  pub taken : (new : Body) → size_of new.place new.carry ≡ size_of now.place now.carry + length front
+      → ((Y : List ℕ) → StandsIn now Y → StandsIn new (Y ++ front)) → IsTaking first new bytes back
   taken new size stands = record {
     size = let s = t.size in let l = length-append front back in let r = ap length e in omega arith;
     before = λ Y h.
@@ -106,10 +101,12 @@ module _ (first now : Body) (bytes rest front back : List ℕ) (t : IsTaking fir
         };
   }
 
-  pub not_taken : (f : DecodeFault) → ((Y : List ℕ) → StandsIn now Y → Refuses (words_of (Y ++ front)) f) → (Y : List ℕ) → StandsIn first Y → Refuses (words_of (Y ++ bytes)) f
+  pub not_taken : (f : DecodeFault) → ((Y : List ℕ) → StandsIn now Y → Refuses (words_of (Y ++ front)) f) → (Y : List ℕ) → StandsIn first Y
+      → Refuses (words_of (Y ++ bytes)) f
   not_taken f bad Y h =
       let s = t.before Y h in
-      let all : (s.eaten ++ front) ++ back ≡ Y ++ bytes = append_assoc s.eaten front back ∙ (ap (λ (l : List ℕ). s.eaten ++ l) (sym e) ∙ s.all) in
+      let all : (s.eaten ++ front) ++ back ≡ Y ++ bytes =
+      append_assoc s.eaten front back ∙ (ap (λ (l : List ℕ). s.eaten ++ l) (sym e) ∙ s.all) in
       refuses f (words_of (s.eaten ++ front)) (words_of (Y ++ bytes))
       (λ b. subst (λ (l : List ℕ). HasBadWord (words_of l) f) all (bad_on (s.eaten ++ front) back f b))
       (bad s.eaten s.stands)
@@ -124,7 +121,8 @@ is_nil (x ∷ l) e = absurd (let n = eqb-true (length (x ∷ l)) 0 (sym e) in om
 pub not_nil : (l : List ℕ) → false ≡ (length l == 0) → l ≢ []
 not_nil l e z = false≢true (e ∙ ap (λ (m : List ℕ). length m == 0) z)
 
-pub taking_last : (first now : Body) (bytes rest : List ℕ) → rest ≡ [] → IsTaking first now bytes rest → (Y : List ℕ) → StandsIn first Y → StandsIn now (Y ++ bytes)
+pub taking_last : (first now : Body) (bytes rest : List ℕ) → rest ≡ [] → IsTaking first now bytes rest → (Y : List ℕ) → StandsIn first Y
+    → StandsIn now (Y ++ bytes)
 taking_last first now bytes rest e t Y h =
     let s = t.before Y h in
     subst (StandsIn now) (sym (append-nil s.eaten) ∙ (ap (λ (l : List ℕ). s.eaten ++ l) (sym e) ∙ s.all)) s.stands

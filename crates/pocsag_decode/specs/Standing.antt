@@ -19,7 +19,8 @@ pub record HasRead (place : ℕ) (growing : Growing) (ws : List ℕ) : Type 0 wh
   pub may : is_some growing.current ≡ may_follow ws (length ws)
   -- Whatever codewords follow: the finished pages, the open page with what comes of its message, and
   -- the pages that follow.
-  pub pages : (ks : List Kind) → pages_from 0 (map kind_of (unsynced 0 ws) ++ ks) ≡ growing.pages.items ++ resumed (length (unsynced 0 ws)) growing.current ks
+  pub pages : (ks : List Kind)
+      → pages_from 0 (map kind_of (unsynced 0 ws) ++ ks) ≡ growing.pages.items ++ resumed (length (unsynced 0 ws)) growing.current ks
 
 -- The same of bytes after the preamble, with those of a word that is not whole.
 pub record StandsIn (b : Body) (Y : List ℕ) : Type 0 where

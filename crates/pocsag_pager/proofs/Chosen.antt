@@ -23,7 +23,8 @@ split_at (p ∷ ps) (suc k) r within e =
     record { before = p ∷ s.before; after = s.after; is = ap (λ xs. p ∷ xs) s.is }
 
 -- another page is still there when one is taken out
-still_there : (xs ys : List Page) (r q : Page) (k : ℕ) → r ≢ q → k < length (xs ++ r ∷ ys) → get_or (xs ++ r ∷ ys) k q ≡ q → Contains (xs ++ ys) q
+still_there : (xs ys : List Page) (r q : Page) (k : ℕ) → r ≢ q → k < length (xs ++ r ∷ ys) → get_or (xs ++ r ∷ ys) k q ≡ q
+    → Contains (xs ++ ys) q
 still_there [] ys r q zero other within e = absurd (other e)
 still_there [] ys r q (suc k) other within e = (k, omega arith, e)
 still_there (x ∷ xs) ys r q zero other within e = (0, omega arith, e)
@@ -39,9 +40,11 @@ only_case : (b : Bool) (x r : Page) (zs ws : List Page) → cond b (x ∷ zs) zs
 only_case true x r zs ws e f = absurd (cc)
 only_case false x r zs ws e f = f e
 
-only : (a : ℕ) (xs ys : List Page) (r : Page) → calls a r ≡ true → filter (calls a) (xs ++ ys) ≡ [] → filter (calls a) (xs ++ r ∷ ys) ≡ r ∷ []
+only : (a : ℕ) (xs ys : List Page) (r : Page) → calls a r ≡ true → filter (calls a) (xs ++ ys) ≡ []
+    → filter (calls a) (xs ++ r ∷ ys) ≡ r ∷ []
 only a [] ys r e none = rw e (ap (λ zs. r ∷ zs) none)
-only a (x ∷ xs) ys r e none = only_case (calls a x) x r (filter (calls a) (xs ++ ys)) (filter (calls a) (xs ++ r ∷ ys)) none (only a xs ys r e)
+only a (x ∷ xs) ys r e none =
+    only_case (calls a x) x r (filter (calls a) (xs ++ ys)) (filter (calls a) (xs ++ r ∷ ys)) none (only a xs ys r e)
 
 nothing : (a : ℕ) (ps : List Page) → All (λ p. p.address ≢ a) ps → filter (calls a) ps ≡ []
 nothing a [] far = refl
@@ -61,7 +64,8 @@ chosen a (r ∷ R) ps apart long each =
     let shorter : length (s.before ++ s.after) ≡ length R = omega (arith, length-append s.before s.after) in
     let others : All (Contains (s.before ++ s.after)) R = λ k d within.
     let q = get_or R k d in
-    let there : Contains (s.before ++ r ∷ s.after) q = subst (λ (xs : List Page). Contains xs q) s.is (All-tail (Contains ps) r R each k d within) in
+    let there : Contains (s.before ++ r ∷ s.after) q =
+    subst (λ (xs : List Page). Contains xs q) s.is (All-tail (Contains ps) r R each k d within) in
     still_there s.before s.after r q (there.0) (λ e. first k d within (ap (λ (p : Page). p.address) e)) (there.1) (there.2) in
     let rest = chosen a R (s.before ++ s.after) (apart_rest r R apart) shorter others in
     ap (filter (calls a)) s.is

@@ -19,29 +19,35 @@ use Rattle.pocsag_pager.proofs.Mending.{AreRepaired, heard_at, all_mended_same}
 use Rattle.pocsag_pager.proofs.Places.{ended_more, ending_none, next_open_elsewhere, next_open_same, open_more, shown_is}
 use Rattle.pocsag_pages.proofs.Lengths.{unsynced_codeword, unsynced_count, unsynced_more, unsynced_sync}
 
-AllZip-push_two : {A B : Type 0} (R : A → B → Type 0) (xs : List A) (ys : List B) (x : A) (y : B) → AllZip R xs ys → R x y → AllZip R (xs ++ x ∷ []) (ys ++ y ∷ [])
+AllZip-push_two : {A B : Type 0} (R : A → B → Type 0) (xs : List A) (ys : List B) (x : A) (y : B) → AllZip R xs ys → R x y
+    → AllZip R (xs ++ x ∷ []) (ys ++ y ∷ [])
 AllZip-push_two R [] [] x y all here = (here, tt)
 AllZip-push_two R [] (v ∷ ys) x y all here = absurd all
 AllZip-push_two R (u ∷ xs) [] x y all here = absurd all
 AllZip-push_two R (u ∷ xs) (v ∷ ys) x y all here = (all.0, AllZip-push_two R xs ys x y all.1 here)
 
 -- the fact that holds of what was heard gives another
-pub heard_then : (words : List ℕ) (P Q : List (Option Kind) → Type 0) → HoldsOnceMended words P → ((ms : List (Option Kind)) → P ms → Q ms) → HoldsOnceMended words Q
+pub heard_then : (words : List ℕ) (P Q : List (Option Kind) → Type 0) → HoldsOnceMended words P → ((ms : List (Option Kind)) → P ms → Q ms)
+    → HoldsOnceMended words Q
 heard_then words P Q h f = record { mended = h.mended; each = h.each; holds = f (map said h.mended) h.holds }
 
 -- two facts of what was heard hold of the same
-pub heard_both : (words : List ℕ) (P Q : List (Option Kind) → Type 0) → HoldsOnceMended words P → HoldsOnceMended words Q → HoldsOnceMended words (λ ms. P ms × Q ms)
+pub heard_both : (words : List ℕ) (P Q : List (Option Kind) → Type 0) → HoldsOnceMended words P → HoldsOnceMended words Q
+    → HoldsOnceMended words (λ ms. P ms × Q ms)
 heard_both words P Q h k =
     let same : k.mended ≡ h.mended = all_mended_same (unsynced 0 words) _ _ k.each h.each in
     record { mended = h.mended; each = h.each; holds = (h.holds, subst (λ (ms : List (Option ℕ)). Q (map said ms)) same k.holds) }
 
-pub heard_skip : (words : List ℕ) (w : ℕ) (P : List (Option Kind) → Type 0) → length words % 17 ≡ 0 → HoldsOnceMended words P → HoldsOnceMended (words ++ w ∷ []) P
+pub heard_skip : (words : List ℕ) (w : ℕ) (P : List (Option Kind) → Type 0) → length words % 17 ≡ 0 → HoldsOnceMended words P
+    → HoldsOnceMended (words ++ w ∷ []) P
 heard_skip words w P place h =
     let same : unsynced 0 (words ++ w ∷ []) ≡ unsynced 0 words =
-    unsynced_more 0 words (w ∷ []) ∙ ap (λ xs. unsynced 0 words ++ xs) (unsynced_sync (0 + length words) w (omega arith)) ∙ append-nil (unsynced 0 words) in
+    unsynced_more 0 words (w ∷ []) ∙ ap (λ xs. unsynced 0 words ++ xs) (unsynced_sync (0 + length words) w (omega arith))
+    ∙ append-nil (unsynced 0 words) in
     record { mended = h.mended; each = subst (λ (ws : List ℕ). AllZip IsMended ws h.mended) (sym same) h.each; holds = h.holds }
 
-pub heard_more : (words : List ℕ) (w : ℕ) (m : Option Kind) (P Q : List (Option Kind) → Type 0) → length words % 17 ≢ 0 → IsHeardAs w m → HoldsOnceMended words P
+pub heard_more : (words : List ℕ) (w : ℕ) (m : Option Kind) (P Q : List (Option Kind) → Type 0) → length words % 17 ≢ 0 → IsHeardAs w m
+    → HoldsOnceMended words P
     → ((ms : List (Option Kind)) → length ms ≡ length (unsynced 0 words) → P ms → Q (ms ++ m ∷ [])) → HoldsOnceMended (words ++ w ∷ []) Q
 heard_more words w m P Q place is h f =
     let inside : (0 + length words) % 17 ≢ 0 = λ e. place (omega arith) in
@@ -77,16 +83,19 @@ module _ (a p w : ℕ) (words : List ℕ) (s : State) (before : Option Page) (m 
 
   pub turn_open : (after : Option Page) → after ≡ next_open a (p - 1) before m → IsOpen (words ++ w ∷ []) a (Listening after)
   turn_open after e =
-      heard_more words w m (λ ms. s ≡ Listening (open_from a 0 ms)) (λ ms. Listening after ≡ Listening (open_from a 0 ms)) not_synced is stands
+      heard_more words w m (λ ms. s ≡ Listening (open_from a 0 ms))
+      (λ ms. Listening after ≡ Listening (open_from a 0 ms)) not_synced is stands
       (λ ms long h.
       let slot : length ms % 16 ≡ (p - 1) % 16 = omega (arith, unsynced_count 0 words) in
       ap Listening (e ∙ next_open_same a (p - 1) (length ms) before m (sym slot)
       ∙ ap (λ (o : Option Page). next_open a (length ms) o m) (open_is s before (open_from a 0 ms) holds h)
       ∙ sym (open_more a 0 (length ms) ms m (omega arith))))
 
-  pub turn_ended : (ps : List Page) (ended : Option Page) → ended ≡ ending before m → HaveEnded words a ps → HaveEnded (words ++ w ∷ []) a (ps ++ option_to_list ended)
+  pub turn_ended : (ps : List Page) (ended : Option Page) → ended ≡ ending before m → HaveEnded words a ps
+      → HaveEnded (words ++ w ∷ []) a (ps ++ option_to_list ended)
   turn_ended ps ended e have =
-      heard_more words w m (λ ms. (s ≡ Listening (open_from a 0 ms)) × (ps ≡ ended_from a 0 ms)) (λ ms. ps ++ option_to_list ended ≡ ended_from a 0 ms) not_synced is
+      heard_more words w m (λ ms. (s ≡ Listening (open_from a 0 ms)) × (ps ≡ ended_from a 0 ms))
+      (λ ms. ps ++ option_to_list ended ≡ ended_from a 0 ms) not_synced is
       (heard_both words (λ ms. s ≡ Listening (open_from a 0 ms)) (λ ms. ps ≡ ended_from a 0 ms) stands have)
       (λ ms long h.
       ap₂ (λ (xs : List Page) (o : Option Page). xs ++ option_to_list o) h.1
@@ -96,7 +105,8 @@ module _ (a p w : ℕ) (words : List ℕ) (s : State) (before : Option Page) (m 
 -- ---- a word at the place of a synchronisation codeword
 
 module _ (a p w : ℕ) (words : List ℕ) (place : p ≡ length words % 17) (first : p ≡ 0) where
-  pub skip_open : (s : State) (before : Option Page) → s ≡ Listening before → IsOpen words a s → IsOpen (words ++ w ∷ []) a (Listening before)
+  pub skip_open : (s : State) (before : Option Page) → s ≡ Listening before → IsOpen words a s
+      → IsOpen (words ++ w ∷ []) a (Listening before)
   skip_open s before holds stands =
       subst (IsOpen (words ++ w ∷ []) a) holds
       (heard_skip words w (λ ms. s ≡ Listening (open_from a 0 ms)) (sym place ∙ first) stands)
@@ -119,7 +129,9 @@ module _ (law : AreRepaired) (a p w : ℕ) (words : List ℕ) (s : State) (small
       subst (IsOpen (words ++ w ∷ []) a) (sym holds)
       (elim (cases_eq p 0) [
         | inl first ↦ skip_open a p w words place first s None holds stands
-        | inr n ↦ turn_open a p w words s None at.kind place (omega arith) holds at.heard stands None (sym (next_open_elsewhere a (p - 1) at.kind (elsewhere n)))
+        | inr n ↦
+            turn_open a p w words s None at.kind place (omega arith) holds at.heard stands None
+            (sym (next_open_elsewhere a (p - 1) at.kind (elsewhere n)))
       ])
 
   pub pass_ended : (ps : List Page) → HaveEnded words a ps → HaveEnded (words ++ w ∷ []) a (ps ++ [])
@@ -153,7 +165,8 @@ far_within : (a q n : ℕ) → IsElsewhere a q (n + 1) → q < 17
 far_within a q n (inl before) = omega arith
 far_within a q n (inr after) = omega (arith, after.1)
 
-pub pass_all : AreRepaired → (a q : ℕ) (s : State) (words more : List ℕ) (ps : List Page) → All (λ w. w < 2 ^ 32) more → q % 17 ≡ length words % 17
+pub pass_all : AreRepaired → (a q : ℕ) (s : State) (words more : List ℕ) (ps : List Page) → All (λ w. w < 2 ^ 32) more
+    → q % 17 ≡ length words % 17
     → s ≡ Listening None → IsElsewhere a q (length more) → Known words a s ps → Known (words ++ more) a s ps
 pass_all law a q s words [] ps small place holds far known = subst (λ (ws : List ℕ). Known ws a s ps) (sym (append-nil words)) known
 pass_all law a q s words (w ∷ more) ps small place holds far known =
@@ -167,15 +180,18 @@ pass_all law a q s words (w ∷ more) ps small place holds far known =
           (pass_ended law a q w words s fits here holds (far_place a q (length more) away) known.open_page ps known.ended);
     } in
     subst (λ (ws : List ℕ). Known ws a s ps) (append_assoc words (w ∷ []) more)
-    (pass_all law a (q + 1) s (words ++ w ∷ []) more ps (All-tail (λ v. v < 2 ^ 32) w more small) (omega (arith, length-append words (w ∷ []))) holds
+    (pass_all law a (q + 1) s (words ++ w ∷ []) more ps (All-tail (λ v. v < 2 ^ 32) w more small)
+    (omega (arith, length-append words (w ∷ []))) holds
     (far_next a q (length more) away) next)
 
 -- ---- the end
 
-pub all_shown : (a : ℕ) (words : List ℕ) (s : State) (before : Option Page) (ps : List Page) → s ≡ Listening before → IsOpen words a s → HaveEnded words a ps
+pub all_shown : (a : ℕ) (words : List ℕ) (s : State) (before : Option Page) (ps : List Page) → s ≡ Listening before → IsOpen words a s
+    → HaveEnded words a ps
     → AreShown words a (ps ++ option_to_list before)
 all_shown a words s before ps holds stands have =
-    heard_then words (λ ms. (s ≡ Listening (open_from a 0 ms)) × (ps ≡ ended_from a 0 ms)) (λ ms. ps ++ option_to_list before ≡ shown_from a 0 ms)
+    heard_then words (λ ms. (s ≡ Listening (open_from a 0 ms)) × (ps ≡ ended_from a 0 ms))
+    (λ ms. ps ++ option_to_list before ≡ shown_from a 0 ms)
     (heard_both words (λ ms. s ≡ Listening (open_from a 0 ms)) (λ ms. ps ≡ ended_from a 0 ms) stands have)
     (λ ms h.
     ap₂ (λ (xs : List Page) (o : Option Page). xs ++ option_to_list o) h.1 (open_is s before (open_from a 0 ms) holds h.0)

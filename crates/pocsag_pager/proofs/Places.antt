@@ -1,11 +1,10 @@
 -- The receiver, one word at a time, against the list of places.
-use Rattle.std.proofs.Common.{◌≡◌, ◌≢◌, ℕ, ◌+◌, ◌/◌, ◌%◌, Bool, true, false, not, ◌&&◌, cond, nat_eq, List, [], ◌∷◌, ◌++◌, length, refl, ap, ◌∙◌, inl, inr, arith, add-zero, eq-eqb}
+use Rattle.std.proofs.Common.{◌≡◌, ◌≢◌, ℕ, ◌+◌, ◌/◌, ◌%◌, Bool, true, false, not, ◌&&◌, cond, nat_eq, List, [], ◌∷◌, ◌++◌, length, refl, ap, arith}
 use Rattle.std.specs.Prelude.{Option, Some, None, option_to_list}
-use Rattle.std.proofs.lemmas.Bool.{cases_eq, ne_eqb}
+use Rattle.std.proofs.lemmas.Bool.{ne_eqb}
 use Rattle.pocsag_words.specs.declared.codeword.Kind.{Kind}
 use Rattle.pocsag_words.specs.declared.codeword.Kind.TheVariants.{Idle, Address, Message}
 use Rattle.pocsag_pages.specs.declared.page.Page.{Page}
-use Rattle.pocsag_pages.specs.Bytes.{unsynced}
 use Rattle.pocsag_pages.specs.Reading.{frame_at}
 use Rattle.pocsag_pager.specs.Shown.{is_ours, page_called, run_of, shown_from}
 use Rattle.pocsag_pager.specs.Standing.{ended_from, is_run, open_from}
@@ -13,19 +12,13 @@ use Rattle.pocsag_pager.specs.Turns.{ending, next_open}
 
 -- ---- a run of message codewords has no page of its own
 
-run_shown : (a i : ℕ) (ms : List (Option Kind)) → is_run ms ≡ true → shown_from a i ms ≡ []
-run_shown a i [] e = refl
-run_shown a i (None ∷ ms) e = absurd (cc)
-run_shown a i (Some Idle ∷ ms) e = absurd (cc)
-run_shown a i (Some (Address high function) ∷ ms) e = absurd (cc)
-run_shown a i (Some (Message bits) ∷ ms) e = run_shown a (i + 1) ms e
-
-run_ended : (a i : ℕ) (ms : List (Option Kind)) → is_run ms ≡ true → ended_from a i ms ≡ []
-run_ended a i [] e = refl
-run_ended a i (None ∷ ms) e = absurd (cc)
-run_ended a i (Some Idle ∷ ms) e = absurd (cc)
-run_ended a i (Some (Address high function) ∷ ms) e = absurd (cc)
-run_ended a i (Some (Message bits) ∷ ms) e = run_ended a (i + 1) ms e
+run_has_none : (a i : ℕ) (ms : List (Option Kind)) → is_run ms ≡ true
+    → (shown_from a i ms ≡ []) × (ended_from a i ms ≡ []) × (open_from a i ms ≡ None)
+run_has_none a i [] e = (refl, refl, refl)
+run_has_none a i (None ∷ ms) e = absurd (cc)
+run_has_none a i (Some Idle ∷ ms) e = absurd (cc)
+run_has_none a i (Some (Address high function) ∷ ms) e = absurd (cc)
+run_has_none a i (Some (Message bits) ∷ ms) e = run_has_none a (i + 1) ms e
 
 -- ---- what is shown is what has ended and what is still open
 
@@ -41,8 +34,9 @@ shown_is a i [] = refl
 shown_is a i (None ∷ ms) = shown_is a (i + 1) ms
 shown_is a i (Some Idle ∷ ms) = shown_is a (i + 1) ms
 shown_is a i (Some (Address high function) ∷ ms) =
-    shown_case (page_called a function ms) (shown_from a (i + 1) ms) (ended_from a (i + 1) ms) (open_from a (i + 1) ms) (is_ours a i high) (is_run ms)
-    (shown_is a (i + 1) ms) (run_shown a (i + 1) ms) (run_ended a (i + 1) ms)
+    shown_case (page_called a function ms) (shown_from a (i + 1) ms) (ended_from a (i + 1) ms) (open_from a (i + 1) ms) (is_ours a i high)
+    (is_run ms)
+    (shown_is a (i + 1) ms) (λ e. (run_has_none a (i + 1) ms e).0) (λ e. (run_has_none a (i + 1) ms e).1)
 shown_is a i (Some (Message bits) ∷ ms) = shown_is a (i + 1) ms
 
 -- ---- one more word
@@ -76,7 +70,8 @@ run_stops (Some (Message bits) ∷ ms) m e = ap (λ xs. bits ∷ xs) (run_stops 
 with_run : (a function : ℕ) (ms ns : List (Option Kind)) → run_of ms ≡ run_of ns → page_called a function ms ≡ page_called a function ns
 with_run a function ms ns e = ap (λ (xs : List ℕ). (record { address = a; function = function; payload = xs })) e
 
-ended_case : (p q : Page) (E F : List Page) (O : Option Page) (m : Option Kind) (ours run more : Bool) → F ≡ E ++ option_to_list (ending O m)
+ended_case : (p q : Page) (E F : List Page) (O : Option Page) (m : Option Kind) (ours run more : Bool)
+    → F ≡ E ++ option_to_list (ending O m)
     → more ≡ (run && is_run (m ∷ [])) → (more ≡ false → q ≡ p) → (run ≡ true → E ≡ []) → (run ≡ true → O ≡ None)
     → cond (ours && not more) (q ∷ F) F ≡ cond (ours && not run) (p ∷ E) E ++ option_to_list (ending (cond (ours && run) (Some p) O) m)
 ended_case p q E F O m false run more e r s h o = e
@@ -85,13 +80,6 @@ ended_case p q E F O None true true more e r s h o = rw (r, s r, e, h refl, o re
 ended_case p q E F O (Some Idle) true true more e r s h o = rw (r, s r, e, h refl, o refl) refl
 ended_case p q E F O (Some (Address high function)) true true more e r s h o = rw (r, s r, e, h refl, o refl) refl
 ended_case p q E F O (Some (Message bits)) true true more e r s h o = rw (r, e, h refl) refl
-
-run_open : (a i : ℕ) (ms : List (Option Kind)) → is_run ms ≡ true → open_from a i ms ≡ None
-run_open a i [] e = refl
-run_open a i (None ∷ ms) e = absurd (cc)
-run_open a i (Some Idle ∷ ms) e = absurd (cc)
-run_open a i (Some (Address high function) ∷ ms) e = absurd (cc)
-run_open a i (Some (Message bits) ∷ ms) e = run_open a (i + 1) ms e
 
 no_end : (b : Bool) (p : Page) → cond (b && false) (p ∷ []) [] ≡ []
 no_end true p = refl
@@ -106,9 +94,11 @@ ended_more a i [] (Some (Message bits)) = refl
 ended_more a i (None ∷ ms) m = ended_more a (i + 1) ms m
 ended_more a i (Some Idle ∷ ms) m = ended_more a (i + 1) ms m
 ended_more a i (Some (Address high function) ∷ ms) m =
-    ended_case (page_called a function ms) (page_called a function (ms ++ m ∷ [])) (ended_from a (i + 1) ms) (ended_from a (i + 1) (ms ++ m ∷ []))
+    ended_case (page_called a function ms) (page_called a function (ms ++ m ∷ [])) (ended_from a (i + 1) ms)
+    (ended_from a (i + 1) (ms ++ m ∷ []))
     (open_from a (i + 1) ms) m (is_ours a i high) (is_run ms) (is_run (ms ++ m ∷ [])) (ended_more a (i + 1) ms m) (run_more ms m)
-    (λ e. with_run a function (ms ++ m ∷ []) ms (run_stops ms m e)) (run_ended a (i + 1) ms) (run_open a (i + 1) ms)
+    (λ e. with_run a function (ms ++ m ∷ []) ms (run_stops ms m e)) (λ e. (run_has_none a (i + 1) ms e).1)
+    (λ e. (run_has_none a (i + 1) ms e).2)
 ended_more a i (Some (Message bits) ∷ ms) m = ended_more a (i + 1) ms m
 
 open_case : (a j : ℕ) (p q : Page) (O N : Option Page) (m : Option Kind) (ours run more : Bool) → N ≡ next_open a j O m
@@ -136,7 +126,8 @@ open_more a i j [] (Some (Message bits)) e = refl
 open_more a i j (None ∷ ms) m e = open_more a (i + 1) j ms m (omega arith)
 open_more a i j (Some Idle ∷ ms) m e = open_more a (i + 1) j ms m (omega arith)
 open_more a i j (Some (Address high function) ∷ ms) m e =
-    open_case a j (page_called a function ms) (page_called a function (ms ++ m ∷ [])) (open_from a (i + 1) ms) (open_from a (i + 1) (ms ++ m ∷ []))
+    open_case a j (page_called a function ms) (page_called a function (ms ++ m ∷ [])) (open_from a (i + 1) ms)
+    (open_from a (i + 1) (ms ++ m ∷ []))
     m (is_ours a i high) (is_run ms) (is_run (ms ++ m ∷ [])) (open_more a (i + 1) j ms m (omega arith)) (run_more ms m)
     (λ t. ap (λ (xs : List ℕ). (record { address = a; function = function; payload = xs })) (run_grows ms m t))
 open_more a i j (Some (Message bits) ∷ ms) m e = open_more a (i + 1) j ms m (omega arith)
@@ -147,10 +138,12 @@ is_ours_same : (a j k high : ℕ) → j % 16 ≡ k % 16 → is_ours a j high ≡
 unfolding is_ours
 is_ours_same a j k high e = ap (λ (n : ℕ). nat_eq (n / 2) (a % 8) && nat_eq high (a / 8)) e
 
-pub next_open_same : (a j k : ℕ) (before : Option Page) (m : Option Kind) → j % 16 ≡ k % 16 → next_open a j before m ≡ next_open a k before m
+pub next_open_same : (a j k : ℕ) (before : Option Page) (m : Option Kind) → j % 16 ≡ k % 16
+    → next_open a j before m ≡ next_open a k before m
 next_open_same a j k before None e = refl
 next_open_same a j k before (Some Idle) e = refl
-next_open_same a j k before (Some (Address high function)) e = ap (λ b. cond b (Some (page_called a function [])) None) (is_ours_same a j k high e)
+next_open_same a j k before (Some (Address high function)) e =
+    ap (λ b. cond b (Some (page_called a function [])) None) (is_ours_same a j k high e)
 next_open_same a j k before (Some (Message bits)) e = refl
 
 -- ---- a word in another frame

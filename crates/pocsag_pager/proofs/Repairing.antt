@@ -1,13 +1,11 @@
 -- A damaged transmission is heard as it was sent.
-use Rattle.std.proofs.Common.{◌≡◌, ◌≢◌, ℕ, ◌+◌, ◌*◌, ◌-◌, ◌/◌, ◌%◌, ◌^◌, ◌<◌, ◌≤◌, Bool, true, false, cond, nat_eq, List, [], ◌∷◌, ◌++◌, length, map, drop, filter, All, refl, sym, ap, ap₂, subst, ◌∙◌, inl, inr, arith, lit<, eq-eqb, eqb-true, ◌↔◌}
+use Rattle.std.proofs.Common.{◌≡◌, ◌≢◌, ℕ, ◌+◌, ◌*◌, ◌-◌, ◌/◌, ◌%◌, ◌<◌, ◌≤◌, Bool, true, false, cond, nat_eq, List, [], ◌∷◌, length, map, drop, filter, All, refl, sym, ap, ap₂, subst, ◌∙◌, inl, inr, arith, eq-eqb, eqb-true, ◌↔◌}
 use Rattle.std.specs.Prelude.{Option, Some, None}
-use Rattle.std.specs.Int.{to_be_bytes, w32}
-use Rattle.std.specs.List.{AllZip, flat_map}
+use Rattle.std.specs.List.{AllZip}
 use Rattle.std.proofs.lemmas.Bool.{cases_eq, le-ltb, ne_eqb}
 use Rattle.std.proofs.lemmas.Bool.Decides.{nat_tests}
 use Rattle.std.proofs.lemmas.List.{length-map, length-drop}
 use Rattle.std.proofs.lemmas.List.Elements.{All-head, All-tail}
-use Rattle.std.proofs.lemmas.Nat.{from_be_bytes-to_be_bytes_4}
 use Rattle.pocsag_words.specs.Codeword.{IsCodeword, IsNear}
 use Rattle.pocsag_words.specs.Kinds.{kind_of}
 use Rattle.pocsag_words.specs.declared.codeword.Kind.{Kind}
@@ -22,24 +20,9 @@ use Rattle.pocsag_pager.specs.Faults.{bytes_fault}
 use Rattle.pocsag_pager.specs.Shown.{IsMended, AreShown, is_ours, page_called, run_of, said, shown_from}
 use Rattle.pocsag_pager.proofs.Chosen.{calls, chosen}
 use Rattle.pocsag_pager.proofs.Mending.{mended_back}
-use Rattle.pocsag_pages.proofs.Lengths.{body_length, synced_count}
+use Rattle.pocsag_pages.proofs.Lengths.{body_length, synced_count, synced_small, words_again}
 
--- ---- the words of a transmission's bytes
-
-word_back : (w : ℕ) (rest : List ℕ) → w < 2 ^ 32 → words_of (to_be_bytes w32 w ++ rest) ≡ w ∷ words_of rest
-word_back w rest small = ap (λ x. x ∷ words_of rest) (from_be_bytes-to_be_bytes_4 w small)
-
-back_case : (b : Bool) (w : ℕ) (rest : List ℕ) → w < 2 ^ 32 → words_of (flat_map (to_be_bytes w32) rest) ≡ rest
-    → words_of (flat_map (to_be_bytes w32) ((cond b (sync_word ∷ []) []) ++ w ∷ rest)) ≡ (cond b (sync_word ∷ []) []) ++ w ∷ rest
-back_case true w rest small e =
-    word_back sync_word (to_be_bytes w32 w ++ flat_map (to_be_bytes w32) rest) (lit< tt)
-    ∙ ap (λ xs. sync_word ∷ xs) (word_back w (flat_map (to_be_bytes w32) rest) small ∙ ap (λ xs. w ∷ xs) e)
-back_case false w rest small e = word_back w (flat_map (to_be_bytes w32) rest) small ∙ ap (λ xs. w ∷ xs) e
-
-words_back : (i : ℕ) (T : List ℕ) → All IsCodeword T → words_of (flat_map (to_be_bytes w32) (synced i T)) ≡ synced i T
-words_back i [] codewords = refl
-words_back i (w ∷ T) codewords =
-    back_case (nat_eq (i % 16) 0) w (synced (i + 1) T) (All-head IsCodeword w T codewords).fits (words_back (i + 1) T (All-tail IsCodeword w T codewords))
+-- ---- the front of a transmission's bytes
 
 leading_is : (T : List ℕ) → 0 < length T → leading (bytes_of T) ≡ 72
 unfolding bytes_of
@@ -53,11 +36,13 @@ after_is (w ∷ T) some = refl
 
 -- ---- no fault
 
-no_fault_case : (n m : ℕ) → 72 ≤ n → m ≢ 0 → m % 68 ≡ 0 → (Y : List ℕ) → leading Y ≡ n → length (after_preamble Y) ≡ m → bytes_fault Y ≡ None
+no_fault_case : (n m : ℕ) → 72 ≤ n → m ≢ 0 → m % 68 ≡ 0 → (Y : List ℕ) → leading Y ≡ n → length (after_preamble Y) ≡ m
+    → bytes_fault Y ≡ None
 unfolding bytes_fault
 no_fault_case n m long some whole Y e h = rw (h, e, le-ltb _ _ long, ne_eqb _ _ some, eq-eqb _ _ whole) refl
 
-pub no_fault : (end : End) (T : List ℕ) (batches : ℕ) (R : List Page) (Y : List ℕ) → IsLegalList end T batches R → IsDamaged (bytes_of T) Y → bytes_fault Y ≡ None
+pub no_fault : (end : End) (T : List ℕ) (batches : ℕ) (R : List Page) (Y : List ℕ) → IsLegalList end T batches R → IsDamaged (bytes_of T) Y
+    → bytes_fault Y ≡ None
 no_fault end T batches R Y legal damaged =
     let long : length T ≡ 16 * batches = sym (length-map T kind_of) ∙ legal.1.0.whole.1 in
     let some : 0 < batches = legal.1.0.whole.0 in
@@ -65,7 +50,8 @@ no_fault end T batches R Y legal damaged =
     let body : length (body_bytes T) ≡ 4 * length (synced 0 T) = body_length (synced 0 T) in
     let sent : length (drop (leading (bytes_of T)) (bytes_of T)) ≡ length (body_bytes T) = ap length (after_is T (omega arith)) in
     let same : length (after_preamble Y) ≡ length (body_bytes T) =
-    length-drop (leading Y) Y ∙ ap₂ ◌-◌ (sym damaged.long) (sym damaged.preamble) ∙ sym (length-drop (leading (bytes_of T)) (bytes_of T)) ∙ sent in
+    length-drop (leading Y) Y ∙ ap₂ ◌-◌ (sym damaged.long) (sym damaged.preamble) ∙ sym (length-drop (leading (bytes_of T)) (bytes_of T))
+    ∙ sent in
     let words : length (synced 0 T) ≡ 17 * batches = omega (arith, synced_count 0 T) in
     no_fault_case 72 (68 * batches) (omega arith) (omega arith) (omega arith) Y front (omega arith)
 
@@ -99,7 +85,8 @@ near_unsynced i j (w ∷ T) ys e near =
 
 -- ---- what is shown of codewords that are all repaired
 
-all_back : (T ys : List ℕ) (ms : List (Option ℕ)) → All IsCodeword T → AllZip IsNear T ys → AllZip IsMended ys ms → map said ms ≡ map Some (map kind_of T)
+all_back : (T ys : List ℕ) (ms : List (Option ℕ)) → All IsCodeword T → AllZip IsNear T ys → AllZip IsMended ys ms
+    → map said ms ≡ map Some (map kind_of T)
 all_back [] [] [] codewords near mended = refl
 all_back [] [] (m ∷ ms) codewords near mended = absurd mended
 all_back [] (y ∷ ys) ms codewords near mended = absurd near
@@ -128,9 +115,12 @@ shown_is_chosen a i [] = refl
 shown_is_chosen a i (Idle ∷ ks) = shown_is_chosen a (i + 1) ks
 shown_is_chosen a i (Address high function ∷ ks) =
     let q : Page = record { address = 8 * high + frame_at i; function = function; payload = items_of ks } in
-    ap (λ b. cond b (page_called a function (map Some ks) ∷ shown_from a (i + 1) (map Some ks)) (shown_from a (i + 1) (map Some ks))) (ours_is a i high)
-    ∙ page_case (nat_eq (8 * high + frame_at i) a) (page_called a function (map Some ks)) q (shown_from a (i + 1) (map Some ks)) (filter (calls a) (pages_from (i + 1) ks))
-    (λ ours. ap₂ (λ (address : ℕ) (items : List ℕ). (record { address = address; function = function; payload = items })) (sym (eqb-true _ _ ours)) (run_is ks))
+    ap (λ b. cond b (page_called a function (map Some ks) ∷ shown_from a (i + 1) (map Some ks)) (shown_from a (i + 1) (map Some ks)))
+    (ours_is a i high)
+    ∙ page_case (nat_eq (8 * high + frame_at i) a) (page_called a function (map Some ks)) q (shown_from a (i + 1) (map Some ks))
+    (filter (calls a) (pages_from (i + 1) ks))
+    (λ ours. ap₂ (λ (address : ℕ) (items : List ℕ). (record { address = address; function = function; payload = items }))
+    (sym (eqb-true _ _ ours)) (run_is ks))
     (shown_is_chosen a (i + 1) ks)
 shown_is_chosen a i (Message bits ∷ ks) = shown_is_chosen a (i + 1) ks
 
@@ -144,9 +134,11 @@ repaired law end T batches R Y a ps apart legal damaged h =
     let read = legal.1.0 in
     let long : length T ≡ 16 * batches = sym (length-map T kind_of) ∙ read.whole.1 in
     let some : 0 < batches = read.whole.0 in
-    let sent : words_of (after_preamble (bytes_of T)) ≡ synced 0 T = ap words_of (after_is T (omega arith)) ∙ words_back 0 T legal.0 in
-    let near : AllZip IsNear (synced 0 T) (words_of (after_preamble Y)) = subst (λ (xs : List ℕ). AllZip IsNear xs (words_of (after_preamble Y))) sent damaged.words in
-    let kinds = all_back T (unsynced 0 (words_of (after_preamble Y))) h.mended legal.0 (near_unsynced 0 0 T (words_of (after_preamble Y)) (omega arith) near) h.each in
+    let sent : words_of (after_preamble (bytes_of T)) ≡ synced 0 T = ap words_of (after_is T (omega arith)) ∙ words_again (synced 0 T) (synced_small 0 T legal.0) in
+    let near : AllZip IsNear (synced 0 T) (words_of (after_preamble Y)) =
+    subst (λ (xs : List ℕ). AllZip IsNear xs (words_of (after_preamble Y))) sent damaged.words in
+    let kinds = all_back T (unsynced 0 (words_of (after_preamble Y))) h.mended legal.0
+    (near_unsynced 0 0 T (words_of (after_preamble Y)) (omega arith) near) h.each in
     let plain = (law (map kind_of T) 0 read.ps).0 read.reads in
     h.holds ∙ ap (shown_from a 0) kinds ∙ shown_is_chosen a 0 (map kind_of T) ∙ ap (filter (calls a)) (sym (plain.1))
     ∙ chosen a R read.ps apart read.as_many read.each

@@ -12,7 +12,9 @@ use Rattle.pocsag_pager.proofs.Mending.{all_mended_same}
 
 pub one_list : (words : List ℕ) (a : ℕ) (ps qs : List Page) → AreShown words a ps → AreShown words a qs → ps ≡ qs
 one_list words a ps qs h k =
-    h.holds ∙ ap (λ (ms : List (Option ℕ)). shown_from a 0 (map said ms)) (all_mended_same (unsynced 0 words) h.mended k.mended h.each k.each) ∙ sym k.holds
+    h.holds
+    ∙ ap (λ (ms : List (Option ℕ)). shown_from a 0 (map said ms)) (all_mended_same (unsynced 0 words) h.mended k.mended h.each k.each)
+    ∙ sym k.holds
 
 -- a function of two bits, or 20 message bits
 abbrev IsSmall : Option Kind → Type 0
@@ -51,7 +53,8 @@ listable a i [] h = All-nil _
 listable a i (None ∷ ms) h = listable a (i + 1) ms h.1
 listable a i (Some Idle ∷ ms) h = listable a (i + 1) ms h.1
 listable a i (Some (Address high function) ∷ ms) h =
-    listed (is_ours a i high) (page_called a function ms) (shown_from a (i + 1) ms) (record { function = h.0; items = run_small ms h.1 }) (listable a (i + 1) ms h.1)
+    listed (is_ours a i high) (page_called a function ms) (shown_from a (i + 1) ms) (record { function = h.0; items = run_small ms h.1 })
+    (listable a (i + 1) ms h.1)
 listable a i (Some (Message bits) ∷ ms) h = listable a (i + 1) ms h.1
 
 pub shown_listable : (words : List ℕ) (a : ℕ) (ps : List Page) → AreShown words a ps → All IsListable ps

@@ -1,6 +1,6 @@
 -- The words of bytes, taken four bytes at a time.
 use Rattle.std.proofs.Common.{◌≡◌, ℕ, zero, suc, ◌+◌, ◌-◌, ◌*◌, ◌/◌, ◌^◌, ◌<◌, ◌≤◌, All, drop, List, [], ◌∷◌, ◌++◌, length, get_or, take, map, refl, sym, ap, ap₂, subst, ◌∙◌, arith, append_assoc, take-add}
-use Rattle.std.specs.Prelude.{Option, Some, None, Result, Ok, Err, IfOk, IfErr, MatchResult}
+use Rattle.std.specs.Prelude.{Option, Some, None}
 use Rattle.std.specs.Int.{from_be_bytes, w32}
 use Rattle.std.specs.Simd.{first_chunks}
 use Rattle.std.proofs.lemmas.List.{map-append, take_more, length-take, take-append-drop}
@@ -41,26 +41,11 @@ shown_at ws vs a b ps qs words address pages shown =
     subst (λ (xs : List ℕ). AreShown xs b qs) (sym words)
     (subst (λ (n : ℕ). AreShown ws n qs) (sym address) (subst (λ (rs : List Page). AreShown ws a rs) (sym pages) shown))
 
-pub by_result : {X E : Type 0} (r : Result X E) (P : X → Type 0) (Q : E → Type 0) → IfOk r P → IfErr r Q → MatchResult r P Q
-by_result (Ok x) P Q ok err = ok
-by_result (Err e) P Q ok err = err
-
-pub if_ok_then : {X E : Type 0} (r : Result X E) (P Q : X → Type 0) → ((x : X) → P x → Q x) → IfOk r P → IfOk r Q
-if_ok_then (Ok x) P Q f ok = f x ok
-if_ok_then (Err e) P Q f ok = ok
-
 pub not_both : {X : Type 0} (o : Option X) (x : X) → o ≡ None → o ≡ Some x → ⊥
 not_both None x none some = cc
 not_both (Some y) x none some = cc
 
 -- ---- lists of bytes in parts
-
-pub words_long : (xs : List ℕ) → length (words_of xs) ≡ length xs / 4
-words_long [] = refl
-words_long (a ∷ []) = refl
-words_long (a ∷ b ∷ []) = refl
-words_long (a ∷ b ∷ c ∷ []) = refl
-words_long (a ∷ b ∷ c ∷ d ∷ xs) = let rest = words_long xs in omega arith
 
 words_append : (k : ℕ) (xs ys : List ℕ) → length xs ≡ 4 * k → words_of (xs ++ ys) ≡ words_of xs ++ words_of ys
 words_append k [] ys e = refl
@@ -85,13 +70,15 @@ words_small (a ∷ b ∷ c ∷ d ∷ xs) h =
     All-cons (λ w. w < 2 ^ 32) (from_be_bytes w32 (a ∷ b ∷ c ∷ d ∷ [])) (words_of xs) (word_small a b c d (h 0) (h 1) (h 2) (h 3))
     (words_small xs (λ i. h (suc (suc (suc (suc i))))))
 
-pub three_parts : (k n : ℕ) (words xs before rest frame after : List ℕ) → n ≡ 4 * k → n ≤ length xs → 8 ≤ length rest → before ≡ take n xs → rest ≡ drop n xs
+pub three_parts : (k n : ℕ) (words xs before rest frame after : List ℕ) → n ≡ 4 * k → n ≤ length xs → 8 ≤ length rest → before ≡ take n xs
+    → rest ≡ drop n xs
     → frame ≡ take 8 rest → after ≡ drop 8 rest → ((words ++ words_of before) ++ words_of frame) ++ words_of after ≡ words ++ words_of xs
 three_parts k n words xs before rest frame after e within room b r f a =
     let both : List ℕ → List ℕ → List ℕ = λ ys zs. words_of ys ++ words_of zs in
     let second : words_of frame ++ words_of after ≡ words_of rest = ap₂ both f a ∙ sym (words_split 2 8 rest refl room) in
     let first : words_of before ++ words_of rest ≡ words_of xs = ap₂ both b r ∙ sym (words_split k n xs e within) in
-    append_assoc (words ++ words_of before) (words_of frame) (words_of after) ∙ append_assoc words (words_of before) (words_of frame ++ words_of after)
+    append_assoc (words ++ words_of before) (words_of frame) (words_of after)
+    ∙ append_assoc words (words_of before) (words_of frame ++ words_of after)
     ∙ ap (λ ws. words ++ ws) (ap (λ ws. words_of before ++ ws) second ∙ first)
 
 pub next_batch : (i : ℕ) (xs : List ℕ) → 68 * i + 68 ≤ length xs

@@ -124,7 +124,8 @@ fn hear_batches(alloc: Global, mut pager: Pager, bytes: &[u8]) -> Result<Vec<Pag
 pub fn hear_all(alloc: Global, bytes: &[u8], address: u32) -> Result<Vec<Page>, PagerFault>
     ensures shown { IfOk result (λ pages. AreShown (words_of (after_preamble bytes.now)) address pages.items) }
     ensures ok { OnOk result (hearing_fault address bytes.now ≡ None) }
-    ensures err { IfErr result (λ e. (hearing_fault address bytes.now ≡ Some e) ⊎ ((hearing_fault address bytes.now ≡ None) × (e ≡ PagerFault.OutOfMemory))) }
+    ensures err { IfErr result (λ e. (hearing_fault address bytes.now ≡ Some e)
+        ⊎ ((hearing_fault address bytes.now ≡ None) × (e ≡ PagerFault.OutOfMemory))) }
     ensures listable { IfOk result (λ pages. All IsListable pages.items) }
 
     // *Damage repaired*: of a transmission that is legal for a round, with at most two wrong bits in

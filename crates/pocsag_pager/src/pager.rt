@@ -147,8 +147,8 @@ impl Pager {
     pub(crate) fn pass(&mut self, count: usize)
         requires open_page { self.old.state ≡ State.Listening None }
         requires places { IsElsewhere (pager_address self.old) self.old.place count }
-        ensures heard { (words more : List ℕ) (ps : List Page) → HasHeard self.old words ps → All (λ w. w < 2 ^ 32) more → length more ≡ count →
-            HasHeard self.new (words ++ more) ps }
+        ensures heard { (words more : List ℕ) (ps : List Page) → HasHeard self.old words ps →
+            All (λ w. w < 2 ^ 32) more → length more ≡ count → HasHeard self.new (words ++ more) ps }
         ensures address { pager_address self.new ≡ pager_address self.old }
     {
         numbers_are_repaired();

@@ -22,7 +22,8 @@ use Rattle.pocsag_show.proofs.Ranges.{range_more}
 pub filter_next : (p : ℕ → Bool) (n : ℕ) → filter p (range_with_len 0 (n + 1)) ≡ filter p (range_with_len 0 n) ++ cond (p n) (n ∷ []) []
 filter_next p n =
     let e : 0 + n ≡ n = omega arith in
-    ap (filter p) (range_more 0 n) ∙ (filter-append p (range_with_len 0 n) ((0 + n) ∷ []) ∙ ap (λ (x : ℕ). filter p (range_with_len 0 n) ++ cond (p x) (x ∷ []) []) e)
+    ap (filter p) (range_more 0 n)
+    ∙ (filter-append p (range_with_len 0 n) ((0 + n) ∷ []) ∙ ap (λ (x : ℕ). filter p (range_with_len 0 n) ++ cond (p x) (x ∷ []) []) e)
 
 filter_same : (p q : ℕ → Bool) (a n : ℕ) → ((i : ℕ) → i < a + n → p i ≡ q i) → filter p (range_with_len a n) ≡ filter q (range_with_len a n)
 filter_same p q a zero h = refl
@@ -34,7 +35,8 @@ capital_is_address pages Idle = refl
 capital_is_address pages (Address high function) = grind (arith, nat_tests)
 capital_is_address pages (Message bits) = grind (arith, nat_tests)
 
-starts_are : (ks : List Kind) (grid : Grid) → IsGridOf ks grid → filter (λ i. is_capital (slice_index grid.letters.items i)) (range_with_len 0 (length grid.letters.items)) ≡ starts_of ks
+starts_are : (ks : List Kind) (grid : Grid) → IsGridOf ks grid
+    → filter (λ i. is_capital (slice_index grid.letters.items i)) (range_with_len 0 (length grid.letters.items)) ≡ starts_of ks
 unfolding letter_at
 starts_are ks grid g =
     ap (λ (n : ℕ). filter (λ i. is_capital (slice_index grid.letters.items i)) (range_with_len 0 n)) g.count
@@ -53,11 +55,16 @@ rows_over is ps n h =
       | inr many ↦ ap (λ (l : List ℕ). place_rows l (drop n ps)) (drop_all n is (omega arith))
     ]
 
-pub is_place_text : (X shown : List ℕ) (judged : Judged) (starts : List ℕ) → starts ≡ filter (λ i. is_capital (slice_index judged.grid.letters.items i)) (range_with_len 0 (length judged.grid.letters.items))
-    → shown ≡ row_text default_writer place_header ++ place_rows starts judged.pages.items → IsJudged X judged → IsTextOf place_listing X shown
+pub is_place_text : (X shown : List ℕ) (judged : Judged) (starts : List ℕ)
+    → starts ≡ filter (λ i. is_capital (slice_index judged.grid.letters.items i)) (range_with_len 0 (length judged.grid.letters.items))
+    → shown ≡ row_text default_writer place_header ++ place_rows starts judged.pages.items → IsJudged X judged
+    → IsTextOf place_listing X shown
 unfolding place_listing
 is_place_text X shown judged starts from e j = record {
   pages = judged.pages.items;
   reading = j.reading;
-  text = e ∙ ap (λ (l : List ℕ). row_text default_writer place_header ++ place_rows l judged.pages.items) (from ∙ starts_are _ judged.grid j.grid);
+  text =
+      e
+      ∙ ap (λ (l : List ℕ). row_text default_writer place_header ++ place_rows l judged.pages.items)
+      (from ∙ starts_are _ judged.grid j.grid);
 }

@@ -11,7 +11,8 @@ use Rattle.pocsag_show.specs.Taking.{letters_from}
 pub count-append : (p : Kind → Bool) (ks ls : List Kind) → count_by p (ks ++ ls) ≡ count_by p ks + count_by p ls
 count-append p ks ls = sum_by-append (λ x. cond (p x) 1 0) ks ls
 
-pub letters-append : (pages : ℕ) (ks ls : List Kind) → letters_from pages (ks ++ ls) ≡ letters_from pages ks ++ letters_from (pages + pages_in ks) ls
+pub letters-append : (pages : ℕ) (ks ls : List Kind)
+    → letters_from pages (ks ++ ls) ≡ letters_from pages ks ++ letters_from (pages + pages_in ks) ls
 letters-append pages [] ls = ap (λ (n : ℕ). letters_from n ls) (omega arith)
 letters-append pages (k ∷ ks) ls =
     let one = count-append is_address (k ∷ []) ks in
@@ -23,7 +24,8 @@ pub length-letters : (pages : ℕ) (ks : List Kind) → length (letters_from pag
 length-letters pages [] = refl
 length-letters pages (k ∷ ks) = ap suc (length-letters (pages + pages_in (k ∷ [])) ks)
 
-get_or-letters : (pages : ℕ) (ks : List Kind) (i : ℕ) → i < length ks → get_or (letters_from pages ks) i 0 ≡ letter_after (pages + pages_in (take i ks)) (get_or ks i Idle)
+get_or-letters : (pages : ℕ) (ks : List Kind) (i : ℕ) → i < length ks
+    → get_or (letters_from pages ks) i 0 ≡ letter_after (pages + pages_in (take i ks)) (get_or ks i Idle)
 get_or-letters pages [] i small = absurd (omega arith)
 get_or-letters pages (k ∷ ks) zero small = ap (λ (n : ℕ). letter_after n k) (omega arith)
 get_or-letters pages (k ∷ ks) (suc i) small =

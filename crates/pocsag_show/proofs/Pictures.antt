@@ -9,7 +9,8 @@ use Rattle.pocsag_show.proofs.Ranges.{flat_map_same}
 
 -- letters that are the same in so many batches
 module _ (f g : ℕ → ℕ) where
-  frame_same : (batch frame : ℕ) → frame < 8 → ((i : ℕ) → i < 16 * batch + 16 → f i ≡ g i) → frame_cells f batch frame ≡ frame_cells g batch frame
+  frame_same : (batch frame : ℕ) → frame < 8 → ((i : ℕ) → i < 16 * batch + 16 → f i ≡ g i)
+      → frame_cells f batch frame ≡ frame_cells g batch frame
   unfolding frame_cells
   frame_same batch frame small h =
       ap₂ (λ (x y : ℕ). 32 ∷ x ∷ y ∷ []) (h (16 * batch + 2 * frame) (omega arith)) (h (16 * batch + 2 * frame + 1) (omega arith))
@@ -25,7 +26,8 @@ module _ (f g : ℕ → ℕ) where
   lines_same batches h =
       flat_map_same (batch_line f) (batch_line g) 0 batches (λ batch small. line_same batch (λ i below. h i (omega arith)))
 
-pub picture_is : (grid : Grid) (batches codewords : ℕ) (ks : List Kind) → batches ≡ length grid.letters.items / 16 → codewords ≡ length grid.letters.items - grid.idles
+pub picture_is : (grid : Grid) (batches codewords : ℕ) (ks : List Kind) → batches ≡ length grid.letters.items / 16
+    → codewords ≡ length grid.letters.items - grid.idles
     → IsGridOf ks grid → length ks % 16 ≡ 0
     → totals_line batches codewords grid.idles ++ (head_line ++ batch_lines (slice_index grid.letters.items) batches) ≡ picture ks
 unfolding picture
@@ -34,12 +36,14 @@ picture_is grid batches codewords ks b w g whole =
     let few : batches ≡ batches_in ks = b ∙ ap (λ (n : ℕ). n / 16) count in
     let rest : codewords ≡ length ks - idles_in ks = w ∙ ap₂ (λ (x y : ℕ). x - y) count g.idles in
     let lines : batch_lines (slice_index grid.letters.items) batches ≡ batch_lines (letter_at ks) (batches_in ks) =
-    lines_same (slice_index grid.letters.items) (letter_at ks) batches (λ i small. g.each i (omega arith)) ∙ ap (batch_lines (letter_at ks)) few in
+    lines_same (slice_index grid.letters.items) (letter_at ks) batches (λ i small. g.each i (omega arith))
+    ∙ ap (batch_lines (letter_at ks)) few in
     ap₂ (λ (x y : List ℕ). x ++ (head_line ++ y))
     (ap₂ (λ (x y : ℕ). totals_line x y grid.idles) few rest ∙ ap (totals_line (batches_in ks) (length ks - idles_in ks)) g.idles)
     lines
 
 -- the pieces one after the other
-pub pieces_are : (first second third a b text : List ℕ) → a ≡ first → b ≡ a ++ second → text ≡ b ++ third → text ≡ first ++ (second ++ third)
+pub pieces_are : (first second third a b text : List ℕ) → a ≡ first → b ≡ a ++ second → text ≡ b ++ third
+    → text ≡ first ++ (second ++ third)
 pieces_are first second third a b text p q r =
     r ∙ (ap (λ (l : List ℕ). l ++ third) (q ∙ ap (λ (l : List ℕ). l ++ second) p) ∙ append_assoc first second third)

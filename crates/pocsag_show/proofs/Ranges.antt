@@ -20,11 +20,15 @@ flat_map_more f n =
     ∙ (flat_map-append f (range_with_len 0 n) ((0 + n) ∷ [])
     ∙ ap (λ (l : List ℕ). flat_map f (range_with_len 0 n) ++ l) (append-nil (f (0 + n)) ∙ ap f (omega arith)))
 
-pub put_more : (f : ℕ → List ℕ) (n : ℕ) (first before after : List ℕ) → before ≡ first ++ flat_map f (range_with_len 0 n) → after ≡ before ++ f n → after ≡ first ++ flat_map f (range_with_len 0 (n + 1))
+pub put_more : (f : ℕ → List ℕ) (n : ℕ) (first before after : List ℕ) → before ≡ first ++ flat_map f (range_with_len 0 n)
+    → after ≡ before ++ f n → after ≡ first ++ flat_map f (range_with_len 0 (n + 1))
 put_more f n first before after p q =
-    q ∙ (ap (λ (l : List ℕ). l ++ f n) p ∙ (append_assoc first (flat_map f (range_with_len 0 n)) (f n) ∙ ap (λ (l : List ℕ). first ++ l) (sym (flat_map_more f n))))
+    q
+    ∙ (ap (λ (l : List ℕ). l ++ f n) p ∙ (append_assoc first (flat_map f (range_with_len 0 n)) (f n)
+    ∙ ap (λ (l : List ℕ). first ++ l) (sym (flat_map_more f n))))
 
-pub flat_map_same : (f g : ℕ → List ℕ) (a n : ℕ) → ((i : ℕ) → i < a + n → f i ≡ g i) → flat_map f (range_with_len a n) ≡ flat_map g (range_with_len a n)
+pub flat_map_same : (f g : ℕ → List ℕ) (a n : ℕ) → ((i : ℕ) → i < a + n → f i ≡ g i)
+    → flat_map f (range_with_len a n) ≡ flat_map g (range_with_len a n)
 flat_map_same f g a zero h = refl
 flat_map_same f g a (suc n) h =
     ap₂ (λ (x y : List ℕ). x ++ y) (h a (omega arith)) (flat_map_same f g (a + 1) n (λ i small. h i (omega arith)))

@@ -1,37 +1,22 @@
 -- A grid that takes word by word.
-use Rattle.std.proofs.Common.{◌≡◌, ◌≢◌, ℕ, ◌+◌, ◌%◌, ◌<◌, List, [], ◌∷◌, ◌++◌, length, map, slice_index, All, refl, ap, ap₂, sym, subst, ◌∙◌, inl, inr, arith, append_assoc}
+use Rattle.std.proofs.Common.{◌≡◌, ◌≢◌, ℕ, ◌+◌, ◌%◌, ◌<◌, List, [], ◌∷◌, ◌++◌, length, map, slice_index, All, ap, ap₂, sym, subst, ◌∙◌, arith, append_assoc}
 use Rattle.std.specs.Int.{from_be_bytes, w32}
-use Rattle.std.proofs.lemmas.Bool.{cases_eq, eq-eqb, ne_eqb}
-use Rattle.std.proofs.lemmas.List.{append-nil, length-append, map-append}
-use Rattle.std.proofs.lemmas.List.Elements.{All-head, All-tail}
+use Rattle.std.proofs.lemmas.List.{append-nil, nil_from_length, length-append, map-append}
+use Rattle.std.proofs.lemmas.List.Elements.{All-drop, All-head}
+use Rattle.std.proofs.Math.Seq.{drop-append_seam}
 use Rattle.pocsag_words.specs.Codeword.{IsCodeword}
 use Rattle.pocsag_words.specs.Kinds.{kind_of}
 use Rattle.pocsag_words.specs.declared.codeword.Kind.{Kind}
 use Rattle.pocsag_pages.specs.Bytes.{unsynced, words_of}
-use Rattle.pocsag_pages.proofs.Lengths.{unsynced_more}
+use Rattle.pocsag_pages.proofs.Lengths.{first_word, unsynced_codeword, unsynced_more, words_long}
 use Rattle.pocsag_decode.specs.Places.{is_idle}
 use Rattle.pocsag_show.specs.declared.grid.Grid.{Grid}
 use Rattle.pocsag_show.specs.Grid.{idles_in, pages_in}
 use Rattle.pocsag_show.specs.Taking.{IsGridOf, IsUnderWay, Took, kinds_from, letters_from}
 use Rattle.pocsag_show.proofs.Letters.{count-append, index-letters, length-letters, letters-append}
 
--- the first word of four bytes and more
-first_word : (front back : List ℕ) → length front ≡ 4 → words_of (front ++ back) ≡ from_be_bytes w32 front ∷ words_of back
-first_word [] back e = absurd (omega arith)
-first_word (a ∷ []) back e = absurd (omega arith)
-first_word (a ∷ b ∷ []) back e = absurd (omega arith)
-first_word (a ∷ b ∷ c ∷ []) back e = absurd (omega arith)
-first_word (a ∷ b ∷ c ∷ d ∷ []) back e = refl
-first_word (a ∷ b ∷ c ∷ d ∷ x ∷ front) back e = absurd (omega arith)
-
-no_word : (Y : List ℕ) → length Y < 4 → words_of Y ≡ []
-no_word [] e = refl
-no_word (a ∷ []) e = refl
-no_word (a ∷ b ∷ []) e = refl
-no_word (a ∷ b ∷ c ∷ []) e = refl
-no_word (a ∷ b ∷ c ∷ d ∷ Y) e = absurd (omega arith)
-
-module _ (place number : ℕ) (front back Y : List ℕ) (four : length front ≡ 4) (split : front ++ back ≡ Y) (is : number ≡ from_be_bytes w32 front) where
+module _ (place number : ℕ) (front back Y : List ℕ) (four : length front ≡ 4)
+    (split : front ++ back ≡ Y) (is : number ≡ from_be_bytes w32 front) where
   words_are : unsynced place (words_of Y) ≡ unsynced place (number ∷ []) ++ unsynced (place + 1) (words_of back)
   words_are =
       ap (λ (l : List ℕ). unsynced place (words_of l)) (sym split)
@@ -41,24 +26,25 @@ module _ (place number : ℕ) (front back Y : List ℕ) (four : length front ≡
   kinds_are : kinds_from place Y ≡ map kind_of (unsynced place (number ∷ [])) ++ kinds_from (place + 1) back
   kinds_are = ap (map kind_of) words_are ∙ map-append kind_of (unsynced place (number ∷ [])) (unsynced (place + 1) (words_of back))
 
+  -- the codewords of the word and of what follows it
+  codewords_are : All IsCodeword (unsynced place (words_of Y))
+      → All IsCodeword (unsynced place (number ∷ []) ++ unsynced (place + 1) (words_of back))
+  codewords_are are = subst (All IsCodeword) words_are are
+
   pub next_codeword : place % 17 ≢ 0 → All IsCodeword (unsynced place (words_of Y)) → IsCodeword number
   next_codeword n are =
-      let here : unsynced place (number ∷ []) ≡ number ∷ [] = rw (ne_eqb _ _ n) refl in
-      All-head IsCodeword number (unsynced (place + 1) (words_of back)) (subst (All IsCodeword) (words_are ∙ ap (λ (l : List ℕ). l ++ unsynced (place + 1) (words_of back)) here) are)
+      let rest = unsynced (place + 1) (words_of back) in
+      All-head IsCodeword number rest
+      (subst (λ (l : List ℕ). All IsCodeword (l ++ rest)) (unsynced_codeword place number n) (codewords_are are))
 
   rest_codewords : All IsCodeword (unsynced place (words_of Y)) → All IsCodeword (unsynced (place + 1) (words_of back))
   rest_codewords are =
-      let both : All IsCodeword (unsynced place (number ∷ []) ++ unsynced (place + 1) (words_of back)) = subst (All IsCodeword) words_are are in
-      elim (cases_eq (place % 17) 0) [
-        | inl e ↦
-            let none : unsynced place (number ∷ []) ≡ [] = rw (eq-eqb _ _ e) refl in
-            subst (All IsCodeword) (ap (λ (l : List ℕ). l ++ unsynced (place + 1) (words_of back)) none) both
-        | inr n ↦
-            let here : unsynced place (number ∷ []) ≡ number ∷ [] = rw (ne_eqb _ _ n) refl in
-            All-tail IsCodeword number (unsynced (place + 1) (words_of back)) (subst (All IsCodeword) (ap (λ (l : List ℕ). l ++ unsynced (place + 1) (words_of back)) here) both)
-      ]
+      let first = unsynced place (number ∷ []) in
+      subst (All IsCodeword) (drop-append_seam first (unsynced (place + 1) (words_of back)))
+      (All-drop IsCodeword (length first) (first ++ unsynced (place + 1) (words_of back)) (codewords_are are))
 
-  pub next_step : (before after : Grid) (whole : List ℕ) → IsUnderWay before place Y whole → Took before after (map kind_of (unsynced place (number ∷ []))) → IsUnderWay after (place + 1) back whole
+  pub next_step : (before after : Grid) (whole : List ℕ) → IsUnderWay before place Y whole
+      → Took before after (map kind_of (unsynced place (number ∷ []))) → IsUnderWay after (place + 1) back whole
   next_step before after whole u t =
       let ks = map kind_of (unsynced place (number ∷ [])) in
       let ls = kinds_from (place + 1) back in
@@ -73,14 +59,16 @@ module _ (place number : ℕ) (front back Y : List ℕ) (four : length front ≡
         letters =
             ap₂ (λ (x : List ℕ) (n : ℕ). x ++ letters_from n ls) t.letters t.pages
             ∙ (append_assoc before.letters.items (letters_from before.pages ks) (letters_from (before.pages + pages_in ks) ls)
-            ∙ (ap (λ (l : List ℕ). before.letters.items ++ l) (sym (letters-append before.pages ks ls) ∙ ap (letters_from before.pages) (sym kinds_are)) ∙ u.letters));
+            ∙ (ap (λ (l : List ℕ). before.letters.items ++ l)
+            (sym (letters-append before.pages ks ls) ∙ ap (letters_from before.pages) (sym kinds_are)) ∙ u.letters));
         idles = omega arith;
         codewords = rest_codewords u.codewords;
         size = omega arith;
       }
 
 -- no bytes were taken, and then all of them
-pub at_start : (grid : Grid) (Y : List ℕ) → grid.letters.items ≡ [] → grid.pages ≡ 0 → grid.idles ≡ 0 → All IsCodeword (unsynced 0 (words_of Y)) → IsUnderWay grid 0 Y Y
+pub at_start : (grid : Grid) (Y : List ℕ) → grid.letters.items ≡ [] → grid.pages ≡ 0 → grid.idles ≡ 0
+    → All IsCodeword (unsynced 0 (words_of Y)) → IsUnderWay grid 0 Y Y
 at_start grid Y none pages idles are = record {
   letters = ap₂ (λ (x : List ℕ) (n : ℕ). x ++ letters_from n (kinds_from 0 Y)) none pages;
   idles = omega arith;
@@ -88,11 +76,14 @@ at_start grid Y none pages idles are = record {
   size = omega arith;
 }
 
-pub at_end : (grid : Grid) (place : ℕ) (left whole : List ℕ) → length left < 4 → IsUnderWay grid place left whole → IsGridOf (kinds_from 0 whole) grid
+pub at_end : (grid : Grid) (place : ℕ) (left whole : List ℕ) → length left < 4 → IsUnderWay grid place left whole
+    → IsGridOf (kinds_from 0 whole) grid
 at_end grid place left whole few u =
-    let none : kinds_from place left ≡ [] = ap (λ (l : List ℕ). map kind_of (unsynced place l)) (no_word left few) in
+    let none : kinds_from place left ≡ [] =
+    ap (λ (l : List ℕ). map kind_of (unsynced place l)) (nil_from_length (words_of left) (omega (arith, words_long left))) in
     let letters : grid.letters.items ≡ letters_from 0 (kinds_from 0 whole) =
-    sym (append-nil grid.letters.items) ∙ (ap (λ (l : List Kind). grid.letters.items ++ letters_from grid.pages l) (sym none) ∙ u.letters) in
+    sym (append-nil grid.letters.items)
+    ∙ (ap (λ (l : List Kind). grid.letters.items ++ letters_from grid.pages l) (sym none) ∙ u.letters) in
     let nil = ap idles_in none in
     let ui = u.idles in
     record {

@@ -36,13 +36,15 @@ module _ (X : List ℕ) (ps : List Page) (r : ReadsAs X ps) where
   are_some grid g = let n = count in let m = g.count in let some = r.sent.whole.0 in omega arith
 
   is_past : All (λ b. b < 256) X → IsPastPreamble X
-  is_past small = let w = reads_whole X ps small r in record { long = w.long; more = λ e. let n = ap length e in let some = w.some in omega arith }
+  is_past small =
+      let w = reads_whole X ps small r in record { long = w.long; more = λ e. let n = ap length e in let some = w.some in omega arith }
 
   pub past : ((i : ℕ) → Fits w8 (get_or X i 0)) → IsPastPreamble X
   past fits = is_past (All-from_get_or (λ b. b < 256) X 0 (λ i h. omega (arith, (fits i).fits)))
 
 -- the bytes, their pages and their grid
-pub judged_is : (X : List ℕ) (judged : Judged) → ReadsAs X judged.pages.items → All IsListable judged.pages.items → IsGridOf (map kind_of (codewords_in X)) judged.grid → ((i : ℕ) → Fits w8 (get_or X i 0)) → IsJudged X judged
+pub judged_is : (X : List ℕ) (judged : Judged) → ReadsAs X judged.pages.items → All IsListable judged.pages.items
+    → IsGridOf (map kind_of (codewords_in X)) judged.grid → ((i : ℕ) → Fits w8 (get_or X i 0)) → IsJudged X judged
 judged_is X judged r listable grid fits =
     let ps = judged.pages.items in
     record {
@@ -55,14 +57,16 @@ judged_is X judged r listable grid fits =
     }
 
 -- the text of the codewords
-pub is_grid_text : (X shown : List ℕ) (judged : Judged) (j : IsJudged X judged) → shown ≡ picture (map kind_of j.reading.codewords) → IsTextOf grid_text X shown
+pub is_grid_text : (X shown : List ℕ) (judged : Judged) (j : IsJudged X judged) → shown ≡ picture (map kind_of j.reading.codewords)
+    → IsTextOf grid_text X shown
 is_grid_text X shown judged j e = record { pages = judged.pages.items; reading = j.reading; text = e }
 
 pub kinds_whole : (X : List ℕ) (judged : Judged) (j : IsJudged X judged) → length (map kind_of j.reading.codewords) % 16 ≡ 0
 kinds_whole X judged j = let n = j.grid.count in let m = j.whole in omega arith
 
 -- want of memory past the preamble
-pub wanting : {T : Type 0} (X : List ℕ) (r : Result T ShowFault) (Good : T → Type 0) → IsPastPreamble X → IsErr r → IsErrAnd r (λ e. e ≡ fault.OutOfMemory)
+pub wanting : {T : Type 0} (X : List ℕ) (r : Result T ShowFault) (Good : T → Type 0) → IsPastPreamble X → IsErr r
+    → IsErrAnd r (λ e. e ≡ fault.OutOfMemory)
     → MatchResult r Good (ExplainsReading X)
 wanting X (Ok v) Good past err is = absurd (cc)
 wanting X (Err e) Good past err is = (λ w. cc, subst (Explains X) (sym is) past)

@@ -1,8 +1,9 @@
 ghost use Rattle.std.specs.Prelude.{◌+◌, ◌*◌, ◌≤◌, ◌<◌, ◌^◌, All, length};
 ghost use Rattle.pocsag_pages.specs.Listable.{IsListable};
 
+use crate::grid::LETTERS;
 use crate::judged::Judged;
-use crate::picture::{CODEWORDS, put_totals};
+use crate::picture::{CODEWORDS, FRAMES, put_totals};
 use crate::pieces::{put, put_made};
 use crate::starts::capitals;
 use crate::style::put_style;
@@ -23,9 +24,6 @@ const HEIGHT: usize = 18;
 const ROW: usize = 22;
 
 const MARGIN: usize = 12;
-
-// The number of letters, and so of hues.
-const LETTERS: usize = 26;
 
 // Writes the head: the size, the title, the line of totals as description, and the style.
 fn put_head(
@@ -68,7 +66,7 @@ fn put_head(
 
 // Writes the numbers of the frames over the first row.
 fn put_frame_numbers(alloc: Global, text: &mut Vec<u8>) -> Result<(), AllocError> {
-    for frame in 0..8usize {
+    for frame in 0..FRAMES {
         let x = LEFT + CELL * (2 * frame + 1);
         let y = TOP - 8;
         put_made(
@@ -110,7 +108,7 @@ fn put_frame_lines(alloc: Global, text: &mut Vec<u8>, rows: usize) -> Result<(),
     let top = TOP - 4;
     let bottom = TOP + ROW * rows;
     put(text, b"<path class=\"f\" d=\"")?;
-    for frame in 0..9usize {
+    for frame in 0..FRAMES + 1 {
         let x = LEFT + 2 * CELL * frame;
         put_made(text, format!(in alloc; "M{x} {top}V{bottom}"))?;
     }
@@ -201,7 +199,7 @@ fn put_page(
     requires few { to < 2 ^ 63 }
     requires order { from ≤ to }
 {
-    let hue = number % LETTERS;
+    let hue = number % LETTERS as usize;
     let letter = b'A' + hue as u8;
     put_made(text, format!(in alloc; "<g class=\"p{hue}\"><title>"))?;
     put_told(alloc, text, letter, page)?;

@@ -1,5 +1,8 @@
 ghost use Rattle.std.specs.Prelude.{◌+◌, ◌≤◌, vec_len};
 
+/// How many letters, and so hues, the pages have in turn.
+pub(crate) const LETTERS: u64 = 26;
+
 /// The letters of the codewords that were taken, in order.
 #[derive(Drop)]
 pub(crate) struct Grid {

@@ -9,6 +9,7 @@ ghost use Rattle.pocsag_show.specs.Showing.{IsTextOf};
 ghost use Rattle.pocsag_show.specs.Places.{place_listing};
 
 use crate::judged::Judged;
+use crate::picture::CODEWORDS;
 use crate::starts::capitals;
 use csv::{ByteRecord, Writer};
 use pocsag_decode::{kind_of_page, message_of};
@@ -49,9 +50,9 @@ fn put_place(
     ensures { PutsRow result writer.old writer.new (place_record start page.now) }
 {
     let items = page.payload.as_slice();
-    let batch = decimal(alloc, start / 16 + 1)?;
-    let frame = decimal(alloc, start % 16 / 2)?;
-    let slot = decimal(alloc, start % 16)?;
+    let batch = decimal(alloc, start / CODEWORDS + 1)?;
+    let frame = decimal(alloc, start % CODEWORDS / 2)?;
+    let slot = decimal(alloc, start % CODEWORDS)?;
     let codewords = decimal(alloc, 1 + items.len())?;
     let address = decimal(alloc, page.address as usize)?;
     let Ok(message) = message_of(alloc, page.function, items) else {

@@ -2,7 +2,7 @@ ghost use Rattle.std.specs.Prelude.{◌≡◌, ◌∷◌, [], OnOk};
 ghost use Rattle.pocsag_show.specs.Grid.{letter_after};
 ghost use Rattle.pocsag_show.specs.Taking.{Took};
 
-use crate::grid::Grid;
+use crate::grid::{Grid, LETTERS};
 use pocsag_words::Kind;
 use std::alloc::{AllocError, Global};
 
@@ -12,8 +12,8 @@ fn letter_after(pages: u64, kind: Kind) -> u8
 {
     match kind {
         Kind::Idle => b'.',
-        Kind::Address { .. } => b'A' + (pages % 26) as u8,
-        Kind::Message(_) => b'a' + (pages.saturating_sub(1) % 26) as u8,
+        Kind::Address { .. } => b'A' + (pages % LETTERS) as u8,
+        Kind::Message(_) => b'a' + (pages.saturating_sub(1) % LETTERS) as u8,
     }
 }
 

@@ -12,6 +12,9 @@ use std::alloc::{AllocError, Global};
 /// The codewords of a batch, without its synchronisation codeword.
 pub(crate) const CODEWORDS: usize = 16;
 
+/// The frames of a batch, of two codewords each.
+pub(crate) const FRAMES: usize = 8;
+
 // The idle codewords in per cent of all, to the nearest whole one.
 #[tactic(auto, unfolding(crate::specs::Picture::share))]
 fn share(idles: u64, batches: u64) -> u128
@@ -139,7 +142,7 @@ fn put_frames(text: &mut Vec<u8>, letters: &[u8], batch: usize) -> Result<(), Al
     ensures { OnOk result (text.new.items ≡ text.old.items
         ++ flat_map (frame_cells (slice_index letters.now) batch) (range_with_len 0 8)) }
 {
-    for frame in 0..8 {
+    for frame in 0..FRAMES {
         put_frame(text, letters, batch, frame)?;
     }
     Ok(())

@@ -1,3 +1,4 @@
+use crate::grid::LETTERS;
 use crate::pieces::{put, put_made};
 use std::alloc::{AllocError, Global};
 
@@ -20,9 +21,9 @@ text{fill:#eee}
 .f{stroke:#16181c}
 ";
 
-// Writes a rule for each of the 26 hues, in steps that keep neighbours apart.
+// Writes a rule for each of the hues, in steps that keep neighbours apart.
 fn put_hues(alloc: Global, text: &mut Vec<u8>, lightness: u8) -> Result<(), AllocError> {
-    for number in 0..26u32 {
+    for number in 0..LETTERS {
         let hue = 137 * number % 360;
         put_made(
             text,

@@ -7,4 +7,5 @@ use Rattle.pocsag_decode.proofs.listing.listing_of.Given as goal
 
 abbrev pub invariant-loop-page : goal.invariant-loop-page
 invariant-loop-page l =
-    IsReady l.writer × (text_in l.writer ≡ row_text default_writer header ++ flat_map (λ p. row_text default_writer (record_of p)) (take l.page-index l.pages))
+    IsReady l.writer ×
+    (text_in l.writer ≡ row_text default_writer header ++ flat_map (λ p. row_text default_writer (record_of p)) (take l.page-index l.pages))

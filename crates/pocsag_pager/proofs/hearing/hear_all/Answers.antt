@@ -1,6 +1,7 @@
 use Rattle.std.proofs.Common.{refl, sym, ap}
+use Rattle.std.proofs.lemmas.Result.{IfOk-weaker, MatchResult-from_both}
 use Rattle.pocsag_pages.specs.Bytes.{words_of}
-use Rattle.pocsag_pager.proofs.WholeWords.{by_result, if_ok_then, not_both, shown_at}
+use Rattle.pocsag_pager.proofs.WholeWords.{not_both, shown_at}
 use Rattle.pocsag_pager.proofs.hearing.hear_all.Goals as goal
 
 pub returns-in_err-batches-clause-repaired : goal.returns-in_err-batches-clause-repaired
@@ -11,8 +12,8 @@ returns-in_err-batches-clause-repaired c = λ end T batches R round legal damage
 
 pub returns-clause-repaired : goal.returns-clause-repaired
 returns-clause-repaired c = λ end T batches R round legal damaged fine.
-    by_result c.hear_batches.result _ _
-    (if_ok_then c.hear_batches.result _ _
+    MatchResult-from_both c.hear_batches.result _ _
+    (IfOk-weaker c.hear_batches.result _ _
     (λ pages shown. c.damage_is_repaired.ensures.shown end T batches R c.args.bytes.now c.args.address pages.items round legal damaged
     (shown_at _ _ _ _ _ _ (ap words_of (sym c.in_ok-batches.ensures.ok)) (sym c.in_ok-pager.ensures.address) refl shown))
     c.hear_batches.ensures.shown)

@@ -22,7 +22,8 @@ returns c =
     record {
       heard = λ words h.
           subst (λ (ws : List ℕ). OnOk c.hear_part-2.result (HasHeard c.hear_part-2.new.pager ws c.hear_part-2.new.pages.items))
-          (three_parts (1 + 2 * c.frame.result) (4 + 8 * c.frame.result) words c.args.batch.now before rest frame after (omega arith) (omega arith) (omega arith)
+          (three_parts (1 + 2 * c.frame.result) (4 + 8 * c.frame.result) words c.args.batch.now before rest frame after
+          (omega arith) (omega arith) (omega arith)
           c.split_at.ensures.front c.split_at.ensures.back c.split_at-2.ensures.front c.split_at-2.ensures.back)
           (last.heard ((words ++ words_of before) ++ words_of frame) (second words h));
       memory = λ words h. last.memory ((words ++ words_of before) ++ words_of frame) (second words h);

@@ -15,12 +15,15 @@ loop-word-preserved c =
     record {
       heard = λ words h.
           let before = loop.invariant.heard words h in
-          let more : words ++ map (from_be_bytes w32) (take (loop.word-index + 1) chunks) ≡ (words ++ so_far) ++ c.from_be_bytes.result ∷ [] =
+          let more : words ++ map (from_be_bytes w32) (take (loop.word-index + 1) chunks) ≡
+          (words ++ so_far) ++ c.from_be_bytes.result ∷ [] =
           ap (λ ws. words ++ ws) (one_more_word chunks loop.word-index c.from_be_bytes.result (omega arith) c.from_be_bytes.ensures)
           ∙ sym (append_assoc words so_far (c.from_be_bytes.result ∷ [])) in
           record {
             stands = subst (Stands c.hear.new.self) (sym more) (answer.stands (words ++ so_far) before.stands);
-            ended = ended_at _ _ _ _ _ _ more c.hear.ensures.address c.in_ok-keep.ensures (answer.ended (words ++ so_far) loop.pages.items before.stands before.ended);
+            ended =
+                ended_at _ _ _ _ _ _ more c.hear.ensures.address c.in_ok-keep.ensures
+                (answer.ended (words ++ so_far) loop.pages.items before.stands before.ended);
           };
       address = c.hear.ensures.address ∙ loop.invariant.address;
     }

@@ -11,5 +11,9 @@ use Rattle.pocsag_show.proofs.listing.listing_of.Goals as goal
 pub returns : goal.returns
 returns c = λ X j.
     let letters = ap (λ (l : List ℕ). filter (λ i. is_capital (slice_index l i)) (range_with_len 0 (length l))) c.as_slice.ensures.value in
-    let rows = ap₂ (λ (is : List ℕ) (ps : List Page). row_text default_writer place_header ++ place_rows is ps) c.as_slice-2.ensures.value c.as_slice-3.ensures.value in
-    IfOk-weaker _ _ _ (λ v e. is_place_text X _ c.args.judged.now c.in_ok-starts.starts.items (c.in_ok-starts.ensures ∙ letters) (e ∙ rows) j) c.rows_of.ensures
+    let rows = ap₂
+    (λ (is : List ℕ) (ps : List Page). row_text default_writer place_header ++ place_rows is ps)
+    c.as_slice-2.ensures.value c.as_slice-3.ensures.value in
+    IfOk-weaker _ _ _
+    (λ v e. is_place_text X _ c.args.judged.now c.in_ok-starts.starts.items (c.in_ok-starts.ensures ∙ letters) (e ∙ rows) j)
+    c.rows_of.ensures

@@ -6,4 +6,6 @@ use Rattle.pocsag_show.proofs.listing.rows_of.Given as goal
 
 abbrev pub invariant-loop-index : goal.invariant-loop-index
 invariant-loop-index l =
-    IsReady l.writer × (text_in l.writer ++ place_rows (drop l.index l.starts) (drop l.index l.pages) ≡ row_text default_writer place_header ++ place_rows l.starts l.pages)
+    IsReady l.writer ×
+    (text_in l.writer ++ place_rows (drop l.index l.starts) (drop l.index l.pages)
+    ≡ row_text default_writer place_header ++ place_rows l.starts l.pages)

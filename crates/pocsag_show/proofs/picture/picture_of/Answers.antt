@@ -8,6 +8,10 @@ returns c = λ ks g whole.
     let letters = c.as_slice-letters.result.now in
     let grid = c.args.grid.now in
     let e = ap length c.as_slice-letters.ensures.value in
-    let lines = c.in_ok-put_batches.ensures ∙ ap (λ (l : List ℕ). c.put.new.text.items ++ batch_lines (slice_index l) (length letters / 16)) c.as_slice-letters.ensures.value in
-    pieces_are _ _ _ _ _ _ (c.in_ok-put_totals.ensures ∙ ap (λ (l : List ℕ). l ++ totals_line (length letters / 16) (length letters - grid.idles) grid.idles) c.new-text.ensures.items) c.in_ok-put.ensures lines
-    ∙ picture_is grid (length letters / 16) (length letters - grid.idles) ks (ap (λ (n : ℕ). n / 16) e) (ap (λ (n : ℕ). n - grid.idles) e) g whole
+    let lines = c.in_ok-put_batches.ensures ∙ ap
+    (λ (l : List ℕ). c.put.new.text.items ++ batch_lines (slice_index l) (length letters / 16)) c.as_slice-letters.ensures.value in
+    pieces_are _ _ _ _ _ _
+    (c.in_ok-put_totals.ensures ∙ ap (λ (l : List ℕ). l ++ totals_line (length letters / 16) (length letters - grid.idles) grid.idles)
+    c.new-text.ensures.items) c.in_ok-put.ensures lines
+    ∙ picture_is grid (length letters / 16) (length letters - grid.idles) ks (ap (λ (n : ℕ). n / 16) e)
+    (ap (λ (n : ℕ). n - grid.idles) e) g whole

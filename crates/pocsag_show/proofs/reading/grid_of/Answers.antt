@@ -8,9 +8,11 @@ use Rattle.pocsag_show.proofs.reading.grid_of.Goals as goal
 pub loop-rest-init : goal.loop-rest-init
 loop-rest-init c =
     let Y = c.split_at.result.1.now in
-    let e : Y ≡ after_preamble c.args.bytes.now = c.split_at.ensures.back ∙ ap (λ (n : ℕ). drop n c.args.bytes.now) c.leading_len.ensures.value in
+    let e : Y ≡ after_preamble c.args.bytes.now =
+    c.split_at.ensures.back ∙ ap (λ (n : ℕ). drop n c.args.bytes.now) c.leading_len.ensures.value in
     subst (λ (Z : List ℕ). IsUnderWay c.new-grid.result 0 Z (after_preamble c.args.bytes.now)) (sym e)
-    (at_start c.new-grid.result (after_preamble c.args.bytes.now) c.new-grid.ensures.letters c.new-grid.ensures.pages c.new-grid.ensures.idles c.requires)
+    (at_start c.new-grid.result (after_preamble c.args.bytes.now) c.new-grid.ensures.letters c.new-grid.ensures.pages
+    c.new-grid.ensures.idles c.requires)
 
 pub take_word-requires : goal.take_word-requires
 take_word-requires c = λ n.
@@ -26,4 +28,5 @@ loop-rest-preserved c =
     c.loop-rest.grid c.take_word.new.grid (after_preamble c.args.bytes.now) c.loop-rest.invariant c.in_ok-take_word.ensures
 
 pub returns : goal.returns
-returns c = at_end c.loop-rest.grid c.loop-rest.place c.loop-rest.rest.now (after_preamble c.args.bytes.now) (omega arith) c.loop-rest.invariant
+returns c =
+    at_end c.loop-rest.grid c.loop-rest.place c.loop-rest.rest.now (after_preamble c.args.bytes.now) (omega arith) c.loop-rest.invariant

@@ -4,7 +4,8 @@ use Rattle.pocsag_decode.proofs.body.Body.take.Goals as goal
 
 pub loop-rest-preserved : goal.loop-rest-preserved
 loop-rest-preserved c =
-    taken _ _ _ _ _ _ c.loop-rest.invariant (split_is c.next_len.result _ _ _ c.split_at.ensures.front c.split_at.ensures.back) c.take_front.new.self
+    taken _ _ _ _ _ _ c.loop-rest.invariant
+    (split_is c.next_len.result _ _ _ c.split_at.ensures.front c.split_at.ensures.back) c.take_front.new.self
     c.in_ok-take_front.ensures.count.0 c.in_ok-take_front.ensures.stands
 
 pub returns-in_err-take_front-clause-bad : goal.returns-in_err-take_front-clause-bad

@@ -19,11 +19,14 @@ returns-in-Two-clause-stands c = λ Y s. byte_more _ _ _ Y _ c.in-Two.is refl re
 pub returns-in-Three-clause-stands : goal.returns-in-Three-clause-stands
 returns-in-Three-clause-stands c = λ Y s.
     let bytes : Carry → List ℕ = λ k. carried k ++ c.args.byte ∷ [] in
-    on_ok_weaker _ (λ r. word_more _ Y (c.args.byte ∷ []) _ s (ap (λ (k : Carry). length (bytes k)) c.in-Three.is) (c.from_be_bytes.ensures ∙ ap (λ (k : Carry). from_be_bytes w32 (bytes k)) (sym c.in-Three.is)) _ r (ap carried c.take_word.ensures.carry))
+    let long = ap (λ (k : Carry). length (bytes k)) c.in-Three.is in
+    let word = c.from_be_bytes.ensures ∙ ap (λ (k : Carry). from_be_bytes w32 (bytes k)) (sym c.in-Three.is) in
+    on_ok_weaker _ (λ r. word_more _ Y (c.args.byte ∷ []) _ s long word _ r (ap carried c.take_word.ensures.carry))
     (c.take_word.ensures.read (words_of Y) s.read)
 
 pub returns-in-Three-clause-bad : goal.returns-in-Three-clause-bad
 returns-in-Three-clause-bad c = λ Y s.
     let bytes : Carry → List ℕ = λ k. carried k ++ c.args.byte ∷ [] in
-    IfErr-weaker _ _ _ (λ f. refuses f _ _ (bad_word_more _ Y (c.args.byte ∷ []) _ s (ap (λ (k : Carry). length (bytes k)) c.in-Three.is) (c.from_be_bytes.ensures ∙ ap (λ (k : Carry). from_be_bytes w32 (bytes k)) (sym c.in-Three.is)) f))
-    (c.take_word.ensures.bad (words_of Y) s.read)
+    let long = ap (λ (k : Carry). length (bytes k)) c.in-Three.is in
+    let word = c.from_be_bytes.ensures ∙ ap (λ (k : Carry). from_be_bytes w32 (bytes k)) (sym c.in-Three.is) in
+    IfErr-weaker _ _ _ (λ f. refuses f _ _ (bad_word_more _ Y (c.args.byte ∷ []) _ s long word f)) (c.take_word.ensures.bad (words_of Y) s.read)

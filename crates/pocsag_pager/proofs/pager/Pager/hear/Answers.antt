@@ -9,7 +9,9 @@ returns-then-place-eq0-clause-stands c = λ words s.
     let self = c.args.self.now in
     record {
       place = place_more self.place words c.args.word s.place;
-      open_page = skip_open self.address self.place c.args.word words s.place c.if-place-eq0.true self.state c.in-Listening.kept (sym c.in-Listening.ensures.value) s.open_page;
+      open_page =
+          skip_open self.address self.place c.args.word words s.place c.if-place-eq0.true self.state c.in-Listening.kept
+          (sym c.in-Listening.ensures.value) s.open_page;
     }
 
 pub returns-then-place-eq0-clause-ended : goal.returns-then-place-eq0-clause-ended
