@@ -41,7 +41,7 @@ ExplainsFault judged fault.OutOfMemory = IsOk judged
 ExplainsFault judged fault.WriteFault = IsOk judged
 
 -- A fault that comes before the first write.
-abbrev pub IsBeforeWriting : FirstFault → Type 0
-IsBeforeWriting (fault.Round f) = Unit {0}
-IsBeforeWriting fault.OutOfMemory = Unit {0}
-IsBeforeWriting fault.WriteFault = ⊥
+abbrev pub IsBeforeTransmission : FirstFault → Type 0
+IsBeforeTransmission (fault.Round f) = Unit {0}
+IsBeforeTransmission fault.OutOfMemory = Unit {0}
+IsBeforeTransmission fault.WriteFault = ⊥

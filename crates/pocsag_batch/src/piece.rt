@@ -4,13 +4,12 @@ ghost use Rattle.pocsag_words.specs.Codeword.{IsCodeword};
 ghost use Rattle.pocsag_words.specs.Devices.{CountsFailures, TookPrefix};
 ghost use Rattle.pocsag_batch.specs.Sending.{slot_bytes};
 
+use pocsag_pages::SYNC_WORD;
 use pocsag_words::{DeviceFault, Sink, Word, write_all};
 use std::marker::Model;
 
 // The bytes of 64 batches.
 const PIECE: usize = 4_352;
-
-const SYNC_WORD: u32 = 0x7cd2_15d8;
 
 const PREAMBLE: usize = 72;
 

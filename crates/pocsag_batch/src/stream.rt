@@ -2,7 +2,7 @@ ghost use Rattle.std.specs.Prelude.{◌≡◌, ◌⊎◌, IfOk, IfErr, OnOk};
 ghost use Rattle.pocsag_words.specs.Devices.{HasFailed};
 ghost use Rattle.pocsag_pages.specs.PageFile.{verdict};
 ghost use Rattle.pocsag_pages.specs.declared.fault.RoundFault.TheVariants as round;
-ghost use Rattle.pocsag_batch.specs.Streams.{ExplainsFault, IsBeforeWriting, LeavesPrefix, WritesInOrder};
+ghost use Rattle.pocsag_batch.specs.Streams.{ExplainsFault, IsBeforeTransmission, LeavesPrefix, WritesInOrder};
 ghost use Rattle.pocsag_batch.specs.declared.stream.FirstFault.TheVariants as fault;
 
 use crate::order::lay_in_order;
@@ -61,7 +61,7 @@ pub fn first_stream<S: Source, T: Sink>(
 
     // When each fault comes, and what it leaves.
     ensures explained { S.tells → IfErr result (ExplainsFault (verdict (S.held source.old))) }
-    ensures untouched { IfErr result (λ e. IsBeforeWriting e → tx.new ≡ tx.old) }
+    ensures untouched { IfErr result (λ e. IsBeforeTransmission e → tx.new ≡ tx.old) }
     ensures part { S.tells → T.tells → result ≡ Err fault.WriteFault →
         LeavesPrefix (verdict (S.held source.old)) (T.taken tx.old) (T.taken tx.new) }
 

@@ -2,7 +2,7 @@
 ghost use Rattle.std.specs.Prelude.{◌<◌, ◌≤◌};
 
 use pocsag_decode::decode;
-use pocsag_pages::Page;
+use pocsag_pages::{SYNC_WORD, Page};
 use pocsag_words::{address_word, message_word};
 use std::alloc::{Alloc, AllocError, Global};
 use std::io;
@@ -12,8 +12,6 @@ use std::time::{Clock, Duration, Instant};
 const BATCHES: usize = 1_500_000;
 
 const ROUNDS: u32 = 3;
-
-const SYNC: u32 = 0x7CD2_15D8;
 
 /// Times the decoding of batches of idles, of pages of 1,407 codewords and of pages of 16 codewords.
 pub(crate) fn run(rt: &(impl Print + Clock + Alloc<A = Global>)) -> io::Result<()> {
@@ -67,7 +65,7 @@ fn transmission(alloc: Global, page: usize) -> Result<Vec<u8>, AllocError> {
     let mut left = 0;
     for index in 0..16 * BATCHES {
         if index % 16 == 0 {
-            bytes.extend_from_slice(&SYNC.to_be_bytes())?;
+            bytes.extend_from_slice(&SYNC_WORD.to_be_bytes())?;
         }
         let word = if page == 0 {
             address_word(250_958, 0)

@@ -3,7 +3,7 @@ ghost use Rattle.std.specs.Prelude.{◌<◌};
 
 use crate::words::Random;
 use pocsag_pager::{PagerFault, hear_all};
-use pocsag_pages::Page;
+use pocsag_pages::{SYNC_WORD, Page};
 use pocsag_words::{Word, address_word, message_word};
 use std::alloc::{Alloc, AllocError, Global};
 use std::io;
@@ -13,8 +13,6 @@ use std::time::{Clock, Instant};
 const BATCHES: usize = 1_470_587;
 
 const ADDRESS: u32 = 1_234_567;
-
-const SYNC: u32 = 0x7CD2_15D8;
 
 /// Times the hearing of a transmission with 0 and with 2 wrong bits in each word.
 pub(crate) fn run(rt: &(impl Print + Clock + Alloc<A = Global>)) -> io::Result<()> {
@@ -55,7 +53,7 @@ fn transmission(alloc: Global, wrong: u32) -> Result<Vec<u8>, AllocError>
     let mut bytes = Vec::with_capacity(alloc, 72 + 68 * BATCHES)?;
     bytes.resize(72, 0xAA)?;
     for batch in 0..BATCHES {
-        put(&mut bytes, SYNC ^ random.error(wrong))?;
+        put(&mut bytes, SYNC_WORD ^ random.error(wrong))?;
         for slot in 0..16u32 {
             let word = if batch % 1000 == 0 && slot == 2 * (ADDRESS % 8) {
                 address_word(ADDRESS / 8, 3)

@@ -30,7 +30,7 @@ pub record IsFoundFreely (k : Classes) (end : End) (limit : ℕ) (found : Found)
   pub few : closed_nodes (bound_of found.tree) ≤ limit
 
 -- *Within one*.
-pub record IsNear (k : Classes) (end : End) (near : Near) : Type 0 where
+pub record IsNearlyFewest (k : Classes) (end : End) (near : Near) : Type 0 where
   -- `least` is the least that some choice of starts needs, and the tree, one node, shows that it bounds
   -- each transmission;
   pub is_least : IsLeast k near.least
@@ -44,5 +44,5 @@ pub record IsNear (k : Classes) (end : End) (near : Near) : Type 0 where
 
 -- What each fault of `search_freely` says.
 abbrev pub IsFreeFault : Classes → End → FreeFault → Type 0
-IsFreeFault k end (SearchLimit near) = IsNear k end near
+IsFreeFault k end (SearchLimit near) = IsNearlyFewest k end near
 IsFreeFault k end OutOfMemory = Unit {0}

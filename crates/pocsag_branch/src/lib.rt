@@ -20,8 +20,6 @@ mod refuting;
 mod rooting;
 mod search_free;
 mod searching;
-#[cfg(test)]
-mod tests;
 mod thinning;
 mod within_one;
 

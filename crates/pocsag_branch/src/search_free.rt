@@ -4,7 +4,7 @@ ghost use Rattle.pocsag_tree.specs.Views.{bound_of};
 ghost use Rattle.pocsag_branch.specs.Examined.{greatest_least};
 ghost use Rattle.pocsag_branch.specs.Found.{HasPage, IsNodeLimit};
 ghost use Rattle.pocsag_branch.specs.Freed.{IsFreeTree};
-ghost use Rattle.pocsag_branch.specs.Freely.{IsFoundFreely, IsFreeFault, IsNear};
+ghost use Rattle.pocsag_branch.specs.Freely.{IsFoundFreely, IsFreeFault, IsNearlyFewest};
 
 use crate::answer::Found;
 use crate::attempt::Halt;
@@ -81,7 +81,7 @@ fn freed(
 /// A transmission of at most one batch more than the fewest, without a search.
 pub fn near(alloc: Global, classes: &Classes, end: End) -> Result<Near, AllocError>
     requires { HasPage classes.now }
-    ensures { IfOk result (IsNear classes.now end) }
+    ensures { IfOk result (IsNearlyFewest classes.now end) }
 {
     let least = least_of(classes);
     let steps = one_more(alloc, classes, &least.choice, least.batches, end)?;

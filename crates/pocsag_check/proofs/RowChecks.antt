@@ -4,7 +4,7 @@ use Rattle.std.proofs.Math.Seq.{drop-cons}
 use Rattle.std.proofs.lemmas.List.{drop_all}
 use Rattle.pocsag_words.specs.declared.ending.End.{End}
 use Rattle.pocsag_tree.specs.declared.shape.Tree.{Tree}
-use Rattle.pocsag_tree.specs.Bounds.{Bounds, none, more, count_of, depth_of, deepest}
+use Rattle.pocsag_tree.specs.Bounds.{Bounds, none, more, children_count, depth_of, deepest}
 use Rattle.pocsag_tree.specs.Views.{bound_of, bounds_of}
 use Rattle.pocsag_slots.specs.declared.class.Classes.{Classes}
 use Rattle.pocsag_slots.specs.declared.limit.Limits.{Limits}
@@ -14,11 +14,11 @@ use Rattle.pocsag_check.specs.Accepting.{AcceptsEach, AcceptsWithin, AcceptsEach
 use Rattle.pocsag_tree.proofs.Counts.{count_of_bounds}
 
 pub row_long : (u : Bool) (k : Classes) (end : End) (b : ℕ) (l : Limits) (ws : List Way) (ts : Bounds) → AcceptsEach u k end b l ws ts →
-    length ws ≡ count_of ts
+    length ws ≡ children_count ts
 row_long u k end b l [] none a = refl
 row_long u k end b l [] (more t ts) a = absurd a
 row_long u k end b l (w ∷ ws) none a = absurd a
-row_long u k end b l (w ∷ ws) (more t ts) a = let rest : length ws ≡ count_of ts = row_long u k end b l ws ts a.1 in omega arith
+row_long u k end b l (w ∷ ws) (more t ts) a = let rest : length ws ≡ children_count ts = row_long u k end b l ws ts a.1 in omega arith
 
 pub as_long : (u : Bool) (k : Classes) (end : End) (b : ℕ) (l : Limits) (ws : List Way) (ts : List Tree) →
     AcceptsEach u k end b l ws (bounds_of ts) → length ws ≡ length ts

@@ -2,7 +2,7 @@
 use Rattle.std.proofs.Common.{◌≡◌, ℕ, ◌-◌, ◌^◌, ◌<◌, ◌≤◌, Bool, false, List, [], ◌∷◌, length, nat_lt, refl, ap, arith, min, slice_index}
 use Rattle.pocsag_words.specs.declared.ending.End.{End}
 use Rattle.pocsag_tree.specs.Limits.{most_nodes, second_ranges}
-use Rattle.pocsag_tree.specs.Bounds.{Bound, Bounds, overload, split, cut, close, unexamined, none, more, all_nodes, all_nodes_in, closed_nodes, closed_nodes_in, count_of}
+use Rattle.pocsag_tree.specs.Bounds.{Bound, Bounds, overload, split, cut, close, unexamined, none, more, all_nodes, all_nodes_in, closed_nodes, closed_nodes_in, children_count}
 use Rattle.pocsag_tree.specs.Spelling.{AreInRange, HasText, IsInRange}
 use Rattle.pocsag_slots.specs.declared.class.Classes.{Classes}
 use Rattle.pocsag_slots.specs.declared.limit.Limits.{Limits}
@@ -66,7 +66,7 @@ mutual
     in_range above u k end b (limits_from l c m) (from_counted k l c m of) a.4,
   )
   in_range (cut set c children) u k end b l of a =
-      let long : length (ways_across k l set) ≡ count_of children = row_long u k end b l (ways_across k l set) children a.5 in (
+      let long : length (ways_across k l set) ≡ children_count children = row_long u k end b l (ways_across k l set) children a.5 in (
         (held_some set 0 a.2, a.4),
         omega (arith, a.0),
         omega (arith, long, two_ways k l set c a.0 a.2 a.3),
@@ -74,7 +74,7 @@ mutual
         each_in_range children u k end b l (ways_across k l set) of a.5,
       )
   in_range (close children) u k end b l of a =
-      let long : length (ways_to_close k l) ≡ count_of children = row_long u k end b l (ways_to_close k l) children a.2 in (
+      let long : length (ways_to_close k l) ≡ children_count children = row_long u k end b l (ways_to_close k l) children a.2 in (
         omega arith,
         omega (arith, long, some_ending k l),
         omega (arith, long, few_endings k l),

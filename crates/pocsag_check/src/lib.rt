@@ -8,6 +8,3 @@ mod laws;
 
 pub use judging::{accepts, check, check_open};
 pub use laws::{accepted_nodes_refute, accepted_trees_bound, accepted_trees_have_texts};
-
-#[cfg(test)]
-mod tests;

@@ -10,7 +10,7 @@ use Rattle.pocsag_decode.specs.Carried.{size_of}
 use Rattle.pocsag_decode.specs.Faults.{HasFaultThere, HasFaultOfEnd, IsPastPreamble, RefusesPiece, no_memory, fault_there}
 use Rattle.pocsag_decode.specs.Standing.{StandsAfter, StandsIn}
 use Rattle.pocsag_decode.proofs.Preambles.{begun_leading, begun_after, alone_leading, alone_after, count_is, nil_or}
-use Rattle.pocsag_decode.specs.Taking.{Refuses}
+use Rattle.pocsag_decode.specs.Taking.{IsWantingOrBad}
 use Rattle.pocsag_decode.proofs.Transmissions.{IsWhole}
 use Rattle.pocsag_decode.proofs.Words.{size_is}
 
@@ -100,7 +100,7 @@ module _ (d : Decoder) (X : List ℕ) (s : StandsAfter d X) where
     past h n = record { long = omega arith; more = λ z. n (append_nil_right (after_preamble X) rest (sym after ∙ z)) }
 
     pub refused_body : (f : DecodeFault) → 72 ≤ new.leading → rest ≢ [] → length rest ≤ length Z
-        → Refuses (words_of (after_preamble X ++ rest)) f → RefusesPiece X Z f
+        → IsWantingOrBad (words_of (after_preamble X ++ rest)) f → RefusesPiece X Z f
     refused_body f h n within (inl e) =
         subst (RefusesPiece X Z) (sym e) (no_memory few (λ z. n (nil_from_length rest (let l = ap length z in omega arith))) (past h n))
     refused_body f h n within (inr b) = fault_there few (HasFaultThere.bad (omega arith) (rw after b))

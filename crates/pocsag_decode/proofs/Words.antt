@@ -11,7 +11,7 @@ use Rattle.pocsag_decode.specs.declared.carry.Carry.{Carry}
 use Rattle.pocsag_decode.specs.Carried.{carried, size_of, unfinished}
 use Rattle.pocsag_decode.specs.Places.{HasBadWord}
 use Rattle.pocsag_decode.specs.Standing.{HasRead, StandsIn}
-use Rattle.pocsag_decode.specs.Taking.{IsTaking, Refuses}
+use Rattle.pocsag_decode.specs.Taking.{IsTaking, IsWantingOrBad}
 use Rattle.pocsag_decode.proofs.WordByWord.{bad_stays}
 
 pub words_on : (Y Z : List ℕ) → words_of (Y ++ Z) ≡ words_of Y ++ words_of (unfinished Y ++ Z)
@@ -57,7 +57,7 @@ byte_more b old new Y x is none one s =
       carry = sym (rest_on Y (x ∷ []) ∙ (ap (λ (l : List ℕ). unfinished (l ++ x ∷ [])) left ∙ one));
     }
 
-pub refuses : (f : DecodeFault) (ws vs : List ℕ) → (HasBadWord ws f → HasBadWord vs f) → Refuses ws f → Refuses vs f
+pub refuses : (f : DecodeFault) (ws vs : List ℕ) → (HasBadWord ws f → HasBadWord vs f) → IsWantingOrBad ws f → IsWantingOrBad vs f
 refuses f ws vs h (inl p) = inl p
 refuses f ws vs h (inr p) = inr (h p)
 
@@ -101,8 +101,8 @@ module _ (first now : Body) (bytes rest front back : List ℕ) (t : IsTaking fir
         };
   }
 
-  pub not_taken : (f : DecodeFault) → ((Y : List ℕ) → StandsIn now Y → Refuses (words_of (Y ++ front)) f) → (Y : List ℕ) → StandsIn first Y
-      → Refuses (words_of (Y ++ bytes)) f
+  pub not_taken : (f : DecodeFault) → ((Y : List ℕ) → StandsIn now Y → IsWantingOrBad (words_of (Y ++ front)) f) → (Y : List ℕ) → StandsIn first Y
+      → IsWantingOrBad (words_of (Y ++ bytes)) f
   not_taken f bad Y h =
       let s = t.before Y h in
       let all : (s.eaten ++ front) ++ back ≡ Y ++ bytes =

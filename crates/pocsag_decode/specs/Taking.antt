@@ -9,8 +9,8 @@ use Rattle.pocsag_decode.specs.Places.{HasBadWord}
 use Rattle.pocsag_decode.specs.Standing.{HasRead, StandsIn}
 
 -- Want of memory, or a bad word among these.
-abbrev pub Refuses : List ℕ → DecodeFault → Type 0
-Refuses ws f = (f ≡ fault.OutOfMemory) ⊎ HasBadWord ws f
+abbrev pub IsWantingOrBad : List ℕ → DecodeFault → Type 0
+IsWantingOrBad ws f = (f ≡ fault.OutOfMemory) ⊎ HasBadWord ws f
 
 -- One whole word more, where the call answers, and never two.
 abbrev pub CountsWord : {T : Type 0} → Result T DecodeFault → (before after : Body) → Type 0
@@ -24,7 +24,7 @@ ReadsWord result before after word =
 -- Where it does not, memory was wanting, or a word is bad among those and this one.
 abbrev pub RefusesWord : {T : Type 0} → Result T DecodeFault → (before : Body) → ℕ → Type 0
 RefusesWord result before word =
-    (ws : List ℕ) → HasRead before.place before.growing ws → IfErr result (Refuses (ws ++ word ∷ []))
+    (ws : List ℕ) → HasRead before.place before.growing ws → IfErr result (IsWantingOrBad (ws ++ word ∷ []))
 
 -- So many bytes more, where the call answers, and never more than these.
 abbrev pub CountsBytes : {T : Type 0} → Result T DecodeFault → (before after : Body) → ℕ → Type 0
@@ -38,7 +38,7 @@ StandsWith result before after bytes = (Y : List ℕ) → StandsIn before Y → 
 
 -- Where it does not, memory was wanting, or a word of all these bytes is bad.
 abbrev pub RefusesBytes : {T : Type 0} → Result T DecodeFault → (before : Body) → List ℕ → Type 0
-RefusesBytes result before bytes = (Y : List ℕ) → StandsIn before Y → IfErr result (Refuses (words_of (Y ++ bytes)))
+RefusesBytes result before bytes = (Y : List ℕ) → StandsIn before Y → IfErr result (IsWantingOrBad (words_of (Y ++ bytes)))
 
 -- It stands after all of these bytes but the rest.
 pub record StandsBefore (b : Body) (Y rest : List ℕ) : Type 0 where

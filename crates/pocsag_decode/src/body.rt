@@ -9,12 +9,9 @@ ghost use Rattle.pocsag_decode.specs.Taking.{CountsBytes, CountsWord, ReadsWord,
 use crate::carry::Carry;
 use crate::fault::DecodeFault;
 use crate::growing::Growing;
-use pocsag_pages::Page;
+use pocsag_pages::{SYNC_WORD, Page};
 use pocsag_words::{Kind, from_raw};
 use std::alloc::{AllocError, Global};
-
-// The synchronisation codeword.
-const SYNC: u32 = 0x7CD2_15D8;
 
 // The words of a batch, its synchronisation codeword among them.
 const BATCH: u64 = 17;
@@ -76,7 +73,7 @@ impl Body {
         ensures read { ReadsWord result self.old self.new word }
         ensures bad { RefusesWord result self.old word }
     {
-        if word != SYNC {
+        if word != SYNC_WORD {
             return Err(DecodeFault::NoSync(self.place / BATCH));
         }
         self.place += 1;

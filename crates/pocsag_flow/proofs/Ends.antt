@@ -12,7 +12,7 @@ use Rattle.pocsag_slots.proofs.SumLemmas.{sum_below-le}
 use Rattle.pocsag_flow.specs.declared.network.Network.{Network}
 use Rattle.pocsag_flow.specs.declared.network.Search.{Search}
 use Rattle.pocsag_flow.specs.Choosing.{overload}
-use Rattle.pocsag_flow.specs.Search.{IsClosed, IsStuck, Pushes, Relieves, same_slot}
+use Rattle.pocsag_flow.specs.Search.{StaysInside, IsStuck, Pushes, Relieves, same_slot}
 use Rattle.pocsag_flow.proofs.FlowSums.{sum_below-lt}
 use Rattle.pocsag_flow.proofs.Steps.{same_slot_other, same_slot_same}
 use Rattle.pocsag_flow.proofs.Shifts.{class_load_over_shift, finish_low, in_set, start_low}
@@ -35,7 +35,7 @@ greater here more d false false h none = omega arith
 
 -- nothing leads out of the set
 pub record IsShut (l : Limits) (early : ℕ → ℕ) (set : ℕ) : Type 0 where
-  pub each : (slot : ℕ) → slot < 16 → holds set slot ≡ true → IsClosed l early set slot
+  pub each : (slot : ℕ) → slot < 16 → holds set slot ≡ true → StaysInside l early set slot
 
 class_least : (k : Classes) (l : Limits) (set c : ℕ) (early other : ℕ → ℕ) → c < 136 → AreInOrder k l →
     IsWithin l early → IsWithin l other → IsShut l early set → class_load_over k set c (early c) ≤ class_load_over k set c (other c)
@@ -86,10 +86,10 @@ pub shut_overloads : ClassLoadsAddUp → (n : Network) (before after : Search) (
     AreInOrder n.classes n.limits → IsWithin n.limits (slice_index before.early) →
     ((other : ℕ) → other ≢ slot → holds before.reached other ≡ false) →
     slice_index n.limits.cap slot < load n.classes (slice_index before.early) slot →
-    Pushes n before after slot most moved → moved ≡ 0 → IsClosed n.limits (slice_index after.early) after.reached slot →
+    Pushes n before after slot most moved → moved ≡ 0 → StaysInside n.limits (slice_index after.early) after.reached slot →
     Overloads n.classes n.limits after.reached
 shut_overloads law n before after slot most moved h ordered within alone above p none closed choice among =
-    let here : IsClosed n.limits (slice_index before.early) after.reached slot = rw (p.same none) at closed in
+    let here : StaysInside n.limits (slice_index before.early) after.reached slot = rw (p.same none) at closed in
     let at_slot : IsStuck n (slice_index before.early) after.reached slot = record { closed = here; full = omega (arith, above) } in
     let stuck : (s : ℕ) → s < 16 → holds after.reached s ≡ true → IsStuck n (slice_index before.early) after.reached s =
     λ s l held.

@@ -9,7 +9,7 @@ use Rattle.pocsag_slots.specs.Numbering.{finish_of, start_of}
 use Rattle.pocsag_slots.specs.Sums.{holds}
 use Rattle.pocsag_flow.specs.declared.network.Network.{Network}
 use Rattle.pocsag_flow.specs.declared.network.Search.{Search}
-use Rattle.pocsag_flow.specs.Search.{AreStuck, Includes, IsClosed, IsNetworkOf, IsOf, IsStuck, Keeps, LeadsInto, Leaves, Pushes, Relieves, same_slot}
+use Rattle.pocsag_flow.specs.Search.{AreStuck, Includes, StaysInside, IsNetworkOf, IsOf, IsStuck, Keeps, LeadsInto, Leaves, Pushes, Relieves, same_slot}
 use Rattle.pocsag_flow.proofs.Shifts.{Moves, finish_low, load_moved, start_low}
 
 -- a slot outside the larger set is outside the smaller one
@@ -46,7 +46,7 @@ pub entered : (n : Network) (before mid after : Search) (slot most moved : ℕ) 
     holds before.reached slot ≡ false → before.reached < mid.reached →
     slice_index n.limits.cap slot ≤ load n.classes (slice_index before.early) slot →
     Pushes n mid after slot most moved →
-    (moved ≡ 0 → IsClosed n.limits (slice_index after.early) after.reached slot) →
+    (moved ≡ 0 → StaysInside n.limits (slice_index after.early) after.reached slot) →
     Pushes n before after slot most moved
 entered n before mid after slot most moved same here others out more full p closed =
     let grown : Includes mid.reached before.reached =
@@ -68,7 +68,7 @@ entered n before mid after slot most moved same here others out more full p clos
         each = λ s l held new.
             elim (cases_eq s slot) [
               | inl is ↦
-                  let shut : IsClosed n.limits (slice_index before.early) after.reached slot = rw (p.same none ∙ same) at (closed none) in
+                  let shut : StaysInside n.limits (slice_index before.early) after.reached slot = rw (p.same none ∙ same) at (closed none) in
                   let stuck : IsStuck n (slice_index before.early) after.reached slot = record { closed = shut; full = full } in
                   rw is stuck
               | inr other ↦

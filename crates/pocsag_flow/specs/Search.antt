@@ -32,12 +32,12 @@ pub record LeadsInto (l : Limits) (early : ℕ → ℕ) (set class slot : ℕ) :
   pub to_late : start_of class true ≡ slot → holds set (finish_of class true) ≡ false → early class ≤ slice_index l.lo class
   pub to_early : finish_of class true ≡ slot → holds set (start_of class true) ≡ false → slice_index l.hi class ≤ early class
 
-pub record IsClosed (l : Limits) (early : ℕ → ℕ) (set slot : ℕ) : Type 0 where
+pub record StaysInside (l : Limits) (early : ℕ → ℕ) (set slot : ℕ) : Type 0 where
   pub each : (class : ℕ) → class < 136 → LeadsInto l early set class slot
 
 -- The slot has no room, and nothing leads from it out of the set.
 pub record IsStuck (n : Network) (early : ℕ → ℕ) (set slot : ℕ) : Type 0 where
-  pub closed : IsClosed n.limits early set slot
+  pub closed : StaysInside n.limits early set slot
   pub full : slice_index n.limits.cap slot ≤ load n.classes early slot
 
 -- The slots that are new in a set are stuck.

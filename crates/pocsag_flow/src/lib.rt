@@ -6,8 +6,6 @@
 mod choosing;
 mod fault;
 mod network;
-#[cfg(test)]
-mod tests;
 mod way;
 
 pub use choosing::{choose, choose_from};

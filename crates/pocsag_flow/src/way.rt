@@ -1,7 +1,7 @@
 ghost use Rattle.std.specs.Prelude.{◌≡◌, ◌<◌, false, true, slice_index};
 ghost use Rattle.pocsag_slots.specs.Numbering.{finish_of, start_of};
 ghost use Rattle.pocsag_slots.specs.Sums.{holds};
-ghost use Rattle.pocsag_flow.specs.Search.{IsClosed, LeadsInto, MayPush, Pushes};
+ghost use Rattle.pocsag_flow.specs.Search.{StaysInside, LeadsInto, MayPush, Pushes};
 
 use crate::network::{Network, Search};
 use pocsag_slots::{CLASSES, finish, holds, start, with_member};
@@ -33,7 +33,7 @@ pub(crate) fn leave(network: &Network, search: &mut Search, slot: u8, most: u32)
     requires slot { slot < 16 }
     requires reached { holds search.old.reached slot ≡ true }
     ensures pushes { Pushes network.now search.old search.new slot most result }
-    ensures closed { result ≡ 0 → IsClosed network.now.limits (slice_index search.new.early) search.new.reached slot }
+    ensures closed { result ≡ 0 → StaysInside network.now.limits (slice_index search.new.early) search.new.reached slot }
 {
     let straight = leave_straight(network, search, slot, most);
     if straight > 0 {

@@ -40,8 +40,8 @@ or_fault None e = Err e
 or_fault (Some a) e = Ok a
 
 -- Nothing, or the fault where a rule is broken.
-abbrev pub unless : Bool → FieldFault → Result (Unit {0}) FieldFault
-unless broken e = if broken then Err e else Ok tt
+abbrev pub fault_if : Bool → FieldFault → Result (Unit {0}) FieldFault
+fault_if broken e = if broken then Err e else Ok tt
 
 -- The value of decimal digits that follow those of a value; none where a byte is no digit.
 unfoldable pub decimal : ℕ → List ℕ → Option ℕ
@@ -108,7 +108,7 @@ payload_of kind.Alpha message = of_text (alpha_payload message)
 unfoldable pub page_of_fields : (address_field kind_field message : List ℕ) → Result Page FieldFault
 page_of_fields address_field kind_field message = do
   address ← or_fault (address_of address_field) field.BadAddress
-  _ ← unless (is_reserved address) field.ReservedAddress
+  _ ← fault_if (is_reserved address) field.ReservedAddress
   its_kind ← or_fault (kind_of_field kind_field) field.BadKind
   payload ← payload_of its_kind message
   Ok (record { address = address; function = function_of its_kind; payload = payload })

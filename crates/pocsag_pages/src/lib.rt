@@ -13,7 +13,7 @@ mod preamble;
 mod record;
 mod round;
 mod rule;
-mod size;
+mod transmission;
 mod whole;
 
 pub use fault::{FieldFault, PageFault, RoundFault, WholeFault};
@@ -24,7 +24,7 @@ pub use preamble::leading_len;
 pub use record::page_of_fields;
 pub use round::{PAGE_LIMIT, Round};
 pub use rule::{ITEM_LIMIT, is_reserved_address, page_fault};
-pub use size::{BATCH_BITS, PREAMBLE_BITS};
+pub use transmission::{BATCH_BITS, PREAMBLE_BITS, SYNC_WORD};
 pub use whole::read_whole;
 
 #[cfg(test)]

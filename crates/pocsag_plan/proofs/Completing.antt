@@ -16,7 +16,7 @@ use Rattle.pocsag_branch.specs.declared.within_one.Near.{Near}
 use Rattle.pocsag_branch.specs.declared.within_one.FreeFault.{FreeFault}
 use Rattle.pocsag_branch.specs.declared.within_one.FreeFault.TheVariants.{SearchLimit}
 use Rattle.pocsag_branch.specs.Found.{IsNodeLimit}
-use Rattle.pocsag_branch.specs.Freely.{IsFreeFault, IsNear}
+use Rattle.pocsag_branch.specs.Freely.{IsFreeFault, IsNearlyFewest}
 use Rattle.pocsag_plan.specs.Within.{IsWithinOne}
 use Rattle.pocsag_plan.proofs.Rooms.{room}
 
@@ -28,7 +28,7 @@ least_few k least choice is among =
 -- the bound that the free search leaves at its limit
 pub near_few : (k : Classes) (end : End) (e : FreeFault) (near : Near) → e ≡ SearchLimit near → IsFreeFault k end e → near.least ≤ 1760000
 near_few k end e near same said =
-    let is : IsNear k end near = subst (IsFreeFault k end) same said in
+    let is : IsNearlyFewest k end near = subst (IsFreeFault k end) same said in
     least_few k near.least (slice_index near.choice.early) is.is_least is.choice
 
 pub most : (k : Classes) (end : End) (limit bound : ℕ) (found : Found) → IsWithinOne k end limit bound found → found.batches ≤ 1760001

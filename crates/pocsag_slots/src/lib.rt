@@ -12,8 +12,6 @@ mod limit;
 mod load;
 mod set;
 mod step;
-#[cfg(test)]
-mod tests;
 mod way;
 
 pub use boundary::{finish, frame, rest, start};

@@ -10,8 +10,6 @@ mod laws;
 mod links;
 mod outside;
 mod reaching;
-#[cfg(test)]
-mod tests;
 mod touring;
 mod walking;
 

@@ -6,11 +6,11 @@ use Rattle.pocsag_tree.specs.declared.shape.Tree.TheViews.{Split, Cut, Close}
 use Rattle.pocsag_tree.specs.declared.shape.Tree.TheVariants.{rolls-Split, rolls-Cut, rolls-Close}
 use Rattle.pocsag_tree.specs.declared.shape.Tree.TheOpen as layer
 use Rattle.pocsag_tree.specs.declared.shape.Tree.TheFolds.{fold-roll-Tree}
-use Rattle.pocsag_tree.specs.Bounds.{Bound, split, cut, close, count_of}
+use Rattle.pocsag_tree.specs.Bounds.{Bound, split, cut, close, children_count}
 use Rattle.pocsag_tree.specs.Spelling.{node, row, split_head, cut_head, close_head}
 use Rattle.pocsag_tree.specs.Views.{bound_of, bound_step, bounds_of}
 
-pub count_of_bounds : (ts : List Tree) → count_of (bounds_of ts) ≡ length ts
+pub count_of_bounds : (ts : List Tree) → children_count (bounds_of ts) ≡ length ts
 count_of_bounds [] = refl
 count_of_bounds (t ∷ ts) = omega (arith, count_of_bounds ts)
 
@@ -35,13 +35,13 @@ split_text t class m below above is = ap node (bound_of-split t class m below ab
 pub cut_text : (t : Tree) (set needed count : ℕ) (children : Vec Tree) → t ≡ Cut set needed children → count ≡ length children.items
     → node (bound_of t) ≡ cut_head set needed count ++ row (bounds_of children.items)
 cut_text t set needed count children is many =
-    let same : count ≡ count_of (bounds_of children.items) = many ∙ sym (count_of_bounds children.items) in
+    let same : count ≡ children_count (bounds_of children.items) = many ∙ sym (count_of_bounds children.items) in
     rw same (ap node (bound_of-cut t set needed children is))
 
 pub close_text : (t : Tree) (count : ℕ) (children : Vec Tree) → t ≡ Close children → count ≡ length children.items
     → node (bound_of t) ≡ close_head count ++ row (bounds_of children.items)
 close_text t count children is many =
-    let same : count ≡ count_of (bounds_of children.items) = many ∙ sym (count_of_bounds children.items) in
+    let same : count ≡ children_count (bounds_of children.items) = many ∙ sym (count_of_bounds children.items) in
     rw same (ap node (bound_of-close t children is))
 
 -- the text of the trees from one on is its own, and that of those after it

@@ -5,7 +5,7 @@ use Rattle.std.proofs.lemmas.Bool.{ltb-true, ltb-false, eqb-true, eqb-false}
 use Rattle.pocsag_tree.specs.declared.limits.Ranges.{Ranges}
 use Rattle.pocsag_tree.specs.Limits.{most_nodes}
 use Rattle.pocsag_tree.specs.declared.refusals.CertificateFault.TheVariants as fault
-use Rattle.pocsag_tree.specs.Bounds.{Bound, Bounds, split, cut, close, unexamined, none, count_of, all_nodes, all_nodes_in, depth_of, deepest}
+use Rattle.pocsag_tree.specs.Bounds.{Bound, Bounds, split, cut, close, unexamined, none, children_count, all_nodes, all_nodes_in, depth_of, deepest}
 use Rattle.pocsag_tree.specs.Spelling.{IsInRange, AreInRange, node, row}
 use Rattle.pocsag_tree.specs.Reading.{Read, Reader, byte_at, small_at, large_at, row_at, overload_at, split_at, cut_at, close_at, body_at, tagged_at, node_at}
 use Rattle.pocsag_tree.proofs.Fields.{bind_ok, chosen, done, ok_is, byte_is, small_takes, large_takes}
@@ -26,7 +26,7 @@ pub record TakesRow (r : Ranges) (d made n : ℕ) (bytes : List ℕ) (x : Read B
   pub deep : deepest x.0 ≤ d
   pub counted : x.1 ≡ made + all_nodes_in x.0
   pub few : x.1 ≤ most_nodes
-  pub count : count_of x.0 ≡ n
+  pub count : children_count x.0 ≡ n
 
 abbrev pub TakesAll : Ranges → ℕ → Reader → Type 0
 TakesAll r d child = (made : ℕ) (bytes : List ℕ) (x : Read Bound) → child made bytes ≡ Ok x → Takes r d made bytes x
@@ -119,10 +119,10 @@ cut_takes r d child takes made bytes x few e =
     let q = small_takes 0 r.class set.1 needed b.1 in
     let s = large_takes 2 r.children needed.1 count c.1 in
     let t = row_takes r d child takes count.0 made count.1 children few f.1 in
-    let number : needed.1 ≡ to_be_bytes w16 (count_of children.0) ++ count.1 = s.0 ∙ ap (λ n. to_be_bytes w16 n ++ count.1) (sym t.count) in
+    let number : needed.1 ≡ to_be_bytes w16 (children_count children.0) ++ count.1 = s.0 ∙ ap (λ n. to_be_bytes w16 n ++ count.1) (sym t.count) in
     let whole : bytes ≡ behind (cut set.0 needed.0 children.0) ++ children.2 = p.0
     ∙ ap (λ y. to_be_bytes w16 set.0 ++ y)
-    (q.0.parts ∙ ap (λ y. needed.0 ∷ y) (number ∙ ap (λ y. to_be_bytes w16 (count_of children.0) ++ y) t.parts)) in
+    (q.0.parts ∙ ap (λ y. needed.0 ∷ y) (number ∙ ap (λ y. to_be_bytes w16 (children_count children.0) ++ y) t.parts)) in
     rw (← ok_is _ x f.2)
     (record {
       parts = whole;
@@ -144,7 +144,7 @@ close_takes r d child takes made bytes x four few e =
     let p = small_takes 1 2 bytes count a.1 in
     let t = row_takes r d child takes count.0 made count.1 children few b.1 in
     let whole : bytes ≡ behind (close children.0) ++ children.2 = p.0.parts ∙ ap (λ n. n ∷ count.1) (sym t.count)
-    ∙ ap (λ y. count_of children.0 ∷ y) t.parts in
+    ∙ ap (λ y. children_count children.0 ∷ y) t.parts in
     rw (← ok_is _ x b.2)
     (record {
       parts = whole;

@@ -5,7 +5,7 @@ use Rattle.std.proofs.lemmas.Bool.{lt-ltb, le-ltb}
 use Rattle.pocsag_tree.specs.declared.limits.Ranges.{Ranges}
 use Rattle.pocsag_tree.specs.Limits.{first_ranges, second_ranges, most_nodes}
 use Rattle.pocsag_tree.specs.declared.refusals.CertificateFault.{CertificateFault}
-use Rattle.pocsag_tree.specs.Bounds.{Bound, Bounds, overload, split, cut, close, unexamined, none, more, count_of, all_nodes, all_nodes_in, depth_of, deepest}
+use Rattle.pocsag_tree.specs.Bounds.{Bound, Bounds, overload, split, cut, close, unexamined, none, more, children_count, all_nodes, all_nodes_in, depth_of, deepest}
 use Rattle.pocsag_tree.specs.Spelling.{IsInRange, AreInRange, node, row}
 use Rattle.pocsag_tree.specs.Reading.{Read, Reader, small_at, large_at, row_at, overload_at, split_at, cut_at, close_at, body_at, tagged_at, node_at}
 use Rattle.pocsag_tree.proofs.Fields.{byte_again, small_again, large_again}
@@ -36,9 +36,9 @@ tag_of (close children) = 4
 abbrev pub behind : Bound → List ℕ
 behind (overload set) = to_be_bytes w16 set
 behind (split class m below above) = class ∷ to_be_bytes w16 m ++ (node below ++ node above)
-behind (cut set needed children) = to_be_bytes w16 set ++ (needed ∷ to_be_bytes w16 (count_of children) ++ row children)
+behind (cut set needed children) = to_be_bytes w16 set ++ (needed ∷ to_be_bytes w16 (children_count children) ++ row children)
 behind unexamined = []
-behind (close children) = count_of children ∷ row children
+behind (close children) = children_count children ∷ row children
 
 pub node-behind : (t : Bound) → node t ≡ tag_of t ∷ behind t
 node-behind (overload set) = refl
@@ -99,26 +99,26 @@ split_again r child class m below above made first second rest v c some most p q
 
 cut_again : (r : Ranges) (child : Reader) (set needed : ℕ) (children : Bounds) (made nodes : ℕ) (rest : List ℕ) → IsVersion r
     → IsInRange r (cut set needed children)
-    → row_at child (count_of children) made (row children ++ rest) ≡ Ok (children, nodes, rest)
+    → row_at child (children_count children) made (row children ++ rest) ≡ Ok (children, nodes, rest)
     → body_at r child 2 made (behind (cut set needed children) ++ rest) ≡ Ok (cut set needed children, nodes, rest)
 unfolding body_at cut_at
 cut_again r child set needed children made nodes rest v in_range p =
-    let tail = to_be_bytes w16 (count_of children) ++ (row children ++ rest) in
+    let tail = to_be_bytes w16 (children_count children) ++ (row children ++ rest) in
     let a : large_at 1 65535 (to_be_bytes w16 set ++ (needed ∷ tail)) ≡ Ok (set, needed ∷ tail) =
     large_again 1 65535 set (needed ∷ tail) in_range.0.0 (omega (arith, in_range.0.1)) in_range.0.1 in
     let b : small_at 0 r.class (needed ∷ tail) ≡ Ok (needed, tail) =
     small_again 0 r.class needed tail (omega arith) in_range.1 (omega (arith, v.class, in_range.1)) in
-    let c : large_at 2 r.children tail ≡ Ok (count_of children, row children ++ rest) =
-    large_again 2 r.children (count_of children) (row children ++ rest) in_range.2 in_range.3 (omega (arith, v.children, in_range.3)) in
+    let c : large_at 2 r.children tail ≡ Ok (children_count children, row children ++ rest) =
+    large_again 2 r.children (children_count children) (row children ++ rest) in_range.2 in_range.3 (omega (arith, v.children, in_range.3)) in
     rw (a, b, c, p) refl
 
 close_again : (r : Ranges) (child : Reader) (children : Bounds) (made nodes : ℕ) (rest : List ℕ) → IsInRange r (close children)
-    → row_at child (count_of children) made (row children ++ rest) ≡ Ok (children, nodes, rest)
+    → row_at child (children_count children) made (row children ++ rest) ≡ Ok (children, nodes, rest)
     → body_at r child 4 made (behind (close children) ++ rest) ≡ Ok (close children, nodes, rest)
 unfolding body_at close_at
 close_again r child children made nodes rest in_range p =
-    let a : small_at 1 2 (count_of children ∷ (row children ++ rest)) ≡ Ok (count_of children, row children ++ rest) =
-    small_again 1 2 (count_of children) (row children ++ rest) in_range.1 in_range.2 (omega (arith, in_range.2)) in
+    let a : small_at 1 2 (children_count children ∷ (row children ++ rest)) ≡ Ok (children_count children, row children ++ rest) =
+    small_again 1 2 (children_count children) (row children ++ rest) in_range.1 in_range.2 (omega (arith, in_range.2)) in
     rw (a, p) refl
 
 open_again : (r : Ranges) (child : Reader) (made : ℕ) (rest : List ℕ) → body_at r child 3 made rest ≡ Ok (unexamined, made, rest)
@@ -131,11 +131,11 @@ row_none child made rest = refl
 
 row_more : (child : Reader) (t : Bound) (ts : Bounds) (made first nodes : ℕ) (rest : List ℕ)
     → child made (node t ++ (row ts ++ rest)) ≡ Ok (t, first, row ts ++ rest)
-    → row_at child (count_of ts) first (row ts ++ rest) ≡ Ok (ts, nodes, rest)
-    → row_at child (count_of ts + 1) made (row (more t ts) ++ rest) ≡ Ok (more t ts, nodes, rest)
+    → row_at child (children_count ts) first (row ts ++ rest) ≡ Ok (ts, nodes, rest)
+    → row_at child (children_count ts + 1) made (row (more t ts) ++ rest) ≡ Ok (more t ts, nodes, rest)
 unfolding row_at
 row_more child t ts made first nodes rest p q =
-    ap (row_at child (count_of ts + 1) made) (append_assoc (node t) (row ts) rest) ∙ rw (add-one, p, q) refl
+    ap (row_at child (children_count ts + 1) made) (append_assoc (node t) (row ts) rest) ∙ rw (add-one, p, q) refl
 
 mutual
   pub node_again : (r : Ranges) (t : Bound) (d made nodes : ℕ) (rest : List ℕ) → IsVersion r → IsInRange r t → depth_of t ≤ d
@@ -174,7 +174,7 @@ mutual
 
   row_again : (r : Ranges) (ts : Bounds) (d made nodes : ℕ) (rest : List ℕ) → IsVersion r → AreInRange r ts → deepest ts ≤ d
       → nodes ≤ most_nodes → nodes ≡ made + all_nodes_in ts
-      → row_at (node_at r d) (count_of ts) made (row ts ++ rest) ≡ Ok (ts, nodes, rest)
+      → row_at (node_at r d) (children_count ts) made (row ts ++ rest) ≡ Ok (ts, nodes, rest)
   row_again r none d made nodes rest v in_range deep few is =
       let same : made ≡ nodes = omega arith in
       rw (← same) (row_none (node_at r d) made rest)

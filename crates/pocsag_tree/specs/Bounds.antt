@@ -16,9 +16,9 @@ mutual
     more : Bound → Bounds → Bounds
 
 -- How many children a row has.
-abbrev pub count_of : Bounds → ℕ
-count_of none = 0
-count_of (more t ts) = count_of ts + 1
+abbrev pub children_count : Bounds → ℕ
+children_count none = 0
+children_count (more t ts) = children_count ts + 1
 
 abbrev mutual
   -- How many nodes are not `Open`.

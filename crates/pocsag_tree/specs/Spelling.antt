@@ -6,7 +6,7 @@ use Rattle.pocsag_words.specs.declared.ending.End.{End}
 use Rattle.pocsag_words.specs.declared.ending.End.TheVariants as ends
 use Rattle.pocsag_tree.specs.declared.limits.Ranges.{Ranges}
 use Rattle.pocsag_tree.specs.Limits.{first_ranges, second_ranges, greatest_depth, most_nodes}
-use Rattle.pocsag_tree.specs.Bounds.{Bound, Bounds, overload, split, cut, close, unexamined, none, more, count_of, all_nodes, depth_of}
+use Rattle.pocsag_tree.specs.Bounds.{Bound, Bounds, overload, split, cut, close, unexamined, none, more, children_count, all_nodes, depth_of}
 
 -- A set of 16 members that is not empty.
 abbrev pub IsSet : ℕ → Type 0
@@ -17,9 +17,9 @@ abbrev mutual
   pub IsInRange : Ranges → Bound → Type 0
   IsInRange r (overload set) = IsSet set
   IsInRange r (split class m below above) = (class ≤ r.class) × (1 ≤ m) × (m ≤ r.m) × IsInRange r below × IsInRange r above
-  IsInRange r (cut set needed children) = IsSet set × (needed ≤ r.class) × (2 ≤ count_of children)
-      × (count_of children ≤ r.children) × AreInRange r children
-  IsInRange r (close children) = (4 ≤ r.tag) × (1 ≤ count_of children) × (count_of children ≤ 2) × AreInRange r children
+  IsInRange r (cut set needed children) = IsSet set × (needed ≤ r.class) × (2 ≤ children_count children)
+      × (children_count children ≤ r.children) × AreInRange r children
+  IsInRange r (close children) = (4 ≤ r.tag) × (1 ≤ children_count children) × (children_count children ≤ 2) × AreInRange r children
   IsInRange r unexamined = Unit {0}
 
   pub AreInRange : Ranges → Bounds → Type 0
@@ -50,9 +50,9 @@ abbrev mutual
   pub node : Bound → List ℕ
   node (overload set) = 0 ∷ to_be_bytes w16 set
   node (split class m below above) = split_head class m ++ (node below ++ node above)
-  node (cut set needed children) = cut_head set needed (count_of children) ++ row children
+  node (cut set needed children) = cut_head set needed (children_count children) ++ row children
   node unexamined = 3 ∷ []
-  node (close children) = close_head (count_of children) ++ row children
+  node (close children) = close_head (children_count children) ++ row children
 
   pub row : Bounds → List ℕ
   row none = []

@@ -1,7 +1,7 @@
 ghost use Rattle.std.specs.Prelude.{◌≡◌, ℕ, ◌+◌, ◌<◌, ◌≤◌, ◌↔◌, length, IsTrue, IsSome, IfSome, IsErrOf};
 ghost use Rattle.pocsag_words.specs.Devices.{CountsFailures, Delivers, HasFailed};
 ghost use Rattle.pocsag_tree.specs.Limits.{most_nodes, second_ranges};
-ghost use Rattle.pocsag_tree.specs.Bounds.{all_nodes, all_nodes_in, depth_of, deepest, count_of};
+ghost use Rattle.pocsag_tree.specs.Bounds.{all_nodes, all_nodes_in, depth_of, deepest, children_count};
 ghost use Rattle.pocsag_tree.specs.Views.{bound_of, bounds_of};
 ghost use Rattle.pocsag_tree.specs.Spelling.{IsInRange, AreInRange, HasText, IsSet, split_head, cut_head, close_head, node, row, end_byte, second_head, second_text};
 

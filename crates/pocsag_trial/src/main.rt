@@ -7,6 +7,16 @@ mod certificates;
 mod kept;
 mod large;
 #[cfg(test)]
+mod slots_tests;
+#[cfg(test)]
+mod flow_tests;
+#[cfg(test)]
+mod tour_tests;
+#[cfg(test)]
+mod check_tests;
+#[cfg(test)]
+mod branch_tests;
+#[cfg(test)]
 mod layout_tests;
 mod line;
 mod packing;

@@ -18,12 +18,7 @@ fn show(round: Result<Round, RoundFault>, line: &mut Line) -> Result<(), OutOfMe
 
 // A page of function 0 whose items are all 11111.
 pub fn ones(alloc: Global, address: u32, count: usize) -> Result<Page, OutOfMemory> {
-    let mut items = Vec::new(alloc);
-    for _ in 0..count {
-        if items.push(0x88888).is_err() {
-            return Err(OutOfMemory);
-        }
-    }
+    let items = vec![in alloc; 0x88888; count]?;
     Ok(Page {
         address,
         function: 0,
@@ -35,12 +30,17 @@ pub fn ones(alloc: Global, address: u32, count: usize) -> Result<Page, OutOfMemo
 pub fn round_of(alloc: Global, pages: &[(u32, usize)]) -> Result<Round, RoundFault> {
     let mut list = Vec::new(alloc);
     for (address, count) in pages.iter().copied() {
-        let Ok(page) = ones(alloc, address, count) else {
-            return Err(RoundFault::OutOfMemory);
-        };
-        if list.push(page).is_err() {
-            return Err(RoundFault::OutOfMemory);
-        }
+        list.push(ones(alloc, address, count)?)?;
+    }
+    Round::from_pages(alloc, list)
+}
+
+// The round of so many pages of an address codeword alone, at the addresses from 0 on.
+#[cfg(test)]
+pub fn tones(alloc: Global, count: u32) -> Result<Round, RoundFault> {
+    let mut list = Vec::new(alloc);
+    for address in 0..count {
+        list.push(ones(alloc, address, 0)?)?;
     }
     Round::from_pages(alloc, list)
 }

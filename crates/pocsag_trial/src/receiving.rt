@@ -1,20 +1,18 @@
 use crate::line::Line;
 use pocsag_decode::{DecodeFault, Decoder, ListFault, decode, list};
 use pocsag_pager::{Pager, PagerFault, hear_all};
-use pocsag_pages::Page;
+use pocsag_pages::{SYNC_WORD, Page};
 use pocsag_words::{MemorySink, OutOfMemory};
 use std::alloc::Global;
 
 pub const IDLE: u32 = 0x7a89_c197;
-
-const SYNC: u32 = 0x7cd2_15d8;
 
 /// The bytes of two batches of these codewords.
 pub fn two_batches(words: &[u32; 32]) -> [u8; 208] {
     let mut bytes = [0xaa; 208];
     for batch in 0..2 {
         let start = 72 + 68 * batch;
-        bytes[start..start + 4].copy_from_slice(&SYNC.to_be_bytes());
+        bytes[start..start + 4].copy_from_slice(&SYNC_WORD.to_be_bytes());
         for slot in 0..16 {
             let at = start + 4 + 4 * slot;
             bytes[at..at + 4].copy_from_slice(&words[16 * batch + slot].to_be_bytes());
@@ -130,7 +128,7 @@ pub fn hear_words(alloc: Global, line: &mut Line) -> Result<(), OutOfMemory> {
             return Ok(());
         }
     };
-    for word in [SYNC, 0x26ec, 0xc261_572c, 0x7a89_c194, IDLE, IDLE] {
+    for word in [SYNC_WORD, 0x26ec, 0xc261_572c, 0x7a89_c194, IDLE, IDLE] {
         match pager.hear(word) {
             Ok(heard) => put_heard(heard, line),
             Err(PagerFault::OutOfMemory) => {

@@ -7,16 +7,16 @@ abbrev pub taken_of : {N : ℕ} → MemorySink N → List ℕ
 taken_of s = take s.len s.bytes
 
 -- How many calls there were, and how many of them failed.
-abbrev pub calls_of : {N : ℕ} → MemorySink N → ℕ
-calls_of s = s.calls
+abbrev pub sink_calls : {N : ℕ} → MemorySink N → ℕ
+sink_calls s = s.calls
 
-abbrev pub failures_of : {N : ℕ} → MemorySink N → ℕ
-failures_of s = s.failures
+abbrev pub sink_failures : {N : ℕ} → MemorySink N → ℕ
+sink_failures s = s.failures
 
 -- The most bytes that one call moves.
-abbrev pub step_of : {N : ℕ} → MemorySink N → ℕ
-step_of s = s.step
+abbrev pub sink_step : {N : ℕ} → MemorySink N → ℕ
+sink_step s = s.step
 
 -- How many bytes it still moves before every call fails.
-abbrev pub left_of : {N : ℕ} → MemorySink N → ℕ
-left_of s = s.left
+abbrev pub sink_left : {N : ℕ} → MemorySink N → ℕ
+sink_left s = s.left

@@ -7,16 +7,16 @@ abbrev pub held_of : MemorySource → List ℕ
 held_of s = s.rest.now
 
 -- How many calls there were, and how many of them failed.
-abbrev pub calls_of : MemorySource → ℕ
-calls_of s = s.calls
+abbrev pub source_calls : MemorySource → ℕ
+source_calls s = s.calls
 
-abbrev pub failures_of : MemorySource → ℕ
-failures_of s = s.failures
+abbrev pub source_failures : MemorySource → ℕ
+source_failures s = s.failures
 
 -- The most bytes that one call moves.
-abbrev pub step_of : MemorySource → ℕ
-step_of s = s.step
+abbrev pub source_step : MemorySource → ℕ
+source_step s = s.step
 
 -- How many bytes it still moves before every call fails.
-abbrev pub left_of : MemorySource → ℕ
-left_of s = s.left
+abbrev pub source_left : MemorySource → ℕ
+source_left s = s.left

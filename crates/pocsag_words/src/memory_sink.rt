@@ -18,16 +18,16 @@ pub struct MemorySink<const N: usize> {
 
 impl<const N: usize> MemorySink<N> {
     ghost use Rattle.std.specs.Prelude.{◌≡◌, ◌≤◌, []};
-    ghost use Rattle.pocsag_words.specs.MemorySink.{taken_of, calls_of, failures_of, step_of, left_of};
+    ghost use Rattle.pocsag_words.specs.MemorySink.{taken_of, sink_calls, sink_failures, sink_step, sink_left};
 
     /// An empty sink.
     pub fn new(step: usize, fails_at: u64) -> MemorySink<N>
         requires { 1 ≤ step }
         ensures taken { taken_of result ≡ [] }
-        ensures calls { calls_of result ≡ 0 }
-        ensures failures { failures_of result ≡ 0 }
-        ensures step { step_of result ≡ step }
-        ensures left { left_of result ≡ fails_at }
+        ensures calls { sink_calls result ≡ 0 }
+        ensures failures { sink_failures result ≡ 0 }
+        ensures step { sink_step result ≡ step }
+        ensures left { sink_left result ≡ fails_at }
     {
         MemorySink {
             bytes: [0; N],
@@ -50,31 +50,31 @@ impl<const N: usize> MemorySink<N> {
 impl<const N: usize> Sink for MemorySink<N> {
     ghost use Rattle.std.specs.Prelude.{◌≡◌, ◌<◌, ◌≤◌, ◌+◌, ◌++◌, ◌↔◌, ◌⊎◌, length, take, IfOk, IsErr, OnOk, OnErr};
     ghost use Rattle.pocsag_words.specs.Devices.{one_more};
-    ghost use Rattle.pocsag_words.specs.MemorySink.{taken_of, calls_of, failures_of, step_of, left_of};
+    ghost use Rattle.pocsag_words.specs.MemorySink.{taken_of, sink_calls, sink_failures, sink_step, sink_left};
 
     ghost tells = { Unit {0} };
 
     ghost taken = { taken_of };
 
-    ghost calls = { calls_of };
+    ghost calls = { sink_calls };
 
-    ghost failures = { failures_of };
+    ghost failures = { sink_failures };
 
     fn write(&mut self, piece: &[u8]) -> Result<usize, DeviceFault>
         ensures within { IfOk result (λ n. n ≤ length piece.now) }
         ensures some { IfOk result (λ n. 0 < length piece.now → 0 < n) }
         ensures moved { IfOk result (λ n. taken_of self.new ≡ taken_of self.old ++ take n piece.now) }
         ensures kept { OnErr result (taken_of self.new ≡ taken_of self.old) }
-        ensures called { calls_of self.new ≡ one_more (calls_of self.old) }
-        ensures succeeded { OnOk result (failures_of self.new ≡ failures_of self.old) }
-        ensures failed { OnErr result (failures_of self.new ≡ one_more (failures_of self.old)) }
+        ensures called { sink_calls self.new ≡ one_more (sink_calls self.old) }
+        ensures succeeded { OnOk result (sink_failures self.new ≡ sink_failures self.old) }
+        ensures failed { OnErr result (sink_failures self.new ≡ one_more (sink_failures self.old)) }
 
         // It moves at most its step, and fails exactly when nothing is left to move or it is full.
-        ensures few { IfOk result (λ n. n ≤ step_of self.old) }
-        ensures step { step_of self.new ≡ step_of self.old }
-        ensures left { IfOk result (λ n. left_of self.new + n ≡ left_of self.old) }
-        ensures stops { IsErr result ↔ ((left_of self.old ≡ 0) ⊎ (length (taken_of self.old) ≡ N)) }
-        ensures stopped { OnErr result (left_of self.new ≡ left_of self.old) }
+        ensures few { IfOk result (λ n. n ≤ sink_step self.old) }
+        ensures step { sink_step self.new ≡ sink_step self.old }
+        ensures left { IfOk result (λ n. sink_left self.new + n ≡ sink_left self.old) }
+        ensures stops { IsErr result ↔ ((sink_left self.old ≡ 0) ⊎ (length (taken_of self.old) ≡ N)) }
+        ensures stopped { OnErr result (sink_left self.new ≡ sink_left self.old) }
     {
         self.calls = self.calls.saturating_add(1);
         if self.left == 0 || self.len == N {

@@ -16,16 +16,16 @@ pub struct MemorySource<'a> {
 
 impl<'a> MemorySource<'a> {
     ghost use Rattle.std.specs.Prelude.{◌≡◌, ◌≤◌};
-    ghost use Rattle.pocsag_words.specs.MemorySource.{held_of, calls_of, failures_of, step_of, left_of};
+    ghost use Rattle.pocsag_words.specs.MemorySource.{held_of, source_calls, source_failures, source_step, source_left};
 
     /// The source of these bytes.
     pub fn new(bytes: &'a [u8], step: usize, fails_at: u64) -> MemorySource<'a>
         requires { 1 ≤ step }
         ensures held { held_of result ≡ bytes.now }
-        ensures calls { calls_of result ≡ 0 }
-        ensures failures { failures_of result ≡ 0 }
-        ensures step { step_of result ≡ step }
-        ensures left { left_of result ≡ fails_at }
+        ensures calls { source_calls result ≡ 0 }
+        ensures failures { source_failures result ≡ 0 }
+        ensures step { source_step result ≡ step }
+        ensures left { source_left result ≡ fails_at }
     {
         MemorySource {
             rest: bytes,
@@ -40,31 +40,31 @@ impl<'a> MemorySource<'a> {
 impl<'a> Source for MemorySource<'a> {
     ghost use Rattle.std.specs.Prelude.{◌≡◌, ◌<◌, ◌≤◌, ◌+◌, [], ◌++◌, ◌↔◌, length, take, IfOk, IsErr, OnOk, OnErr};
     ghost use Rattle.pocsag_words.specs.Devices.{one_more};
-    ghost use Rattle.pocsag_words.specs.MemorySource.{held_of, calls_of, failures_of, step_of, left_of};
+    ghost use Rattle.pocsag_words.specs.MemorySource.{held_of, source_calls, source_failures, source_step, source_left};
 
     ghost tells = { Unit {0} };
 
     ghost held = { held_of };
 
-    ghost calls = { calls_of };
+    ghost calls = { source_calls };
 
-    ghost failures = { failures_of };
+    ghost failures = { source_failures };
 
     fn read(&mut self, buffer: &mut [u8]) -> Result<usize, DeviceFault>
         ensures within { IfOk result (λ n. n ≤ length buffer.old) }
         ensures moved { IfOk result (λ n. held_of self.old ≡ take n buffer.new ++ held_of self.new) }
         ensures end { IfOk result (λ n. n ≡ 0 → 0 < length buffer.old → held_of self.old ≡ []) }
         ensures kept { OnErr result (held_of self.new ≡ held_of self.old) }
-        ensures called { calls_of self.new ≡ one_more (calls_of self.old) }
-        ensures succeeded { OnOk result (failures_of self.new ≡ failures_of self.old) }
-        ensures failed { OnErr result (failures_of self.new ≡ one_more (failures_of self.old)) }
+        ensures called { source_calls self.new ≡ one_more (source_calls self.old) }
+        ensures succeeded { OnOk result (source_failures self.new ≡ source_failures self.old) }
+        ensures failed { OnErr result (source_failures self.new ≡ one_more (source_failures self.old)) }
 
         // It moves at most its step, and fails exactly when nothing is left to move.
-        ensures few { IfOk result (λ n. n ≤ step_of self.old) }
-        ensures step { step_of self.new ≡ step_of self.old }
-        ensures left { IfOk result (λ n. left_of self.new + n ≡ left_of self.old) }
-        ensures stops { IsErr result ↔ (left_of self.old ≡ 0) }
-        ensures stopped { OnErr result (left_of self.new ≡ left_of self.old) }
+        ensures few { IfOk result (λ n. n ≤ source_step self.old) }
+        ensures step { source_step self.new ≡ source_step self.old }
+        ensures left { IfOk result (λ n. source_left self.new + n ≡ source_left self.old) }
+        ensures stops { IsErr result ↔ (source_left self.old ≡ 0) }
+        ensures stopped { OnErr result (source_left self.new ≡ source_left self.old) }
     {
         self.calls = self.calls.saturating_add(1);
         if self.left == 0 {

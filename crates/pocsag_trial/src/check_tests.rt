@@ -1,54 +1,33 @@
-use crate::{accepts, check, check_open};
-use pocsag_pages::{Page, Payload, Round};
+//! Worked examples of the checker.
+
+use crate::pages::round_of;
+use pocsag_check::{accepts, check, check_open};
+use pocsag_pages::Round;
 use pocsag_slots::{all_limits, classes_of};
 use pocsag_tree::{Certificate, Tree, read_certificate};
 use pocsag_words::{End, MemorySource};
 use std::alloc::Global;
 use std::test::Fail;
 
-// A page of function 0 whose items are all 11111.
-fn ones(alloc: Global, address: u32, count: usize) -> Result<Page, Fail> {
-    let items = vec![in alloc; 0x88888; count]?;
-    Ok(Page {
-        address,
-        function: 0,
-        payload: Payload::from_vec(items),
-    })
-}
-
 fn one_page(alloc: Global, address: u32, count: usize) -> Result<Round, Fail> {
-    let pages = vec![in alloc; ones(alloc, address, count)?]?;
-    Ok(Round::from_pages(alloc, pages)?)
+    Ok(round_of(alloc, &[(address, count)])?)
 }
 
 // Two pages of one codeword more than fifteen, in frames 0 and 3.
 fn loops_apart(alloc: Global) -> Result<Round, Fail> {
-    let pages = vec![in alloc; ones(alloc, 0, 15)?, ones(alloc, 3, 15)?]?;
-    Ok(Round::from_pages(alloc, pages)?)
+    Ok(round_of(alloc, &[(0, 15), (3, 15)])?)
 }
 
 fn three_pages_tight(alloc: Global) -> Result<Round, Fail> {
-    let pages = vec![in alloc;
-        ones(alloc, 0, 5)?,
-        ones(alloc, 3, 9)?,
-        ones(alloc, 11, 15)?,
-    ]?;
-    Ok(Round::from_pages(alloc, pages)?)
+    Ok(round_of(alloc, &[(0, 5), (3, 9), (11, 15)])?)
 }
 
 fn two_numeric_exact(alloc: Global) -> Result<Round, Fail> {
-    let pages = vec![in alloc; ones(alloc, 0, 5)?, ones(alloc, 3, 9)?]?;
-    Ok(Round::from_pages(alloc, pages)?)
+    Ok(round_of(alloc, &[(0, 5), (3, 9)])?)
 }
 
 fn closed_both_ways(alloc: Global) -> Result<Round, Fail> {
-    let pages = vec![in alloc;
-        ones(alloc, 0, 13)?,
-        ones(alloc, 7, 0)?,
-        ones(alloc, 15, 2)?,
-        ones(alloc, 1, 13)?,
-    ]?;
-    Ok(Round::from_pages(alloc, pages)?)
+    Ok(round_of(alloc, &[(0, 13), (7, 0), (15, 2), (1, 13)])?)
 }
 
 fn read(alloc: Global, bytes: &[u8]) -> Result<Certificate, Fail> {

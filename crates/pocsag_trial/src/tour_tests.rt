@@ -1,35 +1,18 @@
+//! Worked examples of tours.
 ghost use Rattle.std.specs.Prelude.{◌≡◌, ◌≤◌, length, slice_index};
 ghost use Rattle.pocsag_slots.specs.Loads.{IsChoice};
 
-use super::*;
-use pocsag_pages::{Page, Payload, Round, RoundFault};
+use crate::pages::round_of;
+use pocsag_pages::RoundFault;
 use pocsag_slots::{Choice, Classes, Step, carries, classes_of};
+use pocsag_tour::{TourFault, has_run_outside, reached, tour};
 use pocsag_words::End;
 use std::alloc::Global;
 use std::test::Fail;
 
-// A page of so many message codewords that all say `11111`.
-fn page_of(alloc: Global, address: u32, items: usize) -> Result<Page, RoundFault> {
-    let Ok(message) = vec![in alloc; 0x88888; items] else {
-        return Err(RoundFault::OutOfMemory);
-    };
-    Ok(Page {
-        address,
-        function: 0,
-        payload: Payload::from_vec(message),
-    })
-}
-
 // The classes, for the end, of pages of these addresses and numbers of message codewords.
 fn classes_for(alloc: Global, pages: &[(u32, usize)], end: End) -> Result<Classes, RoundFault> {
-    let mut list = Vec::new(alloc);
-    for (address, items) in pages.iter().copied() {
-        let page = page_of(alloc, address, items)?;
-        if list.push(page).is_err() {
-            return Err(RoundFault::OutOfMemory);
-        }
-    }
-    let round = Round::from_pages(alloc, list)?;
+    let round = round_of(alloc, pages)?;
     Ok(classes_of(&round, end))
 }
 

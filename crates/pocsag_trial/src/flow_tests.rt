@@ -1,47 +1,13 @@
+//! Worked examples of choices of starts.
 ghost use Rattle.std.specs.Prelude.{◌<◌};
 
-use super::*;
-use pocsag_pages::{Page, Payload, Round, RoundFault};
+use crate::pages::{round_of, tones};
+use pocsag_flow::{ChooseFault, choose, choose_from};
+use pocsag_pages::{Round, RoundFault};
 use pocsag_slots::{Choice, Classes, all_limits, classes_of, loads};
 use pocsag_words::End;
 use std::alloc::Global;
 use std::test::Fail;
-
-// A page of so many message codewords that all say `11111`.
-fn page_of(alloc: Global, address: u32, items: usize) -> Result<Page, RoundFault> {
-    let Ok(message) = vec![in alloc; 0x88888; items] else {
-        return Err(RoundFault::OutOfMemory);
-    };
-    Ok(Page {
-        address,
-        function: 0,
-        payload: Payload::from_vec(message),
-    })
-}
-
-// The round of pages of these addresses and numbers of message codewords.
-fn round_of(alloc: Global, pages: &[(u32, usize)]) -> Result<Round, RoundFault> {
-    let mut list = Vec::new(alloc);
-    for (address, items) in pages.iter().copied() {
-        let page = page_of(alloc, address, items)?;
-        if list.push(page).is_err() {
-            return Err(RoundFault::OutOfMemory);
-        }
-    }
-    Round::from_pages(alloc, list)
-}
-
-// The round of tones at so many addresses from 0 on.
-fn tones_of(alloc: Global, count: u32) -> Result<Round, RoundFault> {
-    let mut list = Vec::new(alloc);
-    for address in 0..count {
-        let page = page_of(alloc, address, 0)?;
-        if list.push(page).is_err() {
-            return Err(RoundFault::OutOfMemory);
-        }
-    }
-    Round::from_pages(alloc, list)
-}
 
 // Whether some choice loads no slot above so many batches.
 fn are_carried(classes: &Classes, batches: u32) -> bool {
@@ -155,7 +121,7 @@ fn least_of_longer_rounds(rt: HostRuntime) -> Result<(), Fail> {
 
 #[test]
 fn file_order_2000(rt: HostRuntime) -> Result<(), Fail> {
-    let round = tones_of(rt.alloc(), 2000)?;
+    let round = tones(rt.alloc(), 2000)?;
     assert_eq!(rt; is_least(&round, End::Open, 125), true);
     assert_eq!(rt; is_least(&round, End::Closed, 125), true);
     Ok(())
@@ -163,7 +129,7 @@ fn file_order_2000(rt: HostRuntime) -> Result<(), Fail> {
 
 #[test]
 fn round_size(rt: HostRuntime) -> Result<(), Fail> {
-    let round = tones_of(rt.alloc(), 20000)?;
+    let round = tones(rt.alloc(), 20000)?;
     assert_eq!(rt; is_least(&round, End::Open, 1250), true);
     assert_eq!(rt; is_least(&round, End::Closed, 1250), true);
     Ok(())

@@ -1,61 +1,16 @@
-ghost use Rattle.std.specs.Prelude.{IsTrue};
-ghost use Rattle.pocsag_branch.specs.Found.{HasPage, IsNodeLimit};
+//! Worked examples of the search.
+ghost use Rattle.pocsag_branch.specs.Found.{IsNodeLimit};
 
-use super::*;
+use crate::pages::{round_of, tones};
+use crate::searching::has_page;
+use pocsag_branch::{Found, FreeFault, Near, SearchFault, near, search, search_freely};
 use pocsag_check::{check, check_open};
-use pocsag_pages::{Page, Payload, Round, RoundFault};
-use pocsag_slots::{CLASSES, Classes, classes_of};
+use pocsag_pages::Round;
+use pocsag_slots::classes_of;
 use pocsag_tree::{Tree, nodes};
 use pocsag_words::End;
 use std::alloc::Global;
 use std::test::Fail;
-
-// A page of so many message codewords that all say `11111`.
-fn page_of(alloc: Global, address: u32, items: usize) -> Result<Page, RoundFault> {
-    let Ok(message) = vec![in alloc; 0x88888; items] else {
-        return Err(RoundFault::OutOfMemory);
-    };
-    Ok(Page {
-        address,
-        function: 0,
-        payload: Payload::from_vec(message),
-    })
-}
-
-// The round of pages of these addresses and numbers of message codewords.
-fn round_of(alloc: Global, pages: &[(u32, usize)]) -> Result<Round, RoundFault> {
-    let mut list = Vec::new(alloc);
-    for (address, items) in pages.iter().copied() {
-        let page = page_of(alloc, address, items)?;
-        if list.push(page).is_err() {
-            return Err(RoundFault::OutOfMemory);
-        }
-    }
-    Round::from_pages(alloc, list)
-}
-
-// The round of so many pages of an address codeword alone.
-fn tones(alloc: Global, pages: u32) -> Result<Round, RoundFault> {
-    let mut list = Vec::new(alloc);
-    for address in 0..pages {
-        let page = page_of(alloc, address, 0)?;
-        if list.push(page).is_err() {
-            return Err(RoundFault::OutOfMemory);
-        }
-    }
-    Round::from_pages(alloc, list)
-}
-
-fn has_page(classes: &Classes) -> bool
-    ensures { IsTrue result → HasPage classes.now }
-{
-    for class in 0..CLASSES {
-        if classes.count[class] > 0 {
-            return true;
-        }
-    }
-    false
-}
 
 // What the search answers with the default limit; out of memory stands for a round without a page.
 fn found(alloc: Global, round: &Round, end: End) -> Result<Found, SearchFault> {

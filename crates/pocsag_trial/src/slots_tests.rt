@@ -1,33 +1,9 @@
-use super::*;
-use arrayvec::ArrayVec;
-use pocsag_pages::{Page, Payload, Round, RoundFault};
+//! Worked examples of classes, ways and loads.
+
+use crate::pages::round_of;
+use pocsag_slots::{Choice, Way, all_limits, carries, classes_of, closing_ways, holds, is_certain, least_load, loads, narrow, overloads, size, ways, with_member};
 use pocsag_words::End;
-use std::alloc::Global;
 use std::test::Fail;
-
-// A page of so many message codewords that all say `11111`.
-fn page_of(alloc: Global, address: u32, items: usize) -> Result<Page, RoundFault> {
-    let Ok(message) = vec![in alloc; 0x88888; items] else {
-        return Err(RoundFault::OutOfMemory);
-    };
-    Ok(Page {
-        address,
-        function: 0,
-        payload: Payload::from_vec(message),
-    })
-}
-
-// The round of pages of these addresses and numbers of message codewords.
-fn round_of(alloc: Global, pages: &[(u32, usize)]) -> Result<Round, RoundFault> {
-    let mut list = Vec::new(alloc);
-    for (address, items) in pages.iter().copied() {
-        let page = page_of(alloc, address, items)?;
-        if list.push(page).is_err() {
-            return Err(RoundFault::OutOfMemory);
-        }
-    }
-    Round::from_pages(alloc, list)
-}
 
 #[test]
 fn three_tones_one_frame(rt: HostRuntime) -> Result<(), Fail> {
