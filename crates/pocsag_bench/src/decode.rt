@@ -2,7 +2,7 @@
 ghost use Rattle.std.specs.Prelude.{◌<◌, ◌≤◌};
 
 use pocsag_decode::decode;
-use pocsag_pages::{SYNC_WORD, Page};
+use pocsag_pages::{Page, SYNC_WORD};
 use pocsag_words::{address_word, message_word};
 use std::alloc::{Alloc, AllocError, Global};
 use std::io;

@@ -3,7 +3,7 @@ ghost use Rattle.std.specs.Prelude.{◌<◌};
 
 use crate::words::Random;
 use pocsag_pager::{PagerFault, hear_all};
-use pocsag_pages::{SYNC_WORD, Page};
+use pocsag_pages::{Page, SYNC_WORD};
 use pocsag_words::{Word, address_word, message_word};
 use std::alloc::{Alloc, AllocError, Global};
 use std::io;

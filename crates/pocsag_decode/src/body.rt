@@ -9,7 +9,7 @@ ghost use Rattle.pocsag_decode.specs.Taking.{CountsBytes, CountsWord, ReadsWord,
 use crate::carry::Carry;
 use crate::fault::DecodeFault;
 use crate::growing::Growing;
-use pocsag_pages::{SYNC_WORD, Page};
+use pocsag_pages::{Page, SYNC_WORD};
 use pocsag_words::{Kind, from_raw};
 use std::alloc::{AllocError, Global};
 

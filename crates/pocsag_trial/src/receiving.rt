@@ -1,7 +1,7 @@
 use crate::line::Line;
 use pocsag_decode::{DecodeFault, Decoder, ListFault, decode, list};
 use pocsag_pager::{Pager, PagerFault, hear_all};
-use pocsag_pages::{SYNC_WORD, Page};
+use pocsag_pages::{Page, SYNC_WORD};
 use pocsag_words::{MemorySink, OutOfMemory};
 use std::alloc::Global;
 

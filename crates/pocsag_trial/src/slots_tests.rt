@@ -1,7 +1,10 @@
 //! Worked examples of classes, ways and loads.
 
 use crate::pages::round_of;
-use pocsag_slots::{Choice, Way, all_limits, carries, classes_of, closing_ways, holds, is_certain, least_load, loads, narrow, overloads, size, ways, with_member};
+use pocsag_slots::{
+    Choice, Way, all_limits, carries, classes_of, closing_ways, holds, is_certain, least_load,
+    loads, narrow, overloads, size, ways, with_member,
+};
 use pocsag_words::End;
 use std::test::Fail;
 
