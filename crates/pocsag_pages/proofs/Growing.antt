@@ -15,7 +15,7 @@ use Rattle.pocsag_pages.specs.Pages.{AreGood, addresses_of, has_address, page_fa
 use Rattle.pocsag_pages.specs.Drafts.{IsDraft}
 use Rattle.std.specs.Prelude.{None}
 use Rattle.std.proofs.lemmas.Bool.{not-false, not-true}
-use Rattle.pocsag_words.proofs.Tests.{or_false}
+use Rattle.pocsag_words.proofs.TruthValues.{or_false}
 
 either : (b c : Bool) → cond b true c ≡ (c || b)
 either true true = refl

@@ -12,7 +12,7 @@ use Rattle.pocsag_pages.specs.declared.fault.RoundFault.{RoundFault}
 use Rattle.pocsag_pages.specs.declared.fault.RoundFault.TheVariants as fault
 use Rattle.pocsag_pages.specs.PageList.{unless_empty}
 use Rattle.pocsag_pages.specs.PageFile.{Row, file_limit, fault_after, fault_of_row, first_fault, is_header, numbered, page_of, pages_of, pages_unless, round_fault_of, round_of_rows, rows_of, verdict, verdict_of_rows, with_page}
-use Rattle.pocsag_words.proofs.Tests.{is_above, not_above}
+use Rattle.pocsag_words.proofs.TruthValues.{is_above, not_above}
 
 -- the fault of record n + 1, or else what is said of the records after it
 abbrev pub or_later : Option RecordFault → ℕ → Result (List Page) RoundFault → Result (List Page) RoundFault

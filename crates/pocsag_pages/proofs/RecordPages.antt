@@ -9,8 +9,8 @@ use Rattle.pocsag_pages.specs.declared.record.PageKind.{PageKind}
 use Rattle.pocsag_pages.specs.declared.record.PageKind.TheVariants as kind
 use Rattle.pocsag_pages.specs.Pages.{last_address, is_bad_payload, is_reserved, page_fault_of}
 use Rattle.pocsag_pages.specs.PageFile.{IsTone, function_of}
-use Rattle.pocsag_words.proofs.Tests.{not_above}
-use Rattle.pocsag_words.proofs.Tests.{and_false}
+use Rattle.pocsag_words.proofs.TruthValues.{not_above}
+use Rattle.pocsag_words.proofs.TruthValues.{and_false}
 
 below_mark : (limit n : ℕ) → n < limit → nat_le limit n ≡ false
 below_mark limit n h = grind (arith, nat_tests)

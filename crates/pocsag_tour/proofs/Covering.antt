@@ -10,7 +10,7 @@ use Rattle.pocsag_slots.proofs.Edging.{before, load_edge}
 use Rattle.pocsag_slots.proofs.SumLemmas.{sum_below-same, sum_below-add, sum_below-bump, sum_below-zero}
 use Rattle.pocsag_tour.specs.Moves.{arc_count, arc_from, arc_to, AreCounts, ins, IsBalanced, outs}
 use Rattle.pocsag_tour.proofs.Geometry.{from_early, from_idle, from_late, to_early, to_idle, to_late}
-use Rattle.pocsag_words.proofs.Tests.{is_above, not_above}
+use Rattle.pocsag_words.proofs.TruthValues.{is_above, not_above}
 
 -- the counts by kind
 pub count_early : (k : Classes) (choice : ℕ → ℕ) (b c : ℕ) → c < 136 → arc_count k choice b c ≡ choice c

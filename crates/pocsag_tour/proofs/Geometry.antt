@@ -5,7 +5,7 @@ use Rattle.pocsag_slots.specs.Numbering.{class_frame, start_of, finish_of}
 use Rattle.pocsag_slots.specs.declared.step.Step.TheVariants.{Idle as Stay, Run}
 use Rattle.pocsag_slots.proofs.CoverLemmas.{finish_below, start_below}
 use Rattle.pocsag_tour.specs.Moves.{arc_from, arc_to, arc_at, step_of}
-use Rattle.pocsag_words.proofs.Tests.{is_above, not_above}
+use Rattle.pocsag_words.proofs.TruthValues.{is_above, not_above}
 
 pub from_early : (a : ℕ) → a < 136 → arc_from a ≡ start_of a true
 unfolding arc_from

@@ -11,7 +11,7 @@ use Rattle.pocsag_slots.proofs.SumLemmas.{sum_below-bump}
 use Rattle.pocsag_tour.specs.Moves.{AllLeadTo, arc_from, arc_to, Home, at_root, by_exit, ins, IsBalanced, IsDeparture, IsExit, IsSpent, IsWalk, IsWay, LeadHome, NoneEnters, outs, step_of, taken}
 use Rattle.pocsag_tour.proofs.Balances.{flipped, in_term, outs_spent}
 use Rattle.pocsag_tour.proofs.Geometry.{by_kind, from_below, from_early, from_idle, from_late, step_early, step_idle, step_late, to_below, to_early, to_idle, to_late}
-use Rattle.pocsag_words.proofs.Tests.{and_false, and_true, is_above, not_above}
+use Rattle.pocsag_words.proofs.TruthValues.{and_false, and_true, is_above, not_above}
 
 -- one arc less of a kind
 pub record IsLess (a : ℕ) (left less : ℕ → ℕ) : Type 0 where

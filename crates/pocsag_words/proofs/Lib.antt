@@ -6,4 +6,4 @@ pub mod LaneLemmas
 pub mod Linear
 pub mod Sparse
 pub mod Tables
-pub mod Tests
+pub mod TruthValues

@@ -3,7 +3,7 @@
 //! ends and faults that the crates above share. Nothing here takes memory.
 
 #[cfg(test)]
-mod cases;
+mod tests;
 mod checks;
 mod codeword;
 mod correction;
