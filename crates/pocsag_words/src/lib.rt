@@ -2,8 +2,6 @@
 //! Codewords of Radio Paging Code No. 1 (Recommendation ITU-R M.584-2, Annex 1), and the devices,
 //! ends and faults that the crates above share. Nothing here takes memory.
 
-#[cfg(test)]
-mod tests;
 mod checks;
 mod codeword;
 mod correction;
@@ -24,3 +22,6 @@ pub use laws::{codewords_differ, kinds_have_codewords, numbers_are_repaired, sam
 pub use memory_sink::MemorySink;
 pub use memory_source::MemorySource;
 pub use refusal::{OutOfMemory, WriteFault};
+
+#[cfg(test)]
+mod tests;
