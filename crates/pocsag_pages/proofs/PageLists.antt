@@ -4,7 +4,7 @@ use Rattle.std.specs.Prelude.{Some, None}
 use Rattle.std.proofs.lemmas.List.{take_more, drop_more, length-take}
 use Rattle.pocsag_pages.specs.declared.page.Page.{Page}
 use Rattle.pocsag_pages.specs.declared.fault.PageFault.{PageFault}
-use Rattle.pocsag_pages.specs.declared.fault.PageFault.TheVariants as broken_rule
+use Rattle.pocsag_pages.specs.declared.fault.PageFault.TheVariants as page_fault
 use Rattle.pocsag_pages.specs.declared.fault.RoundFault.{RoundFault}
 use Rattle.pocsag_pages.specs.declared.fault.RoundFault.TheVariants as fault
 use Rattle.pocsag_pages.specs.Pages.{AreGood, has_address, page_fault_of}
@@ -25,9 +25,9 @@ module _ (before rest : List Page) (p : Page) where
 -- a page that breaks a rule lacks no memory
 pub no_memory : (n : ℕ) (f : PageFault) → numbered_page n f ≡ fault.OutOfMemory → ⊥
 unfolding numbered_page
-no_memory n broken_rule.BadAddress e = cc
-no_memory n broken_rule.ReservedAddress e = cc
-no_memory n broken_rule.BadPayload e = cc
+no_memory n page_fault.BadAddress e = cc
+no_memory n page_fault.ReservedAddress e = cc
+no_memory n page_fault.BadPayload e = cc
 
 -- the page p at the place i of a list
 module _ (ps : List Page) (i : ℕ) (p : Page) (within : i < length ps) (here : p ≡ get_or ps i p) where

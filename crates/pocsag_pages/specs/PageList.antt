@@ -2,16 +2,16 @@
 use Rattle.std.specs.Prelude.{◌≡◌, ℕ, ◌+◌, List, [], ◌∷◌, ◌++◌, length, nat_lt, if◌then◌else◌, Option, Some, None, Result, Ok, Err}
 use Rattle.pocsag_pages.specs.declared.page.Page.{Page}
 use Rattle.pocsag_pages.specs.declared.fault.PageFault.{PageFault}
-use Rattle.pocsag_pages.specs.declared.fault.PageFault.TheVariants as broken
+use Rattle.pocsag_pages.specs.declared.fault.PageFault.TheVariants as page_fault
 use Rattle.pocsag_pages.specs.declared.fault.RoundFault.{RoundFault}
 use Rattle.pocsag_pages.specs.declared.fault.RoundFault.TheVariants as fault
 use Rattle.pocsag_pages.specs.Pages.{page_limit, has_address, page_fault_of}
 
 -- The fault of the page of this number that breaks a rule.
 unfoldable pub numbered_page : ℕ → PageFault → RoundFault
-numbered_page n broken.BadAddress = fault.BadAddress n
-numbered_page n broken.ReservedAddress = fault.ReservedAddress n
-numbered_page n broken.BadPayload = fault.BadPayload n
+numbered_page n page_fault.BadAddress = fault.BadAddress n
+numbered_page n page_fault.ReservedAddress = fault.ReservedAddress n
+numbered_page n page_fault.BadPayload = fault.BadPayload n
 
 -- The fault of the page of this number, which follows these, by the first rule that it breaks, if
 -- it breaks one.

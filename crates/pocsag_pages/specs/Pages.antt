@@ -5,7 +5,7 @@ use Rattle.pocsag_text.specs.Bits.{item_width, AreItems}
 use Rattle.pocsag_text.specs.Text.{item_limit}
 use Rattle.pocsag_pages.specs.declared.page.Page.{Page}
 use Rattle.pocsag_pages.specs.declared.fault.PageFault.{PageFault}
-use Rattle.pocsag_pages.specs.declared.fault.PageFault.TheVariants as fault
+use Rattle.pocsag_pages.specs.declared.fault.PageFault.TheVariants as page_fault
 
 -- The greatest address, which has 21 bits (a rule of Annex 1).
 abbrev pub last_address : ℕ
@@ -33,9 +33,9 @@ is_bad_payload function items =
 -- The first rule that a page breaks.
 abbrev pub page_fault_of : Page → Option PageFault
 page_fault_of p =
-    if nat_lt last_address p.address then Some fault.BadAddress
-    else if is_reserved p.address then Some fault.ReservedAddress
-    else if is_bad_payload p.function p.payload then Some fault.BadPayload else None
+    if nat_lt last_address p.address then Some page_fault.BadAddress
+    else if is_reserved p.address then Some page_fault.ReservedAddress
+    else if is_bad_payload p.function p.payload then Some page_fault.BadPayload else None
 
 abbrev pub addresses_of : List Page → List ℕ
 addresses_of ps = map (λ p. p.address) ps
