@@ -22,7 +22,7 @@ bound_of-cut t set needed children is =
 pub bound_of-close : (t : Tree) (children : Vec Tree) → t ≡ Close children → bound_of t ≡ close (bounds_of children.items)
 bound_of-close t children is = ap bound_of (is ∙ sym (rolls-Close children)) ∙ fold-roll-Tree Bound bound_step (layer.Close children)
 
-bound_of-split : (t : Tree) (class m : ℕ) (below above : Box Tree) → t ≡ Split class m below above
+pub bound_of-split : (t : Tree) (class m : ℕ) (below above : Box Tree) → t ≡ Split class m below above
     → bound_of t ≡ split class m (bound_of below.value) (bound_of above.value)
 bound_of-split t class m below above is =
     ap bound_of (is ∙ sym (rolls-Split class m below above)) ∙ fold-roll-Tree Bound bound_step (layer.Split class m below above)
