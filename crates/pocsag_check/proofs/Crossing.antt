@@ -53,14 +53,7 @@ later_run set p c e ss (by_run d f crosses some) = by_run d f crosses (omega ari
 
 -- the run that is counted is this one
 own_counted : (c d : ℕ) (e f : Bool) → ((c == d) && cond f e (not e)) ≡ true → (c ≡ d) × (e ≡ f)
-own_counted c d e f h = go (c == d) refl e f h
-  where
-    go : (b : Bool) → (c == d) ≡ b → (e f : Bool) → (b && cond f e (not e)) ≡ true → (c ≡ d) × (e ≡ f)
-    go true is true true h = (eqb-true c d is, refl)
-    go true is true false h = absurd (cc)
-    go true is false true h = absurd (cc)
-    go true is false false h = (eqb-true c d is, refl)
-    go false is e f h = absurd (cc)
+own_counted c d e f h = grind (arith, eqb-true)
 
 inside_run : (set c : ℕ) (e : Bool) (ss : List Step) → run_touches c e set ≡ false → IsInside set ss → IsInside set (Run c e ∷ ss)
 inside_run set c e ss own rest = record {

@@ -1,5 +1,5 @@
 -- No tour of an admitted choice meets an accepted node.
-use Rattle.std.proofs.Common.{◌≡◌, ℕ, ◌+◌, ◌%◌, ◌<◌, ◌≤◌, ◌&&◌, ◌||◌, Bool, true, false, IsTrue, List, [], ◌∷◌, refl, arith, slice_index, ◌⊎◌, inl, inr, nat_lt}
+use Rattle.std.proofs.Common.{◌≡◌, ℕ, ◌+◌, ◌%◌, ◌<◌, ◌&&◌, ◌||◌, Bool, true, false, IsTrue, List, [], ◌∷◌, refl, arith, slice_index, ◌⊎◌, inl, inr, nat_lt}
 use Rattle.std.proofs.lemmas.Bool.{cases_lt}
 use Rattle.std.proofs.lemmas.Bool.Decides.{nat_tests}
 use Rattle.pocsag_words.specs.declared.ending.End.{End}
@@ -43,37 +43,11 @@ unfolding class_certain
 certain_is k l set c h = certain_parts _ _ _ _ _ h
 
 no_runs : (set c : ℕ) (e : Bool) (steps : List Step) → IsInside set steps → run_touches c e set ≡ true → runs c e steps ≡ 0
-no_runs set c e steps inside outside =
-    elim (cases_lt 0 (runs c e steps)) [
-      | inl some ↦ let stays = inside.each c e some in absurd (cc)
-      | inr few ↦ omega arith
-    ]
+no_runs set c e steps inside outside = grind (arith, cases_lt)
 
 not_inside : (k : Classes) (end : End) (l : Limits) (choice : ℕ → ℕ) (b set c : ℕ) (steps : List Step) → c < 136 →
     IsTour k end choice b steps → IsAdmitted k l choice → IsTrue (class_certain k l set c) → IsInside set steps → ⊥
-not_inside k end l choice b set c steps small tour a certain inside =
-    let early : runs c true steps ≡ choice c = tour.early c small in
-    let late : runs c false steps + choice c ≡ slice_index k.count c = tour.late c small in
-    let low : slice_index l.lo c ≤ choice c = a.within.least c small in
-    let high : choice c ≤ slice_index l.hi c = a.within.most c small in
-    let parts = certain_is k l set c certain in
-    let some : nat_lt 0 (slice_index k.count c) ≡ true = parts.count in
-    elim parts.run [
-      | inl both ↦
-          let x : runs c true steps ≡ 0 = no_runs set c true steps inside both.0 in
-          let y : runs c false steps ≡ 0 = no_runs set c false steps inside both.1 in
-          grind (arith, nat_tests)
-      | inr one ↦ elim one [
-        | inl first ↦
-            let x : runs c true steps ≡ 0 = no_runs set c true steps inside first.0 in
-            let forced : nat_lt 0 (slice_index l.lo c) ≡ true = first.1 in
-            grind (arith, nat_tests)
-        | inr second ↦
-            let y : runs c false steps ≡ 0 = no_runs set c false steps inside second.0 in
-            let forced : nat_lt (slice_index l.hi c) (slice_index k.count c) ≡ true = second.1 in
-            grind (arith, nat_tests)
-      ]
-    ]
+not_inside k end l choice b set c steps small tour a certain inside = grind (arith, certain_is, no_runs, nat_tests)
 
 -- the last arc of a tour that ends whole, which leads to boundary 0
 pub data EndsBy : ℕ → List Step → Type 0 where
@@ -103,15 +77,7 @@ ends_by (Run c e ∷ (t ∷ ss)) p small leads whole =
 closing_way : (k : Classes) (l : Limits) (choice : ℕ → ℕ) (b : ℕ) (steps : List Step) →
     IsTour k Closed choice b steps → IsAdmitted k l choice → AnyTaken k choice b (ways_to_close k l)
 unfolding ways_to_close
-closing_way k l choice b steps tour a = go (ends_by steps 0 (omega arith) tour.leads tour.last)
-  where
-    go : EndsBy 0 steps → AnyTaken k choice b (ways_to_close k l)
-    go (by_last_idle some) = inl (omega arith, omega (arith, tour.idle 15 (omega arith)))
-    go (by_last_run some) =
-        let late : runs 135 false steps + choice 135 ≡ slice_index k.count 135 = tour.late 135 (omega arith) in
-        let low : slice_index l.lo 135 ≤ choice 135 = a.within.least 135 (omega arith) in
-        let free : nat_lt (slice_index l.lo 135) (slice_index k.count 135) ≡ true = grind (arith, nat_tests) in
-        inr (rw free (inl (omega arith, omega arith)))
+closing_way k l choice b steps tour a = grind (arith, ends_by, AnyTaken, nat_tests)
 
 mutual
   pub refuted : (t : Bound) (k : Classes) (end : End) (l : Limits) (choice : ℕ → ℕ) (b : ℕ) (steps : List Step) →

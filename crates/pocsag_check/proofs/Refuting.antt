@@ -1,5 +1,5 @@
 -- An accepted node is met by no tour.
-use Rattle.std.proofs.Common.{◌≡◌, ℕ, ◌+◌, ◌-◌, ◌<◌, ◌≤◌, Bool, true, false, cond, List, [], ◌∷◌, length, ap, arith, slice_index, slice_set, ◌⊎◌, inl, inr, min, max}
+use Rattle.std.proofs.Common.{◌≡◌, ℕ, ◌+◌, ◌-◌, ◌<◌, ◌≤◌, List, [], ◌∷◌, ap, arith, slice_index, slice_set, ◌⊎◌, min, max}
 use Rattle.std.proofs.lemmas.Bool.{cases_lt, cases_eq}
 use Rattle.std.proofs.lemmas.List.{get_or-set_same, get_or-set_other, set_past}
 use Rattle.pocsag_slots.specs.declared.class.Classes.{Classes}
@@ -7,46 +7,24 @@ use Rattle.pocsag_slots.specs.declared.limit.Limits.{Limits}
 use Rattle.pocsag_slots.specs.declared.way.Way.{Way}
 use Rattle.pocsag_slots.specs.declared.way.Way.TheVariants.{IdleIn, Early, Late}
 use Rattle.pocsag_slots.specs.Loads.{IsAdmitted, Overloads, load}
-use Rattle.pocsag_slots.specs.Sums.{sum_over, holds}
+use Rattle.pocsag_slots.specs.Sums.{sum_over}
 use Rattle.pocsag_slots.specs.Ways.{narrowed_limits, limits_below, limits_from}
 use Rattle.pocsag_slots.proofs.SumLemmas.{sum_below-le}
 
 -- what is at least n stays so where one place is changed to what is
 pub low_set : (xs : List ℕ) (c v d n : ℕ) → slice_index xs d ≤ n → (d ≡ c → v ≤ n) → slice_index (slice_set xs c v) d ≤ n
-low_set xs c v d n h here =
-    elim (cases_eq d c) [
-      | inr other ↦ rw (get_or-set_other xs c d v 0 other) h
-      | inl same ↦ elim (cases_lt c (length xs)) [
-        | inl within ↦ rw same (rw (get_or-set_same xs c v 0 within) (here same))
-        | inr past ↦ rw (set_past xs c v past) h
-      ]
-    ]
+low_set xs c v d n h here = grind (arith, cases_eq, get_or-set_other, cases_lt, get_or-set_same, set_past)
 
 high_set : (xs : List ℕ) (c v d n : ℕ) → n ≤ slice_index xs d → (d ≡ c → n ≤ v) → n ≤ slice_index (slice_set xs c v) d
-high_set xs c v d n h here =
-    elim (cases_eq d c) [
-      | inr other ↦ rw (get_or-set_other xs c d v 0 other) h
-      | inl same ↦ elim (cases_lt c (length xs)) [
-        | inl within ↦ rw same (rw (get_or-set_same xs c v 0 within) (here same))
-        | inr past ↦ rw (set_past xs c v past) h
-      ]
-    ]
+high_set xs c v d n h here = grind (arith, cases_eq, get_or-set_other, cases_lt, get_or-set_same, set_past)
 
 -- loads within the caps are so in sum
 sum_over-le : (set : ℕ) (f g : ℕ → ℕ) → ((slot : ℕ) → slot < 16 → f slot ≤ g slot) → sum_over set f ≤ sum_over set g
 unfolding sum_over
-sum_over-le set f g h = sum_below-le 16 _ _ (λ slot l. at (holds set slot) slot (h slot l))
-  where
-    at : (b : Bool) (slot : ℕ) → f slot ≤ g slot → cond b (f slot) 0 ≤ cond b (g slot) 0
-    at true slot h = h
-    at false slot h = omega arith
+sum_over-le set f g h = grind (arith, sum_below-le)
 
 pub not_overloaded : (k : Classes) (l : Limits) (choice : ℕ → ℕ) (set : ℕ) → IsAdmitted k l choice → Overloads k l set → ⊥
-not_overloaded k l choice set admitted over =
-    let above : sum_over set (slice_index l.cap) < sum_over set (load k choice) = over choice admitted.within in
-    let below : sum_over set (load k choice) ≤ sum_over set (slice_index l.cap) =
-    sum_over-le set (load k choice) (slice_index l.cap) admitted.capped in
-    absurd (omega arith)
+not_overloaded k l choice set admitted over = grind (arith, sum_over-le)
 
 pub admitted_below : (k : Classes) (l : Limits) (choice : ℕ → ℕ) (c m : ℕ) → IsAdmitted k l choice → choice c < m →
     IsAdmitted k (limits_below l c m) choice

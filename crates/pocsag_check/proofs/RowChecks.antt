@@ -1,10 +1,10 @@
 -- The loop over the children of a node.
-use Rattle.std.proofs.Common.{◌≡◌, ℕ, zero, suc, ◌+◌, ◌<◌, ◌≤◌, Bool, List, [], ◌∷◌, length, get_or, drop, refl, sym, ap, ◌∙◌, arith, add-one, max}
+use Rattle.std.proofs.Common.{◌≡◌, ℕ, zero, suc, ◌+◌, ◌<◌, ◌≤◌, Bool, List, [], ◌∷◌, length, get_or, drop, refl, sym, ap, ◌∙◌, arith, add-one}
 use Rattle.std.proofs.Math.Seq.{drop-cons}
 use Rattle.std.proofs.lemmas.List.{drop_all}
 use Rattle.pocsag_words.specs.declared.ending.End.{End}
 use Rattle.pocsag_tree.specs.declared.shape.Tree.{Tree}
-use Rattle.pocsag_tree.specs.Bounds.{Bounds, none, more, children_count, depth_of, deepest}
+use Rattle.pocsag_tree.specs.Bounds.{Bounds, none, more, children_count}
 use Rattle.pocsag_tree.specs.Views.{bound_of, bounds_of}
 use Rattle.pocsag_slots.specs.declared.class.Classes.{Classes}
 use Rattle.pocsag_slots.specs.declared.limit.Limits.{Limits}
@@ -37,31 +37,21 @@ drop_way ws i w h is =
 
 drop_tree : (ts : List Tree) (i : ℕ) (t : Tree) → i < length ts → t ≡ get_or ts i t →
     bounds_of (drop i ts) ≡ more (bound_of t) (bounds_of (drop (i + 1) ts))
-drop_tree ts i t h is =
-    let first : drop i ts ≡ get_or ts i t ∷ drop (i + 1) ts = rw (add-one) (drop-cons ts i t h) in
-    let same : drop i ts ≡ t ∷ drop (i + 1) ts = first ∙ ap (λ (v : Tree). v ∷ drop (i + 1) ts) (sym is) in
-    ap (λ (v : List Tree). bounds_of v) same
+drop_tree ts i t h is = grind (arith, drop-cons)
 
 pub one_first : (u : Bool) (k : Classes) (end : End) (b : ℕ) (l : Limits) (depth : ℕ) (ws : List Way) (ts : List Tree) (i : ℕ) (w : Way)
     (t : Tree) → i < length ws → i < length ts → w ≡ get_or ws i w → t ≡ get_or ts i t →
     AcceptsEachWithin u k end b l depth (drop i ws) (bounds_of (drop i ts)) →
     AcceptsWithin u k end b (narrowed_limits k l w b) depth (bound_of t)
     × AcceptsEachWithin u k end b l depth (drop (i + 1) ws) (bounds_of (drop (i + 1) ts))
-one_first u k end b l depth ws ts i w t h g w_is t_is a =
-    let both : AcceptsEachWithin u k end b l depth (w ∷ drop (i + 1) ws) (more (bound_of t) (bounds_of (drop (i + 1) ts))) =
-    rw (drop_way ws i w h w_is) at (rw (drop_tree ts i t g t_is) at a) in
-    let deep : max (depth_of (bound_of t)) (deepest (bounds_of (drop (i + 1) ts))) ≤ depth = both.0 in
-    ((omega arith, both.1.0), (omega arith, both.1.1))
+one_first u k end b l depth ws ts i w t h g w_is t_is a = grind (arith, drop_way, drop_tree)
 
 pub one_more : (u : Bool) (k : Classes) (end : End) (b : ℕ) (l : Limits) (depth : ℕ) (ws : List Way) (ts : List Tree) (i : ℕ) (w : Way)
     (t : Tree) → i < length ws → i < length ts → w ≡ get_or ws i w → t ≡ get_or ts i t →
     AcceptsWithin u k end b (narrowed_limits k l w b) depth (bound_of t) →
     AcceptsEachWithin u k end b l depth (drop (i + 1) ws) (bounds_of (drop (i + 1) ts)) →
     AcceptsEachWithin u k end b l depth (drop i ws) (bounds_of (drop i ts))
-one_more u k end b l depth ws ts i w t h g w_is t_is first rest =
-    let deep : depth_of (bound_of t) ≤ depth = first.0 in
-    let others : deepest (bounds_of (drop (i + 1) ts)) ≤ depth = rest.0 in
-    rw (drop_way ws i w h w_is) (rw (drop_tree ts i t g t_is) (omega arith, (first.1, rest.1)))
+one_more u k end b l depth ws ts i w t h g w_is t_is first rest = grind (arith, drop_way, drop_tree)
 
 pub none_left : (u : Bool) (k : Classes) (end : End) (b : ℕ) (l : Limits) (depth : ℕ) (ws : List Way) (ts : List Tree) (i : ℕ) →
     length ws ≤ i → length ts ≤ i → AcceptsEachWithin u k end b l depth (drop i ws) (bounds_of (drop i ts))

@@ -48,11 +48,7 @@ touched set c e h touches =
     ]
 
 certain_out : (k : Classes) (l : Limits) (set c : ℕ) → c < 136 → IsTrue (class_certain k l set c) → IsOut set
-certain_out k l set c h certain =
-    elim (certain_is k l set c certain).run [
-      | inl both ↦ touched set c true h both.0
-      | inr one ↦ elim one [ inl first ↦ touched set c true h first.0 | inr second ↦ touched set c false h second.0 ]
-    ]
+certain_out k l set c h certain = grind (arith, certain_is, touched)
 
 crossed_in : (set slot : ℕ) → holds set slot ≡ false → holds set ((slot + 1) % 16) ≡ true → idle_crosses slot set ≡ true
 unfolding idle_crosses

@@ -6,7 +6,7 @@ use Rattle.pocsag_slots.specs.declared.class.Classes.{Classes}
 use Rattle.pocsag_slots.specs.declared.limit.Limits.{Limits}
 use Rattle.pocsag_slots.specs.Loads.{AreInOrder, ClassLoadsAddUp, IsWithin, Overloads, class_load_over, load}
 use Rattle.pocsag_slots.specs.Numbering.{finish_of, start_of}
-use Rattle.pocsag_slots.specs.Sums.{holds, sum_below, sum_over}
+use Rattle.pocsag_slots.specs.Sums.{holds, sum_over}
 use Rattle.pocsag_slots.proofs.LoadLemmas.{load_few}
 use Rattle.pocsag_slots.proofs.SumLemmas.{sum_below-le}
 use Rattle.pocsag_flow.specs.declared.network.Network.{Network}
@@ -66,10 +66,7 @@ class_least k l set c early other h ordered within among shut =
 
 shut_least : ClassLoadsAddUp → (k : Classes) (l : Limits) (set : ℕ) (early other : ℕ → ℕ) → AreInOrder k l →
     IsWithin l early → IsWithin l other → IsShut l early set → sum_over set (load k early) ≤ sum_over set (load k other)
-shut_least law k l set early other ordered within among shut =
-    let each : sum_below 136 (λ c. class_load_over k set c (early c)) ≤ sum_below 136 (λ c. class_load_over k set c (other c)) =
-    sum_below-le 136 _ _ (λ c h. class_least k l set c early other h ordered within among shut) in
-    omega (arith, law k set early, law k set other)
+shut_least law k l set early other ordered within among shut = grind (arith, sum_below-le, class_least)
 
 chosen_le : (b : Bool) (x y : ℕ) → (b ≡ true → x ≤ y) → cond b x 0 ≤ cond b y 0
 chosen_le true x y h = h refl
@@ -106,10 +103,7 @@ shut_overloads law n before after slot most moved h ordered within alone above p
 -- a way ends in another slot
 pub way_apart : (n : Network) (before after : ℕ → ℕ) (slot to moved : ℕ) →
     slice_index n.limits.cap slot < load n.classes before slot → Relieves n before after slot to moved → to ≢ slot
-way_apart n before after slot to moved above relieved same =
-    let room : load n.classes before slot + moved ≤ slice_index n.limits.cap slot =
-    rw same at relieved.room in
-    omega arith
+way_apart n before after slot to moved above relieved same = grind (arith)
 
 -- a way takes something from the overload
 pub overload_less : (n : Network) (before after : ℕ → ℕ) (slot to moved : ℕ) → slot < 16 → 0 < moved →
@@ -136,8 +130,4 @@ overload_less n before after slot to moved h some above relieved =
 pub given_few : (n : Network) (before after : ℕ → ℕ) (slot to moved : ℕ) → AreInOrder n.classes n.limits → IsWithin n.limits after →
     slice_index n.limits.cap slot < load n.classes before slot → Relieves n before after slot to moved →
     load n.classes before to + moved ≤ 1760000
-given_few n before after slot to moved ordered within above relieved =
-    let apart : to ≢ slot = way_apart n before after slot to moved above relieved in
-    let there : load n.classes after to + moved * 0 ≡ load n.classes before to + moved * 1 =
-    rw (same_slot_other slot to (λ same. apart (sym same)), same_slot_same to) at (relieved.loads to relieved.to_fits) in
-    omega (arith, there, load_few n.classes after to relieved.to_fits (λ c h. omega (arith, within.most c h, ordered.counted c h)))
+given_few n before after slot to moved ordered within above relieved = grind (arith, way_apart, same_slot_other, same_slot_same, load_few)

@@ -77,10 +77,7 @@ run_shift c slot h l =
 run_members : (set c : ℕ) → c < 136 → sum_over set (covered (start_of c true) (class_rest c)) + in_set set (finish_of c true)
     ≡ sum_over set (covered (start_of c false) (class_rest c)) + in_set set (start_of c true)
 unfolding finish_of
-run_members set c h =
-    let shift = members_shift set (start_of c true) (class_rest c) in
-    let low : start_of c true % 16 ≡ start_of c true = omega (arith, start_low c h) in
-    rw (late_is c) (rw low at shift)
+run_members set c h = grind (arith, members_shift, start_low, late_is)
 
 -- k runs more of those that cover A, and as many fewer of those that cover B
 exchanged : (turns e k late a b x y : ℕ) → a + x ≡ b + y →

@@ -14,11 +14,7 @@ use Rattle.pocsag_flow.proofs.Shifts.{Moves, finish_low, load_moved, start_low}
 
 -- a slot outside the larger set is outside the smaller one
 outside : (large small s : ℕ) → Includes large small → holds large s ≡ false → holds small s ≡ false
-outside large small s more out =
-    elim (holds small s) as (λ b. (holds small s ≡ b → b ≡ false)) [
-      | true ↦ (λ e. sym (more.each s e) ∙ out)
-      | false ↦ (λ e. refl)
-    ] refl
+outside large small s more out = grind (arith)
 
 not_slot : (set s slot : ℕ) → holds set s ≡ true → holds set slot ≡ false → s ≢ slot
 not_slot set s slot held out same = let other : holds set s ≡ false = ap (holds set) same ∙ out in cc

@@ -44,14 +44,7 @@ ins_sum left set =
     ∙ sum_below-same 288 _ _ (λ a l. sum_over-hit set (arc_to a) (left a) (to_below a l))
 
 pub flipped : (q p : ℕ) → ◌≡◌ {A = ℕ} (cond (q == p) 1 0) (cond (p == q) 1 0)
-flipped q p =
-    elim (cases_eq q p) [
-      | inl same ↦ rw same refl
-      | inr other ↦
-          let f : (q == p) ≡ false = ne_eqb q p other in
-          let g : (p == q) ≡ false = ne_eqb p q (λ e. other (sym e)) in
-          rw (f, g) refl
-    ]
+flipped q p = grind (arith, cases_eq, ne_eqb)
 
 -- what leaves a set, and what enters it
 pub set_balance : (left : ℕ → ℕ) (p root set : ℕ) → p < 16 → root < 16 → IsBalanced left p root →
@@ -116,15 +109,7 @@ in_term left a l =
 
 pub outs_spent : (left : ℕ → ℕ) (p : ℕ) → IsSpent left p → outs left p ≡ 0
 unfolding outs
-outs_spent left p spent =
-    sum_below-zero 288 _ (λ a l. zero_term a l)
-  where
-    zero_term : (a : ℕ) → a < 288 → cond (arc_from a == p) (left a) 0 ≡ 0
-    zero_term a l =
-        elim (cases_eq (arc_from a) p) [
-          | inl same ↦ let none : left a ≡ 0 = spent a l same in let t : (arc_from a == p) ≡ true = eq-eqb (arc_from a) p same in rw t none
-          | inr other ↦ let f : (arc_from a == p) ≡ false = ne_eqb (arc_from a) p other in rw f refl
-        ]
+outs_spent left p spent = grind (arith, sum_below-zero, cases_eq, ne_eqb)
 
 -- some term of a sum above 0 is above 0
 pub positive_term : (n : ℕ) (f : ℕ → ℕ) → 0 < sum_below n f → (k : ℕ) × (k < n) × (0 < f k)

@@ -55,10 +55,7 @@ found_entering counts set a h e =
 
 none_entering : (counts : ℕ → ℕ) (set : ℕ) → ((a : ℕ) → a < 288 → enters counts set a ≡ false) → NoneEnters counts set
 unfolding enters
-none_entering counts set none a h have to =
-    not-false (holds set (arc_from a))
-    (not_both (holds set (arc_to a)) (not (holds set (arc_from a)))
-    (not_both (nat_lt 0 (counts a)) (holds set (arc_to a) && not (holds set (arc_from a))) (none a h) (some_test (counts a) have)) to)
+none_entering counts set none a h have to = grind (arith, not-false, not_both, some_test)
 
 -- a set from which last exits lead to root, and that nothing enters
 pub record IsTree (counts : ℕ → ℕ) (root : ℕ) : Type 0 where
@@ -119,17 +116,7 @@ found_parting left exit p a h e =
 none_parting : (left : ℕ → ℕ) (exit p : ℕ) → ((a : ℕ) → a < 288 → parts left exit p a ≡ false) →
     (b : ℕ) → b < 288 → arc_from b ≡ p → b ≢ exit → left b ≡ 0
 unfolding parts
-none_parting left exit p none b h from ne =
-    elim (cases_eq (left b) 0) [
-      | inl zero_left ↦ zero_left
-      | inr have ↦
-          absurd
-          (let x : ((arc_from b == p) && not (b == exit)) ≡ false =
-          not_both (nat_lt 0 (left b)) ((arc_from b == p) && not (b == exit)) (none b h) (some_test (left b) (omega arith)) in
-          let y : not (b == exit) ≡ false = not_both (arc_from b == p) (not (b == exit)) x (eq-eqb (arc_from b) p from) in
-          let z : (b == exit) ≡ true = not-false (b == exit) y in
-          ne (eqb-true b exit z))
-    ]
+none_parting left exit p none b h from ne = grind (arith, cases_eq, not_both, some_test, not-false, eqb-true)
 
 next : (left : ℕ → ℕ) (exit p : ℕ) → ((a : ℕ) × IsDeparture left exit p a) ⊎ IsSpent left p
 next left exit p =

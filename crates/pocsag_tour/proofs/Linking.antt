@@ -13,11 +13,7 @@ use Rattle.pocsag_tour.specs.Links.{AddsLink, AreLinked, at_start, by_idle, by_l
 use Rattle.pocsag_tour.specs.Reached.{AreReached, IsReached, at_start as start, by_idle as on_idle, by_run as on_run, runs_of}
 
 either_bit : (a b : ℕ) → a < 2 → b < 2 → (max a b == 1) ≡ true → ((a == 1) ≡ true) ⊎ ((b == 1) ≡ true)
-either_bit a b h l e =
-    elim (cases_eq a 1) [
-      | inl one ↦ inl (grind (arith, nat_tests))
-      | inr other ↦ inr (grind (arith, nat_tests))
-    ]
+either_bit a b h l e = grind (arith, cases_eq, nat_tests)
 
 -- the members of a union
 holds_either : (a b i : ℕ) → holds (bit_or a b) i ≡ true → (holds a i ≡ true) ⊎ (holds b i ≡ true)
@@ -98,12 +94,7 @@ no_runs k choice c false none few = omega arith
 
 pub runs_none : (k : Classes) (choice : ℕ → ℕ) (links : ℕ → ℕ) (c : ℕ) → slice_index k.count c ≡ 0 → choice c ≤ slice_index k.count c →
     HaveRuns k choice links c → HaveRuns k choice links (c + 1)
-runs_none k choice links c none few so_far d e low some =
-    elim (cases_eq d c) [
-      | inl same ↦ absurd (let here : 0 < runs_of k choice c e = rw same at some in
-          omega (arith, no_runs k choice c e none few))
-      | inr other ↦ so_far d e (omega arith) some
-    ]
+runs_none k choice links c none few so_far d e low some = grind (arith, cases_eq, no_runs)
 
 pub no_links : (k : Classes) (choice : ℕ → ℕ) (batches : ℕ) (links : List ℕ) → length links ≡ 16 →
     ((p : ℕ) → p < 16 → slice_index links p ≡ 0) →

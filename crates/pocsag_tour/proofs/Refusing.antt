@@ -39,11 +39,7 @@ closes p (Run c e ∷ t ∷ ss) h leads whole =
 
 pub never_closed : (k : Classes) (choice : ℕ → ℕ) (b : ℕ) (ss : List Step) → IsUnclosed k choice b → IsTour k Closed choice b ss → ⊥
 unfolding runs_of
-never_closed k choice b ss u t =
-    elim (closes 0 ss (omega arith) t.leads t.last) [
-      | inl idle ↦ absurd (omega (arith, idle, u.no_idle, t.idle 15 (omega arith)))
-      | inr late ↦ absurd (omega (arith, late, u.no_late, t.late 135 (omega arith)))
-    ]
+never_closed k choice b ss u t = grind (arith, closes)
 
 -- the head of steps is a run of the class, or it is among the others
 split_run : (b e f : Bool) (n : ℕ) → 0 < cond (b && cond e f (not f)) 1 0 + n → ((b ≡ true) × (f ≡ e)) ⊎ (0 < n)

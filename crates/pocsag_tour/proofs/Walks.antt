@@ -27,11 +27,7 @@ less_by_set xs a h some =
     }
 
 pub less_le : (a : ℕ) (left less : ℕ → ℕ) → IsLess a left less → (b : ℕ) → less b ≤ left b
-less_le a left less l b =
-    elim (cases_eq b a) [
-      | inl same ↦ let e : left a ≡ less a + 1 = l.here in rw same (omega arith)
-      | inr other ↦ omega (arith, l.other b other)
-    ]
+less_le a left less l b = grind (arith, cases_eq)
 
 one_more : (b : Bool) (x y : ℕ) → y ≡ x + 1 → cond b y 0 ≡ cond b x 0 + cond b 1 0
 one_more true x y h = h
@@ -100,17 +96,7 @@ taken_idle s ss =
     rw (not_above (272 + s) 136 (omega arith), not_above (272 + s) 272 (omega arith), e) refl
 
 run_hit : (c d b a : ℕ) → (c ≡ d → b ≡ a) → (b ≡ a → c ≡ d) → ◌≡◌ {A = ℕ} (cond (d == c) 1 0) (cond (b == a) 1 0)
-run_hit c d b a to fro =
-    elim (cases_eq c d) [
-      | inl same ↦
-          let x : (d == c) ≡ true = eq-eqb d c (sym same) in
-          let y : (b == a) ≡ true = eq-eqb b a (to same) in
-          rw (x, y) refl
-      | inr other ↦
-          let x : (d == c) ≡ false = ne_eqb d c (λ e. other (sym e)) in
-          let y : (b == a) ≡ false = ne_eqb b a (λ e. other (fro e)) in
-          rw (x, y) refl
-    ]
+run_hit c d b a to fro = grind (arith, cases_eq, ne_eqb)
 
 no_hit : (b a : ℕ) → b ≢ a → ◌≡◌ {A = ℕ} (cond (b == a) 1 0) 0
 no_hit b a ne = let y : (b == a) ≡ false = ne_eqb b a ne in rw y refl
@@ -198,31 +184,11 @@ zero_of x y le none = omega arith
 on_kept : (counts exits left less : ℕ → ℕ) (a p : ℕ) → IsDeparture left (exits p) p a → IsLess a left less →
     ((q : ℕ) → IsExit counts exits q → left (exits q) ≡ 0 → IsSpent left q) →
     (q : ℕ) → IsExit counts exits q → less (exits q) ≡ 0 → IsSpent less q
-on_kept counts exits left less a p d l kept q e none b m from =
-    elim (cases_eq (exits q) a) [
-      | inl same ↦
-          let at : p ≡ q = sym d.leaves ∙ (ap arc_from (sym same) ∙ e.leaves) in
-          elim (cases_eq b a) [
-            | inl it ↦ rw (same ∙ sym it) at none
-            | inr other ↦
-                zero_of (less b) (left b) (less_le a left less l b)
-                (d.last (sym same ∙ ap exits (sym at)) b m (from ∙ sym at) (λ x. other (x ∙ (ap exits at ∙ same))))
-          ]
-      | inr apart ↦
-          zero_of (less b) (left b) (less_le a left less l b) (kept q e (sym (l.other (exits q) apart) ∙ none) b m from)
-    ]
+on_kept counts exits left less a p d l kept q e none b m from = grind (arith, cases_eq, zero_of, less_le)
 
 on_uses : (counts left less : ℕ → ℕ) (a : ℕ) (ss : List Step) → a < 288 → Leads 0 ss (arc_from a) → IsLess a left less →
     ((b : ℕ) → b < 288 → taken b ss + left b ≡ counts b) → (b : ℕ) → b < 288 → taken b (ss ++ (step_of a ∷ [])) + less b ≡ counts b
-on_uses counts left less a ss h leads l uses b m =
-    let more : taken b (ss ++ (step_of a ∷ [])) ≡ taken b ss + cond (b == a) 1 0 = taken_push a ss h leads b m in
-    elim (cases_eq b a) [
-      | inl same ↦
-          let one : ◌≡◌ {A = ℕ} (cond (b == a) 1 0) 1 = (let t : (b == a) ≡ true = eq-eqb b a same in rw t refl) in
-          let here : left b ≡ less b + 1 = rw same l.here in
-          omega (arith, uses b m)
-      | inr other ↦ omega (arith, uses b m, no_hit b a other, l.other b other)
-    ]
+on_uses counts left less a ss h leads l uses b m = grind (arith, taken_push, cases_eq, no_hit)
 
 pub walk_on : (counts exits left less : ℕ → ℕ) (a p root : ℕ) (ss : List Step) → IsWalk counts exits left ss p root →
     IsDeparture left (exits p) p a → IsLess a left less → IsWalk counts exits less (ss ++ (step_of a ∷ [])) (arc_to a) root
