@@ -1,6 +1,6 @@
 ghost use Rattle.std.specs.Prelude.{◌≡◌, ◌≢◌, List, IfErr, MatchResult, OnOk};
 ghost use Rattle.pocsag_words.specs.Devices.{CountsFailures, Delivers};
-ghost use Rattle.pocsag_pages.specs.declared.page.Page.{Page as page};
+ghost use Rattle.pocsag_pages.specs.declared.page.Page.{Page};
 ghost use Rattle.pocsag_decode.specs.Faults.{ReadsAs, TellsFailures};
 ghost use Rattle.pocsag_show.specs.Picture.{grid_text};
 ghost use Rattle.pocsag_show.specs.Places.{place_listing};
@@ -32,7 +32,7 @@ fn places_of(alloc: Global, bytes: &[u8]) -> Result<Vec<u8>, ShowFault>
 
 // The drawing of a transmission, or its first fault.
 fn svg_of(alloc: Global, bytes: &[u8]) -> Result<Vec<u8>, ShowFault>
-    ensures { MatchResult result (λ v. (pages : List page) × ReadsAs bytes.now pages) (ExplainsReading bytes.now) }
+    ensures { MatchResult result (λ v. (pages : List Page) × ReadsAs bytes.now pages) (ExplainsReading bytes.now) }
 {
     let judged = judge(alloc, bytes)?;
     Ok(drawing_of(alloc, &judged)?)
@@ -85,7 +85,7 @@ pub fn show_list<S: Sink>(alloc: Global, bytes: &[u8], sink: &mut S) -> Result<(
 /// Writes a drawing of a transmission as SVG 1.1. Nothing is written before all bytes are judged.
 /// After `WriteFault` a prefix was written, and after the other faults nothing.
 pub fn show_svg<S: Sink>(alloc: Global, bytes: &[u8], sink: &mut S) -> Result<(), ShowFault>
-    ensures read { OnOk result ((pages : List page) × ReadsAs bytes.now pages) }
+    ensures read { OnOk result ((pages : List Page) × ReadsAs bytes.now pages) }
     ensures fault { IfErr result (Explains bytes.now) }
     ensures untouched { IfErr result (λ e. e ≢ ShowFault.WriteFault → sink.new ≡ sink.old) }
 
