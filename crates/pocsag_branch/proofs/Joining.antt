@@ -154,7 +154,8 @@ pub cut_made : (k : Classes) (q : Question) (l : Limits) (made after set c : ℕ
     IsTrue (holds set 0) → IsTrue (class_certain k l set c) → set < 2 ^ 16 → AdmitApart k q.batches l set → ws ≡ ways_across k l set →
     AreExamined k q l (made + 1) after ws (bounds_of children.items) → IsExamined k q l made after (bound_of (Cut set c children))
 cut_made k q l made after set c ws children known zero certain small apart all a =
-    rw (bound_of-cut (Cut set c children) set c children refl) (cut_examined k q l made after set c ws (bounds_of children.items) known zero certain small apart all a)
+    rw (bound_of-cut (Cut set c children) set c children refl)
+    (cut_examined k q l made after set c ws (bounds_of children.items) known zero certain small apart all a)
 
 pub close_made : (k : Classes) (q : Question) (l : Limits) (made after : ℕ) (ws : List Way) (children : Vec Tree) → IsClosed q.end →
     AdmitUnclosed k q.batches l → ws ≡ ways_to_close k l →

@@ -17,7 +17,8 @@ rounded c =
 
 pub div_ceil-requires : goal.div_ceil-requires
 div_ceil-requires c =
-    rw (c.from.ensures ∙ c.size.ensures.members) (has_members c.args.classes.now c.args.batches c.args.set c.least_load-load.result 0 c.requires.over
+    rw (c.from.ensures ∙ c.size.ensures.members)
+    (has_members c.args.classes.now c.args.batches c.args.set c.least_load-load.result 0 c.requires.over
     (least (goal.at.div_ceil-requires c).After-from))
 
 pub returns-clause-refuses : goal.returns-clause-refuses

@@ -27,7 +27,8 @@ loop-boundary-preserved c =
       | else-holds w ↦
           let out : holds c.loop-boundary.grown c.loop-boundary.boundary ≡ false = cc in
           record {
-            grown = rw w.grown-is (grown_pass links c.args.set c.loop-boundary.grown c.loop-boundary.boundary out c.loop-boundary.invariant.grown);
+            grown = rw w.grown-is (grown_pass links c.args.set c.loop-boundary.grown c.loop-boundary.boundary out
+                c.loop-boundary.invariant.grown);
             more = omega (arith, w.grown-is, c.loop-boundary.invariant.more);
           }
     ]

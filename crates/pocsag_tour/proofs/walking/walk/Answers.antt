@@ -6,7 +6,8 @@ use Rattle.pocsag_tour.proofs.walking.walk.Goals as goal
 pub loop-arc-init : goal.loop-arc-init
 loop-arc-init c = (
   c.told-counts,
-  rw c.in_ok-steps.ensures.items (walk_start (slice_index c.args.counts.now) (slice_index c.exits_to-exits.result.arcs) c.args.root c.requires.balanced),
+  rw c.in_ok-steps.ensures.items (walk_start (slice_index c.args.counts.now)
+      (slice_index c.exits_to-exits.result.arcs) c.args.root c.requires.balanced),
 )
 
 pub loop-arc-smaller : goal.loop-arc-smaller
