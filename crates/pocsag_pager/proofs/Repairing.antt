@@ -134,7 +134,8 @@ repaired law end T batches R Y a ps apart legal damaged h =
     let read = legal.1.0 in
     let long : length T ≡ 16 * batches = sym (length-map T kind_of) ∙ read.whole.1 in
     let some : 0 < batches = read.whole.0 in
-    let sent : words_of (after_preamble (bytes_of T)) ≡ synced 0 T = ap words_of (after_is T (omega arith)) ∙ words_again (synced 0 T) (synced_small 0 T legal.0) in
+    let sent : words_of (after_preamble (bytes_of T)) ≡ synced 0 T =
+    ap words_of (after_is T (omega arith)) ∙ words_again (synced 0 T) (synced_small 0 T legal.0) in
     let near : AllZip IsNear (synced 0 T) (words_of (after_preamble Y)) =
     subst (λ (xs : List ℕ). AllZip IsNear xs (words_of (after_preamble Y))) sent damaged.words in
     let kinds = all_back T (unsynced 0 (words_of (after_preamble Y))) h.mended legal.0

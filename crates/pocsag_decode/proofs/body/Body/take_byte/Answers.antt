@@ -29,4 +29,5 @@ returns-in-Three-clause-bad c = λ Y s.
     let bytes : Carry → List ℕ = λ k. carried k ++ c.args.byte ∷ [] in
     let long = ap (λ (k : Carry). length (bytes k)) c.in-Three.is in
     let word = c.from_be_bytes.ensures ∙ ap (λ (k : Carry). from_be_bytes w32 (bytes k)) (sym c.in-Three.is) in
-    IfErr-weaker _ _ _ (λ f. refuses f _ _ (bad_word_more _ Y (c.args.byte ∷ []) _ s long word f)) (c.take_word.ensures.bad (words_of Y) s.read)
+    IfErr-weaker _ _ _ (λ f. refuses f _ _ (bad_word_more _ Y (c.args.byte ∷ []) _ s long word f))
+    (c.take_word.ensures.bad (words_of Y) s.read)
