@@ -22,16 +22,12 @@ pub fn order_of(
 {
     let pages = round.pages();
     let mut queues = Queues::new(alloc, pages, end)?;
-    let Ok(mut order) = Vec::with_capacity(alloc, pages.len()) else {
-        return Err(OutOfMemory);
-    };
+    let mut order = Vec::with_capacity(alloc, pages.len())?;
     for step in steps {
         let Step::Run { class, .. } = *step else {
             continue;
         };
-        if order.push(queues.take(class)).is_err() {
-            return Err(OutOfMemory);
-        }
+        order.push(queues.take(class))?;
     }
     Ok(order)
 }

@@ -33,9 +33,7 @@ impl Queues {
         requires good { All IsGoodPage pages.now }
         ensures { IfOk result (λ q. AreChains end pages.now q (all_places pages.now)) }
     {
-        let Ok(mut next) = vec![in alloc; 0; pages.len()] else {
-            return Err(OutOfMemory);
-        };
+        let mut next = vec![in alloc; 0; pages.len()]?;
         let mut head = [0; CLASSES];
         let mut place = pages.len();
         while place > 0 {

@@ -64,10 +64,8 @@ impl WordList {
         ensures codewords { OnOk result (All IsCodeword self.new) }
     {
         let _ = word.raw();
-        match self.words.push(word) {
-            Ok(()) => Ok(()),
-            Err(_) => Err(OutOfMemory),
-        }
+        self.words.push(word)?;
+        Ok(())
     }
 
     pub(crate) fn push_idles(&mut self, count: usize) -> Result<(), OutOfMemory>

@@ -19,7 +19,7 @@ loop-step-init c =
     let R : List Page = c.args.round.now in
     let chains : AreChains c.args.end R c.in_ok-queues.queues (all_places R) =
     rw (← c.pages-pages.ensures.pages) c.in_ok-queues.ensures in
-    rw c.in-Ok.ensures.items
+    rw c.in_ok-order.ensures.items
     (stands_first c.args.end R c.in_ok-queues.queues c.args.steps.now chains c.requires)
 
 -- before a run
