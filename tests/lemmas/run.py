@@ -15,7 +15,7 @@ sys.path.insert(0, str(pathlib.Path(__file__).resolve().parents[1]))
 from tally import TOP, Tally
 
 IMPORT = re.compile(r"^use ([\w.-]+)\.\{([^}]*)\}", re.MULTILINE)
-OPENING = re.compile(r"(?:pub )?(?:abbrev )?(?:pub )?([^\s(){}:]+) : (.*)")
+OPENING = re.compile(r"(?:pub )?(?:abbrev )?(?:pub )?([^\s(){}:]+) :(?: (.*))?")
 TOKEN = re.compile(r"[(){},;]|[^\s(){},;]+")
 CLOSED_BY = {"(": ")", "{": "}"}
 
@@ -29,7 +29,7 @@ def statements(text):
         place += 1
         if not opened:
             continue
-        name, parts = opened[1], [opened[2]]
+        name, parts = opened[1], [opened[2] or ""]
         while place < len(lines) and lines[place].startswith(" "):
             parts.append(lines[place])
             place += 1
