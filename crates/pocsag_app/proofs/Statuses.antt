@@ -4,6 +4,7 @@ use Rattle.std.specs.Prelude.{OnOk, Result}
 use Rattle.pocsag_pages.specs.declared.fault.RoundFault.TheVariants as round
 use Rattle.pocsag_decode.specs.declared.fault.DecodeFault.TheVariants as decoding
 use Rattle.pocsag_pager.specs.declared.fault.PagerFault.TheVariants as hearing
+use Rattle.pocsag_tree.specs.declared.refusals.CertificateFault.TheVariants as certificate
 use Rattle.pocsag_app.specs.declared.fault.Fault.{Fault}
 use Rattle.pocsag_app.specs.declared.fault.Fault.TheVariants as fault
 use Rattle.pocsag_app.specs.Faults.{status_after, status_of}
@@ -17,6 +18,8 @@ never_done (fault.Round round.ReadFault) e = omega arith
 never_done (fault.Round round.OutOfMemory) e = omega arith
 never_done (fault.Transmission decoding.OutOfMemory) e = omega arith
 never_done (fault.Pager hearing.OutOfMemory) e = omega arith
+never_done (fault.Certificate certificate.ReadFault) e = omega arith
+never_done (fault.Certificate certificate.OutOfMemory) e = omega arith
 never_done _ e = omega arith
 
 -- what is so where the result is done is so where the status is 0

@@ -3,7 +3,7 @@ ghost use Rattle.pocsag_branch.specs.Found.{IsNodeLimit};
 
 use crate::pages::{round_of, tones};
 use crate::searching::has_page;
-use pocsag_branch::{Found, FreeFault, Near, SearchFault, near, search, search_freely};
+use pocsag_branch::{Found, FreeFault, Near, SearchFault, search, search_freely};
 use pocsag_check::{check, check_open};
 use pocsag_pages::Round;
 use pocsag_slots::classes_of;
@@ -187,7 +187,7 @@ fn within_one_batch(rt: HostRuntime) -> Result<(), Fail> {
     assert_eq!(rt; near.least, 2);
     assert_eq!(rt; check(&round, 2, &near.tree, End::Open), true);
     assert_eq!(rt; near.steps.len(), 2 + 16);
-    let at_once = super::near(alloc, &classes, End::Open)?;
+    let at_once = pocsag_branch::near(alloc, &classes, End::Open)?;
     assert_eq!(rt; at_once.least, 2);
     assert_eq!(rt; at_once.steps.as_slice(), near.steps.as_slice());
     Ok(())
