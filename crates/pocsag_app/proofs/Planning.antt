@@ -2,7 +2,6 @@
 use Rattle.std.proofs.Common.{◌≡◌, ℕ, List, ◌++◌, length, Ok, Err, ap, ◌∙◌, arith, inl, inr}
 use Rattle.std.specs.Prelude.{◌⊎◌, OnOk, Result}
 use Rattle.pocsag_words.specs.declared.ending.End.{End}
-use Rattle.pocsag_pages.specs.declared.page.Page.{Page}
 use Rattle.pocsag_pages.specs.PageFile.{verdict}
 use Rattle.pocsag_pages.specs.declared.fault.RoundFault.{RoundFault}
 use Rattle.pocsag_pages.specs.declared.fault.RoundFault.TheVariants as round

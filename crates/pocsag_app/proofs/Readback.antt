@@ -1,12 +1,10 @@
 -- What was read back.
-use Rattle.std.proofs.Common.{◌≡◌, ℕ, List, length, sym, ◌∙◌, subst, All, Ok, Err}
+use Rattle.std.proofs.Common.{◌≡◌, ℕ, List, sym, ◌∙◌, subst, Ok, Err}
 use Rattle.std.specs.Prelude.{Contains, IsPermutation, OnOk, Result}
 use Rattle.std.proofs.lemmas.List.Sorted.{Contains-permutation, IsPermutation-sym, length_permutation}
 use Rattle.std.proofs.lemmas.List.Elements.{All-weaker}
 use Rattle.pocsag_pages.specs.declared.page.Page.{Page}
 use Rattle.pocsag_words.specs.declared.ending.End.{End}
-use Rattle.pocsag_tree.specs.Bounds.{Bound}
-use Rattle.pocsag_tree.specs.Spelling.{IsText}
 use Rattle.pocsag_decode.specs.Faults.{ReadsAs}
 use Rattle.pocsag_app.specs.declared.fault.Fault.{Fault}
 use Rattle.pocsag_app.specs.Commands.{AreAmong, Checked, Verified}

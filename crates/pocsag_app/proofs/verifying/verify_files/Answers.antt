@@ -1,9 +1,8 @@
-use Rattle.std.proofs.Common.{◌≡◌, ℕ, List, ◌∙◌, subst, refl}
+use Rattle.std.proofs.Common.{ℕ, List, subst, refl}
 use Rattle.pocsag_words.specs.declared.ending.End.{End}
 use Rattle.pocsag_tree.specs.Spelling.{IsText}
 use Rattle.pocsag_tree.specs.Views.{bound_of}
 use Rattle.pocsag_decode.specs.Faults.{ReadsAs}
-use Rattle.pocsag_pages.specs.declared.page.Page.{Page}
 use Rattle.pocsag_app.specs.Commands.{Checked}
 use Rattle.pocsag_app.proofs.Readback.{same_pages, verified}
 use Rattle.pocsag_app.proofs.verifying.verify_files.Goals as goal
