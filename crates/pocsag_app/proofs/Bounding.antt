@@ -20,11 +20,14 @@ use Rattle.pocsag_app.specs.Lines.{below_text, plan_text}
 
 refused_round : (file : List ℕ) (n : ℕ) (f : RoundFault) → status_of (fault.Round f) ≡ 1 →
     (f ≡ round.OutOfMemory) ⊎ (f ≡ round.ReadFault) ⊎ (verdict file ≡ Err f) → IsRefusedAlways file n
-refused_round file n f one (inl e) = let three : status_of (fault.Round f) ≡ 3 = ap (λ (v : RoundFault). status_of (fault.Round v)) e in absurd (omega arith)
-refused_round file n f one (inr (inl e)) = let three : status_of (fault.Round f) ≡ 3 = ap (λ (v : RoundFault). status_of (fault.Round v)) e in absurd (omega arith)
+refused_round file n f one (inl e) =
+    let three : status_of (fault.Round f) ≡ 3 = ap (λ (v : RoundFault). status_of (fault.Round v)) e in absurd (omega arith)
+refused_round file n f one (inr (inl e)) =
+    let three : status_of (fault.Round f) ≡ 3 = ap (λ (v : RoundFault). status_of (fault.Round v)) e in absurd (omega arith)
 refused_round file n f one (inr (inr e)) = of_round f e
 
-pub why_refused : (file : List ℕ) (n : ℕ) (e : StreamFault) → ExplainsStreamAlways file n e → status_of (fault_of_stream e) ≡ 1 → IsRefusedAlways file n
+pub why_refused : (file : List ℕ) (n : ℕ) (e : StreamFault) → ExplainsStreamAlways file n e → status_of (fault_of_stream e) ≡ 1
+    → IsRefusedAlways file n
 why_refused file n streaming.BadLimit said one = limit said
 why_refused file n (streaming.Round f) said one = refused_round file n f one said.1
 why_refused file n (streaming.SearchLimit least found tree) said one = absurd said
@@ -33,7 +36,8 @@ why_refused file n (streaming.Transmission f) said one = absurd (omega arith)
 why_refused file n (streaming.Certificate f) said one = absurd (omega arith)
 
 pub told_planned : (file : List ℕ) (end : End) (tx tx' cert cert' : List ℕ) (bounded : Bounded) →
-    WritesBounded file end bounded.plan.batches bounded.bound (bound_of bounded.plan.tree) tx tx' cert cert' → IsBoundedOf file end bounded →
+    WritesBounded file end bounded.plan.batches bounded.bound (bound_of bounded.plan.tree) tx tx' cert cert' →
+    IsBoundedOf file end bounded →
     (r : Result (Unit {0}) Fault) (out out' : List ℕ) →
     OnOk r (out' ≡ out ++ plan_text bounded.plan.pages bounded.plan.batches ++ below_text bounded.plan.batches bounded.bound) →
     OnOk r (PlannedAlwaysAndTold file end tx tx' cert cert' out out')
@@ -48,7 +52,8 @@ told_planned file end tx tx' cert cert' bounded writes of (Ok u) out out' told =
     }
 told_planned file end tx tx' cert cert' bounded writes of (Err e) out out' told = tt
 
-pub told_report : (file : List ℕ) (end : End) (rate : ℕ) (bounded : Bounded) (report : Report) → IsBoundedOf file end bounded → IsReport bounded.plan rate report →
+pub told_report : (file : List ℕ) (end : End) (rate : ℕ) (bounded : Bounded) (report : Report) → IsBoundedOf file end bounded
+    → IsReport bounded.plan rate report →
     (r : Result (Unit {0}) Fault) (out between out' : List ℕ) → between ≡ out ++ report_text report →
     OnOk r (out' ≡ between ++ below_text bounded.plan.batches bounded.bound) → OnOk r (ReportedAlways file end rate out out')
 told_report file end rate bounded report of is (Ok u) out between out' first last = record {

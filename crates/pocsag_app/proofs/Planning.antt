@@ -20,11 +20,14 @@ use Rattle.pocsag_app.specs.Lines.{plan_text}
 
 refused_round : (file : List ℕ) (end : End) (n : ℕ) (f : RoundFault) → status_of (fault.Round f) ≡ 1 →
     (f ≡ round.OutOfMemory) ⊎ (f ≡ round.ReadFault) ⊎ (verdict file ≡ Err f) → IsPlanRefused file end n
-refused_round file end n f one (inl e) = let three : status_of (fault.Round f) ≡ 3 = ap (λ (v : RoundFault). status_of (fault.Round v)) e in absurd (omega arith)
-refused_round file end n f one (inr (inl e)) = let three : status_of (fault.Round f) ≡ 3 = ap (λ (v : RoundFault). status_of (fault.Round v)) e in absurd (omega arith)
+refused_round file end n f one (inl e) =
+    let three : status_of (fault.Round f) ≡ 3 = ap (λ (v : RoundFault). status_of (fault.Round v)) e in absurd (omega arith)
+refused_round file end n f one (inr (inl e)) =
+    let three : status_of (fault.Round f) ≡ 3 = ap (λ (v : RoundFault). status_of (fault.Round v)) e in absurd (omega arith)
 refused_round file end n f one (inr (inr e)) = of_round f e
 
-pub why_refused : (file : List ℕ) (end : End) (n : ℕ) (e : StreamFault) → ExplainsStream file end n e → status_of (fault_of_stream e) ≡ 1 → IsPlanRefused file end n
+pub why_refused : (file : List ℕ) (end : End) (n : ℕ) (e : StreamFault) → ExplainsStream file end n e
+    → status_of (fault_of_stream e) ≡ 1 → IsPlanRefused file end n
 why_refused file end n streaming.BadLimit said one = limit said
 why_refused file end n (streaming.Round f) said one = refused_round file end n f one said.1
 why_refused file end n (streaming.SearchLimit least found tree) said one = stopped least found (bound_of tree) said.1
@@ -37,7 +40,8 @@ pub told_plan : (file : List ℕ) (end : End) (plan : Plan) → IsPlanOf file en
 told_plan file end plan of (Ok u) out out' told = record { plan = plan; plan_of = of; told = told }
 told_plan file end plan of (Err e) out out' told = tt
 
-pub told_planned : (file : List ℕ) (end : End) (tx tx' cert cert' : List ℕ) (plan : Plan) → Writes file end plan.batches (bound_of plan.tree) tx tx' cert cert' →
+pub told_planned : (file : List ℕ) (end : End) (tx tx' cert cert' : List ℕ) (plan : Plan)
+    → Writes file end plan.batches (bound_of plan.tree) tx tx' cert cert' →
     IsPlanOf file end plan → (r : Result (Unit {0}) Fault) (out out' : List ℕ) → OnOk r (out' ≡ out ++ plan_text plan.pages plan.batches) →
     OnOk r (PlannedAndTold file end tx tx' cert cert' out out')
 told_planned file end tx tx' cert cert' plan writes of (Ok u) out out' told =
@@ -51,7 +55,9 @@ told_planned file end tx tx' cert cert' plan writes of (Ok u) out out' told =
     }
 told_planned file end tx tx' cert cert' plan writes of (Err e) out out' told = tt
 
-pub told_report : (file : List ℕ) (end : End) (rate : ℕ) (plan : Plan) (report : Report) → IsPlanOf file end plan → IsReport plan rate report →
+pub told_report : (file : List ℕ) (end : End) (rate : ℕ) (plan : Plan) (report : Report) → IsPlanOf file end plan
+    → IsReport plan rate report →
     (r : Result (Unit {0}) Fault) (out out' : List ℕ) → OnOk r (out' ≡ out ++ report_text report) → OnOk r (Reported file end rate out out')
-told_report file end rate plan report of is (Ok u) out out' told = record { plan = plan; plan_of = of; report = report; report_of = is; told = told }
+told_report file end rate plan report of is (Ok u) out out' told =
+    record { plan = plan; plan_of = of; report = report; report_of = is; told = told }
 told_report file end rate plan report of is (Err e) out out' told = tt

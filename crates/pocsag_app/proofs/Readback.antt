@@ -12,10 +12,16 @@ use Rattle.pocsag_app.specs.Commands.{AreAmong, Checked, Verified}
 pub same_pages : (ps qs others R S : List Page) → IsPermutation ps qs → others ≡ qs → S ≡ R → AreAmong others S → AreAmong ps R
 same_pages ps qs others R S moved view pages among =
     let here : AreAmong qs R = subst (λ (v : List Page). AreAmong qs v) pages (subst (λ (v : List Page). AreAmong v S) view among) in
-    record { as_many = sym (length_permutation ps qs moved) ∙ here.as_many; each = All-weaker (Contains qs) (Contains ps) (λ x there. Contains-permutation qs ps x (IsPermutation-sym ps qs moved) there) R here.each }
+    record {
+      as_many = sym (length_permutation ps qs moved) ∙ here.as_many;
+      each = All-weaker (Contains qs) (Contains ps)
+          (λ x there. Contains-permutation qs ps x (IsPermutation-sym ps qs moved) there) R here.each;
+    }
 
-pub verified : (file : List ℕ) (end : End) (held bytes certificate : List ℕ) (batches : ℕ) (checked : Checked file certificate end batches) (ps : List Page) →
-    bytes ≡ held → ReadsAs bytes ps → AreAmong ps checked.round → (r : Result (Unit {0}) Fault) → OnOk r (Verified file end held certificate)
+pub verified : (file : List ℕ) (end : End) (held bytes certificate : List ℕ) (batches : ℕ)
+    (checked : Checked file certificate end batches) (ps : List Page) →
+    bytes ≡ held → ReadsAs bytes ps → AreAmong ps checked.round → (r : Result (Unit {0}) Fault) →
+    OnOk r (Verified file end held certificate)
 verified file end held bytes certificate batches checked ps same reads among (Ok u) = record {
   batches = batches;
   checked = checked;

@@ -11,7 +11,8 @@ use Rattle.pocsag_app.specs.Commands.{Checked, CheckedAndTold}
 use Rattle.pocsag_app.specs.Lines.{bound_text}
 
 pub checked : (file certificate : List ℕ) (end : End) (batches : ℕ) (R : List Page) (tree : Bound) → verdict file ≡ Ok R →
-    IsText end batches tree certificate → IsAcceptedFor false end R batches tree → NoneHasFewer end R batches → Checked file certificate end batches
+    IsText end batches tree certificate → IsAcceptedFor false end R batches tree → NoneHasFewer end R batches →
+    Checked file certificate end batches
 checked file certificate end batches R tree read text accepted bound = record {
   round = R;
   read = read;

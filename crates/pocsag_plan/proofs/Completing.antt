@@ -38,9 +38,11 @@ most k end limit bound found is =
 
 -- a bound of at least one leaves a batch
 pub some_batch : (k : Classes) (end : End) (limit bound : ℕ) (found : Found) → IsWithinOne k end limit bound found → 0 < found.batches
-some_batch k end limit bound found is = let some : 0 < bound = is.accepted.some in let at : bound ≤ found.batches = is.at_least in omega arith
+some_batch k end limit bound found is =
+    let some : 0 < bound = is.accepted.some in let at : bound ≤ found.batches = is.at_least in omega arith
 
-pub tour_for : (k : Classes) (end : End) (R : List Page) (limit bound : ℕ) (found : Found) → AreClassesOf k end R → IsWithinOne k end limit bound found →
+pub tour_for : (k : Classes) (end : End) (R : List Page) (limit bound : ℕ) (found : Found) → AreClassesOf k end R
+    → IsWithinOne k end limit bound found →
     IsTourFor end R found.steps.items
 tour_for k end R limit bound found classes is =
     let near : found.batches ≤ 1760001 = most k end limit bound found is in

@@ -25,7 +25,8 @@ use Rattle.pocsag_plan.specs.Plans.{IsBounded}
 use Rattle.pocsag_plan.specs.Sending.{fault_of_unsent}
 use Rattle.pocsag_plan.specs.Streams.{IsCertificate, IsTransmission, WritesInTurn}
 
-pub due : (end : End) (R : List Page) (plan : Plan) (bound : ℕ) → IsBounded end R plan bound → (steps : List Step) (order : List ℕ) (said : List Kind) (U : List ℕ) →
+pub due : (end : End) (R : List Page) (plan : Plan) (bound : ℕ) → IsBounded end R plan bound
+    → (steps : List Step) (order : List ℕ) (said : List Kind) (U : List ℕ) →
     steps ≡ plan.steps.items → order ≡ plan.order.items → said ≡ laid_by R order steps → Say said U →
     (file : List ℕ) → verdict file ≡ Ok R →
     BoundedHeadline file end plan.batches bound (bound_of plan.tree) (bytes_of U) (second_text end bound (bound_of plan.tree))
@@ -37,7 +38,8 @@ due end R plan bound is steps order said U these places lays say file read =
       round = R;
       read = read;
       codewords = U;
-      legal = laid_list_legal is.table end (slice_index plan.choice.early) plan.batches plan.steps.items R U some is.classes is.tour say.codewords
+      legal = laid_list_legal is.table end (slice_index plan.choice.early) plan.batches plan.steps.items R U some is.classes is.tour
+          say.codewords
           (say.kinds ∙ (lays ∙ (view ∙ order_lays end R plan.steps.items plan.order.items is.order)));
       transmission = refl;
       bounded = is.fewest;
@@ -72,11 +74,13 @@ tight file end batches bound tree sent certificate same is =
     }
 
 -- what is known of a writer is known where its fault is answered
-pub transmission_of : (e : Unsent) (P : Type 0) → (IsErrOf {T = Unit {0}} (Err e) unsent.Transmission → P) → IsTransmission (fault_of_unsent e) → P
+pub transmission_of : (e : Unsent) (P : Type 0) → (IsErrOf {T = Unit {0}} (Err e) unsent.Transmission → P)
+    → IsTransmission (fault_of_unsent e) → P
 transmission_of unsent.Transmission P known is = known refl
 transmission_of unsent.Certificate P known is = absurd is
 
-pub certificate_of : (e : Unsent) (P : Type 0) → (IsErrOf {T = Unit {0}} (Err e) unsent.Certificate → P) → IsCertificate (fault_of_unsent e) → P
+pub certificate_of : (e : Unsent) (P : Type 0) → (IsErrOf {T = Unit {0}} (Err e) unsent.Certificate → P)
+    → IsCertificate (fault_of_unsent e) → P
 certificate_of unsent.Transmission P known is = absurd is
 certificate_of unsent.Certificate P known is = known refl
 
@@ -87,19 +91,21 @@ pub in_turn : {T C X : Type 0} (failures : T → ℕ) (certificate_failures : C 
     → (IsErrOf {T = Unit {0}} (Err e) unsent.Certificate → HasFailed (certificate_failures cert) (certificate_failures cert_after))
     → (IsErrOf {T = Unit {0}} (Err e) unsent.Certificate → failures tx_after ≡ failures tx)
     → WritesInTurn {X = X} failures certificate_failures tx tx_after cert cert_after (Err (fault_of_unsent e))
-in_turn failures certificate_failures tx tx_after cert cert_after unsent.Transmission not_begun failed certificate_failed succeeded = record {
-  untouched = λ before. absurd before;
-  not_begun = λ _. not_begun refl;
-  write_failed = λ _. failed refl;
-  certificate_failed = λ other. absurd other;
-  write_succeeded = λ other. absurd other;
-  succeeded = tt;
-}
-in_turn failures certificate_failures tx tx_after cert cert_after unsent.Certificate not_begun failed certificate_failed succeeded = record {
-  untouched = λ before. absurd before;
-  not_begun = λ other. absurd other;
-  write_failed = λ other. absurd other;
-  certificate_failed = λ _. certificate_failed refl;
-  write_succeeded = λ _. succeeded refl;
-  succeeded = tt;
-}
+in_turn failures certificate_failures tx tx_after cert cert_after unsent.Transmission not_begun failed certificate_failed succeeded =
+    record {
+      untouched = λ before. absurd before;
+      not_begun = λ _. not_begun refl;
+      write_failed = λ _. failed refl;
+      certificate_failed = λ other. absurd other;
+      write_succeeded = λ other. absurd other;
+      succeeded = tt;
+    }
+in_turn failures certificate_failures tx tx_after cert cert_after unsent.Certificate not_begun failed certificate_failed succeeded =
+    record {
+      untouched = λ before. absurd before;
+      not_begun = λ other. absurd other;
+      write_failed = λ other. absurd other;
+      certificate_failed = λ _. certificate_failed refl;
+      write_succeeded = λ _. succeeded refl;
+      succeeded = tt;
+    }

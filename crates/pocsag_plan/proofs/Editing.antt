@@ -25,7 +25,8 @@ use Rattle.pocsag_plan.proofs.Refusing.{MayFollow}
 use Rattle.pocsag_plan.proofs.Tallying.{All-amid}
 
 -- what a search in the map says of the pages
-pub there_is : (a : ℕ) (es : List (ℕ × Page)) (ps : List Page) (found : Bool) → AreKeyed es → values_of es ≡ ps → found ≡ is_some (lookup (nat_eq a) es) →
+pub there_is : (a : ℕ) (es : List (ℕ × Page)) (ps : List Page) (found : Bool) → AreKeyed es → values_of es ≡ ps
+    → found ≡ is_some (lookup (nat_eq a) es) →
     has_address ps a ≡ found
 there_is a es ps found keyed view e = ap (λ (qs : List Page). has_address qs a) (sym view) ∙ (sym (found_is a es keyed) ∙ sym e)
 
@@ -49,7 +50,8 @@ can_gain k end ps p of good may =
     record { pages = ps; counted = of; room = may.room; good = good_pages ps good; good_page = good_page p may.good }
 
 -- and lose one that is taken out
-pub can_lose : (k : Classes) (end : End) (a : ℕ) (es : List (ℕ × Page)) (p : Page) → AreClassesOf k end (values_of es) → length (values_of es) ≤ page_limit →
+pub can_lose : (k : Classes) (end : End) (a : ℕ) (es : List (ℕ × Page)) (p : Page) → AreClassesOf k end (values_of es)
+    → length (values_of es) ≤ page_limit →
     AreGood (values_of es) → TakesOut a es p → CanLose k end p
 can_lose k end a es p of few good out =
     record {
@@ -67,10 +69,12 @@ Gains k n end p = (before after : List Page) → AreClassesOf k end (before ++ a
 abbrev pub Loses : Classes → Classes → End → Page → Type 0
 Loses k n end p = (before after : List Page) → AreClassesOf k end (before ++ p ∷ after) → AreClassesOf n end (before ++ after)
 
-last_gained : (k n : Classes) (end : End) (p : Page) (ps : List Page) → AreClassesOf k end ps → Gains k n end p → AreClassesOf n end (ps ++ p ∷ [])
+last_gained : (k n : Classes) (end : End) (p : Page) (ps : List Page) → AreClassesOf k end ps → Gains k n end p
+    → AreClassesOf n end (ps ++ p ∷ [])
 last_gained k n end p ps of gains = gains ps [] (subst (λ (qs : List Page). AreClassesOf k end qs) (sym (append-nil ps)) of)
 
-pub grown_book : (es new : List (ℕ × Page)) (o c o' c' : Classes) (p : Page) → IsBook es o c → MayFollow (values_of es) p → new ≡ es ++ (p.address, p) ∷ [] →
+pub grown_book : (es new : List (ℕ × Page)) (o c o' c' : Classes) (p : Page) → IsBook es o c → MayFollow (values_of es) p
+    → new ≡ es ++ (p.address, p) ∷ [] →
     Gains o o' Open p → Gains c c' Closed p → IsBook new o' c'
 grown_book es new o c o' c' p book may grown gains gains_closed =
     let values : values_of new ≡ values_of es ++ p ∷ [] = ap values_of grown ∙ values_push es p.address p in
@@ -78,11 +82,14 @@ grown_book es new o c o' c' p book may grown gains gains_closed =
       keyed =
           ap keys_of grown
           ∙ (keys_push es p.address p
-          ∙ (ap (λ (ks : List ℕ). ks ++ p.address ∷ []) book.keyed ∙ (sym (addresses_push (values_of es) p) ∙ ap addresses_of (sym values))));
+          ∙ (ap (λ (ks : List ℕ). ks ++ p.address ∷ []) book.keyed ∙
+          (sym (addresses_push (values_of es) p) ∙ ap addresses_of (sym values))));
       few = rw values (omega (arith, may.room, length-append (values_of es) (p ∷ [])));
       good = subst AreGood (sym values) (good_push (values_of es) p book.good may.good may.another);
-      counted = subst (λ (ps : List Page). AreClassesOf o' Open ps) (sym values) (last_gained o o' Open p (values_of es) book.counted gains);
-      counted_closed = subst (λ (ps : List Page). AreClassesOf c' Closed ps) (sym values) (last_gained c c' Closed p (values_of es) book.counted_closed gains_closed);
+      counted = subst (λ (ps : List Page). AreClassesOf o' Open ps) (sym values)
+          (last_gained o o' Open p (values_of es) book.counted gains);
+      counted_closed = subst (λ (ps : List Page). AreClassesOf c' Closed ps) (sym values)
+          (last_gained c c' Closed p (values_of es) book.counted_closed gains_closed);
     }
 
 flips : (a b : ℕ) → nat_eq a b ≡ nat_eq b a
@@ -97,14 +104,17 @@ addresses_append S R = map-append (λ (q : Page). q.address) S R
 -- good pages without one of them
 good_less : (S R : List Page) (p : Page) → AreGood (S ++ p ∷ R) → AreGood (S ++ R)
 good_less S R p good =
-    let apart : IsDistinct nat_eq (addresses_of S ++ p.address ∷ addresses_of R) = subst (IsDistinct nat_eq) (addresses_amid S R p) good.apart in
+    let apart : IsDistinct nat_eq (addresses_of S ++ p.address ∷ addresses_of R) =
+    subst (IsDistinct nat_eq) (addresses_amid S R p) good.apart in
     let front = IsDistinct-IsPermutation nat_eq flips _ _ (IsPermutation-middle (addresses_of S) p.address (addresses_of R)) apart in
     record {
       each = All-amid (λ q. page_fault_of q ≡ None) S R p good.each;
-      apart = subst (IsDistinct nat_eq) (sym (addresses_append S R)) (IsDistinct-tail nat_eq p.address (addresses_of S ++ addresses_of R) front);
+      apart = subst (IsDistinct nat_eq) (sym (addresses_append S R))
+          (IsDistinct-tail nat_eq p.address (addresses_of S ++ addresses_of R) front);
     }
 
-pub shrunk_book : (es new : List (ℕ × Page)) (o c o' c' : Classes) (a : ℕ) (p : Page) → IsBook es o c → TakesOut a es p → new ≡ remove_entry (nat_eq a) es →
+pub shrunk_book : (es new : List (ℕ × Page)) (o c o' c' : Classes) (a : ℕ) (p : Page) → IsBook es o c → TakesOut a es p
+    → new ≡ remove_entry (nat_eq a) es →
     Loses o o' Open p → Loses c c' Closed p → IsBook new o' c'
 shrunk_book es new o c o' c' a p book out shrunk loses loses_closed =
     let values : values_of new ≡ out.before ++ out.after = ap values_of shrunk ∙ out.left in
@@ -120,7 +130,8 @@ shrunk_book es new o c o' c' a p book out shrunk loses loses_closed =
     }
 
 -- the pages that a removal leaves
-pub rest_is : (es new : List (ℕ × Page)) (ps : List Page) (a : ℕ) → AreKeyed es → AreGood (values_of es) → values_of es ≡ ps → new ≡ remove_entry (nat_eq a) es →
+pub rest_is : (es new : List (ℕ × Page)) (ps : List Page) (a : ℕ) → AreKeyed es → AreGood (values_of es) → values_of es ≡ ps
+    → new ≡ remove_entry (nat_eq a) es →
     values_of new ≡ without ps a
 rest_is es new ps a keyed good view shrunk =
     ap values_of shrunk ∙ (without_is a es keyed good.apart ∙ ap (λ (qs : List Page). without qs a) view)
@@ -133,4 +144,5 @@ was_there S R p = Contains-append_right S (p ∷ R) p (Contains-get_or (p ∷ R)
 pub listable_pages : (es : List (ℕ × Page)) (ps : List Page) → values_of es ≡ ps → AreGood (values_of es) → All IsListable ps
 listable_pages es ps view good =
     subst (λ (qs : List Page). All IsListable qs) view
-    (All-weaker IsGoodPage IsListable (λ p g. record { function = g.function; items = g.small }) (values_of es) (good_pages (values_of es) good))
+    (All-weaker IsGoodPage IsListable (λ p g. record { function = g.function; items = g.small }) (values_of es)
+    (good_pages (values_of es) good))

@@ -45,7 +45,8 @@ pub record TakesOut (a : ℕ) (es : List (ℕ × Page)) (p : Page) : Type 0 wher
 rest_here : (a : ℕ) (d : ℕ × Page) (es : List (ℕ × Page)) → nat_eq a d.0 ≡ true → remove_entry (nat_eq a) (d ∷ es) ≡ es
 rest_here a d es t = ap (λ (b : Bool). cond b es (d ∷ remove_entry (nat_eq a) es)) t
 
-rest_later : (a : ℕ) (d : ℕ × Page) (es : List (ℕ × Page)) → nat_eq a d.0 ≡ false → remove_entry (nat_eq a) (d ∷ es) ≡ d ∷ remove_entry (nat_eq a) es
+rest_later : (a : ℕ) (d : ℕ × Page) (es : List (ℕ × Page)) → nat_eq a d.0 ≡ false
+    → remove_entry (nat_eq a) (d ∷ es) ≡ d ∷ remove_entry (nat_eq a) es
 rest_later a d es f = ap (λ (b : Bool). cond b es (d ∷ remove_entry (nat_eq a) es)) f
 
 found_here : (a : ℕ) (d : ℕ × Page) (es : List (ℕ × Page)) → nat_eq a d.0 ≡ true → lookup (nat_eq a) (d ∷ es) ≡ Some d.1
@@ -111,13 +112,15 @@ without_is a (d ∷ es) keyed apart =
     others same =
         subst (λ (n : ℕ). has_address (values_of es) n ≡ false) (sym same)
         (list_any_none (nat_eq d.1.address) (addresses_of (values_of es))
-        (All-from_recursion (λ y. nat_eq d.1.address y ≡ false) (addresses_of (values_of es)) (IsDistinct-head nat_eq d.1.address (addresses_of (values_of es)) apart)))
+        (All-from_recursion (λ y. nat_eq d.1.address y ≡ false) (addresses_of (values_of es))
+        (IsDistinct-head nat_eq d.1.address (addresses_of (values_of es)) apart)))
 
     by : (b : Bool) → nat_eq a d.0 ≡ b → values_of (remove_entry (nat_eq a) es) ≡ without (values_of es) a →
         values_of (remove_entry (nat_eq a) (d ∷ es)) ≡ without (d.1 ∷ values_of es) a
     by true t rest =
         ap values_of (rest_here a d es t)
-        ∙ (sym (nothing_out a (values_of es) (others (same_from a d.0 t ∙ key))) ∙ sym (out_here a d.1 (values_of es) (ap (nat_eq a) (sym key) ∙ t)))
+        ∙ (sym (nothing_out a (values_of es) (others (same_from a d.0 t ∙ key))) ∙ sym
+        (out_here a d.1 (values_of es) (ap (nat_eq a) (sym key) ∙ t)))
     by false f rest =
         ap values_of (rest_later a d es f)
         ∙ (ap (λ (ps : List Page). d.1 ∷ ps) rest ∙ sym (kept_here a d.1 (values_of es) (ap (nat_eq a) (sym key) ∙ f)))

@@ -13,7 +13,8 @@ use Rattle.pocsag_plan.specs.FaultChains.{fault_of_search}
 use Rattle.pocsag_plan.specs.Plans.{ExplainsPlan}
 use Rattle.std.proofs.Common.{ℕ}
 
-pub explained : (k : Classes) (end : End) (R : List Page) (limit : ℕ) (fault : SearchFault) → IsRound R → AreClassesOf k end R → IsNodeLimit limit →
+pub explained : (k : Classes) (end : End) (R : List Page) (limit : ℕ) (fault : SearchFault) → IsRound R → AreClassesOf k end R
+    → IsNodeLimit limit →
     IsSearchFault k end limit fault → ExplainsPlan end R limit (fault_of_search fault)
 explained k end R limit (searching.SearchLimit least found tree) round classes within said =
     let sent = said.sent R round classes in (

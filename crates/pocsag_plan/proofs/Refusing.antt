@@ -40,12 +40,14 @@ module _ (ps : List Page) (p : Page) where
   pub full_fault : page_fault_of p ≡ None → has_address ps p.address ≡ false → page_limit ≤ length ps → Some fault.Full ≡ add_fault ps p
   unfolding beside
   full_fault none there full =
-      sym (beside_is none ∙ (ap (λ (b : Bool). beside b (nat_le page_limit (length ps))) there ∙ ap (λ (b : Bool). beside false b) (at_limit (length ps) full)))
+      sym (beside_is none ∙ (ap (λ (b : Bool). beside b (nat_le page_limit (length ps))) there ∙ ap (λ (b : Bool). beside false b)
+      (at_limit (length ps) full)))
 
   pub no_fault : page_fault_of p ≡ None → has_address ps p.address ≡ false → length ps < page_limit → None ≡ add_fault ps p
   unfolding beside
   no_fault none there room =
-      sym (beside_is none ∙ (ap (λ (b : Bool). beside b (nat_le page_limit (length ps))) there ∙ ap (λ (b : Bool). beside false b) (below_limit (length ps) room)))
+      sym (beside_is none ∙ (ap (λ (b : Bool). beside b (nat_le page_limit (length ps))) there ∙ ap (λ (b : Bool). beside false b)
+      (below_limit (length ps) room)))
 
 -- neither test is true
 neither_beside : (there full : Bool) → beside there full ≡ None → (there ≡ false) × (full ≡ false)

@@ -16,7 +16,8 @@ reads_long at_end = omega arith
 reads_long (past_idle r) = let rest = reads_long r in omega arith
 reads_long (past_page {i = i} {high = high} {function = function} {ws = ws} {ps = ps} items rest e b r) =
     let left : sum_by page_length ps ≤ length rest = reads_long r in
-    let long : length ws ≡ length items + length rest = omega (arith, ap length e, length-append (map Message items) rest, length-map items Message) in
+    let long : length ws ≡ length items + length rest =
+    omega (arith, ap length e, length-append (map Message items) rest, length-map items Message) in
     let p : Page = record { address = 8 * high + frame_at i; function = function; payload = items } in
     omega (arith, sum_by-cons page_length p ps)
 

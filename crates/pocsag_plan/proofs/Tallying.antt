@@ -17,12 +17,14 @@ use Rattle.pocsag_slots.proofs.Walks.{count_of-cons, turns_of-cons}
 use Rattle.pocsag_plan.specs.Tallies.{CanGain, CanLose}
 
 -- one page of a list counts as if it stood before the others
-count_amid : (end : End) (S R : List Page) (p : Page) (c : ℕ) → count_of end (S ++ p ∷ R) c ≡ count_of end (S ++ R) c + cond (class_of_page end p == c) 1 0
+count_amid : (end : End) (S R : List Page) (p : Page) (c : ℕ)
+    → count_of end (S ++ p ∷ R) c ≡ count_of end (S ++ R) c + cond (class_of_page end p == c) 1 0
 count_amid end [] R p c = omega (arith, count_of-cons end p R c)
 count_amid end (q ∷ S) R p c =
     omega (arith, count_amid end S R p c, count_of-cons end q (S ++ p ∷ R) c, count_of-cons end q (S ++ R) c)
 
-turns_amid : (end : End) (S R : List Page) (p : Page) (c : ℕ) → turns_of end (S ++ p ∷ R) c ≡ turns_of end (S ++ R) c + cond (class_of_page end p == c) (page_length p / 16) 0
+turns_amid : (end : End) (S R : List Page) (p : Page) (c : ℕ)
+    → turns_of end (S ++ p ∷ R) c ≡ turns_of end (S ++ R) c + cond (class_of_page end p == c) (page_length p / 16) 0
 turns_amid end [] R p c = omega (arith, turns_of-cons end p R c)
 turns_amid end (q ∷ S) R p c =
     omega (arith, turns_amid end S R p c, turns_of-cons end q (S ++ p ∷ R) c, turns_of-cons end q (S ++ R) c)
@@ -62,7 +64,8 @@ pub short_pages : (R : List Page) → All IsGoodPage R → All IsShort R
 short_pages R good = All-weaker IsGoodPage IsShort (λ p g. g.few) R good
 
 -- what stands at the class of a page of the list
-pub count_here : (counts turns : List ℕ) (end : End) (S R : List Page) (p : Page) → class_of_page end p < 136 → AreCounted counts turns end (S ++ p ∷ R) →
+pub count_here : (counts turns : List ℕ) (end : End) (S R : List Page) (p : Page) → class_of_page end p < 136
+    → AreCounted counts turns end (S ++ p ∷ R) →
     (1 ≤ slice_index counts (class_of_page end p)) × (page_length p / 16 ≤ slice_index turns (class_of_page end p))
 count_here counts turns end S R p h of =
     let at = class_of_page end p in (
@@ -70,7 +73,8 @@ count_here counts turns end S R p h of =
       omega (arith, of.each_turns at h, turns_amid end S R p at, here_more at (turns_of end (S ++ R) at) (page_length p / 16)),
     )
 
-pub counted_more : (counts turns : List ℕ) (end : End) (S R : List Page) (p : Page) → class_of_page end p < 136 → AreCounted counts turns end (S ++ R) →
+pub counted_more : (counts turns : List ℕ) (end : End) (S R : List Page) (p : Page) → class_of_page end p < 136
+    → AreCounted counts turns end (S ++ R) →
     AreCounted (slice_set counts (class_of_page end p) (slice_index counts (class_of_page end p) + 1))
     (slice_set turns (class_of_page end p) (slice_index turns (class_of_page end p) + page_length p / 16)) end (S ++ p ∷ R)
 counted_more counts turns end S R p h of =
@@ -81,12 +85,14 @@ counted_more counts turns end S R p h of =
       each = changed counts (count_of end (S ++ R)) (count_of end (S ++ p ∷ R)) at (slice_index counts at + 1) of.long h of.each
           (omega (arith, of.each at h, count_amid end S R p at, here_more at (count_of end (S ++ R) at) 1))
           (λ c other. omega (arith, count_amid end S R p c, other_same at c (count_of end (S ++ R) c) 1 other));
-      each_turns = changed turns (turns_of end (S ++ R)) (turns_of end (S ++ p ∷ R)) at (slice_index turns at + page_length p / 16) of.turns_long h of.each_turns
+      each_turns = changed turns (turns_of end (S ++ R)) (turns_of end (S ++ p ∷ R)) at (slice_index turns at + page_length p / 16)
+          of.turns_long h of.each_turns
           (omega (arith, of.each_turns at h, turns_amid end S R p at, here_more at (turns_of end (S ++ R) at) (page_length p / 16)))
           (λ c other. omega (arith, turns_amid end S R p c, other_same at c (turns_of end (S ++ R) c) (page_length p / 16) other));
     }
 
-pub counted_less : (counts turns : List ℕ) (end : End) (S R : List Page) (p : Page) → class_of_page end p < 136 → AreCounted counts turns end (S ++ p ∷ R) →
+pub counted_less : (counts turns : List ℕ) (end : End) (S R : List Page) (p : Page) → class_of_page end p < 136
+    → AreCounted counts turns end (S ++ p ∷ R) →
     AreCounted (slice_set counts (class_of_page end p) (slice_index counts (class_of_page end p) - 1))
     (slice_set turns (class_of_page end p) (slice_index turns (class_of_page end p) - page_length p / 16)) end (S ++ R)
 counted_less counts turns end S R p h of =
@@ -97,30 +103,35 @@ counted_less counts turns end S R p h of =
       each = changed counts (count_of end (S ++ p ∷ R)) (count_of end (S ++ R)) at (slice_index counts at - 1) of.long h of.each
           (omega (arith, of.each at h, count_amid end S R p at, here_more at (count_of end (S ++ R) at) 1))
           (λ c other. omega (arith, count_amid end S R p c, other_same at c (count_of end (S ++ R) c) 1 other));
-      each_turns = changed turns (turns_of end (S ++ p ∷ R)) (turns_of end (S ++ R)) at (slice_index turns at - page_length p / 16) of.turns_long h of.each_turns
+      each_turns = changed turns (turns_of end (S ++ p ∷ R)) (turns_of end (S ++ R)) at (slice_index turns at - page_length p / 16)
+          of.turns_long h of.each_turns
           (omega (arith, of.each_turns at h, turns_amid end S R p at, here_more at (turns_of end (S ++ R) at) (page_length p / 16)))
           (λ c other. omega (arith, turns_amid end S R p c, other_same at c (turns_of end (S ++ R) c) (page_length p / 16) other));
     }
 
 -- the same at the numbers that the calls compute
-module _ (k : Classes) (end : End) (p : Page) (at whole : ℕ) (class : at ≡ class_of_page end p) (long : whole ≡ page_length p / 16) (h : at < 136) where
+module _ (k : Classes) (end : End) (p : Page) (at whole : ℕ) (class : at ≡ class_of_page end p) (long : whole ≡ page_length p / 16)
+    (h : at < 136) where
   below : class_of_page end p < 136
   below = rw class at h
 
   pub gained : (S R : List Page) → AreClassesOf k end (S ++ R) →
-      AreCounted (slice_set k.count at (slice_index k.count at + 1)) (slice_set k.turns at (slice_index k.turns at + whole)) end (S ++ p ∷ R)
+      AreCounted (slice_set k.count at (slice_index k.count at + 1)) (slice_set k.turns at (slice_index k.turns at + whole)) end
+      (S ++ p ∷ R)
   gained S R of = rw (class, long) (counted_more k.count k.turns end S R p below (counted_of k end (S ++ R) of))
 
   pub lost : (S R : List Page) → AreClassesOf k end (S ++ p ∷ R) →
       AreCounted (slice_set k.count at (slice_index k.count at - 1)) (slice_set k.turns at (slice_index k.turns at - whole)) end (S ++ R)
   lost S R of = rw (class, long) (counted_less k.count k.turns end S R p below (counted_of k end (S ++ p ∷ R) of))
 
-  pub gained_tables : CanGain k end p → AreTables (slice_set k.count at (slice_index k.count at + 1)) (slice_set k.turns at (slice_index k.turns at + whole))
+  pub gained_tables : CanGain k end p
+      → AreTables (slice_set k.count at (slice_index k.count at + 1)) (slice_set k.turns at (slice_index k.turns at + whole))
   gained_tables can =
       tables_of _ _ end (p ∷ can.pages) (gained [] can.pages can.counted) (omega (arith, can.room))
       (short_pages (p ∷ can.pages) (All-cons IsGoodPage p can.pages can.good_page can.good))
 
-  pub lost_tables : CanLose k end p → AreTables (slice_set k.count at (slice_index k.count at - 1)) (slice_set k.turns at (slice_index k.turns at - whole))
+  pub lost_tables : CanLose k end p
+      → AreTables (slice_set k.count at (slice_index k.count at - 1)) (slice_set k.turns at (slice_index k.turns at - whole))
   lost_tables can =
       tables_of _ _ end (can.before ++ can.after) (lost can.before can.after can.counted)
       (omega (arith, can.few, length-append can.before (p ∷ can.after), length-append can.before can.after))

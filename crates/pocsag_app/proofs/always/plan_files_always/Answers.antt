@@ -9,5 +9,6 @@ returns-in_err-written-clause-why g c = λ tells one.
 
 pub returns-clause-told : goal.returns-clause-told
 returns-clause-told g c = λ pages_tell tx_tells cert_tells out_tells.
-    told_planned _ _ _ _ _ _ c.in_ok-written.written (c.in_ok-written.ensures.headline pages_tell tx_tells cert_tells) (c.in_ok-written.ensures.plan pages_tell)
+    told_planned _ _ _ _ _ _ c.in_ok-written.written (c.in_ok-written.ensures.headline pages_tell tx_tells cert_tells)
+    (c.in_ok-written.ensures.plan pages_tell)
     c.tell_bounded.result _ _ (c.tell_bounded.ensures.told out_tells)

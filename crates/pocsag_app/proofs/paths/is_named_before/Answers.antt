@@ -15,7 +15,8 @@ returns-then-eq c =
     let paths = c.args.paths.now in
     let first = text_at paths c.loop-earlier.earlier (omega arith) in
     let second = text_at paths c.args.place c.requires in
-    let same = (bytes_eq-Decides (get_or paths c.loop-earlier.earlier none).now (get_or paths c.args.place none).now).0 (sym c.eq.ensures ∙ c.if-eq.true) in
+    let same = (bytes_eq-Decides (get_or paths c.loop-earlier.earlier none).now (get_or paths c.args.place none).now).0
+    (sym c.eq.ensures ∙ c.if-eq.true) in
     (λ h. record { earlier = c.loop-earlier.earlier; order = c.loop-earlier-test.true; equal = first ∙ (same ∙ sym second) }, λ h. refl)
 
 pub loop-earlier-preserved : goal.loop-earlier-preserved
@@ -25,7 +26,8 @@ loop-earlier-preserved c =
     (λ e.
     let first = text_at paths c.loop-earlier.earlier (omega arith) in
     let second = text_at paths c.args.place c.requires in
-    let same = (bytes_eq-Decides (get_or paths c.loop-earlier.earlier none).now (get_or paths c.args.place none).now).1 (sym first ∙ (e ∙ second)) in
+    let same = (bytes_eq-Decides (get_or paths c.loop-earlier.earlier none).now (get_or paths c.args.place none).now).1
+    (sym first ∙ (e ∙ second)) in
     let yes = c.eq.ensures ∙ same in
     let no = c.if-eq.false in
     cc)

@@ -15,11 +15,13 @@ loop-page-init c = All-nil (Contains c.args.sent.now)
 
 pub loop-page-preserved : goal.loop-page-preserved
 loop-page-preserved c =
-    All-more (Contains c.args.sent.now) c.args.pages.now c.loop-page.page-index c.page-item.result c.loop-page-test.true c.loop-page.invariant
+    All-more (Contains c.args.sent.now) c.args.pages.now c.loop-page.page-index c.page-item.result c.loop-page-test.true
+    c.loop-page.invariant
     (subst (Contains c.args.sent.now) c.page-item.is (c.if-not-is_sent.ensures refl))
 
 pub returns : goal.returns
 returns c = λ yes. record {
   as_many = omega arith;
-  each = whole (Contains c.args.sent.now) c.args.pages.now c.loop-page.page-index c.loop-page-test.false c.loop-page.auto.page-index-end c.loop-page.invariant;
+  each = whole (Contains c.args.sent.now) c.args.pages.now c.loop-page.page-index c.loop-page-test.false
+      c.loop-page.auto.page-index-end c.loop-page.invariant;
 }

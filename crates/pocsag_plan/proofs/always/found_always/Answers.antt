@@ -5,5 +5,6 @@ use Rattle.pocsag_plan.proofs.always.found_always.Goals as goal
 pub overflow_add-result : goal.overflow_add-result
 overflow_add-result c =
     let few : c.in-Err-SearchLimit.near.least ≤ 1760000 =
-    near_few c.args.classes.now c.args.end c.in-Err-SearchLimit.field-0 c.in-Err-SearchLimit.near c.in-Err-SearchLimit.field-0-is c.in-Err-SearchLimit.ensures.fault in
+    near_few c.args.classes.now c.args.end c.in-Err-SearchLimit.field-0 c.in-Err-SearchLimit.near c.in-Err-SearchLimit.field-0-is
+    c.in-Err-SearchLimit.ensures.fault in
     omega arith

@@ -14,7 +14,8 @@ loop-page-preserved c =
     let is : p ≡ get_or c.args.round.now k p = subst (λ (v : List Page). p ≡ get_or v k p) pages c.page-item.is in
     let few : length p.payload ≤ 1400 = (good_at c.args.round.now k p c.pages-page-items.ensures.round within is).few in
     let long : length c.as_slice.result.now ≡ length p.payload = ap length c.as_slice.ensures in
-    let more : sum_by page_length (take (k + 1) c.args.round.now) ≡ sum_by page_length (take k c.args.round.now) + page_length (get_or c.args.round.now k p) =
+    let more : sum_by page_length (take (k + 1) c.args.round.now) ≡ sum_by page_length (take k c.args.round.now) + page_length
+    (get_or c.args.round.now k p) =
     sum_by_more page_length c.args.round.now k p within in
     let this : page_length (get_or c.args.round.now k p) ≡ page_length p = ap page_length (sym is) in
     (omega (arith, c.loop-page.invariant.0), omega (arith, c.loop-page.invariant.1))

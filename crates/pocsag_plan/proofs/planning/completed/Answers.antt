@@ -11,7 +11,8 @@ use Rattle.pocsag_plan.proofs.planning.completed.Goals as goal
 pub order_of-requires : goal.order_of-requires
 order_of-requires c =
     subst (λ (steps : List Step). IsTourFor c.args.end c.args.round.now steps) (sym c.deref.ensures.value)
-    (tour_for c.args.classes.now c.args.end c.args.round.now c.args.limit c.args.within.bound c.args.within.found c.requires.counted c.requires.within)
+    (tour_for c.args.classes.now c.args.end c.args.round.now c.args.limit c.args.within.bound c.args.within.found c.requires.counted
+    c.requires.within)
 
 pub returns-clause-plan : goal.returns-clause-plan
 returns-clause-plan c =
@@ -24,10 +25,12 @@ returns-clause-plan c =
     let is = c.requires.within in
     let near : found.batches ≤ 1760001 = most k end limit bound found is in
     let at_least : bound ≤ found.batches = is.at_least in
-    let sent = c.tours_have_codewords.ensures k end (slice_index found.choice.early) found.batches found.steps.items R (some_batch k end limit bound found is) c.pages.ensures.round
+    let sent = c.tours_have_codewords.ensures k end (slice_index found.choice.early) found.batches found.steps.items R
+    (some_batch k end limit bound found is) c.pages.ensures.round
     c.requires.counted is.tour in
     let room = found_room end R found c.pages.ensures.round sent.0 sent.2 in
-    let few = nodes_few k end limit bound found is c.requires.limited (c.accepted_trees_have_texts.ensures.closed k end bound (bound_of found.tree) is.accepted) in
+    let few = nodes_few k end limit bound found is c.requires.limited
+    (c.accepted_trees_have_texts.ensures.closed k end bound (bound_of found.tree) is.accepted) in
     record {
       asked = refl;
       pages = ap length c.pages.ensures.pages;
@@ -37,7 +40,8 @@ returns-clause-plan c =
       classes = c.requires.counted;
       admitted = admitted_all k end (slice_index found.choice.early) found.batches found.steps.items is.tour;
       tour = is.tour;
-      order = subst (λ (steps : List Step). IsOrder end R steps c.in_ok-order.order.items) c.deref.ensures.value c.in_ok-order.ensures.order;
+      order = subst (λ (steps : List Step). IsOrder end R steps c.in_ok-order.order.items) c.deref.ensures.value
+          c.in_ok-order.ensures.order;
       room = subst (λ (n : ℕ). n ≤ 16 * found.batches) (sym c.codewords_of.ensures) room;
       near_least = record { least = is.least; is_least = is.is_least; near = is.or_one_more };
       most = near;

@@ -10,5 +10,6 @@ pub returns-in_err-found-clause-fault : goal.returns-in_err-found-clause-fault
 returns-in_err-found-clause-fault c =
     let p = err_from_is_err_and c.from_residual.result c.from_residual.ensures.1 in
     rw (p.1, p.2)
-    (explained c.args.classes.now c.args.end c.args.round.now c.args.limit c.in_err-found.field-0.0 c.pages-pages.ensures.round c.requires.counted c.requires.limited
+    (explained c.args.classes.now c.args.end c.args.round.now c.args.limit c.in_err-found.field-0.0 c.pages-pages.ensures.round
+    c.requires.counted c.requires.limited
     c.in_err-found.ensures.fault)

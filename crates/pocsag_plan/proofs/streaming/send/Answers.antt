@@ -3,7 +3,8 @@ use Rattle.pocsag_plan.proofs.streaming.send.Goals as goal
 
 pub new-slots-requires : goal.new-slots-requires
 new-slots-requires g c =
-    has_places c.args.end c.args.round.now c.args.plan.now c.args.bound c.requires c.deref.result.now c.deref-2.result.now c.deref.ensures.value c.deref-2.ensures.value
+    has_places c.args.end c.args.round.now c.args.plan.now c.args.bound c.requires c.deref.result.now c.deref-2.result.now
+    c.deref.ensures.value c.deref-2.ensures.value
 
 pub returns-in_default-clause-part : goal.returns-in_default-clause-part
 returns-in_default-clause-part g c = λ tells failed file read.
@@ -14,7 +15,8 @@ returns-in_default-clause-part g c = λ tells failed file read.
       tree = _;
       sent = _;
       certificate = _;
-      headline = due c.args.end c.args.round.now c.args.plan.now c.args.bound c.requires c.deref.result.now c.deref-2.result.now c.new-slots.result sent.words
+      headline = due c.args.end c.args.round.now c.args.plan.now c.args.bound c.requires c.deref.result.now c.deref-2.result.now
+          c.new-slots.result sent.words
           c.deref.ensures.value c.deref-2.ensures.value c.new-slots.ensures sent.say file read;
       part = sent.part;
     }
@@ -28,7 +30,8 @@ returns-in_default-clause-fewest_part g c = λ tells same failed file read.
       sent = _;
       certificate = _;
       headline = tight file c.args.end c.args.plan.now.batches c.args.bound _ _ _ same
-          (due c.args.end c.args.round.now c.args.plan.now c.args.bound c.requires c.deref.result.now c.deref-2.result.now c.new-slots.result sent.words
+          (due c.args.end c.args.round.now c.args.plan.now c.args.bound c.requires c.deref.result.now c.deref-2.result.now
+          c.new-slots.result sent.words
           c.deref.ensures.value c.deref-2.ensures.value c.new-slots.ensures sent.say file read);
       part = sent.part;
     }
@@ -39,7 +42,8 @@ returns-in-Ok-write_certificate-clause-whole g c = λ tells cert_tells file read
     record {
       sent = _;
       certificate = _;
-      headline = due c.args.end c.args.round.now c.args.plan.now c.args.bound c.requires c.deref.result.now c.deref-2.result.now c.new-slots.result sent.words
+      headline = due c.args.end c.args.round.now c.args.plan.now c.args.bound c.requires c.deref.result.now c.deref-2.result.now
+          c.new-slots.result sent.words
           c.deref.ensures.value c.deref-2.ensures.value c.new-slots.ensures sent.say file read;
       transmission = sent.taken;
       text = (c.in-Ok-write_certificate.ensures.delivers cert_tells).0;
@@ -52,7 +56,8 @@ returns-in-Ok-write_certificate-clause-fewest g c = λ tells cert_tells same fil
       sent = _;
       certificate = _;
       headline = tight file c.args.end c.args.plan.now.batches c.args.bound _ _ _ same
-          (due c.args.end c.args.round.now c.args.plan.now c.args.bound c.requires c.deref.result.now c.deref-2.result.now c.new-slots.result sent.words
+          (due c.args.end c.args.round.now c.args.plan.now c.args.bound c.requires c.deref.result.now c.deref-2.result.now
+          c.new-slots.result sent.words
           c.deref.ensures.value c.deref-2.ensures.value c.new-slots.ensures sent.say file read);
       transmission = sent.taken;
       text = (c.in-Ok-write_certificate.ensures.delivers cert_tells).0;
@@ -67,7 +72,8 @@ returns-in-Err-clause-certificate_part g c = λ tells cert_tells failed file rea
       tree = _;
       sent = _;
       certificate = _;
-      headline = due c.args.end c.args.round.now c.args.plan.now c.args.bound c.requires c.deref.result.now c.deref-2.result.now c.new-slots.result sent.words
+      headline = due c.args.end c.args.round.now c.args.plan.now c.args.bound c.requires c.deref.result.now c.deref-2.result.now
+          c.new-slots.result sent.words
           c.deref.ensures.value c.deref-2.ensures.value c.new-slots.ensures sent.say file read;
       transmission = sent.taken;
       part = (c.in-Err.ensures.delivers cert_tells).1;
@@ -82,7 +88,8 @@ returns-in-Err-clause-fewest_certificate_part g c = λ tells cert_tells same fai
       sent = _;
       certificate = _;
       headline = tight file c.args.end c.args.plan.now.batches c.args.bound _ _ _ same
-          (due c.args.end c.args.round.now c.args.plan.now c.args.bound c.requires c.deref.result.now c.deref-2.result.now c.new-slots.result sent.words
+          (due c.args.end c.args.round.now c.args.plan.now c.args.bound c.requires c.deref.result.now c.deref-2.result.now
+          c.new-slots.result sent.words
           c.deref.ensures.value c.deref-2.ensures.value c.new-slots.ensures sent.say file read);
       transmission = sent.taken;
       part = (c.in-Err.ensures.delivers cert_tells).1;

@@ -20,7 +20,8 @@ count_page-requires c =
 
 pub count_page-requires-2 : goal.count_page-requires-2
 count_page-requires-2 c =
-    can_gain c.self.inside.for_closed Closed (values_of c.self.inside.pages.entries) c.args.page c.self.invariant.counted_closed c.self.invariant.good
+    can_gain c.self.inside.for_closed Closed (values_of c.self.inside.pages.entries) c.args.page c.self.invariant.counted_closed
+    c.self.invariant.good
     (may c.args.self.now (values_of c.self.inside.pages.entries) c.args.page c.self.view_is c.in-None.ensures)
 
 pub invariant_of-self-2 : goal.invariant_of-self-2
@@ -33,7 +34,8 @@ invariant_of-self-2 c =
     let grown : c.insert.new.self.entries ≡ c.self.inside.pages.entries ++ (c.args.page.address, c.args.page) ∷ [] =
     entries ∙ (insert_entry-new nat_eq c.reserve.new.self c.args.page.address c.args.page absent
     ∙ ap (λ (es : List (ℕ × Page)). es ++ (c.args.page.address, c.args.page) ∷ []) c.in-Ok.ensures.entries) in
-    grown_book c.self.inside.pages.entries c.insert.new.self.entries c.self.inside.for_open c.self.inside.for_closed c.count_page.new.classes c.count_page-2.new.classes
+    grown_book c.self.inside.pages.entries c.insert.new.self.entries c.self.inside.for_open c.self.inside.for_closed
+    c.count_page.new.classes c.count_page-2.new.classes
     c.args.page c.self.invariant follows grown c.count_page.ensures c.count_page-2.ensures
 
 pub returns-clause-added : goal.returns-clause-added
@@ -46,4 +48,5 @@ returns-clause-added c =
     let grown : c.insert.new.self.entries ≡ c.self.inside.pages.entries ++ (c.args.page.address, c.args.page) ∷ [] =
     entries ∙ (insert_entry-new nat_eq c.reserve.new.self c.args.page.address c.args.page absent
     ∙ ap (λ (es : List (ℕ × Page)). es ++ (c.args.page.address, c.args.page) ∷ []) c.in-Ok.ensures.entries) in
-    ap values_of grown ∙ (values_push c.self.inside.pages.entries c.args.page.address c.args.page ∙ ap (λ (ps : List Page). ps ++ c.args.page ∷ []) c.self.view_is)
+    ap values_of grown ∙ (values_push c.self.inside.pages.entries c.args.page.address c.args.page ∙ ap
+    (λ (ps : List Page). ps ++ c.args.page ∷ []) c.self.view_is)
