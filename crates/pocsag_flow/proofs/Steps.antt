@@ -64,7 +64,8 @@ entered n before mid after slot most moved same here others out more full p clos
         each = λ s l held new.
             elim (cases_eq s slot) [
               | inl is ↦
-                  let shut : StaysInside n.limits (slice_index before.early) after.reached slot = rw (p.same none ∙ same) at (closed none) in
+                  let shut : StaysInside n.limits (slice_index before.early) after.reached slot =
+                  rw (p.same none ∙ same) at (closed none) in
                   let stuck : IsStuck n (slice_index before.early) after.reached slot = record { closed = shut; full = full } in
                   rw is stuck
               | inr other ↦
@@ -123,53 +124,59 @@ pub same_slot_other : (a b : ℕ) → a ≢ b → same_slot a b ≡ 0
 unfolding same_slot
 same_slot_other a b ne = grind (arith, nat_tests)
 
--- the class between the slots is switched
-pub pushed_on : (n : Network) (before mid after : Search) (class from to most amount moved : ℕ) → from < 16 → to < 16 →
-    holds before.reached from ≡ true → holds before.reached to ≡ false →
-    ((to ≡ start_of class true) ⊎ (to ≡ finish_of class true)) →
-    Pushes n before mid to amount moved → amount ≤ most → after.reached ≡ mid.reached → after.end ≡ mid.end →
-    IsWithin n.limits (slice_index after.early) → length after.early ≡ 136 →
-    ((c : ℕ) → c < 136 → c ≢ class → slice_index after.early c ≡ slice_index mid.early c) →
-    ((slot : ℕ) → slot < 16 → load n.classes (slice_index after.early) slot + moved * same_slot from slot
-    ≡ load n.classes (slice_index mid.early) slot + moved * same_slot to slot) →
-    (moved ≡ 0 → after.early ≡ mid.early) →
-    Pushes n before after from most moved
-pushed_on n before mid after class from to most amount moved low low_to held out between p fits reached ended within size others
-    loads still =
+-- the class between the slots, of which some runs are switched: all else is as it was
+record IsSwitched (n : Network) (mid after : Search) (class from to moved : ℕ) : Type 0 where
+  from_low : from < 16
+  to_low : to < 16
+  between : (to ≡ start_of class true) ⊎ (to ≡ finish_of class true)
+  reached : after.reached ≡ mid.reached
+  ended : after.end ≡ mid.end
+  within : IsWithin n.limits (slice_index after.early)
+  size : length after.early ≡ 136
+  others : (c : ℕ) → c < 136 → c ≢ class → slice_index after.early c ≡ slice_index mid.early c
+  loads : (slot : ℕ) → slot < 16 → load n.classes (slice_index after.early) slot + moved * same_slot from slot
+      ≡ load n.classes (slice_index mid.early) slot + moved * same_slot to slot
+  still : moved ≡ 0 → after.early ≡ mid.early
+
+pushed_on : (n : Network) (before mid after : Search) (class from to most amount moved : ℕ)
+    → holds before.reached from ≡ true → holds before.reached to ≡ false
+    → Pushes n before mid to amount moved → amount ≤ most → IsSwitched n mid after class from to moved
+    → Pushes n before after from most moved
+pushed_on n before mid after class from to most amount moved held out p fits s =
     let apart : from ≢ to = not_slot before.reached from to held out in
-    let in_set : (s : ℕ) → IsOf before.reached from s → holds before.reached s ≡ true =
-    λ s is. elim is [ inl inside ↦ inside | inr here ↦ ap (holds before.reached) here ∙ held ] in
+    let in_set : (q : ℕ) → IsOf before.reached from q → holds before.reached q ≡ true =
+    λ q is. elim is [ inl inside ↦ inside | inr here ↦ ap (holds before.reached) here ∙ held ] in
     let other_class : (c : ℕ) → holds before.reached (start_of c true) ≡ true → holds before.reached (finish_of c true) ≡ true → c ≢ class =
     λ c first last same.
-    elim between [
+    elim s.between [
       | inl is ↦
           let e : holds before.reached to ≡ true = ap (holds before.reached) (is ∙ ap (λ (d : ℕ). start_of d true) (sym same)) ∙ first in cc
       | inr is ↦
           let e : holds before.reached to ≡ true = ap (holds before.reached) (is ∙ ap (λ (d : ℕ). finish_of d true) (sym same)) ∙ last in cc
     ] in
     record {
-      within = within;
-      size = size;
-      grows = record { each = λ s inside. ap (λ (set : ℕ). holds set s) reached ∙ p.grows.each s inside };
-      more = omega (arith, p.more, reached);
-      marked = ap (λ (set : ℕ). holds set from) reached ∙ p.grows.each from held;
+      within = s.within;
+      size = s.size;
+      grows = record { each = λ q inside. ap (λ (set : ℕ). holds set q) s.reached ∙ p.grows.each q inside };
+      more = omega (arith, p.more, s.reached);
+      marked = ap (λ (set : ℕ). holds set from) s.reached ∙ p.grows.each from held;
       bounded = omega (arith, p.bounded);
       kept = record {
         each = λ c h first last.
             let one : holds before.reached (start_of c true) ≡ true = in_set (start_of c true) first in
             let two : holds before.reached (finish_of c true) ≡ true = in_set (finish_of c true) last in
-            others c h (other_class c one two) ∙ p.kept.each c h (inl one) (inl two);
+            s.others c h (other_class c one two) ∙ p.kept.each c h (inl one) (inl two);
       };
       relieved = λ some.
           let way : Relieves n (slice_index before.early) (slice_index after.early) from mid.end moved =
           record {
             to_fits = (p.relieved some).to_fits;
             room = (p.relieved some).room;
-            loads = λ slot l. omega (arith, loads slot l, (p.relieved some).loads slot l);
+            loads = λ slot l. omega (arith, s.loads slot l, (p.relieved some).loads slot l);
           } in
-          rw ended way;
-      same = λ none. still none ∙ p.same none;
-      stuck = λ none. rw (← reached) at (p.stuck none);
+          rw s.ended way;
+      same = λ none. s.still none ∙ p.same none;
+      stuck = λ none. rw (← s.reached) at (p.stuck none);
     }
 
 -- one class is set, and the others stay
@@ -220,16 +227,20 @@ moved_late n before mid class most amount moved h network held out room fits p =
       here = omega (arith, here, kept, p.bounded, room);
       others = λ c k ne. set_other mid.early class (slice_index mid.early class - moved) c ne;
     } in
-    pushed_on n before mid (record { early = after; reached = mid.reached; end = mid.end }) class (start_of class true)
-    (finish_of class true) most amount moved
-    (start_low class h) (finish_low class) held out (inr refl) p fits refl refl
-    (set_within n.limits mid.early class (slice_index mid.early class - moved) h p.size (omega (arith, kept, p.bounded, room))
-    (omega (arith, p.within.most class h)) p.within)
-    (length-set mid.early class (slice_index mid.early class - moved) ∙ p.size)
-    moves.others
-    (λ slot l. load_moved n.classes (slice_index mid.early) (slice_index after) class moved slot h l
-    (omega (arith, p.within.most class h, network.ordered.counted class h)) moves)
-    (λ none. set_still mid.early class (slice_index mid.early class - moved) (omega (arith, none)))
+    pushed_on n before mid _ class (start_of class true) (finish_of class true) most amount moved held out p fits (record {
+      from_low = start_low class h;
+      to_low = finish_low class;
+      between = inr refl;
+      reached = refl;
+      ended = refl;
+      within = set_within n.limits mid.early class _ h p.size (omega (arith, kept, p.bounded, room))
+          (omega (arith, p.within.most class h)) p.within;
+      size = length-set mid.early class _ ∙ p.size;
+      others = moves.others;
+      loads = λ slot l. load_moved n.classes (slice_index mid.early) (slice_index after) class moved slot h l
+          (omega (arith, p.within.most class h, network.ordered.counted class h)) moves;
+      still = λ none. set_still mid.early class _ (omega (arith, none));
+    })
 
 pub moved_early : (n : Network) (before mid : Search) (class most amount moved : ℕ) → class < 136 →
     IsNetworkOf n before → holds before.reached (finish_of class true) ≡ true → holds before.reached (start_of class true) ≡ false →
@@ -251,16 +262,20 @@ moved_early n before mid class most amount moved h network held out room fits p 
       here = sym here;
       others = λ c k ne. sym (set_other mid.early class (slice_index mid.early class + moved) c ne);
     } in
-    pushed_on n before mid (record { early = after; reached = mid.reached; end = mid.end }) class (finish_of class true)
-    (start_of class true) most amount moved
-    (finish_low class) (start_low class h) held out (inl refl) p fits refl refl
-    (set_within n.limits mid.early class (slice_index mid.early class + moved) h p.size (omega (arith, p.within.least class h))
-    (omega (arith, kept, p.bounded, room)) p.within)
-    (length-set mid.early class (slice_index mid.early class + moved) ∙ p.size)
-    (λ c k ne. sym (moves.others c k ne))
-    (λ slot l. sym (load_moved n.classes (slice_index after) (slice_index mid.early) class moved slot h l
-    (omega (arith, here, kept, p.bounded, room, network.ordered.counted class h)) moves))
-    (λ none. set_still mid.early class (slice_index mid.early class + moved) (omega (arith, none)))
+    pushed_on n before mid _ class (finish_of class true) (start_of class true) most amount moved held out p fits (record {
+      from_low = finish_low class;
+      to_low = start_low class h;
+      between = inl refl;
+      reached = refl;
+      ended = refl;
+      within = set_within n.limits mid.early class _ h p.size (omega (arith, p.within.least class h))
+          (omega (arith, kept, p.bounded, room)) p.within;
+      size = length-set mid.early class _ ∙ p.size;
+      others = λ c k ne. sym (moves.others c k ne);
+      loads = λ slot l. sym (load_moved n.classes (slice_index after) (slice_index mid.early) class moved slot h l
+          (omega (arith, here, kept, p.bounded, room, network.ordered.counted class h)) moves);
+      still = λ none. set_still mid.early class _ (omega (arith, none));
+    })
 
 -- the loads of a switch from one slot to another
 pub shifted_is : (loads : List ℕ) (from to moved slot : ℕ) → from < length loads → to < length loads → to ≢ from →
