@@ -17,7 +17,7 @@ from tally import TOP, Tally
 
 IMPORT = re.compile(r"ghost use Rattle\.(pocsag_\w+)\.specs\.([\w.]+)\.\{([^}]*)\};")
 GIVEN = re.compile(r"^(?:(?:pub|record|data|abbrev|unfoldable) )+([^\s:{(]+)", re.MULTILINE)
-IGNORED_CRATES = {"pocsag_bench", "pocsag_trial"}
+IGNORED_CRATES = {"pocsag_bench", "pocsag_cases", "pocsag_trial"}
 
 
 def passed_on(root):

@@ -16,13 +16,9 @@ mod edit;
 #[cfg(test)]
 mod examples;
 mod fault;
-#[cfg(test)]
-mod plan_tests;
 mod planning;
 mod refusal;
 mod reporting;
-#[cfg(test)]
-mod stream_tests;
 mod streaming;
 mod tally;
 
