@@ -121,16 +121,15 @@ fn put_words(
     other: Word,
     count: usize,
 ) -> Result<(), OutOfMemory> {
-    for place in 0..count.div_ceil(16) * 16 {
+    for place in 0..count {
         if place % 16 == 0 {
             put(bytes, &SYNC_WORD.to_be_bytes())?;
         }
-        let word = match place {
-            0 => first.raw(),
-            _ if place < count => other.raw(),
-            _ => IDLE,
-        };
-        put(bytes, &word.to_be_bytes())?;
+        let word = if place == 0 { first } else { other };
+        put(bytes, &word.raw().to_be_bytes())?;
+    }
+    for _idle in 0..(16 - count % 16) % 16 {
+        put(bytes, &IDLE.to_be_bytes())?;
     }
     Ok(())
 }
