@@ -234,6 +234,39 @@ def words_of_answers(tally, folder):
     tally.check("refusals end nothing", (status, rest, err) == (0, b"", b""), (status, rest, err))
 
 
+# Devices that lose what they take, that take nothing, and paths at which nothing can be made.
+DEVICES = [
+    (b"plan,/dev/null,/dev/zero", b"refused: there are no pages"),
+    (b"add,5,tone0,", b"ok 1"),
+    (b"plan,/dev/null,/dev/zero", b"batches 1"),
+    (b"plan,/dev/null,/dev/zero,open", b"batches 1"),
+    (b"add,13,tone0,", b"ok 2"),
+    (b"add,21,tone0,", b"ok 3"),
+    (b"plan,/dev/null,/dev/zero,closed", b"batches 2"),
+    (b"plan,/dev/null,/dev/null", b"refused: the same file is named twice"),
+    (b"plan,/dev/null,/dev/../dev/null", b"refused: the same file is named twice"),
+    (b"plan,/dev/null/tx.bin,/dev/zero", b"refused: cannot read or open a file"),
+    (b"plan,/dev/null,/dev", b"refused: cannot read or open a file"),
+    (b"plan,/dev/full,/dev/zero", b"refused: cannot write"),
+    (b"plan,/dev/null,/dev/full", b"refused: cannot write"),
+    # An empty path names no file, and no page file was named.
+    (b"plan,,/dev/null", b"refused: cannot read or open a file"),
+    (b"plan,/dev/null,", b"refused: cannot read or open a file"),
+    (b"plan,,", b"refused: the same file is named twice"),
+]
+
+
+def devices_of_a_plan(tally, folder):
+    program = OpenRound(folder)
+    for line, due in DEVICES:
+        found = program.ask(line)
+        tally.check(f"{line!r} is answered {due!r}", found == due, found)
+    due = [HEADER.strip(), b"5,tone0,", b"13,tone0,", b"21,tone0,", b"ok 3"]
+    tally.check("no plan changes the round", program.lines(b"list") == due, "")
+    status, rest, err = program.close()
+    tally.check("no device ends it", (status, rest, err) == (0, b"", b""), (status, rest, err))
+
+
 def files_of_a_plan(tally, folder):
     program = OpenRound(folder)
     program.ask(b"add,8,tone0,")
@@ -281,8 +314,9 @@ def begins_with_pages(tally, folder):
     program = OpenRound(folder, "pages.csv")
     tally.check("the pages of PAGES are open", program.ask(b"cancel,16") == b"ok 1", "")
     for spelling in (b"pages.csv", b"./pages.csv"):
-        found = program.ask(b"plan,%s,cert.bin" % spelling)
-        tally.check("PAGES is never emptied", found == b"refused: the same file is named twice", found)
+        for line in (b"plan,%s,cert.bin", b"plan,tx.bin,%s"):
+            found = program.ask(line % spelling)
+            tally.check("PAGES is never emptied", found == b"refused: the same file is named twice", found)
     program.close()
     tally.check("PAGES is as it was", path.read_bytes() == HEADER + b"8,tone0,\n16,numeric,12\n", "")
     path.write_bytes(HEADER + b"8,tone0,\n8,tone0,\n")
@@ -328,6 +362,7 @@ def worked_session(tally, folder):
 def main():
     return run_parts(
         words_of_answers,
+        devices_of_a_plan,
         many_edits,
         files_of_a_plan,
         hard_plans,

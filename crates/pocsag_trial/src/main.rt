@@ -9,12 +9,16 @@ mod certificates;
 #[cfg(test)]
 mod check_tests;
 #[cfg(test)]
+mod command_tests;
+#[cfg(test)]
 mod flow_tests;
 mod kept;
 mod large;
 #[cfg(test)]
 mod layout_tests;
 mod line;
+#[cfg(test)]
+mod open_tests;
 mod packing;
 mod pages;
 mod planning;

@@ -1,0 +1,5 @@
+pub mod Always
+pub mod Commands
+pub mod Faults
+pub mod Lines
+pub mod Showing
