@@ -1,0 +1,2 @@
+pub mod SliceSource
+pub mod Statuses

@@ -1,0 +1,20 @@
+#![tactic(auto)]
+//! The calls of the C library. Bytes come in as slices, and go out into buffers of the caller, which are
+//! written only where all of a text fits; each call answers a status, and tells what belongs to it through
+//! a structure.
+
+ghost use Rattle.std.specs.Prelude.{◌≡◌};
+ghost use Rattle.pocsag_c.specs.Statuses.{interface_version};
+
+mod refusal;
+mod slice_source;
+
+pub use refusal::Place;
+
+/// The number of this interface: calls, structures and statuses. It grows with each change of them.
+#[unsafe(no_mangle)]
+pub extern "C" fn pocsag_version() -> u32
+    ensures { result ≡ interface_version }
+{
+    1
+}
