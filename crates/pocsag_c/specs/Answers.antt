@@ -1,24 +1,22 @@
 -- What each call owes, in the numbers and the bytes that cross to the caller.
-use Rattle.std.specs.Prelude.{◌≡◌, ℕ, ◌<◌, ◌≤◌, List, length, ◌++◌, drop}
+use Rattle.std.specs.Prelude.{◌≡◌, ◌≢◌, ℕ, ◌<◌, ◌≤◌, List, length, ◌++◌, drop}
 use Rattle.pocsag_words.specs.declared.ending.End.{End}
 use Rattle.pocsag_words.specs.declared.ending.End.TheVariants as ends
-use Rattle.pocsag_pages.specs.declared.page.Page.{Page}
-use Rattle.pocsag_pages.specs.Bytes.{after_preamble, words_of}
-use Rattle.pocsag_decode.specs.Faults.{ReadsAs}
-use Rattle.pocsag_decode.specs.Listing.{listing}
-use Rattle.pocsag_pager.specs.Shown.{AreShown}
 use Rattle.pocsag_commands.specs.Commands.{Checked}
 use Rattle.pocsag_commands.specs.Judging.{IsNotShown}
 use Rattle.pocsag_commands.specs.declared.fault.Fault.{Fault}
 use Rattle.pocsag_c.specs.declared.checking.CheckInfo.{CheckInfo}
 use Rattle.pocsag_c.specs.declared.refusal.Place.{Place}
-use Rattle.pocsag_c.specs.declared.refusal.Refusal.{Refusal}
 use Rattle.pocsag_c.specs.Statuses.{refusal_of}
 
 -- The number of an end.
 abbrev pub number_of_end : End → ℕ
 number_of_end ends.Open = 0
 number_of_end ends.Closed = 1
+
+-- The number of no end.
+abbrev pub IsNoEnd : ℕ → Type 0
+IsNoEnd number = (number ≢ 0) × (number ≢ 1)
 
 -- The status and the place are those of a fault that says this.
 pub record IsRefused (Explains : Fault → Type 0) (status : ℕ) (place : Place) : Type 0 where

@@ -1,2 +1,6 @@
+pub mod Answers
+pub mod GrowingSink
+pub mod Listings
+pub mod Plans
 pub mod SliceSource
 pub mod Statuses

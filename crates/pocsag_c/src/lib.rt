@@ -6,9 +6,17 @@
 ghost use Rattle.std.specs.Prelude.{◌≡◌};
 ghost use Rattle.pocsag_c.specs.Statuses.{interface_version};
 
+mod checking;
+mod growing_sink;
+mod handing;
+mod planning;
+mod receiving;
 mod refusal;
 mod slice_source;
 
+pub use checking::{CheckInfo, pocsag_check};
+pub use planning::{PlanInfo, pocsag_plan};
+pub use receiving::{pocsag_decode, pocsag_hear};
 pub use refusal::Place;
 
 /// The number of this interface: calls, structures and statuses. It grows with each change of them.
