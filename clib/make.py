@@ -26,19 +26,12 @@ def run(*words, **how):
 
 def memory_calls():
     """The toolchain's few lines that call malloc, realloc and free."""
-    command = shutil.which("rt")
-    if command is None:
-        raise SystemExit("make.py: the command rt is missing")
-    told = run("rt", "version", capture_output=True, text=True).stdout
-    for word in told.split():
-        found = pathlib.Path(word) / "c/liblibc_c.a"
-        if found.is_file():
-            return found
-    for folder in pathlib.Path(os.path.realpath(command)).parents:
-        found = folder / "c/liblibc_c.a"
-        if found.is_file():
-            return found
-    raise SystemExit("make.py: liblibc_c.a of the toolchain is not found")
+    for place in os.environ.get("PATH", "").split(os.pathsep):
+        for folder in pathlib.Path(os.path.realpath(pathlib.Path(place) / "rt")).parents:
+            found = folder / "c/liblibc_c.a"
+            if found.is_file():
+                return found
+    raise SystemExit("make.py: liblibc_c.a of the toolchain is not found beside the command rt")
 
 
 def join(archive, parts):

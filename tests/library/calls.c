@@ -92,35 +92,51 @@ static uint32_t plan(struct texts *t)
                        &t->info);
 }
 
-static long try_refusals(const struct texts *whole)
+/* One of the four calls, its texts into t. */
+static uint32_t call_of(int call, const struct texts *whole, struct texts *t)
 {
-    static struct texts t;
     struct pocsag_check_info check;
     struct pocsag_place place;
+    t->tx_len = t->cert_len = 0;
+    switch (call) {
+    case 0:
+        return plan(t);
+    case 1:
+        return pocsag_check(pages, pages_len, whole->cert, whole->cert_len, &check);
+    case 2:
+        return pocsag_decode(whole->tx, whole->tx_len, t->tx, LARGE, &t->tx_len, &place);
+    default:
+        return pocsag_hear(8, whole->tx, whole->tx_len, t->tx, LARGE, &t->tx_len, &place);
+    }
+}
+
+/* Each growth of memory refused in turn: want of memory is told and nothing is written, or the call does without. */
+static long try_refusals(const struct texts *whole)
+{
+    static struct texts ample, t;
     long number = 0;
     for (int call = 0; call < 4; call++) {
+        memset(&ample, 0x5a, sizeof ample);
+        if (call_of(call, whole, &ample) != POCSAG_OK)
+            wrong("a call that lacks nothing is refused", call);
         for (long at = 1;; at++) {
-            memset(t.tx, 0x5a, LARGE);
-            memset(t.cert, 0x5a, LARGE);
+            memset(&t, 0x5a, sizeof t);
             live = taken = 0;
             refuse_at = at;
-            uint32_t status =
-                call == 0   ? plan(&t)
-                : call == 1 ? pocsag_check(pages, pages_len, whole->cert, whole->cert_len, &check)
-                : call == 2 ? pocsag_decode(whole->tx, whole->tx_len, t.tx, LARGE, &t.tx_len, &place)
-                            : pocsag_hear(8, whole->tx, whole->tx_len, t.tx, LARGE, &t.tx_len, &place);
+            uint32_t status = call_of(call, whole, &t);
             int reached = taken >= at;
             refuse_at = 0;
             if (live != 0)
                 wrong("memory is not given back", at);
-            if (!reached) {
-                if (status != POCSAG_OK)
-                    wrong("a call that lacks nothing is refused", call);
-                break;
-            }
-            number++;
-            if (status != POCSAG_OUT_OF_MEMORY || !is_untouched(t.tx, LARGE) || !is_untouched(t.cert, LARGE))
+            if (status == POCSAG_OK) {
+                if (memcmp(t.tx, ample.tx, LARGE) != 0 || memcmp(t.cert, ample.cert, LARGE) != 0)
+                    wrong("other bytes where memory is refused", at);
+            } else if (status != POCSAG_OUT_OF_MEMORY || !is_untouched(t.tx, LARGE) || !is_untouched(t.cert, LARGE)) {
                 wrong("refused memory is not told", at);
+            }
+            if (!reached)
+                break;
+            number += status == POCSAG_OUT_OF_MEMORY;
         }
     }
     return number;

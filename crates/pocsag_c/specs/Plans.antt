@@ -52,6 +52,10 @@ pub record HasNoRoomForBoth (Says : (sent certificate : List ℕ) → Type 0) (t
 abbrev pub IsWithoutRoom : (status : ℕ) → Type 0
 IsWithoutRoom status = (status ≡ 7) ⊎ (status ≡ 8)
 
+-- There is no plan, though the end is one.
+abbrev pub IsWithoutPlan : (status : ℕ) → Type 0
+IsWithoutPlan status = (status ≢ 0) × (status ≢ 2) × (status ≢ 7) × (status ≢ 8)
+
 -- The counts are those of the page file's round.
 pub record IsCounted (file : List ℕ) (info : PlanInfo) : Type 0 where
   pub round : List Page
