@@ -19,7 +19,7 @@ abbrev pub IsNoEnd : ℕ → Type 0
 IsNoEnd number = (number ≢ 0) × (number ≢ 1)
 
 -- The status and the place are those of a fault that says this.
-pub record IsRefused (Explains : Fault → Type 0) (status : ℕ) (place : Place) : Type 0 where
+pub record TellsFault (Explains : Fault → Type 0) (status : ℕ) (place : Place) : Type 0 where
   pub fault : Fault
   pub why : Explains fault
   pub same_status : status ≡ (refusal_of fault).status

@@ -1,7 +1,7 @@
 ghost use Rattle.std.specs.Prelude.{◌≡◌, ◌≢◌, IfErr, IfOk, IsTrue};
 ghost use Rattle.pocsag_commands.specs.Commands.{Checked};
 ghost use Rattle.pocsag_commands.specs.Judging.{ExplainsJudging, IsNotShown};
-ghost use Rattle.pocsag_c.specs.Answers.{IsNotAccepted, IsRefused, IsShown, number_of_end};
+ghost use Rattle.pocsag_c.specs.Answers.{IsNotAccepted, TellsFault, IsShown, number_of_end};
 
 use crate::refusal::{NOWHERE, Place, refusal_of};
 use crate::slice_source::SliceSource;
@@ -54,7 +54,7 @@ pub extern "C" fn pocsag_check(
     // The two can be read, and the checker does not accept the tree.
     ensures not_shown { result ≡ 1 → IsNotAccepted pages.now cert.now info.new }
     // Any other status is that of the fault of one of them, with its place.
-    ensures fault { result ≢ 0 → result ≢ 1 → IsRefused (ExplainsJudging pages.now cert.now) result info.new.place }
+    ensures fault { result ≢ 0 → result ≢ 1 → TellsFault (ExplainsJudging pages.now cert.now) result info.new.place }
 {
     match judged(alloc, pages, cert) {
         Ok(judged) => {

@@ -12,12 +12,14 @@ mod handing;
 mod planning;
 mod receiving;
 mod refusal;
+mod reporting;
 mod slice_source;
 
 pub use checking::{CheckInfo, pocsag_check};
 pub use planning::{PlanInfo, pocsag_plan};
 pub use receiving::{pocsag_decode, pocsag_hear};
 pub use refusal::Place;
+pub use reporting::{ReportInfo, pocsag_report};
 
 /// The number of this interface: calls, structures and statuses. It grows with each change of them.
 #[unsafe(no_mangle)]

@@ -4,7 +4,7 @@ ghost use Rattle.pocsag_plan.specs.BoundedHeadline.{BoundedHeadline};
 ghost use Rattle.pocsag_plan.specs.BoundedStreams.{ExplainsStreamAlways, IsBoundedOf};
 ghost use Rattle.pocsag_plan.specs.Headline.{Headline};
 ghost use Rattle.pocsag_plan.specs.Streams.{ExplainsStream, IsSearchLimit};
-ghost use Rattle.pocsag_c.specs.Answers.{IsDelivered, IsNoEnd, IsRefused, number_of_end};
+ghost use Rattle.pocsag_c.specs.Answers.{IsDelivered, IsNoEnd, TellsFault, number_of_end};
 ghost use Rattle.pocsag_c.specs.Plans.{ExplainsPlanning, ExplainsPlanningAlways, HasNoRoomForBoth, IsCounted, IsHeadline, IsHeadlineWithBound, IsPlannedInto, IsWithoutPlan, IsWithoutRoom};
 
 use crate::growing_sink::GrowingSink;
@@ -206,8 +206,8 @@ pub extern "C" fn pocsag_plan(
 
     // Any other status says why there is no plan, and both buffers are as they were.
     ensures bad_end { result ≡ 2 ↔ IsNoEnd end }
-    ensures fault { IsWithoutPlan result → always ≡ 0 → IsRefused (ExplainsPlanning pages.now end limit) result info.new.place }
-    ensures fault_always { IsWithoutPlan result → always ≢ 0 → IsRefused (ExplainsPlanningAlways pages.now limit) result info.new.place }
+    ensures fault { IsWithoutPlan result → always ≡ 0 → TellsFault (ExplainsPlanning pages.now end limit) result info.new.place }
+    ensures fault_always { IsWithoutPlan result → always ≢ 0 → TellsFault (ExplainsPlanningAlways pages.now limit) result info.new.place }
     ensures answered { always ≢ 0 → result ≢ 6 }
     ensures untouched { result ≢ 0 → (tx.new ≡ tx.old) × (cert.new ≡ cert.old) }
 {

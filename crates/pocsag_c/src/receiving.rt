@@ -1,5 +1,5 @@
 ghost use Rattle.std.specs.Prelude.{◌≡◌, ◌≢◌, IfErr, IfOk};
-ghost use Rattle.pocsag_c.specs.Answers.{IsRefused};
+ghost use Rattle.pocsag_c.specs.Answers.{TellsFault};
 ghost use Rattle.pocsag_c.specs.Listings.{ExplainsDecoding, ExplainsHearing, HasNoRoom, IsListed, IsListingOfHeard, IsListingOfRead};
 
 use crate::growing_sink::GrowingSink;
@@ -42,7 +42,7 @@ pub extern "C" fn pocsag_decode(
 ) -> u32
     ensures listed { result ≡ 0 → IsListed (IsListingOfRead tx.now) listing.old listing.new listing_len.new }
     ensures no_room { result ≡ 9 → HasNoRoom (IsListingOfRead tx.now) listing.old listing.new listing_len.new }
-    ensures fault { result ≢ 0 → result ≢ 9 → IsRefused (ExplainsDecoding tx.now) result place.new }
+    ensures fault { result ≢ 0 → result ≢ 9 → TellsFault (ExplainsDecoding tx.now) result place.new }
     ensures untouched { result ≢ 0 → listing.new ≡ listing.old }
 {
     match list_read(alloc, tx) {
@@ -76,7 +76,7 @@ pub extern "C" fn pocsag_hear(
 ) -> u32
     ensures listed { result ≡ 0 → IsListed (IsListingOfHeard address tx.now) listing.old listing.new listing_len.new }
     ensures no_room { result ≡ 9 → HasNoRoom (IsListingOfHeard address tx.now) listing.old listing.new listing_len.new }
-    ensures fault { result ≢ 0 → result ≢ 9 → IsRefused (ExplainsHearing address tx.now) result place.new }
+    ensures fault { result ≢ 0 → result ≢ 9 → TellsFault (ExplainsHearing address tx.now) result place.new }
     ensures untouched { result ≢ 0 → listing.new ≡ listing.old }
 {
     match list_heard(alloc, address, tx) {
