@@ -2,7 +2,7 @@
 use Rattle.std.proofs.Common.{◌≡◌, ◌≢◌, ℕ, ◌+◌, ◌-◌, ◌/◌, ◌%◌, ◌<◌, ◌≤◌, ◌==◌, ◌&&◌, false, not, nat_lt, List, [], ◌∷◌, ◌++◌, length, map, slice_index, is_some, IsTrue, refl, sym, ap, ◌∙◌, subst, inl, inr, arith, append_assoc}
 use Rattle.std.proofs.Math.Seq.{get_or-append_seam}
 use Rattle.std.proofs.lemmas.Bool.{cases_eq, cases_lt, cond_both, lt-ltb, le-ltb, eq-eqb, ne_eqb}
-use Rattle.std.proofs.lemmas.List.{append-nil, get_or_append_left, length-append, map-append}
+use Rattle.std.proofs.lemmas.List.{append-nil, get_or_append_left, length-append, length_push, map-append}
 use Rattle.pocsag_words.specs.Codeword.{IsCodeword}
 use Rattle.pocsag_words.specs.Kinds.{kind_of}
 use Rattle.pocsag_words.specs.declared.codeword.Kind.{Kind}
@@ -63,9 +63,6 @@ module _ (ws : List ℕ) (w : ℕ) where
   is_last : slice_index (ws ++ w ∷ []) (length ws) ≡ w
   is_last = get_or-append_seam ws w [] 0
 
-  pub length_more : length (ws ++ w ∷ []) ≡ length ws + 1
-  length_more = length-append ws (w ∷ [])
-
   may_last : may_follow (ws ++ w ∷ []) (length ws) ≡ may_follow ws (length ws)
   may_last = may_kept ws (w ∷ []) (length ws) (omega arith)
 
@@ -73,13 +70,13 @@ module _ (ws : List ℕ) (w : ℕ) where
   good_more good last = λ j h.
       elim (cases_eq j (length ws)) [
         | inl e ↦ subst (MayStandAt (ws ++ w ∷ [])) (sym e) last
-        | inr n ↦ let lt : j < length ws = let l = length_more in omega arith in good_kept ws (w ∷ []) j lt (good j lt)
+        | inr n ↦ let lt : j < length ws = let l = length_push ws w in omega arith in good_kept ws (w ∷ []) j lt (good j lt)
       ]
 
   bad_more : (f : DecodeFault) → AllMayStand ws → IsBad (ws ++ w ∷ []) (length ws) f → HasBadWord (ws ++ w ∷ []) f
   bad_more f good last = record {
     place = length ws;
-    there = let l = length_more in omega arith;
+    there = let l = length_push ws w in omega arith;
     bad = last;
     least = λ j h. good_kept ws (w ∷ []) j h (good j h);
   }
@@ -116,7 +113,7 @@ module _ (ws : List ℕ) (w : ℕ) where
   -- after a synchronisation codeword a message may follow as before it
   pub may_sync : length ws % 17 ≡ 0 → may_follow (ws ++ w ∷ []) (length (ws ++ w ∷ [])) ≡ may_follow ws (length ws)
   may_sync s =
-      rw length_more (elim (cases_lt 0 (length ws)) [
+      rw (length_push ws w) (elim (cases_lt 0 (length ws)) [
         | inl p ↦
             let one : (length ws + 1) % 17 ≡ 1 = omega arith in
             let zero : length ws % 17 ≢ 1 = omega arith in
@@ -132,7 +129,7 @@ module _ (ws : List ℕ) (w : ℕ) where
   may_codeword s =
       let other : (length ws + 1) % 17 ≢ 1 = omega arith in
       let place : length ws + 1 - 1 ≡ length ws = omega arith in
-      rw (length_more, ne_eqb _ _ other, lt-ltb 1 (length ws + 1) (omega arith), place) (ap (λ (x : ℕ). not (is_idle (kind_of x))) is_last)
+      rw (length_push ws w, ne_eqb _ _ other, lt-ltb 1 (length ws + 1) (omega arith), place) (ap (λ (x : ℕ). not (is_idle (kind_of x))) is_last)
 
 -- a bad word after words that were read
 module _ (place : ℕ) (growing : Growing) (ws : List ℕ) (w : ℕ) (r : HasRead place growing ws) where
@@ -155,7 +152,7 @@ read_sync place growing ws w s e r =
     unsynced_more 0 ws (w ∷ [])
     ∙ (ap (λ (l : List ℕ). unsynced 0 ws ++ l) (unsynced_sync (0 + length ws) w (omega arith)) ∙ append-nil (unsynced 0 ws)) in
     record {
-      count = let l = length_more ws w in omega arith;
+      count = let l = length_push ws w in omega arith;
       good = good_sync ws w r.good s' e;
       may = r.may ∙ sym (may_sync ws w s');
       pages = λ ks. rw same (r.pages ks);
@@ -181,7 +178,7 @@ read_codeword place frame growing after ws w s at c kind is follows current grow
     let counted = unsynced_count 0 ws in
     let frame_is : frame ≡ frame_at (length (unsynced 0 ws)) = omega arith in
     record {
-      count = let l = length_more ws w in omega arith;
+      count = let l = length_push ws w in omega arith;
       good = good_codeword ws w r.good s' c (λ m. sym r.may ∙ follows (ap is_message is ∙ m));
       may = current ∙ (ap (λ (k : Kind). not (is_idle k)) is ∙ sym (may_codeword ws w s'));
       pages = λ ks.
