@@ -16,7 +16,7 @@ OWN = re.compile(rf"not proved|no proof(?!.*(?:{OTHERS}))")
 SEARCHED = re.compile(r"`search` did not prove (`.*)")
 OF_FUNCTIONS = ("Answers.antt", "Invariants.antt", "Proof.antt")
 # A proof file that names something which the edit took away, and what cites that proof.
-UNFITTING = re.compile(r"has no field|is not in scope|has no `|was not admitted")
+UNFITTING = re.compile(r"has no field|is not in scope|has no `|was not admitted|which was rejected")
 UNREADABLE = re.compile(r"is not in scope|has no field|is no name|operand is missing|expected the end|cannot continue")
 
 
