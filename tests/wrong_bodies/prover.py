@@ -11,8 +11,7 @@ PARTS = ("src", "specs", "proofs")
 MINUTES = 40  # the longest that one check may take
 STATUS = re.compile(r"fn \w+?::(\S+): (.*)")
 PLACE = re.compile(r"(?:note: )?(?:\./)?((?:src|specs|proofs)/\S+?):(\d+):\d+: (.*)")
-OTHERS = r"it calls|it passes|a call of"
-OWN = re.compile(rf"not proved|no proof(?!.*(?:{OTHERS}))")
+OWN = re.compile(r"not proved|no proof: (?!it calls|it passes|a call of)")
 SEARCHED = re.compile(r"`search` did not prove (`.*)")
 OF_FUNCTIONS = ("Answers.antt", "Invariants.antt", "Proof.antt")
 # A proof file that names something which the edit took away, and what cites that proof.
@@ -114,7 +113,8 @@ class Planted:
         goals = list(self.goals(unit)) + list(self.lemmas() if may_be_lemma else ())
         real = [it for it in goals if not (it.startswith("proofs/") and UNFITTING.search(it))]
         if real:
-            return True, real[0][:240]
+            # a clause before an invariant, and both before what a call asks for
+            return True, min(real, key=lambda it: 2 * ("`returns" not in it) + ("`loop" not in it))[:240]
         if goals:
             return False, f"BAD EDIT: only a proof file no longer fits, so no contract was tried: {goals[0][:160]}"
         return False, "BAD EDIT: it is refused at no goal of its own"

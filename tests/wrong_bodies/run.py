@@ -109,12 +109,10 @@ def tried(room, edits, texts):
     if len(edits) == 1:
         told = next((": ".join(map(str, it)) for it in seen.said.places), "; ".join(seen.said.lines[:4]))
         return {edits[0]: Verdict(False, f"BAD EDIT: it does not reach the prover: {told[:300]}")}
-    half = len(edits) // 2
-    parts = [wrong, [it for it in edits if it not in wrong]]
-    if not all(parts):
-        parts = [edits[:half], edits[half:]]
+    others, half = [it for it in edits if it not in wrong], len(edits) // 2
+    parts = [*([it] for it in wrong), others] if wrong and others else [edits[:half], edits[half:]]
     found = {}
-    for part in [[it] for it in wrong] + parts[1:] if all(parts) and wrong else parts:
+    for part in parts:
         found.update(tried(room, part, texts))
     return found
 
@@ -150,7 +148,8 @@ def planned(crate):
 
 
 def try_crate(crate, say=print):
-    """Tries a crate's edits; gives for each, the right change and the unchanged copy: name, whether it holds, what to say."""
+    """Tries a crate's edits. Gives a name, whether it holds and what to say, for each of them, for the change that is
+    right and for the unchanged copy."""
     texts, plan, bad = planned(crate)
     results = [(f"{crate.name}/{name}", False, f"BAD EDIT: {why}") for name, why in bad.items()]
     if not plan:
@@ -158,13 +157,14 @@ def try_crate(crate, say=print):
     started = time.monotonic()
     proof = rt_check(crate.folder)
     if not proof.is_proved:
-        return [*results, (f"{crate.name} as it is", False, "it is not proved, so nothing was tried: run rt check there")]
+        return [*results, (f"{crate.name} as it is", False, "not proved, so nothing was tried: run rt check there")]
     with tempfile.TemporaryDirectory(prefix="wrong-bodies-") as top:
         room = Room(crate, top)
         for edits in plan:
             for edit, it in verdicts(room, edits, texts).items():
                 results.append((f"{crate.name}/{edit.name}", it.holds, it.told))
-        results.append((f"{crate.name} unchanged", room.check(texts).said.is_proved, "the copy is not proved at the end"))
+        is_proved = room.check(texts).said.is_proved
+        results.append((f"{crate.name} unchanged", is_proved, "the copy is not proved at the end"))
     if not any(it.is_right for edits in plan for it in edits):
         results.append((f"{crate.name}/a change that is right", False, "no function was found to make it in"))
     say(f"{crate.name}: {len(plan)} rounds in {time.monotonic() - started:.0f} s")

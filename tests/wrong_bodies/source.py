@@ -40,7 +40,7 @@ def without_arguments(words):
 
 def owner_of(header, module, homes):
     """What the prover puts before the names of an `impl` block's functions."""
-    header = re.sub(r"'\w+,? ?", "", header.partition("{")[0]).partition(" where ")[0]
+    header = re.sub(r"'\w+,? ?", "", header).partition(" where ")[0]
     header = re.sub(r"^impl(<>)? ?", "", header)
     if header.startswith("<"):
         header = header[re.match(r"<(?:[^<>]|<[^<>]*>)*>", header).end():].strip()
@@ -72,12 +72,13 @@ def end_of(lines, head, indent):
 
 def functions_of(path, text, homes):
     """The functions of a file of the crate in the order of their places."""
-    module, lines, found, owner = module_of(path), text.split("\n"), [], ""
+    module, lines, found, owner, of_trait = module_of(path), text.split("\n"), [], "", False
     for number, line in enumerate(lines):
         if line.startswith("impl"):
-            owner = owner_of(" ".join(lines[number:number + 6]), module, homes)
+            header = " ".join(lines[number:number + 6]).partition("{")[0]
+            owner, of_trait = owner_of(header, module, homes), " for " in header
         elif line == "}":
-            owner = ""
+            owner, of_trait = "", False
         head = HEAD.match(line)
         last = head and end_of(lines, number, head[1])
         if last is None:
@@ -86,7 +87,7 @@ def functions_of(path, text, homes):
         name = "::".join(filter(None, (owner or module, head[2])))
         cycle = CYCLE.search("\n".join(lines[first:number]))
         unit = "::".join(filter(None, (module, "+" + cycle[1]))) if cycle else name
-        is_shown = bool(head[1]) or "ensures" in "\n".join(lines[number:last])
+        is_shown = of_trait or "ensures" in "\n".join(lines[number:last])
         found.append(Function(name, unit, first, last, is_shown))
     return found
 
