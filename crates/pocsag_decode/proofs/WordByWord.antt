@@ -13,7 +13,7 @@ use Rattle.pocsag_decode.specs.declared.fault.DecodeFault.{DecodeFault}
 use Rattle.pocsag_decode.specs.declared.fault.DecodeFault.TheVariants as fault
 use Rattle.pocsag_decode.specs.declared.growing.Growing.{Growing}
 use Rattle.pocsag_decode.specs.Growing.{resumed}
-use Rattle.pocsag_decode.specs.Places.{is_message, is_idle, index_at, before, may_follow, IsBad, no_sync, bad_word, orphan, MayStandAt, AllMayStand, HasBadWord}
+use Rattle.pocsag_decode.specs.Places.{is_message, is_idle, index_at, before, may_follow, IsBad, no_sync, bad_word, orphan, MayStandAt, AllMayStand, HasBadWord, KeepsFrom}
 use Rattle.pocsag_decode.specs.Standing.{HasRead}
 use Rattle.pocsag_pages.proofs.Lengths.{unsynced_codeword, unsynced_count, unsynced_more, unsynced_sync}
 
@@ -56,6 +56,17 @@ bad_stays ws zs f b = record {
       same_bad ws (ws ++ zs) b.place f (get_or_append_left ws zs 0 b.place b.there)
       (may_kept ws zs b.place (let t = b.there in omega arith)) b.bad;
   least = λ j h. good_kept ws zs j (let t = b.there in omega arith) (b.least j h);
+}
+
+-- a place that has to be kept stays so
+pub keeps_on : (ws zs : List ℕ) (n m : ℕ) → m ≤ n → KeepsFrom ws n → KeepsFrom (ws ++ zs) m
+keeps_on ws zs n m h k = record {
+  place = k.place;
+  later = let l = k.later in omega arith;
+  there = let t = k.there in let l = length-append ws zs in omega arith;
+  codeword = k.codeword;
+  follows = may_kept ws zs k.place (let t = k.there in omega arith) ∙ k.follows;
+  good = λ j p. good_kept ws zs j (let t = k.there in omega arith) (k.good j p);
 }
 
 -- the last word
@@ -142,6 +153,20 @@ module _ (place : ℕ) (growing : Growing) (ws : List ℕ) (w : ℕ) (r : HasRea
   pub refused_orphan : 0 < place % 17 → IsCodeword w → IsTrue (is_message (kind_of w)) → is_some growing.current ≡ false
       → HasBadWord (ws ++ w ∷ []) (fault.Orphan (index_at place))
   refused_orphan s c m f = let n = r.count in rw n (bad_orphan ws w r.good (omega arith) c m (sym r.may ∙ f))
+
+  pub kept_codeword : 0 < place % 17 → IsCodeword w → IsTrue (is_some growing.current) → KeepsFrom (ws ++ w ∷ []) (length ws)
+  kept_codeword s c o =
+      let n = r.count in
+      let follows : IsTrue (may_follow ws (length ws)) = sym r.may ∙ o in
+      let l = length_more ws w in
+      record {
+        place = length ws;
+        later = omega arith;
+        there = omega arith;
+        codeword = omega arith;
+        follows = may_last ws w ∙ follows;
+        good = λ j h. good_codeword ws w r.good (omega arith) c (λ _. follows) j (omega arith);
+      }
 
 pub read_sync : (place : ℕ) (growing : Growing) (ws : List ℕ) (w : ℕ) → place % 17 ≡ 0 → w ≡ sync_word → HasRead place growing ws
     → HasRead (place + 1) growing (ws ++ w ∷ [])
