@@ -45,14 +45,13 @@ def field_at(data, at):
 
 
 def records(data):
-    """The records of a CSV file, each a list of fields, of which a page file has no more than three."""
+    """The records of a CSV file, each a list of fields."""
     fields, at = [], 3 if data.startswith(b"\xef\xbb\xbf") else 0
     while at < len(data) or fields:
         if not fields and data[at:at + 1] in (b"\n", b"\r"):  # a line with no byte in it
             at += 1
             continue
         field, end, at = field_at(data, at)
-        need(len(fields) < 3)
         fields.append(field)
         if end != b",":
             yield fields
@@ -163,9 +162,13 @@ def touches_outside(members, ends):
 @lru_cache(maxsize=4096)
 def loads(members, count, turns):
     """The load of a set with no page early, and (class, what each early page adds) where that is not 0."""
-    early, late = ([size(members & r[k]) for r in RUNS] for k in (1, 3))
-    all_late = sum(turns[c] * size(members) + count[c] * late[c] for c in range(136))
-    return all_late, [(c, early[c] - late[c]) for c in range(136) if count[c] and early[c] != late[c]]
+    all_late, gains = 0, []
+    for c in range(136):
+        if count[c]:
+            early, late = size(members & RUNS[c][1]), size(members & RUNS[c][3])
+            all_late += turns[c] * size(members) + count[c] * late
+            gains += [(c, early - late)] if early != late else []
+    return all_late, gains
 
 
 def least_load(members, lo, hi, count, turns):
