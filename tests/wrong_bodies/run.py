@@ -43,13 +43,17 @@ MEMORY = 2 << 20  # for each crate, in kB
 class Crate:
     """A crate of crates.txt: its folder, its line, the crates below it, the folders of its wrong bodies."""
 
-    def __init__(self, top, line, known):
-        self.name, _, uses = line.partition(":")
-        self.line, self.folder = line, top / "crates" / self.name
+    def __init__(self, top, name, lines):
+        self.name, self.line, self.folder = name, lines[name], top / "crates" / name
+        self.folders = [self.folder / "must-fail", top / "tests/wrong_bodies" / name]
         self.below = []
-        for used in [known[it] for it in uses.split() if it in known]:
-            self.below += [it for it in [*used.below, used] if it not in self.below]
-        self.folders = [self.folder / "must-fail", top / "tests/wrong_bodies" / self.name]
+        for used in self.line.partition(":")[2].split():
+            if used in lines:
+                used = Crate(top, used, lines)
+                self.below += [it for it in [*used.below, used] if it not in self.below]
+
+    def __eq__(self, other):
+        return self.name == other.name
 
     def texts(self):
         """The texts of the crate's files by their paths."""
@@ -59,12 +63,9 @@ class Crate:
 
 def crates_of(top):
     """The crates that crates.txt lists, by name."""
-    known = {}
-    for line in (top / "crates.txt").read_text().splitlines():
-        if line.strip() and not line.startswith("#"):
-            crate = Crate(top, line.strip(), known)
-            known[crate.name] = crate
-    return known
+    listed = [it.partition("#")[0].strip() for it in (top / "crates.txt").read_text().splitlines()]
+    lines = {it.partition(":")[0].split()[0]: it for it in listed if it}
+    return {name: Crate(top, name, lines) for name in lines}
 
 
 class Verdict(typing.NamedTuple):
