@@ -1,4 +1,5 @@
 pub mod Bounding
+pub mod Endings
 pub mod Planning
 pub mod Readback
 pub mod Shown

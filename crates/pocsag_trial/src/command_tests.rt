@@ -19,6 +19,10 @@ const LOOPS_APART: &[u8] = b"address,kind,message\n\
     0,numeric,111111111111111111111111111111111111111111111111111111111111111111111111111\n\
     3,numeric,111111111111111111111111111111111111111111111111111111111111111111111111111";
 
+// The worked example `one-full-batch`: its message goes on to the end of the transmission.
+const ONE_FULL_BATCH: &[u8] = b"address,kind,message\n\
+    0,numeric,111111111111111111111111111111111111111111111111111111111111111111111111111";
+
 // The limit, the end, and whether each round is answered.
 #[derive(Clone, Copy)]
 struct Search {
@@ -240,6 +244,8 @@ const APART_REPORT_BELOW: &str =
 
 const NOT_THE_PAGES: &str = "pocsag: the transmission does not hold the pages of the page file\n";
 
+const NOT_THE_END: &str = "pocsag: the transmission does not end as was asked for\n";
+
 const NOT_THE_BOUND: &str =
     "pocsag: the certificate does not show the batches of the transmission\n";
 
@@ -265,7 +271,16 @@ fn what_was_planned_is_read(rt: HostRuntime) -> Result<(), Fail> {
     let (to_one, to_three) = (open_to(1, true), open_to(3, true));
     let lone = "address,kind,message\n8,tone0,\n";
     let none = "address,kind,message\n";
-    let cases: [ReadCase; 19] = [
+    let cases: [ReadCase; 20] = [
+        (
+            ONE_FULL_BATCH,
+            OPEN,
+            ONE_FULL_BATCH,
+            Command::Verify(End::Closed, false),
+            1,
+            "",
+            NOT_THE_END,
+        ),
         (
             LONE_TONE,
             OPEN,
