@@ -158,7 +158,7 @@ module _ (place : ℕ) (growing : Growing) (ws : List ℕ) (w : ℕ) (r : HasRea
   kept_codeword s c o =
       let n = r.count in
       let follows : IsTrue (may_follow ws (length ws)) = sym r.may ∙ o in
-      let l = length_more ws w in
+      let l = length_push ws w in
       record {
         place = length ws;
         later = omega arith;
