@@ -21,10 +21,11 @@ Each edit puts a wrong body in the place of a right one, and the prover refuses 
 contract that is named does say what it seems to say. `tests/wrong_bodies/run.py` tries all of them, and so does
 `./test`: in rounds, with at most one in each function, where each function is judged by its own goals. Those of
 the kinds that the specification names stand in `crates/NAME/must-fail/`, where the gate also tries them one by
-one; the others in `tests/wrong_bodies/NAME/`. The second column names the function and the goal of it that the
-prover named first: a clause of its contract (`returns` where it has one clause without a name, with the place
-where it returns behind it), an invariant of its loop that leads to one, or what a call in it asks for. The page
-is made by `docs/wrong_bodies.py` from what that script prints; an edit that a run did not name keeps its line.
+one; the others in `tests/wrong_bodies/NAME/`. The second column names the function, as the prover does, and the
+goal of it that stays open: a clause of its contract (`returns` where it has one clause without a name, with the
+place where it returns behind it), else an invariant of its loop that leads to one, or what a call in it asks for;
+for an entry of a table the lemma that the table is right. The page is made by `docs/wrong_bodies.py` from what that
+script prints; an edit that a run did not name keeps its line.
 
 """
 

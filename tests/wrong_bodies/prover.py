@@ -13,6 +13,7 @@ STATUS = re.compile(r"fn \w+?::(\S+): (.*)")
 PLACE = re.compile(r"(?:note: )?(?:\./)?((?:src|specs|proofs)/\S+?):(\d+):\d+: (.*)")
 OWN = re.compile(r"not proved|no proof: (?!it calls|it passes|a call of)")
 SEARCHED = re.compile(r"`search` did not prove (`.*)")
+CLAUSE = re.compile(r"`(?:\w+-)?returns")  # the name of a goal that a clause asks for; in a cycle behind a function's
 OF_FUNCTIONS = ("Answers.antt", "Invariants.antt", "Proof.antt")
 # A proof file that names something which the edit took away, and what cites that proof.
 UNFITTING = re.compile(r"has no field|is not in scope|has no `|was not admitted|which was rejected")
@@ -114,7 +115,7 @@ class Planted:
         real = [it for it in goals if not (it.startswith("proofs/") and UNFITTING.search(it))]
         if real:
             # a clause before an invariant, and both before what a call asks for
-            return True, min(real, key=lambda it: 2 * ("`returns" not in it) + ("`loop" not in it))[:240]
+            return True, min(real, key=lambda it: 2 * (not CLAUSE.search(it)) + ("loop-" not in it))[:240]
         if goals:
             return False, f"BAD EDIT: only a proof file no longer fits, so no contract was tried: {goals[0][:160]}"
         return False, "BAD EDIT: it is refused at no goal of its own"

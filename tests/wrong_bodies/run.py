@@ -139,13 +139,11 @@ def planned(crate):
     texts = crate.texts()
     good, bad = read_edits(crate.folders, texts)
     rounds = rounds_of(good, texts)
-    plan = [it.edits for it in rounds]
-    right = right_change(texts, rounds[0].units) if rounds else None
-    if right and rounds[0].is_full:
-        plan.append([right])
-    elif right:
-        plan[0].append(right)
-    return texts, plan, bad
+    for it in rounds:
+        right = None if it.is_full else right_change(texts, it.units)
+        if right and it.take(right):
+            break
+    return texts, [it.edits for it in rounds], bad
 
 
 def try_crate(crate, say=print):
