@@ -16,7 +16,7 @@ use Rattle.pocsag_slots.proofs.LoadLemmas.{covered_by, load_few, rest_below}
 use Rattle.pocsag_slots.proofs.SumLemmas.{sum_below-le, sum_over-same, sum_over-times, term-le-sum_below}
 use Rattle.pocsag_tree.specs.Spelling.{IsSet}
 use Rattle.pocsag_slots.proofs.CoverLemmas.{start_below}
-use Rattle.pocsag_branch.specs.Examined.{Refuses}
+use Rattle.pocsag_branch.specs.Shape.{RefusesOneLess}
 use Rattle.pocsag_branch.specs.Found.{HasPage}
 
 -- how many members a set has
@@ -90,7 +90,7 @@ module _ (k : Classes) (batches set least share : ℕ) (over : Overloads k (limi
             absurd (omega (arith, least_most))
       ]
 
-  pub share_refuses : IsSet set → share ≡ least / members set + min 1 (least % members set) → Refuses k share set
+  pub share_refuses : IsSet set → share ≡ least / members set + min 1 (least % members set) → RefusesOneLess k share set
   share_refuses is_set is =
       let more : batches < share = share_more is in
       let ceil = div_ceil_times least (members set) has_members in
@@ -110,7 +110,7 @@ module _ (k : Classes) (batches set least share : ℕ) (over : Overloads k (limi
       add_one_times q s = omega arith
 
 -- the least number of batches
-pub least_is_least : (k : Classes) (b set : ℕ) (choice : ℕ → ℕ) → Refuses k b set → IsAdmitted k (limits_of_all k b) choice → IsLeast k b
+pub least_is_least : (k : Classes) (b set : ℕ) (choice : ℕ → ℕ) → RefusesOneLess k b set → IsAdmitted k (limits_of_all k b) choice → IsLeast k b
 least_is_least k b set choice refuses admitted =
     record {
       carried = record {

@@ -16,6 +16,7 @@ mod edit;
 #[cfg(test)]
 mod examples;
 mod fault;
+mod laws;
 #[cfg(test)]
 mod plan_tests;
 mod planning;
@@ -34,6 +35,7 @@ pub use book::Book;
 pub use bounded::Bounded;
 pub use edit::Edit;
 pub use fault::{BadRate, PlanFault, StreamFault};
+pub use laws::tight_headlines_are_headlines;
 pub use planning::plan;
 pub use refusal::{AddFault, BookFault, NotThere, Refused};
 pub use reporting::report;
