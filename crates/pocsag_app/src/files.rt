@@ -1,6 +1,7 @@
 use crate::devices::{ReaderSource, WriterSink};
-use crate::fault::Fault;
-use crate::paths::{Named, name_one_file};
+use crate::paths::{Named, name_one_file, refuse_equal};
+use pocsag_commands::Fault;
+use pocsag_open::{Outputs, Places};
 use std::alloc::Global;
 use std::fs::{self, OpenFile};
 use std::io::{self, BufReader, ErrorKind};
@@ -46,35 +47,54 @@ fn make_sink<R: Files>(rt: &R, path: &str) -> Result<WriterSink<R::File>, Fault>
     Ok(WriterSink::new(file))
 }
 
-/// The two files that a command writes, emptied or made. Where two of the three paths name one file,
-/// whatever their spelling, none that was there is emptied.
-#[derive(Drop)]
-pub struct Outputs<R: Files> {
-    pub tx: WriterSink<R::File>,
-    pub cert: WriterSink<R::File>,
+/// Empties or makes the two files that a command writes. Where two of the three paths, of which that of a
+/// page file may be absent, name one file, whatever their spelling, none that was there is emptied.
+pub fn make_outputs<R: Files>(
+    rt: &R,
+    pages: Option<&str>,
+    tx: &str,
+    cert: &str,
+) -> Result<Outputs<WriterSink<R::File>>, Fault> {
+    refuse_one_file(rt, pages, tx, cert)?;
+    let made = make_sink(rt, tx)?;
+    // A path that named no file before may be another spelling of the one that was made.
+    refuse_one_file(rt, pages, tx, cert)?;
+    Ok(Outputs {
+        tx: made,
+        cert: make_sink(rt, cert)?,
+    })
 }
 
-impl<R: Files> Outputs<R> {
-    pub fn make(rt: &R, pages: &str, tx: &str, cert: &str) -> Result<Outputs<R>, Fault> {
-        refuse_one_file(rt, &[pages, tx, cert])?;
-        let made = make_sink(rt, tx)?;
-        // A path that named no file before may be another spelling of the one that was made.
-        refuse_one_file(rt, &[pages, tx, cert])?;
-        Ok(Outputs {
-            tx: made,
-            cert: make_sink(rt, cert)?,
-        })
-    }
-}
-
-fn refuse_one_file<R: Files>(rt: &R, paths: &[&str; 3]) -> Result<(), Fault> {
-    let named = [
-        Named::at(rt, paths[0]),
-        Named::at(rt, paths[1]),
-        Named::at(rt, paths[2]),
-    ];
-    if name_one_file(&named) {
+fn refuse_one_file<R: Files>(
+    rt: &R,
+    pages: Option<&str>,
+    tx: &str,
+    cert: &str,
+) -> Result<(), Fault> {
+    let pages = match pages {
+        Some(path) => Named::at(rt, path),
+        None => None,
+    };
+    if name_one_file(&[pages, Named::at(rt, tx), Named::at(rt, cert)]) {
         return Err(Fault::EqualPaths);
     }
     Ok(())
+}
+
+/// The files that the plans of an open round are written to, none of which is the page file that the round
+/// began with.
+#[derive(Drop)]
+pub struct RoundFiles<'a, R: Files> {
+    pub rt: &'a R,
+    /// The path of that page file, if there is one.
+    pub pages: Option<&'a str>,
+}
+
+impl<R: Files> Places for RoundFiles<'_, R> {
+    type Output = WriterSink<R::File>;
+
+    fn make(&self, tx: &str, cert: &str) -> Result<Outputs<WriterSink<R::File>>, Fault> {
+        refuse_equal(self.pages, tx, cert)?;
+        make_outputs(self.rt, self.pages, tx, cert)
+    }
 }

@@ -1,19 +1,16 @@
-ghost use Rattle.std.specs.Prelude.{IsErrOf, map};
+ghost use Rattle.std.specs.Prelude.{◌∷◌, [], IsErrOf, map};
+ghost use Rattle.pocsag_commands.specs.declared.fault.Fault.TheVariants.{EqualPaths};
 ghost use Rattle.pocsag_app.specs.Paths.{HasEqual};
 
-use crate::always::{run_plan_always, run_report_always};
-use crate::checking::run_check;
-use crate::commands::{run_input, run_plan, run_report};
 use crate::devices::{ReaderSource, WriterSink};
-use crate::fault::Fault;
-use crate::files::{Outputs, open_buffered, open_source};
-use crate::opening::{Planner, run_open, run_open_pages};
-use crate::paths::equal_paths;
-use crate::receiving::{run_decode, run_hear};
-use crate::showing::run_show;
-use crate::tell::tell_fault;
-use crate::verifying::run_verify;
+use crate::files::{RoundFiles, make_outputs, open_buffered, open_source};
+use crate::paths::refuse_equal;
 use crate::words::{Order, Search};
+use pocsag_commands::{
+    Fault, run_check, run_decode, run_hear, run_input, run_plan, run_plan_always, run_report,
+    run_report_always, run_show, run_verify, tell_fault,
+};
+use pocsag_open::{Planner, run_open, run_open_pages};
 use pocsag_words::Sink;
 use std::alloc::Global;
 
@@ -86,14 +83,12 @@ fn plan_paths<O: Sink, E: Sink>(
     out: &mut O,
     err: &mut E,
 ) -> Result<u8, Fault>
-    ensures { HasEqual (map (λ path. path.now) paths.entry) → IsErrOf result Fault.EqualPaths }
+    ensures { HasEqual (map (λ path. path.now) paths.entry) → IsErrOf result EqualPaths }
 {
-    if equal_paths(&paths) {
-        return Err(Fault::EqualPaths);
-    }
     let [pages, tx, cert] = paths;
+    refuse_equal(Some(pages), tx, cert)?;
     let mut pages_source = open_source(rt, pages)?;
-    let mut outputs = Outputs::make(rt, pages, tx, cert)?;
+    let mut outputs = make_outputs(rt, Some(pages), tx, cert)?;
     let Search { limit, end, always } = search;
     let source = &mut pages_source;
     let (tx, cert) = (&mut outputs.tx, &mut outputs.cert);
@@ -130,12 +125,13 @@ fn open_path<O: Sink, E: Sink>(
     err: &mut E,
 ) -> Result<u8, Fault> {
     let mut input = ReaderSource::new(rt.stdin());
+    let places = &RoundFiles { rt, pages: path };
+    let planner = &Planner { places, always };
     let Some(path) = path else {
-        return Ok(run_open(rt, alloc, always, &mut input, out, err));
+        return Ok(run_open(alloc, planner, &mut input, out, err));
     };
     let mut pages = open_source(rt, path)?;
-    let planner = Planner { path, always };
-    Ok(run_open_pages(rt, alloc, planner, &mut pages, &mut input, out, err))
+    Ok(run_open_pages(alloc, planner, &mut pages, &mut input, out, err))
 }
 
 // Reports on the plan of a page file.

@@ -1,6 +1,6 @@
-use crate::view::View;
 use clap::error::ErrorKind;
 use clap::{Arg, ArgAction, ArgMatches, Command, Error, value_parser};
+use pocsag_commands::View;
 use pocsag_words::End;
 use std::alloc::{AllocError, Global};
 

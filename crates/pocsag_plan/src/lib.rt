@@ -17,13 +17,9 @@ mod edit;
 mod examples;
 mod fault;
 mod laws;
-#[cfg(test)]
-mod plan_tests;
 mod planning;
 mod refusal;
 mod reporting;
-#[cfg(test)]
-mod stream_tests;
 mod streaming;
 mod tally;
 

@@ -1,0 +1,6 @@
+pub mod Bounding
+pub mod Endings
+pub mod Planning
+pub mod Readback
+pub mod Shown
+pub mod Statuses

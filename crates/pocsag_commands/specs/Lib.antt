@@ -1,0 +1,6 @@
+pub mod Always
+pub mod Commands
+pub mod Faults
+pub mod Lines
+pub mod Showing
+pub mod Verifying
