@@ -487,6 +487,10 @@ def try_words(tally, folder):
     for words in (["--help"], ["-h"], ["help"], *([name, "--help"] for name in commands), *(["help", name] for name in commands)):
         done = run(words, folder)
         tally.check(f"help {words}", done.returncode == 0 and done.stderr == b"" and b"Usage: pocsag" in done.stdout, done)
+    for words in (["--help"], ["help", "plan"], ["--version"]):
+        with open("/dev/full", "wb") as full:
+            done = subprocess.run([str(PROGRAM), *words], stdout=full, stderr=subprocess.PIPE, cwd=folder, timeout=60)
+        tally.check(f"help that cannot be written: {words}", (done.returncode, done.stderr) == (3, b"pocsag: cannot write\n"), done)
     help_text = run(["--help"], folder).stdout
     for shown in (b"Example:", b"tone0", b"numeric", b"alpha", b"20000 pages", b"standard input", b"2097151", b"268435456"):
         tally.check(f"help shows {shown}", shown in help_text, help_text)

@@ -2,5 +2,6 @@ pub mod Bounding
 pub mod Endings
 pub mod Planning
 pub mod Readback
+pub mod Refusing
 pub mod Shown
 pub mod Statuses
