@@ -28,9 +28,9 @@ def link_or_copy(source, target):
         shutil.copy2(source, target)
 
 
-def rt_check(folder):
-    """What `rt check` prints in a crate's folder."""
-    words = ["rt", "check", "--jobs", "1"]
+def rt_check(folder, only=()):
+    """What `rt check` prints in a crate's folder: of the whole crate, or of these functions and what they call."""
+    words = ["rt", "check", "--jobs", "1", *(word for name in only for word in ("--only", name))]
     how = {"cwd": folder, "stdin": subprocess.DEVNULL, "stdout": subprocess.PIPE, "stderr": subprocess.STDOUT}
     try:
         ran = subprocess.run(words, timeout=60 * MINUTES, encoding="utf-8", errors="replace", check=False, **how)
@@ -46,7 +46,7 @@ class Said:
         self.lines = text.rstrip("\n").split("\n")
         self.statuses = {it[1]: it[2] for it in map(STATUS.fullmatch, self.lines) if it}
         verdict = [it for it in self.lines if it.startswith("logic=")]
-        self.has_verdict = bool(verdict)
+        self.has_verdict = bool(verdict) or any(it.startswith("only=") for it in self.lines)
         self.is_proved = bool(verdict) and verdict[-1].startswith("logic=proved ")
         self.places = []  # of each goal that is open and each error: path, line from 0, what is said
         for found in filter(None, map(PLACE.match, self.lines)):
@@ -153,10 +153,10 @@ class Room:
                 if not is_same or os.stat(now).st_size != was.st_size:
                     shutil.copy2(f"{at}/{name}", now)
 
-    def check(self, texts):
-        """Checks the copy with these texts of its sources."""
+    def check(self, texts, only=()):
+        """Checks the copy with these texts of its sources, the whole crate or these functions and what they call."""
         self.restore_kept()
         for path, text in texts.items():
             with open(f"{self.folder}/{path}", "w", encoding="utf-8") as it:
                 it.write(text)
-        return Planted(texts, rt_check(self.folder))
+        return Planted(texts, rt_check(self.folder, only))

@@ -97,18 +97,23 @@ def judged(seen, edit, is_alone):
     return Verdict(False, max(told, key=lambda it: it.startswith("BAD")), elsewhere)
 
 
-def tried(room, edits, texts):
-    """The verdict on each of these edits, planted together; where they do not compile, on those that do."""
-    planted = texts
+def tried(room, edits, texts, is_whole=False):
+    """The verdict on each of these edits, planted together; where they do not compile, on those that do. Of what
+    stands alone and names its function only that function is checked, unless the whole crate is to be."""
+    planted, names = texts, []
     for edit in edits:
         planted = edit.planted(planted)[0]
-    seen = room.check(planted)
+        names += [edit.function] if edit.is_alone and edit.function and not is_whole else []
+    seen = room.check(planted, names)
     if seen.said.has_verdict:
         return {it: judged(seen, it, len(edits) == 1) for it in edits}
+    if names:
+        return tried(room, edits, texts, is_whole=True)
     at_errors = {it.unit for it in (seen.at(path, line) for path, line, _ in seen.said.places) if it}
     wrong = [it for it in edits if at_errors & {function.unit for function in it.functions}]
     if len(edits) == 1:
-        told = next((": ".join(map(str, it)) for it in seen.said.places), "; ".join(seen.said.lines[:4]))
+        places = [f"{path}:{line + 1}: {told}" for path, line, told in seen.said.places]
+        told = places[0] if places else "; ".join(seen.said.lines[:4])
         return {edits[0]: Verdict(False, f"BAD EDIT: it does not reach the prover: {told[:300]}")}
     others, half = [it for it in edits if it not in wrong], len(edits) // 2
     parts = [*([it] for it in wrong), others] if wrong and others else [edits[:half], edits[half:]]
@@ -119,14 +124,12 @@ def tried(room, edits, texts):
 
 
 def verdicts(room, edits, texts):
-    """The verdict on each edit of a round. What did not do as it must is tried alone; and what another edit's
-    function may have been refused for is tried again without it."""
+    """The verdict on each edit of a round. What did not do as it must is tried alone, by a check of the whole crate;
+    and what another edit's function may have been refused for is tried again without it."""
     found = tried(room, edits, texts)
-    if len(edits) == 1:
-        return found
     reached = set()
     for edit in [it for it in edits if not found[it].holds]:
-        found[edit] = tried(room, [edit], texts)[edit]
+        found[edit] = tried(room, [edit], texts, is_whole=True)[edit]
         reached |= found[edit].elsewhere
     again = [it for it in edits if found[it].holds and reached & {function.unit for function in it.functions}]
     if again:
