@@ -4,7 +4,8 @@
  * REFUSE_READ=N    the Nth call of read fails (EIO)
  * REFUSE_WRITE=N   the Nth call of write fails (EIO)
  * REFUSE_SHORT=1   each read and each write moves one byte at most
- * REFUSE_MARK=FD   a byte x is written to this open file when the call that is refused is reached
+ * REFUSE_MARK=FD   a byte x is written to this open file when the call that is refused is reached, and a byte a at
+ *                  each write to a file whose write was refused
  * REFUSE_LATE=FD   a byte is written to this open file at each growth after the first write of a byte
  * REFUSE_SAME=1    each file has the number 7, and in the place of its device's number its own: files of other numbers
  *                  are files of other devices
@@ -23,7 +24,7 @@ extern void *__libc_realloc(void *old, size_t size);
 
 static long allocs, reads, writes;
 static long alloc_at, read_at, write_at, is_short, are_same;
-static int mark = -1, late = -1;
+static int mark = -1, late = -1, failed = -1;
 
 static long number(const char *name) {
     const char *text = getenv(name);
@@ -77,8 +78,14 @@ ssize_t read(int file, void *buffer, size_t count) {
 }
 
 ssize_t write(int file, const void *buffer, size_t count) {
-    if (is_refused(&writes, write_at)) { errno = EIO; return -1; }
+    if (file == failed && mark >= 0) syscall(SYS_write, mark, "a", 1);
+    if (is_refused(&writes, write_at)) { failed = file; errno = EIO; return -1; }
     return syscall(SYS_write, file, buffer, is_short && count > 1 ? 1 : count);
+}
+
+int close(int file) {
+    if (file == failed) failed = -1;
+    return syscall(SYS_close, file);
 }
 
 int statx(int folder, const char *restrict path, int flags, unsigned mask, struct statx *restrict found) {

@@ -36,7 +36,8 @@ def build(folder):
 
 
 def run(command, library, kind=None, number=0, stdin=b"", short=False, same=False):
-    """Runs the command with one call refused; tells whether that call was reached."""
+    """Runs the command with one call refused; tells whether that call was reached. Bytes that are written to a file
+    after its write was refused are told behind the output, which then is none that is due."""
     reader, writer = os.pipe()
     environment = dict(os.environ, LD_PRELOAD=str(library), REFUSE_MARK=str(writer))
     if kind:
@@ -49,9 +50,11 @@ def run(command, library, kind=None, number=0, stdin=b"", short=False, same=Fals
         command, input=stdin, capture_output=True, env=environment, pass_fds=(writer,), timeout=60
     )
     os.close(writer)
-    reached = os.read(reader, 1) == b"x"
+    told = os.read(reader, MOST)
     os.close(reader)
-    return done, reached
+    if b"a" in told:
+        done.stdout += b"(and more after a write that failed)"
+    return done, b"x" in told
 
 
 def late_growths(command, library, stdin=b""):

@@ -12,6 +12,9 @@ import sys
 
 sys.dont_write_bytecode = True
 sys.path.insert(0, str(pathlib.Path(__file__).resolve().parents[1]))
+sys.path.insert(0, str(pathlib.Path(__file__).resolve().parent))
+import edges
+import options
 from tally import PROGRAM, run_parts
 
 HEADER = b"address,kind,message\n"
@@ -515,6 +518,8 @@ def main():
         try_receivers,
         try_verify,
         try_words,
+        *edges.PARTS,
+        *options.PARTS,
     )
 
 
