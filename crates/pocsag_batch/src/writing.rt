@@ -32,7 +32,7 @@ fn write_words<S: Sink, I: Iterator<Item = Word>>(words: I, sink: &mut S) -> Res
         put_word(&mut piece, sink, slot, word)?;
         slot = (slot + 1) % SLOTS;
     }
-    { write_all(sink, piece.as_slice())?; sink.write(&[])?; Ok(()) }
+    write_all(sink, piece.as_slice())
 }
 
 /// Writes the transmission of the batches: the preamble of 72 bytes AA, and each batch behind its
