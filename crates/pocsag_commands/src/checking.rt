@@ -1,11 +1,12 @@
-ghost use Rattle.std.specs.Prelude.{◌≡◌, IfErr, IfOk, IsErrOf, IsTrue};
+ghost use Rattle.std.specs.Prelude.{◌≡◌, IfErr, IfOk, IsErrOf, IsFalse, IsTrue};
 ghost use Rattle.pocsag_words.specs.Devices.{HasFailed};
 ghost use Rattle.pocsag_pages.specs.declared.fault.RoundFault.TheVariants as round_fault;
 ghost use Rattle.pocsag_tree.specs.declared.refusals.CertificateFault.TheVariants as tree_fault;
 ghost use Rattle.pocsag_commands.specs.declared.fault.Fault.TheVariants as fault;
 ghost use Rattle.pocsag_commands.specs.Commands.{Checked, CheckedAndTold};
-ghost use Rattle.pocsag_commands.specs.Faults.{IsStatus};
+ghost use Rattle.pocsag_commands.specs.Faults.{IsStatus, status_of};
 ghost use Rattle.pocsag_commands.specs.Judging.{ExplainsJudging, IsNotShown};
+ghost use Rattle.pocsag_commands.specs.Refusals.{IsCheckFaulty, IsCheckRefused, NotShownAndTold};
 
 use crate::fault::Fault;
 use crate::telling::{tell, tell_bound, tell_fault};
@@ -26,6 +27,8 @@ pub fn run_check<P: Source, C: Source, O: Sink, E: Sink>(
 ) -> u8
     ensures shown { P.tells → C.tells → O.tells → result ≡ 0 →
         CheckedAndTold (P.held pages.old) (C.held cert.old) (O.taken out.old) (O.taken out.new) }
+    ensures refused { P.tells → C.tells → O.tells → result ≡ 1 →
+        IsCheckRefused (P.held pages.old) (C.held cert.old) (O.taken out.old) (O.taken out.new) }
     ensures status { IsStatus result }
 {
     match check_files(alloc, pages, cert, out) {
@@ -42,8 +45,13 @@ fn check_files<P: Source, C: Source, O: Sink>(
     cert: &mut C,
     out: &mut O,
 ) -> Result<bool, Fault>
-    ensures { P.tells → C.tells → O.tells → IfOk result (λ shown. IsTrue shown →
+    ensures shown { P.tells → C.tells → O.tells → IfOk result (λ shown. IsTrue shown →
         CheckedAndTold (P.held pages.old) (C.held cert.old) (O.taken out.old) (O.taken out.new)) }
+    ensures not_shown { P.tells → C.tells → O.tells → IfOk result (λ shown. IsFalse shown →
+        NotShownAndTold (P.held pages.old) (C.held cert.old) (O.taken out.old) (O.taken out.new)) }
+    ensures why { P.tells → C.tells → IfErr result (λ e. status_of e ≡ 1 →
+        IsCheckFaulty (P.held pages.old) (C.held cert.old)) }
+    ensures untouched { IfErr result (λ e. status_of e ≡ 1 → out.new ≡ out.old) }
 {
     let judged = judge_certificate(alloc, pages, cert)?;
     if !judged.is_shown {
@@ -74,7 +82,7 @@ pub fn judge_certificate<P: Source, C: Source>(
 ) -> Result<Judged, Fault>
     ensures shown { P.tells → C.tells → IfOk result (λ judged. IsTrue judged.is_shown →
         Checked (P.held pages.old) (C.held cert.old) judged.end judged.batches) }
-    ensures not_shown { P.tells → C.tells → IfOk result (λ judged. (¬ IsTrue judged.is_shown) →
+    ensures not_shown { P.tells → C.tells → IfOk result (λ judged. IsFalse judged.is_shown →
         IsNotShown (P.held pages.old) (C.held cert.old) judged.end judged.batches) }
     ensures explained { P.tells → C.tells → IfErr result (ExplainsJudging (P.held pages.old) (C.held cert.old)) }
 

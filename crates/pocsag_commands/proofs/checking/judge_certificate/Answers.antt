@@ -16,5 +16,5 @@ returns-clause-not_shown g c = λ pages_tell cert_tells no.
       read = c.in_ok-round.ensures.ok pages_tell;
       tree = bound_of certificate.tree;
       spelled = c.in_ok-certificate.ensures.found cert_tells;
-      refused = λ accepted. no (c.check-is_shown.ensures.accepted.1 accepted);
+      refused = λ accepted. let yes = c.check-is_shown.ensures.accepted.1 accepted in cc;
     }
