@@ -52,6 +52,6 @@ pub record ExplainsReport (file : List ℕ) (number limit rate : ℕ) (f : Fault
   pub why : ExplainsReporting file end limit rate f
 
 -- The fault of a search that stopped.
-abbrev pub IsStop : Fault → Type 0
-IsStop (fault.SearchLimit least found) = Unit {0}
-IsStop _ = ⊥
+abbrev pub IsSearchStopped : Fault → Type 0
+IsSearchStopped (fault.SearchLimit least found) = Unit {0}
+IsSearchStopped _ = ⊥

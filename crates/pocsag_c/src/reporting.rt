@@ -1,7 +1,7 @@
 ghost use Rattle.std.specs.Prelude.{◌≡◌, ◌≢◌, ◌↔◌, IfErr, IfOk, IsTrue};
 ghost use Rattle.pocsag_plan.specs.Plans.{ExplainsAlways, ExplainsPlan, IsBounded};
 ghost use Rattle.pocsag_c.specs.Answers.{IsNoEnd, TellsFault};
-ghost use Rattle.pocsag_c.specs.Reporting.{ExplainsReport, ExplainsReporting, IsReportOf, IsStop, TellsReport};
+ghost use Rattle.pocsag_c.specs.Reporting.{ExplainsReport, ExplainsReporting, IsReportOf, IsSearchStopped, TellsReport};
 
 use crate::planning::end_of;
 use crate::refusal::{NOWHERE, Place, refusal_of};
@@ -75,7 +75,7 @@ fn report_file(
     ensures report { IfOk result (λ told. IsReportOf pages.now end rate told.bound told.report) }
     ensures fewest { (¬ IsTrue always) → IfOk result (λ told. told.bound ≡ told.report.batches) }
     ensures explained { IfErr result (ExplainsReporting pages.now end limit rate) }
-    ensures answered { IsTrue always → IfErr result (λ e. ¬ IsStop e) }
+    ensures answered { IsTrue always → IfErr result (λ e. ¬ IsSearchStopped e) }
 {
     let mut source = SliceSource::new(pages);
     let round = read_round(alloc, &mut source)?;
