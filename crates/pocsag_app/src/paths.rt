@@ -34,7 +34,7 @@ fn equal_paths(paths: &[&str]) -> bool
 
 /// Refuses paths of which two are equal texts: that of a page file, if there is one, and those of two outputs.
 pub fn refuse_equal(pages: Option<&str>, tx: &str, cert: &str) -> Result<(), Fault>
-    ensures { HasEqual (map (λ path. path.now) (paths_of pages.entry tx cert)) ↔ IsErrOf result EqualPaths }
+    ensures { HasEqual (map (λ path. path.now) (paths_of pages.entry tx.entry cert.entry)) ↔ IsErrOf result EqualPaths }
 {
     let equal = match pages {
         Some(pages) => equal_paths(&[pages, tx, cert]),

@@ -103,7 +103,10 @@ const EDITS: Lines = &[
     ("cancel,8", "ok 2"),
     ("add,8,tone3,", "ok 3"),
     ("cancel,16\r", "ok 2"),
-    ("list", "address,kind,message\n24,numeric,17-U\n8,tone3,\nok 2"),
+    (
+        "list",
+        "address,kind,message\n24,numeric,17-U\n8,tone3,\nok 2",
+    ),
     ("clear", "ok 0"),
     ("list", "address,kind,message\nok 0"),
 ];
@@ -111,7 +114,10 @@ const EDITS: Lines = &[
 const REFUSALS: Lines = &[
     ("add,8,tone0,", "ok 1"),
     ("add,8,tone1,", "refused: the address is already there"),
-    ("add,0000008,tone1,", "refused: the address is already there"),
+    (
+        "add,0000008,tone1,",
+        "refused: the address is already there",
+    ),
     ("add,2097152,tone0,", "refused: bad address"),
     ("add,+7,tone0,", "refused: bad address"),
     ("add,2007664,tone0,", "refused: reserved address"),
@@ -141,12 +147,18 @@ const PLANS: Lines = &[
     ("add,13,tone0,", "ok 2"),
     ("add,21,tone0,", "ok 3"),
     ("plan,tx.bin,cert.bin,closed", "batches 2"),
-    ("plan,tx.bin,tx.bin", "refused: the same file is named twice"),
+    (
+        "plan,tx.bin,tx.bin",
+        "refused: the same file is named twice",
+    ),
     ("plan,none,cert.bin", "refused: cannot read or open a file"),
     ("plan,tx.bin,none", "refused: cannot read or open a file"),
     ("plan,full,cert.bin", "refused: cannot write"),
     ("plan,tx.bin,full", "refused: cannot write"),
-    ("list", "address,kind,message\n5,tone0,\n13,tone0,\n21,tone0,\nok 3"),
+    (
+        "list",
+        "address,kind,message\n5,tone0,\n13,tone0,\n21,tone0,\nok 3",
+    ),
 ];
 
 const AFTER_PAGES: Lines = &[
@@ -227,7 +239,12 @@ fn faults_end_the_round(rt: HostRuntime) -> Result<(), Fail> {
     };
     let no_read = "pocsag: cannot read or open a file\n";
     let cases = [
-        (twice, 1, "", "pocsag: record 2: the address is already there\n"),
+        (
+            twice,
+            1,
+            "",
+            "pocsag: record 2: the address is already there\n",
+        ),
         (cut_file, 3, "", no_read),
         (cut_input, 3, "ok 1\n", no_read),
         (cut_output, 3, "ok 1\nok", "pocsag: cannot write\n"),
