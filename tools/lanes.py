@@ -94,8 +94,10 @@ class Lanes:
     def end_some(self):
         """Takes out the tasks that have ended; gives the name and the text of one that failed."""
         for name, (process, log, _, began) in list(self.running.items()):
-            if process.poll() is None:
+            ended, status, used = os.wait4(process.pid, os.WNOHANG)
+            if not ended:
                 continue
+            process.returncode = os.waitstatus_to_exitcode(status)
             del self.running[name]
             log.seek(0)
             text = log.read()
@@ -104,7 +106,8 @@ class Lanes:
                 return name, text
             self.done.add(name)
             now = time.monotonic()
-            self.say(f"{minutes(now - self.start)} {self.tasks[name].ends} in {minutes(now - began)}")
+            busy = minutes(used.ru_utime + used.ru_stime)
+            self.say(f"{minutes(now - self.start)} {self.tasks[name].ends} in {minutes(now - began)}, {busy} of processors")
         return None
 
     def stop(self):

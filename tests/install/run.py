@@ -4,7 +4,6 @@
 The completions are compared with the help of the program. The last line is 'N passed, M failed'.
 """
 
-import os
 import pathlib
 import re
 import shutil
@@ -14,7 +13,7 @@ import tempfile
 
 sys.dont_write_bytecode = True
 sys.path.insert(0, str(pathlib.Path(__file__).resolve().parents[1]))
-from tally import PROGRAM, TOP, Tally
+from tally import PROGRAM, TOP, Tally, as_nobody
 
 PLACES = ["bin/pocsag", "share/bash-completion/completions/pocsag", "share/man/man1/pocsag.1"]
 COMMANDS = ["plan", "check", "decode", "hear", "show", "open", "report"]
@@ -31,13 +30,10 @@ def files_below(folder):
     return sorted(str(path.relative_to(folder)) for path in folder.glob("**/*"))
 
 
-def as_nobody(words, folder):
+def run_as_nobody(words, folder):
     """Runs a command as a user with no rights here, with the system's own commands alone in PATH."""
-    before = []
-    if os.geteuid() == 0 and shutil.which("setpriv"):
-        before = ["setpriv", "--reuid=65534", "--regid=65534", "--clear-groups"]
     environment = {"PATH": "/usr/bin:/bin", "HOME": str(folder)}
-    return subprocess.run([*before, *map(str, words)], capture_output=True, cwd=folder, env=environment, timeout=60)
+    return subprocess.run([*as_nobody(folder), *map(str, words)], capture_output=True, cwd=folder, env=environment, timeout=60)
 
 
 def try_installed(tally, folder):
@@ -54,14 +50,14 @@ def try_installed(tally, folder):
     program = prefix / "bin/pocsag"
     shutil.copy(TOP / "examples/round.csv", room / "round.csv")
     (room / "round.csv").chmod(0o644)
-    ran = as_nobody([program, "plan", "round.csv", "round.bin", "round.cert"], room)
+    ran = run_as_nobody([program, "plan", "round.csv", "round.bin", "round.cert"], room)
     tally.check("another user plans", (ran.returncode, ran.stdout) == (0, b"pages 6\nbatches 2\n"), ran)
-    ran = as_nobody([program, "check", "round.csv", "round.cert"], room)
+    ran = run_as_nobody([program, "check", "round.csv", "round.cert"], room)
     tally.check("and checks", (ran.returncode, ran.stdout) == (0, b"at least 2 batches\n"), ran)
     for number in range(40):
         shutil.copy(room / "round.csv", room / f"{number}.csv")
     script = "ls [0-9]*.csv | sed 's/\\.csv$//' | xargs -P 4 -I {} " + f"'{program}' plan {{}}.csv {{}}.bin {{}}.cert"
-    ran = as_nobody(["sh", "-c", script], room)
+    ran = run_as_nobody(["sh", "-c", script], room)
     sent = {path.read_bytes() for path in room.glob("*.bin")}
     tally.check("a process a channel", ran.returncode == 0 and len(list(room.glob("*.bin"))) == 41 and len(sent) == 1, ran)
 

@@ -16,7 +16,7 @@ import time
 
 sys.dont_write_bytecode = True
 sys.path.insert(0, str(pathlib.Path(__file__).resolve().parents[1]))
-from tally import TOP, Tally
+from tally import TOP, Tally, as_nobody
 
 CRATES = "low:\nmiddle: low csv\npocsag_app: clap middle low\npocsag_bench: middle\npocsag_trial: low\n"
 # Other forms of the same list that the prover reads.
@@ -203,13 +203,6 @@ def try_options(tally, clone):
         tally.check(f"{option} handed down", (status, out, err) == (7, f"words: w\nfolder: {clone.top}\n", ""), (status, err))
 
 
-def as_nobody():
-    """The words that run a command as a user who may not write here; none where we are no superuser."""
-    if os.geteuid() or not shutil.which("setpriv"):
-        return []
-    return [shutil.which("setpriv"), "--reuid=65534", "--regid=65534", "--clear-groups"]
-
-
 def open_to_all(clone):
     """Lets another user read the clone."""
     for path in [clone.top.parent, *clone.top.parent.glob("**/*")]:
@@ -220,7 +213,7 @@ def open_to_all(clone):
 
 def try_unwritable(tally, clone):
     """A checkout that may only be read."""
-    before = as_nobody()
+    before = as_nobody(open_to_all(clone).top)
     if os.geteuid() == 0 and not before:
         return
     if not before:

@@ -12,6 +12,9 @@ import sys
 
 sys.dont_write_bytecode = True
 sys.path.insert(0, str(pathlib.Path(__file__).resolve().parents[1]))
+sys.path.insert(0, str(pathlib.Path(__file__).resolve().parent))
+import edges
+import options
 from tally import PROGRAM, run_parts
 
 HEADER = b"address,kind,message\n"
@@ -478,6 +481,10 @@ def try_words(tally, folder):
     for words in (["--help"], *([name, "--help"] for name in (*commands, "show", "open"))):
         long = [line for line in run(words, folder).stdout.decode().splitlines() if len(line) > 100]
         tally.check(f"help {words} in 100 columns", not long, long)
+    for words in (["--help"], ["help", "plan"], ["--version"]):
+        with open("/dev/full", "wb") as full:
+            done = subprocess.run([str(PROGRAM), *words], stdout=full, stderr=subprocess.PIPE, cwd=folder, timeout=60)
+        tally.check(f"help that cannot be written: {words}", (done.returncode, done.stderr) == (3, b"pocsag: cannot write\n"), done)
     help_text = run(["--help"], folder).stdout
     for shown in (b"Example:", b"tone0", b"numeric", b"alpha", b"20000 pages", b"standard input", b"2097151", b"268435456"):
         tally.check(f"help shows {shown}", shown in help_text, help_text)
@@ -503,6 +510,8 @@ def main():
         try_check,
         try_receivers,
         try_words,
+        *edges.PARTS,
+        *options.PARTS,
     )
 
 

@@ -24,6 +24,3 @@ pub use placing::order_of;
 pub use slots::Slots;
 pub use stream::{FirstFault, first_stream};
 pub use writing::{write, write_slots};
-
-#[cfg(test)]
-mod tests;

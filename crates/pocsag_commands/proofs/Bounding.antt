@@ -1,10 +1,8 @@
 -- What was done and told with `--always`, and why `plan` refuses then.
-use Rattle.std.proofs.Common.{◌≡◌, ℕ, List, ◌++◌, length, Ok, Err, ap, ◌∙◌, arith, inl, inr}
-use Rattle.std.specs.Prelude.{◌⊎◌, OnOk, Result}
+use Rattle.std.proofs.Common.{◌≡◌, ℕ, List, ◌++◌, length, Ok, Err, ap, ◌∙◌, arith}
+use Rattle.std.specs.Prelude.{OnOk, Result}
 use Rattle.pocsag_words.specs.declared.ending.End.{End}
 use Rattle.pocsag_pages.specs.PageFile.{verdict}
-use Rattle.pocsag_pages.specs.declared.fault.RoundFault.{RoundFault}
-use Rattle.pocsag_pages.specs.declared.fault.RoundFault.TheVariants as round
 use Rattle.pocsag_tree.specs.Views.{bound_of}
 use Rattle.pocsag_plan.specs.declared.airtime.Report.{Report}
 use Rattle.pocsag_plan.specs.declared.bounded.Bounded.{Bounded}
@@ -13,23 +11,15 @@ use Rattle.pocsag_plan.specs.declared.fault.StreamFault.TheVariants as streaming
 use Rattle.pocsag_plan.specs.BoundedStreams.{ExplainsStreamAlways, IsBoundedOf, WritesBounded}
 use Rattle.pocsag_plan.specs.Reports.{IsReport, report_text}
 use Rattle.pocsag_commands.specs.declared.fault.Fault.{Fault}
-use Rattle.pocsag_commands.specs.declared.fault.Fault.TheVariants as fault
 use Rattle.pocsag_commands.specs.Always.{IsRefusedAlways, limit, round as of_round, PlannedAlwaysAndTold, ReportedAlways}
 use Rattle.pocsag_commands.specs.Faults.{fault_of_stream, status_of}
 use Rattle.pocsag_commands.specs.Lines.{below_text, plan_text}
-
-refused_round : (file : List ℕ) (n : ℕ) (f : RoundFault) → status_of (fault.Round f) ≡ 1 →
-    (f ≡ round.OutOfMemory) ⊎ (f ≡ round.ReadFault) ⊎ (verdict file ≡ Err f) → IsRefusedAlways file n
-refused_round file n f one (inl e) =
-    let three : status_of (fault.Round f) ≡ 3 = ap (λ (v : RoundFault). status_of (fault.Round v)) e in absurd (omega arith)
-refused_round file n f one (inr (inl e)) =
-    let three : status_of (fault.Round f) ≡ 3 = ap (λ (v : RoundFault). status_of (fault.Round v)) e in absurd (omega arith)
-refused_round file n f one (inr (inr e)) = of_round f e
+use Rattle.pocsag_commands.proofs.Refusing.{why_round}
 
 pub why_refused : (file : List ℕ) (n : ℕ) (e : StreamFault) → ExplainsStreamAlways file n e → status_of (fault_of_stream e) ≡ 1
     → IsRefusedAlways file n
 why_refused file n streaming.BadLimit said one = limit said
-why_refused file n (streaming.Round f) said one = refused_round file n f one said.1
+why_refused file n (streaming.Round f) said one = of_round f (why_round file f said.1 one)
 why_refused file n (streaming.SearchLimit least found tree) said one = absurd said
 why_refused file n streaming.OutOfMemory said one = absurd (omega arith)
 why_refused file n (streaming.Transmission f) said one = absurd (omega arith)

@@ -1,5 +1,5 @@
 -- What each command did where its exit status is 0, and what `plan` leaves whatever its status is.
-use Rattle.std.specs.Prelude.{◌≡◌, ℕ, false, List, ◌++◌, length, None, Ok, Err, All, Contains}
+use Rattle.std.specs.Prelude.{◌≡◌, ℕ, false, List, ◌++◌, length, None, Ok, Err}
 use Rattle.pocsag_words.specs.declared.ending.End.{End}
 use Rattle.pocsag_pages.specs.declared.fault.RoundFault.{RoundFault}
 use Rattle.pocsag_pages.specs.declared.page.Page.{Page}
@@ -89,17 +89,3 @@ pub record Reported (file : List ℕ) (end : End) (rate : ℕ) (out_before out_a
   pub report : Report
   pub report_of : IsReport plan rate report
   pub told : out_after ≡ out_before ++ report_text report
-
--- The pages are as many as the others, and each is among these.
-pub record AreAmong (others pages : List Page) : Type 0 where
-  pub as_many : length others ≡ length pages
-  pub each : All (Contains others) pages
-
--- `--verify`: the transmission reads as the pages of the page file's round, in some order, and the
--- certificate is a text of the end, a number of batches and a tree that the checker accepts for them.
-pub record Verified (file : List ℕ) (end : End) (sent certificate : List ℕ) : Type 0 where
-  pub batches : ℕ
-  pub checked : Checked file certificate end batches
-  pub pages : List Page
-  pub reads : ReadsAs sent pages
-  pub same : AreAmong pages checked.round

@@ -2,4 +2,6 @@ pub mod Always
 pub mod Commands
 pub mod Faults
 pub mod Lines
+pub mod Refusals
 pub mod Showing
+pub mod Verifying

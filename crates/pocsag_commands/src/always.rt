@@ -3,6 +3,7 @@ ghost use Rattle.std.specs.Prelude.{◌≡◌, ◌++◌, IfErr, OnOk};
 ghost use Rattle.pocsag_commands.specs.Always.{IsRefusedAlways, LeavesAlways, PlannedAlways, PlannedAlwaysAndTold, ReportedAlways};
 ghost use Rattle.pocsag_commands.specs.Faults.{IsStatus, status_after};
 ghost use Rattle.pocsag_commands.specs.Lines.{below_text, plan_text};
+ghost use Rattle.pocsag_commands.specs.Refusals.{IsReportRefusedAlways};
 
 use crate::fault::Fault;
 use crate::telling::{ended, tell, tell_below, tell_plan};
@@ -82,7 +83,10 @@ pub fn run_report_always<P: Source, O: Sink, E: Sink>(
     out: &mut O,
     err: &mut E,
 ) -> u8
-    ensures told { P.tells → O.tells → result ≡ 0 → ReportedAlways (P.held pages.old) end rate (O.taken out.old) (O.taken out.new) }
+    ensures told { P.tells → O.tells → result ≡ 0 →
+        ReportedAlways (P.held pages.old) end rate (O.taken out.old) (O.taken out.new) }
+    ensures why { P.tells → result ≡ 1 → IsReportRefusedAlways (P.held pages.old) limit rate }
+    ensures refused { result ≡ 1 → out.new ≡ out.old }
     ensures status { IsStatus result }
 {
     let done = report_file_always(alloc, rate, limit, end, pages, out);
@@ -97,7 +101,10 @@ fn report_file_always<P: Source, O: Sink>(
     pages: &mut P,
     out: &mut O,
 ) -> Result<(), Fault>
-    ensures { P.tells → O.tells → OnOk result (ReportedAlways (P.held pages.old) end rate (O.taken out.old) (O.taken out.new)) }
+    ensures told { P.tells → O.tells → OnOk result
+        (ReportedAlways (P.held pages.old) end rate (O.taken out.old) (O.taken out.new)) }
+    ensures why { P.tells → status_after result ≡ 1 → IsReportRefusedAlways (P.held pages.old) limit rate }
+    ensures refused { status_after result ≡ 1 → out.new ≡ out.old }
 {
     let round = read_round(alloc, pages)?;
     let bounded = plan_always(alloc, &round, limit, end)?;

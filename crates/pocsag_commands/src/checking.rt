@@ -1,6 +1,7 @@
-ghost use Rattle.std.specs.Prelude.{◌≡◌, IfOk, IsTrue};
+ghost use Rattle.std.specs.Prelude.{◌≡◌, IfErr, IfOk, IsFalse, IsTrue};
 ghost use Rattle.pocsag_commands.specs.Commands.{CheckedAndTold};
-ghost use Rattle.pocsag_commands.specs.Faults.{IsStatus};
+ghost use Rattle.pocsag_commands.specs.Faults.{IsStatus, status_of};
+ghost use Rattle.pocsag_commands.specs.Refusals.{IsCheckFaulty, IsCheckRefused, NotShownAndTold};
 
 use crate::fault::Fault;
 use crate::telling::{tell, tell_bound, tell_fault};
@@ -21,6 +22,8 @@ pub fn run_check<P: Source, C: Source, O: Sink, E: Sink>(
 ) -> u8
     ensures shown { P.tells → C.tells → O.tells → result ≡ 0 →
         CheckedAndTold (P.held pages.old) (C.held cert.old) (O.taken out.old) (O.taken out.new) }
+    ensures refused { P.tells → C.tells → O.tells → result ≡ 1 →
+        IsCheckRefused (P.held pages.old) (C.held cert.old) (O.taken out.old) (O.taken out.new) }
     ensures status { IsStatus result }
 {
     match check_files(alloc, pages, cert, out) {
@@ -37,8 +40,13 @@ fn check_files<P: Source, C: Source, O: Sink>(
     cert: &mut C,
     out: &mut O,
 ) -> Result<bool, Fault>
-    ensures { P.tells → C.tells → O.tells → IfOk result (λ shown. IsTrue shown →
+    ensures shown { P.tells → C.tells → O.tells → IfOk result (λ shown. IsTrue shown →
         CheckedAndTold (P.held pages.old) (C.held cert.old) (O.taken out.old) (O.taken out.new)) }
+    ensures not_shown { P.tells → C.tells → O.tells → IfOk result (λ shown. IsFalse shown →
+        NotShownAndTold (P.held pages.old) (C.held cert.old) (O.taken out.old) (O.taken out.new)) }
+    ensures why { P.tells → C.tells → IfErr result (λ e. status_of e ≡ 1 →
+        IsCheckFaulty (P.held pages.old) (C.held cert.old)) }
+    ensures untouched { IfErr result (λ e. status_of e ≡ 1 → out.new ≡ out.old) }
 {
     let round = read_round(alloc, pages)?;
     let certificate = read_certificate(alloc, cert)?;

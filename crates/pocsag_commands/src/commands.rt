@@ -2,6 +2,7 @@ ghost use Rattle.std.specs.Prelude.{◌≡◌, OnOk};
 ghost use Rattle.pocsag_words.specs.declared.ending.End.TheVariants.{Open as open_end};
 ghost use Rattle.pocsag_commands.specs.Commands.{IsPlanRefused, LeavesOutputs, Planned, PlannedAndTold, Reported, ToldPlan};
 ghost use Rattle.pocsag_commands.specs.Faults.{IsStatus, status_after};
+ghost use Rattle.pocsag_commands.specs.Refusals.{IsReportRefused, default_limit};
 
 use crate::fault::Fault;
 use crate::telling::{ended, tell, tell_plan};
@@ -22,6 +23,8 @@ pub fn run_input<I: Source, O: Sink, E: Sink>(
     err: &mut E,
 ) -> u8
     ensures told { I.tells → O.tells → result ≡ 0 → ToldPlan (I.held input.old) open_end (O.taken out.old) (O.taken out.new) }
+    ensures why { I.tells → result ≡ 1 → IsPlanRefused (I.held input.old) open_end default_limit }
+    ensures refused { result ≡ 1 → out.new ≡ out.old }
     ensures status { IsStatus result }
 {
     let done = plan_input(alloc, input, out);
@@ -29,7 +32,9 @@ pub fn run_input<I: Source, O: Sink, E: Sink>(
 }
 
 fn plan_input<I: Source, O: Sink>(alloc: Global, input: &mut I, out: &mut O) -> Result<(), Fault>
-    ensures { I.tells → O.tells → OnOk result (ToldPlan (I.held input.old) open_end (O.taken out.old) (O.taken out.new)) }
+    ensures told { I.tells → O.tells → OnOk result (ToldPlan (I.held input.old) open_end (O.taken out.old) (O.taken out.new)) }
+    ensures why { I.tells → status_after result ≡ 1 → IsPlanRefused (I.held input.old) open_end default_limit }
+    ensures refused { status_after result ≡ 1 → out.new ≡ out.old }
 {
     let round = read_round(alloc, input)?;
     let plan = plan(alloc, &round, DEFAULT_LIMIT, End::Open)?;
@@ -99,6 +104,8 @@ pub fn run_report<P: Source, O: Sink, E: Sink>(
     err: &mut E,
 ) -> u8
     ensures told { P.tells → O.tells → result ≡ 0 → Reported (P.held pages.old) end rate (O.taken out.old) (O.taken out.new) }
+    ensures why { P.tells → result ≡ 1 → IsReportRefused (P.held pages.old) end limit rate }
+    ensures refused { result ≡ 1 → out.new ≡ out.old }
     ensures status { IsStatus result }
 {
     let done = report_file(alloc, rate, limit, end, pages, out);
@@ -113,7 +120,9 @@ fn report_file<P: Source, O: Sink>(
     pages: &mut P,
     out: &mut O,
 ) -> Result<(), Fault>
-    ensures { P.tells → O.tells → OnOk result (Reported (P.held pages.old) end rate (O.taken out.old) (O.taken out.new)) }
+    ensures told { P.tells → O.tells → OnOk result (Reported (P.held pages.old) end rate (O.taken out.old) (O.taken out.new)) }
+    ensures why { P.tells → status_after result ≡ 1 → IsReportRefused (P.held pages.old) end limit rate }
+    ensures refused { status_after result ≡ 1 → out.new ≡ out.old }
 {
     let round = read_round(alloc, pages)?;
     let plan = plan(alloc, &round, limit, end)?;

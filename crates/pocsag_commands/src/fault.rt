@@ -44,6 +44,9 @@ pub enum Fault {
     /// What was read back from the transmission's file is not what was planned.
     #[error("the transmission does not hold the pages of the page file")]
     NotThePages,
+    /// The same: a message goes on to the end of the transmission, where the closed end was asked for.
+    #[error("the transmission does not end as was asked for")]
+    NotTheEnd,
     /// What was read back from the certificate's file is not what was planned.
     #[error("the certificate does not show the batches of the transmission")]
     NotTheBound,

@@ -1,6 +1,7 @@
 ghost use Rattle.std.specs.Prelude.{◌≡◌, IfOk, OnOk};
 ghost use Rattle.pocsag_commands.specs.Commands.{Decoded, HeardAndListed};
-ghost use Rattle.pocsag_commands.specs.Faults.{IsStatus};
+ghost use Rattle.pocsag_commands.specs.Faults.{IsStatus, status_after};
+ghost use Rattle.pocsag_commands.specs.Refusals.{IsHearingRefused, IsTransmissionRefused};
 
 use crate::fault::Fault;
 use crate::telling::ended;
@@ -21,6 +22,8 @@ pub fn run_decode<T: Source, O: Sink, E: Sink>(
     err: &mut E,
 ) -> u8
     ensures listed { T.tells → O.tells → result ≡ 0 → Decoded (T.held tx.old) (O.taken out.old) (O.taken out.new) }
+    ensures why { T.tells → result ≡ 1 → IsTransmissionRefused (T.held tx.old) }
+    ensures refused { result ≡ 1 → out.new ≡ out.old }
     ensures status { IsStatus result }
 {
     let done = list_decoded(alloc, tx, out);
@@ -28,7 +31,9 @@ pub fn run_decode<T: Source, O: Sink, E: Sink>(
 }
 
 fn list_decoded<T: Source, O: Sink>(alloc: Global, tx: &mut T, out: &mut O) -> Result<(), Fault>
-    ensures { T.tells → O.tells → OnOk result (Decoded (T.held tx.old) (O.taken out.old) (O.taken out.new)) }
+    ensures listed { T.tells → O.tells → OnOk result (Decoded (T.held tx.old) (O.taken out.old) (O.taken out.new)) }
+    ensures why { T.tells → status_after result ≡ 1 → IsTransmissionRefused (T.held tx.old) }
+    ensures refused { status_after result ≡ 1 → out.new ≡ out.old }
 {
     let bytes = read_whole(alloc, tx, TRANSMISSION_LIMIT)?;
     let pages = decode(alloc, bytes.as_slice())?;
@@ -45,7 +50,10 @@ pub fn run_hear<T: Source, O: Sink, E: Sink>(
     out: &mut O,
     err: &mut E,
 ) -> u8
-    ensures listed { T.tells → O.tells → result ≡ 0 → HeardAndListed address (T.held tx.old) (O.taken out.old) (O.taken out.new) }
+    ensures listed { T.tells → O.tells → result ≡ 0 →
+        HeardAndListed address (T.held tx.old) (O.taken out.old) (O.taken out.new) }
+    ensures why { T.tells → result ≡ 1 → IsHearingRefused address (T.held tx.old) }
+    ensures refused { result ≡ 1 → out.new ≡ out.old }
     ensures status { IsStatus result }
 {
     let done = list_heard(alloc, address, tx, out);
@@ -58,7 +66,10 @@ fn list_heard<T: Source, O: Sink>(
     tx: &mut T,
     out: &mut O,
 ) -> Result<(), Fault>
-    ensures { T.tells → O.tells → OnOk result (HeardAndListed address (T.held tx.old) (O.taken out.old) (O.taken out.new)) }
+    ensures listed { T.tells → O.tells → OnOk result
+        (HeardAndListed address (T.held tx.old) (O.taken out.old) (O.taken out.new)) }
+    ensures why { T.tells → status_after result ≡ 1 → IsHearingRefused address (T.held tx.old) }
+    ensures refused { status_after result ≡ 1 → out.new ≡ out.old }
 {
     let bytes = read_whole(alloc, tx, TRANSMISSION_LIMIT)?;
     let pages = hear_all(alloc, bytes.as_slice(), address)?;

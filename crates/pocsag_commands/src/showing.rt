@@ -1,5 +1,6 @@
 ghost use Rattle.std.specs.Prelude.{◌≡◌, OnOk};
-ghost use Rattle.pocsag_commands.specs.Faults.{IsStatus};
+ghost use Rattle.pocsag_commands.specs.Faults.{IsStatus, status_after};
+ghost use Rattle.pocsag_commands.specs.Refusals.{IsTransmissionRefused};
 ghost use Rattle.pocsag_commands.specs.Showing.{Viewed};
 
 use crate::fault::Fault;
@@ -34,6 +35,8 @@ pub fn run_show<T: Source, O: Sink, E: Sink>(
     err: &mut E,
 ) -> u8
     ensures shown { T.tells → O.tells → result ≡ 0 → Viewed view (T.held tx.old) (O.taken out.old) (O.taken out.new) }
+    ensures why { T.tells → result ≡ 1 → IsTransmissionRefused (T.held tx.old) }
+    ensures refused { result ≡ 1 → out.new ≡ out.old }
     ensures status { IsStatus result }
 {
     let done = show(alloc, view, tx, out);
@@ -41,7 +44,9 @@ pub fn run_show<T: Source, O: Sink, E: Sink>(
 }
 
 fn show<T: Source, O: Sink>(alloc: Global, view: View, tx: &mut T, out: &mut O) -> Result<(), Fault>
-    ensures { T.tells → O.tells → OnOk result (Viewed view (T.held tx.old) (O.taken out.old) (O.taken out.new)) }
+    ensures shown { T.tells → O.tells → OnOk result (Viewed view (T.held tx.old) (O.taken out.old) (O.taken out.new)) }
+    ensures why { T.tells → status_after result ≡ 1 → IsTransmissionRefused (T.held tx.old) }
+    ensures refused { status_after result ≡ 1 → out.new ≡ out.old }
 {
     let bytes = read_whole(alloc, tx, TRANSMISSION_LIMIT)?;
     match view {

@@ -10,8 +10,6 @@ mod growing;
 mod laws;
 mod listing;
 mod state;
-#[cfg(test)]
-mod tests;
 mod whole;
 
 pub use fault::{DecodeFault, ListFault};

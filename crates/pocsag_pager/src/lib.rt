@@ -13,6 +13,3 @@ pub use fault::PagerFault;
 pub use hearing::hear_all;
 pub use laws::{damage_is_repaired, shown_pages_are_one_list};
 pub use pager::Pager;
-
-#[cfg(test)]
-mod tests;

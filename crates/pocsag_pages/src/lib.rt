@@ -26,6 +26,3 @@ pub use round::{PAGE_LIMIT, Round};
 pub use rule::{ITEM_LIMIT, is_reserved_address, page_fault};
 pub use transmission::{BATCH_BITS, PREAMBLE_BITS, SYNC_WORD};
 pub use whole::read_whole;
-
-#[cfg(test)]
-mod tests;

@@ -16,13 +16,10 @@ mod edit;
 #[cfg(test)]
 mod examples;
 mod fault;
-#[cfg(test)]
-mod plan_tests;
+mod laws;
 mod planning;
 mod refusal;
 mod reporting;
-#[cfg(test)]
-mod stream_tests;
 mod streaming;
 mod tally;
 
@@ -34,6 +31,7 @@ pub use book::Book;
 pub use bounded::Bounded;
 pub use edit::Edit;
 pub use fault::{BadRate, PlanFault, StreamFault};
+pub use laws::tight_headlines_are_headlines;
 pub use planning::plan;
 pub use refusal::{AddFault, BookFault, NotThere, Refused};
 pub use reporting::report;

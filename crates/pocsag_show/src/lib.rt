@@ -15,8 +15,6 @@ mod reading;
 mod showing;
 mod starts;
 mod style;
-#[cfg(test)]
-mod tests;
 
 pub use fault::ShowFault;
 pub use showing::{show_list, show_svg, show_text};

@@ -78,30 +78,3 @@ fn trimmed_len(text: &[u8], unwanted: u8) -> usize
     }
     0
 }
-
-#[cfg(test)]
-mod tests {
-    use super::*;
-    use std::test::Fail;
-
-    #[test]
-    fn trailing_spaces(rt: HostRuntime) -> Result<(), Fail> {
-        let text = unpack_numeric(rt.alloc(), &[0x84333])?;
-        assert_eq!(rt; text.as_slice(), b"12".as_slice());
-        Ok(())
-    }
-
-    #[test]
-    fn numeric_symbols(rt: HostRuntime) -> Result<(), Fail> {
-        let text = unpack_numeric(rt.alloc(), &[0x5D3B7, 0xF3333])?;
-        assert_eq!(rt; text.as_slice(), b"*U -][".as_slice());
-        Ok(())
-    }
-
-    #[test]
-    fn alpha_packing(rt: HostRuntime) -> Result<(), Fail> {
-        let text = unpack_alpha(rt.alloc(), &[0x82870, 0x80000])?;
-        assert_eq!(rt; text.as_slice(), b"ABC".as_slice());
-        Ok(())
-    }
-}

@@ -17,6 +17,3 @@ pub use reading::read_certificate;
 pub use refusals::{CertificateFault, TreeWriteFault};
 pub use shape::{Certificate, Tree};
 pub use writing::write_certificate;
-
-#[cfg(test)]
-mod tests;

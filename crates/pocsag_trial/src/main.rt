@@ -3,32 +3,16 @@
 //! its answer, or that memory was wanting. The tests run it with each growth refused in turn. With a byte
 //! on standard input it makes them at the largest sizes that their limits allow.
 
-#[cfg(test)]
-mod branch_tests;
 mod certificates;
-#[cfg(test)]
-mod check_tests;
-#[cfg(test)]
-mod command_tests;
-#[cfg(test)]
-mod flow_tests;
 mod kept;
 mod large;
-#[cfg(test)]
-mod layout_tests;
 mod line;
-#[cfg(test)]
-mod open_tests;
 mod packing;
 mod pages;
 mod planning;
 mod receiving;
 mod rounds;
 mod searching;
-#[cfg(test)]
-mod slots_tests;
-#[cfg(test)]
-mod tour_tests;
 mod tours;
 
 use crate::line::Line;

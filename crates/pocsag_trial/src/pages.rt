@@ -35,16 +35,6 @@ pub fn round_of(alloc: Global, pages: &[(u32, usize)]) -> Result<Round, RoundFau
     Round::from_pages(alloc, list)
 }
 
-// The round of so many pages of an address codeword alone, at the addresses from 0 on.
-#[cfg(test)]
-pub fn tones(alloc: Global, count: u32) -> Result<Round, RoundFault> {
-    let mut list = Vec::new(alloc);
-    for address in 0..count {
-        list.push(ones(alloc, address, 0)?)?;
-    }
-    Round::from_pages(alloc, list)
-}
-
 // Why there is no round.
 pub fn show_no_round(fault: RoundFault, line: &mut Line) -> Result<(), OutOfMemory> {
     match fault {

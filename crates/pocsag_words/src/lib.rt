@@ -22,6 +22,3 @@ pub use laws::{codewords_differ, kinds_have_codewords, numbers_are_repaired, sam
 pub use memory_sink::MemorySink;
 pub use memory_source::MemorySource;
 pub use refusal::{OutOfMemory, WriteFault};
-
-#[cfg(test)]
-mod tests;

@@ -1,0 +1,166 @@
+//! File order, layouts of tours, and bytes.
+
+use crate::given::{
+    IDLE, LONE_TONE, ONES, PageRow, SECOND, Sent, TIGHT, cut, pages, transmission, words,
+};
+use crate::{THREE_PAGES_TIGHT, round_of, tour_of};
+use pocsag_batch::{
+    FirstFault, Slots, first_stream, in_order_batches, lay_in_order, lay_out, order_of, write,
+    write_slots,
+};
+use pocsag_decode::decode;
+use pocsag_pages::RoundFault;
+use pocsag_words::{End, MemorySink, MemorySource, Word, WriteFault};
+use std::alloc::Global;
+use std::test::Fail;
+
+fn raws(alloc: Global, words: &[Word]) -> Result<Vec<u32>, Fail> {
+    let mut numbers = Vec::new(alloc);
+    for word in words {
+        numbers.push(word.raw())?;
+    }
+    Ok(numbers)
+}
+
+const EXACT: Sent = (16, ONES, &[(0, 0), (6, 0)]);
+
+const LATE_TONE: Sent = (16, IDLE, &[(1, SECOND)]);
+
+// Rounds by address and number of items, with their codewords in file order.
+const IN_ORDER: [(&[(u32, usize)], Sent); 2] = [
+    (
+        &[(5, 0), (13, 0), (21, 0)],
+        (32, IDLE, &[(10, 0), (11, SECOND), (26, 0x430b)]),
+    ),
+    (&[(0, 5), (3, 9)], EXACT),
+];
+
+// Rounds with a class that starts late, the batches and the end, and the codewords of the tour.
+const LAID: &[(&[(u32, usize)], Option<u8>, u32, End, Sent)] = &[
+    (&[(0, 5), (3, 9)], None, 1, End::Open, EXACT),
+    (&THREE_PAGES_TIGHT, None, 2, End::Open, TIGHT),
+    (
+        &[(0, 13), (7, 0), (15, 16)],
+        Some(135),
+        2,
+        End::Closed,
+        (32, ONES, &[(0, 0), (14, SECOND), (31, 0)]),
+    ),
+    (&[(8, 0)], None, 1, End::Open, LONE_TONE),
+    (&[(8, 0)], Some(1), 1, End::Open, LATE_TONE),
+    (&[(8, 0)], None, 1, End::Closed, LONE_TONE),
+    (&[(8, 0)], Some(128), 1, End::Closed, LATE_TONE),
+];
+
+// Rounds with the batches of a tour, and the places of their pages in it.
+const ORDERS: &[(&[(u32, usize)], u32, &[u32])] = &[
+    (&[(0, 5), (3, 9)], 1, &[0, 1]),
+    (&THREE_PAGES_TIGHT, 2, &[0, 2, 1]),
+];
+
+// The pages of `three-pages-tight` as they are sent.
+const TIGHT_PAGES: &[PageRow] = &[
+    (0, 0, &[0x88888; 5]),
+    (11, 0, &[0x88888; 15]),
+    (3, 0, &[0x88888; 9]),
+];
+
+#[test]
+fn layouts(rt: HostRuntime) -> Result<(), Fail> {
+    let alloc = rt.alloc();
+    for (pages, sent) in IN_ORDER {
+        let round = round_of(alloc, pages)?;
+        let batches = lay_in_order(alloc, &round)?;
+        let due = words(alloc, sent)?;
+        assert_eq!(rt;
+            raws(alloc, batches.words())?.as_slice(),
+            due.as_slice(),
+            "{pages:?}"
+        );
+        assert_eq!(rt;
+            16 * in_order_batches(&round) as usize,
+            due.len(),
+            "{pages:?}"
+        );
+    }
+    for (pages, late, batches, end, sent) in LAID {
+        let round = round_of(alloc, pages)?;
+        assert!(rt; 0 < *batches);
+        let steps = tour_of(alloc, &round, *late, *batches, *end)?;
+        let laid = lay_out(alloc, &round, steps.as_slice(), *end)?;
+        let due = words(alloc, *sent)?;
+        assert_eq!(rt;
+            raws(alloc, laid.words())?.as_slice(),
+            due.as_slice(),
+            "{pages:?}"
+        );
+    }
+    for (pages, batches, order) in ORDERS {
+        let round = round_of(alloc, pages)?;
+        assert!(rt; 0 < *batches);
+        let steps = tour_of(alloc, &round, None, *batches, End::Open)?;
+        let told = order_of(alloc, &round, steps.as_slice(), End::Open)?;
+        assert_eq!(rt; told.as_slice(), *order, "{pages:?}");
+    }
+    Ok(())
+}
+
+// The order, the codewords and the bytes of a tour, which are decoded to its pages, and each failing write.
+#[test]
+fn bytes_of_a_tour(rt: HostRuntime) -> Result<(), Fail> {
+    let alloc = rt.alloc();
+    let round = round_of(alloc, &THREE_PAGES_TIGHT)?;
+    let steps = tour_of(alloc, &round, None, 2, End::Open)?;
+    assert_eq!(rt; steps.len(), 3);
+    let order = order_of(alloc, &round, steps.as_slice(), End::Open)?;
+    let mut listed = Vec::new(alloc);
+    for word in Slots::new(&round, steps.as_slice(), order.as_slice()) {
+        listed.push(word.raw())?;
+    }
+    assert_eq!(rt; listed.as_slice(), words(alloc, TIGHT)?.as_slice());
+    let due = transmission(alloc, TIGHT)?;
+    for step in [64, 1] {
+        let mut sink = MemorySink::<208>::new(step, 1000);
+        let slots = Slots::new(&round, steps.as_slice(), order.as_slice());
+        assert_eq!(rt; write_slots(slots, &mut sink), Ok(()));
+        assert_eq!(rt; sink.bytes(), due.as_slice());
+    }
+    let told = decode(alloc, due.as_slice())?;
+    assert_eq!(rt; told.as_slice(), pages(alloc, TIGHT_PAGES)?.as_slice());
+    for place in 0..208u64 {
+        let mut sink = MemorySink::<208>::new(64, place);
+        let slots = Slots::new(&round, steps.as_slice(), order.as_slice());
+        assert_eq!(rt; write_slots(slots, &mut sink), Err(WriteFault));
+        assert_eq!(rt; sink.bytes(), cut(due.as_slice(), place as usize));
+    }
+    Ok(())
+}
+
+// Writers and readers that fail at each place.
+#[test]
+fn failing_devices(rt: HostRuntime) -> Result<(), Fail> {
+    let alloc = rt.alloc();
+    let batches = lay_in_order(alloc, &round_of(alloc, &[(8, 0)])?)?;
+    assert_eq!(rt; batches.count(), 1);
+    let due = transmission(alloc, LONE_TONE)?;
+    let mut whole = MemorySink::<140>::new(7, 140);
+    assert_eq!(rt; write(&batches, &mut whole), Ok(()));
+    assert_eq!(rt; whole.bytes(), due.as_slice());
+    let file = b"address,kind,message\n8,tone0,\n".as_slice();
+    for place in 0..140u64 {
+        let mut tx = MemorySink::<140>::new(64, place);
+        assert_eq!(rt; write(&batches, &mut tx), Err(WriteFault));
+        assert_eq!(rt; tx.bytes(), cut(due.as_slice(), place as usize));
+        let mut tx = MemorySink::<140>::new(64, place);
+        let told = first_stream(alloc, &mut MemorySource::new(file, 7, 1000), &mut tx);
+        assert_eq!(rt; told, Err(FirstFault::WriteFault));
+        assert_eq!(rt; tx.bytes(), cut(due.as_slice(), place as usize));
+    }
+    for place in 0..30u64 {
+        let mut tx = MemorySink::<140>::new(64, 1000);
+        let told = first_stream(alloc, &mut MemorySource::new(file, 7, place), &mut tx);
+        assert_eq!(rt; told, Err(FirstFault::Round(RoundFault::ReadFault)));
+        assert!(rt; tx.bytes().is_empty());
+    }
+    Ok(())
+}

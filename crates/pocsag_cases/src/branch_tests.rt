@@ -1,0 +1,140 @@
+//! Worked examples of the search.
+
+use crate::given::tones;
+use crate::{has_page, round_of};
+use pocsag_branch::{FreeFault, SearchFault, near, search, search_freely};
+use pocsag_check::{check, check_open};
+use pocsag_pages::Round;
+use pocsag_slots::classes_of;
+use pocsag_tree::nodes;
+use pocsag_words::End;
+use std::alloc::Global;
+use std::process::Abort;
+use std::test::Fail;
+
+const LOOPS_APART: &[(u32, usize)] = &[(0, 15), (3, 15)];
+
+const BOTH_WAYS: &[(u32, usize)] = &[(0, 13), (7, 0), (15, 2), (1, 13)];
+
+// Eight pages for which each tree of the promised shape has at least 354,623 nodes.
+const EIGHT: &[(u32, usize)] = &[
+    (5, 4),
+    (8, 8),
+    (20, 8),
+    (25, 2),
+    (39, 30),
+    (46, 14),
+    (50, 30),
+    (57, 14),
+];
+
+// Rounds by address and number of items, each with its end and its fewest batches.
+const FEWEST: &[(&[(u32, usize)], End, u32)] = &[
+    (&[(8, 0)], End::Open, 1),
+    (&[(8, 0)], End::Closed, 1),
+    (&[(0, 1)], End::Open, 1),
+    (&[(0, 15)], End::Open, 1),
+    (&[(3, 15)], End::Open, 2),
+    (&[(7, 49)], End::Open, 4),
+    (&[(7, 49)], End::Closed, 5),
+    (&[(0, 1400)], End::Open, 88),
+    (&[(5, 0), (13, 0), (21, 0)], End::Open, 2),
+    (LOOPS_APART, End::Open, 3),
+    (&[(0, 5), (3, 9)], End::Open, 1),
+    (&[(0, 5), (3, 9)], End::Closed, 2),
+    (&[(0, 5), (3, 9), (11, 15)], End::Open, 2),
+    (&[(7, 1), (15, 1)], End::Open, 2),
+    (&[(0, 13), (7, 0), (15, 16)], End::Closed, 2),
+    (BOTH_WAYS, End::Closed, 3),
+    (BOTH_WAYS, End::Open, 2),
+];
+
+// The same of so many tones.
+const FEWEST_OF_TONES: [(u32, End, u32); 3] = [
+    (2_000, End::Open, 125),
+    (20_000, End::Open, 1_250),
+    (20_000, End::Closed, 1_250),
+];
+
+// The same of the free search within so many nodes, with the most nodes that its tree has.
+const FREELY: [(&[(u32, usize)], u32, End, u32, u64); 4] = [
+    (EIGHT, 1_000, End::Open, 9, 40),
+    (LOOPS_APART, 100_000, End::Open, 3, 100_000),
+    (BOTH_WAYS, 100_000, End::Closed, 3, 100_000),
+    (BOTH_WAYS, 100_000, End::Open, 2, 100_000),
+];
+
+// The search answers so many batches, with a tree that the checker accepts for them, and for no more.
+fn expect_fewest(
+    rt: &impl Abort,
+    alloc: Global,
+    round: &Round,
+    end: End,
+    batches: u32,
+) -> Result<(), Fail> {
+    let classes = classes_of(round, end);
+    assert!(rt; has_page(&classes));
+    let found = search(alloc, &classes, 100_000, end)?;
+    assert_eq!(rt; found.batches, batches);
+    assert!(rt;
+        check(round, batches, &found.tree, end),
+        "{batches} batches"
+    );
+    assert!(rt;
+        !check(round, batches.saturating_add(1), &found.tree, end),
+        "{batches} batches"
+    );
+    Ok(())
+}
+
+#[test]
+fn fewest_batches(rt: HostRuntime) -> Result<(), Fail> {
+    let alloc = rt.alloc();
+    for (pages, end, batches) in FEWEST {
+        expect_fewest(&rt, alloc, &round_of(alloc, pages)?, *end, *batches)?;
+    }
+    for (count, end, batches) in FEWEST_OF_TONES {
+        let round = Round::from_pages(alloc, tones(alloc, count)?)?;
+        expect_fewest(&rt, alloc, &round, end, batches)?;
+    }
+    for (pages, limit, end, batches, most) in FREELY {
+        let round = round_of(alloc, pages)?;
+        let classes = classes_of(&round, end);
+        assert!(rt; has_page(&classes) && 0 < limit && limit <= 1_000_000);
+        let found = search_freely(alloc, &classes, limit, end)?;
+        assert_eq!(rt; found.batches, batches, "{pages:?}");
+        assert!(rt; check(&round, batches, &found.tree, end), "{pages:?}");
+        assert!(rt;
+            !check(&round, batches.saturating_add(1), &found.tree, end),
+            "{pages:?}"
+        );
+        assert!(rt; nodes(&found.tree) <= most, "{pages:?}");
+    }
+    Ok(())
+}
+
+#[test]
+fn node_limits(rt: HostRuntime) -> Result<(), Fail> {
+    let alloc = rt.alloc();
+    let round = round_of(alloc, LOOPS_APART)?;
+    let classes = classes_of(&round, End::Open);
+    assert!(rt; has_page(&classes));
+    assert_eq!(rt; search(alloc, &classes, 3, End::Open)?.batches, 3);
+    let Err(SearchFault::SearchLimit { least, found, tree }) = search(alloc, &classes, 2, End::Open)
+    else {
+        return Err(Fail::from("the limit is not reached"));
+    };
+    assert_eq!(rt; (least, found, nodes(&tree)), (2, 3, 2));
+    assert_eq!(rt; check(&round, 3, &tree, End::Open), false);
+    assert_eq!(rt; check_open(&round, 3, &tree, End::Open), true);
+    let Err(FreeFault::SearchLimit(stopped)) = search_freely(alloc, &classes, 1, End::Open) else {
+        return Err(Fail::from("the limit is not reached freely"));
+    };
+    assert_eq!(rt; stopped.least, 2);
+    assert_eq!(rt; check(&round, 2, &stopped.tree, End::Open), true);
+    assert_eq!(rt; stopped.steps.len(), 2 + 16);
+    let at_once = near(alloc, &classes, End::Open)?;
+    assert_eq!(rt; at_once.least, 2);
+    assert_eq!(rt; at_once.steps.as_slice(), stopped.steps.as_slice());
+    Ok(())
+}

@@ -1,0 +1,323 @@
+//! The text of every fault.
+
+use pocsag_batch::FirstFault;
+use pocsag_branch::{FreeFault, SearchFault};
+use pocsag_decode::{DecodeFault, ListFault};
+use pocsag_pager::PagerFault;
+use pocsag_pages::{FieldFault, PageFault, RoundFault, WholeFault};
+use pocsag_plan::{AddFault, BadRate, BookFault, NotThere, PlanFault, StreamFault};
+use pocsag_show::ShowFault;
+use pocsag_text::TextFault;
+use pocsag_tour::TourFault;
+use pocsag_tree::{CertificateFault, Tree, TreeWriteFault};
+use pocsag_words::WriteFault;
+use std::alloc::Global;
+use std::fmt::Display;
+use std::process::Abort;
+
+fn expect_texts<D: Display>(rt: &impl Abort, alloc: Global, rows: &[(D, &str)]) {
+    for (fault, text) in rows {
+        let told = format!(in alloc; "{fault}").expect(rt, "memory");
+        assert_eq!(rt; told.as_str(), *text);
+    }
+}
+
+const NO_MEMORY: &str = "out of memory";
+
+const NO_WRITE: &str = "cannot write";
+
+const BAD_LIMIT: &str = "the limit must be 1 to 1000000";
+
+const LIMIT_REACHED: &str = "search limit reached: at least 2 batches, 3 would do";
+
+#[test]
+fn pages_and_rounds(rt: HostRuntime) {
+    let alloc = rt.alloc();
+    expect_texts(
+        &rt,
+        alloc,
+        &[
+            (TextFault::EmptyMessage, "the message is empty"),
+            (TextFault::BadCharacter(7), "bad character at 7"),
+            (TextFault::TooLong, "the message is too long"),
+            (TextFault::OutOfMemory, NO_MEMORY),
+        ],
+    );
+    expect_texts(
+        &rt,
+        alloc,
+        &[
+            (FieldFault::BadAddress, "bad address"),
+            (FieldFault::ReservedAddress, "reserved address"),
+            (FieldFault::BadKind, "unknown kind"),
+            (FieldFault::MessageForTone, "a tone page has no message"),
+            (FieldFault::EmptyMessage, "the message is empty"),
+            (FieldFault::BadCharacter(7), "bad character at 7"),
+            (FieldFault::TooLong, "the message is too long"),
+            (FieldFault::OutOfMemory, NO_MEMORY),
+        ],
+    );
+    expect_texts(
+        &rt,
+        alloc,
+        &[
+            (PageFault::BadAddress, "bad address"),
+            (PageFault::ReservedAddress, "reserved address"),
+            (PageFault::BadPayload, "bad payload"),
+        ],
+    );
+    expect_texts(
+        &rt,
+        alloc,
+        &[
+            (WholeFault::ReadFault, "cannot read or open a file"),
+            (WholeFault::TooLarge, "the file is too large"),
+            (WholeFault::OutOfMemory, NO_MEMORY),
+        ],
+    );
+    expect_texts(
+        &rt,
+        alloc,
+        &[
+            (RoundFault::ReadFault, "cannot read or open a file"),
+            (RoundFault::TooLarge, "the file is too large"),
+            (
+                RoundFault::BadHeader,
+                "the header must be address,kind,message",
+            ),
+            (
+                RoundFault::FieldCount(9),
+                "record 9: three fields are wanted",
+            ),
+            (RoundFault::BadAddress(9), "record 9: bad address"),
+            (RoundFault::ReservedAddress(9), "record 9: reserved address"),
+            (RoundFault::BadKind(9), "record 9: unknown kind"),
+            (
+                RoundFault::MessageForTone(9),
+                "record 9: a tone page has no message",
+            ),
+            (
+                RoundFault::EmptyMessage(9),
+                "record 9: the message is empty",
+            ),
+            (
+                RoundFault::BadCharacter(9, 7),
+                "record 9: bad character at 7",
+            ),
+            (RoundFault::TooLong(9), "record 9: the message is too long"),
+            (
+                RoundFault::DuplicateAddress(9),
+                "record 9: the address is already there",
+            ),
+            (
+                RoundFault::TooManyPages(20_001),
+                "record 20001: too many pages",
+            ),
+            (RoundFault::BadPayload(9), "record 9: bad payload"),
+            (RoundFault::NoPages, "there are no pages"),
+            (RoundFault::OutOfMemory, NO_MEMORY),
+        ],
+    );
+}
+
+#[test]
+fn transmissions_and_certificates(rt: HostRuntime) {
+    let alloc = rt.alloc();
+    expect_texts(
+        &rt,
+        alloc,
+        &[
+            (DecodeFault::ShortPreamble, "the preamble is too short"),
+            (
+                DecodeFault::NoSync(2),
+                "batch 2: no synchronisation codeword",
+            ),
+            (DecodeFault::BadWord(17), "codeword 17: not a codeword"),
+            (
+                DecodeFault::Orphan(1),
+                "codeword 1: a message without an address",
+            ),
+            (DecodeFault::Truncated, "the transmission is cut short"),
+            (DecodeFault::NoBatch, "the transmission has no batch"),
+            (DecodeFault::TooMuch, "the transmission is too long"),
+            (DecodeFault::OutOfMemory, NO_MEMORY),
+            (DecodeFault::Failed, "the decoder has stopped"),
+        ],
+    );
+    expect_texts(
+        &rt,
+        alloc,
+        &[
+            (ListFault::WriteFault, NO_WRITE),
+            (ListFault::OutOfMemory, NO_MEMORY),
+        ],
+    );
+    expect_texts(
+        &rt,
+        alloc,
+        &[
+            (PagerFault::BadAddress, "bad address"),
+            (PagerFault::ReservedAddress, "reserved address"),
+            (PagerFault::ShortPreamble, "the preamble is too short"),
+            (PagerFault::NoBatch, "the transmission has no batch"),
+            (PagerFault::Truncated, "the transmission is cut short"),
+            (PagerFault::OutOfMemory, NO_MEMORY),
+            (PagerFault::Failed, "the pager hears no more"),
+        ],
+    );
+    expect_texts(
+        &rt,
+        alloc,
+        &[
+            (
+                ShowFault::Transmission(DecodeFault::Orphan(3)),
+                "codeword 3: a message without an address",
+            ),
+            (ShowFault::WriteFault, NO_WRITE),
+            (ShowFault::OutOfMemory, NO_MEMORY),
+        ],
+    );
+    expect_texts(
+        &rt,
+        alloc,
+        &[
+            (CertificateFault::NotCertificate, "not a certificate"),
+            (CertificateFault::Version, "unknown certificate version"),
+            (CertificateFault::Truncated, "the certificate is cut short"),
+            (CertificateFault::Trailing, "bytes after the certificate"),
+            (CertificateFault::BadTag, "the certificate is malformed"),
+            (CertificateFault::BadField, "the certificate is malformed"),
+            (CertificateFault::TooDeep, "the certificate is too deep"),
+            (
+                CertificateFault::TooMany,
+                "the certificate has too many nodes",
+            ),
+            (CertificateFault::ReadFault, "cannot read or open a file"),
+            (CertificateFault::OutOfMemory, NO_MEMORY),
+        ],
+    );
+    expect_texts(
+        &rt,
+        alloc,
+        &[
+            (TreeWriteFault::BadTree, "the tree has no certificate"),
+            (TreeWriteFault::WriteFault, NO_WRITE),
+        ],
+    );
+}
+
+#[test]
+fn plans_and_edits(rt: HostRuntime) {
+    let alloc = rt.alloc();
+    let (least, found) = (2, 3);
+    expect_texts(
+        &rt,
+        alloc,
+        &[
+            (TourFault::Apart(1), "the runs are apart"),
+            (TourFault::Unclosed, "the tour cannot be closed"),
+            (TourFault::OutOfMemory, NO_MEMORY),
+        ],
+    );
+    expect_texts(
+        &rt,
+        alloc,
+        &[
+            (
+                SearchFault::SearchLimit {
+                    least,
+                    found,
+                    tree: Tree::Open,
+                },
+                LIMIT_REACHED,
+            ),
+            (SearchFault::OutOfMemory, NO_MEMORY),
+        ],
+    );
+    expect_texts(&rt, alloc, &[(FreeFault::OutOfMemory, NO_MEMORY)]);
+    expect_texts(
+        &rt,
+        alloc,
+        &[
+            (
+                FirstFault::Round(RoundFault::BadKind(9)),
+                "record 9: unknown kind",
+            ),
+            (FirstFault::OutOfMemory, NO_MEMORY),
+            (FirstFault::WriteFault, NO_WRITE),
+        ],
+    );
+    expect_texts(
+        &rt,
+        alloc,
+        &[
+            (PlanFault::BadLimit, BAD_LIMIT),
+            (
+                PlanFault::SearchLimit {
+                    least,
+                    found,
+                    tree: Tree::Open,
+                },
+                LIMIT_REACHED,
+            ),
+            (PlanFault::OutOfMemory, NO_MEMORY),
+        ],
+    );
+    expect_texts(
+        &rt,
+        alloc,
+        &[
+            (StreamFault::BadLimit, BAD_LIMIT),
+            (
+                StreamFault::Round(RoundFault::BadKind(9)),
+                "record 9: unknown kind",
+            ),
+            (
+                StreamFault::SearchLimit {
+                    least,
+                    found,
+                    tree: Tree::Open,
+                },
+                LIMIT_REACHED,
+            ),
+            (StreamFault::OutOfMemory, NO_MEMORY),
+            (StreamFault::Transmission(WriteFault), NO_WRITE),
+            (StreamFault::Certificate(WriteFault), NO_WRITE),
+        ],
+    );
+    expect_texts(
+        &rt,
+        alloc,
+        &[
+            (AddFault::BadAddress, "bad address"),
+            (AddFault::ReservedAddress, "reserved address"),
+            (AddFault::BadPayload, "bad payload"),
+            (AddFault::DuplicateAddress, "the address is already there"),
+            (AddFault::Full, "too many pages"),
+            (AddFault::OutOfMemory, NO_MEMORY),
+        ],
+    );
+    expect_texts(
+        &rt,
+        alloc,
+        &[
+            (BookFault::BadLimit, BAD_LIMIT),
+            (BookFault::NoPages, "there are no pages"),
+            (
+                BookFault::SearchLimit {
+                    least,
+                    found,
+                    tree: Tree::Open,
+                },
+                LIMIT_REACHED,
+            ),
+            (BookFault::OutOfMemory, NO_MEMORY),
+        ],
+    );
+    expect_texts(
+        &rt,
+        alloc,
+        &[(BadRate, "the rate must be 512, 1200 or 2400")],
+    );
+    expect_texts(&rt, alloc, &[(NotThere, "no such page")]);
+}

@@ -1,0 +1,77 @@
+//! Worked examples of choices of starts.
+
+use crate::given::tones;
+use crate::round_of;
+use pocsag_flow::{ChooseFault, choose, choose_from};
+use pocsag_pages::Round;
+use pocsag_slots::{Choice, all_limits, classes_of, loads};
+use pocsag_words::End;
+use std::process::Abort;
+use std::test::Fail;
+
+// Rounds by address and number of items, each with the least number of batches for which there is a choice,
+// for both ends.
+const LEAST: &[(&str, &[(u32, usize)], u32)] = &[
+    ("lone-tone", &[(8, 0)], 1),
+    ("five-digits", &[(0, 1)], 1),
+    ("one-full-batch", &[(0, 15)], 1),
+    ("loop-apart", &[(3, 15)], 1),
+    ("two-numeric-exact, closed-exact", &[(0, 5), (3, 9)], 1),
+    ("three-tones-one-frame", &[(5, 0), (13, 0), (21, 0)], 2),
+    ("loops-apart", &[(0, 15), (3, 15)], 2),
+    ("three-pages-tight", &[(0, 5), (3, 9), (11, 15)], 2),
+    ("two-in-last-frame", &[(7, 1), (15, 1)], 2),
+    ("closed-mixed", &[(0, 13), (7, 0), (15, 16)], 2),
+    ("closed-both-ways", &[(0, 13), (7, 0), (15, 2), (1, 13)], 2),
+    ("long-numeric", &[(7, 49)], 4),
+    ("long-alpha", &[(0, 1400)], 88),
+];
+
+// The least numbers of rounds of so many tones.
+const LEAST_OF_TONES: [(u32, u32); 2] = [(2_000, 125), (20_000, 1_250)];
+
+fn expect_least(rt: &impl Abort, name: &str, round: &Round, least: u32) {
+    for end in [End::Open, End::Closed] {
+        let classes = classes_of(round, end);
+        for (batches, is_carried) in [(least, true), (least.saturating_sub(1), false)] {
+            let answer = choose(&classes, &all_limits(&classes, batches));
+            assert_eq!(rt; answer.is_ok(), is_carried, "{name} in {batches}");
+        }
+    }
+}
+
+#[test]
+fn least_numbers(rt: HostRuntime) -> Result<(), Fail> {
+    for (name, pages, least) in LEAST {
+        expect_least(&rt, name, &round_of(rt.alloc(), pages)?, *least);
+    }
+    for (count, least) in LEAST_OF_TONES {
+        let round = Round::from_pages(rt.alloc(), tones(rt.alloc(), count)?)?;
+        expect_least(&rt, "tones", &round, least);
+    }
+    Ok(())
+}
+
+#[test]
+fn choices(rt: HostRuntime) -> Result<(), Fail> {
+    let late = Choice { early: [0; 136] };
+    let three_tones: &[(u32, usize)] = &[(5, 0), (13, 0), (21, 0)];
+    let last_frame: &[(u32, usize)] = &[(7, 1), (15, 1)];
+    for (pages, set) in [(three_tones, 0x0C00), (last_frame, 0x8000)] {
+        let classes = classes_of(&round_of(rt.alloc(), pages)?, End::Open);
+        let answer = choose(&classes, &all_limits(&classes, 1));
+        assert_eq!(rt; answer, Err(ChooseFault::Overload(set)));
+    }
+    let full_batch: &[(u32, usize)] = &[(0, 15)];
+    for (pages, batches) in [(full_batch, 1), (last_frame, 2)] {
+        let classes = classes_of(&round_of(rt.alloc(), pages)?, End::Open);
+        let limits = all_limits(&classes, batches);
+        assert!(rt; choose_from(&classes, &limits, &late).is_ok(), "{pages:?}");
+    }
+    let classes = classes_of(&round_of(rt.alloc(), full_batch)?, End::Open);
+    match choose(&classes, &all_limits(&classes, 1)) {
+        Ok(choice) => assert_eq!(rt; loads(&classes, &choice), [1; 16]),
+        Err(fault) => assert!(rt; false, "{fault:?}"),
+    }
+    Ok(())
+}

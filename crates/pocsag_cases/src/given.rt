@@ -1,0 +1,112 @@
+//! What the tests give to the calls: pages, page files and transmissions, from rows of tables.
+
+use pocsag_pages::{Page, Payload, Round, read_round};
+use pocsag_words::MemorySource;
+use std::alloc::Global;
+use std::test::Fail;
+
+pub(crate) const SYNC: u32 = 0x7cd2_15d8;
+
+pub(crate) const IDLE: u32 = 0x7a89_c197;
+
+/// The address codeword of address 8, 11 or 15 with function 0.
+pub(crate) const SECOND: u32 = 0x26ec;
+
+/// The message codeword of `11111`.
+pub(crate) const ONES: u32 = 0xc444_47b9;
+
+/// The message codeword of `12345`.
+pub(crate) const DIGITS: u32 = 0xc261_572c;
+
+/// A page: its address, its function and its items.
+pub(crate) type PageRow = (u32, u8, &'static [u32]);
+
+pub(crate) fn page(alloc: Global, address: u32, function: u8, items: &[u32]) -> Result<Page, Fail> {
+    Ok(Page {
+        address,
+        function,
+        payload: Payload::from_vec(Vec::from_slice(alloc, items)?),
+    })
+}
+
+pub(crate) fn pages(alloc: Global, rows: &[PageRow]) -> Result<Vec<Page>, Fail> {
+    let mut list = Vec::new(alloc);
+    for (address, function, items) in rows {
+        list.push(page(alloc, *address, *function, items)?)?;
+    }
+    Ok(list)
+}
+
+/// So many pages of an address codeword alone, at the addresses from 0 on.
+pub(crate) fn tones(alloc: Global, count: u32) -> Result<Vec<Page>, Fail> {
+    let mut list = Vec::new(alloc);
+    for address in 0..count {
+        list.push(page(alloc, address, 0, &[])?)?;
+    }
+    Ok(list)
+}
+
+/// The records of a page file: what each begins with, and how many digits 1 follow.
+pub(crate) type Records = &'static [(&'static str, usize)];
+
+pub(crate) fn page_file(alloc: Global, records: &[(&str, usize)]) -> Result<Vec<u8>, Fail> {
+    let mut file = Vec::from_slice(alloc, b"address,kind,message\n".as_slice())?;
+    for (begins, ones) in records {
+        file.extend_from_slice(begins.as_bytes())?;
+        for _ in 0..*ones {
+            file.push(b'1')?;
+        }
+        file.push(b'\n')?;
+    }
+    Ok(file)
+}
+
+pub(crate) fn round_of_file(alloc: Global, records: &[(&str, usize)]) -> Result<Round, Fail> {
+    let file = page_file(alloc, records)?;
+    let mut source = MemorySource::new(file.as_slice(), 64, u64::MAX);
+    Ok(read_round(alloc, &mut source)?)
+}
+
+/// Codewords: how many there are, which one stands where nothing else is said, and the others by place.
+pub(crate) type Sent = (usize, u32, &'static [(usize, u32)]);
+
+/// One tone at slot 0.
+pub(crate) const LONE_TONE: Sent = (16, IDLE, &[(0, SECOND)]);
+
+/// One page of `12345` for address 7 across two batches.
+pub(crate) const ACROSS: Sent = (32, IDLE, &[(15, 0), (16, DIGITS)]);
+
+/// Three pages that fill two batches.
+pub(crate) const TIGHT: Sent = (32, ONES, &[(0, 0), (6, SECOND), (22, 0)]);
+
+pub(crate) fn words(alloc: Global, sent: Sent) -> Result<Vec<u32>, Fail> {
+    let (count, other, placed) = sent;
+    let mut words = vec![in alloc; other; count]?;
+    for (place, word) in placed {
+        if *place < words.len() {
+            words[*place] = *word;
+        }
+    }
+    Ok(words)
+}
+
+/// The bytes of the preamble and of batches of these codewords.
+pub(crate) fn bytes_of(alloc: Global, words: &[u32]) -> Result<Vec<u8>, Fail> {
+    let mut bytes = vec![in alloc; 0xaa; 72]?;
+    for (place, word) in words.iter().enumerate() {
+        if place % 16 == 0 {
+            bytes.extend_from_slice(SYNC.to_be_bytes().as_slice())?;
+        }
+        bytes.extend_from_slice(word.to_be_bytes().as_slice())?;
+    }
+    Ok(bytes)
+}
+
+pub(crate) fn transmission(alloc: Global, sent: Sent) -> Result<Vec<u8>, Fail> {
+    bytes_of(alloc, words(alloc, sent)?.as_slice())
+}
+
+/// The first so many bytes.
+pub(crate) fn cut(bytes: &[u8], len: usize) -> &[u8] {
+    &bytes[..len.min(bytes.len())]
+}

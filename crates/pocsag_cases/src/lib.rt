@@ -1,0 +1,45 @@
+#![tactic(auto)]
+//! The tests of the public calls of all crates, written as tables, and the rounds that `pocsag_trial` shares
+//! with them. It has hardly any code but its tests: a crate with tests is proved twice.
+
+#[cfg(test)]
+mod batch_tests;
+#[cfg(test)]
+mod branch_tests;
+#[cfg(test)]
+mod check_tests;
+#[cfg(test)]
+mod command_tests;
+#[cfg(test)]
+mod decode_tests;
+#[cfg(test)]
+mod fault_texts;
+#[cfg(test)]
+mod flow_tests;
+#[cfg(test)]
+mod given;
+#[cfg(test)]
+mod open_tests;
+#[cfg(test)]
+mod page_tests;
+#[cfg(test)]
+mod pager_tests;
+#[cfg(test)]
+mod plan_tests;
+mod rounds;
+#[cfg(test)]
+mod show_tests;
+#[cfg(test)]
+mod slots_tests;
+#[cfg(test)]
+mod text_tests;
+#[cfg(test)]
+mod tour_tests;
+mod tours;
+#[cfg(test)]
+mod tree_tests;
+#[cfg(test)]
+mod word_tests;
+
+pub use rounds::{THREE_PAGES_TIGHT, has_page, ones, round_of};
+pub use tours::{NoTour, tour_of};

@@ -1,0 +1,273 @@
+//! Page files, rounds and pages.
+
+use crate::given::{PageRow, page, page_file, pages, tones};
+use crate::{THREE_PAGES_TIGHT, ones};
+use pocsag_pages::{
+    FieldFault, PageFault, Payload, Round, RoundFault, WholeFault, is_reserved_address,
+    leading_len, page_fault, page_of_fields, read_round, read_whole,
+};
+use pocsag_words::{DeviceFault, MemorySource, Source};
+use std::alloc::Global;
+use std::test::Fail;
+
+// What stands behind the header, how many digits 1 follow, and the pages or the first fault.
+const FILES: &[(&[u8], usize, Result<&[PageRow], RoundFault>)] = &[
+    (
+        b"8,tone0,\n0000000,numeric,12345\r\n\n2097151,alpha,\"ABC\"\n9,tone3,\n",
+        0,
+        Ok(&[
+            (8, 0, &[]),
+            (0, 0, &[0x84C2A]),
+            (2_097_151, 3, &[0x82870, 0x80000]),
+            (9, 3, &[]),
+        ]),
+    ),
+    (b"0,numeric,12  \n", 0, Ok(&[(0, 0, &[0x84333])])),
+    (b"0,numeric,12\n", 0, Ok(&[(0, 0, &[0x84333])])),
+    (b"2007663,tone0,\n", 0, Ok(&[(2_007_663, 0, &[])])),
+    (b"2007664,tone0,\n", 0, Err(RoundFault::ReservedAddress(1))),
+    (
+        b"8,tone0,\n0000008,tone1,\n",
+        0,
+        Err(RoundFault::DuplicateAddress(2)),
+    ),
+    (
+        b"8,tone0,\n16,tone0,\n8,tone1,\n",
+        0,
+        Err(RoundFault::DuplicateAddress(3)),
+    ),
+    (b"", 0, Err(RoundFault::NoPages)),
+    (b"7,tone0\n", 0, Err(RoundFault::FieldCount(1))),
+    (b"2097152,tone0,\n", 0, Err(RoundFault::BadAddress(1))),
+    (b"7,Tone0,\n", 0, Err(RoundFault::BadKind(1))),
+    (b"7,tone1,x\n", 0, Err(RoundFault::MessageForTone(1))),
+    (b"7,alpha,\n", 0, Err(RoundFault::EmptyMessage(1))),
+    (b"7,numeric,12a\n", 0, Err(RoundFault::BadCharacter(1, 2))),
+    (b"7,numeric,", 4_001, Err(RoundFault::TooLong(1))),
+    (
+        b"\n8,tone0,\n\r\n\n9,tone9,\n",
+        0,
+        Err(RoundFault::BadKind(2)),
+    ),
+];
+
+// Without the header.
+const UNHEADED: [&[u8]; 2] = [b"", b"8,tone0,\n"];
+
+#[test]
+fn page_files(rt: HostRuntime) -> Result<(), Fail> {
+    let alloc = rt.alloc();
+    for (records, ones, wanted) in FILES {
+        let mut bytes = Vec::from_slice(alloc, b"address,kind,message\n".as_slice())?;
+        bytes.extend_from_slice(records)?;
+        bytes.resize(21 + records.len() + ones, b'1')?;
+        match read_round(alloc, &mut MemorySource::new(bytes.as_slice(), 7, u64::MAX)) {
+            Ok(round) => {
+                let rows = (*wanted).map_err(|_| "a fault is due")?;
+                assert_eq!(rt;
+                    round.pages(),
+                    pages(alloc, rows)?.as_slice(),
+                    "{records:?}"
+                );
+            }
+            Err(fault) => assert_eq!(rt; Some(fault), (*wanted).err(), "{records:?}"),
+        }
+    }
+    for bytes in UNHEADED {
+        let read = read_round(alloc, &mut MemorySource::new(bytes, 7, u64::MAX));
+        assert_eq!(rt; read.err(), Some(RoundFault::BadHeader));
+    }
+    let bytes = b"address,kind,message\n8,tone0,".as_slice();
+    for place in 0..30u64 {
+        let all = read_whole(alloc, &mut MemorySource::new(bytes, 1, place), 1000);
+        let round = read_round(alloc, &mut MemorySource::new(bytes, 1, place));
+        assert_eq!(rt; all.err(), Some(WholeFault::ReadFault));
+        assert_eq!(rt; round.err(), Some(RoundFault::ReadFault));
+    }
+    let read = read_round(alloc, &mut MemorySource::new(bytes, 1, 30))?;
+    assert_eq!(rt; read.pages(), pages(alloc, &[(8, 0, &[])])?.as_slice());
+    Ok(())
+}
+
+// A page file of one page and empty lines, so long.
+#[derive(Drop)]
+struct LongFile {
+    text: &'static [u8],
+    left: usize,
+    calls: u64,
+}
+
+impl Source for LongFile {
+    ghost use Rattle.std.specs.Prelude.{[]};
+
+    ghost tells = { ⊥ };
+
+    ghost held = { λ _. [] };
+
+    ghost calls = { λ s. s.calls };
+
+    ghost failures = { λ _. 0 };
+
+    fn read(&mut self, buffer: &mut [u8]) -> Result<usize, DeviceFault> {
+        self.calls = self.calls.saturating_add(1);
+        let mut count = self.left.min(buffer.len());
+        if self.text.is_empty() {
+            buffer[..count].fill(b'\n');
+        } else {
+            count = count.min(self.text.len());
+            let (front, rest) = self.text.split_at(count);
+            buffer[..count].copy_from_slice(front);
+            self.text = rest;
+        }
+        self.left -= count;
+        Ok(count)
+    }
+}
+
+fn long_file(length: usize) -> LongFile {
+    LongFile {
+        text: b"address,kind,message\n8,tone0,\n",
+        left: length,
+        calls: 0,
+    }
+}
+
+#[test]
+fn sizes(rt: HostRuntime) -> Result<(), Fail> {
+    let alloc = rt.alloc();
+    let mut bytes = page_file(alloc, &[])?;
+    for address in 0..20_000u32 {
+        bytes.extend_from_slice(format!(in alloc; "{address},tone0,\n")?.as_bytes())?;
+    }
+    let read = read_round(alloc, &mut MemorySource::new(bytes.as_slice(), 7, u64::MAX))?;
+    assert_eq!(rt; read.pages().len(), 20_000);
+    bytes.extend_from_slice(b"20000,tone0,\n".as_slice())?;
+    let read = read_round(alloc, &mut MemorySource::new(bytes.as_slice(), 7, u64::MAX));
+    assert_eq!(rt; read.err(), Some(RoundFault::TooManyPages(20_001)));
+    let round = Round::from_pages(alloc, tones(alloc, 20_000)?)?;
+    assert_eq!(rt; round.pages(), tones(alloc, 20_000)?.as_slice());
+    let fault = Round::from_pages(alloc, tones(alloc, 20_001)?).err();
+    assert_eq!(rt; fault, Some(RoundFault::TooManyPages(20_001)));
+    assert_eq!(rt;
+        read_round(alloc, &mut long_file(268_435_456))?
+            .pages()
+            .len(),
+        1
+    );
+    let fault = read_round(alloc, &mut long_file(268_435_457)).err();
+    assert_eq!(rt; fault, Some(RoundFault::TooLarge));
+    let bytes = [0xAAu8; 140];
+    let refused = read_whole(alloc, &mut MemorySource::new(&bytes, 9, u64::MAX), 139);
+    assert_eq!(rt; refused.err(), Some(WholeFault::TooLarge));
+    let all = read_whole(alloc, &mut MemorySource::new(&bytes, 9, u64::MAX), 140)?;
+    assert_eq!(rt; all.as_slice(), bytes.as_slice());
+    Ok(())
+}
+
+// The three fields of a record, and its page or its fault.
+const FIELDS: &[(&[u8], &[u8], &[u8], Result<PageRow, FieldFault>)] = &[
+    (b"0000000", b"numeric", b"12345", Ok((0, 0, &[0x84C2A]))),
+    (
+        b"2097151",
+        b"alpha",
+        b"ABC",
+        Ok((2_097_151, 3, &[0x82870, 0x80000])),
+    ),
+    (b"2097152", b"nones", b"-", Err(FieldFault::BadAddress)),
+    (b"2007664", b"nones", b"-", Err(FieldFault::ReservedAddress)),
+    (b"0000007", b"Tone0", b"-", Err(FieldFault::BadKind)),
+    (b"0000007", b"tone1", b"-", Err(FieldFault::MessageForTone)),
+    (
+        b"0000007",
+        b"alpha",
+        b"\x00",
+        Err(FieldFault::BadCharacter(0)),
+    ),
+    (b"7", b"alpha", b"", Err(FieldFault::EmptyMessage)),
+    (b"7", b"numeric", &[b'1'; 4_001], Err(FieldFault::TooLong)),
+];
+
+// Pages with their fault.
+const JUDGED: &[(PageRow, Option<PageFault>)] = &[
+    ((2_097_152, 0, &[]), Some(PageFault::BadAddress)),
+    ((2_045_063, 0, &[]), Some(PageFault::ReservedAddress)),
+    ((8, 1, &[0x84C2A]), Some(PageFault::BadPayload)),
+    ((8, 2, &[1_048_576]), Some(PageFault::BadPayload)),
+    ((8, 3, &[1_048_575]), None),
+    ((2_097_151, 0, &[0x88888; 1_400]), None),
+    (
+        (2_097_151, 0, &[0x88888; 1_401]),
+        Some(PageFault::BadPayload),
+    ),
+];
+
+#[test]
+fn records_and_pages(rt: HostRuntime) -> Result<(), Fail> {
+    let alloc = rt.alloc();
+    for (address, kind, message, wanted) in FIELDS {
+        match (page_of_fields(alloc, address, kind, message), wanted) {
+            (Ok(spelled), Ok((address, function, items))) => {
+                assert_eq!(rt; spelled, page(alloc, *address, *function, items)?);
+            }
+            (told, wanted) => assert_eq!(rt; told.err(), wanted.err(), "{address:?} {kind:?}"),
+        }
+    }
+    for ((address, function, items), fault) in JUDGED {
+        let judged = page(alloc, *address, *function, items)?;
+        assert_eq!(rt; page_fault(&judged), *fault, "{address} {function}");
+    }
+    for (address, is_reserved) in [
+        (2_007_663, false),
+        (2_007_664, true),
+        (2_007_671, true),
+        (2_007_672, false),
+        (2_045_055, false),
+        (2_045_056, true),
+        (2_045_063, true),
+        (2_045_064, false),
+    ] {
+        assert_eq!(rt; is_reserved_address(address), is_reserved, "{address}");
+    }
+    for count in 71..74 {
+        let mut bytes = vec![in alloc; 0xAA; count]?;
+        assert_eq!(rt; leading_len(bytes.as_slice()), count);
+        bytes.push(0x2A)?;
+        assert_eq!(rt; leading_len(bytes.as_slice()), count);
+    }
+    Ok(())
+}
+
+// Rounds of pages, copies and payloads.
+#[test]
+fn rounds_of_pages(rt: HostRuntime) -> Result<(), Fail> {
+    let alloc = rt.alloc();
+    let items: &[u32] = &[0x88888; 15];
+    let tight = [
+        page(alloc, 0, 0, &items[..5])?,
+        page(alloc, 3, 0, &items[..9])?,
+        page(alloc, 11, 0, items)?,
+    ];
+    let mut given = Vec::new(alloc);
+    for (address, count) in THREE_PAGES_TIGHT {
+        given.push(ones(alloc, address, count)?)?;
+    }
+    let round = Round::from_pages(alloc, given)?;
+    assert_eq!(rt; round.pages(), tight.as_slice());
+    let mut twice = Vec::new(alloc);
+    for page in round.pages() {
+        twice.push(page.copy(alloc)?)?;
+    }
+    twice.push(page(alloc, 0, 1, &[])?)?;
+    let fault = Round::from_pages(alloc, twice).err();
+    assert_eq!(rt; fault, Some(RoundFault::DuplicateAddress(4)));
+    let fault = Round::from_pages(alloc, Vec::new(alloc)).err();
+    assert_eq!(rt; fault, Some(RoundFault::NoPages));
+    let tone = page(alloc, 8, 0, &[])?;
+    assert_eq!(rt; tone.copy(alloc)?, tone);
+    let digits = page(alloc, 0, 0, &[0x84C2A])?;
+    assert_eq!(rt; digits.copy(alloc)?, digits);
+    assert_eq!(rt; Payload::empty(alloc), tone.payload);
+    assert_eq!(rt; digits.payload.as_slice(), [0x84C2A].as_slice());
+    assert_eq!(rt; digits.payload.into_vec().len(), 1);
+    Ok(())
+}

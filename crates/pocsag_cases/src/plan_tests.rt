@@ -1,0 +1,333 @@
+//! Plans of worked examples, as calls and as streams.
+use crate::given::{ONES, Records, Sent, TIGHT, page_file, round_of_file, transmission};
+use pocsag_check::check;
+use pocsag_pages::RoundFault;
+use pocsag_plan::{
+    PlanFault, StreamFault, plan, plan_always, plan_stream, plan_stream_always, report,
+};
+use pocsag_tree::read_certificate;
+use pocsag_words::{End, MemorySink, MemorySource};
+use std::alloc::Global;
+use std::test::Fail;
+
+const ONE_TONE: Records = &[("8,tone0,", 0)];
+
+const LOOPS_APART: Records = &[("0,numeric,", 75), ("3,numeric,", 75)];
+
+const EXACT: Records = &[("0,numeric,", 25), ("3,numeric,", 45)];
+
+const THREE_TIGHT: Records = &[("0,numeric,", 25), ("3,numeric,", 45), ("11,numeric,", 75)];
+
+const BOTH_WAYS: Records = &[
+    ("0,numeric,", 65),
+    ("7,tone0,", 0),
+    ("15,numeric,", 10),
+    ("1,numeric,", 65),
+];
+
+// Eight pages for which each tree of the promised shape has at least 354,623 nodes.
+const HARD: Records = &[
+    ("5,numeric,", 20),
+    ("8,numeric,", 40),
+    ("20,numeric,", 40),
+    ("25,numeric,", 10),
+    ("39,numeric,", 150),
+    ("46,numeric,", 70),
+    ("50,numeric,", 150),
+    ("57,numeric,", 70),
+];
+
+// Each with its end, its fewest batches and its batches in file order.
+const PLANNED: &[(Records, End, u32, u32)] = &[
+    (ONE_TONE, End::Open, 1, 1),
+    (ONE_TONE, End::Closed, 1, 1),
+    (
+        &[("5,tone0,", 0), ("13,tone0,", 0), ("21,tone0,", 0)],
+        End::Open,
+        2,
+        2,
+    ),
+    (LOOPS_APART, End::Open, 3, 3),
+    (EXACT, End::Open, 1, 1),
+    (EXACT, End::Closed, 2, 1),
+    (THREE_TIGHT, End::Open, 2, 3),
+    (
+        &[("7,numeric,12345", 0), ("15,numeric,12345", 0)],
+        End::Open,
+        2,
+        2,
+    ),
+    (&[("7,numeric,", 241)], End::Open, 4, 4),
+    (&[("7,numeric,", 241)], End::Closed, 5, 4),
+    (
+        &[("0,numeric,", 65), ("7,tone0,", 0), ("15,numeric,", 80)],
+        End::Closed,
+        2,
+        2,
+    ),
+    (BOTH_WAYS, End::Open, 2, 2),
+    (BOTH_WAYS, End::Closed, 3, 2),
+];
+
+// Rounds with a limit of nodes within which `plan` refuses, and the batches and the bound of the plan that is
+// never refused.
+const LIMITED: [(Records, u32, u32, u32); 2] = [(LOOPS_APART, 1, 3, 2), (HARD, 1_000, 9, 9)];
+
+#[test]
+fn plans(rt: HostRuntime) -> Result<(), Fail> {
+    let alloc = rt.alloc();
+    for (records, end, batches, in_order) in PLANNED {
+        let round = round_of_file(alloc, records)?;
+        let fewest = plan(alloc, &round, 100_000, *end)?;
+        assert_eq!(rt;
+            (fewest.batches, fewest.in_order),
+            (*batches, *in_order),
+            "{records:?}"
+        );
+        assert!(rt; check(&round, *batches, &fewest.tree, *end), "{records:?}");
+        let bounded = plan_always(alloc, &round, 100_000, *end)?;
+        assert_eq!(rt;
+            (bounded.plan.batches, bounded.bound),
+            (*batches, *batches),
+            "{records:?}"
+        );
+        assert!(rt;
+            check(&round, *batches, &bounded.plan.tree, *end),
+            "{records:?}"
+        );
+    }
+    for (records, limit, batches, bound) in LIMITED {
+        let round = round_of_file(alloc, records)?;
+        let told = plan(alloc, &round, limit, End::Open);
+        assert!(rt;
+            matches!(told, Err(PlanFault::SearchLimit { .. })),
+            "{records:?}"
+        );
+        let bounded = plan_always(alloc, &round, limit, End::Open)?;
+        assert_eq!(rt;
+            (bounded.plan.batches, bounded.bound),
+            (batches, bound),
+            "{records:?}"
+        );
+        assert!(rt;
+            check(&round, bound, &bounded.plan.tree, End::Open),
+            "{records:?}"
+        );
+    }
+    Ok(())
+}
+
+#[test]
+fn limits_and_reports(rt: HostRuntime) -> Result<(), Fail> {
+    let alloc = rt.alloc();
+    let round = round_of_file(alloc, LOOPS_APART)?;
+    for limit in [0, 1_000_001] {
+        let told = plan(alloc, &round, limit, End::Open);
+        assert!(rt; matches!(told, Err(PlanFault::BadLimit)), "{limit}");
+        let told = plan_always(alloc, &round, limit, End::Open);
+        assert!(rt; matches!(told, Err(PlanFault::BadLimit)), "{limit}");
+    }
+    let Err(PlanFault::SearchLimit { least, found, .. }) = plan(alloc, &round, 2, End::Open) else {
+        return Err(Fail::from("planned"));
+    };
+    assert_eq!(rt; (least, found), (2, 3));
+    assert_eq!(rt; plan(alloc, &round, 3, End::Open)?.batches, 3);
+    let fewest = plan(
+        alloc,
+        &round_of_file(alloc, THREE_TIGHT)?,
+        100_000,
+        End::Open,
+    )?;
+    let text = format!(in alloc; "{}", report(&fewest, 1200)?)?;
+    assert_eq!(rt;
+        text.as_str(),
+        "pages 3\ncodewords 32\nin_order 3\nbatches 2\nidles 0\nbits 1664\nairtime_ms 1387\n"
+    );
+    assert_eq!(rt; report(&fewest, 512)?.airtime_ms, 3250);
+    assert_eq!(rt; report(&fewest, 2400)?.airtime_ms, 694);
+    assert!(rt; report(&fewest, 1201).is_err());
+    Ok(())
+}
+
+// How a page file is streamed: within which limit of nodes, whether always, how many bytes are read and written
+// at a time, and after how many bytes the source, the transmission and the certificate fail.
+#[derive(Clone, Copy)]
+struct Way {
+    limit: u32,
+    is_always: bool,
+    step: usize,
+    read: u64,
+    sent: u64,
+    certified: u64,
+}
+
+const AMPLE: Way = Way {
+    limit: 100_000,
+    is_always: false,
+    step: 64,
+    read: u64::MAX,
+    sent: u64::MAX,
+    certified: u64::MAX,
+};
+
+// What was answered, the batches and the bound, and what was written.
+#[derive(Drop)]
+struct Streamed {
+    answer: Result<(u32, u32), StreamFault>,
+    tx: MemorySink<400>,
+    cert: MemorySink<100>,
+}
+
+fn stream(alloc: Global, records: Records, way: Way) -> Result<Streamed, Fail> {
+    let file = page_file(alloc, records)?;
+    let step = way.step.max(1);
+    let mut source = MemorySource::new(file.as_slice(), step, way.read);
+    let mut tx = MemorySink::<400>::new(step, way.sent);
+    let mut cert = MemorySink::<100>::new(step, way.certified);
+    let answer = if way.is_always {
+        match plan_stream_always(alloc, &mut source, &mut tx, &mut cert, way.limit, End::Open) {
+            Ok(bounded) => Ok((bounded.plan.batches, bounded.bound)),
+            Err(fault) => Err(fault),
+        }
+    } else {
+        match plan_stream(alloc, &mut source, &mut tx, &mut cert, way.limit, End::Open) {
+            Ok(plan) => Ok((plan.batches, plan.batches)),
+            Err(fault) => Err(fault),
+        }
+    };
+    Ok(Streamed { answer, tx, cert })
+}
+
+// Rounds, how they are streamed, the batches and the bound, and the only transmission, where there is one.
+const STREAMED: [(Records, Way, u32, u32, Option<Sent>); 7] = [
+    (EXACT, Way { step: 1, ..AMPLE }, 1, 1, Some(EXACT_SENT)),
+    (EXACT, Way { step: 400, ..AMPLE }, 1, 1, Some(EXACT_SENT)),
+    (
+        EXACT,
+        Way {
+            step: 9,
+            is_always: true,
+            ..AMPLE
+        },
+        1,
+        1,
+        Some(EXACT_SENT),
+    ),
+    (THREE_TIGHT, Way { step: 1, ..AMPLE }, 2, 2, Some(TIGHT)),
+    (THREE_TIGHT, Way { step: 400, ..AMPLE }, 2, 2, Some(TIGHT)),
+    (
+        THREE_TIGHT,
+        Way {
+            step: 9,
+            is_always: true,
+            ..AMPLE
+        },
+        2,
+        2,
+        Some(TIGHT),
+    ),
+    (
+        LOOPS_APART,
+        Way {
+            step: 9,
+            is_always: true,
+            limit: 1,
+            ..AMPLE
+        },
+        3,
+        2,
+        None,
+    ),
+];
+
+const EXACT_SENT: Sent = (16, ONES, &[(0, 0), (6, 0)]);
+
+#[test]
+fn streams(rt: HostRuntime) -> Result<(), Fail> {
+    let alloc = rt.alloc();
+    for (records, way, batches, bound, sent) in STREAMED {
+        let streamed = stream(alloc, records, way)?;
+        assert_eq!(rt; streamed.answer?, (batches, bound), "{records:?}");
+        assert_eq!(rt;
+            streamed.tx.bytes().len(),
+            72 + 68 * batches as usize,
+            "{records:?}"
+        );
+        if let Some(sent) = sent {
+            assert_eq!(rt;
+                streamed.tx.bytes(),
+                transmission(alloc, sent)?.as_slice(),
+                "{records:?}"
+            );
+        }
+        let mut source = MemorySource::new(streamed.cert.bytes(), 7, u64::MAX);
+        let read = read_certificate(alloc, &mut source)?;
+        assert_eq!(rt; read.batches, bound, "{records:?}");
+        let round = round_of_file(alloc, records)?;
+        assert!(rt; check(&round, bound, &read.tree, read.end), "{records:?}");
+    }
+    Ok(())
+}
+
+#[test]
+fn failing_streams(rt: HostRuntime) -> Result<(), Fail> {
+    let alloc = rt.alloc();
+    let whole = stream(alloc, ONE_TONE, AMPLE)?;
+    assert_eq!(rt; whole.tx.bytes().len(), 140);
+    for (limit, read) in [(0, u64::MAX), (100_000, 0), (100_000, 20)] {
+        let told = stream(
+            alloc,
+            ONE_TONE,
+            Way {
+                limit,
+                read,
+                ..AMPLE
+            },
+        )?;
+        match told.answer {
+            Err(StreamFault::BadLimit) => assert_eq!(rt; limit, 0),
+            Err(StreamFault::Round(RoundFault::ReadFault)) => assert_eq!(rt; limit, 100_000),
+            _ => assert!(rt; false, "{limit} {read}"),
+        }
+        assert!(rt; told.tx.bytes().is_empty() && told.cert.bytes().is_empty());
+    }
+    for k in 0..140u64 {
+        let told = stream(
+            alloc,
+            ONE_TONE,
+            Way {
+                step: 5,
+                sent: k,
+                ..AMPLE
+            },
+        )?;
+        assert!(rt;
+            matches!(told.answer, Err(StreamFault::Transmission(_))),
+            "{k}"
+        );
+        assert!(rt; whole.tx.bytes().starts_with(told.tx.bytes()), "{k}");
+        assert!(rt;
+            told.tx.bytes().len() as u64 == k && told.cert.bytes().is_empty(),
+            "{k}"
+        );
+    }
+    for k in 0..whole.cert.bytes().len() as u64 {
+        let told = stream(
+            alloc,
+            ONE_TONE,
+            Way {
+                step: 5,
+                certified: k,
+                ..AMPLE
+            },
+        )?;
+        assert!(rt;
+            matches!(told.answer, Err(StreamFault::Certificate(_))),
+            "{k}"
+        );
+        assert!(rt; told.tx.bytes() == whole.tx.bytes(), "{k}");
+        assert!(rt; whole.cert.bytes().starts_with(told.cert.bytes()), "{k}");
+        assert_eq!(rt; told.cert.bytes().len() as u64, k);
+    }
+    Ok(())
+}

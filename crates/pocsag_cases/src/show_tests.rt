@@ -1,0 +1,188 @@
+//! Transmissions as they are shown: grids, drawings and listings.
+
+use crate::given::{ACROSS, DIGITS, IDLE, LONE_TONE, ONES, SECOND, Sent, TIGHT, cut, transmission};
+use pocsag_decode::DecodeFault;
+use pocsag_show::{ShowFault, show_list, show_svg, show_text};
+use pocsag_words::MemorySink;
+use std::alloc::Global;
+use std::test::Fail;
+
+const LONE_TEXT: &[u8] = b"\
+batches 1, codewords 1, idles 15 (94%), airtime 2188 ms at 512 bit/s, 934 ms at 1200 bit/s, 467 ms at 2400 bit/s
+       0  1  2  3  4  5  6  7
+  1   A. .. .. .. .. .. .. ..
+";
+
+const ACROSS_TEXT: &[u8] = b"\
+batches 2, codewords 2, idles 30 (94%), airtime 3250 ms at 512 bit/s, 1387 ms at 1200 bit/s, 694 ms at 2400 bit/s
+       0  1  2  3  4  5  6  7
+  1   .. .. .. .. .. .. .. .A
+  2   a. .. .. .. .. .. .. ..
+";
+
+const TIGHT_TEXT: &[u8] = b"\
+batches 2, codewords 32, idles 0 (0%), airtime 3250 ms at 512 bit/s, 1387 ms at 1200 bit/s, 694 ms at 2400 bit/s
+       0  1  2  3  4  5  6  7
+  1   Aa aa aa Bb bb bb bb bb
+  2   bb bb bb Cc cc cc cc cc
+";
+
+const MANY_TEXT: &[u8] = b"\
+batches 2, codewords 27, idles 5 (16%), airtime 3250 ms at 512 bit/s, 1387 ms at 1200 bit/s, 694 ms at 2400 bit/s
+       0  1  2  3  4  5  6  7
+  1   AB CD EF GH IJ KL MN OP
+  2   QR ST UV WX YZ A. .. ..
+";
+
+// 27 tones, of which the last has the first letter again.
+const MANY: Sent = (
+    32,
+    SECOND,
+    &[(27, IDLE), (28, IDLE), (29, IDLE), (30, IDLE), (31, IDLE)],
+);
+
+const LONE_LIST: &[u8] = b"batch,frame,slot,codewords,address,kind,message\n1,0,0,1,8,tone0,\n";
+
+const PLACED: Sent = (
+    32,
+    ONES,
+    &[
+        (0, 0),
+        (6, SECOND),
+        (22, 0),
+        (29, IDLE),
+        (30, SECOND),
+        (31, IDLE),
+    ],
+);
+
+const PLACED_LIST: &[u8] = b"batch,frame,slot,codewords,address,kind,message
+1,0,0,6,0,numeric,1111111111111111111111111
+1,3,6,16,11,numeric,111111111111111111111111111111111111111111111111111111111111111111111111111
+2,3,6,7,3,numeric,111111111111111111111111111111
+2,7,14,1,15,tone0,
+";
+
+const ORPHAN: Sent = (16, IDLE, &[(1, DIGITS)]);
+
+#[derive(Clone, Copy, PartialEq, Eq, Debug)]
+enum View {
+    Text,
+    List,
+    Drawing,
+}
+
+// Shows the first so many bytes to a sink.
+fn show<const N: usize>(
+    alloc: Global,
+    view: View,
+    bytes: &[u8],
+    sink: &mut MemorySink<N>,
+) -> Option<ShowFault> {
+    match view {
+        View::Text => show_text(alloc, bytes, sink).err(),
+        View::List => show_list(alloc, bytes, sink).err(),
+        View::Drawing => show_svg(alloc, bytes, sink).err(),
+    }
+}
+
+// What is shown of these codewords behind so many more bytes of the preamble, so many bytes at a time.
+const SHOWN: &[(View, Sent, usize, usize, &[u8])] = &[
+    (View::Text, LONE_TONE, 0, 7, LONE_TEXT),
+    (View::Text, LONE_TONE, 9, 512, LONE_TEXT),
+    (View::Text, ACROSS, 0, 7, ACROSS_TEXT),
+    (View::Text, TIGHT, 0, 7, TIGHT_TEXT),
+    (View::Text, MANY, 0, 7, MANY_TEXT),
+    (View::List, LONE_TONE, 0, 7, LONE_LIST),
+    (View::List, PLACED, 0, 5, PLACED_LIST),
+];
+
+const TRUNCATED: ShowFault = ShowFault::Transmission(DecodeFault::Truncated);
+
+// The first so many bytes of codewords, of which nothing is shown.
+const REFUSED: &[(View, Sent, usize, ShowFault)] = &[
+    (View::Text, LONE_TONE, 139, TRUNCATED),
+    (
+        View::Text,
+        LONE_TONE,
+        72,
+        ShowFault::Transmission(DecodeFault::NoBatch),
+    ),
+    (
+        View::Text,
+        LONE_TONE,
+        71,
+        ShowFault::Transmission(DecodeFault::ShortPreamble),
+    ),
+    (
+        View::Text,
+        ORPHAN,
+        140,
+        ShowFault::Transmission(DecodeFault::Orphan(1)),
+    ),
+    (View::List, LONE_TONE, 139, TRUNCATED),
+    (View::Drawing, LONE_TONE, 139, TRUNCATED),
+];
+
+#[test]
+fn texts_and_lists(rt: HostRuntime) -> Result<(), Fail> {
+    let alloc = rt.alloc();
+    for (view, sent, more, step, text) in SHOWN {
+        let mut bytes = vec![in alloc; 0xAA; *more]?;
+        bytes.extend_from_slice(transmission(alloc, *sent)?.as_slice())?;
+        let mut sink = MemorySink::<512>::new((*step).max(1), 512);
+        assert_eq!(rt; show(alloc, *view, bytes.as_slice(), &mut sink), None);
+        assert_eq!(rt; sink.bytes(), *text);
+    }
+    for (view, sent, len, fault) in REFUSED {
+        let bytes = transmission(alloc, *sent)?;
+        let mut sink = MemorySink::<512>::new(512, 512);
+        let told = show(alloc, *view, cut(bytes.as_slice(), *len), &mut sink);
+        assert_eq!(rt; told, Some(*fault), "{view:?} {len}");
+        assert!(rt; sink.bytes().is_empty(), "{view:?} {len}");
+    }
+    let bytes = transmission(alloc, LONE_TONE)?;
+    for (view, text) in [(View::Text, LONE_TEXT), (View::List, LONE_LIST)] {
+        for left in 0..text.len() {
+            let mut sink = MemorySink::<512>::new(3, left as u64);
+            let told = show(alloc, view, bytes.as_slice(), &mut sink);
+            assert_eq!(rt; told, Some(ShowFault::WriteFault), "{view:?} {left}");
+            assert_eq!(rt; sink.bytes(), &text[..left]);
+        }
+    }
+    Ok(())
+}
+
+const TOTALS: &[u8] =
+    b"batches 1000, codewords 0, idles 16000 (100%), airtime 1063625 ms at 512 bit/s, 453814 ms at 1200 bit/s, 226907 ms at 2400 bit/s\n";
+
+const LAST_ROWS: &[u8] = b"999   .. .. .. .. .. .. .. ..\n1000  .. .. .. .. .. .. .. ..\n";
+
+const DRAWN: &[u8] =
+    b"<g class=\"p0\"><title>A: address 8, tone0</title><rect x=\"72\" y=\"48\" width=\"24\" height=\"18\"/><text class=\"m\" x=\"84\" y=\"61\">A</text></g>\n<g class=\"i\"><rect x=\"96\" y=\"48\" width=\"360\" height=\"18\"/></g>\n";
+
+#[test]
+fn large_texts_and_drawings(rt: HostRuntime) -> Result<(), Fail> {
+    let alloc = rt.alloc();
+    let bytes = transmission(alloc, (16_000, IDLE, &[]))?;
+    let mut sink = MemorySink::<40000>::new(40_000, 40_000);
+    assert_eq!(rt; show(alloc, View::Text, bytes.as_slice(), &mut sink), None);
+    assert!(rt; sink.bytes().starts_with(TOTALS));
+    assert!(rt; sink.bytes().ends_with(LAST_ROWS));
+    let bytes = transmission(alloc, LONE_TONE)?;
+    let mut sink = MemorySink::<40000>::new(10_000, 10_000);
+    assert_eq!(rt;
+        show(alloc, View::Drawing, bytes.as_slice(), &mut sink),
+        None
+    );
+    assert!(rt;
+        sink.bytes()
+            .windows(DRAWN.len())
+            .any(|piece| piece == DRAWN)
+    );
+    let mut sink = MemorySink::<512>::new(16, 16);
+    let told = show(alloc, View::Drawing, bytes.as_slice(), &mut sink);
+    assert_eq!(rt; told, Some(ShowFault::WriteFault));
+    assert_eq!(rt; sink.bytes(), b"<svg xmlns=\"http".as_slice());
+    Ok(())
+}

@@ -1,0 +1,102 @@
+//! Worked examples of classes, ways and loads.
+
+use crate::round_of;
+use pocsag_slots::{
+    Choice, Way, all_limits, carries, classes_of, closing_ways, holds, is_certain, least_load,
+    loads, narrow, overloads, size, ways, with_member,
+};
+use pocsag_words::End;
+use std::test::Fail;
+
+const THREE_TONES: &[(u32, usize)] = &[(5, 0), (13, 0), (21, 0)];
+
+const LOOPS_APART: &[(u32, usize)] = &[(0, 15), (3, 15)];
+
+const TIGHT: &[(u32, usize)] = &[(0, 5), (3, 9), (11, 15)];
+
+const CLOSED_MIXED: &[(u32, usize)] = &[(0, 13), (7, 0), (15, 16)];
+
+// Rounds with an end, a class, how many pages it has and how often they go round.
+const COUNTS: &[(&[(u32, usize)], End, usize, u32, u32)] = &[
+    (THREE_TONES, End::Open, 81, 3, 0),
+    (THREE_TONES, End::Open, 133, 0, 0),
+    (THREE_TONES, End::Closed, 81, 0, 0),
+    (THREE_TONES, End::Closed, 133, 3, 0),
+    (LOOPS_APART, End::Open, 0, 1, 1),
+    (LOOPS_APART, End::Open, 48, 1, 1),
+    (CLOSED_MIXED, End::Closed, 14, 1, 0),
+    (CLOSED_MIXED, End::Closed, 113, 1, 1),
+    (CLOSED_MIXED, End::Closed, 135, 1, 0),
+];
+
+// Rounds with the ways across a set in two batches.
+const WAYS: &[(&[(u32, usize)], u16, &[Way])] = &[
+    (LOOPS_APART, 0x0001, &[Way::IdleIn(0), Way::IdleIn(15)]),
+    (
+        TIGHT,
+        0x0081,
+        &[
+            Way::IdleIn(0),
+            Way::IdleIn(6),
+            Way::IdleIn(7),
+            Way::IdleIn(15),
+            Way::Early(6),
+            Way::Late(6),
+            Way::Early(58),
+            Way::Late(58),
+        ],
+    ),
+];
+
+#[test]
+fn classes_and_ways(rt: HostRuntime) -> Result<(), Fail> {
+    for (pages, end, class, count, turns) in COUNTS {
+        let classes = classes_of(&round_of(rt.alloc(), pages)?, *end);
+        assert!(rt; *class < 136);
+        let told = (classes.count[*class], classes.turns[*class]);
+        assert_eq!(rt; told, (*count, *turns), "{pages:?} {class}");
+    }
+    for (pages, set, wanted) in WAYS {
+        let classes = classes_of(&round_of(rt.alloc(), pages)?, End::Open);
+        let out = ways(&classes, &all_limits(&classes, 2), *set, 2);
+        assert_eq!(rt; out.as_slice(), *wanted);
+    }
+    let classes = classes_of(&round_of(rt.alloc(), THREE_TONES)?, End::Open);
+    for (batches, is_over) in [(1, true), (2, false)] {
+        let limits = all_limits(&classes, batches);
+        assert_eq!(rt; overloads(&classes, &limits, 0x0C00), is_over);
+    }
+    let two = with_member(with_member(0, 15), 4);
+    assert_eq!(rt; two, 0x8010);
+    assert_eq!(rt; with_member(two, 4), two);
+    assert_eq!(rt; (holds(two, 15), holds(two, 5)), (true, false));
+    assert_eq!(rt; (size(0), size(two), size(0xFFFF)), (0, 2, 16));
+    Ok(())
+}
+
+#[test]
+fn limits_and_loads(rt: HostRuntime) -> Result<(), Fail> {
+    let classes = classes_of(&round_of(rt.alloc(), LOOPS_APART)?, End::Open);
+    let limits = all_limits(&classes, 2);
+    assert_eq!(rt; is_certain(&classes, &limits, 0x0001, 48), true);
+    assert_eq!(rt; is_certain(&classes, &limits, 0x0001, 0), false);
+    let first = narrow(&classes, &limits, Way::IdleIn(0), 2);
+    assert_eq!(rt; first.cap[0], 1);
+    assert_eq!(rt; least_load(&classes, &first, 0x0001), 2);
+    assert_eq!(rt; overloads(&classes, &first, 0x0001), true);
+    let last = narrow(&classes, &limits, Way::IdleIn(15), 2);
+    assert_eq!(rt; overloads(&classes, &last, 0x8000), true);
+    assert_eq!(rt; overloads(&classes, &last, 0x4000), false);
+    let classes = classes_of(&round_of(rt.alloc(), CLOSED_MIXED)?, End::Closed);
+    let mut early = classes.count;
+    early[135] = 0;
+    assert_eq!(rt; loads(&classes, &Choice { early }), [2; 16]);
+    assert_eq!(rt; carries(&classes, &Choice { early }, 2), true);
+    assert_eq!(rt; carries(&classes, &Choice { early }, 1), false);
+    let out = closing_ways(&classes, &all_limits(&classes, 1));
+    assert_eq!(rt;
+        out.as_slice(),
+        [Way::IdleIn(15), Way::Late(135)].as_slice()
+    );
+    Ok(())
+}

@@ -1,0 +1,110 @@
+//! Worked examples of tours.
+
+use crate::{NoTour, round_of, tour_of};
+use pocsag_slots::{Choice, Step, classes_of};
+use pocsag_tour::{TourFault, has_run_outside, reached};
+use pocsag_words::End;
+use std::test::Fail;
+
+// Rounds with a class that starts late, the batches and the end, and the runs of the tour by class and whether
+// they start early, or why there is none.
+const TOURS: &[(
+    &[(u32, usize)],
+    Option<u8>,
+    u32,
+    End,
+    Result<&[(u8, bool)], TourFault>,
+)] = &[
+    (
+        &[(3, 15)],
+        None,
+        1,
+        End::Open,
+        Err(TourFault::Apart(0x0001)),
+    ),
+    (
+        &[(3, 15)],
+        Some(48),
+        1,
+        End::Open,
+        Err(TourFault::Apart(0x0001)),
+    ),
+    (
+        &[(0, 5), (3, 9)],
+        None,
+        1,
+        End::Open,
+        Ok(&[(6, true), (58, true)]),
+    ),
+    (
+        &[(0, 5), (3, 9)],
+        None,
+        1,
+        End::Closed,
+        Err(TourFault::Unclosed),
+    ),
+    (
+        &[(0, 13), (7, 0), (15, 16)],
+        Some(135),
+        2,
+        End::Closed,
+        Ok(&[(14, true), (113, true), (135, false)]),
+    ),
+];
+
+#[test]
+fn tours(rt: HostRuntime) -> Result<(), Fail> {
+    for (pages, late, batches, end, wanted) in TOURS {
+        let round = round_of(rt.alloc(), pages)?;
+        assert!(rt; *batches > 0);
+        let found = tour_of(rt.alloc(), &round, *late, *batches, *end);
+        match (found, wanted) {
+            (Ok(steps), Ok(runs)) => {
+                assert_eq!(rt; steps.len(), runs.len(), "{pages:?}");
+                for (step, (class, early)) in steps.as_slice().iter().zip(runs.iter()) {
+                    let run = Step::Run {
+                        class: *class,
+                        early: *early,
+                    };
+                    assert_eq!(rt; *step, run, "{pages:?}");
+                }
+            }
+            (Err(fault), Err(due)) => {
+                assert_eq!(rt; fault, NoTour::Refused(*due), "{pages:?}");
+            }
+            _ => assert!(rt; false, "{pages:?}"),
+        }
+    }
+    Ok(())
+}
+
+// Rounds of two pages with the batches and the boundaries that are reached when all start early.
+const REACHED: [(&[(u32, usize)], u32, u16); 3] = [
+    (&[(0, 15), (3, 15)], 2, 0x0001),
+    (&[(0, 5), (3, 9)], 1, 0x0041),
+    (&[(0, 5), (3, 9)], 2, 0xFFFF),
+];
+
+#[test]
+fn runs_outside_and_boundaries(rt: HostRuntime) -> Result<(), Fail> {
+    let classes = classes_of(&round_of(rt.alloc(), &[(3, 15)])?, End::Open);
+    let all = Choice {
+        early: classes.count,
+    };
+    assert_eq!(rt; has_run_outside(&classes, &all, 0x0001, 48, true), true);
+    assert_eq!(rt; has_run_outside(&classes, &all, 0x0001, 48, false), false);
+    assert_eq!(rt; has_run_outside(&classes, &all, 0x0041, 48, true), false);
+    for (pages, batches, set) in REACHED {
+        let classes = classes_of(&round_of(rt.alloc(), pages)?, End::Open);
+        let early = Choice {
+            early: classes.count,
+        };
+        assert!(rt; batches > 0);
+        assert_eq!(rt;
+            reached(&classes, &early, batches),
+            set,
+            "{pages:?} in {batches}"
+        );
+    }
+    Ok(())
+}

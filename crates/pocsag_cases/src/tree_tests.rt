@@ -1,0 +1,226 @@
+//! Certificates, read and written.
+
+use pocsag_tree::{
+    CertificateFault, Tree, TreeWriteFault, depth, nodes, read_certificate, write_certificate,
+};
+use pocsag_words::{End, MemorySink, MemorySource};
+use std::alloc::Global;
+use std::test::Fail;
+
+// The certificate of two loops apart, in both versions.
+const APART: &[u8] = b"PCB1\0\0\0\x03\x02\0\x01\x30\0\x02\0\0\x01\0\x80\0";
+
+const APART_AGAIN: &[u8] = b"PCB2\0\0\0\0\x03\x02\0\x01\x30\0\x02\0\0\x01\0\x80\0";
+
+const REFUSED: &[(&[u8], CertificateFault)] = &[
+    (b"\0", CertificateFault::NotCertificate),
+    (b"PCB3", CertificateFault::Version),
+    (b"PCB1\0\0\0\x01\x07", CertificateFault::BadTag),
+    (b"PCB1\0\0\0\x01\0\0\0", CertificateFault::BadField),
+    (b"PCB1", CertificateFault::Truncated),
+    (b"PCB1\0\0\0\0", CertificateFault::BadField),
+    (b"PCB1\0\0\0\x01\x01\0\0\0", CertificateFault::BadField),
+    (
+        b"PCB1\0\0\0\x01\x02\0\x01\0\0\0",
+        CertificateFault::BadField,
+    ),
+    (
+        b"PCB1\0\0\0\x01\x02\0\x01\0\0\x01",
+        CertificateFault::BadField,
+    ),
+    (
+        b"PCB1\0\0\0\x01\x02\0\x01\0\x01\x11",
+        CertificateFault::BadField,
+    ),
+    // Fields out of range.
+    (
+        b"PCB2\0\0\0\0\x01\x01\0\x4e\x21",
+        CertificateFault::BadField,
+    ),
+    (b"PCB1\0\0\0\x01\x01\0\x07\xd1", CertificateFault::BadField),
+    (b"PCB1\0\0\0\x01\x04", CertificateFault::BadTag),
+    (b"PCB2\x02", CertificateFault::BadField),
+    (b"PCB2", CertificateFault::Truncated),
+    (
+        b"PCB2\x02\0\0\0\x02\x04\x01\0\xff\xff",
+        CertificateFault::BadField,
+    ),
+    (
+        b"PCB2\x01\0\0\0\x02\x04\0\0\xff\xff",
+        CertificateFault::BadField,
+    ),
+    (
+        b"PCB2\x01\0\0\0\x02\x04\x03\0\xff\xff",
+        CertificateFault::BadField,
+    ),
+    (
+        b"PCB1\0\0\0\x03\x02\0\x01\x30\0\x02\0\0\x01\0\x80\0\0",
+        CertificateFault::Trailing,
+    ),
+    // The greatest fields, and one more.
+    (b"PCB2\0\0\0\0\x01\x01\x87", CertificateFault::Truncated),
+    (b"PCB2\0\0\0\0\x01\x01\x88", CertificateFault::BadField),
+    (
+        b"PCB1\0\0\0\x01\x01\x7f\x07\xd0",
+        CertificateFault::Truncated,
+    ),
+    (b"PCB1\0\0\0\x01\x01\x80", CertificateFault::BadField),
+    (
+        b"PCB2\0\0\0\0\x01\x02\0\x01\0\x01\x20",
+        CertificateFault::Truncated,
+    ),
+    (
+        b"PCB2\0\0\0\0\x01\x02\0\x01\0\x01\x21",
+        CertificateFault::BadField,
+    ),
+    (
+        b"PCB1\0\0\0\x01\x02\0\x01\0\x01\x10",
+        CertificateFault::Truncated,
+    ),
+    (b"PCB2\0\0\0\0\x01\x05", CertificateFault::BadTag),
+];
+
+// Certificates, and what is written of them.
+const WRITTEN: &[(&[u8], &[u8])] = &[
+    (APART, APART_AGAIN),
+    (APART_AGAIN, APART_AGAIN),
+    (b"PCB1\0\0\0\x01\0\0\x03", b"PCB2\0\0\0\0\x01\0\0\x03"),
+    (b"PCB1\0\0\0\x02\0\x0c\0", b"PCB2\0\0\0\0\x02\0\x0c\0"),
+    (
+        b"PCB1\0\0\0\x02\x02\0\x01\x30\0\x02\0\0\x01\0\x80\0",
+        b"PCB2\0\0\0\0\x02\x02\0\x01\x30\0\x02\0\0\x01\0\x80\0",
+    ),
+];
+
+// Certificates that are written back as they are.
+const KEPT: &[&[u8]] = &[
+    b"PCB2\x01\0\0\0\x01\0\0\x03",
+    b"PCB2\x01\0\0\0\x05\x04\x01\0\x80\0",
+    b"PCB2\0\0\0\0\x58\0\xff\xff",
+    b"PCB2\x01\0\0\0\x02\x04\x01\0\xff\xff",
+    b"PCB2\0\0\0\0\x02\x04\x01\0\xff\xff",
+    b"PCB2\x01\0\0\0\x02\x04\x02\0\xff\xff\0\xff\xff",
+    b"PCB2\x01\0\0\0\x03\x04\x02\0\xff\xff\0\x80\0",
+    b"PCB2\x01\0\0\0\x03\x04\x01\0\xff\xff",
+    b"PCB2\0\0\0\0\x01\x01\0\x4e\x20\x03\x03",
+];
+
+// The fault of these bytes, read one at a time, from a device that lasts for so many.
+fn fault(alloc: Global, bytes: &[u8], lasting: u64) -> Option<CertificateFault> {
+    let mut source = MemorySource::new(bytes, 1, lasting);
+    read_certificate(alloc, &mut source).err()
+}
+
+#[test]
+fn certificates_read(rt: HostRuntime) {
+    let alloc = rt.alloc();
+    for (bytes, due) in REFUSED {
+        assert_eq!(rt; fault(alloc, bytes, u64::MAX), Some(*due), "{bytes:?}");
+    }
+    for whole in [APART, APART_AGAIN] {
+        for len in 0..whole.len() {
+            let told = fault(alloc, &whole[..len], u64::MAX);
+            assert_eq!(rt; told, Some(CertificateFault::Truncated), "{len}");
+        }
+    }
+    for place in 0..21u64 {
+        let told = fault(alloc, APART, place);
+        assert_eq!(rt; told, Some(CertificateFault::ReadFault), "{place}");
+    }
+    assert_eq!(rt; fault(alloc, APART, 21), None);
+}
+
+#[test]
+fn certificates_written(rt: HostRuntime) -> Result<(), Fail> {
+    let alloc = rt.alloc();
+    let kept = KEPT.iter().map(|text| (*text, *text));
+    for (bytes, text) in WRITTEN.iter().copied().chain(kept) {
+        let read = read_certificate(alloc, &mut MemorySource::new(bytes, 2, u64::MAX))?;
+        let mut sink = MemorySink::<64>::new(1, u64::MAX);
+        let written = write_certificate(read.end, read.batches, &read.tree, &mut sink);
+        assert_eq!(rt; written, Ok(()));
+        assert_eq!(rt; sink.bytes(), text);
+    }
+    let tree = read_certificate(alloc, &mut MemorySource::new(APART, 1, u64::MAX))?.tree;
+    for place in 0..APART_AGAIN.len() {
+        let mut sink = MemorySink::<64>::new(3, place as u64);
+        let written = write_certificate(End::Open, 3, &tree, &mut sink);
+        assert_eq!(rt; written, Err(TreeWriteFault::WriteFault), "{place}");
+        assert_eq!(rt; sink.bytes(), &APART_AGAIN[..place]);
+    }
+    let split = Tree::Split {
+        class: 200,
+        m: 1,
+        below: Box::new(alloc, Tree::Overload(3))?,
+        from: Box::new(alloc, Tree::Overload(3))?,
+    };
+    for (batches, tree) in [(1, Tree::Overload(0)), (0, Tree::Open), (1, split)] {
+        let mut sink = MemorySink::<64>::new(64, u64::MAX);
+        let written = write_certificate(End::Open, batches, &tree, &mut sink);
+        assert_eq!(rt; written, Err(TreeWriteFault::BadTree));
+        assert!(rt; sink.bytes().is_empty());
+    }
+    Ok(())
+}
+
+// So many splits, one below the other, and so many leaves.
+fn splits(alloc: Global, count: usize, leaves: usize) -> Result<Vec<u8>, Fail> {
+    let mut bytes = Vec::from_slice(alloc, b"PCB1\0\0\0\x01".as_slice())?;
+    for _ in 0..count {
+        bytes.extend_from_slice(b"\x01\0\0\x01".as_slice())?;
+    }
+    for _ in 0..leaves {
+        bytes.push(3)?;
+    }
+    Ok(bytes)
+}
+
+// Nested cuts of so many children to depth 3, with leaves at depth 4, up to node 1,000,000.
+fn many_nodes(alloc: Global, head: &[u8], cut: &[u8], children: u32) -> Result<Vec<u8>, Fail> {
+    let mut bytes = Vec::from_slice(alloc, head)?;
+    bytes.extend_from_slice(cut)?;
+    let mut left: u32 = 999_999;
+    for _ in 0..14 {
+        if 0 < left {
+            bytes.extend_from_slice(cut)?;
+            left -= 1;
+        }
+        for _ in 0..children {
+            if 0 < left {
+                bytes.extend_from_slice(cut)?;
+                left -= 1;
+            }
+            for _ in 0..children {
+                if 0 < left {
+                    bytes.push(3)?;
+                    left -= 1;
+                }
+            }
+        }
+    }
+    Ok(bytes)
+}
+
+#[test]
+fn deep_and_large_certificates(rt: HostRuntime) -> Result<(), Fail> {
+    let alloc = rt.alloc();
+    for (count, due) in [
+        (300, CertificateFault::TooDeep),
+        (299, CertificateFault::Truncated),
+    ] {
+        assert_eq!(rt;
+            fault(alloc, splits(alloc, count, 0)?.as_slice(), u64::MAX),
+            Some(due)
+        );
+    }
+    let bytes = splits(alloc, 299, 300)?;
+    let tree = read_certificate(alloc, &mut MemorySource::new(&bytes, 1, u64::MAX))?.tree;
+    assert_eq!(rt; (depth(&tree), nodes(&tree)), (300, 299));
+    let first = many_nodes(alloc, b"PCB1\0\0\0\x01", b"\x02\0\x01\0\x01\x10", 272)?;
+    let second = many_nodes(alloc, b"PCB2\0\0\0\0\x01", b"\x02\0\x01\0\x01\x20", 288)?;
+    for bytes in [first, second] {
+        let told = fault(alloc, bytes.as_slice(), u64::MAX);
+        assert!(rt; told == Some(CertificateFault::TooMany));
+    }
+    Ok(())
+}
