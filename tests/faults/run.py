@@ -15,6 +15,8 @@ import tempfile
 
 sys.dont_write_bytecode = True
 sys.path.insert(0, str(pathlib.Path(__file__).resolve().parents[1]))
+sys.path.insert(0, str(pathlib.Path(__file__).resolve().parent))
+import read_back
 from tally import PROGRAM, TOP, Tally
 
 HERE = pathlib.Path(__file__).resolve().parent
@@ -450,7 +452,7 @@ def main():
             part(tally, library)
         try_lost(tally, library, folder)
         try_plan(tally, library, folder)
-        for part in (try_open, try_open_pages, try_late_growths, try_devices):
+        for part in (try_open, try_open_pages, try_late_growths, try_devices, read_back.try_read_back):
             part(tally, library, folder)
         files = {"pages.csv": LOOPS_APART, "cert.bin": CERTIFICATE}
         try_printing(tally, library, "check", ["check", "pages.csv", "cert.bin"], files, folder)

@@ -1,19 +1,14 @@
-"""The program at the edges of its numbers: counts by the hundred, the largest files, what `--verify` reads back, and the
-default limit of nodes."""
+"""The program at the edges of its numbers: counts by the hundred, and the largest files."""
 
-import os
 import subprocess
 import sys
 
 sys.dont_write_bytecode = True
-from tally import PROGRAM, TOP
+from tally import PROGRAM
 
 HEADER = b"address,kind,message\n"
 SYNC, IDLE, TONE = "7CD215D8", "7A89C197", "000026EC"
 LARGEST = 268_435_456
-ROUND = HEADER + b"0,numeric," + b"1" * 75 + b"\n3,numeric," + b"1" * 75 + b"\n"
-NOT_THE_PAGES = b"pocsag: the transmission does not hold the pages of the page file\n"
-NOT_THE_BOUND = b"pocsag: the certificate does not show the batches of the transmission\n"
 
 
 def run(words, folder, **more):
@@ -39,7 +34,8 @@ def try_hundreds(tally, folder):
     tally.check("700 pages: no words", (done.returncode, done.stdout) == (0, b"pages 700\nbatches 350\n"), done)
     loops_apart(tally, folder)
     places_of_faults(tally, folder)
-    (folder / "pages.csv").write_bytes(HEADER + b"".join(b"%d,alpha,%s\n" % (place, b"a" * 4000) for place in range(800)))
+    long = (b"%d,alpha,%s\n" % (place, b"a" * 4000) for place in range(800))
+    (folder / "pages.csv").write_bytes(HEADER + b"".join(long))
     done = run(["report", "pages.csv", "--rate", "2400", "--end", "closed"], folder)
     counts = [int(line.split()[1]) for line in done.stdout.splitlines()]
     batches = 800 * 1401 // 16
@@ -131,78 +127,4 @@ def try_largest_files(tally, folder):
         path.unlink()
 
 
-def library_of(folder):
-    """The library that has another file read back than was written, compiled outside the crates."""
-    library = folder / "refuse.so"
-    if not library.exists():
-        subprocess.run(["cc", "-shared", "-fPIC", "-O1", "-o", str(library), str(TOP / "tests/faults/refuse.c")], check=True)
-    return library
-
-
-def read_back(folder, end, always, tx=None, cert=None):
-    """`plan --verify` of the round, where the transmission or the certificate is read back as other bytes."""
-    name, given = ("tx.bin", tx) if tx is not None else ("cert.bin", cert)
-    (folder / "given").write_bytes(given)
-    environment = dict(os.environ, LD_PRELOAD=str(library_of(folder)), REFUSE_FROM=name, REFUSE_TO="given")
-    return run(["plan", "pages.csv", "tx.bin", "cert.bin", "--verify", "--end", end, *always], folder, env=environment)
-
-
-def certificate(is_closed, batches, tree):
-    return b"PCB2" + bytes([is_closed]) + batches.to_bytes(4, "big") + bytes.fromhex(tree)
-
-
-def try_read_back(tally, folder):
-    """`--verify` of other bytes than were written: taken where they show as much, and else refused as they deserve."""
-    (folder / "pages.csv").write_bytes(ROUND)
-    cut, overloaded = "02 0001 30 0002 00 0001 00 8000", "00 FFFF"
-    told = b"pages 2\nbatches 3\n"
-    for end, is_closed in (("open", False), ("closed", True)):
-        three, two, one = ((is_closed, batches, tree) for batches, tree in ((3, cut), (2, overloaded), (1, overloaded)))
-        certificates = [
-            ("what was written", certificate(*three), b"", b""),
-            ("a certificate for one batch less", certificate(*two), NOT_THE_BOUND, b""),
-            ("a certificate for two batches less", certificate(*one), NOT_THE_BOUND, NOT_THE_BOUND),
-            ("a certificate for one batch more", certificate(is_closed, 4, cut), NOT_THE_BOUND, NOT_THE_BOUND),
-            ("the other end", certificate(not is_closed, 3, cut), NOT_THE_BOUND, NOT_THE_BOUND),
-            ("a tree that is not accepted", certificate(is_closed, 3, overloaded), NOT_THE_BOUND, NOT_THE_BOUND),
-            ("an open tree", certificate(is_closed, 3, "03"), NOT_THE_BOUND, NOT_THE_BOUND),
-            ("no certificate", b"PCB3", b"pocsag: unknown certificate version\n", b"pocsag: unknown certificate version\n"),
-        ]
-        for name, given, fault, fault_always in certificates:
-            for always, due in (([], fault), (["--always"], fault_always)):
-                done = read_back(folder, end, always, cert=given)
-                wanted = (1, told, due) if due else (0, told + b"verified\n", b"")
-                holds = (done.returncode, done.stdout, done.stderr) == wanted
-                tally.check(f"{name} read back, {end} {always}", holds, done)
-        try_read_back_transmissions(tally, folder, end, told)
-
-
-def try_read_back_transmissions(tally, folder, end, told):
-    """Transmissions of other pages in the place of the one that was written."""
-    others = [
-        ("another digit", ROUND.replace(b",1", b",2", 1)),
-        ("another address", ROUND.replace(b"3,num", b"11,num")),
-        ("a page less", ROUND[: ROUND.index(b"3,num")]),
-        ("a page more", ROUND + b"8,tone0,\n"),
-        ("another function", HEADER + b"0,alpha,a\n3,numeric," + b"1" * 75 + b"\n"),
-    ]
-    run(["plan", "pages.csv", "tx.bin", "cert.bin", "--end", end], folder)
-    sent = (folder / "tx.bin").read_bytes()
-    cases = [("what was written", sent, b""), ("a preamble more", b"\xaa" * 9 + sent, b"")]
-    cases += [("cut short", sent[:-1], b"pocsag: the transmission is cut short\n")]
-    cases += [("a batch more", sent + bytes.fromhex(SYNC + 16 * IDLE), NOT_THE_BOUND)]
-    cases += [("two batches more", sent + 2 * bytes.fromhex(SYNC + 16 * IDLE), NOT_THE_BOUND)]
-    for name, text in others:
-        (folder / "other.csv").write_bytes(text)
-        run(["plan", "other.csv", "tx.bin", "cert.bin", "--end", end], folder)
-        cases.append((name, (folder / "tx.bin").read_bytes(), NOT_THE_PAGES))
-    for name, given, fault in cases:
-        for always in ([], ["--always"]):
-            is_taken = not fault or always and name == "a batch more"
-            done = read_back(folder, end, always, tx=given)
-            wanted = (0, told + b"verified\n", b"") if is_taken else (1, told, fault)
-            holds = (done.returncode, done.stdout, done.stderr) == wanted
-            tally.check(f"{name} read back, {end} {always}", holds, (done, wanted))
-
-
-PARTS = (try_hundreds, try_largest_files, try_read_back)
+PARTS = (try_hundreds, try_largest_files)

@@ -38,7 +38,7 @@ told_planned file end tx tx' cert cert' plan writes of (Ok u) out out' told =
     let here : verdict file ≡ Ok of.round = of.read in
     let there : verdict file ≡ Ok writes.headline.round = writes.headline.read in
     let same : of.round ≡ writes.headline.round = cc in
-    let pages : plan.pages ≡ length writes.headline.round = of.plan_of.pages ∙ ap length same in
+    let pages : plan.pages ≡ length writes.headline.round = of.plan_of.bounded.pages ∙ ap length same in
     record {
       planned = record { batches = plan.batches; tree = bound_of plan.tree; writes = writes };
       told = told ∙ ap (λ (n : ℕ). out ++ plan_text n plan.batches) pages;
