@@ -291,6 +291,17 @@ def try_printing(tally, library, name, words, files, folder):
     tally.check(f"{name} one byte at a time", short.returncode == 0 and short.stdout == ample.stdout, short)
 
 
+def try_lost(tally, library, folder):
+    """`--verify` on a device that loses what it takes: TX is the second file that is opened, CERT the third."""
+    (folder / "pages.csv").write_bytes(b"address,kind,message\n8,tone0,\n")
+    command = [str(PROGRAM), "plan", *(str(folder / name) for name in ("pages.csv", "tx.bin", "cert.bin")), "--verify"]
+    for name, number, text in (("transmission", 4, b"the preamble is too short"), ("certificate", 5, b"the certificate is cut short")):
+        environment = dict(os.environ, LD_PRELOAD=str(library), REFUSE_LOSE=str(number))
+        done = subprocess.run(command, capture_output=True, env=environment, timeout=60)
+        due = (1, b"pages 1\nbatches 1\n", b"pocsag: " + text + b"\n")
+        tally.check(f"a lost {name} is not verified", (done.returncode, done.stdout, done.stderr) == due, done)
+
+
 class Answers:
     """What `open` answers line by line, where one call may be refused: an edit that is refused changes nothing."""
 
@@ -449,6 +460,7 @@ def main():
         library = build(folder)
         for part in (try_trial, try_large_trial, try_input):
             part(tally, library)
+        try_lost(tally, library, folder)
         try_plan(tally, library, folder)
         for part in (try_open, try_open_pages, try_late_growths, try_devices, read_back.try_read_back):
             part(tally, library, folder)
