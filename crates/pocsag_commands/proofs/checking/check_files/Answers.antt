@@ -1,6 +1,6 @@
 use Rattle.std.proofs.Common.{[], ◌∷◌, ◌++◌, refl}
 use Rattle.std.specs.Prelude.{codes}
-use Rattle.std.proofs.lemmas.Bool.{not-false, not-true}
+use Rattle.std.proofs.lemmas.Bool.{not-false}
 use Rattle.std.proofs.lemmas.Result.{err_from_is_err_and}
 use Rattle.pocsag_commands.proofs.Refusing.{why_judged}
 use Rattle.pocsag_commands.proofs.Shown.{checked_told}
@@ -11,20 +11,6 @@ returns-clause-shown g c = λ pages_tell cert_tells out_tells yes.
     let judged = c.in_ok-judged.judged in
     checked_told _ _ judged.end judged.batches (c.in_ok-judged.ensures.shown pages_tell cert_tells (not-false judged.is_shown c.if-not-judged.false))
     _ _ (c.in_ok-tell_bound.ensures.told out_tells)
-
-pub returns-then-not-judged-clause-not_shown : goal.returns-then-not-judged-clause-not_shown
-returns-then-not-judged-clause-not_shown g c = λ pages_tell cert_tells out_tells no.
-    let judged = c.in_ok-judged.judged in
-    let open = c.in_ok-judged.ensures.not_shown pages_tell cert_tells (not-true judged.is_shown c.if-not-judged.true) in record {
-      round = open.round;
-      read = open.read;
-      end = judged.end;
-      batches = judged.batches;
-      tree = open.tree;
-      text = open.spelled;
-      refuted = open.refused;
-      told = c.in_ok-tell.ensures.told out_tells (codes "not shown" ++ (10 ∷ [])) refl;
-    }
 
 pub returns-in_err-judged-clause-why : goal.returns-in_err-judged-clause-why
 returns-in_err-judged-clause-why g c = λ pages_tell cert_tells.
