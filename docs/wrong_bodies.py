@@ -1,7 +1,9 @@
 #!/usr/bin/env python3
-"""Makes docs/WRONG_BODIES.md anew from what `rt must-fail` or `rt ci` prints: python3 docs/wrong_bodies.py < LOG
+"""Makes docs/WRONG_BODIES.md anew from what the script that tries wrong bodies prints:
 
-Each line of the log names an edit and the goal at which the prover refused it. What the log does not name
+  python3 tests/wrong_bodies/run.py | python3 docs/wrong_bodies.py
+
+Each line that names a wrong body names the function that was refused and its goal. What the lines do not name
 keeps its row, as long as its edit stands.
 """
 
@@ -12,34 +14,20 @@ import sys
 TOP = pathlib.Path(__file__).resolve().parents[1]
 PAGE = TOP / "docs/WRONG_BODIES.md"
 ROW = re.compile(r"\| ([^|`]+) \| (`.*) \|")
-LINE = re.compile(r"must-fail (\w+)/([\w.+-]+)\.edit: refused, as it must be: (?:note: )?(.*)")
+LINE = re.compile(r"wrong body (\w+)/([\w.+-]+): refused in (\S+): (.*)")
 HEAD = """# Wrong bodies
 
-Each edit puts a wrong body in the place of a right one, and the prover refuses the crate with it: so the
-contract that is named does say what it seems to say. `./test` tries all of them. The edits stand in
-`crates/NAME/must-fail/`. The second column names the function and the goal of it that the prover named first:
-a clause of its contract (`returns` where it has one clause without a name, with the place where it returns
-behind it), an invariant of its loop that leads to one, or what a call in it asks for. The page is made by
-`docs/wrong_bodies.py` from what the prover prints; an edit that a run did not name keeps its line.
+Each edit puts a wrong body in the place of a right one, and the prover refuses the function with it: so the
+contract that is named does say what it seems to say. `tests/wrong_bodies/run.py` tries all of them, and so does
+`./test`: in rounds, with at most one in each function, where each function is judged by its own goals. Those of
+the kinds that the specification names stand in `crates/NAME/must-fail/`, where the gate also tries them one by
+one; the others in `tests/wrong_bodies/NAME/`. The second column names the function, as the prover does, and the
+goal of it that stays open: a clause of its contract (`returns` where it has one clause without a name, with the
+place where it returns behind it), else an invariant of its loop that leads to one, or what a call in it asks for;
+for an entry of a table the lemma that the table is right. The page is made by `docs/wrong_bodies.py` from what that
+script prints; an edit that a run did not name keeps its line.
 
 """
-
-
-def function_at(crate, place):
-    """The function whose goal is named by a place in src/ or in proofs/."""
-    answered = re.match(r"\./proofs/(.+)/(?:Answers|Invariants|Proof)\.antt", place)
-    if answered:
-        return answered[1].replace("+", "").replace("/", "::")
-    file, _, line = place.partition(":")
-    path = TOP / "crates" / crate / file
-    if not path.exists():
-        return file
-    lines = path.read_text().split("\n")
-    at = int(line.partition(":")[0] or 0)
-    while at < len(lines) and lines[at - 1].lstrip().startswith(("#[", "//")):
-        at += 1
-    names = [found[1] for found in (re.search(r"\bfn (\w+)", text) for text in lines[:at]) if found]
-    return file.removeprefix("src/").removesuffix(".rt").replace("/", "::") + ("::" + names[-1] if names else "")
 
 
 def goal_of(told):
@@ -73,20 +61,22 @@ def kept_rows():
 
 def told_rows(log):
     """The rows of the edits that the log names, by crate and name."""
-    rows = {}
-    for crate, edit, told in LINE.findall(log):
-        place = re.match(r"(\S+\.(?:rt|antt)(?::\d+)?)", told)
-        function = function_at(crate, place[1]) if place else ""
-        rows[crate, title_of(edit)] = f"`{function}`, {goal_of(told)}"
-    return rows
+    return {(crate, title_of(edit)): f"`{function.replace('+', '')}`, {goal_of(told)}"
+            for crate, edit, function, told in LINE.findall(log)}
+
+
+def titles_of(crate):
+    """The names of the edits of a crate, as rows have them."""
+    folders = TOP / "crates" / crate / "must-fail", TOP / "tests/wrong_bodies" / crate
+    return sorted(title_of(edit.stem) for folder in folders for edit in folder.glob("*.edit"))
 
 
 def main():
     rows = {**kept_rows(), **told_rows(sys.stdin.read())}
     page = HEAD
     for crate in sorted((TOP / "crates").iterdir()):
-        titles = sorted(title_of(edit.stem) for edit in (crate / "must-fail").glob("*.edit"))
-        listed = [f"| {title} | {rows[crate.name, title]} |\n" for title in titles if (crate.name, title) in rows]
+        titles = [it for it in titles_of(crate.name) if (crate.name, it) in rows]
+        listed = [f"| {title} | {rows[crate.name, title]} |\n" for title in titles]
         if listed:
             page += f"## `{crate.name}`\n\n| Wrong body | Refused at |\n|---|---|\n{''.join(listed)}\n"
     PAGE.write_text(page.rstrip("\n") + "\n")

@@ -1,6 +1,9 @@
 """What the tests of the repository share."""
 
+import os
 import pathlib
+import shutil
+import subprocess
 import tempfile
 
 TOP = pathlib.Path(__file__).resolve().parents[1]
@@ -34,3 +37,13 @@ def run_parts(*parts):
         for part in parts:
             part(tally, pathlib.Path(name))
     return tally.end()
+
+
+def as_nobody(folder):
+    """The words that run a command as a user without rights, where we are the superuser and such a user can enter the folder."""
+    words = ["setpriv", "--reuid=65534", "--regid=65534", "--clear-groups"]
+    if os.geteuid() or not shutil.which(words[0]):
+        return []
+    words[0] = shutil.which(words[0])
+    can_enter = subprocess.run([*words, "test", "-x", str(folder)], stdout=subprocess.DEVNULL, stderr=subprocess.DEVNULL).returncode == 0
+    return words if can_enter else []

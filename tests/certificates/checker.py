@@ -2,7 +2,6 @@
 
 It answers whether the certificate shows that no legal transmission of the page file's round has fewer than
 B batches. It was written from docs/CERTIFICATES.md alone, whose names it uses, and needs nothing but Python 3.
-Where the page leaves open what a quote in an odd place means, the file is refused.
 """
 import re
 import sys
@@ -12,8 +11,7 @@ from functools import lru_cache
 KINDS = {b"numeric": (rb"[0-9*U \-\]\[]{1,4000}", 4), b"alpha": (rb"[\x01-\x7f]{1,4000}", 7),
          b"tone0": (b"", 0), b"tone1": (b"", 0), b"tone2": (b"", 0), b"tone3": (b"", 0)}
 LARGEST_FILE = 268435456
-# A field and what ends it; with more than 4,000 doubled quotes a field would be too long for a message.
-FIELD = re.compile(rb'(?:"([^"]*(?:""[^"]*){0,4000})"|([^",\r\n]*))(,|\r\n|\r|\n|\Z)')
+UNQUOTED = re.compile(rb"([^,\r\n]*)(,|\r\n|\r|\n|\Z)")  # what of a field is not quoted, and what ends it
 OVERLOAD, SPLIT, CUT, OPEN, CLOSE = range(5)
 LO, HI, CAP = range(3)  # the places in limits, which are (lo, hi, cap)
 
@@ -27,18 +25,37 @@ def need(condition):
         raise Fault
 
 
+def closing_quote(data, at):
+    """The place of the first quote from there on that is not doubled, or the end of the file."""
+    while True:
+        at = data.find(b'"', at)
+        if at < 0 or data[at + 1:at + 2] != b'"':
+            return at if at >= 0 else len(data)
+        at += 2
+
+
+def field_at(data, at):
+    """The field that begins there with its quotes undone, what ends it, and the place behind that."""
+    quoted = b""
+    if data[at:at + 1] == b'"':
+        close = closing_quote(data, at + 1)
+        quoted, at = data[at + 1:close].replace(b'""', b'"'), min(close + 1, len(data))
+    rest = UNQUOTED.match(data, at)
+    return quoted + rest[1], rest[2], rest.end()
+
+
 def records(data):
-    """The records of a CSV file, each a list of fields, of which a page file has no more than three."""
+    """The records of a CSV file, each a list of fields."""
     fields, at = [], 3 if data.startswith(b"\xef\xbb\xbf") else 0
     while at < len(data) or fields:
-        field = FIELD.match(data, at)
-        need(field and len(fields) < 3)
-        at = field.end()
-        if fields or field[0] not in (b"\n", b"\r", b"\r\n"):  # an empty line is passed over
-            fields.append(field[2] if field[1] is None else field[1].replace(b'""', b'"'))
-            if field[3] != b",":
-                yield fields
-                fields = []
+        if not fields and data[at:at + 1] in (b"\n", b"\r"):  # a line with no byte in it
+            at += 1
+            continue
+        field, end, at = field_at(data, at)
+        fields.append(field)
+        if end != b",":
+            yield fields
+            fields = []
 
 
 def page_of(fields):
@@ -145,9 +162,13 @@ def touches_outside(members, ends):
 @lru_cache(maxsize=4096)
 def loads(members, count, turns):
     """The load of a set with no page early, and (class, what each early page adds) where that is not 0."""
-    early, late = ([size(members & r[k]) for r in RUNS] for k in (1, 3))
-    all_late = sum(turns[c] * size(members) + count[c] * late[c] for c in range(136))
-    return all_late, [(c, early[c] - late[c]) for c in range(136) if count[c] and early[c] != late[c]]
+    all_late, gains = 0, []
+    for c in range(136):
+        if count[c]:
+            early, late = size(members & RUNS[c][1]), size(members & RUNS[c][3])
+            all_late += turns[c] * size(members) + count[c] * late
+            gains += [(c, early - late)] if early != late else []
+    return all_late, gains
 
 
 def least_load(members, lo, hi, count, turns):

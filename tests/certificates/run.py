@@ -1,27 +1,48 @@
 #!/usr/bin/env python3
-"""Runs the product's checker and the one in checker.py, which shares nothing with it, over certificates.
+"""Runs the product's checker and the one in checker.py, which shares nothing with it, over page files and
+certificates, and the wrong checkers of wrong.py.
 
-The certificates are those of the worked examples, those that the program plans for small random rounds,
-and some thousands that are made from them by changing bytes or nodes. The two have to give the same
-verdict each time. The last line is 'N passed, M failed'.
+The pairs are those of the worked examples, those that the program plans for small random rounds, those of
+pairs.py, among them accepted trees with each kind of node on each of their first four levels and page files of
+every sort, and some thousands that are made from them by changing bytes or nodes. The two have to give the same
+verdict each time, each by its text and its status, and each wrong checker has to err on some pair of pairs.py.
+The last line is 'N passed, M failed'.
 """
 
 import pathlib
 import random
+import re
 import subprocess
 import sys
 import tempfile
+import threading
+from concurrent.futures import ProcessPoolExecutor, ThreadPoolExecutor
 
 sys.dont_write_bytecode = True
 HERE = pathlib.Path(__file__).resolve().parent
 sys.path.insert(0, str(HERE.parent))
 sys.path.insert(0, str(HERE))
 import checker
+import wrong
+from checker import CLOSE, CUT, SPLIT
+from pairs import pairs
+from rounds import HEADER
 from tally import PROGRAM, Tally
+from trees import UNEXAMINED, certificate, overload
 
-HEADER = b"address,kind,message\n"
 CHANGES = 3_000
 PLANNED = 60
+RUN_AS_A_PROGRAM = 6  # pairs of each answer
+YES = re.compile(r"at least \d+ batches( with a closed end)?\n")
+REFUSED = re.compile(
+    r"pocsag: (the header must be address,kind,message|there are no pages|the file is too large|record \d+: ("
+    r"three fields are wanted|bad address|reserved address|unknown kind|a tone page has no message|the message is "
+    r"empty|bad character at \d+|the message is too long|the address is already there|too many pages))\n"
+)
+NO_CERTIFICATE = re.compile(
+    r"pocsag: (not a certificate|unknown certificate version|bytes after the certificate|the certificate ("
+    r"is cut short|is malformed|is too deep|has too many nodes))\n"
+)
 
 
 def ones(count):
@@ -80,29 +101,52 @@ EXAMPLES = [
 
 
 class Product:
-    """The program's own checker, on files of a folder."""
+    """The program's own checker, on files of a folder, one for each thread."""
 
     def __init__(self, folder):
-        self.folder = folder
+        self.top = folder
 
-    def run(self, words):
+    @property
+    def folder(self):
+        folder = self.top / str(threading.get_ident())
+        folder.mkdir(exist_ok=True)
+        return folder
+
+    def run(self, *words):
         return subprocess.run([str(PROGRAM), *words], cwd=self.folder, capture_output=True, timeout=110)
 
-    def verdict(self, records, certificate):
-        (self.folder / "pages.csv").write_bytes(HEADER + records)
-        (self.folder / "cert.bin").write_bytes(certificate)
-        done = self.run(["check", "pages.csv", "cert.bin"])
-        if done.returncode not in (0, 1):
-            return f"status {done.returncode}: {done.stderr}"
-        if done.stdout:
-            return done.stdout.decode().rstrip("\n")
-        return "no certificate" if b"certificate" in done.stderr else done.stderr.decode()
+    def write(self, pages, text=b""):
+        folder = self.folder
+        (folder / "pages.csv").write_bytes(pages)
+        (folder / "cert.bin").write_bytes(text)
 
-    def planned(self, records, end):
+    def verdict(self, pages, text):
+        """The verdict in the words of the second checker, where status, output and errors go together."""
+        self.write(pages, text)
+        done = self.run("check", "pages.csv", "cert.bin")
+        told, refusal = done.stdout.decode(), done.stderr.decode()
+        if done.returncode == 0 and YES.fullmatch(told) and not refusal:
+            return told.rstrip("\n")
+        if done.returncode == 1 and told == "not shown\n" and not refusal:
+            return "not shown"
+        if done.returncode == 1 and not told and REFUSED.fullmatch(refusal):
+            return "refused"
+        if done.returncode == 1 and not told and NO_CERTIFICATE.fullmatch(refusal):
+            return "no certificate"
+        return f"status {done.returncode}: {told} {refusal}"
+
+    def planned(self, pages, end):
         """The certificate that the program writes for the round."""
-        (self.folder / "pages.csv").write_bytes(HEADER + records)
-        done = self.run(["plan", "pages.csv", "tx.bin", "cert.bin", "--end", end])
+        self.write(pages)
+        done = self.run("plan", "pages.csv", "tx.bin", "cert.bin", "--end", end)
         return (self.folder / "cert.bin").read_bytes() if done.returncode == 0 else None
+
+    def second_checker(self, pages, text):
+        """What the second checker prints as a program, and its status."""
+        self.write(pages, text)
+        words = [sys.executable, str(HERE / "checker.py"), "pages.csv", "cert.bin"]
+        done = subprocess.run(words, cwd=self.folder, capture_output=True, timeout=110)
+        return done.returncode, done.stdout.decode(), done.stderr.decode()
 
 
 def random_round(source):
@@ -110,124 +154,144 @@ def random_round(source):
     pages = source.randrange(1, 6)
     addresses = source.sample(range(64), pages)
     lengths = [source.choice([0, 0, 1, 3, 5, 7, 9, 14, 15, 15, 16, 31, 31]) for _ in range(pages)]
-    return b"".join(
+    return HEADER + b"".join(
         b"%d,numeric,%s\n" % (address, ones(5 * items)) if items else b"%d,tone0,\n" % address
         for address, items in zip(addresses, lengths)
     )
 
 
-# A tree in this script: a tag, its fields, and its children.
-def spelled(tree):
-    tag, fields, children = tree
-    if tag == "overload":
-        return b"\0" + fields[0].to_bytes(2, "big")
-    if tag == "open":
-        return b"\x03"
-    below = b"".join(spelled(child) for child in children)
-    if tag == "split":
-        return b"\x01" + bytes([fields[0]]) + fields[1].to_bytes(2, "big") + below
-    if tag == "cut":
-        return b"\x02" + fields[0].to_bytes(2, "big") + bytes([fields[1]]) + len(children).to_bytes(2, "big") + below
-    return b"\x04" + bytes([len(children) % 256]) + below
-
-
-def tree_at(text, place):
-    """The tree that begins at the place of a text known to be a certificate, and the place behind it."""
-    tag = text[place]
-    number = lambda start, size: int.from_bytes(text[start : start + size], "big")
-    if tag == 0:
-        return ("overload", [number(place + 1, 2)], []), place + 3
-    if tag == 3:
-        return ("open", [], []), place + 1
-    name, fields, count, place = {
-        1: lambda: ("split", [text[place + 1], number(place + 2, 2)], 2, place + 4),
-        2: lambda: ("cut", [number(place + 1, 2), text[place + 3]], number(place + 4, 2), place + 6),
-        4: lambda: ("close", [], text[place + 1], place + 2),
-    }[tag]()
-    children = []
-    for _ in range(count):
-        child, place = tree_at(text, place)
-        children.append(child)
-    return (name, fields, children), place
+def changed_field(source, node):
+    """The node with another number in one of its fields."""
+    tag, members, c, m, children = node
+    other = lambda value: source.choice([value ^ 1 << source.randrange(16), value + 1, max(0, value - 1)])
+    which = source.choice({SPLIT: "cm", CUT: "sc"}.get(tag, "s"))
+    return (tag, *{
+        "s": lambda: (other(members), c, m),
+        "c": lambda: (members, other(c), m),
+        "m": lambda: (members, c, other(m)),
+    }[which](), children)
 
 
 def changed_node(source, tree):
     """One change somewhere in the tree."""
-    tag, fields, children = tree
+    tag, members, c, m, children = tree
     if children and source.random() < 0.6:
         place = source.randrange(len(children))
-        return tag, fields, children[:place] + [changed_node(source, children[place])] + children[place + 1 :]
+        below = (*children[:place], changed_node(source, children[place]), *children[place + 1:])
+        return tag, members, c, m, below
     kind = source.randrange(7)
-    if kind == 0 and fields:
-        place = source.randrange(len(fields))
-        greatest = 255 if (tag, place) in (("split", 0), ("cut", 1)) else 65535
-        value = source.choice([fields[place] ^ 1 << source.randrange(16), fields[place] + 1, max(0, fields[place] - 1)])
-        return tag, fields[:place] + [value & greatest] + fields[place + 1 :], children
+    if kind == 0 and tag != CLOSE and tree != UNEXAMINED:
+        return changed_field(source, tree)
     if kind == 1 and len(children) > 1:
-        return tag, fields, source.sample(children, len(children))
-    if kind == 2 and children and tag != "split":
-        return tag, fields, children[1:] if source.random() < 0.5 else children + children[:1]
+        return tag, members, c, m, tuple(source.sample(children, len(children)))
+    if kind == 2 and children and tag != SPLIT:
+        return tag, members, c, m, children[1:] if source.random() < 0.5 else children + children[:1]
     if kind == 3:
-        return "overload", [source.choice([0xFFFF, 0x0001, 0x8000, source.randrange(1, 65536)])], []
+        return overload(source.choice([0xFFFF, 0x0001, 0x8000, source.randrange(1, 65536)]))
     if kind == 4:
-        return "open", [], []
+        return UNEXAMINED
     if kind == 5:
-        return "split", [source.randrange(136), source.randrange(1, 4)], [tree, tree]
-    return "close", [], [tree] * source.randrange(1, 3)
+        return SPLIT, 0, source.randrange(136), source.randrange(1, 4), (tree, tree)
+    return CLOSE, 0, 0, 0, (tree,) * source.randrange(1, 3)
 
 
-def changed(source, certificate):
+def changed(source, text):
     """A certificate made from another: a byte, its batches, its end or a node is another."""
     kind = source.randrange(10)
     if kind == 0:
-        place = source.randrange(len(certificate))
-        return certificate[:place] + bytes([source.randrange(256)]) + certificate[place + 1 :]
+        place = source.randrange(len(text))
+        return text[:place] + bytes([source.randrange(256)]) + text[place + 1:]
     if kind == 1:
-        place = source.randrange(len(certificate) + 1)
-        return certificate[:place] + bytes([source.randrange(5)]) * source.randrange(2) + certificate[place + 1 :]
-    head = 8 if certificate[3:4] == b"1" else 9
+        place = source.randrange(len(text) + 1)
+        return text[:place] + bytes([source.randrange(5)]) * source.randrange(2) + text[place + 1:]
+    end, batches, tree = checker.parse(text)
+    first = text[3:4] == b"1"
     if kind == 2:
-        batches = int.from_bytes(certificate[head - 4 : head], "big") + source.choice([-1, 1])
-        return certificate[: head - 4] + max(0, batches).to_bytes(4, "big") + certificate[head:]
-    if kind == 3 and head == 9:
-        return certificate[:4] + bytes([certificate[4] ^ 1]) + certificate[5:]
-    tree, _ = tree_at(certificate, head)
-    return certificate[:head] + spelled(changed_node(source, tree))
+        return certificate(end, batches + source.choice([-1, 1]), tree, first)
+    if kind == 3 and not first:
+        return certificate(1 - end, batches, tree)
+    return certificate(end, batches, changed_node(source, tree), first)
+
+
+class Comparing:
+    """Runs both checkers on pairs, and keeps those that a certificate can be made from."""
+
+    def __init__(self, tally, product):
+        self.tally, self.product = tally, product
+        self.known, self.answers = [], {}
+
+    def compare(self, what, pages, text, due=None, ours=None):
+        """The verdict of the second checker, which has to be the product's, and the due one."""
+        ours, theirs = ours or self.product.verdict(pages, text), checker.verdict(pages, text)
+        holds = ours == theirs and due in (None, ours)
+        self.tally.check(what, holds, f"{pages[:200]} {text.hex()[:400]}: {ours} / {theirs} / {due}")
+        self.answers.setdefault(" ".join(theirs.split()[:2]), []).append((pages, text, theirs))
+        if holds and ours not in ("no certificate", "refused") and len(text) < 1000:
+            self.known.append((pages, text))
+        return theirs
+
+    def examples_and_plans(self, source):
+        for records, text, due in EXAMPLES:
+            self.compare("example", HEADER + records, bytes.fromhex(text), due)
+        for _ in range(PLANNED):
+            pages = random_round(source)
+            for end in ("open", "closed"):
+                text = self.product.planned(pages, end)
+                self.tally.check("planned", text is not None, pages)
+                if text:
+                    batches = int.from_bytes(text[5:9], "big")
+                    due = f"at least {batches} batches" + (" with a closed end" if end == "closed" else "")
+                    self.compare("planned", pages, text, due)
+
+    def changes(self, source):
+        for _ in range(CHANGES):
+            pages, text = source.choice(self.known)
+            if source.random() < 0.05:
+                pages = source.choice(self.known)[0]
+            self.compare("changed", pages, changed(source, text))
+
+    def statuses(self, source):
+        """The second checker as a program: its text is its answer, and its status says whether that is a yes."""
+        for answer, judged in sorted(self.answers.items()):
+            self.tally.check(f"{answer} was seen often", len(judged) > 300, len(judged))
+            for pages, text, due in source.sample(judged, RUN_AS_A_PROGRAM):
+                wanted = (0 if answer == "at least" else 1, due + "\n", "")
+                self.tally.check("as a program", self.product.second_checker(pages, text) == wanted, (pages[:200], due))
+
+
+    def all_pairs(self, source):
+        """The pairs of pairs.py, each with the verdict of the second checker."""
+        made = pairs(source)
+        with ThreadPoolExecutor() as threads:
+            answers = list(threads.map(lambda pair: self.product.verdict(*pair[1:]), made))
+        both = zip(made, answers)
+        return [(pages, text, self.compare(what, pages, text, None, ours)) for (what, pages, text), ours in both]
+
+
+JUDGED = []  # in each process that runs wrong checkers
+
+
+def errs(row):
+    return wrong.which_errs(row[1], row[2], JUDGED) is not None
+
+
+def check_wrong(tally, judged):
+    """Each wrong checker errs on some pair."""
+    with ProcessPoolExecutor(initializer=JUDGED.extend, initargs=(judged,)) as processes:
+        for row, has_erred in zip(wrong.WRONG, processes.map(errs, wrong.WRONG)):
+            tally.check(f"wrong checker: {row[0]}", has_erred, "errs on no pair")
 
 
 def main():
     tally = Tally()
     source = random.Random(1981)
     with tempfile.TemporaryDirectory() as name:
-        product = Product(pathlib.Path(name))
-        known, seen = [], {}
-
-        def compare(what, records, certificate, due=None):
-            ours = product.verdict(records, certificate)
-            theirs = checker.verdict(HEADER + records, certificate)
-            holds = ours == theirs and due in (None, ours)
-            tally.check(what, holds, f"{records[:80]} {certificate.hex()[:400]}: {ours} / {theirs} / {due}")
-            seen[ours.split()[0]] = seen.get(ours.split()[0], 0) + 1
-            if ours == theirs and ours != "no certificate" and len(certificate) < 1000:
-                known.append((records, certificate))
-
-        for records, text, due in EXAMPLES:
-            compare("example", records, bytes.fromhex(text), due)
-        for _ in range(PLANNED):
-            records = random_round(source)
-            for end in ("open", "closed"):
-                certificate = product.planned(records, end)
-                tally.check("planned", certificate is not None, records)
-                if certificate:
-                    batches = int.from_bytes(certificate[5:9], "big")
-                    due = f"at least {batches} batches" + (" with a closed end" if end == "closed" else "")
-                    compare("planned", records, certificate, due)
-        for _ in range(CHANGES):
-            records, certificate = source.choice(known)
-            if source.random() < 0.05:
-                records = source.choice(known)[0]
-            compare("changed", records, changed(source, certificate))
-        tally.check("yes, no and neither were seen often", all(seen.get(word, 0) > 100 for word in ("at", "not", "no")), seen)
+        comparing = Comparing(tally, Product(pathlib.Path(name)))
+        comparing.examples_and_plans(source)
+        comparing.changes(source)
+        judged = comparing.all_pairs(random.Random(1981))
+        comparing.statuses(source)
+        check_wrong(tally, judged)
     return tally.end()
 
 

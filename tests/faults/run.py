@@ -15,6 +15,8 @@ import tempfile
 
 sys.dont_write_bytecode = True
 sys.path.insert(0, str(pathlib.Path(__file__).resolve().parents[1]))
+sys.path.insert(0, str(pathlib.Path(__file__).resolve().parent))
+import read_back
 from tally import PROGRAM, TOP, Tally
 
 HERE = pathlib.Path(__file__).resolve().parent
@@ -35,21 +37,39 @@ def build(folder):
     return library
 
 
-def run(command, library, kind=None, number=0, stdin=b"", short=False):
-    """Runs the command with one call refused; tells whether that call was reached."""
+def run(command, library, kind=None, number=0, stdin=b"", short=False, same=False):
+    """Runs the command with one call refused; tells whether that call was reached. Bytes that are written to a file
+    after its write was refused are told behind the output, which then is none that is due."""
     reader, writer = os.pipe()
     environment = dict(os.environ, LD_PRELOAD=str(library), REFUSE_MARK=str(writer))
     if kind:
         environment[f"REFUSE_{kind}"] = str(number)
     if short:
         environment["REFUSE_SHORT"] = "1"
+    if same:
+        environment["REFUSE_SAME"] = "1"
     done = subprocess.run(
         command, input=stdin, capture_output=True, env=environment, pass_fds=(writer,), timeout=60
     )
     os.close(writer)
-    reached = os.read(reader, 1) == b"x"
+    told = os.read(reader, MOST)
     os.close(reader)
-    return done, reached
+    if b"a" in told:
+        done.stdout += b"(and more after a write that failed)"
+    return done, b"x" in told
+
+
+def late_growths(command, library, stdin=b""):
+    """How often the command asks for memory after its first write."""
+    reader, writer = os.pipe()
+    environment = dict(os.environ, LD_PRELOAD=str(library), REFUSE_LATE=str(writer))
+    done = subprocess.run(
+        command, input=stdin, capture_output=True, env=environment, pass_fds=(writer,), timeout=60
+    )
+    os.close(writer)
+    told = os.read(reader, MOST)
+    os.close(reader)
+    return done, len(told)
 
 
 def each_refusal(command, library, kind, stdin, prepare, judge):
@@ -271,6 +291,159 @@ def try_printing(tally, library, name, words, files, folder):
     tally.check(f"{name} one byte at a time", short.returncode == 0 and short.stdout == ample.stdout, short)
 
 
+def try_lost(tally, library, folder):
+    """`--verify` on a device that loses what it takes: TX is the second file that is opened, CERT the third."""
+    (folder / "pages.csv").write_bytes(b"address,kind,message\n8,tone0,\n")
+    command = [str(PROGRAM), "plan", *(str(folder / name) for name in ("pages.csv", "tx.bin", "cert.bin")), "--verify"]
+    for name, number, text in (("transmission", 4, b"the preamble is too short"), ("certificate", 5, b"the certificate is cut short")):
+        environment = dict(os.environ, LD_PRELOAD=str(library), REFUSE_LOSE=str(number))
+        done = subprocess.run(command, capture_output=True, env=environment, timeout=60)
+        due = (1, b"pages 1\nbatches 1\n", b"pocsag: " + text + b"\n")
+        tally.check(f"a lost {name} is not verified", (done.returncode, done.stdout, done.stderr) == due, done)
+
+
+class Answers:
+    """What `open` answers line by line, where one call may be refused: an edit that is refused changes nothing."""
+
+    def __init__(self, lines):
+        self.lines = lines
+        self.pages = {}
+        self.refused = []
+
+    def due(self, line):
+        """What a line is answered with ample memory; the pages are those after it."""
+        word, _, rest = line.partition(b",")
+        address = rest.partition(b",")[0]
+        if word == b"list":
+            listed = [address + record for address, record in self.pages.items()]
+            return [b"address,kind,message", *listed, b"ok %d" % len(self.pages)]
+        if word == b"plan":
+            return [b"batches 1"] if self.pages else [b"refused: there are no pages"]
+        if word == b"add" and address in self.pages:
+            return [b"refused: the address is already there"]
+        if word == b"cancel" and address not in self.pages:
+            return [b"refused: no such page"]
+        if word == b"add":
+            self.pages[address] = rest[len(address):]
+        elif word == b"cancel":
+            del self.pages[address]
+        elif word == b"clear":
+            self.pages.clear()
+        else:
+            return [b"refused: unknown edit"]
+        return [b"ok %d" % len(self.pages)]
+
+    def are(self, told, refusal, refusable):
+        """Whether these are the answers, where the refusal may stand in place of those to lines of such words."""
+        told = list(told)
+        for line in self.lines:
+            word = line.partition(b",")[0]
+            if told[:1] == [refusal] and word in refusable:
+                self.refused.append(word)
+                told = told[1:]
+                continue
+            due = self.due(line)
+            if told[: len(due)] != due:
+                return False
+            told = told[len(due) :]
+        return not told
+
+
+def try_open(tally, library, folder):
+    """`open` by lines: an edit that meets want of memory is answered so, and the next ones as if it were not made."""
+    files = b"%s/open.bin,%s/open.cert" % (bytes(folder), bytes(folder))
+    edits = [
+        b"add,8,tone0,", b"add,17,numeric,5550199", b'add,26,alpha,"Ward 3, bed 2"', b"list", b"cancel,17", b"cancel,99",
+        b"add,8,tone1,", b"add,38,alpha,Gate", b"plan," + files, b"plan," + files + b",closed", b"bogus", b"list",
+        b"cancel,38", b"clear", b"plan," + files, b"add,7,tone3,", b"list",
+    ]
+    (folder / "open.csv").write_bytes(b"address,kind,message\n")
+    stdin = b"\n".join(edits) + b"\n"
+    command = [str(PROGRAM), "open"]
+    ample, _ = run(command, library, stdin=stdin)
+    answers = ample.stdout.splitlines()
+    holds = Answers(edits).are(answers, None, ()) and (ample.returncode, ample.stderr) == (0, b"")
+    tally.check("open with ample memory", holds, ample)
+    wanting = []
+
+    def judge_alloc(number, done):
+        if done.returncode == 3:
+            tally.check(f"open without growth {number}", (done.stdout, done.stderr) == (b"", OUT_OF_MEMORY), done)
+            return
+        kept = Answers(edits)
+        refusable = (b"add", b"cancel", b"list", b"plan", b"clear", b"bogus")
+        holds = kept.are(done.stdout.splitlines(), b"refused: out of memory", refusable) and len(kept.refused) <= 1
+        tally.check(f"open without growth {number}", holds and (done.returncode, done.stderr) == (0, b""), done)
+        wanting.extend(kept.refused)
+
+    def judge_write(number, done):
+        is_ended = done.returncode == 3 and CANNOT_WRITE.endswith(done.stderr)
+        is_ended = is_ended and ample.stdout.startswith(done.stdout) and done.stdout != ample.stdout
+        kept = Answers(edits)
+        is_refused = done.returncode == 0 and kept.are(done.stdout.splitlines(), b"refused: cannot write", (b"plan",))
+        tally.check(f"open without write {number}", is_ended or is_refused and len(kept.refused) == 1, done)
+
+    def judge_read(number, done):
+        holds = (done.returncode, done.stderr) == (3, CANNOT_READ) and done.stdout in (b"", ample.stdout)
+        tally.check(f"open without read {number}", holds, done)
+
+    for kind, judge in (("ALLOC", judge_alloc), ("WRITE", judge_write), ("READ", judge_read)):
+        count = each_refusal(command, library, kind, stdin, nothing, judge)
+        tally.check(f"open: {kind}", count > 1, count)
+    tally.check("open: each word that takes memory lacked it", {b"add", b"list", b"plan"} <= set(wanting), wanting)
+    short, _ = run(command, library, stdin=stdin, short=True)
+    tally.check("open one byte at a time", short.stdout == ample.stdout and short.returncode == 0, short)
+
+
+def try_open_pages(tally, library, folder):
+    """`open PAGES`: want of memory, or a read that fails, before the first line ends it."""
+    pages = b"8,tone0,\n17,numeric,5550199\n26,alpha,Ward\n"
+    path = folder / "open.csv"
+    path.write_bytes(b"address,kind,message\n" + pages)
+    command = [str(PROGRAM), "open", str(path)]
+    due = path.read_bytes() + b"ok 3\n"
+    for kind, said, least in (("ALLOC", OUT_OF_MEMORY, 5), ("READ", CANNOT_READ, 2)):
+
+        def judge(number, done):
+            is_lack = done.returncode == 3 and done.stderr == said and done.stdout in (b"", due)
+            is_refused = kind == "ALLOC" and (done.returncode, done.stdout) == (0, b"refused: out of memory\n")
+            is_ample = kind == "ALLOC" and (done.returncode, done.stdout) == (0, due)
+            tally.check(f"open PAGES without {kind} {number}", is_lack or is_refused or is_ample, done)
+
+        count = each_refusal(command, library, kind, b"list\n", nothing, judge)
+        tally.check(f"open PAGES: {kind}", count >= least, count)
+
+
+def try_late_growths(tally, library, folder):
+    """What writes a file or a text takes all its memory before the first byte."""
+    pages, sent, cert = folder / "late.csv", folder / "late.bin", folder / "late.cert"
+    records = b"".join(b"%d,alpha,%s\n" % (k, b"Ward %d" % k * (1 + k % 7)) for k in range(900))
+    pages.write_bytes(b"address,kind,message\n" + records)
+    names = [str(path) for path in (pages, sent, cert)]
+    plans = [["plan", *names, "--end", end, *more] for end in ("open", "closed") for more in ([], ["--always"])]
+    others = [["check", names[0], names[2]], ["decode", names[1]], ["hear", "8", names[1]]]
+    others += [["show", names[1], *more] for more in ([], ["--svg"], ["--list"])]
+    others += [["report", names[0], "--rate", "512", *more] for more in ([], ["--always"])]
+    for words in [*plans, *others, []]:
+        done, count = late_growths([str(PROGRAM), *words], library, b"" if words else pages.read_bytes())
+        tally.check(f"no growth after the first byte: {words[:1]}", done.returncode == 0 and count == 0, (words, count, done.stderr))
+
+
+def try_devices(tally, library, folder):
+    """Files of one number on different devices are different files."""
+    pages = folder / "pages.csv"
+    pages.write_bytes(b"address,kind,message\n8,tone0,\n")
+    words = [str(folder / name) for name in ("pages.csv", "one.bin", "other.bin")]
+    for name in words[1:]:
+        pathlib.Path(name).write_bytes(b"older")
+    done, _ = run([str(PROGRAM), "plan", *words], library, same=True)
+    tally.check("files of one number on three devices", (done.returncode, done.stdout) == (0, b"pages 1\nbatches 1\n"), done)
+    (folder / "again.bin").unlink(missing_ok=True)
+    os.link(words[1], folder / "again.bin")
+    done, _ = run([str(PROGRAM), "plan", words[0], words[1], str(folder / "again.bin")], library, same=True)
+    tally.check("one number on one device", (done.returncode, done.stderr) == (1, b"pocsag: the same file is named twice\n"), done)
+
+
 LOOPS_APART = b"address,kind,message\n0,numeric," + b"1" * 75 + b"\n3,numeric," + b"1" * 75 + b"\n"
 CERTIFICATE = bytes.fromhex("5043423200000000030200013000020000010080 00".replace(" ", ""))
 
@@ -287,7 +460,10 @@ def main():
         library = build(folder)
         for part in (try_trial, try_large_trial, try_input):
             part(tally, library)
+        try_lost(tally, library, folder)
         try_plan(tally, library, folder)
+        for part in (try_open, try_open_pages, try_late_growths, try_devices, read_back.try_read_back):
+            part(tally, library, folder)
         files = {"pages.csv": LOOPS_APART, "cert.bin": CERTIFICATE}
         try_printing(tally, library, "check", ["check", "pages.csv", "cert.bin"], files, folder)
         files = {"pages.csv": LOOPS_APART}

@@ -16,12 +16,21 @@ import time
 
 sys.dont_write_bytecode = True
 sys.path.insert(0, str(pathlib.Path(__file__).resolve().parents[1]))
-from tally import TOP, Tally
+from tally import TOP, Tally, as_nobody
 
 CRATES = "low:\nmiddle: low csv\npocsag_app: clap middle low\npocsag_bench: middle\npocsag_trial: low\n"
+# Other forms of the same list that the prover reads.
+FORMS = [
+    "low :\nmiddle : low csv\npocsag_app : clap middle low\npocsag_bench: middle\npocsag_trial: low\n",
+    "low\nmiddle: low, csv\npocsag_app: clap,middle,low\npocsag_bench: middle\npocsag_trial: low\n",
+    "# all\n  low: # the lowest\n\n  middle:  low csv  # next\npocsag_app status=0: clap middle low\npocsag_bench: middle\npocsag_trial: low\n",
+    "pocsag_app: clap middle low\npocsag_trial: low\npocsag_bench: middle\nmiddle: low csv\nlow:\n",
+]
+COMMANDS = "bash basename cat chmod dirname find mkdir mv pwd readlink rm sh sleep touch".split()
 
-# What each stand-in does when it is called as `rt run -- --help` in the program's folder.
+# What each stand-in does when it is called as `rt run .. -- --help` in the program's folder.
 MAKES = """mkdir -p out
+rm -f out/pocsag_app
 cat > out/pocsag_app <<'PROGRAM'
 #!/bin/sh
 echo "words: $*"
@@ -36,7 +45,7 @@ STAND_INS = {
     "makes": MAKES,
     "fails": "echo 'goal left open'\nexit 5\n",
     "leaves nothing": "exit 0\n",
-    "edits meanwhile": "sleep 0.05\n" + EDITS + MAKES,
+    "edits meanwhile": EDITS + MAKES,
     "is slow": "sleep 1\n" + MAKES,
     "never ends": "sleep 30\n",
 }
@@ -53,13 +62,16 @@ class Clone:
         for made in (self.top, self.commands, self.temporary):
             made.mkdir()
         shutil.copy(TOP / "pocsag", self.top / "pocsag")
+        shutil.copytree(TOP / "tools", self.top / "tools")
         (self.top / "crates.txt").write_text(CRATES)
         for crate in ("low", "middle", "pocsag_app", "pocsag_bench", "pocsag_trial"):
             source = self.top / "crates" / crate / "src"
             source.mkdir(parents=True)
-            (source / "lib.rt").write_text("first\n")
-        for command in ("awk", "basename", "bash", "cat", "chmod", "dirname", "find", "flock", "mkdir", "mktemp", "mv", "pwd", "readlink", "rm", "sh", "sleep", "touch", "wc"):
+            (source / ("main.rt" if crate == "pocsag_app" else "lib.rt")).write_text("first\n")
+        for command in COMMANDS:
             (self.commands / command).symlink_to(shutil.which(command))
+        python = shutil.which("python3", path="/usr/bin:/bin") or sys.executable  # one that any user can run
+        (self.commands / "python3").symlink_to(os.path.realpath(python))
         if stand_in is not None:
             self.stand_in(stand_in)
 
@@ -72,50 +84,52 @@ class Clone:
         )
         rt.chmod(0o755)
 
-    def start(self, words=(), folder=None, script=None):
-        environment = {"PATH": str(self.commands), "TMPDIR": str(self.temporary)}
+    def environment(self, **more):
+        return {"PATH": str(self.commands), "TMPDIR": str(self.temporary), **more}
+
+    def start(self, words=(), folder=None, script=None, before=(), **more):
         return subprocess.Popen(
-            [str(script or self.top / "pocsag"), *words],
+            [*before, str(script or self.top / "pocsag"), *words],
             stdin=subprocess.PIPE, stdout=subprocess.PIPE, stderr=subprocess.PIPE,
-            cwd=folder or self.top, env=environment, text=True, start_new_session=True,
+            cwd=folder or self.top, env=self.environment(**more), text=True, start_new_session=True,
         )
 
-    def run(self, words=(), folder=None, script=None, stdin=""):
-        process = self.start(words, folder, script)
+    def run(self, words=(), folder=None, script=None, stdin="", before=(), **more):
+        process = self.start(words, folder, script, before, **more)
         out, err = process.communicate(stdin, timeout=60)
         return process.returncode, out, err
 
     def builds(self):
-        """How often the program was built, and the whole list of calls."""
+        """How often the program was built, and the whole list of calls without their jobs."""
         calls = self.calls.read_text().splitlines() if self.calls.exists() else []
-        return calls.count("pocsag_app run -- --help"), calls
+        calls = [call.partition(" --jobs")[0] for call in calls]
+        return calls.count("pocsag_app run"), calls
 
-
-def later(path):
-    """An edit that is surely later than the stamp."""
-    time.sleep(0.02)
-    path.write_text("edited\n")
+    def source(self, crate):
+        return self.top / "crates" / crate / "src/lib.rt"
 
 
 def try_success(tally, clone):
     status, out, err = clone.run(["plan", "a b", ""], stdin="input\n")
     tally.check("arguments, folder, input and status", (status, out) == (7, f"words: plan a b \nfolder: {clone.top}\ninput\n"), (status, out, err))
     count, calls = clone.builds()
-    tally.check("each crate once, lowest first", calls == ["low lib", "middle lib", "pocsag_app run -- --help"], calls)
-    told = [f"pocsag: proving {name} ({place} of 3)" for place, name in enumerate(("low", "middle", "pocsag_app"), 1)]
-    tally.check("each crate is told", all(line in err for line in told) and "memory" in err and "disk" in err, err)
+    tally.check("each crate once, lowest first", calls == ["low lib", "middle lib", "pocsag_app run"], calls)
+    begun = [f"proving {name} ({place} of 3)" for place, name in enumerate(("low", "middle", "pocsag_app"), 1)]
+    ended = [f"{name} proved in 0:0" for name in ("low", "middle", "pocsag_app")]
+    tally.check("each crate is told as it begins and ends", all(line in err for line in begun + ended), err)
+    tally.check("what it takes is told", "memory" in err and "disk" in err, err)
     tally.check("no log is left", list(clone.temporary.iterdir()) == [], list(clone.temporary.iterdir()))
     status, out, err = clone.run(["x"])
     tally.check("built once", (status, err, clone.builds()[0]) == (7, "", 1), (status, err))
     for crate in ("pocsag_bench", "pocsag_trial"):
-        later(clone.top / "crates" / crate / "src/lib.rt")
+        clone.source(crate).write_text("edited\n")
         clone.run()
         tally.check(f"an edit in {crate} builds nothing", clone.builds()[0] == 1, clone.builds())
-    later(clone.top / "crates/middle/src/lib.rt")
+    clone.source("middle").write_text("edited\n")
     clone.run()
     tally.check("an edit builds anew", clone.builds()[0] == 2, clone.builds())
     (clone.top / "crates/low/proofs").mkdir()
-    time.sleep(0.02)
+    (clone.top / "crates/low/proofs/Lib.antt").write_text("new\n")
     clone.run()
     tally.check("a new folder of proofs builds anew", clone.builds()[0] == 3, clone.builds())
     elsewhere = clone.top.parent / "elsewhere"
@@ -124,15 +138,109 @@ def try_success(tally, clone):
     link.symlink_to(clone.top / "pocsag")
     status, out, err = clone.run(["y"], folder=elsewhere, script=link)
     tally.check("a symbolic link from another folder", (status, out, err) == (7, f"words: y\nfolder: {elsewhere}\n", ""), (status, out, err))
+    status, out, err = clone.run(["y"], folder=elsewhere, script="../clone/pocsag")
+    tally.check("a path from another folder", (status, out, err) == (7, f"words: y\nfolder: {elsewhere}\n", ""), (status, out, err))
+
+
+def try_old_times(tally, clone):
+    """Edits that leave no newer file behind."""
+    clone.run()
+    os.utime(clone.source("low"), (10**9, 10**9))
+    tally.check("another time alone builds nothing", clone.run()[0] == 7 and clone.builds()[0] == 1, clone.builds())
+    clone.source("low").write_text("other\n")
+    os.utime(clone.source("low"), (10**9, 10**9))
+    clone.run()
+    tally.check("an edit with an old time", clone.builds()[0] == 2, clone.builds())
+    old = clone.top.parent / "old.rt"
+    old.write_text("third\n")
+    os.utime(old, (10**9, 10**9))
+    shutil.copy2(old, clone.source("low"))
+    clone.run()
+    tally.check("a file put there with its old time", clone.builds()[0] == 3, clone.builds())
+    specs = clone.top / "crates/middle/specs"
+    specs.mkdir()
+    (specs / "Lib.antt").write_text("words\n")
+    clone.run()
+    shutil.rmtree(specs)
+    clone.run()
+    tally.check("a folder taken away", clone.builds()[0] == 5, clone.builds())
+    older = clone.top.parent / "older"
+    older.mkdir()
+    (older / "lib.rt").write_text("as it was\n")
+    os.utime(older / "lib.rt", (10**9, 10**9))
+    os.utime(older, (10**9, 10**9))
+    source = clone.source("middle").parent
+    source.rename(clone.top.parent / "away")
+    older.rename(source)
+    clone.run()
+    tally.check("a folder replaced by an older one", clone.builds()[0] == 6, clone.builds())
+    clone.source("low").rename(clone.source("low").with_name("renamed.rt"))
+    clone.run()
+    tally.check("a file renamed", clone.builds()[0] == 7, clone.builds())
+
+
+def try_forms(tally, clone):
+    """Forms of the list of crates that the prover reads too."""
+    for number, form in enumerate(FORMS, 1):
+        (clone.top / "crates.txt").write_text(form)
+        clone.calls.unlink(missing_ok=True)
+        status, _, err = clone.run()
+        count, calls = clone.builds()
+        tally.check(f"form {number} of the list", status == 7 and calls == ["low lib", "middle lib", "pocsag_app run"], (err, calls))
+    (clone.top / "crates.txt").write_text("low: middle\nmiddle: low\npocsag_app: low\n")
+    status, _, err = clone.run()
+    tally.check("a ring of crates", status == 3 and "uses itself" in err, (status, err))
+    (clone.top / "crates.txt").write_text("low:\n! middle\n")
+    status, _, err = clone.run()
+    tally.check("a line that is none", status == 3 and "! middle" in err, (status, err))
+
+
+def try_options(tally, clone):
+    for option in ("noclobber", "errexit", "nounset", "noglob"):
+        clone.source("low").write_text(option)
+        status, out, err = clone.run(["w"], SHELLOPTS=option)
+        status, out, err = clone.run(["w"], SHELLOPTS=option)
+        tally.check(f"{option} handed down", (status, out, err) == (7, f"words: w\nfolder: {clone.top}\n", ""), (status, err))
+
+
+def open_to_all(clone):
+    """Lets another user read the clone."""
+    for path in [clone.top.parent, *clone.top.parent.glob("**/*")]:
+        if not path.is_symlink():
+            path.chmod(path.stat().st_mode | (0o555 if path.is_dir() else 0o444))
+    return clone
+
+
+def try_unwritable(tally, clone):
+    """A checkout that may only be read."""
+    before = as_nobody(open_to_all(clone).top)
+    if os.geteuid() == 0 and not before:
+        return
+    if not before:
+        clone.top.chmod(0o555)
+    clone.temporary.chmod(0o777)
+    status, out, err = open_to_all(clone).run(before=before)
+    tally.check("nothing can be built", status == 3 and "cannot write" in err and "nothing can be built" in err and "line" not in err, (status, err))
+    clone.top.chmod(0o755)
+    clone.run()
+    clone.calls.chmod(0o666)
+    status, out, err = open_to_all(clone).run(["v"], before=before)
+    tally.check("what is built is run", (status, err) == (7, ""), (status, err))
+    clone.source("low").write_text("edited\n")
+    if not before:
+        (clone.top / "out").chmod(0o555)
+        (clone.top / "out/lock").chmod(0o444)
+    status, out, err = clone.run(before=before)
+    tally.check("another user's lock", status == 3 and "cannot write" in err and "line" not in err, (status, err))
 
 
 def try_failure(tally, clone):
     status, out, err = clone.run(["plan"])
-    tally.check("a build that fails", status == 3 and out == "" and "goal left open" in err and "failed in crates/pocsag_app" in err, (status, out, err))
+    tally.check("a build that fails", status == 3 and out == "" and "goal left open" in err and "pocsag_app failed" in err, (status, out, err))
     tally.check("no log is left by it", list(clone.temporary.iterdir()) == [])
     clone.stand_in("makes")
     tally.check("and is tried again", clone.run(["z"])[0] == 7)
-    later(clone.top / "crates/low/src/lib.rt")
+    clone.source("low").write_text("edited\n")
     clone.stand_in("fails")
     status, out, err = clone.run()
     tally.check("an older program is not run", (status, out) == (3, ""), (status, out, err))
@@ -141,6 +249,21 @@ def try_failure(tally, clone):
 def try_missing(tally, clone):
     status, out, err = clone.run()
     tally.check("no rt", status == 3 and out == "" and "rt" in err and "PATH" in err, (status, out, err))
+    clone.stand_in("makes")
+    clone.run()
+    (clone.commands / "rt").unlink()
+    os.utime(clone.source("low"))
+    status, out, err = clone.run(["u"])
+    tally.check("another time, and no rt", (status, err) == (7, ""), (status, err))
+    clone.source("low").write_text("edited\n")
+    status, out, err = clone.run(["u"])
+    tally.check("an edit, and no rt", status == 7 and out.startswith("words: u\n") and "may be old" in err, (status, out, err))
+    (clone.commands / "python3").unlink()
+    status, out, err = clone.run(["u"])
+    tally.check("an edit, and no python3", status == 7 and out.startswith("words: u\n") and "may be old" in err, (status, out, err))
+    shutil.rmtree(clone.top / "crates/pocsag_app/out")
+    status, out, err = clone.run(["u"])
+    tally.check("no program, and no python3", (status, out) == (3, "") and "python3" in err, (status, out, err))
 
 
 def try_nothing_left(tally, clone):
@@ -164,24 +287,54 @@ def try_two_at_once(tally, clone):
     tally.check("and two wait", waited == 2, ends)
 
 
-def try_interrupt(tally, clone):
+def try_side_by_side(tally, clone):
+    """Crates that do not wait for each other, each a second long."""
+    (clone.top / "crates.txt").write_text("low:\nmiddle:\npocsag_bench:\npocsag_app: low middle pocsag_bench\n")
+    rt = clone.commands / "rt"
+    rt.write_text(rt.read_text().replace('[ "$1" = run ] || exit 0\n', '[ "$1" = run ] || { sleep 1; exit 0; }\n'))
+    start = time.monotonic()
+    status, _, err = clone.run(RT_JOBS="3")
+    took = time.monotonic() - start
+    tally.check("three crates side by side", status == 7 and took < 2.5, (status, took, err))
+    clone.source("low").write_text("edited\n")
+    start = time.monotonic()
+    clone.run(RT_JOBS="1")
+    tally.check("one after the other where there is one processor", time.monotonic() - start > 3, took)
+
+
+def interrupted(tally, clone, number):
+    """Ends a build by a signal; gives how it ended and what still runs of it."""
     call = clone.start()
-    time.sleep(0.5)
-    os.killpg(call.pid, signal.SIGINT)
+    time.sleep(0.7)
+    if number == signal.SIGINT:
+        os.killpg(call.pid, number)
+    else:
+        call.send_signal(number)
+        subprocess.run(["pkill", f"-{number}", "-s", str(call.pid)], check=False)
     call.communicate(timeout=60)
-    tally.check("an interrupt ends it", call.returncode != 0, call.returncode)
-    tally.check("and leaves no log", list(clone.temporary.iterdir()) == [], list(clone.temporary.iterdir()))
+    tally.check(f"signal {number} ends it", call.returncode != 0, call.returncode)
+    tally.check(f"signal {number} leaves no log", list(clone.temporary.iterdir()) == [], list(clone.temporary.iterdir()))
+
+
+def try_interrupt(tally, clone):
+    for number in (signal.SIGINT, signal.SIGTERM, signal.SIGKILL):
+        interrupted(tally, clone, number)
     clone.stand_in("makes")
     tally.check("and the next call builds", clone.run()[0] == 7)
 
 
 TRIALS = [
     ("makes", try_success),
+    ("makes", try_old_times),
+    ("makes", try_forms),
+    ("makes", try_options),
+    ("makes", try_unwritable),
     ("fails", try_failure),
     (None, try_missing),
     ("leaves nothing", try_nothing_left),
     ("edits meanwhile", try_edit_meanwhile),
     ("is slow", try_two_at_once),
+    ("makes", try_side_by_side),
     ("never ends", try_interrupt),
 ]
 

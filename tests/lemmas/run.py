@@ -2,12 +2,14 @@
 """Wants each lemma to stand once: compares the statements of all lemmas of the crates' proofs.
 
 Two statements are the same where they differ in nothing but the names of their variables, in whether a
-premise has a name or is written in braces, and in how names are imported. What answers a goal of the
-prover is no lemma. The last line is 'N passed, M failed'.
+premise has a name or is written in braces, and in how names are imported. A parameter of a module is a
+premise of its lemmas. What std has is std's: no lemma is one of std's at some types. What answers a goal of
+the prover is no lemma. The last line is 'N passed, M failed'.
 """
 
 import pathlib
 import re
+import subprocess
 import sys
 
 sys.dont_write_bytecode = True
@@ -15,26 +17,53 @@ sys.path.insert(0, str(pathlib.Path(__file__).resolve().parents[1]))
 from tally import TOP, Tally
 
 IMPORT = re.compile(r"^use ([\w.-]+)\.\{([^}]*)\}", re.MULTILINE)
-OPENING = re.compile(r"(?:pub )?(?:abbrev )?(?:pub )?([^\s(){}:]+) :(?: (.*))?")
+OPENING = re.compile(r"(?:pub )?(?:abbrev )?(?:pub )?([^\s(){}:]+) : (.*)")
+BLOCK = re.compile(r"(?:pub )?(module|mutual)\b")
 TOKEN = re.compile(r"[(){},;]|[^\s(){},;]+")
 CLOSED_BY = {"(": ")", "{": "}"}
 
 
-def statements(text):
-    """The name and the statement of each lemma of a file, line by line as it is written."""
-    lines = re.sub(r"--.*", "", text).split("\n")
-    place = 0
-    while place < len(lines):
-        opened = OPENING.fullmatch(lines[place].rstrip())
+def depth_of(line):
+    """How many spaces the line begins with."""
+    return len(line) - len(line.lstrip(" "))
+
+
+def item_at(lines, start):
+    """The line there with the deeper lines below it, and the place behind them."""
+    place = start + 1
+    while place < len(lines) and depth_of(lines[place]) > depth_of(lines[start]):
         place += 1
-        if not opened:
+    return " ".join(line.strip() for line in lines[start:place]), place
+
+
+def statements(text):
+    """The name and the statement of each lemma of a file. A lemma inside a module has the module's parameters
+    before its own premises; between a statement and its proof there may stand a line `unfolding`, or others' lines."""
+    lines = [line.rstrip() for line in re.sub(r"--.*", "", text).split("\n")]
+    lines = [line for line in lines if line]
+    proved = {(depth_of(line), line.split()[0]) for line in lines if " : " not in line.split("=")[0] or "=" in line}
+    outer, place = [], 0  # of each module or block around the place: its depth and its parameters
+    while place < len(lines):
+        depth = depth_of(lines[place])
+        while outer and outer[-1][0] >= depth:
+            outer.pop()
+        block = BLOCK.match(lines[place].strip())
+        if block:
+            head, place = head_at(lines, place)
+            outer.append((depth, " ".join(re.findall(r"^(?:pub )?module \S+ (.*) where$", head))))
             continue
-        name, parts = opened[1], [opened[2] or ""]
-        while place < len(lines) and lines[place].startswith(" "):
-            parts.append(lines[place])
-            place += 1
-        if place < len(lines) and re.match(re.escape(name) + r"(\s|$)", lines[place]):
-            yield name, " ".join(parts)
+        item, place = item_at(lines, place)
+        opened = OPENING.fullmatch(item)
+        if opened and (depth, opened[1]) in proved:
+            yield opened[1], " ".join([*(parameters for _, parameters in outer), opened[2]]).strip()
+
+
+def head_at(lines, start):
+    """The head of the module or block there, to its `where`, and the place behind it."""
+    place = start
+    while BLOCK.match(lines[start].strip())[1] == "module" and not lines[place].endswith("where"):
+        place += 1
+    return " ".join(line.strip() for line in lines[start:place + 1]), place + 1
 
 
 def aliases(text):
@@ -143,20 +172,66 @@ def is_lemma(form):
     return bool(speaks) and not form.endswith("Type 0")
 
 
+def lemmas(file):
+    """The name, the statement and the form of each lemma of a file, but of what answers a goal of the prover."""
+    text = file.read_text()
+    given = aliases(text)
+    for name, statement in statements(text):
+        form = premises_bare(Form(given).of(TOKEN.findall(statement), {}))
+        if not statement.startswith("goal.") and is_lemma(form):
+            yield name, statement, form
+
+
+def words_of(form):
+    """The words and relations of a form that name no variable: an instance of the form has them too."""
+    return tuple(re.findall(r"(?<!\S)[a-z_][\w-]*|[≡≤<≢⊎]", form.replace("Type", "")))
+
+
+def pattern_of(form):
+    """A pattern of the form in which each variable of types may be any type."""
+    kinds, met, parts = {int(number) for number in re.findall(r"\bT(\d+)", form)}, set(), []
+    for token in re.sub(r"(\( )?Type 0( \))? → ", "", form).split():
+        variable = re.fullmatch(r"([T#])(\d+)(.*)", token)
+        if not variable:
+            parts.append(re.escape(token))
+        elif variable[1] == "#":  # the variables of types have no number in an instance
+            number = int(variable[2])
+            parts.append(re.escape(f"#{number - sum(kind < number for kind in kinds)}{variable[3]}"))
+        else:
+            name = f"type{variable[2]}"
+            parts.append(f"(?P={name})" if name in met else rf"(?P<{name}>[^()→]+|\( [^()]* \))")
+            met.add(name)
+    return re.compile(" ".join(parts))
+
+
+def lemmas_of_std():
+    """The patterns of the lemmas that std gives to all, by their words, each with its place; none without a kit."""
+    try:
+        page = subprocess.run(["rt", "doc"], capture_output=True, text=True, timeout=60).stdout.strip()
+    except OSError:
+        page = ""
+    folder = pathlib.Path(page).parent / "rattle/std/proofs/lemmas"
+    found = {}
+    for file in sorted(folder.rglob("*.antt")) if page else []:
+        text = file.read_text()
+        for name, _, form in lemmas(file):
+            if re.search(rf"^ *pub {re.escape(name)} :", text, re.MULTILINE):
+                place = f"std: {file.relative_to(folder)}: {name}"
+                found.setdefault(words_of(form), []).append((pattern_of(form), place))
+    return found
+
+
 def main():
     tally = Tally()
-    seen = {}
+    seen, given = {}, lemmas_of_std()
+    if not given:
+        print("no kit was found by `rt doc`: the lemmas are not compared with those of std")
     for file in sorted(TOP.glob("crates/*/proofs/**/*.antt")):
-        text = file.read_text()
-        given = aliases(text)
-        for name, statement in statements(text):
-            if statement.startswith("goal."):
-                continue
-            form = premises_bare(Form(given).of(TOKEN.findall(statement), {}))
-            if not is_lemma(form):
-                continue
+        for name, statement, form in lemmas(file):
             place = f"{file.relative_to(TOP / 'crates')}: {name}"
-            tally.check(place, form not in seen, f"is the lemma {seen.get(form)}: {statement}")
+            twins = [twin for pattern, twin in given.get(words_of(form), []) if pattern.fullmatch(form)]
+            twins += [seen[form]] if form in seen else []
+            tally.check(place, not twins, f"is the lemma {', '.join(twins)}: {statement}")
             seen.setdefault(form, place)
     return tally.end()
 

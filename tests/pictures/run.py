@@ -10,6 +10,7 @@ import importlib.util
 import io
 import pathlib
 import random
+import re
 import subprocess
 import sys
 import xml.etree.ElementTree as ElementTree
@@ -25,6 +26,10 @@ SVG = "{http://www.w3.org/2000/svg}"
 IDLE, TONE, MESSAGE = (bytes.fromhex(word) for word in ("7A89C197", "000026EC", "C44447B9"))
 ZERO = bytes(4)
 HEAD = "       0  1  2  3  4  5  6  7"
+# Measures of the drawing: the left side of the first cell, a cell's width and height, the upper side of the first row,
+# and from row to row.
+LEFT, CELL, HEIGHT, UPPER, ROW = 72, 24, 18, 48, 22
+HUES = 26
 
 
 def run(*words):
@@ -89,11 +94,27 @@ def check_text(tally, folder):
         path.write_bytes(make.transmission(words))
         done = run("show", path)
         tally.check(f"text {trial}", done.returncode == 0 and done.stdout == text_of(words), done)
+    for batches in (99, 100, 101, 300, 1_001, 10_001):
+        words = random_words(chance, batches)
+        path.write_bytes(make.transmission(words))
+        done = run("show", path)
+        tally.check(f"text of {batches} batches", done.returncode == 0 and done.stdout == text_of(words), done.stdout[:300])
+
+
+def many_records(count):
+    """Records of so many pages of every kind."""
+    rows = (b"tone0,", b"tone1,", b"tone2,", b"tone3,", b"numeric,5550199", b'alpha,"Ward 3, ""bed"" 2"', b"alpha,\x01\x7f")
+    return b"".join(b"%d,%s\n" % (5 * place, rows[place % len(rows)]) for place in range(count))
 
 
 def check_list(tally, folder):
+    check_places(tally, folder, b'0,numeric,12345\n8,tone2,\n11,alpha,"a,b ""c"""\n')
+    check_places(tally, folder, many_records(1_000))
+
+
+def check_places(tally, folder, records):
     page_file = folder / "pages.csv"
-    page_file.write_bytes(b'address,kind,message\n0,numeric,12345\n8,tone2,\n11,alpha,"a,b ""c"""\n')
+    page_file.write_bytes(b"address,kind,message\n" + records)
     tx = folder / "tx"
     run("plan", page_file, tx, folder / "cert")
     listed = list(csv.reader(io.StringIO(run("show", tx, "--list").stdout.decode())))
@@ -113,7 +134,73 @@ def check_list(tally, folder):
         tally.check(f"listing: codewords of {row[4]}", holds, row)
 
 
-def check_drawing(tally, name, text, words):
+def starts_of(words):
+    """Where the pages begin, and behind which codeword each of them ends."""
+    starts = [place for place, word in enumerate(words) if word != IDLE and word[0] < 0x80]
+    ends = []
+    for start in starts:
+        end = start + 1
+        while end < len(words) and words[end] != IDLE and words[end][0] >= 0x80:
+            end += 1
+        ends.append(end)
+    return list(zip(starts, ends))
+
+
+def rectangles_of(start, end):
+    """The rectangles of a run of codewords, one for each of its rows."""
+    found = []
+    while start < end:
+        stop = min(end, 16 * (start // 16) + 16)
+        found.append((LEFT + CELL * (start % 16), UPPER + ROW * (start // 16), CELL * (stop - start), HEIGHT))
+        start = stop
+    return found
+
+
+def shown_byte(byte):
+    """A byte of a message as the drawing shows it: a control character by its picture."""
+    return chr(0x2400 + byte) if byte < 32 else "\u2421" if byte == 127 else chr(byte)
+
+
+def drawn(group):
+    """The rectangles that a group of the drawing has."""
+    return [tuple(int(node.get(key)) for key in ("x", "y", "width", "height")) for node in group.findall(SVG + "rect")]
+
+
+def check_pages(tally, name, root, words, listed):
+    """Each page in its place, with its hue, its letter and what is told of it; the idles between them, and the rows."""
+    due, at = [], 0
+    for number, (start, end) in enumerate(starts_of(words)):
+        due += [("i", None, None, rectangles_of(at, start))] if at < start else []
+        letter, (address, kind, message) = chr(65 + number % HUES), listed[number]
+        told = f"{letter}: address {address.decode()}, {kind.decode()}"
+        told += ": " + "".join(map(shown_byte, message)) if message or b"tone" not in kind else ""
+        spot = LEFT + CELL * (start % 16) + CELL // 2, UPPER + ROW * (start // 16) + 13
+        due.append((f"p{number % HUES}", told, (letter, *spot), rectangles_of(start, end)))
+        at = end
+    due += [("i", None, None, rectangles_of(at, len(words)))] if at < len(words) else []
+    found = []
+    for group in root.findall(SVG + "g"):
+        label = group.find(SVG + "text")
+        spot = label is not None and (label.text, int(label.get("x")), int(label.get("y"))) or None
+        found.append((group.get("class"), group.findtext(SVG + "title"), spot, drawn(group)))
+    wrong = [pair for pair in zip(found, due) if pair[0] != pair[1]]
+    tally.check(f"{name}: pages and idles", len(found) == len(due) and not wrong, wrong[:1])
+    rows = range(len(words) // 16)
+    numbers = [(node.text, node.get("y")) for node in root.findall(SVG + "text") if node.get("class") == "e"]
+    due_numbers = [(str(row + 1), str(UPPER + ROW * row + 13)) for row in rows]
+    tally.check(f"{name}: numbers of batches", numbers == due_numbers, numbers[:3])
+    syncs = [(54, UPPER + ROW * row, 12, HEIGHT) for row in rows]
+    tally.check(f"{name}: synchronisation codewords", drawn(root) == syncs, drawn(root)[:3])
+    sizes = root.get("viewBox"), f"0 0 {LEFT + 16 * CELL + 12} {UPPER + ROW * len(rows) + 12}"
+    tally.check(f"{name}: size", sizes[0] == sizes[1], sizes)
+    frames = [(node.text, node.get("x")) for node in root.findall(SVG + "text") if node.get("class") == "m"]
+    tally.check(f"{name}: frames", frames == [(str(f), str(LEFT + CELL * (2 * f + 1))) for f in range(8)], frames)
+    hues = re.findall(r"\.p(\d+)\{fill:hsl\((\d+),", root.findtext(SVG + "style"))
+    due_hues = [(str(number), str(137 * number % 360)) for number in range(HUES)] * 2
+    tally.check(f"{name}: hues", hues == due_hues and len(set(hues)) == HUES, hues)
+
+
+def check_drawing(tally, name, text, words, sent):
     """A drawing that a parser takes, without scripts, with texts, and with one rectangle a run and row."""
     root = ElementTree.fromstring(text)
     tally.check(f"{name}: svg", root.tag == SVG + "svg" and root.get("version") == "1.1", root.attrib)
@@ -128,7 +215,14 @@ def check_drawing(tally, name, text, words):
     rectangles = sum(1 for node in root.iter(SVG + "rect"))
     due = runs(words) + len(words) // 16
     tally.check(f"{name}: one rectangle a run and row", rectangles == due, (rectangles, due))
+    check_pages(tally, name, root, words, fields_of(run("decode", sent).stdout))
     return root
+
+
+def fields_of(listing):
+    """The address, the kind and the message of each record of a listing, in bytes."""
+    rows = csv.reader(io.StringIO(listing.decode("latin-1"), newline=""))
+    return [[field.encode("latin-1") for field in row] for row in list(rows)[1:]]
 
 
 def check_svg(tally, folder):
@@ -144,14 +238,21 @@ def check_svg(tally, folder):
         path.write_bytes(make.transmission(words))
         done = run("show", path, "--svg")
         tally.check(f"{name}: status", done.returncode == 0 and done.stderr == b"", done.stderr)
-        check_drawing(tally, name, done.stdout, words)
+        check_drawing(tally, name, done.stdout, words, path)
     page_file = folder / "pages.csv"
     page_file.write_bytes(b'address,kind,message\n11,alpha,"<b>&amp; ""x"" ]]> \x01\x7f"\n')
     run("plan", page_file, path, folder / "cert")
     text = run("show", path, "--svg").stdout
-    root = check_drawing(tally, "escaped", text, make.codewords(path.read_bytes()))
+    root = check_drawing(tally, "escaped", text, make.codewords(path.read_bytes()), path)
     titles = [node.text for node in root.iter(SVG + "title")]
     tally.check("escaped message", 'A: address 11, alpha: <b>&amp; "x" ]]> \u2401\u2421' in titles, titles)
+    every = bytes(range(1, 128)).replace(b'"', b'""')
+    page_file.write_bytes(b'address,kind,message\n11,alpha,"%s"\n20,alpha,"\r\n\t"\n0,numeric,0123456789*U -][\n' % every)
+    run("plan", page_file, path, folder / "cert")
+    root = check_drawing(tally, "all characters", run("show", path, "--svg").stdout, make.codewords(path.read_bytes()), path)
+    titles = [node.text for node in root.iter(SVG + "title")]
+    due = "address 11, alpha: " + "".join(map(shown_byte, range(1, 128)))
+    tally.check("each character of a message", any(title.endswith(due) for title in titles), titles)
 
 
 def check_faults(tally, folder):
@@ -194,6 +295,23 @@ def refusals():
     return module
 
 
+def check_large_writes(tally, folder, faults, library):
+    """A transmission of many batches, each write of what shows it refused."""
+    path = folder / "large"
+    path.write_bytes(make.transmission(random_words(random.Random(12), 400)))
+    for asked in ([], ["--svg"], ["--list"]):
+        command = [str(PROGRAM), "show", str(path), *asked]
+        ample, _ = faults.run(command, library)
+
+        def judge(number, done):
+            holds = done.returncode == 3 and faults.CANNOT_WRITE.endswith(done.stderr)
+            holds = holds and ample.stdout.startswith(done.stdout) and done.stdout != ample.stdout
+            tally.check(f"write {number} refused of many batches {asked}", holds, (done.returncode, done.stderr))
+
+        count = faults.each_refusal(command, library, "WRITE", b"", faults.nothing, judge)
+        tally.check(f"some were refused of many batches {asked}", count > 0, count)
+
+
 def check_refusals(tally, folder):
     """Each growth, each read and each write refused: the answer with ample memory, or the fault of what was refused."""
     faults = refusals()
@@ -201,6 +319,7 @@ def check_refusals(tally, folder):
     path = folder / "tx"
     words = [ZERO, *[MESSAGE] * 5, TONE, *[MESSAGE] * 15, ZERO, *[MESSAGE] * 7, IDLE, IDLE]
     path.write_bytes(make.transmission(words))
+    check_large_writes(tally, folder, faults, library)
     for asked in ([], ["--svg"], ["--list"]):
         command = [str(PROGRAM), "show", str(path), *asked]
         ample, _ = faults.run(command, library)

@@ -186,6 +186,10 @@ def plans_of_the_list(tally, folder, program, kept):
         tally.check("its certificate shows its batches for the list", shown.stdout == due, (answer, shown))
 
 
+# Lines as long as may be, and one byte longer: the end of the first tells what is answered.
+LONGEST = b"add,8,numeric," + b"1" * (65536 - len(b"add,8,numeric,") - 1) + b"x"
+BAD_AT_ITS_END = b"refused: bad character at %d" % (len(LONGEST) - len(b"add,8,numeric,") - 1)
+
 # The worked example `open-round` and the words of refusals.
 WORDS = [
     (b"add,8,tone0,", b"ok 1"),
@@ -220,7 +224,26 @@ WORDS = [
     (b"x" * 65536, b"refused: unknown edit"),
     (b"x" * 65537, b"refused: unknown edit"),
     (b"list," + b"x" * 1000000, b"refused: unknown edit"),
+    (LONGEST, BAD_AT_ITS_END),
+    (LONGEST + b"1", b"refused: unknown edit"),
+    (LONGEST + b"\r", b"refused: unknown edit"),
+    (b"1" + LONGEST[:-1], b"refused: unknown edit"),
+    (b"x" * 65536 + b"clear", b"refused: unknown edit"),
+    (b"x" * 65537 + b"add,9,tone0,", b"refused: unknown edit"),
+    (b"x" * 131072 + b"add,9,tone0,", b"refused: unknown edit"),
+    (b"add,8,tone0," + b" " * 65536, b"refused: unknown edit"),
+    (b"clear" + b"\r" * 65531, b"ok 0"),
+    (b"clear" + b"\r" * 65532, b"refused: unknown edit"),
     (b"add,7,tone3,", b"ok 1"),
+    *((word, b"refused: unknown edit") for word in (
+        b"c,7", b"can,7", b"cancels,7", b"Cancel,7", b"cancel", b"cancel,7,", b" cancel,7", b"cl", b"c", b"clears", b"Clear",
+        b"clear,", b"a,9,tone0,", b"ad,9,tone0,", b"adds,9,tone0,", b"Add,9,tone0,", b"add,9,tone0", b"add", b"l", b"lists",
+        b"p,tx.bin,cert.bin", b"plans,tx.bin,cert.bin", b"Plan,tx.bin,cert.bin", b"plan,tx.bin", b"plan",
+        b"plan,tx.bin,cert.bin,o", b"plan,tx.bin,cert.bin,opened", b"plan,tx.bin,cert.bin,c", b"plan,tx.bin,cert.bin,Closed",
+        b"plan,tx.bin,cert.bin,closed,", b"plan,tx.bin,cert.bin,", b"cancel,7\rclear", b'"cancel', b"cancel;7", b"\xff,7",
+    )),
+    (b"cancel,8", b"refused: no such page"),
+    (b"add,15,tone3,", b"ok 2"),
     (b"clear", b"ok 0"),
 ]
 
@@ -232,6 +255,53 @@ def words_of_answers(tally, folder):
         tally.check(f"{line[:40]!r} is answered {due!r}", found == due, found)
     status, rest, err = program.close()
     tally.check("refusals end nothing", (status, rest, err) == (0, b"", b""), (status, rest, err))
+
+
+# Devices that lose what they take, that take nothing, and paths at which nothing can be made.
+DEVICES = [
+    (b"plan,/dev/null,/dev/zero", b"refused: there are no pages"),
+    (b"add,5,tone0,", b"ok 1"),
+    (b"plan,/dev/null,/dev/zero", b"batches 1"),
+    (b"plan,/dev/null,/dev/zero,open", b"batches 1"),
+    (b"add,13,tone0,", b"ok 2"),
+    (b"add,21,tone0,", b"ok 3"),
+    (b"plan,/dev/null,/dev/zero,closed", b"batches 2"),
+    (b"plan,/dev/null,/dev/null", b"refused: the same file is named twice"),
+    (b"plan,/dev/null,/dev/../dev/null", b"refused: the same file is named twice"),
+    (b"plan,/dev/null/tx.bin,/dev/zero", b"refused: cannot read or open a file"),
+    (b"plan,/dev/null,/dev", b"refused: cannot read or open a file"),
+    (b"plan,/dev/full,/dev/zero", b"refused: cannot write"),
+    (b"plan,/dev/null,/dev/full", b"refused: cannot write"),
+    # An empty path names no file, and no page file was named.
+    (b"plan,,/dev/null", b"refused: cannot read or open a file"),
+    (b"plan,/dev/null,", b"refused: cannot read or open a file"),
+    (b"plan,,", b"refused: the same file is named twice"),
+]
+
+
+def devices_of_a_plan(tally, folder):
+    program = OpenRound(folder)
+    for line, due in DEVICES:
+        found = program.ask(line)
+        tally.check(f"{line!r} is answered {due!r}", found == due, found)
+    due = [HEADER.strip(), b"5,tone0,", b"13,tone0,", b"21,tone0,", b"ok 3"]
+    tally.check("no plan changes the round", program.lines(b"list") == due, "")
+    status, rest, err = program.close()
+    tally.check("no device ends it", (status, rest, err) == (0, b"", b""), (status, rest, err))
+
+
+def many_pages(tally, folder):
+    """Pages and batches by the hundred: each count is told whole."""
+    program = OpenRound(folder)
+    found = [program.ask(b"add,%d,tone0," % (8 * place + 5)) for place in range(700)]
+    tally.check("each of 700 pages is counted", found == [b"ok %d" % count for count in range(1, 701)], found[250:260])
+    for end in (b"open", b"closed"):
+        tally.check(f"they take 350 batches, {end.decode()}", program.ask(b"plan,m.bin,m.cert," + end) == b"batches 350", "")
+    listed = program.lines(b"list")
+    tally.check("they are listed", listed[1:-1] == [b"%d,tone0," % (8 * place + 5) for place in range(700)], listed[-3:])
+    tally.check("and counted behind the list", listed[-1] == b"ok 700", listed[-1])
+    tally.check("one less is counted", program.ask(b"cancel,5") == b"ok 699", "")
+    program.close()
 
 
 def files_of_a_plan(tally, folder):
@@ -261,14 +331,18 @@ HARD = [(5, 5), (0, 9), (4, 9), (1, 3), (7, 31), (6, 15), (2, 31), (1, 15)]
 
 
 def hard_plans(tally, folder):
-    """A round that the search gives up at is planned with `--always`."""
-    for words in ((), ("--always",)):
+    """A round that the search gives up at is planned with `--always`, whether its pages come by lines or from PAGES."""
+    pages = [b"%d,numeric,%s" % (8 * place + frame, 5 * (length - 1) * b"1") for place, (frame, length) in enumerate(HARD)]
+    (folder / "hard.csv").write_bytes(HEADER + b"\n".join(pages) + b"\n")
+    for words in ((), ("--always",), ("hard.csv",), ("hard.csv", "--always"), ("--always", "hard.csv")):
         program = OpenRound(folder, *words)
-        for place, (frame, length) in enumerate(HARD):
-            program.ask(b"add,%d,numeric,%s" % (8 * place + frame, 5 * (length - 1) * b"1"))
+        if "hard.csv" not in words:
+            tally.check("its pages are added", [program.ask(b"add," + page) for page in pages][-1] == b"ok 8", "")
         for end in (b"open", b"closed"):
             found = program.ask(b"plan,hard.bin,hard.cert," + end)
-            holds = found == b"batches 9" if words else found.startswith(b"refused: search limit reached: at least 8 batches")
+            is_always = "--always" in words
+            due = b"batches 9" if is_always else b"refused: search limit reached: at least 8 batches, 9 would do"
+            holds = found == due
             tally.check(f"a hard round with {words}, {end.decode()}", holds, found)
         tally.check("it is open as before", program.ask(b"cancel,0") == b"refused: no such page", "")
         tally.check("its pages are there", program.lines(b"list")[-1] == b"ok 8", "")
@@ -281,8 +355,9 @@ def begins_with_pages(tally, folder):
     program = OpenRound(folder, "pages.csv")
     tally.check("the pages of PAGES are open", program.ask(b"cancel,16") == b"ok 1", "")
     for spelling in (b"pages.csv", b"./pages.csv"):
-        found = program.ask(b"plan,%s,cert.bin" % spelling)
-        tally.check("PAGES is never emptied", found == b"refused: the same file is named twice", found)
+        for line in (b"plan,%s,cert.bin", b"plan,tx.bin,%s"):
+            found = program.ask(line % spelling)
+            tally.check("PAGES is never emptied", found == b"refused: the same file is named twice", found)
     program.close()
     tally.check("PAGES is as it was", path.read_bytes() == HEADER + b"8,tone0,\n16,numeric,12\n", "")
     path.write_bytes(HEADER + b"8,tone0,\n8,tone0,\n")
@@ -298,6 +373,10 @@ def last_line(tally, folder):
     done = subprocess.run([str(PROGRAM), "open"], input=b"add,8,tone0,\nlist", capture_output=True, cwd=folder, timeout=60)
     due = (0, b"ok 1\n" + HEADER + b"8,tone0,\nok 1\n", b"")
     tally.check("a last line without its line feed is an edit", (done.returncode, done.stdout, done.stderr) == due, done)
+    for line, due in ((LONGEST, BAD_AT_ITS_END), (LONGEST + b"1", b"refused: unknown edit")):
+        done = subprocess.run([str(PROGRAM), "open"], input=line, capture_output=True, cwd=folder, timeout=60)
+        holds = (done.returncode, done.stdout, done.stderr) == (0, due + b"\n", b"")
+        tally.check(f"so is one of {len(line)} bytes, answered {due!r}", holds, done)
     with open("/dev/full", "wb") as full:
         done = subprocess.run([str(PROGRAM), "open"], input=b"clear\n", stdout=full, stderr=subprocess.PIPE, cwd=folder, timeout=60)
     tally.check("a full device ends it with status 3", (done.returncode, done.stderr) == (3, b"pocsag: cannot write\n"), done)
@@ -328,7 +407,9 @@ def worked_session(tally, folder):
 def main():
     return run_parts(
         words_of_answers,
+        devices_of_a_plan,
         many_edits,
+        many_pages,
         files_of_a_plan,
         hard_plans,
         begins_with_pages,

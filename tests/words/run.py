@@ -1,6 +1,6 @@
 #!/usr/bin/env python3
-"""Lists each word of specs/ that a public clause cites, and wants a row of docs/DEFINITIONS.md for it; and wants each
-word of specs/ to have one meaning: no name is given in two modules.
+"""Lists each word of specs/ that a public clause cites, and wants a row of docs/DEFINITIONS.md for it that names its
+file; and wants each word of specs/ to have one meaning: no name is given in two modules.
 
 A clause is public where it stands on a function that its crate passes on, on a method of a type that it
 passes on, on a method of a public trait, or on a command of the program. The last line is
@@ -16,7 +16,9 @@ sys.path.insert(0, str(pathlib.Path(__file__).resolve().parents[1]))
 from tally import TOP, Tally
 
 IMPORT = re.compile(r"ghost use Rattle\.(pocsag_\w+)\.specs\.([\w.]+)\.\{([^}]*)\};")
-GIVEN = re.compile(r"^(?:(?:pub|record|data|abbrev|unfoldable) )+([^\s:{(]+)", re.MULTILINE)
+MODULE_IMPORT = re.compile(r"ghost use Rattle\.(pocsag_\w+)\.specs\.([\w.]+) as (\w+);")
+GIVEN = re.compile(r"(?:(?:pub|record|data|abbrev|unfoldable) )+([^\s:{(]+)")
+CITED = re.compile(r"[A-Za-z_][\w']*(?:-\w+)*(?:\.[A-Za-z_][\w']*(?:-\w+)*)*")
 IGNORED_CRATES = {"pocsag_bench", "pocsag_cases", "pocsag_trial"}
 
 
@@ -29,7 +31,8 @@ def passed_on(root):
 
 
 def imports(text):
-    """Each word of specs/ that the file may cite, by the name that it has there."""
+    """Each word of specs/ that the file may cite, by the name that it has there: `name`, or `module.name` where
+    the module is imported under a name of its own."""
     words = {}
     for crate, module, listed in IMPORT.findall(text):
         if module.startswith("declared"):
@@ -38,6 +41,10 @@ def imports(text):
             name, _, alias = item.strip().partition(" as ")
             if name:
                 words[alias or name] = (crate, module, name)
+    for crate, module, alias in MODULE_IMPORT.findall(text):
+        if not module.startswith("declared"):
+            for name in re.findall(rf"(?<![\w.]){alias}\.(\w[\w'-]*)", text):
+                words[f"{alias}.{name}"] = (crate, module, name)
     return words
 
 
@@ -52,7 +59,7 @@ def clauses(text, public, is_program):
             holder, holder_is_public = opened[2], is_trait or opened[2] in public
         elif line == "}":
             holder, holder_is_public, is_trait = None, False, False
-        found = re.match(r"\s*(pub )?(?:const )?fn (\w+)", line)
+        found = re.match(r"\s*(pub )?(?:const )?(?:extern \"C\" )?fn (\w+)", line)
         if not found:
             continue
         name = found[2]
@@ -74,22 +81,62 @@ def contract_from(lines, place):
             return
 
 
+def given_in(file):
+    """The names that a file of specs/ gives, those of its blocks `mutual` too."""
+    names, block = set(), ""
+    for line in file.read_text().split("\n"):
+        if line[:1].strip():
+            block = line
+        given = GIVEN.match(line if block == line else line.strip() if block == "mutual" else "")
+        names.update(given.groups() if given else [])
+    return names - {"mod", "use", "mutual"}
+
+
 def check_meanings(tally):
     """Wants each name that is given in specs/ to be given in one module alone."""
     givers = {}
     for file in sorted(TOP.glob("crates/*/specs/*.antt")):
-        for name in set(GIVEN.findall(file.read_text())) - {"mod", "use", "mutual"}:
+        for name in given_in(file):
             givers.setdefault(name, []).append(f"{file.parts[-3]}.specs.{file.stem}")
     for name, modules in sorted(givers.items()):
         is_operator = "◌" in name
         tally.check(f"one meaning of {name}", is_operator or len(modules) == 1, f"given in {', '.join(modules)}")
 
 
-def main():
-    tally = Tally()
-    check_meanings(tally)
-    page = (TOP / "docs/DEFINITIONS.md").read_text()
-    rows = {word for quoted in re.findall(r"`([^`]+)`", page) for word in re.findall(r"[\w']+", quoted)}
+def quoted_words(text):
+    """The words in the code that a text quotes."""
+    return {word for quoted in re.findall(r"`([^`]+)`", text) for word in re.findall(r"[\w']+", quoted)}
+
+
+def named_files(row, section):
+    """The files of crates that a row of the page names, as (crate, file), and whether each of them is there."""
+    crates = [*section, *re.findall(r"`(pocsag_\w+)`", row)]
+    names = set(re.findall(r"`([\w/]+\.(?:antt|rt))`", row))
+    folders = [(crate, TOP / "crates" / crate / inner) for crate in crates for inner in ("specs", "")]
+    there = {(crate, name) for crate, folder in folders for name in names if (folder / name).exists()}
+    return there, names == {name for _, name in there}
+
+
+def check_page(tally):
+    """Wants each row of docs/DEFINITIONS.md to stand in a table and to name a file that is there; gives for each
+    word of a row its files, as (crate, module)."""
+    places, section, before = {}, [], ""
+    for line in (TOP / "docs/DEFINITIONS.md").read_text().split("\n"):
+        if line.startswith("## "):
+            section = re.findall(r"crates/(\w+)/specs", line)
+        if line.startswith("| ") and not line.startswith("| Name |"):
+            row = f"row {line.split('|')[1].strip()}"
+            files, are_there = named_files(line, section)
+            tally.check(row, before.startswith("|"), "stands in no table")
+            tally.check(row, files and are_there, f"names no file, or one that is not there: {files}")
+            for word in quoted_words(line):
+                places.setdefault(word, set()).update((crate, name.partition(".")[0]) for crate, name in files)
+        before = line
+    return places
+
+
+def wanted_words():
+    """Each word of specs/ that a public clause cites, as (crate, module, name), with a function that cites it."""
     wanted = {}
     for crate in sorted((TOP / "crates").iterdir()):
         if crate.name in IGNORED_CRATES:
@@ -100,10 +147,20 @@ def main():
             text = file.read_text()
             words = imports(text)
             for name, contract in clauses(text, public, not root.exists()):
-                for word in set(re.findall(r"[A-Za-z_][\w']*(?:-\w+)*", contract)) & set(words):
-                    wanted.setdefault(words[word], f"{crate.name}::{name}")
-    for (crate, module, word), cited in sorted(wanted.items()):
-        tally.check(f"{crate}.specs.{module}.{word}", word in rows, f"cited by {cited}, no row in docs/DEFINITIONS.md")
+                for cited in CITED.findall(contract):
+                    for word in {cited, cited.partition(".")[0]} & set(words):
+                        wanted.setdefault(words[word], f"{crate.name}::{name}")
+    return wanted
+
+
+def main():
+    tally = Tally()
+    check_meanings(tally)
+    places = check_page(tally)
+    for (crate, module, word), cited in sorted(wanted_words().items()):
+        told = "the row names another file" if word in places else "no row in docs/DEFINITIONS.md"
+        has_row = (crate, module) in places.get(word, ())
+        tally.check(f"{crate}.specs.{module}.{word}", has_row, f"cited by {cited}: {told}")
     return tally.end()
 
 

@@ -1,6 +1,1 @@
-pub mod Always
-pub mod Commands
-pub mod Faults
-pub mod Lines
 pub mod Paths
-pub mod Showing

@@ -1,5 +1,5 @@
 -- Paths as texts.
-use Rattle.std.specs.Prelude.{◌≡◌, ℕ, ◌<◌, List, [], length, slice_index_or}
+use Rattle.std.specs.Prelude.{◌≡◌, ℕ, ◌<◌, List, [], ◌∷◌, length, slice_index_or, Option, Some, None}
 
 -- One of the texts before the place is that at the place.
 pub record IsNamedBefore (texts : List (List ℕ)) (later : ℕ) : Type 0 where
@@ -12,3 +12,8 @@ pub record HasEqual (texts : List (List ℕ)) : Type 0 where
   pub later : ℕ
   pub within : later < length texts
   pub before : IsNamedBefore texts later
+
+-- The paths that a plan names: that of a page file, if there is one, and those of its two outputs.
+abbrev pub paths_of : {X : Type 0} → Option X → (tx cert : X) → List X
+paths_of None tx cert = tx ∷ cert ∷ []
+paths_of (Some pages) tx cert = pages ∷ tx ∷ cert ∷ []

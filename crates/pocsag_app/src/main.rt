@@ -1,33 +1,23 @@
 #![tactic(auto)]
 //! The program `pocsag`: reads its words, opens its files, and calls the command.
 
-mod always;
-mod checking;
-mod commands;
 mod devices;
-mod edits;
-mod fault;
 mod files;
-mod lines;
+mod keeping;
+mod misuse;
 mod obeying;
-mod opening;
 mod paths;
-mod receiving;
-mod showing;
-mod tell;
-#[cfg(test)]
-mod tests;
-mod verifying;
-mod view;
+mod planning;
+mod streams;
 mod words;
 
 use crate::devices::WriterSink;
-use crate::fault::Fault;
 use crate::obeying::obey;
-use crate::tell::tell_fault;
 use crate::words::order_of;
 use clap::Error;
 use clap::error::ErrorKind;
+use pocsag_commands::{Fault, tell_fault};
+use pocsag_words::Sink;
 use std::alloc::Global;
 use std::env;
 use std::io::ErrorKind as IoErrorKind;
@@ -61,7 +51,7 @@ fn run(rt: &HostRuntime) -> u8 {
 }
 
 // What clap refuses is a mistake in the words, its help is what was asked for.
-fn refuse<E: pocsag_words::Sink>(rt: &HostRuntime, error: Error, err: &mut E) -> u8 {
+fn refuse<E: Sink>(rt: &HostRuntime, error: Error, err: &mut E) -> u8 {
     if error.kind() == ErrorKind::OutOfMemory {
         return tell_fault(err, Fault::OutOfMemory);
     }

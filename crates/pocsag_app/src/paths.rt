@@ -1,6 +1,8 @@
-ghost use Rattle.std.specs.Prelude.{◌↔◌, ◌<◌, IsTrue, length, map};
-ghost use Rattle.pocsag_app.specs.Paths.{HasEqual, IsNamedBefore};
+ghost use Rattle.std.specs.Prelude.{◌↔◌, ◌<◌, IsErrOf, IsTrue, length, map};
+ghost use Rattle.pocsag_commands.specs.declared.fault.Fault.TheVariants.{EqualPaths};
+ghost use Rattle.pocsag_app.specs.Paths.{HasEqual, IsNamedBefore, paths_of};
 
+use pocsag_commands::Fault;
 use std::fs::{self, Metadata};
 use std::os::unix::fs::MetadataExt;
 use std::rt::Files;
@@ -18,8 +20,8 @@ fn is_named_before(paths: &[&str], place: usize) -> bool
     false
 }
 
-/// Whether two of the paths are equal texts.
-pub fn equal_paths(paths: &[&str]) -> bool
+// Whether two of the paths are equal texts.
+fn equal_paths(paths: &[&str]) -> bool
     ensures { IsTrue result ↔ HasEqual (map (λ path. path.now) paths.now) }
 {
     for place in 0..paths.len() {
@@ -28,6 +30,20 @@ pub fn equal_paths(paths: &[&str]) -> bool
         }
     }
     false
+}
+
+/// Refuses paths of which two are equal texts: that of a page file, if there is one, and those of two outputs.
+pub fn refuse_equal(pages: Option<&str>, tx: &str, cert: &str) -> Result<(), Fault>
+    ensures { HasEqual (map (λ path. path.now) (paths_of pages.entry tx.entry cert.entry)) ↔ IsErrOf result EqualPaths }
+{
+    let equal = match pages {
+        Some(pages) => equal_paths(&[pages, tx, cert]),
+        None => equal_paths(&[tx, cert]),
+    };
+    if equal {
+        return Err(Fault::EqualPaths);
+    }
+    Ok(())
 }
 
 /// Which file a path names now, where it names one: a second spelling of a path, or a link, names

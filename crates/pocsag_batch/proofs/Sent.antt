@@ -1,6 +1,6 @@
 -- A transmission on its way through a piece.
 use Rattle.std.proofs.Common.{◌≡◌, ℕ, suc, ◌+◌, ◌%◌, ◌<◌, ◌≤◌, ◌==◌, Bool, true, false, cond, List, [], ◌∷◌, ◌++◌, length, replicate, refl, sym, ap, ◌∙◌, arith, append_assoc}
-use Rattle.std.proofs.lemmas.List.{append-nil}
+use Rattle.std.proofs.lemmas.List.{append-nil, length-append}
 use Rattle.std.specs.Prelude.{if◌then◌else◌}
 use Rattle.std.specs.List.{flat_map}
 use Rattle.std.specs.Int.{to_be_bytes, w32}
@@ -53,6 +53,26 @@ bytes_append ws vs =
     ∙ (sym (append_assoc (replicate 72 0xaa) (body_from 0 ws) (body_from (length ws % 16) vs))
     ∙ ap (λ v. v ++ body_from (length ws % 16) vs) (sym (bytes_are ws))))
 
+-- one codeword more
+pub bytes_more : (came : List ℕ) (slot w : ℕ) → slot ≡ length came % 16 → bytes_of (came ++ w ∷ []) ≡ bytes_of came ++ slot_bytes slot w
+bytes_more came slot w at =
+    bytes_append came (w ∷ [])
+    ∙ (ap (λ v. bytes_of came ++ v) (append-nil (slot_bytes (length came % 16) w))
+    ∙ ap (λ n. bytes_of came ++ slot_bytes n w) (sym at))
+
+-- the calls so far and the bytes that are held, by the bytes of the codewords that came
+pub called_first : (calls : ℕ) (piece : List ℕ) → piece ≡ replicate 72 0xaa → calls + length piece ≤ calls + length (bytes_of [])
+called_first calls piece e = let n = ap length e in let m = ap length (bytes_are []) in omega arith
+
+pub called_more : (before calls now : ℕ) (piece next came : List ℕ) (slot w : ℕ) → slot ≡ length came % 16 →
+    calls + length piece ≤ before + length (bytes_of came) →
+    now + length next ≤ calls + (length piece + length (slot_bytes slot w)) →
+    now + length next ≤ before + length (bytes_of (came ++ w ∷ []))
+called_more before calls now piece next came slot w at so_far more =
+    let n = ap length (bytes_more came slot w at) in
+    let m = length-append (bytes_of came) (slot_bytes slot w) in
+    omega arith
+
 pub sent_first : (tells : Type 0) (before piece : List ℕ) → piece ≡ replicate 72 0xaa → IsSent tells before before piece []
 sent_first tells before piece e = record {
   grown = λ t. omega arith;
@@ -70,8 +90,5 @@ sent_more tells before taken piece came slot w taken' piece' at so_far more next
       next t
       ∙ (ap (λ v. v ++ slot_bytes slot w) (so_far.sent t)
       ∙ (append_assoc before (bytes_of came) (slot_bytes slot w)
-      ∙ ap (λ v. before ++ v)
-      (ap (λ n. bytes_of came ++ slot_bytes n w) at
-      ∙ (ap (λ v. bytes_of came ++ v) (sym (append-nil (slot_bytes (length came % 16) w)))
-      ∙ sym (bytes_append came (w ∷ []))))));
+      ∙ ap (λ v. before ++ v) (sym (bytes_more came slot w at))));
 }

@@ -1,12 +1,12 @@
 -- The codewords that an iterator gave, of those that it had to give.
 use Rattle.std.proofs.Common.{◌≡◌, ℕ, ◌%◌, ◌≤◌, List, [], ◌∷◌, ◌++◌, length, map, take, refl, sym, ap, ◌∙◌, All, arith, append_assoc}
-use Rattle.std.proofs.lemmas.List.{length-take, take-append-le}
+use Rattle.std.proofs.lemmas.List.{length-append, length-take, take-append-le}
 use Rattle.std.proofs.lemmas.List.Elements.{All-head, All-tail}
 use Rattle.std.proofs.lemmas.Iterator.{YieldsList, items_from_drains}
 use Rattle.std.specs.Iterator.{AlwaysYields, Drains, Yields}
 use Rattle.std.specs.Prelude.{Option}
 use Rattle.pocsag_words.specs.Codeword.{IsCodeword}
-use Rattle.pocsag_words.specs.Devices.{TookPrefix}
+use Rattle.pocsag_words.specs.Devices.{CallsPerByte, TookPrefix}
 use Rattle.pocsag_words.specs.Kinds.{kind_of}
 use Rattle.pocsag_words.specs.declared.codeword.Kind.{Kind}
 use Rattle.pocsag_pages.specs.Bytes.{bytes_of}
@@ -49,6 +49,14 @@ took_longer before after came left (grown, part) =
     ap (λ x. before ++ x) (bytes_append came left) ∙ sym (append_assoc before (bytes_of came) more) in
     (grown, ap (take (length after)) whole ∙ (take-append-le (length after) (before ++ bytes_of came) more short ∙ part))
 
+-- the calls for the first codewords are no more than those for all
+pub called_longer : (before after : ℕ) (came left : List ℕ) → CallsPerByte before after (bytes_of came)
+    → CallsPerByte before after (bytes_of (came ++ left))
+called_longer before after came left h =
+    let n = ap length (bytes_append came left) in
+    let m = length-append (bytes_of came) (body_from (length came % 16) left) in
+    omega arith
+
 -- the first of the codewords, and the others
 say_split : SameFromKind → (w : ℕ) (left : List Kind) (ws : List ℕ) → IsCodeword w → Say (kind_of w ∷ left) ws
     → (rest : List ℕ) × (ws ≡ w ∷ rest) × Say left rest
@@ -74,3 +82,10 @@ pub sends_part : SameFromKind → (said : List Kind) (before after came : List �
 sends_part same said before after came left (ws, say) are e part =
     let found = say_prefix same came left ws are (record { codewords = say.codewords; kinds = say.kinds ∙ e }) in
     record { words = ws; say = say; part = rw (found.1) (took_longer before after came found.0 part) }
+
+pub called_part : SameFromKind → (said : List Kind) (before after : ℕ) (came : List ℕ) (left : List Kind) → IsSayable said → All IsCodeword came →
+    said ≡ map kind_of came ++ left → CallsPerByte before after (bytes_of came) →
+    (words : List ℕ) × Say said words × CallsPerByte before after (bytes_of words)
+called_part same said before after came left (ws, say) are e calls =
+    let found = say_prefix same came left ws are (record { codewords = say.codewords; kinds = say.kinds ∙ e }) in
+    (ws, say, rw (found.1) (called_longer before after came found.0 calls))

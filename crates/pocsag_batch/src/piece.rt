@@ -1,7 +1,7 @@
-ghost use Rattle.std.specs.Prelude.{◌≡◌, ◌≤◌, [], ◌++◌, length, replicate, OnOk, OnErr};
+ghost use Rattle.std.specs.Prelude.{◌≡◌, ◌+◌, ◌≤◌, [], ◌++◌, length, replicate, OnOk, OnErr};
 ghost use Rattle.std.specs.Int.{to_be_bytes, w32};
 ghost use Rattle.pocsag_words.specs.Codeword.{IsCodeword};
-ghost use Rattle.pocsag_words.specs.Devices.{CountsFailures, TookPrefix};
+ghost use Rattle.pocsag_words.specs.Devices.{CallsPerByte, CountsFailures, TookPrefix};
 ghost use Rattle.pocsag_batch.specs.Sending.{slot_bytes};
 
 use pocsag_pages::SYNC_WORD;
@@ -87,6 +87,8 @@ fn make_room<S: Sink>(piece: &mut Piece, sink: &mut S) -> Result<(), DeviceFault
     ensures same { S.tells → OnOk result (S.taken sink.new ++ piece.new ≡ S.taken sink.old ++ piece.old) }
     ensures grown { S.tells → OnOk result (length (S.taken sink.old) ≤ length (S.taken sink.new)) }
     ensures part { S.tells → OnErr result (TookPrefix (S.taken sink.old) (S.taken sink.new) piece.old) }
+    ensures calls { OnOk result (S.calls sink.new + length piece.new ≤ S.calls sink.old + length piece.old) }
+    ensures tried { OnErr result (CallsPerByte (S.calls sink.old) (S.calls sink.new) piece.old) }
     ensures failures { CountsFailures result (S.failures sink.old) (S.failures sink.new) }
 {
     if piece.len() > PIECE - 8 {
@@ -107,6 +109,9 @@ pub(crate) fn put_word<S: Sink>(
     ensures codeword { OnOk result (IsCodeword word) }
     ensures grown { S.tells → OnOk result (length (S.taken sink.old) ≤ length (S.taken sink.new)) }
     ensures part { S.tells → OnErr result (TookPrefix (S.taken sink.old) (S.taken sink.new) piece.old) }
+    ensures calls { OnOk result
+        (S.calls sink.new + length piece.new ≤ S.calls sink.old + (length piece.old + length (slot_bytes slot word))) }
+    ensures tried { OnErr result (CallsPerByte (S.calls sink.old) (S.calls sink.new) piece.old) }
     ensures failures { CountsFailures result (S.failures sink.old) (S.failures sink.new) }
 {
     make_room(piece, sink)?;

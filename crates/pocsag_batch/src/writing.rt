@@ -1,9 +1,9 @@
 ghost use Rattle.std.specs.Prelude.{◌≡◌, ℕ, List, ◌++◌, All, OnOk, OnErr};
 ghost use Rattle.std.specs.Iterator.{Drains, IsFinite, Yields};
 ghost use Rattle.pocsag_words.specs.Codeword.{IsCodeword};
-ghost use Rattle.pocsag_words.specs.Devices.{CountsFailures, Delivers, TookPrefix};
+ghost use Rattle.pocsag_words.specs.Devices.{CallsPerByte, CountsFailures, Delivers, TookPrefix};
 ghost use Rattle.pocsag_pages.specs.Bytes.{bytes_of};
-ghost use Rattle.pocsag_batch.specs.Saying.{Sends, SendsPart};
+ghost use Rattle.pocsag_batch.specs.Saying.{Say, Sends, SendsPart};
 
 use crate::batches::Batches;
 use crate::piece::{Piece, put_word};
@@ -20,6 +20,10 @@ fn write_words<S: Sink, I: Iterator<Item = Word>>(words: I, sink: &mut S) -> Res
         (S.taken sink.new ≡ S.taken sink.old ++ bytes_of ws)) }
     ensures part { S.tells → OnErr result ((ws : List ℕ) × (left : I) × Yields I.next_gives words ws left × All IsCodeword ws ×
         TookPrefix (S.taken sink.old) (S.taken sink.new) (bytes_of ws)) }
+
+    // No call of the writer is without a byte to write.
+    ensures calls { (ws : List ℕ) × (left : I) × Yields I.next_gives words ws left × All IsCodeword ws ×
+        CallsPerByte (S.calls sink.old) (S.calls sink.new) (bytes_of ws) }
     ensures failures { CountsFailures result (S.failures sink.old) (S.failures sink.new) }
 {
     let mut piece = Piece::new();
@@ -35,6 +39,7 @@ fn write_words<S: Sink, I: Iterator<Item = Word>>(words: I, sink: &mut S) -> Res
 /// synchronisation codeword, high byte first. After `WriteFault` a prefix of it was taken.
 pub fn write<S: Sink>(batches: &Batches, sink: &mut S) -> Result<(), WriteFault>
     ensures delivers { S.tells → Delivers result (S.taken sink.old) (S.taken sink.new) (bytes_of batches.now) }
+    ensures calls { CallsPerByte (S.calls sink.old) (S.calls sink.new) (bytes_of batches.now) }
     ensures failures { CountsFailures result (S.failures sink.old) (S.failures sink.new) }
 {
     match write_words(batches.words().iter().copied(), sink) {
@@ -48,6 +53,7 @@ pub fn write<S: Sink>(batches: &Batches, sink: &mut S) -> Result<(), WriteFault>
 pub fn write_slots<S: Sink>(slots: Slots<'_>, sink: &mut S) -> Result<(), WriteFault>
     ensures whole { S.tells → OnOk result (Sends slots.entry (S.taken sink.old) (S.taken sink.new)) }
     ensures part { S.tells → OnErr result (SendsPart slots.entry (S.taken sink.old) (S.taken sink.new)) }
+    ensures calls { (words : List ℕ) × Say slots.entry words × CallsPerByte (S.calls sink.old) (S.calls sink.new) (bytes_of words) }
     ensures failures { CountsFailures result (S.failures sink.old) (S.failures sink.new) }
 {
     slots.are_sayable();

@@ -13,23 +13,15 @@ use Rattle.pocsag_slots.specs.Numbering.{class_rest, start_of}
 use Rattle.pocsag_slots.specs.Sums.{holds, sum_over}
 use Rattle.pocsag_slots.proofs.LeastLemmas.{overload_is}
 use Rattle.pocsag_slots.proofs.LoadLemmas.{covered_by, load_few, rest_below}
-use Rattle.pocsag_slots.proofs.SumLemmas.{sum_below-le, sum_over-same, sum_over-times, term-le-sum_below}
+use Rattle.pocsag_slots.proofs.SumLemmas.{sum_over-le, sum_over-same, sum_over-times, term-le-sum_below}
 use Rattle.pocsag_tree.specs.Spelling.{IsSet}
 use Rattle.pocsag_slots.proofs.CoverLemmas.{start_below}
-use Rattle.pocsag_branch.specs.Examined.{Refuses}
+use Rattle.pocsag_branch.specs.Shape.{RefusesOneLess}
 use Rattle.pocsag_branch.specs.Found.{HasPage}
 
 -- how many members a set has
 abbrev members : ℕ → ℕ
 members set = sum_over set (λ slot. 1)
-
-part-le : (b : Bool) (x y : ℕ) → x ≤ y → cond b x 0 ≤ cond b y 0
-part-le true x y h = h
-part-le false x y h = omega arith
-
-sum_over-le : (set : ℕ) (f g : ℕ → ℕ) → ((slot : ℕ) → slot < 16 → f slot ≤ g slot) → sum_over set f ≤ sum_over set g
-unfolding sum_over
-sum_over-le set f g h = sum_below-le 16 _ _ (λ slot l. part-le (holds set slot) (f slot) (g slot) (h slot l))
 
 sum_over-all : (set x : ℕ) → sum_over set (λ slot. x) ≡ x * members set
 sum_over-all set x = sum_over-same set (λ slot. x) (λ slot. x * 1) (λ slot l. omega arith) ∙ sum_over-times set x (λ slot. 1)
@@ -90,7 +82,7 @@ module _ (k : Classes) (batches set least share : ℕ) (over : Overloads k (limi
             absurd (omega (arith, least_most))
       ]
 
-  pub share_refuses : IsSet set → share ≡ least / members set + min 1 (least % members set) → Refuses k share set
+  pub share_refuses : IsSet set → share ≡ least / members set + min 1 (least % members set) → RefusesOneLess k share set
   share_refuses is_set is =
       let more : batches < share = share_more is in
       let ceil = div_ceil_times least (members set) has_members in
@@ -110,7 +102,7 @@ module _ (k : Classes) (batches set least share : ℕ) (over : Overloads k (limi
       add_one_times q s = omega arith
 
 -- the least number of batches
-pub least_is_least : (k : Classes) (b set : ℕ) (choice : ℕ → ℕ) → Refuses k b set → IsAdmitted k (limits_of_all k b) choice → IsLeast k b
+pub least_is_least : (k : Classes) (b set : ℕ) (choice : ℕ → ℕ) → RefusesOneLess k b set → IsAdmitted k (limits_of_all k b) choice → IsLeast k b
 least_is_least k b set choice refuses admitted =
     record {
       carried = record {

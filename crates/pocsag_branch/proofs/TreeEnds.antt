@@ -28,11 +28,11 @@ use Rattle.pocsag_tour.specs.Reached.{IsApart, IsReached, at_start, by_idle, IsU
 use Rattle.pocsag_slots.proofs.CoverLemmas.{start_below}
 use Rattle.pocsag_branch.proofs.OpenWays.{closing_ways_fall}
 use Rattle.pocsag_branch.specs.declared.question.Question.{Question}
-use Rattle.pocsag_branch.specs.Examined.{IsRefuted, IsTreeOf, Refuses}
+use Rattle.pocsag_branch.specs.Examined.{IsRefuted, IsTreeOf}
 use Rattle.pocsag_branch.specs.Found.{IsBound}
 use Rattle.pocsag_branch.specs.Freed.{IsFreeTree}
 use Rattle.pocsag_branch.specs.Marks.{has_open, have_open, opens, opens_in}
-use Rattle.pocsag_branch.specs.Shape.{IsShaped}
+use Rattle.pocsag_branch.specs.Shape.{IsOneOverload, RefusesOneLess}
 use Rattle.pocsag_branch.specs.Undecided.{AreNodeLimits, Falls, class_left, slot_left, undecided}
 
 -- at most 288 questions are open
@@ -215,7 +215,7 @@ tree_whole k q t of whole =
 pub tree_open : (k : Classes) (q : Question) (t : Bound) → IsTreeOf k q t → IsAccepted true k q.end (q.batches + 1) t
 tree_open k q t of = refuted_accepted true k q.end q.batches t of.examined.refuted
 
-pub set_refutes : (k : Classes) (end : End) (b set : ℕ) → Refuses k b set → IsAccepted false k end b (overload set)
+pub set_refutes : (k : Classes) (end : End) (b set : ℕ) → RefusesOneLess k b set → IsAccepted false k end b (overload set)
 set_refutes k end b set refuses =
     record { some = refuses.some; shallow = omega arith; root = (refuses.slots, refuses.over) }
 
@@ -261,12 +261,18 @@ pub record IsLeastTree (k : Classes) (end : End) (b limit : ℕ) (t : Bound) : T
   pub accepted : IsAccepted false k end b t
   pub examined : opens t ≡ replicate (closed_nodes t) false
   pub few : closed_nodes t ≤ limit
-  pub shaped : IsShaped k b (limits_of_all k b) t
+  pub one : IsOneOverload k b t
 
-pub least_tree : (k : Classes) (end : End) (b limit set : ℕ) → 1 ≤ limit → Refuses k b set →
+pub least_tree : (k : Classes) (end : End) (b limit set : ℕ) → 1 ≤ limit → RefusesOneLess k b set →
     IsLeastTree k end b limit (bound_of (Overload set))
 least_tree k end b limit set some refuses =
-    rw (bound_of-overload set) (record { accepted = set_refutes k end b set refuses; examined = refl; few = some; shaped = tt })
+    rw (bound_of-overload set)
+    (record {
+      accepted = set_refutes k end b set refuses;
+      examined = refl;
+      few = some;
+      one = record { set = set; refuses = refuses; one_node = refl };
+    })
 
 pub free_whole : (k : Classes) (q : Question) (t : Bound) → IsFreeTree k q t → IsAccepted false k q.end (q.batches + 1) t
 free_whole k q t of = refuted_accepted false k q.end q.batches t of.refuted

@@ -1,5 +1,5 @@
 -- What the search owes node by node.
-use Rattle.std.specs.Prelude.{◌≡◌, ℕ, ◌+◌, ◌-◌, ◌^◌, ◌<◌, ◌≤◌, Bool, true, false, IsTrue, List, ◌++◌, All, replicate, slice_index}
+use Rattle.std.specs.Prelude.{◌≡◌, ℕ, ◌+◌, ◌^◌, ◌<◌, ◌≤◌, Bool, true, false, IsTrue, List, ◌++◌, All, replicate, slice_index}
 use Rattle.pocsag_words.specs.declared.ending.End.{End}
 use Rattle.pocsag_slots.specs.declared.class.Classes.{Classes}
 use Rattle.pocsag_slots.specs.declared.limit.Limits.{Limits}
@@ -27,12 +27,6 @@ use Rattle.pocsag_branch.specs.Undecided.{Falls, IsSplitPoint, undecided}
 -- No round's least number of batches is greater.
 abbrev pub greatest_least : ℕ
 greatest_least = 1760000
-
--- The set refuses one batch less.
-pub record Refuses (k : Classes) (batches set : ℕ) : Type 0 where
-  pub some : 0 < batches
-  pub slots : IsSet set
-  pub over : Overloads k (limits_of_all k (batches - 1)) set
 
 -- A choice and its tour for the end with so many batches.
 pub record IsAnswer (k : Classes) (end : End) (batches : ℕ) (answer : Answer) : Type 0 where

@@ -14,7 +14,7 @@ use Rattle.pocsag_branch.specs.declared.answer.Found.{Found}
 use Rattle.pocsag_branch.specs.declared.fault.SearchFault.{SearchFault}
 use Rattle.pocsag_branch.specs.declared.fault.SearchFault.TheVariants.{SearchLimit, OutOfMemory}
 use Rattle.pocsag_branch.specs.Marks.{opens}
-use Rattle.pocsag_branch.specs.Shape.{IsShaped}
+use Rattle.pocsag_branch.specs.Shape.{IsSearchTree, IsShaped}
 
 -- A limit of nodes that can be asked for (this project's own).
 pub record IsNodeLimit (limit : ℕ) : Type 0 where
@@ -50,10 +50,11 @@ pub record IsFound (k : Classes) (end : End) (limit : ℕ) (found : Found) : Typ
   -- the checker accepts the tree, which is at most 300 deep, so no transmission has fewer batches;
   pub accepted : IsAccepted false k end found.batches (bound_of found.tree)
   pub bound : IsBound k end found.batches
-  -- the tree has no `Open`, at most so many nodes, and the promised shape.
+  -- the tree has no `Open`, at most so many nodes, and the promised shape: where the batches are the least,
+  -- it is one `Overload`.
   pub examined : opens (bound_of found.tree) ≡ replicate (closed_nodes (bound_of found.tree)) false
   pub few : closed_nodes (bound_of found.tree) ≤ limit
-  pub shaped : IsShaped k least (limits_of_all k least) (bound_of found.tree)
+  pub shaped : IsSearchTree k least found.batches (bound_of found.tree)
 
 -- *Search limit*: what `SearchLimit` says.
 pub record IsLimit (k : Classes) (end : End) (limit least found : ℕ) (tree : Bound) : Type 0 where

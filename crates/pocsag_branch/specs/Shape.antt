@@ -1,13 +1,14 @@
 -- *Shape of the search's trees*, this project's own: under which limits the nodes of a tree stand, where
 -- so many batches are asked for.
-use Rattle.std.specs.Prelude.{◌≡◌, ℕ, ◌<◌, true, false, List, [], ◌∷◌, slice_index}
+use Rattle.std.specs.Prelude.{◌≡◌, ℕ, ◌+◌, ◌-◌, ◌<◌, true, false, List, [], ◌∷◌, slice_index}
 use Rattle.pocsag_tree.specs.Bounds.{Bound, Bounds, overload, split, cut, close, unexamined, none, more}
 use Rattle.pocsag_slots.specs.declared.class.Classes.{Classes}
 use Rattle.pocsag_slots.specs.declared.limit.Limits.{Limits}
 use Rattle.pocsag_slots.specs.declared.way.Way.{Way}
-use Rattle.pocsag_slots.specs.Loads.{IsAdmitted}
+use Rattle.pocsag_slots.specs.Loads.{IsAdmitted, Overloads, limits_of_all}
 use Rattle.pocsag_slots.specs.Ways.{class_certain, ways_across, ways_to_close, narrowed_limits, limits_below, limits_from}
 use Rattle.pocsag_tour.specs.Reached.{HasRunOutside, IsApart, IsUnclosed}
+use Rattle.pocsag_tree.specs.Spelling.{IsSet}
 
 -- No class is certain for the set.
 abbrev pub NoneCertain : Classes → Limits → ℕ → Type 0
@@ -60,3 +61,22 @@ abbrev mutual
   AreShaped k batches l (w ∷ ws) none = ⊥
   AreShaped k batches l (w ∷ ws) (more t ts) =
       IsShaped k batches (narrowed_limits k l w batches) t × AreShaped k batches l ws ts
+
+-- The set refuses one batch less: each choice loads it above what its slots hold in so many batches but one.
+pub record RefusesOneLess (k : Classes) (batches set : ℕ) : Type 0 where
+  pub some : 0 < batches
+  pub slots : IsSet set
+  pub over : Overloads k (limits_of_all k (batches - 1)) set
+
+-- The tree is one `Overload`, of a set that refuses one batch less.
+pub record IsOneOverload (k : Classes) (batches : ℕ) (tree : Bound) : Type 0 where
+  pub set : ℕ
+  pub refuses : RefusesOneLess k batches set
+  pub one_node : tree ≡ overload set
+
+-- A tree of the search, where some choice of starts needs `least` batches at least, and so many are answered.
+pub data IsSearchTree (k : Classes) (least batches : ℕ) (tree : Bound) : Type 0 where
+  -- Where the least is answered, the tree is one `Overload`, of a set that refuses one batch less;
+  at_least : batches ≡ least → IsOneOverload k least tree → IsSearchTree k least batches tree
+  -- and where one batch more is, each node stands where the shape allows it, under the limits of the least.
+  one_more : batches ≡ least + 1 → IsShaped k least (limits_of_all k least) tree → IsSearchTree k least batches tree

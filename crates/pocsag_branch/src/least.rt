@@ -1,8 +1,9 @@
 ghost use Rattle.std.specs.Prelude.{◌<◌, ◌≤◌, slice_index};
 ghost use Rattle.pocsag_slots.specs.Loads.{IsAdmitted, IsLeast, limits_of_all, Overloads};
 ghost use Rattle.pocsag_tree.specs.Spelling.{IsSet};
-ghost use Rattle.pocsag_branch.specs.Examined.{greatest_least, Refuses};
+ghost use Rattle.pocsag_branch.specs.Examined.{greatest_least};
 ghost use Rattle.pocsag_branch.specs.Found.{HasPage};
+ghost use Rattle.pocsag_branch.specs.Shape.{RefusesOneLess};
 
 use pocsag_flow::{ChooseFault, choose};
 use pocsag_slots::{Choice, Classes, all_limits, least_load, size};
@@ -20,7 +21,7 @@ pub(crate) struct Least {
 fn share(classes: &Classes, batches: u32, set: u16) -> u32
     requires set { IsSet set }
     requires over { Overloads classes.now (limits_of_all classes.now batches) set }
-    ensures refuses { Refuses classes.now result set }
+    ensures refuses { RefusesOneLess classes.now result set }
     ensures more { batches < result }
     ensures bound { result ≤ greatest_least }
 {
@@ -32,7 +33,7 @@ fn share(classes: &Classes, batches: u32, set: u16) -> u32
 #[tactic(auto, using(crate::proofs::Sharing::nothing_fits))]
 pub(crate) fn least_of(classes: &Classes) -> Least
     requires { HasPage classes.now }
-    ensures refuses { Refuses classes.now result.batches result.set }
+    ensures refuses { RefusesOneLess classes.now result.batches result.set }
     ensures admitted { IsAdmitted classes.now (limits_of_all classes.now result.batches) (slice_index result.choice.early) }
     ensures least { IsLeast classes.now result.batches }
     ensures bound { result.batches ≤ greatest_least }

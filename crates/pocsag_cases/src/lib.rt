@@ -11,6 +11,8 @@ mod branch_tests;
 #[cfg(test)]
 mod check_tests;
 #[cfg(test)]
+mod command_tests;
+#[cfg(test)]
 mod decode_tests;
 #[cfg(test)]
 mod fault_texts;
@@ -18,6 +20,8 @@ mod fault_texts;
 mod flow_tests;
 #[cfg(test)]
 mod given;
+#[cfg(test)]
+mod open_tests;
 #[cfg(test)]
 mod page_tests;
 #[cfg(test)]

@@ -19,7 +19,7 @@ pub data Crossed : ℕ → ℕ → List Step → Type 0 where
 pub record IsInside (set : ℕ) (ss : List Step) : Type 0 where
   pub each : (c : ℕ) (e : Bool) → 0 < runs c e ss → run_touches c e set ≡ false
 
-idle_leaves : (set p : ℕ) → holds set p ≡ true → holds set ((p + 1) % 16) ≡ false → idle_crosses p set ≡ true
+pub idle_leaves : (set p : ℕ) → holds set p ≡ true → holds set ((p + 1) % 16) ≡ false → idle_crosses p set ≡ true
 unfolding idle_crosses
 idle_leaves set p here there = rw (here, there) refl
 

@@ -15,6 +15,7 @@ use Rattle.pocsag_slots.specs.Loads.{IsAdmitted}
 use Rattle.pocsag_slots.specs.Numbering.{finish_of}
 use Rattle.pocsag_slots.specs.Tours.{IsTour, LastIsWhole, Leads, idles}
 use Rattle.pocsag_slots.specs.Ways.{run_touches, class_certain, ways_across, ways_to_close, narrowed_limits, limits_below, limits_from}
+use Rattle.pocsag_slots.proofs.CoverLemmas.{finish_below}
 use Rattle.pocsag_check.specs.Accepting.{Accepts, AcceptsEach}
 use Rattle.pocsag_check.proofs.Crossing.{IsInside, crosses_or_stays}
 use Rattle.pocsag_check.proofs.Refuting.{AnyTaken, not_overloaded, admitted_below, admitted_from, admitted_narrowed}
@@ -62,17 +63,13 @@ more_run : (p c : ℕ) (e : Bool) (ss : List Step) → EndsBy (finish_of c e) ss
 more_run p c e ss (by_last_idle h) = by_last_idle h
 more_run p c e ss (by_last_run h) = by_last_run (omega arith)
 
-finish_small : (c : ℕ) (e : Bool) → finish_of c e < 16
-unfolding finish_of
-finish_small c e = omega arith
-
 ends_by : (ss : List Step) (p : ℕ) → p < 16 → Leads p ss 0 → LastIsWhole ss → EndsBy p ss
 ends_by [] p small leads whole = absurd whole
 ends_by (Stay ∷ []) p small leads whole = by_last_idle (let e : p ≡ 15 = omega arith in rw e (omega arith))
 ends_by (Run c e ∷ []) p small leads whole = by_last_run (rw whole.0 (rw whole.1 (omega arith)))
 ends_by (Stay ∷ (t ∷ ss)) p small leads whole = more_idle p (t ∷ ss) (ends_by (t ∷ ss) ((p + 1) % 16) (omega arith) leads whole)
 ends_by (Run c e ∷ (t ∷ ss)) p small leads whole =
-    more_run p c e (t ∷ ss) (ends_by (t ∷ ss) (finish_of c e) (finish_small c e) leads.1 whole)
+    more_run p c e (t ∷ ss) (ends_by (t ∷ ss) (finish_of c e) (finish_below c e) leads.1 whole)
 
 closing_way : (k : Classes) (l : Limits) (choice : ℕ → ℕ) (b : ℕ) (steps : List Step) →
     IsTour k Closed choice b steps → IsAdmitted k l choice → AnyTaken k choice b (ways_to_close k l)

@@ -7,9 +7,8 @@ use Rattle.pocsag_slots.specs.declared.limit.Limits.{Limits}
 use Rattle.pocsag_slots.specs.declared.way.Way.{Way}
 use Rattle.pocsag_slots.specs.declared.way.Way.TheVariants.{IdleIn, Early, Late}
 use Rattle.pocsag_slots.specs.Loads.{IsAdmitted, Overloads, load}
-use Rattle.pocsag_slots.specs.Sums.{sum_over}
 use Rattle.pocsag_slots.specs.Ways.{narrowed_limits, limits_below, limits_from}
-use Rattle.pocsag_slots.proofs.SumLemmas.{sum_below-le}
+use Rattle.pocsag_slots.proofs.SumLemmas.{sum_over-le}
 
 -- what is at least n stays so where one place is changed to what is
 pub low_set : (xs : List ℕ) (c v d n : ℕ) → slice_index xs d ≤ n → (d ≡ c → v ≤ n) → slice_index (slice_set xs c v) d ≤ n
@@ -19,10 +18,6 @@ high_set : (xs : List ℕ) (c v d n : ℕ) → n ≤ slice_index xs d → (d ≡
 high_set xs c v d n h here = grind (arith, cases_eq, get_or-set_other, cases_lt, get_or-set_same, set_past)
 
 -- loads within the caps are so in sum
-sum_over-le : (set : ℕ) (f g : ℕ → ℕ) → ((slot : ℕ) → slot < 16 → f slot ≤ g slot) → sum_over set f ≤ sum_over set g
-unfolding sum_over
-sum_over-le set f g h = grind (arith, sum_below-le)
-
 pub not_overloaded : (k : Classes) (l : Limits) (choice : ℕ → ℕ) (set : ℕ) → IsAdmitted k l choice → Overloads k l set → ⊥
 not_overloaded k l choice set admitted over = grind (arith, sum_over-le)
 

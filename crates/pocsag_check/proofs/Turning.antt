@@ -7,6 +7,7 @@ use Rattle.pocsag_slots.specs.Numbering.{start_of, finish_of}
 use Rattle.pocsag_slots.specs.Sums.{holds, joined_below}
 use Rattle.pocsag_slots.specs.Ways.{class_certain, idle_crosses, run_touches, slot_ways, ways_across}
 use Rattle.pocsag_slots.proofs.CoverLemmas.{finish_below, start_below}
+use Rattle.pocsag_check.proofs.Crossing.{idle_leaves}
 use Rattle.pocsag_check.proofs.Refuted.{certain_is}
 
 -- a test that is false at n and true at m turns true in between
@@ -54,10 +55,6 @@ crossed_in : (set slot : ℕ) → holds set slot ≡ false → holds set ((slot 
 unfolding idle_crosses
 crossed_in set slot here there = rw (here, there) refl
 
-crossed_out : (set slot : ℕ) → holds set slot ≡ true → holds set ((slot + 1) % 16) ≡ false → idle_crosses slot set ≡ true
-unfolding idle_crosses
-crossed_out set slot here there = rw (here, there) refl
-
 one_way : (set slot : ℕ) → idle_crosses slot set ≡ true → 1 ≤ length (slot_ways set slot)
 unfolding slot_ways
 one_way set slot crosses = rw crosses (omega arith)
@@ -98,7 +95,7 @@ two_slots set home out =
     let i_next : i + 1 ≡ (i + 1) % 16 = omega (arith, leaves.below, out.known) in
     let j_here : j % 16 ≡ j = omega (arith, back.below) in
     let first : idle_crosses i set ≡ true =
-    crossed_out set i (not-false (holds set i) leaves.before)
+    idle_leaves set i (not-false (holds set i) leaves.before)
     (rw i_next at (not-true (holds set (i + 1)) leaves.after)) in
     let second : idle_crosses j set ≡ true =
     crossed_in set j (rw j_here at back.before) back.after in

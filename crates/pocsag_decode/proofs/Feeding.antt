@@ -7,7 +7,8 @@ use Rattle.pocsag_decode.specs.declared.fault.DecodeFault.{DecodeFault}
 use Rattle.pocsag_decode.specs.declared.fault.DecodeFault.TheVariants as fault
 use Rattle.pocsag_decode.specs.declared.state.Decoder.{Decoder}
 use Rattle.pocsag_decode.specs.Carried.{size_of}
-use Rattle.pocsag_decode.specs.Faults.{HasFaultThere, HasFaultOfEnd, IsPastPreamble, RefusesPiece, no_memory, fault_there}
+use Rattle.pocsag_decode.specs.Faults.{HasFaultThere, HasFaultOfEnd, RefusesPiece, no_memory, fault_there, words}
+use Rattle.pocsag_decode.specs.Places.{KeepsFrom}
 use Rattle.pocsag_decode.specs.Standing.{StandsAfter, StandsIn}
 use Rattle.pocsag_decode.proofs.Preambles.{begun_leading, begun_after, alone_leading, alone_after, count_is, nil_or}
 use Rattle.pocsag_decode.specs.Taking.{IsWantingOrBad}
@@ -96,11 +97,9 @@ module _ (d : Decoder) (X : List ℕ) (s : StandsAfter d X) where
     refused_short h n =
         fault_there few (HasFaultThere.short (omega arith) (λ z. n (append_nil_right (after_preamble X) rest (sym after ∙ z))))
 
-    past : 72 ≤ new.leading → rest ≢ [] → IsPastPreamble (X ++ Z)
-    past h n = record { long = omega arith; more = λ z. n (append_nil_right (after_preamble X) rest (sym after ∙ z)) }
-
-    pub refused_body : (f : DecodeFault) → 72 ≤ new.leading → rest ≢ [] → length rest ≤ length Z
-        → IsWantingOrBad (words_of (after_preamble X ++ rest)) f → RefusesPiece X Z f
-    refused_body f h n within (inl e) =
-        subst (RefusesPiece X Z) (sym e) (no_memory few (λ z. n (nil_from_length rest (let l = ap length z in omega arith))) (past h n))
-    refused_body f h n within (inr b) = fault_there few (HasFaultThere.bad (omega arith) (rw after b))
+    pub refused_body : (f : DecodeFault) → 72 ≤ new.leading
+        → IsWantingOrBad (length (words_of (after_preamble X))) (words_of (after_preamble X ++ rest)) f → RefusesPiece X Z f
+    refused_body f h (inl w) =
+        let kept : KeepsFrom (words (X ++ Z)) (length (words X)) = rw after w.1 in
+        subst (RefusesPiece X Z) (sym w.0) (no_memory few (omega arith) kept)
+    refused_body f h (inr b) = fault_there few (HasFaultThere.bad (omega arith) (rw after b))

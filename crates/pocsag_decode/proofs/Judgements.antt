@@ -9,7 +9,7 @@ use Rattle.pocsag_words.proofs.ErrorLemmas.{IsCodeword-from_syndrome, syndrome_o
 use Rattle.pocsag_pages.specs.Bytes.{sync_word, leading, after_preamble}
 use Rattle.pocsag_decode.specs.declared.fault.DecodeFault.{DecodeFault}
 use Rattle.pocsag_decode.specs.declared.fault.DecodeFault.TheVariants as fault
-use Rattle.pocsag_decode.specs.Faults.{words, HasFaultThere, HasFaultOfEnd, IsFaultless, IsPastPreamble}
+use Rattle.pocsag_decode.specs.Faults.{words, HasFaultThere, HasFaultOfEnd, IsFaultless}
 use Rattle.pocsag_decode.specs.declared.state.Decoder.{Decoder}
 use Rattle.pocsag_decode.specs.Standing.{StandsAfter}
 use Rattle.pocsag_decode.specs.Places.{is_message, index_at, may_follow, AllMayStand, HasBadWord}
@@ -94,11 +94,6 @@ no_fault_whole X small none = record { small = small; long = long; some = some; 
     | inl e ↦ e
     | inr n ↦ absurd (none fault.Truncated (inr (HasFaultOfEnd.cut long good n)))
   ]
-
-pub faultless_past : (X : List ℕ) → All (λ b. b < 256) X → IsFaultless X → IsPastPreamble X
-faultless_past X small none =
-    let w = no_fault_whole X small none in
-    record { long = w.long; more = λ z. let s = w.some in let l = ap length z in omega arith }
 
 pub whole_no_fault : (X : List ℕ) → IsWhole X → IsFaultless X
 whole_no_fault X h = λ f d. elim d [ inl t ↦ not_there f t | inr t ↦ not_end f t ] where

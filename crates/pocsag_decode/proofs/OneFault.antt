@@ -7,7 +7,7 @@ use Rattle.std.proofs.lemmas.Bool.{cases_order, true≢false}
 use Rattle.pocsag_pages.specs.Bytes.{words_of, after_preamble}
 use Rattle.pocsag_decode.specs.declared.fault.DecodeFault.{DecodeFault}
 use Rattle.pocsag_decode.specs.declared.fault.DecodeFault.TheVariants as fault
-use Rattle.pocsag_decode.specs.Faults.{words, HasFaultThere, HasFaultOfEnd, HasFault, IsPastPreamble, RefusesPiece}
+use Rattle.pocsag_decode.specs.Faults.{words, HasFaultThere, HasFaultOfEnd, HasFault, RefusesPiece, WantsMemory}
 use Rattle.pocsag_decode.specs.Places.{IsBad, no_sync, bad_word, orphan, MayStandAt, AllMayStand, HasBadWord}
 use Rattle.pocsag_decode.proofs.Preambles.{begun_leading, begun_after}
 use Rattle.pocsag_decode.proofs.Words.{bad_on}
@@ -100,11 +100,11 @@ never_there : (X : List ℕ) (f : DecodeFault) → HasFaultThere X f → f ≡ f
 never_there X f (HasFaultThere.short a b) e = cc
 never_there X f (HasFaultThere.bad a b) e = never_at (words X) b.place f b.bad e
 
--- a piece that is refused for want of memory ends past the preamble
-pub wanting_past : (X Z : List ℕ) (f : DecodeFault) → RefusesPiece X Z f → f ≡ fault.OutOfMemory → IsPastPreamble (X ++ Z)
-wanting_past X Z f (RefusesPiece.too_much a) e = absurd (cc)
-wanting_past X Z f (RefusesPiece.no_memory a b p) e = p
-wanting_past X Z f (RefusesPiece.fault_there a t) e = absurd (never_there (X ++ Z) f t e)
+-- bytes that are refused for want of memory have a word that has to be kept
+pub wanting_word : (X : List ℕ) (f : DecodeFault) → RefusesPiece [] X f → f ≡ fault.OutOfMemory → WantsMemory X
+wanting_word X f (RefusesPiece.too_much a) e = absurd (cc)
+wanting_word X f (RefusesPiece.no_memory a b k) e = WantsMemory.at_word b k
+wanting_word X f (RefusesPiece.fault_there a t) e = absurd (never_there X f t e)
 
 -- the fault that is answered is the one that was met
 pub answered : {T : Type 0} (r : Result T DecodeFault) (f g : DecodeFault) → r ≡ Err f → IsErrAnd r (λ e. e ≡ g) → g ≡ f

@@ -1,7 +1,7 @@
 -- Bytes that are sent are whole, and sent from one list of codewords.
 use Rattle.std.proofs.Common.{◌≡◌, ◌≢◌, ℕ, not, ◌+◌, ◌*◌, ◌/◌, ◌%◌, ◌<◌, Bool, List, [], ◌∷◌, ◌++◌, length, map, IsTrue, All, refl, sym, ap, ◌∙◌, subst, inl, inr, arith, append_assoc}
 use Rattle.std.proofs.lemmas.Bool.{cases_eq, eq-eqb, ne_eqb, true≢false}
-use Rattle.std.proofs.lemmas.List.{append-nil}
+use Rattle.std.proofs.lemmas.List.{append-nil, length_push}
 use Rattle.std.proofs.lemmas.List.Elements.{All-head, All-tail}
 use Rattle.pocsag_words.specs.Codeword.{IsCodeword}
 use Rattle.pocsag_words.specs.Kinds.{kind_of}
@@ -15,7 +15,7 @@ use Rattle.pocsag_decode.specs.Faults.{ReadsAs}
 use Rattle.pocsag_decode.specs.Places.{is_message, is_idle, may_follow, AllMayStand}
 use Rattle.pocsag_decode.proofs.Preambles.{Parts, BeginsOther, leading_is, after_is}
 use Rattle.pocsag_decode.proofs.Transmissions.{IsWhole}
-use Rattle.pocsag_decode.proofs.WordByWord.{length_more, good_sync, good_codeword, may_sync, may_codeword}
+use Rattle.pocsag_decode.proofs.WordByWord.{good_sync, good_codeword, may_sync, may_codeword}
 use Rattle.pocsag_pages.proofs.Lengths.{body_length, synced_count, synced_small, words_again}
 use Rattle.pocsag_decode.proofs.Judgements.{none_good}
 
@@ -47,17 +47,17 @@ synced_good (w ∷ T) before i good r at are h =
           let z : length before % 17 ≡ 0 = omega arith in
           let first = before ++ sync_word ∷ [] in
           let first_good : AllMayStand first = good_sync before sync_word good z refl in
-          let first_length : length first ≡ length before + 1 = length_more before sync_word in
+          let first_length : length first ≡ length before + 1 = length_push before sync_word in
           let n : length first % 17 ≢ 0 = omega arith in
           let h' : HasNoOrphan (may_follow first (length first)) (map kind_of (w ∷ T)) = rw (may_sync before sync_word z) h in
-          let next_length : length (first ++ w ∷ []) ≡ length before + 2 = let l = length_more first w in omega arith in
+          let next_length : length (first ++ w ∷ []) ≡ length before + 2 = let l = length_push first w in omega arith in
           rw (eq-eqb _ _ e)
           (subst AllMayStand (append_assoc first (w ∷ []) (synced (i + 1) T) ∙ append_assoc before (sync_word ∷ []) (w ∷ synced (i + 1) T))
           (synced_good T (first ++ w ∷ []) (i + 1) (word_good first w T first_good n are h') (omega arith) (omega arith)
           (All-tail IsCodeword w T are) (rest_follows first w T first_good n are h')))
       | inr m ↦
           let n : length before % 17 ≢ 0 = omega arith in
-          let next_length : length (before ++ w ∷ []) ≡ length before + 1 = length_more before w in
+          let next_length : length (before ++ w ∷ []) ≡ length before + 1 = length_push before w in
           rw (ne_eqb _ _ m) (subst AllMayStand (append_assoc before (w ∷ []) (synced (i + 1) T))
           (synced_good T (before ++ w ∷ []) (i + 1) (word_good before w T good n are h) (omega arith) (omega arith)
           (All-tail IsCodeword w T are) (rest_follows before w T good n are h)))

@@ -4,7 +4,7 @@ use Rattle.std.specs.Int.{to_be_bytes, from_be_bytes, w32}
 use Rattle.std.specs.List.{flat_map}
 use Rattle.std.proofs.Math.Seq.{get_or-append_seam}
 use Rattle.std.proofs.lemmas.Bool.{cases_eq, cases_lt, lt-ltb, le-ltb, eq-eqb, ne_eqb}
-use Rattle.std.proofs.lemmas.List.{append-nil, length-append, nil_from_length}
+use Rattle.std.proofs.lemmas.List.{append-nil, length-append, length_push, nil_from_length}
 use Rattle.std.proofs.lemmas.List.Elements.{All-nil, All-cons, All-head, All-tail, All-map, All-weaker, All-drop}
 use Rattle.std.proofs.lemmas.Nat.{be_bytes_4}
 use Rattle.pocsag_words.specs.Codeword.{IsCodeword}
@@ -22,7 +22,7 @@ use Rattle.pocsag_decode.specs.Growing.{resumed, closed}
 use Rattle.pocsag_pages.specs.Listable.{IsListable}
 use Rattle.pocsag_decode.specs.Places.{is_message, is_idle, may_follow, MayStandAt, AllMayStand}
 use Rattle.pocsag_decode.proofs.Preambles.{parts}
-use Rattle.pocsag_decode.proofs.WordByWord.{length_more, may_sync, may_codeword, may_kept}
+use Rattle.pocsag_decode.proofs.WordByWord.{may_sync, may_codeword, may_kept}
 use Rattle.pocsag_decode.proofs.Words.{bytes_count}
 use Rattle.pocsag_pages.proofs.Lengths.{unsynced_count, words_long}
 
@@ -55,7 +55,7 @@ pub codewords_good : (before ws : List ℕ) → AllMayStand (before ++ ws) → A
 codewords_good before [] good = All-nil IsCodeword
 codewords_good before (w ∷ ws) good =
     let rest : All IsCodeword (unsynced (length before + 1) ws) =
-    rw (← length_more before w) (codewords_good (before ++ w ∷ []) ws (good_rest before w ws good)) in
+    rw (← length_push before w) (codewords_good (before ++ w ∷ []) ws (good_rest before w ws good)) in
     elim (cases_eq (length before % 17) 0) [
       | inl e ↦ rw (eq-eqb _ _ e) rest
       | inr n ↦ rw (ne_eqb _ _ n) (All-cons IsCodeword w (unsynced (length before + 1) ws) (w_is_codeword before w ws good n) rest)
@@ -73,10 +73,10 @@ none_is_orphan before [] good = tt
 none_is_orphan before (w ∷ ws) good =
     let rest = none_is_orphan (before ++ w ∷ []) ws (good_rest before w ws good) in
     elim (cases_eq (length before % 17) 0) [
-      | inl e ↦ rw (eq-eqb _ _ e) (rw (← may_sync before w e, ← length_more before w) rest)
+      | inl e ↦ rw (eq-eqb _ _ e) (rw (← may_sync before w e, ← length_push before w) rest)
       | inr n ↦
           rw (ne_eqb _ _ n) (no_orphan_cons _ (kind_of w) _ (w_follows before w ws good n)
-          (rw (← may_codeword before w n, ← length_more before w) rest))
+          (rw (← may_codeword before w n, ← length_push before w) rest))
     ]
 
 -- the words are the codewords with the synchronisation codewords between them
@@ -91,12 +91,12 @@ resynced before (w ∷ []) good r whole i at =
 resynced before (w ∷ v ∷ ws) good r whole i at =
     let next = before ++ w ∷ [] in
     let next_good : AllMayStand (next ++ v ∷ ws) = good_rest before w (v ∷ ws) good in
-    let next_length : length next ≡ length before + 1 = length_more before w in
+    let next_length : length next ≡ length before + 1 = length_push before w in
     elim (cases_eq (length before % 17) 0) [
       | inl e ↦
           let m : (length before + 1) % 17 ≢ 0 = omega arith in
           let j : i % 16 ≡ 0 = omega arith in
-          let last_length : length (next ++ v ∷ []) ≡ length before + 1 + 1 = length_more next v ∙ ap (λ (x : ℕ). x + 1) next_length in
+          let last_length : length (next ++ v ∷ []) ≡ length before + 1 + 1 = length_push next v ∙ ap (λ (x : ℕ). x + 1) next_length in
           let rest : synced (i + 1) (unsynced (length before + 1 + 1) ws) ≡ ws =
           rw (← last_length)
           (resynced (next ++ v ∷ []) ws (good_rest next v ws next_good) (omega arith) (omega arith) (i + 1) (omega arith)) in

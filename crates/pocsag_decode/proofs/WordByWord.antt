@@ -2,7 +2,7 @@
 use Rattle.std.proofs.Common.{◌≡◌, ◌≢◌, ℕ, ◌+◌, ◌-◌, ◌/◌, ◌%◌, ◌<◌, ◌≤◌, ◌==◌, ◌&&◌, false, not, nat_lt, List, [], ◌∷◌, ◌++◌, length, map, slice_index, is_some, IsTrue, refl, sym, ap, ◌∙◌, subst, inl, inr, arith, append_assoc}
 use Rattle.std.proofs.Math.Seq.{get_or-append_seam}
 use Rattle.std.proofs.lemmas.Bool.{cases_eq, cases_lt, cond_both, lt-ltb, le-ltb, eq-eqb, ne_eqb}
-use Rattle.std.proofs.lemmas.List.{append-nil, get_or_append_left, length-append, map-append}
+use Rattle.std.proofs.lemmas.List.{append-nil, get_or_append_left, length-append, length_push, map-append}
 use Rattle.pocsag_words.specs.Codeword.{IsCodeword}
 use Rattle.pocsag_words.specs.Kinds.{kind_of}
 use Rattle.pocsag_words.specs.declared.codeword.Kind.{Kind}
@@ -13,7 +13,7 @@ use Rattle.pocsag_decode.specs.declared.fault.DecodeFault.{DecodeFault}
 use Rattle.pocsag_decode.specs.declared.fault.DecodeFault.TheVariants as fault
 use Rattle.pocsag_decode.specs.declared.growing.Growing.{Growing}
 use Rattle.pocsag_decode.specs.Growing.{resumed}
-use Rattle.pocsag_decode.specs.Places.{is_message, is_idle, index_at, before, may_follow, IsBad, no_sync, bad_word, orphan, MayStandAt, AllMayStand, HasBadWord}
+use Rattle.pocsag_decode.specs.Places.{is_message, is_idle, index_at, before, may_follow, IsBad, no_sync, bad_word, orphan, MayStandAt, AllMayStand, HasBadWord, KeepsFrom}
 use Rattle.pocsag_decode.specs.Standing.{HasRead}
 use Rattle.pocsag_pages.proofs.Lengths.{unsynced_codeword, unsynced_count, unsynced_more, unsynced_sync}
 
@@ -58,13 +58,21 @@ bad_stays ws zs f b = record {
   least = λ j h. good_kept ws zs j (let t = b.there in omega arith) (b.least j h);
 }
 
+-- a place that has to be kept stays so
+pub keeps_on : (ws zs : List ℕ) (n m : ℕ) → m ≤ n → KeepsFrom ws n → KeepsFrom (ws ++ zs) m
+keeps_on ws zs n m h k = record {
+  place = k.place;
+  later = let l = k.later in omega arith;
+  there = let t = k.there in let l = length-append ws zs in omega arith;
+  codeword = k.codeword;
+  follows = may_kept ws zs k.place (let t = k.there in omega arith) ∙ k.follows;
+  good = λ j p. good_kept ws zs j (let t = k.there in omega arith) (k.good j p);
+}
+
 -- the last word
 module _ (ws : List ℕ) (w : ℕ) where
   is_last : slice_index (ws ++ w ∷ []) (length ws) ≡ w
   is_last = get_or-append_seam ws w [] 0
-
-  pub length_more : length (ws ++ w ∷ []) ≡ length ws + 1
-  length_more = length-append ws (w ∷ [])
 
   may_last : may_follow (ws ++ w ∷ []) (length ws) ≡ may_follow ws (length ws)
   may_last = may_kept ws (w ∷ []) (length ws) (omega arith)
@@ -73,13 +81,13 @@ module _ (ws : List ℕ) (w : ℕ) where
   good_more good last = λ j h.
       elim (cases_eq j (length ws)) [
         | inl e ↦ subst (MayStandAt (ws ++ w ∷ [])) (sym e) last
-        | inr n ↦ let lt : j < length ws = let l = length_more in omega arith in good_kept ws (w ∷ []) j lt (good j lt)
+        | inr n ↦ let lt : j < length ws = let l = length_push ws w in omega arith in good_kept ws (w ∷ []) j lt (good j lt)
       ]
 
   bad_more : (f : DecodeFault) → AllMayStand ws → IsBad (ws ++ w ∷ []) (length ws) f → HasBadWord (ws ++ w ∷ []) f
   bad_more f good last = record {
     place = length ws;
-    there = let l = length_more in omega arith;
+    there = let l = length_push ws w in omega arith;
     bad = last;
     least = λ j h. good_kept ws (w ∷ []) j h (good j h);
   }
@@ -116,7 +124,7 @@ module _ (ws : List ℕ) (w : ℕ) where
   -- after a synchronisation codeword a message may follow as before it
   pub may_sync : length ws % 17 ≡ 0 → may_follow (ws ++ w ∷ []) (length (ws ++ w ∷ [])) ≡ may_follow ws (length ws)
   may_sync s =
-      rw length_more (elim (cases_lt 0 (length ws)) [
+      rw (length_push ws w) (elim (cases_lt 0 (length ws)) [
         | inl p ↦
             let one : (length ws + 1) % 17 ≡ 1 = omega arith in
             let zero : length ws % 17 ≢ 1 = omega arith in
@@ -132,7 +140,7 @@ module _ (ws : List ℕ) (w : ℕ) where
   may_codeword s =
       let other : (length ws + 1) % 17 ≢ 1 = omega arith in
       let place : length ws + 1 - 1 ≡ length ws = omega arith in
-      rw (length_more, ne_eqb _ _ other, lt-ltb 1 (length ws + 1) (omega arith), place) (ap (λ (x : ℕ). not (is_idle (kind_of x))) is_last)
+      rw (length_push ws w, ne_eqb _ _ other, lt-ltb 1 (length ws + 1) (omega arith), place) (ap (λ (x : ℕ). not (is_idle (kind_of x))) is_last)
 
 -- a bad word after words that were read
 module _ (place : ℕ) (growing : Growing) (ws : List ℕ) (w : ℕ) (r : HasRead place growing ws) where
@@ -146,6 +154,20 @@ module _ (place : ℕ) (growing : Growing) (ws : List ℕ) (w : ℕ) (r : HasRea
       → HasBadWord (ws ++ w ∷ []) (fault.Orphan (index_at place))
   refused_orphan s c m f = let n = r.count in rw n (bad_orphan ws w r.good (omega arith) c m (sym r.may ∙ f))
 
+  pub kept_codeword : 0 < place % 17 → IsCodeword w → IsTrue (is_some growing.current) → KeepsFrom (ws ++ w ∷ []) (length ws)
+  kept_codeword s c o =
+      let n = r.count in
+      let follows : IsTrue (may_follow ws (length ws)) = sym r.may ∙ o in
+      let l = length_push ws w in
+      record {
+        place = length ws;
+        later = omega arith;
+        there = omega arith;
+        codeword = omega arith;
+        follows = may_last ws w ∙ follows;
+        good = λ j h. good_codeword ws w r.good (omega arith) c (λ _. follows) j (omega arith);
+      }
+
 pub read_sync : (place : ℕ) (growing : Growing) (ws : List ℕ) (w : ℕ) → place % 17 ≡ 0 → w ≡ sync_word → HasRead place growing ws
     → HasRead (place + 1) growing (ws ++ w ∷ [])
 read_sync place growing ws w s e r =
@@ -155,7 +177,7 @@ read_sync place growing ws w s e r =
     unsynced_more 0 ws (w ∷ [])
     ∙ (ap (λ (l : List ℕ). unsynced 0 ws ++ l) (unsynced_sync (0 + length ws) w (omega arith)) ∙ append-nil (unsynced 0 ws)) in
     record {
-      count = let l = length_more ws w in omega arith;
+      count = let l = length_push ws w in omega arith;
       good = good_sync ws w r.good s' e;
       may = r.may ∙ sym (may_sync ws w s');
       pages = λ ks. rw same (r.pages ks);
@@ -181,7 +203,7 @@ read_codeword place frame growing after ws w s at c kind is follows current grow
     let counted = unsynced_count 0 ws in
     let frame_is : frame ≡ frame_at (length (unsynced 0 ws)) = omega arith in
     record {
-      count = let l = length_more ws w in omega arith;
+      count = let l = length_push ws w in omega arith;
       good = good_codeword ws w r.good s' c (λ m. sym r.may ∙ follows (ap is_message is ∙ m));
       may = current ∙ (ap (λ (k : Kind). not (is_idle k)) is ∙ sym (may_codeword ws w s'));
       pages = λ ks.

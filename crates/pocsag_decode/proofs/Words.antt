@@ -1,5 +1,5 @@
 -- Bytes that go on: their whole words, and what follows these.
-use Rattle.std.proofs.Common.{◌≡◌, ◌≢◌, ℕ, ◌+◌, ◌*◌, List, [], ◌∷◌, ◌++◌, length, take, drop, refl, sym, ap, ap₂, ◌∙◌, subst, inl, inr, arith, append_assoc, true, false, ◌==◌}
+use Rattle.std.proofs.Common.{◌≡◌, ◌≢◌, ℕ, ◌+◌, ◌*◌, ◌≤◌, List, [], ◌∷◌, ◌++◌, length, take, drop, refl, sym, ap, ap₂, ◌∙◌, subst, inl, inr, arith, append_assoc, true, false, ◌==◌}
 use Rattle.std.proofs.lemmas.Bool.{eqb-true, false≢true}
 use Rattle.std.specs.Int.{from_be_bytes, w32}
 use Rattle.std.proofs.lemmas.List.{append-nil, length-append, nil_from_length, take-append-drop}
@@ -9,10 +9,10 @@ use Rattle.pocsag_decode.specs.declared.fault.DecodeFault.{DecodeFault}
 use Rattle.pocsag_decode.specs.declared.body.Body.{Body}
 use Rattle.pocsag_decode.specs.declared.carry.Carry.{Carry}
 use Rattle.pocsag_decode.specs.Carried.{carried, size_of, unfinished}
-use Rattle.pocsag_decode.specs.Places.{HasBadWord}
+use Rattle.pocsag_decode.specs.Places.{HasBadWord, KeepsFrom}
 use Rattle.pocsag_decode.specs.Standing.{HasRead, StandsIn}
 use Rattle.pocsag_decode.specs.Taking.{IsTaking, IsWantingOrBad}
-use Rattle.pocsag_decode.proofs.WordByWord.{bad_stays}
+use Rattle.pocsag_decode.proofs.WordByWord.{bad_stays, keeps_on}
 
 pub words_on : (Y Z : List ℕ) → words_of (Y ++ Z) ≡ words_of Y ++ words_of (unfinished Y ++ Z)
 words_on [] Z = refl
@@ -57,9 +57,14 @@ byte_more b old new Y x is none one s =
       carry = sym (rest_on Y (x ∷ []) ∙ (ap (λ (l : List ℕ). unfinished (l ++ x ∷ [])) left ∙ one));
     }
 
-pub refuses : (f : DecodeFault) (ws vs : List ℕ) → (HasBadWord ws f → HasBadWord vs f) → IsWantingOrBad ws f → IsWantingOrBad vs f
-refuses f ws vs h (inl p) = inl p
-refuses f ws vs h (inr p) = inr (h p)
+words_le : (Y Z : List ℕ) → length Y ≤ length Z → length (words_of Y) ≤ length (words_of Z)
+words_le Y Z h = let p = words_long Y in let q = words_long Z in omega arith
+
+wanting_on : (Y Z : List ℕ) (f : DecodeFault) (n m : ℕ) → m ≤ n → IsWantingOrBad n (words_of Y) f → IsWantingOrBad m (words_of (Y ++ Z)) f
+wanting_on Y Z f n m h (inl w) =
+    let kept : KeepsFrom (words_of (Y ++ Z)) m = rw (words_on Y Z) (keeps_on (words_of Y) (words_of (unfinished Y ++ Z)) n m h w.1) in
+    inl (w.0, kept)
+wanting_on Y Z f n m h (inr b) = inr (bad_on Y Z f b)
 
 -- four bytes
 four_words : (l : List ℕ) → length l ≡ 4 → words_of l ≡ from_be_bytes w32 l ∷ []
@@ -83,8 +88,9 @@ module _ (b : Body) (Y Z : List ℕ) (w : ℕ) (s : StandsIn b Y)
     carry = none ∙ sym (rest_on Y Z ∙ (ap (λ (l : List ℕ). unfinished (l ++ Z)) (sym s.carry) ∙ four_left _ e));
   }
 
-  pub bad_word_more : (f : DecodeFault) → HasBadWord (words_of Y ++ w ∷ []) f → HasBadWord (words_of (Y ++ Z)) f
-  bad_word_more f h = rw words_are h
+  pub refused_more : (f : DecodeFault) → IsWantingOrBad (length (words_of Y)) (words_of Y ++ w ∷ []) f
+      → IsWantingOrBad (length (words_of Y)) (words_of (Y ++ Z)) f
+  refused_more f h = rw words_are h
 
 -- a part of the bytes more
 module _ (first now : Body) (bytes rest front back : List ℕ) (t : IsTaking first now bytes rest) (e : rest ≡ front ++ back) where
@@ -92,6 +98,7 @@ module _ (first now : Body) (bytes rest front back : List ℕ) (t : IsTaking fir
       → ((Y : List ℕ) → StandsIn now Y → StandsIn new (Y ++ front)) → IsTaking first new bytes back
   taken new size stands = record {
     size = let s = t.size in let l = length-append front back in let r = ap length e in omega arith;
+    less = let s = t.less in let l = length-append front back in let r = ap length e in omega arith;
     before = λ Y h.
         let s = t.before Y h in
         record {
@@ -101,15 +108,18 @@ module _ (first now : Body) (bytes rest front back : List ℕ) (t : IsTaking fir
         };
   }
 
-  pub not_taken : (f : DecodeFault) → ((Y : List ℕ) → StandsIn now Y → IsWantingOrBad (words_of (Y ++ front)) f) → (Y : List ℕ) → StandsIn first Y
-      → IsWantingOrBad (words_of (Y ++ bytes)) f
+  pub not_taken : (f : DecodeFault)
+      → ((Y : List ℕ) → StandsIn now Y → IsWantingOrBad (length (words_of Y)) (words_of (Y ++ front)) f)
+      → (Y : List ℕ) → StandsIn first Y
+      → IsWantingOrBad (length (words_of Y)) (words_of (Y ++ bytes)) f
   not_taken f bad Y h =
       let s = t.before Y h in
       let all : (s.eaten ++ front) ++ back ≡ Y ++ bytes =
       append_assoc s.eaten front back ∙ (ap (λ (l : List ℕ). s.eaten ++ l) (sym e) ∙ s.all) in
-      refuses f (words_of (s.eaten ++ front)) (words_of (Y ++ bytes))
-      (λ b. subst (λ (l : List ℕ). HasBadWord (words_of l) f) all (bad_on (s.eaten ++ front) back f b))
-      (bad s.eaten s.stands)
+      let more : length Y ≤ length s.eaten =
+      let a = size_is first Y h in let b = size_is now s.eaten s.stands in let c = t.size in let d = t.less in omega arith in
+      subst (λ (l : List ℕ). IsWantingOrBad (length (words_of Y)) (words_of l) f) all
+      (wanting_on (s.eaten ++ front) back f _ _ (words_le Y s.eaten more) (bad s.eaten s.stands))
 
 pub split_is : (n : ℕ) (l front back : List ℕ) → front ≡ take n l → back ≡ drop n l → l ≡ front ++ back
 split_is n l front back p q = sym (take-append-drop n l) ∙ ap₂ (λ (x y : List ℕ). x ++ y) (sym p) (sym q)

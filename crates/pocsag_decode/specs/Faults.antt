@@ -1,12 +1,12 @@
 -- *Fault of a transmission*, and what bytes without one say.
-use Rattle.std.specs.Prelude.{◌≡◌, ◌≢◌, ◌⊎◌, ℕ, ◌+◌, ◌%◌, ◌^◌, ◌<◌, ◌≤◌, List, [], ◌++◌, length, Result, Err, OnOk}
+use Rattle.std.specs.Prelude.{◌≡◌, ◌≢◌, ◌⊎◌, ℕ, ◌+◌, ◌%◌, ◌^◌, ◌<◌, ◌≤◌, List, [], ◌++◌, length, Result, Err, IsTrue, OnOk}
 use Rattle.pocsag_words.specs.Devices.{HasFailed}
 use Rattle.pocsag_pages.specs.declared.page.Page.{Page}
 use Rattle.pocsag_pages.specs.Bytes.{Sent, leading, after_preamble, words_of}
 use Rattle.pocsag_pages.specs.Reading.{ReadsWords}
 use Rattle.pocsag_decode.specs.declared.fault.DecodeFault.{DecodeFault}
 use Rattle.pocsag_decode.specs.declared.fault.DecodeFault.TheVariants as fault
-use Rattle.pocsag_decode.specs.Places.{AllMayStand, HasBadWord}
+use Rattle.pocsag_decode.specs.Places.{AllMayStand, HasBadWord, KeepsFrom, may_follow}
 
 -- Where the call answers, no call of the device failed; where it answers this fault, one failed.
 abbrev pub TellsFailures : {T E : Type 0} → Result T E → E → (before after : ℕ) → Type 0
@@ -42,15 +42,21 @@ pub record ReadsAs (X : List ℕ) (ps : List Page) : Type 0 where
   pub sent : Sent X codewords
   pub reads : ReadsWords codewords ps
 
--- 72 bytes AA or more stand first, and some byte follows them.
-pub record IsPastPreamble (X : List ℕ) : Type 0 where
-  pub long : 72 ≤ leading X
-  pub more : after_preamble X ≢ []
+-- A page is still open at the end.
+abbrev pub EndsOpen : List ℕ → Type 0
+EndsOpen X = IsTrue (may_follow (words X) (length (words X)))
+
+-- Where memory is wanted: to keep a page or an item, at a word before which nothing is bad, or at the end of bytes
+-- without a fault. So every fault up to the first codeword that has to be kept is owed whatever memory does.
+pub data WantsMemory : List ℕ → Type 0 where
+  at_word : {X : List ℕ} → 72 ≤ leading X → KeepsFrom (words X) 0 → WantsMemory X
+  at_end : {X : List ℕ} → IsFaultless X → EndsOpen X → WantsMemory X
 
 -- Why a piece Z is refused after the bytes X: together they are too many, judged before the bytes of
--- the piece, or else a fault at a byte of theirs. Memory is wanted by a piece of one byte at least, and
--- only past the preamble.
+-- the piece, or else a fault at a byte of theirs. Memory is wanted to keep a page or an item, at a word
+-- that the piece makes whole.
 pub data RefusesPiece : (X Z : List ℕ) → DecodeFault → Type 0 where
   too_much : {X Z : List ℕ} → 2 ^ 64 ≤ length X + length Z → RefusesPiece X Z fault.TooMuch
-  no_memory : {X Z : List ℕ} → length X + length Z < 2 ^ 64 → Z ≢ [] → IsPastPreamble (X ++ Z) → RefusesPiece X Z fault.OutOfMemory
+  no_memory : {X Z : List ℕ} → length X + length Z < 2 ^ 64 → 72 ≤ leading (X ++ Z) → KeepsFrom (words (X ++ Z)) (length (words X))
+      → RefusesPiece X Z fault.OutOfMemory
   fault_there : {X Z : List ℕ} {f : DecodeFault} → length X + length Z < 2 ^ 64 → HasFaultThere (X ++ Z) f → RefusesPiece X Z f

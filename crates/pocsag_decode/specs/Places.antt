@@ -1,6 +1,6 @@
 -- The words after the preamble by their places, counted from 0 with the synchronisation codewords,
 -- and what is bad about one: the rules of Annex 1.
-use Rattle.std.specs.Prelude.{◌≡◌, ◌≢◌, ℕ, ◌-◌, ◌/◌, ◌%◌, ◌<◌, ◌==◌, ◌&&◌, Bool, true, false, not, nat_lt, if◌then◌else◌, List, length, slice_index, IsTrue}
+use Rattle.std.specs.Prelude.{◌≡◌, ◌≢◌, ℕ, ◌-◌, ◌/◌, ◌%◌, ◌<◌, ◌≤◌, ◌==◌, ◌&&◌, Bool, true, false, not, nat_lt, if◌then◌else◌, List, length, slice_index, IsTrue}
 use Rattle.pocsag_words.specs.Codeword.{IsCodeword}
 use Rattle.pocsag_words.specs.Kinds.{kind_of}
 use Rattle.pocsag_words.specs.declared.codeword.Kind.{Kind}
@@ -55,3 +55,13 @@ pub record HasBadWord (ws : List ℕ) (f : DecodeFault) : Type 0 where
   pub there : place < length ws
   pub bad : IsBad ws place f
   pub least : (j : ℕ) → j < place → MayStandAt ws j
+
+-- From this place on there is one at which a page or an item has to be kept: the words up to it are good, and it is
+-- a codeword before which a page is open, so that it ends the page or continues it.
+pub record KeepsFrom (ws : List ℕ) (first : ℕ) : Type 0 where
+  pub place : ℕ
+  pub later : first ≤ place
+  pub there : place < length ws
+  pub codeword : place % 17 ≢ 0
+  pub follows : IsTrue (may_follow ws place)
+  pub good : (j : ℕ) → j ≤ place → MayStandAt ws j

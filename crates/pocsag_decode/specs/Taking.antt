@@ -5,12 +5,12 @@ use Rattle.pocsag_decode.specs.declared.body.Body.{Body}
 use Rattle.pocsag_decode.specs.declared.fault.DecodeFault.{DecodeFault}
 use Rattle.pocsag_decode.specs.declared.fault.DecodeFault.TheVariants as fault
 use Rattle.pocsag_decode.specs.Carried.{size_of}
-use Rattle.pocsag_decode.specs.Places.{HasBadWord}
+use Rattle.pocsag_decode.specs.Places.{HasBadWord, KeepsFrom}
 use Rattle.pocsag_decode.specs.Standing.{HasRead, StandsIn}
 
--- Want of memory, or a bad word among these.
-abbrev pub IsWantingOrBad : List ℕ → DecodeFault → Type 0
-IsWantingOrBad ws f = (f ≡ fault.OutOfMemory) ⊎ HasBadWord ws f
+-- Want of memory, where one of these words from a place on has to be kept, or a bad word among them.
+abbrev pub IsWantingOrBad : ℕ → List ℕ → DecodeFault → Type 0
+IsWantingOrBad first ws f = ((f ≡ fault.OutOfMemory) × KeepsFrom ws first) ⊎ HasBadWord ws f
 
 -- One whole word more, where the call answers, and never two.
 abbrev pub CountsWord : {T : Type 0} → Result T DecodeFault → (before after : Body) → Type 0
@@ -21,10 +21,10 @@ abbrev pub ReadsWord : {T : Type 0} → Result T DecodeFault → (before after :
 ReadsWord result before after word =
     (ws : List ℕ) → HasRead before.place before.growing ws → OnOk result (HasRead after.place after.growing (ws ++ word ∷ []))
 
--- Where it does not, memory was wanting, or a word is bad among those and this one.
+-- Where it does not, memory was wanting for this word, or a word is bad among those and this one.
 abbrev pub RefusesWord : {T : Type 0} → Result T DecodeFault → (before : Body) → ℕ → Type 0
 RefusesWord result before word =
-    (ws : List ℕ) → HasRead before.place before.growing ws → IfErr result (IsWantingOrBad (ws ++ word ∷ []))
+    (ws : List ℕ) → HasRead before.place before.growing ws → IfErr result (IsWantingOrBad (length ws) (ws ++ word ∷ []))
 
 -- So many bytes more, where the call answers, and never more than these.
 abbrev pub CountsBytes : {T : Type 0} → Result T DecodeFault → (before after : Body) → ℕ → Type 0
@@ -36,9 +36,10 @@ CountsBytes result before after count =
 abbrev pub StandsWith : {T : Type 0} → Result T DecodeFault → (before after : Body) → List ℕ → Type 0
 StandsWith result before after bytes = (Y : List ℕ) → StandsIn before Y → OnOk result (StandsIn after (Y ++ bytes))
 
--- Where it does not, memory was wanting, or a word of all these bytes is bad.
+-- Where it does not, memory was wanting for a word of these bytes, or a word of all the bytes is bad.
 abbrev pub RefusesBytes : {T : Type 0} → Result T DecodeFault → (before : Body) → List ℕ → Type 0
-RefusesBytes result before bytes = (Y : List ℕ) → StandsIn before Y → IfErr result (IsWantingOrBad (words_of (Y ++ bytes)))
+RefusesBytes result before bytes =
+    (Y : List ℕ) → StandsIn before Y → IfErr result (IsWantingOrBad (length (words_of Y)) (words_of (Y ++ bytes)))
 
 -- It stands after all of these bytes but the rest.
 pub record StandsBefore (b : Body) (Y rest : List ℕ) : Type 0 where
@@ -49,4 +50,5 @@ pub record StandsBefore (b : Body) (Y rest : List ℕ) : Type 0 where
 -- Of these bytes the rest is still to be taken.
 pub record IsTaking (at_first now : Body) (bytes rest : List ℕ) : Type 0 where
   pub size : size_of now.place now.carry + length rest ≡ size_of at_first.place at_first.carry + length bytes
+  pub less : length rest ≤ length bytes
   pub before : (Y : List ℕ) → StandsIn at_first Y → StandsBefore now (Y ++ bytes) rest

@@ -1,4 +1,4 @@
-ghost use Rattle.std.specs.Prelude.{◌≡◌, ◌≢◌, ◌↔◌, ℕ, ◌+◌, ◌*◌, ◌%◌, ◌^◌, ◌<◌, ◌≤◌, ◌∷◌, ◌++◌, [], length, IsTrue, IfOk};
+ghost use Rattle.std.specs.Prelude.{◌≡◌, ◌≢◌, ◌↔◌, ℕ, ◌+◌, ◌*◌, ◌%◌, ◌^◌, ◌<◌, ◌≤◌, ◌∷◌, ◌++◌, [], length, is_some, IsTrue, IfOk, OnErr};
 ghost use Rattle.std.specs.Int.{from_be_bytes, w32};
 ghost use Rattle.pocsag_decode.specs.Carried.{carried, size_of};
 ghost use Rattle.pocsag_decode.specs.Growing.{closed};
@@ -219,6 +219,7 @@ impl Body {
     // Hands the pages out.
     pub(crate) fn finish(&mut self) -> Result<Vec<Page>, AllocError>
         ensures same { IfOk result (λ v. v.items ≡ self.old.growing.pages.items ++ closed self.old.growing.current) }
+        ensures memory { OnErr result (IsTrue (is_some self.old.growing.current)) }
         ensures place { self.new.place ≡ self.old.place }
         ensures carry { self.new.carry ≡ self.old.carry }
     {

@@ -1,7 +1,7 @@
 ghost use Rattle.std.specs.Prelude.{◌≡◌, ◌⊎◌, ℕ, ◌+◌, ◌%◌, ◌^◌, ◌<◌, ◌≤◌, ◌++◌, [], List, length, true, All, OnOk, OnErr, IfErr, IfOk, MatchResult};
 ghost use Rattle.pocsag_pages.specs.Bytes.{after_preamble, leading};
 ghost use Rattle.pocsag_decode.specs.Carried.{size_of};
-ghost use Rattle.pocsag_decode.specs.Faults.{HasFaultOfEnd, IsFaultless, ReadsAs, RefusesPiece};
+ghost use Rattle.pocsag_decode.specs.Faults.{EndsOpen, HasFaultOfEnd, IsFaultless, ReadsAs, RefusesPiece};
 ghost use Rattle.pocsag_pages.specs.Listable.{IsListable};
 ghost use Rattle.pocsag_decode.specs.Standing.{HasStopped, StandsAfter};
 
@@ -56,8 +56,9 @@ impl Decoder {
             MatchResult result (λ v. ReadsAs X v.items) (λ e. (e ≡ DecodeFault.OutOfMemory) ⊎ HasFaultOfEnd X e) }
         ensures listable { (X : List ℕ) → StandsAfter self.old X → IfOk result (λ v. All IsListable v.items) }
 
-        // Memory is wanted only by bytes that have no fault.
-        ensures memory { (X : List ℕ) → StandsAfter self.old X → result ≡ Err DecodeFault.OutOfMemory → IsFaultless X }
+        // Memory is wanted only by bytes that have no fault, to keep the page that is open at their end.
+        ensures memory { (X : List ℕ) → StandsAfter self.old X → result ≡ Err DecodeFault.OutOfMemory →
+            IsFaultless X × EndsOpen X }
 
         // A decoder that has failed stays so.
         ensures over { HasStopped self.new }

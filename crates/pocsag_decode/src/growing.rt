@@ -1,4 +1,4 @@
-ghost use Rattle.std.specs.Prelude.{◌≡◌, ℕ, ◌+◌, ◌^◌, ◌<◌, ◌++◌, ◌∷◌, [], None, true, not, List, IsTrue, is_some, OnOk, IfOk};
+ghost use Rattle.std.specs.Prelude.{◌≡◌, ℕ, ◌+◌, ◌^◌, ◌<◌, ◌++◌, ◌∷◌, [], None, true, not, List, IsTrue, is_some, OnErr, OnOk, IfOk};
 ghost use Rattle.pocsag_words.specs.declared.codeword.Kind.{Kind};
 ghost use Rattle.pocsag_words.specs.Kinds.{IsInRange};
 ghost use Rattle.pocsag_pages.specs.Reading.{frame_at};
@@ -56,6 +56,9 @@ impl Growing {
             self.old.pages.items ++ resumed i self.old.current (kind ∷ ks)
             ≡ self.new.pages.items ++ resumed (i + 1) self.new.current ks) }
         ensures current { OnOk result (is_some self.new.current ≡ not (is_idle kind)) }
+
+        // Memory is wanted only where a page is open.
+        ensures memory { OnErr result (IsTrue (is_some self.old.current)) }
     {
         match kind {
             Kind::Idle if !self.is_open() => Ok(()),
@@ -77,6 +80,7 @@ impl Growing {
     fn close(&mut self) -> Result<(), AllocError>
         ensures pages { OnOk result (self.new.pages.items ≡ self.old.pages.items ++ closed self.old.current) }
         ensures current { OnOk result (self.new.current ≡ None) }
+        ensures memory { OnErr result (IsTrue (is_some self.old.current)) }
     {
         let Some(page) = self.current.take() else {
             return Ok(());
@@ -110,7 +114,8 @@ impl Growing {
 
     // Finishes the open page and hands all the pages out.
     pub(crate) fn finish(&mut self) -> Result<Vec<Page>, AllocError>
-        ensures { IfOk result (λ v. v.items ≡ self.old.pages.items ++ closed self.old.current) }
+        ensures same { IfOk result (λ v. v.items ≡ self.old.pages.items ++ closed self.old.current) }
+        ensures memory { OnErr result (IsTrue (is_some self.old.current)) }
     {
         self.close()?;
         Ok(mem::replace(&mut self.pages, Vec::new(self.alloc)))

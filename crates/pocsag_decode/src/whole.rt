@@ -1,5 +1,5 @@
 ghost use Rattle.std.specs.Prelude.{◌≡◌, ◌⊎◌, All, IfOk, MatchResult};
-ghost use Rattle.pocsag_decode.specs.Faults.{HasFault, IsPastPreamble, ReadsAs};
+ghost use Rattle.pocsag_decode.specs.Faults.{HasFault, ReadsAs, WantsMemory};
 ghost use Rattle.pocsag_pages.specs.Listable.{IsListable};
 
 use crate::fault::DecodeFault;
@@ -14,8 +14,8 @@ pub fn decode(alloc: Global, bytes: &[u8]) -> Result<Vec<Page>, DecodeFault>
         (λ e. (e ≡ DecodeFault.OutOfMemory) ⊎ HasFault bytes.now e) }
     ensures listable { IfOk result (λ v. All IsListable v.items) }
 
-    // Memory is wanted only past the preamble.
-    ensures memory { result ≡ Err DecodeFault.OutOfMemory → IsPastPreamble bytes.now }
+    // Memory is wanted only to keep a page or an item, once a page has begun.
+    ensures memory { result ≡ Err DecodeFault.OutOfMemory → WantsMemory bytes.now }
 {
     let mut decoder = Decoder::new(alloc);
     decoder.feed(bytes)?;

@@ -1,6 +1,6 @@
 -- What a pager has heard, one word at a time.
 use Rattle.std.proofs.Common.{◌≡◌, ◌≢◌, ℕ, ◌+◌, ◌-◌, ◌/◌, ◌%◌, ◌<◌, List, [], ◌∷◌, ◌++◌, length, map, sym, ap, ap₂, subst, ◌∙◌, ◌⊎◌, ◌^◌, inl, inr, arith, append_assoc, All}
-use Rattle.std.specs.Prelude.{Option, None, option_to_list}
+use Rattle.std.specs.Prelude.{Option, None, IsSome, option_to_list}
 use Rattle.std.specs.List.{AllZip}
 use Rattle.std.proofs.lemmas.List.{append-nil, map-append, length-map, length-append}
 use Rattle.std.proofs.lemmas.Bool.{cases_eq}
@@ -101,6 +101,13 @@ module _ (a p w : ℕ) (words : List ℕ) (s : State) (before : Option Page) (m 
       ap₂ (λ (xs : List Page) (o : Option Page). xs ++ option_to_list o) h.1
       (e ∙ ap (λ (o : Option Page). ending o m) (open_is s before (open_from a 0 ms) holds h.0))
       ∙ sym (ended_more a 0 ms m))
+
+-- a page that is held is the one that is open
+pub open_still : (words : List ℕ) (a : ℕ) (s : State) (held : Option Page) → s ≡ Listening held → IsSome held → IsOpen words a s
+    → HoldsOnceMended words (λ ms. IsSome (open_from a 0 ms))
+open_still words a s held holds some stands =
+    heard_then words (λ ms. s ≡ Listening (open_from a 0 ms)) (λ ms. IsSome (open_from a 0 ms)) stands
+    (λ ms h. subst (λ (o : Option Page). IsSome o) (open_is s held (open_from a 0 ms) holds h) some)
 
 -- ---- a word at the place of a synchronisation codeword
 

@@ -1,5 +1,5 @@
 -- Where a pager stands after words, which it does not store (this project's own).
-use Rattle.std.specs.Prelude.{◌≡◌, ℕ, ◌+◌, ◌*◌, ◌%◌, ◌≤◌, ◌⊎◌, ◌&&◌, not, if◌then◌else◌, List, [], ◌∷◌, ◌++◌, length, Bool, true, false, Option, Some, None, Result, OnOk, IfErr}
+use Rattle.std.specs.Prelude.{◌≡◌, ◌≢◌, ℕ, ◌+◌, ◌*◌, ◌%◌, ◌≤◌, ◌⊎◌, ◌&&◌, not, if◌then◌else◌, List, [], ◌∷◌, ◌++◌, length, Bool, true, false, Option, Some, None, IsSome, Result, OnOk, IfErr}
 use Rattle.pocsag_words.specs.declared.codeword.Kind.{Kind}
 use Rattle.pocsag_words.specs.declared.codeword.Kind.TheVariants.{Idle, Address, Message}
 use Rattle.pocsag_pages.specs.declared.page.Page.{Page}
@@ -9,6 +9,7 @@ use Rattle.pocsag_pager.specs.declared.fault.PagerFault.TheVariants as fault
 use Rattle.pocsag_pager.specs.declared.pager.Pager.{Pager}
 use Rattle.pocsag_pager.specs.declared.pager.State.TheVariants.{Listening, Failed}
 use Rattle.pocsag_pager.specs.Shown.{HoldsOnceMended, is_ours, page_called}
+use Rattle.pocsag_pager.specs.Turns.{IsHeardAs}
 
 -- Whether all of these are message codewords, so that a page before them is still open.
 abbrev pub is_run : List (Option Kind) → Bool
@@ -53,6 +54,14 @@ IsOver p = p.state ≡ Failed
 pub record Stands (p : Pager) (words : List ℕ) : Type 0 where
   pub place : p.place ≡ length words % 17
   pub open_page : HoldsOnceMended words (λ ms. p.state ≡ Listening (open_from p.address 0 ms))
+
+-- Where hearing a word wants memory: of these words a page is still open, and the word more, at the place of a codeword,
+-- says once it is mended that it continues that page.
+pub record Continues (words : List ℕ) (a word : ℕ) : Type 0 where
+  pub codeword : length words % 17 ≢ 0
+  pub bits : ℕ
+  pub message : IsHeardAs word (Some (Message bits))
+  pub open_page : HoldsOnceMended words (λ ms. IsSome (open_from a 0 ms))
 
 -- The pager has heard these words, and these are the pages that have ended.
 pub record HasHeard (p : Pager) (words : List ℕ) (ps : List Page) : Type 0 where

@@ -38,7 +38,7 @@ impl Pager {
     ghost use Rattle.pocsag_pages.specs.declared.page.Page.{Page};
     ghost use Rattle.pocsag_pager.specs.Faults.{address_fault};
     ghost use Rattle.pocsag_pager.specs.Shown.{AreShown};
-    ghost use Rattle.pocsag_pager.specs.Standing.{HasHeard, HaveEnded, IsElsewhere, IsOver, Stands, pager_address};
+    ghost use Rattle.pocsag_pager.specs.Standing.{Continues, HasHeard, HaveEnded, IsElsewhere, IsOver, Stands, pager_address};
 
     /// A pager that has heard nothing yet, which takes no memory. It refuses an address above
     /// 2,097,151 (`BadAddress`) and then a reserved one (`ReservedAddress`).
@@ -71,7 +71,11 @@ impl Pager {
             IfOk result (λ page. HaveEnded (words ++ word ∷ []) (pager_address self.old) (ps ++ option_to_list page)) }
         ensures address { pager_address self.new ≡ pager_address self.old }
         ensures failed { IsOver self.old → result ≡ Err PagerFault.Failed }
-        ensures memory { IfErr result (λ e. (e ≡ PagerFault.OutOfMemory) ⊎ IsOver self.old) }
+        ensures err { IfErr result (λ e. (e ≡ PagerFault.OutOfMemory) ⊎ IsOver self.old) }
+
+        // Memory is wanted only by a message codeword that continues a page.
+        ensures memory { (words : List ℕ) → Stands self.old words → result ≡ Err PagerFault.OutOfMemory →
+            Continues words (pager_address self.old) word }
         ensures over { OnErr result (IsOver self.new) }
     {
         let place = self.place;

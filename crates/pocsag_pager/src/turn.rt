@@ -1,4 +1,4 @@
-ghost use Rattle.std.specs.Prelude.{◌≡◌, ◌∷◌, [], ◌++◌, ◌<◌, None, IfOk};
+ghost use Rattle.std.specs.Prelude.{◌≡◌, ◌∷◌, [], ◌++◌, ◌<◌, ℕ, None, Some, IfOk, IsSome, OnErr};
 ghost use Rattle.std.specs.Bool.{OnFalse};
 ghost use Rattle.pocsag_pager.specs.Shown.{is_ours};
 ghost use Rattle.pocsag_pager.specs.Turns.{IsHeardAs, ending, next_open};
@@ -72,6 +72,10 @@ pub(crate) fn change_at(
     requires { slot < 16 }
     ensures kept { IfOk result (λ c. c.kept ≡ next_open address slot kept heard) }
     ensures ended { IfOk result (λ c. c.ended ≡ ending kept heard) }
+
+    // Memory is wanted only by a message codeword while a page is open.
+    ensures message { OnErr result ((bits : ℕ) × (heard ≡ Some (Kind.Message bits))) }
+    ensures open_page { OnErr result (IsSome kept) }
 {
     let ended = kept;
     match heard {

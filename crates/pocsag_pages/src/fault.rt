@@ -105,12 +105,12 @@ pub enum RoundFault {
     /// There are over 20,000 pages.
     #[error("record {0}: too many pages")]
     TooManyPages(u32),
+    #[error("there are no pages")]
+    NoPages,
     /// The function, the number of items or an item of a page is too large, or a page of function 1
     /// or 2 has a message. No page file has such a page.
     #[error("record {0}: bad payload")]
     BadPayload(u32),
-    #[error("there are no pages")]
-    NoPages,
     #[error("out of memory")]
     OutOfMemory,
 }

@@ -1,4 +1,4 @@
-ghost use Rattle.std.specs.Prelude.{◌≡◌, ◌+◌, ◌≤◌, ◌⊎◌, ◌∷◌, ◌++◌, [], None, Some, length, IfOk, IfErr, OnOk};
+ghost use Rattle.std.specs.Prelude.{◌≡◌, ◌+◌, ◌≤◌, ◌⊎◌, ◌∷◌, ◌++◌, [], None, Some, length, IfOk, IfErr, IsOk, OnOk};
 ghost use Rattle.csv.specs.Records.{fields_of};
 ghost use Rattle.pocsag_words.specs.Devices.{HasFailed};
 ghost use Rattle.pocsag_pages.specs.Pages.{page_limit};
@@ -47,6 +47,9 @@ fn judge(alloc: Global, draft: Draft, earlier: u32, row: &ByteRecord) -> Result<
     ensures few { IfOk result (λ d. earlier + 1 ≤ page_limit) }
     ensures err { IfErr result
         (λ e. (e ≡ RecordFault.OutOfMemory) ⊎ (fault_after earlier draft (page_of (fields_of row.now)) ≡ Some e)) }
+
+    // Memory is wanted only by a record that is a page.
+    ensures memory { result ≡ Err RecordFault.OutOfMemory → IsOk (page_of (fields_of row.now)) }
 {
     let page = page_of_row(alloc, row)?;
     if draft.has(page.address) {

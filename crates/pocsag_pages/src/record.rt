@@ -190,6 +190,9 @@ pub(crate) fn page_of_row(alloc: Global, row: &ByteRecord) -> Result<Page, Recor
     ensures good { IfOk result (λ p. page_fault_of p ≡ None) }
     ensures err { IfErr result
         (λ e. (e ≡ RecordFault.OutOfMemory) ⊎ (page_of (fields_of row.now) ≡ Err e)) }
+
+    // Memory is wanted only by a record that is a page.
+    ensures memory { result ≡ Err RecordFault.OutOfMemory → IsOk (page_of (fields_of row.now)) }
 {
     let fields = three_fields(row).ok_or(RecordFault::FieldCount)?;
     Ok(page_of_fields(alloc, fields.address, fields.kind, fields.message)?)

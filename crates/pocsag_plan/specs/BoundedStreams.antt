@@ -1,6 +1,5 @@
 -- What `plan_stream_always` leaves of its writers.
-use Rattle.std.specs.Prelude.{◌≡◌, ◌⊎◌, ℕ, List, ◌++◌, Ok, Err, IsOk}
-use Rattle.pocsag_words.specs.Devices.{TookPrefix}
+use Rattle.std.specs.Prelude.{◌≡◌, ◌⊎◌, ℕ, ◌+◌, ◌≤◌, List, Ok, Err, IsOk}
 use Rattle.pocsag_words.specs.declared.ending.End.{End}
 use Rattle.pocsag_pages.specs.PageFile.{verdict}
 use Rattle.pocsag_pages.specs.declared.fault.RoundFault.TheVariants as round
@@ -11,7 +10,9 @@ use Rattle.pocsag_plan.specs.declared.bounded.Bounded.{Bounded}
 use Rattle.pocsag_plan.specs.declared.fault.StreamFault.{StreamFault}
 use Rattle.pocsag_plan.specs.declared.fault.StreamFault.TheVariants as fault
 use Rattle.pocsag_plan.specs.BoundedHeadline.{BoundedHeadline}
+use Rattle.pocsag_plan.specs.Headline.{RoundHeadline}
 use Rattle.pocsag_plan.specs.Plans.{IsBounded}
+use Rattle.pocsag_plan.specs.Streams.{IsOfRound, WritesAllOf, WritesCertificatePartOf, WritesPartOf}
 
 -- The plan with its bound is one of the round of the page file.
 pub record IsBoundedOf (file : List ℕ) (end : End) (bounded : Bounded) : Type 0 where
@@ -19,34 +20,29 @@ pub record IsBoundedOf (file : List ℕ) (end : End) (bounded : Bounded) : Type 
   pub read : verdict file ≡ Ok round
   pub plan_of : IsBounded end round bounded.plan bounded.bound
 
+-- With some number of batches, some tree, and a bound that the batches are, or exceed by one, the headline of
+-- the round holds.
+pub record HasBoundedHeadline (round : List Page) (end : End) (sent certificate : List ℕ) : Type 0 where
+  pub batches : ℕ
+  pub bound : ℕ
+  pub tree : Bound
+  pub headline : RoundHeadline round end batches bound tree sent certificate
+  pub at_least : bound ≤ batches
+  pub within_one : batches ≤ bound + 1
+
 -- What both writers took more is the transmission and the certificate of the headline with a bound.
-pub record WritesBounded (file : List ℕ) (end : End) (batches bound : ℕ) (tree : Bound) (tx_before tx_after cert_before cert_after : List ℕ) : Type 0 where
-  pub sent : List ℕ
-  pub certificate : List ℕ
-  pub headline : BoundedHeadline file end batches bound tree sent certificate
-  pub transmission : tx_after ≡ tx_before ++ sent
-  pub text : cert_after ≡ cert_before ++ certificate
+abbrev pub WritesBounded : List ℕ → End → ℕ → ℕ → Bound → List ℕ → List ℕ → List ℕ → List ℕ → Type 0
+WritesBounded file end batches bound tree = WritesAllOf (BoundedHeadline file end batches bound tree)
 
 -- What was taken more is a prefix of the transmission of such a headline.
-pub record WritesBoundedPart (file : List ℕ) (end : End) (tx_before tx_after : List ℕ) : Type 0 where
-  pub batches : ℕ
-  pub bound : ℕ
-  pub tree : Bound
-  pub sent : List ℕ
-  pub certificate : List ℕ
-  pub headline : BoundedHeadline file end batches bound tree sent certificate
-  pub part : TookPrefix tx_before tx_after sent
+abbrev pub WritesBoundedPart : List ℕ → End → List ℕ → List ℕ → Type 0
+WritesBoundedPart file end tx_before tx_after =
+    IsOfRound file (λ round. WritesPartOf (HasBoundedHeadline round end) tx_before tx_after)
 
 -- The transmission of such a headline was taken whole, and a prefix of its certificate.
-pub record WritesBoundedCertificatePart (file : List ℕ) (end : End) (tx_before tx_after cert_before cert_after : List ℕ) : Type 0 where
-  pub batches : ℕ
-  pub bound : ℕ
-  pub tree : Bound
-  pub sent : List ℕ
-  pub certificate : List ℕ
-  pub headline : BoundedHeadline file end batches bound tree sent certificate
-  pub transmission : tx_after ≡ tx_before ++ sent
-  pub part : TookPrefix cert_before cert_after certificate
+abbrev pub WritesBoundedCertificatePart : List ℕ → End → List ℕ → List ℕ → List ℕ → List ℕ → Type 0
+WritesBoundedCertificatePart file end tx_before tx_after cert_before cert_after =
+    IsOfRound file (λ round. WritesCertificatePartOf (HasBoundedHeadline round end) tx_before tx_after cert_before cert_after)
 
 -- When each fault of `plan_stream_always` comes: never `SearchLimit`.
 abbrev pub ExplainsStreamAlways : List ℕ → ℕ → StreamFault → Type 0

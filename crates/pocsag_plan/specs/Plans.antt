@@ -8,13 +8,13 @@ use Rattle.pocsag_slots.specs.declared.class.Classes.{Classes}
 use Rattle.pocsag_slots.specs.Loads.{AreClassesOf, IsAdmitted, IsLeast, limits_of_all}
 use Rattle.pocsag_slots.specs.Tours.{IsTour}
 use Rattle.pocsag_tree.specs.Bounds.{Bound}
+use Rattle.pocsag_tree.specs.Limits.{second_ranges}
 use Rattle.pocsag_tree.specs.Spelling.{HasText}
 use Rattle.pocsag_tree.specs.Views.{bound_of}
-use Rattle.pocsag_tree.specs.declared.limits.TheConstants.{SECOND_VERSION}
 use Rattle.pocsag_check.specs.Accepting.{IsAcceptedFor}
 use Rattle.pocsag_branch.specs.Found.{IsNodeLimit}
 use Rattle.pocsag_branch.specs.Marks.{opens}
-use Rattle.pocsag_branch.specs.Shape.{IsShaped}
+use Rattle.pocsag_branch.specs.Shape.{IsSearchTree, IsShaped}
 use Rattle.pocsag_batch.specs.FileOrder.{IsFileOrder}
 use Rattle.pocsag_batch.specs.Placing.{IsOrder}
 use Rattle.pocsag_plan.specs.declared.answer.Plan.{Plan}
@@ -55,11 +55,22 @@ pub record IsBounded (end : End) (R : List Page) (plan : Plan) (bound : ℕ) : T
   pub within_one : plan.batches ≤ bound + 1
   -- The checker accepts the tree for the bound, and there is a text of it.
   pub accepted : IsAcceptedFor false end R bound (bound_of plan.tree)
-  pub text : HasText SECOND_VERSION bound (bound_of plan.tree)
+  pub text : HasText second_ranges bound (bound_of plan.tree)
 
--- A plan of the round for the end: its bound is its batches, so they are the fewest.
-abbrev pub IsPlan : End → List Page → Plan → Type 0
-IsPlan end R plan = IsBounded end R plan plan.batches
+-- The tree is one of the search for the classes of the round, where so many batches are answered.
+pub record IsSearchTreeFor (end : End) (R : List Page) (batches : ℕ) (tree : Bound) : Type 0 where
+  pub table : Classes
+  pub classes : AreClassesOf table end R
+  pub least : ℕ
+  pub is_least : IsLeast table least
+  pub shaped : IsSearchTree table least batches tree
+
+-- A plan of the round for the end.
+pub record IsPlan (end : End) (R : List Page) (plan : Plan) : Type 0 where
+  -- Its bound is its batches, so they are the fewest;
+  pub bounded : IsBounded end R plan plan.batches
+  -- and its tree has the promised shape.
+  pub shaped : IsSearchTreeFor end R plan.batches (bound_of plan.tree)
 
 -- What the search knew of the round when it had made as many nodes as it may.
 pub record IsStopped (end : End) (R : List Page) (limit least found : ℕ) (tree : Bound) : Type 0 where

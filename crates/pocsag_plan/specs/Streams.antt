@@ -11,7 +11,7 @@ use Rattle.pocsag_branch.specs.Found.{IsNodeLimit}
 use Rattle.pocsag_plan.specs.declared.answer.Plan.{Plan}
 use Rattle.pocsag_plan.specs.declared.fault.StreamFault.{StreamFault}
 use Rattle.pocsag_plan.specs.declared.fault.StreamFault.TheVariants as fault
-use Rattle.pocsag_plan.specs.Headline.{Headline}
+use Rattle.pocsag_plan.specs.Headline.{Headline, RoundHeadline}
 use Rattle.pocsag_plan.specs.Plans.{IsPlan, IsStopped}
 
 -- The plan is one of the round of the page file.
@@ -26,32 +26,51 @@ pub record IsStoppedAt (file : List ℕ) (end : End) (limit least found : ℕ) (
   pub read : verdict file ≡ Ok round
   pub stopped : IsStopped end round limit least found tree
 
--- What both writers took more is the transmission and the certificate of the headline.
-pub record Writes (file : List ℕ) (end : End) (batches : ℕ) (tree : Bound) (tx_before tx_after cert_before cert_after : List ℕ) : Type 0 where
+-- What both writers took more is a transmission and a certificate of which it holds.
+pub record WritesAllOf (Holds : List ℕ → List ℕ → Type 0) (tx_before tx_after cert_before cert_after : List ℕ) : Type 0 where
   pub sent : List ℕ
   pub certificate : List ℕ
-  pub headline : Headline file end batches tree sent certificate
+  pub headline : Holds sent certificate
   pub transmission : tx_after ≡ tx_before ++ sent
   pub text : cert_after ≡ cert_before ++ certificate
 
--- What was taken more is a prefix of the transmission of the headline.
-pub record WritesPart (file : List ℕ) (end : End) (tx_before tx_after : List ℕ) : Type 0 where
-  pub batches : ℕ
-  pub tree : Bound
+-- What was taken more is a prefix of the transmission.
+pub record WritesPartOf (Holds : List ℕ → List ℕ → Type 0) (tx_before tx_after : List ℕ) : Type 0 where
   pub sent : List ℕ
   pub certificate : List ℕ
-  pub headline : Headline file end batches tree sent certificate
+  pub headline : Holds sent certificate
   pub part : TookPrefix tx_before tx_after sent
 
--- The transmission of the headline was taken whole, and a prefix of its certificate.
-pub record WritesCertificatePart (file : List ℕ) (end : End) (tx_before tx_after cert_before cert_after : List ℕ) : Type 0 where
-  pub batches : ℕ
-  pub tree : Bound
+-- The transmission was taken whole, and a prefix of its certificate.
+pub record WritesCertificatePartOf (Holds : List ℕ → List ℕ → Type 0) (tx_before tx_after cert_before cert_after : List ℕ) : Type 0 where
   pub sent : List ℕ
   pub certificate : List ℕ
-  pub headline : Headline file end batches tree sent certificate
+  pub headline : Holds sent certificate
   pub transmission : tx_after ≡ tx_before ++ sent
   pub part : TookPrefix cert_before cert_after certificate
+
+-- With some number of batches and some tree the headline of the round holds.
+pub record HasHeadline (round : List Page) (end : End) (sent certificate : List ℕ) : Type 0 where
+  pub batches : ℕ
+  pub tree : Bound
+  pub headline : RoundHeadline round end batches batches tree sent certificate
+
+-- The page file is that of a round of which it holds.
+pub record IsOfRound (file : List ℕ) (Holds : List Page → Type 0) : Type 0 where
+  pub round : List Page
+  pub read : verdict file ≡ Ok round
+  pub holds : Holds round
+
+-- The same of the headline of a page file.
+abbrev pub Writes : List ℕ → End → ℕ → Bound → List ℕ → List ℕ → List ℕ → List ℕ → Type 0
+Writes file end batches tree = WritesAllOf (Headline file end batches tree)
+
+abbrev pub WritesPart : List ℕ → End → List ℕ → List ℕ → Type 0
+WritesPart file end tx_before tx_after = IsOfRound file (λ round. WritesPartOf (HasHeadline round end) tx_before tx_after)
+
+abbrev pub WritesCertificatePart : List ℕ → End → List ℕ → List ℕ → List ℕ → List ℕ → Type 0
+WritesCertificatePart file end tx_before tx_after cert_before cert_after =
+    IsOfRound file (λ round. WritesCertificatePartOf (HasHeadline round end) tx_before tx_after cert_before cert_after)
 
 -- When each fault of `plan_stream` comes, and what it says.
 abbrev pub ExplainsStream : List ℕ → End → ℕ → StreamFault → Type 0

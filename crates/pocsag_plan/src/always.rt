@@ -4,7 +4,7 @@ ghost use Rattle.pocsag_slots.specs.Loads.{AreClassesOf};
 ghost use Rattle.pocsag_tree.specs.Bounds.{closed_nodes};
 ghost use Rattle.pocsag_tree.specs.Views.{bound_of};
 ghost use Rattle.pocsag_branch.specs.Found.{HasPage, IsNodeLimit};
-ghost use Rattle.pocsag_plan.specs.Plans.{ExplainsAlways, IsBounded, IsPlan};
+ghost use Rattle.pocsag_plan.specs.Plans.{ExplainsAlways, IsBounded, NoneHasFewer};
 ghost use Rattle.pocsag_plan.specs.Within.{IsWithinOne};
 
 use crate::bounded::Bounded;
@@ -21,8 +21,9 @@ use std::alloc::Global;
 /// above 1,000,000; never `SearchLimit`.
 pub fn plan_always(alloc: Global, round: &Round, limit: u32, end: End) -> Result<Bounded, PlanFault>
     ensures plan { IfOk result (λ bounded. IsBounded end round.now bounded.plan bounded.bound) }
-    // Where the bound is the batches, it is what `plan` answers.
-    ensures fewest { IfOk result (λ bounded. bounded.bound ≡ bounded.plan.batches → IsPlan end round.now bounded.plan) }
+    // Where the bound is the batches, they are the fewest.
+    ensures fewest { IfOk result (λ bounded. bounded.bound ≡ bounded.plan.batches →
+        NoneHasFewer end round.now bounded.plan.batches) }
     ensures small { IfOk result (λ bounded. closed_nodes (bound_of bounded.plan.tree) ≤ limit) }
     ensures bad_limit { IsErrOf result PlanFault.BadLimit ↔ (¬ IsNodeLimit limit) }
     ensures fault { IfErr result (ExplainsAlways limit) }

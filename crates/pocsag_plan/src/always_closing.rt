@@ -1,14 +1,14 @@
 //! The round that an open round is sent as, where no round is refused.
-ghost use Rattle.std.specs.Prelude.{◌≡◌, ◌≤◌, ◌↔◌, ℕ, List, [], Ok, IfErr, IfOk, IsErrOf, OnOk};
-ghost use Rattle.pocsag_pages.specs.PageFile.{verdict};
+ghost use Rattle.std.specs.Prelude.{◌≡◌, ◌≤◌, ◌↔◌, [], IfErr, IfOk, IsErrOf, OnOk};
 ghost use Rattle.pocsag_pages.specs.Pages.{IsRound};
 ghost use Rattle.pocsag_tree.specs.Bounds.{closed_nodes};
 ghost use Rattle.pocsag_tree.specs.Views.{bound_of};
 ghost use Rattle.pocsag_branch.specs.Found.{IsNodeLimit};
 ghost use Rattle.pocsag_plan.specs.BookPlans.{ExplainsBookAlways, ExplainsBookStreamAlways};
-ghost use Rattle.pocsag_plan.specs.BoundedStreams.{WritesBounded, WritesBoundedCertificatePart, WritesBoundedPart};
-ghost use Rattle.pocsag_plan.specs.Plans.{IsBounded, IsPlan};
-ghost use Rattle.pocsag_plan.specs.Streams.{IsCertificate, IsSearchLimit, IsTransmission, Writes, WritesInTurn};
+ghost use Rattle.pocsag_plan.specs.BoundedStreams.{HasBoundedHeadline};
+ghost use Rattle.pocsag_plan.specs.Headline.{RoundHeadline};
+ghost use Rattle.pocsag_plan.specs.Plans.{IsBounded, NoneHasFewer};
+ghost use Rattle.pocsag_plan.specs.Streams.{IsCertificate, IsSearchLimit, IsTransmission, WritesAllOf, WritesCertificatePartOf, WritesInTurn, WritesPartOf};
 
 use crate::always::bounded_counted;
 use crate::book::Book;
@@ -47,8 +47,9 @@ impl Book {
     pub fn plan_always(&self, limit: u32, end: End) -> Result<Bounded, BookFault>
         ensures round { OnOk result (IsRound self.now) }
         ensures plan { IfOk result (λ bounded. IsBounded end self.now bounded.plan bounded.bound) }
-        // Where the bound is the batches, it is what `plan` answers.
-        ensures fewest { IfOk result (λ bounded. bounded.bound ≡ bounded.plan.batches → IsPlan end self.now bounded.plan) }
+        // Where the bound is the batches, they are the fewest.
+        ensures fewest { IfOk result (λ bounded. bounded.bound ≡ bounded.plan.batches →
+            NoneHasFewer end self.now bounded.plan.batches) }
         ensures small { IfOk result (λ bounded. closed_nodes (bound_of bounded.plan.tree) ≤ limit) }
         ensures bad_limit { IsErrOf result BookFault.BadLimit ↔ (¬ IsNodeLimit limit) }
         ensures no_pages { IsErrOf result BookFault.NoPages ↔ (IsNodeLimit limit × (self.now ≡ [])) }
@@ -68,12 +69,14 @@ impl Book {
         limit: u32,
         end: End,
     ) -> Result<Bounded, StreamFault>
-        // The headline with a bound, of each page file of these pages; and where the bound is the batches, the
-        // headline.
-        ensures headline { T.tells → C.tells → IfOk result (λ bounded. (file : List ℕ) → verdict file ≡ Ok self.now →
-            WritesBounded file end bounded.plan.batches bounded.bound (bound_of bounded.plan.tree) (T.taken tx.old) (T.taken tx.new) (C.taken cert.old) (C.taken cert.new)) }
-        ensures fewest { T.tells → C.tells → IfOk result (λ bounded. bounded.bound ≡ bounded.plan.batches → (file : List ℕ) → verdict file ≡ Ok self.now →
-            Writes file end bounded.plan.batches (bound_of bounded.plan.tree) (T.taken tx.old) (T.taken tx.new) (C.taken cert.old) (C.taken cert.new)) }
+        // The headline of these pages with the bound; the batches are the bound, or one more, by `plan`.
+        ensures headline { T.tells → C.tells → IfOk result (λ bounded.
+            WritesAllOf (RoundHeadline self.now end bounded.plan.batches bounded.bound (bound_of bounded.plan.tree))
+            (T.taken tx.old) (T.taken tx.new) (C.taken cert.old) (C.taken cert.new)) }
+        ensures fewest { T.tells → C.tells → IfOk result (λ bounded. bounded.bound ≡ bounded.plan.batches →
+            WritesAllOf
+            (RoundHeadline self.now end bounded.plan.batches bounded.plan.batches (bound_of bounded.plan.tree))
+            (T.taken tx.old) (T.taken tx.new) (C.taken cert.old) (C.taken cert.new)) }
         ensures plan { IfOk result (λ bounded. IsBounded end self.now bounded.plan bounded.bound) }
         ensures small { IfOk result (λ bounded. closed_nodes (bound_of bounded.plan.tree) ≤ limit) }
 
@@ -82,10 +85,11 @@ impl Book {
         ensures answered { IfErr result (λ e. ¬ IsSearchLimit e) }
         ensures bad_limit { IsErrOf result StreamFault.BadLimit ↔ (¬ IsNodeLimit limit) }
         ensures writers { WritesInTurn T.failures C.failures tx.old tx.new cert.old cert.new result }
-        ensures part { T.tells → IfErr result (λ e. IsTransmission e → (file : List ℕ) → verdict file ≡ Ok self.now →
-            WritesBoundedPart file end (T.taken tx.old) (T.taken tx.new)) }
-        ensures certificate_part { T.tells → C.tells → IfErr result (λ e. IsCertificate e → (file : List ℕ) → verdict file ≡ Ok self.now →
-            WritesBoundedCertificatePart file end (T.taken tx.old) (T.taken tx.new) (C.taken cert.old) (C.taken cert.new)) }
+        ensures part { T.tells → IfErr result (λ e. IsTransmission e →
+            WritesPartOf (HasBoundedHeadline self.now end) (T.taken tx.old) (T.taken tx.new)) }
+        ensures certificate_part { T.tells → C.tells → IfErr result (λ e. IsCertificate e →
+            WritesCertificatePartOf (HasBoundedHeadline self.now end)
+            (T.taken tx.old) (T.taken tx.new) (C.taken cert.old) (C.taken cert.new)) }
     {
         let (round, bounded) = self.bounded(limit, end)?;
         send(&round, &bounded.plan, bounded.bound, end, tx, cert)?;

@@ -1,13 +1,13 @@
 //! The round that an open round is sent as.
-ghost use Rattle.std.specs.Prelude.{◌≡◌, ◌<◌, ◌≤◌, ◌↔◌, ℕ, List, [], Ok, length, IfErr, IfOk, IsErrOf, OnOk};
-ghost use Rattle.pocsag_pages.specs.PageFile.{verdict};
+ghost use Rattle.std.specs.Prelude.{◌≡◌, ◌<◌, ◌≤◌, ◌↔◌, [], length, IfErr, IfOk, IsErrOf, OnOk};
 ghost use Rattle.pocsag_pages.specs.Pages.{IsRound};
 ghost use Rattle.pocsag_tree.specs.Bounds.{closed_nodes};
 ghost use Rattle.pocsag_tree.specs.Views.{bound_of};
 ghost use Rattle.pocsag_branch.specs.Found.{IsNodeLimit};
 ghost use Rattle.pocsag_plan.specs.BookPlans.{ExplainsBook, ExplainsBookStream};
+ghost use Rattle.pocsag_plan.specs.Headline.{RoundHeadline};
 ghost use Rattle.pocsag_plan.specs.Plans.{IsPlan};
-ghost use Rattle.pocsag_plan.specs.Streams.{IsCertificate, IsTransmission, Writes, WritesCertificatePart, WritesInTurn, WritesPart};
+ghost use Rattle.pocsag_plan.specs.Streams.{HasHeadline, IsCertificate, IsTransmission, WritesAllOf, WritesCertificatePartOf, WritesInTurn, WritesPartOf};
 ghost use Rattle.pocsag_plan.specs.declared.fault.StreamFault.TheVariants as fault;
 
 use crate::answer::Plan;
@@ -79,9 +79,10 @@ impl Book {
         limit: u32,
         end: End,
     ) -> Result<Plan, StreamFault>
-        // The headline, of each page file of these pages.
-        ensures headline { T.tells → C.tells → IfOk result (λ plan. (file : List ℕ) → verdict file ≡ Ok self.now →
-            Writes file end plan.batches (bound_of plan.tree) (T.taken tx.old) (T.taken tx.new) (C.taken cert.old) (C.taken cert.new)) }
+        // The headline of these pages.
+        ensures headline { T.tells → C.tells → IfOk result (λ plan.
+            WritesAllOf (RoundHeadline self.now end plan.batches plan.batches (bound_of plan.tree))
+            (T.taken tx.old) (T.taken tx.new) (C.taken cert.old) (C.taken cert.new)) }
         ensures plan { IfOk result (IsPlan end self.now) }
         ensures small { IfOk result (λ plan. closed_nodes (bound_of plan.tree) ≤ limit) }
 
@@ -89,10 +90,11 @@ impl Book {
         ensures explained { IfErr result (ExplainsBookStream end self.now limit) }
         ensures bad_limit { IsErrOf result StreamFault.BadLimit ↔ (¬ IsNodeLimit limit) }
         ensures writers { WritesInTurn T.failures C.failures tx.old tx.new cert.old cert.new result }
-        ensures part { T.tells → IfErr result (λ e. IsTransmission e → (file : List ℕ) → verdict file ≡ Ok self.now →
-            WritesPart file end (T.taken tx.old) (T.taken tx.new)) }
-        ensures certificate_part { T.tells → C.tells → IfErr result (λ e. IsCertificate e → (file : List ℕ) → verdict file ≡ Ok self.now →
-            WritesCertificatePart file end (T.taken tx.old) (T.taken tx.new) (C.taken cert.old) (C.taken cert.new)) }
+        ensures part { T.tells → IfErr result (λ e. IsTransmission e →
+            WritesPartOf (HasHeadline self.now end) (T.taken tx.old) (T.taken tx.new)) }
+        ensures certificate_part { T.tells → C.tells → IfErr result (λ e. IsCertificate e →
+            WritesCertificatePartOf (HasHeadline self.now end)
+            (T.taken tx.old) (T.taken tx.new) (C.taken cert.old) (C.taken cert.new)) }
     {
         let (round, plan) = self.planned(limit, end)?;
         send(&round, &plan, plan.batches, end, tx, cert)?;

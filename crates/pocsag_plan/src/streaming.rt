@@ -1,13 +1,12 @@
-ghost use Rattle.std.specs.Prelude.{◌≡◌, ◌≤◌, ◌↔◌, ℕ, List, IfErr, IfOk, IsErrOf, OnOk};
+ghost use Rattle.std.specs.Prelude.{◌≡◌, ◌≤◌, ◌↔◌, IfErr, IfOk, IsErrOf, OnOk};
 ghost use Rattle.pocsag_words.specs.Devices.{HasFailed};
-ghost use Rattle.pocsag_pages.specs.PageFile.{verdict};
 ghost use Rattle.pocsag_pages.specs.declared.fault.RoundFault.TheVariants as round_fault;
 ghost use Rattle.pocsag_tree.specs.Bounds.{closed_nodes};
 ghost use Rattle.pocsag_tree.specs.Views.{bound_of};
 ghost use Rattle.pocsag_branch.specs.Found.{IsNodeLimit};
-ghost use Rattle.pocsag_plan.specs.BoundedStreams.{WritesBounded, WritesBoundedCertificatePart, WritesBoundedPart};
+ghost use Rattle.pocsag_plan.specs.Headline.{RoundHeadline};
 ghost use Rattle.pocsag_plan.specs.Plans.{IsBounded};
-ghost use Rattle.pocsag_plan.specs.Streams.{ExplainsStream, IsCertificate, IsPlanOf, IsTransmission, Writes, WritesCertificatePart, WritesInTurn, WritesPart};
+ghost use Rattle.pocsag_plan.specs.Streams.{ExplainsStream, IsCertificate, IsPlanOf, IsTransmission, Writes, WritesAllOf, WritesCertificatePart, WritesCertificatePartOf, WritesInTurn, WritesPart, WritesPartOf};
 ghost use Rattle.pocsag_plan.specs.declared.fault.StreamFault.TheVariants as fault;
 ghost use Rattle.pocsag_plan.specs.declared.streaming.Unsent.TheVariants as unsent;
 
@@ -34,7 +33,8 @@ pub fn plan_stream<S: Source, T: Sink, C: Sink>(
 ) -> Result<Plan, StreamFault>
     // The headline.
     ensures headline { S.tells → T.tells → C.tells → IfOk result (λ plan.
-        Writes (S.held source.old) end plan.batches (bound_of plan.tree) (T.taken tx.old) (T.taken tx.new) (C.taken cert.old) (C.taken cert.new)) }
+        Writes (S.held source.old) end plan.batches (bound_of plan.tree)
+        (T.taken tx.old) (T.taken tx.new) (C.taken cert.old) (C.taken cert.new)) }
     ensures plan { S.tells → IfOk result (IsPlanOf (S.held source.old) end) }
     ensures small { IfOk result (λ plan. closed_nodes (bound_of plan.tree) ≤ limit) }
 
@@ -46,10 +46,12 @@ pub fn plan_stream<S: Source, T: Sink, C: Sink>(
     ensures part { S.tells → T.tells → IfErr result (λ e. IsTransmission e →
         WritesPart (S.held source.old) end (T.taken tx.old) (T.taken tx.new)) }
     ensures certificate_part { S.tells → T.tells → C.tells → IfErr result (λ e. IsCertificate e →
-        WritesCertificatePart (S.held source.old) end (T.taken tx.old) (T.taken tx.new) (C.taken cert.old) (C.taken cert.new)) }
+        WritesCertificatePart (S.held source.old) end
+        (T.taken tx.old) (T.taken tx.new) (C.taken cert.old) (C.taken cert.new)) }
 
     // The reader's fault is answered only where it failed.
-    ensures read_failed { IsErrOf result (fault.Round round_fault.ReadFault) → HasFailed (S.failures source.old) (S.failures source.new) }
+    ensures read_failed { IsErrOf result (fault.Round round_fault.ReadFault) →
+        HasFailed (S.failures source.old) (S.failures source.new) }
     ensures read_succeeded { OnOk result (S.failures source.new ≡ S.failures source.old) }
 {
     if !is_node_limit(limit) {
@@ -91,26 +93,23 @@ pub(crate) fn send<T: Sink, C: Sink>(
     cert: &mut C,
 ) -> Result<(), Unsent>
     requires { IsBounded end round.now plan.now bound }
-    // What is said of each page file of the round.
-    ensures whole { T.tells → C.tells → OnOk result ((file : List ℕ) → verdict file ≡ Ok round.now →
-        WritesBounded file end plan.now.batches bound (bound_of plan.now.tree) (T.taken tx.old) (T.taken tx.new) (C.taken cert.old) (C.taken cert.new)) }
-    ensures part { T.tells → IsErrOf result Unsent.Transmission → (file : List ℕ) → verdict file ≡ Ok round.now →
-        WritesBoundedPart file end (T.taken tx.old) (T.taken tx.new) }
-    ensures certificate_part { T.tells → C.tells → IsErrOf result Unsent.Certificate → (file : List ℕ) → verdict file ≡ Ok round.now →
-        WritesBoundedCertificatePart file end (T.taken tx.old) (T.taken tx.new) (C.taken cert.old) (C.taken cert.new) }
-
-    // The same where the bound is the batches.
-    ensures fewest { T.tells → C.tells → bound ≡ plan.now.batches → OnOk result ((file : List ℕ) → verdict file ≡ Ok round.now →
-        Writes file end plan.now.batches (bound_of plan.now.tree) (T.taken tx.old) (T.taken tx.new) (C.taken cert.old) (C.taken cert.new)) }
-    ensures fewest_part { T.tells → bound ≡ plan.now.batches → IsErrOf result Unsent.Transmission → (file : List ℕ) → verdict file ≡ Ok round.now →
-        WritesPart file end (T.taken tx.old) (T.taken tx.new) }
-    ensures fewest_certificate_part { T.tells → C.tells → bound ≡ plan.now.batches → IsErrOf result Unsent.Certificate → (file : List ℕ) → verdict file ≡ Ok round.now →
-        WritesCertificatePart file end (T.taken tx.old) (T.taken tx.new) (C.taken cert.old) (C.taken cert.new) }
+    // The headline of the round, with the bound.
+    ensures whole { T.tells → C.tells → OnOk result (
+        WritesAllOf (RoundHeadline round.now end plan.now.batches bound (bound_of plan.now.tree))
+        (T.taken tx.old) (T.taken tx.new) (C.taken cert.old) (C.taken cert.new)) }
+    ensures part { T.tells → IsErrOf result Unsent.Transmission →
+        WritesPartOf (RoundHeadline round.now end plan.now.batches bound (bound_of plan.now.tree))
+        (T.taken tx.old) (T.taken tx.new) }
+    ensures certificate_part { T.tells → C.tells → IsErrOf result Unsent.Certificate →
+        WritesCertificatePartOf (RoundHeadline round.now end plan.now.batches bound (bound_of plan.now.tree))
+        (T.taken tx.old) (T.taken tx.new) (C.taken cert.old) (C.taken cert.new) }
     ensures not_begun { IsErrOf result Unsent.Transmission → cert.new ≡ cert.old }
     ensures failed { IsErrOf result Unsent.Transmission → HasFailed (T.failures tx.old) (T.failures tx.new) }
-    ensures certificate_failed { IsErrOf result Unsent.Certificate → HasFailed (C.failures cert.old) (C.failures cert.new) }
+    ensures certificate_failed { IsErrOf result Unsent.Certificate →
+        HasFailed (C.failures cert.old) (C.failures cert.new) }
     ensures certificate_succeeded { IsErrOf result Unsent.Certificate → T.failures tx.new ≡ T.failures tx.old }
-    ensures succeeded { OnOk result ((T.failures tx.new ≡ T.failures tx.old) × (C.failures cert.new ≡ C.failures cert.old)) }
+    ensures succeeded { OnOk result (
+        (T.failures tx.new ≡ T.failures tx.old) × (C.failures cert.new ≡ C.failures cert.old)) }
 {
     let _pages = round.pages();
     let slots = Slots::new(round, &plan.steps, &plan.order);

@@ -1,13 +1,12 @@
 -- The codewords that bytes are sent from, and the text of the bytes.
-use Rattle.std.proofs.Common.{◌≡◌, ℕ, ◌*◌, ◌%◌, ◌<◌, ◌≤◌, List, get_or, Fits, w8, length, map, Result, Ok, Err, All, ap, sym, subst, ◌∙◌, arith}
+use Rattle.std.proofs.Common.{◌≡◌, ℕ, ◌*◌, ◌%◌, ◌≤◌, List, length, map, Result, Ok, Err, All, ap, inr, sym, subst, ◌∙◌, arith}
 use Rattle.std.proofs.lemmas.List.{length-map}
 use Rattle.pocsag_words.specs.Codeword.{IsCodeword}
 use Rattle.pocsag_words.specs.Kinds.{kind_of}
 use Rattle.pocsag_pages.specs.declared.page.Page.{Page}
 use Rattle.pocsag_pages.specs.Bytes.{codewords_in}
-use Rattle.pocsag_decode.specs.Faults.{IsPastPreamble, ReadsAs}
-use Rattle.pocsag_decode.proofs.SentBytes.{codewords_are, reads_whole}
-use Rattle.std.proofs.lemmas.List.Elements.{All-from_get_or}
+use Rattle.pocsag_decode.specs.Faults.{ReadsAs}
+use Rattle.pocsag_decode.proofs.SentBytes.{codewords_are}
 use Rattle.std.specs.Result.{IsErr, IsErrAnd, MatchResult}
 use Rattle.pocsag_pages.specs.Listable.{IsListable}
 use Rattle.pocsag_show.specs.declared.judged.Judged.{Judged}
@@ -35,17 +34,10 @@ module _ (X : List ℕ) (ps : List Page) (r : ReadsAs X ps) where
   pub are_some : (grid : Grid) → IsGridOf (map kind_of (codewords_in X)) grid → 16 ≤ length grid.letters.items
   are_some grid g = let n = count in let m = g.count in let some = r.sent.whole.0 in omega arith
 
-  is_past : All (λ b. b < 256) X → IsPastPreamble X
-  is_past small =
-      let w = reads_whole X ps small r in record { long = w.long; more = λ e. let n = ap length e in let some = w.some in omega arith }
-
-  pub past : ((i : ℕ) → Fits w8 (get_or X i 0)) → IsPastPreamble X
-  past fits = is_past (All-from_get_or (λ b. b < 256) X 0 (λ i h. omega (arith, (fits i).fits)))
-
 -- the bytes, their pages and their grid
 pub judged_is : (X : List ℕ) (judged : Judged) → ReadsAs X judged.pages.items → All IsListable judged.pages.items
-    → IsGridOf (map kind_of (codewords_in X)) judged.grid → ((i : ℕ) → Fits w8 (get_or X i 0)) → IsJudged X judged
-judged_is X judged r listable grid fits =
+    → IsGridOf (map kind_of (codewords_in X)) judged.grid → IsJudged X judged
+judged_is X judged r listable grid =
     let ps = judged.pages.items in
     record {
       reading = r;
@@ -53,7 +45,6 @@ judged_is X judged r listable grid fits =
       grid = subst (λ (T : List ℕ). IsGridOf (map kind_of T) judged.grid) (same X ps r) grid;
       whole = let n = are_whole X ps r in let m = grid.count in omega arith;
       some = are_some X ps r judged.grid grid;
-      past = past X ps r fits;
     }
 
 -- the text of the codewords
@@ -64,9 +55,9 @@ is_grid_text X shown judged j e = record { pages = judged.pages.items; reading =
 pub kinds_whole : (X : List ℕ) (judged : Judged) (j : IsJudged X judged) → length (map kind_of j.reading.codewords) % 16 ≡ 0
 kinds_whole X judged j = let n = j.grid.count in let m = j.whole in omega arith
 
--- want of memory past the preamble
-pub wanting : {T : Type 0} (X : List ℕ) (r : Result T ShowFault) (Good : T → Type 0) → IsPastPreamble X → IsErr r
+-- want of memory for bytes that read as pages
+pub wanting : {T : Type 0} (X : List ℕ) (r : Result T ShowFault) (Good : T → Type 0) (ps : List Page) → ReadsAs X ps → IsErr r
     → IsErrAnd r (λ e. e ≡ fault.OutOfMemory)
     → MatchResult r Good (ExplainsReading X)
-wanting X (Ok v) Good past err is = absurd (cc)
-wanting X (Err e) Good past err is = (λ w. cc, subst (Explains X) (sym is) past)
+wanting X (Ok v) Good ps reading err is = absurd (cc)
+wanting X (Err e) Good ps reading err is = (λ w. cc, subst (Explains X) (sym is) (inr (ps, reading)))

@@ -2,7 +2,7 @@
 use Rattle.std.specs.Prelude.{◌≡◌, ℕ, ◌%◌, ◌≤◌, List, length, map, All}
 use Rattle.pocsag_words.specs.Kinds.{kind_of}
 use Rattle.pocsag_pages.specs.Listable.{IsListable}
-use Rattle.pocsag_decode.specs.Faults.{IsPastPreamble, ReadsAs}
+use Rattle.pocsag_decode.specs.Faults.{ReadsAs}
 use Rattle.pocsag_show.specs.declared.judged.Judged.{Judged}
 use Rattle.pocsag_show.specs.Taking.{IsGridOf}
 
@@ -14,4 +14,3 @@ pub record IsJudged (X : List ℕ) (judged : Judged) : Type 0 where
   pub grid : IsGridOf (map kind_of reading.codewords) judged.grid
   pub whole : length judged.grid.letters.items % 16 ≡ 0
   pub some : 16 ≤ length judged.grid.letters.items
-  pub past : IsPastPreamble X

@@ -17,7 +17,7 @@ holds_other : (set member other : ℕ) → member < 16 → other ≢ member → 
 unfolding holds
 holds_other set member other h ne = ap (λ (n : ℕ). n == 1) (bit_at_set_other w16 set member h other ne)
 
-holds_none : (member : ℕ) → holds 0 member ≡ false
+pub holds_none : (member : ℕ) → holds 0 member ≡ false
 unfolding holds
 holds_none member = ap (λ (n : ℕ). n == 1) (bit_at-zero member)
 

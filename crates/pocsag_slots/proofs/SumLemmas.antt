@@ -93,6 +93,10 @@ pub chosen_none : (b : Bool) (x : ℕ) → x ≡ 0 → cond b x 0 ≡ 0
 chosen_none true x none = none
 chosen_none false x none = refl
 
+pub sum_over-le : (set : ℕ) (f g : ℕ → ℕ) → ((slot : ℕ) → slot < 16 → f slot ≤ g slot) → sum_over set f ≤ sum_over set g
+unfolding sum_over
+sum_over-le set f g h = grind (arith, sum_below-le)
+
 pub sum_over-add : (set : ℕ) (f g : ℕ → ℕ) → sum_over set (λ slot. f slot + g slot) ≡ sum_over set f + sum_over set g
 unfolding sum_over
 sum_over-add set f g =

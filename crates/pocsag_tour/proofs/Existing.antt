@@ -2,11 +2,14 @@
 use Rattle.std.proofs.Common.{◌≡◌, ◌≢◌, ℕ, zero, suc, ◌+◌, ◌-◌, ◌^◌, ◌<◌, ◌≤◌, ◌==◌, ◌&&◌, nat_lt, Bool, true, false, not, cond, List, [], ◌∷◌, ◌++◌, ◌⊎◌, refl, arith, eq-eqb, inl, inr}
 use Rattle.std.proofs.lemmas.Bool.{cases_eq, eqb-true, ne_eqb, not-false, not-true}
 use Rattle.std.proofs.lemmas.Bool.Decides.{nat_tests}
+use Rattle.pocsag_words.specs.declared.ending.End.TheVariants.{Open, Closed}
 use Rattle.pocsag_slots.specs.declared.step.Step.{Step}
 use Rattle.pocsag_slots.specs.Sums.{AddsMember, SetsTakeMembers, holds, sum_below}
-use Rattle.pocsag_tour.specs.Moves.{AllLeadTo, arc_from, arc_to, IsBalanced, IsDeparture, IsEntering, IsSpent, IsWalk, IsWay, LeadHome, NoneEnters, step_of}
+use Rattle.pocsag_slots.specs.Tours.{LastAs}
+use Rattle.pocsag_tour.specs.Moves.{AllLeadTo, arc_from, arc_to, IsBalanced, IsClosing, IsDeparture, IsEntering, IsSpent, IsWalk, IsWay, LeadHome, NoneEnters, step_of}
 use Rattle.pocsag_tour.proofs.Flooding.{grown_keeps, homes_more, homes_start}
 use Rattle.pocsag_tour.proofs.Geometry.{from_below}
+use Rattle.pocsag_tour.proofs.Joining.{balanced_without, closed_way, joined_closed}
 use Rattle.pocsag_tour.proofs.Walks.{IsLess, sum_less, walk_end, walk_on, walk_start}
 
 -- a number that passes a test, or that none does
@@ -182,3 +185,19 @@ pub way_exists : SetsTakeMembers → (counts : ℕ → ℕ) (root : ℕ) → roo
 way_exists law counts root h balanced all =
     let tree : IsTree counts root = tree_exists law counts root h in
     go_on counts root h all tree (suc (sum_below 288 counts)) counts 0 [] (omega arith) (walk_start counts tree.exits root balanced)
+
+-- a way for an end: any, or one that takes a closing arc last
+pub open_way_exists : SetsTakeMembers → (counts : ℕ → ℕ) → IsBalanced counts 0 0 → AllLeadTo counts 0 →
+    (steps : List Step) × (IsWay counts 0 steps × LastAs Open steps)
+open_way_exists law counts balanced all =
+    let way : (steps : List Step) × IsWay counts 0 steps = way_exists law counts 0 (omega arith) balanced all in
+    (way.0, (way.1, tt))
+
+pub closed_way_exists : SetsTakeMembers → (counts : ℕ → ℕ) (last : ℕ) → IsClosing counts last → IsBalanced counts 0 0 → AllLeadTo counts 0 →
+    (steps : List Step) × (IsWay counts 0 steps × LastAs Closed steps)
+closed_way_exists law counts last z balanced all =
+    let less : ℕ → ℕ = one_less counts last in
+    let l : IsLess last counts less = is_less counts last z.there in
+    let way : (steps : List Step) × IsWay less 15 steps =
+    way_exists law less 15 (omega arith) (balanced_without counts less last balanced z l) (joined_closed counts less last balanced all z l) in
+    (way.0 ++ (step_of last ∷ []), closed_way counts less last way.0 z l way.1)

@@ -2,13 +2,14 @@
 use Rattle.std.proofs.Common.{◌≡◌, ◌⊎◌, ℕ, ◌+◌, ◌%◌, ◌<◌, ◌≤◌, ◌==◌, Bool, true, false, List, length, slice_index, ltb, sym, ap, subst, ◌∙◌, arith, inl, inr, bit_or, max}
 use Rattle.std.proofs.lemmas.Bool.{cases_eq, lt-ltb, ltb-true}
 use Rattle.std.proofs.lemmas.Bool.Decides.{nat_tests}
-use Rattle.std.proofs.lemmas.Nat.Bits.{bit_at_or, bit_at-lt, bit_at-zero}
+use Rattle.std.proofs.lemmas.Nat.Bits.{bit_at_or, bit_at-lt}
 use Rattle.std.specs.Int.{bit_at}
 use Rattle.pocsag_slots.specs.declared.class.Classes.{Classes}
 use Rattle.pocsag_slots.specs.Loads.{load}
 use Rattle.pocsag_slots.specs.Numbering.{start_of, finish_of}
 use Rattle.pocsag_slots.specs.Sums.{holds}
 use Rattle.pocsag_slots.proofs.CoverLemmas.{start_below}
+use Rattle.pocsag_slots.proofs.Members.{holds_none}
 use Rattle.pocsag_tour.specs.Links.{AddsLink, AreLinked, at_start, by_idle, by_link, by_run, Follows, HaveIdles, HaveRuns, IsLed, IsLinked}
 use Rattle.pocsag_tour.specs.Reached.{AreReached, IsReached, at_start as start, by_idle as on_idle, by_run as on_run, runs_of}
 
@@ -34,10 +35,6 @@ holds_left a b i held = rw (bit_at_or a b i) (left_bit (bit_at a i) (bit_at b i)
 holds_right : (a b i : ℕ) → holds b i ≡ true → holds (bit_or a b) i ≡ true
 unfolding holds
 holds_right a b i held = rw (bit_at_or a b i) (right_bit (bit_at a i) (bit_at b i) (bit_at-lt a i) held)
-
-pub holds_nothing : (i : ℕ) → holds 0 i ≡ false
-unfolding holds
-holds_nothing i = ap (λ (n : ℕ). n == 1) (bit_at-zero i)
 
 pub link_at : (there : Bool) (links more : ℕ → ℕ) (from to p q : ℕ) → from ≡ p → to ≡ q → AddsLink there links more from to →
     AddsLink there links more p q
@@ -102,7 +99,7 @@ pub no_links : (k : Classes) (choice : ℕ → ℕ) (batches : ℕ) (links : Lis
 no_links k choice batches links long none = record {
   long = long;
   linked = λ p q h held. absurd (let out : holds (slice_index links p) q ≡ false = ap (λ (s : ℕ). holds s q) (none p h)
-      ∙ holds_nothing q in cc);
+      ∙ holds_none q in cc);
   runs = λ c e h. absurd (omega arith);
 }
 

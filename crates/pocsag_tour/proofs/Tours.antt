@@ -246,7 +246,8 @@ pub refused : (k : Classes) (choice : ℕ → ℕ) (b : ℕ) (counts : ℕ → �
 refused k choice b counts end (Apart set) are chosen within never = absurd never
 refused k choice b counts end Unclosed are chosen within known =
     (known.0, unclosed k choice b counts known.3.0 are chosen within known.3.1 known.1 known.2)
-refused k choice b counts end OutOfMemory are chosen within known = tt
+refused k choice b counts end OutOfMemory are chosen within known =
+    (known.0, tour_of k end choice b counts known.0 are chosen within known.1.0 known.1.1)
 
 -- the two arcs that may close
 pub closing_idle : (counts : ℕ → ℕ) → 0 < counts 287 → IsClosing counts 287

@@ -10,7 +10,7 @@ use Rattle.pocsag_slots.specs.Arcs.{runs}
 use Rattle.pocsag_slots.specs.Loads.{load}
 use Rattle.pocsag_slots.specs.Numbering.{start_of, finish_of}
 use Rattle.pocsag_slots.specs.Sums.{holds, sum_below}
-use Rattle.pocsag_slots.specs.Tours.{Leads, idles, LastIsWhole}
+use Rattle.pocsag_slots.specs.Tours.{Leads, idles, LastAs, LastIsWhole}
 use Rattle.pocsag_tour.specs.declared.fault.TourFault.{TourFault}
 use Rattle.pocsag_tour.specs.declared.fault.TourFault.TheVariants.{Apart, Unclosed, OutOfMemory}
 
@@ -142,9 +142,10 @@ pub record IsClosing (counts : ℕ → ℕ) (a : ℕ) : Type 0 where
   pub to : arc_to a ≡ 0
   pub last : LastIsWhole (step_of a ∷ [])
 
--- What is known where the runs are not apart, and there is yet no way for the end.
+-- What is known where the runs are not apart, and yet no way for the end was given: memory is wanted only
+-- where there is one.
 abbrev pub NoWay : (ℕ → ℕ) → End → TourFault → Type 0
 NoWay counts end (Apart set) = ⊥
 NoWay counts end Unclosed =
     (end ≡ Closed) × (counts 287 ≡ 0) × (counts 271 ≡ 0) × ((steps : List Step) × IsWay counts 0 steps)
-NoWay counts end OutOfMemory = Unit {0}
+NoWay counts end OutOfMemory = (steps : List Step) × (IsWay counts 0 steps × LastAs end steps)

@@ -66,8 +66,8 @@ pub record IsUnclosed (k : Classes) (choice : ℕ → ℕ) (batches : ℕ) : Typ
   pub no_idle : load k choice 15 ≡ batches
   pub no_late : runs_of k choice 135 false ≡ 0
 
--- What a refusal says.
+-- What a refusal says; memory is wanted only where there is a tour.
 abbrev pub IsRefused : Classes → (ℕ → ℕ) → ℕ → End → TourFault → Type 0
 IsRefused k choice batches end (Apart set) = IsApart k choice batches set
 IsRefused k choice batches end Unclosed = (end ≡ Closed) × IsUnclosed k choice batches
-IsRefused k choice batches end OutOfMemory = Unit {0}
+IsRefused k choice batches end OutOfMemory = (steps : List Step) × IsTour k end choice batches steps

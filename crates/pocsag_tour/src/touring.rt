@@ -17,7 +17,8 @@ use std::alloc::{AllocError, Global};
 
 /// A tour of the choice with so many batches, for the end: steps from boundary 0 back to boundary 0 that
 /// take each run once and fill each slot with idles. `Apart` where some run is not reached from boundary
-/// 0; with the closed end `Unclosed` where there is a tour for the open end alone.
+/// 0; with the closed end `Unclosed` where there is a tour for the open end alone; `OutOfMemory` only where
+/// there is a tour.
 pub fn tour(
     alloc: Global,
     classes: &Classes,
@@ -45,6 +46,7 @@ fn way(alloc: Global, counts: &[u32; 288], end: End) -> Result<Vec<Step>, TourFa
     ensures way { IfOk result (λ steps. IsWay (slice_index counts.now) 0 steps.items × LastAs end steps.items) }
     ensures refused { IfErr result (NoWay (slice_index counts.now) end) }
 {
+    sets_take_members();
     match end {
         End::Open => Ok(walk(alloc, counts, 0, steps_over(counts))?),
         End::Closed => whole_way(alloc, counts),

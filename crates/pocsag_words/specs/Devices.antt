@@ -9,6 +9,10 @@ one_more n = if nat_lt n (2 ^ 64 - 1) then n + 1 else n
 abbrev pub HasFailed : ℕ → ℕ → Type 0
 HasFailed before after = before < 2 ^ 64 - 1 → before < after
 
+-- There was at most one call for each byte that was due, and so none where none was.
+abbrev pub CallsPerByte : (before after : ℕ) → (due : List ℕ) → Type 0
+CallsPerByte before after due = after ≤ before + length due
+
 -- What was taken after is what was taken before and a prefix of what was due.
 abbrev pub TookPrefix : (before after due : List ℕ) → Type 0
 TookPrefix before after due = (length before ≤ length after) × (take (length after) (before ++ due) ≡ after)

@@ -1,5 +1,5 @@
 ghost use Rattle.std.specs.Prelude.{◌≡◌, ℕ, ◌<◌, ◌≤◌, List, [], ◌++◌, length, take, IfOk, OnOk, OnErr};
-ghost use Rattle.pocsag_words.specs.Devices.{CountsFailures, Delivers, one_more};
+ghost use Rattle.pocsag_words.specs.Devices.{CallsPerByte, CountsFailures, Delivers, one_more};
 
 /// A device failed in a call; the call moved no byte.
 #[derive(Clone, Copy, PartialEq, Eq, Debug)]
@@ -57,6 +57,9 @@ pub trait Sink {
 /// taken.
 pub fn write_all<S: Sink>(sink: &mut S, bytes: &[u8]) -> Result<(), DeviceFault>
     ensures delivers { S.tells → Delivers result (S.taken sink.old) (S.taken sink.new) bytes.now }
+
+    // No call of the writer is without a byte to write.
+    ensures calls { CallsPerByte (S.calls sink.old) (S.calls sink.new) bytes.now }
     ensures failures { CountsFailures result (S.failures sink.old) (S.failures sink.new) }
 {
     let mut rest = bytes;

@@ -1,7 +1,8 @@
 use Rattle.std.proofs.Common.{◌≡◌, ◌+◌, ◌<◌, ◌≤◌, length, get_or, drop, arith, ap}
 use Rattle.pocsag_pages.specs.declared.page.Page.{Page}
 use Rattle.pocsag_batch.proofs.FileOrders.{left_step}
-use Rattle.pocsag_batch.proofs.PageLists.{drop_at, good_at}
+use Rattle.pocsag_pages.proofs.PageLists.{left}
+use Rattle.pocsag_batch.proofs.PageLists.{good_at}
 use Rattle.pocsag_batch.proofs.order.in_order_batches.Goals as goal
 
 pub loop-page-preserved : goal.loop-page-preserved
@@ -18,6 +19,6 @@ loop-page-preserved c =
           rw long
           (left_step c.loop-page.index c.gap_to_frame-index.result (length T) p
           (drop (k + 1) c.args.round.now) c.gap_to_frame-index.ensures.least
-          (rw (← (drop_at c.args.round.now k p within is)) (c.loop-page.invariant.0 T f))),
+          (rw (← (left c.args.round.now k p within is)) (c.loop-page.invariant.0 T f))),
       omega arith,
     )

@@ -2,7 +2,8 @@ use Rattle.std.proofs.Common.{◌≡◌, ◌+◌, ◌*◌, ◌<◌, ◌≤◌, l
 use Rattle.pocsag_pages.specs.declared.page.Page.{Page}
 use Rattle.pocsag_pages.specs.Pages.{IsRound}
 use Rattle.pocsag_batch.proofs.Laying.{idled_length, laid_length, laid_more, laid_last, laid_batches, laid_legal}
-use Rattle.pocsag_batch.proofs.PageLists.{drop_at, good_at}
+use Rattle.pocsag_pages.proofs.PageLists.{left}
+use Rattle.pocsag_batch.proofs.PageLists.{good_at}
 use Rattle.pocsag_batch.proofs.order.lay_in_order.Goals as goal
 
 pub push_page-requires : goal.push_page-requires
@@ -28,7 +29,7 @@ loop-page-preserved c =
           c.in_ok-push_idles.ensures c.in_ok-push_page.ensures
           (rw c.len.ensures at c.gap_to_frame.ensures.least)
           (λ U order. c.loop-page.invariant.0 U
-          (rw (drop_at R k p within is) order)),
+          (rw (left R k p within is) order)),
       omega arith,
     )
 

@@ -4,7 +4,7 @@ use Rattle.std.proofs.lemmas.Iterator.Consumers.{YieldsList-from_first}
 use Rattle.std.specs.Iterator.{YieldsFirstBy}
 use Rattle.pocsag_words.specs.Kinds.{kind_of}
 use Rattle.pocsag_words.specs.declared.codeword.Kind.{Kind}
-use Rattle.pocsag_batch.proofs.UnderWay.{all_came, part_came, sends_part}
+use Rattle.pocsag_batch.proofs.UnderWay.{all_came, called_part, part_came, sends_part}
 use Rattle.pocsag_batch.proofs.writing.write_slots.Goals as goal
 
 -- what the iterator has left is what it gives
@@ -21,4 +21,18 @@ returns-in-Err-clause-part g c t =
     let done = c.in-Err.ensures.part t in
     let part = part_came done.0 done.1 (gives c.args.slots) done.2 in
     sends_part c.same_from_kind.ensures c.args.slots (g.S.Sink.taken c.args.sink.now) (g.S.Sink.taken c.write_words.new.sink) done.0 part.0
+    c.are_sayable.ensures done.3 part.1 done.4
+
+pub returns-in-Ok-clause-calls : goal.returns-in-Ok-clause-calls
+returns-in-Ok-clause-calls g c =
+    let done = c.in-Ok.ensures.calls in
+    let part = part_came done.0 done.1 (gives c.args.slots) done.2 in
+    called_part c.same_from_kind.ensures c.args.slots (g.S.Sink.calls c.args.sink.now) (g.S.Sink.calls c.write_words.new.sink) done.0 part.0
+    c.are_sayable.ensures done.3 part.1 done.4
+
+pub returns-in-Err-clause-calls : goal.returns-in-Err-clause-calls
+returns-in-Err-clause-calls g c =
+    let done = c.in-Err.ensures.calls in
+    let part = part_came done.0 done.1 (gives c.args.slots) done.2 in
+    called_part c.same_from_kind.ensures c.args.slots (g.S.Sink.calls c.args.sink.now) (g.S.Sink.calls c.write_words.new.sink) done.0 part.0
     c.are_sayable.ensures done.3 part.1 done.4

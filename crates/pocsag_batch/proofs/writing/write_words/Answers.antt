@@ -1,7 +1,7 @@
 use Rattle.std.proofs.Common.{◌∷◌, [], refl, ◌∙◌, arith, length-append}
 use Rattle.std.proofs.lemmas.List.Elements.{All-append, All-cons, All-nil}
 use Rattle.pocsag_words.specs.Codeword.{IsCodeword}
-use Rattle.pocsag_batch.proofs.Sent.{sent_first, sent_more}
+use Rattle.pocsag_batch.proofs.Sent.{called_first, called_more, sent_first, sent_more}
 use Rattle.pocsag_batch.proofs.writing.write_words.Goals as goal
 
 pub loop-word-init : goal.loop-word-init
@@ -11,6 +11,7 @@ loop-word-init g c = (
   sent_first g.S.Sink.tells (g.S.Sink.taken c.args.sink.now) c.new-piece.result c.new-piece.ensures,
   refl,
   All-nil IsCodeword,
+  called_first (g.S.Sink.calls c.args.sink.now) c.new-piece.result c.new-piece.ensures,
   refl,
 )
 
@@ -27,5 +28,8 @@ loop-word-preserved g c =
       omega (arith, length-append came (c.in-Some.word ∷ [])),
       All-append IsCodeword came (c.in-Some.word ∷ []) c.loop-word.invariant.4
           (All-cons IsCodeword c.in-Some.word [] c.in_ok-put_word.ensures.codeword (All-nil IsCodeword)),
-      c.in_ok-put_word.ensures.failures.0 ∙ c.loop-word.invariant.5,
+      called_more (g.S.Sink.calls c.args.sink.now) (g.S.Sink.calls c.loop-word.sink) (g.S.Sink.calls c.put_word.new.sink)
+          c.loop-word.piece c.put_word.new.piece came c.loop-word.slot c.in-Some.word
+          c.loop-word.invariant.3 c.loop-word.invariant.5 c.in_ok-put_word.ensures.calls,
+      c.in_ok-put_word.ensures.failures.0 ∙ c.loop-word.invariant.6,
     )

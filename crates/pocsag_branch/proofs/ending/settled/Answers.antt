@@ -1,6 +1,7 @@
 use Rattle.std.proofs.Common.{refl, inl}
 use Rattle.pocsag_tree.specs.declared.shape.Tree.TheVariants.{Overload}
 use Rattle.pocsag_tree.specs.Views.{bound_of}
+use Rattle.pocsag_branch.specs.Shape.{at_least}
 use Rattle.pocsag_branch.proofs.TreeEnds.{least_tree, tree_bound}
 use Rattle.pocsag_branch.proofs.ending.settled.Goals as goal
 
@@ -18,5 +19,5 @@ returns c =
       bound = tree_bound c.args.classes.now c.args.question.end c.args.question.batches (bound_of (Overload c.args.set)) tree.accepted;
       examined = tree.examined;
       few = tree.few;
-      shaped = tree.shaped;
+      shaped = at_least refl tree.one;
     }

@@ -1,9 +1,10 @@
 use Rattle.std.proofs.Common.{◌-◌, ◌≤◌}
-use Rattle.pocsag_branch.specs.Examined.{greatest_least, Refuses}
+use Rattle.pocsag_branch.specs.Examined.{greatest_least}
+use Rattle.pocsag_branch.specs.Shape.{RefusesOneLess}
 use Rattle.pocsag_branch.proofs.least.least_of.Given as goal
 
 abbrev pub invariant-loop-choice : goal.invariant-loop-choice
-invariant-loop-choice l = Refuses l.classes l.batches l.set × (l.batches ≤ greatest_least)
+invariant-loop-choice l = RefusesOneLess l.classes l.batches l.set × (l.batches ≤ greatest_least)
 
 abbrev pub decreases-loop-choice : goal.decreases-loop-choice
 decreases-loop-choice l = greatest_least - l.batches

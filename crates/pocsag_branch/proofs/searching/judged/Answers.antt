@@ -1,6 +1,7 @@
 use Rattle.std.proofs.Common.{◌≡◌, ◌+◌, ap, refl, sym, ◌∙◌, arith, inr, slice_index, replicate, false, true, ◌++◌}
 use Rattle.std.proofs.lemmas.List.{append-nil}
 use Rattle.pocsag_tree.specs.Views.{bound_of}
+use Rattle.pocsag_branch.specs.Shape.{one_more}
 use Rattle.pocsag_branch.proofs.TreeEnds.{closed_is, has_room, least_bound, none_unseen, some_unseen, tree_bound, tree_open, tree_whole}
 use Rattle.pocsag_branch.proofs.searching.judged.Goals as goal
 
@@ -50,5 +51,5 @@ returns-clause-found c =
       examined = fills.layout ∙ ap (λ n. replicate fills.closed false ++ replicate n true) none ∙ append-nil (replicate fills.closed false)
           ∙ ap (λ n. replicate n false) (sym closed);
       few = omega (arith, closed, fills.spent, fills.within);
-      shaped = c.requires.tree.examined.shaped;
+      shaped = one_more refl c.requires.tree.examined.shaped;
     }

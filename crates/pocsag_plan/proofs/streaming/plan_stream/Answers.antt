@@ -1,5 +1,5 @@
 use Rattle.std.proofs.lemmas.Result.{err_from_is_err_and}
-use Rattle.pocsag_plan.proofs.Due.{in_turn}
+use Rattle.pocsag_plan.proofs.Due.{certificate_of, certificate_part_of, in_turn, part_of, transmission_of}
 use Rattle.pocsag_plan.proofs.streaming.plan_stream.Goals as goal
 
 pub returns-in_err-send-clause-writers : goal.returns-in_err-send-clause-writers
@@ -8,3 +8,25 @@ returns-in_err-send-clause-writers g c =
     let send = c.in_err-send.ensures in
     rw (p.1, p.2) (in_turn _ _ _ _ _ _ c.in_err-send.field-0.0 send.not_begun send.failed send.certificate_failed
     send.certificate_succeeded)
+
+pub returns-in_err-send-clause-part : goal.returns-in_err-send-clause-part
+returns-in_err-send-clause-part g c = λ tells tx_tells.
+    let p = err_from_is_err_and c.from_residual-in_err-send.result c.from_residual-in_err-send.ensures.1 in
+    rw (p.1, p.2)
+    (transmission_of c.in_err-send.field-0.0 _ (λ failed.
+    record {
+      round = c.in_ok-round.round;
+      read = c.in_ok-round.ensures.ok tells;
+      holds = part_of _ _ _ _ _ _ (c.in_err-send.ensures.part tx_tells failed);
+    }))
+
+pub returns-in_err-send-clause-certificate_part : goal.returns-in_err-send-clause-certificate_part
+returns-in_err-send-clause-certificate_part g c = λ tells tx_tells cert_tells.
+    let p = err_from_is_err_and c.from_residual-in_err-send.result c.from_residual-in_err-send.ensures.1 in
+    rw (p.1, p.2)
+    (certificate_of c.in_err-send.field-0.0 _ (λ failed.
+    record {
+      round = c.in_ok-round.round;
+      read = c.in_ok-round.ensures.ok tells;
+      holds = certificate_part_of _ _ _ _ _ _ _ _ (c.in_err-send.ensures.certificate_part tx_tells cert_tells failed);
+    }))

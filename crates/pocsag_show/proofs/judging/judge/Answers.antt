@@ -1,4 +1,4 @@
-use Rattle.pocsag_show.proofs.Texts.{all_codewords, judged_is, past, wanting}
+use Rattle.pocsag_show.proofs.Texts.{all_codewords, judged_is, wanting}
 use Rattle.pocsag_show.proofs.judging.judge.Goals as goal
 
 pub grid_of-requires : goal.grid_of-requires
@@ -6,9 +6,8 @@ grid_of-requires c = all_codewords c.args.bytes.now _ c.in_ok-pages.ensures.deco
 
 pub returns-in_err-grid : goal.returns-in_err-grid
 returns-in_err-grid c =
-    wanting c.args.bytes.now c.from_residual-in_err-grid.result _
-    (past c.args.bytes.now _ c.in_ok-pages.ensures.decoded c.type_inv.bytes) c.from_residual-in_err-grid.ensures.0
-    c.from_residual-in_err-grid.ensures.1
+    wanting c.args.bytes.now c.from_residual-in_err-grid.result _ _ c.in_ok-pages.ensures.decoded
+    c.from_residual-in_err-grid.ensures.0 c.from_residual-in_err-grid.ensures.1
 
 pub returns : goal.returns
-returns c = judged_is c.args.bytes.now _ c.in_ok-pages.ensures.decoded c.in_ok-pages.ensures.listable c.in_ok-grid.ensures c.type_inv.bytes
+returns c = judged_is c.args.bytes.now _ c.in_ok-pages.ensures.decoded c.in_ok-pages.ensures.listable c.in_ok-grid.ensures

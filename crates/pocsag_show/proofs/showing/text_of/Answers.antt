@@ -4,7 +4,7 @@ use Rattle.pocsag_show.proofs.showing.text_of.Goals as goal
 pub returns-in_err-picture_of : goal.returns-in_err-picture_of
 returns-in_err-picture_of c =
     wanting c.args.bytes.now c.from_residual-in_err-picture_of.result
-    _ c.in_ok-judged.ensures.past c.from_residual-in_err-picture_of.ensures.0 c.from_residual-in_err-picture_of.ensures.1
+    _ _ c.in_ok-judged.ensures.reading c.from_residual-in_err-picture_of.ensures.0 c.from_residual-in_err-picture_of.ensures.1
 
 pub returns : goal.returns
 returns c =

@@ -1,5 +1,6 @@
 use Rattle.std.proofs.Common.{arith, refl, slice_index}
-use Rattle.pocsag_tour.proofs.Existing.{way_exists}
+use Rattle.std.proofs.lemmas.Result.{err_from_is_err_and}
+use Rattle.pocsag_tour.proofs.Existing.{closed_way_exists, way_exists}
 use Rattle.pocsag_tour.proofs.touring.whole_way.Goals as goal
 
 pub returns-in-None-clause-refused : goal.returns-in-None-clause-refused
@@ -9,3 +10,10 @@ returns-in-None-clause-refused c = (
   c.in-None.ensures.none.1,
   way_exists c.sets_take_members.ensures (slice_index c.args.counts.now) 0 (omega arith) c.requires.balanced c.requires.joined,
 )
+
+pub returns-in_err-way_with_last-in-Some-clause-refused : goal.returns-in_err-way_with_last-in-Some-clause-refused
+returns-in_err-way_with_last-in-Some-clause-refused c =
+    let told = err_from_is_err_and c.from_residual.result c.from_residual.ensures.1 in
+    rw (told.1, told.2)
+    (closed_way_exists c.sets_take_members.ensures (slice_index c.args.counts.now) c.in-Some.last c.in-Some.ensures.found
+    c.requires.balanced c.requires.joined)

@@ -4,7 +4,7 @@ use Rattle.std.proofs.lemmas.Result.{on_ok_weaker, IfErr-weaker}
 use Rattle.pocsag_pages.specs.Bytes.{words_of}
 use Rattle.pocsag_decode.specs.declared.carry.Carry.{Carry}
 use Rattle.pocsag_decode.specs.Carried.{carried}
-use Rattle.pocsag_decode.proofs.Words.{byte_more, word_more, bad_word_more, refuses}
+use Rattle.pocsag_decode.proofs.Words.{byte_more, word_more, refused_more}
 use Rattle.pocsag_decode.proofs.body.Body.take_byte.Goals as goal
 
 pub returns-in-None-clause-stands : goal.returns-in-None-clause-stands
@@ -29,5 +29,5 @@ returns-in-Three-clause-bad c = λ Y s.
     let bytes : Carry → List ℕ = λ k. carried k ++ c.args.byte ∷ [] in
     let long = ap (λ (k : Carry). length (bytes k)) c.in-Three.is in
     let word = c.from_be_bytes.ensures ∙ ap (λ (k : Carry). from_be_bytes w32 (bytes k)) (sym c.in-Three.is) in
-    IfErr-weaker _ _ _ (λ f. refuses f _ _ (bad_word_more _ Y (c.args.byte ∷ []) _ s long word f))
+    IfErr-weaker _ _ _ (λ f. refused_more _ Y (c.args.byte ∷ []) _ s long word f)
     (c.take_word.ensures.bad (words_of Y) s.read)

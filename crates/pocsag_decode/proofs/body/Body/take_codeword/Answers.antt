@@ -1,7 +1,8 @@
-use Rattle.std.proofs.Common.{inr, refl, sym, ap, ◌∙◌, rules}
+use Rattle.std.proofs.Common.{inl, inr, refl, sym, ap, ◌∙◌, rules}
+use Rattle.std.proofs.lemmas.Result.{err_from_is_err_and}
 use Rattle.pocsag_words.specs.Kinds.{kind_of}
 use Rattle.pocsag_decode.specs.Places.{is_message}
-use Rattle.pocsag_decode.proofs.WordByWord.{read_codeword, refused_codeword, refused_orphan}
+use Rattle.pocsag_decode.proofs.WordByWord.{kept_codeword, read_codeword, refused_codeword, refused_orphan}
 use Rattle.pocsag_decode.proofs.body.Body.take_codeword.Goals as goal
 use Rattle.pocsag_decode.proofs.body.Body.take_codeword.Goals.{else-is_message-via-then-is_message+else-not-is_open, else-is_message-via-else-is_message}
 
@@ -25,3 +26,9 @@ returns-clause-read c =
       | else-is_message-via-else-is_message w ↦ search rules
     ])
     (c.in_ok-take.ensures.current) (c.in_ok-take.ensures.reads) r
+
+pub returns-in_err-take-clause-bad : goal.returns-in_err-take-clause-bad
+returns-in_err-take-clause-bad c =
+    λ ws r.
+    let told = err_from_is_err_and c.from_residual.result c.from_residual.ensures.1 in
+    rw (told.1, told.2) (inl (refl, kept_codeword _ _ ws _ r c.requires.other c.in-Some.ensures.0 c.in_err-take.ensures.memory))

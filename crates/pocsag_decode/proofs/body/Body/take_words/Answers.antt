@@ -3,7 +3,7 @@ use Rattle.std.specs.Int.{from_be_bytes, w32}
 use Rattle.std.proofs.lemmas.Result.{err_from_is_err_and}
 use Rattle.pocsag_pages.specs.Bytes.{words_of}
 use Rattle.pocsag_decode.specs.Carried.{carried}
-use Rattle.pocsag_decode.proofs.Words.{word_more, bad_word_more, refuses, taken, not_taken, split_is, is_nil, taking_last}
+use Rattle.pocsag_decode.proofs.Words.{word_more, refused_more, taken, not_taken, split_is, is_nil, taking_last}
 use Rattle.pocsag_decode.proofs.body.Body.take_words.Goals as goal
 
 pub loop-rest-preserved : goal.loop-rest-preserved
@@ -35,7 +35,7 @@ returns-in_err-take_word-clause-bad c =
     let word = c.word_of.ensures ∙ ap (λ (l : List ℕ). from_be_bytes w32 (l ++ front)) (sym i.0) in
     let p = err_from_is_err_and c.from_residual.result c.from_residual.ensures.1 in
     rw (p.1, p.2) (not_taken _ _ _ _ _ _ i.2 split _ (λ Y s.
-    refuses _ _ _ (bad_word_more _ Y front _ s long word _) (c.in_err-take_word.ensures.bad (words_of Y) s.read)))
+    refused_more _ Y front _ s long word _ (c.in_err-take_word.ensures.bad (words_of Y) s.read)))
 
 pub returns-clause-stands : goal.returns-clause-stands
 returns-clause-stands c = taking_last _ _ _ _ (is_nil _ c.loop-rest-test.ensures) c.loop-rest.invariant.2

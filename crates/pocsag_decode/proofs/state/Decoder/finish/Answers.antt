@@ -1,4 +1,4 @@
-use Rattle.std.proofs.Common.{map}
+use Rattle.std.proofs.Common.{map, sym, ◌∙◌}
 use Rattle.pocsag_words.specs.Kinds.{kind_of}
 use Rattle.pocsag_pages.specs.Bytes.{codewords_in}
 use Rattle.pocsag_decode.proofs.Feeding.{ended_whole}
@@ -26,4 +26,4 @@ returns-in_err-judged-clause-memory c = λ X s e.
 pub returns-in_err-finish-clause-memory : goal.returns-in_err-finish-clause-memory
 returns-in_err-finish-clause-memory c = λ X s e.
     let ends = c.in_ok-judged.ensures in
-    whole_no_fault X (ended_whole _ X s ends.long ends.some ends.whole)
+    (whole_no_fault X (ended_whole _ X s ends.long ends.some ends.whole), sym s.words.read.may ∙ c.in_err-finish.ensures.memory)

@@ -55,5 +55,5 @@ returns-clause-refused c = λ X s.
     let body : StandsIn c.skip_preamble-rest.new.self.body (after_preamble X) = rw c.skip_preamble-rest.ensures.body s.words in
     IfErr-weaker _ _ _
     (λ f b. refused_body _ X s c.skip_preamble-rest.new.self c.args.piece.now c.skip_preamble-rest.result.now few k.1 k.0 f
-    c.if-self-lt-PREAMBLE.false (not_nil _ c.if-is_empty.ensures) c.skip_preamble-rest.ensures.within b)
+    c.if-self-lt-PREAMBLE.false b)
     (c.take.ensures.bad (after_preamble X) body)

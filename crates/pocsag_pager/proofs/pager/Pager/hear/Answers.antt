@@ -1,7 +1,8 @@
-use Rattle.std.proofs.Common.{◌<◌, ◌++◌, ◌∷◌, [], subst, sym, arith}
+use Rattle.std.proofs.Common.{◌≡◌, ◌%◌, ◌<◌, ◌++◌, ◌∷◌, [], length, subst, sym, arith}
 use Rattle.std.specs.Prelude.{None}
+use Rattle.pocsag_pager.specs.Turns.{IsHeardAs}
 use Rattle.pocsag_pager.proofs.Places.{ending_none}
-use Rattle.pocsag_pager.proofs.Hearings.{IsOpen, place_more, skip_ended, skip_open, turn_ended, turn_open}
+use Rattle.pocsag_pager.proofs.Hearings.{IsOpen, place_more, open_still, skip_ended, skip_open, turn_ended, turn_open}
 use Rattle.pocsag_pager.proofs.pager.Pager.hear.Goals as goal
 
 pub returns-then-place-eq0-clause-stands : goal.returns-then-place-eq0-clause-stands
@@ -53,3 +54,17 @@ returns-then-not-opens-clause-ended c = λ words ps s have.
     let self = c.args.self.now in
     turn_ended self.address self.place c.args.word words self.state None c.heard_as-heard.result s.place c.if-place-gt0.true
     c.if-waits.ensures c.heard_as-heard.ensures s.open_page ps None (sym (ending_none c.heard_as-heard.result)) have
+
+pub returns-in_err-kept-clause-memory : goal.returns-in_err-kept-clause-memory
+returns-in_err-kept-clause-memory c = λ words s e.
+    let self = c.args.self.now in
+    let message = c.in_err-kept.ensures.message in
+    let place : self.place ≡ length words % 17 = s.place in
+    record {
+      codeword = omega arith;
+      bits = message.0;
+      message = subst (IsHeardAs c.args.word) message.1 c.heard_as-heard.ensures;
+      open_page =
+          open_still words self.address self.state c.in-Listening.kept (sym c.in-Listening.ensures.value)
+          c.in_err-kept.ensures.open_page s.open_page;
+    }

@@ -1,24 +1,23 @@
-use Rattle.std.proofs.Common.{◌≡◌, Ok, refl, rules}
+use Rattle.std.proofs.Common.{rules}
 use Rattle.std.proofs.lemmas.Result.{err_from_is_err_and}
-use Rattle.pocsag_pages.specs.PageFile.{verdict}
-use Rattle.pocsag_plan.proofs.Due.{certificate_of, in_turn, transmission_of}
+use Rattle.pocsag_branch.specs.Found.{IsNodeLimit}
+use Rattle.pocsag_plan.proofs.Due.{book_unsent, certificate_of, certificate_part_of, in_turn, part_of, transmission_of}
 use Rattle.pocsag_plan.proofs.book.Book.plan_stream.Goals as goal
 
 pub returns-in_err-send-clause-part : goal.returns-in_err-send-clause-part
 returns-in_err-send-clause-part g c = λ tx_tells.
     let p = err_from_is_err_and c.from_residual-in_err-send.result c.from_residual-in_err-send.ensures.1 in
     rw (p.1, p.2)
-    (transmission_of c.in_err-send.field-0.0 _ (λ failed file read.
-    let its : verdict file ≡ Ok c.in_ok-round.round = search rules in
-    c.in_err-send.ensures.fewest_part tx_tells refl failed file its))
+    (transmission_of c.in_err-send.field-0.0 _ (λ failed.
+    part_of c.args.end c.args.self.now _ _ _ _ (rw c.in_ok-round.ensures.round.0 at c.in_err-send.ensures.part tx_tells failed)))
 
 pub returns-in_err-send-clause-certificate_part : goal.returns-in_err-send-clause-certificate_part
 returns-in_err-send-clause-certificate_part g c = λ tx_tells cert_tells.
     let p = err_from_is_err_and c.from_residual-in_err-send.result c.from_residual-in_err-send.ensures.1 in
     rw (p.1, p.2)
-    (certificate_of c.in_err-send.field-0.0 _ (λ failed file read.
-    let its : verdict file ≡ Ok c.in_ok-round.round = search rules in
-    c.in_err-send.ensures.fewest_certificate_part tx_tells cert_tells refl failed file its))
+    (certificate_of c.in_err-send.field-0.0 _ (λ failed.
+    certificate_part_of c.args.end c.args.self.now _ _ _ _ _ _
+    (rw c.in_ok-round.ensures.round.0 at c.in_err-send.ensures.certificate_part tx_tells cert_tells failed)))
 
 pub returns-in_err-send-clause-writers : goal.returns-in_err-send-clause-writers
 returns-in_err-send-clause-writers g c =
@@ -26,3 +25,9 @@ returns-in_err-send-clause-writers g c =
     let send = c.in_err-send.ensures in
     rw (p.1, p.2) (in_turn _ _ _ _ _ _ c.in_err-send.field-0.0 send.not_begun send.failed send.certificate_failed
     send.certificate_succeeded)
+
+pub returns-in_err-send-clause-explained : goal.returns-in_err-send-clause-explained
+returns-in_err-send-clause-explained g c =
+    let within : IsNodeLimit c.args.limit = search rules in
+    let p = err_from_is_err_and c.from_residual-in_err-send.result c.from_residual-in_err-send.ensures.1 in
+    rw (p.1, p.2) (book_unsent c.in_err-send.field-0.0 c.args.end c.args.self.now c.args.limit within c.in_ok-round.ensures.round.1)

@@ -1,24 +1,24 @@
-use Rattle.std.proofs.Common.{◌≡◌, Ok, rules}
 use Rattle.std.proofs.lemmas.Result.{err_from_is_err_and}
-use Rattle.pocsag_pages.specs.PageFile.{verdict}
-use Rattle.pocsag_plan.proofs.Due.{certificate_of, in_turn, transmission_of}
+use Rattle.pocsag_plan.proofs.Due.{bounded_certificate_part_of, bounded_part_of, certificate_of, in_turn, transmission_of}
 use Rattle.pocsag_plan.proofs.book.Book.plan_stream_always.Goals as goal
 
 pub returns-in_err-send-clause-part : goal.returns-in_err-send-clause-part
 returns-in_err-send-clause-part g c = λ tx_tells.
     let p = err_from_is_err_and c.from_residual-in_err-send.result c.from_residual-in_err-send.ensures.1 in
+    let planned = c.in_ok-round in
     rw (p.1, p.2)
-    (transmission_of c.in_err-send.field-0.0 _ (λ failed file read.
-    let its : verdict file ≡ Ok c.in_ok-round.round = search rules in
-    c.in_err-send.ensures.part tx_tells failed file its))
+    (transmission_of c.in_err-send.field-0.0 _ (λ failed.
+    let part = rw planned.ensures.round.0 at c.in_err-send.ensures.part tx_tells failed in
+    bounded_part_of c.args.end c.args.self.now planned.bounded.plan planned.bounded.bound _ _ planned.ensures.plan part))
 
 pub returns-in_err-send-clause-certificate_part : goal.returns-in_err-send-clause-certificate_part
 returns-in_err-send-clause-certificate_part g c = λ tx_tells cert_tells.
     let p = err_from_is_err_and c.from_residual-in_err-send.result c.from_residual-in_err-send.ensures.1 in
+    let planned = c.in_ok-round in
     rw (p.1, p.2)
-    (certificate_of c.in_err-send.field-0.0 _ (λ failed file read.
-    let its : verdict file ≡ Ok c.in_ok-round.round = search rules in
-    c.in_err-send.ensures.certificate_part tx_tells cert_tells failed file its))
+    (certificate_of c.in_err-send.field-0.0 _ (λ failed.
+    let part = rw planned.ensures.round.0 at c.in_err-send.ensures.certificate_part tx_tells cert_tells failed in
+    bounded_certificate_part_of c.args.end c.args.self.now planned.bounded.plan planned.bounded.bound _ _ _ _ planned.ensures.plan part))
 
 pub returns-in_err-send-clause-writers : goal.returns-in_err-send-clause-writers
 returns-in_err-send-clause-writers g c =

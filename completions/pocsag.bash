@@ -1,0 +1,41 @@
+# Completions of pocsag for bash: commands, options and their values; any other word is a file's name.
+_pocsag() {
+    local word=${COMP_WORDS[COMP_CWORD]} before=${COMP_WORDS[COMP_CWORD - 1]} command=pocsag
+    case $before in
+    --end)
+        mapfile -t COMPREPLY < <(compgen -W "open closed" -- "$word")
+        return
+        ;;
+    --rate)
+        mapfile -t COMPREPLY < <(compgen -W "512 1200 2400" -- "$word")
+        return
+        ;;
+    --limit)
+        COMPREPLY=()
+        return
+        ;;
+    esac
+    if ((COMP_CWORD > 1)); then
+        command=${COMP_WORDS[1]}
+    fi
+    local -A options=(
+        [pocsag]='--help --version -h -V'
+        [plan]='--limit --end --always --verify --keep --help -h'
+        [check]='--help -h'
+        [decode]='--help -h'
+        [hear]='--help -h'
+        [show]='--svg --list --help -h'
+        [open]='--always --help -h'
+        [report]='--rate --limit --end --always --help -h'
+        [help]=''
+    )
+    local commands='plan check decode hear show open report help'
+    if [[ $word == -* ]]; then
+        mapfile -t COMPREPLY < <(compgen -W "${options[$command]-}" -- "$word")
+    elif ((COMP_CWORD == 1)) || [[ $command == help && $COMP_CWORD -eq 2 ]]; then
+        mapfile -t COMPREPLY < <(compgen -W "$commands" -- "$word")
+    else
+        COMPREPLY=()
+    fi
+}
+complete -o default -F _pocsag pocsag

@@ -1,5 +1,0 @@
-pub mod Bounding
-pub mod Planning
-pub mod Readback
-pub mod Shown
-pub mod Statuses

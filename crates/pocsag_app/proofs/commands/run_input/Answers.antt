@@ -1,6 +1,0 @@
-use Rattle.pocsag_app.proofs.Statuses.{done}
-use Rattle.pocsag_app.proofs.commands.run_input.Goals as goal
-
-pub returns-clause-told : goal.returns-clause-told
-returns-clause-told g c =
-    λ input_tells out_tells zero. done _ _ _ c.ended.ensures.value zero (c.plan_input-done.ensures input_tells out_tells)

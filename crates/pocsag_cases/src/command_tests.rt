@@ -1,0 +1,451 @@
+//! The commands over memory: what each tells, what it leaves, and its exit status.
+
+use pocsag_commands::{
+    DEFAULT_LIMIT, run_check, run_decode, run_hear, run_input, run_plan, run_plan_always,
+    run_report, run_report_always, run_verify,
+};
+use pocsag_words::{End, MemorySink, MemorySource};
+use std::alloc::Global;
+use std::test::Fail;
+
+const LONE_TONE: &[u8] = b"address,kind,message\n8,tone0,\n";
+
+const OTHER_TONE: &[u8] = b"address,kind,message\n16,tone0,\n";
+
+const BAD_FILE: &[u8] = b"address,kind,message\n7,numeric,12a\n";
+
+// The worked example `loops-apart`: fewer than three batches are refuted by the third node of the search.
+const LOOPS_APART: &[u8] = b"address,kind,message\n\
+    0,numeric,111111111111111111111111111111111111111111111111111111111111111111111111111\n\
+    3,numeric,111111111111111111111111111111111111111111111111111111111111111111111111111";
+
+// The worked example `one-full-batch`: its message goes on to the end of the transmission.
+const ONE_FULL_BATCH: &[u8] = b"address,kind,message\n\
+    0,numeric,111111111111111111111111111111111111111111111111111111111111111111111111111";
+
+// The limit, the end, and whether each round is answered.
+#[derive(Clone, Copy)]
+struct Search {
+    limit: u32,
+    end: End,
+    always: bool,
+}
+
+const OPEN: Search = Search {
+    limit: DEFAULT_LIMIT,
+    end: End::Open,
+    always: false,
+};
+
+const CLOSED: Search = Search {
+    limit: DEFAULT_LIMIT,
+    end: End::Closed,
+    always: false,
+};
+
+const fn open_to(limit: u32, always: bool) -> Search {
+    Search {
+        limit,
+        end: End::Open,
+        always,
+    }
+}
+
+// What a command answered and told.
+#[derive(Drop)]
+struct Told {
+    status: u8,
+    out: MemorySink<200>,
+    err: MemorySink<100>,
+}
+
+// The same of a plan, and what its two files took.
+#[derive(Drop)]
+struct Planned {
+    told: Told,
+    tx: MemorySink<300>,
+    cert: MemorySink<100>,
+}
+
+// After how many bytes the page file and the two outputs fail.
+#[derive(Clone, Copy)]
+struct Faults {
+    pages: u64,
+    tx: u64,
+    cert: u64,
+}
+
+const SOUND: Faults = Faults {
+    pages: 1000,
+    tx: 1000,
+    cert: 1000,
+};
+
+fn plan(alloc: Global, search: Search, file: &[u8], faults: Faults) -> Planned {
+    let Search { limit, end, always } = search;
+    let mut pages = MemorySource::new(file, 4, faults.pages);
+    let mut tx = MemorySink::<300>::new(9, faults.tx);
+    let mut cert = MemorySink::<100>::new(3, faults.cert);
+    let mut out = MemorySink::<200>::new(1, 1000);
+    let mut err = MemorySink::<100>::new(1, 1000);
+    let status = if always {
+        run_plan_always(
+            alloc, limit, end, &mut pages, &mut tx, &mut cert, &mut out, &mut err,
+        )
+    } else {
+        run_plan(
+            alloc, limit, end, &mut pages, &mut tx, &mut cert, &mut out, &mut err,
+        )
+    };
+    Planned {
+        told: Told { status, out, err },
+        tx,
+        cert,
+    }
+}
+
+// A plan that is asked for, what it tells, the length of its transmission, and the last byte of the number in
+// its certificate.
+#[derive(Clone, Copy)]
+struct PlanCase {
+    file: &'static [u8],
+    search: Search,
+    faults: Faults,
+    status: u8,
+    out: &'static str,
+    err: &'static str,
+    sent: usize,
+    bound: Option<u8>,
+}
+
+const LONE_PLAN: PlanCase = PlanCase {
+    file: LONE_TONE,
+    search: OPEN,
+    faults: SOUND,
+    status: 0,
+    out: "pages 1\nbatches 1\n",
+    err: "",
+    sent: 140,
+    bound: Some(1),
+};
+
+// The worked example at a limit, answered in any case.
+const fn apart_plan(limit: u32, out: &'static str, bound: u8) -> PlanCase {
+    PlanCase {
+        file: LOOPS_APART,
+        search: open_to(limit, true),
+        faults: SOUND,
+        status: 0,
+        out,
+        err: "",
+        sent: 72 + 3 * 68,
+        bound: Some(bound),
+    }
+}
+
+const fn refused_plan(
+    search: Search,
+    faults: Faults,
+    status: u8,
+    err: &'static str,
+    sent: usize,
+) -> PlanCase {
+    PlanCase {
+        file: LONE_TONE,
+        search,
+        faults,
+        status,
+        out: "",
+        err,
+        sent,
+        bound: None,
+    }
+}
+
+#[test]
+fn plans_are_told(rt: HostRuntime) -> Result<(), Fail> {
+    let no_page = Faults { pages: 10, ..SOUND };
+    let cut_sending = Faults { tx: 100, ..SOUND };
+    let cut_certificate = Faults { cert: 5, ..SOUND };
+    let bad_limit = "pocsag: the limit must be 1 to 1000000\n";
+    let no_read = "pocsag: cannot read or open a file\n";
+    let no_write = "pocsag: cannot write\n";
+    let cases = [
+        LONE_PLAN,
+        PlanCase {
+            search: CLOSED,
+            ..LONE_PLAN
+        },
+        apart_plan(1, "pages 2\nbatches 3\nat least 2 batches\n", 2),
+        apart_plan(3, "pages 2\nbatches 3\n", 3),
+        refused_plan(open_to(0, false), SOUND, 1, bad_limit, 0),
+        refused_plan(open_to(9, false), no_page, 3, no_read, 0),
+        refused_plan(open_to(9, false), cut_sending, 3, no_write, 100),
+        refused_plan(open_to(9, false), cut_certificate, 3, no_write, 140),
+    ];
+    for case in cases {
+        let planned = plan(rt.alloc(), case.search, case.file, case.faults);
+        assert_eq!(rt; planned.told.status, case.status);
+        assert_eq!(rt; planned.told.out.bytes(), case.out.as_bytes());
+        assert_eq!(rt; planned.told.err.bytes(), case.err.as_bytes());
+        assert_eq!(rt; planned.tx.bytes().len(), case.sent);
+        assert_eq!(rt; planned.cert.bytes().get(8).copied(), case.bound);
+    }
+    Ok(())
+}
+
+// A command that reads files, and what its words ask for.
+#[derive(Clone, Copy)]
+enum Command {
+    Input,
+    Check,
+    Decode,
+    Hear(u32),
+    Verify(End, bool),
+    // The rate first.
+    Report(u32, Search),
+}
+
+// Runs a command on the page file and on what was planned.
+fn run(alloc: Global, command: Command, file: &[u8], planned: &Planned) -> Told {
+    let mut pages = MemorySource::new(file, 4, 1000);
+    let mut tx = MemorySource::new(planned.tx.bytes(), 4, 1000);
+    let mut cert = MemorySource::new(planned.cert.bytes(), 4, 1000);
+    let mut out = MemorySink::<200>::new(1, 1000);
+    let mut err = MemorySink::<100>::new(1, 1000);
+    let status = match command {
+        Command::Input => run_input(alloc, &mut pages, &mut out, &mut err),
+        Command::Check => run_check(alloc, &mut pages, &mut cert, &mut out, &mut err),
+        Command::Decode => run_decode(alloc, &mut tx, &mut out, &mut err),
+        Command::Hear(address) => run_hear(alloc, address, &mut tx, &mut out, &mut err),
+        Command::Verify(end, always) => run_verify(
+            alloc, end, always, &mut pages, &mut tx, &mut cert, &mut out, &mut err,
+        ),
+        Command::Report(rate, search) => {
+            let Search { limit, end, always } = search;
+            if always {
+                run_report_always(alloc, rate, limit, end, &mut pages, &mut out, &mut err)
+            } else {
+                run_report(alloc, rate, limit, end, &mut pages, &mut out, &mut err)
+            }
+        }
+    };
+    Told { status, out, err }
+}
+
+const LONE_REPORT: &str =
+    "pages 1\ncodewords 1\nin_order 1\nbatches 1\nidles 15\nbits 1120\nairtime_ms 934\n";
+
+const APART_REPORT: &str =
+    "pages 2\ncodewords 32\nin_order 3\nbatches 3\nidles 16\nbits 2208\nairtime_ms 1840\n";
+
+const APART_REPORT_BELOW: &str =
+    "pages 2\ncodewords 32\nin_order 3\nbatches 3\nidles 16\nbits 2208\nairtime_ms 1840\nat least 2 batches\n";
+
+const NOT_THE_PAGES: &str = "pocsag: the transmission does not hold the pages of the page file\n";
+
+const NOT_THE_END: &str = "pocsag: the transmission does not end as was asked for\n";
+
+const NOT_THE_BOUND: &str =
+    "pocsag: the certificate does not show the batches of the transmission\n";
+
+const BAD_CHARACTER: &str = "pocsag: record 1: bad character at 2\n";
+
+const BAD_RATE: &str = "pocsag: the rate must be 512, 1200 or 2400\n";
+
+// A round is planned, and a command reads what was written: the plan's page file and search, the page file of
+// the command, the command, its status, and what it tells.
+type ReadCase = (
+    &'static [u8],
+    Search,
+    &'static [u8],
+    Command,
+    u8,
+    &'static str,
+    &'static str,
+);
+
+#[test]
+fn what_was_planned_is_read(rt: HostRuntime) -> Result<(), Fail> {
+    let alloc = rt.alloc();
+    let (to_one, to_three) = (open_to(1, true), open_to(3, true));
+    let lone = "address,kind,message\n8,tone0,\n";
+    let none = "address,kind,message\n";
+    let cases: [ReadCase; 20] = [
+        (
+            ONE_FULL_BATCH,
+            OPEN,
+            ONE_FULL_BATCH,
+            Command::Verify(End::Closed, false),
+            1,
+            "",
+            NOT_THE_END,
+        ),
+        (
+            LONE_TONE,
+            OPEN,
+            LONE_TONE,
+            Command::Input,
+            0,
+            "pages 1\nbatches 1\n",
+            "",
+        ),
+        (
+            LONE_TONE,
+            OPEN,
+            BAD_FILE,
+            Command::Input,
+            1,
+            "",
+            BAD_CHARACTER,
+        ),
+        (
+            LONE_TONE,
+            OPEN,
+            LONE_TONE,
+            Command::Check,
+            0,
+            "at least 1 batches\n",
+            "",
+        ),
+        (
+            LONE_TONE,
+            CLOSED,
+            LONE_TONE,
+            Command::Check,
+            0,
+            "at least 1 batches with a closed end\n",
+            "",
+        ),
+        (LONE_TONE, OPEN, LONE_TONE, Command::Decode, 0, lone, ""),
+        (LONE_TONE, OPEN, LONE_TONE, Command::Hear(9), 0, none, ""),
+        (
+            LONE_TONE,
+            OPEN,
+            LONE_TONE,
+            Command::Report(1200, CLOSED),
+            0,
+            LONE_REPORT,
+            "",
+        ),
+        (
+            LONE_TONE,
+            OPEN,
+            LONE_TONE,
+            Command::Report(1201, OPEN),
+            1,
+            "",
+            BAD_RATE,
+        ),
+        (
+            LOOPS_APART,
+            to_one,
+            LOOPS_APART,
+            Command::Report(1200, to_one),
+            0,
+            APART_REPORT_BELOW,
+            "",
+        ),
+        (
+            LOOPS_APART,
+            to_three,
+            LOOPS_APART,
+            Command::Report(1200, to_three),
+            0,
+            APART_REPORT,
+            "",
+        ),
+        (
+            LONE_TONE,
+            OPEN,
+            LONE_TONE,
+            Command::Verify(End::Open, false),
+            0,
+            "verified\n",
+            "",
+        ),
+        (
+            LONE_TONE,
+            OPEN,
+            OTHER_TONE,
+            Command::Verify(End::Open, false),
+            1,
+            "",
+            NOT_THE_PAGES,
+        ),
+        // A certificate for one end is none for the other.
+        (
+            LONE_TONE,
+            CLOSED,
+            LONE_TONE,
+            Command::Verify(End::Closed, false),
+            0,
+            "verified\n",
+            "",
+        ),
+        (
+            LONE_TONE,
+            CLOSED,
+            LONE_TONE,
+            Command::Verify(End::Open, false),
+            1,
+            "",
+            NOT_THE_BOUND,
+        ),
+        (
+            LONE_TONE,
+            OPEN,
+            LONE_TONE,
+            Command::Verify(End::Closed, true),
+            1,
+            "",
+            NOT_THE_BOUND,
+        ),
+        // With `--always` alone may the certificate be for one batch less than those that were sent.
+        (
+            LOOPS_APART,
+            to_one,
+            LOOPS_APART,
+            Command::Verify(End::Open, false),
+            1,
+            "",
+            NOT_THE_BOUND,
+        ),
+        (
+            LOOPS_APART,
+            to_one,
+            LOOPS_APART,
+            Command::Verify(End::Open, true),
+            0,
+            "verified\n",
+            "",
+        ),
+        (
+            LOOPS_APART,
+            to_three,
+            LOOPS_APART,
+            Command::Verify(End::Open, false),
+            0,
+            "verified\n",
+            "",
+        ),
+        (
+            LOOPS_APART,
+            to_three,
+            LOOPS_APART,
+            Command::Verify(End::Open, true),
+            0,
+            "verified\n",
+            "",
+        ),
+    ];
+    for (file, search, read, command, status, out, err) in cases {
+        let planned = plan(alloc, search, file, SOUND);
+        assert_eq!(rt; planned.told.status, 0);
+        let told = run(alloc, command, read, &planned);
+        assert_eq!(rt; told.status, status);
+        assert_eq!(rt; told.out.bytes(), out.as_bytes());
+        assert_eq!(rt; told.err.bytes(), err.as_bytes());
+    }
+    Ok(())
+}

@@ -1,0 +1,257 @@
+//! Open rounds over memory: what answers each line, and the exit status.
+
+use pocsag_commands::Fault;
+use pocsag_open::{LINE_LIMIT, Outputs, Places, Planner, run_open, run_open_pages};
+use pocsag_words::{MemorySink, MemorySource};
+use std::alloc::Global;
+use std::process::Abort;
+use std::test::Fail;
+
+const PAGES: &[u8] = b"address,kind,message\n8,tone0,\n16,numeric,12\n";
+
+const TWICE: &[u8] = b"address,kind,message\n8,tone0,\n8,tone0,\n";
+
+// A folder where `full` takes nothing, `none` cannot be made, and any other name is a file.
+struct Folder;
+
+fn sink_at(path: &str) -> Result<MemorySink<1000>, Fault> {
+    match path {
+        "none" => Err(Fault::Device),
+        "full" => Ok(MemorySink::new(5, 0)),
+        _ => Ok(MemorySink::new(5, 1000)),
+    }
+}
+
+impl Places for Folder {
+    type Output = MemorySink<1000>;
+
+    fn make(&self, tx: &str, cert: &str) -> Result<Outputs<MemorySink<1000>>, Fault> {
+        if tx == cert {
+            return Err(Fault::EqualPaths);
+        }
+        Ok(Outputs {
+            tx: sink_at(tx)?,
+            cert: sink_at(cert)?,
+        })
+    }
+}
+
+// The page file of an open round, if there is one, and after how many bytes it, the input and the output fail.
+#[derive(Clone, Copy)]
+struct Beginning {
+    pages: Option<&'static [u8]>,
+    always: bool,
+    read: u64,
+    asked: u64,
+    answered: u64,
+}
+
+const EMPTY: Beginning = Beginning {
+    pages: None,
+    always: false,
+    read: u64::MAX,
+    asked: u64::MAX,
+    answered: u64::MAX,
+};
+
+const TWO_PAGES: Beginning = Beginning {
+    pages: Some(PAGES),
+    ..EMPTY
+};
+
+// Runs an open round on these lines, and compares its status, its answers and its fault.
+fn assert_session<R: Abort>(
+    rt: &R,
+    alloc: Global,
+    beginning: Beginning,
+    lines: &[u8],
+    due: (u8, &[u8], &[u8]),
+) -> Result<(), Fail> {
+    let planner = &Planner {
+        places: &Folder,
+        always: beginning.always,
+    };
+    let mut input = MemorySource::new(lines, 7, beginning.asked);
+    let mut out = MemorySink::<2000>::new(5, beginning.answered);
+    let mut err = MemorySink::<100>::new(1, 1000);
+    let status = match beginning.pages {
+        Some(file) => {
+            let mut pages = MemorySource::new(file, 4, beginning.read);
+            run_open_pages(alloc, planner, &mut pages, &mut input, &mut out, &mut err)
+        }
+        None => run_open(alloc, planner, &mut input, &mut out, &mut err),
+    };
+    let (ended, answers, told) = due;
+    assert_eq!(rt; out.bytes(), answers);
+    assert_eq!(rt; err.bytes(), told);
+    assert_eq!(rt; status, ended);
+    Ok(())
+}
+
+// Each line and its answer, or the session's next line.
+type Lines = &'static [(&'static str, &'static str)];
+
+const EDITS: Lines = &[
+    ("list", "address,kind,message\nok 0"),
+    ("add,8,tone0,", "ok 1"),
+    ("add,16,alpha,\"Ward 3, \"\"bed\"\" 2\"", "ok 2"),
+    ("add,0000024,numeric,17-U", "ok 3"),
+    (
+        "list",
+        "address,kind,message\n8,tone0,\n16,alpha,\"Ward 3, \"\"bed\"\" 2\"\n24,numeric,17-U\nok 3",
+    ),
+    ("cancel,8", "ok 2"),
+    ("add,8,tone3,", "ok 3"),
+    ("cancel,16\r", "ok 2"),
+    (
+        "list",
+        "address,kind,message\n24,numeric,17-U\n8,tone3,\nok 2",
+    ),
+    ("clear", "ok 0"),
+    ("list", "address,kind,message\nok 0"),
+];
+
+const REFUSALS: Lines = &[
+    ("add,8,tone0,", "ok 1"),
+    ("add,8,tone1,", "refused: the address is already there"),
+    (
+        "add,0000008,tone1,",
+        "refused: the address is already there",
+    ),
+    ("add,2097152,tone0,", "refused: bad address"),
+    ("add,+7,tone0,", "refused: bad address"),
+    ("add,2007664,tone0,", "refused: reserved address"),
+    ("add,9,fax,", "refused: unknown kind"),
+    ("add,9,tone0,1", "refused: a tone page has no message"),
+    ("add,9,numeric,", "refused: the message is empty"),
+    ("add,9,numeric,12a", "refused: bad character at 2"),
+    ("cancel,9", "refused: no such page"),
+    ("cancel,+8", "refused: no such page"),
+    ("", "refused: unknown edit"),
+    ("add,9,tone0", "refused: unknown edit"),
+    ("add,9,tone0,,", "refused: unknown edit"),
+    ("cancel", "refused: unknown edit"),
+    ("List", "refused: unknown edit"),
+    ("list,", "refused: unknown edit"),
+    ("list\rlist", "refused: unknown edit"),
+    ("plan,tx.bin", "refused: unknown edit"),
+    ("plan,tx.bin,cert.bin,soon", "refused: unknown edit"),
+    ("list", "address,kind,message\n8,tone0,\nok 1"),
+];
+
+const PLANS: Lines = &[
+    ("plan,tx.bin,cert.bin", "refused: there are no pages"),
+    ("add,5,tone0,", "ok 1"),
+    ("plan,tx.bin,cert.bin", "batches 1"),
+    ("plan,tx.bin,cert.bin,open", "batches 1"),
+    ("add,13,tone0,", "ok 2"),
+    ("add,21,tone0,", "ok 3"),
+    ("plan,tx.bin,cert.bin,closed", "batches 2"),
+    (
+        "plan,tx.bin,tx.bin",
+        "refused: the same file is named twice",
+    ),
+    ("plan,none,cert.bin", "refused: cannot read or open a file"),
+    ("plan,tx.bin,none", "refused: cannot read or open a file"),
+    ("plan,full,cert.bin", "refused: cannot write"),
+    ("plan,tx.bin,full", "refused: cannot write"),
+    (
+        "list",
+        "address,kind,message\n5,tone0,\n13,tone0,\n21,tone0,\nok 3",
+    ),
+];
+
+const AFTER_PAGES: Lines = &[
+    ("plan,tx.bin,cert.bin", "batches 1"),
+    ("plan,full,full", "refused: the same file is named twice"),
+    ("cancel,8", "ok 1"),
+    ("list", "address,kind,message\n16,numeric,12\nok 1"),
+];
+
+#[test]
+fn lines_are_answered_one_by_one(rt: HostRuntime) -> Result<(), Fail> {
+    let alloc = rt.alloc();
+    let always = Beginning {
+        always: true,
+        ..TWO_PAGES
+    };
+    let sessions = [
+        (EMPTY, EDITS),
+        (EMPTY, REFUSALS),
+        (EMPTY, PLANS),
+        (TWO_PAGES, AFTER_PAGES),
+        (always, AFTER_PAGES),
+    ];
+    for (beginning, cases) in sessions {
+        let mut lines = Vec::new(alloc);
+        let mut answers = Vec::new(alloc);
+        for (line, answer) in cases {
+            lines.extend_from_slice(line.as_bytes())?;
+            lines.push(b'\n')?;
+            answers.extend_from_slice(answer.as_bytes())?;
+            answers.push(b'\n')?;
+        }
+        let due = (0, answers.as_slice(), b"".as_slice());
+        assert_session(&rt, alloc, beginning, lines.as_slice(), due)?;
+    }
+    Ok(())
+}
+
+// A line of the limit is read, and a longer one is passed over up to its end.
+#[test]
+fn long_lines_are_passed_over(rt: HostRuntime) -> Result<(), Fail> {
+    let alloc = rt.alloc();
+    let mut lines = Vec::new(alloc);
+    lines.extend_from_slice(b"add,8,alpha,")?;
+    lines.extend_from_slice(vec![in alloc; b'A'; 4001]?.as_slice())?;
+    lines.extend_from_slice(b"\nadd,8,tone0,\n")?;
+    for length in [LINE_LIMIT, LINE_LIMIT + 1, 3 * LINE_LIMIT] {
+        lines.extend_from_slice(vec![in alloc; b'l'; length]?.as_slice())?;
+        lines.extend_from_slice(b"\nlist\n")?;
+    }
+    lines.extend_from_slice(b"cancel,8")?;
+    let answers = b"refused: the message is too long\nok 1\n\
+        refused: unknown edit\naddress,kind,message\n8,tone0,\nok 1\n\
+        refused: unknown edit\naddress,kind,message\n8,tone0,\nok 1\n\
+        refused: unknown edit\naddress,kind,message\n8,tone0,\nok 1\nok 0\n";
+    let due = (0, answers.as_slice(), b"".as_slice());
+    assert_session(&rt, alloc, EMPTY, lines.as_slice(), due)
+}
+
+// A page file with a fault, a page file, an input and an output that fail in mid-stream.
+#[test]
+fn faults_end_the_round(rt: HostRuntime) -> Result<(), Fail> {
+    let twice = Beginning {
+        pages: Some(TWICE),
+        ..EMPTY
+    };
+    let cut_file = Beginning {
+        read: 9,
+        ..TWO_PAGES
+    };
+    let cut_input = Beginning {
+        asked: 12,
+        ..TWO_PAGES
+    };
+    let cut_output = Beginning {
+        answered: 7,
+        ..TWO_PAGES
+    };
+    let no_read = "pocsag: cannot read or open a file\n";
+    let cases = [
+        (
+            twice,
+            1,
+            "",
+            "pocsag: record 2: the address is already there\n",
+        ),
+        (cut_file, 3, "", no_read),
+        (cut_input, 3, "ok 1\n", no_read),
+        (cut_output, 3, "ok 1\nok", "pocsag: cannot write\n"),
+    ];
+    for (beginning, status, answers, told) in cases {
+        let due = (status, answers.as_bytes(), told.as_bytes());
+        assert_session(&rt, rt.alloc(), beginning, b"cancel,8\ncancel,16\n", due)?;
+    }
+    Ok(())
+}

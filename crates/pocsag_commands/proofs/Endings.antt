@@ -1,0 +1,83 @@
+-- What the last bytes of a transmission say, and how many batches it has.
+use Rattle.std.proofs.Common.{◌≡◌, ℕ, ◌+◌, ◌*◌, ◌-◌, ◌/◌, ◌%◌, ◌^◌, ◌<◌, ◌≤◌, List, [], ◌∷◌, ◌++◌, length, map, get_or, replicate, All, refl, ap, ◌∙◌, subst, inl, inr, arith, eq-eqb}
+use Rattle.std.specs.Int.{to_be_bytes, w32}
+use Rattle.std.specs.List.{flat_map}
+use Rattle.std.proofs.lemmas.Bool.{cases_eq, lt-ltb, ne_eqb}
+use Rattle.std.proofs.lemmas.List.{get_or-append_right, length-append}
+use Rattle.std.proofs.lemmas.List.Elements.{All-head, All-tail}
+use Rattle.pocsag_words.specs.Codeword.{IsCodeword}
+use Rattle.pocsag_words.specs.Kinds.{kind_of}
+use Rattle.pocsag_pages.specs.Bytes.{Sent, after_preamble, body_bytes, leading, sync_word, synced}
+use Rattle.pocsag_pages.specs.Reading.{BeginsNoMessage, EndsWhole}
+use Rattle.pocsag_pages.proofs.Lengths.{body_length, synced_count}
+use Rattle.pocsag_decode.proofs.Preambles.{BeginsOther, after_is, count_is}
+
+-- the fourth byte from the end
+abbrev fourth_last : List ℕ → ℕ
+fourth_last bytes = get_or bytes (length bytes - 4) 0
+
+fourth_behind : (front back : List ℕ) → 4 ≤ length back → fourth_last (front ++ back) ≡ fourth_last back
+fourth_behind front back long =
+    let sum : length (front ++ back) ≡ length front + length back = length-append front back in
+    let place : length (front ++ back) - 4 - length front ≡ length back - 4 = omega arith in
+    get_or-append_right front back (length front) (length (front ++ back) - 4) 0 refl (omega arith)
+    ∙ ap (λ (n : ℕ). get_or back n 0) place
+
+-- a codeword whose first bit is 0 is no message codeword
+no_message : (w : ℕ) → w < 2 ^ 31 → BeginsNoMessage (kind_of w ∷ [])
+no_message w small =
+    elim (cases_eq w 0x7a89c197) [
+      | inl e ↦ rw (eq-eqb _ _ e) tt
+      | inr n ↦ let low : w / 2048 < 2 ^ 20 = omega arith in rw (ne_eqb _ _ n, lt-ltb _ _ low) tt
+    ]
+
+abbrev bytes_from : ℕ → List ℕ → List ℕ
+bytes_from i T = flat_map (to_be_bytes w32) (synced i T)
+
+some_bytes : (i w : ℕ) (T : List ℕ) → 4 ≤ length (bytes_from i (w ∷ T))
+some_bytes i w T =
+    let count = synced_count i (w ∷ T) in let size = body_length (synced i (w ∷ T)) in omega arith
+
+ends_synced : (i : ℕ) (T : List ℕ) → All IsCodeword T → fourth_last (bytes_from i T) < 128 → EndsWhole (map kind_of T)
+ends_synced i [] are low = tt
+ends_synced i (w ∷ []) are low =
+    let fits : w < 2 ^ 32 = (All-head IsCodeword w [] are).fits in
+    elim (cases_eq (i % 16) 0) [
+      | inl e ↦ let first = rw (eq-eqb _ _ e) at low in no_message w (omega arith)
+      | inr n ↦ let first = rw (ne_eqb _ _ n) at low in no_message w (omega arith)
+    ]
+ends_synced i (w ∷ v ∷ T) are low =
+    let rest = bytes_from (i + 1) (v ∷ T) in
+    let some = some_bytes (i + 1) v T in
+    let more = ends_synced (i + 1) (v ∷ T) (All-tail IsCodeword w (v ∷ T) are) in
+    elim (cases_eq (i % 16) 0) [
+      | inl e ↦
+          let front = to_be_bytes w32 sync_word ++ to_be_bytes w32 w in
+          more (subst (λ (n : ℕ). n < 128) (fourth_behind front rest some) (rw (eq-eqb _ _ e) at low))
+      | inr n ↦
+          more (subst (λ (n : ℕ). n < 128) (fourth_behind (to_be_bytes w32 w) rest some) (rw (ne_eqb _ _ n) at low))
+    ]
+
+module _ (X T : List ℕ) (s : Sent X T) where
+  after_sent : after_preamble X ≡ body_bytes T
+  after_sent =
+      after_is X s.preamble (body_bytes T) (record {
+        whole = s.bytes;
+        other = elim T as (λ (ws : List ℕ). BeginsOther (body_bytes ws)) [ [] ↦ tt | w ∷ ws ↦ omega arith ];
+      })
+
+  body_of_batches : length (body_bytes T) ≡ 68 * s.batches
+  body_of_batches =
+      let whole = s.whole.1 in let count = synced_count 0 T in let size = body_length (synced 0 T) in omega arith
+
+  pub batches_are : (length X - leading X) / 68 ≡ s.batches
+  batches_are =
+      let all = count_is X [] in let body = ap length after_sent in let size = body_of_batches in omega arith
+
+  pub ends_with : fourth_last X < 128 → EndsWhole (map kind_of T)
+  ends_with low =
+      let some = s.whole.0 in
+      let size = body_of_batches in
+      ends_synced 0 T s.codewords
+      (subst (λ (n : ℕ). n < 128)
+      (ap fourth_last s.bytes ∙ fourth_behind (replicate s.preamble 0xaa) (body_bytes T) (omega arith)) low)

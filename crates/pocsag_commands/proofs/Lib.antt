@@ -1,0 +1,7 @@
+pub mod Bounding
+pub mod Endings
+pub mod Planning
+pub mod Readback
+pub mod Refusing
+pub mod Shown
+pub mod Statuses

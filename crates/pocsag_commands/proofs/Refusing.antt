@@ -1,0 +1,79 @@
+-- Why a command refuses, by the fault that a call of it answered.
+use Rattle.std.proofs.Common.{◌≡◌, ℕ, List, Some, None, Ok, Err, ap, subst, arith, inl, inr}
+use Rattle.std.specs.Prelude.{◌⊎◌}
+use Rattle.pocsag_words.specs.declared.ending.End.{End}
+use Rattle.pocsag_pages.specs.PageFile.{verdict}
+use Rattle.pocsag_pages.specs.declared.fault.RoundFault.{RoundFault}
+use Rattle.pocsag_pages.specs.declared.fault.RoundFault.TheVariants as round
+use Rattle.pocsag_pages.specs.declared.page.Page.{Page}
+use Rattle.pocsag_tree.specs.Answers.{IsFault}
+use Rattle.pocsag_tree.specs.Parts.{HasFirst}
+use Rattle.pocsag_tree.specs.Views.{bound_of}
+use Rattle.pocsag_tree.specs.declared.refusals.CertificateFault.{CertificateFault}
+use Rattle.pocsag_tree.specs.declared.refusals.CertificateFault.TheVariants as certificate
+use Rattle.pocsag_decode.specs.Faults.{HasFault}
+use Rattle.pocsag_decode.specs.declared.fault.DecodeFault.{DecodeFault}
+use Rattle.pocsag_decode.specs.declared.fault.DecodeFault.TheVariants as decoding
+use Rattle.pocsag_pager.specs.Faults.{hearing_fault}
+use Rattle.pocsag_pager.specs.declared.fault.PagerFault.{PagerFault}
+use Rattle.pocsag_pager.specs.declared.fault.PagerFault.TheVariants as hearing
+use Rattle.pocsag_show.specs.Showing.{Explains}
+use Rattle.pocsag_show.specs.declared.fault.ShowFault.{ShowFault}
+use Rattle.pocsag_show.specs.declared.fault.ShowFault.TheVariants as showing
+use Rattle.pocsag_plan.specs.Plans.{ExplainsPlan}
+use Rattle.pocsag_plan.specs.declared.fault.PlanFault.{PlanFault}
+use Rattle.pocsag_plan.specs.declared.fault.PlanFault.TheVariants as planning
+use Rattle.pocsag_commands.specs.Commands.{IsPlanRefused, limit, stopped}
+use Rattle.pocsag_commands.specs.Faults.{fault_of_plan, status_of}
+use Rattle.pocsag_commands.specs.Judging.{ExplainsJudging}
+use Rattle.pocsag_commands.specs.Refusals.{IsCheckFaulty, IsHearingRefused, IsTransmissionRefused}
+use Rattle.pocsag_commands.specs.Showing.{fault_of_show}
+use Rattle.pocsag_commands.specs.declared.fault.Fault.{Fault}
+use Rattle.pocsag_commands.specs.declared.fault.Fault.TheVariants as fault
+
+pub why_round : (file : List ℕ) (f : RoundFault) → (f ≡ round.OutOfMemory) ⊎ (f ≡ round.ReadFault) ⊎ (verdict file ≡ Err f) →
+    status_of (fault.Round f) ≡ 1 → verdict file ≡ Err f
+why_round file f (inl e) one =
+    let three : status_of (fault.Round f) ≡ 3 = ap (λ (v : RoundFault). status_of (fault.Round v)) e in absurd (omega arith)
+why_round file f (inr (inl e)) one =
+    let three : status_of (fault.Round f) ≡ 3 = ap (λ (v : RoundFault). status_of (fault.Round v)) e in absurd (omega arith)
+why_round file f (inr (inr e)) one = e
+
+pub why_unplanned : (file : List ℕ) (end : End) (n : ℕ) (R : List Page) → verdict file ≡ Ok R → (e : PlanFault) → ExplainsPlan end R n e →
+    status_of (fault_of_plan e) ≡ 1 → IsPlanRefused file end n
+why_unplanned file end n R read planning.BadLimit said one = limit said
+why_unplanned file end n R read (planning.SearchLimit least found tree) said one =
+    stopped least found (bound_of tree) (record { round = R; read = read; stopped = said.1 })
+why_unplanned file end n R read planning.OutOfMemory said one = absurd (omega arith)
+
+pub why_certificate : (e : CertificateFault) (bytes : List ℕ) → IsFault e bytes → status_of (fault.Certificate e) ≡ 1 → HasFirst e bytes
+why_certificate e bytes (inr first) one = first
+why_certificate certificate.ReadFault bytes (inl refusal) one = absurd (omega arith)
+why_certificate certificate.OutOfMemory bytes (inl refusal) one = absurd (omega arith)
+why_certificate _ bytes (inl refusal) one = absurd refusal
+
+pub why_decoded : (X Y : List ℕ) (e : DecodeFault) → X ≡ Y → (e ≡ decoding.OutOfMemory) ⊎ HasFault X e →
+    status_of (fault.Transmission e) ≡ 1 → IsTransmissionRefused Y
+why_decoded X Y e same (inl memory) one =
+    let three : status_of (fault.Transmission e) ≡ 3 = ap (λ (v : DecodeFault). status_of (fault.Transmission v)) memory in
+    absurd (omega arith)
+why_decoded X Y e same (inr h) one = IsTransmissionRefused.fault e (subst (λ (bytes : List ℕ). HasFault bytes e) same h)
+
+pub why_heard : (a : ℕ) (X Y : List ℕ) (e : PagerFault) → X ≡ Y →
+    (hearing_fault a X ≡ Some e) ⊎ ((hearing_fault a X ≡ None) × (e ≡ hearing.OutOfMemory)) →
+    status_of (fault.Pager e) ≡ 1 → IsHearingRefused a Y
+why_heard a X Y e same (inl h) one =
+    IsHearingRefused.fault e (subst (λ (bytes : List ℕ). hearing_fault a bytes ≡ Some e) same h)
+why_heard a X Y e same (inr memory) one =
+    let three : status_of (fault.Pager e) ≡ 3 = ap (λ (v : PagerFault). status_of (fault.Pager v)) memory.1 in absurd (omega arith)
+
+pub why_not_shown : (X Y : List ℕ) (e : ShowFault) → X ≡ Y → Explains X e → status_of (fault_of_show e) ≡ 1 → IsTransmissionRefused Y
+why_not_shown X Y (showing.Transmission f) same said one =
+    IsTransmissionRefused.fault f (subst (λ (bytes : List ℕ). HasFault bytes f) same said)
+why_not_shown X Y showing.WriteFault same said one = absurd (omega arith)
+why_not_shown X Y showing.OutOfMemory same said one = absurd (omega arith)
+
+pub why_judged : (file text : List ℕ) (f : Fault) → ExplainsJudging file text f → status_of f ≡ 1 → IsCheckFaulty file text
+why_judged file text (fault.Round f) said one = IsCheckFaulty.round f (why_round file f said one)
+why_judged file text (fault.Certificate f) said one = IsCheckFaulty.certificate f (why_certificate f text said.1 one)
+why_judged file text _ said one = absurd said

@@ -1,0 +1,13 @@
+use Rattle.std.proofs.Common.{sym, ◌∙◌}
+use Rattle.pocsag_commands.proofs.Statuses.{done}
+use Rattle.pocsag_commands.proofs.always.run_report_always.Goals as goal
+
+pub returns-clause-told : goal.returns-clause-told
+returns-clause-told g c =
+    λ pages_tell out_tells zero. done _ _ _ c.ended.ensures.value zero (c.report_file_always-done.ensures.told pages_tell out_tells)
+
+pub returns-clause-why : goal.returns-clause-why
+returns-clause-why g c = λ tells one. c.report_file_always-done.ensures.why tells (sym c.ended.ensures.value ∙ one)
+
+pub returns-clause-refused : goal.returns-clause-refused
+returns-clause-refused g c = λ one. c.report_file_always-done.ensures.refused (sym c.ended.ensures.value ∙ one)

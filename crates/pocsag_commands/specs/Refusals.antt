@@ -1,0 +1,59 @@
+-- Why each command refuses: what is so of what it read where its exit status is 1.
+use Rattle.std.specs.Prelude.{◌≡◌, ℕ, ◌<◌, List, [], ◌∷◌, ◌++◌, length, codes, Some, Err}
+use Rattle.pocsag_words.specs.declared.ending.End.{End}
+use Rattle.pocsag_pages.specs.declared.fault.RoundFault.{RoundFault}
+use Rattle.pocsag_pages.specs.PageFile.{verdict}
+use Rattle.pocsag_tree.specs.Parts.{HasFirst}
+use Rattle.pocsag_tree.specs.declared.refusals.CertificateFault.{CertificateFault}
+use Rattle.pocsag_decode.specs.Faults.{HasFault}
+use Rattle.pocsag_decode.specs.declared.fault.DecodeFault.{DecodeFault}
+use Rattle.pocsag_pager.specs.Faults.{hearing_fault}
+use Rattle.pocsag_pager.specs.declared.fault.PagerFault.{PagerFault}
+use Rattle.pocsag_plan.specs.Reports.{IsRate}
+use Rattle.pocsag_commands.specs.Always.{IsRefusedAlways}
+use Rattle.pocsag_commands.specs.Commands.{IsPlanRefused}
+use Rattle.pocsag_commands.specs.Judging.{IsNotShown}
+
+-- The greatest transmission that is read, in bytes, and the node limit where none is asked for.
+abbrev pub transmission_limit : ℕ
+transmission_limit = 268435456
+
+abbrev pub default_limit : ℕ
+default_limit = 100000
+
+-- `decode` and `show`: the transmission is larger than is read, or it has a fault.
+pub data IsTransmissionRefused (bytes : List ℕ) : Type 0 where
+  too_large : transmission_limit < length bytes → IsTransmissionRefused bytes
+  fault : (f : DecodeFault) → HasFault bytes f → IsTransmissionRefused bytes
+
+-- `hear`: the transmission is larger than is read, or the address or the bytes have a fault.
+pub data IsHearingRefused (address : ℕ) (bytes : List ℕ) : Type 0 where
+  too_large : transmission_limit < length bytes → IsHearingRefused address bytes
+  fault : (f : PagerFault) → hearing_fault address bytes ≡ Some f → IsHearingRefused address bytes
+
+-- `report`: the round is not planned, or the rate is none.
+pub data IsReportRefused (file : List ℕ) (end : End) (limit rate : ℕ) : Type 0 where
+  plan : IsPlanRefused file end limit → IsReportRefused file end limit rate
+  rate : ¬ IsRate rate → IsReportRefused file end limit rate
+
+-- The same with `--always`.
+pub data IsReportRefusedAlways (file : List ℕ) (limit rate : ℕ) : Type 0 where
+  plan : IsRefusedAlways file limit → IsReportRefusedAlways file limit rate
+  rate : ¬ IsRate rate → IsReportRefusedAlways file limit rate
+
+-- `check` has no verdict: the page file has a fault, or else the certificate has.
+pub data IsCheckFaulty (file certificate : List ℕ) : Type 0 where
+  round : (f : RoundFault) → verdict file ≡ Err f → IsCheckFaulty file certificate
+  certificate : (f : CertificateFault) → HasFirst f certificate → IsCheckFaulty file certificate
+
+-- `check` said no: nothing is shown by the certificate, and `not shown` was told.
+pub record NotShownAndTold (file certificate out_before out_after : List ℕ) : Type 0 where
+  pub end : End
+  pub batches : ℕ
+  pub not_shown : IsNotShown file certificate end batches
+  pub told : out_after ≡ out_before ++ (codes "not shown" ++ (10 ∷ []))
+
+-- What `check` did where its exit status is 1.
+pub data IsCheckRefused (file certificate out_before out_after : List ℕ) : Type 0 where
+  not_shown : NotShownAndTold file certificate out_before out_after → IsCheckRefused file certificate out_before out_after
+  faulty : IsCheckFaulty file certificate → out_after ≡ out_before → IsCheckRefused file certificate out_before out_after

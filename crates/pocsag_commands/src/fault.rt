@@ -1,0 +1,193 @@
+ghost use Rattle.std.specs.Prelude.{◌≡◌};
+ghost use Rattle.pocsag_commands.specs.declared.fault.Fault.TheVariants as fault;
+
+use pocsag_decode::{DecodeFault, ListFault};
+use pocsag_pager::PagerFault;
+use pocsag_pages::{RoundFault, WholeFault};
+use pocsag_plan::{BadRate, PlanFault, StreamFault};
+use pocsag_tree::CertificateFault;
+use pocsag_words::OutOfMemory;
+use std::alloc::{AllocError, AllocFailed};
+use thiserror::Error;
+
+/// Why a command did not do what it was asked.
+#[derive(Clone, Copy, PartialEq, Eq, Debug, Error)]
+pub enum Fault {
+    #[error("the same file is named twice")]
+    EqualPaths,
+    #[error("cannot read or open a file")]
+    Device,
+    #[error("cannot write")]
+    Write,
+    #[error("out of memory")]
+    OutOfMemory,
+    #[error("the file is too large")]
+    TooLarge,
+    #[error("{0}")]
+    Round(RoundFault),
+    #[error("the limit must be 1 to 1000000")]
+    BadLimit,
+    /// The search stopped: at least so many batches are needed, and one more would do.
+    #[error("search limit reached: at least {0} batches, {1} would do")]
+    SearchLimit(u32, u32),
+    #[error("the rate must be 512, 1200 or 2400")]
+    BadRate,
+    /// The bytes are no transmission that reads as pages.
+    #[error("{0}")]
+    Transmission(DecodeFault),
+    /// The pager shows nothing of these bytes.
+    #[error("{0}")]
+    Pager(PagerFault),
+    /// The bytes are no certificate.
+    #[error("{0}")]
+    Certificate(CertificateFault),
+    /// What was read back from the transmission's file is not what was planned.
+    #[error("the transmission does not hold the pages of the page file")]
+    NotThePages,
+    /// The same: a message goes on to the end of the transmission, where the closed end was asked for.
+    #[error("the transmission does not end as was asked for")]
+    NotTheEnd,
+    /// What was read back from the certificate's file is not what was planned.
+    #[error("the certificate does not show the batches of the transmission")]
+    NotTheBound,
+}
+
+impl Fault {
+    ghost use Rattle.pocsag_commands.specs.Faults.{IsFailure, status_of};
+
+    /// The exit status: 1 for what was refused, 3 for a device or memory.
+    pub fn status(self) -> u8
+        ensures value { result ≡ status_of self }
+        ensures failure { IsFailure result }
+    {
+        match self {
+            Fault::Device | Fault::Write | Fault::OutOfMemory => 3,
+            Fault::Round(RoundFault::ReadFault | RoundFault::OutOfMemory) => 3,
+            Fault::Transmission(DecodeFault::OutOfMemory) => 3,
+            Fault::Pager(PagerFault::OutOfMemory) => 3,
+            Fault::Certificate(CertificateFault::ReadFault | CertificateFault::OutOfMemory) => 3,
+            _ => 1,
+        }
+    }
+}
+
+impl From<OutOfMemory> for Fault {
+    ghost from_gives = { λ _ e. e ≡ fault.OutOfMemory };
+
+    fn from(_refused: OutOfMemory) -> Fault {
+        Fault::OutOfMemory
+    }
+}
+
+impl From<AllocError> for Fault {
+    ghost from_gives = { λ _ e. e ≡ fault.OutOfMemory };
+
+    fn from(_refused: AllocError) -> Fault {
+        Fault::OutOfMemory
+    }
+}
+
+impl<T: Drop> From<AllocFailed<T>> for Fault {
+    ghost from_gives = { λ _ e. e ≡ fault.OutOfMemory };
+
+    fn from(_refused: AllocFailed<T>) -> Fault {
+        Fault::OutOfMemory
+    }
+}
+
+impl From<RoundFault> for Fault {
+    ghost from_gives = { λ refused e. e ≡ fault.Round refused };
+
+    fn from(refused: RoundFault) -> Fault {
+        Fault::Round(refused)
+    }
+}
+
+impl From<DecodeFault> for Fault {
+    ghost from_gives = { λ refused e. e ≡ fault.Transmission refused };
+
+    fn from(refused: DecodeFault) -> Fault {
+        Fault::Transmission(refused)
+    }
+}
+
+impl From<PagerFault> for Fault {
+    ghost from_gives = { λ refused e. e ≡ fault.Pager refused };
+
+    fn from(refused: PagerFault) -> Fault {
+        Fault::Pager(refused)
+    }
+}
+
+impl From<BadRate> for Fault {
+    ghost from_gives = { λ _ e. e ≡ fault.BadRate };
+
+    fn from(_refused: BadRate) -> Fault {
+        Fault::BadRate
+    }
+}
+
+impl From<WholeFault> for Fault {
+    ghost use Rattle.pocsag_commands.specs.Faults.{fault_of_whole};
+
+    ghost from_gives = { λ refused e. e ≡ fault_of_whole refused };
+
+    fn from(refused: WholeFault) -> Fault {
+        match refused {
+            WholeFault::ReadFault => Fault::Device,
+            WholeFault::TooLarge => Fault::TooLarge,
+            WholeFault::OutOfMemory => Fault::OutOfMemory,
+        }
+    }
+}
+
+impl From<ListFault> for Fault {
+    ghost use Rattle.pocsag_commands.specs.Faults.{fault_of_list};
+
+    ghost from_gives = { λ refused e. e ≡ fault_of_list refused };
+
+    fn from(refused: ListFault) -> Fault {
+        match refused {
+            ListFault::WriteFault => Fault::Write,
+            ListFault::OutOfMemory => Fault::OutOfMemory,
+        }
+    }
+}
+
+impl From<CertificateFault> for Fault {
+    ghost from_gives = { λ refused e. e ≡ fault.Certificate refused };
+
+    fn from(refused: CertificateFault) -> Fault {
+        Fault::Certificate(refused)
+    }
+}
+
+impl From<PlanFault> for Fault {
+    ghost use Rattle.pocsag_commands.specs.Faults.{fault_of_plan};
+
+    ghost from_gives = { λ refused e. e ≡ fault_of_plan refused };
+
+    fn from(refused: PlanFault) -> Fault {
+        match refused {
+            PlanFault::BadLimit => Fault::BadLimit,
+            PlanFault::SearchLimit { least, found, .. } => Fault::SearchLimit(least, found),
+            PlanFault::OutOfMemory => Fault::OutOfMemory,
+        }
+    }
+}
+
+impl From<StreamFault> for Fault {
+    ghost use Rattle.pocsag_commands.specs.Faults.{fault_of_stream};
+
+    ghost from_gives = { λ refused e. e ≡ fault_of_stream refused };
+
+    fn from(refused: StreamFault) -> Fault {
+        match refused {
+            StreamFault::BadLimit => Fault::BadLimit,
+            StreamFault::Round(refused) => Fault::Round(refused),
+            StreamFault::SearchLimit { least, found, .. } => Fault::SearchLimit(least, found),
+            StreamFault::OutOfMemory => Fault::OutOfMemory,
+            StreamFault::Transmission(_) | StreamFault::Certificate(_) => Fault::Write,
+        }
+    }
+}

@@ -1,0 +1,23 @@
+#![tactic(auto)]
+//! The commands of the program, and the texts and exit statuses that they end with. They know no file: each
+//! reads sources, calls one public call of a crate below, and tells its answer to a sink.
+
+mod always;
+mod checking;
+mod commands;
+mod fault;
+mod receiving;
+mod showing;
+mod telling;
+mod verifying;
+mod view;
+
+pub use always::{run_plan_always, run_report_always};
+pub use checking::{Judged, judge_certificate, run_check};
+pub use commands::{DEFAULT_LIMIT, run_input, run_plan, run_report};
+pub use fault::Fault;
+pub use receiving::{TRANSMISSION_LIMIT, run_decode, run_hear};
+pub use showing::run_show;
+pub use telling::{ended, tell, tell_fault};
+pub use verifying::run_verify;
+pub use view::View;

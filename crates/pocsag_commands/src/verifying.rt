@@ -1,0 +1,139 @@
+ghost use Rattle.std.specs.Prelude.{◌≡◌, List, ℕ, All, Contains, map, IfOk, IsTrue, length, OnOk};
+ghost use Rattle.pocsag_words.specs.Kinds.{kind_of};
+ghost use Rattle.pocsag_pages.specs.Bytes.{Sent};
+ghost use Rattle.pocsag_pages.specs.Reading.{EndsAs};
+ghost use Rattle.pocsag_commands.specs.Faults.{IsStatus};
+ghost use Rattle.pocsag_commands.specs.Verifying.{AreAmong, IsDueBound, IsTransmissionOf, Verified};
+
+use crate::fault::Fault;
+use crate::receiving::TRANSMISSION_LIMIT;
+use crate::telling::{ended, tell};
+use pocsag_check::check;
+use pocsag_decode::decode;
+use pocsag_pages::{Page, Round, leading_len, read_round, read_whole};
+use pocsag_tree::read_certificate;
+use pocsag_words::{End, Sink, Source};
+use std::alloc::Global;
+
+/// `--verify`: reads a transmission and a certificate back, and tells `verified` where the one holds the
+/// pages of the page file and ends as is asked for, and the other shows its number of batches for them and
+/// the end, or with `--always` that number or one less. Answers the exit status.
+pub fn run_verify<P: Source, T: Source, C: Source, O: Sink, E: Sink>(
+    alloc: Global,
+    end: End,
+    always: bool,
+    pages: &mut P,
+    tx: &mut T,
+    cert: &mut C,
+    out: &mut O,
+    err: &mut E,
+) -> u8
+    ensures verified { P.tells → T.tells → C.tells → result ≡ 0 →
+        Verified (P.held pages.old) end always (T.held tx.old) (C.held cert.old) }
+    ensures status { IsStatus result }
+{
+    let done = verify_files(alloc, end, always, pages, tx, cert, out);
+    ended(done, err)
+}
+
+fn verify_files<P: Source, T: Source, C: Source, O: Sink>(
+    alloc: Global,
+    end: End,
+    always: bool,
+    pages: &mut P,
+    tx: &mut T,
+    cert: &mut C,
+    out: &mut O,
+) -> Result<(), Fault>
+    ensures { P.tells → T.tells → C.tells → OnOk result
+        (Verified (P.held pages.old) end always (T.held tx.old) (C.held cert.old)) }
+{
+    let round = read_round(alloc, pages)?;
+    let bytes = read_whole(alloc, tx, TRANSMISSION_LIMIT)?;
+    let batches = read_back(alloc, bytes.as_slice(), &round, end)?;
+    let certificate = read_certificate(alloc, cert)?;
+    if !is_end(certificate.end, end) {
+        return Err(Fault::NotTheBound);
+    }
+    if !is_due(certificate.batches as usize, batches, always) {
+        return Err(Fault::NotTheBound);
+    }
+    if !check(&round, certificate.batches, &certificate.tree, end) {
+        return Err(Fault::NotTheBound);
+    }
+    tell(out, "verified\n")
+}
+
+// The batches of a transmission of the round's pages that ends as is asked for.
+fn read_back(alloc: Global, bytes: &[u8], round: &Round, end: End) -> Result<usize, Fault>
+    ensures { IfOk result (λ batches. IsTransmissionOf end round.now batches bytes.now) }
+{
+    let mut sent = decode(alloc, bytes)?;
+    sent.sort_unstable_by_key(|page| page.address);
+    if !are_sent(round.pages(), sent.as_slice()) {
+        return Err(Fault::NotThePages);
+    }
+    if !ends_as(end, bytes) {
+        return Err(Fault::NotTheEnd);
+    }
+    Ok(batches_of(bytes))
+}
+
+fn is_end(one: End, other: End) -> bool
+    ensures { IsTrue result → one ≡ other }
+{
+    match one {
+        End::Open => matches!(other, End::Open),
+        End::Closed => matches!(other, End::Closed),
+    }
+}
+
+// Whether a certificate for the bound is due beside a transmission of so many batches.
+fn is_due(bound: usize, batches: usize, always: bool) -> bool
+    ensures { IsTrue result → IsDueBound always bound batches }
+{
+    bound == batches || always && bound == batches.saturating_sub(1)
+}
+
+// How many whole batches follow the leading bytes AA.
+fn batches_of(bytes: &[u8]) -> usize
+    ensures { (codewords : List ℕ) → (sent : Sent bytes.now codewords) → result ≡ sent.batches }
+{
+    bytes.len().saturating_sub(leading_len(bytes)) / 68
+}
+
+// Whether the last codeword of a transmission may be its last: for the closed end it is no message codeword,
+// whose first bit is 1.
+fn ends_as(end: End, bytes: &[u8]) -> bool
+    ensures { IsTrue result → (codewords : List ℕ) → Sent bytes.now codewords → EndsAs end (map kind_of codewords) }
+{
+    match end {
+        End::Open => true,
+        End::Closed => bytes.len() >= 4 && bytes[bytes.len() - 4] < 128,
+    }
+}
+
+// Whether the pages are as many as those that were sent, and each is among these, which are in order of
+// their addresses.
+fn are_sent(pages: &[Page], sent: &[Page]) -> bool
+    ensures { IsTrue result → AreAmong sent.now pages.now }
+{
+    if pages.len() != sent.len() {
+        return false;
+    }
+    for page in pages {
+        if !is_sent(page, sent) {
+            return false;
+        }
+    }
+    true
+}
+
+fn is_sent(page: &Page, sent: &[Page]) -> bool
+    ensures { IsTrue result → Contains sent.now page.now }
+{
+    match sent.binary_search_by_key(&page.address, |other| other.address) {
+        Ok(place) => sent[place] == *page,
+        Err(_) => false,
+    }
+}

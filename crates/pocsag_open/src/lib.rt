@@ -1,0 +1,14 @@
+#![tactic(auto)]
+//! An open round as a process: each line of an input is an edit, and is answered at once by one line. It
+//! knows no file: who calls it hands in what makes the two outputs of a plan.
+
+mod edits;
+mod lines;
+mod opening;
+mod outputs;
+mod refusal;
+
+pub use lines::LINE_LIMIT;
+pub use opening::{Planner, run_open, run_open_pages};
+pub use outputs::{Outputs, Places};
+pub use refusal::Refusal;

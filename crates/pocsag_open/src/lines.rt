@@ -1,0 +1,96 @@
+ghost use Rattle.std.specs.Prelude.{◌≤◌, ◌≡◌, length};
+
+use pocsag_commands::Fault;
+use pocsag_words::{DeviceFault, Source};
+use std::alloc::Global;
+
+/// The longest line that is kept, in bytes, its line feed not counted.
+pub const LINE_LIMIT: usize = 65_536;
+
+// How many bytes are asked for at a time.
+const PIECE: usize = 4_096;
+
+/// What came of the next line.
+#[derive(Clone, Copy, PartialEq, Eq, Debug)]
+pub enum Found {
+    /// It is kept, without its line feed.
+    Kept,
+    /// It is longer than the limit, and is passed over.
+    TooLong,
+    /// There is none.
+    End,
+}
+
+/// A line of a source, and the bytes that were read ahead of it. The memory for a line is taken once.
+#[derive(Drop)]
+pub struct Lines {
+    line: Vec<u8>,
+    piece: [u8; PIECE],
+    start: usize,
+    end: usize,
+    ghost within: { end ≤ length piece },
+}
+
+impl Lines {
+    pub fn new(alloc: Global) -> Result<Lines, Fault> {
+        Ok(Lines {
+            line: Vec::with_capacity(alloc, LINE_LIMIT)?,
+            piece: [0; PIECE],
+            start: 0,
+            end: 0,
+        })
+    }
+
+    /// The line that is kept.
+    pub fn line(&self) -> &[u8] {
+        self.line.as_slice()
+    }
+
+    // Reads the next bytes of the source in place of those that are used up.
+    fn read_ahead<S: Source>(&mut self, source: &mut S) -> Result<(), DeviceFault> {
+        self.start = 0;
+        self.end = 0;
+        self.end = source.read(&mut self.piece)?;
+        Ok(())
+    }
+
+    // The next byte, unless the source has ended.
+    fn next_byte<S: Source>(&mut self, source: &mut S) -> Result<Option<u8>, DeviceFault> {
+        if self.start >= self.end {
+            self.read_ahead(source)?;
+        }
+        if self.start >= self.end {
+            return Ok(None);
+        }
+        let byte = self.piece[self.start];
+        self.start += 1;
+        Ok(Some(byte))
+    }
+
+    /// Reads the next line of the source. The last line may lack its line feed.
+    pub fn read_line<S: Source>(&mut self, source: &mut S) -> Result<Found, Fault> {
+        self.line.clear();
+        let mut found = Found::End;
+        for _ in 0..u64::MAX {
+            let Ok(next) = self.next_byte(source) else {
+                return Err(Fault::Device);
+            };
+            match next {
+                None => return Ok(found),
+                Some(b'\n') if found == Found::TooLong => return Ok(Found::TooLong),
+                Some(b'\n') => return Ok(Found::Kept),
+                Some(byte) => found = self.keep(byte)?,
+            }
+        }
+        Ok(found)
+    }
+
+    // Keeps one byte more of a line, unless the line is as long as may be.
+    fn keep(&mut self, byte: u8) -> Result<Found, Fault> {
+        if self.line.len() >= LINE_LIMIT {
+            return Ok(Found::TooLong);
+        }
+        self.line.push(byte)?;
+        Ok(Found::Kept)
+    }
+}

@@ -1,0 +1,226 @@
+ghost use Rattle.std.specs.Prelude.{◌≡◌, OnErr};
+ghost use Rattle.pocsag_commands.specs.Faults.{IsStatus};
+
+use crate::edits::{Line, line_of, record_of};
+use crate::lines::{Found, Lines};
+use crate::outputs::{Outputs, Places};
+use crate::refusal::Refusal;
+use pocsag_commands::{DEFAULT_LIMIT, Fault, ended, tell};
+use pocsag_decode::{ListFault, list};
+use pocsag_pages::{page_of_fields, read_round};
+use pocsag_plan::{Book, NotThere};
+use pocsag_words::{End, Sink, Source};
+use std::alloc::Global;
+
+/// How the plans of an open round are made.
+#[derive(Drop)]
+pub struct Planner<'a, P: Places> {
+    /// What makes their outputs.
+    pub places: &'a P,
+    /// Whether each plan is answered, where the limit is reached with one batch more than is shown to be
+    /// needed.
+    pub always: bool,
+}
+
+/// `open` without PAGES: answers the lines of the input, one by one, up to its end. A round of no pages is
+/// open at first. Answers the exit status.
+pub fn run_open<P: Places, I: Source, O: Sink, E: Sink>(
+    alloc: Global,
+    planner: &Planner<'_, P>,
+    input: &mut I,
+    out: &mut O,
+    err: &mut E,
+) -> u8
+    ensures { IsStatus result }
+{
+    let done = answer_lines(alloc, planner, Book::new(alloc), input, out);
+    ended(done, err)
+}
+
+/// `open PAGES`: the same, where the pages of the page file are open at first.
+pub fn run_open_pages<P: Places, F: Source, I: Source, O: Sink, E: Sink>(
+    alloc: Global,
+    planner: &Planner<'_, P>,
+    pages: &mut F,
+    input: &mut I,
+    out: &mut O,
+    err: &mut E,
+) -> u8
+    ensures { IsStatus result }
+{
+    let done = match book_of(alloc, pages) {
+        Ok(book) => answer_lines(alloc, planner, book, input, out),
+        Err(fault) => Err(fault),
+    };
+    ended(done, err)
+}
+
+// A book of the pages of a page file.
+fn book_of<F: Source>(alloc: Global, pages: &mut F) -> Result<Book, Fault> {
+    let round = read_round(alloc, pages)?;
+    Ok(Book::of_round(alloc, &round)?)
+}
+
+fn answer_lines<P: Places, I: Source, O: Sink>(
+    alloc: Global,
+    planner: &Planner<'_, P>,
+    mut book: Book,
+    input: &mut I,
+    out: &mut O,
+) -> Result<(), Fault> {
+    let mut lines = Lines::new(alloc)?;
+    for _ in 0..u64::MAX {
+        match lines.read_line(input)? {
+            Found::End => return Ok(()),
+            Found::TooLong => refuse(Refusal::Unknown, out)?,
+            Found::Kept => answer(alloc, planner, &mut book, lines.line(), out)?,
+        }
+    }
+    Ok(())
+}
+
+fn refuse<O: Sink>(refusal: Refusal, out: &mut O) -> Result<(), Fault> {
+    tell(out, format_args!("refused: {refusal}\n"))
+}
+
+// How many pages there are now.
+fn tell_pages<O: Sink>(book: &Book, out: &mut O) -> Result<(), Fault> {
+    let pages = book.len();
+    tell(out, format_args!("ok {pages}\n"))
+}
+
+// Answers one line.
+fn answer<P: Places, O: Sink>(
+    alloc: Global,
+    planner: &Planner<'_, P>,
+    book: &mut Book,
+    line: &[u8],
+    out: &mut O,
+) -> Result<(), Fault> {
+    let row = match record_of(alloc, line) {
+        Ok(Some(row)) => row,
+        Ok(None) => return refuse(Refusal::Unknown, out),
+        Err(_) => return refuse(Refusal::Undone(Fault::OutOfMemory), out),
+    };
+    match line_of(&row) {
+        Line::Plan { tx, cert, end } => {
+            match plan_book(planner, book, tx, cert, end) {
+                Ok(planned) => tell_planned(planned, out),
+                Err(fault) => refuse(Refusal::Undone(fault), out),
+            }
+        }
+        Line::List => match list(alloc, book.pages(), out) {
+            Ok(()) => tell_pages(book, out),
+            Err(ListFault::OutOfMemory) => refuse(Refusal::Undone(Fault::OutOfMemory), out),
+            Err(ListFault::WriteFault) => Err(Fault::Write),
+        },
+        line => match edit(alloc, book, line) {
+            Ok(()) => tell_pages(book, out),
+            Err(refusal) => refuse(refusal, out),
+        },
+    }
+}
+
+// Makes an edit of the round, which is as it was where it is refused.
+fn edit(alloc: Global, book: &mut Book, line: Line<'_>) -> Result<(), Refusal>
+    ensures { OnErr result (book.new ≡ book.old) }
+{
+    match line {
+        Line::Add {
+            address,
+            kind,
+            message,
+        } => add_fields(alloc, book, address, kind, message),
+        Line::Cancel { address } => cancel_field(alloc, book, address),
+        Line::Clear => {
+            *book = Book::new(alloc);
+            Ok(())
+        }
+        _ => Err(Refusal::Unknown),
+    }
+}
+
+fn add_fields(
+    alloc: Global,
+    book: &mut Book,
+    address: &[u8],
+    kind: &[u8],
+    message: &[u8],
+) -> Result<(), Refusal>
+    ensures { OnErr result (book.new ≡ book.old) }
+{
+    let page = page_of_fields(alloc, address, kind, message)?;
+    book.add(page)?;
+    Ok(())
+}
+
+// What spells no address is that of no page. A page of an address codeword alone takes no memory.
+fn cancel_field(alloc: Global, book: &mut Book, address: &[u8]) -> Result<(), Refusal>
+    ensures { OnErr result (book.new ≡ book.old) }
+{
+    let Ok(page) = page_of_fields(alloc, address, b"tone0", b"") else {
+        return Err(Refusal::Cancel(NotThere));
+    };
+    let _page = book.cancel(page.address)?;
+    Ok(())
+}
+
+// The batches of a plan, and the bound that its certificate shows.
+#[derive(Clone, Copy)]
+struct Planned {
+    batches: u32,
+    bound: u32,
+}
+
+// The batches of a plan, and the bound where it is below them.
+fn tell_planned<O: Sink>(planned: Planned, out: &mut O) -> Result<(), Fault> {
+    let Planned { batches, bound } = planned;
+    if bound < batches {
+        tell(out, format_args!("batches {batches}, at least {bound}\n"))
+    } else {
+        tell(out, format_args!("batches {batches}\n"))
+    }
+}
+
+// Writes the transmission and the certificate of the round.
+fn plan_book<P: Places>(
+    planner: &Planner<'_, P>,
+    book: &Book,
+    tx: &str,
+    cert: &str,
+    end: End,
+) -> Result<Planned, Fault> {
+    let mut outputs = planner.places.make(tx, cert)?;
+    if planner.always {
+        plan_within_one(book, &mut outputs, end)
+    } else {
+        plan_fewest(book, &mut outputs, end)
+    }
+}
+
+// Writes both with the fewest batches.
+fn plan_fewest<S: Sink + Drop>(
+    book: &Book,
+    outputs: &mut Outputs<S>,
+    end: End,
+) -> Result<Planned, Fault> {
+    let plan = book.plan_stream(&mut outputs.tx, &mut outputs.cert, DEFAULT_LIMIT, end)?;
+    Ok(Planned {
+        batches: plan.batches,
+        bound: plan.batches,
+    })
+}
+
+// The same, where the limit is reached with one batch more than the bound.
+fn plan_within_one<S: Sink + Drop>(
+    book: &Book,
+    outputs: &mut Outputs<S>,
+    end: End,
+) -> Result<Planned, Fault> {
+    let (tx, cert) = (&mut outputs.tx, &mut outputs.cert);
+    let bounded = book.plan_stream_always(tx, cert, DEFAULT_LIMIT, end)?;
+    Ok(Planned {
+        batches: bounded.plan.batches,
+        bound: bounded.bound,
+    })
+}

@@ -1,0 +1,19 @@
+use pocsag_commands::Fault;
+use pocsag_words::Sink;
+
+/// The two outputs of a plan.
+#[derive(Drop)]
+pub struct Outputs<S: Sink + Drop> {
+    /// Takes the transmission.
+    pub tx: S,
+    /// Takes the certificate.
+    pub cert: S,
+}
+
+/// What makes the outputs of the plans of an open round, as files of a folder are.
+pub trait Places {
+    type Output: Sink + Drop;
+
+    /// Makes the two outputs that a line names, or answers why there are none.
+    fn make(&self, tx: &str, cert: &str) -> Result<Outputs<Self::Output>, Fault>;
+}

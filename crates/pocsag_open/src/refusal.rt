@@ -1,0 +1,40 @@
+use pocsag_commands::Fault;
+use pocsag_pages::FieldFault;
+use pocsag_plan::{AddFault, NotThere, Refused};
+use thiserror::Error;
+
+/// Why an edit is refused. The round is as it was.
+#[derive(Clone, Copy, PartialEq, Eq, Debug, Error)]
+pub enum Refusal {
+    #[error("unknown edit")]
+    Unknown,
+    /// The fields spell no page.
+    #[error("{0}")]
+    Field(FieldFault),
+    /// The page may not follow the others.
+    #[error("{0}")]
+    Add(AddFault),
+    #[error("{0}")]
+    Cancel(NotThere),
+    /// What was asked could not be done.
+    #[error("{0}")]
+    Undone(Fault),
+}
+
+impl From<FieldFault> for Refusal {
+    fn from(fault: FieldFault) -> Refusal {
+        Refusal::Field(fault)
+    }
+}
+
+impl From<Refused> for Refusal {
+    fn from(refused: Refused) -> Refusal {
+        Refusal::Add(refused.fault)
+    }
+}
+
+impl From<NotThere> for Refusal {
+    fn from(not_there: NotThere) -> Refusal {
+        Refusal::Cancel(not_there)
+    }
+}

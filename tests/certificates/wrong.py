@@ -1,0 +1,317 @@
+"""Wrong checkers: for each the rule that it breaks, and a part of a line of checker.py with what stands there
+instead. Each has to err on some pair of pairs.py; which_errs tells on which."""
+
+import pathlib
+import types
+
+SOURCE = (pathlib.Path(__file__).resolve().parent / "checker.py").read_text()
+
+EARLY_WAYS = """if early and hi[c] >= 1:
+            ways.append((LO, c, max(lo[c], 1)))"""
+LATE_WAYS = """if late and lo[c] < count[c]:
+            ways.append((HI, c, min(hi[c], count[c] - 1)))"""
+
+OF_FILES = [
+    ("a byte order mark is a part of the first field", r'3 if data.startswith(b"\xef\xbb\xbf") else 0', "0"),
+    ("an empty line is a record", r'if not fields and data[at:at + 1] in (b"\n", b"\r"):', "if False:"),
+    (
+        "an empty line of a carriage return is a record",
+        r'data[at:at + 1] in (b"\n", b"\r")',
+        r'data[at:at + 1] == b"\n"',
+    ),
+    ("a carriage return alone ends no record", r'rb"([^,\r\n]*)(,|\r\n|\r|\n|\Z)"', r'rb"([^,\r\n]*)(,|\r\n|\n|\Z)"'),
+    ("a line feed alone ends no record", r'rb"([^,\r\n]*)(,|\r\n|\r|\n|\Z)"', r'rb"([^,\r\n]*)(,|\r\n|\r|\Z)"'),
+    ("spaces around a field are left out", "fields.append(field)", 'fields.append(field.strip(b" "))'),
+    ("a doubled quote stands for two", """.replace(b'""', b'"')""", ""),
+    ("a doubled quote closes", """data[at + 1:at + 2] != b'"'""", "True"),
+    ("what follows the closing quote is left out", "quoted + rest[1]", "(quoted if quoted else rest[1])"),
+    ("a quote never closed is refused", "else len(data)\n", "else need(False)\n"),
+    (
+        "a quote begins in the midst of a field",
+        """if data[at:at + 1] == b'"':""",
+        """if b'"' in UNQUOTED.match(data, at)[1]:""",
+    ),
+    (
+        "the header may be any three fields",
+        'need(next(rows, None) == [b"address", b"kind", b"message"])',
+        "need(len(next(rows, [])) == 3)",
+    ),
+    ("the header's case is any", "need(next(rows, None) ==", "need([x.lower() for x in next(rows, [])] =="),
+    ("a fourth field is passed over", "need(len(fields) == 3 and", "need(len(fields) >= 3 and"),
+    ("the header may have more fields", 'need(next(rows, None) == [', 'need(next(rows, [])[:3] == ['),
+    ("a message may be left out", "need(len(fields) == 3 and", "fields += [b''] * (3 - len(fields)); need("),
+    ("an address may have eight digits", "[0-9]{1,7}", "[0-9]{1,8}"),
+    ("an address has six digits at most", "[0-9]{1,7}", "[0-9]{1,6}"),
+    (
+        "an address may be any number of Python's",
+        're.fullmatch(rb"[0-9]{1,7}", fields[0])',
+        "fields[0].strip().isdigit()",
+    ),
+    ("the greatest address is one more", "address <= 2097151", "address <= 2097152"),
+    ("the greatest address is one less", "address <= 2097151", "address <= 2097150"),
+    ("2007664 is not reserved", "2007664 <=", "2007665 <="),
+    ("2007663 is reserved", "2007664 <=", "2007663 <="),
+    ("2007671 is not reserved", "<= 2007671", "<= 2007670"),
+    ("2007672 is reserved", "<= 2007671", "<= 2007672"),
+    ("2045056 is not reserved", "2045056 <=", "2045057 <="),
+    ("2045055 is reserved", "2045056 <=", "2045055 <="),
+    ("2045063 is not reserved", "<= 2045063", "<= 2045062"),
+    ("2045064 is reserved", "<= 2045063", "<= 2045064"),
+    ("an address may come twice", "address not in lengths and", ""),
+    ("20,001 pages", "len(lengths) < 20000", "len(lengths) < 20001"),
+    ("19,999 pages", "len(lengths) < 20000", "len(lengths) < 19999"),
+    ("a round may be empty", "need(lengths)", "pass"),
+    ("a numeric message may be empty", r"\]\[]{1,4000}", r"\]\[]{0,4000}"),
+    ("a numeric message may have 4,001 bytes", r"\]\[]{1,4000}", r"\]\[]{1,4001}"),
+    ("a numeric message has 3,999 bytes at most", r"\]\[]{1,4000}", r"\]\[]{1,3999}"),
+    ("a numeric message may hold u", "0-9*U", "0-9*Uu"),
+    ("a numeric message holds no [", r"\]\[]{1,4000}", r"\]]{1,4000}"),
+    ("an alphanumeric message may be empty", r"\x7f]{1,4000}", r"\x7f]{0,4000}"),
+    ("an alphanumeric message may have 4,001 bytes", r"\x7f]{1,4000}", r"\x7f]{1,4001}"),
+    ("an alphanumeric message may hold 0", r"[\x01-\x7f]", r"[\x00-\x7f]"),
+    ("an alphanumeric message may hold 128", r"[\x01-\x7f]", r"[\x01-\x80]"),
+    ("an alphanumeric message holds no control characters", r"[\x01-\x7f]", r"[\x20-\x7f]"),
+    ("a tone may have a message", 'b"tone2": (b"", 0)', 'b"tone2": (b".*", 0)'),
+    ("a kind is missing", 'b"tone3": (b"", 0)', 'b"tone4": (b"", 0)'),
+    ("a character of alpha has eight bits", "{1,4000}\", 7)", "{1,4000}\", 8)"),
+    ("a numeric character has five bits", "{1,4000}\", 4)", "{1,4000}\", 5)"),
+    ("a part of a codeword is none", "len(message) + 19) // 20", "len(message)) // 20"),
+    ("the address codeword is not counted", "return address, 1 +", "return address, 0 +"),
+    ("the frame is taken from the high bits", "(address % 8, length)", "(address // 8 % 8, length)"),
+    ("length 1 is apart with the open end too", "if end == 1 and length == 1", "if length == 1"),
+    ("length 1 is not apart with the closed end", "if end == 1 and length == 1", "if False"),
+    (
+        "lengths 1 modulo 16 are apart with the closed end",
+        "if end == 1 and length == 1",
+        "if end == 1 and length % 16 == 1",
+    ),
+    ("whole turns are rounded up", "+= length // 16", "+= (length + 15) // 16"),
+    ("whole turns are not counted", "turns[c] += length // 16", "turns[c] += 0"),
+    ("whole turns are those of one page", "turns[c] += length // 16", "turns[c] = length // 16"),
+]
+
+OF_RUNS = [
+    ("the rest of a class from 128 on is 0", "(c - 128, 1)", "(c - 128, 0)"),
+    ("the frame of a class from 128 on is 0", "(c - 128, 1)", "(0, 1)"),
+    ("a late run starts with its frame", "start = 2 * frame + late", "start = 2 * frame"),
+    ("an early run starts late", "start = 2 * frame + late", "start = 2 * frame + 1"),
+    ("a run ends one slot before", "1 << (start + rest) % 16, sum", "1 << (start + rest - 1) % 16, sum"),
+    ("a run covers a slot more", "for i in range(rest))", "for i in range(rest + 1))"),
+    ("a run of rest 0 covers all slots", "for i in range(rest))", "for i in range(rest or 16))"),
+    ("an idle in 15 leads nowhere", "1 << i | 1 << (i + 1) % 16", "1 << i | 1 << min(i + 1, 15)"),
+    ("an arc crosses where both ends are out", "not in (0, ends)", "!= ends"),
+    ("an arc crosses where both ends are in", "not in (0, ends)", "!= 0"),
+    ("a run touches the outside where both ends do", "return members & ends != ends", "return members & ends == 0"),
+]
+
+OF_BYTES = [
+    ("the first version has a byte for the end", "end = 0 if first else number(1, 0, 1)", "end = number(1, 0, 1)"),
+    ("a third version", 'data[:4] in (b"PCB1", b"PCB2")', 'data[:3] == b"PCB"'),
+    ("the first version is not read", 'data[:4] in (b"PCB1", b"PCB2")', 'data[:4] == b"PCB2"'),
+    ("the end may be 2", "else number(1, 0, 1)", "else number(1, 0, 2)"),
+    ("the first version means the closed end", "end = 0 if first", "end = 1 if first"),
+    ("the low byte first", '"big")', '"little")'),
+    ("B may be 0", "batches = number(4, 1,", "batches = number(4, 0,"),
+    ("B has two bytes", "batches = number(4, 1,", "batches = number(2, 0,"),
+    ("depth 301", "len(wanted) <= 300", "len(wanted) <= 301"),
+    ("depth 299", "len(wanted) <= 300", "len(wanted) <= 299"),
+    ("1,000,001 nodes", "nodes <= 1000000", "nodes <= 1000001"),
+    ("999,999 nodes", "nodes <= 1000000", "nodes <= 999999"),
+    ("the first version has a Close", "(OPEN, 127, 2000, 272)", "(CLOSE, 127, 2000, 272)"),
+    ("the second version has no Close", "(CLOSE, 135, 20000, 288)", "(OPEN, 135, 20000, 288)"),
+    ("the first version has class 128", "(OPEN, 127,", "(OPEN, 128,"),
+    ("the first version has no class 127", "(OPEN, 127,", "(OPEN, 126,"),
+    ("the second version has class 136", "(CLOSE, 135,", "(CLOSE, 136,"),
+    ("the second version has no class 135", "(CLOSE, 135,", "(CLOSE, 134,"),
+    ("m of 2,001 in the first version", "127, 2000,", "127, 2001,"),
+    ("m of 1,999 at most in the first version", "127, 2000,", "127, 1999,"),
+    ("m of 20,001", "135, 20000,", "135, 20001,"),
+    ("m of 19,999 at most", "135, 20000,", "135, 19999,"),
+    ("m of 0", "m = number(2, 1, last_m)", "m = number(2, 0, last_m)"),
+    ("273 children in the first version", "2000, 272)", "2000, 273)"),
+    ("271 children in the first version", "2000, 272)", "2000, 271)"),
+    ("289 children", "20000, 288)", "20000, 289)"),
+    ("287 children", "20000, 288)", "20000, 287)"),
+    ("a Cut with one child", "number(2, 2, most)", "number(2, 1, most)"),
+    ("a Close with no child", "number(1, 1, 2) if tag == CLOSE", "number(1, 0, 2) if tag == CLOSE"),
+    ("a Close with three children", "number(1, 1, 2) if tag == CLOSE", "number(1, 1, 3) if tag == CLOSE"),
+    ("an empty set", "number(2, 1, 65535) if tag in", "number(2, 0, 65535) if tag in"),
+    ("bytes behind the root", "need(at == len(data))", "need(at <= len(data))"),
+]
+
+OF_VERDICTS = [
+    (
+        "a number of batches is refuted, and not one less",
+        "b, count, turns = batches - 1,",
+        "b, count, turns = batches,",
+    ),
+    ("two batches less are refuted", "b, count, turns = batches - 1,", "b, count, turns = max(0, batches - 2),"),
+    ("an overload may be even", "> room else None", ">= room else None"),
+    ("an overload is by two", "> room else None", "> room + 1 else None"),
+    ("the room is that of all slots", "sum(cap[i] for i in range(16) if members >> i & 1)", "sum(cap)"),
+    ("the room is b for each slot", "sum(cap[i] for i in range(16) if members >> i & 1)", "b * size(members)"),
+    (
+        "the least load is that of the greatest caps",
+        "least_load(members, lo, hi, count, turns) > room",
+        "least_load(members, lo, hi, count, turns) > max(room, b * size(members))",
+    ),
+    ("of lo and hi the greater load", "sum(min(lo[c] * gain, hi[c] * gain)", "sum(max(lo[c] * gain, hi[c] * gain)"),
+    ("the load with lo", "sum(min(lo[c] * gain, hi[c] * gain)", "sum((lo[c] * gain)"),
+    ("the load with hi", "sum(min(lo[c] * gain, hi[c] * gain)", "sum((hi[c] * gain)"),
+    (
+        "the least of all classes together",
+        "sum(min(lo[c] * gain, hi[c] * gain) for c, gain in gains)",
+        "min(sum(lo[c] * gain for c, gain in gains), sum(hi[c] * gain for c, gain in gains))",
+    ),
+    ("late runs cover as early ones do", "count[c] * late\n", "count[c] * early\n"),
+    ("whole turns load a set once", "turns[c] * size(members)", "turns[c]"),
+    ("early runs add what they cover", "(c, early - late)", "(c, early)"),
+    ("a Split at lo", "lo[c] < m <= hi[c]", "lo[c] <= m <= hi[c]"),
+    ("a Split above hi", "lo[c] < m <= hi[c]", "lo[c] < m <= hi[c] + 1"),
+    ("no Split at hi", "lo[c] < m <= hi[c]", "lo[c] < m < hi[c]"),
+    ("a Split anywhere", "and lo[c] < m <= hi[c]:", ":"),
+    ("below a Split hi is m", "(HI, c, m - 1), (LO, c, m)", "(HI, c, m), (LO, c, m)"),
+    ("from a Split on lo is m - 1", "(HI, c, m - 1), (LO, c, m)", "(HI, c, m - 1), (LO, c, m - 1)"),
+    ("the children of a Split exchanged", "[(HI, c, m - 1), (LO, c, m)]", "[(LO, c, m), (HI, c, m - 1)]"),
+    (
+        "a Split's first child is not judged",
+        "for child, way in zip(node[4], below))",
+        "for child, way in list(zip(node[4], below))[node[0] == SPLIT:])",
+    ),
+    (
+        "a Split's second child is not judged",
+        "for child, way in zip(node[4], below))",
+        "for child, way in list(zip(node[4], below))[:1 if node[0] == SPLIT else None])",
+    ),
+    (
+        "a Cut's last child is not judged",
+        "for child, way in zip(node[4], below))",
+        "for child, way in list(zip(node[4], below))[:-1 if node[0] == CUT else None])",
+    ),
+    (
+        "a Cut's first child is not judged",
+        "for child, way in zip(node[4], below))",
+        "for child, way in list(zip(node[4], below))[node[0] == CUT:])",
+    ),
+    (
+        "a Close's last child is not judged",
+        "for child, way in zip(node[4], below))",
+        "for child, way in list(zip(node[4], below))[:-1 if node[0] == CLOSE and len(below) > 1 else None])",
+    ),
+    (
+        "an Open below a Cut is taken",
+        "if below is None or",
+        "if node[0] == OPEN and change and change[0] == CAP: continue\n        if below is None or",
+    ),
+    ("a Cut with b of 0", "if tag == CUT and b >= 1 and", "if tag == CUT and"),
+    ("a Cut's set without boundary 0", "and members & 1 and c <= 135", "and c <= 135"),
+    ("a Cut's class need not be certain", "and certain(c, members, lo, hi, count):", "and count[c] >= 1:"),
+    ("a class without pages is certain", "count[c] >= 1 and (early and late", "(early and late"),
+    ("one run outside makes a class certain", "early and late or", "early or late or"),
+    ("both runs outside make no class certain", "early and late or", ""),
+    ("an early run outside makes a class certain", "early and lo[c] >= 1", "early"),
+    ("no early run makes a class certain", " or early and lo[c] >= 1", ""),
+    ("a late run outside makes a class certain", "late and hi[c] < count[c])", "late)"),
+    ("no late run makes a class certain", " or late and hi[c] < count[c])", ")"),
+    ("some pages early make late ones certain", "late and hi[c] < count[c])", "late and lo[c] < count[c])"),
+    ("more children than ways", "len(below) != len(node[4])", "len(below) > len(node[4])"),
+    ("fewer children than ways", "len(below) != len(node[4])", "len(below) < len(node[4])"),
+    (
+        "an idle where the cap is below b is no way",
+        "(CAP, i, min(cap[i], b - 1)) for i in idles]",
+        "(CAP, i, min(cap[i], b - 1)) for i in idles if cap[i] == b]",
+    ),
+    (
+        "an idle lowers the cap each time",
+        "(CAP, i, min(cap[i], b - 1)) for i in idles]",
+        "(CAP, i, cap[i] - 1) for i in idles]",
+    ),
+    ("an idle narrows nothing", "(CAP, i, min(cap[i], b - 1)) for i in idles]", "(CAP, i, cap[i]) for i in idles]"),
+    ("idles come after runs", "return ways\n", "return ways[len(idles):] + ways[:len(idles)]\n"),
+    (
+        "idles from 15 down to 0",
+        "for i in range(16) if crosses(members, IDLES[i])",
+        "for i in reversed(range(16)) if crosses(members, IDLES[i])",
+    ),
+    ("classes from 135 down to 0", "for c, early, late in runs:", "for c, early, late in reversed(runs):"),
+    ("early where lo is not 0", "if early and hi[c] >= 1:", "if early and lo[c] >= 1:"),
+    ("early where hi is 0 too", "if early and hi[c] >= 1:", "if early:"),
+    ("late where hi is below the count", "if late and lo[c] < count[c]:", "if late and hi[c] < count[c]:"),
+    ("late where lo is the count too", "if late and lo[c] < count[c]:", "if late:"),
+    (
+        "late before early",
+        f"{EARLY_WAYS}\n        {LATE_WAYS}",
+        f"{LATE_WAYS}\n        {EARLY_WAYS}",
+    ),
+    ("early narrows to one page more", "(LO, c, max(lo[c], 1))", "(LO, c, lo[c] + 1)"),
+    ("early narrows to one", "(LO, c, max(lo[c], 1))", "(LO, c, 1)"),
+    ("early narrows nothing", "(LO, c, max(lo[c], 1))", "(LO, c, lo[c])"),
+    ("late narrows to one page less", "(HI, c, min(hi[c], count[c] - 1))", "(HI, c, hi[c] - 1)"),
+    ("late narrows to all but one", "(HI, c, min(hi[c], count[c] - 1))", "(HI, c, count[c] - 1)"),
+    ("late narrows nothing", "(HI, c, min(hi[c], count[c] - 1))", "(HI, c, hi[c])"),
+    ("a Close with the open end", "if tag == CLOSE and end == 1 and", "if tag == CLOSE and"),
+    ("a Close with b of 0", "end == 1 and b >= 1:", "end == 1:"),
+    ("the last idle in slot 0", "return [(CAP, 15, min(cap[15], b - 1))]", "return [(CAP, 0, min(cap[0], b - 1))]"),
+    (
+        "the last idle lowers the cap each time",
+        "return [(CAP, 15, min(cap[15], b - 1))]",
+        "return [(CAP, 15, cap[15] - 1)]",
+    ),
+    ("the last idle narrows nothing", "return [(CAP, 15, min(cap[15], b - 1))]", "return [(CAP, 15, cap[15])]"),
+    ("a last idle alone", "b - 1))] + late", "b - 1))]"),
+    (
+        "the last page before the last idle",
+        "return [(CAP, 15, min(cap[15], b - 1))] + late",
+        "return late + [(CAP, 15, min(cap[15], b - 1))]",
+    ),
+    (
+        "the last page is of frame 0",
+        "late = [(HI, 135, min(hi[135], count[135] - 1))] if count[135] >= 1 and lo[135] < count[135]",
+        "late = [(HI, 128, min(hi[128], count[128] - 1))] if count[128] >= 1 and lo[128] < count[128]",
+    ),
+    ("the last page where all start early too", "count[135] >= 1 and lo[135] < count[135]", "count[135] >= 1"),
+    ("a last page where there is none", "count[135] >= 1 and lo[135] < count[135]", "True"),
+    ("the last page narrows to one less", "min(hi[135], count[135] - 1)", "hi[135] - 1"),
+    ("the last page narrows nothing", "min(hi[135], count[135] - 1)", "hi[135]"),
+    ("no way narrows", "limits = changed(limits, change) if change else limits", "pass"),
+    (
+        "the last way alone narrows",
+        "waiting.extend((child, limits, way)",
+        "waiting.extend((child, ((0,) * 136, count, (b,) * 16), way)",
+    ),
+    ("the closed end is not told", 'if end == 1 else "")', 'if False else "")'),
+    (
+        "a page file is judged after the certificate",
+        'return "refused"',
+        'return "refused" if parse(bytes(certificate_bytes)) else "no certificate"',
+    ),
+]
+
+WRONG = OF_FILES + OF_RUNS + OF_BYTES + OF_VERDICTS
+
+
+def checker_with(old, new):
+    """The second checker with this part of a line changed; the part stands there once."""
+    if SOURCE.count(old) != 1:
+        raise ValueError(f"stands {SOURCE.count(old)} times in checker.py: {old}")
+    module = types.ModuleType("wrong")
+    exec(compile(SOURCE.replace(old, new), "wrong", "exec"), module.__dict__)
+    return module
+
+
+def answer_of(module, pages, certificate):
+    """The answer of a checker, or the name of the error that ended it."""
+    try:
+        return module.verdict(pages, certificate)
+    except Exception as error:
+        return type(error).__name__
+
+
+def which_errs(old, new, judged):
+    """The place of the first pair on which the wrong checker gives another answer; none where it gives none. The
+    pairs come with the right answer, as (page file, certificate, answer)."""
+    module = checker_with(old, new)
+    for place, (pages, certificate, answer) in enumerate(judged):
+        if answer_of(module, pages, certificate) != answer:
+            return place
+    return None

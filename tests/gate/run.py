@@ -1,0 +1,62 @@
+#!/usr/bin/env python3
+"""Tries how `./test` counts its parts, with stand-ins for them. The last line is 'N passed, M failed'."""
+
+import io
+import pathlib
+import sys
+
+sys.dont_write_bytecode = True
+TOP = pathlib.Path(__file__).resolve().parents[2]
+sys.path[:0] = [str(TOP / "tests"), str(TOP / "tools")]
+from gate import Gate
+from tally import Tally
+
+# What a part prints, its status, and what the gate counts of it.
+PARTS = [
+    ("a part that passes", "echo '3 passed, 0 failed'", 0, (3, 0)),
+    ("more lines before the count", "echo first; echo '2 passed, 0 failed'", 0, (2, 0)),
+    ("the last count counts", "echo '9 passed, 0 failed'; echo '2 passed, 0 failed'", 0, (2, 0)),
+    ("a count with a leading zero", "echo '010 passed, 0 failed'", 0, (10, 0)),
+    ("a part with failures", "echo '3 passed, 2 failed'; exit 1", 1, (3, 2)),
+    ("failures with status 0", "echo '3 passed, 2 failed'", 1, (3, 2)),
+    ("a status without failures", "echo '3 passed, 0 failed'; exit 4", 1, (3, 1)),
+    ("nothing tried", "echo '0 passed, 0 failed'", 1, (0, 1)),
+    ("no count", "echo done", 1, (0, 1)),
+    ("killed before its count", "kill -9 $$; echo '3 passed, 0 failed'", 1, (0, 1)),
+    ("killed after a count", "echo '3 passed, 0 failed'; kill -9 $$", 1, (3, 1)),
+    ("a count inside a line", "echo 'so 3 passed, 0 failed'", 1, (0, 1)),
+    ("a failure told on the other stream", "echo '1 passed, 1 failed' >&2", 1, (1, 1)),
+]
+
+
+def try_part(tally, name, script, status, counts):
+    gate = Gate(TOP, io.StringIO())
+    gate.part("part", "sh", "-c", script)
+    tally.check(f"{name}: its counts", (gate.passed, gate.failed) == counts, (gate.passed, gate.failed))
+    tally.check(f"{name}: the status", gate.end() == status)
+    told = gate.out.getvalue().splitlines()[-1]
+    tally.check(f"{name}: the last line", told == f"{counts[0]} passed, {counts[1]} failed", told)
+
+
+def try_others(tally):
+    gate = Gate(TOP, io.StringIO())
+    gate.part("missing", "/nowhere/no-such-command")
+    tally.check("a command that is not there fails", (gate.passed, gate.failed) == (0, 1))
+    gate = Gate(TOP, io.StringIO())
+    tally.check("no part at all fails", gate.end() == 1)
+    gate = Gate(TOP, io.StringIO())
+    tally.check("a step that fails stops what stands on it", not gate.step("step", "sh", "-c", "exit 2") and gate.failed == 1)
+    tally.check("a step that passes counts once", gate.step("step", "true") and gate.passed == 1)
+    tally.check("one failure fails the whole", gate.end() == 1)
+
+
+def main():
+    tally = Tally()
+    for row in PARTS:
+        try_part(tally, *row)
+    try_others(tally)
+    return tally.end()
+
+
+if __name__ == "__main__":
+    sys.exit(main())

@@ -1,0 +1,136 @@
+#!/usr/bin/env python3
+"""Installs the built program into a folder and runs it from there, as another user and without the toolchain.
+
+The completions are compared with the help of the program. The last line is 'N passed, M failed'.
+"""
+
+import pathlib
+import re
+import shutil
+import subprocess
+import sys
+import tempfile
+
+sys.dont_write_bytecode = True
+sys.path.insert(0, str(pathlib.Path(__file__).resolve().parents[1]))
+from tally import PROGRAM, TOP, Tally, as_nobody
+
+PLACES = ["bin/pocsag", "share/bash-completion/completions/pocsag", "share/man/man1/pocsag.1"]
+COMMANDS = ["plan", "check", "decode", "hear", "show", "open", "report"]
+# Options with a value, and what is offered for it.
+VALUES = {"--end": {"open", "closed"}, "--rate": {"512", "1200", "2400"}, "--limit": set()}
+
+
+def install(*words):
+    ran = subprocess.run([str(TOP / "install"), *map(str, words)], capture_output=True, text=True, timeout=600)
+    return ran.returncode, ran.stdout, ran.stderr
+
+
+def files_below(folder):
+    return sorted(str(path.relative_to(folder)) for path in folder.glob("**/*"))
+
+
+def run_as_nobody(words, folder):
+    """Runs a command as a user with no rights here, with the system's own commands alone in PATH."""
+    environment = {"PATH": "/usr/bin:/bin", "HOME": str(folder)}
+    return subprocess.run([*as_nobody(folder), *map(str, words)], capture_output=True, cwd=folder, env=environment, timeout=60)
+
+
+def try_installed(tally, folder):
+    prefix, room = folder / "prefix", folder / "room"
+    prefix.mkdir()
+    room.mkdir()
+    folder.chmod(0o755)
+    room.chmod(0o777)
+    status, out, err = install(prefix)
+    tally.check("install", status == 0, (status, err))
+    tally.check("what it brings is told", out.split() == [str(prefix / it) for it in ("bin/pocsag", "share/man/man1/pocsag.1", "share/bash-completion/completions/pocsag")], out)
+    tally.check("all of it is there", all((prefix / it).is_file() for it in PLACES), files_below(prefix))
+    tally.check("the program is the built one", (prefix / "bin/pocsag").read_bytes() == PROGRAM.read_bytes())
+    program = prefix / "bin/pocsag"
+    shutil.copy(TOP / "examples/round.csv", room / "round.csv")
+    (room / "round.csv").chmod(0o644)
+    ran = run_as_nobody([program, "plan", "round.csv", "round.bin", "round.cert"], room)
+    tally.check("another user plans", (ran.returncode, ran.stdout) == (0, b"pages 6\nbatches 2\n"), ran)
+    ran = run_as_nobody([program, "check", "round.csv", "round.cert"], room)
+    tally.check("and checks", (ran.returncode, ran.stdout) == (0, b"at least 2 batches\n"), ran)
+    for number in range(40):
+        shutil.copy(room / "round.csv", room / f"{number}.csv")
+    script = "ls [0-9]*.csv | sed 's/\\.csv$//' | xargs -P 4 -I {} " + f"'{program}' plan {{}}.csv {{}}.bin {{}}.cert"
+    ran = run_as_nobody(["sh", "-c", script], room)
+    sent = {path.read_bytes() for path in room.glob("*.bin")}
+    tally.check("a process a channel", ran.returncode == 0 and len(list(room.glob("*.bin"))) == 41 and len(sent) == 1, ran)
+
+
+def try_again(tally, folder):
+    prefix = folder / "prefix"
+    inode = (prefix / "bin/pocsag").stat().st_ino
+    status, _, err = install(prefix)
+    tally.check("once more over the first", status == 0 and (prefix / "bin/pocsag").stat().st_ino != inode, err)
+    tally.check("nothing half written is left", not [it for it in files_below(prefix) if "/." in it], files_below(prefix))
+    foreign = prefix / "bin/other"
+    foreign.write_text("other\n")
+    status, out, err = install("--uninstall", prefix)
+    tally.check("uninstall leaves what others brought", status == 0 and files_below(prefix) == ["bin", "bin/other"], files_below(prefix))
+    status, out, err = install("--uninstall", prefix)
+    tally.check("twice does no harm", (status, out, err) == (0, "", ""), (status, out, err))
+    made = folder / "made"
+    status, _, _ = install(made)
+    tally.check("a folder that is not there", status == 0 and (made / "bin/pocsag").is_file())
+    install("--uninstall", made)
+    tally.check("goes again with what it held", not made.exists())
+
+
+def try_refused(tally, folder):
+    status, out, err = install(folder / "a", folder / "b")
+    tally.check("two folders are usage", status == 2 and "PREFIX" in err, (status, out, err))
+    status, out, err = install("--wrong")
+    tally.check("an unknown option is usage", status == 2 and not out, (status, out, err))
+    status, out, err = install("--help")
+    tally.check("help", status == 0 and "PREFIX" in out and not err, (status, out, err))
+    (folder / "file").write_text("")
+    status, out, err = install(folder / "file/below")
+    tally.check("a file in the place of a folder", status == 1 and err.count("\n") == 1, (status, out, err))
+
+
+def completed(*words):
+    """What bash offers for the last of the words."""
+    script = '. "$1"; shift; COMP_WORDS=("$@"); COMP_CWORD=$(($# - 1)); _pocsag; printf "%s\\n" "${COMPREPLY[@]}"'
+    ran = subprocess.run(["bash", "-c", script, "bash", str(TOP / "completions/pocsag.bash"), "pocsag", *words], capture_output=True, text=True)
+    return set(ran.stdout.split()), ran.stderr
+
+
+def help_options(*words):
+    text = subprocess.run([str(PROGRAM), *words, "--help"], capture_output=True, text=True, timeout=60).stdout
+    part = re.search(r"^Options:\n((?:  .*\n)+)", text, re.M)
+    spelled = [re.split(r"  +", line.strip())[0] for line in part[1].splitlines() if line.lstrip().startswith("-")]
+    return set(re.findall(r"--?[\w-]+", " ".join(spelled)))
+
+
+def try_completions(tally, _folder):
+    text = subprocess.run([str(PROGRAM), "--help"], capture_output=True, text=True, timeout=60).stdout
+    named = {line.split()[0] for line in re.search(r"^Commands:\n((?:  .*\n)+)", text, re.M)[1].splitlines()}
+    tally.check("each command of the help is tried here", named == {*COMMANDS, "help"}, named)
+    tally.check("the commands", completed("") == (named, ""), completed(""))
+    tally.check("a command begun", completed("re") == ({"report"}, ""), completed("re"))
+    tally.check("help's commands", completed("help", "")[0] == named, completed("help", ""))
+    tally.check("the program's options", completed("-")[0] == help_options(), (completed("-"), help_options()))
+    for command in COMMANDS:
+        wanted = help_options(command)
+        tally.check(f"the options of {command}", completed(command, "-") == (wanted, ""), (completed(command, "-"), wanted))
+        tally.check(f"files after {command}", completed(command, "") == (set(), ""), completed(command, ""))
+    for option, values in VALUES.items():
+        tally.check(f"the values of {option}", completed("plan", option, "") == (values, ""), completed("plan", option, ""))
+    tally.check("a value begun", completed("plan", "--end", "c")[0] == {"closed"})
+
+
+def main():
+    tally = Tally()
+    with tempfile.TemporaryDirectory() as name:
+        for part in (try_installed, try_again, try_refused, try_completions):
+            part(tally, pathlib.Path(name).resolve())
+    return tally.end()
+
+
+if __name__ == "__main__":
+    sys.exit(main())

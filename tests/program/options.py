@@ -1,0 +1,214 @@
+"""Every option of `plan`, `report` and `open` with every other that it can stand beside, on small rounds: what is
+told and written has to be what a brute force of tests/fewest and the other commands say of the round and the end."""
+
+import importlib.util
+import itertools
+import random
+import subprocess
+import sys
+
+sys.dont_write_bytecode = True
+from tally import PROGRAM, TOP
+
+HEADER = b"address,kind,message\n"
+ENDS = ([], ["--end", "open"], ["--end", "closed"], ["--end=closed"])
+LIMITS = ([], ["--limit", "100000"], ["--limit=1000000"], ["--limit", "1"])
+RATES = ("512", "1200", "2400")
+USAGE = [
+    ["plan", "p", "t", "c", "--rate", "512"], ["plan", "p", "t", "c", "--svg"], ["plan", "p", "t", "c", "--list"],
+    ["check", "p", "c", "--end", "open"], ["check", "p", "c", "--limit", "5"], ["check", "p", "c", "--verify"],
+    ["check", "p", "c", "--rate", "512"], ["check", "p", "c", "--svg"], ["decode", "t", "--end", "open"],
+    ["decode", "t", "--list"], ["decode", "t", "--verify"], ["hear", "8", "t", "--end", "open"],
+    ["hear", "8", "t", "--always"], ["show", "t", "--always"], ["show", "t", "--end", "open"],
+    ["show", "t", "--list", "--svg"], ["open", "--end", "open"], ["open", "--limit", "5"], ["open", "--verify"],
+    ["open", "--rate", "512"], ["open", "p", "--end", "closed"], ["open", "p", "q"], ["report", "p", "--always"],
+    ["report", "p", "--rate", "512", "--verify"], ["report", "p", "t", "c"], ["report", "p", "--rate", "512", "--svg"],
+    ["--always"], ["--end", "open"], ["--limit", "5"], ["--verify"],
+    ["plan", "p", "t", "c", "--end"], ["plan", "p", "t", "c", "--limit"], ["plan", "p", "t", "c", "--always=yes"],
+    ["plan", "p", "t", "c", "--verify=yes"], ["plan", "p", "t", "c", "--end", "closed", "--end", "open"],
+    ["plan", "p", "t", "c", "--limit", "5", "--limit", "6"], ["plan", "p", "t", "c", "--limit", "-1"],
+]
+
+
+def run(words, folder, stdin=b""):
+    return subprocess.run([str(PROGRAM), *words], input=stdin, capture_output=True, cwd=folder, timeout=110)
+
+
+def brute_force():
+    """The script with the brute force, as a module."""
+    spec = importlib.util.spec_from_file_location("fewest", TOP / "tests/fewest/run.py")
+    module = importlib.util.module_from_spec(spec)
+    spec.loader.exec_module(module)
+    return module
+
+
+FEWEST = brute_force()
+# Rounds as pages (address, message codewords): where the ends differ, where the least is one below the fewest, where
+# no search is needed; and some at random.
+ROUNDS = [
+    [(0, 15)],
+    [(0, 5), (3, 9)],
+    [(0, 5), (3, 9), (11, 15)],
+    [(0, 13), (7, 0), (15, 2), (1, 13)],
+    [(0, 15), (3, 15)],
+    [(5, 0), (13, 0), (21, 0)],
+    [(7, 1), (15, 1)],
+    *(FEWEST.random_round(source) for source in [random.Random(1986)] for _ in range(8)),
+]
+
+
+class Due:
+    """What is due of a round for an end."""
+
+    def __init__(self, pages, is_closed):
+        self.pages, self.is_closed = pages, is_closed
+        self.shapes = tuple((address % 8, 1 + items) for address, items in pages)
+        self.fewest = FEWEST.fewest(self.shapes, is_closed)
+        self.text = HEADER + "".join(FEWEST.record(*page) for page in pages).encode()
+        self.codewords = sum(length for _, length in self.shapes)
+
+    def in_order(self):
+        """The batches of file order, which is the same for either end."""
+        index = 0
+        for frame, length in self.shapes:
+            while index % 16 // 2 != frame:
+                index += 1
+            index += length
+        return (index + 15) // 16
+
+    def shown(self, bound):
+        """What `check` tells of a certificate for the bound."""
+        return b"at least %d batches%s\n" % (bound, b" with a closed end" if self.is_closed else b"")
+
+    def report(self, rate, batches):
+        bits = 576 + 544 * batches
+        counts = (len(self.pages), self.codewords, self.in_order(), batches, 16 * batches - self.codewords, bits)
+        names = (b"pages", b"codewords", b"in_order", b"batches", b"idles", b"bits")
+        lines = b"".join(b"%s %d\n" % pair for pair in zip(names, counts))
+        return lines + b"airtime_ms %d\n" % -(-1000 * bits // int(rate))
+
+    def are_written(self, folder, batches, bound):
+        """Whether both files are those of a plan with so many batches and that bound: read here and by the program."""
+        sent = (folder / "tx.bin").read_bytes()
+        ends_whole = sent[-4:].hex() == FEWEST.IDLE or not sent[-4] >> 7
+        shown = run(["check", "pages.csv", "cert.bin"], folder)
+        return (
+            FEWEST.pages_read(sent) == sorted(self.pages)
+            and len(sent) == 72 + 68 * batches
+            and (ends_whole or not self.is_closed)
+            and (shown.returncode, shown.stdout) == (0, self.shown(bound))
+        )
+
+
+def told_bound(lines, batches):
+    """The bound that a text tells behind a plan of so many batches, which stands there only where it is below."""
+    return int(lines[0].split()[2]) if lines and lines[0].startswith(b"at least ") else batches
+
+
+def judged(due, done, limit, is_always):
+    """The batches and the bound that a call answers; none where it is refused as it may be, and false where the
+    answer is wrong. With a limit of one node alone the search may stop."""
+    text = done.stdout.splitlines()
+    said = dict(line.split(b" ", 1) for line in text if b" " in line)
+    if done.returncode == 0:
+        batches = int(said.get(b"batches", b"0"))
+        bound = told_bound([line for line in text if line.startswith(b"at least ")], batches)
+        is_fewest = batches == bound == due.fewest
+        is_near = is_always and "1" in limit and bound + 1 == batches and bound <= due.fewest <= batches
+        return (batches, bound) if is_fewest or is_near else False
+    stopped = b"pocsag: search limit reached: at least %d batches, %d would do\n"
+    least = due.fewest - 1 if (done.stderr == stopped % (due.fewest - 1, due.fewest)) else due.fewest
+    holds = "1" in limit and not is_always and (done.returncode, done.stdout) == (1, b"")
+    return None if holds and done.stderr == stopped % (least, least + 1) else False
+
+
+def try_plan_options(tally, folder):
+    """`plan` with each end, limit, `--always` and `--verify`."""
+    flags = ([], ["--always"]), ([], ["--verify"])
+    for pages, end, limit, always, verify in itertools.product(ROUNDS, ENDS, LIMITS, *flags):
+        due = Due(pages, any("closed" in word for word in end))
+        (folder / "pages.csv").write_bytes(due.text)
+        done = run(["plan", *end, "pages.csv", "tx.bin", *limit, "cert.bin", *always, *verify], folder)
+        name = " ".join(["plan", *end, *limit, *always, *verify])
+        answer = judged(due, done, limit, bool(always))
+        tally.check(name, answer is not False, (due.text, due.fewest, done))
+        if answer:
+            batches, bound = answer
+            told = b"pages %d\nbatches %d\n" % (len(pages), batches)
+            told += b"at least %d batches\n" % bound if bound < batches else b""
+            told += b"verified\n" if verify else b""
+            tally.check(f"{name}: told", (done.stdout, done.stderr) == (told, b""), (due.text, told, done))
+            tally.check(f"{name}: files", due.are_written(folder, batches, bound), (due.text, answer))
+
+
+def try_report_options(tally, folder):
+    """`report` with each rate, end, limit and `--always`, of the plan that `plan` makes with them."""
+    for pages, end, limit, always in itertools.product(ROUNDS, ENDS, LIMITS, ([], ["--always"])):
+        due = Due(pages, any("closed" in word for word in end))
+        (folder / "pages.csv").write_bytes(due.text)
+        planned = run(["plan", "pages.csv", "tx.bin", "cert.bin", *end, *limit, *always], folder)
+        of_plan = judged(due, planned, limit, bool(always))
+        for rate in RATES:
+            done = run(["report", *always, "pages.csv", *limit, "--rate", rate, *end], folder)
+            name = " ".join(["report", rate, *end, *limit, *always])
+            answer = judged(due, done, limit, bool(always))
+            tally.check(name, answer is not False and answer == of_plan, (due.text, due.fewest, done, planned))
+            if answer:
+                batches, bound = answer
+                told = due.report(rate, batches) + (b"at least %d batches\n" % bound if bound < batches else b"")
+                tally.check(f"{name}: told", (done.stdout, done.stderr) == (told, b""), (due.text, told, done))
+
+
+def try_open_options(tally, folder):
+    """`open` with and without PAGES and `--always`, and its plans with each end."""
+    for pages, words in itertools.product(ROUNDS, ([], ["--always"], ["pages.csv"], ["pages.csv", "--always"])):
+        text = Due(pages, False).text
+        (folder / "pages.csv").write_bytes(text)
+        edits = [] if "pages.csv" in words else [b"add," + record for record in text.splitlines()[1:]]
+        counted = [b"ok %d" % (place + 1) for place in range(len(edits))]
+        for end in (b"", b",open", b",closed"):
+            due = Due(pages, end == b",closed")
+            lines = [*edits, b"plan,tx.bin,cert.bin" + end]
+            done = run(["open", *words], folder, b"\n".join(lines) + b"\n")
+            told = b"\n".join([*counted, b"batches %d" % due.fewest]) + b"\n"
+            name = f"open {' '.join(words)}: plan{end.decode()}"
+            tally.check(name, (done.returncode, done.stdout, done.stderr) == (0, told, b""), (text, told, done))
+            tally.check(f"{name}: files", due.are_written(folder, due.fewest, due.fewest), text)
+
+
+def try_input_options(tally, folder):
+    """No words: the fewest batches for the open end."""
+    for pages in ROUNDS:
+        due = Due(pages, False)
+        told = b"pages %d\nbatches %d\n" % (len(pages), due.fewest)
+        done = run([], folder, due.text)
+        tally.check("no words", (done.returncode, done.stdout, done.stderr) == (0, told, b""), (due.text, done))
+
+
+def try_foreign_options(tally, folder):
+    """Options that a command does not have, and values that they do not take."""
+    for words in USAGE:
+        done = run(words, folder)
+        holds = done.returncode == 2 and done.stdout == b"" and done.stderr.startswith(b"error: ")
+        tally.check(f"usage {words}", holds, done)
+
+
+def try_bad_numbers(tally, folder):
+    """Rates and limits that are none, beside each other option: status 1, and nothing told."""
+    (folder / "pages.csv").write_bytes(Due(ROUNDS[0], False).text)
+    no_rate, no_limit = b"pocsag: the rate must be 512, 1200 or 2400\n", b"pocsag: the limit must be 1 to 1000000\n"
+    for end, always in itertools.product(ENDS, ([], ["--always"])):
+        for rate in ("0", "511", "1201", "4294967295"):
+            done = run(["report", "pages.csv", "--rate", rate, *end, *always], folder)
+            holds = (done.returncode, done.stdout, done.stderr) == (1, b"", no_rate)
+            tally.check(f"rate {rate} {end} {always}", holds, done)
+        for limit in ("0", "1000001", "4294967295"):
+            for words in (["report", "pages.csv", "--rate", "512"], ["plan", "pages.csv", "tx.bin", "cert.bin"]):
+                done = run([*words, "--limit", limit, *end, *always], folder)
+                holds = (done.returncode, done.stdout, done.stderr) == (1, b"", no_limit)
+                tally.check(f"{words[0]} with limit {limit} {end} {always}", holds, done)
+
+
+PARTS = (
+    try_plan_options, try_report_options, try_open_options, try_input_options, try_foreign_options, try_bad_numbers,
+)

@@ -1,0 +1,125 @@
+"""Wrong bodies: the files `.edit`, and the rounds in which as many as fit are planted side by side."""
+
+import pathlib
+
+from source import function_at, functions_of, homes_of
+
+
+class Unfit(Exception):
+    """Says why an edit cannot be planted in these sources."""
+
+
+class Edit:
+    """A wrong body: pairs of texts by file, and the function that the prover must refuse where the edit names it."""
+
+    def __init__(self, name, text):
+        self.name, self.pairs, self.function = name, [], None
+        self.functions, self.is_alone, self.is_right = [], False, False
+        path = old = None
+        for line in text.split("\n"):
+            word, _, rest = line.partition(":")
+            rest = rest.removeprefix(" ")
+            if word == "file":
+                path = rest.strip()
+            elif word == "function":
+                self.function = rest.strip()
+            elif word == "old":
+                old = rest
+            elif word == "new" and path and old:
+                self.pairs.append((path, old, rest))
+                old = None
+
+    def planted(self, texts):
+        """The texts with this edit, and the place of each pair as (path, line, whole text); raises Unfit."""
+        texts, places = dict(texts), []
+        for path, old, new in self.pairs:
+            if path not in texts:
+                raise Unfit(f"there is no file {path}")
+            if texts[path].count(old) != 1:
+                raise Unfit(f"an 'old:' text is in {path} {texts[path].count(old)} times, and not once")
+            line = texts[path].partition(old)[0].count("\n")
+            texts[path] = texts[path].replace(old, new)
+            places.append((path, line, texts[path]))
+        if not places:
+            raise Unfit("it has no 'file:', 'old:' and 'new:'")
+        return texts, places
+
+    def look(self, texts):
+        """Finds the functions that the edit changes, and whether it has to be tried with no other beside it."""
+        homes, found = homes_of(texts), {}
+        for (path, line, text), (_, old, _) in zip(self.planted(texts)[1], self.pairs):
+            function = function_at(functions_of(path, text, homes), line)
+            if function:
+                found[function.unit] = function
+            if function and not function.is_shown or not function and not old.startswith("use "):
+                self.is_alone = True  # others may see what it changes
+        self.functions = list(found.values())
+        if self.function and self.function not in [it.name for it in self.functions]:
+            self.is_alone = True
+
+
+class Round:
+    """Edits that are planted side by side: at most one in each function or cycle of functions."""
+
+    def __init__(self, texts):
+        self.edits, self.texts, self.units, self.is_full = [], texts, set(), False
+
+    def take(self, edit):
+        """Plants the edit if it fits, and says whether it did."""
+        units = {it.unit for it in edit.functions}
+        if self.is_full or edit.is_alone and self.edits or units & self.units:
+            return False
+        try:
+            self.texts = edit.planted(self.texts)[0]
+        except Unfit:
+            return False
+        self.edits.append(edit)
+        self.units |= units
+        self.is_full = edit.is_alone
+        return True
+
+
+def rounds_of(edits, texts):
+    """The edits in as few rounds as the first that fits gives."""
+    rounds = []
+    for edit in sorted(edits, key=lambda it: it.is_alone):
+        if not any(it.take(edit) for it in rounds):
+            rounds.append(Round(texts))
+            rounds[-1].take(edit)
+    return rounds
+
+
+def read_edits(folders, texts):
+    """The edits of these folders that can be planted, and by its name why each other cannot."""
+    good, bad = [], {}
+    for file in sorted(it for folder in folders for it in pathlib.Path(folder).glob("*.edit")):
+        edit = Edit(file.stem, file.read_text())
+        try:
+            edit.look(texts)
+            good.append(edit)
+        except Unfit as why:
+            bad[edit.name] = str(why)
+    return good, bad
+
+
+def right_change(texts, taken):
+    """An edit that leaves a function right: a statement more in one that is not among the units taken and calls no
+    other of the crate, so that nothing but its own goals can be refused. None where there is no such function."""
+    homes = homes_of(texts)
+    listed = [(path, it) for path in sorted(texts) if path.startswith("src/")
+              for it in functions_of(path, texts[path], homes)]
+    names = {it.name.rpartition("::")[2] for _, it in listed}
+    for path, function in listed:
+        lines = texts[path].split("\n")[function.first:function.last + 1]
+        opens = [place for place, line in enumerate(lines) if line.strip() == "{"]
+        if not opens or function.unit in taken or function.name.startswith("tests::"):
+            continue
+        body = "\n".join(lines[opens[0]:])
+        if any(f"{name}(" in body for name in names):
+            continue
+        old = "\n".join(lines[:opens[0] + 1])
+        edit = Edit("a change that is right", "")
+        edit.pairs = [(path, old, old + "\n    let _ = 0_u8;")]
+        edit.functions, edit.is_right = [function], True
+        return edit
+    return None

@@ -1,0 +1,164 @@
+"""A copy of a crate in which edits are planted, and what the prover says of it."""
+
+import os
+import re
+import shutil
+import subprocess
+
+from source import function_at, functions_of, homes_of
+
+PARTS = ("src", "specs", "proofs")
+MINUTES = 40  # the longest that one check may take
+STATUS = re.compile(r"fn \w+?::(\S+): (.*)")
+PLACE = re.compile(r"(?:note: )?(?:\./)?((?:src|specs|proofs)/\S+?):(\d+):\d+: (.*)")
+OWN = re.compile(r"not proved|no proof: (?!it calls|it passes|a call of)")
+SEARCHED = re.compile(r"`search` did not prove (`.*)")
+CLAUSE = re.compile(r"`(?:\w+-)?returns")  # the name of a goal that a clause asks for; in a cycle behind a function's
+OF_FUNCTIONS = ("Answers.antt", "Invariants.antt", "Proof.antt")
+# A proof file that names something which the edit took away, and what cites that proof.
+UNFITTING = re.compile(r"has no field|is not in scope|has no `|was not admitted|which was rejected")
+UNREADABLE = re.compile(r"is not in scope|has no field|is no name|operand is missing|expected the end|cannot continue")
+
+
+def link_or_copy(source, target):
+    """Makes a hard link, or a copy where the two places are on different file systems."""
+    try:
+        os.link(source, target)
+    except OSError:
+        shutil.copy2(source, target)
+
+
+def rt_check(folder, only=()):
+    """What `rt check` prints in a crate's folder: of the whole crate, or of these functions and what they call."""
+    words = ["rt", "check", "--jobs", "1", *(word for name in only for word in ("--only", name))]
+    how = {"cwd": folder, "stdin": subprocess.DEVNULL, "stdout": subprocess.PIPE, "stderr": subprocess.STDOUT}
+    try:
+        ran = subprocess.run(words, timeout=60 * MINUTES, encoding="utf-8", errors="replace", check=False, **how)
+    except subprocess.TimeoutExpired:
+        return Said(f"the check did not end within {MINUTES} minutes")
+    return Said(ran.stdout)
+
+
+class Said:
+    """What a check printed."""
+
+    def __init__(self, text):
+        self.lines = text.rstrip("\n").split("\n")
+        self.statuses = {it[1]: it[2] for it in map(STATUS.fullmatch, self.lines) if it}
+        verdict = [it for it in self.lines if it.startswith("logic=")]
+        self.has_verdict = bool(verdict) or any(it.startswith("only=") for it in self.lines)
+        self.is_proved = bool(verdict) and verdict[-1].startswith("logic=proved ")
+        self.places = []  # of each goal that is open and each error: path, line from 0, what is said
+        for number, line in enumerate(self.lines):
+            found = PLACE.match(line)
+            if found and (found[3].startswith("error") or "it is not proved that" in found[3]):
+                more = [it.strip() for it in self.lines[number + 1:number + 2] if it.startswith("  ")]
+                self.places.append((found[1], int(found[2]) - 1, " ".join([found[3], *more])))
+
+    def refused(self):
+        """The names of all functions whose own goals were not proved."""
+        return [name for name, status in self.statuses.items() if OWN.match(status)]
+
+    def unreadable(self):
+        """The places at which a text of the sources could not be read at all."""
+        for path, line, told in self.places:
+            found = re.match(r"error: (?:(`[^`]*`): )?(.*)", told)
+            if found and path.startswith(("src/", "specs/")):
+                if not found[1] or UNREADABLE.search(re.sub(r"`[^`]*`", "", found[2])):
+                    yield path, line
+
+
+class Planted:
+    """A check of planted texts, and what it says of each function."""
+
+    def __init__(self, texts, said):
+        self.said, homes = said, homes_of(texts)
+        self.functions = {path: functions_of(path, text, homes) for path, text in texts.items()
+                          if path.startswith("src/")}
+
+    def at(self, path, line):
+        """The function at a line of the planted texts."""
+        return function_at(self.functions.get(path, []), line)
+
+    def by_name(self, name):
+        """The function that the prover names so; a closure stands for the function around it."""
+        outer = re.sub(r"(^|::)fn::(\w+)::.*", r"\1\2", name)
+        return next((it for some in self.functions.values() for it in some if it.name == outer), None)
+
+    def refused_units(self):
+        """The units with a goal of their own that was not proved."""
+        return {it.unit for it in map(self.by_name, self.said.refused()) if it}
+
+    def goals(self, unit):
+        """What is said of the unit's own open goals: at its lines, in its proof files, by its status."""
+        for path, line, told in self.said.places:
+            function = self.at(path, line) if path.startswith("src/") else None
+            inside = re.sub(r"(^|/)fn/(\w+)/.*", r"\1\2/", path.removeprefix("proofs/"))
+            if function and function.unit == unit or inside.startswith(unit.replace("::", "/") + "/"):
+                yield f"{path}:{line + 1}: {told}"
+        for name, status in self.said.statuses.items():
+            searched = SEARCHED.search(status)
+            function = searched and self.by_name(name)
+            if function and function.unit == unit:
+                yield f"{name}: {searched[1]}"
+
+    def lemmas(self):
+        """What is said of lemmas, which stand in no function's proof files."""
+        for path, line, told in self.said.places:
+            if path.startswith("proofs/") and os.path.basename(path) not in OF_FUNCTIONS:
+                yield f"{path}:{line + 1}: {told}"
+
+    def judge(self, unit, may_be_lemma=False):
+        """Whether the unit is refused at a goal of its own, and that goal, or why it does not count. What changes no
+        function's body (a constant) may be refused at a lemma that the unit's proof cites."""
+        if unit not in self.refused_units():
+            return False, "NOT REFUSED"
+        goals = list(self.goals(unit)) + list(self.lemmas() if may_be_lemma else ())
+        real = [it for it in goals if not (it.startswith("proofs/") and UNFITTING.search(it))]
+        if real:
+            # a clause before an invariant, and both before what a call asks for
+            return True, min(real, key=lambda it: 2 * (not CLAUSE.search(it)) + ("loop-" not in it))[:240]
+        if goals:
+            return False, f"BAD EDIT: only a proof file no longer fits, so no contract was tried: {goals[0][:160]}"
+        return False, "BAD EDIT: it is refused at no goal of its own"
+
+
+class Room:
+    """A folder with a copy of the crate and of what stands below it, with what their proofs left."""
+
+    def __init__(self, crate, top):
+        self.crate, self.folder = crate, os.path.join(top, "crates", crate.name)
+        os.makedirs(os.path.join(self.folder, "out"))
+        with open(os.path.join(top, "crates.txt"), "w", encoding="utf-8") as listed:
+            listed.writelines(f"{it.line}\n" for it in [*crate.below, crate])
+        for it in crate.below:
+            for part in (*PARTS, "out/rlib"):
+                if os.path.isdir(f"{it.folder}/{part}"):
+                    target = os.path.join(top, "crates", it.name, part)
+                    shutil.copytree(f"{it.folder}/{part}", target, copy_function=link_or_copy)
+        for part in PARTS:
+            if os.path.isdir(f"{crate.folder}/{part}"):
+                shutil.copytree(f"{crate.folder}/{part}", f"{self.folder}/{part}")
+
+    def restore_kept(self):
+        """Puts what the crate's own proof left in the place of what a refused check left."""
+        source, target = f"{self.crate.folder}/out/incremental", f"{self.folder}/out/incremental"
+        for at, _, names in os.walk(source):
+            there = target + at[len(source):]
+            os.makedirs(there, exist_ok=True)
+            for name in set(os.listdir(there)) - set(os.listdir(at)):
+                left = f"{there}/{name}"
+                shutil.rmtree(left) if os.path.isdir(left) else os.remove(left)
+            for name in names:
+                was, now = os.stat(f"{at}/{name}"), f"{there}/{name}"
+                is_same = os.path.exists(now) and os.stat(now).st_mtime_ns == was.st_mtime_ns
+                if not is_same or os.stat(now).st_size != was.st_size:
+                    shutil.copy2(f"{at}/{name}", now)
+
+    def check(self, texts, only=()):
+        """Checks the copy with these texts of its sources, the whole crate or these functions and what they call."""
+        self.restore_kept()
+        for path, text in texts.items():
+            with open(f"{self.folder}/{path}", "w", encoding="utf-8") as it:
+                it.write(text)
+        return Planted(texts, rt_check(self.folder, only))

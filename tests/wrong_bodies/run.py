@@ -1,0 +1,225 @@
+#!/usr/bin/env python3
+"""Tries the wrong bodies: the prover must refuse each function in which one is planted.
+
+  python3 tests/wrong_bodies/run.py [CRATE..]         all crates, or these alone
+  python3 tests/wrong_bodies/run.py --list [CRATE..]  only shows what would be planted in which round
+
+A wrong body is a file `.edit` in crates/CRATE/must-fail or tests/wrong_bodies/CRATE: a line `file: src/x.rt`, then
+pairs of lines `old: TEXT` and `new: TEXT`, where each old text stands once in the file. The function that must be
+refused is the one around the text; a line `function: MODULE::NAME` (as the prover prints it, less the crate) names
+another. The verdict on a function rests on its own body and on the contracts of what it calls, so a check tries
+as many wrong bodies as there are functions to plant them in: a round. It runs over a copy of the crate, with what
+the crate's own proof left. A wrong body counts as refused where a goal of its own function stays open, and not
+because a proof file no longer fits. What is not refused in its round is tried alone. What others may see (a constant,
+a derive, a function without a contract) has a round of its own. Once for each crate a round holds a change that is
+right, which must be proved, and at the end the unchanged copy must be proved.
+
+Crates are tried side by side, as many as RT_JOBS or the processors allow, with 2 GB for each.
+The last line is 'N passed, M failed'; the status is 0 where M is 0.
+"""
+
+import concurrent.futures
+import os
+import pathlib
+import re
+import resource
+import shutil
+import sys
+import tempfile
+import threading
+import time
+import typing
+
+sys.dont_write_bytecode = True
+HERE = pathlib.Path(__file__).resolve().parent
+sys.path[:0] = [str(HERE), str(HERE.parent)]
+from edits import Edit, Unfit, read_edits, right_change, rounds_of
+from prover import PARTS, Room, rt_check
+from tally import TOP, Tally
+
+MEMORY = 2 << 20  # for each crate, in kB
+
+
+class Crate:
+    """A crate of crates.txt: its folder, its line, the crates below it, the folders of its wrong bodies."""
+
+    def __init__(self, top, name, lines):
+        self.name, self.line, self.folder = name, lines[name], top / "crates" / name
+        self.folders = [self.folder / "must-fail", top / "tests/wrong_bodies" / name]
+        self.below = []
+        for used in self.line.partition(":")[2].split():
+            if used in lines:
+                used = Crate(top, used, lines)
+                self.below += [it for it in [*used.below, used] if it not in self.below]
+
+    def __eq__(self, other):
+        return self.name == other.name
+
+    def texts(self):
+        """The texts of the crate's files by their paths."""
+        files = [it for part in PARTS for it in sorted((self.folder / part).rglob("*")) if it.is_file()]
+        return {str(it.relative_to(self.folder)): it.read_text() for it in files}
+
+
+def crates_of(top):
+    """The crates that crates.txt lists, by name."""
+    listed = [it.partition("#")[0].strip() for it in (top / "crates.txt").read_text().splitlines()]
+    lines = {it.partition(":")[0].split()[0]: it for it in listed if it}
+    return {name: Crate(top, name, lines) for name in lines}
+
+
+class Verdict(typing.NamedTuple):
+    """Whether an edit did as it must, what to say of it, and the units that were refused beside its own."""
+
+    holds: bool
+    told: str
+    elsewhere: set = frozenset()
+
+
+def judged(seen, edit, is_alone):
+    """The verdict on an edit after a check in which it was planted."""
+    if edit.is_right:
+        status = seen.said.statuses.get(edit.functions[0].name, "not there")
+        return Verdict(status == "proved", f"{edit.functions[0].name}: {status}")
+    named = seen.by_name(edit.function) if edit.function else None
+    if edit.function and not named:
+        return Verdict(False, f"BAD EDIT: no function is named {edit.function}")
+    own = {named.unit} if named else {it.unit for it in edit.functions}
+    if {function.unit for function in (seen.at(*it) for it in seen.said.unreadable()) if function} & own:
+        return Verdict(False, "BAD EDIT: the prover cannot read the edited text, so no contract was tried")
+    elsewhere = seen.refused_units() - own
+    told = ["NOT REFUSED"]
+    for unit in sorted(own) + (sorted(elsewhere) if is_alone and not named else []):
+        holds, said = seen.judge(unit, may_be_lemma=not edit.functions)
+        if holds:
+            return Verdict(True, f"refused in {unit}: {said}", elsewhere)
+        told.append(said)
+    return Verdict(False, max(told, key=lambda it: it.startswith("BAD")), elsewhere)
+
+
+def tried(room, edits, texts, is_whole=False):
+    """The verdict on each of these edits, planted together; where they do not compile, on those that do. Of what
+    stands alone and names its function only that function is checked, unless the whole crate is to be."""
+    planted, names = texts, []
+    for edit in edits:
+        planted = edit.planted(planted)[0]
+        names += [edit.function] if edit.is_alone and edit.function and not is_whole else []
+    seen = room.check(planted, names)
+    if seen.said.has_verdict:
+        return {it: judged(seen, it, len(edits) == 1) for it in edits}
+    if names:
+        return tried(room, edits, texts, is_whole=True)
+    at_errors = {it.unit for it in (seen.at(path, line) for path, line, _ in seen.said.places) if it}
+    wrong = [it for it in edits if at_errors & {function.unit for function in it.functions}]
+    if len(edits) == 1:
+        places = [f"{path}:{line + 1}: {told}" for path, line, told in seen.said.places]
+        told = places[0] if places else "; ".join(seen.said.lines[:4])
+        return {edits[0]: Verdict(False, f"BAD EDIT: it does not reach the prover: {told[:300]}")}
+    others, half = [it for it in edits if it not in wrong], len(edits) // 2
+    parts = [*([it] for it in wrong), others] if wrong and others else [edits[:half], edits[half:]]
+    found = {}
+    for part in parts:
+        found.update(tried(room, part, texts))
+    return found
+
+
+def verdicts(room, edits, texts):
+    """The verdict on each edit of a round. What did not do as it must is tried alone, by a check of the whole crate;
+    and what another edit's function may have been refused for is tried again without it."""
+    found = tried(room, edits, texts)
+    reached = set()
+    for edit in [it for it in edits if not found[it].holds]:
+        found[edit] = tried(room, [edit], texts, is_whole=True)[edit]
+        reached |= found[edit].elsewhere
+    again = [it for it in edits if found[it].holds and reached & {function.unit for function in it.functions}]
+    if again:
+        found.update(tried(room, again, texts))
+    return found
+
+
+def planned(crate):
+    """The crate's texts, the rounds of its edits (lists), and by name why an edit cannot be planted."""
+    texts = crate.texts()
+    good, bad = read_edits(crate.folders, texts)
+    rounds = rounds_of(good, texts)
+    for it in rounds:
+        right = None if it.is_full else right_change(texts, it.units)
+        if right and it.take(right):
+            break
+    return texts, [it.edits for it in rounds], bad
+
+
+def try_crate(crate, say=print):
+    """Tries a crate's edits. Gives a name, whether it holds and what to say, for each of them, for the change that is
+    right and for the unchanged copy."""
+    texts, plan, bad = planned(crate)
+    results = [(f"{crate.name}/{name}", False, f"BAD EDIT: {why}") for name, why in bad.items()]
+    if not plan:
+        return results
+    started = time.monotonic()
+    proof = rt_check(crate.folder)
+    if not proof.is_proved:
+        return [*results, (f"{crate.name} as it is", False, "not proved, so nothing was tried: run rt check there")]
+    with tempfile.TemporaryDirectory(prefix="wrong-bodies-") as top:
+        room = Room(crate, top)
+        for edits in plan:
+            for edit, it in verdicts(room, edits, texts).items():
+                results.append((f"{crate.name}/{edit.name}", it.holds, it.told))
+        is_proved = room.check(texts).said.is_proved
+        results.append((f"{crate.name} unchanged", is_proved, "the copy is not proved at the end"))
+    if not any(it.is_right for edits in plan for it in edits):
+        results.append((f"{crate.name}/a change that is right", False, "no function was found to make it in"))
+    say(f"{crate.name}: {len(plan)} rounds in {time.monotonic() - started:.0f} s")
+    return results
+
+
+def lanes():
+    """How many crates to try side by side."""
+    given = os.environ.get("RT_JOBS", "")
+    free = re.search(r"MemAvailable:\s+(\d+)", pathlib.Path("/proc/meminfo").read_text())
+    return int(given) if given.isdigit() and int(given) else max(1, min(
+        len(os.sched_getaffinity(0)), int(free[1]) // MEMORY))
+
+
+def show_plan(crates):
+    """Shows what would be planted in which round."""
+    for crate in crates:
+        _, plan, bad = planned(crate)
+        for number, edits in enumerate(plan, 1):
+            for edit in edits:
+                functions = edit.function or ", ".join(it.name for it in edit.functions) or "outside functions"
+                print(f"{crate.name} round {number}: {edit.name}: {functions}")
+        for name, why in bad.items():
+            print(f"{crate.name}: {name}: BAD EDIT: {why}")
+
+
+def main(words):
+    known = crates_of(TOP)
+    names = [it for it in words if it != "--list"]
+    unknown = [it for it in names if it not in known]
+    if unknown:
+        print(f"wrong_bodies: crates.txt has no {', '.join(unknown)}", file=sys.stderr)
+        return 2
+    crates = [it for it in known.values() if not names or it.name in names]
+    if "--list" in words:
+        return show_plan(crates) or 0
+    if not shutil.which("rt"):
+        print("wrong_bodies: the command rt is missing in PATH", file=sys.stderr)
+        return 2
+    tally, printing = Tally(), threading.Lock()
+    with concurrent.futures.ThreadPoolExecutor(lanes()) as pool:
+        # the highest first, since they take longest
+        running = [pool.submit(try_crate, it) for it in reversed(crates)]
+        for done in concurrent.futures.as_completed(running):
+            with printing:
+                for name, holds, told in done.result():
+                    tally.check(f"wrong body {name}", holds, told)
+                    if holds and told.startswith("refused"):
+                        print(f"wrong body {name}: {told}", flush=True)
+    used = resource.getrusage(resource.RUSAGE_CHILDREN)
+    print(f"{used.ru_utime + used.ru_stime:.0f} processor seconds")
+    return tally.end()
+
+
+if __name__ == "__main__":
+    sys.exit(main(sys.argv[1:]))

@@ -1,0 +1,125 @@
+#!/usr/bin/env python3
+"""Shows that trying wrong bodies in rounds is no weaker than trying them one by one.
+
+  python3 tests/wrong_bodies/selftest.py         with each fourth wrong body of pocsag_text
+  python3 tests/wrong_bodies/selftest.py --all   with all of them
+
+In a copy of the repository's lowest two crates, wrong bodies of pocsag_text are tried both ways, by `rt must-fail`
+and in rounds, and must be refused both ways. Among them stand a body that is right, one that does not
+compile and one that only no longer fits its proof file, which the rounds must report by name. That a body which
+spoils a check without naming a line is found by halving is shown with a prover that is played.
+The last line is 'N passed, M failed'.
+"""
+
+import pathlib
+import re
+import shutil
+import subprocess
+import sys
+
+sys.dont_write_bytecode = True
+sys.path[:0] = [str(pathlib.Path(__file__).resolve().parent), str(pathlib.Path(__file__).resolve().parents[1])]
+from edits import Edit
+from prover import PARTS, Planted, Said, link_or_copy, rt_check
+from run import TOP, crates_of, try_crate, tried
+from tally import run_parts
+
+CRATE = "pocsag_text"
+RENAMED = [("let mut len = text.len();", "let mut left = text.len();"), ("while len > 0 {", "while left > 0 {"),
+           ("text[len - 1] != unwanted", "text[left - 1] != unwanted"), ("return len;", "return left;"),
+           ("len -= 1;", "left -= 1;")]
+PLANTED = {
+    "a-body-that-is-right": ("src/pack.rt", [("count > CHARACTER_LIMIT", "CHARACTER_LIMIT < count")]),
+    "a-body-that-does-not-compile": ("src/character.rt", [("b'U' => Some(11),", "b'U' => Some(eleven),")]),
+    "a-body-that-its-proof-does-not-fit": ("src/unpack.rt", RENAMED),
+}
+WANTED = {
+    "a-body-that-is-right": "NOT REFUSED",
+    "a-body-that-does-not-compile": "BAD EDIT: it does not reach the prover",
+    "a-body-that-its-proof-does-not-fit": "BAD EDIT: only a proof file no longer fits",
+}
+
+
+def copied(top):
+    """Copies the crate, what stands below it and its wrong bodies to a repository of their own."""
+    crate = crates_of(TOP)[CRATE]
+    for it in [*crate.below, crate]:
+        for part in (*PARTS, "out/rlib"):
+            if (it.folder / part).is_dir():
+                shutil.copytree(it.folder / part, top / "crates" / it.name / part, copy_function=link_or_copy)
+    shutil.copytree(crate.folder / "out/incremental", top / "crates" / CRATE / "out/incremental")
+    (top / "crates.txt").write_text("".join(f"{it.line}\n" for it in [*crate.below, crate]))
+    folder = top / "crates" / CRATE / "must-fail"
+    folder.mkdir()
+    files = sorted(file for it in crate.folders for file in it.glob("*.edit"))
+    for file in files[::1 if "--all" in sys.argv else 4]:
+        shutil.copy(file, folder)
+    for name, (path, pairs) in PLANTED.items():
+        text = "".join(f"old: {old}\nnew: {new}\n" for old, new in pairs)
+        (folder / f"{name}.edit").write_text(f"file: {path}\n{text}")
+
+
+def one_by_one(top):
+    """What `rt must-fail` says of each edit of the copy."""
+    ran = subprocess.run(["rt", "must-fail", CRATE], cwd=top, stdout=subprocess.PIPE, stderr=subprocess.STDOUT,
+                         stdin=subprocess.DEVNULL, encoding="utf-8", errors="replace", check=False)
+    return dict(re.findall(rf"must-fail {CRATE}/([\w-]+)\.edit: (.*)", ran.stdout))
+
+
+def test_both_ways(tally, top):
+    """The rounds and the trials one by one give the same verdicts, and the rounds name what is no wrong body."""
+    crate = crates_of(TOP)[CRATE]
+    tally.check("the crate is proved", rt_check(crate.folder).is_proved, "run rt check in it")
+    copied(top)
+    results = try_crate(crates_of(top)[CRATE])
+    in_rounds = {name.partition("/")[2] or name: (holds, told) for name, holds, told in results}
+    singly = one_by_one(top)
+    for name, told in sorted(singly.items()):
+        if name in WANTED:
+            continue
+        holds = told.startswith("refused, as it must be") and "only because a proof file" not in told
+        tally.check(f"{name} both ways", in_rounds.get(name, (None,))[0] == holds, f"{told} / {in_rounds.get(name)}")
+    for name, wanted in WANTED.items():
+        holds, told = in_rounds.get(name, (None, "not tried"))
+        tally.check(f"{name} is reported", holds is False and told.startswith(wanted), told)
+    tally.check("each edit one by one", len(singly) == len(in_rounds) - 2, f"{len(singly)} of {len(in_rounds) - 2}")
+    tally.check("a right body one by one", singly.get("a-body-that-is-right", "").startswith("NOT REFUSED"), singly)
+    for name in ("a change that is right", f"{CRATE} unchanged"):
+        tally.check(name, in_rounds.get(name, (False,))[0], in_rounds.get(name))
+
+
+class Played:
+    """A prover that is played: it refuses each body with `wrong` in it, and ends in silence at one with `broken`."""
+
+    def __init__(self):
+        self.checks = 0
+
+    def check(self, texts, _):
+        self.checks += 1
+        text = texts["src/lib.rt"]
+        lines = ["error: internal"] if "broken" in text else ["logic=not-proved"]
+        for number, line in enumerate(text.split("\n"), 1):
+            name = re.match(r"fn (\w+)", line)
+            if name and "wrong" in line:
+                lines.insert(0, f"note: src/lib.rt:{number}:1: it is not proved that it holds (`returns`)")
+            if name:
+                lines.append(f"fn played::{name[1]}: {'not proved' if 'wrong' in line else 'proved'}")
+        return Planted(texts, Said("\n".join(lines)))
+
+
+def test_halving(tally, _):
+    """A body that spoils the check is found, and the others are judged."""
+    texts = {"src/lib.rt": "\n\n".join(f"fn f{number}() {{ right{number} }}" for number in range(8)) + "\n"}
+    edits = []
+    for number, body in enumerate(["wrong"] * 5 + ["broken", "fine", "wrong"]):
+        edits.append(Edit(f"edit{number}", f"file: src/lib.rt\nold: right{number}\nnew: {body}"))
+        edits[-1].look(texts)
+    found = {edit.name: it for edit, it in tried(Played(), edits, texts).items()}
+    for number in (0, 1, 2, 3, 4, 7):
+        tally.check(f"played edit{number}", found[f"edit{number}"].holds, found[f"edit{number}"])
+    tally.check("played, broken", found["edit5"].told.startswith("BAD EDIT: it does not reach"), found["edit5"])
+    tally.check("played, fine", found["edit6"].told == "NOT REFUSED", found["edit6"])
+
+
+if __name__ == "__main__":
+    sys.exit(run_parts(test_halving, test_both_ways))

@@ -1,0 +1,97 @@
+"""Where the functions of a crate stand, and how the prover names them. Reads sources in the layout of `rt fmt`."""
+
+import re
+import typing
+
+HEAD = re.compile(r"( *)(?:pub(?:\([^)]*\))? )?(?:const |unsafe )*fn (\w+)")
+TYPE = re.compile(r"^(?:pub(?:\([^)]*\))? )?(?:struct|enum) (\w+)", re.MULTILINE)
+CYCLE = re.compile(r"#\[cycle\((\w+)\)\]")
+
+
+class Function(typing.NamedTuple):
+    """A function of a source file: its name as the prover prints it, less the crate's; its unit, which is the
+    cycle of calls that it is proved with, or else itself; and its first and last line, from 0."""
+
+    name: str
+    unit: str
+    first: int
+    last: int
+    is_shown: bool  # has a contract, so that no other function's proof looks into its body
+
+
+def module_of(path):
+    """The module that a source file holds, as `a::b`; empty for the crate's root."""
+    module = path.removeprefix("src/").removesuffix(".rt").replace("/", "::")
+    return "" if module in ("lib", "main") else module
+
+
+def homes_of(texts):
+    """The module of each type that the files (texts by path) declare."""
+    return {name: module_of(path) for path, text in texts.items()
+            if path.startswith("src/") for name in TYPE.findall(text)}
+
+
+def without_arguments(words):
+    """A type without what stands in its angle brackets, as `Vec` for `Vec<Option<u8>>`."""
+    while re.search(r"<[^<>]*>", words):
+        words = re.sub(r"<[^<>]*>", "", words)
+    return words.strip()
+
+
+def owner_of(header, module, homes):
+    """What the prover puts before the names of an `impl` block's functions."""
+    header = re.sub(r"'\w+,? ?", "", header).partition(" where ")[0]
+    header = re.sub(r"^impl(<>)? ?", "", header)
+    if header.startswith("<"):
+        header = header[re.match(r"<(?:[^<>]|<[^<>]*>)*>", header).end():].strip()
+    of_trait, is_for, of_type = header.rpartition(" for ")
+    name = without_arguments(of_type).rpartition("::")[2]
+    if not is_for:
+        return "::".join(filter(None, (homes.get(name, module), name)))
+    trait, _, arguments = of_trait.partition("<")
+    inner = [without_arguments(it) for it in re.split(r",(?![^<]*>)", arguments.rstrip("> "))]
+    return "::".join(filter(None, (module, name + trait.strip() + "".join(inner))))
+
+
+def start_of(lines, head):
+    """The line at which the notes and attributes above a function's head begin."""
+    while head > 0 and lines[head - 1].strip() and not lines[head - 1].rstrip().endswith(("{", "}", ";")):
+        head -= 1
+    return head
+
+
+def end_of(lines, head, indent):
+    """The line of the bracket that closes a function's body, or None where the function has no body."""
+    for place in range(head, len(lines)):
+        if lines[place] == indent + "}" or place == head and lines[place].endswith("}"):
+            return place
+        if lines[place].endswith(";") and not lines[place].startswith(indent + "    "):
+            return None
+    return None
+
+
+def functions_of(path, text, homes):
+    """The functions of a file of the crate in the order of their places."""
+    module, lines, found, owner, of_trait = module_of(path), text.split("\n"), [], "", False
+    for number, line in enumerate(lines):
+        if line.startswith("impl"):
+            header = " ".join(lines[number:number + 6]).partition("{")[0]
+            owner, of_trait = owner_of(header, module, homes), " for " in header
+        elif line == "}":
+            owner, of_trait = "", False
+        head = HEAD.match(line)
+        last = head and end_of(lines, number, head[1])
+        if last is None:
+            continue
+        first = start_of(lines, number)
+        name = "::".join(filter(None, (owner or module, head[2])))
+        cycle = CYCLE.search("\n".join(lines[first:number]))
+        unit = "::".join(filter(None, (module, "+" + cycle[1]))) if cycle else name
+        is_shown = of_trait or "ensures" in "\n".join(lines[number:last])
+        found.append(Function(name, unit, first, last, is_shown))
+    return found
+
+
+def function_at(functions, line):
+    """The function at a line, from 0, or None."""
+    return next((it for it in functions if it.first <= line <= it.last), None)
