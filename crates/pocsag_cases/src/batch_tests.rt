@@ -3,18 +3,17 @@
 use crate::given::{
     IDLE, LONE_TONE, ONES, PageRow, SECOND, Sent, TIGHT, cut, pages, transmission, words,
 };
-use crate::{THREE_PAGES_TIGHT, round_of, tour_of};
 use pocsag_batch::{
     FirstFault, Slots, first_stream, in_order_batches, lay_in_order, lay_out, order_of, write,
     write_slots,
 };
 use pocsag_decode::decode;
 use pocsag_pages::RoundFault;
-use pocsag_words::{End, MemorySink, MemorySource, Word, WriteFault};
+use pocsag_rounds::{THREE_PAGES_TIGHT, round_of, tour_of};
+use pocsag_words::{End, MemorySink, MemorySource, OutOfMemory, Word, WriteFault};
 use std::alloc::Global;
-use std::test::Fail;
 
-fn raws(alloc: Global, words: &[Word]) -> Result<Vec<u32>, Fail> {
+fn raws(alloc: Global, words: &[Word]) -> Result<Vec<u32>, OutOfMemory> {
     let mut numbers = Vec::new(alloc);
     for word in words {
         numbers.push(word.raw())?;
@@ -66,14 +65,16 @@ const TIGHT_PAGES: &[PageRow] = &[
 ];
 
 #[test]
-fn layouts(rt: HostRuntime) -> Result<(), Fail> {
+fn layouts(rt: HostRuntime) {
     let alloc = rt.alloc();
     for (pages, sent) in IN_ORDER {
-        let round = round_of(alloc, pages)?;
-        let batches = lay_in_order(alloc, &round)?;
-        let due = words(alloc, sent)?;
+        let round = round_of(alloc, pages).expect(&rt, "an answer");
+        let batches = lay_in_order(alloc, &round).expect(&rt, "an answer");
+        let due = words(alloc, sent).expect(&rt, "an answer");
         assert_eq!(rt;
-            raws(alloc, batches.words())?.as_slice(),
+            raws(alloc, batches.words())
+                .expect(&rt, "an answer")
+                .as_slice(),
             due.as_slice(),
             "{pages:?}"
         );
@@ -84,65 +85,76 @@ fn layouts(rt: HostRuntime) -> Result<(), Fail> {
         );
     }
     for (pages, late, batches, end, sent) in LAID {
-        let round = round_of(alloc, pages)?;
+        let round = round_of(alloc, pages).expect(&rt, "an answer");
         assert!(rt; 0 < *batches);
-        let steps = tour_of(alloc, &round, *late, *batches, *end)?;
-        let laid = lay_out(alloc, &round, steps.as_slice(), *end)?;
-        let due = words(alloc, *sent)?;
+        let steps = tour_of(alloc, &round, *late, *batches, *end).expect(&rt, "an answer");
+        let laid = lay_out(alloc, &round, steps.as_slice(), *end).expect(&rt, "an answer");
+        let due = words(alloc, *sent).expect(&rt, "an answer");
         assert_eq!(rt;
-            raws(alloc, laid.words())?.as_slice(),
+            raws(alloc, laid.words())
+                .expect(&rt, "an answer")
+                .as_slice(),
             due.as_slice(),
             "{pages:?}"
         );
     }
     for (pages, batches, order) in ORDERS {
-        let round = round_of(alloc, pages)?;
+        let round = round_of(alloc, pages).expect(&rt, "an answer");
         assert!(rt; 0 < *batches);
-        let steps = tour_of(alloc, &round, None, *batches, End::Open)?;
-        let told = order_of(alloc, &round, steps.as_slice(), End::Open)?;
+        let steps = tour_of(alloc, &round, None, *batches, End::Open).expect(&rt, "an answer");
+        let told = order_of(alloc, &round, steps.as_slice(), End::Open).expect(&rt, "an answer");
         assert_eq!(rt; told.as_slice(), *order, "{pages:?}");
     }
-    Ok(())
 }
 
 // The order, the codewords and the bytes of a tour, which are decoded to its pages, and each failing write.
 #[test]
-fn bytes_of_a_tour(rt: HostRuntime) -> Result<(), Fail> {
+fn bytes_of_a_tour(rt: HostRuntime) {
     let alloc = rt.alloc();
-    let round = round_of(alloc, &THREE_PAGES_TIGHT)?;
-    let steps = tour_of(alloc, &round, None, 2, End::Open)?;
+    let round = round_of(alloc, &THREE_PAGES_TIGHT).expect(&rt, "an answer");
+    let steps = tour_of(alloc, &round, None, 2, End::Open).expect(&rt, "an answer");
     assert_eq!(rt; steps.len(), 3);
-    let order = order_of(alloc, &round, steps.as_slice(), End::Open)?;
+    let order = order_of(alloc, &round, steps.as_slice(), End::Open).expect(&rt, "an answer");
     let mut listed = Vec::new(alloc);
     for word in Slots::new(&round, steps.as_slice(), order.as_slice()) {
-        listed.push(word.raw())?;
+        listed.push(word.raw()).expect(&rt, "an answer");
     }
-    assert_eq!(rt; listed.as_slice(), words(alloc, TIGHT)?.as_slice());
-    let due = transmission(alloc, TIGHT)?;
+    assert_eq!(rt;
+        listed.as_slice(),
+        words(alloc, TIGHT).expect(&rt, "an answer").as_slice()
+    );
+    let due = transmission(alloc, TIGHT).expect(&rt, "an answer");
     for step in [64, 1] {
         let mut sink = MemorySink::<208>::new(step, 1000);
         let slots = Slots::new(&round, steps.as_slice(), order.as_slice());
         assert_eq!(rt; write_slots(slots, &mut sink), Ok(()));
         assert_eq!(rt; sink.bytes(), due.as_slice());
     }
-    let told = decode(alloc, due.as_slice())?;
-    assert_eq!(rt; told.as_slice(), pages(alloc, TIGHT_PAGES)?.as_slice());
+    let told = decode(alloc, due.as_slice()).expect(&rt, "an answer");
+    assert_eq!(rt;
+        told.as_slice(),
+        pages(alloc, TIGHT_PAGES)
+            .expect(&rt, "an answer")
+            .as_slice()
+    );
     for place in 0..208u64 {
         let mut sink = MemorySink::<208>::new(64, place);
         let slots = Slots::new(&round, steps.as_slice(), order.as_slice());
         assert_eq!(rt; write_slots(slots, &mut sink), Err(WriteFault));
         assert_eq!(rt; sink.bytes(), cut(due.as_slice(), place as usize));
     }
-    Ok(())
 }
 
 // Writers and readers that fail at each place.
 #[test]
-fn failing_devices(rt: HostRuntime) -> Result<(), Fail> {
+fn failing_devices(rt: HostRuntime) {
     let alloc = rt.alloc();
-    let batches = lay_in_order(alloc, &round_of(alloc, &[(8, 0)])?)?;
+    let batches = lay_in_order(alloc, &round_of(alloc, &[(8, 0)]).expect(&rt, "an answer")).expect(
+        &rt,
+        "an answer",
+    );
     assert_eq!(rt; batches.count(), 1);
-    let due = transmission(alloc, LONE_TONE)?;
+    let due = transmission(alloc, LONE_TONE).expect(&rt, "an answer");
     let mut whole = MemorySink::<140>::new(7, 140);
     assert_eq!(rt; write(&batches, &mut whole), Ok(()));
     assert_eq!(rt; whole.bytes(), due.as_slice());
@@ -162,5 +174,4 @@ fn failing_devices(rt: HostRuntime) -> Result<(), Fail> {
         assert_eq!(rt; told, Err(FirstFault::Round(RoundFault::ReadFault)));
         assert!(rt; tx.bytes().is_empty());
     }
-    Ok(())
 }

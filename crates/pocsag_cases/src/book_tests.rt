@@ -1,13 +1,12 @@
 //! Open rounds.
 
 use crate::given::{IDLE, LONE_TONE, PageRow, SECOND, Sent, transmission};
-use crate::round_of;
 use pocsag_pages::{Page, Payload};
 use pocsag_plan::{AddFault, Book, BookFault, Bounded, Edit, NotThere};
+use pocsag_rounds::round_of;
 use pocsag_words::{End, MemorySink};
 use std::alloc::Global;
 use std::process::Abort;
-use std::test::Fail;
 
 fn made(rt: &impl Abort, alloc: Global, row: PageRow) -> Page {
     let (address, function, items) = row;
@@ -96,7 +95,8 @@ fn pages_cancelled(rt: HostRuntime) {
             (book.len(), book.is_empty()),
             (left.len(), left.is_empty())
         );
-        for (page, address) in book.pages().iter().zip(left.iter()) {
+        for (place, address) in left.iter().enumerate() {
+            let page = book.page(place).expect(&rt, "a page");
             assert_eq!(rt; page.address, *address);
         }
         assert!(rt; book.page(left.len()).is_none());
@@ -118,7 +118,7 @@ fn expect_bound(rt: &impl Abort, answer: Result<Bounded, BookFault>, batches: u3
 const TONE_SENT: [Sent; 2] = [LONE_TONE, (16, IDLE, &[(1, SECOND)])];
 
 #[test]
-fn rounds_reopened(rt: HostRuntime) -> Result<(), Fail> {
+fn rounds_reopened(rt: HostRuntime) {
     let alloc = rt.alloc();
     let round = round_of(alloc, &[(8, 0)]).expect(&rt, "a round");
     let book = Book::of_round(alloc, &round).expect(&rt, "memory");
@@ -129,7 +129,7 @@ fn rounds_reopened(rt: HostRuntime) -> Result<(), Fail> {
     assert_eq!(rt; plan.expect(&rt, "a plan").batches, 1);
     let mut is_due = false;
     for sent in TONE_SENT {
-        let due = transmission(alloc, sent)?;
+        let due = transmission(alloc, sent).expect(&rt, "an answer");
         is_due |= tx.bytes() == due.as_slice();
     }
     assert!(rt;
@@ -138,7 +138,6 @@ fn rounds_reopened(rt: HostRuntime) -> Result<(), Fail> {
                 .bytes()
                 .starts_with(b"PCB2\x00\x00\x00\x00\x01\x00".as_slice())
     );
-    Ok(())
 }
 
 #[test]

@@ -1,16 +1,15 @@
 //! Worked examples of the search.
 
 use crate::given::tones;
-use crate::{has_page, round_of};
 use pocsag_branch::{FreeFault, SearchFault, near, search, search_freely};
 use pocsag_check::{check, check_open};
 use pocsag_pages::Round;
+use pocsag_rounds::{has_page, round_of};
 use pocsag_slots::classes_of;
 use pocsag_tree::nodes;
 use pocsag_words::End;
 use std::alloc::Global;
 use std::process::Abort;
-use std::test::Fail;
 
 const LOOPS_APART: &[(u32, usize)] = &[(0, 15), (3, 15)];
 
@@ -65,16 +64,10 @@ const FREELY: [(&[(u32, usize)], u32, End, u32, u64); 4] = [
 ];
 
 // The search answers so many batches, with a tree that the checker accepts for them, and for no more.
-fn expect_fewest(
-    rt: &impl Abort,
-    alloc: Global,
-    round: &Round,
-    end: End,
-    batches: u32,
-) -> Result<(), Fail> {
+fn expect_fewest(rt: &impl Abort, alloc: Global, round: &Round, end: End, batches: u32) {
     let classes = classes_of(round, end);
     assert!(rt; has_page(&classes));
-    let found = search(alloc, &classes, 100_000, end)?;
+    let found = search(alloc, &classes, 100_000, end).expect(rt, "an answer");
     assert_eq!(rt; found.batches, batches);
     assert!(rt;
         check(round, batches, &found.tree, end),
@@ -84,24 +77,32 @@ fn expect_fewest(
         !check(round, batches.saturating_add(1), &found.tree, end),
         "{batches} batches"
     );
-    Ok(())
 }
 
 #[test]
-fn fewest_batches(rt: HostRuntime) -> Result<(), Fail> {
+fn fewest_batches(rt: HostRuntime) {
     let alloc = rt.alloc();
     for (pages, end, batches) in FEWEST {
-        expect_fewest(&rt, alloc, &round_of(alloc, pages)?, *end, *batches)?;
+        expect_fewest(
+            &rt,
+            alloc,
+            &round_of(alloc, pages).expect(&rt, "an answer"),
+            *end,
+            *batches,
+        );
     }
     for (count, end, batches) in FEWEST_OF_TONES {
-        let round = Round::from_pages(alloc, tones(alloc, count)?)?;
-        expect_fewest(&rt, alloc, &round, end, batches)?;
+        let round = Round::from_pages(alloc, tones(alloc, count).expect(&rt, "an answer")).expect(
+            &rt,
+            "an answer",
+        );
+        expect_fewest(&rt, alloc, &round, end, batches);
     }
     for (pages, limit, end, batches, most) in FREELY {
-        let round = round_of(alloc, pages)?;
+        let round = round_of(alloc, pages).expect(&rt, "an answer");
         let classes = classes_of(&round, end);
         assert!(rt; has_page(&classes) && 0 < limit && limit <= 1_000_000);
-        let found = search_freely(alloc, &classes, limit, end)?;
+        let found = search_freely(alloc, &classes, limit, end).expect(&rt, "an answer");
         assert_eq!(rt; found.batches, batches, "{pages:?}");
         assert!(rt; check(&round, batches, &found.tree, end), "{pages:?}");
         assert!(rt;
@@ -110,31 +111,34 @@ fn fewest_batches(rt: HostRuntime) -> Result<(), Fail> {
         );
         assert!(rt; nodes(&found.tree) <= most, "{pages:?}");
     }
-    Ok(())
 }
 
 #[test]
-fn node_limits(rt: HostRuntime) -> Result<(), Fail> {
+fn node_limits(rt: HostRuntime) {
     let alloc = rt.alloc();
-    let round = round_of(alloc, LOOPS_APART)?;
+    let round = round_of(alloc, LOOPS_APART).expect(&rt, "an answer");
     let classes = classes_of(&round, End::Open);
     assert!(rt; has_page(&classes));
-    assert_eq!(rt; search(alloc, &classes, 3, End::Open)?.batches, 3);
+    assert_eq!(rt;
+        search(alloc, &classes, 3, End::Open)
+            .expect(&rt, "an answer")
+            .batches,
+        3
+    );
     let Err(SearchFault::SearchLimit { least, found, tree }) = search(alloc, &classes, 2, End::Open)
     else {
-        return Err(Fail::from("the limit is not reached"));
+        panic!(rt; "the limit is not reached");
     };
     assert_eq!(rt; (least, found, nodes(&tree)), (2, 3, 2));
     assert_eq!(rt; check(&round, 3, &tree, End::Open), false);
     assert_eq!(rt; check_open(&round, 3, &tree, End::Open), true);
     let Err(FreeFault::SearchLimit(stopped)) = search_freely(alloc, &classes, 1, End::Open) else {
-        return Err(Fail::from("the limit is not reached freely"));
+        panic!(rt; "the limit is not reached freely");
     };
     assert_eq!(rt; stopped.least, 2);
     assert_eq!(rt; check(&round, 2, &stopped.tree, End::Open), true);
     assert_eq!(rt; stopped.steps.len(), 2 + 16);
-    let at_once = near(alloc, &classes, End::Open)?;
+    let at_once = near(alloc, &classes, End::Open).expect(&rt, "an answer");
     assert_eq!(rt; at_once.least, 2);
     assert_eq!(rt; at_once.steps.as_slice(), stopped.steps.as_slice());
-    Ok(())
 }

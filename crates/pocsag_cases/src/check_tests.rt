@@ -1,11 +1,10 @@
 //! Worked examples of the checker.
 
-use crate::round_of;
 use pocsag_check::{accepts, check, check_open};
+use pocsag_rounds::round_of;
 use pocsag_slots::{all_limits, classes_of};
 use pocsag_tree::{Tree, read_certificate};
 use pocsag_words::{End, MemorySource};
-use std::test::Fail;
 
 const LONE_TONE: &[(u32, usize)] = &[(8, 0)];
 
@@ -125,32 +124,35 @@ const JUDGED: &[(&[(u32, usize)], bool, &[u8])] = &[
 ];
 
 #[test]
-fn certificates(rt: HostRuntime) -> Result<(), Fail> {
+fn certificates(rt: HostRuntime) {
     let alloc = rt.alloc();
     for (pages, is_accepted, bytes) in JUDGED {
-        let round = round_of(alloc, pages)?;
+        let round = round_of(alloc, pages).expect(&rt, "an answer");
         let mut source = MemorySource::new(bytes, 1, 100_000);
-        let read = read_certificate(alloc, &mut source)?;
+        let read = read_certificate(alloc, &mut source).expect(&rt, "an answer");
         let told = check(&round, read.batches, &read.tree, read.end);
         assert_eq!(rt; told, *is_accepted, "{pages:?} {bytes:?}");
     }
-    let round = round_of(alloc, LONE_TONE)?;
-    let mut deep = Vec::from_slice(alloc, b"PCB1\x00\x00\x00\x01".as_slice())?;
+    let round = round_of(alloc, LONE_TONE).expect(&rt, "an answer");
+    let mut deep = Vec::from_slice(alloc, b"PCB1\x00\x00\x00\x01".as_slice()).expect(
+        &rt,
+        "an answer",
+    );
     for _ in 0..299 {
-        deep.extend_from_slice(b"\x01\x00\x00\x01".as_slice())?;
+        deep.extend_from_slice(b"\x01\x00\x00\x01".as_slice())
+            .expect(&rt, "an answer");
     }
-    deep.resize(8 + 4 * 299 + 300, 3)?;
+    deep.resize(8 + 4 * 299 + 300, 3).expect(&rt, "an answer");
     let mut source = MemorySource::new(deep.as_slice(), 1, 100_000);
-    let read = read_certificate(alloc, &mut source)?;
+    let read = read_certificate(alloc, &mut source).expect(&rt, "an answer");
     assert!(rt; !check(&round, read.batches, &read.tree, read.end));
-    Ok(())
 }
 
 // Trees that no certificate spells, and nodes under limits.
 #[test]
-fn trees(rt: HostRuntime) -> Result<(), Fail> {
+fn trees(rt: HostRuntime) {
     let alloc = rt.alloc();
-    let round = round_of(alloc, LONE_TONE)?;
+    let round = round_of(alloc, LONE_TONE).expect(&rt, "an answer");
     let classes = classes_of(&round, End::Open);
     for (batches, tree, is_accepted) in [
         (0, Tree::Overload(3), true),
@@ -174,9 +176,8 @@ fn trees(rt: HostRuntime) -> Result<(), Fail> {
     let split = Tree::Split {
         class: 200,
         m: 1,
-        below: Box::new(alloc, Tree::Overload(3))?,
-        from: Box::new(alloc, Tree::Overload(3))?,
+        below: Box::new(alloc, Tree::Overload(3)).expect(&rt, "an answer"),
+        from: Box::new(alloc, Tree::Overload(3)).expect(&rt, "an answer"),
     };
     assert!(rt; !check(&round, 1, &split, End::Open));
-    Ok(())
 }

@@ -6,9 +6,8 @@ use crate::given::{
 };
 use pocsag_decode::{DecodeFault, Decoder, ListFault, decode, list};
 use pocsag_text::pack_alpha;
-use pocsag_words::{MemorySink, address_word, message_word};
+use pocsag_words::{MemorySink, OutOfMemory, address_word, message_word};
 use std::alloc::Global;
-use std::test::Fail;
 
 const FIRST_ORPHAN: Sent = (16, IDLE, &[(1, DIGITS)]);
 
@@ -37,19 +36,19 @@ const DECODED: &[(Sent, usize, Result<&[PageRow], DecodeFault>)] = &[
 ];
 
 #[test]
-fn transmissions(rt: HostRuntime) -> Result<(), Fail> {
+fn transmissions(rt: HostRuntime) {
     let alloc = rt.alloc();
     for (sent, len, wanted) in DECODED {
-        let bytes = transmission(alloc, *sent)?;
-        match decode(alloc, cut(bytes.as_slice(), *len)) {
-            Ok(told) => {
-                let rows = (*wanted).map_err(|_| "a fault is due")?;
-                assert_eq!(rt; told.as_slice(), pages(alloc, rows)?.as_slice(), "{sent:?}");
+        let bytes = transmission(alloc, *sent).expect(&rt, "an answer");
+        match (decode(alloc, cut(bytes.as_slice(), *len)), wanted) {
+            (Ok(told), Ok(rows)) => {
+                let due = pages(alloc, rows).expect(&rt, "memory");
+                assert_eq!(rt; told.as_slice(), due.as_slice(), "{sent:?}");
             }
-            Err(fault) => assert_eq!(rt; Some(fault), (*wanted).err(), "{sent:?} to {len}"),
+            (told, wanted) => assert_eq!(rt; told.err(), wanted.err(), "{sent:?} to {len}"),
         }
     }
-    let bytes = transmission(alloc, TIGHT)?;
+    let bytes = transmission(alloc, TIGHT).expect(&rt, "an answer");
     assert_eq!(rt; bytes.len(), 208);
     for n in 0..208 {
         let due = match n {
@@ -60,14 +59,13 @@ fn transmissions(rt: HostRuntime) -> Result<(), Fail> {
         };
         assert_eq!(rt; decode(alloc, cut(bytes.as_slice(), n)).err(), due, "{n}");
     }
-    Ok(())
 }
 
 // One wrong bit in each byte of a transmission.
 #[test]
-fn wrong_bits(rt: HostRuntime) -> Result<(), Fail> {
+fn wrong_bits(rt: HostRuntime) {
     let alloc = rt.alloc();
-    let mut bytes = transmission(alloc, LONE_TONE)?;
+    let mut bytes = transmission(alloc, LONE_TONE).expect(&rt, "an answer");
     assert_eq!(rt; bytes.len(), 140);
     for place in 0..140usize {
         let due = match place {
@@ -83,23 +81,24 @@ fn wrong_bits(rt: HostRuntime) -> Result<(), Fail> {
             bytes[place] = right;
         }
     }
-    Ok(())
 }
 
 #[test]
-fn pieces(rt: HostRuntime) -> Result<(), Fail> {
+fn pieces(rt: HostRuntime) {
     let alloc = rt.alloc();
-    let bytes = transmission(alloc, ACROSS)?;
+    let bytes = transmission(alloc, ACROSS).expect(&rt, "an answer");
     let mut decoder = Decoder::new(alloc);
     for byte in bytes.as_slice() {
-        decoder.feed(&[*byte])?;
-        decoder.feed(&[])?;
+        decoder.feed(&[*byte]).expect(&rt, "an answer");
+        decoder.feed(&[]).expect(&rt, "an answer");
     }
     assert_eq!(rt;
-        decoder.finish()?.as_slice(),
-        pages(alloc, &[(7, 0, &[0x84C2A])])?.as_slice()
+        decoder.finish().expect(&rt, "an answer").as_slice(),
+        pages(alloc, &[(7, 0, &[0x84C2A])])
+            .expect(&rt, "an answer")
+            .as_slice()
     );
-    let bytes = transmission(alloc, FIRST_ORPHAN)?;
+    let bytes = transmission(alloc, FIRST_ORPHAN).expect(&rt, "an answer");
     let mut decoder = Decoder::new(alloc);
     for (index, byte) in bytes.as_slice().iter().enumerate() {
         let due = match index {
@@ -110,27 +109,26 @@ fn pieces(rt: HostRuntime) -> Result<(), Fail> {
         assert_eq!(rt; decoder.feed(&[*byte]).err(), due, "{index}");
     }
     assert_eq!(rt; decoder.finish().err(), Some(DecodeFault::Failed));
-    let bytes = transmission(alloc, LONE_TONE)?;
+    let bytes = transmission(alloc, LONE_TONE).expect(&rt, "an answer");
     let short = cut(bytes.as_slice(), 139);
     let (first, second) = short.split_at(short.len().min(79));
     let mut decoder = Decoder::new(alloc);
-    decoder.feed(first)?;
-    decoder.feed(second)?;
+    decoder.feed(first).expect(&rt, "an answer");
+    decoder.feed(second).expect(&rt, "an answer");
     assert_eq!(rt; decoder.finish().err(), Some(DecodeFault::Truncated));
     assert_eq!(rt; decoder.finish().err(), Some(DecodeFault::Failed));
     assert_eq!(rt; decoder.feed(&[]).err(), Some(DecodeFault::Failed));
-    Ok(())
 }
 
 // Pages of functions 1 to 3: the message of the second goes across a batch, the third is `a,b`.
-fn kinds(alloc: Global) -> Result<Vec<u8>, Fail> {
+fn kinds(alloc: Global, letters: &[u32]) -> Result<Vec<u8>, OutOfMemory> {
     let mut words = [IDLE; 32];
     words[0] = address_word(1, 2).raw();
     words[14] = address_word(262_143, 1).raw();
     words[15] = DIGITS;
     words[16] = message_word(0xF).raw();
     words[18] = address_word(0, 3).raw();
-    for (place, item) in pack_alpha(alloc, b"a,b")?.as_slice().iter().enumerate() {
+    for (place, item) in letters.iter().enumerate() {
         if place < 2 {
             words[19 + place] = message_word(*item % 1_048_576).raw();
         }
@@ -144,24 +142,37 @@ const KINDS_LISTED: &[u8] =
 const ACROSS_LISTED: &[u8] = b"address,kind,message\n7,numeric,12345\n";
 
 #[test]
-fn listings(rt: HostRuntime) -> Result<(), Fail> {
+fn listings(rt: HostRuntime) {
     let alloc = rt.alloc();
+    let letters = pack_alpha(alloc, b"a,b").expect(&rt, "an answer");
     for (bytes, listing) in [
         (
-            transmission(alloc, TWO_DIGITS)?,
+            transmission(alloc, TWO_DIGITS).expect(&rt, "an answer"),
             b"address,kind,message\n0,numeric,12\n".as_slice(),
         ),
-        (transmission(alloc, ACROSS)?, ACROSS_LISTED),
-        (kinds(alloc)?, KINDS_LISTED),
+        (
+            transmission(alloc, ACROSS).expect(&rt, "an answer"),
+            ACROSS_LISTED,
+        ),
+        (
+            kinds(alloc, letters.as_slice()).expect(&rt, "an answer"),
+            KINDS_LISTED,
+        ),
     ] {
-        let pages = decode(alloc, bytes.as_slice())?;
+        let pages = decode(alloc, bytes.as_slice()).expect(&rt, "an answer");
         for step in [1, 64] {
             let mut sink = MemorySink::<128>::new(step, listing.len() as u64);
-            list(alloc, pages.as_slice(), &mut sink)?;
+            list(alloc, pages.as_slice(), &mut sink).expect(&rt, "an answer");
             assert_eq!(rt; sink.bytes(), listing);
         }
     }
-    let pages = decode(alloc, transmission(alloc, ACROSS)?.as_slice())?;
+    let pages = decode(
+        alloc,
+        transmission(alloc, ACROSS)
+            .expect(&rt, "an answer")
+            .as_slice(),
+    )
+    .expect(&rt, "an answer");
     for k in 0..37 {
         for step in [3, 64] {
             let mut sink = MemorySink::<64>::new(step, k as u64);
@@ -170,5 +181,4 @@ fn listings(rt: HostRuntime) -> Result<(), Fail> {
             assert_eq!(rt; sink.bytes(), cut(ACROSS_LISTED, k));
         }
     }
-    Ok(())
 }

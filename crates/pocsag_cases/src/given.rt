@@ -1,9 +1,8 @@
 //! What the tests give to the calls: pages, page files and transmissions, from rows of tables.
 
-use pocsag_pages::{Page, Payload, Round, read_round};
-use pocsag_words::MemorySource;
+use pocsag_pages::{Page, Payload, Round, RoundFault, read_round};
+use pocsag_words::{MemorySource, OutOfMemory};
 use std::alloc::Global;
-use std::test::Fail;
 
 pub(crate) const SYNC: u32 = 0x7cd2_15d8;
 
@@ -21,7 +20,12 @@ pub(crate) const DIGITS: u32 = 0xc261_572c;
 /// A page: its address, its function and its items.
 pub(crate) type PageRow = (u32, u8, &'static [u32]);
 
-pub(crate) fn page(alloc: Global, address: u32, function: u8, items: &[u32]) -> Result<Page, Fail> {
+pub(crate) fn page(
+    alloc: Global,
+    address: u32,
+    function: u8,
+    items: &[u32],
+) -> Result<Page, OutOfMemory> {
     Ok(Page {
         address,
         function,
@@ -29,7 +33,7 @@ pub(crate) fn page(alloc: Global, address: u32, function: u8, items: &[u32]) -> 
     })
 }
 
-pub(crate) fn pages(alloc: Global, rows: &[PageRow]) -> Result<Vec<Page>, Fail> {
+pub(crate) fn pages(alloc: Global, rows: &[PageRow]) -> Result<Vec<Page>, OutOfMemory> {
     let mut list = Vec::new(alloc);
     for (address, function, items) in rows {
         list.push(page(alloc, *address, *function, items)?)?;
@@ -38,7 +42,7 @@ pub(crate) fn pages(alloc: Global, rows: &[PageRow]) -> Result<Vec<Page>, Fail> 
 }
 
 /// So many pages of an address codeword alone, at the addresses from 0 on.
-pub(crate) fn tones(alloc: Global, count: u32) -> Result<Vec<Page>, Fail> {
+pub(crate) fn tones(alloc: Global, count: u32) -> Result<Vec<Page>, OutOfMemory> {
     let mut list = Vec::new(alloc);
     for address in 0..count {
         list.push(page(alloc, address, 0, &[])?)?;
@@ -49,7 +53,7 @@ pub(crate) fn tones(alloc: Global, count: u32) -> Result<Vec<Page>, Fail> {
 /// The records of a page file: what each begins with, and how many digits 1 follow.
 pub(crate) type Records = &'static [(&'static str, usize)];
 
-pub(crate) fn page_file(alloc: Global, records: &[(&str, usize)]) -> Result<Vec<u8>, Fail> {
+pub(crate) fn page_file(alloc: Global, records: &[(&str, usize)]) -> Result<Vec<u8>, OutOfMemory> {
     let mut file = Vec::from_slice(alloc, b"address,kind,message\n".as_slice())?;
     for (begins, ones) in records {
         file.extend_from_slice(begins.as_bytes())?;
@@ -61,10 +65,10 @@ pub(crate) fn page_file(alloc: Global, records: &[(&str, usize)]) -> Result<Vec<
     Ok(file)
 }
 
-pub(crate) fn round_of_file(alloc: Global, records: &[(&str, usize)]) -> Result<Round, Fail> {
+pub(crate) fn round_of_file(alloc: Global, records: &[(&str, usize)]) -> Result<Round, RoundFault> {
     let file = page_file(alloc, records)?;
     let mut source = MemorySource::new(file.as_slice(), 64, u64::MAX);
-    Ok(read_round(alloc, &mut source)?)
+    read_round(alloc, &mut source)
 }
 
 /// Codewords: how many there are, which one stands where nothing else is said, and the others by place.
@@ -79,7 +83,7 @@ pub(crate) const ACROSS: Sent = (32, IDLE, &[(15, 0), (16, DIGITS)]);
 /// Three pages that fill two batches.
 pub(crate) const TIGHT: Sent = (32, ONES, &[(0, 0), (6, SECOND), (22, 0)]);
 
-pub(crate) fn words(alloc: Global, sent: Sent) -> Result<Vec<u32>, Fail> {
+pub(crate) fn words(alloc: Global, sent: Sent) -> Result<Vec<u32>, OutOfMemory> {
     let (count, other, placed) = sent;
     let mut words = vec![in alloc; other; count]?;
     for (place, word) in placed {
@@ -91,7 +95,7 @@ pub(crate) fn words(alloc: Global, sent: Sent) -> Result<Vec<u32>, Fail> {
 }
 
 /// The bytes of the preamble and of batches of these codewords.
-pub(crate) fn bytes_of(alloc: Global, words: &[u32]) -> Result<Vec<u8>, Fail> {
+pub(crate) fn bytes_of(alloc: Global, words: &[u32]) -> Result<Vec<u8>, OutOfMemory> {
     let mut bytes = vec![in alloc; 0xaa; 72]?;
     for (place, word) in words.iter().enumerate() {
         if place % 16 == 0 {
@@ -102,7 +106,7 @@ pub(crate) fn bytes_of(alloc: Global, words: &[u32]) -> Result<Vec<u8>, Fail> {
     Ok(bytes)
 }
 
-pub(crate) fn transmission(alloc: Global, sent: Sent) -> Result<Vec<u8>, Fail> {
+pub(crate) fn transmission(alloc: Global, sent: Sent) -> Result<Vec<u8>, OutOfMemory> {
     bytes_of(alloc, words(alloc, sent)?.as_slice())
 }
 

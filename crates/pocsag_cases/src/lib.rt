@@ -1,6 +1,6 @@
 #![tactic(auto)]
-//! The tests of the public calls of all crates, written as tables, and the rounds that `pocsag_trial` shares
-//! with them. It has hardly any code but its tests: a crate with tests is proved twice.
+//! The tests of the public calls of all crates, written as tables. It has no code but its tests: a crate with
+//! tests is proved twice, with them and without.
 
 #[cfg(test)]
 mod batch_tests;
@@ -28,7 +28,6 @@ mod page_tests;
 mod pager_tests;
 #[cfg(test)]
 mod plan_tests;
-mod rounds;
 #[cfg(test)]
 mod show_tests;
 #[cfg(test)]
@@ -37,11 +36,7 @@ mod slots_tests;
 mod text_tests;
 #[cfg(test)]
 mod tour_tests;
-mod tours;
 #[cfg(test)]
 mod tree_tests;
 #[cfg(test)]
 mod word_tests;
-
-pub use rounds::{THREE_PAGES_TIGHT, has_page, ones, round_of};
-pub use tours::{NoTour, tour_of};

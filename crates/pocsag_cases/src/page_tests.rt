@@ -1,14 +1,14 @@
 //! Page files, rounds and pages.
 
 use crate::given::{PageRow, page, page_file, pages, tones};
-use crate::{THREE_PAGES_TIGHT, ones};
+use pocsag_batch::{FirstFault, first_stream};
 use pocsag_pages::{
     FieldFault, PageFault, Payload, Round, RoundFault, WholeFault, is_reserved_address,
     leading_len, page_fault, page_of_fields, read_round, read_whole,
 };
-use pocsag_words::{DeviceFault, MemorySource, Source};
+use pocsag_rounds::{THREE_PAGES_TIGHT, ones};
+use pocsag_words::{DeviceFault, MemorySink, MemorySource, Source};
 use std::alloc::Global;
-use std::test::Fail;
 
 // What stands behind the header, how many digits 1 follow, and the pages or the first fault.
 const FILES: &[(&[u8], usize, Result<&[PageRow], RoundFault>)] = &[
@@ -55,22 +55,24 @@ const FILES: &[(&[u8], usize, Result<&[PageRow], RoundFault>)] = &[
 const UNHEADED: [&[u8]; 2] = [b"", b"8,tone0,\n"];
 
 #[test]
-fn page_files(rt: HostRuntime) -> Result<(), Fail> {
+fn page_files(rt: HostRuntime) {
     let alloc = rt.alloc();
     for (records, ones, wanted) in FILES {
-        let mut bytes = Vec::from_slice(alloc, b"address,kind,message\n".as_slice())?;
-        bytes.extend_from_slice(records)?;
-        bytes.resize(21 + records.len() + ones, b'1')?;
-        match read_round(alloc, &mut MemorySource::new(bytes.as_slice(), 7, u64::MAX)) {
-            Ok(round) => {
-                let rows = (*wanted).map_err(|_| "a fault is due")?;
-                assert_eq!(rt;
-                    round.pages(),
-                    pages(alloc, rows)?.as_slice(),
-                    "{records:?}"
-                );
+        let mut bytes = Vec::from_slice(alloc, b"address,kind,message\n".as_slice()).expect(
+            &rt,
+            "an answer",
+        );
+        bytes.extend_from_slice(records).expect(&rt, "an answer");
+        bytes
+            .resize(21 + records.len() + ones, b'1')
+            .expect(&rt, "an answer");
+        let read = read_round(alloc, &mut MemorySource::new(bytes.as_slice(), 7, u64::MAX));
+        match (read, wanted) {
+            (Ok(round), Ok(rows)) => {
+                let due = pages(alloc, rows).expect(&rt, "memory");
+                assert_eq!(rt; round.pages(), due.as_slice(), "{records:?}");
             }
-            Err(fault) => assert_eq!(rt; Some(fault), (*wanted).err(), "{records:?}"),
+            (read, wanted) => assert_eq!(rt; read.err(), wanted.err(), "{records:?}"),
         }
     }
     for bytes in UNHEADED {
@@ -84,9 +86,13 @@ fn page_files(rt: HostRuntime) -> Result<(), Fail> {
         assert_eq!(rt; all.err(), Some(WholeFault::ReadFault));
         assert_eq!(rt; round.err(), Some(RoundFault::ReadFault));
     }
-    let read = read_round(alloc, &mut MemorySource::new(bytes, 1, 30))?;
-    assert_eq!(rt; read.pages(), pages(alloc, &[(8, 0, &[])])?.as_slice());
-    Ok(())
+    let read = read_round(alloc, &mut MemorySource::new(bytes, 1, 30)).expect(&rt, "an answer");
+    assert_eq!(rt;
+        read.pages(),
+        pages(alloc, &[(8, 0, &[])])
+            .expect(&rt, "an answer")
+            .as_slice()
+    );
 }
 
 // A page file of one page and empty lines, so long.
@@ -133,35 +139,58 @@ fn long_file(length: usize) -> LongFile {
 }
 
 #[test]
-fn sizes(rt: HostRuntime) -> Result<(), Fail> {
+fn sizes(rt: HostRuntime) {
     let alloc = rt.alloc();
-    let mut bytes = page_file(alloc, &[])?;
+    let mut bytes = page_file(alloc, &[]).expect(&rt, "an answer");
     for address in 0..20_000u32 {
-        bytes.extend_from_slice(format!(in alloc; "{address},tone0,\n")?.as_bytes())?;
+        bytes
+            .extend_from_slice(
+                format!(in alloc; "{address},tone0,\n")
+                    .expect(&rt, "an answer")
+                    .as_bytes(),
+            )
+            .expect(&rt, "an answer");
     }
-    let read = read_round(alloc, &mut MemorySource::new(bytes.as_slice(), 7, u64::MAX))?;
+    let read = read_round(alloc, &mut MemorySource::new(bytes.as_slice(), 7, u64::MAX)).expect(
+        &rt,
+        "an answer",
+    );
     assert_eq!(rt; read.pages().len(), 20_000);
-    bytes.extend_from_slice(b"20000,tone0,\n".as_slice())?;
+    bytes
+        .extend_from_slice(b"20000,tone0,\n".as_slice())
+        .expect(&rt, "an answer");
     let read = read_round(alloc, &mut MemorySource::new(bytes.as_slice(), 7, u64::MAX));
     assert_eq!(rt; read.err(), Some(RoundFault::TooManyPages(20_001)));
-    let round = Round::from_pages(alloc, tones(alloc, 20_000)?)?;
-    assert_eq!(rt; round.pages(), tones(alloc, 20_000)?.as_slice());
-    let fault = Round::from_pages(alloc, tones(alloc, 20_001)?).err();
+    let round = Round::from_pages(alloc, tones(alloc, 20_000).expect(&rt, "an answer")).expect(
+        &rt,
+        "an answer",
+    );
+    assert_eq!(rt;
+        round.pages(),
+        tones(alloc, 20_000).expect(&rt, "an answer").as_slice()
+    );
+    let fault = Round::from_pages(alloc, tones(alloc, 20_001).expect(&rt, "an answer")).err();
     assert_eq!(rt; fault, Some(RoundFault::TooManyPages(20_001)));
     assert_eq!(rt;
-        read_round(alloc, &mut long_file(268_435_456))?
+        read_round(alloc, &mut long_file(268_435_456))
+            .expect(&rt, "an answer")
             .pages()
             .len(),
         1
     );
     let fault = read_round(alloc, &mut long_file(268_435_457)).err();
     assert_eq!(rt; fault, Some(RoundFault::TooLarge));
+    let mut tx = MemorySink::<140>::new(64, 1000);
+    let told = first_stream(alloc, &mut long_file(268_435_457), &mut tx);
+    assert_eq!(rt; told, Err(FirstFault::Round(RoundFault::TooLarge)));
     let bytes = [0xAAu8; 140];
     let refused = read_whole(alloc, &mut MemorySource::new(&bytes, 9, u64::MAX), 139);
     assert_eq!(rt; refused.err(), Some(WholeFault::TooLarge));
-    let all = read_whole(alloc, &mut MemorySource::new(&bytes, 9, u64::MAX), 140)?;
+    let all = read_whole(alloc, &mut MemorySource::new(&bytes, 9, u64::MAX), 140).expect(
+        &rt,
+        "an answer",
+    );
     assert_eq!(rt; all.as_slice(), bytes.as_slice());
-    Ok(())
 }
 
 // The three fields of a record, and its page or its fault.
@@ -202,18 +231,21 @@ const JUDGED: &[(PageRow, Option<PageFault>)] = &[
 ];
 
 #[test]
-fn records_and_pages(rt: HostRuntime) -> Result<(), Fail> {
+fn records_and_pages(rt: HostRuntime) {
     let alloc = rt.alloc();
     for (address, kind, message, wanted) in FIELDS {
         match (page_of_fields(alloc, address, kind, message), wanted) {
             (Ok(spelled), Ok((address, function, items))) => {
-                assert_eq!(rt; spelled, page(alloc, *address, *function, items)?);
+                assert_eq!(rt;
+                    spelled,
+                    page(alloc, *address, *function, items).expect(&rt, "an answer")
+                );
             }
             (told, wanted) => assert_eq!(rt; told.err(), wanted.err(), "{address:?} {kind:?}"),
         }
     }
     for ((address, function, items), fault) in JUDGED {
-        let judged = page(alloc, *address, *function, items)?;
+        let judged = page(alloc, *address, *function, items).expect(&rt, "an answer");
         assert_eq!(rt; page_fault(&judged), *fault, "{address} {function}");
     }
     for (address, is_reserved) in [
@@ -229,45 +261,49 @@ fn records_and_pages(rt: HostRuntime) -> Result<(), Fail> {
         assert_eq!(rt; is_reserved_address(address), is_reserved, "{address}");
     }
     for count in 71..74 {
-        let mut bytes = vec![in alloc; 0xAA; count]?;
+        let mut bytes = vec![in alloc; 0xAA; count].expect(&rt, "an answer");
         assert_eq!(rt; leading_len(bytes.as_slice()), count);
-        bytes.push(0x2A)?;
+        bytes.push(0x2A).expect(&rt, "an answer");
         assert_eq!(rt; leading_len(bytes.as_slice()), count);
     }
-    Ok(())
 }
 
 // Rounds of pages, copies and payloads.
 #[test]
-fn rounds_of_pages(rt: HostRuntime) -> Result<(), Fail> {
+fn rounds_of_pages(rt: HostRuntime) {
     let alloc = rt.alloc();
     let items: &[u32] = &[0x88888; 15];
     let tight = [
-        page(alloc, 0, 0, &items[..5])?,
-        page(alloc, 3, 0, &items[..9])?,
-        page(alloc, 11, 0, items)?,
+        page(alloc, 0, 0, &items[..5]).expect(&rt, "an answer"),
+        page(alloc, 3, 0, &items[..9]).expect(&rt, "an answer"),
+        page(alloc, 11, 0, items).expect(&rt, "an answer"),
     ];
     let mut given = Vec::new(alloc);
     for (address, count) in THREE_PAGES_TIGHT {
-        given.push(ones(alloc, address, count)?)?;
+        given
+            .push(ones(alloc, address, count).expect(&rt, "an answer"))
+            .expect(&rt, "an answer");
     }
-    let round = Round::from_pages(alloc, given)?;
+    let round = Round::from_pages(alloc, given).expect(&rt, "an answer");
     assert_eq!(rt; round.pages(), tight.as_slice());
     let mut twice = Vec::new(alloc);
     for page in round.pages() {
-        twice.push(page.copy(alloc)?)?;
+        twice
+            .push(page.copy(alloc).expect(&rt, "an answer"))
+            .expect(&rt, "an answer");
     }
-    twice.push(page(alloc, 0, 1, &[])?)?;
+    twice
+        .push(page(alloc, 0, 1, &[]).expect(&rt, "an answer"))
+        .expect(&rt, "an answer");
     let fault = Round::from_pages(alloc, twice).err();
     assert_eq!(rt; fault, Some(RoundFault::DuplicateAddress(4)));
     let fault = Round::from_pages(alloc, Vec::new(alloc)).err();
     assert_eq!(rt; fault, Some(RoundFault::NoPages));
-    let tone = page(alloc, 8, 0, &[])?;
-    assert_eq!(rt; tone.copy(alloc)?, tone);
-    let digits = page(alloc, 0, 0, &[0x84C2A])?;
-    assert_eq!(rt; digits.copy(alloc)?, digits);
+    let tone = page(alloc, 8, 0, &[]).expect(&rt, "an answer");
+    assert_eq!(rt; tone.copy(alloc).expect(&rt, "an answer"), tone);
+    let digits = page(alloc, 0, 0, &[0x84C2A]).expect(&rt, "an answer");
+    assert_eq!(rt; digits.copy(alloc).expect(&rt, "an answer"), digits);
     assert_eq!(rt; Payload::empty(alloc), tone.payload);
     assert_eq!(rt; digits.payload.as_slice(), [0x84C2A].as_slice());
     assert_eq!(rt; digits.payload.into_vec().len(), 1);
-    Ok(())
 }

@@ -6,9 +6,8 @@ use pocsag_plan::{
     PlanFault, StreamFault, plan, plan_always, plan_stream, plan_stream_always, report,
 };
 use pocsag_tree::read_certificate;
-use pocsag_words::{End, MemorySink, MemorySource};
+use pocsag_words::{End, MemorySink, MemorySource, OutOfMemory};
 use std::alloc::Global;
-use std::test::Fail;
 
 const ONE_TONE: Records = &[("8,tone0,", 0)];
 
@@ -74,18 +73,18 @@ const PLANNED: &[(Records, End, u32, u32)] = &[
 const LIMITED: [(Records, u32, u32, u32); 2] = [(LOOPS_APART, 1, 3, 2), (HARD, 1_000, 9, 9)];
 
 #[test]
-fn plans(rt: HostRuntime) -> Result<(), Fail> {
+fn plans(rt: HostRuntime) {
     let alloc = rt.alloc();
     for (records, end, batches, in_order) in PLANNED {
-        let round = round_of_file(alloc, records)?;
-        let fewest = plan(alloc, &round, 100_000, *end)?;
+        let round = round_of_file(alloc, records).expect(&rt, "an answer");
+        let fewest = plan(alloc, &round, 100_000, *end).expect(&rt, "an answer");
         assert_eq!(rt;
             (fewest.batches, fewest.in_order),
             (*batches, *in_order),
             "{records:?}"
         );
         assert!(rt; check(&round, *batches, &fewest.tree, *end), "{records:?}");
-        let bounded = plan_always(alloc, &round, 100_000, *end)?;
+        let bounded = plan_always(alloc, &round, 100_000, *end).expect(&rt, "an answer");
         assert_eq!(rt;
             (bounded.plan.batches, bounded.bound),
             (*batches, *batches),
@@ -97,13 +96,13 @@ fn plans(rt: HostRuntime) -> Result<(), Fail> {
         );
     }
     for (records, limit, batches, bound) in LIMITED {
-        let round = round_of_file(alloc, records)?;
+        let round = round_of_file(alloc, records).expect(&rt, "an answer");
         let told = plan(alloc, &round, limit, End::Open);
         assert!(rt;
             matches!(told, Err(PlanFault::SearchLimit { .. })),
             "{records:?}"
         );
-        let bounded = plan_always(alloc, &round, limit, End::Open)?;
+        let bounded = plan_always(alloc, &round, limit, End::Open).expect(&rt, "an answer");
         assert_eq!(rt;
             (bounded.plan.batches, bounded.bound),
             (batches, bound),
@@ -114,13 +113,12 @@ fn plans(rt: HostRuntime) -> Result<(), Fail> {
             "{records:?}"
         );
     }
-    Ok(())
 }
 
 #[test]
-fn limits_and_reports(rt: HostRuntime) -> Result<(), Fail> {
+fn limits_and_reports(rt: HostRuntime) {
     let alloc = rt.alloc();
-    let round = round_of_file(alloc, LOOPS_APART)?;
+    let round = round_of_file(alloc, LOOPS_APART).expect(&rt, "an answer");
     for limit in [0, 1_000_001] {
         let told = plan(alloc, &round, limit, End::Open);
         assert!(rt; matches!(told, Err(PlanFault::BadLimit)), "{limit}");
@@ -128,25 +126,39 @@ fn limits_and_reports(rt: HostRuntime) -> Result<(), Fail> {
         assert!(rt; matches!(told, Err(PlanFault::BadLimit)), "{limit}");
     }
     let Err(PlanFault::SearchLimit { least, found, .. }) = plan(alloc, &round, 2, End::Open) else {
-        return Err(Fail::from("planned"));
+        panic!(rt; "planned");
     };
     assert_eq!(rt; (least, found), (2, 3));
-    assert_eq!(rt; plan(alloc, &round, 3, End::Open)?.batches, 3);
+    assert_eq!(rt;
+        plan(alloc, &round, 3, End::Open)
+            .expect(&rt, "an answer")
+            .batches,
+        3
+    );
     let fewest = plan(
         alloc,
-        &round_of_file(alloc, THREE_TIGHT)?,
+        &round_of_file(alloc, THREE_TIGHT).expect(&rt, "an answer"),
         100_000,
         End::Open,
-    )?;
-    let text = format!(in alloc; "{}", report(&fewest, 1200)?)?;
+    )
+    .expect(&rt, "an answer");
+    let text = format!(in alloc; "{}", report(&fewest, 1200).expect(&rt, "an answer")).expect(
+        &rt,
+        "an answer",
+    );
     assert_eq!(rt;
         text.as_str(),
         "pages 3\ncodewords 32\nin_order 3\nbatches 2\nidles 0\nbits 1664\nairtime_ms 1387\n"
     );
-    assert_eq!(rt; report(&fewest, 512)?.airtime_ms, 3250);
-    assert_eq!(rt; report(&fewest, 2400)?.airtime_ms, 694);
+    assert_eq!(rt;
+        report(&fewest, 512).expect(&rt, "an answer").airtime_ms,
+        3250
+    );
+    assert_eq!(rt;
+        report(&fewest, 2400).expect(&rt, "an answer").airtime_ms,
+        694
+    );
     assert!(rt; report(&fewest, 1201).is_err());
-    Ok(())
 }
 
 // How a page file is streamed: within which limit of nodes, whether always, how many bytes are read and written
@@ -178,7 +190,7 @@ struct Streamed {
     cert: MemorySink<100>,
 }
 
-fn stream(alloc: Global, records: Records, way: Way) -> Result<Streamed, Fail> {
+fn stream(alloc: Global, records: Records, way: Way) -> Result<Streamed, OutOfMemory> {
     let file = page_file(alloc, records)?;
     let step = way.step.max(1);
     let mut source = MemorySource::new(file.as_slice(), step, way.read);
@@ -243,11 +255,15 @@ const STREAMED: [(Records, Way, u32, u32, Option<Sent>); 7] = [
 const EXACT_SENT: Sent = (16, ONES, &[(0, 0), (6, 0)]);
 
 #[test]
-fn streams(rt: HostRuntime) -> Result<(), Fail> {
+fn streams(rt: HostRuntime) {
     let alloc = rt.alloc();
     for (records, way, batches, bound, sent) in STREAMED {
-        let streamed = stream(alloc, records, way)?;
-        assert_eq!(rt; streamed.answer?, (batches, bound), "{records:?}");
+        let streamed = stream(alloc, records, way).expect(&rt, "an answer");
+        assert_eq!(rt;
+            streamed.answer.expect(&rt, "an answer"),
+            (batches, bound),
+            "{records:?}"
+        );
         assert_eq!(rt;
             streamed.tx.bytes().len(),
             72 + 68 * batches as usize,
@@ -256,23 +272,24 @@ fn streams(rt: HostRuntime) -> Result<(), Fail> {
         if let Some(sent) = sent {
             assert_eq!(rt;
                 streamed.tx.bytes(),
-                transmission(alloc, sent)?.as_slice(),
+                transmission(alloc, sent)
+                    .expect(&rt, "an answer")
+                    .as_slice(),
                 "{records:?}"
             );
         }
         let mut source = MemorySource::new(streamed.cert.bytes(), 7, u64::MAX);
-        let read = read_certificate(alloc, &mut source)?;
+        let read = read_certificate(alloc, &mut source).expect(&rt, "an answer");
         assert_eq!(rt; read.batches, bound, "{records:?}");
-        let round = round_of_file(alloc, records)?;
+        let round = round_of_file(alloc, records).expect(&rt, "an answer");
         assert!(rt; check(&round, bound, &read.tree, read.end), "{records:?}");
     }
-    Ok(())
 }
 
 #[test]
-fn failing_streams(rt: HostRuntime) -> Result<(), Fail> {
+fn failing_streams(rt: HostRuntime) {
     let alloc = rt.alloc();
-    let whole = stream(alloc, ONE_TONE, AMPLE)?;
+    let whole = stream(alloc, ONE_TONE, AMPLE).expect(&rt, "an answer");
     assert_eq!(rt; whole.tx.bytes().len(), 140);
     for (limit, read) in [(0, u64::MAX), (100_000, 0), (100_000, 20)] {
         let told = stream(
@@ -283,7 +300,8 @@ fn failing_streams(rt: HostRuntime) -> Result<(), Fail> {
                 read,
                 ..AMPLE
             },
-        )?;
+        )
+        .expect(&rt, "an answer");
         match told.answer {
             Err(StreamFault::BadLimit) => assert_eq!(rt; limit, 0),
             Err(StreamFault::Round(RoundFault::ReadFault)) => assert_eq!(rt; limit, 100_000),
@@ -300,7 +318,8 @@ fn failing_streams(rt: HostRuntime) -> Result<(), Fail> {
                 sent: k,
                 ..AMPLE
             },
-        )?;
+        )
+        .expect(&rt, "an answer");
         assert!(rt;
             matches!(told.answer, Err(StreamFault::Transmission(_))),
             "{k}"
@@ -320,7 +339,8 @@ fn failing_streams(rt: HostRuntime) -> Result<(), Fail> {
                 certified: k,
                 ..AMPLE
             },
-        )?;
+        )
+        .expect(&rt, "an answer");
         assert!(rt;
             matches!(told.answer, Err(StreamFault::Certificate(_))),
             "{k}"
@@ -329,5 +349,4 @@ fn failing_streams(rt: HostRuntime) -> Result<(), Fail> {
         assert!(rt; whole.cert.bytes().starts_with(told.cert.bytes()), "{k}");
         assert_eq!(rt; told.cert.bytes().len() as u64, k);
     }
-    Ok(())
 }

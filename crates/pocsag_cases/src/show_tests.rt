@@ -5,7 +5,6 @@ use pocsag_decode::DecodeFault;
 use pocsag_show::{ShowFault, show_list, show_svg, show_text};
 use pocsag_words::MemorySink;
 use std::alloc::Global;
-use std::test::Fail;
 
 const LONE_TEXT: &[u8] = b"\
 batches 1, codewords 1, idles 15 (94%), airtime 2188 ms at 512 bit/s, 934 ms at 1200 bit/s, 467 ms at 2400 bit/s
@@ -125,23 +124,29 @@ const REFUSED: &[(View, Sent, usize, ShowFault)] = &[
 ];
 
 #[test]
-fn texts_and_lists(rt: HostRuntime) -> Result<(), Fail> {
+fn texts_and_lists(rt: HostRuntime) {
     let alloc = rt.alloc();
     for (view, sent, more, step, text) in SHOWN {
-        let mut bytes = vec![in alloc; 0xAA; *more]?;
-        bytes.extend_from_slice(transmission(alloc, *sent)?.as_slice())?;
+        let mut bytes = vec![in alloc; 0xAA; *more].expect(&rt, "an answer");
+        bytes
+            .extend_from_slice(
+                transmission(alloc, *sent)
+                    .expect(&rt, "an answer")
+                    .as_slice(),
+            )
+            .expect(&rt, "an answer");
         let mut sink = MemorySink::<512>::new((*step).max(1), 512);
         assert_eq!(rt; show(alloc, *view, bytes.as_slice(), &mut sink), None);
         assert_eq!(rt; sink.bytes(), *text);
     }
     for (view, sent, len, fault) in REFUSED {
-        let bytes = transmission(alloc, *sent)?;
+        let bytes = transmission(alloc, *sent).expect(&rt, "an answer");
         let mut sink = MemorySink::<512>::new(512, 512);
         let told = show(alloc, *view, cut(bytes.as_slice(), *len), &mut sink);
         assert_eq!(rt; told, Some(*fault), "{view:?} {len}");
         assert!(rt; sink.bytes().is_empty(), "{view:?} {len}");
     }
-    let bytes = transmission(alloc, LONE_TONE)?;
+    let bytes = transmission(alloc, LONE_TONE).expect(&rt, "an answer");
     for (view, text) in [(View::Text, LONE_TEXT), (View::List, LONE_LIST)] {
         for left in 0..text.len() {
             let mut sink = MemorySink::<512>::new(3, left as u64);
@@ -150,7 +155,6 @@ fn texts_and_lists(rt: HostRuntime) -> Result<(), Fail> {
             assert_eq!(rt; sink.bytes(), &text[..left]);
         }
     }
-    Ok(())
 }
 
 const TOTALS: &[u8] =
@@ -162,14 +166,14 @@ const DRAWN: &[u8] =
     b"<g class=\"p0\"><title>A: address 8, tone0</title><rect x=\"72\" y=\"48\" width=\"24\" height=\"18\"/><text class=\"m\" x=\"84\" y=\"61\">A</text></g>\n<g class=\"i\"><rect x=\"96\" y=\"48\" width=\"360\" height=\"18\"/></g>\n";
 
 #[test]
-fn large_texts_and_drawings(rt: HostRuntime) -> Result<(), Fail> {
+fn large_texts_and_drawings(rt: HostRuntime) {
     let alloc = rt.alloc();
-    let bytes = transmission(alloc, (16_000, IDLE, &[]))?;
+    let bytes = transmission(alloc, (16_000, IDLE, &[])).expect(&rt, "an answer");
     let mut sink = MemorySink::<40000>::new(40_000, 40_000);
     assert_eq!(rt; show(alloc, View::Text, bytes.as_slice(), &mut sink), None);
     assert!(rt; sink.bytes().starts_with(TOTALS));
     assert!(rt; sink.bytes().ends_with(LAST_ROWS));
-    let bytes = transmission(alloc, LONE_TONE)?;
+    let bytes = transmission(alloc, LONE_TONE).expect(&rt, "an answer");
     let mut sink = MemorySink::<40000>::new(10_000, 10_000);
     assert_eq!(rt;
         show(alloc, View::Drawing, bytes.as_slice(), &mut sink),
@@ -184,5 +188,4 @@ fn large_texts_and_drawings(rt: HostRuntime) -> Result<(), Fail> {
     let told = show(alloc, View::Drawing, bytes.as_slice(), &mut sink);
     assert_eq!(rt; told, Some(ShowFault::WriteFault));
     assert_eq!(rt; sink.bytes(), b"<svg xmlns=\"http".as_slice());
-    Ok(())
 }

@@ -1,12 +1,11 @@
 //! Worked examples of classes, ways and loads.
 
-use crate::round_of;
+use pocsag_rounds::round_of;
 use pocsag_slots::{
     Choice, Way, all_limits, carries, classes_of, closing_ways, holds, is_certain, least_load,
     loads, narrow, overloads, size, ways, with_member,
 };
 use pocsag_words::End;
-use std::test::Fail;
 
 const THREE_TONES: &[(u32, usize)] = &[(5, 0), (13, 0), (21, 0)];
 
@@ -49,19 +48,25 @@ const WAYS: &[(&[(u32, usize)], u16, &[Way])] = &[
 ];
 
 #[test]
-fn classes_and_ways(rt: HostRuntime) -> Result<(), Fail> {
+fn classes_and_ways(rt: HostRuntime) {
     for (pages, end, class, count, turns) in COUNTS {
-        let classes = classes_of(&round_of(rt.alloc(), pages)?, *end);
+        let classes = classes_of(&round_of(rt.alloc(), pages).expect(&rt, "an answer"), *end);
         assert!(rt; *class < 136);
         let told = (classes.count[*class], classes.turns[*class]);
         assert_eq!(rt; told, (*count, *turns), "{pages:?} {class}");
     }
     for (pages, set, wanted) in WAYS {
-        let classes = classes_of(&round_of(rt.alloc(), pages)?, End::Open);
+        let classes = classes_of(
+            &round_of(rt.alloc(), pages).expect(&rt, "an answer"),
+            End::Open,
+        );
         let out = ways(&classes, &all_limits(&classes, 2), *set, 2);
         assert_eq!(rt; out.as_slice(), *wanted);
     }
-    let classes = classes_of(&round_of(rt.alloc(), THREE_TONES)?, End::Open);
+    let classes = classes_of(
+        &round_of(rt.alloc(), THREE_TONES).expect(&rt, "an answer"),
+        End::Open,
+    );
     for (batches, is_over) in [(1, true), (2, false)] {
         let limits = all_limits(&classes, batches);
         assert_eq!(rt; overloads(&classes, &limits, 0x0C00), is_over);
@@ -71,12 +76,14 @@ fn classes_and_ways(rt: HostRuntime) -> Result<(), Fail> {
     assert_eq!(rt; with_member(two, 4), two);
     assert_eq!(rt; (holds(two, 15), holds(two, 5)), (true, false));
     assert_eq!(rt; (size(0), size(two), size(0xFFFF)), (0, 2, 16));
-    Ok(())
 }
 
 #[test]
-fn limits_and_loads(rt: HostRuntime) -> Result<(), Fail> {
-    let classes = classes_of(&round_of(rt.alloc(), LOOPS_APART)?, End::Open);
+fn limits_and_loads(rt: HostRuntime) {
+    let classes = classes_of(
+        &round_of(rt.alloc(), LOOPS_APART).expect(&rt, "an answer"),
+        End::Open,
+    );
     let limits = all_limits(&classes, 2);
     assert_eq!(rt; is_certain(&classes, &limits, 0x0001, 48), true);
     assert_eq!(rt; is_certain(&classes, &limits, 0x0001, 0), false);
@@ -87,7 +94,10 @@ fn limits_and_loads(rt: HostRuntime) -> Result<(), Fail> {
     let last = narrow(&classes, &limits, Way::IdleIn(15), 2);
     assert_eq!(rt; overloads(&classes, &last, 0x8000), true);
     assert_eq!(rt; overloads(&classes, &last, 0x4000), false);
-    let classes = classes_of(&round_of(rt.alloc(), CLOSED_MIXED)?, End::Closed);
+    let classes = classes_of(
+        &round_of(rt.alloc(), CLOSED_MIXED).expect(&rt, "an answer"),
+        End::Closed,
+    );
     let mut early = classes.count;
     early[135] = 0;
     assert_eq!(rt; loads(&classes, &Choice { early }), [2; 16]);
@@ -98,5 +108,4 @@ fn limits_and_loads(rt: HostRuntime) -> Result<(), Fail> {
         out.as_slice(),
         [Way::IdleIn(15), Way::Late(135)].as_slice()
     );
-    Ok(())
 }

@@ -2,7 +2,6 @@
 
 use pocsag_text::{TextFault, pack_alpha, pack_numeric, unpack_alpha, unpack_numeric};
 use std::alloc::Global;
-use std::test::Fail;
 
 #[derive(Clone, Copy, PartialEq, Eq, Debug)]
 enum Coding {
@@ -41,13 +40,19 @@ const LONG: [(Coding, u8, usize, Result<usize, TextFault>); 5] = [
 ];
 
 #[test]
-fn texts(rt: HostRuntime) -> Result<(), Fail> {
+fn texts(rt: HostRuntime) {
     let alloc = rt.alloc();
     for (coding, text, items, back) in PACKED {
-        assert_eq!(rt; pack(alloc, coding, text)?.as_slice(), items, "{text:?}");
+        assert_eq!(rt;
+            pack(alloc, coding, text)
+                .expect(&rt, "an answer")
+                .as_slice(),
+            items,
+            "{text:?}"
+        );
         let unpacked = match coding {
-            Coding::Numeric => unpack_numeric(alloc, items)?,
-            Coding::Alpha => unpack_alpha(alloc, items)?,
+            Coding::Numeric => unpack_numeric(alloc, items).expect(&rt, "an answer"),
+            Coding::Alpha => unpack_alpha(alloc, items).expect(&rt, "an answer"),
         };
         assert_eq!(rt; unpacked.as_slice(), back, "{text:?}");
     }
@@ -55,7 +60,7 @@ fn texts(rt: HostRuntime) -> Result<(), Fail> {
         assert_eq!(rt; pack(alloc, coding, text).err(), Some(fault), "{text:?}");
     }
     for (coding, character, count, wanted) in LONG {
-        let text = vec![in alloc; character; count]?;
+        let text = vec![in alloc; character; count].expect(&rt, "an answer");
         match pack(alloc, coding, text.as_slice()) {
             Ok(items) => {
                 assert_eq!(rt; Ok(items.len()), wanted);
@@ -64,5 +69,4 @@ fn texts(rt: HostRuntime) -> Result<(), Fail> {
             Err(fault) => assert_eq!(rt; Err(fault), wanted),
         }
     }
-    Ok(())
 }

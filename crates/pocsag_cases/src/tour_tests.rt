@@ -1,10 +1,9 @@
 //! Worked examples of tours.
 
-use crate::{NoTour, round_of, tour_of};
+use pocsag_rounds::{NoTour, round_of, tour_of};
 use pocsag_slots::{Choice, Step, classes_of};
 use pocsag_tour::{TourFault, has_run_outside, reached};
 use pocsag_words::End;
-use std::test::Fail;
 
 // Rounds with a class that starts late, the batches and the end, and the runs of the tour by class and whether
 // they start early, or why there is none.
@@ -53,9 +52,9 @@ const TOURS: &[(
 ];
 
 #[test]
-fn tours(rt: HostRuntime) -> Result<(), Fail> {
+fn tours(rt: HostRuntime) {
     for (pages, late, batches, end, wanted) in TOURS {
-        let round = round_of(rt.alloc(), pages)?;
+        let round = round_of(rt.alloc(), pages).expect(&rt, "an answer");
         assert!(rt; *batches > 0);
         let found = tour_of(rt.alloc(), &round, *late, *batches, *end);
         match (found, wanted) {
@@ -75,7 +74,6 @@ fn tours(rt: HostRuntime) -> Result<(), Fail> {
             _ => assert!(rt; false, "{pages:?}"),
         }
     }
-    Ok(())
 }
 
 // Rounds of two pages with the batches and the boundaries that are reached when all start early.
@@ -86,8 +84,11 @@ const REACHED: [(&[(u32, usize)], u32, u16); 3] = [
 ];
 
 #[test]
-fn runs_outside_and_boundaries(rt: HostRuntime) -> Result<(), Fail> {
-    let classes = classes_of(&round_of(rt.alloc(), &[(3, 15)])?, End::Open);
+fn runs_outside_and_boundaries(rt: HostRuntime) {
+    let classes = classes_of(
+        &round_of(rt.alloc(), &[(3, 15)]).expect(&rt, "an answer"),
+        End::Open,
+    );
     let all = Choice {
         early: classes.count,
     };
@@ -95,7 +96,10 @@ fn runs_outside_and_boundaries(rt: HostRuntime) -> Result<(), Fail> {
     assert_eq!(rt; has_run_outside(&classes, &all, 0x0001, 48, false), false);
     assert_eq!(rt; has_run_outside(&classes, &all, 0x0041, 48, true), false);
     for (pages, batches, set) in REACHED {
-        let classes = classes_of(&round_of(rt.alloc(), pages)?, End::Open);
+        let classes = classes_of(
+            &round_of(rt.alloc(), pages).expect(&rt, "an answer"),
+            End::Open,
+        );
         let early = Choice {
             early: classes.count,
         };
@@ -106,5 +110,4 @@ fn runs_outside_and_boundaries(rt: HostRuntime) -> Result<(), Fail> {
             "{pages:?} in {batches}"
         );
     }
-    Ok(())
 }

@@ -3,9 +3,8 @@
 use pocsag_tree::{
     CertificateFault, Tree, TreeWriteFault, depth, nodes, read_certificate, write_certificate,
 };
-use pocsag_words::{End, MemorySink, MemorySource};
+use pocsag_words::{End, MemorySink, MemorySource, OutOfMemory};
 use std::alloc::Global;
-use std::test::Fail;
 
 // The certificate of two loops apart, in both versions.
 const APART: &[u8] = b"PCB1\0\0\0\x03\x02\0\x01\x30\0\x02\0\0\x01\0\x80\0";
@@ -131,17 +130,22 @@ fn certificates_read(rt: HostRuntime) {
 }
 
 #[test]
-fn certificates_written(rt: HostRuntime) -> Result<(), Fail> {
+fn certificates_written(rt: HostRuntime) {
     let alloc = rt.alloc();
     let kept = KEPT.iter().map(|text| (*text, *text));
     for (bytes, text) in WRITTEN.iter().copied().chain(kept) {
-        let read = read_certificate(alloc, &mut MemorySource::new(bytes, 2, u64::MAX))?;
+        let read = read_certificate(alloc, &mut MemorySource::new(bytes, 2, u64::MAX)).expect(
+            &rt,
+            "an answer",
+        );
         let mut sink = MemorySink::<64>::new(1, u64::MAX);
         let written = write_certificate(read.end, read.batches, &read.tree, &mut sink);
         assert_eq!(rt; written, Ok(()));
         assert_eq!(rt; sink.bytes(), text);
     }
-    let tree = read_certificate(alloc, &mut MemorySource::new(APART, 1, u64::MAX))?.tree;
+    let tree = read_certificate(alloc, &mut MemorySource::new(APART, 1, u64::MAX))
+        .expect(&rt, "an answer")
+        .tree;
     for place in 0..APART_AGAIN.len() {
         let mut sink = MemorySink::<64>::new(3, place as u64);
         let written = write_certificate(End::Open, 3, &tree, &mut sink);
@@ -151,8 +155,8 @@ fn certificates_written(rt: HostRuntime) -> Result<(), Fail> {
     let split = Tree::Split {
         class: 200,
         m: 1,
-        below: Box::new(alloc, Tree::Overload(3))?,
-        from: Box::new(alloc, Tree::Overload(3))?,
+        below: Box::new(alloc, Tree::Overload(3)).expect(&rt, "an answer"),
+        from: Box::new(alloc, Tree::Overload(3)).expect(&rt, "an answer"),
     };
     for (batches, tree) in [(1, Tree::Overload(0)), (0, Tree::Open), (1, split)] {
         let mut sink = MemorySink::<64>::new(64, u64::MAX);
@@ -160,11 +164,10 @@ fn certificates_written(rt: HostRuntime) -> Result<(), Fail> {
         assert_eq!(rt; written, Err(TreeWriteFault::BadTree));
         assert!(rt; sink.bytes().is_empty());
     }
-    Ok(())
 }
 
 // So many splits, one below the other, and so many leaves.
-fn splits(alloc: Global, count: usize, leaves: usize) -> Result<Vec<u8>, Fail> {
+fn splits(alloc: Global, count: usize, leaves: usize) -> Result<Vec<u8>, OutOfMemory> {
     let mut bytes = Vec::from_slice(alloc, b"PCB1\0\0\0\x01".as_slice())?;
     for _ in 0..count {
         bytes.extend_from_slice(b"\x01\0\0\x01".as_slice())?;
@@ -176,7 +179,12 @@ fn splits(alloc: Global, count: usize, leaves: usize) -> Result<Vec<u8>, Fail> {
 }
 
 // Nested cuts of so many children to depth 3, with leaves at depth 4, up to node 1,000,000.
-fn many_nodes(alloc: Global, head: &[u8], cut: &[u8], children: u32) -> Result<Vec<u8>, Fail> {
+fn many_nodes(
+    alloc: Global,
+    head: &[u8],
+    cut: &[u8],
+    children: u32,
+) -> Result<Vec<u8>, OutOfMemory> {
     let mut bytes = Vec::from_slice(alloc, head)?;
     bytes.extend_from_slice(cut)?;
     let mut left: u32 = 999_999;
@@ -202,25 +210,36 @@ fn many_nodes(alloc: Global, head: &[u8], cut: &[u8], children: u32) -> Result<V
 }
 
 #[test]
-fn deep_and_large_certificates(rt: HostRuntime) -> Result<(), Fail> {
+fn deep_and_large_certificates(rt: HostRuntime) {
     let alloc = rt.alloc();
     for (count, due) in [
         (300, CertificateFault::TooDeep),
         (299, CertificateFault::Truncated),
     ] {
         assert_eq!(rt;
-            fault(alloc, splits(alloc, count, 0)?.as_slice(), u64::MAX),
+            fault(
+                alloc,
+                splits(alloc, count, 0).expect(&rt, "an answer").as_slice(),
+                u64::MAX
+            ),
             Some(due)
         );
     }
-    let bytes = splits(alloc, 299, 300)?;
-    let tree = read_certificate(alloc, &mut MemorySource::new(&bytes, 1, u64::MAX))?.tree;
+    let bytes = splits(alloc, 299, 300).expect(&rt, "an answer");
+    let tree = read_certificate(alloc, &mut MemorySource::new(&bytes, 1, u64::MAX))
+        .expect(&rt, "an answer")
+        .tree;
     assert_eq!(rt; (depth(&tree), nodes(&tree)), (300, 299));
-    let first = many_nodes(alloc, b"PCB1\0\0\0\x01", b"\x02\0\x01\0\x01\x10", 272)?;
-    let second = many_nodes(alloc, b"PCB2\0\0\0\0\x01", b"\x02\0\x01\0\x01\x20", 288)?;
+    let first = many_nodes(alloc, b"PCB1\0\0\0\x01", b"\x02\0\x01\0\x01\x10", 272).expect(
+        &rt,
+        "an answer",
+    );
+    let second = many_nodes(alloc, b"PCB2\0\0\0\0\x01", b"\x02\0\x01\0\x01\x20", 288).expect(
+        &rt,
+        "an answer",
+    );
     for bytes in [first, second] {
         let told = fault(alloc, bytes.as_slice(), u64::MAX);
         assert!(rt; told == Some(CertificateFault::TooMany));
     }
-    Ok(())
 }
