@@ -15,14 +15,14 @@ returns-clause-shown g c = λ pages_tell cert_tells out_tells yes.
 pub returns-then-not-judged-clause-not_shown : goal.returns-then-not-judged-clause-not_shown
 returns-then-not-judged-clause-not_shown g c = λ pages_tell cert_tells out_tells no.
     let judged = c.in_ok-judged.judged in
-    let open = c.in_ok-judged.ensures.not_shown pages_tell cert_tells (not-true judged.is_shown c.if-not-judged.true) in record {
-      round = open.round;
-      read = open.read;
+    let unshown = c.in_ok-judged.ensures.not_shown pages_tell cert_tells (not-true judged.is_shown c.if-not-judged.true) in record {
+      round = unshown.round;
+      read = unshown.read;
       end = judged.end;
       batches = judged.batches;
-      tree = open.tree;
-      text = open.spelled;
-      refuted = open.refused;
+      tree = unshown.tree;
+      text = unshown.spelled;
+      refuted = unshown.refused;
       told = c.in_ok-tell.ensures.told out_tells (codes "not shown" ++ (10 ∷ [])) refl;
     }
 
