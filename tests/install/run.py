@@ -18,7 +18,7 @@ from tally import PROGRAM, TOP, Tally, as_nobody
 PLACES = ["bin/pocsag", "share/bash-completion/completions/pocsag", "share/man/man1/pocsag.1"]
 COMMANDS = ["plan", "check", "decode", "hear", "show", "open", "report"]
 # Options with a value, and what is offered for it.
-VALUES = {"--end": {"open", "closed"}, "--rate": {"512", "1200", "2400"}, "--limit": set()}
+VALUES = {"--end": {"open", "closed"}, "--rate": {"512", "1200", "2400"}, "--limit": set(), "--expect": set()}
 
 
 def install(*words):

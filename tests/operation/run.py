@@ -149,6 +149,26 @@ def try_single_calls(tally, folder):
                     break
 
 
+def try_expect(tally, folder):
+    """`--expect` refuses a round of another number of pages, and leaves the files as they are."""
+    room = fresh(folder, "expect")
+    swallowed = HEADER + b'8,tone0,\n9,alpha,"Pump 4\n16,tone0,\n24,tone0,\n'
+    (room / "quote.csv").write_bytes(swallowed)
+    fault = b"pocsag: pages 2, where 4 were expected\n"
+    for words in (["plan", "quote.csv", "tx.bin", "cert.bin"], ["plan", "quote.csv", "tx.bin", "cert.bin", "--keep"],
+                  ["plan", "-", "-", "cert.bin"], ["report", "quote.csv", "--rate", "512"], ["plan", "quote.csv", "tx.bin", "cert.bin", "--always"]):
+        done = run([*words, "--expect", "4"], room, swallowed)
+        tally.check(f"unexpected: {words}", (done.returncode, done.stdout, done.stderr) == (1, b"", fault) and stand(room) == OLD, done)
+    for words in (["plan", "quote.csv", "t", "c"], ["plan", "quote.csv", "t", "c", "--keep", "--verify", "--always"], ["report", "quote.csv", "--rate", "512"]):
+        plain, done = run(words, room), run([*words, "--expect", "2"], room)
+        holds = plain.returncode == 0 and (done.returncode, done.stdout, done.stderr) == (0, plain.stdout, b"")
+        tally.check(f"expected: {words}", holds, done)
+    done = run(["plan", "bad.csv", "tx.bin", "cert.bin", "--expect", "1"], room)
+    tally.check("a fault before the count", done.stderr == b"pocsag: record 1: unknown kind\n" and stand(room) == OLD, done)
+    done = run(["plan", "pages.csv", "tx.bin", "cert.bin", "--expect", "x"], room)
+    tally.check("no number", done.returncode == 2 and stand(room) == OLD, done)
+
+
 def try_verify(tally, folder):
     """`--verify` says at once that a pipe or a device cannot be read again."""
     room = fresh(folder, "verify")
@@ -262,7 +282,7 @@ def try_page(tally, folder):
 
 
 def main():
-    return run_parts(try_keep, try_kills, try_single_calls, try_verify, try_pipes, try_terminal, try_page)
+    return run_parts(try_keep, try_kills, try_single_calls, try_expect, try_verify, try_pipes, try_terminal, try_page)
 
 
 if __name__ == "__main__":

@@ -60,9 +60,11 @@ pub struct PlanOrder<'a> {
     pub keep: bool,
 }
 
-/// How a plan is searched: the node limit, the end, and whether each round is answered.
+/// How a plan is searched: the node limit, the end, and whether each round is answered; and how many pages
+/// the round must have, if that is given.
 #[derive(Clone, Copy, PartialEq, Eq, Debug)]
 pub struct Search {
+    pub expect: Option<u32>,
     pub limit: u32,
     pub end: End,
     pub always: bool,
@@ -99,6 +101,8 @@ const LIMIT: &str = "limit";
 const END: &str = "end";
 
 const VERIFY: &str = "verify";
+
+const EXPECT: &str = "expect";
 
 const KEEP: &str = "keep";
 
@@ -188,6 +192,10 @@ const ALWAYS_HELP: &str = "\
 Answers every round: where the limit is reached, with one batch
 more than is shown to be needed";
 
+const EXPECT_HELP: &str = "\
+How many pages the round must have; with another number
+it is refused, and TX and CERT stay as they are";
+
 const KEEP_HELP: &str = "\
 Keeps what stands at TX and CERT until both are written whole,
 and puts them there by renaming, CERT first";
@@ -220,6 +228,10 @@ fn always_flag<'a>(alloc: Global) -> Arg<'a> {
     flag(alloc, ALWAYS, ALWAYS_HELP)
 }
 
+fn expect_option<'a>(alloc: Global) -> Arg<'a> {
+    option(alloc, EXPECT, "N", EXPECT_HELP).value_parser(value_parser!(u32))
+}
+
 fn flag<'a>(alloc: Global, id: &'a str, help: &'a str) -> Arg<'a> {
     Arg::new(alloc, id)
         .long(id)
@@ -239,6 +251,7 @@ Writes a page file's transmission with the fewest batches, and the certificate o
         .arg(positional(alloc, CERT, CERT_HELP))?
         .arg(limit_option(alloc))?
         .arg(end_option(alloc))?
+        .arg(expect_option(alloc))?
         .arg(always_flag(alloc))?
         .arg(flag(
             alloc,
@@ -304,6 +317,7 @@ fn report_command<'a>(alloc: Global) -> Result<Command<'a>, AllocError> {
         .arg(rate)?
         .arg(limit_option(alloc))?
         .arg(end_option(alloc))?
+        .arg(expect_option(alloc))?
         .arg(always_flag(alloc))
 }
 
@@ -332,6 +346,7 @@ fn end_of(found: &ArgMatches<'_>) -> Option<End> {
 
 fn search_of(found: &ArgMatches<'_>) -> Option<Search> {
     Some(Search {
+        expect: found.get_one::<u32>(EXPECT),
         limit: found.get_one::<u32>(LIMIT)?,
         end: end_of(found)?,
         always: found.get_flag(ALWAYS),
