@@ -20,7 +20,7 @@ _pocsag() {
     fi
     local -A options=(
         [pocsag]='--help --version -h -V'
-        [plan]='--limit --end --always --verify --help -h'
+        [plan]='--limit --end --always --verify --keep --help -h'
         [check]='--help -h'
         [decode]='--help -h'
         [hear]='--help -h'

@@ -3,17 +3,22 @@
  * REFUSE_ALLOC=N   the Nth call of malloc, calloc or realloc gives no memory
  * REFUSE_READ=N    the Nth call of read fails (EIO)
  * REFUSE_WRITE=N   the Nth call of write fails (EIO)
+ * REFUSE_LOSE=FD   what is written to this open file is lost, and claimed to be written
  * REFUSE_SHORT=1   each read and each write moves one byte at most
  * REFUSE_MARK=FD   a byte x is written to this open file when the call that is refused is reached, and a byte a at
  *                  each write to a file whose write was refused
  * REFUSE_LATE=FD   a byte is written to this open file at each growth after the first write of a byte
  * REFUSE_SAME=1    each file has the number 7, and in the place of its device's number its own: files of other numbers
  *                  are files of other devices
+ * REFUSE_KEPT=A, REFUSE_GIVEN=B   whoever opens the file A to read it reads the file B
  */
 #define _GNU_SOURCE
 #include <errno.h>
+#include <fcntl.h>
+#include <stdarg.h>
 #include <stddef.h>
 #include <stdlib.h>
+#include <string.h>
 #include <sys/stat.h>
 #include <sys/syscall.h>
 #include <unistd.h>
@@ -24,7 +29,8 @@ extern void *__libc_realloc(void *old, size_t size);
 
 static long allocs, reads, writes;
 static long alloc_at, read_at, write_at, is_short, are_same;
-static int mark = -1, late = -1, failed = -1;
+static int mark = -1, lost = -1, late = -1, failed = -1;
+static const char *kept, *given;
 
 static long number(const char *name) {
     const char *text = getenv(name);
@@ -39,8 +45,12 @@ __attribute__((constructor)) static void start(void) {
     are_same = number("REFUSE_SAME");
     const char *text = getenv("REFUSE_MARK");
     mark = text ? atoi(text) : -1;
+    text = getenv("REFUSE_LOSE");
+    lost = text ? atoi(text) : -1;
     text = getenv("REFUSE_LATE");
     late = text ? atoi(text) : -1;
+    kept = getenv("REFUSE_KEPT");
+    given = getenv("REFUSE_GIVEN");
     allocs = reads = writes = 0;
 }
 
@@ -80,7 +90,17 @@ ssize_t read(int file, void *buffer, size_t count) {
 ssize_t write(int file, const void *buffer, size_t count) {
     if (file == failed && mark >= 0) syscall(SYS_write, mark, "a", 1);
     if (is_refused(&writes, write_at)) { failed = file; errno = EIO; return -1; }
+    if (file == lost) return count;
     return syscall(SYS_write, file, buffer, is_short && count > 1 ? 1 : count);
+}
+
+int open(const char *path, int flags, ...) {
+    va_list rest;
+    va_start(rest, flags);
+    int mode = flags & O_CREAT ? va_arg(rest, int) : 0;
+    va_end(rest);
+    if (kept && given && (flags & O_ACCMODE) == O_RDONLY && strcmp(path, kept) == 0) path = given;
+    return syscall(SYS_openat, AT_FDCWD, path, flags, mode);
 }
 
 int close(int file) {

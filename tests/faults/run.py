@@ -15,6 +15,8 @@ import tempfile
 
 sys.dont_write_bytecode = True
 sys.path.insert(0, str(pathlib.Path(__file__).resolve().parents[1]))
+sys.path.insert(0, str(pathlib.Path(__file__).resolve().parent))
+import read_back
 from tally import PROGRAM, TOP, Tally
 
 HERE = pathlib.Path(__file__).resolve().parent
@@ -153,10 +155,20 @@ def try_large_trial(tally, library):
     # closed end it takes one batch more, since no slot is left behind the last message.
     fewest = codewords // 16
     listed = len("address,kind,message\n") + sum(len(f"{address},numeric,") + 7_001 for address in range(20_000))
+    header = len("address,kind,message\n")
+    data = [(8, 1_400), (16, 1_401), (24, 1_400), (32, 1_401)]
+    data_listed = header + sum(len(f"{address},data1,") + 5 * items + 1 for address, items in data)
+    # Two tones to a frame, the last alone: that of slot 2f is for address 8 + f.
+    tones_listed = header + sum(len(f"{8 + place % 16 // 2},tone0,\n") for place in range(20_001))
+    tones_in_order = batches_in_order((address % 8 for address in range(20_000)), 1)
     wanted = [
         "Page::copy of 1,400 items: 1400",
         "tour, order_of and lay_out of 20,000 tones: 40000 20000 2500",
         f"write, decode, list and hear_all of 20,000 pages of 1,400 items: {sent} true {listed} 19999 1400",
+        f"decode, list and hear_all of pages of 1,400 and 1,401 items: 4 {data_listed} 16 1401 48 1401",
+        f"hear_all, decode and list of 20,001 tones: {2 * 1_250 + 1} 20001 {tones_listed}",
+        f"first_stream of 20,000 tones, and of one more: {tones_in_order} {72 + 68 * tones_in_order} "
+        "record 20001: too many pages 0",
         "read_certificate of 1,000,000 nodes: 1000000 58",
         "search and search_freely of 20,000 tones: 1250 20000 1 true 1250 20000 1 true",
         "search of eight pages to 1,000,000 nodes: 12 13 1000000 true",
@@ -277,6 +289,17 @@ def try_printing(tally, library, name, words, files, folder):
         tally.check(f"{name}: {kind}", count > 0, count)
     short, _ = run(command, library, short=True)
     tally.check(f"{name} one byte at a time", short.returncode == 0 and short.stdout == ample.stdout, short)
+
+
+def try_lost(tally, library, folder):
+    """`--verify` on a device that loses what it takes: TX is the second file that is opened, CERT the third."""
+    (folder / "pages.csv").write_bytes(b"address,kind,message\n8,tone0,\n")
+    command = [str(PROGRAM), "plan", *(str(folder / name) for name in ("pages.csv", "tx.bin", "cert.bin")), "--verify"]
+    for name, number, text in (("transmission", 4, b"the preamble is too short"), ("certificate", 5, b"the certificate is cut short")):
+        environment = dict(os.environ, LD_PRELOAD=str(library), REFUSE_LOSE=str(number))
+        done = subprocess.run(command, capture_output=True, env=environment, timeout=60)
+        due = (1, b"pages 1\nbatches 1\n", b"pocsag: " + text + b"\n")
+        tally.check(f"a lost {name} is not verified", (done.returncode, done.stdout, done.stderr) == due, done)
 
 
 class Answers:
@@ -437,8 +460,9 @@ def main():
         library = build(folder)
         for part in (try_trial, try_large_trial, try_input):
             part(tally, library)
+        try_lost(tally, library, folder)
         try_plan(tally, library, folder)
-        for part in (try_open, try_open_pages, try_late_growths, try_devices):
+        for part in (try_open, try_open_pages, try_late_growths, try_devices, read_back.try_read_back):
             part(tally, library, folder)
         files = {"pages.csv": LOOPS_APART, "cert.bin": CERTIFICATE}
         try_printing(tally, library, "check", ["check", "pages.csv", "cert.bin"], files, folder)

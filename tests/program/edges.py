@@ -1,10 +1,7 @@
-"""The program at the edges of its numbers: counts by the hundred, the largest files, what `--verify` reads back, and the
-default limit of nodes."""
+"""The program at the edges of its numbers: counts by the hundred, the largest files, the default limit of nodes."""
 
-import os
 import subprocess
 import sys
-import threading
 
 sys.dont_write_bytecode = True
 from tally import PROGRAM
@@ -12,9 +9,6 @@ from tally import PROGRAM
 HEADER = b"address,kind,message\n"
 SYNC, IDLE, TONE = "7CD215D8", "7A89C197", "000026EC"
 LARGEST = 268_435_456
-ROUND = HEADER + b"0,numeric," + b"1" * 75 + b"\n3,numeric," + b"1" * 75 + b"\n"
-NOT_THE_PAGES = b"pocsag: the transmission does not hold the pages of the page file\n"
-NOT_THE_BOUND = b"pocsag: the certificate does not show the batches of the transmission\n"
 
 
 def run(words, folder, **more):
@@ -40,7 +34,8 @@ def try_hundreds(tally, folder):
     tally.check("700 pages: no words", (done.returncode, done.stdout) == (0, b"pages 700\nbatches 350\n"), done)
     loops_apart(tally, folder)
     places_of_faults(tally, folder)
-    (folder / "pages.csv").write_bytes(HEADER + b"".join(b"%d,alpha,%s\n" % (place, b"a" * 4000) for place in range(800)))
+    long = (b"%d,alpha,%s\n" % (place, b"a" * 4000) for place in range(800))
+    (folder / "pages.csv").write_bytes(HEADER + b"".join(long))
     done = run(["report", "pages.csv", "--rate", "2400", "--end", "closed"], folder)
     counts = [int(line.split()[1]) for line in done.stdout.splitlines()]
     batches = 800 * 1401 // 16
@@ -132,97 +127,47 @@ def try_largest_files(tally, folder):
         path.unlink()
 
 
-class Exchange:
-    """A named pipe in the place of an output: it takes what is written, and gives other bytes to whoever reads it back."""
-
-    def __init__(self, path, given):
-        self.path, self.given, self.taken = path, given, None
-        os.mkfifo(path)
-        self.thread = threading.Thread(target=self.serve, daemon=True)
-        self.thread.start()
-
-    def serve(self):
-        with open(self.path, "rb") as pipe:
-            self.taken = pipe.read()
-        with open(self.path, "wb") as pipe:
-            try:
-                pipe.write(self.given)
-            except BrokenPipeError:
-                pass
-
-    def end(self):
-        """Frees the thread where nobody read the pipe back."""
-        if self.thread.is_alive():
-            os.close(os.open(self.path, os.O_RDWR | os.O_NONBLOCK))
-        self.path.unlink()
+# Rounds whose trees have a little less than 100,000 nodes and a little more: the frame and the codewords of each page,
+# the nodes, and the fewest batches, all with the open end. None is known that takes 100,000 just.
+NEAR_THE_LIMIT = [
+    ([(0, 15), (7, 9), (4, 6), (2, 31), (0, 31), (3, 31), (1, 15), (7, 30), (5, 15), (2, 1), (7, 4), (1, 12)], 99_698, 14),
+    ([(5, 15), (7, 26), (2, 31), (6, 31), (1, 15), (4, 14), (4, 21), (0, 31), (0, 30), (5, 14), (4, 2)], 100_009, 16),
+]
 
 
-def read_back(folder, end, always, tx=None, cert=None):
-    """`plan --verify` of the round, where the transmission or the certificate is read back as other bytes."""
-    pipes = {name: Exchange(folder / name, given) for name, given in (("tx.pipe", tx), ("cert.pipe", cert)) if given is not None}
-    words = ["tx.pipe" if tx is not None else "tx.bin", "cert.pipe" if cert is not None else "cert.bin"]
-    done = run(["plan", "pages.csv", *words, "--verify", "--end", end, *always], folder)
-    for pipe in pipes.values():
-        pipe.end()
-    return done
+def page_of_shape(place, frame, length):
+    address = 8 * place + frame
+    return b"%d,numeric,%s" % (address, b"1" * (5 * (length - 1))) if length > 1 else b"%d,tone0," % address
 
 
-def certificate(is_closed, batches, tree):
-    return b"PCB2" + bytes([is_closed]) + batches.to_bytes(4, "big") + bytes.fromhex(tree)
+def try_default_limit(tally, folder):
+    """A round is refused where it takes more nodes than the limit by one, and answered where it takes no more; where no
+    limit is named it is 100,000."""
+    for shape, nodes, batches in NEAR_THE_LIMIT:
+        records = [page_of_shape(place, frame, length) for place, (frame, length) in enumerate(shape)]
+        (folder / "pages.csv").write_bytes(HEADER + b"\n".join(records) + b"\n")
+        told = b"pages %d\nbatches %d\n" % (len(shape), batches)
+        stopped = b"search limit reached: at least %d batches, %d would do\n" % (batches - 1, batches)
+        done_or_not = {True: (0, told, b""), False: (1, b"", b"pocsag: " + stopped)}
+        limits = ([], nodes <= 100_000), (["--limit", str(nodes)], True), (["--limit", str(nodes - 1)], False)
+        for words in (["plan", "pages.csv", "tx.bin", "cert.bin"], ["report", "pages.csv", "--rate", "512"]):
+            for limit, is_done in limits:
+                done = run([*words, *limit], folder)
+                status, printed, fault = done_or_not[is_done]
+                holds = (done.returncode, done.stderr) == (status, fault)
+                holds = holds and (words[0] == "report" or done.stdout == printed)
+                tally.check(f"{nodes} nodes: {words[0]} {limit}", holds, done)
+            shown = run([words[0], "--help"], folder).stdout
+            tally.check(f"help of {words[0]} names the limit", b"[default: 100000]" in shown, shown)
+        with open(folder / "pages.csv", "rb") as pages:
+            done = run([], folder, stdin=pages)
+        is_done = nodes <= 100_000
+        holds = (done.returncode, done.stdout, done.stderr) == done_or_not[is_done]
+        tally.check(f"{nodes} nodes: no words", holds, done)
+        lines = b"\n".join([*(b"add," + record for record in records), b"plan,tx.bin,cert.bin\n"])
+        done = run(["open"], folder, input=lines)
+        due = b"batches %d\n" % batches if is_done else b"refused: " + stopped
+        tally.check(f"{nodes} nodes: open", done.returncode == 0 and done.stdout.endswith(b"\n" + due), done)
 
 
-def try_read_back(tally, folder):
-    """`--verify` of other bytes than were written: taken where they show as much, and else refused as they deserve."""
-    (folder / "pages.csv").write_bytes(ROUND)
-    cut, overloaded = "02 0001 30 0002 00 0001 00 8000", "00 FFFF"
-    told = b"pages 2\nbatches 3\n"
-    for end, is_closed in (("open", False), ("closed", True)):
-        three, two, one = ((is_closed, batches, tree) for batches, tree in ((3, cut), (2, overloaded), (1, overloaded)))
-        certificates = [
-            ("what was written", certificate(*three), b"", b""),
-            ("a certificate for one batch less", certificate(*two), NOT_THE_BOUND, b""),
-            ("a certificate for two batches less", certificate(*one), NOT_THE_BOUND, NOT_THE_BOUND),
-            ("a certificate for one batch more", certificate(is_closed, 4, cut), NOT_THE_BOUND, NOT_THE_BOUND),
-            ("the other end", certificate(not is_closed, 3, cut), NOT_THE_BOUND, NOT_THE_BOUND),
-            ("a tree that is not accepted", certificate(is_closed, 3, overloaded), NOT_THE_BOUND, NOT_THE_BOUND),
-            ("an open tree", certificate(is_closed, 3, "03"), NOT_THE_BOUND, NOT_THE_BOUND),
-            ("no certificate", b"PCB3", b"pocsag: unknown certificate version\n", b"pocsag: unknown certificate version\n"),
-        ]
-        for name, given, fault, fault_always in certificates:
-            for always, due in (([], fault), (["--always"], fault_always)):
-                done = read_back(folder, end, always, cert=given)
-                wanted = (1, told, due) if due else (0, told + b"verified\n", b"")
-                holds = (done.returncode, done.stdout, done.stderr) == wanted
-                tally.check(f"{name} read back, {end} {always}", holds, done)
-        try_read_back_transmissions(tally, folder, end, told)
-
-
-def try_read_back_transmissions(tally, folder, end, told):
-    """Transmissions of other pages in the place of the one that was written."""
-    others = [
-        ("another digit", ROUND.replace(b",1", b",2", 1)),
-        ("another address", ROUND.replace(b"3,num", b"11,num")),
-        ("a page less", ROUND[: ROUND.index(b"3,num")]),
-        ("a page more", ROUND + b"8,tone0,\n"),
-        ("another function", HEADER + b"0,alpha,a\n3,numeric," + b"1" * 75 + b"\n"),
-    ]
-    run(["plan", "pages.csv", "tx.bin", "cert.bin", "--end", end], folder)
-    sent = (folder / "tx.bin").read_bytes()
-    cases = [("what was written", sent, b""), ("a preamble more", b"\xaa" * 9 + sent, b"")]
-    cases += [("cut short", sent[:-1], b"pocsag: the transmission is cut short\n")]
-    cases += [("a batch more", sent + bytes.fromhex(SYNC + 16 * IDLE), NOT_THE_BOUND)]
-    cases += [("two batches more", sent + 2 * bytes.fromhex(SYNC + 16 * IDLE), NOT_THE_BOUND)]
-    for name, text in others:
-        (folder / "other.csv").write_bytes(text)
-        run(["plan", "other.csv", "tx.bin", "cert.bin", "--end", end], folder)
-        cases.append((name, (folder / "tx.bin").read_bytes(), NOT_THE_PAGES))
-    for name, given, fault in cases:
-        for always in ([], ["--always"]):
-            is_taken = not fault or always and name == "a batch more"
-            done = read_back(folder, end, always, tx=given)
-            wanted = (0, told + b"verified\n", b"") if is_taken else (1, told, fault)
-            holds = (done.returncode, done.stdout, done.stderr) == wanted
-            tally.check(f"{name} read back, {end} {always}", holds, (done, wanted))
-
-
-PARTS = (try_hundreds, try_largest_files, try_read_back)
+PARTS = (try_hundreds, try_largest_files, try_default_limit)

@@ -319,7 +319,7 @@ def try_files(tally, folder):
         done = run(["plan", *words], folder)
         holds = done.returncode == status and done.stderr == told and done.stdout == b""
         tally.check(name, holds and pages.read_bytes() == kept, done)
-        if words[0] != "pages.csv" or told == named_twice:
+        if told != cannot_write:
             tally.check(f"{name}: nothing emptied", (folder / "tx.bin").read_bytes() == b"older")
     (folder / "huge.csv").unlink(missing_ok=True)
     with open(folder / "huge.csv", "wb") as huge:
@@ -463,18 +463,6 @@ def try_receivers(tally, folder):
     tx.unlink()
 
 
-def try_verify(tally, folder):
-    """`--verify` on devices that lose what they take."""
-    (folder / "pages.csv").write_bytes(HEADER + b"8,tone0,\n")
-    done = run(["plan", "pages.csv", "/dev/null", "cert.bin", "--verify"], folder)
-    told = b"pocsag: the preamble is too short\n"
-    holds = (done.returncode, done.stdout, done.stderr) == (1, b"pages 1\nbatches 1\n", told)
-    tally.check("a lost transmission is not verified", holds, done)
-    done = run(["plan", "pages.csv", "tx.bin", "/dev/null", "--verify"], folder)
-    told = b"pocsag: the certificate is cut short\n"
-    tally.check("a lost certificate is not verified", (done.returncode, done.stderr) == (1, told), done)
-
-
 def try_words(tally, folder):
     usage = [
         ["plan"], ["plan", "a"], ["plan", "a", "b"], ["plan", "a", "b", "c", "d"], ["bogus"], ["--bogus"],
@@ -490,6 +478,9 @@ def try_words(tally, folder):
     for words in (["--help"], ["-h"], ["help"], *([name, "--help"] for name in commands), *(["help", name] for name in commands)):
         done = run(words, folder)
         tally.check(f"help {words}", done.returncode == 0 and done.stderr == b"" and b"Usage: pocsag" in done.stdout, done)
+    for words in (["--help"], *([name, "--help"] for name in (*commands, "show", "open"))):
+        long = [line for line in run(words, folder).stdout.decode().splitlines() if len(line) > 100]
+        tally.check(f"help {words} in 100 columns", not long, long)
     for words in (["--help"], ["help", "plan"], ["--version"]):
         with open("/dev/full", "wb") as full:
             done = subprocess.run([str(PROGRAM), *words], stdout=full, stderr=subprocess.PIPE, cwd=folder, timeout=60)
@@ -497,7 +488,9 @@ def try_words(tally, folder):
     help_text = run(["--help"], folder).stdout
     for shown in (b"Example:", b"tone0", b"numeric", b"alpha", b"20000 pages", b"standard input", b"2097151", b"268435456"):
         tally.check(f"help shows {shown}", shown in help_text, help_text)
-    tally.check("help of plan shows an example", b"Example:" in run(["plan", "--help"], folder).stdout)
+    help_text = b" ".join(run(["plan", "--help"], folder).stdout.split())
+    for shown in (b"Example:", b"20000 of a first", b"an idle or an address codeword", b"after a refusal they are empty"):
+        tally.check(f"help of plan shows {shown}", shown in help_text, help_text)
     done = run(["--version"], folder)
     holds = done.returncode == 0 and done.stdout.startswith(b"pocsag ") and done.stderr == b""
     tally.check("version", holds, done)
@@ -516,7 +509,6 @@ def main():
         try_files,
         try_check,
         try_receivers,
-        try_verify,
         try_words,
         *edges.PARTS,
         *options.PARTS,

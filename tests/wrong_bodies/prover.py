@@ -49,9 +49,11 @@ class Said:
         self.has_verdict = bool(verdict) or any(it.startswith("only=") for it in self.lines)
         self.is_proved = bool(verdict) and verdict[-1].startswith("logic=proved ")
         self.places = []  # of each goal that is open and each error: path, line from 0, what is said
-        for found in filter(None, map(PLACE.match, self.lines)):
-            if found[3].startswith("error") or "it is not proved that" in found[3]:
-                self.places.append((found[1], int(found[2]) - 1, found[3]))
+        for number, line in enumerate(self.lines):
+            found = PLACE.match(line)
+            if found and (found[3].startswith("error") or "it is not proved that" in found[3]):
+                more = [it.strip() for it in self.lines[number + 1:number + 2] if it.startswith("  ")]
+                self.places.append((found[1], int(found[2]) - 1, " ".join([found[3], *more])))
 
     def refused(self):
         """The names of all functions whose own goals were not proved."""

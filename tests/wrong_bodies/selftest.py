@@ -1,8 +1,11 @@
 #!/usr/bin/env python3
 """Shows that trying wrong bodies in rounds is no weaker than trying them one by one.
 
-In a copy of the repository's lowest two crates, the wrong bodies of pocsag_text are tried both ways, by `rt
-must-fail` and in rounds, and must be refused both ways. Among them stand a body that is right, one that does not
+  python3 tests/wrong_bodies/selftest.py         with each fourth wrong body of pocsag_text
+  python3 tests/wrong_bodies/selftest.py --all   with all of them
+
+In a copy of the repository's lowest two crates, wrong bodies of pocsag_text are tried both ways, by `rt must-fail`
+and in rounds, and must be refused both ways. Among them stand a body that is right, one that does not
 compile and one that only no longer fits its proof file, which the rounds must report by name. That a body which
 spoils a check without naming a line is found by halving is shown with a prover that is played.
 The last line is 'N passed, M failed'.
@@ -48,7 +51,8 @@ def copied(top):
     (top / "crates.txt").write_text("".join(f"{it.line}\n" for it in [*crate.below, crate]))
     folder = top / "crates" / CRATE / "must-fail"
     folder.mkdir()
-    for file in [file for it in crate.folders for file in it.glob("*.edit")]:
+    files = sorted(file for it in crate.folders for file in it.glob("*.edit"))
+    for file in files[::1 if "--all" in sys.argv else 4]:
         shutil.copy(file, folder)
     for name, (path, pairs) in PLANTED.items():
         text = "".join(f"old: {old}\nnew: {new}\n" for old, new in pairs)

@@ -1,14 +1,23 @@
 use crate::devices::{ReaderSource, WriterSink};
 use crate::paths::{Named, name_one_file, refuse_equal};
+use crate::streams::{Input, Output};
 use pocsag_commands::Fault;
 use pocsag_open::{Outputs, Places};
 use std::alloc::Global;
-use std::fs::{self, OpenFile};
+use std::fs::{self, File, OpenFile, OpenOptions};
 use std::io::{self, BufReader, ErrorKind};
 use std::rt::Files;
 
-// What a refusal to open or to make a file is told as: want of memory is told as such.
-fn fault_of(error: io::Error) -> Fault {
+/// The word that names no path: standard input or standard output.
+pub const STANDARD: &str = "-";
+
+/// The path that a word is, unless it names a standard stream.
+pub fn path_of(word: &str) -> Option<&str> {
+    if word == STANDARD { None } else { Some(word) }
+}
+
+/// What a refusal to open or to make a file is told as: want of memory is told as such.
+pub fn fault_of(error: io::Error) -> Fault {
     if error.kind() == ErrorKind::OutOfMemory {
         Fault::OutOfMemory
     } else {
@@ -26,75 +35,105 @@ fn open_file<R: Files>(rt: &R, path: &str) -> Result<R::File, Fault> {
     Ok(file)
 }
 
-/// Opens a file to read it.
-pub fn open_source<R: Files>(rt: &R, path: &str) -> Result<ReaderSource<R::File>, Fault> {
-    Ok(ReaderSource::new(open_file(rt, path)?))
+fn open_input(rt: &HostRuntime, path: Option<&str>) -> Result<Input<File>, Fault> {
+    match path {
+        Some(path) => Ok(Input::File(open_file(rt, path)?)),
+        None => Ok(Input::Standard(rt.stdin())),
+    }
 }
 
-/// Opens a file that is read a few bytes at a time.
-pub fn open_buffered<R: Files>(
-    rt: &R,
+/// Opens a file to read it, or standard input where there is no path.
+pub fn open_source(
+    rt: &HostRuntime,
+    path: Option<&str>,
+) -> Result<ReaderSource<Input<File>>, Fault> {
+    Ok(ReaderSource::new(open_input(rt, path)?))
+}
+
+/// The same, of what is read a few bytes at a time.
+pub fn open_buffered(
+    rt: &HostRuntime,
     alloc: Global,
-    path: &str,
-) -> Result<ReaderSource<BufReader<R::File>>, Fault> {
-    let reader = BufReader::new(alloc, open_file(rt, path)?).map_err(fault_of)?;
+    path: Option<&str>,
+) -> Result<ReaderSource<BufReader<Input<File>>>, Fault> {
+    let reader = BufReader::new(alloc, open_input(rt, path)?).map_err(fault_of)?;
     Ok(ReaderSource::new(reader))
 }
 
-// Empties or makes a file to write it.
-fn make_sink<R: Files>(rt: &R, path: &str) -> Result<WriterSink<R::File>, Fault> {
-    let file = fs::create(rt, path).map_err(fault_of)?;
-    Ok(WriterSink::new(file))
+// Opens or makes a file to write it, and leaves what it holds; or standard output.
+fn open_output(rt: &HostRuntime, word: &str) -> Result<Output<File>, Fault> {
+    let Some(path) = path_of(word) else {
+        return Ok(Output::Standard(rt.stdout()));
+    };
+    let mut options = OpenOptions::new();
+    options.write(true).create(true);
+    Ok(Output::File(options.open(rt, path).map_err(fault_of)?))
 }
 
-/// Empties or makes the two files that a command writes. Where two of the three paths, of which that of a
-/// page file may be absent, name one file, whatever their spelling, none that was there is emptied.
-pub fn make_outputs<R: Files>(
-    rt: &R,
+// Empties a regular file; nothing else holds what was written before.
+fn emptied(output: Output<File>) -> Result<WriterSink<Output<File>>, Fault> {
+    match &output {
+        Output::File(file) => {
+            if file.metadata().map_err(fault_of)?.is_file() {
+                file.set_len(0).map_err(fault_of)?;
+            }
+        }
+        Output::Standard(_) => {}
+    }
+    Ok(WriterSink::new(output))
+}
+
+/// Opens or makes the two files that a command writes, and empties them once both could be opened. Where two
+/// of the three paths, of which that of a page file may be absent, name one file, whatever their spelling,
+/// none that was there is emptied.
+pub fn make_outputs(
+    rt: &HostRuntime,
     pages: Option<&str>,
     tx: &str,
     cert: &str,
-) -> Result<Outputs<WriterSink<R::File>>, Fault> {
+) -> Result<Outputs<WriterSink<Output<File>>>, Fault> {
     refuse_one_file(rt, pages, tx, cert)?;
-    let made = make_sink(rt, tx)?;
+    let opened_tx = open_output(rt, tx)?;
     // A path that named no file before may be another spelling of the one that was made.
     refuse_one_file(rt, pages, tx, cert)?;
+    let opened_cert = open_output(rt, cert)?;
     Ok(Outputs {
-        tx: made,
-        cert: make_sink(rt, cert)?,
+        tx: emptied(opened_tx)?,
+        cert: emptied(opened_cert)?,
     })
 }
 
-fn refuse_one_file<R: Files>(
+/// Refuses words of which two name one file, whatever their spelling.
+pub fn refuse_one_file<R: Files>(
     rt: &R,
     pages: Option<&str>,
     tx: &str,
     cert: &str,
 ) -> Result<(), Fault> {
-    let pages = match pages {
-        Some(path) => Named::at(rt, path),
-        None => None,
-    };
-    if name_one_file(&[pages, Named::at(rt, tx), Named::at(rt, cert)]) {
+    let named = [pages, path_of(tx), path_of(cert)].map(|path| Named::at(rt, path?));
+    if name_one_file(&named) {
         return Err(Fault::EqualPaths);
     }
     Ok(())
 }
 
 /// The files that the plans of an open round are written to, none of which is the page file that the round
-/// began with.
+/// began with, and none standard output, which the answers take.
 #[derive(Drop)]
-pub struct RoundFiles<'a, R: Files> {
-    pub rt: &'a R,
+pub struct RoundFiles<'a> {
+    pub rt: &'a HostRuntime,
     /// The path of that page file, if there is one.
     pub pages: Option<&'a str>,
 }
 
-impl<R: Files> Places for RoundFiles<'_, R> {
-    type Output = WriterSink<R::File>;
+impl Places for RoundFiles<'_> {
+    type Output = WriterSink<Output<File>>;
 
-    fn make(&self, tx: &str, cert: &str) -> Result<Outputs<WriterSink<R::File>>, Fault> {
+    fn make(&self, tx: &str, cert: &str) -> Result<Outputs<WriterSink<Output<File>>>, Fault> {
         refuse_equal(self.pages, tx, cert)?;
+        if tx == STANDARD || cert == STANDARD {
+            return Err(Fault::EqualPaths);
+        }
         make_outputs(self.rt, self.pages, tx, cert)
     }
 }

@@ -3,8 +3,12 @@
 
 mod devices;
 mod files;
+mod keeping;
+mod misuse;
 mod obeying;
 mod paths;
+mod planning;
+mod streams;
 mod words;
 
 use crate::devices::WriterSink;

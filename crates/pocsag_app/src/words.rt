@@ -1,39 +1,34 @@
+use crate::files::path_of;
 use clap::error::ErrorKind;
 use clap::{Arg, ArgAction, ArgMatches, Command, Error, value_parser};
 use pocsag_commands::View;
 use pocsag_words::End;
 use std::alloc::{AllocError, Global};
 
-/// What the command line asks for.
+/// What the command line asks for. Where a command reads standard input in place of a file, there is no path.
 #[derive(Clone, Copy, PartialEq, Eq, Debug)]
 pub enum Order<'a> {
     /// No words: a page file from standard input.
     Input,
-    /// `plan PAGES TX CERT`: the paths, how it is searched, and whether the files are read back.
-    Plan {
-        pages: &'a str,
-        tx: &'a str,
-        cert: &'a str,
-        search: Search,
-        verify: bool,
-    },
+    /// `plan PAGES TX CERT`.
+    Plan(PlanOrder<'a>),
     /// `check PAGES CERT`: the paths of the page file and of the certificate.
     Check {
-        pages: &'a str,
-        cert: &'a str,
+        pages: Option<&'a str>,
+        cert: Option<&'a str>,
     },
     /// `decode TX`: the path of the transmission.
     Decode {
-        tx: &'a str,
+        tx: Option<&'a str>,
     },
     /// `hear ADDRESS TX`: a pager's address, and the path of the transmission.
     Hear {
         address: u32,
-        tx: &'a str,
+        tx: Option<&'a str>,
     },
     /// `show TX`: the path of the transmission, and how it is shown.
     Show {
-        tx: &'a str,
+        tx: Option<&'a str>,
         view: View,
     },
     /// `open`, or `open PAGES`: an open round, the path of the page file that it begins with, and whether
@@ -44,10 +39,25 @@ pub enum Order<'a> {
     },
     /// `report PAGES`: the path of the page file, the rate, and how the plan is searched.
     Report {
-        pages: &'a str,
+        pages: Option<&'a str>,
         rate: u32,
         search: Search,
     },
+}
+
+/// What `plan` is asked for.
+#[derive(Clone, Copy, PartialEq, Eq, Debug)]
+pub struct PlanOrder<'a> {
+    /// The path of the page file.
+    pub pages: Option<&'a str>,
+    /// The words for the transmission and for the certificate, of which one may name standard output.
+    pub tx: &'a str,
+    pub cert: &'a str,
+    pub search: Search,
+    /// Whether the files are read back.
+    pub verify: bool,
+    /// Whether what stands there before is kept until both files are whole.
+    pub keep: bool,
 }
 
 /// How a plan is searched: the node limit, the end, and whether each round is answered.
@@ -90,6 +100,8 @@ const END: &str = "end";
 
 const VERIFY: &str = "verify";
 
+const KEEP: &str = "keep";
+
 const ALWAYS: &str = "always";
 
 const SVG: &str = "svg";
@@ -105,8 +117,9 @@ const ENDS: &[&str] = &[OPEN, CLOSED];
 // The product, and the toolchain that proved it: the line of `rt version`.
 const VERSION: &str = "0.1.0, proved by rattle-kit-13b logic dac8208d650f15bf";
 
-const ABOUT: &str =
-    "Plans POCSAG transmissions with the fewest batches, and proves that fewer do not suffice. With no words: reads a page file from standard input and tells its pages and fewest batches";
+const ABOUT: &str = "\
+Plans POCSAG transmissions with the fewest batches, and proves that fewer do not suffice.
+With no words: reads a page file from standard input and tells its pages and fewest batches";
 
 const MANUAL: &str = "\
 Page files are CSV with the header address,kind,message. Kinds of pages:
@@ -124,8 +137,10 @@ Example:
 
 const PLAN_MANUAL: &str = "\
 The page file is CSV with the header address,kind,message. TX and CERT are made, or
-emptied once the page file could be opened. Where the search reaches its limit the round
-is refused. With --always every round is answered: nearly always with the fewest batches,
+emptied once all three files could be opened: after a refusal they are empty, unless
+--keep is given. '-' as PAGES is standard input, and as TX or CERT standard output: the
+lines then go to standard error. Where the search reaches its limit the round is refused.
+With --always every round is answered: nearly always with the fewest batches,
 and else with one more than the certificate shows to be needed, which a third line tells,
 'at least N batches'.
 
@@ -160,6 +175,23 @@ Example:
 
 const PAGES_HELP: &str = "The page file, CSV with the header address,kind,message";
 
+const LIMIT_HELP: &str = "\
+How many nodes the search may examine, 1 to 1000000;
+up to 20000 of a first, quick look are not counted";
+
+const END_HELP: &str = "\
+What ends the last message: the end of the transmission itself
+(open), or an idle or an address codeword behind it
+(closed)";
+
+const ALWAYS_HELP: &str = "\
+Answers every round: where the limit is reached, with one batch
+more than is shown to be needed";
+
+const KEEP_HELP: &str = "\
+Keeps what stands at TX and CERT until both are written whole,
+and puts them there by renaming, CERT first";
+
 const TX_HELP: &str = "The transmission";
 
 const CERT_HELP: &str = "The certificate";
@@ -173,44 +205,33 @@ fn option<'a>(alloc: Global, id: &'a str, value: &'a str, help: &'a str) -> Arg<
 }
 
 fn limit_option<'a>(alloc: Global) -> Arg<'a> {
-    option(
-        alloc,
-        LIMIT,
-        "N",
-        "How many nodes the search may examine, 1 to 1000000",
-    )
-    .value_parser(value_parser!(u32))
-    .default_value("100000")
+    option(alloc, LIMIT, "N", LIMIT_HELP)
+        .value_parser(value_parser!(u32))
+        .default_value("100000")
 }
 
 fn end_option<'a>(alloc: Global) -> Arg<'a> {
-    option(
-        alloc,
-        END,
-        "END",
-        "How the last message ends: by the end of the transmission, or inside it",
-    )
-    .value_parser(ENDS)
-    .default_value(OPEN)
+    option(alloc, END, "END", END_HELP)
+        .value_parser(ENDS)
+        .default_value(OPEN)
 }
 
 fn always_flag<'a>(alloc: Global) -> Arg<'a> {
-    Arg::new(alloc, ALWAYS)
-        .long(ALWAYS)
+    flag(alloc, ALWAYS, ALWAYS_HELP)
+}
+
+fn flag<'a>(alloc: Global, id: &'a str, help: &'a str) -> Arg<'a> {
+    Arg::new(alloc, id)
+        .long(id)
         .action(ArgAction::SetTrue)
-        .help(
-            "Answers every round, where the limit is reached with one batch more than is shown to be needed",
-        )
+        .help(help)
 }
 
 fn plan_command<'a>(alloc: Global) -> Result<Command<'a>, AllocError> {
-    let verify = Arg::new(alloc, VERIFY)
-        .long(VERIFY)
-        .action(ArgAction::SetTrue)
-        .help("Reads TX and CERT back, and compares them with the page file");
     Command::new(alloc, PLAN)
         .about(
-            "Writes the transmission of a page file with the fewest batches, and the certificate of that",
+            "\
+Writes a page file's transmission with the fewest batches, and the certificate of that",
         )
         .after_help(PLAN_MANUAL)
         .arg(positional(alloc, PAGES, PAGES_HELP))?
@@ -219,7 +240,12 @@ fn plan_command<'a>(alloc: Global) -> Result<Command<'a>, AllocError> {
         .arg(limit_option(alloc))?
         .arg(end_option(alloc))?
         .arg(always_flag(alloc))?
-        .arg(verify)
+        .arg(flag(
+            alloc,
+            VERIFY,
+            "Reads TX and CERT back, and compares them with the page file",
+        ))?
+        .arg(flag(alloc, KEEP, KEEP_HELP))
 }
 
 fn check_command<'a>(alloc: Global) -> Result<Command<'a>, AllocError> {
@@ -243,27 +269,20 @@ fn hear_command<'a>(alloc: Global) -> Result<Command<'a>, AllocError> {
     );
     Command::new(alloc, HEAR)
         .about(
-            "Lists what the pager of an address shows of a transmission, past two wrong bits in each codeword",
+            "\
+Lists what the pager of an address shows, past two wrong bits in each codeword",
         )
         .arg(address)?
         .arg(positional(alloc, TX, TX_HELP))
 }
 
 fn show_command<'a>(alloc: Global) -> Result<Command<'a>, AllocError> {
-    let svg = Arg::new(alloc, SVG)
-        .long(SVG)
-        .action(ArgAction::SetTrue)
-        .help("Draws it as an SVG picture");
-    let list = Arg::new(alloc, LIST)
-        .long(LIST)
-        .action(ArgAction::SetTrue)
-        .conflicts_with(SVG)?
-        .help("Lists where each page stands, as CSV");
+    let list = flag(alloc, LIST, "Lists where each page stands, as CSV").conflicts_with(SVG)?;
     Command::new(alloc, SHOW)
         .about("Shows what a transmission looks like, codeword by codeword")
         .after_help(SHOW_MANUAL)
         .arg(positional(alloc, TX, TX_HELP))?
-        .arg(svg)?
+        .arg(flag(alloc, SVG, "Draws it as an SVG picture"))?
         .arg(list)
 }
 
@@ -320,26 +339,27 @@ fn search_of(found: &ArgMatches<'_>) -> Option<Search> {
 }
 
 fn plan_order<'a>(found: &ArgMatches<'a>) -> Option<Order<'a>> {
-    Some(Order::Plan {
-        pages: found.get_str(PAGES)?,
+    Some(Order::Plan(PlanOrder {
+        pages: path_of(found.get_str(PAGES)?),
         tx: found.get_str(TX)?,
         cert: found.get_str(CERT)?,
         search: search_of(found)?,
         verify: found.get_flag(VERIFY),
-    })
+        keep: found.get_flag(KEEP),
+    }))
 }
 
 fn check_order<'a>(found: &ArgMatches<'a>) -> Option<Order<'a>> {
     Some(Order::Check {
-        pages: found.get_str(PAGES)?,
-        cert: found.get_str(CERT)?,
+        pages: path_of(found.get_str(PAGES)?),
+        cert: path_of(found.get_str(CERT)?),
     })
 }
 
 fn hear_order<'a>(found: &ArgMatches<'a>) -> Option<Order<'a>> {
     Some(Order::Hear {
         address: found.get_one::<u32>(ADDRESS)?,
-        tx: found.get_str(TX)?,
+        tx: path_of(found.get_str(TX)?),
     })
 }
 
@@ -352,14 +372,14 @@ fn show_order<'a>(found: &ArgMatches<'a>) -> Option<Order<'a>> {
         View::Grid
     };
     Some(Order::Show {
-        tx: found.get_str(TX)?,
+        tx: path_of(found.get_str(TX)?),
         view,
     })
 }
 
 fn report_order<'a>(found: &ArgMatches<'a>) -> Option<Order<'a>> {
     Some(Order::Report {
-        pages: found.get_str(PAGES)?,
+        pages: path_of(found.get_str(PAGES)?),
         rate: found.get_one::<u32>(RATE)?,
         search: search_of(found)?,
     })
@@ -374,7 +394,7 @@ fn order_from<'a>(matches: &ArgMatches<'a>) -> Option<Order<'a>> {
         PLAN => plan_order(found),
         CHECK => check_order(found),
         DECODE => Some(Order::Decode {
-            tx: found.get_str(TX)?,
+            tx: path_of(found.get_str(TX)?),
         }),
         HEAR => hear_order(found),
         SHOW => show_order(found),

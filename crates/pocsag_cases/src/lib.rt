@@ -5,6 +5,8 @@
 #[cfg(test)]
 mod batch_tests;
 #[cfg(test)]
+mod book_tests;
+#[cfg(test)]
 mod branch_tests;
 #[cfg(test)]
 mod check_tests;

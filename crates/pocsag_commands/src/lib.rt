@@ -13,7 +13,7 @@ mod verifying;
 mod view;
 
 pub use always::{run_plan_always, run_report_always};
-pub use checking::run_check;
+pub use checking::{Judged, judge_certificate, run_check};
 pub use commands::{DEFAULT_LIMIT, run_input, run_plan, run_report};
 pub use fault::Fault;
 pub use receiving::{TRANSMISSION_LIMIT, run_decode, run_hear};

@@ -22,7 +22,8 @@ use std::alloc::Global;
 pub fn plan_always(alloc: Global, round: &Round, limit: u32, end: End) -> Result<Bounded, PlanFault>
     ensures plan { IfOk result (λ bounded. IsBounded end round.now bounded.plan bounded.bound) }
     // Where the bound is the batches, they are the fewest.
-    ensures fewest { IfOk result (λ bounded. bounded.bound ≡ bounded.plan.batches → NoneHasFewer end round.now bounded.plan.batches) }
+    ensures fewest { IfOk result (λ bounded. bounded.bound ≡ bounded.plan.batches →
+        NoneHasFewer end round.now bounded.plan.batches) }
     ensures small { IfOk result (λ bounded. closed_nodes (bound_of bounded.plan.tree) ≤ limit) }
     ensures bad_limit { IsErrOf result PlanFault.BadLimit ↔ (¬ IsNodeLimit limit) }
     ensures fault { IfErr result (ExplainsAlways limit) }

@@ -48,7 +48,8 @@ impl Book {
         ensures round { OnOk result (IsRound self.now) }
         ensures plan { IfOk result (λ bounded. IsBounded end self.now bounded.plan bounded.bound) }
         // Where the bound is the batches, they are the fewest.
-        ensures fewest { IfOk result (λ bounded. bounded.bound ≡ bounded.plan.batches → NoneHasFewer end self.now bounded.plan.batches) }
+        ensures fewest { IfOk result (λ bounded. bounded.bound ≡ bounded.plan.batches →
+            NoneHasFewer end self.now bounded.plan.batches) }
         ensures small { IfOk result (λ bounded. closed_nodes (bound_of bounded.plan.tree) ≤ limit) }
         ensures bad_limit { IsErrOf result BookFault.BadLimit ↔ (¬ IsNodeLimit limit) }
         ensures no_pages { IsErrOf result BookFault.NoPages ↔ (IsNodeLimit limit × (self.now ≡ [])) }
@@ -73,7 +74,8 @@ impl Book {
             WritesAllOf (RoundHeadline self.now end bounded.plan.batches bounded.bound (bound_of bounded.plan.tree))
             (T.taken tx.old) (T.taken tx.new) (C.taken cert.old) (C.taken cert.new)) }
         ensures fewest { T.tells → C.tells → IfOk result (λ bounded. bounded.bound ≡ bounded.plan.batches →
-            WritesAllOf (RoundHeadline self.now end bounded.plan.batches bounded.plan.batches (bound_of bounded.plan.tree))
+            WritesAllOf
+            (RoundHeadline self.now end bounded.plan.batches bounded.plan.batches (bound_of bounded.plan.tree))
             (T.taken tx.old) (T.taken tx.new) (C.taken cert.old) (C.taken cert.new)) }
         ensures plan { IfOk result (λ bounded. IsBounded end self.now bounded.plan bounded.bound) }
         ensures small { IfOk result (λ bounded. closed_nodes (bound_of bounded.plan.tree) ≤ limit) }

@@ -31,9 +31,11 @@ pub fn plan_stream_always<S: Source, T: Sink, C: Sink>(
 ) -> Result<Bounded, StreamFault>
     // The headline with a bound; and where the bound is the batches, the headline.
     ensures headline { S.tells → T.tells → C.tells → IfOk result (λ bounded.
-        WritesBounded (S.held source.old) end bounded.plan.batches bounded.bound (bound_of bounded.plan.tree) (T.taken tx.old) (T.taken tx.new) (C.taken cert.old) (C.taken cert.new)) }
+        WritesBounded (S.held source.old) end bounded.plan.batches bounded.bound (bound_of bounded.plan.tree)
+        (T.taken tx.old) (T.taken tx.new) (C.taken cert.old) (C.taken cert.new)) }
     ensures fewest { S.tells → T.tells → C.tells → IfOk result (λ bounded. bounded.bound ≡ bounded.plan.batches →
-        Writes (S.held source.old) end bounded.plan.batches (bound_of bounded.plan.tree) (T.taken tx.old) (T.taken tx.new) (C.taken cert.old) (C.taken cert.new)) }
+        Writes (S.held source.old) end bounded.plan.batches (bound_of bounded.plan.tree)
+        (T.taken tx.old) (T.taken tx.new) (C.taken cert.old) (C.taken cert.new)) }
     ensures plan { S.tells → IfOk result (IsBoundedOf (S.held source.old) end) }
     ensures small { IfOk result (λ bounded. closed_nodes (bound_of bounded.plan.tree) ≤ limit) }
 
@@ -46,10 +48,12 @@ pub fn plan_stream_always<S: Source, T: Sink, C: Sink>(
     ensures part { S.tells → T.tells → IfErr result (λ e. IsTransmission e →
         WritesBoundedPart (S.held source.old) end (T.taken tx.old) (T.taken tx.new)) }
     ensures certificate_part { S.tells → T.tells → C.tells → IfErr result (λ e. IsCertificate e →
-        WritesBoundedCertificatePart (S.held source.old) end (T.taken tx.old) (T.taken tx.new) (C.taken cert.old) (C.taken cert.new)) }
+        WritesBoundedCertificatePart (S.held source.old) end
+        (T.taken tx.old) (T.taken tx.new) (C.taken cert.old) (C.taken cert.new)) }
 
     // The reader's fault is answered only where it failed.
-    ensures read_failed { IsErrOf result (fault.Round round_fault.ReadFault) → HasFailed (S.failures source.old) (S.failures source.new) }
+    ensures read_failed { IsErrOf result (fault.Round round_fault.ReadFault) →
+        HasFailed (S.failures source.old) (S.failures source.new) }
     ensures read_succeeded { OnOk result (S.failures source.new ≡ S.failures source.old) }
 {
     if !is_node_limit(limit) {

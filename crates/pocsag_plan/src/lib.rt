@@ -8,13 +8,9 @@ mod always_closing;
 mod always_streaming;
 mod answer;
 mod book;
-#[cfg(test)]
-mod book_tests;
 mod bounded;
 mod closing;
 mod edit;
-#[cfg(test)]
-mod examples;
 mod fault;
 mod laws;
 mod planning;

@@ -114,7 +114,8 @@ pub(crate) fn completed(
     requires counted { AreClassesOf classes.now end round.now }
     requires within { IsWithinOne classes.now end limit within.bound within.found }
     ensures plan { IfOk result (λ bounded. IsBounded end round.now bounded.plan bounded.bound) }
-    ensures bound { IfOk result (λ bounded. (bounded.bound ≡ within.bound) × (bounded.plan.batches ≡ within.found.batches)) }
+    ensures bound { IfOk result (λ bounded.
+        (bounded.bound ≡ within.bound) × (bounded.plan.batches ≡ within.found.batches)) }
     ensures tree { IfOk result (λ bounded. bounded.plan.tree ≡ within.found.tree) }
     ensures small { IfOk result (λ bounded. closed_nodes (bound_of bounded.plan.tree) ≤ limit) }
 {

@@ -33,7 +33,8 @@ pub fn plan_stream<S: Source, T: Sink, C: Sink>(
 ) -> Result<Plan, StreamFault>
     // The headline.
     ensures headline { S.tells → T.tells → C.tells → IfOk result (λ plan.
-        Writes (S.held source.old) end plan.batches (bound_of plan.tree) (T.taken tx.old) (T.taken tx.new) (C.taken cert.old) (C.taken cert.new)) }
+        Writes (S.held source.old) end plan.batches (bound_of plan.tree)
+        (T.taken tx.old) (T.taken tx.new) (C.taken cert.old) (C.taken cert.new)) }
     ensures plan { S.tells → IfOk result (IsPlanOf (S.held source.old) end) }
     ensures small { IfOk result (λ plan. closed_nodes (bound_of plan.tree) ≤ limit) }
 
@@ -45,10 +46,12 @@ pub fn plan_stream<S: Source, T: Sink, C: Sink>(
     ensures part { S.tells → T.tells → IfErr result (λ e. IsTransmission e →
         WritesPart (S.held source.old) end (T.taken tx.old) (T.taken tx.new)) }
     ensures certificate_part { S.tells → T.tells → C.tells → IfErr result (λ e. IsCertificate e →
-        WritesCertificatePart (S.held source.old) end (T.taken tx.old) (T.taken tx.new) (C.taken cert.old) (C.taken cert.new)) }
+        WritesCertificatePart (S.held source.old) end
+        (T.taken tx.old) (T.taken tx.new) (C.taken cert.old) (C.taken cert.new)) }
 
     // The reader's fault is answered only where it failed.
-    ensures read_failed { IsErrOf result (fault.Round round_fault.ReadFault) → HasFailed (S.failures source.old) (S.failures source.new) }
+    ensures read_failed { IsErrOf result (fault.Round round_fault.ReadFault) →
+        HasFailed (S.failures source.old) (S.failures source.new) }
     ensures read_succeeded { OnOk result (S.failures source.new ≡ S.failures source.old) }
 {
     if !is_node_limit(limit) {
@@ -102,9 +105,11 @@ pub(crate) fn send<T: Sink, C: Sink>(
         (T.taken tx.old) (T.taken tx.new) (C.taken cert.old) (C.taken cert.new) }
     ensures not_begun { IsErrOf result Unsent.Transmission → cert.new ≡ cert.old }
     ensures failed { IsErrOf result Unsent.Transmission → HasFailed (T.failures tx.old) (T.failures tx.new) }
-    ensures certificate_failed { IsErrOf result Unsent.Certificate → HasFailed (C.failures cert.old) (C.failures cert.new) }
+    ensures certificate_failed { IsErrOf result Unsent.Certificate →
+        HasFailed (C.failures cert.old) (C.failures cert.new) }
     ensures certificate_succeeded { IsErrOf result Unsent.Certificate → T.failures tx.new ≡ T.failures tx.old }
-    ensures succeeded { OnOk result ((T.failures tx.new ≡ T.failures tx.old) × (C.failures cert.new ≡ C.failures cert.old)) }
+    ensures succeeded { OnOk result (
+        (T.failures tx.new ≡ T.failures tx.old) × (C.failures cert.new ≡ C.failures cert.old)) }
 {
     let _pages = round.pages();
     let slots = Slots::new(round, &plan.steps, &plan.order);

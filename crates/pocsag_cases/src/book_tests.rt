@@ -1,0 +1,201 @@
+//! Open rounds.
+
+use crate::given::{IDLE, LONE_TONE, PageRow, SECOND, Sent, transmission};
+use crate::round_of;
+use pocsag_pages::{Page, Payload};
+use pocsag_plan::{AddFault, Book, BookFault, Bounded, Edit, NotThere};
+use pocsag_words::{End, MemorySink};
+use std::alloc::Global;
+use std::process::Abort;
+use std::test::Fail;
+
+fn made(rt: &impl Abort, alloc: Global, row: PageRow) -> Page {
+    let (address, function, items) = row;
+    let items = Vec::from_slice(alloc, items).expect(rt, "memory");
+    Page {
+        address,
+        function,
+        payload: Payload::from_vec(items),
+    }
+}
+
+// Rows of pages that are added to one book, each with its fault.
+const ADDED: &[&[(PageRow, Option<AddFault>)]] = &[
+    &[
+        ((8, 0, &[]), None),
+        ((16, 0, &[]), None),
+        ((8, 0, &[]), Some(AddFault::DuplicateAddress)),
+    ],
+    &[
+        ((2_097_152, 0, &[]), Some(AddFault::BadAddress)),
+        ((2_007_664, 0, &[]), Some(AddFault::ReservedAddress)),
+        ((8, 1, &[0x84c2a]), Some(AddFault::BadPayload)),
+    ],
+];
+
+// A page that is refused is handed back.
+#[test]
+fn pages_added(rt: HostRuntime) {
+    for rows in ADDED {
+        let mut book = Book::new(rt.alloc());
+        for (row, due) in *rows {
+            let count = book.len();
+            match book.add(made(&rt, rt.alloc(), *row)) {
+                Ok(()) => assert_eq!(rt; (book.len(), *due), (count.saturating_add(1), None)),
+                Err(refused) => {
+                    assert_eq!(rt; (book.len(), *due), (count, Some(refused.fault)));
+                    assert_eq!(rt; refused.page, made(&rt, rt.alloc(), *row));
+                }
+            }
+        }
+    }
+}
+
+// Tones that are added, then the addresses that are cancelled and whether they were there, what is left, how many
+// pages classes 81 for the open end and 133 for the closed end count, and the fewest batches.
+const CANCELLED: &[(&[u32], &[(u32, bool)], &[u32], [u32; 2], Option<u32>)] = &[
+    (&[8, 16], &[(8, true), (8, false)], &[16], [0, 0], Some(1)),
+    (&[8, 16], &[(8, true), (16, true)], &[], [0, 0], None),
+    (&[5, 13, 21], &[], &[5, 13, 21], [3, 3], Some(2)),
+    (&[5, 13, 21], &[(13, true)], &[5, 21], [2, 2], Some(1)),
+    (&[5, 13, 21], &[(5, true)], &[13, 21], [2, 2], Some(1)),
+];
+
+fn tones(rt: &impl Abort, alloc: Global, addresses: &[u32]) -> Book {
+    let mut book = Book::new(alloc);
+    for address in addresses {
+        book.add(made(rt, alloc, (*address, 0, &[])))
+            .expect(rt, "added");
+    }
+    book
+}
+
+fn expect_batches(rt: &impl Abort, book: &Book, batches: Option<u32>) {
+    match (book.plan(100_000, End::Open), batches) {
+        (Ok(plan), Some(batches)) => {
+            assert_eq!(rt; (plan.batches, plan.pages as usize), (batches, book.len()));
+        }
+        (Err(BookFault::NoPages), None) => {}
+        _ => assert!(rt; false, "another plan"),
+    }
+}
+
+#[test]
+fn pages_cancelled(rt: HostRuntime) {
+    for (added, cancelled, left, counts, batches) in CANCELLED {
+        let mut book = tones(&rt, rt.alloc(), added);
+        for (address, is_there) in *cancelled {
+            match book.cancel(*address) {
+                Ok(page) => {
+                    assert!(rt; *is_there && page == made(&rt, rt.alloc(), (*address, 0, &[])));
+                }
+                Err(NotThere) => assert!(rt; !*is_there, "{address}"),
+            }
+        }
+        assert_eq!(rt;
+            (book.len(), book.is_empty()),
+            (left.len(), left.is_empty())
+        );
+        for (page, address) in book.pages().iter().zip(left.iter()) {
+            assert_eq!(rt; page.address, *address);
+        }
+        assert!(rt; book.page(left.len()).is_none());
+        let (open, closed) = (book.classes(End::Open), book.classes(End::Closed));
+        assert_eq!(rt; [open.count[81], closed.count[133]], *counts, "{left:?}");
+        assert_eq!(rt; closed.count[81], 0);
+        expect_batches(&rt, &book, *batches);
+    }
+}
+
+fn expect_bound(rt: &impl Abort, answer: Result<Bounded, BookFault>, batches: u32, bound: u32) {
+    match answer {
+        Ok(bounded) => assert_eq!(rt; (bounded.plan.batches, bounded.bound), (batches, bound)),
+        Err(_) => assert!(rt; false, "no plan"),
+    }
+}
+
+// The round of `lone-tone` is sent as one batch, its page early or late.
+const TONE_SENT: [Sent; 2] = [LONE_TONE, (16, IDLE, &[(1, SECOND)])];
+
+#[test]
+fn rounds_reopened(rt: HostRuntime) -> Result<(), Fail> {
+    let alloc = rt.alloc();
+    let round = round_of(alloc, &[(8, 0)]).expect(&rt, "a round");
+    let book = Book::of_round(alloc, &round).expect(&rt, "memory");
+    assert_eq!(rt; book.pages(), round.pages());
+    let mut tx = MemorySink::<400>::new(64, u64::MAX);
+    let mut cert = MemorySink::<100>::new(64, u64::MAX);
+    let plan = book.plan_stream(&mut tx, &mut cert, 100_000, End::Open);
+    assert_eq!(rt; plan.expect(&rt, "a plan").batches, 1);
+    let mut is_due = false;
+    for sent in TONE_SENT {
+        let due = transmission(alloc, sent)?;
+        is_due |= tx.bytes() == due.as_slice();
+    }
+    assert!(rt;
+        is_due
+            && cert
+                .bytes()
+                .starts_with(b"PCB2\x00\x00\x00\x00\x01\x00".as_slice())
+    );
+    Ok(())
+}
+
+#[test]
+fn loops_apart_within_one_batch(rt: HostRuntime) {
+    let alloc = rt.alloc();
+    let round = round_of(alloc, &[(0, 15), (3, 15)]).expect(&rt, "a round");
+    let book = Book::of_round(alloc, &round).expect(&rt, "memory");
+    expect_bound(&rt, book.plan_always(1, End::Open), 3, 2);
+    let mut tx = MemorySink::<400>::new(64, u64::MAX);
+    let mut cert = MemorySink::<100>::new(64, u64::MAX);
+    let answer = book.plan_stream_always(&mut tx, &mut cert, 1, End::Open);
+    let bounded = answer.expect(&rt, "a plan");
+    assert_eq!(rt; (bounded.plan.batches, bounded.bound), (3, 2));
+    assert_eq!(rt; tx.bytes().len(), 72 + 3 * 68);
+    assert!(rt;
+        cert.bytes()
+            .starts_with(b"PCB2\x00\x00\x00\x00\x02\x00".as_slice())
+    );
+    let empty = Book::new(alloc);
+    assert!(rt; matches!(empty.plan_always(1, End::Open), Err(BookFault::NoPages)));
+    assert!(rt; matches!(empty.plan_always(0, End::Open), Err(BookFault::BadLimit)));
+    assert!(rt; matches!(empty.plan(0, End::Open), Err(BookFault::BadLimit)));
+}
+
+#[test]
+fn full_books(rt: HostRuntime) {
+    let alloc = rt.alloc();
+    let mut book = Book::new(alloc);
+    for address in 0..20_000 {
+        book.add(made(&rt, alloc, (address, 0, &[])))
+            .expect(&rt, "added");
+    }
+    assert_eq!(rt; book.len(), 20_000);
+    for (address, due) in [
+        (20_000, AddFault::Full),
+        (19_999, AddFault::DuplicateAddress),
+    ] {
+        match book.add(made(&rt, alloc, (address, 0, &[]))) {
+            Ok(()) => assert!(rt; false, "{address} is added"),
+            Err(refused) => assert_eq!(rt; refused.fault, due),
+        }
+    }
+}
+
+#[test]
+fn edits_in_a_row(rt: HostRuntime) {
+    let alloc = rt.alloc();
+    let mut edits = Vec::new(alloc);
+    for address in [8, 16, 8] {
+        edits
+            .push(Edit::Add(made(&rt, alloc, (address, 0, &[]))))
+            .expect(&rt, "memory");
+    }
+    for _ in 0..2 {
+        edits.push(Edit::Cancel(8)).expect(&rt, "memory");
+    }
+    let mut book = Book::new(alloc);
+    book.edit_all(edits).expect(&rt, "memory");
+    assert_eq!(rt; book.pages(), [made(&rt, alloc, (16, 0, &[]))].as_slice());
+}

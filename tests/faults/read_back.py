@@ -1,0 +1,91 @@
+"""`plan --verify` where a file is read back as other bytes than were written."""
+
+import os
+import subprocess
+import sys
+
+sys.dont_write_bytecode = True
+from tally import PROGRAM
+
+HEADER = b"address,kind,message\n"
+SYNC, IDLE, FIRST, MORE = "7CD215D8", "7A89C197", "00000000", "C44447B9"
+IDLES = bytes.fromhex(SYNC + 16 * IDLE)
+ROUND = HEADER + b"0,numeric," + b"1" * 75 + b"\n3,numeric," + b"1" * 75 + b"\n"
+NOT_THE_PAGES = b"pocsag: the transmission does not hold the pages of the page file\n"
+NOT_THE_BOUND = b"pocsag: the certificate does not show the batches of the transmission\n"
+NOT_THE_END = b"pocsag: the transmission does not end as was asked for\n"
+# The round's pages in three batches, the last message of which goes on to the end.
+OPEN_END = [SYNC, *6 * [IDLE], FIRST, *9 * [MORE], SYNC, *6 * [MORE], *10 * [IDLE], SYNC, FIRST, *15 * [MORE]]
+TOLD = b"pages 2\nbatches 3\n"
+
+
+def run(words, folder, **more):
+    return subprocess.run([str(PROGRAM), *words], capture_output=True, cwd=folder, timeout=60, **more)
+
+
+def read_back(folder, library, end, always, kept, given):
+    """`plan --verify` of the round, where one of its files is read back as other bytes."""
+    (folder / "given").write_bytes(given)
+    environment = dict(os.environ, LD_PRELOAD=str(library), REFUSE_KEPT=kept, REFUSE_GIVEN="given")
+    words = ["plan", "pages.csv", "tx.bin", "cert.bin", "--verify", "--end", end, *always]
+    return run(words, folder, env=environment)
+
+
+def certificate(is_closed, batches, tree):
+    return b"PCB2" + bytes([is_closed]) + batches.to_bytes(4, "big") + bytes.fromhex(tree)
+
+
+def try_read_back(tally, library, folder):
+    """`--verify` of other bytes than were written: taken where they show as much, and else refused as they deserve."""
+    (folder / "pages.csv").write_bytes(ROUND)
+    cut, overloaded = "02 0001 30 0002 00 0001 00 8000", "00 FFFF"
+    no_version = b"pocsag: unknown certificate version\n"
+    for end, is_closed in (("open", False), ("closed", True)):
+        three, two, one = ((is_closed, batches, tree) for batches, tree in ((3, cut), (2, overloaded), (1, overloaded)))
+        certificates = [
+            ("what was written", certificate(*three), b"", b""),
+            ("a certificate for one batch less", certificate(*two), NOT_THE_BOUND, b""),
+            ("a certificate for two batches less", certificate(*one), NOT_THE_BOUND, NOT_THE_BOUND),
+            ("a certificate for one batch more", certificate(is_closed, 4, cut), NOT_THE_BOUND, NOT_THE_BOUND),
+            ("the other end", certificate(not is_closed, 3, cut), NOT_THE_BOUND, NOT_THE_BOUND),
+            ("a tree that is not accepted", certificate(is_closed, 3, overloaded), NOT_THE_BOUND, NOT_THE_BOUND),
+            ("an open tree", certificate(is_closed, 3, "03"), NOT_THE_BOUND, NOT_THE_BOUND),
+            ("no certificate", b"PCB3", no_version, no_version),
+        ]
+        for name, given, fault, fault_always in certificates:
+            for always, due in (([], fault), (["--always"], fault_always)):
+                done = read_back(folder, library, end, always, "cert.bin", given)
+                wanted = (1, TOLD, due) if due else (0, TOLD + b"verified\n", b"")
+                holds = (done.returncode, done.stdout, done.stderr) == wanted
+                tally.check(f"{name} read back, {end} {always}", holds, done)
+        try_transmissions(tally, library, folder, end)
+
+
+def try_transmissions(tally, library, folder, end):
+    """Transmissions of other pages in the place of the one that was written."""
+    others = [
+        ("another digit", ROUND.replace(b",1", b",2", 1)),
+        ("another address", ROUND.replace(b"3,num", b"11,num")),
+        ("a page less", ROUND[: ROUND.index(b"3,num")]),
+        ("a page more", ROUND + b"8,tone0,\n"),
+        ("another function", HEADER + b"0,alpha,a\n3,numeric," + b"1" * 75 + b"\n"),
+    ]
+    run(["plan", "pages.csv", "tx.bin", "cert.bin", "--end", end], folder)
+    sent = (folder / "tx.bin").read_bytes()
+    cases = [("what was written", sent, b""), ("a preamble more", b"\xaa" * 9 + sent, b"")]
+    last_message = b"\xaa" * 72 + bytes.fromhex("".join(OPEN_END))
+    cases += [("a message at the end", last_message, NOT_THE_END if end == "closed" else b"")]
+    cases += [("cut short", sent[:-1], b"pocsag: the transmission is cut short\n")]
+    cases += [("a batch more", sent + IDLES, NOT_THE_BOUND)]
+    cases += [("two batches more", sent + 2 * IDLES, NOT_THE_BOUND)]
+    for name, text in others:
+        (folder / "other.csv").write_bytes(text)
+        run(["plan", "other.csv", "tx.bin", "cert.bin", "--end", end], folder)
+        cases.append((name, (folder / "tx.bin").read_bytes(), NOT_THE_PAGES))
+    for name, given, fault in cases:
+        for always in ([], ["--always"]):
+            is_taken = not fault or always and name == "a batch more"
+            done = read_back(folder, library, end, always, "tx.bin", given)
+            wanted = (0, TOLD + b"verified\n", b"") if is_taken else (1, TOLD, fault)
+            holds = (done.returncode, done.stdout, done.stderr) == wanted
+            tally.check(f"{name} read back, {end} {always}", holds, (done, wanted))

@@ -1,0 +1,269 @@
+#!/usr/bin/env python3
+"""Runs the compiled program as an operator does: `--keep` under kills and refused calls, pipes, terminals, and each
+command of docs/OPERATION.md.
+
+It takes the binary that the gate left in crates/pocsag_app/out; where `strace` is missing, the kills at single system
+calls are left out. The last line is 'N passed, M failed'.
+"""
+
+import os
+import pathlib
+import pty
+import random
+import re
+import shutil
+import signal
+import socket
+import stat
+import subprocess
+import sys
+import time
+
+sys.dont_write_bytecode = True
+sys.path.insert(0, str(pathlib.Path(__file__).resolve().parents[1]))
+from tally import PROGRAM, TOP, run_parts
+
+HEADER = b"address,kind,message\n"
+TONE = HEADER + b"8,tone0,\n"
+APART = HEADER + b"0,numeric," + b"1" * 75 + b"\n3,numeric," + b"1" * 75 + b"\n"
+KILLS = 200
+NAMED_TWICE = b"pocsag: the same file is named twice\n"
+CANNOT_OPEN = b"pocsag: cannot read or open a file\n"
+
+
+def run(words, folder, stdin=b"", **more):
+    return subprocess.run([str(PROGRAM), *words], input=stdin, capture_output=True, cwd=folder, timeout=60, **more)
+
+
+def fresh(folder, name):
+    """An empty folder with two page files, and an older transmission and certificate."""
+    room = folder / name
+    room.mkdir()
+    (room / "pages.csv").write_bytes(TONE)
+    (room / "apart.csv").write_bytes(APART)
+    (room / "bad.csv").write_bytes(HEADER + b"8,tone9,\n")
+    (room / "tx.bin").write_bytes(b"an older transmission")
+    (room / "cert.bin").write_bytes(b"an older certificate")
+    return room
+
+
+def stand(room):
+    return (room / "tx.bin").read_bytes(), (room / "cert.bin").read_bytes()
+
+
+OLD = (b"an older transmission", b"an older certificate")
+
+
+def planned(folder, file, name):
+    """What `plan` writes of a page file, in two files of their own."""
+    room = folder / name
+    room.mkdir()
+    (room / "pages.csv").write_bytes(file)
+    assert run(["plan", "pages.csv", "tx.bin", "cert.bin"], room).returncode == 0
+    return stand(room)
+
+
+def try_keep(tally, folder):
+    """`--keep` where nothing fails, and where something is refused."""
+    room = fresh(folder, "keep")
+    due = planned(folder, TONE, "due")
+    (room / "tx.bin").chmod(0o640)
+    names = set(os.listdir(room))
+    for words in (["plan", "bad.csv"], ["plan", "apart.csv", "--limit", "1"], ["plan", "none.csv"]):
+        done = run([words[0], words[1], "tx.bin", "cert.bin", "--keep", *words[2:]], room)
+        holds = done.returncode in (1, 3) and stand(room) == OLD and set(os.listdir(room)) == names
+        tally.check(f"--keep keeps the old files: {words}", holds, (done, os.listdir(room)))
+    done = run(["plan", "pages.csv", "tx.bin", "none/cert.bin", "--keep"], room)
+    holds = (done.returncode, done.stdout, done.stderr) == (3, b"", CANNOT_OPEN) and stand(room) == OLD
+    tally.check("--keep with a certificate in no folder", holds and set(os.listdir(room)) == names, done)
+    done = run(["plan", "pages.csv", "tx.bin", "cert.bin", "--keep", "--verify"], room)
+    holds = (done.returncode, done.stdout, done.stderr) == (0, b"pages 1\nbatches 1\nverified\n", b"")
+    tally.check("--keep puts both in place", holds and stand(room) == due and set(os.listdir(room)) == names, done)
+    rights = [stat.S_IMODE((room / file).stat().st_mode) for file in ("tx.bin", "cert.bin")]
+    tally.check("--keep keeps the rights", rights[0] == 0o640, rights)
+    done = run(["plan", "pages.csv", "new.bin", "new.cert", "--keep"], room)
+    made = (room / "new.bin").read_bytes(), (room / "new.cert").read_bytes()
+    tally.check("--keep makes new files", done.returncode == 0 and made == due, done)
+    (room / "link.bin").symlink_to("tx.bin")
+    os.mkfifo(room / "fifo")
+    for place in ("link.bin", "fifo", "/dev/null", "-"):
+        for words in (["pages.csv", place, "cert.bin"], ["pages.csv", "tx.bin", place]):
+            done = run(["plan", *words, "--keep"], room)
+            holds = done.returncode == 2 and done.stderr.startswith(b"error: --keep ") and done.stdout == b""
+            tally.check(f"--keep wants a regular file: {words}", holds and stand(room) == due, done)
+    for words in (["pages.csv", "pages.csv", "c"], ["pages.csv", "./pages.csv", "c"], ["pages.csv", "a", "./a"], ["pages.csv", "a", "a"]):
+        done = run(["plan", *words, "--keep"], room)
+        holds = (done.returncode, done.stderr) == (1, NAMED_TWICE) and (room / "pages.csv").read_bytes() == TONE
+        tally.check(f"--keep and one file twice: {words}", holds and not list(room.glob("*.new")), (done, os.listdir(room)))
+
+
+def is_one_of(now, before, due):
+    """Both files are old or new, each whole, and a new transmission never stands beside an old certificate."""
+    sent, shown = now
+    return sent in (before[0], due[0]) and shown in (before[1], due[1]) and (sent != due[0] or shown == due[1])
+
+
+def try_kills(tally, folder):
+    """The program is ended at random moments, while it puts now one plan and now another in place."""
+    room = folder / "kills"
+    room.mkdir()
+    files = [HEADER + b"".join(b"%d,numeric,%d\n" % (k, 10**9 + k + n) for k in range(4000)) for n in (0, 5000)]
+    dues = [planned(folder, file, f"due {n}") for n, file in enumerate(files)]
+    (room / "pages.csv").write_bytes(files[0])
+    words = [str(PROGRAM), "plan", "pages.csv", "tx.bin", "cert.bin", "--keep"]
+    start = time.monotonic()
+    subprocess.run(words, cwd=room, check=True, capture_output=True)
+    whole = time.monotonic() - start
+    chance = random.Random(28)
+    ended = 0
+    for number in range(KILLS):
+        before, due = stand(room), dues[number % 2]
+        (room / "pages.csv").write_bytes(files[number % 2])
+        process = subprocess.Popen(words, cwd=room, stdout=subprocess.DEVNULL, stderr=subprocess.DEVNULL)
+        time.sleep(chance.uniform(0, 1.3 * whole))
+        process.send_signal(chance.choice([signal.SIGKILL, signal.SIGINT, signal.SIGTERM]))
+        ended += process.wait(60) != 0
+        tally.check(f"ended at a random moment, {number}", is_one_of(stand(room), before, due))
+    tally.check("some were ended and some were not", 0 < ended < KILLS, ended)
+
+
+def try_single_calls(tally, folder):
+    """It is ended at each call that makes, synchronises or renames a file, and each of them fails once."""
+    if not shutil.which("strace"):
+        return
+    due = planned(folder, APART, "due apart")
+    for call in ("openat", "fchmod", "fsync", "rename,renameat,renameat2", "write", "unlink,unlinkat"):
+        for fault in ("signal=KILL", "error=EIO"):
+            for number in range(1, 30):
+                room = fresh(folder, f"{call[:6]} {fault} {number}")
+                trace = ["strace", "-f", "-qq", "-o", "trace", "-e", f"trace={call}", "-e", f"inject={call}:{fault}:when={number}"]
+                words = [str(PROGRAM), "plan", "apart.csv", "tx.bin", "cert.bin", "--keep"]
+                done = subprocess.run([*trace, *words], cwd=room, capture_output=True, timeout=60)
+                reached = "INJECTED" in (room / "trace").read_text() or done.returncode < 0 or done.returncode == 137
+                now = stand(room)
+                tally.check(f"{fault} at {call} {number}", is_one_of(now, OLD, due), (done, now))
+                is_done = done.returncode == 0
+                tally.check(f"its status at {fault}, {call} {number}", not is_done or now == due, done)
+                shutil.rmtree(room)
+                if not reached:
+                    break
+
+
+def try_verify(tally, folder):
+    """`--verify` says at once that a pipe or a device cannot be read again."""
+    room = fresh(folder, "verify")
+    os.mkfifo(room / "fifo")
+    for words in (["fifo", "tx.bin", "cert.bin"], ["pages.csv", "fifo", "cert.bin"], ["pages.csv", "tx.bin", "fifo"],
+                  ["/dev/stdin", "tx.bin", "cert.bin"], ["pages.csv", "/dev/stdout", "cert.bin"], ["pages.csv", "/dev/null", "c"],
+                  ["-", "tx.bin", "cert.bin"], ["pages.csv", "-", "cert.bin"], ["pages.csv", "tx.bin", "-"]):
+        done = run(["plan", *words, "--verify"], room, TONE)
+        holds = done.returncode == 2 and done.stdout == b"" and done.stderr.startswith(b"error: --verify ")
+        tally.check(f"--verify wants regular files: {words}", holds and stand(room) == OLD, done)
+    done = run(["plan", "none.csv", "tx.bin", "cert.bin", "--verify"], room)
+    tally.check("--verify of no file", (done.returncode, done.stderr) == (3, CANNOT_OPEN), done)
+
+
+def try_pipes(tally, folder):
+    """`-` is standard input or standard output."""
+    room = fresh(folder, "pipes")
+    due, due_cert = planned(folder, APART, "due pipes")
+    counts = b"pages 2\nbatches 3\n"
+    cases = [
+        (["plan", "-", "-", "c.bin"], APART, 0, due, counts),
+        (["plan", "apart.csv", "-", "c.bin"], b"", 0, due, counts),
+        (["plan", "-", "t.bin", "-"], APART, 0, due_cert, counts),
+        (["plan", "-", "t.bin", "c.bin"], APART, 0, counts, b""),
+        (["plan", "-", "-", "c.bin", "--always"], APART, 0, due, counts),
+        (["plan", "-", "-", "none.bin"], HEADER, 1, b"", b"pocsag: there are no pages\n"),
+        (["plan", "apart.csv", "-", "-"], b"", 1, b"", NAMED_TWICE),
+        (["check", "-", "c.bin"], APART, 0, b"at least 3 batches\n", b""),
+        (["check", "apart.csv", "-"], due_cert, 0, b"at least 3 batches\n", b""),
+        (["check", "-", "-"], APART, 1, b"", NAMED_TWICE),
+        (["open", "-"], APART, 1, b"", NAMED_TWICE),
+    ]
+    for words, given, status, out, err in cases:
+        done = run(words, room, given)
+        tally.check(f"pipes {words}", (done.returncode, done.stdout, done.stderr) == (status, out, err), done)
+    tally.check("nothing is called -", not (room / "-").exists() and (room / "c.bin").read_bytes() == due_cert)
+    (room / "tx.bin").write_bytes(due)
+    for words, given in ((["decode"], due), (["hear", "3"], due), (["show"], due), (["show", "--list"], due), (["report", "--rate", "512"], APART)):
+        file = "apart.csv" if words[0] == "report" else "tx.bin"
+        wanted, done = run([*words, file], room), run([*words, "-"], room, given)
+        holds = wanted.returncode == 0 and (done.returncode, done.stdout, done.stderr) == (0, wanted.stdout, b"")
+        tally.check(f"{words} -", holds, done)
+    ours, theirs = socket.socketpair()
+    process = subprocess.Popen([str(PROGRAM), "plan", "-", "-", "s.bin"], cwd=room, stdin=theirs, stdout=theirs, stderr=subprocess.PIPE)
+    theirs.close()
+    ours.sendall(APART)
+    ours.shutdown(socket.SHUT_WR)
+    got = b""
+    while piece := ours.recv(65536):
+        got += piece
+    tally.check("over one socket", got == due and process.wait(60) == 0 and process.stderr.read() == counts, got)
+    script = f"'{PROGRAM}' plan - - d.bin < apart.csv 2>lines | '{PROGRAM}' decode - > listed && '{PROGRAM}' check - d.bin < listed"
+    done = subprocess.run(["sh", "-c", script], cwd=room, capture_output=True, timeout=60)
+    tally.check("a pipeline", done.stdout == b"at least 3 batches\n" and (room / "lines").read_bytes() == counts, done)
+    (room / "-").write_bytes(TONE)
+    done = run(["plan", "./-", "t.bin", "c.bin"], room)
+    tally.check("a file called -", done.stdout == b"pages 1\nbatches 1\n", done)
+
+
+def try_terminal(tally, folder):
+    """With no words at a terminal it says what it waits for."""
+    ours, theirs = pty.openpty()
+    process = subprocess.Popen([str(PROGRAM)], cwd=folder, stdin=theirs, stdout=subprocess.PIPE, stderr=subprocess.PIPE)
+    os.close(theirs)
+    os.write(ours, TONE + b"\x04")
+    out, err = process.communicate(timeout=60)
+    os.close(ours)
+    holds = process.returncode == 0 and out == b"pages 1\nbatches 1\n" and err.startswith(b"pocsag: ") and b"standard input" in err
+    tally.check("a bare pocsag at a terminal", holds and err.count(b"\n") == 1, (out, err))
+    done = run([], folder, TONE)
+    tally.check("and none at a pipe", done.stderr == b"", done)
+
+
+def blocks(kind):
+    """The code blocks of a kind in docs/OPERATION.md."""
+    text = (TOP / "docs/OPERATION.md").read_text()
+    return re.findall(rf"^```{kind}\n(.*?)^```", text, re.M | re.S)
+
+
+def room_of_the_page(folder, name):
+    """A folder with what the page's commands are given, and the program in PATH."""
+    room = folder / name
+    (room / "bin").mkdir(parents=True)
+    (room / "channels").mkdir()
+    (room / "bin/pocsag").symlink_to(PROGRAM)
+    for number in range(3):
+        (room / f"channels/{number}.csv").write_bytes(APART)
+    (room / "round.csv").write_bytes(APART)
+    return room, dict(os.environ, PATH=f"{room / 'bin'}:{os.environ['PATH']}")
+
+
+def try_page(tally, folder):
+    """Each command of docs/OPERATION.md runs, and prints what the page says."""
+    room, environment = room_of_the_page(folder, "page")
+    shells, pythons = blocks("bash"), blocks("python")
+    tally.check("the page has commands", len(shells) > 4 and len(pythons) == 1, (len(shells), len(pythons)))
+    for kind, texts in (("bash", shells), ("python", pythons)):
+        for text in texts:
+            if "parallel" in text and not shutil.which("parallel") or "ssh " in text or "./install" in text:
+                continue
+            words = ["bash", "-euo", "pipefail", "-c", text] if kind == "bash" else [sys.executable, "-c", text]
+            done = subprocess.run(words, cwd=room, env=environment, capture_output=True, text=True, timeout=60)
+            wanted = re.findall(r"# prints: (.*)$", text, re.M)
+            holds = done.returncode == 0 and done.stdout.splitlines() == [line for line in wanted if line]
+            tally.check(f"{kind}: {text.splitlines()[0]}", holds or not wanted and done.returncode == 0, done)
+    for text in blocks("ini") + blocks("crontab"):
+        for line in re.findall(r"^(?:ExecStart=|(?:\S+ ){5})(.*)$", text, re.M):
+            line = line.replace("/srv/paging", str(room)).replace("/usr/local/bin", str(room / "bin"))
+            done = subprocess.run(["sh", "-c", line], cwd=room, env=environment, capture_output=True, timeout=60)
+            tally.check(f"unit: {line}", done.returncode == 0, done)
+
+
+def main():
+    return run_parts(try_keep, try_kills, try_single_calls, try_verify, try_pipes, try_terminal, try_page)
+
+
+if __name__ == "__main__":
+    sys.exit(main())
