@@ -155,10 +155,20 @@ def try_large_trial(tally, library):
     # closed end it takes one batch more, since no slot is left behind the last message.
     fewest = codewords // 16
     listed = len("address,kind,message\n") + sum(len(f"{address},numeric,") + 7_001 for address in range(20_000))
+    header = len("address,kind,message\n")
+    data = [(8, 1_400), (16, 1_401), (24, 1_400), (32, 1_401)]
+    data_listed = header + sum(len(f"{address},data1,") + 5 * items + 1 for address, items in data)
+    # Two tones to a frame, the last alone: that of slot 2f is for address 8 + f.
+    tones_listed = header + sum(len(f"{8 + place % 16 // 2},tone0,\n") for place in range(20_001))
+    tones_in_order = batches_in_order((address % 8 for address in range(20_000)), 1)
     wanted = [
         "Page::copy of 1,400 items: 1400",
         "tour, order_of and lay_out of 20,000 tones: 40000 20000 2500",
         f"write, decode, list and hear_all of 20,000 pages of 1,400 items: {sent} true {listed} 19999 1400",
+        f"decode, list and hear_all of pages of 1,400 and 1,401 items: 4 {data_listed} 16 1401 48 1401",
+        f"hear_all, decode and list of 20,001 tones: {2 * 1_250 + 1} 20001 {tones_listed}",
+        f"first_stream of 20,000 tones, and of one more: {tones_in_order} {72 + 68 * tones_in_order} "
+        "record 20001: too many pages 0",
         "read_certificate of 1,000,000 nodes: 1000000 58",
         "search and search_freely of 20,000 tones: 1250 20000 1 true 1250 20000 1 true",
         "search of eight pages to 1,000,000 nodes: 12 13 1000000 true",

@@ -1,4 +1,4 @@
-"""The program at the edges of its numbers: counts by the hundred, and the largest files."""
+"""The program at the edges of its numbers: counts by the hundred, the largest files, the default limit of nodes."""
 
 import subprocess
 import sys
@@ -127,4 +127,47 @@ def try_largest_files(tally, folder):
         path.unlink()
 
 
-PARTS = (try_hundreds, try_largest_files)
+# Rounds whose trees have a little less than 100,000 nodes and a little more: the frame and the codewords of each page,
+# the nodes, and the fewest batches, all with the open end. None is known that takes 100,000 just.
+NEAR_THE_LIMIT = [
+    ([(0, 15), (7, 9), (4, 6), (2, 31), (0, 31), (3, 31), (1, 15), (7, 30), (5, 15), (2, 1), (7, 4), (1, 12)], 99_698, 14),
+    ([(5, 15), (7, 26), (2, 31), (6, 31), (1, 15), (4, 14), (4, 21), (0, 31), (0, 30), (5, 14), (4, 2)], 100_009, 16),
+]
+
+
+def page_of_shape(place, frame, length):
+    address = 8 * place + frame
+    return b"%d,numeric,%s" % (address, b"1" * (5 * (length - 1))) if length > 1 else b"%d,tone0," % address
+
+
+def try_default_limit(tally, folder):
+    """A round is refused where it takes more nodes than the limit by one, and answered where it takes no more; where no
+    limit is named it is 100,000."""
+    for shape, nodes, batches in NEAR_THE_LIMIT:
+        records = [page_of_shape(place, frame, length) for place, (frame, length) in enumerate(shape)]
+        (folder / "pages.csv").write_bytes(HEADER + b"\n".join(records) + b"\n")
+        told = b"pages %d\nbatches %d\n" % (len(shape), batches)
+        stopped = b"search limit reached: at least %d batches, %d would do\n" % (batches - 1, batches)
+        done_or_not = {True: (0, told, b""), False: (1, b"", b"pocsag: " + stopped)}
+        limits = ([], nodes <= 100_000), (["--limit", str(nodes)], True), (["--limit", str(nodes - 1)], False)
+        for words in (["plan", "pages.csv", "tx.bin", "cert.bin"], ["report", "pages.csv", "--rate", "512"]):
+            for limit, is_done in limits:
+                done = run([*words, *limit], folder)
+                status, printed, fault = done_or_not[is_done]
+                holds = (done.returncode, done.stderr) == (status, fault)
+                holds = holds and (words[0] == "report" or done.stdout == printed)
+                tally.check(f"{nodes} nodes: {words[0]} {limit}", holds, done)
+            shown = run([words[0], "--help"], folder).stdout
+            tally.check(f"help of {words[0]} names the limit", b"[default: 100000]" in shown, shown)
+        with open(folder / "pages.csv", "rb") as pages:
+            done = run([], folder, stdin=pages)
+        is_done = nodes <= 100_000
+        holds = (done.returncode, done.stdout, done.stderr) == done_or_not[is_done]
+        tally.check(f"{nodes} nodes: no words", holds, done)
+        lines = b"\n".join([*(b"add," + record for record in records), b"plan,tx.bin,cert.bin\n"])
+        done = run(["open"], folder, input=lines)
+        due = b"batches %d\n" % batches if is_done else b"refused: " + stopped
+        tally.check(f"{nodes} nodes: open", done.returncode == 0 and done.stdout.endswith(b"\n" + due), done)
+
+
+PARTS = (try_hundreds, try_largest_files, try_default_limit)

@@ -59,7 +59,7 @@ def clauses(text, public, is_program):
             holder, holder_is_public = opened[2], is_trait or opened[2] in public
         elif line == "}":
             holder, holder_is_public, is_trait = None, False, False
-        found = re.match(r"\s*(pub )?(?:const )?fn (\w+)", line)
+        found = re.match(r"\s*(pub )?(?:const )?(?:extern \"C\" )?fn (\w+)", line)
         if not found:
             continue
         name = found[2]

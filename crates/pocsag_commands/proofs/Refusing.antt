@@ -25,8 +25,10 @@ use Rattle.pocsag_plan.specs.declared.fault.PlanFault.{PlanFault}
 use Rattle.pocsag_plan.specs.declared.fault.PlanFault.TheVariants as planning
 use Rattle.pocsag_commands.specs.Commands.{IsPlanRefused, limit, stopped}
 use Rattle.pocsag_commands.specs.Faults.{fault_of_plan, status_of}
-use Rattle.pocsag_commands.specs.Refusals.{IsHearingRefused, IsTransmissionRefused}
+use Rattle.pocsag_commands.specs.Judging.{ExplainsJudging}
+use Rattle.pocsag_commands.specs.Refusals.{IsCheckFaulty, IsHearingRefused, IsTransmissionRefused}
 use Rattle.pocsag_commands.specs.Showing.{fault_of_show}
+use Rattle.pocsag_commands.specs.declared.fault.Fault.{Fault}
 use Rattle.pocsag_commands.specs.declared.fault.Fault.TheVariants as fault
 
 pub why_round : (file : List ℕ) (f : RoundFault) → (f ≡ round.OutOfMemory) ⊎ (f ≡ round.ReadFault) ⊎ (verdict file ≡ Err f) →
@@ -70,3 +72,8 @@ why_not_shown X Y (showing.Transmission f) same said one =
     IsTransmissionRefused.fault f (subst (λ (bytes : List ℕ). HasFault bytes f) same said)
 why_not_shown X Y showing.WriteFault same said one = absurd (omega arith)
 why_not_shown X Y showing.OutOfMemory same said one = absurd (omega arith)
+
+pub why_judged : (file text : List ℕ) (f : Fault) → ExplainsJudging file text f → status_of f ≡ 1 → IsCheckFaulty file text
+why_judged file text (fault.Round f) said one = IsCheckFaulty.round f (why_round file f said one)
+why_judged file text (fault.Certificate f) said one = IsCheckFaulty.certificate f (why_certificate f text said.1 one)
+why_judged file text _ said one = absurd said

@@ -2,6 +2,7 @@ pub mod Always
 pub mod Commands
 pub mod Expecting
 pub mod Faults
+pub mod Judging
 pub mod Lines
 pub mod Refusals
 pub mod Showing

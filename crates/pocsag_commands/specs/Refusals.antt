@@ -1,14 +1,10 @@
 -- Why each command refuses: what is so of what it read where its exit status is 1.
-use Rattle.std.specs.Prelude.{◌≡◌, ℕ, ◌<◌, false, List, [], ◌∷◌, ◌++◌, length, codes, Some, Ok, Err}
+use Rattle.std.specs.Prelude.{◌≡◌, ℕ, ◌<◌, List, [], ◌∷◌, ◌++◌, length, codes, Some, Err}
 use Rattle.pocsag_words.specs.declared.ending.End.{End}
 use Rattle.pocsag_pages.specs.declared.fault.RoundFault.{RoundFault}
-use Rattle.pocsag_pages.specs.declared.page.Page.{Page}
 use Rattle.pocsag_pages.specs.PageFile.{verdict}
 use Rattle.pocsag_tree.specs.Parts.{HasFirst}
-use Rattle.pocsag_tree.specs.Bounds.{Bound}
-use Rattle.pocsag_tree.specs.Spelling.{IsText}
 use Rattle.pocsag_tree.specs.declared.refusals.CertificateFault.{CertificateFault}
-use Rattle.pocsag_check.specs.Accepting.{IsAcceptedFor}
 use Rattle.pocsag_decode.specs.Faults.{HasFault}
 use Rattle.pocsag_decode.specs.declared.fault.DecodeFault.{DecodeFault}
 use Rattle.pocsag_pager.specs.Faults.{hearing_fault}
@@ -16,6 +12,7 @@ use Rattle.pocsag_pager.specs.declared.fault.PagerFault.{PagerFault}
 use Rattle.pocsag_plan.specs.Reports.{IsRate}
 use Rattle.pocsag_commands.specs.Always.{IsRefusedAlways}
 use Rattle.pocsag_commands.specs.Commands.{IsPlanRefused}
+use Rattle.pocsag_commands.specs.Judging.{IsNotShown}
 
 -- The greatest transmission that is read, in bytes, and the node limit where none is asked for.
 abbrev pub transmission_limit : ℕ
@@ -49,16 +46,11 @@ pub data IsCheckFaulty (file certificate : List ℕ) : Type 0 where
   round : (f : RoundFault) → verdict file ≡ Err f → IsCheckFaulty file certificate
   certificate : (f : CertificateFault) → HasFirst f certificate → IsCheckFaulty file certificate
 
--- `check` said no: `not shown` was told, and the certificate is a text of an end, a number of batches and a
--- tree that the checker does not accept for the round.
+-- `check` said no: nothing is shown by the certificate, and `not shown` was told.
 pub record NotShownAndTold (file certificate out_before out_after : List ℕ) : Type 0 where
-  pub round : List Page
-  pub read : verdict file ≡ Ok round
   pub end : End
   pub batches : ℕ
-  pub tree : Bound
-  pub text : IsText end batches tree certificate
-  pub refuted : ¬ IsAcceptedFor false end round batches tree
+  pub not_shown : IsNotShown file certificate end batches
   pub told : out_after ≡ out_before ++ (codes "not shown" ++ (10 ∷ []))
 
 -- What `check` did where its exit status is 1.

@@ -1,6 +1,11 @@
-ghost use Rattle.std.specs.Prelude.{◌≡◌, IfErr, IfOk, IsFalse, IsTrue};
-ghost use Rattle.pocsag_commands.specs.Commands.{CheckedAndTold};
+ghost use Rattle.std.specs.Prelude.{◌≡◌, IfErr, IfOk, IsErrOf, IsFalse, IsTrue};
+ghost use Rattle.pocsag_words.specs.Devices.{HasFailed};
+ghost use Rattle.pocsag_pages.specs.declared.fault.RoundFault.TheVariants as round_fault;
+ghost use Rattle.pocsag_tree.specs.declared.refusals.CertificateFault.TheVariants as tree_fault;
+ghost use Rattle.pocsag_commands.specs.declared.fault.Fault.TheVariants as fault;
+ghost use Rattle.pocsag_commands.specs.Commands.{Checked, CheckedAndTold};
 ghost use Rattle.pocsag_commands.specs.Faults.{IsStatus, status_of};
+ghost use Rattle.pocsag_commands.specs.Judging.{ExplainsJudging, IsNotShown};
 ghost use Rattle.pocsag_commands.specs.Refusals.{IsCheckFaulty, IsCheckRefused, NotShownAndTold};
 
 use crate::fault::Fault;
@@ -8,7 +13,7 @@ use crate::telling::{tell, tell_bound, tell_fault};
 use pocsag_check::check;
 use pocsag_pages::read_round;
 use pocsag_tree::read_certificate;
-use pocsag_words::{Sink, Source};
+use pocsag_words::{End, Sink, Source};
 use std::alloc::Global;
 
 /// `check PAGES CERT`: tells whether the certificate shows its number of batches for the page file.
@@ -48,14 +53,53 @@ fn check_files<P: Source, C: Source, O: Sink>(
         IsCheckFaulty (P.held pages.old) (C.held cert.old)) }
     ensures untouched { IfErr result (λ e. status_of e ≡ 1 → out.new ≡ out.old) }
 {
+    let judged = judge_certificate(alloc, pages, cert)?;
+    if !judged.is_shown {
+        tell(out, "not shown\n")?;
+        return Ok(false);
+    }
+    tell_bound(judged.end, judged.batches, out)?;
+    Ok(true)
+}
+
+/// A certificate beside the round of a page file.
+#[derive(Clone, Copy, PartialEq, Eq, Debug)]
+pub struct Judged {
+    /// The end that the certificate names.
+    pub end: End,
+    /// The number of batches that it names.
+    pub batches: u32,
+    /// Whether the checker accepts its tree for them.
+    pub is_shown: bool,
+}
+
+/// Reads a page file and then a certificate, each up to its end, and judges the certificate for the file's
+/// round.
+pub fn judge_certificate<P: Source, C: Source>(
+    alloc: Global,
+    pages: &mut P,
+    cert: &mut C,
+) -> Result<Judged, Fault>
+    ensures shown { P.tells → C.tells → IfOk result (λ judged. IsTrue judged.is_shown →
+        Checked (P.held pages.old) (C.held cert.old) judged.end judged.batches) }
+    ensures not_shown { P.tells → C.tells → IfOk result (λ judged. IsFalse judged.is_shown →
+        IsNotShown (P.held pages.old) (C.held cert.old) judged.end judged.batches) }
+    ensures explained { P.tells → C.tells → IfErr result (ExplainsJudging (P.held pages.old) (C.held cert.old)) }
+
+    // A reader's fault is answered only where that reader failed.
+    ensures read_failed { IsErrOf result (fault.Round round_fault.ReadFault) →
+        HasFailed (P.failures pages.old) (P.failures pages.new) }
+    ensures certificate_failed { IsErrOf result (fault.Certificate tree_fault.ReadFault) →
+        HasFailed (C.failures cert.old) (C.failures cert.new) }
+{
     let round = read_round(alloc, pages)?;
     let certificate = read_certificate(alloc, cert)?;
     let batches = certificate.batches;
     let end = certificate.end;
-    if !check(&round, batches, &certificate.tree, end) {
-        tell(out, "not shown\n")?;
-        return Ok(false);
-    }
-    tell_bound(end, batches, out)?;
-    Ok(true)
+    let is_shown = check(&round, batches, &certificate.tree, end);
+    Ok(Judged {
+        end,
+        batches,
+        is_shown,
+    })
 }

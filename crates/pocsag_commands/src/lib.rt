@@ -14,7 +14,7 @@ mod verifying;
 mod view;
 
 pub use always::{run_plan_always, run_report_always};
-pub use checking::run_check;
+pub use checking::{Judged, judge_certificate, run_check};
 pub use commands::{DEFAULT_LIMIT, run_input, run_plan, run_report};
 pub use expecting::expected_file;
 pub use fault::Fault;

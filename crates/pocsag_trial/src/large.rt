@@ -2,18 +2,19 @@
 
 use crate::kept::Kept;
 use crate::line::Line;
-use crate::pages::{ones, round_of, show_no_round};
+use crate::pages::show_no_round;
 use crate::planning::{put_always, put_book_plan, put_counts};
+use crate::receiving::IDLE;
 use crate::searching::{put_free_search, put_search};
-use crate::tours::tour_of;
 use arrayvec::ArrayString;
-use pocsag_batch::{lay_in_order, lay_out, order_of, write};
+use pocsag_batch::{FirstFault, first_stream, lay_in_order, lay_out, order_of, write};
+use pocsag_cases::{ones, round_of, tour_of};
 use pocsag_decode::{DecodeFault, ListFault, decode, list};
 use pocsag_pager::{PagerFault, hear_all};
-use pocsag_pages::{Page, Round, RoundFault};
+use pocsag_pages::{Page, Round, RoundFault, SYNC_WORD};
 use pocsag_plan::{Book, PlanFault, StreamFault, plan, plan_stream};
 use pocsag_tree::{CertificateFault, depth, nodes, read_certificate};
-use pocsag_words::{End, MemorySource, OutOfMemory};
+use pocsag_words::{End, MemorySource, OutOfMemory, Word, address_word, message_word};
 use std::alloc::Global;
 use std::fmt::Write;
 
@@ -111,6 +112,115 @@ pub fn send_long_pages(alloc: Global, line: &mut Line) -> Result<(), OutOfMemory
         Err(fault) => line.put(fault),
     }
     put_heard(hear_all(alloc, sent.bytes(), PAGES - 1), line)
+}
+
+// So many codewords that begin with this address codeword, and idles up to the end of the batch.
+fn put_words(
+    bytes: &mut Vec<u8>,
+    first: Word,
+    other: Word,
+    count: usize,
+) -> Result<(), OutOfMemory> {
+    for place in 0..count.div_ceil(16) * 16 {
+        if place % 16 == 0 {
+            put(bytes, &SYNC_WORD.to_be_bytes())?;
+        }
+        let word = match place {
+            0 => first.raw(),
+            _ if place < count => other.raw(),
+            _ => IDLE,
+        };
+        put(bytes, &word.to_be_bytes())?;
+    }
+    Ok(())
+}
+
+// How many pages are decoded, and how many bytes their listing has; then what the pager of an address shows.
+fn put_received(
+    alloc: Global,
+    bytes: &[u8],
+    address: u32,
+    line: &mut Line,
+) -> Result<(), OutOfMemory> {
+    match decode(alloc, bytes) {
+        Ok(pages) => {
+            line.put(pages.len());
+            let mut kept = Kept::new(alloc);
+            let listed = list(alloc, pages.as_slice(), &mut kept);
+            put_listed(listed, &kept, line)?;
+        }
+        Err(DecodeFault::OutOfMemory) => return Err(OutOfMemory),
+        Err(fault) => line.put(fault),
+    }
+    put_heard(hear_all(alloc, bytes, address), line)
+}
+
+// The transmission of pages by the high bits of their address, which lies in frame 0, their function and their
+// number of items; each begins a batch.
+fn data_pages(alloc: Global, pages: &[(u32, u8, usize)]) -> Result<Vec<u8>, OutOfMemory> {
+    let mut bytes = Vec::new(alloc);
+    put(&mut bytes, &[0xaa; 72])?;
+    let item = message_word(0x84c2a);
+    for (high, function, items) in pages.iter().copied() {
+        if high < 262_144 && function < 4 && items < 2_000 {
+            put_words(&mut bytes, address_word(high, function), item, items + 1)?;
+        }
+    }
+    Ok(bytes)
+}
+
+/// Pages of 1,400 items and of one more for the functions that tell their items, decoded, listed and heard, and
+/// one of 1,401 items for function 3, heard alone.
+pub fn receive_long_data(alloc: Global, line: &mut Line) -> Result<(), OutOfMemory> {
+    let pages = [(1, 1, 1_400), (2, 1, 1_401), (3, 2, 1_400), (4, 2, 1_401)];
+    put_received(alloc, data_pages(alloc, &pages)?.as_slice(), 16, line)?;
+    let letters = data_pages(alloc, &[(6, 3, 1_401)])?;
+    put_heard(hear_all(alloc, letters.as_slice(), 48), line)
+}
+
+/// A transmission of 20,001 tones, one page more than a round may have.
+pub fn receive_many_tones(alloc: Global, line: &mut Line) -> Result<(), OutOfMemory> {
+    let mut bytes = Vec::new(alloc);
+    put(&mut bytes, &[0xaa; 72])?;
+    let tone = address_word(1, 0);
+    put_words(&mut bytes, tone, tone, 20_001)?;
+    match hear_all(alloc, bytes.as_slice(), 8) {
+        Ok(pages) => line.put(pages.len()),
+        Err(PagerFault::OutOfMemory) => return Err(OutOfMemory),
+        Err(fault) => line.put(fault),
+    }
+    put_received(alloc, bytes.as_slice(), 16, line)
+}
+
+// A page file of so many tones, for the addresses from 0.
+fn tone_file(alloc: Global, count: u32) -> Result<Vec<u8>, OutOfMemory> {
+    let mut bytes = Vec::new(alloc);
+    put(&mut bytes, b"address,kind,message\n")?;
+    for address in 0..count {
+        let mut record = ArrayString::<20>::new();
+        let _ = writeln!(record, "{address},tone0,");
+        put(&mut bytes, record.as_str().as_bytes())?;
+    }
+    Ok(bytes)
+}
+
+/// The page file of 20,000 tones in file order, and that of one more: the batches or the fault, and how many
+/// bytes are written.
+pub fn stream_many_tones(alloc: Global, line: &mut Line) -> Result<(), OutOfMemory> {
+    for count in [PAGES, PAGES + 1] {
+        let file = tone_file(alloc, count)?;
+        let mut source = MemorySource::new(file.as_slice(), 65_536, u64::MAX);
+        let mut tx = Kept::new(alloc);
+        match first_stream(alloc, &mut source, &mut tx) {
+            Ok(batches) => line.put(batches),
+            Err(FirstFault::OutOfMemory | FirstFault::Round(RoundFault::OutOfMemory)) => {
+                return Err(OutOfMemory);
+            }
+            Err(fault) => line.put(fault),
+        }
+        line.put(tx.bytes().len());
+    }
+    Ok(())
 }
 
 // An overload at the set of slot 0.

@@ -17,6 +17,7 @@ mod tours;
 
 use crate::line::Line;
 use crate::planning::Planning;
+use crate::receiving::Received;
 use crate::searching::Search;
 use pocsag_words::OutOfMemory;
 use std::alloc::Global;
@@ -49,12 +50,16 @@ enum Trial {
     List,
     HearAll,
     HearWords,
-    HearTwice,
+    Receive(Received),
+    BadFiles,
     Search(Search),
     Planning(Planning),
     CopyLong,
     TourMany,
     SendLong,
+    ReceiveLongData,
+    ReceiveManyTones,
+    StreamManyTones,
     ReadManyNodes,
     SearchMany,
     SearchManyNodes,
@@ -63,7 +68,7 @@ enum Trial {
     StreamLong,
 }
 
-const TRIALS: [Trial; 51] = [
+const TRIALS: [Trial; 56] = [
     Trial::PackNumeric,
     Trial::PackAlpha,
     Trial::UnpackNumeric,
@@ -87,7 +92,12 @@ const TRIALS: [Trial; 51] = [
     Trial::List,
     Trial::HearAll,
     Trial::HearWords,
-    Trial::HearTwice,
+    Trial::Receive(receiving::THREE_TO_ONE_ADDRESS),
+    Trial::Receive(receiving::FOUR_TO_ONE_ADDRESS),
+    Trial::Receive(receiving::ALPHA_HEARD),
+    Trial::Receive(receiving::DATA_LISTED),
+    Trial::Receive(receiving::FOURTH_LISTED),
+    Trial::BadFiles,
     Trial::Search(Search::Tight),
     Trial::Search(Search::LoopsApart),
     Trial::Search(Search::FourPages),
@@ -117,10 +127,13 @@ const TRIALS: [Trial; 51] = [
     Trial::Planning(Planning::StreamAlwaysKept),
 ];
 
-const LARGE_TRIALS: [Trial; 9] = [
+const LARGE_TRIALS: [Trial; 12] = [
     Trial::CopyLong,
     Trial::TourMany,
     Trial::SendLong,
+    Trial::ReceiveLongData,
+    Trial::ReceiveManyTones,
+    Trial::StreamManyTones,
     Trial::ReadManyNodes,
     Trial::SearchMany,
     Trial::SearchManyNodes,
@@ -154,12 +167,16 @@ fn name_of(trial: Trial) -> &'static str {
         Trial::List => "list of page-across-batches",
         Trial::HearAll => "hear_all of page-across-batches",
         Trial::HearWords => "hear and end of wrong-bit-in-idle",
-        Trial::HearTwice => "hear_all of three pages to one address",
+        Trial::Receive(received) => received.name,
+        Trial::BadFiles => "bad files of first_stream",
         Trial::Search(search) => searching::name_of(search),
         Trial::Planning(planning) => planning::name_of(planning),
         Trial::CopyLong => "Page::copy of 1,400 items",
         Trial::TourMany => "tour, order_of and lay_out of 20,000 tones",
         Trial::SendLong => "write, decode, list and hear_all of 20,000 pages of 1,400 items",
+        Trial::ReceiveLongData => "decode, list and hear_all of pages of 1,400 and 1,401 items",
+        Trial::ReceiveManyTones => "hear_all, decode and list of 20,001 tones",
+        Trial::StreamManyTones => "first_stream of 20,000 tones, and of one more",
         Trial::ReadManyNodes => "read_certificate of 1,000,000 nodes",
         Trial::SearchMany => "search and search_freely of 20,000 tones",
         Trial::SearchManyNodes => "search of eight pages to 1,000,000 nodes",
@@ -194,12 +211,16 @@ fn run(alloc: Global, trial: Trial, line: &mut Line) -> Result<(), OutOfMemory> 
         Trial::List => receiving::list_decoded(alloc, line),
         Trial::HearAll => receiving::hear_whole(alloc, line),
         Trial::HearWords => receiving::hear_words(alloc, line),
-        Trial::HearTwice => receiving::hear_three_pages(alloc, line),
+        Trial::Receive(received) => receiving::receive(alloc, received, line),
+        Trial::BadFiles => rounds::stream_bad_files(alloc, line),
         Trial::Search(search) => searching::run(alloc, search, line),
         Trial::Planning(planning) => planning::run(alloc, planning, line),
         Trial::CopyLong => large::copy_long_page(alloc, line),
         Trial::TourMany => large::tour_many_tones(alloc, line),
         Trial::SendLong => large::send_long_pages(alloc, line),
+        Trial::ReceiveLongData => large::receive_long_data(alloc, line),
+        Trial::ReceiveManyTones => large::receive_many_tones(alloc, line),
+        Trial::StreamManyTones => large::stream_many_tones(alloc, line),
         Trial::ReadManyNodes => large::read_many_nodes(alloc, line),
         Trial::SearchMany => large::search_many_tones(alloc, line),
         Trial::SearchManyNodes => large::search_many_nodes(alloc, line),

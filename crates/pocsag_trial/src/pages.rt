@@ -1,11 +1,10 @@
 use crate::line::Line;
-use pocsag_pages::{Page, Payload, Round, RoundFault, WholeFault, read_round, read_whole};
+use pocsag_cases::{THREE_PAGES_TIGHT, ones, round_of};
+use pocsag_pages::{Page, Round, RoundFault, WholeFault, read_round, read_whole};
 use pocsag_words::{MemorySource, OutOfMemory};
 use std::alloc::Global;
 
 pub const LONE_TONE: &[u8; 30] = b"address,kind,message\n8,tone0,\n";
-
-pub const THREE_PAGES_TIGHT: [(u32, usize); 3] = [(0, 5), (3, 9), (11, 15)];
 
 fn show(round: Result<Round, RoundFault>, line: &mut Line) -> Result<(), OutOfMemory> {
     match round {
@@ -14,25 +13,6 @@ fn show(round: Result<Round, RoundFault>, line: &mut Line) -> Result<(), OutOfMe
         Err(fault) => line.put(fault),
     }
     Ok(())
-}
-
-// A page of function 0 whose items are all 11111.
-pub fn ones(alloc: Global, address: u32, count: usize) -> Result<Page, OutOfMemory> {
-    let items = vec![in alloc; 0x88888; count]?;
-    Ok(Page {
-        address,
-        function: 0,
-        payload: Payload::from_vec(items),
-    })
-}
-
-// The round of pages by address and number of items.
-pub fn round_of(alloc: Global, pages: &[(u32, usize)]) -> Result<Round, RoundFault> {
-    let mut list = Vec::new(alloc);
-    for (address, count) in pages.iter().copied() {
-        list.push(ones(alloc, address, count)?)?;
-    }
-    Round::from_pages(alloc, list)
 }
 
 // Why there is no round.

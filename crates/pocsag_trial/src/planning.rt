@@ -1,7 +1,8 @@
 //! Plans of worked examples, as calls and as streams, and open rounds.
 
 use crate::line::Line;
-use crate::pages::{THREE_PAGES_TIGHT, ones, round_of, show_no_round};
+use crate::pages::show_no_round;
+use pocsag_cases::{THREE_PAGES_TIGHT, ones, round_of};
 use pocsag_pages::{Round, RoundFault};
 use pocsag_plan::{
     AddFault, Book, BookFault, Bounded, Edit, Plan, PlanFault, StreamFault, plan, plan_always,

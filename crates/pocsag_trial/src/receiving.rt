@@ -66,7 +66,12 @@ pub fn decode_bytes(alloc: Global, line: &mut Line) -> Result<(), OutOfMemory> {
 }
 
 pub fn list_decoded(alloc: Global, line: &mut Line) -> Result<(), OutOfMemory> {
-    let pages = match decode(alloc, page_across_batches().as_slice()) {
+    show_list(alloc, page_across_batches().as_slice(), line)
+}
+
+// The listing of the pages of a transmission.
+fn show_list(alloc: Global, bytes: &[u8], line: &mut Line) -> Result<(), OutOfMemory> {
+    let pages = match decode(alloc, bytes) {
         Ok(pages) => pages,
         Err(DecodeFault::OutOfMemory) => return Err(OutOfMemory),
         Err(fault) => {
@@ -84,7 +89,11 @@ pub fn list_decoded(alloc: Global, line: &mut Line) -> Result<(), OutOfMemory> {
 }
 
 pub fn hear_whole(alloc: Global, line: &mut Line) -> Result<(), OutOfMemory> {
-    match hear_all(alloc, page_across_batches().as_slice(), 7) {
+    show_heard(hear_all(alloc, page_across_batches().as_slice(), 7), line)
+}
+
+fn show_heard(heard: Result<Vec<Page>, PagerFault>, line: &mut Line) -> Result<(), OutOfMemory> {
+    match heard {
         Ok(pages) => line.put_pages(pages.as_slice()),
         Err(PagerFault::OutOfMemory) => return Err(OutOfMemory),
         Err(fault) => line.put(fault),
@@ -92,25 +101,87 @@ pub fn hear_whole(alloc: Global, line: &mut Line) -> Result<(), OutOfMemory> {
     Ok(())
 }
 
-// Two tones and then a page of three items, all for address 8.
-fn three_pages() -> [u8; 208] {
+/// Two batches of idles and of these codewords by place, and what is asked of them.
+#[derive(Clone, Copy)]
+pub struct Received {
+    pub name: &'static str,
+    words: &'static [(usize, u32)],
+    /// The address of a pager, or none where the pages are listed.
+    pager: Option<u32>,
+}
+
+// The address codewords of addresses 8 to 15, by function.
+const TONE: u32 = 0x26ec;
+
+const DATA1: u32 = 0x283f;
+
+const DATA2: u32 = 0x359a;
+
+const ALPHA: u32 = 0x3b49;
+
+// The message codewords of `12345` and of `11111`.
+const DIGITS: u32 = 0xc261_572c;
+
+const ONES: u32 = 0xc444_47b9;
+
+pub const THREE_TO_ONE_ADDRESS: Received = Received {
+    name: "hear_all of three pages to one address",
+    words: &[
+        (0, TONE),
+        (1, TONE),
+        (16, TONE),
+        (17, ONES),
+        (18, ONES),
+        (19, ONES),
+    ],
+    pager: Some(8),
+};
+
+pub const FOUR_TO_ONE_ADDRESS: Received = Received {
+    name: "hear_all of four pages to one address",
+    words: &[
+        (0, TONE),
+        (1, TONE),
+        (15, DATA1),
+        (16, TONE),
+        (17, TONE),
+        (18, ONES),
+        (19, ONES),
+    ],
+    pager: Some(8),
+};
+
+pub const ALPHA_HEARD: Received = Received {
+    name: "hear_all of a page of function 3",
+    words: &[(0, ALPHA), (1, 0xc143_87b8), (2, 0xc000_04dc)],
+    pager: Some(8),
+};
+
+pub const DATA_LISTED: Received = Received {
+    name: "list of data1 and data2",
+    words: &[(0, DATA1), (1, DIGITS), (2, ONES), (4, DATA2), (5, DIGITS)],
+    pager: None,
+};
+
+pub const FOURTH_LISTED: Received = Received {
+    name: "list of data2 behind three tones",
+    words: &[(0, TONE), (2, TONE), (4, TONE), (6, DATA2), (7, DIGITS)],
+    pager: None,
+};
+
+/// What is received of the codewords.
+pub fn receive(alloc: Global, received: Received, line: &mut Line) -> Result<(), OutOfMemory> {
     let mut words = [IDLE; 32];
-    words[0] = 0x26ec;
-    words[1] = 0x26ec;
-    words[16] = 0x26ec;
-    words[17] = 0xc444_47b9;
-    words[18] = 0xc444_47b9;
-    words[19] = 0xc444_47b9;
-    two_batches(&words)
-}
-
-pub fn hear_three_pages(alloc: Global, line: &mut Line) -> Result<(), OutOfMemory> {
-    match hear_all(alloc, three_pages().as_slice(), 8) {
-        Ok(pages) => line.put_pages(pages.as_slice()),
-        Err(PagerFault::OutOfMemory) => return Err(OutOfMemory),
-        Err(fault) => line.put(fault),
+    for (place, word) in received.words {
+        if *place < 32 {
+            words[*place] = *word;
+        }
     }
-    Ok(())
+    let bytes = two_batches(&words);
+    match received.pager {
+        Some(address) => show_heard(hear_all(alloc, &bytes, address), line),
+        None => show_list(alloc, &bytes, line),
+    }
 }
 
 fn put_heard(heard: Option<Page>, line: &mut Line) {

@@ -34,3 +34,50 @@ pub fn stream_lone_tone(alloc: Global, line: &mut Line) -> Result<(), OutOfMemor
     line.put_bytes(tx.bytes());
     Ok(())
 }
+
+// What stands behind the header of a page file, and how many digits 1 follow.
+const BAD_FILES: [(&[u8], usize); 10] = [
+    (b"7,tone0\n", 0),
+    (b"2097152,tone0,\n", 0),
+    (b"2007664,tone0,\n", 0),
+    (b"7,Tone0,\n", 0),
+    (b"7,tone1,x\n", 0),
+    (b"7,alpha,\n", 0),
+    (b"7,numeric,12a\n", 0),
+    (b"7,numeric,", 4_001),
+    (b"7,tone0,\n8,tone0,\n7,tone0,\n", 0),
+    (b"", 0),
+];
+
+// The fault of a file, behind which nothing may be written.
+fn show_bad_file(
+    alloc: Global,
+    file: &[u8],
+    lasting: u64,
+    line: &mut Line,
+) -> Result<(), OutOfMemory> {
+    let mut source = MemorySource::new(file, 900, lasting);
+    let mut tx = MemorySink::<200>::new(64, 1000);
+    match first_stream(alloc, &mut source, &mut tx) {
+        Ok(batches) => line.put(batches),
+        Err(FirstFault::OutOfMemory | FirstFault::Round(RoundFault::OutOfMemory)) => {
+            return Err(OutOfMemory);
+        }
+        Err(fault) => line.put(fault),
+    }
+    line.put(tx.bytes().len());
+    Ok(())
+}
+
+pub fn stream_bad_files(alloc: Global, line: &mut Line) -> Result<(), OutOfMemory> {
+    show_bad_file(alloc, LONE_TONE, 29, line)?;
+    show_bad_file(alloc, b"8,tone0,\n", 1000, line)?;
+    for (records, ones) in BAD_FILES {
+        let mut file = Vec::new(alloc);
+        file.extend_from_slice(b"address,kind,message\n".as_slice())?;
+        file.extend_from_slice(records)?;
+        file.resize(21 + records.len() + ones, b'1')?;
+        show_bad_file(alloc, file.as_slice(), 10_000, line)?;
+    }
+    Ok(())
+}

@@ -1,13 +1,13 @@
 //! Searches on worked examples and on rounds whose trees are large.
-ghost use Rattle.std.specs.Prelude.{IsTrue};
-ghost use Rattle.pocsag_branch.specs.Found.{HasPage, IsNodeLimit};
+ghost use Rattle.pocsag_branch.specs.Found.{IsNodeLimit};
 
 use crate::line::Line;
-use crate::pages::{THREE_PAGES_TIGHT, round_of, show_no_round};
+use crate::pages::show_no_round;
 use pocsag_branch::{Found, FreeFault, Near, SearchFault, near, search, search_freely};
+use pocsag_cases::{THREE_PAGES_TIGHT, has_page, round_of};
 use pocsag_check::{check, check_open};
 use pocsag_pages::Round;
-use pocsag_slots::{CLASSES, Classes, classes_of};
+use pocsag_slots::classes_of;
 use pocsag_tree::nodes;
 use pocsag_words::{End, OutOfMemory};
 use std::alloc::Global;
@@ -75,18 +75,6 @@ pub fn run(alloc: Global, search: Search, line: &mut Line) -> Result<(), OutOfMe
         Search::FreelyToOneNode => show_free_search(alloc, &LOOPS_APART, 1, line),
         Search::Near => show_near(alloc, &LOOPS_APART, line),
     }
-}
-
-/// Whether some class has a page, as those of a round have.
-pub fn has_page(classes: &Classes) -> bool
-    ensures { IsTrue result → HasPage classes.now }
-{
-    for class in 0..CLASSES {
-        if classes.count[class] > 0 {
-            return true;
-        }
-    }
-    false
 }
 
 // The batches, how many steps and nodes there are, and whether the checker accepts the tree for the batches.

@@ -1,58 +1,10 @@
-ghost use Rattle.std.specs.Prelude.{◌≡◌, ℕ, ◌<◌, ◌≤◌, IfOk, IsTrue, slice_index};
-ghost use Rattle.pocsag_slots.specs.Loads.{IsChoice};
-ghost use Rattle.pocsag_slots.specs.Tours.{IsTourFor};
-
 use crate::line::Line;
-use crate::pages::{THREE_PAGES_TIGHT, round_of, show_no_round};
+use crate::pages::show_no_round;
 use pocsag_batch::{lay_out, order_of};
-use pocsag_pages::Round;
-use pocsag_slots::{Choice, Classes, Step, carries, classes_of};
-use pocsag_tour::{TourFault, tour};
+use pocsag_cases::{NoTour, THREE_PAGES_TIGHT, round_of, tour_of};
+use pocsag_tour::TourFault;
 use pocsag_words::{End, OutOfMemory};
 use std::alloc::Global;
-
-/// Why a choice was given no tour.
-#[derive(Clone, Copy, PartialEq, Eq, Debug)]
-pub enum NoTour {
-    /// Some load is above the batches.
-    Overloaded,
-    Refused(TourFault),
-}
-
-// All pages start early, but those of the class that is named.
-fn all_early_but(classes: &Classes, late: Option<u8>) -> Choice
-    ensures { IsChoice classes.now (slice_index result.early) }
-{
-    let mut early = classes.count;
-    match late {
-        Some(class) if class < 136 => early[class as usize] = 0,
-        _ => {}
-    }
-    Choice { early }
-}
-
-// A tour of the round with so many batches in which all pages start early, but those of the class that
-// is named.
-pub fn tour_of(
-    alloc: Global,
-    round: &Round,
-    late: Option<u8>,
-    batches: u32,
-    end: End,
-) -> Result<Vec<Step>, NoTour>
-    requires { 0 < batches }
-    ensures { IfOk result (λ steps. IsTourFor end round.now steps.items) }
-{
-    let classes = classes_of(round, end);
-    let choice = all_early_but(&classes, late);
-    if !carries(&classes, &choice, batches) {
-        return Err(NoTour::Overloaded);
-    }
-    match tour(alloc, &classes, &choice, batches, end) {
-        Ok(steps) => Ok(steps),
-        Err(fault) => Err(NoTour::Refused(fault)),
-    }
-}
 
 fn show_no_tour(fault: NoTour, line: &mut Line) -> Result<(), OutOfMemory> {
     match fault {

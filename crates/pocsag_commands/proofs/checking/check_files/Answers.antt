@@ -1,42 +1,19 @@
 use Rattle.std.proofs.Common.{[], ◌∷◌, ◌++◌, refl}
 use Rattle.std.specs.Prelude.{codes}
+use Rattle.std.proofs.lemmas.Bool.{not-false}
 use Rattle.std.proofs.lemmas.Result.{err_from_is_err_and}
-use Rattle.pocsag_tree.specs.Views.{bound_of}
-use Rattle.pocsag_commands.specs.Refusals.{IsCheckFaulty}
-use Rattle.pocsag_commands.proofs.Refusing.{why_certificate, why_round}
-use Rattle.pocsag_commands.proofs.Shown.{checked, checked_told}
+use Rattle.pocsag_commands.proofs.Refusing.{why_judged}
+use Rattle.pocsag_commands.proofs.Shown.{checked_told}
 use Rattle.pocsag_commands.proofs.checking.check_files.Goals as goal
 
 pub returns-clause-shown : goal.returns-clause-shown
 returns-clause-shown g c = λ pages_tell cert_tells out_tells yes.
-    let certificate = c.in_ok-certificate.certificate in
-    checked_told _ _ certificate.end certificate.batches
-    (checked _ _ certificate.end certificate.batches c.in_ok-round.round (bound_of certificate.tree) (c.in_ok-round.ensures.ok pages_tell)
-    (c.in_ok-certificate.ensures.found cert_tells) (c.if-not-check.ensures.accepted.0 yes) (c.if-not-check.ensures.bound yes))
+    let judged = c.in_ok-judged.judged in
+    checked_told _ _ judged.end judged.batches (c.in_ok-judged.ensures.shown pages_tell cert_tells (not-false judged.is_shown c.if-not-judged.false))
     _ _ (c.in_ok-tell_bound.ensures.told out_tells)
 
-pub returns-then-not-check-clause-not_shown : goal.returns-then-not-check-clause-not_shown
-returns-then-not-check-clause-not_shown g c = λ pages_tell cert_tells out_tells no.
-    let certificate = c.in_ok-certificate.certificate in record {
-      round = c.in_ok-round.round;
-      read = c.in_ok-round.ensures.ok pages_tell;
-      end = certificate.end;
-      batches = certificate.batches;
-      tree = bound_of certificate.tree;
-      text = c.in_ok-certificate.ensures.found cert_tells;
-      refuted = λ accepted. let yes = c.if-not-check.ensures.accepted.1 accepted in cc;
-      told = c.in_ok-tell.ensures.told out_tells (codes "not shown" ++ (10 ∷ [])) refl;
-    }
-
-pub returns-in_err-round-clause-why : goal.returns-in_err-round-clause-why
-returns-in_err-round-clause-why g c = λ pages_tell cert_tells.
+pub returns-in_err-judged-clause-why : goal.returns-in_err-judged-clause-why
+returns-in_err-judged-clause-why g c = λ pages_tell cert_tells.
     let p = err_from_is_err_and c.from_residual.result c.from_residual.ensures.1 in
     rw (p.1, p.2)
-    (λ one. IsCheckFaulty.round c.in_err-round.field-0.0 (why_round _ c.in_err-round.field-0.0 (c.in_err-round.ensures.err pages_tell) one))
-
-pub returns-in_err-certificate-clause-why : goal.returns-in_err-certificate-clause-why
-returns-in_err-certificate-clause-why g c = λ pages_tell cert_tells.
-    let p = err_from_is_err_and c.from_residual-in_err-certificate.result c.from_residual-in_err-certificate.ensures.1 in
-    rw (p.1, p.2)
-    (λ one. IsCheckFaulty.certificate c.in_err-certificate.field-0.0
-    (why_certificate c.in_err-certificate.field-0.0 _ (c.in_err-certificate.ensures.fault cert_tells) one))
+    (λ one. why_judged _ _ c.in_err-judged.field-0.0 (c.in_err-judged.ensures.explained pages_tell cert_tells) one)

@@ -1,0 +1,50 @@
+-- What each call owes, in the numbers and the bytes that cross to the caller.
+use Rattle.std.specs.Prelude.{◌≡◌, ◌≢◌, ℕ, ◌<◌, ◌≤◌, List, length, ◌++◌, drop}
+use Rattle.pocsag_words.specs.declared.ending.End.{End}
+use Rattle.pocsag_words.specs.declared.ending.End.TheVariants as ends
+use Rattle.pocsag_commands.specs.Commands.{Checked}
+use Rattle.pocsag_commands.specs.Judging.{IsNotShown}
+use Rattle.pocsag_commands.specs.declared.fault.Fault.{Fault}
+use Rattle.pocsag_c.specs.declared.checking.CheckInfo.{CheckInfo}
+use Rattle.pocsag_c.specs.declared.refusal.Place.{Place}
+use Rattle.pocsag_c.specs.Statuses.{refusal_of}
+
+-- The number of an end.
+abbrev pub number_of_end : End → ℕ
+number_of_end ends.Open = 0
+number_of_end ends.Closed = 1
+
+-- The number of no end.
+abbrev pub IsNoEnd : ℕ → Type 0
+IsNoEnd number = (number ≢ 0) × (number ≢ 1)
+
+-- The status and the place are those of a fault that says this.
+pub record TellsFault (Explains : Fault → Type 0) (status : ℕ) (place : Place) : Type 0 where
+  pub fault : Fault
+  pub why : Explains fault
+  pub same_status : status ≡ (refusal_of fault).status
+  pub same_place : place ≡ (refusal_of fault).place
+
+-- The certificate shows its number of batches for its end and the page file's round.
+pub record IsShown (file text : List ℕ) (info : CheckInfo) : Type 0 where
+  pub end : End
+  pub same_end : info.end ≡ number_of_end end
+  pub checked : Checked file text end info.batches
+
+-- Both can be read, and the checker does not accept the certificate's tree.
+pub record IsNotAccepted (file text : List ℕ) (info : CheckInfo) : Type 0 where
+  pub end : End
+  pub same_end : info.end ≡ number_of_end end
+  pub read : IsNotShown file text end info.batches
+
+-- The buffer begins with these bytes, whose length is told, and is as it was behind them.
+pub record IsDelivered (before after : List ℕ) (told : ℕ) (bytes : List ℕ) : Type 0 where
+  pub all : told ≡ length bytes
+  pub room : told ≤ length before
+  pub bytes_then_rest : after ≡ bytes ++ drop told before
+
+-- The buffer is too small for these bytes, whose length is told, and is as it was.
+pub record IsTooSmall (before after : List ℕ) (told : ℕ) (bytes : List ℕ) : Type 0 where
+  pub all : told ≡ length bytes
+  pub no_room : length before < told
+  pub untouched : after ≡ before

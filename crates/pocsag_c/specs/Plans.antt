@@ -1,0 +1,78 @@
+-- What `pocsag_plan` owes.
+use Rattle.std.specs.Prelude.{◌≡◌, ◌≢◌, ◌⊎◌, ℕ, ◌*◌, ◌<◌, List, Ok, length, sum_by}
+use Rattle.pocsag_words.specs.declared.codeword.Kind.{Kind}
+use Rattle.pocsag_words.specs.declared.ending.End.{End}
+use Rattle.pocsag_pages.specs.declared.page.Page.{Page}
+use Rattle.pocsag_pages.specs.PageFile.{verdict}
+use Rattle.pocsag_pages.specs.Reading.{page_length}
+use Rattle.pocsag_tree.specs.Bounds.{Bound}
+use Rattle.pocsag_batch.specs.FileOrder.{IsFileOrder}
+use Rattle.pocsag_plan.specs.BoundedHeadline.{BoundedHeadline}
+use Rattle.pocsag_plan.specs.BoundedStreams.{ExplainsStreamAlways}
+use Rattle.pocsag_plan.specs.Headline.{Headline}
+use Rattle.pocsag_plan.specs.Streams.{ExplainsStream}
+use Rattle.pocsag_plan.specs.declared.fault.StreamFault.{StreamFault}
+use Rattle.pocsag_commands.specs.declared.fault.Fault.{Fault}
+use Rattle.pocsag_commands.specs.Faults.{fault_of_stream}
+use Rattle.pocsag_c.specs.Answers.{IsDelivered, number_of_end}
+use Rattle.pocsag_c.specs.declared.planning.PlanInfo.{PlanInfo}
+
+-- The headline of the page file, the end of this number, and the batches that are told.
+pub record IsHeadline (file : List ℕ) (number : ℕ) (info : PlanInfo) (sent certificate : List ℕ) : Type 0 where
+  pub end : End
+  pub same_end : number ≡ number_of_end end
+  pub tree : Bound
+  pub headline : Headline file end info.batches tree sent certificate
+
+-- The same with the bound that is told.
+pub record IsHeadlineWithBound (file : List ℕ) (number : ℕ) (info : PlanInfo) (sent certificate : List ℕ) : Type 0 where
+  pub end : End
+  pub same_end : number ≡ number_of_end end
+  pub tree : Bound
+  pub headline : BoundedHeadline file end info.batches info.bound tree sent certificate
+
+-- A transmission and a certificate of which this is said stand in both buffers, with their lengths told.
+pub record IsPlannedInto (Says : (sent certificate : List ℕ) → Type 0) (tx tx_after : List ℕ) (tx_told : ℕ)
+    (cert cert_after : List ℕ) (cert_told : ℕ) : Type 0 where
+  pub sent : List ℕ
+  pub certificate : List ℕ
+  pub says : Says sent certificate
+  pub transmission : IsDelivered tx tx_after tx_told sent
+  pub text : IsDelivered cert cert_after cert_told certificate
+
+-- The lengths that are told are those of a transmission and a certificate of which this is said.
+pub record HasNoRoomForBoth (Says : (sent certificate : List ℕ) → Type 0) (tx_told cert_told : ℕ) : Type 0 where
+  pub sent : List ℕ
+  pub certificate : List ℕ
+  pub says : Says sent certificate
+  pub transmission : tx_told ≡ length sent
+  pub text : cert_told ≡ length certificate
+
+-- One of the two buffers is too small.
+abbrev pub IsWithoutRoom : (status : ℕ) → Type 0
+IsWithoutRoom status = (status ≡ 7) ⊎ (status ≡ 8)
+
+-- There is no plan, though the end is one.
+abbrev pub IsWithoutPlan : (status : ℕ) → Type 0
+IsWithoutPlan status = (status ≢ 0) × (status ≢ 2) × (status ≢ 7) × (status ≢ 8)
+
+-- The counts are those of the page file's round.
+pub record IsCounted (file : List ℕ) (info : PlanInfo) : Type 0 where
+  pub round : List Page
+  pub read : verdict file ≡ Ok round
+  pub pages : info.pages ≡ length round
+  pub codewords : info.codewords ≡ sum_by page_length round
+  pub in_order : (T : List Kind) → IsFileOrder round T → length T ≡ 16 * info.in_order
+
+-- Why there is no plan, where the planner may refuse, and where it may not.
+pub record ExplainsPlanning (file : List ℕ) (number limit : ℕ) (f : Fault) : Type 0 where
+  pub end : End
+  pub same_end : number ≡ number_of_end end
+  pub fault : StreamFault
+  pub why : ExplainsStream file end limit fault
+  pub same : f ≡ fault_of_stream fault
+
+pub record ExplainsPlanningAlways (file : List ℕ) (limit : ℕ) (f : Fault) : Type 0 where
+  pub fault : StreamFault
+  pub why : ExplainsStreamAlways file limit fault
+  pub same : f ≡ fault_of_stream fault

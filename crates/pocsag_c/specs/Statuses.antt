@@ -1,0 +1,100 @@
+-- The statuses of the calls, and the places that belong to them (this project's own).
+use Rattle.std.specs.Prelude.{ℕ, ◌≢◌}
+use Rattle.pocsag_pages.specs.declared.fault.RoundFault.{RoundFault}
+use Rattle.pocsag_pages.specs.declared.fault.RoundFault.TheVariants as round
+use Rattle.pocsag_tree.specs.declared.refusals.CertificateFault.{CertificateFault}
+use Rattle.pocsag_tree.specs.declared.refusals.CertificateFault.TheVariants as certificate
+use Rattle.pocsag_decode.specs.declared.fault.DecodeFault.{DecodeFault}
+use Rattle.pocsag_decode.specs.declared.fault.DecodeFault.TheVariants as decoding
+use Rattle.pocsag_pager.specs.declared.fault.PagerFault.{PagerFault}
+use Rattle.pocsag_pager.specs.declared.fault.PagerFault.TheVariants as hearing
+use Rattle.pocsag_commands.specs.declared.fault.Fault.{Fault}
+use Rattle.pocsag_commands.specs.declared.fault.Fault.TheVariants as fault
+use Rattle.pocsag_c.specs.declared.refusal.Place.{Place}
+use Rattle.pocsag_c.specs.declared.refusal.Refusal.{Refusal}
+
+-- The number of the interface.
+abbrev pub interface_version : ℕ
+interface_version = 1
+
+-- A refusal that has no place; one for a record of the page file; and one for a batch or a codeword.
+abbrev pub plain_refusal : (status : ℕ) → Refusal
+plain_refusal status = record { status = status; place = record { record_number = 0; least = 0; found = 0; at = 0 } }
+
+abbrev pub record_refusal : (status number : ℕ) → Refusal
+record_refusal status number = record { status = status; place = record { record_number = number; least = 0; found = 0; at = 0 } }
+
+abbrev pub index_refusal : (status index : ℕ) → Refusal
+index_refusal status index = record { status = status; place = record { record_number = 0; least = 0; found = 0; at = index } }
+
+-- From 16 on: the faults of a page file.
+abbrev pub round_refusal : RoundFault → Refusal
+round_refusal round.ReadFault = plain_refusal 16
+round_refusal round.TooLarge = plain_refusal 17
+round_refusal round.BadHeader = plain_refusal 18
+round_refusal (round.FieldCount n) = record_refusal 19 n
+round_refusal (round.BadAddress n) = record_refusal 20 n
+round_refusal (round.ReservedAddress n) = record_refusal 21 n
+round_refusal (round.BadKind n) = record_refusal 22 n
+round_refusal (round.MessageForTone n) = record_refusal 23 n
+round_refusal (round.EmptyMessage n) = record_refusal 24 n
+round_refusal (round.BadCharacter n place) = record { status = 25; place = record { record_number = n; least = 0; found = 0; at = place } }
+round_refusal (round.TooLong n) = record_refusal 26 n
+round_refusal (round.DuplicateAddress n) = record_refusal 27 n
+round_refusal (round.TooManyPages n) = record_refusal 28 n
+round_refusal (round.BadPayload n) = record_refusal 29 n
+round_refusal round.NoPages = plain_refusal 30
+round_refusal round.OutOfMemory = plain_refusal 3
+
+-- From 32 on: the faults of a certificate.
+abbrev pub certificate_refusal : CertificateFault → Refusal
+certificate_refusal certificate.NotCertificate = plain_refusal 32
+certificate_refusal certificate.Version = plain_refusal 33
+certificate_refusal certificate.Truncated = plain_refusal 34
+certificate_refusal certificate.Trailing = plain_refusal 35
+certificate_refusal certificate.BadTag = plain_refusal 36
+certificate_refusal certificate.BadField = plain_refusal 37
+certificate_refusal certificate.TooDeep = plain_refusal 38
+certificate_refusal certificate.TooMany = plain_refusal 39
+certificate_refusal certificate.ReadFault = plain_refusal 40
+certificate_refusal certificate.OutOfMemory = plain_refusal 3
+
+-- From 48 on: the faults of a transmission.
+abbrev pub transmission_refusal : DecodeFault → Refusal
+transmission_refusal decoding.ShortPreamble = plain_refusal 48
+transmission_refusal (decoding.NoSync batch) = index_refusal 49 batch
+transmission_refusal (decoding.BadWord index) = index_refusal 50 index
+transmission_refusal (decoding.Orphan index) = index_refusal 51 index
+transmission_refusal decoding.Truncated = plain_refusal 52
+transmission_refusal decoding.NoBatch = plain_refusal 53
+transmission_refusal decoding.TooMuch = plain_refusal 54
+transmission_refusal decoding.OutOfMemory = plain_refusal 3
+transmission_refusal decoding.Failed = plain_refusal 55
+
+-- The faults of what a pager is given: those of its address from 64 on.
+abbrev pub pager_refusal : PagerFault → Refusal
+pager_refusal hearing.BadAddress = plain_refusal 64
+pager_refusal hearing.ReservedAddress = plain_refusal 65
+pager_refusal hearing.ShortPreamble = plain_refusal 48
+pager_refusal hearing.NoBatch = plain_refusal 53
+pager_refusal hearing.Truncated = plain_refusal 52
+pager_refusal hearing.OutOfMemory = plain_refusal 3
+pager_refusal hearing.Failed = plain_refusal 66
+
+-- The status and the place of a fault. A text is written to memory, so a fault of writing is want of memory. What
+-- comes of files alone is 15.
+abbrev pub refusal_of : Fault → Refusal
+refusal_of fault.OutOfMemory = plain_refusal 3
+refusal_of fault.Write = plain_refusal 3
+refusal_of fault.BadRate = plain_refusal 4
+refusal_of fault.BadLimit = plain_refusal 5
+refusal_of (fault.SearchLimit least found) = record { status = 6; place = record { record_number = 0; least = least; found = found; at = 0 } }
+refusal_of (fault.Round f) = round_refusal f
+refusal_of (fault.Certificate f) = certificate_refusal f
+refusal_of (fault.Transmission f) = transmission_refusal f
+refusal_of (fault.Pager f) = pager_refusal f
+refusal_of _ = plain_refusal 15
+
+-- A status of the faults: none of those for what was done, was not shown, or had no room.
+abbrev pub IsRefusing : ℕ → Type 0
+IsRefusing status = (status ≢ 0) × (status ≢ 1) × (status ≢ 2) × (status ≢ 7) × (status ≢ 8) × (status ≢ 9)

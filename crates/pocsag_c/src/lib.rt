@@ -1,0 +1,30 @@
+#![tactic(auto)]
+//! The calls of the C library. Bytes come in as slices, and go out into buffers of the caller, which are
+//! written only where all of a text fits; each call answers a status, and tells what belongs to it through
+//! a structure.
+
+ghost use Rattle.std.specs.Prelude.{◌≡◌};
+ghost use Rattle.pocsag_c.specs.Statuses.{interface_version};
+
+mod checking;
+mod growing_sink;
+mod handing;
+mod planning;
+mod receiving;
+mod refusal;
+mod reporting;
+mod slice_source;
+
+pub use checking::{CheckInfo, pocsag_check};
+pub use planning::{PlanInfo, pocsag_plan};
+pub use receiving::{pocsag_decode, pocsag_hear};
+pub use refusal::Place;
+pub use reporting::{ReportInfo, pocsag_report};
+
+/// The number of this interface: calls, structures and statuses. It grows with each change of them.
+#[unsafe(no_mangle)]
+pub extern "C" fn pocsag_version() -> u32
+    ensures { result ≡ interface_version }
+{
+    1
+}

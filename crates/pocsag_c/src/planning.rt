@@ -1,0 +1,237 @@
+ghost use Rattle.std.specs.Prelude.{◌≡◌, ◌≢◌, ◌<◌, ◌⊎◌, ◌↔◌, IfErr, IfOk, IsTrue, MatchOption, length};
+ghost use Rattle.pocsag_tree.specs.Views.{bound_of};
+ghost use Rattle.pocsag_plan.specs.BoundedHeadline.{BoundedHeadline};
+ghost use Rattle.pocsag_plan.specs.BoundedStreams.{ExplainsStreamAlways, IsBoundedOf};
+ghost use Rattle.pocsag_plan.specs.Headline.{Headline};
+ghost use Rattle.pocsag_plan.specs.Streams.{ExplainsStream, IsSearchLimit};
+ghost use Rattle.pocsag_c.specs.Answers.{IsDelivered, IsNoEnd, TellsFault, number_of_end};
+ghost use Rattle.pocsag_c.specs.Plans.{ExplainsPlanning, ExplainsPlanningAlways, HasNoRoomForBoth, IsCounted, IsHeadline, IsHeadlineWithBound, IsPlannedInto, IsWithoutPlan, IsWithoutRoom};
+
+use crate::growing_sink::GrowingSink;
+use crate::handing::put;
+use crate::refusal::{NOWHERE, Place, refusal_of};
+use crate::slice_source::SliceSource;
+use pocsag_commands::Fault;
+use pocsag_plan::{Bounded, Plan, StreamFault, plan_stream, plan_stream_always};
+use pocsag_words::End;
+use std::alloc::Global;
+
+/// What a plan tells; all but the place is 0 where there is none.
+#[repr(C)]
+#[derive(Clone, Copy, PartialEq, Eq, Debug)]
+pub struct PlanInfo {
+    /// How many pages the round has.
+    pub pages: u32,
+    /// How many codewords the pages have.
+    pub codewords: u32,
+    /// How many batches they take in file order.
+    pub in_order: u32,
+    /// How many batches the transmission has.
+    pub batches: u32,
+    /// No transmission of the round has fewer batches than these.
+    pub bound: u32,
+    /// Where the fault stands, and what the search knew at its limit.
+    pub place: Place,
+}
+
+// A plan with the bytes that were written of it.
+#[derive(Drop)]
+struct Written {
+    sent: Vec<u8>,
+    certificate: Vec<u8>,
+    bounded: Bounded,
+}
+
+fn write_fewest(alloc: Global, pages: &[u8], limit: u32, end: End) -> Result<Written, StreamFault>
+    ensures headline { IfOk result (λ w.
+        Headline pages.now end w.bounded.plan.batches (bound_of w.bounded.plan.tree) w.sent.items w.certificate.items) }
+    ensures bound { IfOk result (λ w. w.bounded.bound ≡ w.bounded.plan.batches) }
+    ensures plan { IfOk result (λ w. IsBoundedOf pages.now end w.bounded) }
+    ensures explained { IfErr result (ExplainsStream pages.now end limit) }
+{
+    let mut source = SliceSource::new(pages);
+    let mut sent = GrowingSink::new(alloc);
+    let mut certificate = GrowingSink::new(alloc);
+    let plan = plan_stream(alloc, &mut source, &mut sent, &mut certificate, limit, end)?;
+    let bound = plan.batches;
+    Ok(Written {
+        sent: sent.into_bytes(),
+        certificate: certificate.into_bytes(),
+        bounded: Bounded { plan, bound },
+    })
+}
+
+fn write_bounded(alloc: Global, pages: &[u8], limit: u32, end: End) -> Result<Written, StreamFault>
+    ensures headline { IfOk result (λ w.
+        BoundedHeadline pages.now end w.bounded.plan.batches w.bounded.bound
+        (bound_of w.bounded.plan.tree) w.sent.items w.certificate.items) }
+    ensures fewest { IfOk result (λ w. w.bounded.bound ≡ w.bounded.plan.batches →
+        Headline pages.now end w.bounded.plan.batches (bound_of w.bounded.plan.tree) w.sent.items w.certificate.items) }
+    ensures plan { IfOk result (λ w. IsBoundedOf pages.now end w.bounded) }
+    ensures explained { IfErr result (ExplainsStreamAlways pages.now limit) }
+{
+    let mut source = SliceSource::new(pages);
+    let mut sent = GrowingSink::new(alloc);
+    let mut certificate = GrowingSink::new(alloc);
+    let bounded = plan_stream_always(alloc, &mut source, &mut sent, &mut certificate, limit, end)?;
+    Ok(Written {
+        sent: sent.into_bytes(),
+        certificate: certificate.into_bytes(),
+        bounded,
+    })
+}
+
+// The plan that is asked for, and what was written of it.
+fn write_asked(
+    alloc: Global,
+    pages: &[u8],
+    limit: u32,
+    end: End,
+    always: bool,
+) -> Result<Written, StreamFault>
+    ensures headline { IfOk result (λ w. w.bounded.bound ≡ w.bounded.plan.batches →
+        Headline pages.now end w.bounded.plan.batches (bound_of w.bounded.plan.tree) w.sent.items w.certificate.items) }
+    ensures bounded { IsTrue always → IfOk result (λ w.
+        BoundedHeadline pages.now end w.bounded.plan.batches w.bounded.bound
+        (bound_of w.bounded.plan.tree) w.sent.items w.certificate.items) }
+    ensures fewest { (¬ IsTrue always) → IfOk result (λ w. w.bounded.bound ≡ w.bounded.plan.batches) }
+    ensures plan { IfOk result (λ w. IsBoundedOf pages.now end w.bounded) }
+    ensures explained { (¬ IsTrue always) → IfErr result (ExplainsStream pages.now end limit) }
+    ensures explained_always { IsTrue always → IfErr result (ExplainsStreamAlways pages.now limit) }
+{
+    if always {
+        write_bounded(alloc, pages, limit, end)
+    } else {
+        write_fewest(alloc, pages, limit, end)
+    }
+}
+
+const NOTHING: PlanInfo = PlanInfo {
+    pages: 0,
+    codewords: 0,
+    in_order: 0,
+    batches: 0,
+    bound: 0,
+    place: NOWHERE,
+};
+
+fn info_of(bounded: &Bounded) -> PlanInfo
+    ensures pages { result.pages ≡ bounded.now.plan.pages }
+    ensures codewords { result.codewords ≡ bounded.now.plan.codewords }
+    ensures in_order { result.in_order ≡ bounded.now.plan.in_order }
+    ensures batches { result.batches ≡ bounded.now.plan.batches }
+    ensures bound { result.bound ≡ bounded.now.bound }
+{
+    PlanInfo {
+        pages: bounded.plan.pages,
+        codewords: bounded.plan.codewords,
+        in_order: bounded.plan.in_order,
+        batches: bounded.plan.batches,
+        bound: bounded.bound,
+        place: NOWHERE,
+    }
+}
+
+// The end of a number.
+pub(crate) fn end_of(number: u32) -> Option<End>
+    ensures { MatchOption result (IsNoEnd number) (λ end. number ≡ number_of_end end) }
+{
+    match number {
+        0 => Some(End::Open),
+        1 => Some(End::Closed),
+        _ => None,
+    }
+}
+
+// Puts both texts into their buffers, if each has room for its text, and tells their lengths.
+fn hand_out_both(
+    written: &Written,
+    tx: &mut [u8],
+    tx_len: &mut usize,
+    cert: &mut [u8],
+    cert_len: &mut usize,
+) -> u32
+    ensures status { (result ≡ 0) ⊎ IsWithoutRoom result }
+    ensures transmission { result ≡ 0 → IsDelivered tx.old tx.new tx_len.new written.now.sent.items }
+    ensures text { result ≡ 0 → IsDelivered cert.old cert.new cert_len.new written.now.certificate.items }
+    ensures length { tx_len.new ≡ length written.now.sent.items }
+    ensures cert_length { cert_len.new ≡ length written.now.certificate.items }
+    ensures small { result ≡ 7 → length tx.old < tx_len.new }
+    ensures cert_small { result ≡ 8 → length cert.old < cert_len.new }
+    ensures untouched { result ≢ 0 → (tx.new ≡ tx.old) × (cert.new ≡ cert.old) }
+{
+    let sent = written.sent.as_slice();
+    let certificate = written.certificate.as_slice();
+    *tx_len = sent.len();
+    *cert_len = certificate.len();
+    if tx.len() < sent.len() {
+        return 7;
+    }
+    if cert.len() < certificate.len() {
+        return 8;
+    }
+    put(sent, tx);
+    put(certificate, cert);
+    0
+}
+
+/// Plans a page file, and puts the transmission and the certificate into two buffers: 0, or 7 or 8 where
+/// that of the transmission or of the certificate is too small. In these cases both lengths are told. The
+/// end is 0 for the open one and 1 for the closed one; where `always` is not 0, no round is refused.
+#[unsafe(no_mangle)]
+pub extern "C" fn pocsag_plan(
+    alloc: Global,
+    pages: &[u8],
+    tx: &mut [u8],
+    tx_len: &mut usize,
+    cert: &mut [u8],
+    cert_len: &mut usize,
+    limit: u32,
+    end: u32,
+    always: u32,
+    info: &mut PlanInfo,
+) -> u32
+    // The headline, of the bytes that stand in the two buffers: where `always` is 0, and else where the bound is the batches.
+    ensures planned { result ≡ 0 → info.new.bound ≡ info.new.batches →
+        IsPlannedInto (IsHeadline pages.now end info.new) tx.old tx.new tx_len.new cert.old cert.new cert_len.new }
+    ensures fewest { (result ≡ 0) ⊎ IsWithoutRoom result → always ≡ 0 → info.new.bound ≡ info.new.batches }
+    // The headline with a bound.
+    ensures bounded { result ≡ 0 → always ≢ 0 →
+        IsPlannedInto (IsHeadlineWithBound pages.now end info.new) tx.old tx.new tx_len.new cert.old cert.new cert_len.new }
+    ensures counted { (result ≡ 0) ⊎ IsWithoutRoom result → IsCounted pages.now info.new }
+
+    // Too small a buffer: the lengths are those of such a plan.
+    ensures no_room { IsWithoutRoom result → info.new.bound ≡ info.new.batches →
+        HasNoRoomForBoth (IsHeadline pages.now end info.new) tx_len.new cert_len.new }
+    ensures no_room_bounded { IsWithoutRoom result → always ≢ 0 →
+        HasNoRoomForBoth (IsHeadlineWithBound pages.now end info.new) tx_len.new cert_len.new }
+    ensures small { result ≡ 7 → length tx.old < tx_len.new }
+    ensures cert_small { result ≡ 8 → length cert.old < cert_len.new }
+
+    // Any other status says why there is no plan, and both buffers are as they were.
+    ensures bad_end { result ≡ 2 ↔ IsNoEnd end }
+    ensures fault { IsWithoutPlan result → always ≡ 0 →
+        TellsFault (ExplainsPlanning pages.now end limit) result info.new.place }
+    ensures fault_always { IsWithoutPlan result → always ≢ 0 →
+        TellsFault (ExplainsPlanningAlways pages.now limit) result info.new.place }
+    ensures answered { always ≢ 0 → result ≢ 6 }
+    ensures untouched { result ≢ 0 → (tx.new ≡ tx.old) × (cert.new ≡ cert.old) }
+{
+    *tx_len = 0;
+    *cert_len = 0;
+    *info = NOTHING;
+    let Some(end) = end_of(end) else {
+        return 2;
+    };
+    match write_asked(alloc, pages, limit, end, always != 0) {
+        Ok(written) => {
+            *info = info_of(&written.bounded);
+            hand_out_both(&written, tx, tx_len, cert, cert_len)
+        }
+        Err(fault) => {
+            let refusal = refusal_of(Fault::from(fault));
+            info.place = refusal.place;
+            refusal.status
+        }
+    }
+}

@@ -1,0 +1,171 @@
+ghost use Rattle.std.specs.Prelude.{◌≡◌};
+ghost use Rattle.pocsag_c.specs.Statuses.{IsRefusing, certificate_refusal, index_refusal, pager_refusal, plain_refusal, record_refusal, refusal_of, round_refusal, transmission_refusal};
+
+use pocsag_commands::Fault;
+use pocsag_decode::DecodeFault;
+use pocsag_pager::PagerFault;
+use pocsag_pages::RoundFault;
+use pocsag_tree::CertificateFault;
+
+/// Where a fault stands, and what a search knew; each number is 0 where it says nothing.
+#[repr(C)]
+#[derive(Clone, Copy, PartialEq, Eq, Debug)]
+pub struct Place {
+    /// The record of the page file, counted from 1, the header not counted.
+    pub record_number: u32,
+    /// The least number of batches that the search could not exclude.
+    pub least: u32,
+    /// The number of batches that would do.
+    pub found: u32,
+    /// The byte in the message, the batch or the codeword, counted from 0.
+    pub at: u64,
+}
+
+// A status, and the place that belongs to it.
+#[derive(Clone, Copy)]
+pub(crate) struct Refusal {
+    pub(crate) status: u32,
+    pub(crate) place: Place,
+}
+
+pub(crate) const NOWHERE: Place = Place {
+    record_number: 0,
+    least: 0,
+    found: 0,
+    at: 0,
+};
+
+// A refusal that has no place.
+fn plain(status: u32) -> Refusal
+    ensures { result ≡ plain_refusal status }
+{
+    Refusal {
+        status,
+        place: NOWHERE,
+    }
+}
+
+// A refusal for a record of the page file.
+fn of_record(status: u32, record_number: u32) -> Refusal
+    ensures { result ≡ record_refusal status record_number }
+{
+    Refusal {
+        status,
+        place: Place {
+            record_number,
+            ..NOWHERE
+        },
+    }
+}
+
+// A refusal for a batch or a codeword.
+fn of_index(status: u32, at: u64) -> Refusal
+    ensures { result ≡ index_refusal status at }
+{
+    Refusal {
+        status,
+        place: Place { at, ..NOWHERE },
+    }
+}
+
+fn refused_round(fault: RoundFault) -> Refusal
+    ensures { result ≡ round_refusal fault }
+{
+    match fault {
+        RoundFault::ReadFault => plain(16),
+        RoundFault::TooLarge => plain(17),
+        RoundFault::BadHeader => plain(18),
+        RoundFault::FieldCount(record) => of_record(19, record),
+        RoundFault::BadAddress(record) => of_record(20, record),
+        RoundFault::ReservedAddress(record) => of_record(21, record),
+        RoundFault::BadKind(record) => of_record(22, record),
+        RoundFault::MessageForTone(record) => of_record(23, record),
+        RoundFault::EmptyMessage(record) => of_record(24, record),
+        RoundFault::BadCharacter(record, at) => Refusal {
+            status: 25,
+            place: Place {
+                record_number: record,
+                at: at as u64,
+                ..NOWHERE
+            },
+        },
+        RoundFault::TooLong(record) => of_record(26, record),
+        RoundFault::DuplicateAddress(record) => of_record(27, record),
+        RoundFault::TooManyPages(record) => of_record(28, record),
+        RoundFault::BadPayload(record) => of_record(29, record),
+        RoundFault::NoPages => plain(30),
+        RoundFault::OutOfMemory => plain(3),
+    }
+}
+
+fn refused_certificate(fault: CertificateFault) -> Refusal
+    ensures { result ≡ certificate_refusal fault }
+{
+    plain(match fault {
+        CertificateFault::NotCertificate => 32,
+        CertificateFault::Version => 33,
+        CertificateFault::Truncated => 34,
+        CertificateFault::Trailing => 35,
+        CertificateFault::BadTag => 36,
+        CertificateFault::BadField => 37,
+        CertificateFault::TooDeep => 38,
+        CertificateFault::TooMany => 39,
+        CertificateFault::ReadFault => 40,
+        CertificateFault::OutOfMemory => 3,
+    })
+}
+
+fn refused_transmission(fault: DecodeFault) -> Refusal
+    ensures { result ≡ transmission_refusal fault }
+{
+    match fault {
+        DecodeFault::ShortPreamble => plain(48),
+        DecodeFault::NoSync(batch) => of_index(49, batch),
+        DecodeFault::BadWord(index) => of_index(50, index),
+        DecodeFault::Orphan(index) => of_index(51, index),
+        DecodeFault::Truncated => plain(52),
+        DecodeFault::NoBatch => plain(53),
+        DecodeFault::TooMuch => plain(54),
+        DecodeFault::OutOfMemory => plain(3),
+        DecodeFault::Failed => plain(55),
+    }
+}
+
+fn refused_hearing(fault: PagerFault) -> Refusal
+    ensures { result ≡ pager_refusal fault }
+{
+    plain(match fault {
+        PagerFault::ShortPreamble => 48,
+        PagerFault::Truncated => 52,
+        PagerFault::NoBatch => 53,
+        PagerFault::BadAddress => 64,
+        PagerFault::ReservedAddress => 65,
+        PagerFault::OutOfMemory => 3,
+        PagerFault::Failed => 66,
+    })
+}
+
+// The status of a fault, with its place.
+pub(crate) fn refusal_of(fault: Fault) -> Refusal
+    ensures value { result ≡ refusal_of fault }
+    ensures refusing { IsRefusing result.status }
+{
+    match fault {
+        Fault::OutOfMemory | Fault::Write => plain(3),
+        Fault::BadRate => plain(4),
+        Fault::BadLimit => plain(5),
+        Fault::SearchLimit(least, found) => Refusal {
+            status: 6,
+            place: Place {
+                least,
+                found,
+                ..NOWHERE
+            },
+        },
+        Fault::Round(fault) => refused_round(fault),
+        Fault::Certificate(fault) => refused_certificate(fault),
+        Fault::Transmission(fault) => refused_transmission(fault),
+        Fault::Pager(fault) => refused_hearing(fault),
+        _ => plain(15),
+    }
+}

@@ -1,0 +1,147 @@
+ghost use Rattle.std.specs.Prelude.{◌≡◌, ◌≢◌, ◌↔◌, IfErr, IfOk, IsTrue};
+ghost use Rattle.pocsag_plan.specs.Plans.{ExplainsAlways, ExplainsPlan, IsBounded};
+ghost use Rattle.pocsag_c.specs.Answers.{IsNoEnd, TellsFault};
+ghost use Rattle.pocsag_c.specs.Reporting.{ExplainsReport, ExplainsReporting, IsReportOf, IsSearchStopped, TellsReport};
+
+use crate::planning::end_of;
+use crate::refusal::{NOWHERE, Place, refusal_of};
+use crate::slice_source::SliceSource;
+use pocsag_commands::Fault;
+use pocsag_pages::{Round, read_round};
+use pocsag_plan::{Bounded, PlanFault, Report, plan, plan_always, report};
+use pocsag_words::End;
+use std::alloc::Global;
+
+/// What a plan takes on the air; all but the place is 0 where there is none.
+#[repr(C)]
+#[derive(Clone, Copy, PartialEq, Eq, Debug)]
+pub struct ReportInfo {
+    /// How many pages the round has.
+    pub pages: u32,
+    /// How many codewords the pages have.
+    pub codewords: u32,
+    /// How many batches they take in file order.
+    pub in_order: u32,
+    /// How many batches the transmission has.
+    pub batches: u32,
+    /// No transmission of the round has fewer batches than these.
+    pub bound: u32,
+    /// How many idle codewords fill the batches.
+    pub idles: u64,
+    /// How many bits the transmission has.
+    pub bits: u64,
+    /// How long it lasts in milliseconds, rounded up.
+    pub airtime_ms: u64,
+    /// Where the fault stands, and what the search knew at its limit.
+    pub place: Place,
+}
+
+// The plan that is asked for, with its bound.
+fn plan_asked(
+    alloc: Global,
+    round: &Round,
+    limit: u32,
+    end: End,
+    always: bool,
+) -> Result<Bounded, PlanFault>
+    ensures plan { IfOk result (λ bounded. IsBounded end round.now bounded.plan bounded.bound) }
+    ensures fewest { (¬ IsTrue always) → IfOk result (λ bounded. bounded.bound ≡ bounded.plan.batches) }
+    ensures explained { (¬ IsTrue always) → IfErr result (ExplainsPlan end round.now limit) }
+    ensures explained_always { IsTrue always → IfErr result (ExplainsAlways limit) }
+{
+    if always {
+        return plan_always(alloc, round, limit, end);
+    }
+    let plan = plan(alloc, round, limit, end)?;
+    let bound = plan.batches;
+    Ok(Bounded { plan, bound })
+}
+
+// A report, with the bound of its plan.
+#[derive(Drop)]
+struct Reported {
+    report: Report,
+    bound: u32,
+}
+
+fn report_file(
+    alloc: Global,
+    pages: &[u8],
+    rate: u32,
+    limit: u32,
+    end: End,
+    always: bool,
+) -> Result<Reported, Fault>
+    ensures report { IfOk result (λ told. IsReportOf pages.now end rate told.bound told.report) }
+    ensures fewest { (¬ IsTrue always) → IfOk result (λ told. told.bound ≡ told.report.batches) }
+    ensures explained { IfErr result (ExplainsReporting pages.now end limit rate) }
+    ensures answered { IsTrue always → IfErr result (λ e. ¬ IsSearchStopped e) }
+{
+    let mut source = SliceSource::new(pages);
+    let round = read_round(alloc, &mut source)?;
+    let bounded = plan_asked(alloc, &round, limit, end, always)?;
+    let told = report(&bounded.plan, rate)?;
+    Ok(Reported {
+        report: told,
+        bound: bounded.bound,
+    })
+}
+
+const NO_REPORT: ReportInfo = ReportInfo {
+    pages: 0,
+    codewords: 0,
+    in_order: 0,
+    batches: 0,
+    bound: 0,
+    idles: 0,
+    bits: 0,
+    airtime_ms: 0,
+    place: NOWHERE,
+};
+
+/// Plans a page file as `pocsag_plan` does, and tells what the plan takes on the air at a rate of 512, 1200
+/// or 2400 bits a second.
+#[unsafe(no_mangle)]
+pub extern "C" fn pocsag_report(
+    alloc: Global,
+    pages: &[u8],
+    rate: u32,
+    limit: u32,
+    end: u32,
+    always: u32,
+    info: &mut ReportInfo,
+) -> u32
+    ensures told { result ≡ 0 → TellsReport pages.now end rate info.new }
+    ensures fewest { result ≡ 0 → always ≡ 0 → info.new.bound ≡ info.new.batches }
+    ensures bad_end { result ≡ 2 ↔ IsNoEnd end }
+    ensures fault { result ≢ 0 → result ≢ 2 →
+        TellsFault (ExplainsReport pages.now end limit rate) result info.new.place }
+    ensures answered { always ≢ 0 → result ≢ 6 }
+{
+    *info = NO_REPORT;
+    let Some(end) = end_of(end) else {
+        return 2;
+    };
+    match report_file(alloc, pages, rate, limit, end, always != 0) {
+        Ok(told) => {
+            let report = told.report;
+            *info = ReportInfo {
+                pages: report.pages,
+                codewords: report.codewords,
+                in_order: report.in_order,
+                batches: report.batches,
+                bound: told.bound,
+                idles: report.idles,
+                bits: report.bits,
+                airtime_ms: report.airtime_ms,
+                place: NOWHERE,
+            };
+            0
+        }
+        Err(fault) => {
+            let refusal = refusal_of(fault);
+            info.place = refusal.place;
+            refusal.status
+        }
+    }
+}

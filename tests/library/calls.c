@@ -1,0 +1,221 @@
+/* Calls of the library with memory refused, with guard pages behind each buffer, and from several threads:
+ *
+ *     calls PAGES CLOSED ALWAYS
+ *
+ * It is linked with the archive, and with malloc, realloc and free wrapped. It prints a line of what it counted; its
+ * status is 0 where nothing was wrong, and else it says what was. */
+#define _GNU_SOURCE
+#include <pthread.h>
+#include <stdio.h>
+#include <stdlib.h>
+#include <string.h>
+#include <sys/mman.h>
+#include <unistd.h>
+
+#include "pocsag.h"
+
+#define LARGE (1 << 16)
+
+void *__real_malloc(size_t size);
+void *__real_realloc(void *block, size_t size);
+void __real_free(void *block);
+
+/* Counted while a call runs, on one thread at a time where it is refused. */
+static _Thread_local long live, taken, refuse_at;
+
+static int refused(void)
+{
+    taken++;
+    return refuse_at != 0 && taken == refuse_at;
+}
+
+void *__wrap_malloc(size_t size)
+{
+    void *block = refused() ? NULL : __real_malloc(size);
+    live += block != NULL;
+    return block;
+}
+
+void *__wrap_realloc(void *block, size_t size)
+{
+    if (refused())
+        return NULL;
+    void *moved = __real_realloc(block, size);
+    live += block == NULL && moved != NULL;
+    return moved;
+}
+
+void __wrap_free(void *block)
+{
+    live -= block != NULL;
+    __real_free(block);
+}
+
+static void wrong(const char *what, long number)
+{
+    printf("wrong: %s at %ld\n", what, number);
+    exit(1);
+}
+
+/* So many bytes that end where a page begins that may not be touched. */
+static uint8_t *guarded(size_t size)
+{
+    size_t page = (size_t)sysconf(_SC_PAGESIZE), rounded = (size + page - 1) / page * page;
+    uint8_t *start = mmap(NULL, rounded + page, PROT_READ | PROT_WRITE, MAP_PRIVATE | MAP_ANONYMOUS, -1, 0);
+    if (start == MAP_FAILED || mprotect(start + rounded, page, PROT_NONE) != 0)
+        wrong("no memory for the test", (long)size);
+    memset(start, 0x5a, rounded);
+    return start + rounded - size;
+}
+
+static int is_untouched(const uint8_t *bytes, size_t size)
+{
+    for (size_t i = 0; i < size; i++)
+        if (bytes[i] != 0x5a)
+            return 0;
+    return 1;
+}
+
+static const uint8_t *pages;
+static size_t pages_len;
+static uint32_t end, always;
+
+struct texts {
+    uint8_t tx[LARGE], cert[LARGE];
+    size_t tx_len, cert_len;
+    struct pocsag_plan_info info;
+};
+
+static uint32_t plan(struct texts *t)
+{
+    return pocsag_plan(pages, pages_len, t->tx, LARGE, &t->tx_len, t->cert, LARGE, &t->cert_len, 100000, end, always,
+                       &t->info);
+}
+
+/* One of the four calls, its texts into t. */
+static uint32_t call_of(int call, const struct texts *whole, struct texts *t)
+{
+    struct pocsag_check_info check;
+    struct pocsag_place place;
+    t->tx_len = t->cert_len = 0;
+    switch (call) {
+    case 0:
+        return plan(t);
+    case 1:
+        return pocsag_check(pages, pages_len, whole->cert, whole->cert_len, &check);
+    case 2:
+        return pocsag_decode(whole->tx, whole->tx_len, t->tx, LARGE, &t->tx_len, &place);
+    default:
+        return pocsag_hear(8, whole->tx, whole->tx_len, t->tx, LARGE, &t->tx_len, &place);
+    }
+}
+
+/* Each growth of memory refused in turn: want of memory is told and nothing is written, or the call does without. */
+static long try_refusals(const struct texts *whole)
+{
+    static struct texts ample, t;
+    long number = 0;
+    for (int call = 0; call < 4; call++) {
+        memset(&ample, 0x5a, sizeof ample);
+        if (call_of(call, whole, &ample) != POCSAG_OK)
+            wrong("a call that lacks nothing is refused", call);
+        for (long at = 1;; at++) {
+            memset(&t, 0x5a, sizeof t);
+            live = taken = 0;
+            refuse_at = at;
+            uint32_t status = call_of(call, whole, &t);
+            int reached = taken >= at;
+            refuse_at = 0;
+            if (live != 0)
+                wrong("memory is not given back", at);
+            if (status == POCSAG_OK) {
+                if (memcmp(t.tx, ample.tx, LARGE) != 0 || memcmp(t.cert, ample.cert, LARGE) != 0)
+                    wrong("other bytes where memory is refused", at);
+            } else if (status != POCSAG_OUT_OF_MEMORY || !is_untouched(t.tx, LARGE) || !is_untouched(t.cert, LARGE)) {
+                wrong("refused memory is not told", at);
+            }
+            if (!reached)
+                break;
+            number += status == POCSAG_OUT_OF_MEMORY;
+        }
+    }
+    return number;
+}
+
+static void try_buffers(const struct texts *whole)
+{
+    struct pocsag_plan_info info;
+    struct pocsag_place place;
+    for (size_t less = 0; less < 3; less++) {
+        size_t tx_size = whole->tx_len - (less == 1), cert_size = whole->cert_len - (less == 2), tx_len, cert_len;
+        uint8_t *tx = guarded(tx_size), *cert = guarded(cert_size), *file = guarded(pages_len);
+        memcpy(file, pages, pages_len);
+        uint32_t status = pocsag_plan(file, pages_len, tx, tx_size, &tx_len, cert, cert_size, &cert_len, 100000, end,
+                                      always, &info);
+        if (status != (less == 0 ? POCSAG_OK : less == 1 ? POCSAG_TX_TOO_SMALL : POCSAG_CERT_TOO_SMALL))
+            wrong("the status of a small buffer", (long)status);
+        if (tx_len != whole->tx_len || cert_len != whole->cert_len || memcmp(&info, &whole->info, sizeof info) != 0)
+            wrong("what a small buffer tells", (long)less);
+        if (less == 0 && (memcmp(tx, whole->tx, tx_len) != 0 || memcmp(cert, whole->cert, cert_len) != 0))
+            wrong("the bytes of buffers that just do", 0);
+        if (less != 0 && !(is_untouched(tx, tx_size) && is_untouched(cert, cert_size)))
+            wrong("a small buffer is written", (long)less);
+    }
+    static uint8_t listing[LARGE];
+    size_t wanted, told;
+    if (pocsag_decode(whole->tx, whole->tx_len, listing, LARGE, &wanted, &place) != POCSAG_OK)
+        wrong("the listing", 0);
+    uint8_t *just = guarded(wanted), *small = guarded(wanted - 1), *tx = guarded(whole->tx_len);
+    memcpy(tx, whole->tx, whole->tx_len);
+    if (pocsag_decode(tx, whole->tx_len, just, wanted, &told, &place) != POCSAG_OK || told != wanted ||
+        memcmp(just, listing, wanted) != 0)
+        wrong("a listing that just fits", (long)told);
+    if (pocsag_decode(tx, whole->tx_len, small, wanted - 1, &told, &place) != POCSAG_LISTING_TOO_SMALL ||
+        told != wanted || !is_untouched(small, wanted - 1))
+        wrong("a listing that does not fit", (long)told);
+}
+
+static void *one_thread(void *given)
+{
+    const struct texts *whole = given;
+    struct texts *t = __real_malloc(sizeof *t);
+    for (long i = 0; t != NULL && i < 50; i++) {
+        struct pocsag_check_info check;
+        if (plan(t) != POCSAG_OK || t->tx_len != whole->tx_len || memcmp(t->tx, whole->tx, t->tx_len) != 0 ||
+            t->cert_len != whole->cert_len || memcmp(t->cert, whole->cert, t->cert_len) != 0)
+            wrong("a plan beside others", i);
+        if (pocsag_check(pages, pages_len, t->cert, t->cert_len, &check) != POCSAG_OK)
+            wrong("a check beside others", i);
+    }
+    __real_free(t);
+    return NULL;
+}
+
+int main(int argc, char **argv)
+{
+    static struct texts whole;
+    static uint8_t file[LARGE];
+    FILE *opened = argc == 4 ? fopen(argv[1], "rb") : NULL;
+    if (opened == NULL)
+        return 2;
+    pages = file;
+    pages_len = fread(file, 1, LARGE, opened);
+    fclose(opened);
+    end = (uint32_t)atoi(argv[2]);
+    always = (uint32_t)atoi(argv[3]);
+    if (plan(&whole) != POCSAG_OK)
+        wrong("there is no plan", 0);
+    long number = try_refusals(&whole);
+    try_buffers(&whole);
+    pthread_t threads[8];
+    pthread_attr_t room;
+    pthread_attr_init(&room);
+    pthread_attr_setstacksize(&room, 2 << 20);
+    for (int i = 0; i < 8; i++)
+        if (pthread_create(&threads[i], &room, one_thread, &whole) != 0)
+            wrong("no thread", i);
+    for (int i = 0; i < 8; i++)
+        pthread_join(threads[i], NULL);
+    printf("refused %ld\n", number);
+    return 0;
+}

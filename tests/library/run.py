@@ -1,0 +1,286 @@
+#!/usr/bin/env python3
+"""Calls the C library from C, C++, Python and Rust, beside the built program.
+
+It makes the library, by both compilers of the toolchain where both can be had, and compares the bytes, the listings
+and the refusals of its calls with the program's over random rounds and over files that were changed; runs the
+examples; refuses each growth of memory; gives buffers one byte too small with guard pages behind them; calls from
+eight threads; and runs the same under valgrind and the sanitizers where they are installed.
+The last line is 'N passed, M failed'.
+"""
+
+import os
+import pathlib
+import random
+import re
+import shutil
+import subprocess
+import sys
+
+sys.dont_write_bytecode = True
+HERE = pathlib.Path(__file__).resolve().parent
+TOP = HERE.parents[1]
+sys.path[:0] = [str(HERE.parent), str(TOP / "clib"), str(TOP / "clib/examples")]
+import make
+import pocsag
+from tally import PROGRAM, run_parts
+
+EXAMPLES = TOP / "clib/examples"
+ROUND = TOP / "examples/round.csv"
+ROUNDS, CHANGED = 1_200, 400
+CALLS = {"pocsag_check", "pocsag_decode", "pocsag_hear", "pocsag_plan", "pocsag_report", "pocsag_version"}
+TOLD = b"pages 6\nbatches 2\ntransmission 208 bytes, certificate %d bytes\nat least 2 batches\n"
+
+# What the program prints where a call answers a status.
+SAID = {
+    3: "out of memory", 5: "the limit must be 1 to 1000000", 6: "search limit reached: at least {least} batches, {found} would do",
+    17: "the file is too large", 18: "the header must be address,kind,message",
+    19: "record {record_number}: three fields are wanted", 20: "record {record_number}: bad address",
+    21: "record {record_number}: reserved address", 22: "record {record_number}: unknown kind",
+    23: "record {record_number}: a tone page has no message", 24: "record {record_number}: the message is empty",
+    25: "record {record_number}: bad character at {at}", 26: "record {record_number}: the message is too long",
+    27: "record {record_number}: the address is already there", 28: "record {record_number}: too many pages",
+    29: "record {record_number}: bad payload", 30: "there are no pages",
+    32: "not a certificate", 33: "unknown certificate version", 34: "the certificate is cut short",
+    35: "bytes after the certificate", 36: "the certificate is malformed", 37: "the certificate is malformed",
+    38: "the certificate is too deep", 39: "the certificate has too many nodes",
+    48: "the preamble is too short", 49: "batch {at}: no synchronisation codeword", 50: "codeword {at}: not a codeword",
+    51: "codeword {at}: a message without an address", 52: "the transmission is cut short", 53: "the transmission has no batch",
+    64: "bad address", 65: "reserved address",
+}  # fmt: skip
+
+
+def run(*words, **how):
+    return subprocess.run([str(word) for word in words], capture_output=True, timeout=120, **how)
+
+
+def program(*words):
+    """What the program prints where it is done, or else why it is not."""
+    ran = run(PROGRAM, *words)
+    return ran.returncode, (ran.stdout if ran.returncode == 0 or not ran.stderr else ran.stderr)
+
+
+def said(fault):
+    return f"pocsag: {SAID[fault.status].format(**vars(fault))}\n".encode()
+
+
+def attempt(call, *words, **named):
+    """What a call gives, or its fault."""
+    try:
+        return call(*words, **named)
+    except pocsag.Fault as fault:
+        return fault
+
+
+def random_file(source):
+    """A page file of up to twelve pages."""
+    lines = ["address,kind,message"]
+    for address in source.sample(range(2_000_000), source.randrange(1, 13)):
+        kind = source.choice(["numeric", "alpha", "tone0", "tone1", "tone2", "tone3"])
+        text = ""
+        if kind == "numeric":
+            text = "".join(source.choices("0123456789-", k=source.randrange(1, 90)))
+        elif kind == "alpha":
+            text = "".join(source.choices("abcdefgh XYZ.", k=source.randrange(1, 60))) + "."
+        lines.append(f"{address},{kind},{text}")
+    return ("\n".join(lines) + "\n").encode()
+
+
+def changed(source, data):
+    """The bytes with some of them changed, dropped or put in twice."""
+    data = bytearray(data)
+    for _ in range(source.randrange(1, 4)):
+        place = source.randrange(len(data) + 1)
+        kind = source.randrange(4)
+        if kind == 0 and place < len(data):
+            data[place] = source.choice([source.randrange(256), data[place] ^ 1 << source.randrange(8)])
+        elif kind == 1:
+            del data[place : place + source.randrange(1, 9)]
+        elif kind == 2:
+            data[place:place] = data[place : place + source.randrange(1, 9)]
+        else:
+            del data[place:]
+    return bytes(data)
+
+
+class Library:
+    """The library in a folder, loaded, beside files that the program reads."""
+
+    def __init__(self, folder, room):
+        self.folder = folder
+        self.pocsag = pocsag.Pocsag(str(folder / make.SONAME))
+        self.pages, self.tx, self.cert = room / "pages.csv", room / "pages.bin", room / "pages.cert"
+
+    def beside_program(self, pages, end, always):
+        """Whether a plan, its check and its listings are those of the program; and the plan."""
+        self.pages.write_bytes(pages)
+        words = ["--end", "closed"] * (end == pocsag.CLOSED) + ["--always"] * always
+        status, text = program("plan", self.pages, self.tx, self.cert, *words)
+        plan = attempt(self.pocsag.plan, pages, end=end, always=always)
+        if isinstance(plan, pocsag.Fault):
+            return status != 0 and said(plan) == text, None
+        same = status == 0 and (plan.transmission, plan.certificate) == (self.tx.read_bytes(), self.cert.read_bytes())
+        told = b"pages %d\nbatches %d\n" % (plan.pages, plan.batches)
+        same = same and text == told + (b"at least %d batches\n" % plan.bound) * (plan.bound < plan.batches)
+        shown = self.pocsag.check(pages, plan.certificate)
+        same = same and shown == (True, end == pocsag.CLOSED, plan.bound)
+        return same, plan
+
+    def reads_alike(self, pages, tx, cert, address):
+        """Whether a check, a listing and what a pager shows are what the program says."""
+        self.pages.write_bytes(pages)
+        self.tx.write_bytes(tx)
+        self.cert.write_bytes(cert)
+        shown = attempt(self.pocsag.check, pages, cert)
+        if not isinstance(shown, pocsag.Fault):
+            closed = b" with a closed end" * shown.is_closed
+            shown = (0, b"at least %d batches%s\n" % (shown.batches, closed)) if shown.is_shown else (1, b"not shown\n")
+        answers = [
+            (shown, program("check", self.pages, self.cert)),
+            (attempt(self.pocsag.decode, tx), program("decode", self.tx)),
+            (attempt(self.pocsag.hear, address, tx), program("hear", address, self.tx)),
+        ]
+        return all(self.is_same(*pair) for pair in answers)
+
+    @staticmethod
+    def is_same(answer, told):
+        if isinstance(answer, pocsag.Fault):
+            return told[0] != 0 and said(answer) == told[1]
+        return told == (answer if isinstance(answer, tuple) else (0, answer))
+
+
+def try_bytes(tally, library, rounds, seed):
+    source = random.Random(seed)
+    wrong, plans = [], []
+    for number in range(rounds):
+        pages = random_file(source)
+        same, plan = library.beside_program(pages, source.randrange(2), source.randrange(4) == 0)
+        plans += [(pages, plan)] * (plan is not None)
+        wrong += [number] * (not same)
+    tally.check(f"{rounds} rounds are planned as the program plans them", not wrong, wrong[:5])
+    return plans
+
+
+def try_changed(tally, library, plans, count, seed):
+    source = random.Random(seed)
+    wrong, refused = [], 0
+    for number in range(count):
+        pages, plan = source.choice(plans)
+        files = [pages, plan.transmission, plan.certificate]
+        which = source.randrange(3)
+        files[which] = changed(source, files[which])
+        address = int(pages.split(b"\n")[1].split(b",")[0]) if source.randrange(5) else source.randrange(2_100_000)
+        if which == 0:
+            same, planned = library.beside_program(files[0], 0, False)
+            refused += planned is None
+            wrong += [number] * (not same)
+        wrong += [number] * (not library.reads_alike(*files, address))
+    tally.check(f"{count} changed files are judged as the program judges them", not wrong, wrong[:5])
+    tally.check("some of them are refused", refused > 0)
+
+
+def try_faults(tally, library):
+    call, sample = library.pocsag, ROUND.read_bytes()
+    tally.check("the version", call.version() == 1)
+    for name, wanted, given in (
+        ("a limit of 0", pocsag.BadLimit, dict(limit=0)),
+        ("a limit above the greatest", pocsag.BadLimit, dict(limit=1_000_001)),
+        ("an end that is none", pocsag.BadEnd, dict(end=2)),
+    ):
+        fault = attempt(call.plan, sample, **given)
+        tally.check(name, type(fault) is wanted, fault)
+    fault = attempt(call.plan, b"address,kind,message\n1,tone0,\n2,tone9,\n")
+    tally.check("the record of a fault", (type(fault), fault.record_number) == (pocsag.BadKind, 2), vars(fault))
+    fault = attempt(call.plan, b"address,kind,message\n8,numeric,12x4\n")
+    tally.check("the place of a fault", (type(fault), fault.record_number, fault.at) == (pocsag.BadCharacter, 1, 2), vars(fault))
+    fault = attempt(call.hear, 2_097_152, b"")
+    tally.check("an address that is none", type(fault) is pocsag.PagerBadAddress, fault)
+    plan = call.plan(sample)
+    other = call.check(sample.replace(b"20451", b"2"), plan.certificate)
+    tally.check("a certificate of another round may not be shown, and is judged", other.batches == 2, other)
+
+
+def try_reports(tally, library):
+    """The seven numbers of the sample round, as the program prints them."""
+    names = pocsag.Report._fields[:-1]
+    for rate in (512, 1200, 2400):
+        told = library.pocsag.report(ROUND.read_bytes(), rate)
+        text = "".join(f"{name} {getattr(told, name)}\n" for name in names).encode()
+        tally.check(f"the report at {rate}", (0, text) == program("report", ROUND, "--rate", rate), told)
+    fault = attempt(library.pocsag.report, ROUND.read_bytes(), 1201)
+    tally.check("a rate that is none", type(fault) is pocsag.BadRate, fault)
+
+
+def try_symbols(tally, folder):
+    told = run("nm", "-D", "--defined-only", folder / make.SONAME).stdout.decode().split("\n")
+    names = {line.split()[2].split("@")[0] for line in told if len(line.split()) == 3 and line.split()[1] == "T"}
+    tally.check("the calls alone are seen", names == CALLS, names ^ CALLS)
+    told = run("readelf", "-d", folder / make.SONAME).stdout
+    tally.check("it has its name", make.SONAME.encode() in told and b"TEXTREL" not in told, told)
+
+
+def try_examples(tally, folder, room):
+    wanted = TOLD % len(pocsag.Pocsag(str(folder / make.SONAME)).plan(ROUND.read_bytes()).certificate)
+    beside = {**os.environ, "LD_LIBRARY_PATH": str(folder), "PYTHONDONTWRITEBYTECODE": "1"}
+    flags = ["-std=c11", "-Wall", "-Wextra", "-Werror", f"-I{folder}"]
+    built = run("cc", *flags, EXAMPLES / "plan.c", folder / "libpocsag.a", "-o", room / "plan")
+    tally.check("the example in C, with the archive", run(room / "plan", ROUND).stdout == wanted, built.stderr)
+    built = run("cc", *flags, EXAMPLES / "plan.c", f"-L{folder}", "-lpocsag", "-o", room / "plan_shared")
+    ran = run(room / "plan_shared", ROUND, env=beside)
+    tally.check("the example in C, with the shared library", ran.stdout == wanted, (built.stderr, ran))
+    ran = run(sys.executable, EXAMPLES / "plan.py", folder / make.SONAME, ROUND, env=beside)
+    tally.check("the example in Python", ran.stdout == wanted, ran)
+    if shutil.which("c++"):
+        (room / "plan.cc").write_text('#include "pocsag.h"\nint main() { return pocsag_version() == POCSAG_VERSION ? 0 : 1; }\n')
+        built = run("c++", "-Wall", "-Werror", f"-I{folder}", room / "plan.cc", folder / "libpocsag.a", "-o", room / "plan_cc")
+        tally.check("the header in C++", built.returncode == 0 and run(room / "plan_cc").returncode == 0, built.stderr)
+    if shutil.which("rustc"):
+        built = run("rustc", "--edition", "2021", EXAMPLES / "plan.rs", "-L", folder, "-l", "dylib=pocsag", "-o", room / "plan_rs")
+        ran = run(room / "plan_rs", ROUND, env=beside) if built.returncode == 0 else built
+        tally.check("the example in Rust", ran.stdout == wanted, (built.stderr, ran))
+
+
+def try_page(tally, folder, room):
+    """The two first plans of docs/LIBRARY.md."""
+    blocks = dict(re.findall(r"```(c|python)\n(.*?)```", (TOP / "docs/LIBRARY.md").read_text(), re.DOTALL))
+    (room / "first.c").write_text(blocks["c"])
+    built = run("cc", "-Wall", "-Werror", room / "first.c", f"-I{folder}", folder / "libpocsag.a", "-o", room / "first")
+    ran = run(room / "first") if built.returncode == 0 else built
+    tally.check("the first plan in C", ran.stdout == b"status 0, 1 batches, 140 bytes\n", ran)
+    (room / "first.py").write_text(blocks["python"].replace("FOLDER", str(folder)))
+    ran = run(sys.executable, room / "first.py", env={**os.environ, "PYTHONPATH": str(EXAMPLES), "PYTHONDONTWRITEBYTECODE": "1"})
+    tally.check("the first plan in Python", ran.stdout == b"1 140\naddress,kind,message\n8,tone0,\n\nBadKind 1\n", ran)
+
+
+def try_calls(tally, folder, room):
+    """Memory that is refused, buffers that just do and do not, and threads."""
+    sources = [HERE / "calls.c", folder / "libpocsag.a", f"-I{folder}", "-pthread", "-Wl,--wrap=malloc,--wrap=realloc,--wrap=free"]
+    ways = [("as it is", ["-O1"], [])]
+    if shutil.which("valgrind"):
+        ways.append(("under valgrind", ["-O1", "-g"], ["valgrind", "-q", "--error-exitcode=9", "--leak-check=no"]))
+    ways.append(("with the sanitizer of undefined behaviour", ["-fsanitize=undefined", "-fno-sanitize-recover"], []))
+    for name, flags, before in ways:
+        built = run("cc", "-std=c11", "-Wall", "-Wextra", *flags, *sources, "-o", room / "calls")
+        if built.returncode:
+            tally.check(f"calls {name} are built", "sanitize" in str(flags) and b"cannot find" in built.stderr, built.stderr)
+            continue
+        for closed, always in ((0, 0), (1, 0), (0, 1)) if not before else ((0, 0),):
+            ran = run(*before, room / "calls", ROUND, closed, always)
+            tally.check(f"refused memory, small buffers and threads {name}, {closed} {always}", ran.returncode == 0, (ran.stdout, ran.stderr[-2000:]))
+
+
+def try_library(tally, room):
+    folder = room / "library"
+    make.make(folder, "/usr/local")
+    library = Library(folder, room)
+    try_symbols(tally, folder)
+    try_faults(tally, library)
+    try_reports(tally, library)
+    try_examples(tally, folder, room)
+    try_page(tally, folder, room)
+    try_calls(tally, folder, room)
+    plans = try_bytes(tally, library, ROUNDS, 1)
+    try_changed(tally, library, plans, CHANGED, 2)
+
+
+if __name__ == "__main__":
+    sys.exit(run_parts(try_library))
