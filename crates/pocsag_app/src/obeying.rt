@@ -1,6 +1,7 @@
 use crate::devices::{ReaderSource, WriterSink};
-use crate::files::{RoundFiles, STANDARD, open_buffered, open_source};
+use crate::files::{STANDARD, open_buffered, open_source};
 use crate::planning::{PIECE, plan};
+use crate::round_files::RoundFiles;
 use crate::words::{Order, Search};
 use pocsag_commands::{
     Fault, expected_file, run_check, run_decode, run_hear, run_input, run_report,
@@ -60,7 +61,19 @@ fn obeyed<E: Sink>(
             let mut tx = open_source(rt, tx)?;
             Ok(run_show(alloc, view, &mut tx, &mut out, err))
         }
-        Order::Open { pages, always } => open_path(rt, alloc, always, pages, &mut out, err),
+        Order::Open {
+            pages,
+            always,
+            keep,
+        } => {
+            let places = RoundFiles {
+                rt,
+                alloc,
+                pages,
+                keep,
+            };
+            open_path(always, &places, &mut out, err)
+        }
         Order::Report {
             pages,
             rate,
@@ -71,17 +84,15 @@ fn obeyed<E: Sink>(
 
 // Keeps an open round, that of a page file where its path is given.
 fn open_path<O: Sink, E: Sink>(
-    rt: &HostRuntime,
-    alloc: Global,
     always: bool,
-    path: Option<&str>,
+    places: &RoundFiles<'_>,
     out: &mut O,
     err: &mut E,
 ) -> Result<u8, Fault> {
+    let (rt, alloc) = (places.rt, places.alloc);
     let mut input = ReaderSource::new(rt.stdin());
-    let places = &RoundFiles { rt, pages: path };
     let planner = &Planner { places, always };
-    let Some(path) = path else {
+    let Some(path) = places.pages else {
         return Ok(run_open(alloc, planner, &mut input, out, err));
     };
     if path == STANDARD {

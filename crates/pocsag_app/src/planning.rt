@@ -4,7 +4,7 @@ ghost use Rattle.pocsag_app.specs.Paths.{HasEqual, paths_of};
 
 use crate::devices::WriterSink;
 use crate::files::{STANDARD, make_outputs, open_buffered, open_source, refuse_one_file};
-use crate::keeping::Beside;
+use crate::keeping::{Beside, put_both};
 use crate::misuse::{misused, tell_misuse};
 use crate::paths::refuse_equal;
 use crate::words::{PlanOrder, Search};
@@ -138,18 +138,9 @@ fn plan_beside_two<O: Sink, E: Sink>(
         ..order
     };
     let done = match plan_files(rt, alloc, beside, out, err) {
-        Ok(0) => put_both(rt, tx, &cert),
+        Ok(0) => put_both(rt, tx, &cert).map(|_| 0),
         other => other,
     };
     cert.remove(rt);
     done
-}
-
-// The certificate is in its place before the transmission: none is ever there without its certificate.
-fn put_both(rt: &HostRuntime, tx: &Beside<'_>, cert: &Beside<'_>) -> Result<u8, Fault> {
-    tx.sync(rt)?;
-    cert.sync(rt)?;
-    cert.put(rt)?;
-    tx.put(rt)?;
-    Ok(0)
 }

@@ -31,11 +31,12 @@ pub enum Order<'a> {
         tx: Option<&'a str>,
         view: View,
     },
-    /// `open`, or `open PAGES`: an open round, the path of the page file that it begins with, and whether
-    /// each plan of it is answered.
+    /// `open`, or `open PAGES`: an open round, the path of the page file that it begins with, whether each
+    /// plan of it is answered, and whether old files are kept until the new ones are whole.
     Open {
         pages: Option<&'a str>,
         always: bool,
+        keep: bool,
     },
     /// `report PAGES`: the path of the page file, the rate, and how the plan is searched.
     Report {
@@ -304,7 +305,8 @@ fn open_command<'a>(alloc: Global) -> Result<Command<'a>, AllocError> {
         .about("Keeps an open round, which is edited and planned by the lines of standard input")
         .after_help(OPEN_MANUAL)
         .arg(Arg::new(alloc, PAGES).help("The page file that the round begins with"))?
-        .arg(always_flag(alloc))
+        .arg(always_flag(alloc))?
+        .arg(flag(alloc, KEEP, KEEP_HELP))
 }
 
 fn report_command<'a>(alloc: Global) -> Result<Command<'a>, AllocError> {
@@ -416,6 +418,7 @@ fn order_from<'a>(matches: &ArgMatches<'a>) -> Option<Order<'a>> {
         ROUND => Some(Order::Open {
             pages: found.get_str(PAGES),
             always: found.get_flag(ALWAYS),
+            keep: found.get_flag(KEEP),
         }),
         REPORT => report_order(found),
         _ => None,

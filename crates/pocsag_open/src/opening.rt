@@ -8,6 +8,7 @@ use crate::edits::{Line, line_of, record_of};
 use crate::lines::{Found, Lines};
 use crate::outputs::{Outputs, Places};
 use crate::refusal::Refusal;
+use crate::settling::settled;
 use pocsag_commands::{DEFAULT_LIMIT, Fault, ended, tell};
 use pocsag_decode::{ListFault, list};
 use pocsag_pages::{page_of_fields, read_round};
@@ -131,7 +132,8 @@ fn answer<P: Places, O: Sink>(
     };
     match line_of(&row) {
         Line::Plan { tx, cert, end } => {
-            match plan_book(planner, book, tx, cert, end) {
+            let planned = plan_book(planner, book, tx, cert, end);
+            match settled(planner.places, tx, cert, planned) {
                 Ok(planned) => tell_planned(planned, out),
                 Err(fault) => refuse(Refusal::Undone(fault), out),
             }
