@@ -105,6 +105,19 @@ struct pocsag_check_info {
     struct pocsag_place place;
 };
 
+/* What a plan takes on the air. Where there is none, all but the place is 0. */
+struct pocsag_report_info {
+    uint32_t pages;
+    uint32_t codewords;
+    uint32_t in_order;
+    uint32_t batches;
+    uint32_t bound;
+    uint64_t idles;      /* idle codewords */
+    uint64_t bits;       /* of the transmission */
+    uint64_t airtime_ms; /* milliseconds, rounded up */
+    struct pocsag_place place;
+};
+
 /* POCSAG_VERSION of the library that is linked. */
 uint32_t pocsag_version(void);
 
@@ -131,6 +144,12 @@ uint32_t pocsag_decode(const uint8_t *tx, size_t tx_len,
 uint32_t pocsag_hear(uint32_t address, const uint8_t *tx, size_t tx_len,
                      uint8_t *listing, size_t listing_size, size_t *listing_len,
                      struct pocsag_place *place);
+
+/* Plans the page file as pocsag_plan does, and tells what the plan takes on the air at a rate of 512, 1200 or 2400 bits
+ * a second. */
+uint32_t pocsag_report(const uint8_t *pages, size_t pages_len,
+                       uint32_t rate, uint32_t limit, uint32_t end, uint32_t always,
+                       struct pocsag_report_info *info);
 
 #ifdef __cplusplus
 }

@@ -10,7 +10,7 @@ _pocsag() {
         mapfile -t COMPREPLY < <(compgen -W "512 1200 2400" -- "$word")
         return
         ;;
-    --limit)
+    --limit | --expect)
         COMPREPLY=()
         return
         ;;
@@ -20,13 +20,13 @@ _pocsag() {
     fi
     local -A options=(
         [pocsag]='--help --version -h -V'
-        [plan]='--limit --end --always --verify --keep --help -h'
+        [plan]='--limit --end --expect --always --verify --keep --help -h'
         [check]='--help -h'
         [decode]='--help -h'
         [hear]='--help -h'
         [show]='--svg --list --help -h'
-        [open]='--always --help -h'
-        [report]='--rate --limit --end --always --help -h'
+        [open]='--always --keep --help -h'
+        [report]='--rate --limit --end --expect --always --help -h'
         [help]=''
     )
     local commands='plan check decode hear show open report help'

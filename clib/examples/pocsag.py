@@ -23,6 +23,14 @@ class CheckInfo(ctypes.Structure):
     _fields_ = [("end", ctypes.c_uint32), ("batches", ctypes.c_uint32), ("place", Place)]
 
 
+class ReportInfo(ctypes.Structure):
+    _fields_ = [
+        *((name, ctypes.c_uint32) for name in ("pages", "codewords", "in_order", "batches", "bound")),
+        *((name, ctypes.c_uint64) for name in ("idles", "bits", "airtime_ms")),
+        ("place", Place),
+    ]
+
+
 class Fault(Exception):
     """Why a call did nothing: its status, and where the fault stands."""
 
@@ -46,6 +54,7 @@ FAULTS = {status: type(name, (Fault,), {}) for status, name in NAMES.items()}
 globals().update({fault.__name__: fault for fault in FAULTS.values()})
 
 Plan = namedtuple("Plan", "transmission certificate pages codewords in_order batches bound")
+Report = namedtuple("Report", "pages codewords in_order batches idles bits airtime_ms bound")
 Shown = namedtuple("Shown", "is_shown is_closed batches")
 OPEN, CLOSED = 0, 1
 
@@ -84,6 +93,15 @@ class Pocsag:
         if status:
             raise raised(status, info.place)
         return Plan(bytes(tx)[: tx_len.value], bytes(cert)[: cert_len.value], info.pages, info.codewords, info.in_order, info.batches, info.bound)
+
+    def report(self, pages, rate, limit=100_000, end=OPEN, always=False):
+        """What the plan of a page file takes on the air at a rate."""
+        info = ReportInfo()
+        words = map(ctypes.c_uint32, (rate, limit, end, always))
+        status = self.library.pocsag_report(*bytes_in(pages), *words, ctypes.byref(info))
+        if status:
+            raise raised(status, info.place)
+        return Report(*(getattr(info, name) for name in Report._fields))
 
     def check(self, pages, certificate):
         """Whether the certificate shows its number of batches for the page file."""

@@ -15,10 +15,11 @@ sys.dont_write_bytecode = True
 sys.path.insert(0, str(pathlib.Path(__file__).resolve().parents[1]))
 from tally import PROGRAM, TOP, Tally, as_nobody
 
-PLACES = ["bin/pocsag", "share/bash-completion/completions/pocsag", "share/man/man1/pocsag.1"]
+PLACES = ["bin/pocsag", "share/man/man1/pocsag.1", "share/bash-completion/completions/pocsag"]
+LIBRARY = ["lib/libpocsag.a", "lib/libpocsag.so.1", "lib/pkgconfig/pocsag.pc", "include/pocsag.h", "lib/libpocsag.so"]
 COMMANDS = ["plan", "check", "decode", "hear", "show", "open", "report"]
 # Options with a value, and what is offered for it.
-VALUES = {"--end": {"open", "closed"}, "--rate": {"512", "1200", "2400"}, "--limit": set()}
+VALUES = {"--end": {"open", "closed"}, "--rate": {"512", "1200", "2400"}, "--limit": set(), "--expect": set()}
 
 
 def install(*words):
@@ -44,8 +45,8 @@ def try_installed(tally, folder):
     room.chmod(0o777)
     status, out, err = install(prefix)
     tally.check("install", status == 0, (status, err))
-    tally.check("what it brings is told", out.split() == [str(prefix / it) for it in ("bin/pocsag", "share/man/man1/pocsag.1", "share/bash-completion/completions/pocsag")], out)
-    tally.check("all of it is there", all((prefix / it).is_file() for it in PLACES), files_below(prefix))
+    tally.check("what it brings is told", out.split() == [str(prefix / it) for it in PLACES + LIBRARY], out)
+    tally.check("all of it is there", all((prefix / it).is_file() for it in PLACES + LIBRARY), files_below(prefix))
     tally.check("the program is the built one", (prefix / "bin/pocsag").read_bytes() == PROGRAM.read_bytes())
     program = prefix / "bin/pocsag"
     shutil.copy(TOP / "examples/round.csv", room / "round.csv")
@@ -62,6 +63,18 @@ def try_installed(tally, folder):
     tally.check("a process a channel", ran.returncode == 0 and len(list(room.glob("*.bin"))) == 41 and len(sent) == 1, ran)
 
 
+def try_library(tally, folder):
+    """Compiles and runs an example over the installed library alone."""
+    prefix = folder / "prefix"
+    words = ["cc", "-o", str(folder / "plan"), str(TOP / "clib/examples/plan.c"), f"-I{prefix / 'include'}", f"-L{prefix / 'lib'}", "-lpocsag"]
+    built = subprocess.run(words, capture_output=True, text=True)
+    tally.check("an example is compiled over it", built.returncode == 0, built.stderr)
+    environment = {"PATH": "/usr/bin:/bin", "LD_LIBRARY_PATH": str(prefix / "lib")}
+    ran = subprocess.run([str(folder / "plan"), str(TOP / "examples/round.csv")], capture_output=True, text=True, env=environment)
+    tally.check("and runs", ran.returncode == 0 and ran.stdout.startswith("pages 6\nbatches 2\n"), ran)
+    tally.check("its folder stands in the package's file", f"prefix={prefix}\n" in (prefix / "lib/pkgconfig/pocsag.pc").read_text())
+
+
 def try_again(tally, folder):
     prefix = folder / "prefix"
     inode = (prefix / "bin/pocsag").stat().st_ino
@@ -75,7 +88,8 @@ def try_again(tally, folder):
     status, out, err = install("--uninstall", prefix)
     tally.check("twice does no harm", (status, out, err) == (0, "", ""), (status, out, err))
     made = folder / "made"
-    status, _, _ = install(made)
+    status, out, _ = install("--program", made)
+    tally.check("the program alone", out.split() == [str(made / it) for it in PLACES], out)
     tally.check("a folder that is not there", status == 0 and (made / "bin/pocsag").is_file())
     install("--uninstall", made)
     tally.check("goes again with what it held", not made.exists())
@@ -127,7 +141,7 @@ def try_completions(tally, _folder):
 def main():
     tally = Tally()
     with tempfile.TemporaryDirectory() as name:
-        for part in (try_installed, try_again, try_refused, try_completions):
+        for part in (try_installed, try_library, try_again, try_refused, try_completions):
             part(tally, pathlib.Path(name).resolve())
     return tally.end()
 

@@ -11,6 +11,7 @@ The last line is 'N passed, M failed'.
 import os
 import pathlib
 import random
+import re
 import shutil
 import subprocess
 import sys
@@ -26,7 +27,7 @@ from tally import PROGRAM, run_parts
 EXAMPLES = TOP / "clib/examples"
 ROUND = TOP / "examples/round.csv"
 ROUNDS, CHANGED = 1_200, 400
-CALLS = {"pocsag_check", "pocsag_decode", "pocsag_hear", "pocsag_plan", "pocsag_version"}
+CALLS = {"pocsag_check", "pocsag_decode", "pocsag_hear", "pocsag_plan", "pocsag_report", "pocsag_version"}
 TOLD = b"pages 6\nbatches 2\ntransmission 208 bytes, certificate %d bytes\nat least 2 batches\n"
 
 # What the program prints where a call answers a status.
@@ -198,6 +199,17 @@ def try_faults(tally, library):
     tally.check("a certificate of another round may not be shown, and is judged", other.batches == 2, other)
 
 
+def try_reports(tally, library):
+    """The seven numbers of the sample round, as the program prints them."""
+    names = pocsag.Report._fields[:-1]
+    for rate in (512, 1200, 2400):
+        told = library.pocsag.report(ROUND.read_bytes(), rate)
+        text = "".join(f"{name} {getattr(told, name)}\n" for name in names).encode()
+        tally.check(f"the report at {rate}", (0, text) == program("report", ROUND, "--rate", rate), told)
+    fault = attempt(library.pocsag.report, ROUND.read_bytes(), 1201)
+    tally.check("a rate that is none", type(fault) is pocsag.BadRate, fault)
+
+
 def try_symbols(tally, folder):
     told = run("nm", "-D", "--defined-only", folder / make.SONAME).stdout.decode().split("\n")
     names = {line.split()[2].split("@")[0] for line in told if len(line.split()) == 3 and line.split()[1] == "T"}
@@ -227,6 +239,18 @@ def try_examples(tally, folder, room):
         tally.check("the example in Rust", ran.stdout == wanted, (built.stderr, ran))
 
 
+def try_page(tally, folder, room):
+    """The two first plans of docs/LIBRARY.md."""
+    blocks = dict(re.findall(r"```(c|python)\n(.*?)```", (TOP / "docs/LIBRARY.md").read_text(), re.DOTALL))
+    (room / "first.c").write_text(blocks["c"])
+    built = run("cc", "-Wall", "-Werror", room / "first.c", f"-I{folder}", folder / "libpocsag.a", "-o", room / "first")
+    ran = run(room / "first") if built.returncode == 0 else built
+    tally.check("the first plan in C", ran.stdout == b"status 0, 1 batches, 140 bytes\n", ran)
+    (room / "first.py").write_text(blocks["python"].replace("FOLDER", str(folder)))
+    ran = run(sys.executable, room / "first.py", env={**os.environ, "PYTHONPATH": str(EXAMPLES), "PYTHONDONTWRITEBYTECODE": "1"})
+    tally.check("the first plan in Python", ran.stdout == b"1 140\naddress,kind,message\n8,tone0,\n\nBadKind 1\n", ran)
+
+
 def try_calls(tally, folder, room):
     """Memory that is refused, buffers that just do and do not, and threads."""
     sources = [HERE / "calls.c", folder / "libpocsag.a", f"-I{folder}", "-pthread", "-Wl,--wrap=malloc,--wrap=realloc,--wrap=free"]
@@ -250,7 +274,9 @@ def try_library(tally, room):
     library = Library(folder, room)
     try_symbols(tally, folder)
     try_faults(tally, library)
+    try_reports(tally, library)
     try_examples(tally, folder, room)
+    try_page(tally, folder, room)
     try_calls(tally, folder, room)
     plans = try_bytes(tally, library, ROUNDS, 1)
     try_changed(tally, library, plans, CHANGED, 2)

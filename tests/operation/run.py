@@ -97,6 +97,36 @@ def try_keep(tally, folder):
         tally.check(f"--keep and one file twice: {words}", holds and not list(room.glob("*.new")), (done, os.listdir(room)))
 
 
+def try_keep_open(tally, folder):
+    """`open --keep`: a plan line that is refused leaves the old files, one that is answered replaces both."""
+    room = fresh(folder, "keep open")
+    names = set(os.listdir(room))
+    due = planned(folder, TONE, "due open")
+    refused = b"refused: there are no pages\n"
+    done = run(["open", "--keep"], room, b"plan,tx.bin,cert.bin\n")
+    tally.check("open --keep, refused", done.stdout == refused and stand(room) == OLD and set(os.listdir(room)) == names, done)
+    done = run(["open", "--keep"], room, b"add,8,tone0,\nplan,tx.bin,none/cert.bin\nplan,none/tx.bin,cert.bin\n")
+    cannot = b"refused: cannot read or open a file\n"
+    holds = done.stdout == b"ok 1\n" + 2 * cannot and stand(room) == OLD and set(os.listdir(room)) == names
+    tally.check("open --keep in no folder", holds, (done, os.listdir(room)))
+    (room / "link.bin").symlink_to("tx.bin")
+    os.mkfifo(room / "fifo")
+    lines = b"add,8,tone0,\nplan,link.bin,cert.bin\nplan,tx.bin,fifo\nplan,tx.bin,tx.bin\nplan,a,./a\nplan,-,cert.bin\n"
+    twice = b"refused: the same file is named twice\n"
+    done = run(["open", "--keep"], room, lines)
+    tally.check("open --keep at links and pipes", done.stdout == b"ok 1\n" + 2 * cannot + 3 * twice and stand(room) == OLD, done)
+    done = run(["open", "--keep", "pages.csv"], room, b"plan,tx.bin,cert.bin\nplan,tx.bin,cert.bin\n")
+    holds = done.stdout == 2 * b"batches 1\n" and stand(room) == due and not list(room.glob("*.new"))
+    tally.check("open --keep puts both in place", holds, (done, os.listdir(room)))
+    if shutil.which("strace"):
+        for number in (1, 2):
+            room = fresh(folder, f"keep open {number}")
+            trace = ["strace", "-qq", "-o", "trace", "-e", "trace=rename", "-e", f"inject=rename:error=EIO:when={number}"]
+            done = subprocess.run([*trace, str(PROGRAM), "open", "--keep", "pages.csv"], cwd=room, input=b"plan,tx.bin,cert.bin\n", capture_output=True)
+            holds = done.stdout == b"refused: cannot write\n" and is_one_of(stand(room), OLD, due) and not list(room.glob("*.new"))
+            tally.check(f"open --keep where renaming {number} fails", holds, (done, stand(room)))
+
+
 def is_one_of(now, before, due):
     """Both files are old or new, each whole, and a new transmission never stands beside an old certificate."""
     sent, shown = now
@@ -147,6 +177,26 @@ def try_single_calls(tally, folder):
                 shutil.rmtree(room)
                 if not reached:
                     break
+
+
+def try_expect(tally, folder):
+    """`--expect` refuses a round of another number of pages, and leaves the files as they are."""
+    room = fresh(folder, "expect")
+    swallowed = HEADER + b'8,tone0,\n9,alpha,"Pump 4\n16,tone0,\n24,tone0,\n'
+    (room / "quote.csv").write_bytes(swallowed)
+    fault = b"pocsag: pages 2, where 4 were expected\n"
+    for words in (["plan", "quote.csv", "tx.bin", "cert.bin"], ["plan", "quote.csv", "tx.bin", "cert.bin", "--keep"],
+                  ["plan", "-", "-", "cert.bin"], ["report", "quote.csv", "--rate", "512"], ["plan", "quote.csv", "tx.bin", "cert.bin", "--always"]):
+        done = run([*words, "--expect", "4"], room, swallowed)
+        tally.check(f"unexpected: {words}", (done.returncode, done.stdout, done.stderr) == (1, b"", fault) and stand(room) == OLD, done)
+    for words in (["plan", "quote.csv", "t", "c"], ["plan", "quote.csv", "t", "c", "--keep", "--verify", "--always"], ["report", "quote.csv", "--rate", "512"]):
+        plain, done = run(words, room), run([*words, "--expect", "2"], room)
+        holds = plain.returncode == 0 and (done.returncode, done.stdout, done.stderr) == (0, plain.stdout, b"")
+        tally.check(f"expected: {words}", holds, done)
+    done = run(["plan", "bad.csv", "tx.bin", "cert.bin", "--expect", "1"], room)
+    tally.check("a fault before the count", done.stderr == b"pocsag: record 1: unknown kind\n" and stand(room) == OLD, done)
+    done = run(["plan", "pages.csv", "tx.bin", "cert.bin", "--expect", "x"], room)
+    tally.check("no number", done.returncode == 2 and stand(room) == OLD, done)
 
 
 def try_verify(tally, folder):
@@ -262,7 +312,7 @@ def try_page(tally, folder):
 
 
 def main():
-    return run_parts(try_keep, try_kills, try_single_calls, try_verify, try_pipes, try_terminal, try_page)
+    return run_parts(try_keep, try_keep_open, try_kills, try_single_calls, try_expect, try_verify, try_pipes, try_terminal, try_page)
 
 
 if __name__ == "__main__":

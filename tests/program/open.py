@@ -349,6 +349,18 @@ def hard_plans(tally, folder):
         program.close()
 
 
+def hard_pages(tally, folder):
+    """The same where the round is that of PAGES."""
+    records = [b"%d,numeric,%s\n" % (8 * place + frame, 5 * (length - 1) * b"1") for place, (frame, length) in enumerate(HARD)]
+    (folder / "hard.csv").write_bytes(HEADER + b"".join(records))
+    for words in (("hard.csv",), ("hard.csv", "--always")):
+        program = OpenRound(folder, *words)
+        found = program.ask(b"plan,hard.bin,hard.cert")
+        holds = found == b"batches 9" if "--always" in words else found.startswith(b"refused: search limit reached: at least 8 batches")
+        tally.check(f"a hard round of {words}", holds, found)
+        program.close()
+
+
 def begins_with_pages(tally, folder):
     path = folder / "pages.csv"
     path.write_bytes(HEADER + b"8,tone0,\n16,numeric,12\n")
@@ -412,6 +424,7 @@ def main():
         many_pages,
         files_of_a_plan,
         hard_plans,
+        hard_pages,
         begins_with_pages,
         last_line,
         worked_session,

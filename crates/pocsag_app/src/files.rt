@@ -1,8 +1,8 @@
 use crate::devices::{ReaderSource, WriterSink};
-use crate::paths::{Named, name_one_file, refuse_equal};
+use crate::paths::{Named, name_one_file};
 use crate::streams::{Input, Output};
 use pocsag_commands::Fault;
-use pocsag_open::{Outputs, Places};
+use pocsag_open::Outputs;
 use std::alloc::Global;
 use std::fs::{self, File, OpenFile, OpenOptions};
 use std::io::{self, BufReader, ErrorKind};
@@ -115,25 +115,4 @@ pub fn refuse_one_file<R: Files>(
         return Err(Fault::EqualPaths);
     }
     Ok(())
-}
-
-/// The files that the plans of an open round are written to, none of which is the page file that the round
-/// began with, and none standard output, which the answers take.
-#[derive(Drop)]
-pub struct RoundFiles<'a> {
-    pub rt: &'a HostRuntime,
-    /// The path of that page file, if there is one.
-    pub pages: Option<&'a str>,
-}
-
-impl Places for RoundFiles<'_> {
-    type Output = WriterSink<Output<File>>;
-
-    fn make(&self, tx: &str, cert: &str) -> Result<Outputs<WriterSink<Output<File>>>, Fault> {
-        refuse_equal(self.pages, tx, cert)?;
-        if tx == STANDARD || cert == STANDARD {
-            return Err(Fault::EqualPaths);
-        }
-        make_outputs(self.rt, self.pages, tx, cert)
-    }
 }

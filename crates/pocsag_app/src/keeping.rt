@@ -15,15 +15,21 @@ pub struct Beside<'a> {
 impl<'a> Beside<'a> {
     /// Makes an empty file beside the place, with the rights of the file that stands there, if there is one.
     pub fn make(rt: &HostRuntime, alloc: Global, place: &'a str) -> Result<Beside<'a>, Fault> {
-        let number = process::id(rt.process());
-        let path = format!(in alloc; "{place}.{number}.new")?;
+        let beside = Beside::of(rt, alloc, place)?;
         // What a process of the same number left when it was ended.
-        let _ = fs::remove_file(rt, path.as_str());
-        let file = File::create_new(rt, path.as_str()).map_err(fault_of)?;
+        beside.remove(rt);
+        let file = File::create_new(rt, beside.path()).map_err(fault_of)?;
         match fs::metadata(rt, place) {
             Ok(old) => file.set_permissions(old.permissions()).map_err(fault_of)?,
             Err(_) => {}
         }
+        Ok(beside)
+    }
+
+    /// That which this process makes beside the place.
+    pub fn of(rt: &HostRuntime, alloc: Global, place: &'a str) -> Result<Beside<'a>, Fault> {
+        let number = process::id(rt.process());
+        let path = format!(in alloc; "{place}.{number}.new")?;
         Ok(Beside { place, path })
     }
 
@@ -32,13 +38,13 @@ impl<'a> Beside<'a> {
         self.path.as_str()
     }
 
-    /// Synchronises what was written with the disk.
-    pub fn sync(&self, rt: &HostRuntime) -> Result<(), Fault> {
+    // Synchronises what was written with the disk.
+    fn sync(&self, rt: &HostRuntime) -> Result<(), Fault> {
         sync(rt, self.path())
     }
 
-    /// Puts the file in its place, at once and whole, and its name on the disk.
-    pub fn put(&self, rt: &HostRuntime) -> Result<(), Fault> {
+    // Puts the file in its place, at once and whole, and its name on the disk.
+    fn put(&self, rt: &HostRuntime) -> Result<(), Fault> {
         match fs::rename(rt, self.path(), self.place) {
             Ok(()) => sync(rt, folder_of(self.place)),
             Err(_) => Err(Fault::Write),
@@ -49,6 +55,15 @@ impl<'a> Beside<'a> {
     pub fn remove(&self, rt: &HostRuntime) {
         let _ = fs::remove_file(rt, self.path());
     }
+}
+
+/// Puts both files in their places once both are on the disk, the certificate first: no transmission is ever
+/// there without its certificate.
+pub fn put_both(rt: &HostRuntime, tx: &Beside<'_>, cert: &Beside<'_>) -> Result<(), Fault> {
+    tx.sync(rt)?;
+    cert.sync(rt)?;
+    cert.put(rt)?;
+    tx.put(rt)
 }
 
 // The folder that a path stands in.

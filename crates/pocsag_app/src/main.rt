@@ -8,6 +8,7 @@ mod misuse;
 mod obeying;
 mod paths;
 mod planning;
+mod round_files;
 mod streams;
 mod words;
 

@@ -39,12 +39,18 @@ pub fn misused(rt: &HostRuntime, order: PlanOrder<'_>) -> Option<Misuse> {
             let Some(path) = path else {
                 return Some(Misuse::Keep);
             };
-            if is_other(fs::symlink_metadata(rt, path)) {
+            if !is_regular_or_none(rt, path) {
                 return Some(Misuse::Keep);
             }
         }
     }
     None
+}
+
+/// Whether what stands at a path may be replaced by renaming: a regular file and no link to one, or nothing.
+/// A folder is told when it is replaced.
+pub fn is_regular_or_none(rt: &HostRuntime, path: &str) -> bool {
+    !is_other(fs::symlink_metadata(rt, path))
 }
 
 // Whether there is something that is no regular file. A folder is told when it is opened.

@@ -1,13 +1,14 @@
 use crate::devices::{ReaderSource, WriterSink};
-use crate::files::{RoundFiles, STANDARD, open_buffered, open_source};
-use crate::planning::plan;
+use crate::files::{STANDARD, open_buffered, open_source};
+use crate::planning::{PIECE, plan};
+use crate::round_files::RoundFiles;
 use crate::words::{Order, Search};
 use pocsag_commands::{
-    Fault, run_check, run_decode, run_hear, run_input, run_report, run_report_always, run_show,
-    tell, tell_fault,
+    Fault, expected_file, run_check, run_decode, run_hear, run_input, run_report,
+    run_report_always, run_show, tell, tell_fault,
 };
 use pocsag_open::{Planner, run_open, run_open_pages};
-use pocsag_words::Sink;
+use pocsag_words::{MemorySource, Sink, Source};
 use std::alloc::Global;
 use std::io::IsTerminal;
 
@@ -60,7 +61,19 @@ fn obeyed<E: Sink>(
             let mut tx = open_source(rt, tx)?;
             Ok(run_show(alloc, view, &mut tx, &mut out, err))
         }
-        Order::Open { pages, always } => open_path(rt, alloc, always, pages, &mut out, err),
+        Order::Open {
+            pages,
+            always,
+            keep,
+        } => {
+            let places = RoundFiles {
+                rt,
+                alloc,
+                pages,
+                keep,
+            };
+            open_path(always, &places, &mut out, err)
+        }
         Order::Report {
             pages,
             rate,
@@ -71,17 +84,15 @@ fn obeyed<E: Sink>(
 
 // Keeps an open round, that of a page file where its path is given.
 fn open_path<O: Sink, E: Sink>(
-    rt: &HostRuntime,
-    alloc: Global,
     always: bool,
-    path: Option<&str>,
+    places: &RoundFiles<'_>,
     out: &mut O,
     err: &mut E,
 ) -> Result<u8, Fault> {
+    let (rt, alloc) = (places.rt, places.alloc);
     let mut input = ReaderSource::new(rt.stdin());
-    let places = &RoundFiles { rt, pages: path };
     let planner = &Planner { places, always };
-    let Some(path) = path else {
+    let Some(path) = places.pages else {
         return Ok(run_open(alloc, planner, &mut input, out, err));
     };
     if path == STANDARD {
@@ -103,9 +114,30 @@ fn report_path<O: Sink, E: Sink>(
     err: &mut E,
 ) -> Result<u8, Fault> {
     let mut pages = open_source(rt, path)?;
-    let Search { limit, end, always } = search;
+    let Some(expected) = search.expect else {
+        return Ok(report_round(alloc, rate, search, &mut pages, out, err));
+    };
+    let file = expected_file(alloc, expected, &mut pages)?;
+    let mut held = MemorySource::new(file.as_slice(), PIECE, u64::MAX);
+    Ok(report_round(alloc, rate, search, &mut held, out, err))
+}
+
+fn report_round<P: Source, O: Sink, E: Sink>(
+    alloc: Global,
+    rate: u32,
+    search: Search,
+    pages: &mut P,
+    out: &mut O,
+    err: &mut E,
+) -> u8 {
+    let Search {
+        limit,
+        end,
+        always,
+        ..
+    } = search;
     if always {
-        return Ok(run_report_always(alloc, rate, limit, end, &mut pages, out, err));
+        return run_report_always(alloc, rate, limit, end, pages, out, err);
     }
-    Ok(run_report(alloc, rate, limit, end, &mut pages, out, err))
+    run_report(alloc, rate, limit, end, pages, out, err)
 }

@@ -4,13 +4,16 @@ ghost use Rattle.pocsag_app.specs.Paths.{HasEqual, paths_of};
 
 use crate::devices::WriterSink;
 use crate::files::{STANDARD, make_outputs, open_buffered, open_source, refuse_one_file};
-use crate::keeping::Beside;
+use crate::keeping::{Beside, put_both};
 use crate::misuse::{misused, tell_misuse};
 use crate::paths::refuse_equal;
 use crate::words::{PlanOrder, Search};
-use pocsag_commands::{Fault, run_plan, run_plan_always, run_verify};
-use pocsag_words::Sink;
+use pocsag_commands::{Fault, expected_file, run_plan, run_plan_always, run_verify};
+use pocsag_words::{MemorySource, Sink, Source};
 use std::alloc::Global;
+
+/// How many bytes of a page file in memory are read at a time.
+pub const PIECE: usize = 65_536;
 
 /// `plan`: plans from file to files, or from and to the standard streams. Where standard output takes one of
 /// the files, the lines go to standard error. Answers the exit status.
@@ -60,13 +63,34 @@ fn write_files<O: Sink, E: Sink>(
     err: &mut E,
 ) -> Result<u8, Fault> {
     let mut pages = open_source(rt, order.pages)?;
+    let Some(expected) = order.search.expect else {
+        return write_round(rt, alloc, order, &mut pages, out, err);
+    };
+    let file = expected_file(alloc, expected, &mut pages)?;
+    let mut held = MemorySource::new(file.as_slice(), PIECE, u64::MAX);
+    write_round(rt, alloc, order, &mut held, out, err)
+}
+
+fn write_round<P: Source, O: Sink, E: Sink>(
+    rt: &HostRuntime,
+    alloc: Global,
+    order: PlanOrder<'_>,
+    pages: &mut P,
+    out: &mut O,
+    err: &mut E,
+) -> Result<u8, Fault> {
     let mut outputs = make_outputs(rt, order.pages, order.tx, order.cert)?;
-    let Search { limit, end, always } = order.search;
+    let Search {
+        limit,
+        end,
+        always,
+        ..
+    } = order.search;
     let (tx, cert) = (&mut outputs.tx, &mut outputs.cert);
     if always {
-        return Ok(run_plan_always(alloc, limit, end, &mut pages, tx, cert, out, err));
+        return Ok(run_plan_always(alloc, limit, end, pages, tx, cert, out, err));
     }
-    Ok(run_plan(alloc, limit, end, &mut pages, tx, cert, out, err))
+    Ok(run_plan(alloc, limit, end, pages, tx, cert, out, err))
 }
 
 fn read_back<O: Sink, E: Sink>(
@@ -114,18 +138,9 @@ fn plan_beside_two<O: Sink, E: Sink>(
         ..order
     };
     let done = match plan_files(rt, alloc, beside, out, err) {
-        Ok(0) => put_both(rt, tx, &cert),
+        Ok(0) => put_both(rt, tx, &cert).map(|_| 0),
         other => other,
     };
     cert.remove(rt);
     done
-}
-
-// The certificate is in its place before the transmission: none is ever there without its certificate.
-fn put_both(rt: &HostRuntime, tx: &Beside<'_>, cert: &Beside<'_>) -> Result<u8, Fault> {
-    tx.sync(rt)?;
-    cert.sync(rt)?;
-    cert.put(rt)?;
-    tx.put(rt)?;
-    Ok(0)
 }

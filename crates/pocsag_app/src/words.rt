@@ -31,11 +31,12 @@ pub enum Order<'a> {
         tx: Option<&'a str>,
         view: View,
     },
-    /// `open`, or `open PAGES`: an open round, the path of the page file that it begins with, and whether
-    /// each plan of it is answered.
+    /// `open`, or `open PAGES`: an open round, the path of the page file that it begins with, whether each
+    /// plan of it is answered, and whether old files are kept until the new ones are whole.
     Open {
         pages: Option<&'a str>,
         always: bool,
+        keep: bool,
     },
     /// `report PAGES`: the path of the page file, the rate, and how the plan is searched.
     Report {
@@ -60,9 +61,11 @@ pub struct PlanOrder<'a> {
     pub keep: bool,
 }
 
-/// How a plan is searched: the node limit, the end, and whether each round is answered.
+/// How a plan is searched: the node limit, the end, and whether each round is answered; and how many pages
+/// the round must have, if that is given.
 #[derive(Clone, Copy, PartialEq, Eq, Debug)]
 pub struct Search {
+    pub expect: Option<u32>,
     pub limit: u32,
     pub end: End,
     pub always: bool,
@@ -99,6 +102,8 @@ const LIMIT: &str = "limit";
 const END: &str = "end";
 
 const VERIFY: &str = "verify";
+
+const EXPECT: &str = "expect";
 
 const KEEP: &str = "keep";
 
@@ -188,6 +193,10 @@ const ALWAYS_HELP: &str = "\
 Answers every round: where the limit is reached, with one batch
 more than is shown to be needed";
 
+const EXPECT_HELP: &str = "\
+How many pages the round must have; with another number
+it is refused, and TX and CERT stay as they are";
+
 const KEEP_HELP: &str = "\
 Keeps what stands at TX and CERT until both are written whole,
 and puts them there by renaming, CERT first";
@@ -220,6 +229,10 @@ fn always_flag<'a>(alloc: Global) -> Arg<'a> {
     flag(alloc, ALWAYS, ALWAYS_HELP)
 }
 
+fn expect_option<'a>(alloc: Global) -> Arg<'a> {
+    option(alloc, EXPECT, "N", EXPECT_HELP).value_parser(value_parser!(u32))
+}
+
 fn flag<'a>(alloc: Global, id: &'a str, help: &'a str) -> Arg<'a> {
     Arg::new(alloc, id)
         .long(id)
@@ -239,6 +252,7 @@ Writes a page file's transmission with the fewest batches, and the certificate o
         .arg(positional(alloc, CERT, CERT_HELP))?
         .arg(limit_option(alloc))?
         .arg(end_option(alloc))?
+        .arg(expect_option(alloc))?
         .arg(always_flag(alloc))?
         .arg(flag(
             alloc,
@@ -291,7 +305,8 @@ fn open_command<'a>(alloc: Global) -> Result<Command<'a>, AllocError> {
         .about("Keeps an open round, which is edited and planned by the lines of standard input")
         .after_help(OPEN_MANUAL)
         .arg(Arg::new(alloc, PAGES).help("The page file that the round begins with"))?
-        .arg(always_flag(alloc))
+        .arg(always_flag(alloc))?
+        .arg(flag(alloc, KEEP, KEEP_HELP))
 }
 
 fn report_command<'a>(alloc: Global) -> Result<Command<'a>, AllocError> {
@@ -304,6 +319,7 @@ fn report_command<'a>(alloc: Global) -> Result<Command<'a>, AllocError> {
         .arg(rate)?
         .arg(limit_option(alloc))?
         .arg(end_option(alloc))?
+        .arg(expect_option(alloc))?
         .arg(always_flag(alloc))
 }
 
@@ -332,6 +348,7 @@ fn end_of(found: &ArgMatches<'_>) -> Option<End> {
 
 fn search_of(found: &ArgMatches<'_>) -> Option<Search> {
     Some(Search {
+        expect: found.get_one::<u32>(EXPECT),
         limit: found.get_one::<u32>(LIMIT)?,
         end: end_of(found)?,
         always: found.get_flag(ALWAYS),
@@ -401,6 +418,7 @@ fn order_from<'a>(matches: &ArgMatches<'a>) -> Option<Order<'a>> {
         ROUND => Some(Order::Open {
             pages: found.get_str(PAGES),
             always: found.get_flag(ALWAYS),
+            keep: found.get_flag(KEEP),
         }),
         REPORT => report_order(found),
         _ => None,

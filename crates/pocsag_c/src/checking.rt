@@ -32,8 +32,10 @@ pub(crate) fn end_number(end: End) -> u32
 }
 
 fn judged(alloc: Global, pages: &[u8], cert: &[u8]) -> Result<Judged, Fault>
-    ensures shown { IfOk result (λ judged. IsTrue judged.is_shown → Checked pages.now cert.now judged.end judged.batches) }
-    ensures not_shown { IfOk result (λ judged. IsFalse judged.is_shown → IsNotShown pages.now cert.now judged.end judged.batches) }
+    ensures shown { IfOk result (λ judged. IsTrue judged.is_shown →
+        Checked pages.now cert.now judged.end judged.batches) }
+    ensures not_shown { IfOk result (λ judged. IsFalse judged.is_shown →
+        IsNotShown pages.now cert.now judged.end judged.batches) }
     ensures explained { IfErr result (ExplainsJudging pages.now cert.now) }
 {
     let mut pages = SliceSource::new(pages);

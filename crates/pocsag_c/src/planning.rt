@@ -43,7 +43,8 @@ struct Written {
 }
 
 fn write_fewest(alloc: Global, pages: &[u8], limit: u32, end: End) -> Result<Written, StreamFault>
-    ensures headline { IfOk result (λ w. Headline pages.now end w.bounded.plan.batches (bound_of w.bounded.plan.tree) w.sent.items w.certificate.items) }
+    ensures headline { IfOk result (λ w.
+        Headline pages.now end w.bounded.plan.batches (bound_of w.bounded.plan.tree) w.sent.items w.certificate.items) }
     ensures bound { IfOk result (λ w. w.bounded.bound ≡ w.bounded.plan.batches) }
     ensures plan { IfOk result (λ w. IsBoundedOf pages.now end w.bounded) }
     ensures explained { IfErr result (ExplainsStream pages.now end limit) }
@@ -61,7 +62,9 @@ fn write_fewest(alloc: Global, pages: &[u8], limit: u32, end: End) -> Result<Wri
 }
 
 fn write_bounded(alloc: Global, pages: &[u8], limit: u32, end: End) -> Result<Written, StreamFault>
-    ensures headline { IfOk result (λ w. BoundedHeadline pages.now end w.bounded.plan.batches w.bounded.bound (bound_of w.bounded.plan.tree) w.sent.items w.certificate.items) }
+    ensures headline { IfOk result (λ w.
+        BoundedHeadline pages.now end w.bounded.plan.batches w.bounded.bound
+        (bound_of w.bounded.plan.tree) w.sent.items w.certificate.items) }
     ensures fewest { IfOk result (λ w. w.bounded.bound ≡ w.bounded.plan.batches →
         Headline pages.now end w.bounded.plan.batches (bound_of w.bounded.plan.tree) w.sent.items w.certificate.items) }
     ensures plan { IfOk result (λ w. IsBoundedOf pages.now end w.bounded) }
@@ -89,7 +92,8 @@ fn write_asked(
     ensures headline { IfOk result (λ w. w.bounded.bound ≡ w.bounded.plan.batches →
         Headline pages.now end w.bounded.plan.batches (bound_of w.bounded.plan.tree) w.sent.items w.certificate.items) }
     ensures bounded { IsTrue always → IfOk result (λ w.
-        BoundedHeadline pages.now end w.bounded.plan.batches w.bounded.bound (bound_of w.bounded.plan.tree) w.sent.items w.certificate.items) }
+        BoundedHeadline pages.now end w.bounded.plan.batches w.bounded.bound
+        (bound_of w.bounded.plan.tree) w.sent.items w.certificate.items) }
     ensures fewest { (¬ IsTrue always) → IfOk result (λ w. w.bounded.bound ≡ w.bounded.plan.batches) }
     ensures plan { IfOk result (λ w. IsBoundedOf pages.now end w.bounded) }
     ensures explained { (¬ IsTrue always) → IfErr result (ExplainsStream pages.now end limit) }
@@ -206,8 +210,10 @@ pub extern "C" fn pocsag_plan(
 
     // Any other status says why there is no plan, and both buffers are as they were.
     ensures bad_end { result ≡ 2 ↔ IsNoEnd end }
-    ensures fault { IsWithoutPlan result → always ≡ 0 → TellsFault (ExplainsPlanning pages.now end limit) result info.new.place }
-    ensures fault_always { IsWithoutPlan result → always ≢ 0 → TellsFault (ExplainsPlanningAlways pages.now limit) result info.new.place }
+    ensures fault { IsWithoutPlan result → always ≡ 0 →
+        TellsFault (ExplainsPlanning pages.now end limit) result info.new.place }
+    ensures fault_always { IsWithoutPlan result → always ≢ 0 →
+        TellsFault (ExplainsPlanningAlways pages.now limit) result info.new.place }
     ensures answered { always ≢ 0 → result ≢ 6 }
     ensures untouched { result ≢ 0 → (tx.new ≡ tx.old) × (cert.new ≡ cert.old) }
 {

@@ -114,7 +114,8 @@ pub extern "C" fn pocsag_report(
     ensures told { result ≡ 0 → TellsReport pages.now end rate info.new }
     ensures fewest { result ≡ 0 → always ≡ 0 → info.new.bound ≡ info.new.batches }
     ensures bad_end { result ≡ 2 ↔ IsNoEnd end }
-    ensures fault { result ≢ 0 → result ≢ 2 → TellsFault (ExplainsReport pages.now end limit rate) result info.new.place }
+    ensures fault { result ≢ 0 → result ≢ 2 →
+        TellsFault (ExplainsReport pages.now end limit rate) result info.new.place }
     ensures answered { always ≢ 0 → result ≢ 6 }
 {
     *info = NO_REPORT;

@@ -1,13 +1,15 @@
 -- What was done and told, and why `plan` refuses.
-use Rattle.std.proofs.Common.{◌≡◌, ℕ, List, ◌++◌, length, Ok, Err, ap, ◌∙◌, arith}
+use Rattle.std.proofs.Common.{◌≡◌, ℕ, List, ◌++◌, length, Ok, Err, ap, ◌∙◌, arith, subst}
 use Rattle.std.specs.Prelude.{OnOk, Result}
 use Rattle.pocsag_words.specs.declared.ending.End.{End}
 use Rattle.pocsag_pages.specs.PageFile.{verdict}
+use Rattle.pocsag_pages.specs.declared.page.Page.{Page}
 use Rattle.pocsag_tree.specs.Views.{bound_of}
 use Rattle.pocsag_plan.specs.declared.airtime.Report.{Report}
 use Rattle.pocsag_plan.specs.declared.answer.Plan.{Plan}
 use Rattle.pocsag_plan.specs.declared.fault.StreamFault.{StreamFault}
 use Rattle.pocsag_plan.specs.declared.fault.StreamFault.TheVariants as streaming
+use Rattle.pocsag_plan.specs.Plans.{IsSearchTreeFor}
 use Rattle.pocsag_plan.specs.Reports.{IsReport, report_text}
 use Rattle.pocsag_plan.specs.Streams.{ExplainsStream, IsPlanOf, Writes}
 use Rattle.pocsag_commands.specs.declared.fault.Fault.{Fault}
@@ -41,6 +43,7 @@ told_planned file end tx tx' cert cert' plan writes of (Ok u) out out' told =
     let pages : plan.pages ≡ length writes.headline.round = of.plan_of.bounded.pages ∙ ap length same in
     record {
       planned = record { batches = plan.batches; tree = bound_of plan.tree; writes = writes };
+      shaped = subst (λ (ps : List Page). IsSearchTreeFor end ps plan.batches (bound_of plan.tree)) same of.plan_of.shaped;
       told = told ∙ ap (λ (n : ℕ). out ++ plan_text n plan.batches) pages;
     }
 told_planned file end tx tx' cert cert' plan writes of (Err e) out out' told = tt

@@ -15,7 +15,7 @@ use Rattle.pocsag_pager.specs.Faults.{hearing_fault}
 use Rattle.pocsag_pager.specs.Shown.{AreShown}
 use Rattle.pocsag_plan.specs.declared.airtime.Report.{Report}
 use Rattle.pocsag_plan.specs.declared.answer.Plan.{Plan}
-use Rattle.pocsag_plan.specs.Plans.{NoneHasFewer}
+use Rattle.pocsag_plan.specs.Plans.{IsSearchTreeFor, NoneHasFewer}
 use Rattle.pocsag_plan.specs.Reports.{IsReport, report_text}
 use Rattle.pocsag_plan.specs.Streams.{IsPlanOf, IsStoppedAt, Writes, WritesCertificatePart, WritesPart}
 use Rattle.pocsag_commands.specs.Lines.{bound_text, plan_text}
@@ -32,9 +32,10 @@ pub record Planned (file : List ℕ) (end : End) (tx_before tx_after cert_before
   pub tree : Bound
   pub writes : Writes file end batches tree tx_before tx_after cert_before cert_after
 
--- The same, and its counts were told.
+-- The same, with a tree that has the promised shape; and its counts were told.
 pub record PlannedAndTold (file : List ℕ) (end : End) (tx_before tx_after cert_before cert_after out_before out_after : List ℕ) : Type 0 where
   pub planned : Planned file end tx_before tx_after cert_before cert_after
+  pub shaped : IsSearchTreeFor end planned.writes.headline.round planned.batches planned.tree
   pub told : out_after ≡ out_before ++ plan_text (length planned.writes.headline.round) planned.batches
 
 -- `plan` leaves each output as it was, or with a prefix of what the headline says, the transmission whole

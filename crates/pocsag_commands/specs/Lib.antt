@@ -1,5 +1,6 @@
 pub mod Always
 pub mod Commands
+pub mod Expecting
 pub mod Faults
 pub mod Judging
 pub mod Lines

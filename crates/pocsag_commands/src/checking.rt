@@ -87,8 +87,10 @@ pub fn judge_certificate<P: Source, C: Source>(
     ensures explained { P.tells → C.tells → IfErr result (ExplainsJudging (P.held pages.old) (C.held cert.old)) }
 
     // A reader's fault is answered only where that reader failed.
-    ensures read_failed { IsErrOf result (fault.Round round_fault.ReadFault) → HasFailed (P.failures pages.old) (P.failures pages.new) }
-    ensures certificate_failed { IsErrOf result (fault.Certificate tree_fault.ReadFault) → HasFailed (C.failures cert.old) (C.failures cert.new) }
+    ensures read_failed { IsErrOf result (fault.Round round_fault.ReadFault) →
+        HasFailed (P.failures pages.old) (P.failures pages.new) }
+    ensures certificate_failed { IsErrOf result (fault.Certificate tree_fault.ReadFault) →
+        HasFailed (C.failures cert.old) (C.failures cert.new) }
 {
     let round = read_round(alloc, pages)?;
     let certificate = read_certificate(alloc, cert)?;

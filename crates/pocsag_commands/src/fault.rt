@@ -50,6 +50,9 @@ pub enum Fault {
     /// What was read back from the certificate's file is not what was planned.
     #[error("the certificate does not show the batches of the transmission")]
     NotTheBound,
+    /// The round has so many pages, where `--expect` names another number.
+    #[error("pages {0}, where {1} were expected")]
+    Unexpected(u32, u32),
 }
 
 impl Fault {

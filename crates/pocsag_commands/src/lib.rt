@@ -5,6 +5,7 @@
 mod always;
 mod checking;
 mod commands;
+mod expecting;
 mod fault;
 mod receiving;
 mod showing;
@@ -15,6 +16,7 @@ mod view;
 pub use always::{run_plan_always, run_report_always};
 pub use checking::{Judged, judge_certificate, run_check};
 pub use commands::{DEFAULT_LIMIT, run_input, run_plan, run_report};
+pub use expecting::expected_file;
 pub use fault::Fault;
 pub use receiving::{TRANSMISSION_LIMIT, run_decode, run_hear};
 pub use showing::run_show;

@@ -2,6 +2,7 @@ pub mod Feeding
 pub mod Judgements
 pub mod OneFault
 pub mod Preambles
+pub mod Relisting
 pub mod SentBytes
 pub mod Transmissions
 pub mod WordByWord

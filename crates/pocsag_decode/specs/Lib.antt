@@ -4,5 +4,6 @@ pub mod Growing
 pub mod Lines
 pub mod Listing
 pub mod Places
+pub mod Relisting
 pub mod Standing
 pub mod Taking

@@ -1,5 +1,10 @@
-ghost use Rattle.std.specs.Prelude.{◌≡◌, ◌↔◌, ℕ, ◌<◌, ◌++◌, List, All};
+ghost use Rattle.std.specs.Prelude.{◌≡◌, ◌↔◌, ℕ, ◌<◌, ◌≤◌, ◌++◌, List, All, false};
+ghost use Rattle.std.specs.Fmt.{decimal};
 ghost use Rattle.pocsag_pages.specs.declared.page.Page.{Page};
+ghost use Rattle.pocsag_pages.specs.PageFile.{page_of_fields};
+ghost use Rattle.pocsag_pages.specs.Pages.{is_reserved, last_address};
+ghost use Rattle.pocsag_decode.specs.Listing.{kind_field, message_field};
+ghost use Rattle.pocsag_decode.specs.Relisting.{IsSpelled};
 ghost use Rattle.pocsag_decode.specs.Faults.{HasFault, HasFaultThere, IsFaultless, ReadsAs};
 ghost use Rattle.pocsag_decode.specs.Standing.{StandsAfter};
 ghost use Rattle.pocsag_decode.specs.declared.state.Decoder.{Decoder};
@@ -28,4 +33,11 @@ pub fn a_fault_there_stays()
 /// What a decoder stands after has no fault at a byte that is there.
 pub fn standing_is_without_fault()
     ensures { (d : Decoder) (X : List ℕ) (f : DecodeFault) → StandsAfter d X → ¬ HasFaultThere X f }
+{}
+
+/// The three fields of a page's record in a listing spell the page, where its address may stand in a round and its
+/// payload is none, that of a numeric text that ends in no space, or that of an alphanumeric text.
+pub fn listed_fields_are_read_back()
+    ensures { (p : Page) → p.address ≤ last_address → is_reserved p.address ≡ false → IsSpelled p.function p.payload →
+        page_of_fields (decimal p.address) (kind_field p.function p.payload) (message_field p.function p.payload) ≡ Ok p }
 {}

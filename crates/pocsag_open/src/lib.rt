@@ -7,6 +7,7 @@ mod lines;
 mod opening;
 mod outputs;
 mod refusal;
+mod settling;
 
 pub use lines::LINE_LIMIT;
 pub use opening::{Planner, run_open, run_open_pages};

@@ -1,4 +1,5 @@
-ghost use Rattle.std.specs.Prelude.{◌≤◌, ◌≡◌, length};
+ghost use Rattle.std.specs.Prelude.{◌≤◌, ◌≡◌, length, IfErr, OnOk};
+ghost use Rattle.pocsag_commands.specs.Faults.{status_of};
 
 use pocsag_commands::Fault;
 use pocsag_words::{DeviceFault, Source};
@@ -32,7 +33,9 @@ pub struct Lines {
 }
 
 impl Lines {
-    pub fn new(alloc: Global) -> Result<Lines, Fault> {
+    pub fn new(alloc: Global) -> Result<Lines, Fault>
+        ensures { IfErr result (λ e. e ≡ Fault.OutOfMemory) }
+    {
         Ok(Lines {
             line: Vec::with_capacity(alloc, LINE_LIMIT)?,
             piece: [0; PIECE],
@@ -47,7 +50,9 @@ impl Lines {
     }
 
     // Reads the next bytes of the source in place of those that are used up.
-    fn read_ahead<S: Source>(&mut self, source: &mut S) -> Result<(), DeviceFault> {
+    fn read_ahead<S: Source>(&mut self, source: &mut S) -> Result<(), DeviceFault>
+        ensures { OnOk result (S.failures source.new ≡ S.failures source.old) }
+    {
         self.start = 0;
         self.end = 0;
         self.end = source.read(&mut self.piece)?;
@@ -55,7 +60,9 @@ impl Lines {
     }
 
     // The next byte, unless the source has ended.
-    fn next_byte<S: Source>(&mut self, source: &mut S) -> Result<Option<u8>, DeviceFault> {
+    fn next_byte<S: Source>(&mut self, source: &mut S) -> Result<Option<u8>, DeviceFault>
+        ensures { OnOk result (S.failures source.new ≡ S.failures source.old) }
+    {
         if self.start >= self.end {
             self.read_ahead(source)?;
         }
@@ -68,7 +75,10 @@ impl Lines {
     }
 
     /// Reads the next line of the source. The last line may lack its line feed.
-    pub fn read_line<S: Source>(&mut self, source: &mut S) -> Result<Found, Fault> {
+    pub fn read_line<S: Source>(&mut self, source: &mut S) -> Result<Found, Fault>
+        ensures read { OnOk result (S.failures source.new ≡ S.failures source.old) }
+        ensures lost { IfErr result (λ e. status_of e ≡ 3) }
+    {
         self.line.clear();
         let mut found = Found::End;
         for _ in 0..u64::MAX {
@@ -86,7 +96,9 @@ impl Lines {
     }
 
     // Keeps one byte more of a line, unless the line is as long as may be.
-    fn keep(&mut self, byte: u8) -> Result<Found, Fault> {
+    fn keep(&mut self, byte: u8) -> Result<Found, Fault>
+        ensures { IfErr result (λ e. e ≡ Fault.OutOfMemory) }
+    {
         if self.line.len() >= LINE_LIMIT {
             return Ok(Found::TooLong);
         }

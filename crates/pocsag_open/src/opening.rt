@@ -1,10 +1,14 @@
-ghost use Rattle.std.specs.Prelude.{◌≡◌, OnErr};
-ghost use Rattle.pocsag_commands.specs.Faults.{IsStatus};
+ghost use Rattle.std.specs.Prelude.{◌≡◌, ◌⊎◌, ◌++◌, length, false, true, Err, IfErr, IfOk, OnErr, OnOk};
+ghost use Rattle.pocsag_pages.specs.PageFile.{verdict};
+ghost use Rattle.pocsag_pages.specs.declared.fault.RoundFault.{RoundFault};
+ghost use Rattle.pocsag_commands.specs.Faults.{IsStatus, status_of};
+ghost use Rattle.pocsag_open.specs.Answers.{IsPlanSent, IsPlanTold, pages_answer, plan_answer};
 
 use crate::edits::{Line, line_of, record_of};
 use crate::lines::{Found, Lines};
 use crate::outputs::{Outputs, Places};
 use crate::refusal::Refusal;
+use crate::settling::settled;
 use pocsag_commands::{DEFAULT_LIMIT, Fault, ended, tell};
 use pocsag_decode::{ListFault, list};
 use pocsag_pages::{page_of_fields, read_round};
@@ -31,7 +35,9 @@ pub fn run_open<P: Places, I: Source, O: Sink, E: Sink>(
     out: &mut O,
     err: &mut E,
 ) -> u8
-    ensures { IsStatus result }
+    // It is done only at the end of the input, which did not fail.
+    ensures input { result ≡ 0 → I.failures input.new ≡ I.failures input.old }
+    ensures status { (result ≡ 0) ⊎ (result ≡ 3) }
 {
     let done = answer_lines(alloc, planner, Book::new(alloc), input, out);
     ended(done, err)
@@ -46,7 +52,14 @@ pub fn run_open_pages<P: Places, F: Source, I: Source, O: Sink, E: Sink>(
     out: &mut O,
     err: &mut E,
 ) -> u8
-    ensures { IsStatus result }
+    // It is done only at the end of the input, and neither it nor the page file failed.
+    ensures input { result ≡ 0 → I.failures input.new ≡ I.failures input.old }
+    ensures pages { result ≡ 0 → F.failures pages.new ≡ F.failures pages.old }
+
+    // Only a fault of the page file is refused, and then no line is read or answered.
+    ensures why { F.tells → result ≡ 1 → (f : RoundFault) × (verdict (F.held pages.old) ≡ Err f) }
+    ensures refused { result ≡ 1 → (input.new ≡ input.old) × (out.new ≡ out.old) }
+    ensures status { IsStatus result }
 {
     let done = match book_of(alloc, pages) {
         Ok(book) => answer_lines(alloc, planner, book, input, out),
@@ -56,7 +69,11 @@ pub fn run_open_pages<P: Places, F: Source, I: Source, O: Sink, E: Sink>(
 }
 
 // A book of the pages of a page file.
-fn book_of<F: Source>(alloc: Global, pages: &mut F) -> Result<Book, Fault> {
+fn book_of<F: Source>(alloc: Global, pages: &mut F) -> Result<Book, Fault>
+    ensures read { OnOk result (F.failures pages.new ≡ F.failures pages.old) }
+    ensures why { F.tells → IfErr result (λ e. status_of e ≡ 1 →
+        (f : RoundFault) × (verdict (F.held pages.old) ≡ Err f)) }
+{
     let round = read_round(alloc, pages)?;
     Ok(Book::of_round(alloc, &round)?)
 }
@@ -67,7 +84,10 @@ fn answer_lines<P: Places, I: Source, O: Sink>(
     mut book: Book,
     input: &mut I,
     out: &mut O,
-) -> Result<(), Fault> {
+) -> Result<(), Fault>
+    ensures input { OnOk result (I.failures input.new ≡ I.failures input.old) }
+    ensures lost { IfErr result (λ e. status_of e ≡ 3) }
+{
     let mut lines = Lines::new(alloc)?;
     for _ in 0..u64::MAX {
         match lines.read_line(input)? {
@@ -79,12 +99,18 @@ fn answer_lines<P: Places, I: Source, O: Sink>(
     Ok(())
 }
 
-fn refuse<O: Sink>(refusal: Refusal, out: &mut O) -> Result<(), Fault> {
+fn refuse<O: Sink>(refusal: Refusal, out: &mut O) -> Result<(), Fault>
+    ensures { IfErr result (λ e. e ≡ Fault.Write) }
+{
     tell(out, format_args!("refused: {refusal}\n"))
 }
 
 // How many pages there are now.
-fn tell_pages<O: Sink>(book: &Book, out: &mut O) -> Result<(), Fault> {
+#[tactic(auto, unfolding(crate::specs::Answers::pages_answer))]
+fn tell_pages<O: Sink>(book: &Book, out: &mut O) -> Result<(), Fault>
+    ensures told { O.tells → OnOk result (O.taken out.new ≡ O.taken out.old ++ pages_answer (length book.now)) }
+    ensures lost { IfErr result (λ e. e ≡ Fault.Write) }
+{
     let pages = book.len();
     tell(out, format_args!("ok {pages}\n"))
 }
@@ -96,7 +122,9 @@ fn answer<P: Places, O: Sink>(
     book: &mut Book,
     line: &[u8],
     out: &mut O,
-) -> Result<(), Fault> {
+) -> Result<(), Fault>
+    ensures lost { IfErr result (λ e. status_of e ≡ 3) }
+{
     let row = match record_of(alloc, line) {
         Ok(Some(row)) => row,
         Ok(None) => return refuse(Refusal::Unknown, out),
@@ -104,7 +132,8 @@ fn answer<P: Places, O: Sink>(
     };
     match line_of(&row) {
         Line::Plan { tx, cert, end } => {
-            match plan_book(planner, book, tx, cert, end) {
+            let planned = plan_book(planner, book, tx, cert, end);
+            match settled(planner.places, tx, cert, planned) {
                 Ok(planned) => tell_planned(planned, out),
                 Err(fault) => refuse(Refusal::Undone(fault), out),
             }
@@ -173,7 +202,11 @@ struct Planned {
 }
 
 // The batches of a plan, and the bound where it is below them.
-fn tell_planned<O: Sink>(planned: Planned, out: &mut O) -> Result<(), Fault> {
+#[tactic(auto, unfolding(crate::specs::Answers::plan_answer))]
+fn tell_planned<O: Sink>(planned: Planned, out: &mut O) -> Result<(), Fault>
+    ensures told { O.tells → OnOk result (O.taken out.new ≡ O.taken out.old ++ plan_answer planned.batches planned.bound) }
+    ensures lost { IfErr result (λ e. e ≡ Fault.Write) }
+{
     let Planned { batches, bound } = planned;
     if bound < batches {
         tell(out, format_args!("batches {batches}, at least {bound}\n"))
@@ -189,7 +222,9 @@ fn plan_book<P: Places>(
     tx: &str,
     cert: &str,
     end: End,
-) -> Result<Planned, Fault> {
+) -> Result<Planned, Fault>
+    ensures { IfOk result (λ planned. IsPlanTold end book.now planner.now.always planned.batches planned.bound) }
+{
     let mut outputs = planner.places.make(tx, cert)?;
     if planner.always {
         plan_within_one(book, &mut outputs, end)
@@ -203,7 +238,11 @@ fn plan_fewest<S: Sink + Drop>(
     book: &Book,
     outputs: &mut Outputs<S>,
     end: End,
-) -> Result<Planned, Fault> {
+) -> Result<Planned, Fault>
+    ensures told { IfOk result (λ planned. IsPlanTold end book.now false planned.batches planned.bound) }
+    ensures sent { S.tells → IfOk result (λ planned. IsPlanSent end book.now planned.batches planned.bound
+        (S.taken outputs.old.tx) (S.taken outputs.new.tx) (S.taken outputs.old.cert) (S.taken outputs.new.cert)) }
+{
     let plan = book.plan_stream(&mut outputs.tx, &mut outputs.cert, DEFAULT_LIMIT, end)?;
     Ok(Planned {
         batches: plan.batches,
@@ -216,7 +255,11 @@ fn plan_within_one<S: Sink + Drop>(
     book: &Book,
     outputs: &mut Outputs<S>,
     end: End,
-) -> Result<Planned, Fault> {
+) -> Result<Planned, Fault>
+    ensures told { IfOk result (λ planned. IsPlanTold end book.now true planned.batches planned.bound) }
+    ensures sent { S.tells → IfOk result (λ planned. IsPlanSent end book.now planned.batches planned.bound
+        (S.taken outputs.old.tx) (S.taken outputs.new.tx) (S.taken outputs.old.cert) (S.taken outputs.new.cert)) }
+{
     let (tx, cert) = (&mut outputs.tx, &mut outputs.cert);
     let bounded = book.plan_stream_always(tx, cert, DEFAULT_LIMIT, end)?;
     Ok(Planned {

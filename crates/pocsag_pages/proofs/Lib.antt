@@ -6,3 +6,4 @@ pub mod Lengths
 pub mod PageLists
 pub mod Readings
 pub mod RecordPages
+pub mod Spelled

@@ -1,0 +1,19 @@
+ghost use Rattle.std.specs.Prelude.{◌≡◌, IfOk, Ok};
+
+use crate::outputs::Places;
+use pocsag_commands::Fault;
+
+/// What came of a plan, once its outputs are where they belong.
+pub fn settled<P: Places, X: Drop>(
+    places: &P,
+    tx: &str,
+    cert: &str,
+    planned: Result<X, Fault>,
+) -> Result<X, Fault>
+    ensures { IfOk result (λ x. planned ≡ Ok x) }
+{
+    let done = places.settle(tx, cert, planned.is_ok());
+    let told = planned?;
+    done?;
+    Ok(told)
+}
