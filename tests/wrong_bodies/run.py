@@ -22,11 +22,10 @@ import concurrent.futures
 import os
 import pathlib
 import re
-import resource
 import shutil
+import subprocess
 import sys
 import tempfile
-import threading
 import time
 import typing
 
@@ -206,18 +205,46 @@ def main(words):
     if not shutil.which("rt"):
         print("wrong_bodies: the command rt is missing in PATH", file=sys.stderr)
         return 2
-    tally, printing = Tally(), threading.Lock()
+    return try_one(crates[0]) if len(crates) == 1 else try_all(crates)
+
+
+def try_one(crate):
+    """Tries the edits of one crate, and prints each verdict; gives the exit status."""
+    tally = Tally()
+    for name, holds, told in try_crate(crate):
+        tally.check(f"wrong body {name}", holds, told)
+        if holds and told.startswith("refused"):
+            print(f"wrong body {name}: {told}", flush=True)
+    return tally.end()
+
+
+def apart(crate):
+    """Tries a crate in a process of its own: what it prints, and the processor seconds that it takes."""
+    words = [sys.executable, str(HERE / "run.py"), crate.name]
+    process = subprocess.Popen(words, stdout=subprocess.PIPE, stderr=subprocess.STDOUT, text=True, errors="replace")
+    text = process.stdout.read()
+    _, status, used = os.wait4(process.pid, 0)
+    process.returncode = os.waitstatus_to_exitcode(status)
+    return crate, text, used.ru_utime + used.ru_stime
+
+
+def try_all(crates):
+    """Tries crates side by side, and prints what each costs; gives the exit status."""
+    tally, total = Tally(), 0
     with concurrent.futures.ThreadPoolExecutor(lanes()) as pool:
         # the highest first, since they take longest
-        running = [pool.submit(try_crate, it) for it in reversed(crates)]
+        running = [pool.submit(apart, it) for it in reversed(crates) if any(map(pathlib.Path.is_dir, it.folders))]
         for done in concurrent.futures.as_completed(running):
-            with printing:
-                for name, holds, told in done.result():
-                    tally.check(f"wrong body {name}", holds, told)
-                    if holds and told.startswith("refused"):
-                        print(f"wrong body {name}: {told}", flush=True)
-    used = resource.getrusage(resource.RUSAGE_CHILDREN)
-    print(f"{used.ru_utime + used.ru_stime:.0f} processor seconds")
+            crate, text, used = done.result()
+            found = re.search(r"^(\d+) passed, (\d+) failed$", text, re.M)
+            print(text[:found.start()] if found else text, end="")
+            tally.check(f"wrong bodies of {crate.name}", found, "it ended without its count")
+            tally.passed += int(found[1]) if found else 0
+            tally.failed += int(found[2]) if found else 0
+            count = len(re.findall(r"^(?:FAILED )?wrong body ", text, re.M))
+            print(f"{crate.name}: {count} wrong bodies, {int(used) // 60}:{int(used) % 60:02} of processors", flush=True)
+            total += used
+    print(f"{total:.0f} processor seconds")
     return tally.end()
 
 
