@@ -1,3 +1,6 @@
+ghost use Rattle.std.specs.Prelude.{◌≡◌};
+ghost use Rattle.pocsag_open.specs.declared.refusal.Refusal.TheVariants as refusal;
+
 use pocsag_commands::Fault;
 use pocsag_pages::FieldFault;
 use pocsag_plan::{AddFault, NotThere, Refused};
@@ -22,18 +25,24 @@ pub enum Refusal {
 }
 
 impl From<FieldFault> for Refusal {
+    ghost from_gives = { λ fault e. e ≡ refusal.Field fault };
+
     fn from(fault: FieldFault) -> Refusal {
         Refusal::Field(fault)
     }
 }
 
 impl From<Refused> for Refusal {
+    ghost from_gives = { λ refused e. e ≡ refusal.Add refused.fault };
+
     fn from(refused: Refused) -> Refusal {
         Refusal::Add(refused.fault)
     }
 }
 
 impl From<NotThere> for Refusal {
+    ghost from_gives = { λ not_there e. e ≡ refusal.Cancel not_there };
+
     fn from(not_there: NotThere) -> Refusal {
         Refusal::Cancel(not_there)
     }

@@ -1,0 +1,60 @@
+-- What an edit of an open round does to its pages, and why it is refused (this project's own).
+use Rattle.std.specs.Prelude.{◌≡◌, ◌⊎◌, ℕ, false, List, [], ◌∷◌, ◌++◌, codes, Contains, None, Result, Ok, Err, IsOk}
+use Rattle.pocsag_pages.specs.Pages.{has_address}
+use Rattle.pocsag_pages.specs.PageFile.{page_of_fields}
+use Rattle.pocsag_pages.specs.declared.fault.FieldFault.{FieldFault}
+use Rattle.pocsag_pages.specs.declared.fault.FieldFault.TheVariants as field
+use Rattle.pocsag_pages.specs.declared.page.Page.{Page}
+use Rattle.pocsag_plan.specs.OpenRound.{add_fault, fault_or_memory, without}
+use Rattle.pocsag_open.specs.declared.edits.Line.{Line}
+use Rattle.pocsag_open.specs.declared.edits.Line.TheVariants.{Add, Cancel, Clear}
+use Rattle.pocsag_open.specs.declared.refusal.Refusal.{Refusal}
+use Rattle.pocsag_open.specs.declared.refusal.Refusal.TheVariants as refusal
+
+-- The page that the fields of an `add` spell, against which nothing stands, goes behind the others.
+pub record IsAdded (address kind message : List ℕ) (before after : List Page) : Type 0 where
+  pub page : Page
+  pub spelled : page_of_fields address kind message ≡ Ok page
+  pub free : add_fault before page ≡ None
+  pub behind : after ≡ before ++ page ∷ []
+
+-- The fields spell no page, or something stands against the page that they spell; or memory was wanting for it.
+abbrev pub IsAddRefused : (address kind message : List ℕ) → List Page → Refusal → Type 0
+IsAddRefused address kind message pages (refusal.Field f) =
+    ((f ≡ field.OutOfMemory) × IsOk (page_of_fields address kind message)) ⊎ (page_of_fields address kind message ≡ Err f)
+IsAddRefused address kind message pages (refusal.Add f) =
+    (page : Page) × (page_of_fields address kind message ≡ Ok page) × (f ≡ fault_or_memory (add_fault pages page))
+IsAddRefused address kind message pages _ = ⊥
+
+-- A page of an address codeword alone at the address that a field spells, if it spells one.
+abbrev pub tone_at : List ℕ → Result Page FieldFault
+tone_at address = page_of_fields address (codes "tone0") []
+
+-- The page of the address that the field of a `cancel` spells is taken out.
+pub record IsCancelled (address : List ℕ) (before after : List Page) : Type 0 where
+  pub tone : Page
+  pub spelled : tone_at address ≡ Ok tone
+  pub page : Page
+  pub there : Contains before page
+  pub same : page.address ≡ tone.address
+  pub rest : after ≡ without before tone.address
+
+-- The field spells no address, or that of no page; or memory was wanting.
+abbrev pub IsCancelRefused : (address : List ℕ) → List Page → Refusal → Type 0
+IsCancelRefused address pages (refusal.Field f) = f ≡ field.OutOfMemory
+IsCancelRefused address pages (refusal.Cancel absent) = (tone : Page) → tone_at address ≡ Ok tone → has_address pages tone.address ≡ false
+IsCancelRefused address pages _ = ⊥
+
+-- What each line that edits did.
+abbrev pub IsMade : Line → (before after : List Page) → Type 0
+IsMade (Add address kind message) before after = IsAdded address.now kind.now message.now before after
+IsMade (Cancel address) before after = IsCancelled address.now before after
+IsMade Clear before after = after ≡ []
+IsMade _ before after = ⊥
+
+-- Why each line that edits is refused: no `clear` is.
+abbrev pub IsEditRefused : Line → List Page → Refusal → Type 0
+IsEditRefused (Add address kind message) pages why = IsAddRefused address.now kind.now message.now pages why
+IsEditRefused (Cancel address) pages why = IsCancelRefused address.now pages why
+IsEditRefused Clear pages why = ⊥
+IsEditRefused _ pages why = why ≡ refusal.Unknown
