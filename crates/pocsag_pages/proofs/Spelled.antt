@@ -8,7 +8,6 @@ use Rattle.std.proofs.lemmas.Bool.Decides.{nat_tests}
 use Rattle.std.proofs.lemmas.Fmt.{decimal_by_steps, decimal_nonempty, length-decimal-le}
 use Rattle.pocsag_text.specs.Text.{alpha_payload, numeric_payload}
 use Rattle.pocsag_words.proofs.TruthValues.{not_above}
-use Rattle.pocsag_pages.specs.declared.page.Page.{Page}
 use Rattle.pocsag_pages.specs.declared.record.PageKind.{PageKind}
 use Rattle.pocsag_pages.specs.declared.record.PageKind.TheVariants as kind
 use Rattle.pocsag_pages.specs.Pages.{is_reserved, last_address}
