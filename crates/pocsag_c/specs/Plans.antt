@@ -1,5 +1,5 @@
 -- What `pocsag_plan` owes.
-use Rattle.std.specs.Prelude.{◌≡◌, ◌≢◌, ◌⊎◌, ℕ, ◌*◌, ◌<◌, List, Ok, length, sum_by}
+use Rattle.std.specs.Prelude.{◌≡◌, ◌≢◌, ◌⊎◌, ℕ, ◌*◌, List, Ok, length, sum_by}
 use Rattle.pocsag_words.specs.declared.codeword.Kind.{Kind}
 use Rattle.pocsag_words.specs.declared.ending.End.{End}
 use Rattle.pocsag_pages.specs.declared.page.Page.{Page}

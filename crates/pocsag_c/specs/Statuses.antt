@@ -10,7 +10,6 @@ use Rattle.pocsag_pager.specs.declared.fault.PagerFault.{PagerFault}
 use Rattle.pocsag_pager.specs.declared.fault.PagerFault.TheVariants as hearing
 use Rattle.pocsag_commands.specs.declared.fault.Fault.{Fault}
 use Rattle.pocsag_commands.specs.declared.fault.Fault.TheVariants as fault
-use Rattle.pocsag_c.specs.declared.refusal.Place.{Place}
 use Rattle.pocsag_c.specs.declared.refusal.Refusal.{Refusal}
 
 -- The number of the interface.
