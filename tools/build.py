@@ -124,7 +124,7 @@ def proof(crate):
 def tests(crate):
     """The proof and the run of a crate's tests, over the work that its own proof kept."""
     begins, ends = f"proving the tests of {crate.name}", f"the tests of {crate.name} proved and passed"
-    return lanes.Task(f"{crate.name} tests", (*crate.uses, crate.name), crate.lines(), crate.folder, rt(crate, "test"), begins, ends)
+    return lanes.Task(f"{crate.name} tests", (*crate.uses, crate.name), crate.lines(), crate.folder, rt(crate, "test"), begins, ends, least=3)
 
 
 def run(tasks, crates):

@@ -23,6 +23,7 @@ class Task:
     words: object  # of the number of jobs that it may use
     begins: str
     ends: str
+    least: int = 1  # the jobs that it gets even where fewer lanes are idle, since it would else be the last for long
 
 
 def processors():
@@ -89,7 +90,7 @@ class Lanes:
             idle = self.lanes - sum(jobs for _, _, jobs, _ in self.running.values())
             if idle <= 0:
                 return
-            self.begin(task, max(1, min(4, idle // (len(ready) - at))))
+            self.begin(task, max(min(task.least, self.lanes), min(4, idle // (len(ready) - at))))
 
     def end_some(self):
         """Takes out the tasks that have ended; gives the name and the text of one that failed."""
