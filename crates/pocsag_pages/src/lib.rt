@@ -13,16 +13,15 @@ mod preamble;
 mod record;
 mod round;
 mod rule;
-mod transmission;
 mod whole;
 
 pub use fault::{FieldFault, PageFault, RoundFault, WholeFault};
 pub use file::{FILE_LIMIT, read_round};
 pub use laws::{readings_are_one, readings_are_plain, rounds_are_apart, rounds_are_good};
 pub use page::{LAST_ADDRESS, Page, Payload};
+pub use pocsag_words::{BATCH_BITS, PREAMBLE_BITS, SYNC_WORD};
 pub use preamble::leading_len;
 pub use record::page_of_fields;
 pub use round::{PAGE_LIMIT, Round};
 pub use rule::{ITEM_LIMIT, is_reserved_address, page_fault};
-pub use transmission::{BATCH_BITS, PREAMBLE_BITS, SYNC_WORD};
 pub use whole::read_whole;
