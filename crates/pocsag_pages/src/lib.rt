@@ -14,6 +14,7 @@ mod record;
 mod round;
 mod rule;
 mod transmission;
+mod walking;
 mod whole;
 
 pub use fault::{FieldFault, PageFault, RoundFault, WholeFault};
@@ -25,4 +26,5 @@ pub use record::page_of_fields;
 pub use round::{PAGE_LIMIT, Round};
 pub use rule::{ITEM_LIMIT, is_reserved_address, page_fault};
 pub use transmission::{BATCH_BITS, PREAMBLE_BITS, SYNC_WORD};
+pub use walking::{FileRecords, line_feeds};
 pub use whole::read_whole;
