@@ -197,6 +197,12 @@ verdict_of_rows (header ∷ rows) = if is_header header then round_of_rows rows 
 abbrev pub rows_of : List ℕ → List Row
 rows_of bytes = records default_config (strip_bom bytes)
 
+-- The record, where there is one and no more.
+abbrev pub only_row : List Row → Option Row
+only_row [] = None
+only_row (r ∷ []) = Some r
+only_row (r ∷ s ∷ rows) = None
+
 -- *Verdict of a page file*.
 unfoldable pub verdict : List ℕ → Result (List Page) RoundFault
 verdict bytes = if nat_lt input_limit (length bytes) then Err fault.TooLarge else verdict_of_rows (rows_of bytes)

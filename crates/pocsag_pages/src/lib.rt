@@ -13,8 +13,10 @@ mod preamble;
 mod record;
 mod round;
 mod rule;
+mod walking;
 mod whole;
 
+pub use csv_row::only_row;
 pub use fault::{FieldFault, PageFault, RoundFault, WholeFault};
 pub use file::{FILE_LIMIT, read_round};
 pub use laws::{readings_are_one, readings_are_plain, rounds_are_apart, rounds_are_good};
@@ -24,4 +26,5 @@ pub use preamble::leading_len;
 pub use record::page_of_fields;
 pub use round::{PAGE_LIMIT, Round};
 pub use rule::{ITEM_LIMIT, is_reserved_address, page_fault};
+pub use walking::{FileRecords, line_feeds};
 pub use whole::read_whole;

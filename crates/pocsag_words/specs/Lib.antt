@@ -5,6 +5,8 @@ pub mod Columns
 pub mod Devices
 pub mod Flags
 pub mod Frame
+pub mod GrowingSink
 pub mod Kinds
 pub mod MemorySink
 pub mod MemorySource
+pub mod SliceSource
