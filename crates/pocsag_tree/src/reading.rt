@@ -364,7 +364,8 @@ fn row<S: Source>(
     requires some { 1 ≤ count }
     ensures counts { IfOk result (λ x. IsRowRead depth made (bounds_of x.0.items) x.1) }
     ensures failures { S.failures source.new ≡ failed_after result (S.failures source.old) }
-    ensures reads { S.tells → ReadsBy (row_at (node_at ranges depth) count made) (λ x rest. (bounds_of x.0.items, x.1, rest)) result
+    ensures reads { S.tells →
+        ReadsBy (row_at (node_at ranges depth) count made) (λ x rest. (bounds_of x.0.items, x.1, rest)) result
         (S.held source.old) (S.held source.new) }
 {
     wanted(depth, made)?;
