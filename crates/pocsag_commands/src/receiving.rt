@@ -9,11 +9,11 @@ use crate::telling::ended;
 use pocsag_decode::{decode, list};
 use pocsag_pager::hear_all;
 use pocsag_pages::read_whole;
-use pocsag_words::{Sink, Source};
+use pocsag_words::{INPUT_LIMIT, Sink, Source};
 use std::alloc::Global;
 
 /// The greatest transmission that is read, in bytes.
-pub const TRANSMISSION_LIMIT: usize = 268_435_456;
+pub const TRANSMISSION_LIMIT: usize = INPUT_LIMIT;
 
 /// `decode TX`: lists the pages of a transmission. Answers the exit status.
 pub fn run_decode<T: Source, O: Sink, E: Sink>(

@@ -7,6 +7,7 @@ mod codeword;
 mod correction;
 mod device;
 mod ending;
+mod frame;
 mod growing_sink;
 mod lanes;
 mod laws;
@@ -19,6 +20,10 @@ pub use codeword::{Kind, Word, address_word, from_raw, message_word};
 pub use correction::repair;
 pub use device::{DeviceFault, Sink, Source, write_all};
 pub use ending::End;
+pub use frame::{
+    BATCH_BITS, BATCH_BYTES, BATCH_WORDS, INPUT_LIMIT, PREAMBLE_BITS, PREAMBLE_BYTE,
+    PREAMBLE_BYTES, SYNC_WORD, airtime, transmission_bits,
+};
 pub use growing_sink::GrowingSink;
 pub use lanes::check_all;
 pub use laws::{codewords_differ, kinds_have_codewords, numbers_are_repaired, same_from_kind};
