@@ -4,10 +4,10 @@ ghost use Rattle.pocsag_c.specs.Reporting.{ExplainsReport, ExplainsReporting, Is
 
 use crate::planning::{effort_of, end_of};
 use crate::refusal::{NOWHERE, Place, refusal_of};
-use crate::slice_source::SliceSource;
 use pocsag_commands::Fault;
 use pocsag_pages::read_round;
 use pocsag_plan::{Effort, Report, Search, bounded_plan, report};
+use pocsag_words::SliceSource;
 use std::alloc::Global;
 
 /// What a plan takes on the air; all but the place is 0 where there is none.

@@ -1,9 +1,9 @@
-use pocsag_words::{DeviceFault, Sink};
+use crate::device::{DeviceFault, Sink};
 use std::alloc::Global;
 
-/// A sink that keeps what it takes, and fails where memory for it is refused.
+/// A sink that keeps what it takes, and fails only where memory for it is refused.
 #[derive(Drop)]
-pub(crate) struct GrowingSink {
+pub struct GrowingSink {
     bytes: Vec<u8>,
     calls: u64,
     failures: u64,
@@ -11,10 +11,13 @@ pub(crate) struct GrowingSink {
 
 impl GrowingSink {
     ghost use Rattle.std.specs.Prelude.{◌≡◌, []};
-    ghost use Rattle.pocsag_c.specs.GrowingSink.{kept_by};
+    ghost use Rattle.pocsag_words.specs.GrowingSink.{growing_calls, growing_failures, kept_by};
 
-    pub(crate) fn new(alloc: Global) -> GrowingSink
-        ensures { kept_by result ≡ [] }
+    /// An empty sink.
+    pub fn new(alloc: Global) -> GrowingSink
+        ensures kept { kept_by result ≡ [] }
+        ensures calls { growing_calls result ≡ 0 }
+        ensures failures { growing_failures result ≡ 0 }
     {
         GrowingSink {
             bytes: Vec::new(alloc),
@@ -23,7 +26,8 @@ impl GrowingSink {
         }
     }
 
-    pub(crate) fn into_bytes(self) -> Vec<u8>
+    /// The bytes that were taken.
+    pub fn into_bytes(self) -> Vec<u8>
         ensures { result.items ≡ kept_by self }
     {
         self.bytes
@@ -31,15 +35,15 @@ impl GrowingSink {
 }
 
 impl Sink for GrowingSink {
-    ghost use Rattle.pocsag_c.specs.GrowingSink.{count_of_calls, count_of_failures, kept_by};
+    ghost use Rattle.pocsag_words.specs.GrowingSink.{growing_calls, growing_failures, kept_by};
 
     ghost tells = { Unit {0} };
 
     ghost taken = { kept_by };
 
-    ghost calls = { count_of_calls };
+    ghost calls = { growing_calls };
 
-    ghost failures = { count_of_failures };
+    ghost failures = { growing_failures };
 
     fn write(&mut self, piece: &[u8]) -> Result<usize, DeviceFault> {
         self.calls = self.calls.saturating_add(1);

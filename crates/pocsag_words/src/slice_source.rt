@@ -1,18 +1,20 @@
-use pocsag_words::{DeviceFault, Source};
+use crate::device::{DeviceFault, Source};
 
 /// A source that holds the bytes of a slice. No call of it fails.
 #[derive(Drop)]
-pub(crate) struct SliceSource<'a> {
+pub struct SliceSource<'a> {
     rest: &'a [u8],
     calls: u64,
 }
 
 impl<'a> SliceSource<'a> {
     ghost use Rattle.std.specs.Prelude.{◌≡◌};
-    ghost use Rattle.pocsag_c.specs.SliceSource.{rest_of};
+    ghost use Rattle.pocsag_words.specs.SliceSource.{rest_of, slice_calls};
 
-    pub(crate) fn new(bytes: &'a [u8]) -> SliceSource<'a>
-        ensures { rest_of result ≡ bytes.now }
+    /// The source of these bytes.
+    pub fn new(bytes: &'a [u8]) -> SliceSource<'a>
+        ensures rest { rest_of result ≡ bytes.now }
+        ensures calls { slice_calls result ≡ 0 }
     {
         SliceSource {
             rest: bytes,
@@ -22,13 +24,13 @@ impl<'a> SliceSource<'a> {
 }
 
 impl<'a> Source for SliceSource<'a> {
-    ghost use Rattle.pocsag_c.specs.SliceSource.{rest_of, source_count};
+    ghost use Rattle.pocsag_words.specs.SliceSource.{rest_of, slice_calls};
 
     ghost tells = { Unit {0} };
 
     ghost held = { rest_of };
 
-    ghost calls = { source_count };
+    ghost calls = { slice_calls };
 
     ghost failures = { λ _. 0 };
 

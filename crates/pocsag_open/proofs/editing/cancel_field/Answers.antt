@@ -1,4 +1,4 @@
-use Rattle.pocsag_open.proofs.opening.cancel_field.Goals as goal
+use Rattle.pocsag_open.proofs.editing.cancel_field.Goals as goal
 
 pub returns-clause-made : goal.returns-clause-made
 returns-clause-made c = record {
