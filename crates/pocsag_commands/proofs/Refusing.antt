@@ -18,6 +18,7 @@ use Rattle.pocsag_pager.specs.declared.fault.PagerFault.{PagerFault}
 use Rattle.pocsag_show.specs.Showing.{Explains}
 use Rattle.pocsag_show.specs.declared.fault.ShowFault.{ShowFault}
 use Rattle.pocsag_show.specs.declared.fault.ShowFault.TheVariants as showing
+use Rattle.pocsag_plan.specs.declared.search.Effort.TheVariants.{Fewest}
 use Rattle.pocsag_plan.specs.Plans.{ExplainsPlan}
 use Rattle.pocsag_plan.specs.declared.fault.PlanFault.{PlanFault}
 use Rattle.pocsag_plan.specs.declared.fault.PlanFault.TheVariants as planning
@@ -38,11 +39,11 @@ why_round file f (inr (inl e)) one =
     let three : status_of (fault.Round f) ≡ 3 = ap (λ (v : RoundFault). status_of (fault.Round v)) e in absurd (omega arith)
 why_round file f (inr (inr e)) one = e
 
-pub why_unplanned : (file : List ℕ) (end : End) (n : ℕ) (R : List Page) → verdict file ≡ Ok R → (e : PlanFault) → ExplainsPlan end R n e →
+pub why_unplanned : (file : List ℕ) (end : End) (n : ℕ) (R : List Page) → verdict file ≡ Ok R → (e : PlanFault) → ExplainsPlan Fewest end R n e →
     status_of (fault_of_plan e) ≡ 1 → IsPlanRefused file end n
 why_unplanned file end n R read planning.BadLimit said one = limit said
 why_unplanned file end n R read (planning.SearchLimit least found tree) said one =
-    stopped least found (bound_of tree) (record { round = R; read = read; stopped = said.1 })
+    stopped least found (bound_of tree) (record { round = R; read = read; holds = said.2 })
 why_unplanned file end n R read planning.OutOfMemory said one = absurd (omega arith)
 
 pub why_certificate : (e : CertificateFault) (bytes : List ℕ) → IsFault e bytes → status_of (fault.Certificate e) ≡ 1 → HasFirst e bytes
