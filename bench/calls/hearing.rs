@@ -1,22 +1,15 @@
-//! The benchmark `pager` in plain Rust: hearings of a transmission of 100 MB, by the same tables.
+//! Hearings of a transmission of 100 MB with 0 and with 2 wrong bits in each word, beside those of a plain pager, by
+//! the same tables.
 
-#[allow(dead_code)]
-#[path = "../codewords.rs"]
-mod codewords;
-#[path = "../random.rs"]
-mod random;
-
-use codewords::{FAR, IDLE, SYNC, check_bits, errors, syndrome};
-use random::Random;
-use std::hint::black_box;
-use std::time::Instant;
+use crate::codewords::{FAR, IDLE, SYNC, check_bits, errors, syndrome};
+use crate::library;
+use crate::listing::{Page, listing};
+use crate::random::Random;
+use crate::timing::{beside, print_speeds};
 
 const BATCHES: usize = 1_470_587;
 const ADDRESS: u32 = 1_234_567;
-
-struct Page {
-    items: Vec<u32>,
-}
+const RUNS: u32 = 9;
 
 struct Pager<'a> {
     errors: &'a [u32; 2048],
@@ -41,7 +34,7 @@ impl Pager<'_> {
         }
         self.pages.extend(self.open.take());
         if own && word != IDLE && word >> 13 == ADDRESS / 8 {
-            self.open = Some(Page { items: Vec::new() });
+            self.open = Some(Page { address: ADDRESS, function: (word >> 11 & 3) as u8, items: Vec::new() });
         }
     }
 }
@@ -100,19 +93,16 @@ fn transmission(wrong: u32) -> Vec<u8> {
     bytes
 }
 
-fn main() {
+/// Times the listing of what the pager of one address shows.
+pub fn run() {
     let errors = errors();
-    for wrong in [0, 2] {
+    let mut buffer = vec![0; 1 << 20];
+    for (part, wrong) in [("hear, no wrong bit", 0), ("hear, 2 wrong bits in each word", 2)] {
         let bytes = transmission(wrong);
-        let start = Instant::now();
-        let pages = hear_all(&errors, black_box(&bytes)).unwrap_or_default();
-        let time = start.elapsed();
-        let mut sum = pages.len() as u64;
-        for page in &pages {
-            for item in &page.items {
-                sum = sum.wrapping_add(u64::from(*item));
-            }
-        }
-        println!("hear-{wrong} {}.{:06} {sum}", time.as_secs(), time.subsec_micros());
+        let wanted = listing(&hear_all(&errors, &bytes).expect("batches"));
+        let len = library::hear(ADDRESS, &bytes, &mut buffer);
+        assert!(buffer[..len] == wanted, "the listings differ");
+        let plain = || listing(&hear_all(&errors, &bytes).expect("batches")).len();
+        print_speeds(part, bytes.len(), beside(RUNS, plain, || library::hear(ADDRESS, &bytes, &mut buffer)));
     }
 }

@@ -1,27 +1,18 @@
-//! The benchmark `decode` in plain Rust: 100 MB of idle batches, of long messages and of short
-//! pages, by a decoder that takes pieces and makes the same checks, with the same tables.
+//! Listings of 100 MB of idle batches, of long messages and of short pages, beside those of a plain decoder that
+//! takes pieces and makes the same checks, with the same tables.
 
-#[allow(dead_code)]
-#[path = "../codewords.rs"]
-mod codewords;
-
-use codewords::{IDLE, SYNC, check_bits};
-use std::hint::black_box;
-use std::time::{Duration, Instant};
+use crate::codewords::{IDLE, SYNC, check_bits};
+use crate::library;
+use crate::listing::{Page, listing};
+use crate::timing::{beside, print_speeds};
 
 const BATCHES: usize = 1_500_000;
-const ROUNDS: u32 = 3;
+const RUNS: u32 = 5;
 const BATCH: u64 = 17;
 
 #[inline(always)]
 fn is_codeword(number: u32) -> bool {
     number % 2048 == check_bits(number / 2048)
-}
-
-struct Page {
-    address: u32,
-    function: u8,
-    payload: Vec<u32>,
 }
 
 #[derive(Clone, Copy, PartialEq, Debug)]
@@ -121,10 +112,10 @@ impl Decoder {
         } else if data < 1 << 20 {
             self.close();
             let address = 8 * (data / 4) + (slot - 1) as u32 / 2;
-            self.current = Some(Page { address, function: (data % 4) as u8, payload: Vec::new() });
+            self.current = Some(Page { address, function: (data % 4) as u8, items: Vec::new() });
         } else {
             match &mut self.current {
-                Some(page) => page.payload.push(data - (1 << 20)),
+                Some(page) => page.items.push(data - (1 << 20)),
                 None => return Err(Fault::Orphan(self.place - self.place / BATCH - 1)),
             }
         }
@@ -162,17 +153,6 @@ fn decode(bytes: &[u8]) -> Result<Vec<Page>, Fault> {
     decoder.finish()
 }
 
-fn pages_sum(pages: &[Page], mut sum: u64) -> u64 {
-    for page in pages {
-        black_box(page.function);
-        sum = sum.wrapping_mul(31).wrapping_add(u64::from(page.address));
-        for item in &page.payload {
-            sum = sum.wrapping_add(u64::from(*item));
-        }
-    }
-    sum
-}
-
 fn encoded(data: u32) -> u32 {
     data << 11 | check_bits(data)
 }
@@ -197,21 +177,15 @@ fn transmission(page: usize) -> Vec<u8> {
     bytes
 }
 
-fn print_part(part: &str, time: Duration, sum: u64) {
-    println!("{part} {}.{:06} {sum}", time.as_secs(), time.subsec_micros());
-}
-
-fn main() {
-    for (part, page) in [("idle", 0), ("long", 1407), ("short", 16)] {
+/// Times the listing of batches of idles, of pages of 1,407 codewords and of pages of 16 codewords.
+pub fn run() {
+    let mut buffer = vec![0; 256 << 20];
+    for (part, page) in [("decode, idle batches", 0), ("decode, long messages", 1407), ("decode, short pages", 16)] {
         let bytes = transmission(page);
-        let mut sum = 0;
-        let start = Instant::now();
-        for _ in 0..ROUNDS {
-            sum = match decode(black_box(&bytes)) {
-                Ok(pages) => pages_sum(&pages, sum),
-                Err(_) => 0,
-            };
-        }
-        print_part(part, start.elapsed(), sum);
+        let wanted = listing(&decode(&bytes).expect("pages"));
+        let len = library::decode(&bytes, &mut buffer);
+        assert!(buffer[..len] == wanted, "the listings differ");
+        let plain = || listing(&decode(&bytes).expect("pages")).len();
+        print_speeds(part, bytes.len(), beside(RUNS, plain, || library::decode(&bytes, &mut buffer)));
     }
 }

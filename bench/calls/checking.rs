@@ -1,15 +1,12 @@
-//! The benchmark `certificates` in plain Rust: a checker by the same rules on the same tree.
+//! A check of a certificate of a million nodes, beside a plain checker by the same rules that reads the page file and
+//! the certificate too.
 
-use std::time::Instant;
+use crate::library;
+use crate::reading::pages_of;
+use crate::timing::{beside, print_times};
+use crate::tree::Tree;
 
-#[allow(dead_code)]
-enum Tree {
-    Overload(u16),
-    Split { class: u8, m: u16, below: Box<Tree>, from: Box<Tree> },
-    Cut { set: u16, needed: u8, children: Vec<Tree> },
-    Close { children: Vec<Tree> },
-    Open,
-}
+const RUNS: u32 = 5;
 
 #[derive(Clone, Copy)]
 struct Limits {
@@ -178,15 +175,53 @@ fn halved(nodes: u32, class: u8, low: u16, high: u16) -> Tree {
     }
 }
 
-fn main() {
-    let tree = halved(999_999, 1, 0, 2500);
-    let mut checker = Checker { count: [0; 136], turns: [0; 136], batches: 1249, closed: false };
-    for address in 0..20_000 {
-        checker.count[address % 8 * 16 + 1] += 1;
+/// Reads a tree of `Split` and `Overload`.
+fn read_tree(bytes: &mut &[u8]) -> Option<Tree> {
+    let (tag, rest) = bytes.split_first()?;
+    *bytes = rest;
+    let number = |at: usize| Some(u16::from_be_bytes([*rest.get(at)?, *rest.get(at + 1)?]));
+    match tag {
+        0 => {
+            let set = number(0)?;
+            *bytes = rest.get(2..)?;
+            (set != 0).then_some(Tree::Overload(set))
+        }
+        1 => {
+            let (class, m) = (*rest.first()?, number(1)?);
+            *bytes = rest.get(3..)?;
+            if class > 135 || m == 0 || m > 20_000 {
+                return None;
+            }
+            let below = Box::new(read_tree(bytes)?);
+            Some(Tree::Split { class, m, below, from: Box::new(read_tree(bytes)?) })
+        }
+        _ => None,
     }
-    let limits = Limits { lo: [0; 136], hi: checker.count, cap: [1249; 16] };
-    let start = Instant::now();
-    let accepted = checker.node(&limits, &tree, 300);
-    let time = start.elapsed();
-    println!("check {}.{:06} {}", time.as_secs(), time.subsec_micros(), u64::from(accepted));
+}
+
+fn check(pages: &[u8], certificate: &[u8]) -> bool {
+    let mut rest = certificate.strip_prefix(b"PCB2\0").expect("a certificate for the open end");
+    let batches = u32::from_be_bytes(rest[..4].try_into().expect("four bytes"));
+    rest = &rest[4..];
+    let tree = read_tree(&mut rest).filter(|_| rest.is_empty()).expect("a tree");
+    let mut checker = Checker { count: [0; 136], turns: [0; 136], batches: batches - 1, closed: false };
+    for page in pages_of(pages) {
+        let length = 1 + page.items.len();
+        let class = page.address as usize % 8 * 16 + length % 16;
+        checker.count[class] += 1;
+        checker.turns[class] += length as u32 / 16;
+    }
+    let limits = Limits { lo: [0; 136], hi: checker.count, cap: [checker.batches; 16] };
+    checker.node(&limits, &tree, 300)
+}
+
+/// Times the check of 999,999 nodes for 20,000 tones.
+pub fn run() {
+    let mut pages = String::from("address,kind,message\n");
+    for address in 0..20_000 {
+        pages += &format!("{address},tone0,\n");
+    }
+    let certificate = halved(999_999, 1, 0, 2500).certificate(false, 1250);
+    let plain = || check(pages.as_bytes(), &certificate);
+    print_times("check, 999,999 nodes", 1, beside(RUNS, plain, || library::check(pages.as_bytes(), &certificate)));
 }
