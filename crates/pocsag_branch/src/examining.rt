@@ -163,7 +163,8 @@ fn row(
     requires made { made ≤ question.limit }
     requires allowed { All (MayTake classes.now limits.now) ways.now }
     requires fall { All (Falls classes.now question.batches limits.now) ways.now }
-    ensures node { IfOk result (λ x. AreExamined classes.now question limits.now made x.1 ways.now (bounds_of x.0.items)) }
+    ensures node { IfOk result
+        (λ x. AreExamined classes.now question limits.now made x.1 ways.now (bounds_of x.0.items)) }
     ensures stop { IfErr result (IsStop classes.now question) }
 {
     let mut children = Vec::new(alloc);

@@ -60,7 +60,8 @@ fn refute_cut(
     requires zero { IsTrue (holds set 0) }
     requires certain { IsTrue (class_certain classes.now limits.now set needed) }
     requires small { set < 2 ^ 16 }
-    requires fall { All (Falls classes.now attempt.question.batches limits.now) (ways_across classes.now limits.now set) }
+    requires fall { All (Falls classes.now attempt.question.batches limits.now)
+        (ways_across classes.now limits.now set) }
     ensures node { IfOk result (λ x. IsFreed classes.now attempt.question limits.now examined x.1 (bound_of x.0)) }
     ensures halt { IfErr result (IsHalt classes.now attempt.question) }
 {
