@@ -1,12 +1,10 @@
-use Rattle.std.proofs.Common.{sym, ◌∙◌}
-use Rattle.pocsag_commands.proofs.Statuses.{done}
+use Rattle.std.proofs.Common.{◌∙◌}
+use Rattle.std.proofs.lemmas.Result.{err_from_is_err_and}
+use Rattle.pocsag_commands.proofs.Refusing.{why_heard}
 use Rattle.pocsag_commands.proofs.receiving.run_hear.Goals as goal
 
-pub returns-clause-listed : goal.returns-clause-listed
-returns-clause-listed g c = λ tx_tells out_tells zero. done _ _ _ c.ended.ensures.value zero (c.list_heard-done.ensures.listed tx_tells out_tells)
-
-pub returns-clause-why : goal.returns-clause-why
-returns-clause-why g c = λ tells one. c.list_heard-done.ensures.why tells (sym c.ended.ensures.value ∙ one)
-
-pub returns-clause-refused : goal.returns-clause-refused
-returns-clause-refused g c = λ one. c.list_heard-done.ensures.refused (sym c.ended.ensures.value ∙ one)
+pub returns-in_err-pages-clause-why : goal.returns-in_err-pages-clause-why
+returns-in_err-pages-clause-why g c = λ tells one.
+    let p = err_from_is_err_and c.from_residual-in_err-pages.result c.from_residual-in_err-pages.ensures.1 in
+    why_heard _ _ _ c.in_err-pages.field-0.0 (c.as_slice.ensures.value ∙ c.in_ok-bytes.ensures.whole tells) c.in_err-pages.ensures.err
+    (rw (p.1, p.2) at one)
