@@ -4,7 +4,7 @@ use crate::given::{PageRow, page, page_file, pages, tones};
 use pocsag_batch::{FirstFault, first_stream};
 use pocsag_pages::{
     FieldFault, FileRecords, PageFault, Payload, Round, RoundFault, WholeFault,
-    is_reserved_address, leading_len, line_feeds, page_fault, page_of_fields, read_round,
+    is_reserved_address, leading_len, line_feeds, only_row, page_fault, page_of_fields, read_round,
     read_whole,
 };
 use pocsag_rounds::{THREE_PAGES_TIGHT, ones};
@@ -343,4 +343,30 @@ fn records_of_a_file(rt: HostRuntime) {
         assert_eq!(rt; records.advance(), Ok(false));
     }
     assert_eq!(rt; line_feeds(b"\r\na\n\n"), 3);
+}
+
+// Bytes, and the fields of their record where they hold one and no more.
+const LONE_ROWS: &[(&[u8], Option<&[&[u8]]>)] = &[
+    (b"", None),
+    (b"\r\n", None),
+    (b"list", Some(&[b"list"])),
+    (b"a,,\"b, \"\"c\"\"\"\r\n", Some(&[b"a", b"", b"b, \"c\""])),
+    (b"\xef\xbb\xbfa,b", Some(&[b"a", b"b"])),
+    (b"a\nb", None),
+    (b"a\rb", None),
+    (b"\"a\nb\"", Some(&[b"a\nb"])),
+];
+
+#[test]
+fn lone_rows(rt: HostRuntime) {
+    for (bytes, fields) in LONE_ROWS {
+        let row = only_row(rt.alloc(), bytes).expect(&rt, "memory");
+        assert_eq!(rt; row.is_some(), fields.is_some(), "{bytes:?}");
+        if let (Some(row), Some(fields)) = (row, fields) {
+            assert_eq!(rt; row.len(), fields.len(), "{bytes:?}");
+            for (i, field) in fields.iter().enumerate() {
+                assert_eq!(rt; row.get(i), Some(*field), "{bytes:?}");
+            }
+        }
+    }
 }

@@ -27,7 +27,7 @@ pub use expecting::expected_file;
 pub use explaining::{Scene, explain, remark};
 pub use fault::Fault;
 pub use note::{Notes, tell_notes};
-pub use receiving::{TRANSMISSION_LIMIT, run_decode, run_hear};
+pub use receiving::{TRANSMISSION_LIMIT, list_decoded, list_heard, run_decode, run_hear};
 pub use role::{Names, Place, Role};
 pub use showing::run_show;
 pub use telling::{ended, tell, tell_fault};
