@@ -50,7 +50,7 @@ pub fn run_plan<P: Source, T: Sink, C: Sink, O: Sink>(
     tell_plan(written.pages, written.batches, out)
 }
 
-/// `report PAGES --rate R`: tells what the plan of a page file takes on the air at a rate. Answers the
+/// `report PAGES --rate R`: tells what the plan of a page file takes on the air at a rate.
 pub fn run_report<P: Source, O: Sink>(
     alloc: Global,
     rate: u32,

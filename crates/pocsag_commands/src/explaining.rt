@@ -1,13 +1,16 @@
+ghost use Rattle.std.specs.Prelude.{OnOk};
+ghost use Rattle.pocsag_commands.specs.Notes.{AddsNotes};
+
 use crate::fault::Fault;
 use crate::file_notes::{note_header, note_line_feeds, note_record};
-use crate::note::Notes;
+use crate::note::{Notes, tell_notes};
 use crate::role::{Names, Role};
 use crate::watch::Trouble;
 use pocsag_decode::DecodeFault;
 use pocsag_pager::PagerFault;
 use pocsag_pages::RoundFault;
 use pocsag_tree::CertificateFault;
-use pocsag_words::OutOfMemory;
+use pocsag_words::{OutOfMemory, Sink};
 use std::alloc::Global;
 use std::io;
 
@@ -24,9 +27,27 @@ pub struct Scene<'a> {
     pub file: &'a [u8],
 }
 
-/// Notes on a fault: the file by its role and its name with the system's reason; the line of the page file, the
-/// record, its address and the offending field; and what to do. Memory is wanted for them alone.
-pub fn explain(
+/// Tells notes on a command that is over: on its fault, or on what it did.
+pub fn tell_explained<S: Sink>(
+    alloc: Global,
+    done: Result<u8, Fault>,
+    scene: &Scene<'_>,
+    err: &mut S,
+) -> Result<(), Fault>
+    ensures told { S.tells → OnOk result (AddsNotes (S.taken err.old) (S.taken err.new)) }
+{
+    let mut notes = Notes::new(alloc);
+    match done {
+        Ok(0) => note_line_feeds(alloc, scene, &mut notes)?,
+        Ok(_) => note_not_shown(scene, &mut notes)?,
+        Err(fault) => explain(alloc, fault, scene, &mut notes)?,
+    }
+    tell_notes(alloc, err, notes.texts())
+}
+
+// Notes on a fault: the file by its role and its name with the system's reason; the line of the page file, the
+// record, its address and the offending field; and what to do.
+fn explain(
     alloc: Global,
     fault: Fault,
     scene: &Scene<'_>,
@@ -66,9 +87,10 @@ pub fn explain(
     }
 }
 
-/// Notes on a command that was done: where a message holds a line feed.
-pub fn remark(alloc: Global, scene: &Scene<'_>, notes: &mut Notes) -> Result<(), OutOfMemory> {
-    note_line_feeds(alloc, scene, notes)
+// A certificate that does not show its batches.
+fn note_not_shown(scene: &Scene<'_>, notes: &mut Notes) -> Result<(), OutOfMemory> {
+    note_names(&scene.names, notes)?;
+    notes.add("is the certificate that of this page file, as it was when it was planned?")
 }
 
 // Which file the system refused, and why.

@@ -70,7 +70,7 @@ fn append_note(alloc: Global, lines: &mut Vec<u8>, text: &str) -> Result<(), All
 /// Tells notes, by a single write where the sink takes it: each is a line that begins `pocsag: `.
 pub fn tell_notes<S: Sink>(alloc: Global, err: &mut S, notes: &[String]) -> Result<(), Fault>
     ensures told { S.tells → OnOk result
-        (S.taken err.new ≡ S.taken err.old ++ flat_map (λ note. note_text (string_bytes note)) notes.now) }
+        (S.taken err.new ≡ S.taken err.old ++ flat_map note_text (map string_bytes notes.now)) }
 {
     let mut lines = Vec::new(alloc);
     for note in notes {

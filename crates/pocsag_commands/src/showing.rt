@@ -26,7 +26,12 @@ impl From<ShowFault> for Fault {
 }
 
 /// `show TX`: shows a transmission.
-pub fn run_show<T: Source, O: Sink>(alloc: Global, view: View, tx: &mut T, out: &mut O) -> Result<(), Fault>
+pub fn run_show<T: Source, O: Sink>(
+    alloc: Global,
+    view: View,
+    tx: &mut T,
+    out: &mut O,
+) -> Result<(), Fault>
     ensures shown { T.tells → O.tells → OnOk result (Viewed view (T.held tx.old) (O.taken out.old) (O.taken out.new)) }
     ensures why { T.tells → status_after result ≡ 1 → IsTransmissionRefused (T.held tx.old) }
     ensures refused { status_after result ≡ 1 → out.new ≡ out.old }

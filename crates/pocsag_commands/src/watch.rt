@@ -22,7 +22,7 @@ pub struct Watch {
 }
 
 impl Watch {
-    /// Nothing was met yet. The bytes of the page file are kept only where that is asked for.
+    /// Nothing was met yet. The bytes of the page file are kept only where notes are asked for.
     pub fn new(alloc: Global, keeps: bool) -> Watch {
         Watch {
             alloc,
@@ -37,9 +37,14 @@ impl Watch {
         self.trouble.set(Some(Trouble { role, code }));
     }
 
-    /// Where the system refused one last.
-    pub fn trouble(&self) -> Option<Trouble> {
-        self.trouble.get()
+    /// Where the system refused one last, which is forgotten.
+    pub fn take_trouble(&self) -> Option<Trouble> {
+        self.trouble.replace(None)
+    }
+
+    /// Whether notes are asked for.
+    pub fn is_asked(&self) -> bool {
+        self.keeps
     }
 
     /// Some bytes of the page file were read. Where memory is wanting for them none are kept.
