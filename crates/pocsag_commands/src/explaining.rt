@@ -39,7 +39,8 @@ pub fn tell_explained<S: Sink>(
     let mut notes = Notes::new(alloc);
     match done {
         Ok(0) => note_line_feeds(alloc, scene, &mut notes)?,
-        Ok(_) => note_not_shown(scene, &mut notes)?,
+        Ok(1) => note_not_shown(scene, &mut notes)?,
+        Ok(_) => {}
         Err(fault) => explain(alloc, fault, scene, &mut notes)?,
     }
     tell_notes(alloc, err, notes.texts())
@@ -63,7 +64,10 @@ fn explain(
             notes.add(format_args!("{place}: at most 268435456 bytes are read"))
         }
         Fault::Round(refused) => explain_round(alloc, refused, scene, notes),
-        Fault::Unexpected(..) => note_line_feeds(alloc, scene, notes),
+        Fault::Unexpected(..) => {
+            notes.add(names.place(Role::PageFile))?;
+            note_line_feeds(alloc, scene, notes)
+        }
         Fault::EqualPaths => note_names(&names, notes),
         Fault::SearchLimit(..) => {
             let place = names.place(Role::PageFile);
