@@ -22,4 +22,5 @@ pub use receiving::{TRANSMISSION_LIMIT, list_decoded, list_heard, run_decode, ru
 pub use showing::run_show;
 pub use telling::{ended, tell, tell_fault};
 pub use verifying::run_verify;
+pub use pocsag_show::Rows;
 pub use view::View;
