@@ -1,11 +1,18 @@
-use crate::files::path_of;
+use crate::files::{STANDARD, path_of};
 use clap::error::ErrorKind;
 use clap::{Arg, ArgAction, ArgMatches, Command, Error, value_parser};
-use pocsag_commands::{Rows, View};
+use pocsag_commands::{Names, Role, Rows, View};
 use pocsag_words::End;
 use std::alloc::{AllocError, Global};
 
-/// What the command line asks for. Where a command reads standard input in place of a file, there is no path.
+/// What the command line asks for, and whether notes are told beside what is told without them.
+#[derive(Clone, Copy, PartialEq, Eq, Debug)]
+pub struct Asked<'a> {
+    pub order: Order<'a>,
+    pub verbose: bool,
+}
+
+/// A command and its words. Where a command reads standard input in place of a file, there is no path.
 #[derive(Clone, Copy, PartialEq, Eq, Debug)]
 pub enum Order<'a> {
     /// No words: a page file from standard input.
@@ -44,6 +51,44 @@ pub enum Order<'a> {
         rate: u32,
         search: Search,
     },
+}
+
+impl<'a> Order<'a> {
+    /// The words for the files of the command.
+    pub fn names(self) -> Names<'a> {
+        let (pages, tx, cert) = match self {
+            Order::Input => (Some(None), None, None),
+            Order::Plan(order) => (
+                Some(order.pages),
+                Some(Some(order.tx)),
+                Some(Some(order.cert)),
+            ),
+            Order::Check { pages, cert } => (Some(pages), None, Some(cert)),
+            Order::Decode { tx } | Order::Hear { tx, .. } | Order::Show { tx, .. } => {
+                (None, Some(tx), None)
+            }
+            Order::Open { pages, .. } => (pages.map(Some), None, None),
+            Order::Report { pages, .. } => (Some(pages), None, None),
+        };
+        Names {
+            pages: pages.map(word_of),
+            tx: tx.map(word_of),
+            cert: cert.map(word_of),
+        }
+    }
+
+    /// What the command reads first.
+    pub fn subject(self) -> Role {
+        match self {
+            Order::Decode { .. } | Order::Hear { .. } | Order::Show { .. } => Role::Transmission,
+            _ => Role::PageFile,
+        }
+    }
+}
+
+// The word for a path, or for the standard stream in its place.
+fn word_of(path: Option<&str>) -> &str {
+    path.unwrap_or(STANDARD)
 }
 
 /// What `plan` is asked for.
@@ -108,6 +153,8 @@ const EXPECT: &str = "expect";
 const KEEP: &str = "keep";
 
 const ALWAYS: &str = "always";
+
+const VERBOSE: &str = "verbose";
 
 const SVG: &str = "svg";
 
@@ -210,6 +257,10 @@ it is refused, and TX and CERT stay as they are";
 const KEEP_HELP: &str = "\
 Keeps what stands at TX and CERT until both are written whole,
 and puts them there by renaming, CERT first";
+
+const VERBOSE_HELP: &str = "\
+Tells more on standard error: which file and why, the line of a
+record, the field that is wrong, and what to do";
 
 const TX_HELP: &str = "The transmission";
 
@@ -342,6 +393,7 @@ fn command<'a>(alloc: Global) -> Result<Command<'a>, AllocError> {
         .version(VERSION)
         .about(ABOUT)
         .after_help(MANUAL)
+        .arg(flag(alloc, VERBOSE, VERBOSE_HELP).global(true))?
         .subcommand(plan_command(alloc)?)?
         .subcommand(check_command(alloc)?)?
         .subcommand(decode_command(alloc)?)?
@@ -443,10 +495,20 @@ fn report_order<'a>(found: &ArgMatches<'a>) -> Option<Order<'a>> {
 }
 
 // What was found asks for; nothing where a word is not there, which clap has seen to.
-fn order_from<'a>(matches: &ArgMatches<'a>) -> Option<Order<'a>> {
+fn asked_from<'a>(matches: &ArgMatches<'a>) -> Option<Asked<'a>> {
     let Some((name, found)) = matches.subcommand() else {
-        return Some(Order::Input);
+        return Some(Asked {
+            order: Order::Input,
+            verbose: matches.get_flag(VERBOSE),
+        });
     };
+    Some(Asked {
+        order: order_from(name, found)?,
+        verbose: found.get_flag(VERBOSE),
+    })
+}
+
+fn order_from<'a>(name: &str, found: &ArgMatches<'a>) -> Option<Order<'a>> {
     match name {
         PLAN => plan_order(found),
         CHECK => check_order(found),
@@ -466,7 +528,7 @@ fn order_from<'a>(matches: &ArgMatches<'a>) -> Option<Order<'a>> {
 }
 
 /// Reads the words of the command line, the program's own name first.
-pub fn order_of<'a>(alloc: Global, words: &'a [String]) -> Result<Order<'a>, Error> {
+pub fn asked_of<'a>(alloc: Global, words: &'a [String]) -> Result<Asked<'a>, Error> {
     let mut command = command(alloc)?;
     let matches = command.try_get_matches_from_mut(words)?;
     if let Some((SHOW, found)) = matches.subcommand() {
@@ -474,8 +536,8 @@ pub fn order_of<'a>(alloc: Global, words: &'a [String]) -> Result<Order<'a>, Err
             return Err(command.error(ErrorKind::ValueValidation, BAD_ROWS)?);
         }
     }
-    match order_from(&matches) {
-        Some(order) => Ok(order),
+    match asked_from(&matches) {
+        Some(asked) => Ok(asked),
         None => Err(command.error(ErrorKind::MissingRequiredArgument, "a word is missing")?),
     }
 }
