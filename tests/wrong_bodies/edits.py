@@ -2,7 +2,7 @@
 
 import pathlib
 
-from source import function_at, functions_of, homes_of
+from source import all_functions, function_at, functions_of, homes_of, reached, with_one_clause
 
 
 class Unfit(Exception):
@@ -10,10 +10,11 @@ class Unfit(Exception):
 
 
 class Edit:
-    """A wrong body: pairs of texts by file, and the function that the prover must refuse where the edit names it."""
+    """A wrong body: pairs of texts by file, and the function and the clause that the prover must refuse where the
+    edit names them."""
 
     def __init__(self, name, text):
-        self.name, self.pairs, self.function = name, [], None
+        self.name, self.pairs, self.function, self.clause = name, [], None, None
         self.functions, self.is_alone, self.is_right = [], False, False
         path = old = None
         for line in text.split("\n"):
@@ -23,6 +24,8 @@ class Edit:
                 path = rest.strip()
             elif word == "function":
                 self.function = rest.strip()
+            elif word == "clause":
+                self.clause = rest.strip()
             elif word == "old":
                 old = rest
             elif word == "new" and path and old:
@@ -56,6 +59,28 @@ class Edit:
         self.functions = list(found.values())
         if self.function and self.function not in [it.name for it in self.functions]:
             self.is_alone = True
+
+
+    def names(self):
+        """The functions that have to be checked, or none where those are that rest on what is changed."""
+        if self.function:
+            return [self.function]
+        return [] if self.is_alone else [it.name for it in self.functions]
+
+
+def narrowed(texts, edits):
+    """The planted texts in which the contract of each function keeps, of the clauses with a name, the one that its
+    edit names, where nothing else that is checked beside it rests on the others."""
+    words, functions = reached(texts), {name: it for name, (_, it) in all_functions(texts).items()}
+    checked = {name for edit in edits for name in edit.names()}
+    for edit in edits:
+        names = edit.names()
+        if not edit.clause or len(names) != 1 or names[0] not in functions or functions[names[0]].is_called_unnamed:
+            continue
+        own = names[0].rpartition("::")[2]
+        if not any(own in words.get(it, {own}) for it in checked - {names[0]}):
+            texts = with_one_clause(texts, names[0], edit.clause) or texts
+    return texts
 
 
 class Round:
@@ -119,7 +144,7 @@ def right_change(texts, taken):
             continue
         old = "\n".join(lines[:opens[0] + 1])
         edit = Edit("a change that is right", "")
-        edit.pairs = [(path, old, old + "\n    let _ = 0_u8;")]
+        edit.pairs = [(path, old, old + "\n    let _right = 0_u8;")]
         edit.functions, edit.is_right = [function], True
         return edit
     return None
