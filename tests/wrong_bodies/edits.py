@@ -1,6 +1,7 @@
 """Wrong bodies: the files `.edit`, and the rounds in which as many as fit are planted side by side."""
 
 import pathlib
+import re
 
 from source import all_functions, function_at, functions_of, homes_of, reached, with_one_clause
 
@@ -10,8 +11,8 @@ class Unfit(Exception):
 
 
 class Edit:
-    """A wrong body: pairs of texts by file, and the function and the clause that the prover must refuse where the
-    edit names them."""
+    """A wrong body: pairs of texts by file, the function that the prover must refuse where the edit names it, and the
+    clause that it was last refused at where that is known."""
 
     def __init__(self, name, text):
         self.name, self.pairs, self.function, self.clause = name, [], None, None
@@ -24,8 +25,6 @@ class Edit:
                 path = rest.strip()
             elif word == "function":
                 self.function = rest.strip()
-            elif word == "clause":
-                self.clause = rest.strip()
             elif word == "old":
                 old = rest
             elif word == "new" and path and old:
@@ -114,11 +113,18 @@ def rounds_of(edits, texts):
     return rounds
 
 
-def read_edits(folders, texts):
-    """The edits of these folders that can be planted, and by its name why each other cannot."""
+def clauses_of(page, crate):
+    """The clauses that the page of wrong bodies names for a crate, by the edit's name as a row has it."""
+    section = page.partition(f"\n## `{crate}`\n")[2].partition("\n## ")[0]
+    return {title: clause for title, clause in re.findall(r"\| ([^|`]+) \| `[^`]+`, clause `([\w-]+)` \|", section)}
+
+
+def read_edits(folders, texts, clauses=()):
+    """The edits of these folders that can be planted, with their clauses, and by its name why each other cannot."""
     good, bad = [], {}
     for file in sorted(it for folder in folders for it in pathlib.Path(folder).glob("*.edit")):
         edit = Edit(file.stem, file.read_text())
+        edit.clause = dict(clauses).get(re.sub("[_-]", " ", file.stem))
         try:
             edit.look(texts)
             good.append(edit)

@@ -32,10 +32,11 @@ import typing
 sys.dont_write_bytecode = True
 HERE = pathlib.Path(__file__).resolve().parent
 sys.path[:0] = [str(HERE), str(HERE.parent)]
-from edits import Edit, Unfit, narrowed, read_edits, right_change, rounds_of
+from edits import Edit, Unfit, clauses_of, narrowed, read_edits, right_change, rounds_of
 from prover import PARTS, Room, rt_check
 from tally import TOP, Tally
 
+PAGE = TOP / "docs/WRONG_BODIES.md"  # names the clause that each was refused at
 MEMORY = 2 << 20  # for each crate, in kB
 
 
@@ -156,7 +157,7 @@ def verdicts(room, edits, texts):
 def planned(crate):
     """The crate's texts, the rounds of its edits (lists), and by name why an edit cannot be planted."""
     texts = crate.texts()
-    good, bad = read_edits(crate.folders, texts)
+    good, bad = read_edits(crate.folders, texts, clauses_of(PAGE.read_text() if PAGE.is_file() else "", crate.name))
     rounds = rounds_of(good, texts)
     for it in rounds:
         right = None if it.is_full else right_change(texts, it.units)

@@ -5,7 +5,7 @@ ghost use Rattle.pocsag_tree.specs.Limits.{greatest_depth};
 ghost use Rattle.pocsag_tree.specs.Views.{bound_of};
 ghost use Rattle.pocsag_check.specs.Accepting.{AcceptsWithin, IsAcceptedFor};
 
-use crate::checker::{Question, check_node};
+use crate::checker::{Claim, check_node};
 use pocsag_pages::Round;
 use pocsag_slots::{Classes, Limits, all_limits, classes_of};
 use pocsag_tree::{DEPTH_LIMIT, Tree};
@@ -18,12 +18,13 @@ pub fn accepts(classes: &Classes, limits: &Limits, batches: u32, tree: &Tree, en
     requires { AreInOrder classes.now limits.now }
     ensures { IsTrue result ↔ AcceptsWithin false classes.now end batches limits.now greatest_depth (bound_of tree.now) }
 {
-    let question = Question {
+    let claim = Claim {
+        classes,
         end,
         batches,
         takes_open: false,
     };
-    check_node(classes, question, limits, tree, DEPTH_LIMIT)
+    check_node(&claim, limits, tree, DEPTH_LIMIT)
 }
 
 fn check_tree(round: &Round, batches: u32, tree: &Tree, end: End, takes_open: bool) -> bool
@@ -34,12 +35,13 @@ fn check_tree(round: &Round, batches: u32, tree: &Tree, end: End, takes_open: bo
     }
     let classes = classes_of(round, end);
     let limits = all_limits(&classes, batches - 1);
-    let question = Question {
+    let claim = Claim {
+        classes: &classes,
         end,
         batches: batches - 1,
         takes_open,
     };
-    check_node(&classes, question, &limits, tree, DEPTH_LIMIT)
+    check_node(&claim, &limits, tree, DEPTH_LIMIT)
 }
 
 /// Whether the tree shows that fewer than so many batches do not suffice for the round and the end.
@@ -51,7 +53,7 @@ pub fn check(round: &Round, batches: u32, tree: &Tree, end: End) -> bool
     // A yes is a bound over all lists of codewords.
     ensures bound { IsTrue result → (T : List ℕ) (n : ℕ) → IsLegalList end T n round.now → batches ≤ n }
 {
-    let _pages = round.pages();
+    round.keeps_rules();
     check_tree(round, batches, tree, end, false)
 }
 

@@ -8,7 +8,7 @@ use Rattle.pocsag_slots.specs.Loads.{IsWithin, load}
 use Rattle.pocsag_slots.specs.Numbering.{finish_of, start_of}
 use Rattle.pocsag_slots.specs.Sums.{holds}
 use Rattle.pocsag_flow.specs.declared.network.Network.{Network}
-use Rattle.pocsag_flow.specs.declared.network.Search.{Search}
+use Rattle.pocsag_flow.specs.declared.network.Progress.{Progress}
 use Rattle.pocsag_flow.specs.Search.{AreStuck, Includes, StaysInside, IsNetworkOf, IsOf, IsStuck, Keeps, LeadsInto, Leaves, Pushes, Relieves, same_slot}
 use Rattle.pocsag_flow.proofs.Shifts.{Moves, finish_low, load_moved, start_low}
 
@@ -31,18 +31,18 @@ stuck_larger : (n : Network) (early : ℕ → ℕ) (large small slot : ℕ) → 
     IsStuck n early small slot → IsStuck n early large slot
 stuck_larger n early large small slot more stuck =
     record {
-      closed = record { each = λ c h. leads_larger n.limits early large small c slot more (stuck.closed.each c h) };
+      closed = record { each = λ c h. leads_larger n.limits.now early large small c slot more (stuck.closed.each c h) };
       full = stuck.full;
     }
 
 -- the slot that is entered has no room, and is left
-pub entered : (n : Network) (before mid after : Search) (slot most moved : ℕ) →
+pub entered : (n : Network) (before mid after : Progress) (slot most moved : ℕ) →
     mid.early ≡ before.early → holds mid.reached slot ≡ true →
     ((other : ℕ) → other ≢ slot → holds mid.reached other ≡ holds before.reached other) →
     holds before.reached slot ≡ false → before.reached < mid.reached →
-    slice_index n.limits.cap slot ≤ load n.classes (slice_index before.early) slot →
+    slice_index n.limits.now.cap slot ≤ load n.classes.now (slice_index before.early) slot →
     Pushes n mid after slot most moved →
-    (moved ≡ 0 → StaysInside n.limits (slice_index after.early) after.reached slot) →
+    (moved ≡ 0 → StaysInside n.limits.now (slice_index after.early) after.reached slot) →
     Pushes n before after slot most moved
 entered n before mid after slot most moved same here others out more full p closed =
     let grown : Includes mid.reached before.reached =
@@ -64,7 +64,7 @@ entered n before mid after slot most moved same here others out more full p clos
         each = λ s l held new.
             elim (cases_eq s slot) [
               | inl is ↦
-                  let shut : StaysInside n.limits (slice_index before.early) after.reached slot =
+                  let shut : StaysInside n.limits.now (slice_index before.early) after.reached slot =
                   rw (p.same none ∙ same) at (closed none) in
                   let stuck : IsStuck n (slice_index before.early) after.reached slot = record { closed = shut; full = full } in
                   rw is stuck
@@ -76,7 +76,7 @@ entered n before mid after slot most moved same here others out more full p clos
     }
 
 -- a step that moves nothing
-pub left_same : (n : Network) (before now after : Search) (slot most moved class : ℕ) →
+pub left_same : (n : Network) (before now after : Progress) (slot most moved class : ℕ) →
     Leaves n before now slot class → Pushes n now after slot most moved → moved ≡ 0 → Leaves n before after slot 0
 left_same n before now after slot most moved class l p none =
     let stuck : AreStuck n (slice_index before.early) now.reached after.reached = rw l.same at (p.stuck none) in
@@ -95,13 +95,13 @@ left_same n before now after slot most moved class l p none =
     }
 
 -- one class more leads nowhere
-pub left_more : (n : Network) (before now after : Search) (slot most moved class : ℕ) →
+pub left_more : (n : Network) (before now after : Progress) (slot most moved class : ℕ) →
     Leaves n before now slot class → Pushes n now after slot most moved → moved ≡ 0 →
-    LeadsInto n.limits (slice_index after.early) after.reached class slot →
+    LeadsInto n.limits.now (slice_index after.early) after.reached class slot →
     Leaves n before after slot (class + 1)
 left_more n before now after slot most moved class l p none leads =
     let base : Leaves n before after slot 0 = left_same n before now after slot most moved class l p none in
-    let here : LeadsInto n.limits (slice_index before.early) after.reached class slot = rw base.same at leads in
+    let here : LeadsInto n.limits.now (slice_index before.early) after.reached class slot = rw base.same at leads in
     record {
       same = base.same;
       grows = base.grows;
@@ -109,7 +109,7 @@ left_more n before now after slot most moved class l p none leads =
       stuck = base.stuck;
       leads = λ tried h.
           elim (cases_lt tried class) [
-            | inl low ↦ leads_larger n.limits (slice_index before.early) after.reached now.reached tried slot p.grows (l.leads tried low)
+            | inl low ↦ leads_larger n.limits.now (slice_index before.early) after.reached now.reached tried slot p.grows (l.leads tried low)
             | inr high ↦
                 let is : class ≡ tried = omega arith in
                 rw is at here
@@ -125,20 +125,20 @@ unfolding same_slot
 same_slot_other a b ne = grind (arith, nat_tests)
 
 -- the class between the slots, of which some runs are switched: all else is as it was
-record IsSwitched (n : Network) (mid after : Search) (class from to moved : ℕ) : Type 0 where
+record IsSwitched (n : Network) (mid after : Progress) (class from to moved : ℕ) : Type 0 where
   from_low : from < 16
   to_low : to < 16
   between : (to ≡ start_of class true) ⊎ (to ≡ finish_of class true)
   reached : after.reached ≡ mid.reached
   ended : after.end ≡ mid.end
-  within : IsWithin n.limits (slice_index after.early)
+  within : IsWithin n.limits.now (slice_index after.early)
   size : length after.early ≡ 136
   others : (c : ℕ) → c < 136 → c ≢ class → slice_index after.early c ≡ slice_index mid.early c
-  loads : (slot : ℕ) → slot < 16 → load n.classes (slice_index after.early) slot + moved * same_slot from slot
-      ≡ load n.classes (slice_index mid.early) slot + moved * same_slot to slot
+  loads : (slot : ℕ) → slot < 16 → load n.classes.now (slice_index after.early) slot + moved * same_slot from slot
+      ≡ load n.classes.now (slice_index mid.early) slot + moved * same_slot to slot
   still : moved ≡ 0 → after.early ≡ mid.early
 
-pushed_on : (n : Network) (before mid after : Search) (class from to most amount moved : ℕ)
+pushed_on : (n : Network) (before mid after : Progress) (class from to most amount moved : ℕ)
     → holds before.reached from ≡ true → holds before.reached to ≡ false
     → Pushes n before mid to amount moved → amount ≤ most → IsSwitched n mid after class from to moved
     → Pushes n before after from most moved
@@ -207,9 +207,9 @@ set_within l early class e h size low high within =
 set_still : (early : List ℕ) (class e : ℕ) → e ≡ slice_index early class → slice_set early class e ≡ early
 set_still early class e is = ap (λ (v : ℕ). slice_set early class v) is ∙ set-get_or early class 0
 
-pub moved_late : (n : Network) (before mid : Search) (class most amount moved : ℕ) → class < 136 →
+pub moved_late : (n : Network) (before mid : Progress) (class most amount moved : ℕ) → class < 136 →
     IsNetworkOf n before → holds before.reached (start_of class true) ≡ true → holds before.reached (finish_of class true) ≡ false →
-    amount + slice_index n.limits.lo class ≤ slice_index before.early class → amount ≤ most →
+    amount + slice_index n.limits.now.lo class ≤ slice_index before.early class → amount ≤ most →
     Pushes n before mid (finish_of class true) amount moved →
     Pushes n before (record {
       early = slice_set mid.early class (slice_index mid.early class - moved);
@@ -233,18 +233,18 @@ moved_late n before mid class most amount moved h network held out room fits p =
       between = inr refl;
       reached = refl;
       ended = refl;
-      within = set_within n.limits mid.early class _ h p.size (omega (arith, kept, p.bounded, room))
+      within = set_within n.limits.now mid.early class _ h p.size (omega (arith, kept, p.bounded, room))
           (omega (arith, p.within.most class h)) p.within;
       size = length-set mid.early class _ ∙ p.size;
       others = moves.others;
-      loads = λ slot l. load_moved n.classes (slice_index mid.early) (slice_index after) class moved slot h l
+      loads = λ slot l. load_moved n.classes.now (slice_index mid.early) (slice_index after) class moved slot h l
           (omega (arith, p.within.most class h, network.ordered.counted class h)) moves;
       still = λ none. set_still mid.early class _ (omega (arith, none));
     })
 
-pub moved_early : (n : Network) (before mid : Search) (class most amount moved : ℕ) → class < 136 →
+pub moved_early : (n : Network) (before mid : Progress) (class most amount moved : ℕ) → class < 136 →
     IsNetworkOf n before → holds before.reached (finish_of class true) ≡ true → holds before.reached (start_of class true) ≡ false →
-    slice_index before.early class + amount ≤ slice_index n.limits.hi class → amount ≤ most →
+    slice_index before.early class + amount ≤ slice_index n.limits.now.hi class → amount ≤ most →
     Pushes n before mid (start_of class true) amount moved →
     Pushes n before (record {
       early = slice_set mid.early class (slice_index mid.early class + moved);
@@ -268,11 +268,11 @@ moved_early n before mid class most amount moved h network held out room fits p 
       between = inl refl;
       reached = refl;
       ended = refl;
-      within = set_within n.limits mid.early class _ h p.size (omega (arith, p.within.least class h))
+      within = set_within n.limits.now mid.early class _ h p.size (omega (arith, p.within.least class h))
           (omega (arith, kept, p.bounded, room)) p.within;
       size = length-set mid.early class _ ∙ p.size;
       others = λ c k ne. sym (moves.others c k ne);
-      loads = λ slot l. sym (load_moved n.classes (slice_index after) (slice_index mid.early) class moved slot h l
+      loads = λ slot l. sym (load_moved n.classes.now (slice_index after) (slice_index mid.early) class moved slot h l
           (omega (arith, here, kept, p.bounded, room, network.ordered.counted class h)) moves);
       still = λ none. set_still mid.early class _ (omega (arith, none));
     })

@@ -1,3 +1,7 @@
+ghost use Rattle.std.specs.Prelude.{◌≡◌, length, None};
+ghost use Rattle.csv.specs.Records.{fields_of};
+ghost use Rattle.pocsag_open.specs.Runs.{asked_by, asked_in, asked_of};
+
 use csv::{ByteRecord, ReaderBuilder};
 use pocsag_words::{End, OutOfMemory};
 use std::alloc::Global;
@@ -52,7 +56,10 @@ pub fn record_of(alloc: Global, line: &[u8]) -> Result<Option<ByteRecord>, OutOf
 }
 
 /// What the record asks for.
-pub fn line_of(row: &ByteRecord) -> Line<'_> {
+#[tactic(auto, unfolding(crate::specs::Runs::asked_of))]
+pub fn line_of(row: &ByteRecord) -> Line<'_>
+    ensures { asked_by result ≡ asked_of (fields_of row.now) }
+{
     let asked = match row.len() {
         1 => bare_line(row),
         2 => cancel_line(row),
@@ -66,18 +73,26 @@ pub fn line_of(row: &ByteRecord) -> Line<'_> {
     }
 }
 
-fn bare_line(row: &ByteRecord) -> Option<Line<'_>> {
+#[tactic(auto, unfolding(crate::specs::Runs::asked_of))]
+fn bare_line(row: &ByteRecord) -> Option<Line<'_>>
+    requires { length (fields_of row.now) ≡ 1 }
+    ensures { asked_in result ≡ asked_of (fields_of row.now) }
+{
     let word = row.get(0)?;
-    if word == b"list".as_slice() {
-        return Some(Line::List);
-    }
     if word == b"clear".as_slice() {
         return Some(Line::Clear);
+    }
+    if word == b"list".as_slice() {
+        return Some(Line::List);
     }
     None
 }
 
-fn cancel_line(row: &ByteRecord) -> Option<Line<'_>> {
+#[tactic(auto, unfolding(crate::specs::Runs::asked_of))]
+fn cancel_line(row: &ByteRecord) -> Option<Line<'_>>
+    requires { length (fields_of row.now) ≡ 2 }
+    ensures { asked_in result ≡ asked_of (fields_of row.now) }
+{
     if row.get(0)? != b"cancel".as_slice() {
         return None;
     }
@@ -86,7 +101,9 @@ fn cancel_line(row: &ByteRecord) -> Option<Line<'_>> {
     })
 }
 
-fn plan_line(row: &ByteRecord, end: End) -> Option<Line<'_>> {
+fn plan_line(row: &ByteRecord, end: End) -> Option<Line<'_>>
+    ensures { asked_in result ≡ None }
+{
     if row.get(0)? != b"plan".as_slice() {
         return None;
     }
@@ -98,7 +115,11 @@ fn plan_line(row: &ByteRecord, end: End) -> Option<Line<'_>> {
 }
 
 // The lines of four fields: a page, and a plan that names its end.
-fn long_line(row: &ByteRecord) -> Option<Line<'_>> {
+#[tactic(auto, unfolding(crate::specs::Runs::asked_of))]
+fn long_line(row: &ByteRecord) -> Option<Line<'_>>
+    requires { length (fields_of row.now) ≡ 4 }
+    ensures { asked_in result ≡ asked_of (fields_of row.now) }
+{
     if row.get(0)? == b"add".as_slice() {
         return Some(Line::Add {
             address: row.get(1)?,

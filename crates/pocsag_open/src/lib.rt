@@ -2,6 +2,7 @@
 //! An open round as a process: each line of an input is an edit, and is answered at once by one line. It
 //! knows no file: who calls it hands in what makes the two outputs of a plan.
 
+mod editing;
 mod edits;
 mod lines;
 mod opening;
@@ -9,6 +10,7 @@ mod outputs;
 mod refusal;
 mod settling;
 
+pub use editing::edit_row;
 pub use lines::LINE_LIMIT;
 pub use opening::{Planner, run_open, run_open_pages};
 pub use outputs::{Outputs, Places};

@@ -2,9 +2,9 @@ ghost use Rattle.std.specs.Prelude.{◌≡◌, ◌⊎◌, ◌++◌, length, fals
 ghost use Rattle.pocsag_pages.specs.PageFile.{verdict};
 ghost use Rattle.pocsag_pages.specs.declared.fault.RoundFault.{RoundFault};
 ghost use Rattle.pocsag_commands.specs.Faults.{IsStatus, status_of};
-ghost use Rattle.pocsag_open.specs.Edited.{IsAddRefused, IsAdded, IsCancelRefused, IsCancelled, IsEditRefused, IsMade};
 ghost use Rattle.pocsag_open.specs.Answers.{IsPlanSent, IsPlanTold, pages_answer, plan_answer};
 
+use crate::editing::edit;
 use crate::edits::{Line, line_of, record_of};
 use crate::lines::{Found, Lines};
 use crate::outputs::{Outputs, Places};
@@ -12,8 +12,8 @@ use crate::refusal::Refusal;
 use crate::settling::settled;
 use pocsag_commands::{DEFAULT_LIMIT, Fault, ended, tell};
 use pocsag_decode::{ListFault, list};
-use pocsag_pages::{FieldFault, page_of_fields, read_round};
-use pocsag_plan::{Book, NotThere};
+use pocsag_pages::read_round;
+use pocsag_plan::Book;
 use pocsag_words::{End, Sink, Source};
 use std::alloc::Global;
 
@@ -149,58 +149,6 @@ fn answer<P: Places, O: Sink>(
             Err(refusal) => refuse(refusal, out),
         },
     }
-}
-
-// Makes an edit of the round, which is as it was where it is refused.
-fn edit(alloc: Global, book: &mut Book, line: Line<'_>) -> Result<(), Refusal>
-    ensures made { OnOk result (IsMade line.entry book.old book.new) }
-    ensures refused { IfErr result (IsEditRefused line.entry book.old) }
-    ensures unchanged { OnErr result (book.new ≡ book.old) }
-{
-    match line {
-        Line::Add {
-            address,
-            kind,
-            message,
-        } => add_fields(alloc, book, address, kind, message),
-        Line::Cancel { address } => cancel_field(alloc, book, address),
-        Line::Clear => {
-            *book = Book::new(alloc);
-            Ok(())
-        }
-        _ => Err(Refusal::Unknown),
-    }
-}
-
-fn add_fields(
-    alloc: Global,
-    book: &mut Book,
-    address: &[u8],
-    kind: &[u8],
-    message: &[u8],
-) -> Result<(), Refusal>
-    ensures made { OnOk result (IsAdded address.now kind.now message.now book.old book.new) }
-    ensures refused { IfErr result (IsAddRefused address.now kind.now message.now book.old) }
-    ensures unchanged { OnErr result (book.new ≡ book.old) }
-{
-    let page = page_of_fields(alloc, address, kind, message)?;
-    book.add(page)?;
-    Ok(())
-}
-
-// What spells no address is that of no page. A page of an address codeword alone takes no memory.
-fn cancel_field(alloc: Global, book: &mut Book, address: &[u8]) -> Result<(), Refusal>
-    ensures made { OnOk result (IsCancelled address.now book.old book.new) }
-    ensures refused { IfErr result (IsCancelRefused address.now book.old) }
-    ensures unchanged { OnErr result (book.new ≡ book.old) }
-{
-    let page = match page_of_fields(alloc, address, b"tone0", b"") {
-        Ok(page) => page,
-        Err(FieldFault::OutOfMemory) => return Err(Refusal::Field(FieldFault::OutOfMemory)),
-        Err(_) => return Err(Refusal::Cancel(NotThere)),
-    };
-    let _page = book.cancel(page.address)?;
-    Ok(())
 }
 
 // The batches of a plan, and the bound that its certificate shows.

@@ -24,6 +24,20 @@ pub enum Refusal {
     Undone(Fault),
 }
 
+impl Refusal {
+    ghost use Rattle.pocsag_open.specs.Runs.{wants_memory};
+
+    /// Whether an edit was refused for want of memory.
+    pub fn wants_memory(self) -> bool
+        ensures { result ≡ wants_memory self }
+    {
+        matches!(
+            self,
+            Refusal::Field(FieldFault::OutOfMemory) | Refusal::Add(AddFault::OutOfMemory)
+        )
+    }
+}
+
 impl From<FieldFault> for Refusal {
     ghost from_gives = { λ fault e. e ≡ refusal.Field fault };
 

@@ -1,0 +1,49 @@
+-- Runs of edits.
+use Rattle.std.proofs.Common.{◌≡◌, ℕ, List, [], ◌∷◌, ◌++◌, refl, sym, ap, ◌∙◌, subst}
+use Rattle.std.specs.Prelude.{Option, Some, None, Result, Ok, Err}
+use Rattle.pocsag_pages.specs.PageFile.{Row}
+use Rattle.pocsag_pages.specs.declared.page.Page.{Page}
+use Rattle.pocsag_plan.specs.OpenRound.{without}
+use Rattle.pocsag_open.specs.Edited.{IsAdded, IsCancelled}
+use Rattle.pocsag_open.specs.Runs.{Asked, IsDone, IsEdit, IsRun, add, asked_of, cancel, clear}
+
+ok_is : {A E : Type 0} (a b : A) → Ok {E = E} a ≡ Ok b → a ≡ b
+ok_is a b e = cc e
+
+done_once : (asked : Option Asked) (before after other : List Page) → IsDone asked before after → IsDone asked before other → after ≡ other
+done_once None before after other p q = absurd p
+done_once (Some (add a k m)) before after other p q =
+    let same = ok_is p.page q.page (sym p.spelled ∙ q.spelled) in
+    p.behind ∙ ap (λ (page : Page). before ++ page ∷ []) same ∙ sym q.behind
+done_once (Some (cancel a)) before after other p q =
+    let same = ok_is p.tone q.tone (sym p.spelled ∙ q.spelled) in
+    p.rest ∙ ap (λ (tone : Page). without before tone.address) same ∙ sym q.rest
+done_once (Some clear) before after other p q = p ∙ sym q
+
+-- an edit leads to one list
+pub edit_once : (row : Row) (before after other : List Page) → IsEdit row before after → IsEdit row before other → after ≡ other
+edit_once row before after other p q = done_once (asked_of row) before after other p q
+
+-- and so does a run
+pub run_once : (rows : List Row) (before after other : List Page) → IsRun rows before after → IsRun rows before other → after ≡ other
+unfolding IsRun
+run_once [] before after other p q = p ∙ sym q
+run_once (row ∷ rows) before after other p q =
+    let same = edit_once row before p.0 q.0 p.1 q.1 in
+    run_once rows p.0 after other p.2 (subst (λ (mid : List Page). IsRun rows mid other) (sym same) q.2)
+
+-- a run goes on by one edit
+pub run_on : (rows : List Row) (row : Row) (before between after : List Page) → IsRun rows before between → IsEdit row between after →
+    IsRun (rows ++ row ∷ []) before after
+unfolding IsRun
+run_on [] row before between after p q = (after, subst (λ (mid : List Page). IsEdit row mid after) p q, refl)
+run_on (r ∷ rows) row before between after p q = (p.0, p.1, run_on rows row p.0 between after p.2 q)
+
+-- and is cut in two
+pub run_parts : (rows more : List Row) (before after : List Page) → IsRun (rows ++ more) before after →
+    (between : List Page) × IsRun rows before between × IsRun more between after
+unfolding IsRun
+run_parts [] more before after p = (before, refl, p)
+run_parts (r ∷ rows) more before after p =
+    let h = run_parts rows more p.0 after p.2 in
+    (h.0, (p.0, p.1, h.1), h.2)

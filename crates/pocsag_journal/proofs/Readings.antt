@@ -1,0 +1,83 @@
+-- What bytes are read as.
+use Rattle.std.proofs.Common.{◌≡◌, ◌≢◌, ◌⊎◌, inl, inr, ℕ, ◌+◌, List, [], ◌∷◌, ◌++◌, length, refl, sym, ap, ◌∙◌, subst, append_assoc}
+use Rattle.std.proofs.lemmas.List.{append-nil}
+use Rattle.std.specs.List.{AllByRecursion}
+use Rattle.csv.specs.Machine.{line_feed}
+use Rattle.csv.specs.Writing.{default_writer, row_text}
+use Rattle.pocsag_pages.specs.PageFile.{Row}
+use Rattle.pocsag_pages.specs.declared.page.Page.{Page}
+use Rattle.pocsag_open.specs.Runs.{IsEdit, IsRun}
+use Rattle.pocsag_journal.specs.Journals.{HasNoLineFeed, IsBadLine, IsLine, IsRead, IsWholeLine, first, later, first_row, journal_text, rows_text}
+use Rattle.pocsag_journal.proofs.EditRuns.{run_once, run_parts}
+use Rattle.pocsag_journal.proofs.Lines.{Left, align, first_line, no_whole_line, same_line}
+
+-- the first line in front of two equal texts
+behind_first : (done rows : List Row) (rest torn : List ℕ) → journal_text done ++ rest ≡ journal_text rows ++ torn →
+    rows_text done ++ rest ≡ rows_text rows ++ torn
+behind_first done rows rest torn e =
+    (same_line (row_text default_writer first_row) (row_text default_writer first_row) (rows_text done ++ rest) (rows_text rows ++ torn) first_line first_line
+    (sym (append_assoc (row_text default_writer first_row) (rows_text done) rest) ∙ e ∙ append_assoc (row_text default_writer first_row) (rows_text rows) torn)).1
+
+-- bytes that begin with the text of records read as these and more
+pub read_on : (bytes : List ℕ) (done rows : List Row) (rest torn : List ℕ) → AllByRecursion IsLine done → bytes ≡ journal_text done ++ rest →
+    IsRead bytes rows torn → Left done rows rest torn
+read_on bytes done rows rest torn each e read = elim read.parts [
+  | inl whole ↦ align done rows rest torn each read.each read.end (behind_first done rows rest torn (sym e ∙ whole))
+  | inr none ↦
+      absurd (no_whole_line (row_text default_writer first_row) (rows_text done ++ rest) torn first_line read.end
+      (sym (append_assoc (row_text default_writer first_row) (rows_text done) rest) ∙ sym e ∙ none.1))
+]
+
+-- where nothing but an end without a line feed is left, there are no more records
+no_more : (left : List Row) (rest torn : List ℕ) → HasNoLineFeed rest → rest ≡ rows_text left ++ torn → AllByRecursion IsLine left →
+    (left ≡ []) × (rest ≡ torn)
+unfolding rows_text
+no_more [] rest torn n e each = (refl, e)
+no_more (r ∷ left) rest torn n e each =
+    absurd (no_whole_line (row_text default_writer r) (rows_text left ++ torn) rest each.0.line n
+    (sym (append_assoc (row_text default_writer r) (rows_text left) torn) ∙ sym e))
+
+-- what is read is one list of records
+pub one_reading : (bytes : List ℕ) (rows others : List Row) (torn rest : List ℕ) → IsRead bytes rows torn → IsRead bytes others rest →
+    (others ≡ rows) × (rest ≡ torn)
+one_reading bytes rows others torn rest read other = elim read.parts [
+  | inl whole ↦
+      let more = read_on bytes rows others torn rest read.each whole other in
+      let over = no_more more.left torn rest read.end more.text more.each in
+      (more.parts ∙ ap (λ (l : List Row). rows ++ l) over.0 ∙ append-nil rows, sym over.1)
+  | inr none ↦ elim other.parts [
+    | inl whole ↦
+        absurd (no_whole_line (row_text default_writer first_row) (rows_text others ++ rest) torn first_line read.end
+        (sym (append_assoc (row_text default_writer first_row) (rows_text others) rest) ∙ sym whole ∙ none.1))
+    | inr also ↦ (also.0 ∙ sym none.0, sym also.1 ∙ none.1)
+  ]
+]
+
+-- a line that is left is the first of the records that are left
+next_record_of : (line rest torn : List ℕ) (left : List Row) → IsWholeLine line → line ++ rest ≡ rows_text left ++ torn → HasNoLineFeed torn →
+    AllByRecursion IsLine left → (row : Row) × (more : List Row) × (left ≡ row ∷ more) × (row_text default_writer row ≡ line)
+unfolding rows_text
+next_record_of line rest torn [] whole e n each = absurd (no_whole_line line rest torn whole n e)
+next_record_of line rest torn (row ∷ more) whole e n each =
+    let h = same_line line (row_text default_writer row) rest (rows_text more ++ torn) whole each.0.line
+    (e ∙ append_assoc (row_text default_writer row) (rows_text more) torn) in
+    (row, more, refl, sym h.0)
+
+-- a bad line is in no journal of a run
+pub no_bad_line : (bytes : List ℕ) (n : ℕ) → IsBadLine bytes n → (rows : List Row) (torn : List ℕ) (pages : List Page) →
+    IsRead bytes rows torn → IsRun rows [] pages → ⊥
+unfolding IsRun
+no_bad_line bytes n (first line rest whole e other) rows torn pages read run = elim read.parts [
+  | inl text ↦
+      other (same_line line (row_text default_writer first_row) rest (rows_text rows ++ torn) whole first_line
+      (sym e ∙ text ∙ append_assoc (row_text default_writer first_row) (rows_text rows) torn)).0
+  | inr none ↦ no_whole_line line rest torn whole read.end (sym e ∙ none.1)
+]
+no_bad_line bytes n (later done here line rest each before whole e bad) rows torn pages read run =
+    let more = read_on bytes done rows (line ++ rest) torn each (e ∙ append_assoc (journal_text done) line rest) read in
+    let next = next_record_of line rest torn more.left whole more.text read.end more.each in
+    let all : IsRun (done ++ more.left) [] pages = subst (λ (l : List Row). IsRun l [] pages) more.parts run in
+    let parts = run_parts done more.left [] pages all in
+    let here_is = run_once done [] parts.0 here parts.1 before in
+    let on : IsRun (next.0 ∷ next.1) parts.0 pages = subst (λ (l : List Row). IsRun l parts.0 pages) next.2 parts.2 in
+    bad next.0 on.0 next.3 (subst (λ (p : List Page). IsEdit next.0 p on.0) (sym here_is) on.1)

@@ -1,0 +1,24 @@
+-- Why a journal is not read, and when.
+use Rattle.std.specs.Prelude.{ℕ, List}
+use Rattle.pocsag_pages.specs.declared.fault.WholeFault.{WholeFault}
+use Rattle.pocsag_pages.specs.declared.fault.WholeFault.TheVariants as whole
+use Rattle.pocsag_journal.specs.declared.fault.JournalFault.{JournalFault}
+use Rattle.pocsag_journal.specs.declared.fault.JournalFault.TheVariants as fault
+use Rattle.pocsag_journal.specs.Journals.{IsBadLine}
+
+abbrev pub fault_of_whole : WholeFault → JournalFault
+fault_of_whole whole.ReadFault = fault.ReadFault
+fault_of_whole whole.TooLarge = fault.TooLarge
+fault_of_whole whole.OutOfMemory = fault.OutOfMemory
+
+-- What is told of bytes that are no journal: the line that is none of one. Memory may be wanting.
+abbrev pub IsTold : List ℕ → JournalFault → Type 0
+IsTold bytes (fault.BadLine n) = IsBadLine bytes n
+IsTold bytes fault.OutOfMemory = Unit {0}
+IsTold bytes _ = ⊥
+
+-- What is told of bytes that are a journal: the source or memory fails, or it is too large.
+abbrev pub IsToldOf : JournalFault → Type 0
+IsToldOf (fault.BadLine n) = ⊥
+IsToldOf (fault.NoLine n) = ⊥
+IsToldOf _ = Unit {0}

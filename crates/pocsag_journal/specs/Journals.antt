@@ -1,0 +1,82 @@
+-- *Journal*: the text that an open round is kept in, and what bytes read as (the format is this project's own).
+use Rattle.std.specs.Prelude.{◌≡◌, ◌≢◌, ◌⊎◌, ℕ, ◌+◌, Bool, true, false, List, [], ◌∷◌, ◌++◌, length, codes}
+use Rattle.std.specs.List.{AllByRecursion}
+use Rattle.csv.specs.Machine.{line_feed}
+use Rattle.csv.specs.Writing.{default_writer, row_text}
+use Rattle.pocsag_pages.specs.PageFile.{Row}
+use Rattle.pocsag_pages.specs.declared.page.Page.{Page}
+use Rattle.pocsag_open.specs.Runs.{IsEdit, IsRun}
+
+-- The first record: it names the format and its version.
+abbrev pub first_row : Row
+first_row = codes "pocsag journal" ∷ codes "1" ∷ []
+
+-- The text of records, each as csv writes it.
+unfoldable pub rows_text : List Row → List ℕ
+rows_text [] = []
+rows_text (row ∷ rows) = row_text default_writer row ++ rows_text rows
+
+-- *Journal text*: the first record, and then those of the edits.
+abbrev pub journal_text : List Row → List ℕ
+journal_text rows = row_text default_writer first_row ++ rows_text rows
+
+-- No byte is a line feed.
+abbrev pub HasNoLineFeed : List ℕ → Type 0
+HasNoLineFeed bytes = AllByRecursion (λ b. b ≢ line_feed) bytes
+
+-- Bytes without a line feed, and a line feed.
+pub record IsWholeLine (line : List ℕ) : Type 0 where
+  pub body : List ℕ
+  pub parts : line ≡ body ++ line_feed ∷ []
+  pub one : HasNoLineFeed body
+
+-- The record has a field, and its text is one line.
+pub record IsLine (row : Row) : Type 0 where
+  pub some : row ≢ []
+  pub line : IsWholeLine (row_text default_writer row)
+
+-- *Reading*: the bytes are the journal text of these records, each one line, and a torn end without a line feed. Where
+-- the first line itself is torn, there are no records.
+pub record IsRead (bytes : List ℕ) (rows : List Row) (torn : List ℕ) : Type 0 where
+  pub parts : (bytes ≡ journal_text rows ++ torn) ⊎ ((rows ≡ []) × (bytes ≡ torn))
+  pub each : AllByRecursion IsLine rows
+  pub end : HasNoLineFeed torn
+
+-- The bytes read as so many edits, each accepted in its turn, which lead from no pages to these, and a torn end of so
+-- many bytes.
+pub record Replays (bytes : List ℕ) (edits torn : ℕ) (pages : List Page) : Type 0 where
+  pub rows : List Row
+  pub rest : List ℕ
+  pub read : IsRead bytes rows rest
+  pub run : IsRun rows [] pages
+  pub as_many : edits ≡ length rows
+  pub cut : torn ≡ length rest
+
+-- The line of this number, from 1, is whole, and it is not what stands there in a journal: the text of the first record,
+-- or that of an edit that the pages before it accept.
+pub data IsBadLine (bytes : List ℕ) : ℕ → Type 0 where
+  first :
+      (line rest : List ℕ) → IsWholeLine line → bytes ≡ line ++ rest → line ≢ row_text default_writer first_row →
+      IsBadLine bytes 1
+  later :
+      (rows : List Row) (pages : List Page) (line rest : List ℕ) → AllByRecursion IsLine rows → IsRun rows [] pages →
+      IsWholeLine line → bytes ≡ journal_text rows ++ line ++ rest →
+      ((row : Row) (after : List Page) → row_text default_writer row ≡ line → ¬ IsEdit row pages after) →
+      IsBadLine bytes (length rows + 2)
+
+-- The line is made: it is the text of an edit that these pages accept and that leaves those. Otherwise it is that of none.
+abbrev pub MakesLine : Bool → (line : List ℕ) → (before after : List Page) → Type 0
+MakesLine true line before after = (row : Row) × (row ≢ []) × (row_text default_writer row ≡ line) × IsEdit row before after
+MakesLine false line before after = (row : Row) (other : List Page) → row_text default_writer row ≡ line → ¬ IsEdit row before other
+
+-- What is read is this list, these edits and this end.
+abbrev pub ReplaysAs : (read : List Page) → (edits torn : ℕ) → List Page → List Row → (rest : List ℕ) → Type 0
+ReplaysAs read edits torn pages rows rest = (read ≡ pages) × (edits ≡ length rows) × (torn ≡ length rest)
+
+-- The bytes read as the first of the records, and a torn end.
+pub record ReadsFirst (bytes : List ℕ) (rows : List Row) : Type 0 where
+  pub firsts : List Row
+  pub left : List Row
+  pub torn : List ℕ
+  pub parts : rows ≡ firsts ++ left
+  pub read : IsRead bytes firsts torn
