@@ -1,7 +1,7 @@
 use crate::files::{STANDARD, path_of};
 use clap::error::ErrorKind;
 use clap::{Arg, ArgAction, ArgMatches, Command, Error, value_parser};
-use pocsag_commands::{Names, Role, View};
+use pocsag_commands::{Names, Role, Rows, View};
 use pocsag_words::End;
 use std::alloc::{AllocError, Global};
 
@@ -170,6 +170,8 @@ const SVG: &str = "svg";
 
 const LIST: &str = "list";
 
+const ROWS: &str = "rows";
+
 const OPEN: &str = "open";
 
 const CLOSED: &str = "closed";
@@ -228,12 +230,20 @@ Example:
 const SHOW_MANUAL: &str = "\
 After a line of totals there is a line for each batch, with its number and a letter for
 each codeword, in eight frames of two: a capital letter for the address codeword of a
-page, the same letter small for its message codewords, the letters in turn from page to
-page; a full stop for an idle.
+page, the same letter small for its message codewords; a full stop for an idle. Letters
+go by address, so a page keeps its letter, and in the drawing its hue, however its round
+is sent. --rows A-B shows these batches, --rows A- those from A on, --rows A one; all of
+the transmission is read and judged whatever is shown.
 
 Example:
   pocsag show tx.bin
-  pocsag show tx.bin --svg > tx.svg";
+  pocsag show tx.bin --svg > tx.svg
+  pocsag show tx.bin --rows 3-7";
+
+// What is said of a range of rows that is none.
+const BAD_ROWS: &str = "\
+invalid value for '--rows A-B': batches are counted from 1, as in 3-7, 3- or 5, and the
+last is not before the first";
 
 const PAGES_HELP: &str = "The page file, CSV with the header address,kind,message";
 
@@ -353,11 +363,14 @@ Lists what the pager of an address shows, past two wrong bits in each codeword",
 
 fn show_command<'a>(alloc: Global) -> Result<Command<'a>, AllocError> {
     let list = flag(alloc, LIST, "Lists where each page stands, as CSV").conflicts_with(SVG)?;
+    let rows = option(alloc, ROWS, "A-B", "Shows these batches alone, counted from 1")
+        .conflicts_with(LIST)?;
     Command::new(alloc, SHOW)
         .about("Shows what a transmission looks like, codeword by codeword")
         .after_help(SHOW_MANUAL)
         .arg(positional(alloc, TX, TX_HELP))?
         .arg(flag(alloc, SVG, "Draws it as an SVG picture"))?
+        .arg(rows)?
         .arg(list)
 }
 
@@ -442,13 +455,40 @@ fn hear_order<'a>(found: &ArgMatches<'a>) -> Option<Order<'a>> {
     })
 }
 
+// The rows that a word names: A-B, A- or A.
+fn rows_of(word: &str) -> Option<Rows> {
+    let (first, last) = match word.split_once('-') {
+        None => (word, word),
+        Some((first, "")) => return Rows::new(number_of(first)?, u64::MAX),
+        Some(ends) => ends,
+    };
+    Rows::new(number_of(first)?, number_of(last)?)
+}
+
+// The number of decimal digits alone.
+fn number_of(word: &str) -> Option<u64> {
+    if word.starts_with('+') {
+        return None;
+    }
+    word.parse::<u64>().ok()
+}
+
+// The rows that are asked for, all where none are named; nothing where a word names none.
+fn wanted_rows(found: &ArgMatches<'_>) -> Option<Rows> {
+    match found.get_str(ROWS) {
+        Some(word) => rows_of(word),
+        None => Some(Rows::all()),
+    }
+}
+
 fn show_order<'a>(found: &ArgMatches<'a>) -> Option<Order<'a>> {
+    let rows = wanted_rows(found)?;
     let view = if found.get_flag(SVG) {
-        View::Drawing
+        View::Drawing(rows)
     } else if found.get_flag(LIST) {
         View::Places
     } else {
-        View::Grid
+        View::Grid(rows)
     };
     Some(Order::Show {
         tx: path_of(found.get_str(TX)?),
@@ -501,6 +541,11 @@ fn order_from<'a>(name: &str, found: &ArgMatches<'a>) -> Option<Order<'a>> {
 pub fn asked_of<'a>(alloc: Global, words: &'a [String]) -> Result<Asked<'a>, Error> {
     let mut command = command(alloc)?;
     let matches = command.try_get_matches_from_mut(words)?;
+    if let Some((SHOW, found)) = matches.subcommand() {
+        if wanted_rows(found).is_none() {
+            return Err(command.error(ErrorKind::ValueValidation, BAD_ROWS)?);
+        }
+    }
     match asked_from(&matches) {
         Some(asked) => Ok(asked),
         None => Err(command.error(ErrorKind::MissingRequiredArgument, "a word is missing")?),

@@ -31,5 +31,6 @@ pub use role::{Names, Place, Role};
 pub use showing::run_show;
 pub use telling::{tell, tell_fault};
 pub use verifying::run_verify;
+pub use pocsag_show::Rows;
 pub use view::View;
 pub use watch::{Trouble, Watch};

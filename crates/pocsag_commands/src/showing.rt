@@ -38,9 +38,9 @@ pub fn run_show<T: Source, O: Sink>(
 {
     let bytes = read_whole(alloc, tx, TRANSMISSION_LIMIT)?;
     match view {
-        View::Grid => show_text(alloc, bytes.as_slice(), out)?,
+        View::Grid(rows) => show_text(alloc, rows, bytes.as_slice(), out)?,
         View::Places => show_list(alloc, bytes.as_slice(), out)?,
-        View::Drawing => show_svg(alloc, bytes.as_slice(), out)?,
+        View::Drawing(rows) => show_svg(alloc, rows, bytes.as_slice(), out)?,
     }
     Ok(())
 }
