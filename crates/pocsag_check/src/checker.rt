@@ -109,7 +109,8 @@ fn check_each(claim: &Claim, limits: &Limits, ways: &[Way], children: &[Tree], d
     requires ordered { AreInOrder claim.now.classes.now limits.now }
     requires batches { 0 < claim.now.batches }
     requires allowed { All (MayTake claim.now.classes.now limits.now) ways.now }
-    ensures { IsTrue result ↔ AcceptsEachWithin claim.now.takes_open claim.now.classes.now claim.now.end claim.now.batches
+    ensures { IsTrue result ↔
+        AcceptsEachWithin claim.now.takes_open claim.now.classes.now claim.now.end claim.now.batches
         limits.now depth ways.now (bounds_of children.now) }
 {
     if ways.len() != children.len() {

@@ -16,7 +16,8 @@ use pocsag_words::End;
 /// below depth 301.
 pub fn accepts(classes: &Classes, limits: &Limits, batches: u32, tree: &Tree, end: End) -> bool
     requires { AreInOrder classes.now limits.now }
-    ensures { IsTrue result ↔ AcceptsWithin false classes.now end batches limits.now greatest_depth (bound_of tree.now) }
+    ensures { IsTrue result ↔
+        AcceptsWithin false classes.now end batches limits.now greatest_depth (bound_of tree.now) }
 {
     let claim = Claim {
         classes,

@@ -67,7 +67,8 @@ fn clamped(limits: &Limits, start: &Choice) -> Choice
 
 // The first slot that is loaded above its cap.
 fn overfull(counted: &[u32; 16], limits: &Limits) -> Option<u8>
-    ensures none { IfNone result ((slot : ℕ) → slot < 16 → slice_index counted.now slot ≤ slice_index limits.now.cap slot) }
+    ensures none { IfNone result ((slot : ℕ) → slot < 16 →
+        slice_index counted.now slot ≤ slice_index limits.now.cap slot) }
     ensures slot { IfSome result (λ slot. slot < 16) }
     ensures some { IfSome result (λ slot. slice_index limits.now.cap slot < slice_index counted.now slot) }
 {
@@ -92,7 +93,9 @@ fn relieved(
     requires slot { slot < 16 }
     requires above { slice_index limits.now.cap slot < slice_index standing.now.loads slot }
     ensures standing { IfOk result (IsLoaded classes.now limits.now) }
-    ensures less { IfOk result (λ after. overload classes.now limits.now (slice_index after.early) < overload classes.now limits.now (slice_index standing.now.early)) }
+    ensures less { IfOk result
+        (λ after. overload classes.now limits.now (slice_index after.early)
+        < overload classes.now limits.now (slice_index standing.now.early)) }
     ensures set { IfErr result (λ fault. IsSet (set_of fault)) }
     ensures overloads { IfErr result (λ fault. Overloads classes.now limits.now (set_of fault)) }
 {
@@ -126,7 +129,8 @@ fn shifted(loads: [u32; 16], from: u8, to: u8, moved: u32) -> [u32; 16]
     requires taken { moved ≤ slice_index loads from }
     requires given { slice_index loads to + moved < 2 ^ 32 }
     ensures length { length result ≡ 16 }
-    ensures loads { (slot : ℕ) → slot < 16 → slice_index result slot + moved * same_slot from slot ≡ slice_index loads slot + moved * same_slot to slot }
+    ensures loads { (slot : ℕ) → slot < 16 →
+        slice_index result slot + moved * same_slot from slot ≡ slice_index loads slot + moved * same_slot to slot }
 {
     let mut after = loads;
     after[from as usize] -= moved;

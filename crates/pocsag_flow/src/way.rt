@@ -33,7 +33,8 @@ pub(crate) fn leave(network: &Network, search: &mut Progress, slot: u8, most: u3
     requires slot { slot < 16 }
     requires reached { holds search.old.reached slot ≡ true }
     ensures pushes { Pushes network.now search.old search.new slot most result }
-    ensures closed { result ≡ 0 → StaysInside network.now.limits.now (slice_index search.new.early) search.new.reached slot }
+    ensures closed { result ≡ 0 →
+        StaysInside network.now.limits.now (slice_index search.new.early) search.new.reached slot }
 {
     let straight = leave_straight(network, search, slot, most);
     if straight > 0 {
@@ -110,7 +111,8 @@ fn switch(network: &Network, search: &mut Progress, class: u8, slot: u8, most: u
     requires class { class < 136 }
     requires reached { holds search.old.reached slot ≡ true }
     ensures pushes { Pushes network.now search.old search.new slot most result }
-    ensures leads { result ≡ 0 → LeadsInto network.now.limits.now (slice_index search.new.early) search.new.reached class slot }
+    ensures leads { result ≡ 0 →
+        LeadsInto network.now.limits.now (slice_index search.new.early) search.new.reached class slot }
 {
     if network.limits.lo[class as usize] == network.limits.hi[class as usize] {
         return 0;
