@@ -2,7 +2,8 @@
 """Proves and builds crates of this repository, as many at once as there are processors and memory for.
 
     build.py program       the program and what it stands on; `./pocsag` calls it where a source has changed
-    build.py all           each crate, the tests of those that have some, and each program
+    build.py proofs        each crate and each program
+    build.py all           the same, and the tests of the crates that have some
     build.py CRATE..       these crates with what they stand on, and their tests
 
 What an earlier call proved is not proved again. Exit status 0 where all of it stands, 3 where something does not.
@@ -186,6 +187,8 @@ def main(words):
         crates = workspace.read_crates()
         if words == ["program"]:
             build_program(crates)
+        elif words == ["proofs"]:
+            build(crates, [])
         elif words == ["all"]:
             build(crates, crates.values())
         else:
