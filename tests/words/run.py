@@ -137,11 +137,9 @@ def check_lengths(tally):
     """Wants each line of a clause to end at the last column."""
     for crate, file in sources():
         lines = file.read_text().split("\n") if crate not in UNBROKEN else []
-        for place, line in enumerate(lines):
-            if re.match(r"\s*(ghost|requires|ensures)\b(?! use)", line) and len(line) <= LAST_COLUMN:
-                continue
-            is_long = len(line) > LAST_COLUMN and not line.strip().startswith(("ghost use", "//"))
-            tally.check(f"{crate} {file.name}:{place + 1}", not (is_long and in_clause(lines, place)), f"ends at column {len(line)}")
+        long = [place for place, line in enumerate(lines) if len(line) > LAST_COLUMN and not line.strip().startswith(("ghost use", "//"))]
+        there = [place + 1 for place in long if in_clause(lines, place)]
+        tally.check(f"clauses of {crate} {file.name}", not there, f"end behind column {LAST_COLUMN} at the lines {there}")
 
 
 def in_clause(lines, place):
