@@ -9,6 +9,7 @@ use crate::misuse::{misused, tell_misuse};
 use crate::paths::refuse_equal;
 use crate::words::{PlanOrder, Search};
 use pocsag_commands::{Fault, Role, expected_file, run_plan, run_plan_always, run_verify};
+use pocsag_open::Outputs;
 use pocsag_words::{Sink, SliceSource, Source};
 
 /// `plan`: plans from file to files, or from and to the standard streams. Where standard output takes one of
@@ -55,14 +56,14 @@ fn write_round<P: Source, O: Sink>(
     pages: &mut P,
     out: &mut O,
 ) -> Result<(), Fault> {
-    let mut outputs = make_outputs(desk, order.pages, order.tx, order.cert)?;
+    let Outputs { mut tx, mut cert } = make_outputs(desk, order.pages, order.tx, order.cert)?;
     let Search {
         limit,
         end,
         always,
         ..
     } = order.search;
-    let (tx, cert) = (&mut outputs.tx, &mut outputs.cert);
+    let (tx, cert) = (&mut tx, &mut cert);
     if always {
         return run_plan_always(desk.alloc, limit, end, pages, tx, cert, out);
     }

@@ -56,24 +56,25 @@ pub enum Order<'a> {
 impl<'a> Order<'a> {
     /// The words for the files of the command.
     pub fn names(self) -> Names<'a> {
-        let (pages, tx, cert) = match self {
-            Order::Input => (Some(None), None, None),
-            Order::Plan(order) => (
-                Some(order.pages),
-                Some(Some(order.tx)),
-                Some(Some(order.cert)),
-            ),
-            Order::Check { pages, cert } => (Some(pages), None, Some(cert)),
-            Order::Decode { tx } | Order::Hear { tx, .. } | Order::Show { tx, .. } => {
-                (None, Some(tx), None)
-            }
-            Order::Open { pages, .. } => (pages.map(Some), None, None),
-            Order::Report { pages, .. } => (Some(pages), None, None),
-        };
-        Names {
-            pages: pages.map(word_of),
-            tx: tx.map(word_of),
-            cert: cert.map(word_of),
+        match self {
+            Order::Input => of_pages(Some(STANDARD)),
+            Order::Plan(order) => Names {
+                pages: Some(word_of(order.pages)),
+                tx: Some(order.tx),
+                cert: Some(order.cert),
+            },
+            Order::Check { pages, cert } => Names {
+                pages: Some(word_of(pages)),
+                tx: None,
+                cert: Some(word_of(cert)),
+            },
+            Order::Decode { tx } | Order::Hear { tx, .. } | Order::Show { tx, .. } => Names {
+                pages: None,
+                tx: Some(word_of(tx)),
+                cert: None,
+            },
+            Order::Open { pages, .. } => of_pages(pages),
+            Order::Report { pages, .. } => of_pages(Some(word_of(pages))),
         }
     }
 
@@ -83,6 +84,15 @@ impl<'a> Order<'a> {
             Order::Decode { .. } | Order::Hear { .. } | Order::Show { .. } => Role::Transmission,
             _ => Role::PageFile,
         }
+    }
+}
+
+// The names of a command that has a page file alone, if it has one.
+fn of_pages(pages: Option<&str>) -> Names<'_> {
+    Names {
+        pages,
+        tx: None,
+        cert: None,
     }
 }
 
