@@ -42,7 +42,8 @@ pub(crate) fn limits_over(node: &Node<'_>, class: u8, m: u16) -> Limits
 
 // The ways out of the set, each of which settles an open question.
 pub(crate) fn ways_out(node: &Node<'_>, set: u16) -> ArrayVec<Way, 288>
-    requires { All (Falls node.now.classes.now node.now.question.batches node.now.limits) (ways_across node.now.classes.now node.now.limits set) }
+    requires { All (Falls node.now.classes.now node.now.question.batches node.now.limits)
+        (ways_across node.now.classes.now node.now.limits set) }
     ensures items { result.items ≡ ways_across node.now.classes.now node.now.limits set }
     ensures allowed { All (MayTake node.now.classes.now node.now.limits) result.items }
     ensures fall { All (Falls node.now.classes.now node.now.question.batches node.now.limits) result.items }
@@ -52,7 +53,8 @@ pub(crate) fn ways_out(node: &Node<'_>, set: u16) -> ArrayVec<Way, 288>
 
 // The ways to close, each of which settles an open question.
 pub(crate) fn ways_to_end(node: &Node<'_>) -> ArrayVec<Way, 2>
-    requires { All (Falls node.now.classes.now node.now.question.batches node.now.limits) (ways_to_close node.now.classes.now node.now.limits) }
+    requires { All (Falls node.now.classes.now node.now.question.batches node.now.limits)
+        (ways_to_close node.now.classes.now node.now.limits) }
     ensures items { result.items ≡ ways_to_close node.now.classes.now node.now.limits }
     ensures allowed { All (MayTake node.now.classes.now node.now.limits) result.items }
     ensures fall { All (Falls node.now.classes.now node.now.question.batches node.now.limits) result.items }
