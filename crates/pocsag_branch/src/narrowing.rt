@@ -15,7 +15,8 @@ pub(crate) fn child_limits(node: &Node<'_>, way: Way) -> Limits
     requires falls { Falls node.now.classes.now node.now.question.batches node.now.limits way }
     ensures value { result ≡ narrowed_limits node.now.classes.now node.now.limits way node.now.question.batches }
     ensures limits { AreNodeLimits node.now.classes.now node.now.question.batches result }
-    ensures falls { undecided node.now.classes.now node.now.question.batches result < undecided node.now.classes.now node.now.question.batches node.now.limits }
+    ensures falls { undecided node.now.classes.now node.now.question.batches result <
+        undecided node.now.classes.now node.now.question.batches node.now.limits }
 {
     narrow(node.classes, &node.limits, way, node.question.batches)
 }
@@ -25,7 +26,8 @@ pub(crate) fn limits_under(node: &Node<'_>, class: u8, m: u16) -> Limits
     requires { IsSplitPoint node.now.classes.now node.now.question.batches node.now.limits class m }
     ensures value { result ≡ limits_below node.now.limits class m }
     ensures limits { AreNodeLimits node.now.classes.now node.now.question.batches result }
-    ensures falls { undecided node.now.classes.now node.now.question.batches result < undecided node.now.classes.now node.now.question.batches node.now.limits }
+    ensures falls { undecided node.now.classes.now node.now.question.batches result <
+        undecided node.now.classes.now node.now.question.batches node.now.limits }
 {
     below_split(&node.limits, class, u32::from(m))
 }
@@ -35,7 +37,8 @@ pub(crate) fn limits_over(node: &Node<'_>, class: u8, m: u16) -> Limits
     requires { IsSplitPoint node.now.classes.now node.now.question.batches node.now.limits class m }
     ensures value { result ≡ limits_from node.now.limits class m }
     ensures limits { AreNodeLimits node.now.classes.now node.now.question.batches result }
-    ensures falls { undecided node.now.classes.now node.now.question.batches result < undecided node.now.classes.now node.now.question.batches node.now.limits }
+    ensures falls { undecided node.now.classes.now node.now.question.batches result <
+        undecided node.now.classes.now node.now.question.batches node.now.limits }
 {
     from_split(&node.limits, class, u32::from(m))
 }

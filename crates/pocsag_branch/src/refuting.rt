@@ -19,7 +19,9 @@ use std::alloc::Global;
 
 // Whether the tree of a child is accepted for the node itself.
 fn stands_for(node: &Node<'_>, tree: &Tree) -> bool
-    ensures { IsTrue result ↔ AcceptsWithin false node.now.classes.now node.now.question.end node.now.question.batches node.now.limits greatest_depth (bound_of tree.now) }
+    ensures { IsTrue result ↔
+        AcceptsWithin false node.now.classes.now node.now.question.end node.now.question.batches node.now.limits
+        greatest_depth (bound_of tree.now) }
 {
     let Question { end, batches, .. } = node.question;
     accepts(node.classes, &node.limits, batches, tree, end)
