@@ -49,7 +49,7 @@ pub enum Order<'a> {
     Report {
         pages: Option<&'a str>,
         rate: u32,
-        search: Search,
+        search: SearchOrder,
     },
 }
 
@@ -109,7 +109,7 @@ pub struct PlanOrder<'a> {
     /// The words for the transmission and for the certificate, of which one may name standard output.
     pub tx: &'a str,
     pub cert: &'a str,
-    pub search: Search,
+    pub search: SearchOrder,
     /// Whether the files are read back.
     pub verify: bool,
     /// Whether what stands there before is kept until both files are whole.
@@ -119,7 +119,7 @@ pub struct PlanOrder<'a> {
 /// How a plan is searched: the node limit, the end, and whether each round is answered; and how many pages
 /// the round must have, if that is given.
 #[derive(Clone, Copy, PartialEq, Eq, Debug)]
-pub struct Search {
+pub struct SearchOrder {
     pub expect: Option<u32>,
     pub limit: u32,
     pub end: End,
@@ -363,8 +363,13 @@ Lists what the pager of an address shows, past two wrong bits in each codeword",
 
 fn show_command<'a>(alloc: Global) -> Result<Command<'a>, AllocError> {
     let list = flag(alloc, LIST, "Lists where each page stands, as CSV").conflicts_with(SVG)?;
-    let rows = option(alloc, ROWS, "A-B", "Shows these batches alone, counted from 1")
-        .conflicts_with(LIST)?;
+    let rows = option(
+        alloc,
+        ROWS,
+        "A-B",
+        "Shows these batches alone, counted from 1",
+    )
+    .conflicts_with(LIST)?;
     Command::new(alloc, SHOW)
         .about("Shows what a transmission looks like, codeword by codeword")
         .after_help(SHOW_MANUAL)
@@ -421,8 +426,8 @@ fn end_of(found: &ArgMatches<'_>) -> Option<End> {
     }
 }
 
-fn search_of(found: &ArgMatches<'_>) -> Option<Search> {
-    Some(Search {
+fn search_of(found: &ArgMatches<'_>) -> Option<SearchOrder> {
+    Some(SearchOrder {
         expect: found.get_one::<u32>(EXPECT),
         limit: found.get_one::<u32>(LIMIT)?,
         end: end_of(found)?,

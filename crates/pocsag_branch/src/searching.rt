@@ -37,6 +37,7 @@ pub fn search(
         end,
         batches: least.batches,
         limit: node_limit,
+        second: false,
     };
     match whole_tree(alloc, classes, question) {
         Ok(tree) => judged(alloc, classes, question, &least.choice, tree),
