@@ -9,6 +9,7 @@ mod fault;
 mod growing;
 mod laws;
 mod listing;
+mod page_file;
 mod state;
 mod whole;
 
@@ -18,5 +19,6 @@ pub use laws::{
     readings_of_bytes_are_one, standing_is_without_fault,
 };
 pub use listing::{kind_of_page, list, message_of};
+pub use page_file::write_page_file;
 pub use state::Decoder;
 pub use whole::decode;
