@@ -1,9 +1,11 @@
 //! The commands over memory: what each tells, what it leaves, and its exit status.
 
 use pocsag_commands::{
-    DEFAULT_LIMIT, run_check, run_decode, run_hear, run_input, run_plan, run_plan_always,
-    run_report, run_report_always, run_verify,
+    DEFAULT_LIMIT, Fault, Names, Role, Scene, Trouble, run_check, run_decode, run_hear, run_input,
+    run_plan, run_plan_always, run_report, run_report_always, run_verify, tell_explained,
+    tell_fault,
 };
+use pocsag_pages::RoundFault;
 use pocsag_words::{End, MemorySink, MemorySource};
 use std::alloc::Global;
 use std::test::Fail;
@@ -88,19 +90,24 @@ fn plan(alloc: Global, search: Search, file: &[u8], faults: Faults) -> Planned {
     let mut cert = MemorySink::<100>::new(3, faults.cert);
     let mut out = MemorySink::<200>::new(1, 1000);
     let mut err = MemorySink::<100>::new(1, 1000);
-    let status = if always {
-        run_plan_always(
-            alloc, limit, end, &mut pages, &mut tx, &mut cert, &mut out, &mut err,
-        )
+    let done = if always {
+        run_plan_always(alloc, limit, end, &mut pages, &mut tx, &mut cert, &mut out)
     } else {
-        run_plan(
-            alloc, limit, end, &mut pages, &mut tx, &mut cert, &mut out, &mut err,
-        )
+        run_plan(alloc, limit, end, &mut pages, &mut tx, &mut cert, &mut out)
     };
+    let status = status_of(done.map(|_| 0), &mut err);
     Planned {
         told: Told { status, out, err },
         tx,
         cert,
+    }
+}
+
+// The exit status of a command.
+fn status_of(done: Result<u8, Fault>, err: &mut MemorySink<100>) -> u8 {
+    match done {
+        Ok(status) => status,
+        Err(fault) => tell_fault(err, fault),
     }
 }
 
@@ -213,23 +220,28 @@ fn run(alloc: Global, command: Command, file: &[u8], planned: &Planned) -> Told 
     let mut cert = MemorySource::new(planned.cert.bytes(), 4, 1000);
     let mut out = MemorySink::<200>::new(1, 1000);
     let mut err = MemorySink::<100>::new(1, 1000);
-    let status = match command {
-        Command::Input => run_input(alloc, &mut pages, &mut out, &mut err),
-        Command::Check => run_check(alloc, &mut pages, &mut cert, &mut out, &mut err),
-        Command::Decode => run_decode(alloc, &mut tx, &mut out, &mut err),
-        Command::Hear(address) => run_hear(alloc, address, &mut tx, &mut out, &mut err),
-        Command::Verify(end, always) => run_verify(
-            alloc, end, always, &mut pages, &mut tx, &mut cert, &mut out, &mut err,
-        ),
+    let done = match command {
+        Command::Input => run_input(alloc, &mut pages, &mut out).map(|_| 0),
+        Command::Check => run_check(alloc, &mut pages, &mut cert, &mut out).map(|shown| if shown {
+            0
+        } else {
+            1
+        }),
+        Command::Decode => run_decode(alloc, &mut tx, &mut out).map(|_| 0),
+        Command::Hear(address) => run_hear(alloc, address, &mut tx, &mut out).map(|_| 0),
+        Command::Verify(end, always) => {
+            run_verify(alloc, end, always, &mut pages, &mut tx, &mut cert, &mut out).map(|_| 0)
+        }
         Command::Report(rate, search) => {
             let Search { limit, end, always } = search;
             if always {
-                run_report_always(alloc, rate, limit, end, &mut pages, &mut out, &mut err)
+                run_report_always(alloc, rate, limit, end, &mut pages, &mut out).map(|_| 0)
             } else {
-                run_report(alloc, rate, limit, end, &mut pages, &mut out, &mut err)
+                run_report(alloc, rate, limit, end, &mut pages, &mut out).map(|_| 0)
             }
         }
     };
+    let status = status_of(done, &mut err);
     Told { status, out, err }
 }
 
@@ -446,6 +458,71 @@ fn what_was_planned_is_read(rt: HostRuntime) -> Result<(), Fail> {
         assert_eq!(rt; told.status, status);
         assert_eq!(rt; told.out.bytes(), out.as_bytes());
         assert_eq!(rt; told.err.bytes(), err.as_bytes());
+    }
+    Ok(())
+}
+
+// What a command answered, the page file that it read, and the notes on it.
+type NoteCase = (Result<u8, Fault>, &'static [u8], &'static str);
+
+#[test]
+fn notes_are_told(rt: HostRuntime) -> Result<(), Fail> {
+    let names = Names {
+        pages: Some("p\n.csv"),
+        cert: Some("c"),
+        ..Names::NONE
+    };
+    let trouble = Some(Trouble {
+        role: Role::Certificate,
+        code: Some(2),
+    });
+    let swallowed = b"address,kind,message\n8,alpha,\"one\n9,tone0,\n";
+    let cases: [NoteCase; 6] = [
+        (Ok(0), LONE_TONE, ""),
+        (Ok(2), LONE_TONE, ""),
+        (
+            Ok(0),
+            swallowed,
+            "pocsag: page file p?.csv, line 2, record 1, address '8': the message holds 2 line feeds; \
+             if they are not meant, a quote is not closed\n",
+        ),
+        (
+            Err(Fault::Round(RoundFault::BadCharacter(1, 2))),
+            BAD_FILE,
+            "pocsag: page file p?.csv, line 2, record 1, address '7': the message is '12a', \
+             its kind 'numeric'; the byte is 0x61\n",
+        ),
+        (
+            Err(Fault::Device),
+            b"",
+            "pocsag: certificate c: No such file or directory (os error 2)\n",
+        ),
+        (
+            Err(Fault::EqualPaths),
+            b"",
+            "pocsag: page file p?.csv\npocsag: certificate c\n",
+        ),
+    ];
+    for (done, file, due) in cases {
+        let scene = Scene {
+            names,
+            subject: Role::PageFile,
+            trouble,
+            file,
+        };
+        let mut err = MemorySink::<300>::new(7, 1000);
+        assert_eq!(rt; tell_explained(rt.alloc(), done, &scene, &mut err), Ok(()));
+        assert_eq!(rt; err.bytes(), due.as_bytes());
+        let mut cut = MemorySink::<300>::new(7, 5);
+        let told = tell_explained(rt.alloc(), done, &scene, &mut cut);
+        assert_eq!(rt;
+            told,
+            if due.is_empty() {
+                Ok(())
+            } else {
+                Err(Fault::Write)
+            }
+        );
     }
     Ok(())
 }

@@ -40,7 +40,8 @@ pub fn standing_is_without_fault()
 /// payload is none, that of a numeric text that ends in no space, or that of an alphanumeric text.
 pub fn listed_fields_are_read_back()
     ensures { (p : Page) → p.address ≤ last_address → is_reserved p.address ≡ false → IsSpelled p.function p.payload →
-        page_of_fields (decimal p.address) (kind_field p.function p.payload) (message_field p.function p.payload) ≡ Ok p }
+        page_of_fields (decimal p.address) (kind_field p.function p.payload) (message_field p.function p.payload)
+        ≡ Ok p }
 {}
 
 /// The page file of a round's pages is read as that round, where the payload of each page is none, that of a numeric
