@@ -55,12 +55,16 @@ refused_asking (line.Add a k m) pages (refusal.Field f) (inr e) = inr (λ after 
 refused_asking (line.Add a k m) pages (refusal.Add f) h = by_fault a.now k.now m.now pages h.0 f (add_fault pages h.0) h.1 refl h.2
 refused_asking (line.Add a k m) pages (refusal.Cancel f) h = absurd h
 refused_asking (line.Add a k m) pages (refusal.Undone f) h = absurd h
+refused_asking (line.Add a k m) pages refusal.InQuotes h = absurd h
+refused_asking (line.Add a k m) pages refusal.StrayQuote h = absurd h
 refused_asking (line.Cancel a) pages refusal.Unknown h = absurd h
 refused_asking (line.Cancel a) pages (refusal.Field f) h = inl (ap (λ (g : FieldFault). wants_memory (refusal.Field g)) h)
 refused_asking (line.Cancel a) pages (refusal.Add f) h = absurd h
 refused_asking (line.Cancel a) pages (refusal.Cancel f) h = inr (λ after d.
     never (sym (there pages d.page d.there) ∙ ap (λ (n : ℕ). has_address pages n) d.same ∙ h d.tone d.spelled))
 refused_asking (line.Cancel a) pages (refusal.Undone f) h = absurd h
+refused_asking (line.Cancel a) pages refusal.InQuotes h = absurd h
+refused_asking (line.Cancel a) pages refusal.StrayQuote h = absurd h
 refused_asking line.Clear pages why h = absurd h
 refused_asking line.List pages why h = inr (λ after d. d)
 refused_asking (line.Plan tx cert end) pages why h = inr (λ after d. d)

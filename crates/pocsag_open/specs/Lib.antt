@@ -1,3 +1,5 @@
 pub mod Answers
 pub mod Edited
+pub mod Quotes
 pub mod Runs
+pub mod Spelling

@@ -7,6 +7,7 @@ mod edits;
 mod lines;
 mod opening;
 mod outputs;
+mod quoting;
 mod refusal;
 mod settling;
 

@@ -11,7 +11,7 @@ use crate::outputs::{Outputs, Places};
 use crate::refusal::Refusal;
 use crate::settling::settled;
 use pocsag_commands::{DEFAULT_LIMIT, Fault, tell};
-use pocsag_decode::{ListFault, list};
+use pocsag_decode::{ListFault, write_page_file};
 use pocsag_pages::read_round;
 use pocsag_plan::Book;
 use pocsag_words::{End, Sink, Source};
@@ -123,9 +123,8 @@ fn answer<P: Places, O: Sink>(
     ensures lost { IfErr result (λ e. status_of e ≡ 3) }
 {
     let row = match record_of(alloc, line) {
-        Ok(Some(row)) => row,
-        Ok(None) => return refuse(Refusal::Unknown, out),
-        Err(_) => return refuse(Refusal::Undone(Fault::OutOfMemory), out),
+        Ok(row) => row,
+        Err(refusal) => return refuse(refusal, out),
     };
     match line_of(&row) {
         Line::Plan { tx, cert, end } => {
@@ -135,7 +134,7 @@ fn answer<P: Places, O: Sink>(
                 Err(fault) => refuse(Refusal::Undone(fault), out),
             }
         }
-        Line::List => match list(alloc, book.pages(), out) {
+        Line::List => match write_page_file(alloc, book.pages(), out) {
             Ok(()) => tell_pages(book, out),
             Err(ListFault::OutOfMemory) => refuse(Refusal::Undone(Fault::OutOfMemory), out),
             Err(ListFault::WriteFault) => Err(Fault::Write),
