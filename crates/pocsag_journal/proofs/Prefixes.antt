@@ -6,7 +6,7 @@ use Rattle.csv.specs.Machine.{line_feed}
 use Rattle.csv.specs.Writing.{default_writer, row_text}
 use Rattle.pocsag_pages.specs.PageFile.{Row}
 use Rattle.pocsag_journal.specs.Journals.{HasNoLineFeed, IsLine, IsRead, IsWholeLine, ReadsFirst, first_row, journal_text, rows_text}
-use Rattle.pocsag_journal.proofs.Lines.{first_line}
+use Rattle.pocsag_journal.proofs.TextLines.{first_line}
 use Rattle.pocsag_journal.proofs.Readings.{one_reading, read_on}
 
 -- one of two texts whose continuations are equal goes on as the other

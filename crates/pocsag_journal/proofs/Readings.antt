@@ -9,7 +9,7 @@ use Rattle.pocsag_pages.specs.declared.page.Page.{Page}
 use Rattle.pocsag_open.specs.Runs.{IsEdit, IsRun}
 use Rattle.pocsag_journal.specs.Journals.{HasNoLineFeed, IsBadLine, IsLine, IsRead, IsWholeLine, first, later, first_row, journal_text, rows_text}
 use Rattle.pocsag_journal.proofs.EditRuns.{run_once, run_parts}
-use Rattle.pocsag_journal.proofs.Lines.{Left, align, first_line, no_whole_line, same_line}
+use Rattle.pocsag_journal.proofs.TextLines.{Left, align, first_line, no_whole_line, same_line}
 
 -- the first line in front of two equal texts
 behind_first : (done rows : List Row) (rest torn : List ℕ) → journal_text done ++ rest ≡ journal_text rows ++ torn →

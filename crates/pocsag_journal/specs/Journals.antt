@@ -80,3 +80,31 @@ pub record ReadsFirst (bytes : List ℕ) (rows : List Row) : Type 0 where
   pub torn : List ℕ
   pub parts : rows ≡ firsts ++ left
   pub read : IsRead bytes firsts torn
+
+-- A record that adds a page.
+pub record IsAdd (row : Row) : Type 0 where
+  pub address : List ℕ
+  pub kind : List ℕ
+  pub message : List ℕ
+  pub fields : row ≡ codes "add" ∷ address ∷ kind ∷ message ∷ []
+
+-- The line is the text of a record that adds this page behind the others.
+pub record AddsLine (line : List ℕ) (before : List Page) (page : Page) (after : List Page) : Type 0 where
+  pub row : Row
+  pub adds : IsAdd row
+  pub one : IsLine row
+  pub text : row_text default_writer row ≡ line
+  pub edit : IsEdit row before after
+  pub behind : after ≡ before ++ page ∷ []
+
+-- The bytes are the journal text of a run that leads from no pages to these.
+pub record StandsFor (bytes : List ℕ) (pages : List Page) : Type 0 where
+  pub rows : List Row
+  pub text : bytes ≡ journal_text rows
+  pub each : AllByRecursion IsLine rows
+  pub run : IsRun rows [] pages
+
+-- *Written anew*: the same, and each record adds a page.
+pub record ListsPages (bytes : List ℕ) (pages : List Page) : Type 0 where
+  pub stands : StandsFor bytes pages
+  pub adds : AllByRecursion IsAdd stands.rows

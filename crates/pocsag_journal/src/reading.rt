@@ -1,4 +1,8 @@
-ghost use Rattle.std.specs.Prelude.{◌≡◌, ◌⊎◌, ℕ, List, IfErr, IfOk, MatchResult, OnErr, OnOk};
+ghost use Rattle.std.specs.Prelude.{◌≡◌, ◌⊎◌, ℕ, List, [], IfErr, IfOk, MatchResult, OnOk, option_map};
+ghost use Rattle.csv.specs.Machine.{next_record};
+ghost use Rattle.csv.specs.Reading.{default_config, strip_bom};
+ghost use Rattle.csv.specs.Records.{fields_of};
+ghost use Rattle.csv.specs.declared.parser.State.TheVariants as state;
 ghost use Rattle.pocsag_pages.specs.PageFile.{Row};
 ghost use Rattle.pocsag_pages.specs.declared.page.Page.{Page};
 ghost use Rattle.pocsag_open.specs.Runs.{IsRun};
@@ -8,8 +12,9 @@ ghost use Rattle.pocsag_journal.specs.Journals.{IsRead, MakesLine, Replays, Repl
 use crate::fault::JournalFault;
 use crate::lines::line_len;
 use crate::text::{FIRST_LINE, row_line};
+use csv::{ByteRecord, ReaderBuilder};
 use pocsag_open::edit_row;
-use pocsag_pages::{only_row, read_whole};
+use pocsag_pages::read_whole;
 use pocsag_plan::Book;
 use pocsag_words::{OutOfMemory, Source};
 use std::alloc::Global;
@@ -78,11 +83,29 @@ fn replay(alloc: Global, bytes: &[u8]) -> Result<Replayed, JournalFault>
     }
 }
 
+// The first record of a line, if it has one.
+fn record_of(alloc: Global, line: &[u8]) -> Result<Option<ByteRecord>, OutOfMemory>
+    ensures { IfOk result (λ row. option_map fields_of row
+        ≡ option_map (λ read. read.0) (next_record default_config state.StartRecord [] [] (strip_bom line.now))) }
+{
+    let mut reader = ReaderBuilder::new()
+        .has_headers(false)
+        .flexible(true)
+        .from_reader(alloc, line);
+    let mut row = ByteRecord::new(alloc);
+    match reader.read_byte_record(&mut row) {
+        Ok(true) => Ok(Some(row)),
+        Ok(false) => Ok(None),
+        // No read of bytes in memory fails, so an error is want of memory.
+        Err(_) => Err(OutOfMemory),
+    }
+}
+
 // Makes the edit that a line is the text of, if it is that of one that the pages accept, and says whether it is.
 fn replay_line(alloc: Global, book: &mut Book, line: &[u8]) -> Result<bool, OutOfMemory>
     ensures { IfOk result (λ made. MakesLine made line.now book.old book.new) }
 {
-    let Some(row) = only_row(alloc, line)? else {
+    let Some(row) = record_of(alloc, line)? else {
         return Ok(false);
     };
     let text = row_line(alloc, &row)?;
