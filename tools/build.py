@@ -130,7 +130,7 @@ def tests(crate):
 def run(tasks, crates):
     """Runs the tasks, and shows what one that failed printed."""
     if not shutil.which("rt"):
-        raise Refused("the command rt of the toolchain is missing: put the folder bin of its kit into PATH (README, What the machine needs)")
+        raise Refused("the command rt of the toolchain is missing: put the folder bin of its kit into PATH (README, Install)")
     folders = lock_folders(crates)
     try:
         failed = lanes.Lanes(tasks, say, int(os.environ.get("RT_JOBS") or 0)).run()

@@ -1,6 +1,6 @@
 use crate::devices::{ReaderSource, WriterSink};
 use crate::files::{STANDARD, open_buffered, open_source};
-use crate::planning::{PIECE, plan};
+use crate::planning::plan;
 use crate::round_files::RoundFiles;
 use crate::words::{Order, Search};
 use pocsag_commands::{
@@ -8,7 +8,7 @@ use pocsag_commands::{
     run_report_always, run_show, tell, tell_fault,
 };
 use pocsag_open::{Planner, run_open, run_open_pages};
-use pocsag_words::{MemorySource, Sink, Source};
+use pocsag_words::{Sink, SliceSource, Source};
 use std::alloc::Global;
 use std::io::IsTerminal;
 
@@ -118,7 +118,7 @@ fn report_path<O: Sink, E: Sink>(
         return Ok(report_round(alloc, rate, search, &mut pages, out, err));
     };
     let file = expected_file(alloc, expected, &mut pages)?;
-    let mut held = MemorySource::new(file.as_slice(), PIECE, u64::MAX);
+    let mut held = SliceSource::new(file.as_slice());
     Ok(report_round(alloc, rate, search, &mut held, out, err))
 }
 

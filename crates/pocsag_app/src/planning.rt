@@ -9,11 +9,8 @@ use crate::misuse::{misused, tell_misuse};
 use crate::paths::refuse_equal;
 use crate::words::{PlanOrder, Search};
 use pocsag_commands::{Fault, expected_file, run_plan, run_plan_always, run_verify};
-use pocsag_words::{MemorySource, Sink, Source};
+use pocsag_words::{Sink, SliceSource, Source};
 use std::alloc::Global;
-
-/// How many bytes of a page file in memory are read at a time.
-pub const PIECE: usize = 65_536;
 
 /// `plan`: plans from file to files, or from and to the standard streams. Where standard output takes one of
 /// the files, the lines go to standard error. Answers the exit status.
@@ -67,7 +64,7 @@ fn write_files<O: Sink, E: Sink>(
         return write_round(rt, alloc, order, &mut pages, out, err);
     };
     let file = expected_file(alloc, expected, &mut pages)?;
-    let mut held = MemorySource::new(file.as_slice(), PIECE, u64::MAX);
+    let mut held = SliceSource::new(file.as_slice());
     write_round(rt, alloc, order, &mut held, out, err)
 }
 

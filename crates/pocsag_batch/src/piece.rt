@@ -4,14 +4,13 @@ ghost use Rattle.pocsag_words.specs.Codeword.{IsCodeword};
 ghost use Rattle.pocsag_words.specs.Devices.{CallsPerByte, CountsFailures, TookPrefix};
 ghost use Rattle.pocsag_batch.specs.Sending.{slot_bytes};
 
-use pocsag_pages::SYNC_WORD;
-use pocsag_words::{DeviceFault, Sink, Word, write_all};
+use pocsag_words::{
+    BATCH_BYTES, DeviceFault, PREAMBLE_BYTE, PREAMBLE_BYTES, SYNC_WORD, Sink, Word, write_all,
+};
 use std::marker::Model;
 
 // The bytes of 64 batches.
-const PIECE: usize = 4_352;
-
-const PREAMBLE: usize = 72;
+const PIECE: usize = 64 * BATCH_BYTES;
 
 // A piece of a transmission that is not written yet.
 #[derive(Drop)]
@@ -36,8 +35,8 @@ impl Piece {
         ensures { result ≡ replicate 72 0xaa }
     {
         Piece {
-            bytes: [0xaa; PIECE],
-            len: PREAMBLE,
+            bytes: [PREAMBLE_BYTE; PIECE],
+            len: PREAMBLE_BYTES,
         }
     }
 

@@ -1,7 +1,5 @@
 pub mod Answers
-pub mod GrowingSink
 pub mod Listings
 pub mod Plans
 pub mod Reporting
-pub mod SliceSource
 pub mod Statuses

@@ -8,10 +8,10 @@ use Rattle.pocsag_pages.specs.Reading.{page_length}
 use Rattle.pocsag_tree.specs.Bounds.{Bound}
 use Rattle.pocsag_batch.specs.FileOrder.{IsFileOrder}
 use Rattle.pocsag_plan.specs.BoundedHeadline.{BoundedHeadline}
-use Rattle.pocsag_plan.specs.BoundedStreams.{ExplainsStreamAlways}
 use Rattle.pocsag_plan.specs.Headline.{Headline}
 use Rattle.pocsag_plan.specs.Streams.{ExplainsStream}
 use Rattle.pocsag_plan.specs.declared.fault.StreamFault.{StreamFault}
+use Rattle.pocsag_plan.specs.declared.search.Effort.{Effort}
 use Rattle.pocsag_commands.specs.declared.fault.Fault.{Fault}
 use Rattle.pocsag_commands.specs.Faults.{fault_of_stream}
 use Rattle.pocsag_c.specs.Answers.{IsDelivered, number_of_end}
@@ -64,15 +64,10 @@ pub record IsCounted (file : List ℕ) (info : PlanInfo) : Type 0 where
   pub codewords : info.codewords ≡ sum_by page_length round
   pub in_order : (T : List Kind) → IsFileOrder round T → length T ≡ 16 * info.in_order
 
--- Why there is no plan, where the planner may refuse, and where it may not.
-pub record ExplainsPlanning (file : List ℕ) (number limit : ℕ) (f : Fault) : Type 0 where
+-- Why there is no plan.
+pub record ExplainsPlanning (effort : Effort) (file : List ℕ) (number limit : ℕ) (f : Fault) : Type 0 where
   pub end : End
   pub same_end : number ≡ number_of_end end
   pub fault : StreamFault
-  pub why : ExplainsStream file end limit fault
-  pub same : f ≡ fault_of_stream fault
-
-pub record ExplainsPlanningAlways (file : List ℕ) (limit : ℕ) (f : Fault) : Type 0 where
-  pub fault : StreamFault
-  pub why : ExplainsStreamAlways file limit fault
+  pub why : ExplainsStream effort file end limit fault
   pub same : f ≡ fault_of_stream fault

@@ -5,9 +5,8 @@ use Rattle.pocsag_pages.specs.declared.fault.RoundFault.TheVariants as round
 use Rattle.pocsag_pages.specs.PageFile.{verdict}
 use Rattle.pocsag_tree.specs.Bounds.{Bound}
 use Rattle.pocsag_branch.specs.Found.{IsNodeLimit}
-use Rattle.pocsag_plan.specs.BoundedStreams.{IsBoundedOf}
 use Rattle.pocsag_plan.specs.Reports.{IsRate, IsReport}
-use Rattle.pocsag_plan.specs.Streams.{IsStoppedAt}
+use Rattle.pocsag_plan.specs.Streams.{IsBoundedOf, IsStoppedAt}
 use Rattle.pocsag_plan.specs.declared.airtime.Report.{Report}
 use Rattle.pocsag_plan.specs.declared.bounded.Bounded.{Bounded}
 use Rattle.pocsag_commands.specs.declared.fault.Fault.{Fault}

@@ -4,9 +4,8 @@ ghost use Rattle.pocsag_commands.specs.Judging.{ExplainsJudging, IsNotShown};
 ghost use Rattle.pocsag_c.specs.Answers.{IsNotAccepted, TellsFault, IsShown, number_of_end};
 
 use crate::refusal::{NOWHERE, Place, refusal_of};
-use crate::slice_source::SliceSource;
 use pocsag_commands::{Fault, Judged, judge_certificate};
-use pocsag_words::End;
+use pocsag_words::{End, SliceSource};
 use std::alloc::Global;
 
 /// What a check tells.

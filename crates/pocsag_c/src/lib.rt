@@ -7,13 +7,11 @@ ghost use Rattle.std.specs.Prelude.{◌≡◌};
 ghost use Rattle.pocsag_c.specs.Statuses.{interface_version};
 
 mod checking;
-mod growing_sink;
 mod handing;
 mod planning;
 mod receiving;
 mod refusal;
 mod reporting;
-mod slice_source;
 
 pub use checking::{CheckInfo, pocsag_check};
 pub use planning::{PlanInfo, pocsag_plan};

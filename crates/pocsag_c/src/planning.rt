@@ -7,13 +7,11 @@ ghost use Rattle.pocsag_plan.specs.Streams.{ExplainsStream, IsSearchLimit};
 ghost use Rattle.pocsag_c.specs.Answers.{IsDelivered, IsNoEnd, TellsFault, number_of_end};
 ghost use Rattle.pocsag_c.specs.Plans.{ExplainsPlanning, ExplainsPlanningAlways, HasNoRoomForBoth, IsCounted, IsHeadline, IsHeadlineWithBound, IsPlannedInto, IsWithoutPlan, IsWithoutRoom};
 
-use crate::growing_sink::GrowingSink;
 use crate::handing::put;
 use crate::refusal::{NOWHERE, Place, refusal_of};
-use crate::slice_source::SliceSource;
 use pocsag_commands::Fault;
 use pocsag_plan::{Bounded, Plan, StreamFault, plan_stream, plan_stream_always};
-use pocsag_words::End;
+use pocsag_words::{End, GrowingSink, SliceSource};
 use std::alloc::Global;
 
 /// What a plan tells; all but the place is 0 where there is none.

@@ -1,51 +1,50 @@
-ghost use Rattle.std.specs.Prelude.{◌≡◌, ◌≢◌, IfErr, IfOk};
-ghost use Rattle.pocsag_c.specs.Answers.{TellsFault};
-ghost use Rattle.pocsag_c.specs.Listings.{ExplainsDecoding, ExplainsHearing, HasNoRoom, IsListed, IsListingOfHeard, IsListingOfRead};
+ghost use Rattle.std.specs.Prelude.{◌≡◌, ◌≢◌, [], IfErr, IfOk, IsErrAnd, IsOkAnd};
+ghost use Rattle.pocsag_commands.specs.Commands.{Decoded, HeardAndListed};
+ghost use Rattle.pocsag_commands.specs.Listing.{ExplainsDecoding, ExplainsHearing};
+ghost use Rattle.pocsag_c.specs.Answers.{IsDelivered, IsTooSmall, TellsFault};
+ghost use Rattle.pocsag_c.specs.Listings.{HasNoRoom, IsListed};
+ghost use Rattle.pocsag_c.specs.Statuses.{refusal_of};
 
-use crate::growing_sink::GrowingSink;
 use crate::handing::hand_out;
 use crate::refusal::{NOWHERE, Place, refusal_of};
-use pocsag_commands::Fault;
-use pocsag_decode::{decode, list};
-use pocsag_pager::hear_all;
+use pocsag_commands::{Fault, list_decoded, list_heard};
+use pocsag_words::GrowingSink;
 use std::alloc::Global;
 
-fn list_read(alloc: Global, tx: &[u8]) -> Result<Vec<u8>, Fault>
-    ensures listed { IfOk result (λ text. IsListingOfRead tx.now text.items) }
+fn text_decoded(alloc: Global, tx: &[u8]) -> Result<Vec<u8>, Fault>
+    ensures listed { IfOk result (λ text. Decoded tx.now [] text.items) }
     ensures explained { IfErr result (ExplainsDecoding tx.now) }
 {
-    let pages = decode(alloc, tx)?;
     let mut text = GrowingSink::new(alloc);
-    list(alloc, pages.as_slice(), &mut text)?;
+    list_decoded(alloc, tx, &mut text)?;
     Ok(text.into_bytes())
 }
 
-fn list_heard(alloc: Global, address: u32, tx: &[u8]) -> Result<Vec<u8>, Fault>
-    ensures listed { IfOk result (λ text. IsListingOfHeard address tx.now text.items) }
+fn text_heard(alloc: Global, address: u32, tx: &[u8]) -> Result<Vec<u8>, Fault>
+    ensures listed { IfOk result (λ text. HeardAndListed address tx.now [] text.items) }
     ensures explained { IfErr result (ExplainsHearing address tx.now) }
 {
-    let pages = hear_all(alloc, tx, address)?;
     let mut text = GrowingSink::new(alloc);
-    list(alloc, pages.as_slice(), &mut text)?;
+    list_heard(alloc, address, tx, &mut text)?;
     Ok(text.into_bytes())
 }
 
-/// Puts the listing of the pages of a transmission into a buffer: 0, or 9 where the buffer is too small. In
-/// both cases `listing_len` tells the length of the listing.
-#[unsafe(no_mangle)]
-pub extern "C" fn pocsag_decode(
-    alloc: Global,
-    tx: &[u8],
+// Hands out a listing, or tells why there is none.
+fn hand_out_listing(
+    listed: Result<Vec<u8>, Fault>,
     listing: &mut [u8],
     listing_len: &mut usize,
     place: &mut Place,
 ) -> u32
-    ensures listed { result ≡ 0 → IsListed (IsListingOfRead tx.now) listing.old listing.new listing_len.new }
-    ensures no_room { result ≡ 9 → HasNoRoom (IsListingOfRead tx.now) listing.old listing.new listing_len.new }
-    ensures fault { result ≢ 0 → result ≢ 9 → TellsFault (ExplainsDecoding tx.now) result place.new }
+    ensures delivered { result ≡ 0 →
+        IsOkAnd listed (λ text. IsDelivered listing.old listing.new listing_len.new text.items) }
+    ensures too_small { result ≡ 9 →
+        IsOkAnd listed (λ text. IsTooSmall listing.old listing.new listing_len.new text.items) }
+    ensures fault { result ≢ 0 → result ≢ 9 → IsErrAnd listed (λ fault.
+        (result ≡ (refusal_of fault).status) × (place.new ≡ (refusal_of fault).place)) }
     ensures untouched { result ≢ 0 → listing.new ≡ listing.old }
 {
-    match list_read(alloc, tx) {
+    match listed {
         Ok(text) => {
             *place = NOWHERE;
             if hand_out(text.as_slice(), listing, listing_len) {
@@ -61,6 +60,25 @@ pub extern "C" fn pocsag_decode(
             refusal.status
         }
     }
+}
+
+/// Puts the listing of the pages of a transmission into a buffer: 0, or 9 where the buffer is too small. In
+/// both cases `listing_len` tells the length of the listing.
+#[unsafe(no_mangle)]
+pub extern "C" fn pocsag_decode(
+    alloc: Global,
+    tx: &[u8],
+    listing: &mut [u8],
+    listing_len: &mut usize,
+    place: &mut Place,
+) -> u32
+    ensures listed { result ≡ 0 → IsListed (Decoded tx.now []) listing.old listing.new listing_len.new }
+    ensures no_room { result ≡ 9 → HasNoRoom (Decoded tx.now []) listing.old listing.new listing_len.new }
+    ensures fault { result ≢ 0 → result ≢ 9 → TellsFault (ExplainsDecoding tx.now) result place.new }
+    ensures untouched { result ≢ 0 → listing.new ≡ listing.old }
+{
+    let text = text_decoded(alloc, tx);
+    hand_out_listing(text, listing, listing_len, place)
 }
 
 /// Puts the listing of what the pager of an address shows of a transmission into a buffer, as
@@ -74,25 +92,11 @@ pub extern "C" fn pocsag_hear(
     listing_len: &mut usize,
     place: &mut Place,
 ) -> u32
-    ensures listed { result ≡ 0 → IsListed (IsListingOfHeard address tx.now) listing.old listing.new listing_len.new }
-    ensures no_room { result ≡ 9 → HasNoRoom (IsListingOfHeard address tx.now) listing.old listing.new listing_len.new }
+    ensures listed { result ≡ 0 → IsListed (HeardAndListed address tx.now []) listing.old listing.new listing_len.new }
+    ensures no_room { result ≡ 9 → HasNoRoom (HeardAndListed address tx.now []) listing.old listing.new listing_len.new }
     ensures fault { result ≢ 0 → result ≢ 9 → TellsFault (ExplainsHearing address tx.now) result place.new }
     ensures untouched { result ≢ 0 → listing.new ≡ listing.old }
 {
-    match list_heard(alloc, address, tx) {
-        Ok(text) => {
-            *place = NOWHERE;
-            if hand_out(text.as_slice(), listing, listing_len) {
-                0
-            } else {
-                9
-            }
-        }
-        Err(fault) => {
-            *listing_len = 0;
-            let refusal = refusal_of(fault);
-            *place = refusal.place;
-            refusal.status
-        }
-    }
+    let text = text_heard(alloc, address, tx);
+    hand_out_listing(text, listing, listing_len, place)
 }

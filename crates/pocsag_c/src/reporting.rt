@@ -5,11 +5,10 @@ ghost use Rattle.pocsag_c.specs.Reporting.{ExplainsReport, ExplainsReporting, Is
 
 use crate::planning::end_of;
 use crate::refusal::{NOWHERE, Place, refusal_of};
-use crate::slice_source::SliceSource;
 use pocsag_commands::Fault;
 use pocsag_pages::{Round, read_round};
 use pocsag_plan::{Bounded, PlanFault, Report, plan, plan_always, report};
-use pocsag_words::End;
+use pocsag_words::{End, SliceSource};
 use std::alloc::Global;
 
 /// What a plan takes on the air; all but the place is 0 where there is none.

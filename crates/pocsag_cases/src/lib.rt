@@ -29,6 +29,8 @@ mod pager_tests;
 #[cfg(test)]
 mod plan_tests;
 #[cfg(test)]
+mod readme;
+#[cfg(test)]
 mod show_tests;
 #[cfg(test)]
 mod slots_tests;

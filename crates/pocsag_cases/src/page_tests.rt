@@ -3,8 +3,9 @@
 use crate::given::{PageRow, page, page_file, pages, tones};
 use pocsag_batch::{FirstFault, first_stream};
 use pocsag_pages::{
-    FieldFault, PageFault, Payload, Round, RoundFault, WholeFault, is_reserved_address,
-    leading_len, page_fault, page_of_fields, read_round, read_whole,
+    FieldFault, FileRecords, PageFault, Payload, Round, RoundFault, WholeFault,
+    is_reserved_address, leading_len, line_feeds, only_row, page_fault, page_of_fields, read_round,
+    read_whole,
 };
 use pocsag_rounds::{THREE_PAGES_TIGHT, ones};
 use pocsag_words::{DeviceFault, MemorySink, MemorySource, Source};
@@ -306,4 +307,66 @@ fn rounds_of_pages(rt: HostRuntime) {
     assert_eq!(rt; Payload::empty(alloc), tone.payload);
     assert_eq!(rt; digits.payload.as_slice(), [0x84C2A].as_slice());
     assert_eq!(rt; digits.payload.into_vec().len(), 1);
+}
+
+// A page file, and of each of its records the line, the number of fields and the last field.
+const WALKS: &[(&[u8], &[(usize, usize, &[u8])])] = &[
+    (b"", &[]),
+    (b"\n\r\n", &[]),
+    (b"address,kind,message", &[(1, 3, b"message")]),
+    (
+        b"address,kind,message\r\n\r\n8,tone0,\r\n\r\n9,tone0,x\r\n",
+        &[(1, 3, b"message"), (3, 3, b""), (5, 3, b"x")],
+    ),
+    (
+        b"\xEF\xBB\xBFa,b\n\n8,alpha,\"one\ntwo\n\"\n9,tone0\n10",
+        &[(1, 2, b"b"), (3, 3, b"one\ntwo\n"), (6, 2, b"tone0"), (7, 1, b"10")],
+    ),
+    (
+        b"a\rb\r\rc\n\"never\nclosed\n",
+        &[(1, 1, b"a"), (1, 1, b"b"), (1, 1, b"c"), (2, 1, b"never\nclosed\n")],
+    ),
+];
+
+#[test]
+fn records_of_a_file(rt: HostRuntime) {
+    for (file, due) in WALKS {
+        let mut records = FileRecords::of(rt.alloc(), file);
+        for (line, fields, last) in *due {
+            assert_eq!(rt; records.advance(), Ok(true));
+            assert_eq!(rt; records.line(), *line);
+            assert_eq!(rt; records.len(), *fields);
+            assert_eq!(rt; records.field(fields - 1), Some(*last));
+            assert_eq!(rt; records.field(*fields), None);
+        }
+        assert_eq!(rt; records.advance(), Ok(false));
+        assert_eq!(rt; records.advance(), Ok(false));
+    }
+    assert_eq!(rt; line_feeds(b"\r\na\n\n"), 3);
+}
+
+// Bytes, and the fields of their record where they hold one and no more.
+const LONE_ROWS: &[(&[u8], Option<&[&[u8]]>)] = &[
+    (b"", None),
+    (b"\r\n", None),
+    (b"list", Some(&[b"list"])),
+    (b"a,,\"b, \"\"c\"\"\"\r\n", Some(&[b"a", b"", b"b, \"c\""])),
+    (b"\xef\xbb\xbfa,b", Some(&[b"a", b"b"])),
+    (b"a\nb", None),
+    (b"a\rb", None),
+    (b"\"a\nb\"", Some(&[b"a\nb"])),
+];
+
+#[test]
+fn lone_rows(rt: HostRuntime) {
+    for (bytes, fields) in LONE_ROWS {
+        let row = only_row(rt.alloc(), bytes).expect(&rt, "memory");
+        assert_eq!(rt; row.is_some(), fields.is_some(), "{bytes:?}");
+        if let (Some(row), Some(fields)) = (row, fields) {
+            assert_eq!(rt; row.len(), fields.len(), "{bytes:?}");
+            for (i, field) in fields.iter().enumerate() {
+                assert_eq!(rt; row.get(i), Some(*field), "{bytes:?}");
+            }
+        }
+    }
 }

@@ -1,8 +1,8 @@
 //! Codewords and devices.
 
 use pocsag_words::{
-    DeviceFault, Kind, MemorySink, MemorySource, Sink, Source, Word, address_word, check_all,
-    from_raw, message_word, repair, write_all,
+    DeviceFault, GrowingSink, Kind, MemorySink, MemorySource, Sink, SliceSource, Source, Word,
+    address_word, check_all, from_raw, message_word, repair, write_all,
 };
 
 // High bits of an address and a function, with the address codeword.
@@ -107,6 +107,16 @@ fn devices(rt: HostRuntime) {
     for count in [8, 2, 0] {
         assert_eq!(rt; whole.read(&mut wide), Ok(count));
     }
+    let mut slice = SliceSource::new(&bytes);
+    for (room, count) in [(4, 4), (0, 0), (16, 6), (16, 0)] {
+        assert_eq!(rt; slice.read(&mut wide[..room]), Ok(count));
+    }
+    assert_eq!(rt; wide[..6], bytes[4..]);
+    let mut grown = GrowingSink::new(rt.alloc());
+    for piece in [&bytes[..3], &bytes[..0], &bytes[3..]] {
+        assert_eq!(rt; grown.write(piece), Ok(piece.len()));
+    }
+    assert_eq!(rt; grown.into_bytes().as_slice(), bytes.as_slice());
     let mut full: MemorySink<8> = MemorySink::new(3, u64::MAX);
     assert_eq!(rt; full.write(&bytes), Ok(3));
     assert_eq!(rt; write_all(&mut full, &bytes), Err(DeviceFault));

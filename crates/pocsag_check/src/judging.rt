@@ -51,7 +51,7 @@ pub fn check(round: &Round, batches: u32, tree: &Tree, end: End) -> bool
     // A yes is a bound over all lists of codewords.
     ensures bound { IsTrue result → (T : List ℕ) (n : ℕ) → IsLegalList end T n round.now → batches ≤ n }
 {
-    let _pages = round.pages();
+    round.keeps_rules();
     check_tree(round, batches, tree, end, false)
 }
 

@@ -8,22 +8,23 @@ use Rattle.pocsag_plan.specs.declared.airtime.Report.{Report}
 use Rattle.pocsag_plan.specs.declared.bounded.Bounded.{Bounded}
 use Rattle.pocsag_plan.specs.declared.fault.StreamFault.{StreamFault}
 use Rattle.pocsag_plan.specs.declared.fault.StreamFault.TheVariants as streaming
-use Rattle.pocsag_plan.specs.BoundedStreams.{ExplainsStreamAlways, IsBoundedOf, WritesBounded}
+use Rattle.pocsag_plan.specs.declared.search.Effort.TheVariants.{Always}
 use Rattle.pocsag_plan.specs.Reports.{IsReport, report_text}
+use Rattle.pocsag_plan.specs.Streams.{ExplainsStream, IsBoundedOf, WritesBounded}
 use Rattle.pocsag_commands.specs.declared.fault.Fault.{Fault}
 use Rattle.pocsag_commands.specs.Always.{IsRefusedAlways, limit, round as of_round, PlannedAlwaysAndTold, ReportedAlways}
 use Rattle.pocsag_commands.specs.Faults.{fault_of_stream, status_of}
 use Rattle.pocsag_commands.specs.Lines.{below_text, plan_text}
 use Rattle.pocsag_commands.proofs.Refusing.{why_round}
 
-pub why_refused : (file : List ℕ) (n : ℕ) (e : StreamFault) → ExplainsStreamAlways file n e → status_of (fault_of_stream e) ≡ 1
+pub why_refused : (file : List ℕ) (end : End) (n : ℕ) (e : StreamFault) → ExplainsStream Always file end n e → status_of (fault_of_stream e) ≡ 1
     → IsRefusedAlways file n
-why_refused file n streaming.BadLimit said one = limit said
-why_refused file n (streaming.Round f) said one = of_round f (why_round file f said.1 one)
-why_refused file n (streaming.SearchLimit least found tree) said one = absurd said
-why_refused file n streaming.OutOfMemory said one = absurd (omega arith)
-why_refused file n (streaming.Transmission f) said one = absurd (omega arith)
-why_refused file n (streaming.Certificate f) said one = absurd (omega arith)
+why_refused file end n streaming.BadLimit said one = limit said
+why_refused file end n (streaming.Round f) said one = of_round f (why_round file f said.1 one)
+why_refused file end n (streaming.SearchLimit least found tree) said one = absurd said.0
+why_refused file end n streaming.OutOfMemory said one = absurd (omega arith)
+why_refused file end n (streaming.Transmission f) said one = absurd (omega arith)
+why_refused file end n (streaming.Certificate f) said one = absurd (omega arith)
 
 pub told_planned : (file : List ℕ) (end : End) (tx tx' cert cert' : List ℕ) (bounded : Bounded) →
     WritesBounded file end bounded.plan.batches bounded.bound (bound_of bounded.plan.tree) tx tx' cert cert' →
@@ -35,7 +36,7 @@ told_planned file end tx tx' cert cert' bounded writes of (Ok u) out out' told =
     let here : verdict file ≡ Ok of.round = of.read in
     let there : verdict file ≡ Ok writes.headline.round = writes.headline.read in
     let same : of.round ≡ writes.headline.round = cc in
-    let pages : bounded.plan.pages ≡ length writes.headline.round = of.plan_of.pages ∙ ap length same in
+    let pages : bounded.plan.pages ≡ length writes.headline.round = of.holds.pages ∙ ap length same in
     record {
       planned = record { batches = bounded.plan.batches; bound = bounded.bound; tree = bound_of bounded.plan.tree; writes = writes };
       told = told ∙ ap (λ (n : ℕ). out ++ plan_text n bounded.plan.batches ++ below_text bounded.plan.batches bounded.bound) pages;

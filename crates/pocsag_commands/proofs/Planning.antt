@@ -9,6 +9,7 @@ use Rattle.pocsag_plan.specs.declared.airtime.Report.{Report}
 use Rattle.pocsag_plan.specs.declared.answer.Plan.{Plan}
 use Rattle.pocsag_plan.specs.declared.fault.StreamFault.{StreamFault}
 use Rattle.pocsag_plan.specs.declared.fault.StreamFault.TheVariants as streaming
+use Rattle.pocsag_plan.specs.declared.search.Effort.TheVariants.{Fewest}
 use Rattle.pocsag_plan.specs.Plans.{IsSearchTreeFor}
 use Rattle.pocsag_plan.specs.Reports.{IsReport, report_text}
 use Rattle.pocsag_plan.specs.Streams.{ExplainsStream, IsPlanOf, Writes}
@@ -18,11 +19,11 @@ use Rattle.pocsag_commands.specs.Faults.{fault_of_stream, status_of}
 use Rattle.pocsag_commands.specs.Lines.{plan_text}
 use Rattle.pocsag_commands.proofs.Refusing.{why_round}
 
-pub why_refused : (file : List ℕ) (end : End) (n : ℕ) (e : StreamFault) → ExplainsStream file end n e
+pub why_refused : (file : List ℕ) (end : End) (n : ℕ) (e : StreamFault) → ExplainsStream Fewest file end n e
     → status_of (fault_of_stream e) ≡ 1 → IsPlanRefused file end n
 why_refused file end n streaming.BadLimit said one = limit said
 why_refused file end n (streaming.Round f) said one = of_round f (why_round file f said.1 one)
-why_refused file end n (streaming.SearchLimit least found tree) said one = stopped least found (bound_of tree) said.1
+why_refused file end n (streaming.SearchLimit least found tree) said one = stopped least found (bound_of tree) said.2
 why_refused file end n streaming.OutOfMemory said one = absurd (omega arith)
 why_refused file end n (streaming.Transmission f) said one = absurd (omega arith)
 why_refused file end n (streaming.Certificate f) said one = absurd (omega arith)
@@ -40,10 +41,10 @@ told_planned file end tx tx' cert cert' plan writes of (Ok u) out out' told =
     let here : verdict file ≡ Ok of.round = of.read in
     let there : verdict file ≡ Ok writes.headline.round = writes.headline.read in
     let same : of.round ≡ writes.headline.round = cc in
-    let pages : plan.pages ≡ length writes.headline.round = of.plan_of.bounded.pages ∙ ap length same in
+    let pages : plan.pages ≡ length writes.headline.round = of.holds.bounded.pages ∙ ap length same in
     record {
       planned = record { batches = plan.batches; tree = bound_of plan.tree; writes = writes };
-      shaped = subst (λ (ps : List Page). IsSearchTreeFor end ps plan.batches (bound_of plan.tree)) same of.plan_of.shaped;
+      shaped = subst (λ (ps : List Page). IsSearchTreeFor end ps plan.batches (bound_of plan.tree)) same of.holds.shaped;
       told = told ∙ ap (λ (n : ℕ). out ++ plan_text n plan.batches) pages;
     }
 told_planned file end tx tx' cert cert' plan writes of (Err e) out out' told = tt

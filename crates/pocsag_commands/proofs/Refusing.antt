@@ -1,6 +1,6 @@
 -- Why a command refuses, by the fault that a call of it answered.
-use Rattle.std.proofs.Common.{◌≡◌, ℕ, List, Some, None, Ok, Err, ap, subst, arith, inl, inr}
-use Rattle.std.specs.Prelude.{◌⊎◌}
+use Rattle.std.proofs.Common.{◌≡◌, ℕ, List, Some, Ok, Err, ap, subst, arith, inl, inr}
+use Rattle.std.specs.Prelude.{◌⊎◌, IfErr, Result}
 use Rattle.pocsag_words.specs.declared.ending.End.{End}
 use Rattle.pocsag_pages.specs.PageFile.{verdict}
 use Rattle.pocsag_pages.specs.declared.fault.RoundFault.{RoundFault}
@@ -13,19 +13,19 @@ use Rattle.pocsag_tree.specs.declared.refusals.CertificateFault.{CertificateFaul
 use Rattle.pocsag_tree.specs.declared.refusals.CertificateFault.TheVariants as certificate
 use Rattle.pocsag_decode.specs.Faults.{HasFault}
 use Rattle.pocsag_decode.specs.declared.fault.DecodeFault.{DecodeFault}
-use Rattle.pocsag_decode.specs.declared.fault.DecodeFault.TheVariants as decoding
 use Rattle.pocsag_pager.specs.Faults.{hearing_fault}
 use Rattle.pocsag_pager.specs.declared.fault.PagerFault.{PagerFault}
-use Rattle.pocsag_pager.specs.declared.fault.PagerFault.TheVariants as hearing
 use Rattle.pocsag_show.specs.Showing.{Explains}
 use Rattle.pocsag_show.specs.declared.fault.ShowFault.{ShowFault}
 use Rattle.pocsag_show.specs.declared.fault.ShowFault.TheVariants as showing
+use Rattle.pocsag_plan.specs.declared.search.Effort.TheVariants.{Fewest}
 use Rattle.pocsag_plan.specs.Plans.{ExplainsPlan}
 use Rattle.pocsag_plan.specs.declared.fault.PlanFault.{PlanFault}
 use Rattle.pocsag_plan.specs.declared.fault.PlanFault.TheVariants as planning
 use Rattle.pocsag_commands.specs.Commands.{IsPlanRefused, limit, stopped}
-use Rattle.pocsag_commands.specs.Faults.{fault_of_plan, status_of}
+use Rattle.pocsag_commands.specs.Faults.{fault_of_plan, status_after, status_of}
 use Rattle.pocsag_commands.specs.Judging.{ExplainsJudging}
+use Rattle.pocsag_commands.specs.Listing.{ExplainsDecoding, ExplainsHearing}
 use Rattle.pocsag_commands.specs.Refusals.{IsCheckFaulty, IsHearingRefused, IsTransmissionRefused}
 use Rattle.pocsag_commands.specs.Showing.{fault_of_show}
 use Rattle.pocsag_commands.specs.declared.fault.Fault.{Fault}
@@ -39,11 +39,11 @@ why_round file f (inr (inl e)) one =
     let three : status_of (fault.Round f) ≡ 3 = ap (λ (v : RoundFault). status_of (fault.Round v)) e in absurd (omega arith)
 why_round file f (inr (inr e)) one = e
 
-pub why_unplanned : (file : List ℕ) (end : End) (n : ℕ) (R : List Page) → verdict file ≡ Ok R → (e : PlanFault) → ExplainsPlan end R n e →
+pub why_unplanned : (file : List ℕ) (end : End) (n : ℕ) (R : List Page) → verdict file ≡ Ok R → (e : PlanFault) → ExplainsPlan Fewest end R n e →
     status_of (fault_of_plan e) ≡ 1 → IsPlanRefused file end n
 why_unplanned file end n R read planning.BadLimit said one = limit said
 why_unplanned file end n R read (planning.SearchLimit least found tree) said one =
-    stopped least found (bound_of tree) (record { round = R; read = read; stopped = said.1 })
+    stopped least found (bound_of tree) (record { round = R; read = read; holds = said.2 })
 why_unplanned file end n R read planning.OutOfMemory said one = absurd (omega arith)
 
 pub why_certificate : (e : CertificateFault) (bytes : List ℕ) → IsFault e bytes → status_of (fault.Certificate e) ≡ 1 → HasFirst e bytes
@@ -52,20 +52,34 @@ why_certificate certificate.ReadFault bytes (inl refusal) one = absurd (omega ar
 why_certificate certificate.OutOfMemory bytes (inl refusal) one = absurd (omega arith)
 why_certificate _ bytes (inl refusal) one = absurd refusal
 
-pub why_decoded : (X Y : List ℕ) (e : DecodeFault) → X ≡ Y → (e ≡ decoding.OutOfMemory) ⊎ HasFault X e →
-    status_of (fault.Transmission e) ≡ 1 → IsTransmissionRefused Y
-why_decoded X Y e same (inl memory) one =
+pub why_decoded : (X Y : List ℕ) (e : Fault) → X ≡ Y → ExplainsDecoding X e → status_of e ≡ 1 → IsTransmissionRefused Y
+why_decoded X Y (fault.Transmission e) same (inl memory) one =
     let three : status_of (fault.Transmission e) ≡ 3 = ap (λ (v : DecodeFault). status_of (fault.Transmission v)) memory in
     absurd (omega arith)
-why_decoded X Y e same (inr h) one = IsTransmissionRefused.fault e (subst (λ (bytes : List ℕ). HasFault bytes e) same h)
+why_decoded X Y (fault.Transmission e) same (inr h) one =
+    IsTransmissionRefused.fault e (subst (λ (bytes : List ℕ). HasFault bytes e) same h)
+why_decoded X Y fault.OutOfMemory same said one = absurd (omega arith)
+why_decoded X Y fault.Write same said one = absurd (omega arith)
+why_decoded X Y _ same said one = absurd said
 
-pub why_heard : (a : ℕ) (X Y : List ℕ) (e : PagerFault) → X ≡ Y →
-    (hearing_fault a X ≡ Some e) ⊎ ((hearing_fault a X ≡ None) × (e ≡ hearing.OutOfMemory)) →
-    status_of (fault.Pager e) ≡ 1 → IsHearingRefused a Y
-why_heard a X Y e same (inl h) one =
+pub why_decoded_after : (X Y : List ℕ) (r : Result (Unit {0}) Fault) → X ≡ Y → IfErr r (ExplainsDecoding X) → status_after r ≡ 1 →
+    IsTransmissionRefused Y
+why_decoded_after X Y (Ok done) same said one = absurd (omega arith)
+why_decoded_after X Y (Err e) same said one = why_decoded X Y e same said one
+
+pub why_heard : (a : ℕ) (X Y : List ℕ) (e : Fault) → X ≡ Y → ExplainsHearing a X e → status_of e ≡ 1 → IsHearingRefused a Y
+why_heard a X Y (fault.Pager e) same (inl memory) one =
+    let three : status_of (fault.Pager e) ≡ 3 = ap (λ (v : PagerFault). status_of (fault.Pager v)) memory in absurd (omega arith)
+why_heard a X Y (fault.Pager e) same (inr h) one =
     IsHearingRefused.fault e (subst (λ (bytes : List ℕ). hearing_fault a bytes ≡ Some e) same h)
-why_heard a X Y e same (inr memory) one =
-    let three : status_of (fault.Pager e) ≡ 3 = ap (λ (v : PagerFault). status_of (fault.Pager v)) memory.1 in absurd (omega arith)
+why_heard a X Y fault.OutOfMemory same said one = absurd (omega arith)
+why_heard a X Y fault.Write same said one = absurd (omega arith)
+why_heard a X Y _ same said one = absurd said
+
+pub why_heard_after : (a : ℕ) (X Y : List ℕ) (r : Result (Unit {0}) Fault) → X ≡ Y → IfErr r (ExplainsHearing a X) → status_after r ≡ 1 →
+    IsHearingRefused a Y
+why_heard_after a X Y (Ok done) same said one = absurd (omega arith)
+why_heard_after a X Y (Err e) same said one = why_heard a X Y e same said one
 
 pub why_not_shown : (X Y : List ℕ) (e : ShowFault) → X ≡ Y → Explains X e → status_of (fault_of_show e) ≡ 1 → IsTransmissionRefused Y
 why_not_shown X Y (showing.Transmission f) same said one =

@@ -8,8 +8,9 @@ use Rattle.pocsag_tree.specs.Bounds.{Bound}
 use Rattle.pocsag_branch.specs.Found.{IsNodeLimit}
 use Rattle.pocsag_plan.specs.declared.airtime.Report.{Report}
 use Rattle.pocsag_plan.specs.declared.bounded.Bounded.{Bounded}
-use Rattle.pocsag_plan.specs.BoundedStreams.{IsBoundedOf, WritesBounded, WritesBoundedCertificatePart, WritesBoundedPart}
+use Rattle.pocsag_plan.specs.declared.search.Effort.TheVariants.{Always}
 use Rattle.pocsag_plan.specs.Reports.{IsReport, report_text}
+use Rattle.pocsag_plan.specs.Streams.{IsBoundedOf, WritesBounded, WritesCertificatePart, WritesPart}
 use Rattle.pocsag_commands.specs.Lines.{below_text, plan_text}
 
 -- `plan`: what both files took more is what the headline with a bound says.
@@ -28,8 +29,8 @@ pub record PlannedAlwaysAndTold (file : List ℕ) (end : End) (tx_before tx_afte
 -- transmission whole before the certificate.
 pub data LeavesAlways (file : List ℕ) (end : End) (tx_before tx_after cert_before cert_after : List ℕ) : Type 0 where
   nothing : tx_after ≡ tx_before → cert_after ≡ cert_before → LeavesAlways file end tx_before tx_after cert_before cert_after
-  part : WritesBoundedPart file end tx_before tx_after → cert_after ≡ cert_before → LeavesAlways file end tx_before tx_after cert_before cert_after
-  certificate_part : WritesBoundedCertificatePart file end tx_before tx_after cert_before cert_after → LeavesAlways file end tx_before tx_after cert_before cert_after
+  part : WritesPart Always file end tx_before tx_after → cert_after ≡ cert_before → LeavesAlways file end tx_before tx_after cert_before cert_after
+  certificate_part : WritesCertificatePart Always file end tx_before tx_after cert_before cert_after → LeavesAlways file end tx_before tx_after cert_before cert_after
   all : PlannedAlways file end tx_before tx_after cert_before cert_after → LeavesAlways file end tx_before tx_after cert_before cert_after
 
 -- Why `plan` refuses: the limit is none, or the page file has a fault. No search stops it.

@@ -15,6 +15,7 @@ use Rattle.pocsag_pager.specs.Faults.{hearing_fault}
 use Rattle.pocsag_pager.specs.Shown.{AreShown}
 use Rattle.pocsag_plan.specs.declared.airtime.Report.{Report}
 use Rattle.pocsag_plan.specs.declared.answer.Plan.{Plan}
+use Rattle.pocsag_plan.specs.declared.search.Effort.TheVariants.{Fewest}
 use Rattle.pocsag_plan.specs.Plans.{IsSearchTreeFor, NoneHasFewer}
 use Rattle.pocsag_plan.specs.Reports.{IsReport, report_text}
 use Rattle.pocsag_plan.specs.Streams.{IsPlanOf, IsStoppedAt, Writes, WritesCertificatePart, WritesPart}
@@ -42,8 +43,8 @@ pub record PlannedAndTold (file : List ℕ) (end : End) (tx_before tx_after cert
 -- before the certificate.
 pub data LeavesOutputs (file : List ℕ) (end : End) (tx_before tx_after cert_before cert_after : List ℕ) : Type 0 where
   nothing : tx_after ≡ tx_before → cert_after ≡ cert_before → LeavesOutputs file end tx_before tx_after cert_before cert_after
-  part : WritesPart file end tx_before tx_after → cert_after ≡ cert_before → LeavesOutputs file end tx_before tx_after cert_before cert_after
-  certificate_part : WritesCertificatePart file end tx_before tx_after cert_before cert_after → LeavesOutputs file end tx_before tx_after cert_before cert_after
+  part : WritesPart Fewest file end tx_before tx_after → cert_after ≡ cert_before → LeavesOutputs file end tx_before tx_after cert_before cert_after
+  certificate_part : WritesCertificatePart Fewest file end tx_before tx_after cert_before cert_after → LeavesOutputs file end tx_before tx_after cert_before cert_after
   all : Planned file end tx_before tx_after cert_before cert_after → LeavesOutputs file end tx_before tx_after cert_before cert_after
 
 -- Why `plan` refuses: the limit is none, the page file has a fault, or the search stopped.

@@ -4,6 +4,7 @@ pub mod Expecting
 pub mod Faults
 pub mod Judging
 pub mod Lines
+pub mod Listing
 pub mod Refusals
 pub mod Showing
 pub mod Verifying

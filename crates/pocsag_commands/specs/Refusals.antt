@@ -1,5 +1,6 @@
 -- Why each command refuses: what is so of what it read where its exit status is 1.
 use Rattle.std.specs.Prelude.{◌≡◌, ℕ, ◌<◌, List, [], ◌∷◌, ◌++◌, length, codes, Some, Err}
+use Rattle.pocsag_words.specs.Frame.{input_limit}
 use Rattle.pocsag_words.specs.declared.ending.End.{End}
 use Rattle.pocsag_pages.specs.declared.fault.RoundFault.{RoundFault}
 use Rattle.pocsag_pages.specs.PageFile.{verdict}
@@ -14,21 +15,18 @@ use Rattle.pocsag_commands.specs.Always.{IsRefusedAlways}
 use Rattle.pocsag_commands.specs.Commands.{IsPlanRefused}
 use Rattle.pocsag_commands.specs.Judging.{IsNotShown}
 
--- The greatest transmission that is read, in bytes, and the node limit where none is asked for.
-abbrev pub transmission_limit : ℕ
-transmission_limit = 268435456
-
+-- The node limit where none is asked for.
 abbrev pub default_limit : ℕ
 default_limit = 100000
 
 -- `decode` and `show`: the transmission is larger than is read, or it has a fault.
 pub data IsTransmissionRefused (bytes : List ℕ) : Type 0 where
-  too_large : transmission_limit < length bytes → IsTransmissionRefused bytes
+  too_large : input_limit < length bytes → IsTransmissionRefused bytes
   fault : (f : DecodeFault) → HasFault bytes f → IsTransmissionRefused bytes
 
 -- `hear`: the transmission is larger than is read, or the address or the bytes have a fault.
 pub data IsHearingRefused (address : ℕ) (bytes : List ℕ) : Type 0 where
-  too_large : transmission_limit < length bytes → IsHearingRefused address bytes
+  too_large : input_limit < length bytes → IsHearingRefused address bytes
   fault : (f : PagerFault) → hearing_fault address bytes ≡ Some f → IsHearingRefused address bytes
 
 -- `report`: the round is not planned, or the rate is none.

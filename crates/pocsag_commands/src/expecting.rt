@@ -4,11 +4,8 @@ ghost use Rattle.pocsag_commands.specs.declared.fault.Fault.TheVariants as fault
 
 use crate::fault::Fault;
 use pocsag_pages::{FILE_LIMIT, read_round, read_whole};
-use pocsag_words::{MemorySource, Source};
+use pocsag_words::{SliceSource, Source};
 use std::alloc::Global;
-
-// How many bytes of a file in memory are read at a time.
-const PIECE: usize = 65_536;
 
 /// `--expect N`: the bytes of a page file whose round has so many pages, to be used in its place. Where it
 /// has another number it is refused with both numbers; else the faults are those of `read_round`.
@@ -35,7 +32,7 @@ fn count_pages(alloc: Global, file: &[u8]) -> Result<u32, Fault>
     ensures counted { IfOk result (HoldsPages file.now) }
     ensures other { IfErr result (λ e. (found wanted : ℕ) → e ≢ fault.Unexpected found wanted) }
 {
-    let mut source = MemorySource::new(file, PIECE, u64::MAX);
+    let mut source = SliceSource::new(file);
     let round = read_round(alloc, &mut source)?;
     Ok(round.pages().len() as u32)
 }

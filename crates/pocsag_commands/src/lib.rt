@@ -18,7 +18,7 @@ pub use checking::{Judged, judge_certificate, run_check};
 pub use commands::{DEFAULT_LIMIT, run_input, run_plan, run_report};
 pub use expecting::expected_file;
 pub use fault::Fault;
-pub use receiving::{TRANSMISSION_LIMIT, run_decode, run_hear};
+pub use receiving::{TRANSMISSION_LIMIT, list_decoded, list_heard, run_decode, run_hear};
 pub use showing::run_show;
 pub use telling::{ended, tell, tell_fault};
 pub use verifying::run_verify;

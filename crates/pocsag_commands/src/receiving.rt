@@ -1,6 +1,7 @@
-ghost use Rattle.std.specs.Prelude.{◌≡◌, IfOk, OnOk};
+ghost use Rattle.std.specs.Prelude.{◌≡◌, IfErr, OnOk};
 ghost use Rattle.pocsag_commands.specs.Commands.{Decoded, HeardAndListed};
 ghost use Rattle.pocsag_commands.specs.Faults.{IsStatus, status_after};
+ghost use Rattle.pocsag_commands.specs.Listing.{ExplainsDecoding, ExplainsHearing};
 ghost use Rattle.pocsag_commands.specs.Refusals.{IsHearingRefused, IsTransmissionRefused};
 
 use crate::fault::Fault;
@@ -8,11 +9,11 @@ use crate::telling::ended;
 use pocsag_decode::{decode, list};
 use pocsag_pager::hear_all;
 use pocsag_pages::read_whole;
-use pocsag_words::{Sink, Source};
+use pocsag_words::{INPUT_LIMIT, Sink, Source};
 use std::alloc::Global;
 
 /// The greatest transmission that is read, in bytes.
-pub const TRANSMISSION_LIMIT: usize = 268_435_456;
+pub const TRANSMISSION_LIMIT: usize = INPUT_LIMIT;
 
 /// `decode TX`: lists the pages of a transmission. Answers the exit status.
 pub fn run_decode<T: Source, O: Sink, E: Sink>(
@@ -26,17 +27,26 @@ pub fn run_decode<T: Source, O: Sink, E: Sink>(
     ensures refused { result ≡ 1 → out.new ≡ out.old }
     ensures status { IsStatus result }
 {
-    let done = list_decoded(alloc, tx, out);
+    let done = decode_file(alloc, tx, out);
     ended(done, err)
 }
 
-fn list_decoded<T: Source, O: Sink>(alloc: Global, tx: &mut T, out: &mut O) -> Result<(), Fault>
+fn decode_file<T: Source, O: Sink>(alloc: Global, tx: &mut T, out: &mut O) -> Result<(), Fault>
     ensures listed { T.tells → O.tells → OnOk result (Decoded (T.held tx.old) (O.taken out.old) (O.taken out.new)) }
     ensures why { T.tells → status_after result ≡ 1 → IsTransmissionRefused (T.held tx.old) }
     ensures refused { status_after result ≡ 1 → out.new ≡ out.old }
 {
     let bytes = read_whole(alloc, tx, TRANSMISSION_LIMIT)?;
-    let pages = decode(alloc, bytes.as_slice())?;
+    list_decoded(alloc, bytes.as_slice(), out)
+}
+
+/// Lists the pages that the bytes of a transmission read as.
+pub fn list_decoded<O: Sink>(alloc: Global, bytes: &[u8], out: &mut O) -> Result<(), Fault>
+    ensures listed { O.tells → OnOk result (Decoded bytes.now (O.taken out.old) (O.taken out.new)) }
+    ensures explained { IfErr result (ExplainsDecoding bytes.now) }
+    ensures refused { status_after result ≡ 1 → out.new ≡ out.old }
+{
+    let pages = decode(alloc, bytes)?;
     list(alloc, pages.as_slice(), out)?;
     Ok(())
 }
@@ -56,11 +66,11 @@ pub fn run_hear<T: Source, O: Sink, E: Sink>(
     ensures refused { result ≡ 1 → out.new ≡ out.old }
     ensures status { IsStatus result }
 {
-    let done = list_heard(alloc, address, tx, out);
+    let done = hear_file(alloc, address, tx, out);
     ended(done, err)
 }
 
-fn list_heard<T: Source, O: Sink>(
+fn hear_file<T: Source, O: Sink>(
     alloc: Global,
     address: u32,
     tx: &mut T,
@@ -72,7 +82,22 @@ fn list_heard<T: Source, O: Sink>(
     ensures refused { status_after result ≡ 1 → out.new ≡ out.old }
 {
     let bytes = read_whole(alloc, tx, TRANSMISSION_LIMIT)?;
-    let pages = hear_all(alloc, bytes.as_slice(), address)?;
+    list_heard(alloc, address, bytes.as_slice(), out)
+}
+
+/// Lists what the pager of the address shows of the bytes of a transmission.
+pub fn list_heard<O: Sink>(
+    alloc: Global,
+    address: u32,
+    bytes: &[u8],
+    out: &mut O,
+) -> Result<(), Fault>
+    ensures listed { O.tells → OnOk result
+        (HeardAndListed address bytes.now (O.taken out.old) (O.taken out.new)) }
+    ensures explained { IfErr result (ExplainsHearing address bytes.now) }
+    ensures refused { status_after result ≡ 1 → out.new ≡ out.old }
+{
+    let pages = hear_all(alloc, bytes, address)?;
     list(alloc, pages.as_slice(), out)?;
     Ok(())
 }

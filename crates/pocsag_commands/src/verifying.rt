@@ -12,7 +12,7 @@ use pocsag_check::check;
 use pocsag_decode::decode;
 use pocsag_pages::{Page, Round, leading_len, read_round, read_whole};
 use pocsag_tree::read_certificate;
-use pocsag_words::{End, Sink, Source};
+use pocsag_words::{BATCH_BYTES, End, Sink, Source};
 use std::alloc::Global;
 
 /// `--verify`: reads a transmission and a certificate back, and tells `verified` where the one holds the
@@ -99,7 +99,7 @@ fn is_due(bound: usize, batches: usize, always: bool) -> bool
 fn batches_of(bytes: &[u8]) -> usize
     ensures { (codewords : List ℕ) → (sent : Sent bytes.now codewords) → result ≡ sent.batches }
 {
-    bytes.len().saturating_sub(leading_len(bytes)) / 68
+    bytes.len().saturating_sub(leading_len(bytes)) / BATCH_BYTES
 }
 
 // Whether the last codeword of a transmission may be its last: for the closed end it is no message codeword,

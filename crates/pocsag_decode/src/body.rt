@@ -9,12 +9,12 @@ ghost use Rattle.pocsag_decode.specs.Taking.{CountsBytes, CountsWord, ReadsWord,
 use crate::carry::Carry;
 use crate::fault::DecodeFault;
 use crate::growing::Growing;
-use pocsag_pages::{Page, SYNC_WORD};
-use pocsag_words::{Kind, from_raw};
+use pocsag_pages::Page;
+use pocsag_words::{BATCH_WORDS, Kind, SYNC_WORD, from_raw};
 use std::alloc::{AllocError, Global};
 
 // The words of a batch, its synchronisation codeword among them.
-const BATCH: u64 = 17;
+const BATCH: u64 = BATCH_WORDS as u64;
 
 // What was read after the preamble.
 #[derive(Drop)]

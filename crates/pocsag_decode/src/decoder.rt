@@ -9,10 +9,11 @@ use crate::body::Body;
 use crate::fault::DecodeFault;
 use crate::state::Decoder;
 use pocsag_pages::{Page, leading_len};
+use pocsag_words::PREAMBLE_BYTES;
 use std::alloc::Global;
 
 // The fewest bytes AA that a transmission begins with.
-const PREAMBLE: u64 = 72;
+const PREAMBLE: u64 = PREAMBLE_BYTES as u64;
 
 impl Decoder {
     /// A decoder of no bytes, which takes no memory.

@@ -14,13 +14,8 @@ use crate::fault::PagerFault;
 use crate::laws::{damage_is_repaired, shown_pages_are_one_list};
 use crate::pager::Pager;
 use pocsag_pages::{Page, leading_len};
+use pocsag_words::{BATCH_BYTES, PREAMBLE_BYTES};
 use std::alloc::{AllocError, Global};
-
-// The fewest bytes AA that a transmission begins with.
-const PREAMBLE: usize = 72;
-
-// The bytes of a batch, those of its synchronisation codeword among them.
-const BATCH_BYTES: usize = 68;
 
 // The bytes after the leading bytes AA, of which there are so many.
 fn after_leading(bytes: &[u8], count: usize) -> &[u8]
@@ -41,7 +36,7 @@ fn batches_of(bytes: &[u8]) -> Result<&[u8], PagerFault>
 {
     let count = leading_len(bytes);
     let rest = after_leading(bytes, count);
-    if count < PREAMBLE {
+    if count < PREAMBLE_BYTES {
         return Err(PagerFault::ShortPreamble);
     }
     if rest.is_empty() {

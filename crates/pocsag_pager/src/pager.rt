@@ -4,12 +4,9 @@ use crate::address::fault_of_address;
 use crate::fault::PagerFault;
 use crate::turn::{Change, change_at, heard_as, opens};
 use pocsag_pages::Page;
-use pocsag_words::numbers_are_repaired;
+use pocsag_words::{BATCH_WORDS, numbers_are_repaired};
 use std::alloc::Global;
 use std::mem;
-
-// The words of a batch, its synchronisation codeword among them.
-const BATCH: u32 = 17;
 
 // Where a pager is.
 #[derive(Drop)]
@@ -79,7 +76,7 @@ impl Pager {
         ensures over { OnErr result (IsOver self.new) }
     {
         let place = self.place;
-        self.place = (place + 1) % BATCH;
+        self.place = (place + 1) % BATCH_WORDS;
         let heard = heard_as(word);
         if self.waits() && place > 0 && !opens(self.address, place - 1, heard) {
             return Ok(None);
@@ -137,7 +134,7 @@ impl Pager {
         }
         let first = self.place as usize;
         let frame = 1 + 2 * self.frame();
-        let words = BATCH as usize;
+        let words = BATCH_WORDS as usize;
         if count > words {
             return false;
         }
@@ -156,6 +153,6 @@ impl Pager {
         ensures address { pager_address self.new ≡ pager_address self.old }
     {
         numbers_are_repaired();
-        self.place = (self.place + count as u32) % BATCH;
+        self.place = (self.place + count as u32) % BATCH_WORDS;
     }
 }

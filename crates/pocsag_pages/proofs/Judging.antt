@@ -4,6 +4,8 @@ use Rattle.std.specs.Prelude.{Option, Some, None, Result, Ok, Err, IfOk, IfErr, 
 use Rattle.std.proofs.Math.Seq.{append_snoc}
 use Rattle.std.proofs.lemmas.List.{append-nil, length-append}
 use Rattle.pocsag_pages.specs.declared.page.Page.{Page}
+use Rattle.pocsag_pages.specs.declared.fault.FieldFault.{FieldFault}
+use Rattle.pocsag_pages.specs.declared.fault.FieldFault.TheVariants as field
 use Rattle.pocsag_pages.specs.declared.fault.RecordFault.{RecordFault}
 use Rattle.pocsag_pages.specs.declared.fault.RecordFault.TheVariants as wrong
 use Rattle.pocsag_pages.specs.declared.fault.WholeFault.{WholeFault}
@@ -11,7 +13,8 @@ use Rattle.pocsag_pages.specs.declared.fault.WholeFault.TheVariants as whole
 use Rattle.pocsag_pages.specs.declared.fault.RoundFault.{RoundFault}
 use Rattle.pocsag_pages.specs.declared.fault.RoundFault.TheVariants as fault
 use Rattle.pocsag_pages.specs.PageList.{unless_empty}
-use Rattle.pocsag_pages.specs.PageFile.{Row, file_limit, fault_after, fault_of_row, first_fault, is_header, numbered, page_of, pages_of, pages_unless, round_fault_of, round_of_rows, rows_of, verdict, verdict_of_rows, with_page}
+use Rattle.pocsag_pages.specs.PageFile.{Row, fault_after, fault_of_row, first_fault, is_header, numbered, numbered_field, page_of, pages_of, pages_unless, round_fault_of, round_of_rows, rows_of, verdict, verdict_of_rows, with_page}
+use Rattle.pocsag_words.specs.Frame.{input_limit}
 use Rattle.pocsag_words.proofs.TruthValues.{is_above, not_above}
 
 -- the fault of record n + 1, or else what is said of the records after it
@@ -94,19 +97,23 @@ said_err x (Ok v) e = tt
 said_err x (Err f) e = inr e
 
 -- no record is answered by a failed read
+not_numbered_field : (n : ℕ) (e : FieldFault) → numbered_field n e ≡ fault.ReadFault → ⊥
+unfolding numbered_field
+not_numbered_field n field.BadAddress h = cc
+not_numbered_field n field.ReservedAddress h = cc
+not_numbered_field n field.BadKind h = cc
+not_numbered_field n field.MessageForTone h = cc
+not_numbered_field n field.EmptyMessage h = cc
+not_numbered_field n (field.BadCharacter place) h = cc
+not_numbered_field n field.TooLong h = cc
+not_numbered_field n field.OutOfMemory h = cc
+
 not_numbered : (n : ℕ) (e : RecordFault) → numbered n e ≡ fault.ReadFault → ⊥
 unfolding numbered
 not_numbered n wrong.FieldCount h = cc
-not_numbered n wrong.BadAddress h = cc
-not_numbered n wrong.ReservedAddress h = cc
-not_numbered n wrong.BadKind h = cc
-not_numbered n wrong.MessageForTone h = cc
-not_numbered n wrong.EmptyMessage h = cc
-not_numbered n (wrong.BadCharacter place) h = cc
-not_numbered n wrong.TooLong h = cc
+not_numbered n (wrong.Field e) h = not_numbered_field n e h
 not_numbered n wrong.DuplicateAddress h = cc
 not_numbered n wrong.TooManyPages h = cc
-not_numbered n wrong.OutOfMemory h = cc
 
 not_empty : (ps : List Page) → unless_empty ps ≡ Err fault.ReadFault → ⊥
 not_empty [] h = cc
@@ -144,16 +151,16 @@ pub after_header : (header : Row) (rows : List Row) → is_header header ≡ tru
 unfolding verdict_of_rows
 after_header header rows e = rw e refl
 
-pub small_file : (bytes : List ℕ) → length bytes ≤ file_limit → verdict bytes ≡ verdict_of_rows (rows_of bytes)
+pub small_file : (bytes : List ℕ) → length bytes ≤ input_limit → verdict bytes ≡ verdict_of_rows (rows_of bytes)
 unfolding verdict
-small_file bytes h = rw (not_above file_limit (length bytes) h) refl
+small_file bytes h = rw (not_above input_limit (length bytes) h) refl
 
-pub large_file : (bytes : List ℕ) → file_limit < length bytes → verdict bytes ≡ Err fault.TooLarge
+pub large_file : (bytes : List ℕ) → input_limit < length bytes → verdict bytes ≡ Err fault.TooLarge
 unfolding verdict
-large_file bytes h = rw (is_above file_limit (length bytes) h) refl
+large_file bytes h = rw (is_above input_limit (length bytes) h) refl
 
 -- what is told where the bytes were not read whole
-pub unread : (bytes : List ℕ) (w : WholeFault) (e : RoundFault) → (w ≡ whole.TooLarge → file_limit < length bytes) →
+pub unread : (bytes : List ℕ) (w : WholeFault) (e : RoundFault) → (w ≡ whole.TooLarge → input_limit < length bytes) →
     e ≡ round_fault_of w → (e ≡ fault.OutOfMemory) ⊎ ((e ≡ fault.ReadFault) ⊎ (verdict bytes ≡ Err e))
 unread bytes whole.ReadFault e large is = inr (inl is)
 unread bytes whole.TooLarge e large is = inr (inr (large_file bytes (large refl) ∙ ap Err (sym is)))

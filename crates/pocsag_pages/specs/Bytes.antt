@@ -3,6 +3,7 @@ use Rattle.std.specs.Prelude.{◌≡◌, ℕ, ◌+◌, ◌*◌, ◌%◌, ◌≤�
 use Rattle.std.specs.List.{flat_map}
 use Rattle.std.specs.Int.{to_be_bytes, from_be_bytes, w32}
 use Rattle.pocsag_words.specs.Codeword.{IsCodeword}
+use Rattle.pocsag_words.specs.Frame.{batch_words, preamble_byte, preamble_length}
 use Rattle.pocsag_pages.specs.Reading.{batch_length, IsBatchList}
 
 -- The synchronisation codeword, a rule of Annex 1.
@@ -18,13 +19,6 @@ synced i (w ∷ ws) = (if i % batch_length == 0 then sync_word ∷ [] else []) +
 -- *Bytes*: the batches, each word high byte first.
 abbrev pub body_bytes : List ℕ → List ℕ
 body_bytes T = flat_map (to_be_bytes w32) (synced 0 T)
-
--- The bytes of a preamble, alternating bits (a rule of Annex 1), and how many there are at least.
-abbrev pub preamble_byte : ℕ
-preamble_byte = 0xaa
-
-abbrev pub preamble_length : ℕ
-preamble_length = 72
 
 -- *Bytes*: the preamble of 576 bits, 72 bytes AA, and the batches.
 unfoldable pub bytes_of : List ℕ → List ℕ
@@ -55,13 +49,8 @@ after_preamble xs = drop (leading xs) xs
 -- The words that are not at the place of a synchronisation codeword; the first is at place j.
 abbrev pub unsynced : ℕ → List ℕ → List ℕ
 unsynced j [] = []
-unsynced j (w ∷ ws) = if j % (batch_length + 1) == 0 then unsynced (j + 1) ws else w ∷ unsynced (j + 1) ws
+unsynced j (w ∷ ws) = if j % batch_words == 0 then unsynced (j + 1) ws else w ∷ unsynced (j + 1) ws
 
 -- The words that the bytes have at the places of codewords.
 abbrev pub codewords_in : List ℕ → List ℕ
 codewords_in X = unsynced 0 (words_of (after_preamble X))
-
--- The bits of a transmission of so many batches, rules of Annex 1: a preamble of 576, and 544 of each batch, which are
--- those of a synchronisation codeword and sixteen codewords of 32 bits.
-abbrev pub transmission_bits : ℕ → ℕ
-transmission_bits batches = 576 + 544 * batches

@@ -4,6 +4,7 @@ use Rattle.std.specs.Prelude.{◌==◌, ◌&&◌, ◌||◌, ℕ, ◌+◌, ◌-�
 use Rattle.std.specs.Char.{is_ascii_digit}
 use Rattle.std.specs.Str.{bytes_eq}
 use Rattle.csv.specs.Reading.{default_config, records, strip_bom}
+use Rattle.pocsag_words.specs.Frame.{input_limit}
 use Rattle.pocsag_text.specs.declared.fault.TextFault.{TextFault}
 use Rattle.pocsag_text.specs.declared.fault.TextFault.TheVariants as text
 use Rattle.pocsag_text.specs.Text.{numeric_payload, alpha_payload}
@@ -20,10 +21,6 @@ use Rattle.pocsag_pages.specs.declared.fault.RoundFault.{RoundFault}
 use Rattle.pocsag_pages.specs.declared.fault.RoundFault.TheVariants as fault
 use Rattle.pocsag_pages.specs.Pages.{last_address, page_limit, is_reserved, has_address}
 use Rattle.pocsag_pages.specs.PageList.{or_else, unless_empty}
-
--- The most bytes of a page file (this project's own).
-abbrev pub file_limit : ℕ
-file_limit = 268435456
 
 -- The fields of one record.
 abbrev pub Row : Type 0
@@ -113,17 +110,6 @@ page_of_fields address_field kind_field message = do
   payload ← payload_of its_kind message
   Ok (record { address = address; function = function_of its_kind; payload = payload })
 
--- A fault of three fields as that of their record.
-abbrev pub record_fault_of : FieldFault → RecordFault
-record_fault_of field.BadAddress = wrong.BadAddress
-record_fault_of field.ReservedAddress = wrong.ReservedAddress
-record_fault_of field.BadKind = wrong.BadKind
-record_fault_of field.MessageForTone = wrong.MessageForTone
-record_fault_of field.EmptyMessage = wrong.EmptyMessage
-record_fault_of (field.BadCharacter place) = wrong.BadCharacter place
-record_fault_of field.TooLong = wrong.TooLong
-record_fault_of field.OutOfMemory = wrong.OutOfMemory
-
 -- Why a reader's bytes were not read whole, as a fault of the page file that it holds.
 abbrev pub round_fault_of : WholeFault → RoundFault
 round_fault_of whole.ReadFault = fault.ReadFault
@@ -133,7 +119,7 @@ round_fault_of whole.OutOfMemory = fault.OutOfMemory
 -- A page of three fields as that of their record, or their fault.
 abbrev pub of_record : Result Page FieldFault → Result Page RecordFault
 of_record (Ok p) = Ok p
-of_record (Err e) = Err (record_fault_of e)
+of_record (Err e) = Err (wrong.Field e)
 
 -- The page of a record, or its first fault, other records aside.
 unfoldable pub page_of : Row → Result Page RecordFault
@@ -161,19 +147,22 @@ fault_after count earlier (Ok p) =
 unfoldable pub fault_of_row : (before : List Row) → Row → Option RecordFault
 fault_of_row before r = fault_after (length before) (pages_of before) (page_of r)
 
--- The same with the record's number.
+-- A fault of three fields with their record's number, and so any fault of a record.
+unfoldable pub numbered_field : ℕ → FieldFault → RoundFault
+numbered_field n field.BadAddress = fault.BadAddress n
+numbered_field n field.ReservedAddress = fault.ReservedAddress n
+numbered_field n field.BadKind = fault.BadKind n
+numbered_field n field.MessageForTone = fault.MessageForTone n
+numbered_field n field.EmptyMessage = fault.EmptyMessage n
+numbered_field n (field.BadCharacter place) = fault.BadCharacter n place
+numbered_field n field.TooLong = fault.TooLong n
+numbered_field n field.OutOfMemory = fault.OutOfMemory
+
 unfoldable pub numbered : ℕ → RecordFault → RoundFault
 numbered n wrong.FieldCount = fault.FieldCount n
-numbered n wrong.BadAddress = fault.BadAddress n
-numbered n wrong.ReservedAddress = fault.ReservedAddress n
-numbered n wrong.BadKind = fault.BadKind n
-numbered n wrong.MessageForTone = fault.MessageForTone n
-numbered n wrong.EmptyMessage = fault.EmptyMessage n
-numbered n (wrong.BadCharacter place) = fault.BadCharacter n place
-numbered n wrong.TooLong = fault.TooLong n
+numbered n (wrong.Field e) = numbered_field n e
 numbered n wrong.DuplicateAddress = fault.DuplicateAddress n
 numbered n wrong.TooManyPages = fault.TooManyPages n
-numbered n wrong.OutOfMemory = fault.OutOfMemory
 
 abbrev pub numbered_if : ℕ → Option RecordFault → Option RoundFault
 numbered_if n None = None
@@ -208,6 +197,12 @@ verdict_of_rows (header ∷ rows) = if is_header header then round_of_rows rows 
 abbrev pub rows_of : List ℕ → List Row
 rows_of bytes = records default_config (strip_bom bytes)
 
+-- The record, where there is one and no more.
+abbrev pub only_row : List Row → Option Row
+only_row [] = None
+only_row (r ∷ []) = Some r
+only_row (r ∷ s ∷ rows) = None
+
 -- *Verdict of a page file*.
 unfoldable pub verdict : List ℕ → Result (List Page) RoundFault
-verdict bytes = if nat_lt file_limit (length bytes) then Err fault.TooLarge else verdict_of_rows (rows_of bytes)
+verdict bytes = if nat_lt input_limit (length bytes) then Err fault.TooLarge else verdict_of_rows (rows_of bytes)

@@ -1,6 +1,7 @@
-ghost use Rattle.std.specs.Prelude.{◌≡◌, ◌∷◌, [], true, false, IfOk};
+ghost use Rattle.std.specs.Prelude.{◌≡◌, ◌∷◌, [], true, false, IfOk, option_map};
 ghost use Rattle.csv.specs.Reading.{default_config, error_kind, records, stops_reader, strip_bom};
 ghost use Rattle.csv.specs.Records.{fields_of};
+ghost use Rattle.pocsag_pages.specs.PageFile.{only_row, rows_of};
 ghost use Rattle.pocsag_pages.specs.Rows.{StandsAt, rows_left};
 
 use csv::{ByteRecord, Error, ErrorKind, Reader, ReaderBuilder};
@@ -42,4 +43,22 @@ pub(crate) fn next_row(
         Ok(found) => Ok(found),
         Err(error) => Err(no_memory(error)),
     }
+}
+
+/// The record of bytes that hold one record of CSV and no more, as a page file's records are read.
+pub fn only_row(alloc: Global, bytes: &[u8]) -> Result<Option<ByteRecord>, OutOfMemory>
+    ensures { IfOk result (λ row. option_map fields_of row ≡ only_row (rows_of bytes.now)) }
+{
+    let mut reader = rows_reader(alloc, bytes);
+    let mut row = ByteRecord::new(alloc);
+    let found = next_row(&mut reader, &mut row)?;
+    if !found {
+        return Ok(None);
+    }
+    let mut rest = ByteRecord::new(alloc);
+    let more = next_row(&mut reader, &mut rest)?;
+    if more {
+        return Ok(None);
+    }
+    Ok(Some(row))
 }

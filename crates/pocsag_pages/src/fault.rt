@@ -1,6 +1,5 @@
 ghost use Rattle.std.specs.Prelude.{◌≡◌};
-ghost use Rattle.pocsag_pages.specs.PageFile.{field_fault_of, record_fault_of, round_fault_of};
-ghost use Rattle.pocsag_pages.specs.declared.fault.RecordFault.TheVariants as wrong;
+ghost use Rattle.pocsag_pages.specs.PageFile.{field_fault_of, round_fault_of};
 ghost use Rattle.pocsag_pages.specs.declared.fault.RoundFault.TheVariants as fault;
 ghost use Rattle.pocsag_pages.specs.declared.fault.WholeFault.TheVariants as whole;
 
@@ -115,20 +114,14 @@ pub enum RoundFault {
     OutOfMemory,
 }
 
-// Why a record is no page of a round; `RoundFault` without the record's number.
+// Why a record is no page of a round: a fault of its three fields, or one of its own. `RoundFault` has it with the
+// record's number.
 #[derive(Clone, Copy)]
 pub(crate) enum RecordFault {
     FieldCount,
-    BadAddress,
-    ReservedAddress,
-    BadKind,
-    MessageForTone,
-    EmptyMessage,
-    BadCharacter(usize),
-    TooLong,
+    Field(FieldFault),
     DuplicateAddress,
     TooManyPages,
-    OutOfMemory,
 }
 
 impl From<TextFault> for FieldFault {
@@ -141,31 +134,6 @@ impl From<TextFault> for FieldFault {
             TextFault::TooLong => FieldFault::TooLong,
             TextFault::OutOfMemory => FieldFault::OutOfMemory,
         }
-    }
-}
-
-impl From<FieldFault> for RecordFault {
-    ghost from_gives = { λ fault its. its ≡ record_fault_of fault };
-
-    fn from(fault: FieldFault) -> RecordFault {
-        match fault {
-            FieldFault::BadAddress => RecordFault::BadAddress,
-            FieldFault::ReservedAddress => RecordFault::ReservedAddress,
-            FieldFault::BadKind => RecordFault::BadKind,
-            FieldFault::MessageForTone => RecordFault::MessageForTone,
-            FieldFault::EmptyMessage => RecordFault::EmptyMessage,
-            FieldFault::BadCharacter(place) => RecordFault::BadCharacter(place),
-            FieldFault::TooLong => RecordFault::TooLong,
-            FieldFault::OutOfMemory => RecordFault::OutOfMemory,
-        }
-    }
-}
-
-impl From<OutOfMemory> for RecordFault {
-    ghost from_gives = { λ _ its. its ≡ wrong.OutOfMemory };
-
-    fn from(_fault: OutOfMemory) -> RecordFault {
-        RecordFault::OutOfMemory
     }
 }
 

@@ -3,20 +3,37 @@ ghost use Rattle.csv.specs.Records.{fields_of};
 ghost use Rattle.pocsag_words.specs.Devices.{HasFailed};
 ghost use Rattle.pocsag_pages.specs.Pages.{page_limit};
 ghost use Rattle.pocsag_pages.specs.Rows.{StandsAt, rows_left};
-ghost use Rattle.pocsag_pages.specs.PageFile.{fault_after, numbered, page_of, pages_of, round_of_rows, rows_of, verdict, verdict_of_rows};
+ghost use Rattle.pocsag_pages.specs.PageFile.{fault_after, numbered, numbered_field, page_of, pages_of, round_of_rows, rows_of, verdict, verdict_of_rows};
 
 use crate::csv_row::{next_row, rows_reader};
 use crate::draft::Draft;
-use crate::fault::{RecordFault, RoundFault};
+use crate::fault::{FieldFault, RecordFault, RoundFault};
 use crate::record::{is_header_row, page_of_row};
 use crate::round::{PAGE_LIMIT, Round};
 use crate::whole::read_whole;
 use csv::{ByteRecord, Reader};
-use pocsag_words::Source;
+use pocsag_words::{INPUT_LIMIT, OutOfMemory, Source};
 use std::alloc::Global;
 
 /// The greatest number of bytes of a page file.
-pub const FILE_LIMIT: usize = 268_435_456;
+pub const FILE_LIMIT: usize = INPUT_LIMIT;
+
+// A fault of a record's three fields with the record's number.
+#[tactic(auto, unfolding(crate::specs::PageFile::numbered_field))]
+fn numbered_field(number: u32, fault: FieldFault) -> RoundFault
+    ensures { result ≡ numbered_field number fault }
+{
+    match fault {
+        FieldFault::BadAddress => RoundFault::BadAddress(number),
+        FieldFault::ReservedAddress => RoundFault::ReservedAddress(number),
+        FieldFault::BadKind => RoundFault::BadKind(number),
+        FieldFault::MessageForTone => RoundFault::MessageForTone(number),
+        FieldFault::EmptyMessage => RoundFault::EmptyMessage(number),
+        FieldFault::BadCharacter(place) => RoundFault::BadCharacter(number, place),
+        FieldFault::TooLong => RoundFault::TooLong(number),
+        FieldFault::OutOfMemory => RoundFault::OutOfMemory,
+    }
+}
 
 impl RecordFault {
     #[tactic(auto, unfolding(crate::specs::PageFile::numbered))]
@@ -25,16 +42,9 @@ impl RecordFault {
     {
         match self {
             RecordFault::FieldCount => RoundFault::FieldCount(number),
-            RecordFault::BadAddress => RoundFault::BadAddress(number),
-            RecordFault::ReservedAddress => RoundFault::ReservedAddress(number),
-            RecordFault::BadKind => RoundFault::BadKind(number),
-            RecordFault::MessageForTone => RoundFault::MessageForTone(number),
-            RecordFault::EmptyMessage => RoundFault::EmptyMessage(number),
-            RecordFault::BadCharacter(place) => RoundFault::BadCharacter(number, place),
-            RecordFault::TooLong => RoundFault::TooLong(number),
+            RecordFault::Field(fault) => numbered_field(number, fault),
             RecordFault::DuplicateAddress => RoundFault::DuplicateAddress(number),
             RecordFault::TooManyPages => RoundFault::TooManyPages(number),
-            RecordFault::OutOfMemory => RoundFault::OutOfMemory,
         }
     }
 }
@@ -46,10 +56,10 @@ fn judge(alloc: Global, draft: Draft, earlier: u32, row: &ByteRecord) -> Result<
     ensures one { IfOk result (λ d. length d ≡ length draft + 1) }
     ensures few { IfOk result (λ d. earlier + 1 ≤ page_limit) }
     ensures err { IfErr result
-        (λ e. (e ≡ RecordFault.OutOfMemory) ⊎ (fault_after earlier draft (page_of (fields_of row.now)) ≡ Some e)) }
+        (λ e. (e ≡ RecordFault.Field FieldFault.OutOfMemory) ⊎ (fault_after earlier draft (page_of (fields_of row.now)) ≡ Some e)) }
 
     // Memory is wanted only by a record that is a page.
-    ensures memory { result ≡ Err RecordFault.OutOfMemory → IsOk (page_of (fields_of row.now)) }
+    ensures memory { result ≡ Err (RecordFault.Field FieldFault.OutOfMemory) → IsOk (page_of (fields_of row.now)) }
 {
     let page = page_of_row(alloc, row)?;
     if draft.has(page.address) {
@@ -58,7 +68,10 @@ fn judge(alloc: Global, draft: Draft, earlier: u32, row: &ByteRecord) -> Result<
     if earlier as usize >= PAGE_LIMIT {
         return Err(RecordFault::TooManyPages);
     }
-    Ok(draft.with(page)?)
+    match draft.with(page) {
+        Ok(longer) => Ok(longer),
+        Err(OutOfMemory) => Err(RecordFault::Field(FieldFault::OutOfMemory)),
+    }
 }
 
 // The round of the records that the reader has left; `row` is where they are read into.

@@ -1,8 +1,7 @@
 ghost use Rattle.std.specs.Prelude.{◌≡◌, ◌≤◌, length};
 ghost use Rattle.pocsag_pages.specs.Bytes.{leading};
 
-// What a preamble is made of.
-const PREAMBLE_BYTE: u8 = 0xAA;
+use pocsag_words::PREAMBLE_BYTE;
 
 /// How many bytes AA stand first.
 pub fn leading_len(bytes: &[u8]) -> usize

@@ -189,11 +189,11 @@ pub(crate) fn page_of_row(alloc: Global, row: &ByteRecord) -> Result<Page, Recor
     ensures ok { IfOk result (λ p. page_of (fields_of row.now) ≡ Ok p) }
     ensures good { IfOk result (λ p. page_fault_of p ≡ None) }
     ensures err { IfErr result
-        (λ e. (e ≡ RecordFault.OutOfMemory) ⊎ (page_of (fields_of row.now) ≡ Err e)) }
+        (λ e. (e ≡ RecordFault.Field FieldFault.OutOfMemory) ⊎ (page_of (fields_of row.now) ≡ Err e)) }
 
     // Memory is wanted only by a record that is a page.
-    ensures memory { result ≡ Err RecordFault.OutOfMemory → IsOk (page_of (fields_of row.now)) }
+    ensures memory { result ≡ Err (RecordFault.Field FieldFault.OutOfMemory) → IsOk (page_of (fields_of row.now)) }
 {
     let fields = three_fields(row).ok_or(RecordFault::FieldCount)?;
-    Ok(page_of_fields(alloc, fields.address, fields.kind, fields.message)?)
+    page_of_fields(alloc, fields.address, fields.kind, fields.message).map_err(RecordFault::Field)
 }

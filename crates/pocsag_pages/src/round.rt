@@ -34,6 +34,14 @@ impl Round {
         Round { pages }
     }
 
+    /// Gives a proof what the type keeps, where the round stands behind a reference. A call costs nothing.
+    pub fn keeps_rules(&self)
+        ensures { IsRound self.now }
+    {
+        // What a type keeps is known where its fields are looked at, and so in the methods of the type alone.
+        let _ = &self.pages;
+    }
+
     /// The pages in order.
     pub fn pages(&self) -> &[Page]
         ensures pages { result.now ≡ self.now }

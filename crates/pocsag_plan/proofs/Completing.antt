@@ -31,38 +31,37 @@ near_few k end e near same said =
     let is : IsNearlyFewest k end near = subst (IsFreeFault k end) same said in
     least_few k near.least (slice_index near.choice.early) is.is_least is.choice
 
-pub most : (k : Classes) (end : End) (limit bound : ℕ) (found : Found) → IsWithinOne k end limit bound found → found.batches ≤ 1760001
-most k end limit bound found is =
-    let least : is.least ≤ 1760000 = least_few k is.least (slice_index found.choice.early) is.is_least is.choice in
-    elim is.or_one_more [ inl same ↦ omega arith | inr more ↦ omega arith ]
+-- What is known of a tour that is within one batch of its bound.
+module _ (k : Classes) (end : End) (limit bound : ℕ) (found : Found) (is : IsWithinOne k end limit bound found) where
+  pub most : found.batches ≤ 1760001
+  most =
+      let least : is.least ≤ 1760000 = least_few k is.least (slice_index found.choice.early) is.is_least is.choice in
+      elim is.or_one_more [ inl same ↦ omega arith | inr more ↦ omega arith ]
 
--- a bound of at least one leaves a batch
-pub some_batch : (k : Classes) (end : End) (limit bound : ℕ) (found : Found) → IsWithinOne k end limit bound found → 0 < found.batches
-some_batch k end limit bound found is =
-    let some : 0 < bound = is.accepted.some in let at : bound ≤ found.batches = is.at_least in omega arith
+  -- a bound of at least one leaves a batch
+  pub some_batch : 0 < found.batches
+  some_batch = let some : 0 < bound = is.accepted.some in let at : bound ≤ found.batches = is.at_least in omega arith
 
-pub tour_for : (k : Classes) (end : End) (R : List Page) (limit bound : ℕ) (found : Found) → AreClassesOf k end R
-    → IsWithinOne k end limit bound found →
-    IsTourFor end R found.steps.items
-tour_for k end R limit bound found classes is =
-    let near : found.batches ≤ 1760001 = most k end limit bound found is in
-    record {
-      table = k;
-      choice = slice_index found.choice.early;
-      batches = found.batches;
-      some = some_batch k end limit bound found is;
-      few = omega arith;
-      classes = classes;
-      tour = is.tour;
-    }
+  pub tour_for : (R : List Page) → AreClassesOf k end R → IsTourFor end R found.steps.items
+  tour_for R classes =
+      let near = most in
+      record {
+        table = k;
+        choice = slice_index found.choice.early;
+        batches = found.batches;
+        some = some_batch;
+        few = omega arith;
+        classes = classes;
+        tour = is.tour;
+      }
+
+  -- no node is `Open`, so all nodes are at most the limit
+  pub nodes_few : IsNodeLimit limit → all_nodes (bound_of found.tree) ≡ closed_nodes (bound_of found.tree)
+      → all_nodes (bound_of found.tree) ≤ 1000000
+  nodes_few within same =
+      let few : closed_nodes (bound_of found.tree) ≤ limit = is.few in let most : limit ≤ 1000000 = within.few in omega arith
 
 -- the codewords of the tour are as many as the batches hold
 pub found_room : (end : End) (R : List Page) (found : Found) → IsRound R → (U : List ℕ) → IsLegalList end U found.batches R →
     sum_by page_length R ≤ 16 * found.batches
 found_room end R found round U legal = room end R found.batches U (apart_pages R round.good) legal
-
--- no node is `Open`, so all nodes are at most the limit
-pub nodes_few : (k : Classes) (end : End) (limit bound : ℕ) (found : Found) → IsWithinOne k end limit bound found → IsNodeLimit limit →
-    all_nodes (bound_of found.tree) ≡ closed_nodes (bound_of found.tree) → all_nodes (bound_of found.tree) ≤ 1000000
-nodes_few k end limit bound found is within same =
-    let few : closed_nodes (bound_of found.tree) ≤ limit = is.few in let most : limit ≤ 1000000 = within.few in omega arith

@@ -11,13 +11,15 @@ use Rattle.pocsag_branch.specs.declared.fault.SearchFault.TheVariants as searchi
 use Rattle.pocsag_branch.specs.Found.{IsNodeLimit, IsSearchFault}
 use Rattle.pocsag_plan.specs.FaultChains.{fault_of_search}
 use Rattle.pocsag_plan.specs.Plans.{ExplainsPlan}
+use Rattle.pocsag_plan.specs.declared.search.Effort.TheVariants.{Fewest}
 use Rattle.std.proofs.Common.{ℕ}
 
 pub explained : (k : Classes) (end : End) (R : List Page) (limit : ℕ) (fault : SearchFault) → IsRound R → AreClassesOf k end R
     → IsNodeLimit limit →
-    IsSearchFault k end limit fault → ExplainsPlan end R limit (fault_of_search fault)
+    IsSearchFault k end limit fault → ExplainsPlan Fewest end R limit (fault_of_search fault)
 explained k end R limit (searching.SearchLimit least found tree) round classes within said =
     let sent = said.sent R round classes in (
+      tt,
       within,
       record {
         table = k;

@@ -12,7 +12,8 @@ use Rattle.pocsag_plan.specs.declared.fault.StreamFault.{StreamFault}
 use Rattle.pocsag_plan.specs.declared.fault.StreamFault.TheVariants as streaming
 use Rattle.pocsag_plan.specs.declared.refusal.BookFault.{BookFault}
 use Rattle.pocsag_plan.specs.declared.refusal.BookFault.TheVariants as fault
-use Rattle.pocsag_plan.specs.Plans.{IsStopped}
+use Rattle.pocsag_plan.specs.declared.search.Effort.{Effort}
+use Rattle.pocsag_plan.specs.Plans.{IsStopped, MayStop}
 
 -- A fault of `plan` keeps its name and what it carries.
 abbrev pub book_fault_of : PlanFault → BookFault
@@ -28,35 +29,19 @@ stream_fault_of (fault.SearchLimit least found tree) = streaming.SearchLimit lea
 stream_fault_of fault.OutOfMemory = streaming.OutOfMemory
 
 -- When each fault comes, and what it says. Memory is wanted only for a round and a limit that may be.
-abbrev pub ExplainsBook : End → List Page → ℕ → BookFault → Type 0
-ExplainsBook end R limit fault.BadLimit = ¬ IsNodeLimit limit
-ExplainsBook end R limit fault.NoPages = IsNodeLimit limit × (R ≡ [])
-ExplainsBook end R limit (fault.SearchLimit least found tree) =
-    IsNodeLimit limit × IsRound R × IsStopped end R limit least found (bound_of tree)
-ExplainsBook end R limit fault.OutOfMemory = IsNodeLimit limit × IsRound R
-
--- The same of the plans that no round is refused: never `SearchLimit`.
-abbrev pub ExplainsBookAlways : List Page → ℕ → BookFault → Type 0
-ExplainsBookAlways R limit fault.BadLimit = ¬ IsNodeLimit limit
-ExplainsBookAlways R limit fault.NoPages = IsNodeLimit limit × (R ≡ [])
-ExplainsBookAlways R limit (fault.SearchLimit least found tree) = ⊥
-ExplainsBookAlways R limit fault.OutOfMemory = IsNodeLimit limit × IsRound R
+abbrev pub ExplainsBook : Effort → End → List Page → ℕ → BookFault → Type 0
+ExplainsBook effort end R limit fault.BadLimit = ¬ IsNodeLimit limit
+ExplainsBook effort end R limit fault.NoPages = IsNodeLimit limit × (R ≡ [])
+ExplainsBook effort end R limit (fault.SearchLimit least found tree) =
+    MayStop effort × IsNodeLimit limit × IsRound R × IsStopped end R limit least found (bound_of tree)
+ExplainsBook effort end R limit fault.OutOfMemory = IsNodeLimit limit × IsRound R
 
 -- When each fault of a stream of a book comes, and what it says.
-abbrev pub ExplainsBookStream : End → List Page → ℕ → StreamFault → Type 0
-ExplainsBookStream end R limit streaming.BadLimit = ¬ IsNodeLimit limit
-ExplainsBookStream end R limit (streaming.Round f) = IsNodeLimit limit × (R ≡ []) × (f ≡ round.NoPages)
-ExplainsBookStream end R limit (streaming.SearchLimit least found tree) =
-    IsNodeLimit limit × IsRound R × IsStopped end R limit least found (bound_of tree)
-ExplainsBookStream end R limit streaming.OutOfMemory = IsNodeLimit limit × IsRound R
-ExplainsBookStream end R limit (streaming.Transmission f) = IsNodeLimit limit × IsRound R
-ExplainsBookStream end R limit (streaming.Certificate f) = IsNodeLimit limit × IsRound R
-
--- The same of the streams that no round is refused: never `SearchLimit`.
-abbrev pub ExplainsBookStreamAlways : List Page → ℕ → StreamFault → Type 0
-ExplainsBookStreamAlways R limit streaming.BadLimit = ¬ IsNodeLimit limit
-ExplainsBookStreamAlways R limit (streaming.Round f) = IsNodeLimit limit × (R ≡ []) × (f ≡ round.NoPages)
-ExplainsBookStreamAlways R limit (streaming.SearchLimit least found tree) = ⊥
-ExplainsBookStreamAlways R limit streaming.OutOfMemory = IsNodeLimit limit × IsRound R
-ExplainsBookStreamAlways R limit (streaming.Transmission f) = IsNodeLimit limit × IsRound R
-ExplainsBookStreamAlways R limit (streaming.Certificate f) = IsNodeLimit limit × IsRound R
+abbrev pub ExplainsBookStream : Effort → End → List Page → ℕ → StreamFault → Type 0
+ExplainsBookStream effort end R limit streaming.BadLimit = ¬ IsNodeLimit limit
+ExplainsBookStream effort end R limit (streaming.Round f) = IsNodeLimit limit × (R ≡ []) × (f ≡ round.NoPages)
+ExplainsBookStream effort end R limit (streaming.SearchLimit least found tree) =
+    MayStop effort × IsNodeLimit limit × IsRound R × IsStopped end R limit least found (bound_of tree)
+ExplainsBookStream effort end R limit streaming.OutOfMemory = IsNodeLimit limit × IsRound R
+ExplainsBookStream effort end R limit (streaming.Transmission f) = IsNodeLimit limit × IsRound R
+ExplainsBookStream effort end R limit (streaming.Certificate f) = IsNodeLimit limit × IsRound R

@@ -2,7 +2,6 @@ pub mod FaultChains
 pub mod Headline
 pub mod Plans
 pub mod Reports
-pub mod Sending
 pub mod Streams
 pub mod Books
 pub mod OpenRound
@@ -10,5 +9,4 @@ pub mod Tallies
 pub mod Edits
 pub mod BookPlans
 pub mod BoundedHeadline
-pub mod BoundedStreams
 pub mod Within

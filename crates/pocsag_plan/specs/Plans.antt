@@ -7,7 +7,7 @@ use Rattle.pocsag_pages.specs.Reading.{IsLegalList, page_length}
 use Rattle.pocsag_slots.specs.declared.class.Classes.{Classes}
 use Rattle.pocsag_slots.specs.Loads.{AreClassesOf, IsAdmitted, IsLeast, limits_of_all}
 use Rattle.pocsag_slots.specs.Tours.{IsTour}
-use Rattle.pocsag_tree.specs.Bounds.{Bound}
+use Rattle.pocsag_tree.specs.Bounds.{Bound, closed_nodes}
 use Rattle.pocsag_tree.specs.Limits.{second_ranges}
 use Rattle.pocsag_tree.specs.Spelling.{HasText}
 use Rattle.pocsag_tree.specs.Views.{bound_of}
@@ -18,8 +18,12 @@ use Rattle.pocsag_branch.specs.Shape.{IsSearchTree, IsShaped}
 use Rattle.pocsag_batch.specs.FileOrder.{IsFileOrder}
 use Rattle.pocsag_batch.specs.Placing.{IsOrder}
 use Rattle.pocsag_plan.specs.declared.answer.Plan.{Plan}
+use Rattle.pocsag_plan.specs.declared.bounded.Bounded.{Bounded}
 use Rattle.pocsag_plan.specs.declared.fault.PlanFault.{PlanFault}
 use Rattle.pocsag_plan.specs.declared.fault.PlanFault.TheVariants as fault
+use Rattle.pocsag_plan.specs.declared.search.Effort.{Effort}
+use Rattle.pocsag_plan.specs.declared.search.Effort.TheVariants.{Fewest, Always}
+use Rattle.pocsag_plan.specs.declared.search.Search.{Search}
 
 -- Each list of codewords that is legal for the round and the end has at least so many batches.
 abbrev pub NoneHasFewer : End → List Page → ℕ → Type 0
@@ -72,6 +76,16 @@ pub record IsPlan (end : End) (R : List Page) (plan : Plan) : Type 0 where
   -- and its tree has the promised shape.
   pub shaped : IsSearchTreeFor end R plan.batches (bound_of plan.tree)
 
+-- The plan that is owed for what is asked of a planner.
+pub record IsPlanFor (search : Search) (R : List Page) (bounded : Bounded) : Type 0 where
+  -- It has a bound, and its tree has no more nodes than may be examined;
+  pub plan_of : IsBounded search.end R bounded.plan bounded.bound
+  pub small : closed_nodes (bound_of bounded.plan.tree) ≤ search.limit
+  -- and where only the fewest batches are an answer, the bound is the batches, and the tree has the promised
+  -- shape.
+  pub fewest : search.effort ≡ Fewest → bounded.bound ≡ bounded.plan.batches
+  pub shaped : search.effort ≡ Fewest → IsSearchTreeFor search.end R bounded.plan.batches (bound_of bounded.plan.tree)
+
 -- What the search knew of the round when it had made as many nodes as it may.
 pub record IsStopped (end : End) (R : List Page) (limit least found : ℕ) (tree : Bound) : Type 0 where
   pub table : Classes
@@ -92,14 +106,14 @@ pub record IsStopped (end : End) (R : List Page) (limit least found : ℕ) (tree
   pub accepted : IsAcceptedFor true end R found tree
   pub shaped : IsShaped table least (limits_of_all table least) tree
 
--- When each fault of `plan` comes, and what it says.
-abbrev pub ExplainsPlan : End → List Page → ℕ → PlanFault → Type 0
-ExplainsPlan end R limit fault.BadLimit = ¬ IsNodeLimit limit
-ExplainsPlan end R limit (fault.SearchLimit least found tree) = IsNodeLimit limit × IsStopped end R limit least found (bound_of tree)
-ExplainsPlan end R limit fault.OutOfMemory = IsNodeLimit limit
+-- A planner stops at its limit only where the fewest batches alone are an answer.
+abbrev pub MayStop : Effort → Type 0
+MayStop Fewest = Unit {0}
+MayStop Always = ⊥
 
--- When each fault of `plan_always` comes: never `SearchLimit`.
-abbrev pub ExplainsAlways : ℕ → PlanFault → Type 0
-ExplainsAlways limit fault.BadLimit = ¬ IsNodeLimit limit
-ExplainsAlways limit (fault.SearchLimit least found tree) = ⊥
-ExplainsAlways limit fault.OutOfMemory = IsNodeLimit limit
+-- When each fault of a planner comes, and what it says.
+abbrev pub ExplainsPlan : Effort → End → List Page → ℕ → PlanFault → Type 0
+ExplainsPlan effort end R limit fault.BadLimit = ¬ IsNodeLimit limit
+ExplainsPlan effort end R limit (fault.SearchLimit least found tree) =
+    MayStop effort × IsNodeLimit limit × IsStopped end R limit least found (bound_of tree)
+ExplainsPlan effort end R limit fault.OutOfMemory = IsNodeLimit limit

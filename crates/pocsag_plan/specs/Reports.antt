@@ -1,7 +1,7 @@
 -- What a report tells of a plan at a rate, and its text (this project's own).
 use Rattle.std.specs.Prelude.{◌≡◌, ◌⊎◌, ℕ, ◌+◌, ◌*◌, ◌<◌, ◌≤◌, List, [], ◌∷◌, ◌++◌, codes}
 use Rattle.std.specs.Fmt.{decimal}
-use Rattle.pocsag_pages.specs.Bytes.{transmission_bits}
+use Rattle.pocsag_words.specs.Frame.{transmission_bits}
 use Rattle.pocsag_plan.specs.declared.airtime.Report.{Report}
 use Rattle.pocsag_plan.specs.declared.answer.Plan.{Plan}
 

@@ -1,5 +1,5 @@
--- What `plan_stream` leaves of its writers.
-use Rattle.std.specs.Prelude.{◌≡◌, ◌⊎◌, ℕ, List, ◌++◌, Result, Ok, Err, IsOk, IfErr, OnOk}
+-- What the streams of plans leave of their writers.
+use Rattle.std.specs.Prelude.{◌≡◌, ◌⊎◌, ℕ, ◌+◌, ◌≤◌, List, ◌++◌, Option, Some, None, IfSome, IfNone, Result, Ok, Err, IsOk}
 use Rattle.pocsag_words.specs.Devices.{HasFailed, TookPrefix}
 use Rattle.pocsag_words.specs.declared.ending.End.{End}
 use Rattle.pocsag_pages.specs.PageFile.{verdict}
@@ -9,22 +9,31 @@ use Rattle.pocsag_tree.specs.Bounds.{Bound}
 use Rattle.pocsag_tree.specs.Views.{bound_of}
 use Rattle.pocsag_branch.specs.Found.{IsNodeLimit}
 use Rattle.pocsag_plan.specs.declared.answer.Plan.{Plan}
+use Rattle.pocsag_plan.specs.declared.bounded.Bounded.{Bounded}
 use Rattle.pocsag_plan.specs.declared.fault.StreamFault.{StreamFault}
 use Rattle.pocsag_plan.specs.declared.fault.StreamFault.TheVariants as fault
+use Rattle.pocsag_plan.specs.declared.search.Effort.{Effort}
+use Rattle.pocsag_plan.specs.declared.search.Effort.TheVariants.{Fewest}
+use Rattle.pocsag_plan.specs.BoundedHeadline.{BoundedHeadline}
 use Rattle.pocsag_plan.specs.Headline.{Headline, RoundHeadline}
-use Rattle.pocsag_plan.specs.Plans.{IsPlan, IsStopped}
+use Rattle.pocsag_plan.specs.Plans.{IsBounded, IsPlan, IsStopped, MayStop}
 
--- The plan is one of the round of the page file.
-pub record IsPlanOf (file : List ℕ) (end : End) (plan : Plan) : Type 0 where
+-- The page file is that of a round of which it holds.
+pub record IsOfRound (file : List ℕ) (Holds : List Page → Type 0) : Type 0 where
   pub round : List Page
   pub read : verdict file ≡ Ok round
-  pub plan_of : IsPlan end round plan
+  pub holds : Holds round
+
+-- The plan, or the plan with its bound, is one of the round of the page file.
+abbrev pub IsPlanOf : List ℕ → End → Plan → Type 0
+IsPlanOf file end plan = IsOfRound file (λ round. IsPlan end round plan)
+
+abbrev pub IsBoundedOf : List ℕ → End → Bounded → Type 0
+IsBoundedOf file end bounded = IsOfRound file (λ round. IsBounded end round bounded.plan bounded.bound)
 
 -- The search stopped at the round of the page file.
-pub record IsStoppedAt (file : List ℕ) (end : End) (limit least found : ℕ) (tree : Bound) : Type 0 where
-  pub round : List Page
-  pub read : verdict file ≡ Ok round
-  pub stopped : IsStopped end round limit least found tree
+abbrev pub IsStoppedAt : List ℕ → End → ℕ → (least found : ℕ) → Bound → Type 0
+IsStoppedAt file end limit least found tree = IsOfRound file (λ round. IsStopped end round limit least found tree)
 
 -- What both writers took more is a transmission and a certificate of which it holds.
 pub record WritesAllOf (Holds : List ℕ → List ℕ → Type 0) (tx_before tx_after cert_before cert_after : List ℕ) : Type 0 where
@@ -49,39 +58,50 @@ pub record WritesCertificatePartOf (Holds : List ℕ → List ℕ → Type 0) (t
   pub transmission : tx_after ≡ tx_before ++ sent
   pub part : TookPrefix cert_before cert_after certificate
 
--- With some number of batches and some tree the headline of the round holds.
-pub record HasHeadline (round : List Page) (end : End) (sent certificate : List ℕ) : Type 0 where
+-- What the headline says of a plan of the round with its bound.
+abbrev pub HeadlineOf : List Page → Bounded → (sent certificate : List ℕ) → Type 0
+HeadlineOf round bounded =
+    RoundHeadline round bounded.plan.end bounded.plan.batches bounded.bound (bound_of bounded.plan.tree)
+
+-- With some number of batches, some tree, and a bound that the batches are, or exceed by one, the headline of
+-- the round holds; where only the fewest batches are an answer, they are the bound.
+pub record HasHeadline (effort : Effort) (round : List Page) (end : End) (sent certificate : List ℕ) : Type 0 where
   pub batches : ℕ
+  pub bound : ℕ
   pub tree : Bound
-  pub headline : RoundHeadline round end batches batches tree sent certificate
+  pub headline : RoundHeadline round end batches bound tree sent certificate
+  pub at_least : bound ≤ batches
+  pub within_one : batches ≤ bound + 1
+  pub fewest : effort ≡ Fewest → bound ≡ batches
 
--- The page file is that of a round of which it holds.
-pub record IsOfRound (file : List ℕ) (Holds : List Page → Type 0) : Type 0 where
-  pub round : List Page
-  pub read : verdict file ≡ Ok round
-  pub holds : Holds round
-
--- The same of the headline of a page file.
+-- What both writers took more is the transmission and the certificate of the headline of a page file, or of the
+-- headline with a bound.
 abbrev pub Writes : List ℕ → End → ℕ → Bound → List ℕ → List ℕ → List ℕ → List ℕ → Type 0
 Writes file end batches tree = WritesAllOf (Headline file end batches tree)
 
-abbrev pub WritesPart : List ℕ → End → List ℕ → List ℕ → Type 0
-WritesPart file end tx_before tx_after = IsOfRound file (λ round. WritesPartOf (HasHeadline round end) tx_before tx_after)
+abbrev pub WritesBounded : List ℕ → End → ℕ → ℕ → Bound → List ℕ → List ℕ → List ℕ → List ℕ → Type 0
+WritesBounded file end batches bound tree = WritesAllOf (BoundedHeadline file end batches bound tree)
 
-abbrev pub WritesCertificatePart : List ℕ → End → List ℕ → List ℕ → List ℕ → List ℕ → Type 0
-WritesCertificatePart file end tx_before tx_after cert_before cert_after =
-    IsOfRound file (λ round. WritesCertificatePartOf (HasHeadline round end) tx_before tx_after cert_before cert_after)
+-- What was taken more is a prefix of the transmission of such a headline.
+abbrev pub WritesPart : Effort → List ℕ → End → List ℕ → List ℕ → Type 0
+WritesPart effort file end tx_before tx_after =
+    IsOfRound file (λ round. WritesPartOf (HasHeadline effort round end) tx_before tx_after)
 
--- When each fault of `plan_stream` comes, and what it says.
-abbrev pub ExplainsStream : List ℕ → End → ℕ → StreamFault → Type 0
-ExplainsStream file end limit fault.BadLimit = ¬ IsNodeLimit limit
-ExplainsStream file end limit (fault.Round f) =
+-- The transmission of such a headline was taken whole, and a prefix of its certificate.
+abbrev pub WritesCertificatePart : Effort → List ℕ → End → List ℕ → List ℕ → List ℕ → List ℕ → Type 0
+WritesCertificatePart effort file end tx_before tx_after cert_before cert_after =
+    IsOfRound file (λ round. WritesCertificatePartOf (HasHeadline effort round end) tx_before tx_after cert_before cert_after)
+
+-- When each fault of a stream comes, and what it says.
+abbrev pub ExplainsStream : Effort → List ℕ → End → ℕ → StreamFault → Type 0
+ExplainsStream effort file end limit fault.BadLimit = ¬ IsNodeLimit limit
+ExplainsStream effort file end limit (fault.Round f) =
     IsNodeLimit limit × ((f ≡ round.OutOfMemory) ⊎ (f ≡ round.ReadFault) ⊎ (verdict file ≡ Err f))
-ExplainsStream file end limit (fault.SearchLimit least found tree) =
-    IsNodeLimit limit × IsStoppedAt file end limit least found (bound_of tree)
-ExplainsStream file end limit fault.OutOfMemory = IsNodeLimit limit × IsOk (verdict file)
-ExplainsStream file end limit (fault.Transmission f) = IsNodeLimit limit × IsOk (verdict file)
-ExplainsStream file end limit (fault.Certificate f) = IsNodeLimit limit × IsOk (verdict file)
+ExplainsStream effort file end limit (fault.SearchLimit least found tree) =
+    MayStop effort × IsNodeLimit limit × IsStoppedAt file end limit least found (bound_of tree)
+ExplainsStream effort file end limit fault.OutOfMemory = IsNodeLimit limit × IsOk (verdict file)
+ExplainsStream effort file end limit (fault.Transmission f) = IsNodeLimit limit × IsOk (verdict file)
+ExplainsStream effort file end limit (fault.Certificate f) = IsNodeLimit limit × IsOk (verdict file)
 
 -- The fault of a search that stopped at its limit.
 abbrev pub IsSearchLimit : StreamFault → Type 0
@@ -118,15 +138,29 @@ IsCertificate fault.OutOfMemory = ⊥
 IsCertificate (fault.Transmission f) = ⊥
 IsCertificate (fault.Certificate f) = Unit {0}
 
--- The two writers take turns, whatever a stream answers. The two functions are how often each writer failed.
-pub record WritesInTurn {T C X : Type 0} (failures : T → ℕ) (certificate_failures : C → ℕ) (tx tx_after : T) (cert cert_after : C) (result : Result X StreamFault) : Type 0 where
+-- A fault of one of the two writers.
+abbrev pub IsUnsent : StreamFault → Type 0
+IsUnsent fault.BadLimit = ⊥
+IsUnsent (fault.Round f) = ⊥
+IsUnsent (fault.SearchLimit least found tree) = ⊥
+IsUnsent fault.OutOfMemory = ⊥
+IsUnsent (fault.Transmission f) = Unit {0}
+IsUnsent (fault.Certificate f) = Unit {0}
+
+-- The fault that a stream answers, if any.
+abbrev pub fault_in : {X : Type 0} → Result X StreamFault → Option StreamFault
+fault_in (Ok x) = None
+fault_in (Err e) = Some e
+
+-- The two writers take turns, whatever fault a stream answers, if any. The two functions are how often each writer failed.
+pub record WritesInTurn {T C : Type 0} (failures : T → ℕ) (certificate_failures : C → ℕ) (tx tx_after : T) (cert cert_after : C) (answered : Option StreamFault) : Type 0 where
   -- What comes before the first write leaves both as they were;
-  pub untouched : IfErr result (λ e. IsBeforeWriting e → (tx_after ≡ tx) × (cert_after ≡ cert))
+  pub untouched : IfSome answered (λ e. IsBeforeWriting e → (tx_after ≡ tx) × (cert_after ≡ cert))
   -- the second is as it was unless the first took all;
-  pub not_begun : IfErr result (λ e. IsTransmission e → cert_after ≡ cert)
+  pub not_begun : IfSome answered (λ e. IsTransmission e → cert_after ≡ cert)
   -- the fault of a writer is answered only where that writer failed;
-  pub write_failed : IfErr result (λ e. IsTransmission e → HasFailed (failures tx) (failures tx_after))
-  pub certificate_failed : IfErr result (λ e. IsCertificate e → HasFailed (certificate_failures cert) (certificate_failures cert_after))
+  pub write_failed : IfSome answered (λ e. IsTransmission e → HasFailed (failures tx) (failures tx_after))
+  pub certificate_failed : IfSome answered (λ e. IsCertificate e → HasFailed (certificate_failures cert) (certificate_failures cert_after))
   -- and no other failed.
-  pub write_succeeded : IfErr result (λ e. IsCertificate e → failures tx_after ≡ failures tx)
-  pub succeeded : OnOk result ((failures tx_after ≡ failures tx) × (certificate_failures cert_after ≡ certificate_failures cert))
+  pub write_succeeded : IfSome answered (λ e. IsCertificate e → failures tx_after ≡ failures tx)
+  pub succeeded : IfNone answered ((failures tx_after ≡ failures tx) × (certificate_failures cert_after ≡ certificate_failures cert))

@@ -1,8 +1,9 @@
 -- What either search leaves for a plan.
-use Rattle.std.specs.Prelude.{◌≡◌, ◌⊎◌, ℕ, ◌+◌, ◌≤◌, false, slice_index}
+use Rattle.std.specs.Prelude.{◌≡◌, ◌⊎◌, ℕ, ◌+◌, ◌≤◌, false, List, slice_index}
 use Rattle.pocsag_words.specs.declared.ending.End.{End}
+use Rattle.pocsag_pages.specs.declared.page.Page.{Page}
 use Rattle.pocsag_slots.specs.declared.class.Classes.{Classes}
-use Rattle.pocsag_slots.specs.Loads.{IsChoice, IsLeast}
+use Rattle.pocsag_slots.specs.Loads.{AreClassesOf, IsChoice, IsLeast}
 use Rattle.pocsag_slots.specs.Tours.{IsTour}
 use Rattle.pocsag_tree.specs.Bounds.{closed_nodes}
 use Rattle.pocsag_tree.specs.Views.{bound_of}
@@ -23,3 +24,9 @@ pub record IsWithinOne (k : Classes) (end : End) (limit bound : ℕ) (found : Fo
   pub within_one : found.batches ≤ bound + 1
   pub accepted : IsAccepted false k end bound (bound_of found.tree)
   pub few : closed_nodes (bound_of found.tree) ≤ limit
+
+-- The same for a round of these classes.
+pub record IsWithinOneOf (end : End) (R : List Page) (limit bound : ℕ) (found : Found) : Type 0 where
+  pub table : Classes
+  pub classes : AreClassesOf table end R
+  pub within : IsWithinOne table end limit bound found

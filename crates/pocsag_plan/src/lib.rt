@@ -3,9 +3,6 @@
 //! of one.
 
 mod airtime;
-mod always;
-mod always_closing;
-mod always_streaming;
 mod answer;
 mod book;
 mod bounded;
@@ -16,19 +13,19 @@ mod laws;
 mod planning;
 mod refusal;
 mod reporting;
+mod search;
 mod streaming;
 mod tally;
 
 pub use airtime::Report;
-pub use always::plan_always;
-pub use always_streaming::plan_stream_always;
 pub use answer::Plan;
 pub use book::Book;
 pub use bounded::Bounded;
 pub use edit::Edit;
 pub use fault::{BadRate, PlanFault, StreamFault};
 pub use laws::tight_headlines_are_headlines;
-pub use planning::plan;
+pub use planning::{bounded_plan, plan, plan_always};
 pub use refusal::{AddFault, BookFault, NotThere, Refused};
 pub use reporting::report;
-pub use streaming::plan_stream;
+pub use search::{Effort, Search};
+pub use streaming::{bounded_stream, plan_stream, plan_stream_always, send};

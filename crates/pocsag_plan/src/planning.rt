@@ -3,15 +3,16 @@ ghost use Rattle.pocsag_pages.specs.Reading.{page_length};
 ghost use Rattle.pocsag_slots.specs.Loads.{AreClassesOf};
 ghost use Rattle.pocsag_tree.specs.Bounds.{closed_nodes};
 ghost use Rattle.pocsag_tree.specs.Views.{bound_of};
-ghost use Rattle.pocsag_branch.specs.Found.{IsNodeLimit};
-ghost use Rattle.pocsag_plan.specs.Plans.{ExplainsPlan, IsBounded, IsPlan};
-ghost use Rattle.pocsag_plan.specs.Within.{IsWithinOne};
+ghost use Rattle.pocsag_branch.specs.Found.{HasPage, IsNodeLimit};
+ghost use Rattle.pocsag_plan.specs.Plans.{ExplainsPlan, IsBounded, IsPlan, IsPlanFor, NoneHasFewer};
+ghost use Rattle.pocsag_plan.specs.Within.{IsWithinOne, IsWithinOneOf};
 
 use crate::answer::Plan;
 use crate::bounded::Bounded;
 use crate::fault::PlanFault;
+use crate::search::{Effort, Search};
 use pocsag_batch::{in_order_batches, order_of};
-use pocsag_branch::{Found, search};
+use pocsag_branch::{Found, FreeFault, search_freely};
 use pocsag_check::accepted_trees_have_texts;
 use pocsag_pages::Round;
 use pocsag_slots::{Classes, classes_of, tours_have_codewords};
@@ -28,12 +29,40 @@ pub fn plan(alloc: Global, round: &Round, limit: u32, end: End) -> Result<Plan, 
     ensures plan { IfOk result (IsPlan end round.now) }
     ensures small { IfOk result (λ plan. closed_nodes (bound_of plan.tree) ≤ limit) }
     ensures bad_limit { IsErrOf result PlanFault.BadLimit ↔ (¬ IsNodeLimit limit) }
-    ensures fault { IfErr result (ExplainsPlan end round.now limit) }
+    ensures fault { IfErr result (ExplainsPlan Effort.Fewest end round.now limit) }
 {
-    if !is_node_limit(limit) {
+    let effort = Effort::Fewest;
+    let bounded = bounded_plan(alloc, round, Search { limit, end, effort })?;
+    Ok(bounded.plan)
+}
+
+/// Plans the round for the end, and refuses none: with the fewest batches, or, where so many nodes do not
+/// decide it, with one batch more than the bound that is proved. `BadLimit` where the node limit is 0 or
+/// above 1,000,000; never `SearchLimit`.
+pub fn plan_always(alloc: Global, round: &Round, limit: u32, end: End) -> Result<Bounded, PlanFault>
+    ensures plan { IfOk result (λ bounded. IsBounded end round.now bounded.plan bounded.bound) }
+    // Where the bound is the batches, they are the fewest.
+    ensures fewest { IfOk result (λ bounded. bounded.bound ≡ bounded.plan.batches →
+        NoneHasFewer end round.now bounded.plan.batches) }
+    ensures small { IfOk result (λ bounded. closed_nodes (bound_of bounded.plan.tree) ≤ limit) }
+    ensures bad_limit { IsErrOf result PlanFault.BadLimit ↔ (¬ IsNodeLimit limit) }
+    ensures fault { IfErr result (ExplainsPlan Effort.Always end round.now limit) }
+{
+    let effort = Effort::Always;
+    let bounded = bounded_plan(alloc, round, Search { limit, end, effort })?;
+    Ok(bounded)
+}
+
+/// Plans the round as is asked: `plan` with its bound, which is its batches, or `plan_always`.
+pub fn bounded_plan(alloc: Global, round: &Round, search: Search) -> Result<Bounded, PlanFault>
+    ensures plan { IfOk result (IsPlanFor search round.now) }
+    ensures bad_limit { IsErrOf result PlanFault.BadLimit ↔ (¬ IsNodeLimit search.limit) }
+    ensures fault { IfErr result (ExplainsPlan search.effort search.end round.now search.limit) }
+{
+    if !is_node_limit(search.limit) {
         return Err(PlanFault::BadLimit);
     }
-    plan_within(alloc, round, limit, end)
+    counted_plan(alloc, round, &classes_of(round, search.end), search)
 }
 
 pub(crate) fn is_node_limit(limit: u32) -> bool
@@ -42,45 +71,58 @@ pub(crate) fn is_node_limit(limit: u32) -> bool
     1 <= limit && limit <= NODE_LIMIT
 }
 
-// The same for a limit that can be asked for.
-pub(crate) fn plan_within(
-    alloc: Global,
-    round: &Round,
-    limit: u32,
-    end: End,
-) -> Result<Plan, PlanFault>
-    requires { IsNodeLimit limit }
-    ensures plan { IfOk result (IsPlan end round.now) }
-    ensures small { IfOk result (λ plan. closed_nodes (bound_of plan.tree) ≤ limit) }
-    ensures limit { ¬ IsErrOf result PlanFault.BadLimit }
-    ensures fault { IfErr result (ExplainsPlan end round.now limit) }
-{
-    plan_counted(alloc, round, &classes_of(round, end), limit, end)
-}
-
-// The same for the class table of the round for the end.
-pub(crate) fn plan_counted(
+// The same for a limit that can be asked for and the class table of the round for the end.
+pub(crate) fn counted_plan(
     alloc: Global,
     round: &Round,
     classes: &Classes,
-    limit: u32,
-    end: End,
-) -> Result<Plan, PlanFault>
-    requires limited { IsNodeLimit limit }
-    requires counted { AreClassesOf classes.now end round.now }
-    ensures plan { IfOk result (IsPlan end round.now) }
-    ensures small { IfOk result (λ plan. closed_nodes (bound_of plan.tree) ≤ limit) }
+    search: Search,
+) -> Result<Bounded, PlanFault>
+    requires limited { IsNodeLimit search.limit }
+    requires counted { AreClassesOf classes.now search.end round.now }
+    ensures plan { IfOk result (IsPlanFor search round.now) }
     ensures limit { ¬ IsErrOf result PlanFault.BadLimit }
-    ensures fault { IfErr result (ExplainsPlan end round.now limit) }
+    ensures fault { IfErr result (ExplainsPlan search.effort search.end round.now search.limit) }
 {
+    // A round has a page, as both searches want.
     let _pages = round.pages();
-    let found = search(alloc, classes, limit, end)?;
-    let within = Within {
-        bound: found.batches,
-        found,
-    };
-    let bounded = completed(alloc, round, classes, limit, within, end)?;
-    Ok(bounded.plan)
+    match search.effort {
+        Effort::Fewest => {
+            let found = pocsag_branch::search(alloc, classes, search.limit, search.end)?;
+            let bound = found.batches;
+            let bounded = completed(alloc, round, found, bound, search)?;
+            Ok(bounded)
+        }
+        Effort::Always => {
+            let (found, bound) = within_one(alloc, classes, search)?;
+            let bounded = completed(alloc, round, found, bound, search)?;
+            Ok(bounded)
+        }
+    }
+}
+
+// What the free search finds, or what it leaves at its limit; and the bound.
+fn within_one(alloc: Global, classes: &Classes, search: Search) -> Result<(Found, u32), OutOfMemory>
+    requires limited { IsNodeLimit search.limit }
+    requires pages { HasPage classes.now }
+    ensures { IfOk result (λ within. IsWithinOne classes.now search.end search.limit within.1 within.0) }
+{
+    match search_freely(alloc, classes, search.limit, search.end) {
+        Ok(found) => {
+            let bound = found.batches;
+            Ok((found, bound))
+        }
+        Err(FreeFault::SearchLimit(near)) => {
+            let found = Found {
+                batches: near.least + 1,
+                choice: near.choice,
+                steps: near.steps,
+                tree: near.tree,
+            };
+            Ok((found, near.least))
+        }
+        Err(FreeFault::OutOfMemory) => Err(OutOfMemory),
+    }
 }
 
 // How many codewords the pages have.
@@ -94,38 +136,26 @@ fn codewords_of(round: &Round) -> u32
     total as u32
 }
 
-// A tour, and the bound for which its tree is.
-#[derive(Drop)]
-pub(crate) struct Within {
-    pub(crate) found: Found,
-    pub(crate) bound: u32,
-}
-
-// The plan with what a search found.
-pub(crate) fn completed(
+// The plan with what a search found, and the bound for which its tree is.
+fn completed(
     alloc: Global,
     round: &Round,
-    classes: &Classes,
-    limit: u32,
-    within: Within,
-    end: End,
+    found: Found,
+    bound: u32,
+    search: Search,
 ) -> Result<Bounded, OutOfMemory>
-    requires limited { IsNodeLimit limit }
-    requires counted { AreClassesOf classes.now end round.now }
-    requires within { IsWithinOne classes.now end limit within.bound within.found }
-    ensures plan { IfOk result (λ bounded. IsBounded end round.now bounded.plan bounded.bound) }
-    ensures bound { IfOk result (λ bounded.
-        (bounded.bound ≡ within.bound) × (bounded.plan.batches ≡ within.found.batches)) }
-    ensures tree { IfOk result (λ bounded. bounded.plan.tree ≡ within.found.tree) }
-    ensures small { IfOk result (λ bounded. closed_nodes (bound_of bounded.plan.tree) ≤ limit) }
+    requires limited { IsNodeLimit search.limit }
+    requires within { IsWithinOneOf search.end round.now search.limit bound found }
+    ensures plan { IfOk result (λ bounded. IsBounded search.end round.now bounded.plan bounded.bound) }
+    ensures bound { IfOk result (λ bounded. (bounded.bound ≡ bound) × (bounded.plan.batches ≡ found.batches)) }
+    ensures tree { IfOk result (λ bounded. bounded.plan.tree ≡ found.tree) }
 {
     tours_have_codewords();
     accepted_trees_have_texts();
-    let Within { found, bound } = within;
     let pages = round.pages().len() as u32;
-    let order = order_of(alloc, round, &found.steps, end)?;
+    let order = order_of(alloc, round, &found.steps, search.end)?;
     let plan = Plan {
-        end,
+        end: search.end,
         batches: found.batches,
         in_order: in_order_batches(round),
         pages,

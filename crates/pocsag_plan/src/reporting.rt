@@ -5,7 +5,7 @@ ghost use Rattle.pocsag_plan.specs.Reports.{IsRate, IsReport, first_lines, last_
 use crate::airtime::Report;
 use crate::answer::Plan;
 use crate::fault::BadRate;
-use pocsag_pages::{BATCH_BITS, PREAMBLE_BITS};
+use pocsag_words::{airtime, transmission_bits};
 use std::fmt::{self, Display, Formatter};
 
 /// What the plan takes on the air at a rate of 512, 1200 or 2400 bits a second.
@@ -18,15 +18,15 @@ pub fn report(plan: &Plan, rate: u32) -> Result<Report, BadRate>
         return Err(BadRate);
     }
     let batches = u64::from(plan.batches);
-    let bits = PREAMBLE_BITS + BATCH_BITS * batches;
+    let bits = transmission_bits(batches);
     Ok(Report {
         pages: plan.pages,
         codewords: plan.codewords,
         in_order: plan.in_order,
         batches: plan.batches,
         idles: 16 * batches - u64::from(plan.codewords),
-        bits,
-        airtime_ms: (1000 * bits).div_ceil(u64::from(rate)),
+        bits: bits as u64,
+        airtime_ms: airtime(bits, rate) as u64,
     })
 }
 

@@ -3,9 +3,9 @@
 use Rattle.std.specs.Prelude.{ℕ, ◌+◌, ◌-◌, ◌*◌, ◌/◌, List, [], ◌∷◌, ◌++◌, length, replicate, codes}
 use Rattle.std.specs.List.{flat_map, range_with_len}
 use Rattle.std.specs.Fmt.{decimal}
+use Rattle.pocsag_words.specs.Frame.{airtime, transmission_bits}
 use Rattle.pocsag_words.specs.declared.codeword.Kind.{Kind}
 use Rattle.pocsag_pages.specs.declared.page.Page.{Page}
-use Rattle.pocsag_pages.specs.Bytes.{transmission_bits}
 use Rattle.pocsag_show.specs.Grid.{idles_in, letter_at}
 
 -- How many batches the codewords fill, sixteen to a batch.
@@ -16,12 +16,9 @@ batches_in ks = length ks / 16
 unfoldable pub share : (idles batches : ℕ) → ℕ
 share idles batches = (100 * idles + 8 * batches) / (16 * batches)
 
--- How long the bits of a transmission last at a rate in bits a second: the least whole number of milliseconds.
-unfoldable pub airtime : (batches rate : ℕ) → ℕ
-airtime batches rate = (1000 * transmission_bits batches + (rate - 1)) / rate
-
+-- How long a transmission of so many batches lasts at a rate in bits a second.
 unfoldable pub airtime_part : (batches rate : ℕ) → List ℕ
-airtime_part batches rate = decimal (airtime batches rate) ++ (codes " ms at " ++ (decimal rate ++ codes " bit/s"))
+airtime_part batches rate = decimal (airtime (transmission_bits batches) rate) ++ (codes " ms at " ++ (decimal rate ++ codes " bit/s"))
 
 -- The line of totals.
 unfoldable pub counts_part : (batches codewords : ℕ) → List ℕ

@@ -1,12 +1,12 @@
 ghost use Rattle.std.specs.Prelude.{◌≡◌, ℕ, ◌+◌, ◌*◌, ◌%◌, ◌<◌, ◌≤◌, ◌++◌, List, IfOk, OnOk, length, replicate, slice_index};
 ghost use Rattle.std.specs.List.{flat_map, range_with_len};
 ghost use Rattle.pocsag_words.specs.declared.codeword.Kind.{Kind};
-ghost use Rattle.pocsag_show.specs.Picture.{airtime, airtime_part, airtimes_part, batch_line, batch_lines, counts_part, frame_cells, idles_part, number_column, picture, share, totals_line};
+ghost use Rattle.pocsag_show.specs.Picture.{airtime_part, airtimes_part, batch_line, batch_lines, counts_part, frame_cells, idles_part, number_column, picture, share, totals_line};
 ghost use Rattle.pocsag_show.specs.Taking.{IsGridOf};
 
 use crate::grid::Grid;
 use crate::pieces::put;
-use pocsag_pages::{BATCH_BITS, PREAMBLE_BITS};
+use pocsag_words::{airtime, transmission_bits};
 use std::alloc::{AllocError, Global};
 
 /// The codewords of a batch, without its synchronisation codeword.
@@ -24,16 +24,6 @@ fn share(idles: u64, batches: u64) -> u128
     (100 * u128::from(idles) + 8 * u128::from(batches)) / (16 * u128::from(batches))
 }
 
-// How long a preamble and so many batches last at a rate, in whole milliseconds, rounded up.
-#[tactic(auto, unfolding(crate::specs::Picture::airtime))]
-fn airtime(batches: u64, rate: u32) -> u128
-    requires { 0 < rate }
-    ensures { result ≡ airtime batches rate }
-{
-    let bits = u128::from(PREAMBLE_BITS) + u128::from(BATCH_BITS) * u128::from(batches);
-    (1000 * bits + (u128::from(rate) - 1)) / u128::from(rate)
-}
-
 fn put_spaces(text: &mut Vec<u8>, count: usize) -> Result<(), AllocError>
     requires { count < 4 }
     ensures { OnOk result (text.new.items ≡ text.old.items ++ replicate count 32) }
@@ -48,7 +38,7 @@ fn put_airtime(alloc: Global, text: &mut Vec<u8>, batches: u64, rate: u32) -> Re
     requires { 0 < rate }
     ensures { OnOk result (text.new.items ≡ text.old.items ++ airtime_part batches rate) }
 {
-    let airtime = airtime(batches, rate);
+    let airtime = airtime(transmission_bits(batches), rate);
     let part = format!(in alloc; "{airtime} ms at {rate} bit/s")?;
     put(text, part.as_bytes())
 }

@@ -7,11 +7,11 @@ ghost use Rattle.pocsag_show.specs.Taking.{IsGridOf, Took};
 
 use crate::grid::Grid;
 use pocsag_pages::leading_len;
-use pocsag_words::from_raw;
+use pocsag_words::{BATCH_WORDS, from_raw};
 use std::alloc::{AllocError, Global};
 
 // The words of a batch, its synchronisation codeword among them.
-const BATCH: u64 = 17;
+const BATCH: u64 = BATCH_WORDS as u64;
 
 // The word of four bytes, the highest first.
 fn word_of(bytes: &[u8]) -> u32

@@ -16,4 +16,4 @@ pub use limits::{DEPTH_LIMIT, FIRST_VERSION, NODE_LIMIT, Ranges, SECOND_VERSION}
 pub use reading::read_certificate;
 pub use refusals::{CertificateFault, TreeWriteFault};
 pub use shape::{Certificate, Tree};
-pub use writing::write_certificate;
+pub use writing::{write_certificate, write_text};

@@ -229,13 +229,15 @@ fn write_row<S: Sink>(trees: &[Tree], writer: &mut S) -> Result<(), DeviceFault>
     Ok(())
 }
 
-fn write_text<S: Sink>(
+/// Writes the certificate of an end, a number of batches and a tree that are known to have one, as those of a
+/// plan are: the tree is walked once, to be written. After a fault a prefix of the certificate stands.
+pub fn write_text<S: Sink>(
     end: End,
     batches: u32,
     tree: &Tree,
     writer: &mut S,
 ) -> Result<(), DeviceFault>
-    requires { IsInRange second_ranges (bound_of tree.now) }
+    requires { HasText second_ranges batches (bound_of tree.now) }
     ensures delivers { S.tells → Delivers result (S.taken writer.old) (S.taken writer.new)
         (second_text end batches (bound_of tree.now)) }
     ensures failures { CountsFailures result (S.failures writer.old) (S.failures writer.new) }

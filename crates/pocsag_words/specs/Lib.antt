@@ -4,6 +4,9 @@ pub mod Codeword
 pub mod Columns
 pub mod Devices
 pub mod Flags
+pub mod Frame
+pub mod GrowingSink
 pub mod Kinds
 pub mod MemorySink
 pub mod MemorySource
+pub mod SliceSource

@@ -10,7 +10,7 @@ use Rattle.pocsag_commands.proofs.always.report_file_always.Goals as goal
 pub returns-clause-told : goal.returns-clause-told
 returns-clause-told g c = λ pages_tell out_tells.
     told_report _ _ _ c.in_ok-bounded.bounded c.in_ok-told.told
-    (record { round = c.in_ok-round.round; read = c.in_ok-round.ensures.ok pages_tell; plan_of = c.in_ok-bounded.ensures.plan })
+    (record { round = c.in_ok-round.round; read = c.in_ok-round.ensures.ok pages_tell; holds = c.in_ok-bounded.ensures.plan })
     c.in_ok-told.ensures.report c.tell_below.result _ _ _ (c.in_ok-tell.ensures.told out_tells (report_text c.in_ok-told.told) refl)
     (c.tell_below.ensures.told out_tells)
 

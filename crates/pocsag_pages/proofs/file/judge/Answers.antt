@@ -2,6 +2,6 @@ use Rattle.std.proofs.Common.{refl}
 use Rattle.pocsag_pages.specs.PageFile.{pages_of}
 use Rattle.pocsag_pages.proofs.file.judge.Goals as goal
 
-pub returns-clause-longer : goal.returns-clause-longer
+pub returns-in-Ok-clause-longer : goal.returns-in-Ok-clause-longer
 unfolding pages_of
-returns-clause-longer c = rw (c.in_ok-with.ensures, c.in_ok-page.ensures.ok) refl
+returns-in-Ok-clause-longer c = rw (c.in-Ok.ensures, c.in_ok-page.ensures.ok) refl

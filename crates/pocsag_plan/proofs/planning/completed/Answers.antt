@@ -10,24 +10,24 @@ use Rattle.pocsag_plan.proofs.planning.completed.Goals as goal
 
 pub order_of-requires : goal.order_of-requires
 order_of-requires c =
-    subst (λ (steps : List Step). IsTourFor c.args.end c.args.round.now steps) (sym c.deref.ensures.value)
-    (tour_for c.args.classes.now c.args.end c.args.round.now c.args.limit c.args.within.bound c.args.within.found c.requires.counted
-    c.requires.within)
+    let is = c.requires.within in
+    subst (λ (steps : List Step). IsTourFor c.args.search.end c.args.round.now steps) (sym c.deref.ensures.value)
+    (tour_for is.table c.args.search.end c.args.search.limit c.args.bound c.args.found is.within c.args.round.now is.classes)
 
 pub returns-clause-plan : goal.returns-clause-plan
 returns-clause-plan c =
-    let k = c.args.classes.now in
-    let end = c.args.end in
+    let k = c.requires.within.table in
+    let counted = c.requires.within.classes in
+    let end = c.args.search.end in
     let R = c.args.round.now in
-    let limit = c.args.limit in
-    let bound = c.args.within.bound in
-    let found = c.args.within.found in
-    let is = c.requires.within in
+    let limit = c.args.search.limit in
+    let bound = c.args.bound in
+    let found = c.args.found in
+    let is = c.requires.within.within in
     let near : found.batches ≤ 1760001 = most k end limit bound found is in
     let at_least : bound ≤ found.batches = is.at_least in
     let sent = c.tours_have_codewords.ensures k end (slice_index found.choice.early) found.batches found.steps.items R
-    (some_batch k end limit bound found is) c.pages.ensures.round
-    c.requires.counted is.tour in
+    (some_batch k end limit bound found is) c.pages.ensures.round counted is.tour in
     let room = found_room end R found c.pages.ensures.round sent.0 sent.2 in
     let few = nodes_few k end limit bound found is c.requires.limited
     (c.accepted_trees_have_texts.ensures.closed k end bound (bound_of found.tree) is.accepted) in
@@ -37,7 +37,7 @@ returns-clause-plan c =
       codewords = c.codewords_of.ensures;
       in_order = c.in_order_batches.ensures;
       table = k;
-      classes = c.requires.counted;
+      classes = counted;
       admitted = admitted_all k end (slice_index found.choice.early) found.batches found.steps.items is.tour;
       tour = is.tour;
       order = subst (λ (steps : List Step). IsOrder end R steps c.in_ok-order.order.items) c.deref.ensures.value
@@ -45,9 +45,9 @@ returns-clause-plan c =
       room = subst (λ (n : ℕ). n ≤ 16 * found.batches) (sym c.codewords_of.ensures) room;
       near_least = record { least = is.least; is_least = is.is_least; near = is.or_one_more };
       most = near;
-      fewest = λ T n legal. is.bounded R T n (apart_pages R c.pages.ensures.round.good) c.requires.counted legal;
+      fewest = λ T n legal. is.bounded R T n (apart_pages R c.pages.ensures.round.good) counted legal;
       at_least = at_least;
       within_one = is.within_one;
-      accepted = record { table = k; counted = c.requires.counted; accepted = is.accepted };
+      accepted = record { table = k; counted = counted; accepted = is.accepted };
       text = c.accepted_trees_have_texts.ensures.text false k end bound (bound_of found.tree) is.accepted (omega arith) few;
     }

@@ -1,0 +1,122 @@
+ghost use Rattle.std.specs.Prelude.{◌≡◌, ◌==◌, ◌∷◌, ◌≤◌, [], length, count_by, true, false, IfOk, option_map};
+ghost use Rattle.csv.specs.Records.{field_at};
+ghost use Rattle.pocsag_pages.specs.PageFile.{rows_of};
+
+use crate::csv_row::{next_row, rows_reader};
+use csv::{ByteRecord, Reader};
+use pocsag_words::OutOfMemory;
+use std::alloc::Global;
+use std::marker::Model;
+
+/// The records of a page file one by one, the header first, each with the line on which it begins: for whoever
+/// has to find in the file what a fault names.
+#[derive(Drop)]
+pub struct FileRecords<'a> {
+    file: &'a [u8],
+    reader: Reader<&'a [u8]>,
+    row: ByteRecord,
+    is_over: bool,
+    // Where the row begins in the file, and its line.
+    place: usize,
+    line: usize,
+}
+
+impl<'a> Model for FileRecords<'a> {
+    ghost use Rattle.std.specs.Prelude.{◌≡◌, false};
+    ghost use Rattle.csv.specs.Records.{fields_of};
+    ghost use Rattle.pocsag_pages.specs.Rows.{StandsAt};
+    ghost use Rattle.pocsag_pages.specs.Walking.{RecordWalk, rows_ahead};
+
+    ghost Value = { RecordWalk };
+
+    ghost view = { λ r. record { row = fields_of r.row; ahead = rows_ahead r.is_over r.reader } };
+
+    ghost invariant = { λ r. r.is_over ≡ false → StandsAt r.reader };
+}
+
+impl<'a> FileRecords<'a> {
+    /// All records of the bytes are ahead.
+    pub fn of(alloc: Global, file: &'a [u8]) -> FileRecords<'a>
+        ensures { result.ahead ≡ rows_of file.now }
+    {
+        FileRecords {
+            file,
+            reader: rows_reader(alloc, file),
+            row: ByteRecord::new(alloc),
+            is_over: false,
+            place: 0,
+            line: 1,
+        }
+    }
+
+    /// Goes on to the next record, and says whether there is one.
+    pub fn advance(&mut self) -> Result<bool, OutOfMemory>
+        ensures found { IfOk result (λ found. found ≡ true → self.old.ahead ≡ self.new.row ∷ self.new.ahead) }
+        ensures none { IfOk result (λ found. found ≡ false → self.old.ahead ≡ []) }
+    {
+        if self.is_over {
+            return Ok(false);
+        }
+        self.is_over = true;
+        if !next_row(&mut self.reader, &mut self.row)? {
+            return Ok(false);
+        }
+        self.is_over = false;
+        self.locate();
+        Ok(true)
+    }
+
+    // Finds where the record begins, which no empty line does.
+    fn locate(&mut self)
+        ensures same { (self.new.row ≡ self.old.row) × (self.new.ahead ≡ self.old.ahead) }
+    {
+        let Some(position) = self.row.position() else {
+            return;
+        };
+        let place = beginning(self.file, (position.byte as usize).min(self.file.len()));
+        if let Some(passed) = self.file.get(self.place..place) {
+            self.line = self.line.saturating_add(line_feeds(passed));
+            self.place = place;
+        }
+    }
+
+    /// The line of the file on which the record begins, from 1.
+    pub fn line(&self) -> usize {
+        self.line
+    }
+
+    /// How many fields the record has.
+    pub fn len(&self) -> usize
+        ensures { result ≡ length self.now.row }
+    {
+        self.row.len()
+    }
+
+    /// A field of the record, by its place from 0.
+    pub fn field(&self, place: usize) -> Option<&[u8]>
+        ensures { option_map (λ field. field.now) result ≡ field_at self.now.row place }
+    {
+        self.row.get(place)
+    }
+}
+
+/// How many line feeds the bytes hold.
+pub fn line_feeds(bytes: &[u8]) -> usize
+    ensures { result ≡ count_by (λ byte. byte == 10) bytes.now }
+{
+    bytes.iter().filter(|byte| **byte == b'\n').count()
+}
+
+// The first place from there on whose byte ends no line, or the end.
+fn beginning(file: &[u8], from: usize) -> usize
+    requires { from ≤ length file.now }
+    ensures within { result ≤ length file.now }
+    ensures behind { from ≤ result }
+{
+    for place in from..file.len() {
+        if !matches!(file[place], b'\r' | b'\n') {
+            return place;
+        }
+    }
+    file.len()
+}

@@ -1,5 +1,0 @@
-use Rattle.std.proofs.Common.{arith}
-use Rattle.pocsag_plan.proofs.always.plan_always.Goals as goal
-
-pub returns-clause-fewest : goal.returns-clause-fewest
-returns-clause-fewest c = λ same T n legal. omega (arith, same, c.in_ok-bounded.ensures.plan.fewest T n legal)

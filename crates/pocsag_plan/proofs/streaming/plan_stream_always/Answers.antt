@@ -1,0 +1,6 @@
+use Rattle.pocsag_plan.proofs.Due.{tight_stream}
+use Rattle.pocsag_plan.proofs.streaming.plan_stream_always.Goals as goal
+
+pub returns-clause-fewest : goal.returns-clause-fewest
+returns-clause-fewest g c = λ tells tx_tells cert_tells same.
+    tight_stream _ _ _ _ _ _ _ _ _ same (c.in_ok-bounded.ensures.headline tells tx_tells cert_tells)

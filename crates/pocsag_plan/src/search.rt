@@ -1,0 +1,20 @@
+use pocsag_words::End;
+
+/// How a planner answers where its nodes do not decide between two numbers of batches.
+#[derive(Clone, Copy, PartialEq, Eq, Debug)]
+pub enum Effort {
+    /// Not at all: it answers with the fewest batches, or with `SearchLimit`.
+    Fewest,
+    /// With one batch more than its bound: it refuses no round.
+    Always,
+}
+
+/// What is asked of a planner.
+#[derive(Clone, Copy, PartialEq, Eq, Debug)]
+pub struct Search {
+    /// How many nodes it may examine, 1 to 1,000,000.
+    pub limit: u32,
+    /// The end of the transmission.
+    pub end: End,
+    pub effort: Effort,
+}

@@ -1,0 +1,94 @@
+#!/usr/bin/env python3
+"""Runs each command of the papers, README and docs/*.md, as a reader would, and compares what is printed with what the
+paper says ('# prints: ..' below a command). docs/OPERATION.md and docs/LIBRARY.md have tests of their own.
+
+It takes the binary that the gate left in crates/pocsag_app/out; where `cc` or `pkg-config` is missing, the example in C
+is left out. The last line is 'N passed, M failed'.
+"""
+
+import os
+import pathlib
+import re
+import shutil
+import subprocess
+import sys
+
+sys.dont_write_bytecode = True
+sys.path.insert(0, str(pathlib.Path(__file__).resolve().parents[1]))
+from tally import PROGRAM, TOP, run_parts
+
+ELSEWHERE = {"OPERATION.md", "LIBRARY.md"}
+PAPERS = [TOP / "README.md"] + sorted(path for path in (TOP / "docs").glob("*.md") if path.name not in ELSEWHERE)
+EXAMPLE = TOP / "crates/pocsag_cases/src/readme.rt"  # README's example in Rattle, which is proved and run as a test
+HEADER = "address,kind,message\n"
+
+
+def blocks(paper, kind):
+    """The fenced blocks of a kind, in order."""
+    return re.findall(rf"^```{kind}\n(.*?)^```", paper.read_text(), re.M | re.S)
+
+
+def fresh(folder, name):
+    """An empty folder with what a reader has: the examples, three channels, `./pocsag`, `pocsag` in PATH and `./install`."""
+    room = folder / name
+    (room / "channels").mkdir(parents=True)
+    for number in range(3):
+        (room / f"channels/{number}.csv").write_text(HEADER + f"{number},numeric,{number}\n")
+    shutil.copytree(TOP / "examples", room / "examples")
+    (room / "bin").mkdir()
+    for place in (room / "pocsag", room / "bin/pocsag"):
+        place.symlink_to(PROGRAM)
+    script = room / "install"
+    script.write_text(f'#!/bin/sh\nexec {TOP}/install "$@" "{room}/usr"\n')
+    script.chmod(0o755)
+    environment = dict(os.environ, PATH=f"{room}/bin:{os.environ['PATH']}", PKG_CONFIG_PATH=f"{room}/usr/lib/pkgconfig")
+    return room, environment
+
+
+def run(words, room, environment):
+    return subprocess.run(words, cwd=room, env=environment, capture_output=True, text=True, timeout=600)
+
+
+def is_as_printed(done, text):
+    """The command succeeded and printed what stands below it; where nothing stands there, the paper leaves its output out."""
+    wanted = re.findall(r"^ *# prints: (.*)$", text, re.M)
+    return done.returncode == 0 and (not wanted or done.stdout.splitlines() == wanted)
+
+
+def try_commands(tally, folder):
+    """Each block of commands of each paper, those of a paper one after the other in one folder."""
+    count = 0
+    for paper in PAPERS:
+        room, environment = fresh(folder, paper.name)
+        for text in blocks(paper, "bash"):
+            done = run(["bash", "-euo", "pipefail", "-c", text], room, environment)
+            tally.check(f"{paper.name}: {text.splitlines()[0]}", is_as_printed(done, text), done)
+            count += 1
+    tally.check("the papers have commands", count >= 3, count)
+
+
+def try_examples(tally, folder):
+    """README's examples of calling the library."""
+    readme = TOP / "README.md"
+    (rattle,), (c,) = blocks(readme, "rust"), blocks(readme, "c")
+    tally.check("the example in Rattle is the one that is proved", rattle.strip() in EXAMPLE.read_text(), rattle)
+    if not shutil.which("cc") or not shutil.which("pkg-config"):
+        return
+    room, environment = fresh(folder, "example")
+    (room / "first.c").write_text(c)
+    command, printed = re.search(r"`(cc first\.c .*)` makes a program that\s+prints `(.*)`", readme.read_text()).groups()
+    done = run(["sh", "-c", f"./install && {command}"], room, environment)
+    tally.check("the example in C is compiled", done.returncode == 0, done)
+    done = run(["./a.out"], room, dict(environment, LD_LIBRARY_PATH=f"{room}/usr/lib"))
+    tally.check("the example in C", done.stdout.strip() == printed, done)
+
+
+def try_links(tally, _folder):
+    """Each link of a paper leads to a file that is there."""
+    for paper in [*PAPERS, *(TOP / "docs" / name for name in sorted(ELSEWHERE))]:
+        for link in re.findall(r"\]\(([^)#:]+)\)", paper.read_text()):
+            tally.check(f"{paper.name} links {link}", (paper.parent / link).exists())
+
+
+if __name__ == "__main__":
+    sys.exit(run_parts(try_commands, try_examples, try_links))
