@@ -65,3 +65,4 @@ refused_asking line.Clear pages why h = absurd h
 refused_asking line.List pages why h = inr (λ after d. d)
 refused_asking (line.Plan tx cert end) pages why h = inr (λ after d. d)
 refused_asking line.Unknown pages why h = inr (λ after d. d)
+refused_asking line.Journal pages why h = inr (λ after d. d)

@@ -30,6 +30,8 @@ pub enum Line<'a> {
     },
     /// `clear`.
     Clear,
+    /// `pocsag journal,1`: the first line of a journal, which asks for nothing.
+    Journal,
     /// Anything else.
     Unknown,
 }
@@ -94,11 +96,21 @@ fn cancel_line(row: &ByteRecord) -> Option<Line<'_>>
     ensures { asked_in result ≡ asked_of (fields_of row.now) }
 {
     if row.get(0)? != b"cancel".as_slice() {
-        return None;
+        return journal_line(row);
     }
     Some(Line::Cancel {
         address: row.get(1)?,
     })
+}
+
+// The first line of a journal, and its version.
+fn journal_line(row: &ByteRecord) -> Option<Line<'_>>
+    ensures { asked_in result ≡ None }
+{
+    if row.get(0)? == b"pocsag journal".as_slice() && row.get(1)? == b"1".as_slice() {
+        return Some(Line::Journal);
+    }
+    None
 }
 
 fn plan_line(row: &ByteRecord, end: End) -> Option<Line<'_>>
