@@ -25,7 +25,7 @@ _pocsag() {
         [decode]='--help -h'
         [hear]='--help -h'
         [show]='--svg --list --help -h'
-        [open]='--always --keep --help -h'
+        [open]='--journal --always --keep --help -h'
         [report]='--rate --limit --end --expect --always --help -h'
         [help]=''
     )

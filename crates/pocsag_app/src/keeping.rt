@@ -38,13 +38,13 @@ impl<'a> Beside<'a> {
         self.path.as_str()
     }
 
-    // Synchronises what was written with the disk.
-    fn sync(&self, rt: &HostRuntime) -> Result<(), Fault> {
+    /// Synchronises what was written with the disk.
+    pub fn sync(&self, rt: &HostRuntime) -> Result<(), Fault> {
         sync(rt, self.path())
     }
 
-    // Puts the file in its place, at once and whole, and its name on the disk.
-    fn put(&self, rt: &HostRuntime) -> Result<(), Fault> {
+    /// Puts the file in its place, at once and whole, and its name on the disk.
+    pub fn put(&self, rt: &HostRuntime) -> Result<(), Fault> {
         match fs::rename(rt, self.path(), self.place) {
             Ok(()) => sync(rt, folder_of(self.place)),
             Err(_) => Err(Fault::Write),

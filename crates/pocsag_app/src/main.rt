@@ -3,6 +3,7 @@
 
 mod devices;
 mod files;
+mod journaling;
 mod keeping;
 mod misuse;
 mod obeying;

@@ -1,5 +1,6 @@
 use crate::devices::{ReaderSource, WriterSink};
 use crate::files::{STANDARD, open_buffered, open_source};
+use crate::journaling::open_kept;
 use crate::planning::plan;
 use crate::round_files::RoundFiles;
 use crate::words::{Order, Search};
@@ -63,6 +64,7 @@ fn obeyed<E: Sink>(
         }
         Order::Open {
             pages,
+            journal,
             always,
             keep,
         } => {
@@ -70,9 +72,13 @@ fn obeyed<E: Sink>(
                 rt,
                 alloc,
                 pages,
+                journal,
                 keep,
             };
-            open_path(always, &places, &mut out, err)
+            match journal {
+                Some(path) => open_kept(path, always, &places, &mut out, err),
+                None => open_path(always, &places, &mut out, err),
+            }
         }
         Order::Report {
             pages,

@@ -17,6 +17,8 @@ pub struct RoundFiles<'a> {
     pub alloc: Global,
     /// The path of that page file, if there is one.
     pub pages: Option<&'a str>,
+    /// The path of the journal, if there is one.
+    pub journal: Option<&'a str>,
     /// Whether what stands there before is kept until both files are whole.
     pub keep: bool,
 }
@@ -60,6 +62,8 @@ impl Places for RoundFiles<'_> {
 
     fn make(&self, tx: &str, cert: &str) -> Result<Outputs<WriterSink<Output<File>>>, Fault> {
         refuse_equal(self.pages, tx, cert)?;
+        refuse_equal(self.journal, tx, cert)?;
+        refuse_one_file(self.rt, self.journal, tx, cert)?;
         if tx == STANDARD || cert == STANDARD {
             return Err(Fault::EqualPaths);
         }

@@ -31,10 +31,11 @@ pub enum Order<'a> {
         tx: Option<&'a str>,
         view: View,
     },
-    /// `open`, or `open PAGES`: an open round, the path of the page file that it begins with, whether each
-    /// plan of it is answered, and whether old files are kept until the new ones are whole.
+    /// `open`, or `open PAGES`: an open round, the path of the page file that it begins with, that of its journal,
+    /// whether each plan of it is answered, and whether old files are kept until the new ones are whole.
     Open {
         pages: Option<&'a str>,
+        journal: Option<&'a str>,
         always: bool,
         keep: bool,
     },
@@ -106,6 +107,8 @@ const VERIFY: &str = "verify";
 const EXPECT: &str = "expect";
 
 const KEEP: &str = "keep";
+
+const JOURNAL: &str = "journal";
 
 const ALWAYS: &str = "always";
 
@@ -200,6 +203,10 @@ it is refused, and TX and CERT stay as they are";
 const KEEP_HELP: &str = "\
 Keeps what stands at TX and CERT until both are written whole,
 and puts them there by renaming, CERT first";
+
+const JOURNAL_HELP: &str = "\
+Keeps each edit in FILE before it is answered, and begins with
+the edits that FILE holds";
 
 const TX_HELP: &str = "The transmission";
 
@@ -305,6 +312,7 @@ fn open_command<'a>(alloc: Global) -> Result<Command<'a>, AllocError> {
         .about("Keeps an open round, which is edited and planned by the lines of standard input")
         .after_help(OPEN_MANUAL)
         .arg(Arg::new(alloc, PAGES).help("The page file that the round begins with"))?
+        .arg(option(alloc, JOURNAL, "FILE", JOURNAL_HELP))?
         .arg(always_flag(alloc))?
         .arg(flag(alloc, KEEP, KEEP_HELP))
 }
@@ -417,6 +425,7 @@ fn order_from<'a>(matches: &ArgMatches<'a>) -> Option<Order<'a>> {
         SHOW => show_order(found),
         ROUND => Some(Order::Open {
             pages: found.get_str(PAGES),
+            journal: found.get_str(JOURNAL),
             always: found.get_flag(ALWAYS),
             keep: found.get_flag(KEEP),
         }),

@@ -3,4 +3,5 @@ pub mod TextLines
 pub mod Prefixes
 pub mod Readings
 pub mod Replaying
+pub mod Standing
 

@@ -118,7 +118,7 @@ acknowledged_read acknowledged rows part torn each read =
     let left = read_on _ acknowledged rows part torn each refl read in
     (left.left, left.parts)
 
-all_more : (rows : List Row) (row : Row) → AllByRecursion IsLine rows → IsLine row → AllByRecursion IsLine (rows ++ row ∷ [])
+pub all_more : (rows : List Row) (row : Row) → AllByRecursion IsLine rows → IsLine row → AllByRecursion IsLine (rows ++ row ∷ [])
 all_more [] row each line = (line, tt)
 all_more (r ∷ rows) row each line = (each.0, all_more rows row each.1 line)
 

@@ -80,4 +80,4 @@ no_bad_line bytes n (later done here line rest each before whole e bad) rows tor
     let parts = run_parts done more.left [] pages all in
     let here_is = run_once done [] parts.0 here parts.1 before in
     let on : IsRun (next.0 ∷ next.1) parts.0 pages = subst (λ (l : List Row). IsRun l parts.0 pages) next.2 parts.2 in
-    bad next.0 on.0 next.3 (subst (λ (p : List Page). IsEdit next.0 p on.0) (sym here_is) on.1)
+    bad next.0 on.0 next.3 (subst (λ (p : List Page). IsEdit next.0 p on.0) here_is on.1)

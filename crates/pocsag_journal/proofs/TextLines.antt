@@ -32,7 +32,7 @@ no_line (a ∷ front) xs [] n e = cc e
 no_line (a ∷ front) xs (t ∷ ts) n e = no_line front xs ts n.1 (cc e)
 
 -- records with a field whose texts are equal are equal
-back_is : (row : Row) → row ≢ [] → read_back row ≡ row
+pub back_is : (row : Row) → row ≢ [] → read_back row ≡ row
 back_is [] n = absurd (n refl)
 back_is (x ∷ xs) n = refl
 

@@ -21,4 +21,5 @@ IsTold bytes _ = ⊥
 abbrev pub IsToldOf : JournalFault → Type 0
 IsToldOf (fault.BadLine n) = ⊥
 IsToldOf (fault.NoLine n) = ⊥
+IsToldOf fault.WriteFault = ⊥
 IsToldOf _ = Unit {0}

@@ -7,6 +7,10 @@ use Rattle.pocsag_pages.specs.PageFile.{Row}
 use Rattle.pocsag_pages.specs.declared.page.Page.{Page}
 use Rattle.pocsag_open.specs.Runs.{IsEdit, IsRun}
 
+-- The most bytes of a journal that is read.
+abbrev pub journal_limit : ℕ
+journal_limit = 1073741824
+
 -- The first record: it names the format and its version.
 abbrev pub first_row : Row
 first_row = codes "pocsag journal" ∷ codes "1" ∷ []

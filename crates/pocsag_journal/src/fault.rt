@@ -3,6 +3,7 @@ ghost use Rattle.pocsag_journal.specs.declared.fault.JournalFault.TheVariants as
 
 use pocsag_pages::WholeFault;
 use pocsag_words::OutOfMemory;
+use std::alloc::AllocError;
 use thiserror::Error;
 
 /// Why a journal was not read or written.
@@ -10,6 +11,8 @@ use thiserror::Error;
 pub enum JournalFault {
     #[error("cannot read the journal")]
     ReadFault,
+    #[error("cannot write the journal")]
+    WriteFault,
     /// It has more than 1,073,741,824 bytes.
     #[error("the journal is too large")]
     TooLarge,
@@ -27,6 +30,14 @@ impl From<OutOfMemory> for JournalFault {
     ghost from_gives = { λ _ e. e ≡ fault.OutOfMemory };
 
     fn from(_refused: OutOfMemory) -> JournalFault {
+        JournalFault::OutOfMemory
+    }
+}
+
+impl From<AllocError> for JournalFault {
+    ghost from_gives = { λ _ e. e ≡ fault.OutOfMemory };
+
+    fn from(_refused: AllocError) -> JournalFault {
         JournalFault::OutOfMemory
     }
 }

@@ -2,14 +2,19 @@
 //! The journal of an open round: the text of its edits, and what reading that text gives, whole or cut. It knows no
 //! file: it reads a source, and writes to a disk that tells its bytes.
 
+mod anew;
+mod disk;
 mod fault;
+mod journal;
 mod laws;
 mod lines;
 mod reading;
 mod text;
 
+pub use anew::text_of_pages;
+pub use disk::Disk;
 pub use fault::JournalFault;
+pub use journal::Journal;
 pub use laws::{a_prefix_is_read, readings_are_one};
-pub use lines::line_len;
 pub use reading::{JOURNAL_LIMIT, Replayed, read_journal};
-pub use text::{FIRST_LINE, row_line};
+pub use text::first_line;

@@ -1,20 +1,15 @@
-ghost use Rattle.std.specs.Prelude.{◌≡◌, ◌⊎◌, ℕ, List, [], IfErr, IfOk, MatchResult, OnOk, option_map};
-ghost use Rattle.csv.specs.Machine.{next_record};
-ghost use Rattle.csv.specs.Reading.{default_config, strip_bom};
-ghost use Rattle.csv.specs.Records.{fields_of};
-ghost use Rattle.csv.specs.declared.parser.State.TheVariants as state;
+ghost use Rattle.std.specs.Prelude.{◌≡◌, ◌≤◌, ◌⊎◌, ℕ, List, [], length, IfErr, IfOk, MatchResult, OnOk};
 ghost use Rattle.pocsag_pages.specs.PageFile.{Row};
 ghost use Rattle.pocsag_pages.specs.declared.page.Page.{Page};
 ghost use Rattle.pocsag_open.specs.Runs.{IsRun};
 ghost use Rattle.pocsag_journal.specs.Faults.{IsTold, IsToldOf};
-ghost use Rattle.pocsag_journal.specs.Journals.{IsRead, MakesLine, Replays, ReplaysAs};
+ghost use Rattle.pocsag_journal.specs.Journals.{IsRead, MakesLine, Replays, ReplaysAs, journal_limit};
 
 use crate::fault::JournalFault;
-use crate::lines::line_len;
-use crate::text::{FIRST_LINE, row_line};
-use csv::{ByteRecord, ReaderBuilder};
+use crate::lines::split_line;
+use crate::text::{first_line, row_line};
 use pocsag_open::edit_row;
-use pocsag_pages::read_whole;
+use pocsag_pages::{only_row, read_whole};
 use pocsag_plan::Book;
 use pocsag_words::{OutOfMemory, Source};
 use std::alloc::Global;
@@ -50,54 +45,44 @@ pub fn read_journal<S: Source>(alloc: Global, source: &mut S) -> Result<Replayed
 
 // Makes the edits of the lines, one after another.
 fn replay(alloc: Global, bytes: &[u8]) -> Result<Replayed, JournalFault>
+    requires { length bytes.now ≤ journal_limit }
     ensures read { IfOk result (λ replayed. Replays bytes.now replayed.edits replayed.torn replayed.book) }
     ensures told { IfErr result (λ e. IsTold bytes.now e) }
 {
     let mut book = Book::new(alloc);
     let mut edits = 0;
-    let Some(first) = line_len(bytes) else {
-        return Ok(Replayed {
-            book,
-            edits,
-            torn: bytes.len(),
-        });
-    };
-    if &bytes[..first] != FIRST_LINE {
-        return Err(JournalFault::BadLine(1));
-    }
-    let mut rest = &bytes[first..];
-    loop {
-        let Some(len) = line_len(rest) else {
+    let first = match split_line(bytes) {
+        Some(parts) => parts,
+        None => {
             return Ok(Replayed {
                 book,
                 edits,
-                torn: rest.len(),
+                torn: bytes.len(),
             });
+        }
+    };
+    let same = first.0 == first_line();
+    if !same {
+        return Err(JournalFault::BadLine(1));
+    }
+    let mut rest = first.1;
+    loop {
+        let next = match split_line(rest) {
+            Some(parts) => parts,
+            None => {
+                return Ok(Replayed {
+                    book,
+                    edits,
+                    torn: rest.len(),
+                });
+            }
         };
-        let made = replay_line(alloc, &mut book, &rest[..len])?;
+        let made = replay_line(alloc, &mut book, next.0)?;
         if !made {
             return Err(JournalFault::BadLine(edits + 2));
         }
         edits += 1;
-        rest = &rest[len..];
-    }
-}
-
-// The first record of a line, if it has one.
-fn record_of(alloc: Global, line: &[u8]) -> Result<Option<ByteRecord>, OutOfMemory>
-    ensures { IfOk result (λ row. option_map fields_of row
-        ≡ option_map (λ read. read.0) (next_record default_config state.StartRecord [] [] (strip_bom line.now))) }
-{
-    let mut reader = ReaderBuilder::new()
-        .has_headers(false)
-        .flexible(true)
-        .from_reader(alloc, line);
-    let mut row = ByteRecord::new(alloc);
-    match reader.read_byte_record(&mut row) {
-        Ok(true) => Ok(Some(row)),
-        Ok(false) => Ok(None),
-        // No read of bytes in memory fails, so an error is want of memory.
-        Err(_) => Err(OutOfMemory),
+        rest = next.1;
     }
 }
 
@@ -105,11 +90,13 @@ fn record_of(alloc: Global, line: &[u8]) -> Result<Option<ByteRecord>, OutOfMemo
 fn replay_line(alloc: Global, book: &mut Book, line: &[u8]) -> Result<bool, OutOfMemory>
     ensures { IfOk result (λ made. MakesLine made line.now book.old book.new) }
 {
-    let Some(row) = record_of(alloc, line)? else {
-        return Ok(false);
+    let row = match only_row(alloc, line)? {
+        Some(row) => row,
+        None => return Ok(false),
     };
     let text = row_line(alloc, &row)?;
-    if text.as_slice() != line {
+    let same = text.as_slice() == line;
+    if !same {
         return Ok(false);
     }
     match edit_row(alloc, book, &row) {

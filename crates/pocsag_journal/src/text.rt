@@ -2,6 +2,7 @@ ghost use Rattle.std.specs.Prelude.{◌≡◌, IfOk};
 ghost use Rattle.csv.specs.Records.{fields_of};
 ghost use Rattle.csv.specs.Writing.{default_writer, row_text};
 ghost use Rattle.pocsag_decode.specs.Lines.{IsReady, PutsRow};
+ghost use Rattle.pocsag_journal.specs.Journals.{first_row};
 
 use csv::{ByteRecord, Writer};
 use pocsag_words::OutOfMemory;
@@ -9,7 +10,11 @@ use std::alloc::{AllocError, Global};
 
 /// The first line of a journal, which names the format and its version. The program `pocsag open` takes it as a line
 /// that changes nothing.
-pub const FIRST_LINE: &[u8] = b"pocsag journal,1\n";
+pub fn first_line() -> &'static [u8]
+    ensures { result.now ≡ row_text default_writer first_row }
+{
+    b"pocsag journal,1\n"
+}
 
 // Writes one record.
 fn put_row(writer: &mut Writer<Vec<u8>>, row: &ByteRecord) -> Result<(), AllocError>
