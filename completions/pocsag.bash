@@ -19,14 +19,14 @@ _pocsag() {
         command=${COMP_WORDS[1]}
     fi
     local -A options=(
-        [pocsag]='--help --version -h -V'
-        [plan]='--limit --end --expect --always --verify --keep --help -h'
-        [check]='--help -h'
-        [decode]='--help -h'
-        [hear]='--help -h'
-        [show]='--svg --list --help -h'
-        [open]='--journal --always --keep --help -h'
-        [report]='--rate --limit --end --expect --always --help -h'
+        [pocsag]='--verbose --help --version -h -V'
+        [plan]='--limit --end --expect --always --verify --keep --verbose --help -h'
+        [check]='--verbose --help -h'
+        [decode]='--verbose --help -h'
+        [hear]='--verbose --help -h'
+        [show]='--svg --list --verbose --help -h'
+        [open]='--journal --always --keep --verbose --help -h'
+        [report]='--rate --limit --end --expect --always --verbose --help -h'
         [help]=''
     )
     local commands='plan check decode hear show open report help'

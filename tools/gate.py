@@ -1,9 +1,13 @@
 """The parts of `./test`: each is a command whose last line is 'N passed, M failed', and the sum of these is told."""
 
+import concurrent.futures
+import os
 import re
 import subprocess
 import sys
 import time
+
+import lanes
 
 COUNT = re.compile(r"^(\d+) passed, (\d+) failed$", re.M)
 
@@ -49,6 +53,11 @@ class Gate:
             status, text = self.shown(words)
         except OSError as error:
             return self.fail(name, error)
+        self.count(name, status, text)
+        self.say(f"-- {minutes(time.monotonic() - began)}")
+
+    def count(self, name, status, text):
+        """Adds what a part counted, by its status and its text."""
         found = COUNT.findall(text)
         if not found:
             return self.fail(name, f"it ended with status {status} and told no count")
@@ -61,7 +70,32 @@ class Gate:
             self.fail(name, f"it ended with status {status}")
         elif not passed:
             self.fail(name, "it tried nothing")
-        self.say(f"-- {minutes(time.monotonic() - began)}")
+
+    def beside(self, parts):
+        """Runs parts side by side, each a name and the words of a command that takes one processor, the longest first.
+        What each printed is shown when it ends, as if it had run alone."""
+        width = int(os.environ.get("RT_JOBS") or 0) or max(1, min(lanes.processors(), lanes.free_memory() // lanes.MEMORY))
+        with concurrent.futures.ThreadPoolExecutor(width) as pool:
+            running = {pool.submit(self.told, words): name for name, *words in parts}
+            for done in concurrent.futures.as_completed(running):
+                name, (status, text, took) = running[done], done.result()
+                self.say(f"== {name}")
+                print(text, end="" if text.endswith("\n") or not text else "\n", file=self.out, flush=True)
+                if status is None:
+                    self.fail(name, text)
+                else:
+                    self.count(name, status, text)
+                self.say(f"-- {minutes(took)}")
+
+    def told(self, words):
+        """The status of a command, what it printed, and how long it took; no status where it could not be run."""
+        began = time.monotonic()
+        how = {"cwd": self.folder, "stdin": subprocess.DEVNULL, "stdout": subprocess.PIPE, "stderr": subprocess.STDOUT}
+        try:
+            ran = subprocess.run(words, text=True, errors="replace", **how)
+            return ran.returncode, ran.stdout, time.monotonic() - began
+        except OSError as error:
+            return None, str(error), time.monotonic() - began
 
     def step(self, name, *words):
         """Runs a command that counts nothing, as one thing to pass."""

@@ -1,15 +1,10 @@
-//! The benchmark `open_round` in plain Rust: pages in a vector, and a map of their places by address.
+//! An open round of tones in plain Rust: pages in a vector, and a map of their places by address. Each line of standard
+//! input is an edit, and is answered by a write of its own.
 
-#[path = "../random.rs"]
-#[allow(dead_code)]
-mod random;
-
-use random::Random;
 use std::collections::HashMap;
-use std::time::{Duration, Instant};
-
-const PAGES: u32 = 20_000;
-const EDITS: u32 = 10_000;
+use std::fs::File;
+use std::io::{self, BufRead, Write};
+use std::os::fd::AsFd;
 
 struct Page {
     address: u32,
@@ -67,49 +62,32 @@ impl Book {
         self.count(&page, -1);
         Some(page)
     }
+}
 
-    fn turn(&mut self, place: usize) {
-        let address = self.pages[place].address;
-        if let Some(page) = self.cancel(address) {
-            self.add(page);
-        }
-    }
-
-    fn sum(&self) -> u64 {
-        self.pages.iter().fold(0u64, |sum, page| sum.wrapping_mul(31).wrapping_add(u64::from(page.address)))
+/// What a line asks for, and whether it was done.
+fn edit(book: &mut Book, line: &str) -> bool {
+    let fields: Vec<&str> = line.split(',').collect();
+    match fields[..] {
+        ["add", address, "tone0", ""] => match address.parse() {
+            Ok(address) => book.add(Page { address, function: 0, payload: Vec::new() }),
+            Err(_) => false,
+        },
+        ["cancel", address] => address.parse().is_ok_and(|address| book.cancel(address).is_some()),
+        _ => false,
     }
 }
 
-fn print_part(part: &str, time: Duration, book: &Book) {
-    println!("{part} {}.{:06} {}", time.as_secs(), time.subsec_micros(), book.sum());
-}
-
-fn main() {
+fn main() -> io::Result<()> {
     let mut book = Book {
         pages: Vec::new(),
         places: HashMap::new(),
         for_open: [Class::default(); 136],
         for_closed: [Class::default(); 136],
     };
-    let start = Instant::now();
-    for number in 0..PAGES {
-        book.add(Page { address: 100 * number + 7, function: 0, payload: Vec::new() });
+    let mut out = File::from(io::stdout().as_fd().try_clone_to_owned()?);
+    for line in io::stdin().lock().lines() {
+        let answer = if edit(&mut book, &line?) { format!("ok {}\n", book.pages.len()) } else { "refused\n".to_string() };
+        out.write_all(answer.as_bytes())?;
     }
-    print_part("add", start.elapsed(), &book);
-    let start = Instant::now();
-    for _ in 0..EDITS {
-        book.turn(0);
-    }
-    print_part("first", start.elapsed(), &book);
-    let mut random = Random::new();
-    let start = Instant::now();
-    for _ in 0..EDITS {
-        book.turn(random.below(PAGES) as usize);
-    }
-    print_part("any", start.elapsed(), &book);
-    let start = Instant::now();
-    for _ in 0..EDITS {
-        book.turn(PAGES as usize - 1);
-    }
-    print_part("last", start.elapsed(), &book);
+    Ok(())
 }

@@ -2,8 +2,10 @@
 """Tries how `./test` counts its parts, with stand-ins for them. The last line is 'N passed, M failed'."""
 
 import io
+import os
 import pathlib
 import sys
+import time
 
 sys.dont_write_bytecode = True
 TOP = pathlib.Path(__file__).resolve().parents[2]
@@ -50,11 +52,36 @@ def try_others(tally):
     tally.check("one failure fails the whole", gate.end() == 1)
 
 
+def try_beside(tally):
+    """The same parts side by side: the same counts, and what each prints stays together."""
+    gate = Gate(TOP, io.StringIO())
+    gate.beside([(name, "sh", "-c", script) for name, script, _, _ in PARTS])
+    passed, failed = (sum(row[3][at] for row in PARTS) for at in (0, 1))
+    tally.check("side by side: the counts", (gate.passed, gate.failed) == (passed, failed), (gate.passed, gate.failed))
+    bad = [name for name, _, status, _ in PARTS if status]
+    tally.check("side by side: what failed", sorted(gate.bad) == sorted(bad), gate.bad)
+    tally.check("side by side: the status", gate.end() == 1)
+    gate = Gate(TOP, io.StringIO())
+    gate.beside([("missing", "/nowhere/no-such-command"), ("there", "echo", "1 passed, 0 failed")])
+    tally.check("side by side: a command that is not there fails", (gate.passed, gate.failed) == (1, 1))
+    gate = Gate(TOP, io.StringIO())
+    script = "echo {0} begins; sleep 0.5; echo {0} ends; echo '1 passed, 0 failed'"
+    began = time.monotonic()
+    gate.beside([(it, "sh", "-c", script.format(it)) for it in "abc"])
+    took, told = time.monotonic() - began, gate.out.getvalue()
+    tally.check("side by side: all of them pass", gate.end() == 0 and gate.passed == 3, told)
+    for it in "abc":
+        tally.check(f"side by side: {it} is told whole", f"== {it}\n{it} begins\n{it} ends\n1 passed, 0 failed\n-- " in told, told)
+    tally.check("side by side: no part waits for another", took < 1.4, took)
+
+
 def main():
+    os.environ["RT_JOBS"] = "3"
     tally = Tally()
     for row in PARTS:
         try_part(tally, *row)
     try_others(tally)
+    try_beside(tally)
     return tally.end()
 
 

@@ -18,13 +18,13 @@ sys.dont_write_bytecode = True
 sys.path.insert(0, str(pathlib.Path(__file__).resolve().parents[1]))
 from tally import TOP, Tally, as_nobody
 
-CRATES = "low:\nmiddle: low csv\npocsag_app: clap middle low\npocsag_bench: middle\npocsag_trial: low\n"
+CRATES = "low:\nmiddle: low csv\npocsag_app: clap middle low\npocsag_beside: middle\npocsag_trial: low\n"
 # Other forms of the same list that the prover reads.
 FORMS = [
-    "low :\nmiddle : low csv\npocsag_app : clap middle low\npocsag_bench: middle\npocsag_trial: low\n",
-    "low\nmiddle: low, csv\npocsag_app: clap,middle,low\npocsag_bench: middle\npocsag_trial: low\n",
-    "# all\n  low: # the lowest\n\n  middle:  low csv  # next\npocsag_app status=0: clap middle low\npocsag_bench: middle\npocsag_trial: low\n",
-    "pocsag_app: clap middle low\npocsag_trial: low\npocsag_bench: middle\nmiddle: low csv\nlow:\n",
+    "low :\nmiddle : low csv\npocsag_app : clap middle low\npocsag_beside: middle\npocsag_trial: low\n",
+    "low\nmiddle: low, csv\npocsag_app: clap,middle,low\npocsag_beside: middle\npocsag_trial: low\n",
+    "# all\n  low: # the lowest\n\n  middle:  low csv  # next\npocsag_app status=0: clap middle low\npocsag_beside: middle\npocsag_trial: low\n",
+    "pocsag_app: clap middle low\npocsag_trial: low\npocsag_beside: middle\nmiddle: low csv\nlow:\n",
 ]
 COMMANDS = "bash basename cat chmod dirname find mkdir mv pwd readlink rm sh sleep touch".split()
 
@@ -64,7 +64,7 @@ class Clone:
         shutil.copy(TOP / "pocsag", self.top / "pocsag")
         shutil.copytree(TOP / "tools", self.top / "tools")
         (self.top / "crates.txt").write_text(CRATES)
-        for crate in ("low", "middle", "pocsag_app", "pocsag_bench", "pocsag_trial"):
+        for crate in ("low", "middle", "pocsag_app", "pocsag_beside", "pocsag_trial"):
             source = self.top / "crates" / crate / "src"
             source.mkdir(parents=True)
             (source / ("main.rt" if crate == "pocsag_app" else "lib.rt")).write_text("first\n")
@@ -121,7 +121,7 @@ def try_success(tally, clone):
     tally.check("no log is left", list(clone.temporary.iterdir()) == [], list(clone.temporary.iterdir()))
     status, out, err = clone.run(["x"])
     tally.check("built once", (status, err, clone.builds()[0]) == (7, "", 1), (status, err))
-    for crate in ("pocsag_bench", "pocsag_trial"):
+    for crate in ("pocsag_beside", "pocsag_trial"):
         clone.source(crate).write_text("edited\n")
         clone.run()
         tally.check(f"an edit in {crate} builds nothing", clone.builds()[0] == 1, clone.builds())
@@ -289,7 +289,7 @@ def try_two_at_once(tally, clone):
 
 def try_side_by_side(tally, clone):
     """Crates that do not wait for each other, each a second long."""
-    (clone.top / "crates.txt").write_text("low:\nmiddle:\npocsag_bench:\npocsag_app: low middle pocsag_bench\n")
+    (clone.top / "crates.txt").write_text("low:\nmiddle:\npocsag_beside:\npocsag_app: low middle pocsag_beside\n")
     rt = clone.commands / "rt"
     rt.write_text(rt.read_text().replace('[ "$1" = run ] || exit 0\n', '[ "$1" = run ] || { sleep 1; exit 0; }\n'))
     start = time.monotonic()

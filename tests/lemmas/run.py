@@ -210,15 +210,27 @@ def lemmas_of_std():
         page = subprocess.run(["rt", "doc"], capture_output=True, text=True, timeout=60).stdout.strip()
     except OSError:
         page = ""
-    folder = pathlib.Path(page).parent / "rattle/std/proofs/lemmas"
+    kit = pathlib.Path(page).parent / "rattle"
+    folder = kit / "std/proofs/lemmas"
     found = {}
     for file in sorted(folder.rglob("*.antt")) if page else []:
         text = file.read_text()
-        for name, _, form in lemmas(file):
-            if re.search(rf"^ *pub {re.escape(name)} :", text, re.MULTILINE):
-                place = f"std: {file.relative_to(folder)}: {name}"
-                found.setdefault(words_of(form), []).append((pattern_of(form), place))
+        given = [(name, form) for name, _, form in lemmas(file) if re.search(rf"^ *pub {re.escape(name)} :", text, re.MULTILINE)]
+        for name, form in [*given, *passed_on(kit, text)]:
+            place = f"std: {file.relative_to(folder)}: {name}"
+            found.setdefault(words_of(form), []).append((pattern_of(form), place))
     return found
+
+
+def passed_on(kit, text):
+    """The lemmas of the kit's other libraries that the file passes on as its own, by the names that it gives them."""
+    for module, listed in re.findall(r"^pub use Rattle\.([\w.-]+)\.\{([^}]*)\}", text, re.MULTILINE):
+        file = kit / f"{module.replace('.', '/')}.antt"
+        forms = {name: form for name, _, form in lemmas(file)} if file.exists() else {}
+        for item in listed.split(","):
+            name, _, alias = item.strip().partition(" as ")
+            if name in forms:
+                yield (alias or name).strip(), forms[name]
 
 
 def main():

@@ -92,10 +92,14 @@ static uint32_t plan(struct texts *t)
                        &t->info);
 }
 
-/* One of the four calls, its texts into t. */
+/* How many calls take memory. */
+#define CALLS 5
+
+/* One of them, its texts into t. */
 static uint32_t call_of(int call, const struct texts *whole, struct texts *t)
 {
     struct pocsag_check_info check;
+    struct pocsag_report_info report;
     struct pocsag_place place;
     t->tx_len = t->cert_len = 0;
     switch (call) {
@@ -105,8 +109,10 @@ static uint32_t call_of(int call, const struct texts *whole, struct texts *t)
         return pocsag_check(pages, pages_len, whole->cert, whole->cert_len, &check);
     case 2:
         return pocsag_decode(whole->tx, whole->tx_len, t->tx, LARGE, &t->tx_len, &place);
-    default:
+    case 3:
         return pocsag_hear(8, whole->tx, whole->tx_len, t->tx, LARGE, &t->tx_len, &place);
+    default:
+        return pocsag_report(pages, pages_len, 1200, 100000, end, always, &report);
     }
 }
 
@@ -115,7 +121,7 @@ static long try_refusals(const struct texts *whole)
 {
     static struct texts ample, t;
     long number = 0;
-    for (int call = 0; call < 4; call++) {
+    for (int call = 0; call < CALLS; call++) {
         memset(&ample, 0x5a, sizeof ample);
         if (call_of(call, whole, &ample) != POCSAG_OK)
             wrong("a call that lacks nothing is refused", call);
@@ -142,10 +148,35 @@ static long try_refusals(const struct texts *whole)
     return number;
 }
 
+/* The listing of the pages, or of what one pager shows. */
+static uint32_t list(int heard, const uint8_t *tx, size_t tx_len, uint8_t *listing, size_t size, size_t *told)
+{
+    struct pocsag_place place;
+    return heard ? pocsag_hear(8, tx, tx_len, listing, size, told, &place)
+                 : pocsag_decode(tx, tx_len, listing, size, told, &place);
+}
+
+static void try_listings(const struct texts *whole)
+{
+    static uint8_t listing[LARGE];
+    for (int heard = 0; heard < 2; heard++) {
+        size_t wanted, told;
+        if (list(heard, whole->tx, whole->tx_len, listing, LARGE, &wanted) != POCSAG_OK)
+            wrong("the listing", heard);
+        uint8_t *just = guarded(wanted), *small = guarded(wanted - 1), *tx = guarded(whole->tx_len);
+        memcpy(tx, whole->tx, whole->tx_len);
+        if (list(heard, tx, whole->tx_len, just, wanted, &told) != POCSAG_OK || told != wanted ||
+            memcmp(just, listing, wanted) != 0)
+            wrong("a listing that just fits", (long)told);
+        if (list(heard, tx, whole->tx_len, small, wanted - 1, &told) != POCSAG_LISTING_TOO_SMALL || told != wanted ||
+            !is_untouched(small, wanted - 1))
+            wrong("a listing that does not fit", (long)told);
+    }
+}
+
 static void try_buffers(const struct texts *whole)
 {
     struct pocsag_plan_info info;
-    struct pocsag_place place;
     for (size_t less = 0; less < 3; less++) {
         size_t tx_size = whole->tx_len - (less == 1), cert_size = whole->cert_len - (less == 2), tx_len, cert_len;
         uint8_t *tx = guarded(tx_size), *cert = guarded(cert_size), *file = guarded(pages_len);
@@ -161,18 +192,13 @@ static void try_buffers(const struct texts *whole)
         if (less != 0 && !(is_untouched(tx, tx_size) && is_untouched(cert, cert_size)))
             wrong("a small buffer is written", (long)less);
     }
-    static uint8_t listing[LARGE];
-    size_t wanted, told;
-    if (pocsag_decode(whole->tx, whole->tx_len, listing, LARGE, &wanted, &place) != POCSAG_OK)
-        wrong("the listing", 0);
-    uint8_t *just = guarded(wanted), *small = guarded(wanted - 1), *tx = guarded(whole->tx_len);
-    memcpy(tx, whole->tx, whole->tx_len);
-    if (pocsag_decode(tx, whole->tx_len, just, wanted, &told, &place) != POCSAG_OK || told != wanted ||
-        memcmp(just, listing, wanted) != 0)
-        wrong("a listing that just fits", (long)told);
-    if (pocsag_decode(tx, whole->tx_len, small, wanted - 1, &told, &place) != POCSAG_LISTING_TOO_SMALL ||
-        told != wanted || !is_untouched(small, wanted - 1))
-        wrong("a listing that does not fit", (long)told);
+    try_listings(whole);
+    struct pocsag_check_info check;
+    uint8_t *file = guarded(pages_len), *cert = guarded(whole->cert_len);
+    memcpy(file, pages, pages_len);
+    memcpy(cert, whole->cert, whole->cert_len);
+    if (pocsag_check(file, pages_len, cert, whole->cert_len, &check) != POCSAG_OK)
+        wrong("a check of bytes that end before a guard page", 0);
 }
 
 static void *one_thread(void *given)

@@ -1,10 +1,11 @@
 #!/usr/bin/env python3
 """Calls the C library from C, C++, Python and Rust, beside the built program.
 
-It makes the library, by both compilers of the toolchain where both can be had, and compares the bytes, the listings
-and the refusals of its calls with the program's over random rounds and over files that were changed; runs the
-examples; refuses each growth of memory; gives buffers one byte too small with guard pages behind them; calls from
-eight threads; and runs the same under valgrind and the sanitizers where they are installed.
+It makes the library, by LLVM and by the compiler that is written in Rattle, and compares the bytes, the listings and
+the refusals of its calls with the program's over random rounds and over files that were changed, and those of the two
+libraries with each other over some thousand more; runs the examples; refuses each growth of memory; gives buffers one
+byte too small with guard pages behind them; calls from eight threads; and runs the same under valgrind and the
+sanitizers where they are installed.
 The last line is 'N passed, M failed'.
 """
 
@@ -27,8 +28,8 @@ from tally import PROGRAM, run_parts
 EXAMPLES = TOP / "clib/examples"
 ROUND = TOP / "examples/round.csv"
 ROUNDS, CHANGED = 1_200, 400
+ROUNDS_OF_BOTH, CHANGED_OF_BOTH = 2_000, 8_000
 CALLS = {"pocsag_check", "pocsag_decode", "pocsag_hear", "pocsag_plan", "pocsag_report", "pocsag_version"}
-TOLD = b"pages 6\nbatches 2\ntransmission 208 bytes, certificate %d bytes\nat least 2 batches\n"
 
 # What the program prints where a call answers a status.
 SAID = {
@@ -219,7 +220,7 @@ def try_symbols(tally, folder):
 
 
 def try_examples(tally, folder, room):
-    wanted = TOLD % len(pocsag.Pocsag(str(folder / make.SONAME)).plan(ROUND.read_bytes()).certificate)
+    wanted = re.search(r"```\n(pages 6\n.*?)```", (TOP / "docs/LIBRARY.md").read_text(), re.DOTALL)[1].encode()
     beside = {**os.environ, "LD_LIBRARY_PATH": str(folder), "PYTHONDONTWRITEBYTECODE": "1"}
     flags = ["-std=c11", "-Wall", "-Wextra", "-Werror", f"-I{folder}"]
     built = run("cc", *flags, EXAMPLES / "plan.c", folder / "libpocsag.a", "-o", room / "plan")
@@ -251,13 +252,19 @@ def try_page(tally, folder, room):
     tally.check("the first plan in Python", ran.stdout == b"1 140\naddress,kind,message\n8,tone0,\n\nBadKind 1\n", ran)
 
 
-def try_calls(tally, folder, room):
-    """Memory that is refused, buffers that just do and do not, and threads."""
-    sources = [HERE / "calls.c", folder / "libpocsag.a", f"-I{folder}", "-pthread", "-Wl,--wrap=malloc,--wrap=realloc,--wrap=free"]
+def ways_to_try():
+    """How the calls in C are built and run: a name, words of the compiler, and words before the program."""
     ways = [("as it is", ["-O1"], [])]
     if shutil.which("valgrind"):
         ways.append(("under valgrind", ["-O1", "-g"], ["valgrind", "-q", "--error-exitcode=9", "--leak-check=no"]))
     ways.append(("with the sanitizer of undefined behaviour", ["-fsanitize=undefined", "-fno-sanitize-recover"], []))
+    ways.append(("with the sanitizer of addresses", ["-fsanitize=address"], []))
+    return ways
+
+
+def try_calls(tally, folder, room, ways):
+    """Memory that is refused, buffers that just do and do not, and threads."""
+    sources = [HERE / "calls.c", folder / "libpocsag.a", f"-I{folder}", "-pthread", "-Wl,--wrap=malloc,--wrap=realloc,--wrap=free"]
     for name, flags, before in ways:
         built = run("cc", "-std=c11", "-Wall", "-Wextra", *flags, *sources, "-o", room / "calls")
         if built.returncode:
@@ -266,6 +273,59 @@ def try_calls(tally, folder, room):
         for closed, always in ((0, 0), (1, 0), (0, 1)) if not before else ((0, 0),):
             ran = run(*before, room / "calls", ROUND, closed, always)
             tally.check(f"refused memory, small buffers and threads {name}, {closed} {always}", ran.returncode == 0, (ran.stdout, ran.stderr[-2000:]))
+
+
+def all_answers(library, pages, tx, cert, address, end, always):
+    """What each call says of these files, faults with their status and place."""
+    answers = [
+        attempt(library.plan, pages, end=end, always=always),
+        attempt(library.check, pages, cert),
+        attempt(library.decode, tx),
+        attempt(library.hear, address, tx),
+        attempt(library.report, pages, 1200, end=end, always=always),
+    ]
+    return [(type(it), vars(it)) if isinstance(it, pocsag.Fault) else it for it in answers]
+
+
+def try_both(tally, one, other, rounds, count, seed):
+    """The answers of two libraries, over random rounds and over changed files."""
+    source = random.Random(seed)
+    wrong, files = [], []
+    for number in range(rounds):
+        pages, end, always = random_file(source), source.randrange(2), number % 3 == 0
+        plan = one.plan(pages, end=end, always=always)
+        files.append((pages, plan.transmission, plan.certificate))
+        address = source.randrange(2_100_000)
+        pair = [all_answers(it, *files[-1], address, end, always) for it in (one, other)]
+        wrong += [number] * (pair[0] != pair[1])
+    tally.check(f"{rounds} rounds are answered alike by both libraries", not wrong, wrong[:5])
+    for number in range(count):
+        whole = [*source.choice(files)]
+        which = source.randrange(3)
+        whole[which] = changed(source, whole[which])
+        address = source.randrange(2_100_000)
+        pair = [all_answers(it, *whole, address, 0, number % 3 == 0) for it in (one, other)]
+        wrong += [number] * (pair[0] != pair[1])
+    tally.check(f"{count} changed files are judged alike by both libraries", not wrong, wrong[:5])
+
+
+def try_other_compiler(tally, room, library):
+    """The library as the compiler that is written in Rattle makes it; what stands in the crate's `out/` stays."""
+    kept, folder = room / "kept.a", room / "other"
+    shutil.copy2(make.MADE, kept)
+    try:
+        built = subprocess.run(["rt", "lib", "--backend", "rattle"], cwd=make.CRATE, capture_output=True)
+        is_other = built.returncode == 0 and make.MADE.read_bytes() != kept.read_bytes()
+        tally.check("the other compiler makes a library", is_other, built.stdout[-2000:])
+        if not is_other:
+            return
+        make.make(folder, "/usr/local")
+    finally:
+        shutil.copy2(kept, make.MADE)
+    try_symbols(tally, folder)
+    try_calls(tally, folder, room, [("by the other compiler", ["-O1"], [])])
+    other = pocsag.Pocsag(str(folder / make.SONAME))
+    try_both(tally, library.pocsag, other, ROUNDS_OF_BOTH, CHANGED_OF_BOTH, 3)
 
 
 def try_library(tally, room):
@@ -277,9 +337,10 @@ def try_library(tally, room):
     try_reports(tally, library)
     try_examples(tally, folder, room)
     try_page(tally, folder, room)
-    try_calls(tally, folder, room)
+    try_calls(tally, folder, room, ways_to_try())
     plans = try_bytes(tally, library, ROUNDS, 1)
     try_changed(tally, library, plans, CHANGED, 2)
+    try_other_compiler(tally, room, library)
 
 
 if __name__ == "__main__":

@@ -272,6 +272,20 @@ def try_terminal(tally, folder):
     tally.check("and none at a pipe", done.stderr == b"", done)
 
 
+# For the commands of the page that want other machines: `ssh` runs its command here, and `parallel` runs the command of
+# each line in turn. `./install` is the one of the repository.
+STAND_INS = {
+    "bin/ssh": '#!/bin/sh\nshift\nexec "$@"\n',
+    "bin/parallel": """#!/bin/sh
+while [ "${1#--}" != "$1" ]; do shift 2; done
+while read -r line; do
+    (for word; do shift; set -- "$@" "$(echo "$word" | sed "s|{}|$line|; s|{\\.}|${line%.*}|")"; done; "$@") || exit
+done
+""",
+    "install": f'#!/bin/sh\nexec {TOP}/install "$@"\n',
+}
+
+
 def blocks(kind):
     """The code blocks of a kind in docs/OPERATION.md."""
     text = (TOP / "docs/OPERATION.md").read_text()
@@ -284,6 +298,9 @@ def room_of_the_page(folder, name):
     (room / "bin").mkdir(parents=True)
     (room / "channels").mkdir()
     (room / "bin/pocsag").symlink_to(PROGRAM)
+    for name, text in STAND_INS.items():
+        (room / name).write_text(text)
+        (room / name).chmod(0o755)
     for number in range(3):
         (room / f"channels/{number}.csv").write_bytes(APART)
     (room / "round.csv").write_bytes(APART)
@@ -297,13 +314,18 @@ def try_page(tally, folder):
     tally.check("the page has commands", len(shells) > 4 and len(pythons) == 1, (len(shells), len(pythons)))
     for kind, texts in (("bash", shells), ("python", pythons)):
         for text in texts:
-            if "parallel" in text and not shutil.which("parallel") or "ssh " in text or "./install" in text:
-                continue
+            text = text.replace("/usr/local", str(room / "usr")).replace("/dev/lp0", str(room / "lp0"))
             words = ["bash", "-euo", "pipefail", "-c", text] if kind == "bash" else [sys.executable, "-c", text]
-            done = subprocess.run(words, cwd=room, env=environment, capture_output=True, text=True, timeout=60)
+            done = subprocess.run(words, cwd=room, env=environment, capture_output=True, text=True, timeout=600)
             wanted = re.findall(r"# prints: (.*)$", text, re.M)
             holds = done.returncode == 0 and done.stdout.splitlines() == [line for line in wanted if line]
             tally.check(f"{kind}: {text.splitlines()[0]}", holds or not wanted and done.returncode == 0, done)
+    tally.check("./install of the page", (room / "usr/bin/pocsag").read_bytes() == PROGRAM.read_bytes(), os.listdir(room))
+    due, due_cert = planned(folder, APART, "due ssh")
+    holds = (room / "lp0").read_bytes() == due and (room / "c.bin").read_bytes() == due_cert
+    tally.check("the line with ssh writes both", holds, os.listdir(room))
+    holds = all((room / f"channels/{number}.bin").read_bytes() == due for number in range(3))
+    tally.check("the line with parallel plans each channel", holds, os.listdir(room / "channels"))
     for text in blocks("ini") + blocks("crontab"):
         for line in re.findall(r"^(?:ExecStart=|(?:\S+ ){5})(.*)$", text, re.M):
             line = line.replace("/srv/paging", str(room)).replace("/usr/local/bin", str(room / "bin"))
@@ -311,8 +333,33 @@ def try_page(tally, folder):
             tally.check(f"unit: {line}", done.returncode == 0, done)
 
 
+def try_recipe(tally, folder):
+    """README's recipe for many channels, as it stands there, over a hundred of which one is bad and the
+    transmission of another cannot be put in place: both are named, and all others are planned."""
+    room, environment = room_of_the_page(folder, "recipe")
+    recipe = [text for text in re.findall(r"^```bash\n(.*?)^```", (TOP / "README.md").read_text(), re.M | re.S) if "xargs" in text]
+    tally.check("README has one recipe", len(recipe) == 1, recipe)
+    for number in range(100):
+        (room / f"channels/{number}.csv").write_bytes(APART)
+    (room / "channels/57.csv").write_bytes(HEADER + b"8,tone0,\n9,alfa,Fire\n")
+    (room / "channels/58.bin").mkdir()
+    done = subprocess.run(["bash", "-c", recipe[0]], cwd=room, env=environment, capture_output=True, text=True, timeout=110)
+    lines = sorted(done.stderr.splitlines())
+    wanted = [
+        "pocsag: cannot write",
+        "pocsag: page file channels/57.csv, line 3, record 2, address '9': the kind is 'alfa', not tone0, tone1, tone2, tone3, numeric or alpha",
+        "pocsag: record 2: unknown kind",
+        "pocsag: transmission channels/58.bin: Is a directory (os error 21)",
+    ]
+    tally.check("the recipe names the bad ones", done.returncode != 0 and lines == wanted, done.stderr)
+    made = sorted(path.name for path in (room / "channels").glob("*.cert") if path.name != "58.cert")
+    due, _ = planned(folder, APART, "due recipe")
+    holds = len(made) == 98 and all((room / "channels" / name.replace("cert", "bin")).read_bytes() == due for name in made)
+    tally.check("and plans the others", holds, made)
+
+
 def main():
-    return run_parts(try_keep, try_keep_open, try_kills, try_single_calls, try_expect, try_verify, try_pipes, try_terminal, try_page)
+    return run_parts(try_keep, try_keep_open, try_kills, try_single_calls, try_expect, try_verify, try_pipes, try_terminal, try_page, try_recipe)
 
 
 if __name__ == "__main__":

@@ -23,15 +23,23 @@ USAGE = [
     ["show", "t", "--list", "--svg"], ["open", "--end", "open"], ["open", "--limit", "5"], ["open", "--verify"],
     ["open", "--rate", "512"], ["open", "p", "--end", "closed"], ["open", "p", "q"], ["report", "p", "--always"],
     ["report", "p", "--rate", "512", "--verify"], ["report", "p", "t", "c"], ["report", "p", "--rate", "512", "--svg"],
-    ["--always"], ["--end", "open"], ["--limit", "5"], ["--verify"],
+    ["--always"], ["--end", "open"], ["--limit", "5"], ["--verify"], ["--verbose=yes"],
     ["plan", "p", "t", "c", "--end"], ["plan", "p", "t", "c", "--limit"], ["plan", "p", "t", "c", "--always=yes"],
     ["plan", "p", "t", "c", "--verify=yes"], ["plan", "p", "t", "c", "--end", "closed", "--end", "open"],
     ["plan", "p", "t", "c", "--limit", "5", "--limit", "6"], ["plan", "p", "t", "c", "--limit", "-1"],
 ]
 
 
+VERBOSE = ([], ["--verbose"])
+
+
 def run(words, folder, stdin=b""):
-    return subprocess.run([str(PROGRAM), *words], input=stdin, capture_output=True, cwd=folder, timeout=110)
+    """With `--verbose`, what is told without it: behind the first line stand notes alone, and with status 0 none here."""
+    done = subprocess.run([str(PROGRAM), *words], input=stdin, capture_output=True, cwd=folder, timeout=110)
+    lines = done.stderr.splitlines(True)
+    if "--verbose" in words and all(line.startswith(b"pocsag: ") for line in lines):
+        done.stderr = b"".join(lines[:1])
+    return done
 
 
 def brute_force():
@@ -123,13 +131,13 @@ def judged(due, done, limit, is_always):
 
 
 def try_plan_options(tally, folder):
-    """`plan` with each end, limit, `--always` and `--verify`."""
-    flags = ([], ["--always"]), ([], ["--verify"])
-    for pages, end, limit, always, verify in itertools.product(ROUNDS, ENDS, LIMITS, *flags):
+    """`plan` with each end, limit, `--always`, `--verify` and `--verbose`."""
+    flags = ([], ["--always"]), ([], ["--verify"]), VERBOSE
+    for pages, end, limit, always, verify, verbose in itertools.product(ROUNDS, ENDS, LIMITS, *flags):
         due = Due(pages, any("closed" in word for word in end))
         (folder / "pages.csv").write_bytes(due.text)
-        done = run(["plan", *end, "pages.csv", "tx.bin", *limit, "cert.bin", *always, *verify], folder)
-        name = " ".join(["plan", *end, *limit, *always, *verify])
+        done = run(["plan", *end, "pages.csv", "tx.bin", *limit, "cert.bin", *always, *verify, *verbose], folder)
+        name = " ".join(["plan", *end, *limit, *always, *verify, *verbose])
         answer = judged(due, done, limit, bool(always))
         tally.check(name, answer is not False, (due.text, due.fewest, done))
         if answer:
@@ -142,15 +150,15 @@ def try_plan_options(tally, folder):
 
 
 def try_report_options(tally, folder):
-    """`report` with each rate, end, limit and `--always`, of the plan that `plan` makes with them."""
-    for pages, end, limit, always in itertools.product(ROUNDS, ENDS, LIMITS, ([], ["--always"])):
+    """`report` with each rate, end, limit, `--always` and `--verbose`, of the plan that `plan` makes with them."""
+    for pages, end, limit, always, verbose in itertools.product(ROUNDS, ENDS, LIMITS, ([], ["--always"]), VERBOSE):
         due = Due(pages, any("closed" in word for word in end))
         (folder / "pages.csv").write_bytes(due.text)
         planned = run(["plan", "pages.csv", "tx.bin", "cert.bin", *end, *limit, *always], folder)
         of_plan = judged(due, planned, limit, bool(always))
         for rate in RATES:
-            done = run(["report", *always, "pages.csv", *limit, "--rate", rate, *end], folder)
-            name = " ".join(["report", rate, *end, *limit, *always])
+            done = run(["report", *always, "pages.csv", *limit, "--rate", rate, *end, *verbose], folder)
+            name = " ".join(["report", rate, *end, *limit, *always, *verbose])
             answer = judged(due, done, limit, bool(always))
             tally.check(name, answer is not False and answer == of_plan, (due.text, due.fewest, done, planned))
             if answer:
@@ -160,8 +168,9 @@ def try_report_options(tally, folder):
 
 
 def try_open_options(tally, folder):
-    """`open` with and without PAGES and `--always`, and its plans with each end."""
-    for pages, words in itertools.product(ROUNDS, ([], ["--always"], ["pages.csv"], ["pages.csv", "--always"])):
+    """`open` with and without PAGES, `--always` and `--verbose`, and its plans with each end."""
+    for pages, *words in itertools.product(ROUNDS, ([], ["pages.csv"]), ([], ["--always"]), VERBOSE):
+        words = sum(words, [])
         text = Due(pages, False).text
         (folder / "pages.csv").write_bytes(text)
         edits = [] if "pages.csv" in words else [b"add," + record for record in text.splitlines()[1:]]
@@ -178,11 +187,11 @@ def try_open_options(tally, folder):
 
 def try_input_options(tally, folder):
     """No words: the fewest batches for the open end."""
-    for pages in ROUNDS:
+    for pages, verbose in itertools.product(ROUNDS, VERBOSE):
         due = Due(pages, False)
         told = b"pages %d\nbatches %d\n" % (len(pages), due.fewest)
-        done = run([], folder, due.text)
-        tally.check("no words", (done.returncode, done.stdout, done.stderr) == (0, told, b""), (due.text, done))
+        done = run(verbose, folder, due.text)
+        tally.check(f"no words {verbose}", (done.returncode, done.stdout, done.stderr) == (0, told, b""), (due.text, done))
 
 
 def try_foreign_options(tally, folder):
@@ -197,7 +206,8 @@ def try_bad_numbers(tally, folder):
     """Rates and limits that are none, beside each other option: status 1, and nothing told."""
     (folder / "pages.csv").write_bytes(Due(ROUNDS[0], False).text)
     no_rate, no_limit = b"pocsag: the rate must be 512, 1200 or 2400\n", b"pocsag: the limit must be 1 to 1000000\n"
-    for end, always in itertools.product(ENDS, ([], ["--always"])):
+    for end, always, verbose in itertools.product(ENDS, ([], ["--always"]), VERBOSE):
+        always = always + verbose
         for rate in ("0", "511", "1201", "4294967295"):
             done = run(["report", "pages.csv", "--rate", rate, *end, *always], folder)
             holds = (done.returncode, done.stdout, done.stderr) == (1, b"", no_rate)

@@ -15,6 +15,7 @@ sys.path.insert(0, str(pathlib.Path(__file__).resolve().parents[1]))
 sys.path.insert(0, str(pathlib.Path(__file__).resolve().parent))
 import edges
 import options
+import verbose
 from tally import PROGRAM, run_parts
 
 HEADER = b"address,kind,message\n"
@@ -512,6 +513,7 @@ def main():
         try_words,
         *edges.PARTS,
         *options.PARTS,
+        *verbose.PARTS,
     )
 
 

@@ -1,6 +1,8 @@
 #!/usr/bin/env python3
 """Lists each word of specs/ that a public clause cites, and wants a row of docs/DEFINITIONS.md for it that names its
-file; and wants each word of specs/ to have one meaning: no name is given in two modules.
+file; and wants each word of specs/ to have one meaning: no name is given in two modules. Of the code it wants that no
+two crates give a name to two things, a module aside, but for the names of twice.txt, which tells of each why; and that
+each line of a clause ends at column 120.
 
 A clause is public where it stands on a function that its crate passes on, on a method of a type that it
 passes on, on a method of a public trait, or on a command of the program. The last line is
@@ -19,7 +21,9 @@ IMPORT = re.compile(r"ghost use Rattle\.(pocsag_\w+)\.specs\.([\w.]+)\.\{([^}]*)
 MODULE_IMPORT = re.compile(r"ghost use Rattle\.(pocsag_\w+)\.specs\.([\w.]+) as (\w+);")
 GIVEN = re.compile(r"(?:(?:pub|record|data|abbrev|unfoldable) )+([^\s:{(]+)")
 CITED = re.compile(r"[A-Za-z_][\w']*(?:-\w+)*(?:\.[A-Za-z_][\w']*(?:-\w+)*)*")
-IGNORED_CRATES = {"pocsag_bench", "pocsag_cases", "pocsag_rounds", "pocsag_trial"}
+IGNORED_CRATES = {"pocsag_cases", "pocsag_rounds", "pocsag_trial"}
+ITEM = re.compile(r"^(?:pub(?:\([^)]*\))? )?(?:const )?(?:unsafe )?(?:extern \"C\" )?(?:fn|struct|enum|trait|const|static|type) (\w+)")
+LAST_COLUMN = 120
 
 
 def passed_on(root):
@@ -103,6 +107,50 @@ def check_meanings(tally):
         tally.check(f"one meaning of {name}", is_operator or len(modules) == 1, f"given in {', '.join(modules)}")
 
 
+def sources():
+    """Each file of code of the crates that are not for tests alone, by its crate."""
+    for crate in sorted((TOP / "crates").iterdir()):
+        if crate.name not in IGNORED_CRATES:
+            for file in sorted((crate / "src").rglob("*.rt")):
+                yield crate.name, file
+
+
+def check_items(tally):
+    """Wants each name that the code of two crates gives to an item to stand in twice.txt, and no other to stand there."""
+    givers = {}
+    for crate, file in sources():
+        for line in file.read_text().split("\n"):
+            item = ITEM.match(line)
+            if item and item[1] != "_":
+                givers.setdefault(item[1], set()).add(crate)
+    lines = (pathlib.Path(__file__).parent / "twice.txt").read_text().split("\n")
+    told = {line.partition(":")[0] for line in lines if line and not line.startswith("#")}
+    for name, crates in sorted(givers.items()):
+        tally.check(f"one meaning of {name} in the code", len(crates) == 1 or name in told, f"given in {', '.join(sorted(crates))}")
+    for name in sorted(told):
+        tally.check(f"{name} of twice.txt", len(givers.get(name, ())) > 1, "is given once: take the line away")
+
+
+def check_lengths(tally):
+    """Wants each line of a clause to end at the last column."""
+    for crate, file in sources():
+        lines = file.read_text().split("\n")
+        for place, line in enumerate(lines):
+            if re.match(r"\s*(ghost|requires|ensures)\b(?! use)", line) and len(line) <= LAST_COLUMN:
+                continue
+            is_long = len(line) > LAST_COLUMN and not line.strip().startswith(("ghost use", "//"))
+            tally.check(f"{crate} {file.name}:{place + 1}", not (is_long and in_clause(lines, place)), f"ends at column {len(line)}")
+
+
+def in_clause(lines, place):
+    """Whether the line belongs to a clause: one begins there or above, and the body has not begun since."""
+    while place >= 0 and not re.match(r"\s*\{\}?;?$", lines[place]):
+        if re.match(r"\s*(requires|ensures)\b", lines[place]):
+            return True
+        place -= 1
+    return False
+
+
 def quoted_words(text):
     """The words in the code that a text quotes."""
     return {word for quoted in re.findall(r"`([^`]+)`", text) for word in re.findall(r"[\w']+", quoted)}
@@ -156,6 +204,8 @@ def wanted_words():
 def main():
     tally = Tally()
     check_meanings(tally)
+    check_items(tally)
+    check_lengths(tally)
     places = check_page(tally)
     for (crate, module, word), cited in sorted(wanted_words().items()):
         told = "the row names another file" if word in places else "no row in docs/DEFINITIONS.md"

@@ -1,8 +1,9 @@
 """Wrong bodies: the files `.edit`, and the rounds in which as many as fit are planted side by side."""
 
 import pathlib
+import re
 
-from source import function_at, functions_of, homes_of
+from source import all_functions, function_at, functions_of, homes_of, reached, with_one_clause
 
 
 class Unfit(Exception):
@@ -10,10 +11,11 @@ class Unfit(Exception):
 
 
 class Edit:
-    """A wrong body: pairs of texts by file, and the function that the prover must refuse where the edit names it."""
+    """A wrong body: pairs of texts by file, the function that the prover must refuse where the edit names it, and the
+    clause that it was last refused at where that is known."""
 
     def __init__(self, name, text):
-        self.name, self.pairs, self.function = name, [], None
+        self.name, self.pairs, self.function, self.clause = name, [], None, None
         self.functions, self.is_alone, self.is_right = [], False, False
         path = old = None
         for line in text.split("\n"):
@@ -58,6 +60,28 @@ class Edit:
             self.is_alone = True
 
 
+    def names(self):
+        """The functions that have to be checked, or none where those are that rest on what is changed."""
+        if self.function:
+            return [self.function]
+        return [] if self.is_alone else [it.name for it in self.functions]
+
+
+def narrowed(texts, edits):
+    """The planted texts in which the contract of each function keeps, of the clauses with a name, the one that its
+    edit names, where nothing else that is checked beside it rests on the others."""
+    words, functions = reached(texts), {name: it for name, (_, it) in all_functions(texts).items()}
+    checked = {name for edit in edits for name in edit.names()}
+    for edit in edits:
+        names = edit.names()
+        if not edit.clause or len(names) != 1 or names[0] not in functions or functions[names[0]].is_called_unnamed:
+            continue
+        own = names[0].rpartition("::")[2]
+        if not any(own in words.get(it, {own}) for it in checked - {names[0]}):
+            texts = with_one_clause(texts, names[0], edit.clause) or texts
+    return texts
+
+
 class Round:
     """Edits that are planted side by side: at most one in each function or cycle of functions."""
 
@@ -89,11 +113,18 @@ def rounds_of(edits, texts):
     return rounds
 
 
-def read_edits(folders, texts):
-    """The edits of these folders that can be planted, and by its name why each other cannot."""
+def clauses_of(page, crate):
+    """The clauses that the page of wrong bodies names for a crate, by the edit's name as a row has it."""
+    section = page.partition(f"\n## `{crate}`\n")[2].partition("\n## ")[0]
+    return {title: clause for title, clause in re.findall(r"\| ([^|`]+) \| `[^`]+`, clause `([\w-]+)` \|", section)}
+
+
+def read_edits(folders, texts, clauses=()):
+    """The edits of these folders that can be planted, with their clauses, and by its name why each other cannot."""
     good, bad = [], {}
     for file in sorted(it for folder in folders for it in pathlib.Path(folder).glob("*.edit")):
         edit = Edit(file.stem, file.read_text())
+        edit.clause = dict(clauses).get(re.sub("[_-]", " ", file.stem))
         try:
             edit.look(texts)
             good.append(edit)
@@ -119,7 +150,7 @@ def right_change(texts, taken):
             continue
         old = "\n".join(lines[:opens[0] + 1])
         edit = Edit("a change that is right", "")
-        edit.pairs = [(path, old, old + "\n    let _ = 0_u8;")]
+        edit.pairs = [(path, old, old + "\n    let _right = 0_u8;")]
         edit.functions, edit.is_right = [function], True
         return edit
     return None

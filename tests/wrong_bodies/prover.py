@@ -9,6 +9,7 @@ from source import function_at, functions_of, homes_of
 
 PARTS = ("src", "specs", "proofs")
 MINUTES = 40  # the longest that one check may take
+CHECKED = re.compile(r"checked \w+?::(\S+), \d+ of \d+")
 STATUS = re.compile(r"fn \w+?::(\S+): (.*)")
 PLACE = re.compile(r"(?:note: )?(?:\./)?((?:src|specs|proofs)/\S+?):(\d+):\d+: (.*)")
 OWN = re.compile(r"not proved|no proof: (?!it calls|it passes|a call of)")
@@ -45,6 +46,7 @@ class Said:
     def __init__(self, text):
         self.lines = text.rstrip("\n").split("\n")
         self.statuses = {it[1]: it[2] for it in map(STATUS.fullmatch, self.lines) if it}
+        self.checked = {it[1] for it in map(CHECKED.fullmatch, self.lines) if it}  # and not taken as it was kept
         verdict = [it for it in self.lines if it.startswith("logic=")]
         self.has_verdict = bool(verdict) or any(it.startswith("only=") for it in self.lines)
         self.is_proved = bool(verdict) and verdict[-1].startswith("logic=proved ")

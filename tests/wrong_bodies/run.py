@@ -32,11 +32,17 @@ import typing
 sys.dont_write_bytecode = True
 HERE = pathlib.Path(__file__).resolve().parent
 sys.path[:0] = [str(HERE), str(HERE.parent)]
-from edits import Edit, Unfit, read_edits, right_change, rounds_of
+from edits import Edit, Unfit, clauses_of, narrowed, read_edits, right_change, rounds_of
 from prover import PARTS, Room, rt_check
 from tally import TOP, Tally
 
+PAGE = TOP / "docs/WRONG_BODIES.md"  # names the clause that each was refused at
 MEMORY = 2 << 20  # for each crate, in kB
+
+
+def newest(folder):
+    """The time at which a folder or what it holds last changed, 0 where it is not there."""
+    return max((it.stat().st_mtime for it in [folder, *folder.rglob("*")] if it.exists()), default=0)
 
 
 class Crate:
@@ -53,6 +59,13 @@ class Crate:
 
     def __eq__(self, other):
         return self.name == other.name
+
+    def is_kept(self):
+        """Whether what its proof and those below left is newer than their sources. (Where the time misleads, the
+        rounds only take longer: each checks what has changed.)"""
+        kept = [newest(self.folder / "out/incremental"), *(newest(it.folder / "out/rlib") for it in self.below)]
+        return all(kept) and all(made > max(newest(it.folder / part) for part in PARTS)
+                                 for made, it in zip(kept, [self, *self.below]))
 
     def texts(self):
         """The texts of the crate's files by their paths."""
@@ -78,8 +91,9 @@ class Verdict(typing.NamedTuple):
 def judged(seen, edit, is_alone):
     """The verdict on an edit after a check in which it was planted."""
     if edit.is_right:
-        status = seen.said.statuses.get(edit.functions[0].name, "not there")
-        return Verdict(status == "proved", f"{edit.functions[0].name}: {status}")
+        name = edit.functions[0].name
+        status = seen.said.statuses.get(name, "not there") if name in seen.said.checked else "not checked anew"
+        return Verdict(status == "proved", f"{name}: {status}")
     named = seen.by_name(edit.function) if edit.function else None
     if edit.function and not named:
         return Verdict(False, f"BAD EDIT: no function is named {edit.function}")
@@ -97,12 +111,16 @@ def judged(seen, edit, is_alone):
 
 
 def tried(room, edits, texts, is_whole=False):
-    """The verdict on each of these edits, planted together; where they do not compile, on those that do. Of what
-    stands alone and names its function only that function is checked, unless the whole crate is to be."""
-    planted, names = texts, []
+    """The verdict on each of these edits, planted together; where they do not compile, on those that do. Checked are
+    the functions that must be refused, by the clause alone that their edit names, unless the whole crate is to be."""
+    planted = texts
     for edit in edits:
         planted = edit.planted(planted)[0]
-        names += [edit.function] if edit.is_alone and edit.function and not is_whole else []
+    names = [] if is_whole else [name for edit in edits for name in edit.names()]
+    if names and all(edit.names() for edit in edits):
+        planted = narrowed(planted, edits)
+    else:
+        names = []
     seen = room.check(planted, names)
     if seen.said.has_verdict:
         return {it: judged(seen, it, len(edits) == 1) for it in edits}
@@ -139,7 +157,7 @@ def verdicts(room, edits, texts):
 def planned(crate):
     """The crate's texts, the rounds of its edits (lists), and by name why an edit cannot be planted."""
     texts = crate.texts()
-    good, bad = read_edits(crate.folders, texts)
+    good, bad = read_edits(crate.folders, texts, clauses_of(PAGE.read_text() if PAGE.is_file() else "", crate.name))
     rounds = rounds_of(good, texts)
     for it in rounds:
         right = None if it.is_full else right_change(texts, it.units)
@@ -156,8 +174,7 @@ def try_crate(crate, say=print):
     if not plan:
         return results
     started = time.monotonic()
-    proof = rt_check(crate.folder)
-    if not proof.is_proved:
+    if not crate.is_kept() and not rt_check(crate.folder).is_proved:
         return [*results, (f"{crate.name} as it is", False, "not proved, so nothing was tried: run rt check there")]
     with tempfile.TemporaryDirectory(prefix="wrong-bodies-") as top:
         room = Room(crate, top)

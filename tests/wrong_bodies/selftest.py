@@ -7,7 +7,8 @@
 In a copy of the repository's lowest two crates, wrong bodies of pocsag_text are tried both ways, by `rt must-fail`
 and in rounds, and must be refused both ways. Among them stand a body that is right, one that does not
 compile and one that only no longer fits its proof file, which the rounds must report by name. That a body which
-spoils a check without naming a line is found by halving is shown with a prover that is played.
+spoils a check without naming a line is found by halving is shown with a prover that is played, and on small texts which
+contracts are narrowed to the clause that is to be refused.
 The last line is 'N passed, M failed'.
 """
 
@@ -19,7 +20,7 @@ import sys
 
 sys.dont_write_bytecode = True
 sys.path[:0] = [str(pathlib.Path(__file__).resolve().parent), str(pathlib.Path(__file__).resolve().parents[1])]
-from edits import Edit
+from edits import Edit, clauses_of, narrowed
 from prover import PARTS, Planted, Said, link_or_copy, rt_check
 from run import TOP, crates_of, try_crate, tried
 from tally import run_parts
@@ -121,5 +122,89 @@ def test_halving(tally, _):
     tally.check("played, fine", found["edit6"].told == "NOT REFUSED", found["edit6"])
 
 
+SMALL = {
+    "src/lib.rt": """/// Calls `low`.
+fn top(a: u8) -> u8
+    // What it gives.
+    ensures small { result ≤ a }
+    ensures whole { (λ b.
+        b ≡ result) a }
+    ensures last { result ≡ a }
+{
+    low(a)
+}
+
+fn low(a: u8) -> u8
+    ensures small { result ≤ a }
+    ensures whole { result ≡ a }
+{
+    a
+}
+
+fn again(a: u8) -> u8
+    ensures small { result ≤ a }
+    ensures whole { result ≡ a }
+{
+    if a == 0 { 0 } else { again(a) }
+}
+
+impl Other for u8 {
+    fn other(&self) -> u8
+        ensures small { result ≤ self.now }
+        ensures whole { result ≡ self.now }
+    {
+        *self
+    }
+}
+""",
+    "proofs/top/Answers.antt": """use Rattle.small.proofs.top.Goals as goal
+
+pub returns-clause-small : goal.returns-clause-small
+returns-clause-small c = one
+
+pub returns-then-clause-whole : goal.returns-then-clause-whole
+returns-then-clause-whole c =
+    two
+
+-- between
+pub returns-clause-last : goal.returns-clause-last
+returns-clause-last c = three
+""",
+}
+
+
+def clauses_kept(clauses):
+    """The clauses that are left of each function of the small texts, where these edits are planted."""
+    edits = []
+    for name, clause in clauses:
+        edits.append(Edit(name, ""))
+        edits[-1].function, edits[-1].clause = name, clause
+    texts = narrowed(SMALL, edits)
+    parts = re.split(r"fn (\w+)", texts["src/lib.rt"])
+    return {name: re.findall(r"ensures (\w+)", text) for name, text in zip(parts[1::2], parts[2::2])}, texts
+
+
+def test_narrowing(tally, _):
+    """A contract keeps one clause only where nothing that is checked beside the function rests on the others."""
+    every = {"top": ["small", "whole", "last"]} | {it: ["small", "whole"] for it in ("low", "again", "other")}
+    for clauses, changed in [
+        ([("top", "whole")], {"top": ["whole"]}),
+        ([("top", "small"), ("low", "whole")], {"top": ["small"]}),
+        ([("low", "whole")], {"low": ["whole"]}),
+        ([("low", "whole"), ("again", "whole")], {"low": ["whole"]}),
+        ([("again", "whole")], {}),
+        ([("u8Other::other", "whole")], {}),
+        ([("top", "unknown")], {}),
+        ([("top", None)], {}),
+    ]:
+        kept, _ = clauses_kept(clauses)
+        tally.check(f"narrowed by {clauses}", kept == every | changed, kept)
+    _, texts = clauses_kept([("top", "whole")])
+    left = re.findall(r"^(?:pub )?(returns\S*)", texts["proofs/top/Answers.antt"], re.M)
+    tally.check("answers for the clause alone", left == ["returns-then-clause-whole"] * 2, left)
+    page = "\n## `low`\n\n| W | R |\n|---|---|\n| a body | `top`, clause `small` |\n| b | `top`, `returns` |\n\n## `a`\n| c | `d`, clause `e` |\n"
+    tally.check("the clauses of the page", clauses_of(page, "low") == {"a body": "small"}, clauses_of(page, "low"))
+
+
 if __name__ == "__main__":
-    sys.exit(run_parts(test_halving, test_both_ways))
+    sys.exit(run_parts(test_narrowing, test_halving, test_both_ways))

@@ -3,8 +3,10 @@
 import re
 import typing
 
+CLAUSE = re.compile(r" *ensures (\w+) \{")
 HEAD = re.compile(r"( *)(?:pub(?:\([^)]*\))? )?(?:const |unsafe |extern \"C\" )*fn (\w+)")
 TYPE = re.compile(r"^(?:pub(?:\([^)]*\))? )?(?:struct|enum) (\w+)", re.MULTILINE)
+CALLED = re.compile(r"(\w+)(?=\s*(?:\(|::<))|(?<=::)(\w+)|(?<=[(,])\s*(\w+)(?=\s*[,)])")
 CYCLE = re.compile(r"#\[cycle\((\w+)\)\]")
 
 
@@ -17,6 +19,7 @@ class Function(typing.NamedTuple):
     first: int
     last: int
     is_shown: bool  # has a contract, so that no other function's proof looks into its body
+    is_called_unnamed: bool  # a trait's method, or one that calls itself: its contract serves more than named calls
 
 
 def module_of(path):
@@ -88,10 +91,79 @@ def functions_of(path, text, homes):
         cycle = CYCLE.search("\n".join(lines[first:number]))
         unit = "::".join(filter(None, (module, "+" + cycle[1]))) if cycle else name
         is_shown = of_trait or "ensures" in "\n".join(lines[number:last])
-        found.append(Function(name, unit, first, last, is_shown))
+        calls_itself = cycle or head[2] in called_in("\n".join(lines[number + 1:last]))
+        found.append(Function(name, unit, first, last, is_shown, bool(of_trait or calls_itself)))
     return found
 
 
 def function_at(functions, line):
     """The function at a line, from 0, or None."""
     return next((it for it in functions if it.first <= line <= it.last), None)
+
+
+def all_functions(texts):
+    """The functions of a crate's sources by their names, each with its path."""
+    homes = homes_of(texts)
+    return {it.name: (path, it) for path, text in texts.items() if path.startswith("src/")
+            for it in functions_of(path, text, homes)}
+
+
+def called_in(text):
+    """The names that a function's text may call: what stands before a bracket, at the end of a path or alone as an
+    argument. (A variable of the same name counts too.)"""
+    code = re.sub(r"//.*|\bfn \w+", "", text)
+    return {word for found in CALLED.finditer(code) for word in found.groups() if word}
+
+
+def reached(texts):
+    """By its name the names that each function and all that it may call may call."""
+    called = {name: called_in("\n".join(texts[path].split("\n")[it.first:it.last + 1]))
+              for name, (path, it) in all_functions(texts).items()}
+    homonyms = {}
+    for name in called:
+        homonyms.setdefault(name.rpartition("::")[2], []).append(name)
+    found = {}
+    for name in called:
+        seen, left = {name}, [name]
+        while left:
+            more = {it for word in called[left.pop()] & homonyms.keys() for it in homonyms[word]} - seen
+            seen |= more
+            left += more
+        found[name] = set().union(*(called[it] for it in seen))
+    return found
+
+
+def with_one_clause(texts, name, clause):
+    """The texts in which the function's contract keeps, of the clauses with a name that it ensures, this one, and its
+    proof file what does not answer for the others; None where it has no such clause, or no other."""
+    path, function = all_functions(texts)[name]
+    lines, kept, removed, depth = texts[path].split("\n"), [], set(), 0
+    opens = next((it for it in range(function.first, function.last) if lines[it].strip() == "{"), function.first)
+    clauses = {found[1] for found in map(CLAUSE.match, lines[function.first:opens]) if found}
+    for line in lines[function.first:opens]:
+        found = CLAUSE.match(line)
+        if depth or found and found[1] != clause:
+            removed |= {found[1]} if found and not depth else set()
+            depth += line.count("{") - line.count("}")
+        else:
+            kept.append(line)
+    if clause not in clauses or not removed:
+        return None
+    lines[function.first:opens] = kept
+    texts = {**texts, path: "\n".join(lines)}
+    answers = f"proofs/{name.replace('::', '/')}/Answers.antt"
+    if answers in texts:
+        texts[answers] = without_answers(texts[answers], removed)
+    return texts
+
+
+def without_answers(text, clauses):
+    """A proof file without the answers to the goals of these clauses."""
+    kept, is_removed = [], False
+    for line in text.split("\n"):
+        found = re.match(r"(?:pub )?([^\s:]+)(?: |$)", line)
+        if found:
+            is_removed = found[1].rpartition("-clause-")[2] in clauses and "-clause-" in found[1]
+        if not is_removed:
+            kept.append(line)
+    return "\n".join(kept)

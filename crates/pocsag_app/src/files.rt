@@ -1,105 +1,110 @@
-use crate::devices::{ReaderSource, WriterSink};
+use crate::desk::Desk;
 use crate::paths::{Named, name_one_file};
 use crate::streams::{Input, Output};
-use pocsag_commands::Fault;
+use pocsag_commands::{Fault, ReaderSource, Role, WriterSink};
 use pocsag_open::Outputs;
-use std::alloc::Global;
 use std::fs::{self, File, OpenFile, OpenOptions};
-use std::io::{self, BufReader, ErrorKind};
+use std::io::BufReader;
 use std::rt::Files;
 
 /// The word that names no path: standard input or standard output.
 pub const STANDARD: &str = "-";
+
+// The system's number for a folder where a file is wanted.
+const IS_FOLDER: i32 = 21;
 
 /// The path that a word is, unless it names a standard stream.
 pub fn path_of(word: &str) -> Option<&str> {
     if word == STANDARD { None } else { Some(word) }
 }
 
-/// What a refusal to open or to make a file is told as: want of memory is told as such.
-pub fn fault_of(error: io::Error) -> Fault {
-    if error.kind() == ErrorKind::OutOfMemory {
-        Fault::OutOfMemory
-    } else {
-        Fault::Device
-    }
-}
-
 // Opens a file to read it; a folder is none.
-fn open_file<R: Files>(rt: &R, path: &str) -> Result<R::File, Fault> {
-    let file = fs::open(rt, path).map_err(fault_of)?;
-    let metadata = file.metadata().map_err(fault_of)?;
+fn open_file(desk: Desk<'_>, role: Role, path: &str) -> Result<File, Fault> {
+    let file = fs::open(desk.rt, path).map_err(|error| desk.refused(role, error))?;
+    let metadata = file.metadata().map_err(|error| desk.refused(role, error))?;
     if metadata.is_dir() {
+        desk.watch.meet(role, Some(IS_FOLDER));
         return Err(Fault::Device);
     }
     Ok(file)
 }
 
-fn open_input(rt: &HostRuntime, path: Option<&str>) -> Result<Input<File>, Fault> {
+fn open_input(desk: Desk<'_>, role: Role, path: Option<&str>) -> Result<Input<File>, Fault> {
     match path {
-        Some(path) => Ok(Input::File(open_file(rt, path)?)),
-        None => Ok(Input::Standard(rt.stdin())),
+        Some(path) => Ok(Input::File(open_file(desk, role, path)?)),
+        None => Ok(Input::Standard(desk.rt.stdin())),
     }
 }
 
 /// Opens a file to read it, or standard input where there is no path.
-pub fn open_source(
-    rt: &HostRuntime,
+pub fn open_source<'a>(
+    desk: Desk<'a>,
+    role: Role,
     path: Option<&str>,
-) -> Result<ReaderSource<Input<File>>, Fault> {
-    Ok(ReaderSource::new(open_input(rt, path)?))
+) -> Result<ReaderSource<'a, Input<File>>, Fault> {
+    Ok(ReaderSource::new(open_input(desk, role, path)?, role, desk.watch))
 }
 
 /// The same, of what is read a few bytes at a time.
-pub fn open_buffered(
-    rt: &HostRuntime,
-    alloc: Global,
+pub fn open_buffered<'a>(
+    desk: Desk<'a>,
+    role: Role,
     path: Option<&str>,
-) -> Result<ReaderSource<BufReader<Input<File>>>, Fault> {
-    let reader = BufReader::new(alloc, open_input(rt, path)?).map_err(fault_of)?;
-    Ok(ReaderSource::new(reader))
+) -> Result<ReaderSource<'a, BufReader<Input<File>>>, Fault> {
+    let reader = BufReader::new(desk.alloc, open_input(desk, role, path)?).map_err(
+        |error| desk.refused(role, error),
+    )?;
+    Ok(ReaderSource::new(reader, role, desk.watch))
 }
 
 // Opens or makes a file to write it, and leaves what it holds; or standard output.
-fn open_output(rt: &HostRuntime, word: &str) -> Result<Output<File>, Fault> {
+fn open_output(desk: Desk<'_>, role: Role, word: &str) -> Result<Output<File>, Fault> {
     let Some(path) = path_of(word) else {
-        return Ok(Output::Standard(rt.stdout()));
+        return Ok(Output::Standard(desk.rt.stdout()));
     };
     let mut options = OpenOptions::new();
     options.write(true).create(true);
-    Ok(Output::File(options.open(rt, path).map_err(fault_of)?))
+    let file = options
+        .open(desk.rt, path)
+        .map_err(|error| desk.refused(role, error))?;
+    Ok(Output::File(file))
 }
 
 // Empties a regular file; nothing else holds what was written before.
-fn emptied(output: Output<File>) -> Result<WriterSink<Output<File>>, Fault> {
+fn emptied<'a>(
+    desk: Desk<'a>,
+    role: Role,
+    output: Output<File>,
+) -> Result<WriterSink<'a, Output<File>>, Fault> {
     match &output {
         Output::File(file) => {
-            if file.metadata().map_err(fault_of)?.is_file() {
-                file.set_len(0).map_err(fault_of)?;
+            let metadata = file.metadata().map_err(|error| desk.refused(role, error))?;
+            if metadata.is_file() {
+                file.set_len(0).map_err(|error| desk.refused(role, error))?;
             }
         }
         Output::Standard(_) => {}
     }
-    Ok(WriterSink::new(output))
+    Ok(WriterSink::new(output, role, desk.watch))
 }
 
 /// Opens or makes the two files that a command writes, and empties them once both could be opened. Where two
 /// of the three paths, of which that of a page file may be absent, name one file, whatever their spelling,
 /// none that was there is emptied.
-pub fn make_outputs(
-    rt: &HostRuntime,
+pub fn make_outputs<'a>(
+    desk: Desk<'a>,
     pages: Option<&str>,
     tx: &str,
     cert: &str,
-) -> Result<Outputs<WriterSink<Output<File>>>, Fault> {
-    refuse_one_file(rt, pages, tx, cert)?;
-    let opened_tx = open_output(rt, tx)?;
+) -> Result<Outputs<WriterSink<'a, Output<File>>>, Fault> {
+    refuse_one_file(desk.rt, pages, tx, cert)?;
+    let opened_tx = open_output(desk, Role::Transmission, tx)?;
     // A path that named no file before may be another spelling of the one that was made.
-    refuse_one_file(rt, pages, tx, cert)?;
-    let opened_cert = open_output(rt, cert)?;
+    refuse_one_file(desk.rt, pages, tx, cert)?;
+    let opened_cert = open_output(desk, Role::Certificate, cert)?;
     Ok(Outputs {
-        tx: emptied(opened_tx)?,
-        cert: emptied(opened_cert)?,
+        tx: emptied(desk, Role::Transmission, opened_tx)?,
+        cert: emptied(desk, Role::Certificate, opened_cert)?,
     })
 }
 

@@ -1,6 +1,5 @@
-use crate::files::fault_of;
-use pocsag_commands::Fault;
-use std::alloc::Global;
+use crate::desk::Desk;
+use pocsag_commands::{Fault, Role};
 use std::fs::{self, File, OpenFile};
 use std::process;
 
@@ -8,29 +7,34 @@ use std::process;
 /// whole until then.
 #[derive(Drop)]
 pub struct Beside<'a> {
+    role: Role,
     place: &'a str,
     path: String,
 }
 
 impl<'a> Beside<'a> {
     /// Makes an empty file beside the place, with the rights of the file that stands there, if there is one.
-    pub fn make(rt: &HostRuntime, alloc: Global, place: &'a str) -> Result<Beside<'a>, Fault> {
-        let beside = Beside::of(rt, alloc, place)?;
+    pub fn make(desk: Desk<'_>, role: Role, place: &'a str) -> Result<Beside<'a>, Fault> {
+        let beside = Beside::of(desk, role, place)?;
         // What a process of the same number left when it was ended.
-        beside.remove(rt);
-        let file = File::create_new(rt, beside.path()).map_err(fault_of)?;
-        match fs::metadata(rt, place) {
-            Ok(old) => file.set_permissions(old.permissions()).map_err(fault_of)?,
+        beside.remove(desk);
+        let file = File::create_new(desk.rt, beside.path()).map_err(|error| desk.refused(
+            role, error,
+        ))?;
+        match fs::metadata(desk.rt, place) {
+            Ok(old) => file
+                .set_permissions(old.permissions())
+                .map_err(|error| desk.refused(role, error))?,
             Err(_) => {}
         }
         Ok(beside)
     }
 
     /// That which this process makes beside the place.
-    pub fn of(rt: &HostRuntime, alloc: Global, place: &'a str) -> Result<Beside<'a>, Fault> {
-        let number = process::id(rt.process());
-        let path = format!(in alloc; "{place}.{number}.new")?;
-        Ok(Beside { place, path })
+    pub fn of(desk: Desk<'_>, role: Role, place: &'a str) -> Result<Beside<'a>, Fault> {
+        let number = process::id(desk.rt.process());
+        let path = format!(in desk.alloc; "{place}.{number}.new")?;
+        Ok(Beside { role, place, path })
     }
 
     /// The path beside the place.
@@ -39,31 +43,31 @@ impl<'a> Beside<'a> {
     }
 
     /// Synchronises what was written with the disk.
-    pub fn sync(&self, rt: &HostRuntime) -> Result<(), Fault> {
-        sync(rt, self.path())
+    pub fn sync(&self, desk: Desk<'_>) -> Result<(), Fault> {
+        sync(desk, self.role, self.path())
     }
 
     /// Puts the file in its place, at once and whole, and its name on the disk.
-    pub fn put(&self, rt: &HostRuntime) -> Result<(), Fault> {
-        match fs::rename(rt, self.path(), self.place) {
-            Ok(()) => sync(rt, folder_of(self.place)),
-            Err(_) => Err(Fault::Write),
-        }
+    pub fn put(&self, desk: Desk<'_>) -> Result<(), Fault> {
+        fs::rename(desk.rt, self.path(), self.place).map_err(|error| desk.unwritten(
+            self.role, error,
+        ))?;
+        sync(desk, self.role, folder_of(self.place))
     }
 
     /// Takes the file away, where it is not in its place. That it cannot be taken away changes nothing.
-    pub fn remove(&self, rt: &HostRuntime) {
-        let _ = fs::remove_file(rt, self.path());
+    pub fn remove(&self, desk: Desk<'_>) {
+        let _ = fs::remove_file(desk.rt, self.path());
     }
 }
 
 /// Puts both files in their places once both are on the disk, the certificate first: no transmission is ever
 /// there without its certificate.
-pub fn put_both(rt: &HostRuntime, tx: &Beside<'_>, cert: &Beside<'_>) -> Result<(), Fault> {
-    tx.sync(rt)?;
-    cert.sync(rt)?;
-    cert.put(rt)?;
-    tx.put(rt)
+pub fn put_both(desk: Desk<'_>, tx: &Beside<'_>, cert: &Beside<'_>) -> Result<(), Fault> {
+    tx.sync(desk)?;
+    cert.sync(desk)?;
+    cert.put(desk)?;
+    tx.put(desk)
 }
 
 // The folder that a path stands in.
@@ -75,10 +79,7 @@ fn folder_of(path: &str) -> &str {
     }
 }
 
-fn sync(rt: &HostRuntime, path: &str) -> Result<(), Fault> {
-    let file = fs::open(rt, path).map_err(fault_of)?;
-    match file.sync_all() {
-        Ok(()) => Ok(()),
-        Err(_) => Err(Fault::Write),
-    }
+fn sync(desk: Desk<'_>, role: Role, path: &str) -> Result<(), Fault> {
+    let file = fs::open(desk.rt, path).map_err(|error| desk.refused(role, error))?;
+    file.sync_all().map_err(|error| desk.unwritten(role, error))
 }

@@ -1,7 +1,7 @@
 #![tactic(auto)]
 //! The program `pocsag`: reads its words, opens its files, and calls the command.
 
-mod devices;
+mod desk;
 mod files;
 mod journaling;
 mod keeping;
@@ -13,12 +13,11 @@ mod round_files;
 mod streams;
 mod words;
 
-use crate::devices::WriterSink;
 use crate::obeying::obey;
-use crate::words::order_of;
+use crate::words::asked_of;
 use clap::Error;
 use clap::error::ErrorKind;
-use pocsag_commands::{Fault, tell_fault};
+use pocsag_commands::{Fault, Role, Watch, WriterSink, tell_fault};
 use pocsag_words::Sink;
 use std::alloc::Global;
 use std::env;
@@ -41,13 +40,14 @@ fn words_of(rt: &HostRuntime, alloc: Global) -> Result<Vec<String>, Fault> {
 
 fn run(rt: &HostRuntime) -> u8 {
     let alloc = rt.alloc();
-    let mut err = WriterSink::new(rt.stderr());
+    let unheard = Watch::new(alloc, false);
+    let mut err = WriterSink::new(rt.stderr(), Role::Output, &unheard);
     let words = match words_of(rt, alloc) {
         Ok(words) => words,
         Err(fault) => return tell_fault(&mut err, fault),
     };
-    match order_of(alloc, words.as_slice()) {
-        Ok(order) => obey(rt, alloc, order, &mut err),
+    match asked_of(alloc, words.as_slice()) {
+        Ok(asked) => obey(rt, alloc, asked, &mut err),
         Err(error) => refuse(rt, error, &mut err),
     }
 }

@@ -1,12 +1,12 @@
-use crate::devices::{ReaderSource, WriterSink};
+use crate::desk::Desk;
 use crate::files::{STANDARD, open_buffered, open_source};
 use crate::journaling::open_kept;
 use crate::planning::plan;
 use crate::round_files::RoundFiles;
-use crate::words::{Order, Search};
+use crate::words::{Asked, Order, Search};
 use pocsag_commands::{
-    Fault, expected_file, run_check, run_decode, run_hear, run_input, run_report,
-    run_report_always, run_show, tell, tell_fault,
+    Fault, ReaderSource, Role, Scene, Watch, expected_file, run_check, run_decode, run_hear,
+    run_input, run_report, run_report_always, run_show, tell, tell_explained, tell_fault,
 };
 use pocsag_open::{Planner, run_open, run_open_pages};
 use pocsag_words::{Sink, SliceSource, Source};
@@ -17,50 +17,50 @@ use std::io::IsTerminal;
 const AT_TERMINAL: &str =
     "pocsag: reading a page file from standard input; 'pocsag --help' tells the commands\n";
 
-/// Opens the files of an order and runs its command on them. Answers the exit status.
-pub fn obey<E: Sink>(rt: &HostRuntime, alloc: Global, order: Order<'_>, err: &mut E) -> u8 {
-    match obeyed(rt, alloc, order, err) {
+/// Opens the files of an order and runs its command on them; with `--verbose` it tells notes behind the fault.
+/// Answers the exit status.
+pub fn obey<E: Sink>(rt: &HostRuntime, alloc: Global, asked: Asked<'_>, err: &mut E) -> u8 {
+    let watch = Watch::new(alloc, asked.verbose);
+    let desk = Desk {
+        rt,
+        alloc,
+        watch: &watch,
+    };
+    let done = obeyed(desk, asked.order);
+    let status = match done {
         Ok(status) => status,
         Err(fault) => tell_fault(err, fault),
+    };
+    if asked.verbose {
+        let file = watch.take_file();
+        let scene = Scene {
+            names: asked.order.names(),
+            subject: asked.order.subject(),
+            trouble: watch.take_trouble(),
+            file: file.as_slice(),
+        };
+        let _ = tell_explained(alloc, done, &scene, err);
     }
+    status
 }
 
-// The exit status, unless a file could not be opened or made.
-fn obeyed<E: Sink>(
-    rt: &HostRuntime,
-    alloc: Global,
-    order: Order<'_>,
-    err: &mut E,
-) -> Result<u8, Fault> {
-    let mut out = WriterSink::new(rt.stdout());
+// The exit status, unless there is a fault.
+fn obeyed(desk: Desk<'_>, order: Order<'_>) -> Result<u8, Fault> {
     match order {
-        Order::Input => {
-            if rt.stdin().is_terminal() {
-                let _ = tell(err, AT_TERMINAL);
-            }
-            let mut input = ReaderSource::new(rt.stdin());
-            Ok(run_input(alloc, &mut input, &mut out, err))
-        }
-        Order::Plan(order) => plan(rt, alloc, order, err),
-        Order::Check { pages, cert } => {
-            if pages.is_none() && cert.is_none() {
-                return Err(Fault::EqualPaths);
-            }
-            let mut pages = open_source(rt, pages)?;
-            let mut cert = open_buffered(rt, alloc, cert)?;
-            Ok(run_check(alloc, &mut pages, &mut cert, &mut out, err))
-        }
+        Order::Input => plan_input(desk)?,
+        Order::Plan(order) => return plan(desk, order),
+        Order::Check { pages, cert } => return check_paths(desk, pages, cert),
         Order::Decode { tx } => {
-            let mut tx = open_source(rt, tx)?;
-            Ok(run_decode(alloc, &mut tx, &mut out, err))
+            let mut tx = open_source(desk, Role::Transmission, tx)?;
+            run_decode(desk.alloc, &mut tx, &mut desk.out())?;
         }
         Order::Hear { address, tx } => {
-            let mut tx = open_source(rt, tx)?;
-            Ok(run_hear(alloc, address, &mut tx, &mut out, err))
+            let mut tx = open_source(desk, Role::Transmission, tx)?;
+            run_hear(desk.alloc, address, &mut tx, &mut desk.out())?;
         }
         Order::Show { tx, view } => {
-            let mut tx = open_source(rt, tx)?;
-            Ok(run_show(alloc, view, &mut tx, &mut out, err))
+            let mut tx = open_source(desk, Role::Transmission, tx)?;
+            run_show(desk.alloc, view, &mut tx, &mut desk.out())?;
         }
         Order::Open {
             pages,
@@ -69,81 +69,86 @@ fn obeyed<E: Sink>(
             keep,
         } => {
             let places = RoundFiles {
-                rt,
-                alloc,
+                desk,
                 pages,
                 journal,
                 keep,
             };
-            match journal {
-                Some(path) => open_kept(path, always, &places, &mut out, err),
-                None => open_path(always, &places, &mut out, err),
+            if let Some(path) = journal {
+                return open_kept(path, always, &places);
             }
+            open_path(always, &places)?
         }
         Order::Report {
             pages,
             rate,
             search,
-        } => report_path(rt, alloc, rate, search, pages, &mut out, err),
+        } => report_path(desk, rate, search, pages)?,
     }
+    Ok(0)
+}
+
+// Plans the page file of standard input.
+fn plan_input(desk: Desk<'_>) -> Result<(), Fault> {
+    if desk.rt.stdin().is_terminal() {
+        let _ = tell(&mut desk.err(), AT_TERMINAL);
+    }
+    let mut input = ReaderSource::new(desk.rt.stdin(), Role::PageFile, desk.watch);
+    run_input(desk.alloc, &mut input, &mut desk.out())
+}
+
+// Judges a certificate; the status is 1 where it does not show its batches.
+fn check_paths(desk: Desk<'_>, pages: Option<&str>, cert: Option<&str>) -> Result<u8, Fault> {
+    if pages.is_none() && cert.is_none() {
+        return Err(Fault::EqualPaths);
+    }
+    let mut pages = open_source(desk, Role::PageFile, pages)?;
+    let mut cert = open_buffered(desk, Role::Certificate, cert)?;
+    let is_shown = run_check(desk.alloc, &mut pages, &mut cert, &mut desk.out())?;
+    Ok(if is_shown { 0 } else { 1 })
 }
 
 // Keeps an open round, that of a page file where its path is given.
-fn open_path<O: Sink, E: Sink>(
-    always: bool,
-    places: &RoundFiles<'_>,
-    out: &mut O,
-    err: &mut E,
-) -> Result<u8, Fault> {
-    let (rt, alloc) = (places.rt, places.alloc);
-    let mut input = ReaderSource::new(rt.stdin());
+fn open_path(always: bool, places: &RoundFiles<'_>) -> Result<(), Fault> {
+    let desk = places.desk;
+    let mut input = ReaderSource::new(desk.rt.stdin(), Role::Lines, desk.watch);
     let planner = &Planner { places, always };
     let Some(path) = places.pages else {
-        return Ok(run_open(alloc, planner, &mut input, out, err));
+        return run_open(desk.alloc, planner, &mut input, &mut desk.out());
     };
     if path == STANDARD {
         // Standard input holds the lines.
         return Err(Fault::EqualPaths);
     }
-    let mut pages = open_source(rt, Some(path))?;
-    Ok(run_open_pages(alloc, planner, &mut pages, &mut input, out, err))
+    let mut pages = open_source(desk, Role::PageFile, Some(path))?;
+    run_open_pages(desk.alloc, planner, &mut pages, &mut input, &mut desk.out())
 }
 
 // Reports on the plan of a page file.
-fn report_path<O: Sink, E: Sink>(
-    rt: &HostRuntime,
-    alloc: Global,
-    rate: u32,
-    search: Search,
-    path: Option<&str>,
-    out: &mut O,
-    err: &mut E,
-) -> Result<u8, Fault> {
-    let mut pages = open_source(rt, path)?;
+fn report_path(desk: Desk<'_>, rate: u32, search: Search, path: Option<&str>) -> Result<(), Fault> {
+    let mut pages = open_source(desk, Role::PageFile, path)?;
     let Some(expected) = search.expect else {
-        return Ok(report_round(alloc, rate, search, &mut pages, out, err));
+        return report_round(desk, rate, search, &mut pages);
     };
-    let file = expected_file(alloc, expected, &mut pages)?;
-    let mut held = SliceSource::new(file.as_slice());
-    Ok(report_round(alloc, rate, search, &mut held, out, err))
+    let file = expected_file(desk.alloc, expected, &mut pages)?;
+    report_round(desk, rate, search, &mut SliceSource::new(file.as_slice()))
 }
 
-fn report_round<P: Source, O: Sink, E: Sink>(
-    alloc: Global,
+fn report_round<P: Source>(
+    desk: Desk<'_>,
     rate: u32,
     search: Search,
     pages: &mut P,
-    out: &mut O,
-    err: &mut E,
-) -> u8 {
+) -> Result<(), Fault> {
     let Search {
         limit,
         end,
         always,
         ..
     } = search;
+    let mut out = desk.out();
     if always {
-        return run_report_always(alloc, rate, limit, end, pages, out, err);
+        return run_report_always(desk.alloc, rate, limit, end, pages, &mut out);
     }
-    run_report(alloc, rate, limit, end, pages, out, err)
+    run_report(desk.alloc, rate, limit, end, pages, &mut out)
 }

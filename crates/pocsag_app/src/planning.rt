@@ -2,81 +2,60 @@ ghost use Rattle.std.specs.Prelude.{IsErrOf, map};
 ghost use Rattle.pocsag_commands.specs.declared.fault.Fault.TheVariants.{EqualPaths};
 ghost use Rattle.pocsag_app.specs.Paths.{HasEqual, paths_of};
 
-use crate::devices::WriterSink;
+use crate::desk::Desk;
 use crate::files::{STANDARD, make_outputs, open_buffered, open_source, refuse_one_file};
 use crate::keeping::{Beside, put_both};
 use crate::misuse::{misused, tell_misuse};
 use crate::paths::refuse_equal;
 use crate::words::{PlanOrder, Search};
-use pocsag_commands::{Fault, expected_file, run_plan, run_plan_always, run_verify};
+use pocsag_commands::{Fault, Role, expected_file, run_plan, run_plan_always, run_verify};
 use pocsag_words::{Sink, SliceSource, Source};
-use std::alloc::Global;
 
 /// `plan`: plans from file to files, or from and to the standard streams. Where standard output takes one of
 /// the files, the lines go to standard error. Answers the exit status.
-pub fn plan<E: Sink>(
-    rt: &HostRuntime,
-    alloc: Global,
-    order: PlanOrder<'_>,
-    err: &mut E,
-) -> Result<u8, Fault>
+pub fn plan(desk: Desk<'_>, order: PlanOrder<'_>) -> Result<u8, Fault>
     ensures { HasEqual (map (λ path. path.now) (paths_of order.entry.pages order.entry.tx order.entry.cert)) → IsErrOf result EqualPaths }
 {
     refuse_equal(order.pages, order.tx, order.cert)?;
-    match misused(rt, order) {
-        Some(misuse) => return Ok(tell_misuse(err, misuse)),
+    match misused(desk.rt, order) {
+        Some(misuse) => return Ok(tell_misuse(&mut desk.err(), misuse)),
         None => {}
     }
     if order.tx == STANDARD || order.cert == STANDARD {
-        return plan_files(rt, alloc, order, &mut WriterSink::new(rt.stderr()), err);
+        plan_files(desk, order, &mut desk.err())?;
+    } else if order.keep {
+        plan_beside(desk, order, &mut desk.out())?;
+    } else {
+        plan_files(desk, order, &mut desk.out())?;
     }
-    let mut out = WriterSink::new(rt.stdout());
-    if order.keep {
-        return plan_beside(rt, alloc, order, &mut out, err);
-    }
-    plan_files(rt, alloc, order, &mut out, err)
+    Ok(0)
 }
 
 // Plans, and reads back what was planned where that is asked for.
-fn plan_files<O: Sink, E: Sink>(
-    rt: &HostRuntime,
-    alloc: Global,
-    order: PlanOrder<'_>,
-    out: &mut O,
-    err: &mut E,
-) -> Result<u8, Fault> {
-    let status = write_files(rt, alloc, order, out, err)?;
-    if status != 0 || !order.verify {
-        return Ok(status);
+fn plan_files<O: Sink>(desk: Desk<'_>, order: PlanOrder<'_>, out: &mut O) -> Result<(), Fault> {
+    write_files(desk, order, out)?;
+    if order.verify {
+        read_back(desk, order, out)?;
     }
-    read_back(rt, alloc, order, out, err)
+    Ok(())
 }
 
-fn write_files<O: Sink, E: Sink>(
-    rt: &HostRuntime,
-    alloc: Global,
-    order: PlanOrder<'_>,
-    out: &mut O,
-    err: &mut E,
-) -> Result<u8, Fault> {
-    let mut pages = open_source(rt, order.pages)?;
+fn write_files<O: Sink>(desk: Desk<'_>, order: PlanOrder<'_>, out: &mut O) -> Result<(), Fault> {
+    let mut pages = open_source(desk, Role::PageFile, order.pages)?;
     let Some(expected) = order.search.expect else {
-        return write_round(rt, alloc, order, &mut pages, out, err);
+        return write_round(desk, order, &mut pages, out);
     };
-    let file = expected_file(alloc, expected, &mut pages)?;
-    let mut held = SliceSource::new(file.as_slice());
-    write_round(rt, alloc, order, &mut held, out, err)
+    let file = expected_file(desk.alloc, expected, &mut pages)?;
+    write_round(desk, order, &mut SliceSource::new(file.as_slice()), out)
 }
 
-fn write_round<P: Source, O: Sink, E: Sink>(
-    rt: &HostRuntime,
-    alloc: Global,
+fn write_round<P: Source, O: Sink>(
+    desk: Desk<'_>,
     order: PlanOrder<'_>,
     pages: &mut P,
     out: &mut O,
-    err: &mut E,
-) -> Result<u8, Fault> {
-    let mut outputs = make_outputs(rt, order.pages, order.tx, order.cert)?;
+) -> Result<(), Fault> {
+    let mut outputs = make_outputs(desk, order.pages, order.tx, order.cert)?;
     let Search {
         limit,
         end,
@@ -85,59 +64,47 @@ fn write_round<P: Source, O: Sink, E: Sink>(
     } = order.search;
     let (tx, cert) = (&mut outputs.tx, &mut outputs.cert);
     if always {
-        return Ok(run_plan_always(alloc, limit, end, pages, tx, cert, out, err));
+        return run_plan_always(desk.alloc, limit, end, pages, tx, cert, out);
     }
-    Ok(run_plan(alloc, limit, end, pages, tx, cert, out, err))
+    run_plan(desk.alloc, limit, end, pages, tx, cert, out)
 }
 
-fn read_back<O: Sink, E: Sink>(
-    rt: &HostRuntime,
-    alloc: Global,
-    order: PlanOrder<'_>,
-    out: &mut O,
-    err: &mut E,
-) -> Result<u8, Fault> {
-    let mut pages = open_source(rt, order.pages)?;
-    let mut tx = open_source(rt, Some(order.tx))?;
-    let mut cert = open_buffered(rt, alloc, Some(order.cert))?;
+fn read_back<O: Sink>(desk: Desk<'_>, order: PlanOrder<'_>, out: &mut O) -> Result<(), Fault> {
+    // What is kept of the page file is what is read of it now.
+    let _before = desk.watch.take_file();
+    let mut pages = open_source(desk, Role::PageFile, order.pages)?;
+    let mut tx = open_source(desk, Role::Transmission, Some(order.tx))?;
+    let mut cert = open_buffered(desk, Role::Certificate, Some(order.cert))?;
     let Search { end, always, .. } = order.search;
-    Ok(run_verify(alloc, end, always, &mut pages, &mut tx, &mut cert, out, err))
+    run_verify(desk.alloc, end, always, &mut pages, &mut tx, &mut cert, out)
 }
 
 // `--keep`: plans beside the places of the files, and puts both there once they are whole.
-fn plan_beside<O: Sink, E: Sink>(
-    rt: &HostRuntime,
-    alloc: Global,
-    order: PlanOrder<'_>,
-    out: &mut O,
-    err: &mut E,
-) -> Result<u8, Fault> {
-    refuse_one_file(rt, order.pages, order.tx, order.cert)?;
-    let tx = Beside::make(rt, alloc, order.tx)?;
-    let done = plan_beside_two(rt, alloc, order, &tx, out, err);
-    tx.remove(rt);
+fn plan_beside<O: Sink>(desk: Desk<'_>, order: PlanOrder<'_>, out: &mut O) -> Result<(), Fault> {
+    refuse_one_file(desk.rt, order.pages, order.tx, order.cert)?;
+    let tx = Beside::make(desk, Role::Transmission, order.tx)?;
+    let done = plan_beside_two(desk, order, &tx, out);
+    tx.remove(desk);
     done
 }
 
 // The same, where the file beside the place of the transmission is there.
-fn plan_beside_two<O: Sink, E: Sink>(
-    rt: &HostRuntime,
-    alloc: Global,
+fn plan_beside_two<O: Sink>(
+    desk: Desk<'_>,
     order: PlanOrder<'_>,
     tx: &Beside<'_>,
     out: &mut O,
-    err: &mut E,
-) -> Result<u8, Fault> {
-    let cert = Beside::make(rt, alloc, order.cert)?;
+) -> Result<(), Fault> {
+    let cert = Beside::make(desk, Role::Certificate, order.cert)?;
     let beside = PlanOrder {
         tx: tx.path(),
         cert: cert.path(),
         ..order
     };
-    let done = match plan_files(rt, alloc, beside, out, err) {
-        Ok(0) => put_both(rt, tx, &cert).map(|_| 0),
-        other => other,
+    let done = match plan_files(desk, beside, out) {
+        Ok(()) => put_both(desk, tx, &cert),
+        refused => refused,
     };
-    cert.remove(rt);
+    cert.remove(desk);
     done
 }

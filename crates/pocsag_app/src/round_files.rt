@@ -1,20 +1,18 @@
-use crate::devices::WriterSink;
+use crate::desk::Desk;
 use crate::files::{STANDARD, make_outputs, refuse_one_file};
 use crate::keeping::{Beside, put_both};
 use crate::misuse::is_regular_or_none;
 use crate::paths::refuse_equal;
 use crate::streams::Output;
-use pocsag_commands::Fault;
+use pocsag_commands::{Fault, Role, WriterSink};
 use pocsag_open::{Outputs, Places};
-use std::alloc::Global;
 use std::fs::File;
 
 /// The files that the plans of an open round are written to, none of which is the page file that the round
 /// began with, and none standard output, which the answers take.
 #[derive(Drop)]
 pub struct RoundFiles<'a> {
-    pub rt: &'a HostRuntime,
-    pub alloc: Global,
+    pub desk: Desk<'a>,
     /// The path of that page file, if there is one.
     pub pages: Option<&'a str>,
     /// The path of the journal, if there is one.
@@ -23,21 +21,21 @@ pub struct RoundFiles<'a> {
     pub keep: bool,
 }
 
-impl RoundFiles<'_> {
+impl<'a> RoundFiles<'a> {
     // Makes both files beside their places.
     fn make_beside(
         &self,
         tx: &str,
         cert: &str,
-    ) -> Result<Outputs<WriterSink<Output<File>>>, Fault> {
-        if !is_regular_or_none(self.rt, tx) || !is_regular_or_none(self.rt, cert) {
+    ) -> Result<Outputs<WriterSink<'a, Output<File>>>, Fault> {
+        if !is_regular_or_none(self.desk.rt, tx) || !is_regular_or_none(self.desk.rt, cert) {
             return Err(Fault::Device);
         }
-        refuse_one_file(self.rt, self.pages, tx, cert)?;
-        let tx = Beside::make(self.rt, self.alloc, tx)?;
+        refuse_one_file(self.desk.rt, self.pages, tx, cert)?;
+        let tx = Beside::make(self.desk, Role::Transmission, tx)?;
         let made = self.make_second(&tx, cert);
         if made.is_err() {
-            tx.remove(self.rt);
+            tx.remove(self.desk);
         }
         made
     }
@@ -47,20 +45,37 @@ impl RoundFiles<'_> {
         &self,
         tx: &Beside<'_>,
         cert: &str,
-    ) -> Result<Outputs<WriterSink<Output<File>>>, Fault> {
-        let cert = Beside::make(self.rt, self.alloc, cert)?;
-        let made = make_outputs(self.rt, self.pages, tx.path(), cert.path());
+    ) -> Result<Outputs<WriterSink<'a, Output<File>>>, Fault> {
+        let cert = Beside::make(self.desk, Role::Certificate, cert)?;
+        let made = make_outputs(self.desk, self.pages, tx.path(), cert.path());
         if made.is_err() {
-            cert.remove(self.rt);
+            cert.remove(self.desk);
         }
         made
     }
+
+    // Puts both files in their places, or takes them away, where they are beside them.
+    fn settle_beside(&self, tx: &str, cert: &str, are_whole: bool) -> Result<(), Fault> {
+        if !self.keep {
+            return Ok(());
+        }
+        let tx = Beside::of(self.desk, Role::Transmission, tx)?;
+        let cert = Beside::of(self.desk, Role::Certificate, cert)?;
+        let done = if are_whole {
+            put_both(self.desk, &tx, &cert)
+        } else {
+            Ok(())
+        };
+        tx.remove(self.desk);
+        cert.remove(self.desk);
+        done
+    }
 }
 
-impl Places for RoundFiles<'_> {
-    type Output = WriterSink<Output<File>>;
+impl<'a> Places for RoundFiles<'a> {
+    type Output = WriterSink<'a, Output<File>>;
 
-    fn make(&self, tx: &str, cert: &str) -> Result<Outputs<WriterSink<Output<File>>>, Fault> {
+    fn make(&self, tx: &str, cert: &str) -> Result<Outputs<WriterSink<'a, Output<File>>>, Fault> {
         refuse_equal(self.pages, tx, cert)?;
         refuse_equal(self.journal, tx, cert)?;
         refuse_one_file(self.rt, self.journal, tx, cert)?;
@@ -70,22 +85,12 @@ impl Places for RoundFiles<'_> {
         if self.keep {
             return self.make_beside(tx, cert);
         }
-        make_outputs(self.rt, self.pages, tx, cert)
+        make_outputs(self.desk, self.pages, tx, cert)
     }
 
     fn settle(&self, tx: &str, cert: &str, are_whole: bool) -> Result<(), Fault> {
-        if !self.keep {
-            return Ok(());
-        }
-        let tx = Beside::of(self.rt, self.alloc, tx)?;
-        let cert = Beside::of(self.rt, self.alloc, cert)?;
-        let done = if are_whole {
-            put_both(self.rt, &tx, &cert)
-        } else {
-            Ok(())
-        };
-        tx.remove(self.rt);
-        cert.remove(self.rt);
+        let done = self.settle_beside(tx, cert, are_whole);
+        self.desk.explain_line(tx, cert);
         done
     }
 }

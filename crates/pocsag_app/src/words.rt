@@ -1,11 +1,18 @@
-use crate::files::path_of;
+use crate::files::{STANDARD, path_of};
 use clap::error::ErrorKind;
 use clap::{Arg, ArgAction, ArgMatches, Command, Error, value_parser};
-use pocsag_commands::View;
+use pocsag_commands::{Names, Role, Rows, View};
 use pocsag_words::End;
 use std::alloc::{AllocError, Global};
 
-/// What the command line asks for. Where a command reads standard input in place of a file, there is no path.
+/// What the command line asks for, and whether notes are told beside what is told without them.
+#[derive(Clone, Copy, PartialEq, Eq, Debug)]
+pub struct Asked<'a> {
+    pub order: Order<'a>,
+    pub verbose: bool,
+}
+
+/// A command and its words. Where a command reads standard input in place of a file, there is no path.
 #[derive(Clone, Copy, PartialEq, Eq, Debug)]
 pub enum Order<'a> {
     /// No words: a page file from standard input.
@@ -45,6 +52,44 @@ pub enum Order<'a> {
         rate: u32,
         search: Search,
     },
+}
+
+impl<'a> Order<'a> {
+    /// The words for the files of the command.
+    pub fn names(self) -> Names<'a> {
+        let (pages, tx, cert) = match self {
+            Order::Input => (Some(None), None, None),
+            Order::Plan(order) => (
+                Some(order.pages),
+                Some(Some(order.tx)),
+                Some(Some(order.cert)),
+            ),
+            Order::Check { pages, cert } => (Some(pages), None, Some(cert)),
+            Order::Decode { tx } | Order::Hear { tx, .. } | Order::Show { tx, .. } => {
+                (None, Some(tx), None)
+            }
+            Order::Open { pages, .. } => (pages.map(Some), None, None),
+            Order::Report { pages, .. } => (Some(pages), None, None),
+        };
+        Names {
+            pages: pages.map(word_of),
+            tx: tx.map(word_of),
+            cert: cert.map(word_of),
+        }
+    }
+
+    /// What the command reads first.
+    pub fn subject(self) -> Role {
+        match self {
+            Order::Decode { .. } | Order::Hear { .. } | Order::Show { .. } => Role::Transmission,
+            _ => Role::PageFile,
+        }
+    }
+}
+
+// The word for a path, or for the standard stream in its place.
+fn word_of(path: Option<&str>) -> &str {
+    path.unwrap_or(STANDARD)
 }
 
 /// What `plan` is asked for.
@@ -112,9 +157,13 @@ const JOURNAL: &str = "journal";
 
 const ALWAYS: &str = "always";
 
+const VERBOSE: &str = "verbose";
+
 const SVG: &str = "svg";
 
 const LIST: &str = "list";
+
+const ROWS: &str = "rows";
 
 const OPEN: &str = "open";
 
@@ -174,12 +223,20 @@ Example:
 const SHOW_MANUAL: &str = "\
 After a line of totals there is a line for each batch, with its number and a letter for
 each codeword, in eight frames of two: a capital letter for the address codeword of a
-page, the same letter small for its message codewords, the letters in turn from page to
-page; a full stop for an idle.
+page, the same letter small for its message codewords; a full stop for an idle. Letters
+go by address, so a page keeps its letter, and in the drawing its hue, however its round
+is sent. --rows A-B shows these batches, --rows A- those from A on, --rows A one; all of
+the transmission is read and judged whatever is shown.
 
 Example:
   pocsag show tx.bin
-  pocsag show tx.bin --svg > tx.svg";
+  pocsag show tx.bin --svg > tx.svg
+  pocsag show tx.bin --rows 3-7";
+
+// What is said of a range of rows that is none.
+const BAD_ROWS: &str = "\
+invalid value for '--rows A-B': batches are counted from 1, as in 3-7, 3- or 5, and the
+last is not before the first";
 
 const PAGES_HELP: &str = "The page file, CSV with the header address,kind,message";
 
@@ -207,6 +264,10 @@ and puts them there by renaming, CERT first";
 const JOURNAL_HELP: &str = "\
 Keeps each edit in FILE before it is answered, and begins with
 the edits that FILE holds";
+
+const VERBOSE_HELP: &str = "\
+Tells more on standard error: which file and why, the line of a
+record, the field that is wrong, and what to do";
 
 const TX_HELP: &str = "The transmission";
 
@@ -299,11 +360,14 @@ Lists what the pager of an address shows, past two wrong bits in each codeword",
 
 fn show_command<'a>(alloc: Global) -> Result<Command<'a>, AllocError> {
     let list = flag(alloc, LIST, "Lists where each page stands, as CSV").conflicts_with(SVG)?;
+    let rows = option(alloc, ROWS, "A-B", "Shows these batches alone, counted from 1")
+        .conflicts_with(LIST)?;
     Command::new(alloc, SHOW)
         .about("Shows what a transmission looks like, codeword by codeword")
         .after_help(SHOW_MANUAL)
         .arg(positional(alloc, TX, TX_HELP))?
         .arg(flag(alloc, SVG, "Draws it as an SVG picture"))?
+        .arg(rows)?
         .arg(list)
 }
 
@@ -337,6 +401,7 @@ fn command<'a>(alloc: Global) -> Result<Command<'a>, AllocError> {
         .version(VERSION)
         .about(ABOUT)
         .after_help(MANUAL)
+        .arg(flag(alloc, VERBOSE, VERBOSE_HELP).global(true))?
         .subcommand(plan_command(alloc)?)?
         .subcommand(check_command(alloc)?)?
         .subcommand(decode_command(alloc)?)?
@@ -388,13 +453,40 @@ fn hear_order<'a>(found: &ArgMatches<'a>) -> Option<Order<'a>> {
     })
 }
 
+// The rows that a word names: A-B, A- or A.
+fn rows_of(word: &str) -> Option<Rows> {
+    let (first, last) = match word.split_once('-') {
+        None => (word, word),
+        Some((first, "")) => return Rows::new(number_of(first)?, u64::MAX),
+        Some(ends) => ends,
+    };
+    Rows::new(number_of(first)?, number_of(last)?)
+}
+
+// The number of decimal digits alone.
+fn number_of(word: &str) -> Option<u64> {
+    if word.starts_with('+') {
+        return None;
+    }
+    word.parse::<u64>().ok()
+}
+
+// The rows that are asked for, all where none are named; nothing where a word names none.
+fn wanted_rows(found: &ArgMatches<'_>) -> Option<Rows> {
+    match found.get_str(ROWS) {
+        Some(word) => rows_of(word),
+        None => Some(Rows::all()),
+    }
+}
+
 fn show_order<'a>(found: &ArgMatches<'a>) -> Option<Order<'a>> {
+    let rows = wanted_rows(found)?;
     let view = if found.get_flag(SVG) {
-        View::Drawing
+        View::Drawing(rows)
     } else if found.get_flag(LIST) {
         View::Places
     } else {
-        View::Grid
+        View::Grid(rows)
     };
     Some(Order::Show {
         tx: path_of(found.get_str(TX)?),
@@ -411,10 +503,20 @@ fn report_order<'a>(found: &ArgMatches<'a>) -> Option<Order<'a>> {
 }
 
 // What was found asks for; nothing where a word is not there, which clap has seen to.
-fn order_from<'a>(matches: &ArgMatches<'a>) -> Option<Order<'a>> {
+fn asked_from<'a>(matches: &ArgMatches<'a>) -> Option<Asked<'a>> {
     let Some((name, found)) = matches.subcommand() else {
-        return Some(Order::Input);
+        return Some(Asked {
+            order: Order::Input,
+            verbose: matches.get_flag(VERBOSE),
+        });
     };
+    Some(Asked {
+        order: order_from(name, found)?,
+        verbose: found.get_flag(VERBOSE),
+    })
+}
+
+fn order_from<'a>(name: &str, found: &ArgMatches<'a>) -> Option<Order<'a>> {
     match name {
         PLAN => plan_order(found),
         CHECK => check_order(found),
@@ -435,11 +537,16 @@ fn order_from<'a>(matches: &ArgMatches<'a>) -> Option<Order<'a>> {
 }
 
 /// Reads the words of the command line, the program's own name first.
-pub fn order_of<'a>(alloc: Global, words: &'a [String]) -> Result<Order<'a>, Error> {
+pub fn asked_of<'a>(alloc: Global, words: &'a [String]) -> Result<Asked<'a>, Error> {
     let mut command = command(alloc)?;
     let matches = command.try_get_matches_from_mut(words)?;
-    match order_from(&matches) {
-        Some(order) => Ok(order),
+    if let Some((SHOW, found)) = matches.subcommand() {
+        if wanted_rows(found).is_none() {
+            return Err(command.error(ErrorKind::ValueValidation, BAD_ROWS)?);
+        }
+    }
+    match asked_from(&matches) {
+        Some(asked) => Ok(asked),
         None => Err(command.error(ErrorKind::MissingRequiredArgument, "a word is missing")?),
     }
 }

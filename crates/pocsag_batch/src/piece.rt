@@ -104,7 +104,8 @@ pub(crate) fn put_word<S: Sink>(
     slot: usize,
     word: Word,
 ) -> Result<(), DeviceFault>
-    ensures same { S.tells → OnOk result (S.taken sink.new ++ piece.new ≡ (S.taken sink.old ++ piece.old) ++ slot_bytes slot word) }
+    ensures same { S.tells →
+        OnOk result (S.taken sink.new ++ piece.new ≡ (S.taken sink.old ++ piece.old) ++ slot_bytes slot word) }
     ensures codeword { OnOk result (IsCodeword word) }
     ensures grown { S.tells → OnOk result (length (S.taken sink.old) ≤ length (S.taken sink.new)) }
     ensures part { S.tells → OnErr result (TookPrefix (S.taken sink.old) (S.taken sink.new) piece.old) }

@@ -66,11 +66,13 @@ pub fn first_stream<S: Source, T: Sink>(
         LeavesPrefix (verdict (S.held source.old)) (T.taken tx.old) (T.taken tx.new) }
 
     // A device's fault is answered exactly where that device failed.
-    ensures read_failed { result ≡ Err (fault.Round round.ReadFault) → HasFailed (S.failures source.old) (S.failures source.new) }
+    ensures read_failed { result ≡ Err (fault.Round round.ReadFault) →
+        HasFailed (S.failures source.old) (S.failures source.new) }
     ensures write_failed { result ≡ Err fault.WriteFault → HasFailed (T.failures tx.old) (T.failures tx.new) }
     ensures read { OnOk result (S.failures source.new ≡ S.failures source.old) }
     ensures wrote { OnOk result (T.failures tx.new ≡ T.failures tx.old) }
-    ensures unfailed { IfErr result (λ e. (e ≡ fault.Round round.ReadFault) ⊎ (S.failures source.new ≡ S.failures source.old)) }
+    ensures unfailed { IfErr result
+        (λ e. (e ≡ fault.Round round.ReadFault) ⊎ (S.failures source.new ≡ S.failures source.old)) }
 {
     let round = read_round(alloc, source)?;
     let batches = lay_in_order(alloc, &round)?;

@@ -18,7 +18,8 @@ fn write_words<S: Sink, I: Iterator<Item = Word>>(words: I, sink: &mut S) -> Res
     requires ends { IsFinite (I.remaining words) }
     ensures whole { S.tells → OnOk result ((ws : List ℕ) × Drains I.next_gives words ws × All IsCodeword ws ×
         (S.taken sink.new ≡ S.taken sink.old ++ bytes_of ws)) }
-    ensures part { S.tells → OnErr result ((ws : List ℕ) × (left : I) × Yields I.next_gives words ws left × All IsCodeword ws ×
+    ensures part { S.tells →
+        OnErr result ((ws : List ℕ) × (left : I) × Yields I.next_gives words ws left × All IsCodeword ws ×
         TookPrefix (S.taken sink.old) (S.taken sink.new) (bytes_of ws)) }
 
     // No call of the writer is without a byte to write.
@@ -53,7 +54,8 @@ pub fn write<S: Sink>(batches: &Batches, sink: &mut S) -> Result<(), WriteFault>
 pub fn write_slots<S: Sink>(slots: Slots<'_>, sink: &mut S) -> Result<(), WriteFault>
     ensures whole { S.tells → OnOk result (Sends slots.entry (S.taken sink.old) (S.taken sink.new)) }
     ensures part { S.tells → OnErr result (SendsPart slots.entry (S.taken sink.old) (S.taken sink.new)) }
-    ensures calls { (words : List ℕ) × Say slots.entry words × CallsPerByte (S.calls sink.old) (S.calls sink.new) (bytes_of words) }
+    ensures calls { (words : List ℕ) × Say slots.entry words
+        × CallsPerByte (S.calls sink.old) (S.calls sink.new) (bytes_of words) }
     ensures failures { CountsFailures result (S.failures sink.old) (S.failures sink.new) }
 {
     slots.are_sayable();

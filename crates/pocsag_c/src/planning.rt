@@ -1,16 +1,18 @@
-ghost use Rattle.std.specs.Prelude.{◌≡◌, ◌≢◌, ◌<◌, ◌⊎◌, ◌↔◌, IfErr, IfOk, IsTrue, MatchOption, length};
+ghost use Rattle.std.specs.Prelude.{◌≡◌, ◌≢◌, ◌<◌, ◌⊎◌, ◌↔◌, IfErr, IfOk, MatchOption, length};
 ghost use Rattle.pocsag_tree.specs.Views.{bound_of};
 ghost use Rattle.pocsag_plan.specs.BoundedHeadline.{BoundedHeadline};
-ghost use Rattle.pocsag_plan.specs.BoundedStreams.{ExplainsStreamAlways, IsBoundedOf};
 ghost use Rattle.pocsag_plan.specs.Headline.{Headline};
-ghost use Rattle.pocsag_plan.specs.Streams.{ExplainsStream, IsSearchLimit};
+ghost use Rattle.pocsag_plan.specs.Plans.{IsPlanFor};
+ghost use Rattle.pocsag_plan.specs.Streams.{ExplainsStream, IsOfRound};
 ghost use Rattle.pocsag_c.specs.Answers.{IsDelivered, IsNoEnd, TellsFault, number_of_end};
-ghost use Rattle.pocsag_c.specs.Plans.{ExplainsPlanning, ExplainsPlanningAlways, HasNoRoomForBoth, IsCounted, IsHeadline, IsHeadlineWithBound, IsPlannedInto, IsWithoutPlan, IsWithoutRoom};
+ghost use Rattle.pocsag_c.specs.Plans.{ExplainsPlanning, HasNoRoomForBoth, IsCounted, IsHeadline, IsHeadlineWithBound, IsPlannedInto, IsWithoutPlan, IsWithoutRoom};
 
 use crate::handing::put;
 use crate::refusal::{NOWHERE, Place, refusal_of};
 use pocsag_commands::Fault;
-use pocsag_plan::{Bounded, Plan, StreamFault, plan_stream, plan_stream_always};
+use pocsag_plan::{
+    Bounded, Effort, Search, StreamFault, bounded_stream, tight_headlines_are_headlines,
+};
 use pocsag_words::{End, GrowingSink, SliceSource};
 use std::alloc::Global;
 
@@ -40,38 +42,21 @@ struct Written {
     bounded: Bounded,
 }
 
-fn write_fewest(alloc: Global, pages: &[u8], limit: u32, end: End) -> Result<Written, StreamFault>
-    ensures headline { IfOk result (λ w.
-        Headline pages.now end w.bounded.plan.batches (bound_of w.bounded.plan.tree) w.sent.items w.certificate.items) }
-    ensures bound { IfOk result (λ w. w.bounded.bound ≡ w.bounded.plan.batches) }
-    ensures plan { IfOk result (λ w. IsBoundedOf pages.now end w.bounded) }
-    ensures explained { IfErr result (ExplainsStream pages.now end limit) }
-{
-    let mut source = SliceSource::new(pages);
-    let mut sent = GrowingSink::new(alloc);
-    let mut certificate = GrowingSink::new(alloc);
-    let plan = plan_stream(alloc, &mut source, &mut sent, &mut certificate, limit, end)?;
-    let bound = plan.batches;
-    Ok(Written {
-        sent: sent.into_bytes(),
-        certificate: certificate.into_bytes(),
-        bounded: Bounded { plan, bound },
-    })
-}
-
-fn write_bounded(alloc: Global, pages: &[u8], limit: u32, end: End) -> Result<Written, StreamFault>
-    ensures headline { IfOk result (λ w.
-        BoundedHeadline pages.now end w.bounded.plan.batches w.bounded.bound
+// The plan that is asked for, and what was written of it.
+fn write_asked(alloc: Global, pages: &[u8], search: Search) -> Result<Written, StreamFault>
+    ensures bounded { IfOk result (λ w.
+        BoundedHeadline pages.now search.end w.bounded.plan.batches w.bounded.bound
         (bound_of w.bounded.plan.tree) w.sent.items w.certificate.items) }
-    ensures fewest { IfOk result (λ w. w.bounded.bound ≡ w.bounded.plan.batches →
-        Headline pages.now end w.bounded.plan.batches (bound_of w.bounded.plan.tree) w.sent.items w.certificate.items) }
-    ensures plan { IfOk result (λ w. IsBoundedOf pages.now end w.bounded) }
-    ensures explained { IfErr result (ExplainsStreamAlways pages.now limit) }
+    ensures headline { IfOk result (λ w. w.bounded.bound ≡ w.bounded.plan.batches →
+        Headline pages.now search.end w.bounded.plan.batches (bound_of w.bounded.plan.tree) w.sent.items w.certificate.items) }
+    ensures plan { IfOk result (λ w. IsOfRound pages.now (λ round. IsPlanFor search round w.bounded)) }
+    ensures explained { IfErr result (ExplainsStream search.effort pages.now search.end search.limit) }
 {
+    tight_headlines_are_headlines();
     let mut source = SliceSource::new(pages);
     let mut sent = GrowingSink::new(alloc);
     let mut certificate = GrowingSink::new(alloc);
-    let bounded = plan_stream_always(alloc, &mut source, &mut sent, &mut certificate, limit, end)?;
+    let bounded = bounded_stream(alloc, &mut source, &mut sent, &mut certificate, search)?;
     Ok(Written {
         sent: sent.into_bytes(),
         certificate: certificate.into_bytes(),
@@ -79,28 +64,15 @@ fn write_bounded(alloc: Global, pages: &[u8], limit: u32, end: End) -> Result<Wr
     })
 }
 
-// The plan that is asked for, and what was written of it.
-fn write_asked(
-    alloc: Global,
-    pages: &[u8],
-    limit: u32,
-    end: End,
-    always: bool,
-) -> Result<Written, StreamFault>
-    ensures headline { IfOk result (λ w. w.bounded.bound ≡ w.bounded.plan.batches →
-        Headline pages.now end w.bounded.plan.batches (bound_of w.bounded.plan.tree) w.sent.items w.certificate.items) }
-    ensures bounded { IsTrue always → IfOk result (λ w.
-        BoundedHeadline pages.now end w.bounded.plan.batches w.bounded.bound
-        (bound_of w.bounded.plan.tree) w.sent.items w.certificate.items) }
-    ensures fewest { (¬ IsTrue always) → IfOk result (λ w. w.bounded.bound ≡ w.bounded.plan.batches) }
-    ensures plan { IfOk result (λ w. IsBoundedOf pages.now end w.bounded) }
-    ensures explained { (¬ IsTrue always) → IfErr result (ExplainsStream pages.now end limit) }
-    ensures explained_always { IsTrue always → IfErr result (ExplainsStreamAlways pages.now limit) }
+// What a number asks for: 0 the fewest batches alone, any other that no round is refused.
+pub(crate) fn effort_of(always: u32) -> Effort
+    ensures fewest { always ≡ 0 → result ≡ Effort.Fewest }
+    ensures always { always ≢ 0 → result ≡ Effort.Always }
 {
-    if always {
-        write_bounded(alloc, pages, limit, end)
+    if always == 0 {
+        Effort::Fewest
     } else {
-        write_fewest(alloc, pages, limit, end)
+        Effort::Always
     }
 }
 
@@ -209,9 +181,9 @@ pub extern "C" fn pocsag_plan(
     // Any other status says why there is no plan, and both buffers are as they were.
     ensures bad_end { result ≡ 2 ↔ IsNoEnd end }
     ensures fault { IsWithoutPlan result → always ≡ 0 →
-        TellsFault (ExplainsPlanning pages.now end limit) result info.new.place }
+        TellsFault (ExplainsPlanning Effort.Fewest pages.now end limit) result info.new.place }
     ensures fault_always { IsWithoutPlan result → always ≢ 0 →
-        TellsFault (ExplainsPlanningAlways pages.now limit) result info.new.place }
+        TellsFault (ExplainsPlanning Effort.Always pages.now end limit) result info.new.place }
     ensures answered { always ≢ 0 → result ≢ 6 }
     ensures untouched { result ≢ 0 → (tx.new ≡ tx.old) × (cert.new ≡ cert.old) }
 {
@@ -221,7 +193,8 @@ pub extern "C" fn pocsag_plan(
     let Some(end) = end_of(end) else {
         return 2;
     };
-    match write_asked(alloc, pages, limit, end, always != 0) {
+    let effort = effort_of(always);
+    match write_asked(alloc, pages, Search { limit, end, effort }) {
         Ok(written) => {
             *info = info_of(&written.bounded);
             hand_out_both(&written, tx, tx_len, cert, cert_len)

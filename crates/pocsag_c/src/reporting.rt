@@ -1,14 +1,13 @@
-ghost use Rattle.std.specs.Prelude.{◌≡◌, ◌≢◌, ◌↔◌, IfErr, IfOk, IsTrue};
-ghost use Rattle.pocsag_plan.specs.Plans.{ExplainsAlways, ExplainsPlan, IsBounded};
+ghost use Rattle.std.specs.Prelude.{◌≡◌, ◌≢◌, ◌↔◌, IfErr, IfOk};
 ghost use Rattle.pocsag_c.specs.Answers.{IsNoEnd, TellsFault};
 ghost use Rattle.pocsag_c.specs.Reporting.{ExplainsReport, ExplainsReporting, IsReportOf, IsSearchStopped, TellsReport};
 
-use crate::planning::end_of;
+use crate::planning::{effort_of, end_of};
 use crate::refusal::{NOWHERE, Place, refusal_of};
 use pocsag_commands::Fault;
-use pocsag_pages::{Round, read_round};
-use pocsag_plan::{Bounded, PlanFault, Report, plan, plan_always, report};
-use pocsag_words::{End, SliceSource};
+use pocsag_pages::read_round;
+use pocsag_plan::{Effort, Report, Search, bounded_plan, report};
+use pocsag_words::SliceSource;
 use std::alloc::Global;
 
 /// What a plan takes on the air; all but the place is 0 where there is none.
@@ -35,27 +34,6 @@ pub struct ReportInfo {
     pub place: Place,
 }
 
-// The plan that is asked for, with its bound.
-fn plan_asked(
-    alloc: Global,
-    round: &Round,
-    limit: u32,
-    end: End,
-    always: bool,
-) -> Result<Bounded, PlanFault>
-    ensures plan { IfOk result (λ bounded. IsBounded end round.now bounded.plan bounded.bound) }
-    ensures fewest { (¬ IsTrue always) → IfOk result (λ bounded. bounded.bound ≡ bounded.plan.batches) }
-    ensures explained { (¬ IsTrue always) → IfErr result (ExplainsPlan end round.now limit) }
-    ensures explained_always { IsTrue always → IfErr result (ExplainsAlways limit) }
-{
-    if always {
-        return plan_always(alloc, round, limit, end);
-    }
-    let plan = plan(alloc, round, limit, end)?;
-    let bound = plan.batches;
-    Ok(Bounded { plan, bound })
-}
-
 // A report, with the bound of its plan.
 #[derive(Drop)]
 struct Reported {
@@ -63,22 +41,15 @@ struct Reported {
     bound: u32,
 }
 
-fn report_file(
-    alloc: Global,
-    pages: &[u8],
-    rate: u32,
-    limit: u32,
-    end: End,
-    always: bool,
-) -> Result<Reported, Fault>
-    ensures report { IfOk result (λ told. IsReportOf pages.now end rate told.bound told.report) }
-    ensures fewest { (¬ IsTrue always) → IfOk result (λ told. told.bound ≡ told.report.batches) }
-    ensures explained { IfErr result (ExplainsReporting pages.now end limit rate) }
-    ensures answered { IsTrue always → IfErr result (λ e. ¬ IsSearchStopped e) }
+fn report_file(alloc: Global, pages: &[u8], rate: u32, search: Search) -> Result<Reported, Fault>
+    ensures report { IfOk result (λ told. IsReportOf pages.now search.end rate told.bound told.report) }
+    ensures fewest { search.effort ≡ Effort.Fewest → IfOk result (λ told. told.bound ≡ told.report.batches) }
+    ensures explained { IfErr result (ExplainsReporting pages.now search.end search.limit rate) }
+    ensures answered { search.effort ≡ Effort.Always → IfErr result (λ e. ¬ IsSearchStopped e) }
 {
     let mut source = SliceSource::new(pages);
     let round = read_round(alloc, &mut source)?;
-    let bounded = plan_asked(alloc, &round, limit, end, always)?;
+    let bounded = bounded_plan(alloc, &round, search)?;
     let told = report(&bounded.plan, rate)?;
     Ok(Reported {
         report: told,
@@ -121,7 +92,8 @@ pub extern "C" fn pocsag_report(
     let Some(end) = end_of(end) else {
         return 2;
     };
-    match report_file(alloc, pages, rate, limit, end, always != 0) {
+    let effort = effort_of(always);
+    match report_file(alloc, pages, rate, Search { limit, end, effort }) {
         Ok(told) => {
             let report = told.report;
             *info = ReportInfo {

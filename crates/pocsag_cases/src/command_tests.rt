@@ -1,8 +1,8 @@
 //! The commands over memory: what each tells, what it leaves, and its exit status.
 
 use pocsag_commands::{
-    DEFAULT_LIMIT, run_check, run_decode, run_hear, run_input, run_plan, run_plan_always,
-    run_report, run_report_always, run_verify,
+    DEFAULT_LIMIT, Fault, run_check, run_decode, run_hear, run_input, run_plan, run_plan_always,
+    run_report, run_report_always, run_verify, tell_fault,
 };
 use pocsag_words::{End, MemorySink, MemorySource};
 use std::alloc::Global;
@@ -88,19 +88,24 @@ fn plan(alloc: Global, search: Search, file: &[u8], faults: Faults) -> Planned {
     let mut cert = MemorySink::<100>::new(3, faults.cert);
     let mut out = MemorySink::<200>::new(1, 1000);
     let mut err = MemorySink::<100>::new(1, 1000);
-    let status = if always {
-        run_plan_always(
-            alloc, limit, end, &mut pages, &mut tx, &mut cert, &mut out, &mut err,
-        )
+    let done = if always {
+        run_plan_always(alloc, limit, end, &mut pages, &mut tx, &mut cert, &mut out)
     } else {
-        run_plan(
-            alloc, limit, end, &mut pages, &mut tx, &mut cert, &mut out, &mut err,
-        )
+        run_plan(alloc, limit, end, &mut pages, &mut tx, &mut cert, &mut out)
     };
+    let status = status_of(done.map(|_| 0), &mut err);
     Planned {
         told: Told { status, out, err },
         tx,
         cert,
+    }
+}
+
+// The exit status of a command.
+fn status_of(done: Result<u8, Fault>, err: &mut MemorySink<100>) -> u8 {
+    match done {
+        Ok(status) => status,
+        Err(fault) => tell_fault(err, fault),
     }
 }
 
@@ -213,23 +218,28 @@ fn run(alloc: Global, command: Command, file: &[u8], planned: &Planned) -> Told 
     let mut cert = MemorySource::new(planned.cert.bytes(), 4, 1000);
     let mut out = MemorySink::<200>::new(1, 1000);
     let mut err = MemorySink::<100>::new(1, 1000);
-    let status = match command {
-        Command::Input => run_input(alloc, &mut pages, &mut out, &mut err),
-        Command::Check => run_check(alloc, &mut pages, &mut cert, &mut out, &mut err),
-        Command::Decode => run_decode(alloc, &mut tx, &mut out, &mut err),
-        Command::Hear(address) => run_hear(alloc, address, &mut tx, &mut out, &mut err),
-        Command::Verify(end, always) => run_verify(
-            alloc, end, always, &mut pages, &mut tx, &mut cert, &mut out, &mut err,
-        ),
+    let done = match command {
+        Command::Input => run_input(alloc, &mut pages, &mut out).map(|_| 0),
+        Command::Check => run_check(alloc, &mut pages, &mut cert, &mut out).map(|shown| if shown {
+            0
+        } else {
+            1
+        }),
+        Command::Decode => run_decode(alloc, &mut tx, &mut out).map(|_| 0),
+        Command::Hear(address) => run_hear(alloc, address, &mut tx, &mut out).map(|_| 0),
+        Command::Verify(end, always) => {
+            run_verify(alloc, end, always, &mut pages, &mut tx, &mut cert, &mut out).map(|_| 0)
+        }
         Command::Report(rate, search) => {
             let Search { limit, end, always } = search;
             if always {
-                run_report_always(alloc, rate, limit, end, &mut pages, &mut out, &mut err)
+                run_report_always(alloc, rate, limit, end, &mut pages, &mut out).map(|_| 0)
             } else {
-                run_report(alloc, rate, limit, end, &mut pages, &mut out, &mut err)
+                run_report(alloc, rate, limit, end, &mut pages, &mut out).map(|_| 0)
             }
         }
     };
+    let status = status_of(done, &mut err);
     Told { status, out, err }
 }
 

@@ -1,6 +1,6 @@
 //! Open rounds over memory: what answers each line, and the exit status.
 
-use pocsag_commands::Fault;
+use pocsag_commands::{Fault, tell_fault};
 use pocsag_open::{LINE_LIMIT, Outputs, Places, Planner, run_open, run_open_pages};
 use pocsag_words::{MemorySink, MemorySource};
 use std::alloc::Global;
@@ -74,12 +74,16 @@ fn assert_session<R: Abort>(
     let mut input = MemorySource::new(lines, 7, beginning.asked);
     let mut out = MemorySink::<2000>::new(5, beginning.answered);
     let mut err = MemorySink::<100>::new(1, 1000);
-    let status = match beginning.pages {
+    let done = match beginning.pages {
         Some(file) => {
             let mut pages = MemorySource::new(file, 4, beginning.read);
-            run_open_pages(alloc, planner, &mut pages, &mut input, &mut out, &mut err)
+            run_open_pages(alloc, planner, &mut pages, &mut input, &mut out)
         }
-        None => run_open(alloc, planner, &mut input, &mut out, &mut err),
+        None => run_open(alloc, planner, &mut input, &mut out),
+    };
+    let status = match done {
+        Ok(()) => 0,
+        Err(fault) => tell_fault(&mut err, fault),
     };
     let (ended, answers, told) = due;
     assert_eq!(rt; out.bytes(), answers);

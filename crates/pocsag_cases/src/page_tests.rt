@@ -320,11 +320,21 @@ const WALKS: &[(&[u8], &[(usize, usize, &[u8])])] = &[
     ),
     (
         b"\xEF\xBB\xBFa,b\n\n8,alpha,\"one\ntwo\n\"\n9,tone0\n10",
-        &[(1, 2, b"b"), (3, 3, b"one\ntwo\n"), (6, 2, b"tone0"), (7, 1, b"10")],
+        &[
+            (1, 2, b"b"),
+            (3, 3, b"one\ntwo\n"),
+            (6, 2, b"tone0"),
+            (7, 1, b"10"),
+        ],
     ),
     (
         b"a\rb\r\rc\n\"never\nclosed\n",
-        &[(1, 1, b"a"), (1, 1, b"b"), (1, 1, b"c"), (2, 1, b"never\nclosed\n")],
+        &[
+            (1, 1, b"a"),
+            (1, 1, b"b"),
+            (1, 1, b"c"),
+            (2, 1, b"never\nclosed\n"),
+        ],
     ),
 ];
 

@@ -12,10 +12,11 @@ use pocsag_slots::{
 use pocsag_tree::Tree;
 use pocsag_words::End;
 
-// What is asked of a node beside its limits: the end, the batches that are to be refuted, and whether
-// a node that was not examined is taken.
+// What a node is to show under its limits: that no transmission of the classes with so many batches is legal for the
+// end; and whether a node that was not examined is taken.
 #[derive(Clone, Copy)]
-pub(crate) struct Question {
+pub(crate) struct Claim<'a> {
+    pub(crate) classes: &'a Classes,
     pub(crate) end: End,
     pub(crate) batches: u32,
     pub(crate) takes_open: bool,
@@ -23,7 +24,8 @@ pub(crate) struct Question {
 
 // Whether the class can be split at m.
 fn splits(limits: &Limits, class: u8, m: u16) -> bool
-    ensures { IsTrue result ↔ ((class < 136) × (slice_index limits.now.lo class < m) × (m ≤ slice_index limits.now.hi class)) }
+    ensures { IsTrue result ↔
+        ((class < 136) × (slice_index limits.now.lo class < m) × (m ≤ slice_index limits.now.hi class)) }
 {
     if class as usize >= CLASSES {
         return false;
@@ -32,41 +34,38 @@ fn splits(limits: &Limits, class: u8, m: u16) -> bool
 }
 
 // Whether the set can be cut at, with the class that is certain to leave it.
-fn cuts(classes: &Classes, limits: &Limits, batches: u32, set: u16, class: u8) -> bool
-    ensures { IsTrue result ↔ ((class < 136) × (1 ≤ batches) × IsTrue (holds set 0) × IsTrue (class_certain classes.now limits.now set class)) }
+fn cuts(claim: &Claim, limits: &Limits, set: u16, class: u8) -> bool
+    ensures { IsTrue result ↔
+        ((class < 136) × (1 ≤ claim.now.batches) × IsTrue (holds set 0)
+        × IsTrue (class_certain claim.now.classes.now limits.now set class)) }
 {
-    if class as usize >= CLASSES || batches == 0 {
+    if class as usize >= CLASSES || claim.batches == 0 {
         return false;
     }
-    holds(set, 0) && is_certain(classes, limits, set, class)
+    holds(set, 0) && is_certain(claim.classes, limits, set, class)
 }
 
-fn closes(question: Question) -> bool
-    ensures { IsTrue result ↔ (IsClosed question.end × (1 ≤ question.batches)) }
+fn closes(claim: &Claim) -> bool
+    ensures { IsTrue result ↔ (IsClosed claim.now.end × (1 ≤ claim.now.batches)) }
 {
-    match question.end {
+    match claim.end {
         End::Open => false,
-        End::Closed => question.batches >= 1,
+        End::Closed => claim.batches >= 1,
     }
 }
 
 /// Whether the node is accepted under the limits, at most this deep. It looks at nothing deeper.
 #[cycle(checking)]
-pub(crate) fn check_node(
-    classes: &Classes,
-    question: Question,
-    limits: &Limits,
-    tree: &Tree,
-    depth: u32,
-) -> bool
-    requires { AreInOrder classes.now limits.now }
-    ensures { IsTrue result ↔ AcceptsWithin question.takes_open classes.now question.end question.batches limits.now depth (bound_of tree.now) }
+pub(crate) fn check_node(claim: &Claim, limits: &Limits, tree: &Tree, depth: u32) -> bool
+    requires { AreInOrder claim.now.classes.now limits.now }
+    ensures { IsTrue result ↔ AcceptsWithin claim.now.takes_open claim.now.classes.now claim.now.end claim.now.batches
+        limits.now depth (bound_of tree.now) }
 {
     if depth == 0 {
         return false;
     }
     match tree {
-        Tree::Overload(set) => *set != 0 && overloads(classes, limits, *set),
+        Tree::Overload(set) => *set != 0 && overloads(claim.classes, limits, *set),
         Tree::Split {
             class,
             m,
@@ -77,68 +76,49 @@ pub(crate) fn check_node(
                 return false;
             }
             let low = below_split(limits, *class, u32::from(*m));
-            if !check_node(classes, question, &low, below, depth - 1) {
+            if !check_node(claim, &low, below, depth - 1) {
                 return false;
             }
             let high = from_split(limits, *class, u32::from(*m));
-            check_node(classes, question, &high, from, depth - 1)
+            check_node(claim, &high, from, depth - 1)
         }
         Tree::Cut {
             set,
             needed,
             children,
         } => {
-            if !cuts(classes, limits, question.batches, *set, *needed) {
+            if !cuts(claim, limits, *set, *needed) {
                 return false;
             }
-            let out = ways(classes, limits, *set, question.batches);
-            check_each(
-                classes,
-                question,
-                limits,
-                out.as_slice(),
-                children,
-                depth - 1,
-            )
+            let out = ways(claim.classes, limits, *set, claim.batches);
+            check_each(claim, limits, out.as_slice(), children, depth - 1)
         }
         Tree::Close { children } => {
-            if !closes(question) {
+            if !closes(claim) {
                 return false;
             }
-            let out = closing_ways(classes, limits);
-            check_each(
-                classes,
-                question,
-                limits,
-                out.as_slice(),
-                children,
-                depth - 1,
-            )
+            let out = closing_ways(claim.classes, limits);
+            check_each(claim, limits, out.as_slice(), children, depth - 1)
         }
-        Tree::Open => question.takes_open,
+        Tree::Open => claim.takes_open,
     }
 }
 
 #[cycle(checking)]
-fn check_each(
-    classes: &Classes,
-    question: Question,
-    limits: &Limits,
-    ways: &[Way],
-    children: &[Tree],
-    depth: u32,
-) -> bool
-    requires ordered { AreInOrder classes.now limits.now }
-    requires batches { 0 < question.batches }
-    requires allowed { All (MayTake classes.now limits.now) ways.now }
-    ensures { IsTrue result ↔ AcceptsEachWithin question.takes_open classes.now question.end question.batches limits.now depth ways.now (bounds_of children.now) }
+fn check_each(claim: &Claim, limits: &Limits, ways: &[Way], children: &[Tree], depth: u32) -> bool
+    requires ordered { AreInOrder claim.now.classes.now limits.now }
+    requires batches { 0 < claim.now.batches }
+    requires allowed { All (MayTake claim.now.classes.now limits.now) ways.now }
+    ensures { IsTrue result ↔
+        AcceptsEachWithin claim.now.takes_open claim.now.classes.now claim.now.end claim.now.batches
+        limits.now depth ways.now (bounds_of children.now) }
 {
     if ways.len() != children.len() {
         return false;
     }
     for (place, child) in children.iter().enumerate() {
-        let narrowed = narrow(classes, limits, ways[place], question.batches);
-        if !check_node(classes, question, &narrowed, child, depth) {
+        let narrowed = narrow(claim.classes, limits, ways[place], claim.batches);
+        if !check_node(claim, &narrowed, child, depth) {
             return false;
         }
     }

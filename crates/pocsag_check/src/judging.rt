@@ -5,7 +5,7 @@ ghost use Rattle.pocsag_tree.specs.Limits.{greatest_depth};
 ghost use Rattle.pocsag_tree.specs.Views.{bound_of};
 ghost use Rattle.pocsag_check.specs.Accepting.{AcceptsWithin, IsAcceptedFor};
 
-use crate::checker::{Question, check_node};
+use crate::checker::{Claim, check_node};
 use pocsag_pages::Round;
 use pocsag_slots::{Classes, Limits, all_limits, classes_of};
 use pocsag_tree::{DEPTH_LIMIT, Tree};
@@ -16,14 +16,16 @@ use pocsag_words::End;
 /// below depth 301.
 pub fn accepts(classes: &Classes, limits: &Limits, batches: u32, tree: &Tree, end: End) -> bool
     requires { AreInOrder classes.now limits.now }
-    ensures { IsTrue result ↔ AcceptsWithin false classes.now end batches limits.now greatest_depth (bound_of tree.now) }
+    ensures { IsTrue result ↔
+        AcceptsWithin false classes.now end batches limits.now greatest_depth (bound_of tree.now) }
 {
-    let question = Question {
+    let claim = Claim {
+        classes,
         end,
         batches,
         takes_open: false,
     };
-    check_node(classes, question, limits, tree, DEPTH_LIMIT)
+    check_node(&claim, limits, tree, DEPTH_LIMIT)
 }
 
 fn check_tree(round: &Round, batches: u32, tree: &Tree, end: End, takes_open: bool) -> bool
@@ -34,12 +36,13 @@ fn check_tree(round: &Round, batches: u32, tree: &Tree, end: End, takes_open: bo
     }
     let classes = classes_of(round, end);
     let limits = all_limits(&classes, batches - 1);
-    let question = Question {
+    let claim = Claim {
+        classes: &classes,
         end,
         batches: batches - 1,
         takes_open,
     };
-    check_node(&classes, question, &limits, tree, DEPTH_LIMIT)
+    check_node(&claim, &limits, tree, DEPTH_LIMIT)
 }
 
 /// Whether the tree shows that fewer than so many batches do not suffice for the round and the end.

@@ -14,21 +14,22 @@ ghost use Rattle.pocsag_check.specs.Fitting.{Fits};
 
 /// The limits of an accepted node are met by no transmission.
 pub fn accepted_nodes_refute()
-    ensures { (k : Classes) (end : End) (R : List Page) (T : List Kind) (b : ℕ) (l : Limits) (t : Bound) → AreApart R → AreClassesOf k end R →
-        Accepts false k end b l t → Fits T end R b l → ⊥ }
+    ensures { (k : Classes) (end : End) (R : List Page) (T : List Kind) (b : ℕ) (l : Limits) (t : Bound) →
+        AreApart R → AreClassesOf k end R → Accepts false k end b l t → Fits T end R b l → ⊥ }
 {}
 
 /// Where a tree is accepted for so many batches, each legal transmission has at least as many.
 pub fn accepted_trees_bound()
-    ensures { (k : Classes) (end : End) (R : List Page) (T : List Kind) (batches n : ℕ) (t : Bound) → AreApart R → AreClassesOf k end R →
-        AcceptsRoot false k end batches t → IsLegalFor end T n R → batches ≤ n }
+    ensures { (k : Classes) (end : End) (R : List Page) (T : List Kind) (batches n : ℕ) (t : Bound) →
+        AreApart R → AreClassesOf k end R → AcceptsRoot false k end batches t → IsLegalFor end T n R → batches ≤ n }
 {}
 
 /// An accepted tree can be written, where its nodes are few enough; and where no node that was not examined
 /// is accepted, it has none.
 pub fn accepted_trees_have_texts()
     ensures text { (takes_open : Bool) (k : Classes) (end : End) (batches : ℕ) (t : Bound) →
-        IsAccepted takes_open k end batches t → batches < 2 ^ 32 → all_nodes t ≤ most_nodes → HasText second_ranges batches t }
+        IsAccepted takes_open k end batches t → batches < 2 ^ 32 → all_nodes t ≤ most_nodes →
+        HasText second_ranges batches t }
     ensures closed { (k : Classes) (end : End) (batches : ℕ) (t : Bound) →
         IsAccepted false k end batches t → all_nodes t ≡ closed_nodes t }
 {}

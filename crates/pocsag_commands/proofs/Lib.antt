@@ -4,4 +4,3 @@ pub mod Planning
 pub mod Readback
 pub mod Refusing
 pub mod Shown
-pub mod Statuses

@@ -33,12 +33,9 @@ abbrev pub status_after : Result (Unit {0}) Fault → ℕ
 status_after (Ok done) = 0
 status_after (Err f) = status_of f
 
--- The exit status of a fault: refused, or a device or memory; and of a command, which may be done.
+-- The exit status of a fault: refused, or a device or memory.
 abbrev pub IsFailure : ℕ → Type 0
 IsFailure status = (status ≡ 1) ⊎ (status ≡ 3)
-
-abbrev pub IsStatus : ℕ → Type 0
-IsStatus status = (status ≡ 0) ⊎ (status ≡ 1) ⊎ (status ≡ 3)
 
 abbrev pub fault_of_whole : WholeFault → Fault
 fault_of_whole whole.ReadFault = fault.Device

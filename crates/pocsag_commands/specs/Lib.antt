@@ -5,6 +5,7 @@ pub mod Faults
 pub mod Judging
 pub mod Lines
 pub mod Listing
+pub mod Notes
 pub mod Refusals
 pub mod Showing
 pub mod Verifying

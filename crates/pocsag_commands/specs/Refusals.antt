@@ -50,8 +50,3 @@ pub record NotShownAndTold (file certificate out_before out_after : List ℕ) : 
   pub batches : ℕ
   pub not_shown : IsNotShown file certificate end batches
   pub told : out_after ≡ out_before ++ (codes "not shown" ++ (10 ∷ []))
-
--- What `check` did where its exit status is 1.
-pub data IsCheckRefused (file certificate out_before out_after : List ℕ) : Type 0 where
-  not_shown : NotShownAndTold file certificate out_before out_after → IsCheckRefused file certificate out_before out_after
-  faulty : IsCheckFaulty file certificate → out_after ≡ out_before → IsCheckRefused file certificate out_before out_after

@@ -1,7 +1,6 @@
 -- `show`: what it leaves of standard output where its exit status is 0, and its faults.
 use Rattle.std.specs.Prelude.{ℕ, List}
-use Rattle.pocsag_pages.specs.declared.page.Page.{Page}
-use Rattle.pocsag_decode.specs.Faults.{ReadsAs}
+use Rattle.pocsag_show.specs.Drawing.{drawing}
 use Rattle.pocsag_show.specs.Picture.{grid_text}
 use Rattle.pocsag_show.specs.Places.{place_listing}
 use Rattle.pocsag_show.specs.Showing.{Shows}
@@ -12,11 +11,11 @@ use Rattle.pocsag_commands.specs.declared.view.View.TheVariants.{Grid, Places, D
 use Rattle.pocsag_commands.specs.declared.fault.Fault.{Fault}
 use Rattle.pocsag_commands.specs.declared.fault.Fault.TheVariants as fault
 
--- The grid or the listing of the bytes was told; of a drawing, that the bytes read as pages.
+-- The grid of the rows that are asked for, the listing of the places or the drawing of these rows was told.
 abbrev pub Viewed : View → (bytes out_before out_after : List ℕ) → Type 0
-Viewed Grid bytes out_before out_after = Shows grid_text bytes out_before out_after
+Viewed (Grid rows) bytes out_before out_after = Shows (grid_text rows) bytes out_before out_after
 Viewed Places bytes out_before out_after = Shows place_listing bytes out_before out_after
-Viewed Drawing bytes out_before out_after = (pages : List Page) × ReadsAs bytes pages
+Viewed (Drawing rows) bytes out_before out_after = Shows (drawing rows) bytes out_before out_after
 
 abbrev pub fault_of_show : ShowFault → Fault
 fault_of_show (showing.Transmission f) = fault.Transmission f

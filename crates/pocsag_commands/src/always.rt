@@ -1,12 +1,12 @@
 //! The commands with `--always`, which refuse no round.
 ghost use Rattle.std.specs.Prelude.{◌≡◌, ◌++◌, IfErr, OnOk};
 ghost use Rattle.pocsag_commands.specs.Always.{IsRefusedAlways, LeavesAlways, PlannedAlways, PlannedAlwaysAndTold, ReportedAlways};
-ghost use Rattle.pocsag_commands.specs.Faults.{IsStatus, status_after};
+ghost use Rattle.pocsag_commands.specs.Faults.{status_after};
 ghost use Rattle.pocsag_commands.specs.Lines.{below_text, plan_text};
 ghost use Rattle.pocsag_commands.specs.Refusals.{IsReportRefusedAlways};
 
 use crate::fault::Fault;
-use crate::telling::{ended, tell, tell_below, tell_plan};
+use crate::telling::{tell, tell_below, tell_plan};
 use pocsag_pages::read_round;
 use pocsag_plan::{plan_always, plan_stream_always, report};
 use pocsag_words::{End, Sink, Source};
@@ -14,35 +14,8 @@ use std::alloc::Global;
 
 /// `plan PAGES TX CERT --always`: writes the transmission of a page file with the fewest batches, or with
 /// one more than its bound, and the certificate of the bound. It tells the pages, the batches, and the
-/// bound where it is below them. Answers the exit status.
-pub fn run_plan_always<P: Source, T: Sink, C: Sink, O: Sink, E: Sink>(
-    alloc: Global,
-    limit: u32,
-    end: End,
-    pages: &mut P,
-    tx: &mut T,
-    cert: &mut C,
-    out: &mut O,
-    err: &mut E,
-) -> u8
-    // Where it is done, the headline with a bound holds of what both files took.
-    ensures planned { P.tells → T.tells → C.tells → result ≡ 0 →
-        PlannedAlways (P.held pages.old) end (T.taken tx.old) (T.taken tx.new) (C.taken cert.old) (C.taken cert.new) }
-    ensures told { P.tells → T.tells → C.tells → O.tells → result ≡ 0 →
-        PlannedAlwaysAndTold (P.held pages.old) end (T.taken tx.old) (T.taken tx.new) (C.taken cert.old) (C.taken cert.new) (O.taken out.old) (O.taken out.new) }
-
-    // What it leaves otherwise.
-    ensures refused { result ≡ 1 → (tx.new ≡ tx.old) × (cert.new ≡ cert.old) }
-    ensures why { P.tells → result ≡ 1 → IsRefusedAlways (P.held pages.old) limit }
-    ensures leaves { P.tells → T.tells → C.tells →
-        LeavesAlways (P.held pages.old) end (T.taken tx.old) (T.taken tx.new) (C.taken cert.old) (C.taken cert.new) }
-    ensures status { IsStatus result }
-{
-    let done = plan_files_always(alloc, limit, end, pages, tx, cert, out);
-    ended(done, err)
-}
-
-fn plan_files_always<P: Source, T: Sink, C: Sink, O: Sink>(
+/// bound where it is below them.
+pub fn run_plan_always<P: Source, T: Sink, C: Sink, O: Sink>(
     alloc: Global,
     limit: u32,
     end: End,
@@ -73,27 +46,8 @@ fn tell_bounded<O: Sink>(pages: u32, batches: u32, bound: u32, out: &mut O) -> R
 }
 
 /// `report PAGES --rate R --always`: tells what such a plan of a page file takes on the air at a rate, and
-/// the bound where it is below the batches. Answers the exit status.
-pub fn run_report_always<P: Source, O: Sink, E: Sink>(
-    alloc: Global,
-    rate: u32,
-    limit: u32,
-    end: End,
-    pages: &mut P,
-    out: &mut O,
-    err: &mut E,
-) -> u8
-    ensures told { P.tells → O.tells → result ≡ 0 →
-        ReportedAlways (P.held pages.old) end rate (O.taken out.old) (O.taken out.new) }
-    ensures why { P.tells → result ≡ 1 → IsReportRefusedAlways (P.held pages.old) limit rate }
-    ensures refused { result ≡ 1 → out.new ≡ out.old }
-    ensures status { IsStatus result }
-{
-    let done = report_file_always(alloc, rate, limit, end, pages, out);
-    ended(done, err)
-}
-
-fn report_file_always<P: Source, O: Sink>(
+/// the bound where it is below the batches.
+pub fn run_report_always<P: Source, O: Sink>(
     alloc: Global,
     rate: u32,
     limit: u32,

@@ -4,12 +4,12 @@ ghost use Rattle.pocsag_pages.specs.declared.fault.RoundFault.TheVariants as rou
 ghost use Rattle.pocsag_tree.specs.declared.refusals.CertificateFault.TheVariants as tree_fault;
 ghost use Rattle.pocsag_commands.specs.declared.fault.Fault.TheVariants as fault;
 ghost use Rattle.pocsag_commands.specs.Commands.{Checked, CheckedAndTold};
-ghost use Rattle.pocsag_commands.specs.Faults.{IsStatus, status_of};
+ghost use Rattle.pocsag_commands.specs.Faults.{status_of};
 ghost use Rattle.pocsag_commands.specs.Judging.{ExplainsJudging, IsNotShown};
-ghost use Rattle.pocsag_commands.specs.Refusals.{IsCheckFaulty, IsCheckRefused, NotShownAndTold};
+ghost use Rattle.pocsag_commands.specs.Refusals.{IsCheckFaulty, NotShownAndTold};
 
 use crate::fault::Fault;
-use crate::telling::{tell, tell_bound, tell_fault};
+use crate::telling::{tell, tell_bound};
 use pocsag_check::check;
 use pocsag_pages::read_round;
 use pocsag_tree::read_certificate;
@@ -17,29 +17,8 @@ use pocsag_words::{End, Sink, Source};
 use std::alloc::Global;
 
 /// `check PAGES CERT`: tells whether the certificate shows its number of batches for the page file.
-/// Answers the exit status, 1 where it does not.
-pub fn run_check<P: Source, C: Source, O: Sink, E: Sink>(
-    alloc: Global,
-    pages: &mut P,
-    cert: &mut C,
-    out: &mut O,
-    err: &mut E,
-) -> u8
-    ensures shown { P.tells → C.tells → O.tells → result ≡ 0 →
-        CheckedAndTold (P.held pages.old) (C.held cert.old) (O.taken out.old) (O.taken out.new) }
-    ensures refused { P.tells → C.tells → O.tells → result ≡ 1 →
-        IsCheckRefused (P.held pages.old) (C.held cert.old) (O.taken out.old) (O.taken out.new) }
-    ensures status { IsStatus result }
-{
-    match check_files(alloc, pages, cert, out) {
-        Ok(true) => 0,
-        Ok(false) => 1,
-        Err(fault) => tell_fault(err, fault),
-    }
-}
-
-// Whether the certificate shows its number of batches.
-fn check_files<P: Source, C: Source, O: Sink>(
+/// Answers whether it does.
+pub fn run_check<P: Source, C: Source, O: Sink>(
     alloc: Global,
     pages: &mut P,
     cert: &mut C,

@@ -1,11 +1,11 @@
 ghost use Rattle.std.specs.Prelude.{◌≡◌, OnOk};
 ghost use Rattle.pocsag_words.specs.declared.ending.End.TheVariants.{Open as open_end};
 ghost use Rattle.pocsag_commands.specs.Commands.{IsPlanRefused, LeavesOutputs, Planned, PlannedAndTold, Reported, ToldPlan};
-ghost use Rattle.pocsag_commands.specs.Faults.{IsStatus, status_after};
+ghost use Rattle.pocsag_commands.specs.Faults.{status_after};
 ghost use Rattle.pocsag_commands.specs.Refusals.{IsReportRefused, default_limit};
 
 use crate::fault::Fault;
-use crate::telling::{ended, tell, tell_plan};
+use crate::telling::{tell, tell_plan};
 use pocsag_pages::read_round;
 use pocsag_plan::{plan, plan_stream, report};
 use pocsag_words::{End, Sink, Source};
@@ -15,23 +15,8 @@ use std::alloc::Global;
 pub const DEFAULT_LIMIT: u32 = 100_000;
 
 /// With no words: plans a page file with the default limit and the open end, and tells its pages and
-/// batches. Answers the exit status.
-pub fn run_input<I: Source, O: Sink, E: Sink>(
-    alloc: Global,
-    input: &mut I,
-    out: &mut O,
-    err: &mut E,
-) -> u8
-    ensures told { I.tells → O.tells → result ≡ 0 → ToldPlan (I.held input.old) open_end (O.taken out.old) (O.taken out.new) }
-    ensures why { I.tells → result ≡ 1 → IsPlanRefused (I.held input.old) open_end default_limit }
-    ensures refused { result ≡ 1 → out.new ≡ out.old }
-    ensures status { IsStatus result }
-{
-    let done = plan_input(alloc, input, out);
-    ended(done, err)
-}
-
-fn plan_input<I: Source, O: Sink>(alloc: Global, input: &mut I, out: &mut O) -> Result<(), Fault>
+/// batches.
+pub fn run_input<I: Source, O: Sink>(alloc: Global, input: &mut I, out: &mut O) -> Result<(), Fault>
     ensures told { I.tells → O.tells → OnOk result (ToldPlan (I.held input.old) open_end (O.taken out.old) (O.taken out.new)) }
     ensures why { I.tells → status_after result ≡ 1 → IsPlanRefused (I.held input.old) open_end default_limit }
     ensures refused { status_after result ≡ 1 → out.new ≡ out.old }
@@ -42,35 +27,8 @@ fn plan_input<I: Source, O: Sink>(alloc: Global, input: &mut I, out: &mut O) -> 
 }
 
 /// `plan PAGES TX CERT`: writes the transmission of a page file with the fewest batches and the
-/// certificate of that, and tells its pages and batches. Answers the exit status.
-pub fn run_plan<P: Source, T: Sink, C: Sink, O: Sink, E: Sink>(
-    alloc: Global,
-    limit: u32,
-    end: End,
-    pages: &mut P,
-    tx: &mut T,
-    cert: &mut C,
-    out: &mut O,
-    err: &mut E,
-) -> u8
-    // Where it is done, the headline holds of what both files took.
-    ensures planned { P.tells → T.tells → C.tells → result ≡ 0 →
-        Planned (P.held pages.old) end (T.taken tx.old) (T.taken tx.new) (C.taken cert.old) (C.taken cert.new) }
-    ensures told { P.tells → T.tells → C.tells → O.tells → result ≡ 0 →
-        PlannedAndTold (P.held pages.old) end (T.taken tx.old) (T.taken tx.new) (C.taken cert.old) (C.taken cert.new) (O.taken out.old) (O.taken out.new) }
-
-    // What it leaves otherwise.
-    ensures refused { result ≡ 1 → (tx.new ≡ tx.old) × (cert.new ≡ cert.old) }
-    ensures why { P.tells → result ≡ 1 → IsPlanRefused (P.held pages.old) end limit }
-    ensures leaves { P.tells → T.tells → C.tells →
-        LeavesOutputs (P.held pages.old) end (T.taken tx.old) (T.taken tx.new) (C.taken cert.old) (C.taken cert.new) }
-    ensures status { IsStatus result }
-{
-    let done = plan_files(alloc, limit, end, pages, tx, cert, out);
-    ended(done, err)
-}
-
-fn plan_files<P: Source, T: Sink, C: Sink, O: Sink>(
+/// certificate of that, and tells its pages and batches.
+pub fn run_plan<P: Source, T: Sink, C: Sink, O: Sink>(
     alloc: Global,
     limit: u32,
     end: End,
@@ -92,27 +50,8 @@ fn plan_files<P: Source, T: Sink, C: Sink, O: Sink>(
     tell_plan(written.pages, written.batches, out)
 }
 
-/// `report PAGES --rate R`: tells what the plan of a page file takes on the air at a rate. Answers the
-/// exit status.
-pub fn run_report<P: Source, O: Sink, E: Sink>(
-    alloc: Global,
-    rate: u32,
-    limit: u32,
-    end: End,
-    pages: &mut P,
-    out: &mut O,
-    err: &mut E,
-) -> u8
-    ensures told { P.tells → O.tells → result ≡ 0 → Reported (P.held pages.old) end rate (O.taken out.old) (O.taken out.new) }
-    ensures why { P.tells → result ≡ 1 → IsReportRefused (P.held pages.old) end limit rate }
-    ensures refused { result ≡ 1 → out.new ≡ out.old }
-    ensures status { IsStatus result }
-{
-    let done = report_file(alloc, rate, limit, end, pages, out);
-    ended(done, err)
-}
-
-fn report_file<P: Source, O: Sink>(
+/// `report PAGES --rate R`: tells what the plan of a page file takes on the air at a rate.
+pub fn run_report<P: Source, O: Sink>(
     alloc: Global,
     rate: u32,
     limit: u32,

@@ -1,11 +1,10 @@
 ghost use Rattle.std.specs.Prelude.{◌≡◌, IfErr, OnOk};
 ghost use Rattle.pocsag_commands.specs.Commands.{Decoded, HeardAndListed};
-ghost use Rattle.pocsag_commands.specs.Faults.{IsStatus, status_after};
+ghost use Rattle.pocsag_commands.specs.Faults.{status_after};
 ghost use Rattle.pocsag_commands.specs.Listing.{ExplainsDecoding, ExplainsHearing};
 ghost use Rattle.pocsag_commands.specs.Refusals.{IsHearingRefused, IsTransmissionRefused};
 
 use crate::fault::Fault;
-use crate::telling::ended;
 use pocsag_decode::{decode, list};
 use pocsag_pager::hear_all;
 use pocsag_pages::read_whole;
@@ -15,23 +14,8 @@ use std::alloc::Global;
 /// The greatest transmission that is read, in bytes.
 pub const TRANSMISSION_LIMIT: usize = INPUT_LIMIT;
 
-/// `decode TX`: lists the pages of a transmission. Answers the exit status.
-pub fn run_decode<T: Source, O: Sink, E: Sink>(
-    alloc: Global,
-    tx: &mut T,
-    out: &mut O,
-    err: &mut E,
-) -> u8
-    ensures listed { T.tells → O.tells → result ≡ 0 → Decoded (T.held tx.old) (O.taken out.old) (O.taken out.new) }
-    ensures why { T.tells → result ≡ 1 → IsTransmissionRefused (T.held tx.old) }
-    ensures refused { result ≡ 1 → out.new ≡ out.old }
-    ensures status { IsStatus result }
-{
-    let done = decode_file(alloc, tx, out);
-    ended(done, err)
-}
-
-fn decode_file<T: Source, O: Sink>(alloc: Global, tx: &mut T, out: &mut O) -> Result<(), Fault>
+/// `decode TX`: lists the pages of a transmission.
+pub fn run_decode<T: Source, O: Sink>(alloc: Global, tx: &mut T, out: &mut O) -> Result<(), Fault>
     ensures listed { T.tells → O.tells → OnOk result (Decoded (T.held tx.old) (O.taken out.old) (O.taken out.new)) }
     ensures why { T.tells → status_after result ≡ 1 → IsTransmissionRefused (T.held tx.old) }
     ensures refused { status_after result ≡ 1 → out.new ≡ out.old }
@@ -51,26 +35,8 @@ pub fn list_decoded<O: Sink>(alloc: Global, bytes: &[u8], out: &mut O) -> Result
     Ok(())
 }
 
-/// `hear ADDRESS TX`: lists what the pager of the address shows of a transmission. Answers the exit
-/// status.
-pub fn run_hear<T: Source, O: Sink, E: Sink>(
-    alloc: Global,
-    address: u32,
-    tx: &mut T,
-    out: &mut O,
-    err: &mut E,
-) -> u8
-    ensures listed { T.tells → O.tells → result ≡ 0 →
-        HeardAndListed address (T.held tx.old) (O.taken out.old) (O.taken out.new) }
-    ensures why { T.tells → result ≡ 1 → IsHearingRefused address (T.held tx.old) }
-    ensures refused { result ≡ 1 → out.new ≡ out.old }
-    ensures status { IsStatus result }
-{
-    let done = hear_file(alloc, address, tx, out);
-    ended(done, err)
-}
-
-fn hear_file<T: Source, O: Sink>(
+/// `hear ADDRESS TX`: lists what the pager of the address shows of a transmission.
+pub fn run_hear<T: Source, O: Sink>(
     alloc: Global,
     address: u32,
     tx: &mut T,

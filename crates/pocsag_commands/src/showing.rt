@@ -1,11 +1,10 @@
 ghost use Rattle.std.specs.Prelude.{◌≡◌, OnOk};
-ghost use Rattle.pocsag_commands.specs.Faults.{IsStatus, status_after};
+ghost use Rattle.pocsag_commands.specs.Faults.{status_after};
 ghost use Rattle.pocsag_commands.specs.Refusals.{IsTransmissionRefused};
 ghost use Rattle.pocsag_commands.specs.Showing.{Viewed};
 
 use crate::fault::Fault;
 use crate::receiving::TRANSMISSION_LIMIT;
-use crate::telling::ended;
 use crate::view::View;
 use pocsag_pages::read_whole;
 use pocsag_show::{ShowFault, show_list, show_svg, show_text};
@@ -26,33 +25,22 @@ impl From<ShowFault> for Fault {
     }
 }
 
-/// `show TX`: shows a transmission. Answers the exit status.
-pub fn run_show<T: Source, O: Sink, E: Sink>(
+/// `show TX`: shows a transmission.
+pub fn run_show<T: Source, O: Sink>(
     alloc: Global,
     view: View,
     tx: &mut T,
     out: &mut O,
-    err: &mut E,
-) -> u8
-    ensures shown { T.tells → O.tells → result ≡ 0 → Viewed view (T.held tx.old) (O.taken out.old) (O.taken out.new) }
-    ensures why { T.tells → result ≡ 1 → IsTransmissionRefused (T.held tx.old) }
-    ensures refused { result ≡ 1 → out.new ≡ out.old }
-    ensures status { IsStatus result }
-{
-    let done = show(alloc, view, tx, out);
-    ended(done, err)
-}
-
-fn show<T: Source, O: Sink>(alloc: Global, view: View, tx: &mut T, out: &mut O) -> Result<(), Fault>
+) -> Result<(), Fault>
     ensures shown { T.tells → O.tells → OnOk result (Viewed view (T.held tx.old) (O.taken out.old) (O.taken out.new)) }
     ensures why { T.tells → status_after result ≡ 1 → IsTransmissionRefused (T.held tx.old) }
     ensures refused { status_after result ≡ 1 → out.new ≡ out.old }
 {
     let bytes = read_whole(alloc, tx, TRANSMISSION_LIMIT)?;
     match view {
-        View::Grid => show_text(alloc, bytes.as_slice(), out)?,
+        View::Grid(rows) => show_text(alloc, rows, bytes.as_slice(), out)?,
         View::Places => show_list(alloc, bytes.as_slice(), out)?,
-        View::Drawing => show_svg(alloc, bytes.as_slice(), out)?,
+        View::Drawing(rows) => show_svg(alloc, rows, bytes.as_slice(), out)?,
     }
     Ok(())
 }

@@ -1,5 +1,5 @@
 ghost use Rattle.std.specs.Prelude.{◌≡◌, ℕ, List, ◌++◌, IfErr, OnOk, Some};
-ghost use Rattle.pocsag_commands.specs.Faults.{IsFailure, IsStatus, status_after, status_of};
+ghost use Rattle.pocsag_commands.specs.Faults.{IsFailure, status_of};
 ghost use Rattle.pocsag_commands.specs.Lines.{below_text, bound_text, plan_text};
 
 use crate::fault::Fault;
@@ -33,17 +33,6 @@ pub fn tell_fault<S: Sink>(err: &mut S, fault: Fault) -> u8
 {
     let _ = tell(err, format_args!("pocsag: {fault}\n"));
     fault.status()
-}
-
-/// The exit status of a command that is over; a fault is told on standard error.
-pub fn ended<S: Sink>(done: Result<(), Fault>, err: &mut S) -> u8
-    ensures value { result ≡ status_after done }
-    ensures status { IsStatus result }
-{
-    match done {
-        Ok(()) => 0,
-        Err(fault) => tell_fault(err, fault),
-    }
 }
 
 /// Tells the pages and the batches of a plan.

@@ -2,12 +2,11 @@ ghost use Rattle.std.specs.Prelude.{◌≡◌, List, ℕ, All, Contains, map, If
 ghost use Rattle.pocsag_words.specs.Kinds.{kind_of};
 ghost use Rattle.pocsag_pages.specs.Bytes.{Sent};
 ghost use Rattle.pocsag_pages.specs.Reading.{EndsAs};
-ghost use Rattle.pocsag_commands.specs.Faults.{IsStatus};
 ghost use Rattle.pocsag_commands.specs.Verifying.{AreAmong, IsDueBound, IsTransmissionOf, Verified};
 
 use crate::fault::Fault;
 use crate::receiving::TRANSMISSION_LIMIT;
-use crate::telling::{ended, tell};
+use crate::telling::tell;
 use pocsag_check::check;
 use pocsag_decode::decode;
 use pocsag_pages::{Page, Round, leading_len, read_round, read_whole};
@@ -17,26 +16,8 @@ use std::alloc::Global;
 
 /// `--verify`: reads a transmission and a certificate back, and tells `verified` where the one holds the
 /// pages of the page file and ends as is asked for, and the other shows its number of batches for them and
-/// the end, or with `--always` that number or one less. Answers the exit status.
-pub fn run_verify<P: Source, T: Source, C: Source, O: Sink, E: Sink>(
-    alloc: Global,
-    end: End,
-    always: bool,
-    pages: &mut P,
-    tx: &mut T,
-    cert: &mut C,
-    out: &mut O,
-    err: &mut E,
-) -> u8
-    ensures verified { P.tells → T.tells → C.tells → result ≡ 0 →
-        Verified (P.held pages.old) end always (T.held tx.old) (C.held cert.old) }
-    ensures status { IsStatus result }
-{
-    let done = verify_files(alloc, end, always, pages, tx, cert, out);
-    ended(done, err)
-}
-
-fn verify_files<P: Source, T: Source, C: Source, O: Sink>(
+/// the end, or with `--always` that number or one less.
+pub fn run_verify<P: Source, T: Source, C: Source, O: Sink>(
     alloc: Global,
     end: End,
     always: bool,

@@ -39,5 +39,6 @@ pub fn standing_is_without_fault()
 /// payload is none, that of a numeric text that ends in no space, or that of an alphanumeric text.
 pub fn listed_fields_are_read_back()
     ensures { (p : Page) → p.address ≤ last_address → is_reserved p.address ≡ false → IsSpelled p.function p.payload →
-        page_of_fields (decimal p.address) (kind_field p.function p.payload) (message_field p.function p.payload) ≡ Ok p }
+        page_of_fields (decimal p.address) (kind_field p.function p.payload) (message_field p.function p.payload)
+        ≡ Ok p }
 {}

@@ -10,7 +10,7 @@ use Rattle.pocsag_slots.specs.Sums.{holds, sum_over}
 use Rattle.pocsag_slots.proofs.LoadLemmas.{load_few}
 use Rattle.pocsag_slots.proofs.SumLemmas.{sum_below-le}
 use Rattle.pocsag_flow.specs.declared.network.Network.{Network}
-use Rattle.pocsag_flow.specs.declared.network.Search.{Search}
+use Rattle.pocsag_flow.specs.declared.network.Progress.{Progress}
 use Rattle.pocsag_flow.specs.Choosing.{overload}
 use Rattle.pocsag_flow.specs.Search.{StaysInside, IsStuck, Pushes, Relieves, same_slot}
 use Rattle.pocsag_flow.proofs.FlowSums.{sum_below-lt}
@@ -79,14 +79,14 @@ full_sum set slot cap loads h held above full =
     sum_below-lt 16 slot _ _ h (rw held above) (λ s l. chosen_le (holds set s) (cap s) (loads s) (λ inside. full s l inside))
 
 -- the search from the overfull slot moved nothing
-pub shut_overloads : ClassLoadsAddUp → (n : Network) (before after : Search) (slot most moved : ℕ) → slot < 16 →
-    AreInOrder n.classes n.limits → IsWithin n.limits (slice_index before.early) →
+pub shut_overloads : ClassLoadsAddUp → (n : Network) (before after : Progress) (slot most moved : ℕ) → slot < 16 →
+    AreInOrder n.classes.now n.limits.now → IsWithin n.limits.now (slice_index before.early) →
     ((other : ℕ) → other ≢ slot → holds before.reached other ≡ false) →
-    slice_index n.limits.cap slot < load n.classes (slice_index before.early) slot →
-    Pushes n before after slot most moved → moved ≡ 0 → StaysInside n.limits (slice_index after.early) after.reached slot →
-    Overloads n.classes n.limits after.reached
+    slice_index n.limits.now.cap slot < load n.classes.now (slice_index before.early) slot →
+    Pushes n before after slot most moved → moved ≡ 0 → StaysInside n.limits.now (slice_index after.early) after.reached slot →
+    Overloads n.classes.now n.limits.now after.reached
 shut_overloads law n before after slot most moved h ordered within alone above p none closed choice among =
-    let here : StaysInside n.limits (slice_index before.early) after.reached slot = rw (p.same none) at closed in
+    let here : StaysInside n.limits.now (slice_index before.early) after.reached slot = rw (p.same none) at closed in
     let at_slot : IsStuck n (slice_index before.early) after.reached slot = record { closed = here; full = omega (arith, above) } in
     let stuck : (s : ℕ) → s < 16 → holds after.reached s ≡ true → IsStuck n (slice_index before.early) after.reached s =
     λ s l held.
@@ -94,40 +94,40 @@ shut_overloads law n before after slot most moved h ordered within alone above p
       | inl is ↦ rw is at_slot
       | inr other ↦ (p.stuck none).each s l held (alone s other)
     ] in
-    let least = shut_least law n.classes n.limits after.reached (slice_index before.early) choice ordered within among
+    let least = shut_least law n.classes.now n.limits.now after.reached (slice_index before.early) choice ordered within among
     (record { each = λ s l held. (stuck s l held).closed }) in
-    let caps = full_sum after.reached slot (slice_index n.limits.cap) (load n.classes (slice_index before.early)) h p.marked above
+    let caps = full_sum after.reached slot (slice_index n.limits.now.cap) (load n.classes.now (slice_index before.early)) h p.marked above
     (λ s l held. (stuck s l held).full) in
     omega (arith, least, caps)
 
 -- a way ends in another slot
 pub way_apart : (n : Network) (before after : ℕ → ℕ) (slot to moved : ℕ) →
-    slice_index n.limits.cap slot < load n.classes before slot → Relieves n before after slot to moved → to ≢ slot
+    slice_index n.limits.now.cap slot < load n.classes.now before slot → Relieves n before after slot to moved → to ≢ slot
 way_apart n before after slot to moved above relieved same = grind (arith)
 
 -- a way takes something from the overload
 pub overload_less : (n : Network) (before after : ℕ → ℕ) (slot to moved : ℕ) → slot < 16 → 0 < moved →
-    slice_index n.limits.cap slot < load n.classes before slot → Relieves n before after slot to moved →
-    overload n.classes n.limits after < overload n.classes n.limits before
+    slice_index n.limits.now.cap slot < load n.classes.now before slot → Relieves n before after slot to moved →
+    overload n.classes.now n.limits.now after < overload n.classes.now n.limits.now before
 unfolding overload
 overload_less n before after slot to moved h some above relieved =
     let apart : to ≢ slot = way_apart n before after slot to moved above relieved in
-    let here : load n.classes after slot + moved * 1 ≡ load n.classes before slot + moved * 0 =
+    let here : load n.classes.now after slot + moved * 1 ≡ load n.classes.now before slot + moved * 0 =
     rw (same_slot_same slot, same_slot_other to slot apart) at (relieved.loads slot h) in
     sum_below-lt 16 slot _ _ h (omega arith)
     (λ s l. elim (cases_eq s to) [
       | inl is ↦
-          let there : load n.classes after to + moved * 0 ≡ load n.classes before to + moved * 1 =
+          let there : load n.classes.now after to + moved * 0 ≡ load n.classes.now before to + moved * 1 =
           rw (same_slot_other slot to (λ same. apart (sym same)), same_slot_same to) at (relieved.loads to relieved.to_fits) in
           rw is (omega (arith, relieved.room))
       | inr other ↦
-          let there : load n.classes after s + moved * same_slot slot s ≡ load n.classes before s + moved * 0 =
+          let there : load n.classes.now after s + moved * same_slot slot s ≡ load n.classes.now before s + moved * 0 =
           rw (same_slot_other to s (λ same. other (sym same))) at (relieved.loads s l) in
           omega arith
     ])
 
 -- the load of the slot where the way ends is small
-pub given_few : (n : Network) (before after : ℕ → ℕ) (slot to moved : ℕ) → AreInOrder n.classes n.limits → IsWithin n.limits after →
-    slice_index n.limits.cap slot < load n.classes before slot → Relieves n before after slot to moved →
-    load n.classes before to + moved ≤ 1760000
+pub given_few : (n : Network) (before after : ℕ → ℕ) (slot to moved : ℕ) → AreInOrder n.classes.now n.limits.now → IsWithin n.limits.now after →
+    slice_index n.limits.now.cap slot < load n.classes.now before slot → Relieves n before after slot to moved →
+    load n.classes.now before to + moved ≤ 1760000
 given_few n before after slot to moved ordered within above relieved = grind (arith, way_apart, same_slot_other, same_slot_same, load_few)

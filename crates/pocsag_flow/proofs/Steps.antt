@@ -8,9 +8,9 @@ use Rattle.pocsag_slots.specs.Loads.{IsWithin, load}
 use Rattle.pocsag_slots.specs.Numbering.{finish_of, start_of}
 use Rattle.pocsag_slots.specs.Sums.{holds}
 use Rattle.pocsag_flow.specs.declared.network.Network.{Network}
-use Rattle.pocsag_flow.specs.declared.network.Search.{Search}
+use Rattle.pocsag_flow.specs.declared.network.Progress.{Progress}
 use Rattle.pocsag_flow.specs.Search.{AreStuck, Includes, StaysInside, IsNetworkOf, IsOf, IsStuck, Keeps, LeadsInto, Leaves, Pushes, Relieves, same_slot}
-use Rattle.pocsag_flow.proofs.Shifts.{Moves, finish_low, load_moved, start_low}
+use Rattle.pocsag_flow.proofs.Shifts.{Moves, load_moved}
 
 -- a slot outside the larger set is outside the smaller one
 outside : (large small s : ℕ) → Includes large small → holds large s ≡ false → holds small s ≡ false
@@ -31,18 +31,18 @@ stuck_larger : (n : Network) (early : ℕ → ℕ) (large small slot : ℕ) → 
     IsStuck n early small slot → IsStuck n early large slot
 stuck_larger n early large small slot more stuck =
     record {
-      closed = record { each = λ c h. leads_larger n.limits early large small c slot more (stuck.closed.each c h) };
+      closed = record { each = λ c h. leads_larger n.limits.now early large small c slot more (stuck.closed.each c h) };
       full = stuck.full;
     }
 
 -- the slot that is entered has no room, and is left
-pub entered : (n : Network) (before mid after : Search) (slot most moved : ℕ) →
+pub entered : (n : Network) (before mid after : Progress) (slot most moved : ℕ) →
     mid.early ≡ before.early → holds mid.reached slot ≡ true →
     ((other : ℕ) → other ≢ slot → holds mid.reached other ≡ holds before.reached other) →
     holds before.reached slot ≡ false → before.reached < mid.reached →
-    slice_index n.limits.cap slot ≤ load n.classes (slice_index before.early) slot →
+    slice_index n.limits.now.cap slot ≤ load n.classes.now (slice_index before.early) slot →
     Pushes n mid after slot most moved →
-    (moved ≡ 0 → StaysInside n.limits (slice_index after.early) after.reached slot) →
+    (moved ≡ 0 → StaysInside n.limits.now (slice_index after.early) after.reached slot) →
     Pushes n before after slot most moved
 entered n before mid after slot most moved same here others out more full p closed =
     let grown : Includes mid.reached before.reached =
@@ -64,7 +64,7 @@ entered n before mid after slot most moved same here others out more full p clos
         each = λ s l held new.
             elim (cases_eq s slot) [
               | inl is ↦
-                  let shut : StaysInside n.limits (slice_index before.early) after.reached slot =
+                  let shut : StaysInside n.limits.now (slice_index before.early) after.reached slot =
                   rw (p.same none ∙ same) at (closed none) in
                   let stuck : IsStuck n (slice_index before.early) after.reached slot = record { closed = shut; full = full } in
                   rw is stuck
@@ -76,7 +76,7 @@ entered n before mid after slot most moved same here others out more full p clos
     }
 
 -- a step that moves nothing
-pub left_same : (n : Network) (before now after : Search) (slot most moved class : ℕ) →
+pub left_same : (n : Network) (before now after : Progress) (slot most moved class : ℕ) →
     Leaves n before now slot class → Pushes n now after slot most moved → moved ≡ 0 → Leaves n before after slot 0
 left_same n before now after slot most moved class l p none =
     let stuck : AreStuck n (slice_index before.early) now.reached after.reached = rw l.same at (p.stuck none) in
@@ -95,13 +95,13 @@ left_same n before now after slot most moved class l p none =
     }
 
 -- one class more leads nowhere
-pub left_more : (n : Network) (before now after : Search) (slot most moved class : ℕ) →
+pub left_more : (n : Network) (before now after : Progress) (slot most moved class : ℕ) →
     Leaves n before now slot class → Pushes n now after slot most moved → moved ≡ 0 →
-    LeadsInto n.limits (slice_index after.early) after.reached class slot →
+    LeadsInto n.limits.now (slice_index after.early) after.reached class slot →
     Leaves n before after slot (class + 1)
 left_more n before now after slot most moved class l p none leads =
     let base : Leaves n before after slot 0 = left_same n before now after slot most moved class l p none in
-    let here : LeadsInto n.limits (slice_index before.early) after.reached class slot = rw base.same at leads in
+    let here : LeadsInto n.limits.now (slice_index before.early) after.reached class slot = rw base.same at leads in
     record {
       same = base.same;
       grows = base.grows;
@@ -109,7 +109,7 @@ left_more n before now after slot most moved class l p none leads =
       stuck = base.stuck;
       leads = λ tried h.
           elim (cases_lt tried class) [
-            | inl low ↦ leads_larger n.limits (slice_index before.early) after.reached now.reached tried slot p.grows (l.leads tried low)
+            | inl low ↦ leads_larger n.limits.now (slice_index before.early) after.reached now.reached tried slot p.grows (l.leads tried low)
             | inr high ↦
                 let is : class ≡ tried = omega arith in
                 rw is at here
@@ -123,61 +123,6 @@ same_slot_same a = grind (arith, nat_tests)
 pub same_slot_other : (a b : ℕ) → a ≢ b → same_slot a b ≡ 0
 unfolding same_slot
 same_slot_other a b ne = grind (arith, nat_tests)
-
--- the class between the slots, of which some runs are switched: all else is as it was
-record IsSwitched (n : Network) (mid after : Search) (class from to moved : ℕ) : Type 0 where
-  from_low : from < 16
-  to_low : to < 16
-  between : (to ≡ start_of class true) ⊎ (to ≡ finish_of class true)
-  reached : after.reached ≡ mid.reached
-  ended : after.end ≡ mid.end
-  within : IsWithin n.limits (slice_index after.early)
-  size : length after.early ≡ 136
-  others : (c : ℕ) → c < 136 → c ≢ class → slice_index after.early c ≡ slice_index mid.early c
-  loads : (slot : ℕ) → slot < 16 → load n.classes (slice_index after.early) slot + moved * same_slot from slot
-      ≡ load n.classes (slice_index mid.early) slot + moved * same_slot to slot
-  still : moved ≡ 0 → after.early ≡ mid.early
-
-pushed_on : (n : Network) (before mid after : Search) (class from to most amount moved : ℕ)
-    → holds before.reached from ≡ true → holds before.reached to ≡ false
-    → Pushes n before mid to amount moved → amount ≤ most → IsSwitched n mid after class from to moved
-    → Pushes n before after from most moved
-pushed_on n before mid after class from to most amount moved held out p fits s =
-    let apart : from ≢ to = not_slot before.reached from to held out in
-    let in_set : (q : ℕ) → IsOf before.reached from q → holds before.reached q ≡ true =
-    λ q is. elim is [ inl inside ↦ inside | inr here ↦ ap (holds before.reached) here ∙ held ] in
-    let other_class : (c : ℕ) → holds before.reached (start_of c true) ≡ true → holds before.reached (finish_of c true) ≡ true → c ≢ class =
-    λ c first last same.
-    elim s.between [
-      | inl is ↦
-          let e : holds before.reached to ≡ true = ap (holds before.reached) (is ∙ ap (λ (d : ℕ). start_of d true) (sym same)) ∙ first in cc
-      | inr is ↦
-          let e : holds before.reached to ≡ true = ap (holds before.reached) (is ∙ ap (λ (d : ℕ). finish_of d true) (sym same)) ∙ last in cc
-    ] in
-    record {
-      within = s.within;
-      size = s.size;
-      grows = record { each = λ q inside. ap (λ (set : ℕ). holds set q) s.reached ∙ p.grows.each q inside };
-      more = omega (arith, p.more, s.reached);
-      marked = ap (λ (set : ℕ). holds set from) s.reached ∙ p.grows.each from held;
-      bounded = omega (arith, p.bounded);
-      kept = record {
-        each = λ c h first last.
-            let one : holds before.reached (start_of c true) ≡ true = in_set (start_of c true) first in
-            let two : holds before.reached (finish_of c true) ≡ true = in_set (finish_of c true) last in
-            s.others c h (other_class c one two) ∙ p.kept.each c h (inl one) (inl two);
-      };
-      relieved = λ some.
-          let way : Relieves n (slice_index before.early) (slice_index after.early) from mid.end moved =
-          record {
-            to_fits = (p.relieved some).to_fits;
-            room = (p.relieved some).room;
-            loads = λ slot l. omega (arith, s.loads slot l, (p.relieved some).loads slot l);
-          } in
-          rw s.ended way;
-      same = λ none. s.still none ∙ p.same none;
-      stuck = λ none. rw (← s.reached) at (p.stuck none);
-    }
 
 -- one class is set, and the others stay
 set_here : (early : List ℕ) (class e : ℕ) → class < 136 → length early ≡ 136 → slice_index (slice_set early class e) class ≡ e
@@ -207,9 +152,52 @@ set_within l early class e h size low high within =
 set_still : (early : List ℕ) (class e : ℕ) → e ≡ slice_index early class → slice_set early class e ≡ early
 set_still early class e is = ap (λ (v : ℕ). slice_set early class v) is ∙ set-get_or early class 0
 
-pub moved_late : (n : Network) (before mid : Search) (class most amount moved : ℕ) → class < 136 →
+-- load goes on from a slot by runs of a class of which both are ends: the class is set, and all else is as it was
+pushed_on : (n : Network) (before mid : Progress) (class from to e most amount moved : ℕ)
+    → class < 136 → (to ≡ start_of class true) ⊎ (to ≡ finish_of class true)
+    → holds before.reached from ≡ true → holds before.reached to ≡ false
+    → Pushes n before mid to amount moved → amount ≤ most
+    → slice_index n.limits.now.lo class ≤ e → e ≤ slice_index n.limits.now.hi class
+    → ((slot : ℕ) → slot < 16 → load n.classes.now (slice_index (slice_set mid.early class e)) slot + moved * same_slot from slot
+    ≡ load n.classes.now (slice_index mid.early) slot + moved * same_slot to slot)
+    → (moved ≡ 0 → e ≡ slice_index mid.early class)
+    → Pushes n before (record { early = slice_set mid.early class e; reached = mid.reached; end = mid.end }) from most moved
+pushed_on n before mid class from to e most amount moved h between held out p fits low high loads still =
+    let in_set : (q : ℕ) → IsOf before.reached from q → holds before.reached q ≡ true =
+    λ q is. elim is [ inl inside ↦ inside | inr here ↦ ap (holds before.reached) here ∙ held ] in
+    let other_class : (c : ℕ) → holds before.reached (start_of c true) ≡ true → holds before.reached (finish_of c true) ≡ true → c ≢ class =
+    λ c first last same.
+    elim between [
+      | inl is ↦
+          let e : holds before.reached to ≡ true = ap (holds before.reached) (is ∙ ap (λ (d : ℕ). start_of d true) (sym same)) ∙ first in cc
+      | inr is ↦
+          let e : holds before.reached to ≡ true = ap (holds before.reached) (is ∙ ap (λ (d : ℕ). finish_of d true) (sym same)) ∙ last in cc
+    ] in
+    record {
+      within = set_within n.limits.now mid.early class e h p.size low high p.within;
+      size = length-set mid.early class e ∙ p.size;
+      grows = p.grows;
+      more = p.more;
+      marked = p.grows.each from held;
+      bounded = omega (arith, p.bounded);
+      kept = record {
+        each = λ c k first last.
+            let one : holds before.reached (start_of c true) ≡ true = in_set (start_of c true) first in
+            let two : holds before.reached (finish_of c true) ≡ true = in_set (finish_of c true) last in
+            set_other mid.early class e c (other_class c one two) ∙ p.kept.each c k (inl one) (inl two);
+      };
+      relieved = λ some. record {
+        to_fits = (p.relieved some).to_fits;
+        room = (p.relieved some).room;
+        loads = λ slot l. omega (arith, loads slot l, (p.relieved some).loads slot l);
+      };
+      same = λ none. set_still mid.early class e (still none) ∙ p.same none;
+      stuck = p.stuck;
+    }
+
+pub moved_late : (n : Network) (before mid : Progress) (class most amount moved : ℕ) → class < 136 →
     IsNetworkOf n before → holds before.reached (start_of class true) ≡ true → holds before.reached (finish_of class true) ≡ false →
-    amount + slice_index n.limits.lo class ≤ slice_index before.early class → amount ≤ most →
+    amount + slice_index n.limits.now.lo class ≤ slice_index before.early class → amount ≤ most →
     Pushes n before mid (finish_of class true) amount moved →
     Pushes n before (record {
       early = slice_set mid.early class (slice_index mid.early class - moved);
@@ -218,33 +206,20 @@ pub moved_late : (n : Network) (before mid : Search) (class most amount moved : 
     })
     (start_of class true) most moved
 moved_late n before mid class most amount moved h network held out room fits p =
-    let after : List ℕ = slice_set mid.early class (slice_index mid.early class - moved) in
+    let e : ℕ = slice_index mid.early class - moved in
     let kept : slice_index mid.early class ≡ slice_index before.early class = p.kept.each class h (inl held) (inr refl) in
-    let here : slice_index after class ≡ slice_index mid.early class - moved =
-    set_here mid.early class (slice_index mid.early class - moved) h p.size in
-    let moves : Moves (slice_index mid.early) (slice_index after) class moved =
-    record {
-      here = omega (arith, here, kept, p.bounded, room);
-      others = λ c k ne. set_other mid.early class (slice_index mid.early class - moved) c ne;
-    } in
-    pushed_on n before mid _ class (start_of class true) (finish_of class true) most amount moved held out p fits (record {
-      from_low = start_low class h;
-      to_low = finish_low class;
-      between = inr refl;
-      reached = refl;
-      ended = refl;
-      within = set_within n.limits mid.early class _ h p.size (omega (arith, kept, p.bounded, room))
-          (omega (arith, p.within.most class h)) p.within;
-      size = length-set mid.early class _ ∙ p.size;
-      others = moves.others;
-      loads = λ slot l. load_moved n.classes (slice_index mid.early) (slice_index after) class moved slot h l
-          (omega (arith, p.within.most class h, network.ordered.counted class h)) moves;
-      still = λ none. set_still mid.early class _ (omega (arith, none));
-    })
+    let here : slice_index (slice_set mid.early class e) class ≡ e = set_here mid.early class e h p.size in
+    let moves : Moves (slice_index mid.early) (slice_index (slice_set mid.early class e)) class moved =
+    record { here = omega (arith, here, kept, p.bounded, room); others = λ c k ne. set_other mid.early class e c ne } in
+    pushed_on n before mid class (start_of class true) (finish_of class true) e most amount moved h (inr refl) held out p fits
+    (omega (arith, kept, p.bounded, room)) (omega (arith, p.within.most class h))
+    (λ slot l. load_moved n.classes.now (slice_index mid.early) (slice_index (slice_set mid.early class e)) class moved slot h l
+    (omega (arith, p.within.most class h, network.ordered.counted class h)) moves)
+    (λ none. omega (arith, none))
 
-pub moved_early : (n : Network) (before mid : Search) (class most amount moved : ℕ) → class < 136 →
+pub moved_early : (n : Network) (before mid : Progress) (class most amount moved : ℕ) → class < 136 →
     IsNetworkOf n before → holds before.reached (finish_of class true) ≡ true → holds before.reached (start_of class true) ≡ false →
-    slice_index before.early class + amount ≤ slice_index n.limits.hi class → amount ≤ most →
+    slice_index before.early class + amount ≤ slice_index n.limits.now.hi class → amount ≤ most →
     Pushes n before mid (start_of class true) amount moved →
     Pushes n before (record {
       early = slice_set mid.early class (slice_index mid.early class + moved);
@@ -253,29 +228,16 @@ pub moved_early : (n : Network) (before mid : Search) (class most amount moved :
     })
     (finish_of class true) most moved
 moved_early n before mid class most amount moved h network held out room fits p =
-    let after : List ℕ = slice_set mid.early class (slice_index mid.early class + moved) in
+    let e : ℕ = slice_index mid.early class + moved in
     let kept : slice_index mid.early class ≡ slice_index before.early class = p.kept.each class h (inr refl) (inl held) in
-    let here : slice_index after class ≡ slice_index mid.early class + moved =
-    set_here mid.early class (slice_index mid.early class + moved) h p.size in
-    let moves : Moves (slice_index after) (slice_index mid.early) class moved =
-    record {
-      here = sym here;
-      others = λ c k ne. sym (set_other mid.early class (slice_index mid.early class + moved) c ne);
-    } in
-    pushed_on n before mid _ class (finish_of class true) (start_of class true) most amount moved held out p fits (record {
-      from_low = finish_low class;
-      to_low = start_low class h;
-      between = inl refl;
-      reached = refl;
-      ended = refl;
-      within = set_within n.limits mid.early class _ h p.size (omega (arith, p.within.least class h))
-          (omega (arith, kept, p.bounded, room)) p.within;
-      size = length-set mid.early class _ ∙ p.size;
-      others = λ c k ne. sym (moves.others c k ne);
-      loads = λ slot l. sym (load_moved n.classes (slice_index after) (slice_index mid.early) class moved slot h l
-          (omega (arith, here, kept, p.bounded, room, network.ordered.counted class h)) moves);
-      still = λ none. set_still mid.early class _ (omega (arith, none));
-    })
+    let here : slice_index (slice_set mid.early class e) class ≡ e = set_here mid.early class e h p.size in
+    let moves : Moves (slice_index (slice_set mid.early class e)) (slice_index mid.early) class moved =
+    record { here = sym here; others = λ c k ne. sym (set_other mid.early class e c ne) } in
+    pushed_on n before mid class (finish_of class true) (start_of class true) e most amount moved h (inl refl) held out p fits
+    (omega (arith, p.within.least class h)) (omega (arith, kept, p.bounded, room))
+    (λ slot l. sym (load_moved n.classes.now (slice_index (slice_set mid.early class e)) (slice_index mid.early) class moved slot h l
+    (omega (arith, here, kept, p.bounded, room, network.ordered.counted class h)) moves))
+    (λ none. omega (arith, none))
 
 -- the loads of a switch from one slot to another
 pub shifted_is : (loads : List ℕ) (from to moved slot : ℕ) → from < length loads → to < length loads → to ≢ from →

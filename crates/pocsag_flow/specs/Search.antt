@@ -6,23 +6,23 @@ use Rattle.pocsag_slots.specs.Loads.{AreInOrder, IsWithin, load}
 use Rattle.pocsag_slots.specs.Numbering.{finish_of, start_of}
 use Rattle.pocsag_slots.specs.Sums.{holds}
 use Rattle.pocsag_flow.specs.declared.network.Network.{Network}
-use Rattle.pocsag_flow.specs.declared.network.Search.{Search}
-use Rattle.pocsag_flow.specs.declared.network.Standing.{Standing}
+use Rattle.pocsag_flow.specs.declared.network.Progress.{Progress}
+use Rattle.pocsag_flow.specs.declared.network.LoadedChoice.{LoadedChoice}
 
 -- The network holds the loads of the search's choice, which is within the limits.
-pub record IsNetworkOf (n : Network) (s : Search) : Type 0 where
-  pub ordered : AreInOrder n.classes n.limits
-  pub within : IsWithin n.limits (slice_index s.early)
+pub record IsNetworkOf (n : Network) (s : Progress) : Type 0 where
+  pub ordered : AreInOrder n.classes.now n.limits.now
+  pub within : IsWithin n.limits.now (slice_index s.early)
   pub size : length s.early ≡ 136
-  pub loads : (slot : ℕ) → slot < 16 → slice_index n.loads slot ≡ load n.classes (slice_index s.early) slot
+  pub loads : (slot : ℕ) → slot < 16 → slice_index n.loads slot ≡ load n.classes.now (slice_index s.early) slot
 
 -- Some load may be pushed in the network: what each step of the search asks.
-pub record MayPush (n : Network) (s : Search) (most : ℕ) : Type 0 where
+pub record MayPush (n : Network) (s : Progress) (most : ℕ) : Type 0 where
   pub network : IsNetworkOf n s
   pub some : 0 < most
 
 -- The choice is within the limits, and these are its loads.
-pub record IsStanding (k : Classes) (l : Limits) (s : Standing) : Type 0 where
+pub record IsLoaded (k : Classes) (l : Limits) (s : LoadedChoice) : Type 0 where
   pub within : IsWithin l (slice_index s.early)
   pub size : length s.early ≡ 136
   pub loads : (slot : ℕ) → slot < 16 → slice_index s.loads slot ≡ load k (slice_index s.early) slot
@@ -37,8 +37,8 @@ pub record StaysInside (l : Limits) (early : ℕ → ℕ) (set slot : ℕ) : Typ
 
 -- The slot has no room, and nothing leads from it out of the set.
 pub record IsStuck (n : Network) (early : ℕ → ℕ) (set slot : ℕ) : Type 0 where
-  pub closed : StaysInside n.limits early set slot
-  pub full : slice_index n.limits.cap slot ≤ load n.classes early slot
+  pub closed : StaysInside n.limits.now early set slot
+  pub full : slice_index n.limits.now.cap slot ≤ load n.classes.now early slot
 
 -- The slots that are new in a set are stuck.
 pub record AreStuck (n : Network) (early : ℕ → ℕ) (old new : ℕ) : Type 0 where
@@ -62,13 +62,13 @@ same_slot a b = cond (a == b) 1 0
 -- So much load is taken from one slot and given to another, which has room for it.
 pub record Relieves (n : Network) (before after : ℕ → ℕ) (from to moved : ℕ) : Type 0 where
   pub to_fits : to < 16
-  pub room : load n.classes before to + moved ≤ slice_index n.limits.cap to
+  pub room : load n.classes.now before to + moved ≤ slice_index n.limits.now.cap to
   pub loads : (slot : ℕ) → slot < 16 →
-      load n.classes after slot + moved * same_slot from slot ≡ load n.classes before slot + moved * same_slot to slot
+      load n.classes.now after slot + moved * same_slot from slot ≡ load n.classes.now before slot + moved * same_slot to slot
 
 -- What a step of the search does for the slot: it moves some load on, or finds all new slots stuck.
-pub record Pushes (n : Network) (before after : Search) (slot most moved : ℕ) : Type 0 where
-  pub within : IsWithin n.limits (slice_index after.early)
+pub record Pushes (n : Network) (before after : Progress) (slot most moved : ℕ) : Type 0 where
+  pub within : IsWithin n.limits.now (slice_index after.early)
   pub size : length after.early ≡ 136
   pub grows : Includes after.reached before.reached
   pub more : before.reached ≤ after.reached
@@ -80,9 +80,9 @@ pub record Pushes (n : Network) (before after : Search) (slot most moved : ℕ) 
   pub stuck : moved ≡ 0 → AreStuck n (slice_index before.early) before.reached after.reached
 
 -- The classes below the given one lead nowhere from the slot, and so far nothing has moved.
-pub record Leaves (n : Network) (before now : Search) (slot class : ℕ) : Type 0 where
+pub record Leaves (n : Network) (before now : Progress) (slot class : ℕ) : Type 0 where
   pub same : now.early ≡ before.early
   pub grows : Includes now.reached before.reached
   pub more : before.reached ≤ now.reached
   pub stuck : AreStuck n (slice_index before.early) before.reached now.reached
-  pub leads : (tried : ℕ) → tried < class → LeadsInto n.limits (slice_index before.early) now.reached tried slot
+  pub leads : (tried : ℕ) → tried < class → LeadsInto n.limits.now (slice_index before.early) now.reached tried slot

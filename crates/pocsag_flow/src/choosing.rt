@@ -2,10 +2,10 @@ ghost use Rattle.std.specs.Prelude.{◌≡◌, ◌≢◌, ℕ, ◌+◌, ◌*◌,
 ghost use Rattle.pocsag_slots.specs.Loads.{AreInOrder, IsAdmitted, IsWithin, Overloads};
 ghost use Rattle.pocsag_tree.specs.Spelling.{IsSet};
 ghost use Rattle.pocsag_flow.specs.Choosing.{IsBelowLeast, overload, set_of};
-ghost use Rattle.pocsag_flow.specs.Search.{IsStanding, same_slot};
+ghost use Rattle.pocsag_flow.specs.Search.{IsLoaded, same_slot};
 
 use crate::fault::ChooseFault;
-use crate::network::{Network, Search, Standing};
+use crate::network::{LoadedChoice, Network, Progress};
 use crate::way::leave;
 use pocsag_slots::{
     CLASSES, Choice, Classes, Limits, SLOTS, class_loads_add_up, loads, with_member,
@@ -39,7 +39,7 @@ pub fn choose_from(
     ensures least { IfErr result (λ fault. IsBelowLeast classes.now limits.now (set_of fault)) }
 {
     let choice = clamped(limits, start);
-    let mut standing = Standing {
+    let mut standing = LoadedChoice {
         early: choice.early,
         loads: loads(classes, &choice),
     };
@@ -67,7 +67,8 @@ fn clamped(limits: &Limits, start: &Choice) -> Choice
 
 // The first slot that is loaded above its cap.
 fn overfull(counted: &[u32; 16], limits: &Limits) -> Option<u8>
-    ensures none { IfNone result ((slot : ℕ) → slot < 16 → slice_index counted.now slot ≤ slice_index limits.now.cap slot) }
+    ensures none { IfNone result ((slot : ℕ) → slot < 16 →
+        slice_index counted.now slot ≤ slice_index limits.now.cap slot) }
     ensures slot { IfSome result (λ slot. slot < 16) }
     ensures some { IfSome result (λ slot. slice_index limits.now.cap slot < slice_index counted.now slot) }
 {
@@ -84,26 +85,28 @@ fn overfull(counted: &[u32; 16], limits: &Limits) -> Option<u8>
 fn relieved(
     classes: &Classes,
     limits: &Limits,
-    standing: &Standing,
+    standing: &LoadedChoice,
     slot: u8,
-) -> Result<Standing, ChooseFault>
+) -> Result<LoadedChoice, ChooseFault>
     requires ordered { AreInOrder classes.now limits.now }
-    requires standing { IsStanding classes.now limits.now standing.now }
+    requires standing { IsLoaded classes.now limits.now standing.now }
     requires slot { slot < 16 }
     requires above { slice_index limits.now.cap slot < slice_index standing.now.loads slot }
-    ensures standing { IfOk result (IsStanding classes.now limits.now) }
-    ensures less { IfOk result (λ after. overload classes.now limits.now (slice_index after.early) < overload classes.now limits.now (slice_index standing.now.early)) }
+    ensures standing { IfOk result (IsLoaded classes.now limits.now) }
+    ensures less { IfOk result
+        (λ after. overload classes.now limits.now (slice_index after.early)
+        < overload classes.now limits.now (slice_index standing.now.early)) }
     ensures set { IfErr result (λ fault. IsSet (set_of fault)) }
     ensures overloads { IfErr result (λ fault. Overloads classes.now limits.now (set_of fault)) }
 {
     class_loads_add_up();
     let excess = standing.loads[slot as usize] - limits.cap[slot as usize];
     let network = Network {
-        classes: *classes,
-        limits: *limits,
+        classes,
+        limits,
         loads: standing.loads,
     };
-    let mut search = Search {
+    let mut search = Progress {
         early: standing.early,
         reached: with_member(0, slot),
         end: slot,
@@ -112,7 +115,7 @@ fn relieved(
     if moved == 0 {
         return Err(overload_of(search.reached));
     }
-    Ok(Standing {
+    Ok(LoadedChoice {
         early: search.early,
         loads: shifted(standing.loads, slot, search.end, moved),
     })
@@ -126,7 +129,8 @@ fn shifted(loads: [u32; 16], from: u8, to: u8, moved: u32) -> [u32; 16]
     requires taken { moved ≤ slice_index loads from }
     requires given { slice_index loads to + moved < 2 ^ 32 }
     ensures length { length result ≡ 16 }
-    ensures loads { (slot : ℕ) → slot < 16 → slice_index result slot + moved * same_slot from slot ≡ slice_index loads slot + moved * same_slot to slot }
+    ensures loads { (slot : ℕ) → slot < 16 →
+        slice_index result slot + moved * same_slot from slot ≡ slice_index loads slot + moved * same_slot to slot }
 {
     let mut after = loads;
     after[from as usize] -= moved;

@@ -3,12 +3,12 @@ ghost use Rattle.pocsag_slots.specs.Numbering.{finish_of, start_of};
 ghost use Rattle.pocsag_slots.specs.Sums.{holds};
 ghost use Rattle.pocsag_flow.specs.Search.{StaysInside, LeadsInto, MayPush, Pushes};
 
-use crate::network::{Network, Search};
+use crate::network::{Network, Progress};
 use pocsag_slots::{CLASSES, finish, holds, start, with_member};
 
 // Moves up to `most` into the slot, which is not reached yet, and on where it has no room.
 #[cycle(push)]
-fn enter(network: &Network, search: &mut Search, slot: u8, most: u32) -> u32
+fn enter(network: &Network, search: &mut Progress, slot: u8, most: u32) -> u32
     requires may { MayPush network.now search.old most }
     requires slot { slot < 16 }
     requires apart { holds search.old.reached slot ≡ false }
@@ -28,12 +28,13 @@ fn enter(network: &Network, search: &mut Search, slot: u8, most: u32) -> u32
 // Moves up to `most` out of the slot, which is reached: straight into a slot with room, or else on by
 // the first class that leads to one.
 #[cycle(push)]
-pub(crate) fn leave(network: &Network, search: &mut Search, slot: u8, most: u32) -> u32
+pub(crate) fn leave(network: &Network, search: &mut Progress, slot: u8, most: u32) -> u32
     requires may { MayPush network.now search.old most }
     requires slot { slot < 16 }
     requires reached { holds search.old.reached slot ≡ true }
     ensures pushes { Pushes network.now search.old search.new slot most result }
-    ensures closed { result ≡ 0 → StaysInside network.now.limits (slice_index search.new.early) search.new.reached slot }
+    ensures closed { result ≡ 0 →
+        StaysInside network.now.limits.now (slice_index search.new.early) search.new.reached slot }
 {
     let straight = leave_straight(network, search, slot, most);
     if straight > 0 {
@@ -50,7 +51,7 @@ pub(crate) fn leave(network: &Network, search: &mut Search, slot: u8, most: u32)
 
 // Moves up to `most` out of the slot by the first class that leads straight into a slot with room.
 #[cycle(push)]
-fn leave_straight(network: &Network, search: &mut Search, slot: u8, most: u32) -> u32
+fn leave_straight(network: &Network, search: &mut Progress, slot: u8, most: u32) -> u32
     requires may { MayPush network.now search.old most }
     requires reached { holds search.old.reached slot ≡ true }
     ensures pushes { Pushes network.now search.old search.new slot most result }
@@ -65,7 +66,7 @@ fn leave_straight(network: &Network, search: &mut Search, slot: u8, most: u32) -
 }
 
 #[cycle(push)]
-fn switch_straight(network: &Network, search: &mut Search, class: u8, slot: u8, most: u32) -> u32
+fn switch_straight(network: &Network, search: &mut Progress, class: u8, slot: u8, most: u32) -> u32
     requires may { MayPush network.now search.old most }
     requires class { class < 136 }
     requires reached { holds search.old.reached slot ≡ true }
@@ -105,12 +106,13 @@ fn has_room(network: &Network, slot: u8) -> bool
 // asked of each class, and most have no run that may move.
 #[inline(always)]
 #[cycle(push)]
-fn switch(network: &Network, search: &mut Search, class: u8, slot: u8, most: u32) -> u32
+fn switch(network: &Network, search: &mut Progress, class: u8, slot: u8, most: u32) -> u32
     requires may { MayPush network.now search.old most }
     requires class { class < 136 }
     requires reached { holds search.old.reached slot ≡ true }
     ensures pushes { Pushes network.now search.old search.new slot most result }
-    ensures leads { result ≡ 0 → LeadsInto network.now.limits (slice_index search.new.early) search.new.reached class slot }
+    ensures leads { result ≡ 0 →
+        LeadsInto network.now.limits.now (slice_index search.new.early) search.new.reached class slot }
 {
     if network.limits.lo[class as usize] == network.limits.hi[class as usize] {
         return 0;
@@ -137,12 +139,12 @@ fn switch(network: &Network, search: &mut Search, class: u8, slot: u8, most: u32
 
 // Moves up to `most` runs of the class from early to late.
 #[cycle(push)]
-fn to_late(network: &Network, search: &mut Search, class: u8, most: u32) -> u32
+fn to_late(network: &Network, search: &mut Progress, class: u8, most: u32) -> u32
     requires may { MayPush network.now search.old most }
     requires class { class < 136 }
     requires reached { holds search.old.reached (start_of class true) ≡ true }
     requires apart { holds search.old.reached (finish_of class true) ≡ false }
-    requires room { slice_index network.now.limits.lo class < slice_index search.old.early class }
+    requires room { slice_index network.now.limits.now.lo class < slice_index search.old.early class }
     ensures pushes { Pushes network.now search.old search.new (start_of class true) most result }
     ensures reached { holds search.new.reached (finish_of class true) ≡ true }
 {
@@ -154,12 +156,12 @@ fn to_late(network: &Network, search: &mut Search, class: u8, most: u32) -> u32
 
 // Moves up to `most` runs of the class from late to early.
 #[cycle(push)]
-fn to_early(network: &Network, search: &mut Search, class: u8, most: u32) -> u32
+fn to_early(network: &Network, search: &mut Progress, class: u8, most: u32) -> u32
     requires may { MayPush network.now search.old most }
     requires class { class < 136 }
     requires reached { holds search.old.reached (finish_of class true) ≡ true }
     requires apart { holds search.old.reached (start_of class true) ≡ false }
-    requires room { slice_index search.old.early class < slice_index network.now.limits.hi class }
+    requires room { slice_index search.old.early class < slice_index network.now.limits.now.hi class }
     ensures pushes { Pushes network.now search.old search.new (finish_of class true) most result }
     ensures reached { holds search.new.reached (start_of class true) ≡ true }
 {

@@ -1,7 +1,7 @@
-ghost use Rattle.std.specs.Prelude.{◌≡◌, ◌⊎◌, ◌++◌, length, false, true, Err, IfErr, IfOk, OnErr, OnOk};
+ghost use Rattle.std.specs.Prelude.{◌≡◌, ◌++◌, length, false, true, Err, IfErr, IfOk, OnErr, OnOk};
 ghost use Rattle.pocsag_pages.specs.PageFile.{verdict};
 ghost use Rattle.pocsag_pages.specs.declared.fault.RoundFault.{RoundFault};
-ghost use Rattle.pocsag_commands.specs.Faults.{IsStatus, status_of};
+ghost use Rattle.pocsag_commands.specs.Faults.{status_of};
 ghost use Rattle.pocsag_open.specs.Answers.{IsPlanSent, IsPlanTold, plan_answer};
 
 use crate::answering::{OpenRound, answer_edit, refuse, tell_pages};
@@ -11,7 +11,7 @@ use crate::lines::{Found, Lines};
 use crate::outputs::{Outputs, Places};
 use crate::refusal::Refusal;
 use crate::settling::settled;
-use pocsag_commands::{DEFAULT_LIMIT, Fault, ended, tell};
+use pocsag_commands::{DEFAULT_LIMIT, Fault, tell};
 use pocsag_decode::{ListFault, list};
 use pocsag_pages::read_round;
 use pocsag_plan::Book;
@@ -29,72 +29,51 @@ pub struct Planner<'a, P: Places> {
 }
 
 /// `open` without PAGES: answers the lines of the input, one by one, up to its end. A round of no pages is
-/// open at first. Answers the exit status.
-pub fn run_open<P: Places, I: Source, O: Sink, E: Sink>(
+/// open at first.
+pub fn run_open<P: Places, I: Source, O: Sink>(
     alloc: Global,
     planner: &Planner<'_, P>,
     input: &mut I,
     out: &mut O,
-    err: &mut E,
-) -> u8
+) -> Result<(), Fault>
     // It is done only at the end of the input, which did not fail.
-    ensures input { result ≡ 0 → I.failures input.new ≡ I.failures input.old }
-    ensures status { (result ≡ 0) ⊎ (result ≡ 3) }
+    ensures input { OnOk result (I.failures input.new ≡ I.failures input.old) }
+    ensures lost { IfErr result (λ e. status_of e ≡ 3) }
 {
     let mut round = OpenRound {
         book: Book::new(alloc),
         keeper: NoKeeper,
     };
-    run_open_kept(alloc, planner, &mut round, input, out, err)
-}
-
-/// The same of a round whose edits are kept, each before it is answered.
-pub fn run_open_kept<P: Places, K: Keeper + Drop, I: Source, O: Sink, E: Sink>(
-    alloc: Global,
-    planner: &Planner<'_, P>,
-    round: &mut OpenRound<K>,
-    input: &mut I,
-    out: &mut O,
-    err: &mut E,
-) -> u8
-    // It is done only at the end of the input, which did not fail; then what is kept stands for the pages.
-    ensures input { result ≡ 0 → I.failures input.new ≡ I.failures input.old }
-    ensures stands { K.stands_for round.old.keeper round.old.book → result ≡ 0 → K.stands_for round.new.keeper round.new.book }
-    ensures status { (result ≡ 0) ⊎ (result ≡ 3) }
-{
-    let done = answer_lines(alloc, planner, round, input, out);
-    ended(done, err)
+    run_open_kept(alloc, planner, &mut round, input, out)
 }
 
 /// `open PAGES`: the same, where the pages of the page file are open at first.
-pub fn run_open_pages<P: Places, F: Source, I: Source, O: Sink, E: Sink>(
+pub fn run_open_pages<P: Places, F: Source, I: Source, O: Sink>(
     alloc: Global,
     planner: &Planner<'_, P>,
     pages: &mut F,
     input: &mut I,
     out: &mut O,
-    err: &mut E,
-) -> u8
+) -> Result<(), Fault>
     // It is done only at the end of the input, and neither it nor the page file failed.
-    ensures input { result ≡ 0 → I.failures input.new ≡ I.failures input.old }
-    ensures pages { result ≡ 0 → F.failures pages.new ≡ F.failures pages.old }
+    ensures input { OnOk result (I.failures input.new ≡ I.failures input.old) }
+    ensures pages { OnOk result (F.failures pages.new ≡ F.failures pages.old) }
 
     // Only a fault of the page file is refused, and then no line is read or answered.
-    ensures why { F.tells → result ≡ 1 → (f : RoundFault) × (verdict (F.held pages.old) ≡ Err f) }
-    ensures refused { result ≡ 1 → (input.new ≡ input.old) × (out.new ≡ out.old) }
-    ensures status { IsStatus result }
+    ensures why { F.tells → IfErr result (λ e. status_of e ≡ 1 →
+        (f : RoundFault) × (verdict (F.held pages.old) ≡ Err f)) }
+    ensures refused { IfErr result (λ e. status_of e ≡ 1 → (input.new ≡ input.old) × (out.new ≡ out.old)) }
 {
-    let done = match book_of(alloc, pages) {
+    match book_of(alloc, pages) {
         Ok(book) => {
             let mut round = OpenRound {
                 book,
                 keeper: NoKeeper,
             };
-            answer_lines(alloc, planner, &mut round, input, out)
+            run_open_kept(alloc, planner, &mut round, input, out)
         }
         Err(fault) => Err(fault),
-    };
-    ended(done, err)
+    }
 }
 
 // A book of the pages of a page file.
@@ -107,13 +86,16 @@ fn book_of<F: Source>(alloc: Global, pages: &mut F) -> Result<Book, Fault>
     Ok(Book::of_round(alloc, &round)?)
 }
 
-fn answer_lines<P: Places, K: Keeper + Drop, I: Source, O: Sink>(
+/// The same of a round whose edits are kept, each before it is answered. Answers the lines of the input, one by one, up to
+/// its end.
+pub fn run_open_kept<P: Places, K: Keeper + Drop, I: Source, O: Sink>(
     alloc: Global,
     planner: &Planner<'_, P>,
     round: &mut OpenRound<K>,
     input: &mut I,
     out: &mut O,
 ) -> Result<(), Fault>
+    // It is done only at the end of the input, which did not fail; then what is kept stands for the pages.
     ensures input { OnOk result (I.failures input.new ≡ I.failures input.old) }
     ensures stands { K.stands_for round.old.keeper round.old.book → OnOk result (K.stands_for round.new.keeper round.new.book) }
     ensures lost { IfErr result (λ e. status_of e ≡ 3) }

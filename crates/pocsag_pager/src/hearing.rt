@@ -28,7 +28,7 @@ fn after_leading(bytes: &[u8], count: usize) -> &[u8]
 
 // The bytes after the preamble, which must be whole batches, at least one.
 #[tactic(auto, unfolding(crate::specs::Faults::bytes_fault))]
-fn batches_of(bytes: &[u8]) -> Result<&[u8], PagerFault>
+fn whole_batches(bytes: &[u8]) -> Result<&[u8], PagerFault>
     ensures ok { IfOk result (λ rest. rest.now ≡ after_preamble bytes.now) }
     ensures whole { IfOk result (λ rest. length rest.now % 68 ≡ 0) }
     ensures fine { OnOk result (bytes_fault bytes.now ≡ None) }
@@ -127,11 +127,12 @@ pub fn hear_all(alloc: Global, bytes: &[u8], address: u32) -> Result<Vec<Page>, 
     // each word, the pager shows just the round's page for the address, or nothing.
     ensures repaired { (end : End) (T : List ℕ) (batches : ℕ) (R : List Page) →
         IsRound R → IsLegalList end T batches R → IsDamaged (bytes_of T) bytes.now → address_fault address ≡ None →
-        MatchResult result (λ pages. pages.items ≡ filter (λ p. p.address == address) R) (λ e. e ≡ PagerFault.OutOfMemory) }
+        MatchResult result (λ pages. pages.items ≡ filter (λ p. p.address == address) R)
+        (λ e. e ≡ PagerFault.OutOfMemory) }
 {
     damage_is_repaired();
     shown_pages_are_one_list();
     let pager = Pager::new(alloc, address)?;
-    let batches = batches_of(bytes)?;
+    let batches = whole_batches(bytes)?;
     hear_batches(alloc, pager, batches)
 }

@@ -18,7 +18,8 @@ pub fn damage_is_repaired()
     ensures whole { (end : End) (T : List ℕ) (batches : ℕ) (R : List Page) (Y : List ℕ) →
         IsLegalList end T batches R → IsDamaged (bytes_of T) Y → bytes_fault Y ≡ None }
     ensures shown { (end : End) (T : List ℕ) (batches : ℕ) (R : List Page) (Y : List ℕ) (a : ℕ) (ps : List Page) →
-        IsRound R → IsLegalList end T batches R → IsDamaged (bytes_of T) Y → AreShown (words_of (after_preamble Y)) a ps →
+        IsRound R → IsLegalList end T batches R → IsDamaged (bytes_of T) Y →
+        AreShown (words_of (after_preamble Y)) a ps →
         ps ≡ filter (λ p. p.address == a) R }
 {
     readings_are_plain();

@@ -64,7 +64,8 @@ impl Pager {
 
         // Where these are the pages of *Shown* that had ended, with the answer they are those that
         // have ended now.
-        ensures ended { (words : List ℕ) (ps : List Page) → Stands self.old words → HaveEnded words (pager_address self.old) ps →
+        ensures ended { (words : List ℕ) (ps : List Page) → Stands self.old words →
+            HaveEnded words (pager_address self.old) ps →
             IfOk result (λ page. HaveEnded (words ++ word ∷ []) (pager_address self.old) (ps ++ option_to_list page)) }
         ensures address { pager_address self.new ≡ pager_address self.old }
         ensures failed { IsOver self.old → result ≡ Err PagerFault.Failed }
@@ -78,7 +79,7 @@ impl Pager {
         let place = self.place;
         self.place = (place + 1) % BATCH_WORDS;
         let heard = heard_as(word);
-        if self.waits() && place > 0 && !opens(self.address, place - 1, heard) {
+        if self.is_between_pages() && place > 0 && !opens(self.address, place - 1, heard) {
             return Ok(None);
         }
         let State::Listening(kept) = mem::replace(&mut self.state, State::Failed) else {
@@ -95,7 +96,8 @@ impl Pager {
 
     /// The page that is still open, which takes no memory. From then on the pager answers `Failed`.
     pub fn end(&mut self) -> Result<Option<Page>, PagerFault>
-        ensures shown { (words : List ℕ) (ps : List Page) → Stands self.old words → HaveEnded words (pager_address self.old) ps →
+        ensures shown { (words : List ℕ) (ps : List Page) → Stands self.old words →
+            HaveEnded words (pager_address self.old) ps →
             IfOk result (λ page. AreShown words (pager_address self.old) (ps ++ option_to_list page)) }
         ensures ok { (words : List ℕ) → Stands self.old words → IsOk result }
         ensures failed { IsOver self.old → result ≡ Err PagerFault.Failed }
@@ -117,7 +119,7 @@ impl Pager {
     }
 
     // Whether no page is open.
-    fn waits(&self) -> bool
+    fn is_between_pages(&self) -> bool
         ensures { OnTrue result (self.now.state ≡ State.Listening None) }
     {
         matches!(self.state, State::Listening(None))
@@ -129,7 +131,7 @@ impl Pager {
         ensures open_page { OnTrue result (self.now.state ≡ State.Listening None) }
         ensures places { OnTrue result (IsElsewhere (pager_address self.now) self.now.place count) }
     {
-        if !self.waits() {
+        if !self.is_between_pages() {
             return false;
         }
         let first = self.place as usize;

@@ -8,7 +8,7 @@ use Rattle.std.proofs.lemmas.List.{length-map}
 use Rattle.std.proofs.lemmas.List.Elements.{All-cons, All-nil, All-head, All-tail}
 use Rattle.std.proofs.lemmas.Map.Keys.{apart_from_distinct}
 use Rattle.std.proofs.lemmas.Map.Steps.{length-le_from_distinct_below}
-use Rattle.std.proofs.lemmas.Bool.{or_parts}
+use Rattle.std.proofs.lemmas.Bool.{or_cases, or_parts}
 use Rattle.pocsag_text.specs.Text.{item_limit}
 use Rattle.pocsag_pages.specs.declared.page.Page.{Page}
 use Rattle.pocsag_pages.specs.Pages.{last_address, AreGood, IsGoodPage, addresses_of, is_bad_payload, page_fault_of}
@@ -66,10 +66,6 @@ good_page p e =
 pub good_pages : (ps : List Page) → AreGood ps → All IsGoodPage ps
 good_pages ps good = λ k d h. good_page _ (good.each k d h)
 
-either_is : (a b : Bool) → (a || b) ≡ true → (a ≡ true) ⊎ (b ≡ true)
-either_is true b e = inl refl
-either_is false b e = inr e
-
 low_same : (q a : ℕ) → nat_eq q a ≡ true → a < 2 ^ 21 → q < 2 ^ 21
 low_same q a e low = grind (arith, nat_tests)
 
@@ -80,7 +76,7 @@ has_low : (ps : List Page) → All (λ p. page_fault_of p ≡ None) ps → (q : 
 has_low [] fine q h = absurd (cc)
 has_low (p ∷ ps) fine q h =
     let low : p.address < 2 ^ 21 = (good_page p (All-head (λ r. page_fault_of r ≡ None) p ps fine)).address in
-    elim (either_is (nat_eq q p.address) (list_any (nat_eq q) (addresses_of ps)) h) [
+    elim (or_cases (nat_eq q p.address) (list_any (nat_eq q) (addresses_of ps)) h) [
       | inl e ↦ low_same q p.address e low
       | inr e ↦ has_low ps (All-tail (λ r. page_fault_of r ≡ None) p ps fine) q e
     ]

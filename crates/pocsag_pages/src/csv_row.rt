@@ -35,7 +35,8 @@ pub(crate) fn next_row(
     row: &mut ByteRecord,
 ) -> Result<bool, OutOfMemory>
     requires { StandsAt reader.old }
-    ensures found { IfOk result (λ found. found ≡ true → rows_left reader.old ≡ fields_of row.new ∷ rows_left reader.new) }
+    ensures found { IfOk result
+        (λ found. found ≡ true → rows_left reader.old ≡ fields_of row.new ∷ rows_left reader.new) }
     ensures stands { IfOk result (λ found. found ≡ true → StandsAt reader.new) }
     ensures none { IfOk result (λ found. found ≡ false → rows_left reader.old ≡ []) }
 {

@@ -50,13 +50,19 @@ impl RecordFault {
 }
 
 // The pages so far, one for each of the earlier records, and that of one record more.
-fn judge(alloc: Global, draft: Draft, earlier: u32, row: &ByteRecord) -> Result<Draft, RecordFault>
+fn with_row(
+    alloc: Global,
+    draft: Draft,
+    earlier: u32,
+    row: &ByteRecord,
+) -> Result<Draft, RecordFault>
     ensures fine { IfOk result (λ d. fault_after earlier draft (page_of (fields_of row.now)) ≡ None) }
     ensures longer { IfOk result (λ d. d ≡ draft ++ pages_of (fields_of row.now ∷ [])) }
     ensures one { IfOk result (λ d. length d ≡ length draft + 1) }
     ensures few { IfOk result (λ d. earlier + 1 ≤ page_limit) }
     ensures err { IfErr result
-        (λ e. (e ≡ RecordFault.Field FieldFault.OutOfMemory) ⊎ (fault_after earlier draft (page_of (fields_of row.now)) ≡ Some e)) }
+        (λ e. (e ≡ RecordFault.Field FieldFault.OutOfMemory)
+        ⊎ (fault_after earlier draft (page_of (fields_of row.now)) ≡ Some e)) }
 
     // Memory is wanted only by a record that is a page.
     ensures memory { result ≡ Err (RecordFault.Field FieldFault.OutOfMemory) → IsOk (page_of (fields_of row.now)) }
@@ -92,7 +98,7 @@ fn judge_rows(
         if !found {
             return draft.into_round();
         }
-        draft = match judge(alloc, draft, earlier, row) {
+        draft = match with_row(alloc, draft, earlier, row) {
             Ok(longer) => longer,
             Err(fault) => return Err(fault.numbered(earlier + 1)),
         };
@@ -124,7 +130,8 @@ pub fn read_round<S: Source>(alloc: Global, source: &mut S) -> Result<Round, Rou
     ensures err { S.tells → IfErr result
         (λ e. (e ≡ RoundFault.OutOfMemory) ⊎ (e ≡ RoundFault.ReadFault) ⊎ (verdict (S.held source.old) ≡ Err e)) }
     ensures succeeded { OnOk result (S.failures source.new ≡ S.failures source.old) }
-    ensures unfailed { IfErr result (λ e. (e ≡ RoundFault.ReadFault) ⊎ (S.failures source.new ≡ S.failures source.old)) }
+    ensures unfailed { IfErr result
+        (λ e. (e ≡ RoundFault.ReadFault) ⊎ (S.failures source.new ≡ S.failures source.old)) }
     ensures failed { result ≡ Err RoundFault.ReadFault → HasFailed (S.failures source.old) (S.failures source.new) }
 {
     let bytes = read_whole(alloc, source, FILE_LIMIT)?;

@@ -8,7 +8,8 @@ ghost use Rattle.pocsag_pages.specs.Plain.{HasNoOrphan, pages_from};
 /// A list of codewords has a reading exactly where no message codeword is an orphan, and then it
 /// reads as the pages of its address codewords in order.
 pub fn readings_are_plain()
-    ensures { (ws : List Kind) (i : ℕ) (ps : List Page) → Reads ws i ps ↔ (HasNoOrphan false ws × (ps ≡ pages_from i ws)) }
+    ensures { (ws : List Kind) (i : ℕ) (ps : List Page) →
+        Reads ws i ps ↔ (HasNoOrphan false ws × (ps ≡ pages_from i ws)) }
 {}
 
 /// A list of codewords has at most one reading.

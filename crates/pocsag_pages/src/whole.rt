@@ -19,7 +19,8 @@ pub fn read_whole<S: Source>(
     ensures fits { IfOk result (λ v. length v.items ≤ max) }
     ensures too_large { S.tells → result ≡ Err WholeFault.TooLarge → max < length (S.held source.old) }
     ensures succeeded { OnOk result (S.failures source.new ≡ S.failures source.old) }
-    ensures unfailed { IfErr result (λ e. (e ≡ WholeFault.ReadFault) ⊎ (S.failures source.new ≡ S.failures source.old)) }
+    ensures unfailed { IfErr result
+        (λ e. (e ≡ WholeFault.ReadFault) ⊎ (S.failures source.new ≡ S.failures source.old)) }
     ensures failed { result ≡ Err WholeFault.ReadFault → HasFailed (S.failures source.old) (S.failures source.new) }
     ensures calls { S.calls source.new ≤ S.calls source.old + (max + 2) }
 {

@@ -1,5 +1,6 @@
 -- The entries of a book: pages under their addresses.
 use Rattle.std.proofs.Common.{◌≡◌, ℕ, Bool, true, false, cond, not, List, [], ◌∷◌, ◌++◌, nat_eq, refl, sym, ap, ◌∙◌, subst, arith}
+use Rattle.std.proofs.lemmas.Option.{same_Some}
 use Rattle.std.specs.Prelude.{Some, is_some}
 use Rattle.std.specs.List.{IsDistinct}
 use Rattle.std.specs.Map.{keys_of, values_of, lookup, remove_entry}
@@ -55,16 +56,13 @@ found_here a d es t = ap (λ (b : Bool). cond b (Some d.1) (lookup (nat_eq a) es
 found_later : (a : ℕ) (d : ℕ × Page) (es : List (ℕ × Page)) → nat_eq a d.0 ≡ false → lookup (nat_eq a) (d ∷ es) ≡ lookup (nat_eq a) es
 found_later a d es f = ap (λ (b : Bool). cond b (Some d.1) (lookup (nat_eq a) es)) f
 
-some_same : (p q : Page) → Some p ≡ Some q → p ≡ q
-some_same p q h = cc
-
 pub takes_out : (a : ℕ) (es : List (ℕ × Page)) (p : Page) → AreKeyed es → lookup (nat_eq a) es ≡ Some p → TakesOut a es p
 takes_out a [] p keyed e = absurd (cc)
 takes_out a (d ∷ es) p keyed e = by (nat_eq a d.0) refl (λ later. takes_out a es p (key_tail d es keyed) later)
   where
     by : (b : Bool) → nat_eq a d.0 ≡ b → (lookup (nat_eq a) es ≡ Some p → TakesOut a es p) → TakesOut a (d ∷ es) p
     by true t rest =
-        let same : d.1 ≡ p = some_same d.1 p (sym (found_here a d es t) ∙ e) in
+        let same : d.1 ≡ p = same_Some d.1 p (sym (found_here a d es t) ∙ e) in
         record {
           before = [];
           after = values_of es;

@@ -1,6 +1,7 @@
-pub mod Capitals
+pub mod AddressCounts
 pub mod Letters
 pub mod Pictures
+pub mod PlacedPages
 pub mod Ranges
 pub mod Steps
 pub mod Texts

@@ -1,5 +1,5 @@
 -- Texts that are made number by number.
-use Rattle.std.proofs.Common.{◌≡◌, ℕ, zero, suc, ◌+◌, ◌<◌, List, [], ◌∷◌, ◌++◌, refl, ap, ap₂, sym, ◌∙◌, arith, append_assoc}
+use Rattle.std.proofs.Common.{◌≡◌, ℕ, zero, suc, ◌+◌, ◌-◌, ◌<◌, ◌≤◌, max, List, [], ◌∷◌, ◌++◌, refl, ap, ap₂, sym, ◌∙◌, arith, append_assoc}
 use Rattle.std.specs.List.{flat_map, range_with_len}
 use Rattle.std.proofs.lemmas.List.{append-nil}
 use Rattle.std.proofs.lemmas.List.Concat.{flat_map-append}
@@ -14,21 +14,44 @@ pub range_more : (a n : ℕ) → range_with_len a (n + 1) ≡ range_with_len a n
 range_more a n = let e : n + 1 ≡ suc n = omega arith in ap (range_with_len a) e ∙ range_suc a n
 
 -- one number more
-flat_map_more : (f : ℕ → List ℕ) (n : ℕ) → flat_map f (range_with_len 0 (n + 1)) ≡ flat_map f (range_with_len 0 n) ++ f n
-flat_map_more f n =
-    ap (flat_map f) (range_more 0 n)
-    ∙ (flat_map-append f (range_with_len 0 n) ((0 + n) ∷ [])
-    ∙ ap (λ (l : List ℕ). flat_map f (range_with_len 0 n) ++ l) (append-nil (f (0 + n)) ∙ ap f (omega arith)))
+flat_map_more : (f : ℕ → List ℕ) (a n : ℕ) → flat_map f (range_with_len a (n + 1)) ≡ flat_map f (range_with_len a n) ++ f (a + n)
+flat_map_more f a n =
+    ap (flat_map f) (range_more a n)
+    ∙ (flat_map-append f (range_with_len a n) ((a + n) ∷ [])
+    ∙ ap (λ (l : List ℕ). flat_map f (range_with_len a n) ++ l) (append-nil (f (a + n))))
+
+pub put_next : (f : ℕ → List ℕ) (a i : ℕ) (first before after : List ℕ) → a ≤ i → before ≡ first ++ flat_map f (range_with_len a (i - a))
+    → after ≡ before ++ f i → after ≡ first ++ flat_map f (range_with_len a (i + 1 - a))
+put_next f a i first before after le p q =
+    let n : i + 1 - a ≡ (i - a) + 1 = omega arith in
+    let at : a + (i - a) ≡ i = omega arith in
+    let texts = flat_map f (range_with_len a (i - a)) in
+    q
+    ∙ (ap (λ (l : List ℕ). l ++ f i) p ∙ (append_assoc first texts (f i)
+    ∙ ap (λ (l : List ℕ). first ++ l) (ap (λ (j : ℕ). texts ++ f j) (sym at)
+    ∙ (sym (flat_map_more f a (i - a)) ∙ ap (λ (m : ℕ). flat_map f (range_with_len a m)) (sym n)))))
+
+-- the last number, of which there are none where the first is behind them all
+pub put_all : (f : ℕ → List ℕ) (a i b : ℕ) (first text : List ℕ) → a ≤ i → i ≤ max a b → b ≤ i
+    → text ≡ first ++ flat_map f (range_with_len a (i - a)) → text ≡ first ++ flat_map f (range_with_len a (b - a))
+put_all f a i b first text le within over p =
+    let e : i - a ≡ b - a = omega arith in p ∙ ap (λ (n : ℕ). first ++ flat_map f (range_with_len a n)) e
 
 pub put_more : (f : ℕ → List ℕ) (n : ℕ) (first before after : List ℕ) → before ≡ first ++ flat_map f (range_with_len 0 n)
     → after ≡ before ++ f n → after ≡ first ++ flat_map f (range_with_len 0 (n + 1))
 put_more f n first before after p q =
+    let e : 0 + n ≡ n = omega arith in
+    let texts = flat_map f (range_with_len 0 n) in
     q
-    ∙ (ap (λ (l : List ℕ). l ++ f n) p ∙ (append_assoc first (flat_map f (range_with_len 0 n)) (f n)
-    ∙ ap (λ (l : List ℕ). first ++ l) (sym (flat_map_more f n))))
+    ∙ (ap (λ (l : List ℕ). l ++ f n) p ∙ (append_assoc first texts (f n)
+    ∙ ap (λ (l : List ℕ). first ++ l) (ap (λ (j : ℕ). texts ++ f j) (sym e) ∙ sym (flat_map_more f 0 n))))
 
-pub flat_map_same : (f g : ℕ → List ℕ) (a n : ℕ) → ((i : ℕ) → i < a + n → f i ≡ g i)
+pub flat_map_same : (f g : ℕ → List ℕ) (a n : ℕ) → ((i : ℕ) → a ≤ i → i < a + n → f i ≡ g i)
     → flat_map f (range_with_len a n) ≡ flat_map g (range_with_len a n)
 flat_map_same f g a zero h = refl
 flat_map_same f g a (suc n) h =
-    ap₂ (λ (x y : List ℕ). x ++ y) (h a (omega arith)) (flat_map_same f g (a + 1) n (λ i small. h i (omega arith)))
+    ap₂ (λ (x y : List ℕ). x ++ y) (h a (omega arith) (omega arith)) (flat_map_same f g (a + 1) n (λ i from small. h i (omega arith) (omega arith)))
+
+-- one piece behind the other
+pub more : (first piece rest before after : List ℕ) → before ≡ first ++ piece → after ≡ before ++ rest → after ≡ first ++ (piece ++ rest)
+more first piece rest before after p q = q ∙ (ap (λ (l : List ℕ). l ++ rest) p ∙ append_assoc first piece rest)

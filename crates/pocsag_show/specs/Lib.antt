@@ -1,6 +1,15 @@
+pub mod Drawing
+pub mod Escapes
 pub mod Grid
-pub mod Picture
 pub mod Judged
+pub mod Legend
+pub mod Marks
+pub mod Measures
+pub mod Numbers
+pub mod Picture
+pub mod Placed
 pub mod Places
+pub mod Rows
 pub mod Showing
+pub mod Style
 pub mod Taking

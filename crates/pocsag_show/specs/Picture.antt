@@ -1,12 +1,15 @@
 -- The text that shows a transmission: a line of totals, a line with the numbers of the frames, and a
--- line for each batch (this project's own).
+-- line for each batch that is wanted (this project's own).
 use Rattle.std.specs.Prelude.{ℕ, ◌+◌, ◌-◌, ◌*◌, ◌/◌, List, [], ◌∷◌, ◌++◌, length, replicate, codes}
 use Rattle.std.specs.List.{flat_map, range_with_len}
 use Rattle.std.specs.Fmt.{decimal}
 use Rattle.pocsag_words.specs.Frame.{airtime, transmission_bits}
 use Rattle.pocsag_words.specs.declared.codeword.Kind.{Kind}
 use Rattle.pocsag_pages.specs.declared.page.Page.{Page}
+use Rattle.pocsag_show.specs.declared.rows.Rows.{Rows}
 use Rattle.pocsag_show.specs.Grid.{idles_in, letter_at}
+use Rattle.pocsag_show.specs.Numbers.{numbers_in}
+use Rattle.pocsag_show.specs.Rows.{end_row, first_row, rows_between}
 
 -- How many batches the codewords fill, sixteen to a batch.
 abbrev pub batches_in : List Kind → ℕ
@@ -53,15 +56,16 @@ frame_cells letter batch frame = 32 ∷ letter (16 * batch + 2 * frame) ∷ lett
 unfoldable pub batch_line : (ℕ → ℕ) → ℕ → List ℕ
 batch_line letter batch = number_column (batch + 1) ++ (flat_map (frame_cells letter batch) (range_with_len 0 8) ++ (10 ∷ []))
 
-unfoldable pub batch_lines : (ℕ → ℕ) → ℕ → List ℕ
-batch_lines letter batches = flat_map (batch_line letter) (range_with_len 0 batches)
+-- The lines of the batches from one, counted from 0, up to before another.
+unfoldable pub batch_lines : (ℕ → ℕ) → (low high : ℕ) → List ℕ
+batch_lines letter low high = flat_map (batch_line letter) (rows_between low high)
 
--- The text of codewords that fill batches.
-unfoldable pub picture : List Kind → List ℕ
-picture ks =
+-- The text of codewords that fill batches and whose pages have these numbers. The totals are those of all batches.
+unfoldable pub picture : Rows → List ℕ → List Kind → List ℕ
+picture rows numbers ks =
     totals_line (batches_in ks) (length ks - idles_in ks) (idles_in ks)
-    ++ (head_line ++ batch_lines (letter_at ks) (batches_in ks))
+    ++ (head_line ++ batch_lines (letter_at numbers ks) (first_row rows) (end_row rows (batches_in ks)))
 
 -- The same of codewords and the pages that they read as.
-abbrev pub grid_text : List Kind → List Page → List ℕ
-grid_text ks pages = picture ks
+abbrev pub grid_text : Rows → List Kind → List Page → List ℕ
+grid_text rows ks pages = picture rows (numbers_in pages) ks

@@ -1,263 +1,159 @@
-ghost use Rattle.std.specs.Prelude.{◌+◌, ◌*◌, ◌≤◌, ◌<◌, ◌^◌, All, length};
+ghost use Rattle.std.specs.Prelude.{◌≡◌, ◌-◌, ◌/◌, ◌≤◌, ◌<◌, ◌^◌, ◌++◌, All, IfOk, OnOk, length};
+ghost use Rattle.std.specs.List.{flat_map, range_with_len};
 ghost use Rattle.pocsag_pages.specs.Listable.{IsListable};
+ghost use Rattle.pocsag_show.specs.Drawing.{batch_number, drawing_text, frame_line, frame_lines, row_drawn, rows_and_pages};
+ghost use Rattle.pocsag_show.specs.Rows.{end_row, first_row, rows_between};
 
-use crate::grid::LETTERS;
+use crate::front::{Counts, put_front};
 use crate::judged::Judged;
-use crate::picture::{CODEWORDS, FRAMES, put_totals};
-use crate::pieces::{put, put_made};
-use crate::starts::capitals;
-use crate::style::put_style;
-use pocsag_decode::{kind_of_page, message_of};
-use pocsag_pages::Page;
+use crate::legend::{legend_lines, put_key, put_legend};
+use crate::marks::{put_hatching, put_synchronisation};
+use crate::paging::put_pages;
+use crate::picture::{CODEWORDS, FRAMES};
+use crate::pieces::put;
+use crate::placed::Placed;
+use crate::places::row_top;
+use crate::rows::Rows;
+use crate::window::Window;
 use std::alloc::{AllocError, Global};
 
-// Measures of the drawing: the left side of the first cell, the width of a cell, the upper side of the
-// first row, the height of a cell, from row to row, and what stays free below and at the right.
-const LEFT: usize = 72;
-
-const CELL: usize = 24;
-
-const TOP: usize = 48;
-
-const HEIGHT: usize = 18;
-
-const ROW: usize = 22;
-
-const MARGIN: usize = 12;
-
-// Writes the head: the size, the title, the line of totals as description, and the style.
-fn put_head(
+// Writes the number of a batch in a row with this upper side.
+#[tactic(auto, unfolding(crate::specs::Drawing::batch_number))]
+fn put_batch_number(
     alloc: Global,
     text: &mut Vec<u8>,
-    judged: &Judged,
-    rows: usize,
+    y: u128,
+    row: usize,
 ) -> Result<(), AllocError>
-    requires some { 0 < rows }
-    requires few { rows < 2 ^ 59 }
+    requires { y < 2 ^ 127 }
+    ensures { OnOk result (text.new.items ≡ text.old.items ++ batch_number y row) }
 {
-    let width = LEFT + CELL * CODEWORDS + MARGIN;
-    let height = TOP + ROW * rows + MARGIN;
-    put_made(
-        text,
-        format!(in alloc;
-            "<svg xmlns=\"http://www.w3.org/2000/svg\" version=\"1.1\" width=\"{width}\" height=\"{height}\" viewBox=\"0 0 {width} {height}\" role=\"img\" aria-labelledby=\"title desc\">\n"
-        ),
-    )?;
-    put_made(
-        text,
-        format!(in alloc;
-            "<title id=\"title\">Transmission of {rows} batches</title>\n<desc id=\"desc\">"
-        ),
-    )?;
-    let letters = judged.grid.letters.len() as u64;
-    put_totals(
-        alloc,
-        text,
-        rows as u64,
-        letters - judged.grid.idles,
-        judged.grid.idles,
-    )?;
-    put(
-        text,
-        b"A row is a batch: its number, its synchronisation codeword, and sixteen codewords in eight frames. A page has one hue, and idle codewords are pale.</desc>\n",
-    )?;
-    put_style(alloc, text)
+    let base = y + 13;
+    let number = row as u128 + 1;
+    let part = format!(in alloc; "<text class='e' x='50' y='{base}'>{number}</text>")?;
+    put(text, part.as_bytes())
 }
 
-// Writes the numbers of the frames over the first row.
-fn put_frame_numbers(alloc: Global, text: &mut Vec<u8>) -> Result<(), AllocError> {
-    for frame in 0..FRAMES {
-        let x = LEFT + CELL * (2 * frame + 1);
-        let y = TOP - 8;
-        put_made(
-            text,
-            format!(in alloc; "<text class=\"m\" x=\"{x}\" y=\"{y}\">{frame}</text>\n"),
-        )?;
+// Writes a row behind its pages.
+#[tactic(auto, unfolding(crate::specs::Drawing::row_drawn))]
+fn put_row(alloc: Global, text: &mut Vec<u8>, low: usize, row: usize) -> Result<(), AllocError>
+    ensures { OnOk result (text.new.items ≡ text.old.items ++ row_drawn low row) }
+{
+    let y = row_top(low, row);
+    put_batch_number(alloc, text, y, row)?;
+    put_synchronisation(alloc, text, 60, y)?;
+    put_hatching(alloc, text, y, 448)?;
+    put(text, b"\n")
+}
+
+// Writes the rows that are drawn.
+fn put_rows(alloc: Global, text: &mut Vec<u8>, window: Window) -> Result<(), AllocError>
+    ensures { OnOk result (text.new.items ≡ text.old.items ++ flat_map (row_drawn window.low) (rows_between window.low window.high)) }
+{
+    for row in window.low..window.high {
+        put_row(alloc, text, window.low, row)?;
     }
     Ok(())
 }
 
-// Writes the numbers of the batches, and the synchronisation codeword of each.
-fn put_rows(alloc: Global, text: &mut Vec<u8>, rows: usize) -> Result<(), AllocError>
-    requires { rows < 2 ^ 59 }
+#[tactic(auto, unfolding(crate::specs::Drawing::frame_line))]
+fn put_frame_line(
+    alloc: Global,
+    text: &mut Vec<u8>,
+    bottom: u128,
+    frame: usize,
+) -> Result<(), AllocError>
+    requires { frame < 9 }
+    ensures { OnOk result (text.new.items ≡ text.old.items ++ frame_line bottom frame) }
 {
-    for row in 0..rows {
-        let top = TOP + ROW * row;
-        let base = top + 13;
-        let number = row + 1;
-        let x = LEFT - 26;
-        let left = LEFT - 18;
-        put_made(
-            text,
-            format!(in alloc; "<text class=\"e\" x=\"{x}\" y=\"{base}\">{number}</text>"),
-        )?;
-        put_made(
-            text,
-            format!(in alloc;
-                "<rect class=\"s\" x=\"{left}\" y=\"{top}\" width=\"12\" height=\"{HEIGHT}\"/>\n"
-            ),
-        )?;
-    }
-    Ok(())
+    let x = 80 + 56 * frame;
+    let part = format!(in alloc; "M{x} 78V{bottom}")?;
+    put(text, part.as_bytes())
 }
 
-// Writes the lines between the frames, over all rows.
-fn put_frame_lines(alloc: Global, text: &mut Vec<u8>, rows: usize) -> Result<(), AllocError>
-    requires { rows < 2 ^ 59 }
+fn put_all_frame_lines(alloc: Global, text: &mut Vec<u8>, bottom: u128) -> Result<(), AllocError>
+    ensures { OnOk result (text.new.items ≡ text.old.items ++ flat_map (frame_line bottom) (range_with_len 0 9)) }
 {
-    let top = TOP - 4;
-    let bottom = TOP + ROW * rows;
-    put(text, b"<path class=\"f\" d=\"")?;
     for frame in 0..FRAMES + 1 {
-        let x = LEFT + 2 * CELL * frame;
-        put_made(text, format!(in alloc; "M{x} {top}V{bottom}"))?;
-    }
-    put(text, b"\"/>\n")
-}
-
-// Writes a rectangle for each row in which the codewords from one index to another stand.
-fn put_run(alloc: Global, text: &mut Vec<u8>, from: usize, to: usize) -> Result<(), AllocError>
-    requires { to < 2 ^ 63 }
-{
-    let mut at = from;
-    while at < to {
-        let row = at / CODEWORDS;
-        let end = to.min(CODEWORDS * row + CODEWORDS);
-        let x = LEFT + CELL * (at % CODEWORDS);
-        let y = TOP + ROW * row;
-        let width = CELL * (end - at);
-        put_made(
-            text,
-            format!(in alloc; "<rect x=\"{x}\" y=\"{y}\" width=\"{width}\" height=\"{HEIGHT}\"/>"),
-        )?;
-        at = end;
+        put_frame_line(alloc, text, bottom, frame)?;
     }
     Ok(())
 }
 
-// Writes the idle codewords from one index to another.
-fn put_idles(alloc: Global, text: &mut Vec<u8>, from: usize, to: usize) -> Result<(), AllocError>
-    requires { to < 2 ^ 63 }
+// Writes a line at each side of a frame, over so many rows.
+#[tactic(auto, unfolding(crate::specs::Drawing::frame_lines))]
+fn put_frame_lines(alloc: Global, text: &mut Vec<u8>, count: usize) -> Result<(), AllocError>
+    ensures { OnOk result (text.new.items ≡ text.old.items ++ frame_lines count) }
 {
-    if from >= to {
-        return Ok(());
-    }
-    put(text, b"<g class=\"i\">")?;
-    put_run(alloc, text, from, to)?;
-    put(text, b"</g>\n")
+    put(text, b"<path class='f' d='")?;
+    put_all_frame_lines(alloc, text, 80 + 22 * count as u128)?;
+    put(text, b"'/>\n")
 }
 
-// Writes a byte of a message so that it stands for itself: a control character as its picture.
-fn put_escaped(alloc: Global, text: &mut Vec<u8>, byte: u8) -> Result<(), AllocError> {
-    match byte {
-        b'&' => put(text, b"&amp;"),
-        b'<' => put(text, b"&lt;"),
-        b'>' => put(text, b"&gt;"),
-        b'"' => put(text, b"&quot;"),
-        b' '..=b'~' => put(text, &[byte]),
-        0..=31 => {
-            let code = 9216 + u32::from(byte);
-            put_made(text, format!(in alloc; "&#{code};"))
-        }
-        127 => put(text, b"&#9249;"),
-        _ => put(text, b"&#65533;"),
-    }
-}
-
-// Writes what is told of a page: its letter, address, kind and message.
-fn put_told(alloc: Global, text: &mut Vec<u8>, letter: u8, page: &Page) -> Result<(), AllocError>
-    requires { IsListable page.now }
-{
-    let items = page.payload.as_slice();
-    let address = page.address;
-    put(text, &[letter])?;
-    put_made(text, format!(in alloc; ": address {address}, "))?;
-    put(text, kind_of_page(page.function, items))?;
-    if items.is_empty() {
-        return Ok(());
-    }
-    put(text, b": ")?;
-    let Ok(message) = message_of(alloc, page.function, items) else {
-        return Err(AllocError);
-    };
-    for byte in message.as_slice() {
-        put_escaped(alloc, text, *byte)?;
-    }
-    Ok(())
-}
-
-// Writes a page whose codewords stand from one index to another.
-fn put_page(
+// Writes the rows and the pages that lie on them.
+#[tactic(auto, unfolding(crate::specs::Drawing::rows_and_pages))]
+fn put_rows_and_pages(
     alloc: Global,
     text: &mut Vec<u8>,
-    number: usize,
-    page: &Page,
-    from: usize,
-    to: usize,
+    window: Window,
+    pages: &[Placed],
 ) -> Result<(), AllocError>
-    requires listable { IsListable page.now }
-    requires few { to < 2 ^ 63 }
-    requires order { from ≤ to }
+    requires few { window.high < 2 ^ 59 }
+    requires listable { All (λ pl. IsListable pl.page) pages.now }
+    ensures { OnOk result (text.new.items ≡ text.old.items ++ rows_and_pages window.low window.high pages.now) }
 {
-    let hue = number % LETTERS as usize;
-    let letter = b'A' + hue as u8;
-    put_made(text, format!(in alloc; "<g class=\"p{hue}\"><title>"))?;
-    put_told(alloc, text, letter, page)?;
-    put(text, b"</title>")?;
-    put_run(alloc, text, from, to)?;
-    let x = LEFT + CELL * (from % CODEWORDS) + CELL / 2;
-    let y = TOP + ROW * (from / CODEWORDS) + 13;
-    put_made(
-        text,
-        format!(in alloc; "<text class=\"m\" x=\"{x}\" y=\"{y}\">"),
-    )?;
-    put(text, &[letter])?;
-    put(text, b"</text></g>\n")
+    put_rows(alloc, text, window)?;
+    put_pages(alloc, text, window, pages)?;
+    put_frame_lines(alloc, text, window.count())
 }
 
-// Writes the pages, which begin at these indices, and the idle codewords between them.
-fn put_pages(
+// The drawing of pages in a transmission with these counts.
+#[tactic(auto, unfolding(crate::specs::Drawing::drawing_text))]
+fn drawing_text(
     alloc: Global,
-    text: &mut Vec<u8>,
-    starts: &[usize],
-    pages: &[Page],
-    end: usize,
-) -> Result<(), AllocError>
-    requires listable { All IsListable pages.now }
-    requires few { end < 2 ^ 63 }
+    window: Window,
+    counts: Counts,
+    pages: &[Placed],
+) -> Result<Vec<u8>, AllocError>
+    requires some { 0 < counts.batches }
+    requires few { window.high < 2 ^ 59 }
+    requires listable { All (λ pl. IsListable pl.page) pages.now }
+    ensures { IfOk result (λ v. v.items ≡ drawing_text window.low window.high counts.batches counts.codewords counts.idles pages.now) }
 {
-    let mut at = 0;
-    for number in 0..starts.len().min(pages.len()) {
-        let page = &pages[number];
-        let start = starts[number].min(end);
-        let after = end.min(start + 1 + page.payload.as_slice().len());
-        put_idles(alloc, text, at, start)?;
-        put_page(alloc, text, number, page, start, after)?;
-        at = after;
-    }
-    put_idles(alloc, text, at, end)
-}
-
-/// The drawing of a transmission that was judged, as SVG 1.1.
-pub(crate) fn drawing_of(alloc: Global, judged: &Judged) -> Result<Vec<u8>, AllocError>
-    requires listable { All IsListable judged.now.pages.items }
-    requires some { 16 ≤ length judged.now.grid.letters.items }
-{
-    let letters = judged.grid.letters.as_slice();
-    let rows = letters.len() / CODEWORDS;
-    let starts = capitals(alloc, letters)?;
     let mut text = Vec::new(alloc);
-    put_head(alloc, &mut text, judged, rows)?;
-    put_frame_numbers(alloc, &mut text)?;
-    put_rows(alloc, &mut text, rows)?;
-    put_pages(
+    put_front(
         alloc,
         &mut text,
-        starts.as_slice(),
-        judged.pages.as_slice(),
-        letters.len(),
+        window,
+        counts,
+        legend_lines(window, pages),
     )?;
-    put_frame_lines(alloc, &mut text, rows)?;
+    put_rows_and_pages(alloc, &mut text, window, pages)?;
+    put_key(alloc, &mut text, window.count())?;
+    put_legend(alloc, &mut text, window, pages)?;
     put(&mut text, b"</svg>\n")?;
     Ok(text)
+}
+
+/// The drawing of these rows of a transmission that was judged, as SVG 1.1.
+pub(crate) fn drawing_of(alloc: Global, rows: Rows, judged: &Judged) -> Result<Vec<u8>, AllocError>
+    requires listable { All (λ pl. IsListable pl.page) judged.now.placed.items }
+    requires some { 16 ≤ length judged.now.grid.letters.items }
+    ensures { IfOk result (λ v. v.items ≡ drawing_text (first_row rows) (end_row rows (length judged.now.grid.letters.items / 16))
+        (length judged.now.grid.letters.items / 16) (length judged.now.grid.letters.items - judged.now.grid.idles)
+        judged.now.grid.idles judged.now.placed.items) }
+{
+    let letters = judged.grid.letters.len();
+    let batches = letters / CODEWORDS;
+    let counts = Counts {
+        batches: batches as u64,
+        codewords: letters as u64 - judged.grid.idles,
+        idles: judged.grid.idles,
+    };
+    drawing_text(
+        alloc,
+        Window::new(rows, batches),
+        counts,
+        judged.placed.as_slice(),
+    )
 }

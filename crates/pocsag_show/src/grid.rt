@@ -1,15 +1,15 @@
 ghost use Rattle.std.specs.Prelude.{◌+◌, ◌≤◌, vec_len};
 
-/// How many letters, and so hues, the pages have in turn.
-pub(crate) const LETTERS: u64 = 26;
+/// How many letters the pages have in turn.
+pub(crate) const LETTERS: usize = 26;
 
 /// The letters of the codewords that were taken, in order.
 #[derive(Drop)]
 pub(crate) struct Grid {
     pub(crate) letters: Vec<u8>,
-    /// How many pages began.
-    pub(crate) pages: u64,
+    /// The indices at which pages began.
+    pub(crate) starts: Vec<usize>,
     /// How many codewords were idle.
     pub(crate) idles: u64,
-    ghost few: { pages + idles ≤ vec_len letters },
+    ghost few: { vec_len starts + idles ≤ vec_len letters },
 }

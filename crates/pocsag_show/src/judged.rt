@@ -1,11 +1,11 @@
 use crate::grid::Grid;
-use pocsag_pages::Page;
+use crate::placed::Placed;
 
 /// What a transmission was found to be.
 #[derive(Drop)]
 pub(crate) struct Judged {
     /// Its pages in order of transmission.
-    pub(crate) pages: Vec<Page>,
+    pub(crate) placed: Vec<Placed>,
     /// The letters of its codewords.
     pub(crate) grid: Grid,
 }

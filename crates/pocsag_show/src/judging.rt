@@ -4,15 +4,19 @@ ghost use Rattle.pocsag_show.specs.Judged.{IsJudged};
 
 use crate::fault::ShowFault;
 use crate::judged::Judged;
+use crate::numbering::numbers_of;
+use crate::placing::placed_pages;
 use crate::reading::grid_of;
 use pocsag_decode::decode;
 use std::alloc::Global;
 
-/// The pages of a transmission and the grid of its codewords, or its first fault.
+/// The pages of a transmission with their places and the grid of its codewords, or its first fault.
 pub(crate) fn judge(alloc: Global, bytes: &[u8]) -> Result<Judged, ShowFault>
     ensures { MatchResult result (IsJudged bytes.now) (ExplainsReading bytes.now) }
 {
     let pages = decode(alloc, bytes)?;
-    let grid = grid_of(alloc, bytes)?;
-    Ok(Judged { pages, grid })
+    let numbers = numbers_of(alloc, pages.as_slice())?;
+    let grid = grid_of(alloc, bytes, numbers.as_slice())?;
+    let placed = placed_pages(alloc, grid.starts.as_slice(), numbers.as_slice(), pages)?;
+    Ok(Judged { placed, grid })
 }

@@ -4,17 +4,28 @@
 
 mod drawing;
 mod fault;
+mod front;
 mod grid;
 mod judged;
 mod judging;
+mod legend;
 mod listing;
 mod marking;
+mod marks;
+mod numbering;
+mod paging;
 mod picture;
 mod pieces;
+mod placed;
+mod places;
+mod placing;
 mod reading;
+mod rows;
 mod showing;
-mod starts;
 mod style;
+mod telling;
+mod window;
 
 pub use fault::ShowFault;
+pub use rows::Rows;
 pub use showing::{show_list, show_svg, show_text};

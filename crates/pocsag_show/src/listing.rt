@@ -1,4 +1,4 @@
-ghost use Rattle.std.specs.Prelude.{◌≡◌, ℕ, ◌+◌, ◌<◌, ◌^◌, ◌∷◌, ◌++◌, [], List, All, IfOk, OnOk, length, map, string_bytes};
+ghost use Rattle.std.specs.Prelude.{◌≡◌, ℕ, ◌∷◌, ◌++◌, [], List, All, IfOk, OnOk, map, string_bytes};
 ghost use Rattle.std.specs.Fmt.{decimal};
 ghost use Rattle.csv.specs.Writing.{row_text, default_writer};
 ghost use Rattle.pocsag_pages.specs.Listable.{IsListable};
@@ -10,10 +10,9 @@ ghost use Rattle.pocsag_show.specs.Places.{place_listing};
 
 use crate::judged::Judged;
 use crate::picture::CODEWORDS;
-use crate::starts::capitals;
+use crate::placed::Placed;
 use csv::{ByteRecord, Writer};
 use pocsag_decode::{kind_of_page, message_of};
-use pocsag_pages::Page;
 use std::alloc::{AllocError, Global};
 
 // Writes one record.
@@ -38,17 +37,14 @@ fn decimal(alloc: Global, number: usize) -> Result<String, AllocError>
     format!(in alloc; "{number}")
 }
 
-// Writes the record of a page that begins at an index.
-fn put_place(
-    alloc: Global,
-    writer: &mut Writer<Vec<u8>>,
-    start: usize,
-    page: &Page,
-) -> Result<(), AllocError>
+// Writes the record of a page.
+fn put_place(alloc: Global, writer: &mut Writer<Vec<u8>>, placed: &Placed) -> Result<(), AllocError>
     requires ready { IsReady writer.old }
-    requires listable { IsListable page.now }
-    ensures { PutsRow result writer.old writer.new (place_record start page.now) }
+    requires listable { IsListable placed.now.page }
+    ensures { PutsRow result writer.old writer.new (place_record placed.now) }
 {
+    let start = placed.start;
+    let page = &placed.page;
     let items = page.payload.as_slice();
     let batch = decimal(alloc, start / CODEWORDS + 1)?;
     let frame = decimal(alloc, start % CODEWORDS / 2)?;
@@ -70,10 +66,10 @@ fn put_place(
     put_record(alloc, writer, &fields)
 }
 
-// The listing of pages that begin at these indices.
-fn rows_of(alloc: Global, starts: &[usize], pages: &[Page]) -> Result<Vec<u8>, AllocError>
-    requires { All IsListable pages.now }
-    ensures { IfOk result (λ v. v.items ≡ row_text default_writer place_header ++ place_rows starts.now pages.now) }
+// The listing of the pages.
+fn rows_of(alloc: Global, pages: &[Placed]) -> Result<Vec<u8>, AllocError>
+    requires { All (λ pl. IsListable pl.page) pages.now }
+    ensures { IfOk result (λ v. v.items ≡ row_text default_writer place_header ++ place_rows pages.now) }
 {
     let mut writer = Writer::from_writer(Vec::new(alloc));
     put_record(
@@ -89,8 +85,8 @@ fn rows_of(alloc: Global, starts: &[usize], pages: &[Page]) -> Result<Vec<u8>, A
             b"message",
         ],
     )?;
-    for index in 0..starts.len().min(pages.len()) {
-        put_place(alloc, &mut writer, starts[index], &pages[index])?;
+    for placed in pages {
+        put_place(alloc, &mut writer, placed)?;
     }
     match writer.into_inner() {
         Ok(text) => Ok(text),
@@ -100,9 +96,8 @@ fn rows_of(alloc: Global, starts: &[usize], pages: &[Page]) -> Result<Vec<u8>, A
 
 /// The listing of a transmission that was judged.
 pub(crate) fn listing_of(alloc: Global, judged: &Judged) -> Result<Vec<u8>, AllocError>
-    requires { All IsListable judged.now.pages.items }
+    requires { All (λ pl. IsListable pl.page) judged.now.placed.items }
     ensures { (X : List ℕ) → IsJudged X judged.now → IfOk result (λ v. IsTextOf place_listing X v.items) }
 {
-    let starts = capitals(alloc, judged.grid.letters.as_slice())?;
-    rows_of(alloc, starts.as_slice(), judged.pages.as_slice())
+    rows_of(alloc, judged.placed.as_slice())
 }

@@ -6,6 +6,8 @@ ghost use Rattle.pocsag_show.specs.Taking.{IsGridOf};
 
 use crate::grid::Grid;
 use crate::pieces::put;
+use crate::rows::Rows;
+use crate::window::Window;
 use pocsag_words::{airtime, transmission_bits};
 use std::alloc::{AllocError, Global};
 
@@ -43,9 +45,9 @@ fn put_airtime(alloc: Global, text: &mut Vec<u8>, batches: u64, rate: u32) -> Re
     put(text, part.as_bytes())
 }
 
-// Writes how many batches and how many codewords of pages there are.
+/// Writes how many batches and how many codewords of pages there are.
 #[tactic(auto, unfolding(crate::specs::Picture::counts_part))]
-fn put_counts(
+pub(crate) fn put_counts(
     alloc: Global,
     text: &mut Vec<u8>,
     batches: u64,
@@ -57,9 +59,14 @@ fn put_counts(
     put(text, part.as_bytes())
 }
 
-// Writes how many idle codewords there are, and their share.
+/// Writes how many idle codewords there are, and their share.
 #[tactic(auto, unfolding(crate::specs::Picture::idles_part))]
-fn put_idles(alloc: Global, text: &mut Vec<u8>, batches: u64, idles: u64) -> Result<(), AllocError>
+pub(crate) fn put_idles(
+    alloc: Global,
+    text: &mut Vec<u8>,
+    batches: u64,
+    idles: u64,
+) -> Result<(), AllocError>
     requires { 0 < batches }
     ensures { OnOk result (text.new.items ≡ text.old.items ++ idles_part batches idles) }
 {
@@ -154,34 +161,37 @@ fn put_batch(
     put(text, b"\n")
 }
 
-// Writes the lines of so many batches.
+// Writes the lines of the batches from one up to before another.
 #[tactic(auto, unfolding(crate::specs::Picture::batch_lines))]
 fn put_batches(
     alloc: Global,
     text: &mut Vec<u8>,
     letters: &[u8],
-    batches: usize,
+    low: usize,
+    high: usize,
 ) -> Result<(), AllocError>
-    requires { 16 * batches ≤ length letters.now }
-    ensures { OnOk result (text.new.items ≡ text.old.items ++ batch_lines (slice_index letters.now) batches) }
+    requires { 16 * high ≤ length letters.now }
+    ensures { OnOk result (text.new.items ≡ text.old.items ++ batch_lines (slice_index letters.now) low high) }
 {
-    for batch in 0..batches {
+    for batch in low..high {
         put_batch(alloc, text, letters, batch)?;
     }
     Ok(())
 }
 
-/// The text of the grid of whole batches, of which there is one at least.
-pub(crate) fn picture_of(alloc: Global, grid: &Grid) -> Result<Vec<u8>, AllocError>
+/// The text of these rows of the grid of whole batches, of which there is one at least.
+pub(crate) fn picture_of(alloc: Global, rows: Rows, grid: &Grid) -> Result<Vec<u8>, AllocError>
     requires { 16 ≤ length grid.now.letters.items }
-    ensures { (ks : List Kind) → IsGridOf ks grid.now → length ks % 16 ≡ 0 → IfOk result (λ v. v.items ≡ picture ks) }
+    ensures { (numbers : List ℕ) (ks : List Kind) → IsGridOf numbers ks grid.now → length ks % 16 ≡ 0 →
+        IfOk result (λ v. v.items ≡ picture rows numbers ks) }
 {
     let letters = grid.letters.as_slice();
     let batches = letters.len() / CODEWORDS;
+    let window = Window::new(rows, batches);
     let codewords = letters.len() as u64 - grid.idles;
     let mut text = Vec::new(alloc);
     put_totals(alloc, &mut text, batches as u64, codewords, grid.idles)?;
     put(&mut text, b"       0  1  2  3  4  5  6  7\n")?;
-    put_batches(alloc, &mut text, letters, batches)?;
+    put_batches(alloc, &mut text, letters, window.low, window.high)?;
     Ok(text)
 }

@@ -8,11 +8,3 @@ pub(crate) fn put(text: &mut Vec<u8>, piece: &[u8]) -> Result<(), AllocError>
 {
     text.extend_from_slice(piece)
 }
-
-/// Writes a piece that was made, unless memory was wanting.
-pub(crate) fn put_made(
-    text: &mut Vec<u8>,
-    made: Result<String, AllocError>,
-) -> Result<(), AllocError> {
-    put(text, made?.as_bytes())
-}

@@ -22,30 +22,30 @@ fn word_of(bytes: &[u8]) -> u32
 }
 
 // Takes the word at a place, which is counted from 0 with the synchronisation codewords.
-fn take_word(grid: &mut Grid, place: u64, number: u32) -> Result<(), AllocError>
-    requires { place % 17 ≢ 0 → IsCodeword number }
-    ensures { OnOk result (Took grid.old grid.new (map kind_of (unsynced place (number ∷ [])))) }
+fn take_word(grid: &mut Grid, numbers: &[usize], place: u64, word: u32) -> Result<(), AllocError>
+    requires { place % 17 ≢ 0 → IsCodeword word }
+    ensures { OnOk result (Took numbers.now grid.old grid.new (map kind_of (unsynced place (word ∷ [])))) }
 {
     if place % BATCH == 0 {
         return Ok(());
     }
-    match from_raw(number) {
-        Some(word) => grid.take(word.kind()),
+    match from_raw(word) {
+        Some(word) => grid.take(numbers, word.kind()),
         None => unreachable!(),
     }
 }
 
-/// The grid of the codewords that the bytes are sent from.
-pub(crate) fn grid_of(alloc: Global, bytes: &[u8]) -> Result<Grid, AllocError>
+/// The grid of the codewords that the bytes are sent from, whose pages have these numbers.
+pub(crate) fn grid_of(alloc: Global, bytes: &[u8], numbers: &[usize]) -> Result<Grid, AllocError>
     requires { All IsCodeword (codewords_in bytes.now) }
-    ensures { IfOk result (IsGridOf (map kind_of (codewords_in bytes.now))) }
+    ensures { IfOk result (IsGridOf numbers.now (map kind_of (codewords_in bytes.now))) }
 {
     let mut grid = Grid::new(alloc);
     let (_, mut rest) = bytes.split_at(leading_len(bytes));
     let mut place = 0;
     while rest.len() >= 4 {
         let (front, tail) = rest.split_at(4);
-        take_word(&mut grid, place, word_of(front))?;
+        take_word(&mut grid, numbers, place, word_of(front))?;
         place += 1;
         rest = tail;
     }

@@ -13,7 +13,7 @@ pub(crate) struct Edges {
     pub(crate) ends: [u32; SLOTS],
 }
 
-fn add(sums: &mut [u32; SLOTS], boundary: u8, more: u32)
+fn add_to(sums: &mut [u32; SLOTS], boundary: u8, more: u32)
     requires boundary { boundary < 16 }
     requires fits { slice_index sums.old boundary + more < 2 ^ 32 }
     ensures { (p : ℕ) → p < 16 → slice_index sums.new p ≡ slice_index sums.old p + (if boundary == p then more else 0) }
@@ -35,10 +35,10 @@ fn add_class(edges: &mut Edges, classes: &Classes, choice: &Choice, class: u8)
     }
     let early = choice.early[class as usize];
     let late = classes.count[class as usize] - early;
-    add(&mut edges.starts, start(class, true), early);
-    add(&mut edges.starts, start(class, false), late);
-    add(&mut edges.ends, finish(class, true), early);
-    add(&mut edges.ends, finish(class, false), late);
+    add_to(&mut edges.starts, start(class, true), early);
+    add_to(&mut edges.starts, start(class, false), late);
+    add_to(&mut edges.ends, finish(class, true), early);
+    add_to(&mut edges.ends, finish(class, false), late);
 }
 
 pub(crate) fn edges_of(classes: &Classes, choice: &Choice) -> Edges

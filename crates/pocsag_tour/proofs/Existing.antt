@@ -1,6 +1,6 @@
 -- That there is a way, without walking it: the floods and the walk over plain numbers.
 use Rattle.std.proofs.Common.{◌≡◌, ◌≢◌, ℕ, zero, suc, ◌+◌, ◌-◌, ◌^◌, ◌<◌, ◌≤◌, ◌==◌, ◌&&◌, nat_lt, Bool, true, false, not, cond, List, [], ◌∷◌, ◌++◌, ◌⊎◌, refl, arith, eq-eqb, inl, inr}
-use Rattle.std.proofs.lemmas.Bool.{cases_eq, eqb-true, ne_eqb, not-false, not-true}
+use Rattle.std.proofs.lemmas.Bool.{and_parts, cases_eq, eqb-true, ne_eqb, not-false, not-true}
 use Rattle.std.proofs.lemmas.Bool.Decides.{nat_tests}
 use Rattle.pocsag_words.specs.declared.ending.End.TheVariants.{Open, Closed}
 use Rattle.pocsag_slots.specs.declared.step.Step.{Step}
@@ -30,10 +30,6 @@ seek (suc n) f =
           | inr other ↦ none a (omega arith)
         ])
 
-both : (x y : Bool) → (x && y) ≡ true → (x ≡ true) × (y ≡ true)
-both true y h = (refl, h)
-both false y h = absurd (cc)
-
 not_both : (x y : Bool) → (x && y) ≡ false → x ≡ true → y ≡ false
 not_both true y h e = h
 not_both false y h e = absurd (cc)
@@ -51,9 +47,9 @@ found_entering : (counts : ℕ → ℕ) (set a : ℕ) → a < 288 → enters cou
 unfolding enters
 found_entering counts set a h e =
     let x : (nat_lt 0 (counts a) ≡ true) × ((holds set (arc_to a) && not (holds set (arc_from a))) ≡ true) =
-    both (nat_lt 0 (counts a)) (holds set (arc_to a) && not (holds set (arc_from a))) e in
+    and_parts (nat_lt 0 (counts a)) (holds set (arc_to a) && not (holds set (arc_from a))) e in
     let y : (holds set (arc_to a) ≡ true) × (not (holds set (arc_from a)) ≡ true) =
-    both (holds set (arc_to a)) (not (holds set (arc_from a))) x.1 in
+    and_parts (holds set (arc_to a)) (not (holds set (arc_from a))) x.1 in
     record { known = h; there = some (counts a) x.0; from = not-true (holds set (arc_from a)) y.1; to = y.0 }
 
 none_entering : (counts : ℕ → ℕ) (set : ℕ) → ((a : ℕ) → a < 288 → enters counts set a ≡ false) → NoneEnters counts set
@@ -106,8 +102,8 @@ found_parting : (left : ℕ → ℕ) (exit p a : ℕ) → a < 288 → parts left
 unfolding parts
 found_parting left exit p a h e =
     let x : (nat_lt 0 (left a) ≡ true) × (((arc_from a == p) && not (a == exit)) ≡ true) =
-    both (nat_lt 0 (left a)) ((arc_from a == p) && not (a == exit)) e in
-    let y : ((arc_from a == p) ≡ true) × (not (a == exit) ≡ true) = both (arc_from a == p) (not (a == exit)) x.1 in
+    and_parts (nat_lt 0 (left a)) ((arc_from a == p) && not (a == exit)) e in
+    let y : ((arc_from a == p) ≡ true) × (not (a == exit) ≡ true) = and_parts (arc_from a == p) (not (a == exit)) x.1 in
     let apart : (a == exit) ≡ false = not-true (a == exit) y.1 in
     record {
       known = h;
@@ -134,7 +130,7 @@ next left exit p =
         ((a : ℕ) × IsDeparture left exit p a) ⊎ IsSpent left p
     next_last left exit p others (inl found) =
         let x : (nat_lt 0 (left found.0) ≡ true) × ((arc_from found.0 == p) ≡ true) =
-        both (nat_lt 0 (left found.0)) (arc_from found.0 == p) found.2 in
+        and_parts (nat_lt 0 (left found.0)) (arc_from found.0 == p) found.2 in
         inl (
           found.0,
           record {

@@ -1,5 +1,6 @@
 -- Ways over all arcs are tours, and what refusals say.
 use Rattle.std.proofs.Common.{◌≡◌, ℕ, ◌+◌, ◌-◌, ◌%◌, ◌<◌, ◌≤◌, ◌⊎◌, Bool, true, false, not, cond, List, refl, sym, subst, ◌∙◌, arith, inl, inr}
+use Rattle.std.proofs.lemmas.Bool.{cases_Bool}
 use Rattle.pocsag_words.specs.declared.ending.End.{End}
 use Rattle.pocsag_words.specs.declared.ending.End.TheVariants.{Open}
 use Rattle.pocsag_slots.specs.declared.class.Classes.{Classes}
@@ -214,15 +215,11 @@ no_idle_crosses k choice b set within exact s h some =
     (idle_from k choice b counts set (own_counts k choice b)
     (reached_entered k choice b counts set (own_counts k choice b) within exact) s h some)
 
-in_or_out : (b : Bool) → (b ≡ true) ⊎ (b ≡ false)
-in_or_out true = inl refl
-in_or_out false = inr refl
-
 -- where no run lies outside what is reached, each starts in it
 pub runs_start : (k : Classes) (choice : ℕ → ℕ) (b : ℕ) (counts : ℕ → ℕ) (set : ℕ) → AreCounts k choice b counts → AreCarried k choice b →
     AreReached k choice b set → (LiesOutside k choice set → ⊥) → RunsStart counts set
 runs_start k choice b counts set are within exact none a h some =
-    elim (in_or_out (holds set (arc_from a))) [
+    elim (cases_Bool (holds set (arc_from a))) [
       | inl held ↦ held
       | inr out ↦ absurd (none (lies_outside k choice b counts set are (reached_entered k choice b counts set are within exact) a
           (omega arith) h some out))

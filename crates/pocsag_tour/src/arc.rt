@@ -5,11 +5,11 @@ use pocsag_slots::{CLASSES, SLOTS, Step, finish, start};
 
 // The arcs by number: the early runs of the classes from 0 on, then their late runs, then the idles of the
 // slots; and how many there are.
-pub const LATE: usize = CLASSES;
+pub const FIRST_LATE: usize = CLASSES;
 
-pub const IDLE: usize = LATE + CLASSES;
+pub const FIRST_IDLE: usize = FIRST_LATE + CLASSES;
 
-pub const ARCS: usize = IDLE + SLOTS;
+pub const ARCS: usize = FIRST_IDLE + SLOTS;
 
 // The boundary that the arc leads from.
 #[tactic(auto, unfolding(crate::specs::Moves::arc_from))]
@@ -18,12 +18,12 @@ pub fn begins(arc: usize) -> u8
     ensures value { result ≡ arc_from arc }
     ensures below { result < 16 }
 {
-    if arc < LATE {
+    if arc < FIRST_LATE {
         start(arc as u8, true)
-    } else if arc < IDLE {
-        start((arc - LATE) as u8, false)
+    } else if arc < FIRST_IDLE {
+        start((arc - FIRST_LATE) as u8, false)
     } else {
-        (arc - IDLE) as u8
+        (arc - FIRST_IDLE) as u8
     }
 }
 
@@ -34,12 +34,12 @@ pub fn ends(arc: usize) -> u8
     ensures value { result ≡ arc_to arc }
     ensures below { result < 16 }
 {
-    if arc < LATE {
+    if arc < FIRST_LATE {
         finish(arc as u8, true)
-    } else if arc < IDLE {
-        finish((arc - LATE) as u8, false)
+    } else if arc < FIRST_IDLE {
+        finish((arc - FIRST_LATE) as u8, false)
     } else {
-        ((arc - IDLE + 1) % SLOTS) as u8
+        ((arc - FIRST_IDLE + 1) % SLOTS) as u8
     }
 }
 
@@ -49,14 +49,14 @@ pub fn arc_step(arc: usize) -> Step
     requires { arc < 288 }
     ensures { result ≡ step_of arc }
 {
-    if arc < LATE {
+    if arc < FIRST_LATE {
         Step::Run {
             class: arc as u8,
             early: true,
         }
-    } else if arc < IDLE {
+    } else if arc < FIRST_IDLE {
         Step::Run {
-            class: (arc - LATE) as u8,
+            class: (arc - FIRST_LATE) as u8,
             early: false,
         }
     } else {
@@ -74,10 +74,10 @@ pub fn arc_of_kind(boundary: u8, kind: u8) -> usize
 {
     let place = usize::from(boundary);
     if kind == 17 {
-        IDLE + place
+        FIRST_IDLE + place
     } else if kind == 16 {
-        place % 2 * LATE + 128 + place / 2
+        place % 2 * FIRST_LATE + 128 + place / 2
     } else {
-        place % 2 * LATE + 16 * (place / 2) + usize::from(kind)
+        place % 2 * FIRST_LATE + 16 * (place / 2) + usize::from(kind)
     }
 }

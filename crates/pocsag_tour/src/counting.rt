@@ -3,24 +3,25 @@ ghost use Rattle.pocsag_slots.specs.Loads.{IsChoice, load};
 ghost use Rattle.pocsag_slots.specs.Sums.{sum_below};
 ghost use Rattle.pocsag_tour.specs.Moves.{arc_count, AreCounts};
 
-use crate::arc::{ARCS, IDLE, LATE};
+use crate::arc::{ARCS, FIRST_IDLE, FIRST_LATE};
 use pocsag_slots::{Choice, Classes, loads};
 
 // How many of the arc there are, by the loads of the slots.
 #[tactic(auto, unfolding(crate::specs::Moves::arc_count))]
 fn count_of(classes: &Classes, choice: &Choice, used: &[u32; 16], batches: u32, arc: usize) -> u32
     requires chosen { IsChoice classes.now (slice_index choice.now.early) }
-    requires used { (slot : ℕ) → slot < 16 → slice_index used.now slot ≡ load classes.now (slice_index choice.now.early) slot }
+    requires used { (slot : ℕ) → slot < 16 →
+        slice_index used.now slot ≡ load classes.now (slice_index choice.now.early) slot }
     requires within { (slot : ℕ) → slot < 16 → load classes.now (slice_index choice.now.early) slot ≤ batches }
     requires arc { arc < 288 }
     ensures { result ≡ arc_count classes.now (slice_index choice.now.early) batches arc }
 {
-    if arc < LATE {
+    if arc < FIRST_LATE {
         choice.early[arc]
-    } else if arc < IDLE {
-        classes.count[arc - LATE] - choice.early[arc - LATE]
+    } else if arc < FIRST_IDLE {
+        classes.count[arc - FIRST_LATE] - choice.early[arc - FIRST_LATE]
     } else {
-        batches - used[arc - IDLE]
+        batches - used[arc - FIRST_IDLE]
     }
 }
 

@@ -10,7 +10,8 @@ use pocsag_slots::{Choice, Classes, with_member};
 // All boundaries to which links lead from boundary 0.
 fn led_from_0(links: &[u16; 16]) -> u16
     ensures start { holds result 0 ≡ true }
-    ensures closed { (p q : ℕ) → p < 16 → holds result p ≡ true → holds (slice_index links.now p) q ≡ true → holds result q ≡ true }
+    ensures closed { (p q : ℕ) → p < 16 → holds result p ≡ true → holds (slice_index links.now p) q ≡ true →
+        holds result q ≡ true }
     ensures led { (q : ℕ) → holds result q ≡ true → IsLed (slice_index links.now) q }
 {
     let mut set = with_member(0, 0);
@@ -31,8 +32,10 @@ pub fn reached(classes: &Classes, choice: &Choice, batches: u32) -> u16
     requires { IsChoice classes.now (slice_index choice.now.early) }
     ensures exact { AreReached classes.now (slice_index choice.now.early) batches result }
     ensures small { result < 2 ^ 16 }
-    ensures no_run { AreCarried classes.now (slice_index choice.now.early) batches → NoRunCrosses classes.now (slice_index choice.now.early) result }
-    ensures no_idle { AreCarried classes.now (slice_index choice.now.early) batches → NoIdleCrosses classes.now (slice_index choice.now.early) batches result }
+    ensures no_run { AreCarried classes.now (slice_index choice.now.early) batches →
+        NoRunCrosses classes.now (slice_index choice.now.early) result }
+    ensures no_idle { AreCarried classes.now (slice_index choice.now.early) batches →
+        NoIdleCrosses classes.now (slice_index choice.now.early) batches result }
 {
     led_from_0(&links_of(classes, choice, batches))
 }

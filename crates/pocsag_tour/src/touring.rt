@@ -5,7 +5,7 @@ ghost use Rattle.pocsag_slots.specs.Tours.{IsTour, LastAs, LastIsWhole};
 ghost use Rattle.pocsag_tour.specs.Moves.{AllLeadTo, IsBalanced, IsClosing, IsWay, NoWay};
 ghost use Rattle.pocsag_tour.specs.Reached.{IsRefused};
 
-use crate::arc::{ARCS, IDLE, arc_step};
+use crate::arc::{ARCS, FIRST_IDLE, arc_step};
 use crate::counting::{counts_of, steps_over};
 use crate::fault::TourFault;
 use crate::outside::lies_outside;
@@ -70,7 +70,7 @@ fn whole_way(alloc: Global, counts: &[u32; 288]) -> Result<Vec<Step>, TourFault>
 // The idle in slot 15, and the late run of class 135.
 const LAST_IDLE: usize = ARCS - 1;
 
-const LAST_LATE: usize = IDLE - 1;
+const LAST_LATE: usize = FIRST_IDLE - 1;
 
 // An arc with which a tour for the closed end can end: an idle in slot 15, or else a late run of an
 // address codeword alone there.

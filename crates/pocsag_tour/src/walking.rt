@@ -9,7 +9,8 @@ use std::alloc::{AllocError, Global};
 // An arc from the boundary that is left, other than its last exit.
 fn detour(left: &[u32; 288], exit: usize, boundary: u8) -> Option<usize>
     requires { boundary < 16 }
-    ensures found { IfSome result (λ a. (a < 288) × (0 < slice_index left.now a) × (arc_from a ≡ boundary) × (a ≢ exit)) }
+    ensures found { IfSome result
+        (λ a. (a < 288) × (0 < slice_index left.now a) × (arc_from a ≡ boundary) × (a ≢ exit)) }
     ensures none { IfNone result ((b : ℕ) → b < 288 → arc_from b ≡ boundary → b ≢ exit → slice_index left.now b ≡ 0) }
 {
     for kind in 0..18 {

@@ -180,11 +180,17 @@ fn wanted(depth: u32, made: u32) -> Result<(), CertificateFault>
     Ok(())
 }
 
+// What a tree is built by: the memory, and the ranges of the certificate's version.
+#[derive(Clone, Copy)]
+struct Builder {
+    alloc: Global,
+    ranges: Ranges,
+}
+
 #[cycle(node)]
 #[tactic(auto, unfolding(crate::specs::Reading::node_at))]
 fn node<S: Source>(
-    alloc: Global,
-    ranges: Ranges,
+    builder: Builder,
     depth: u32,
     made: u32,
     source: &mut S,
@@ -192,18 +198,17 @@ fn node<S: Source>(
     requires { made ≤ most_nodes }
     ensures counts { IfOk result (λ x. IsNodeRead depth made (bound_of x.0) x.1) }
     ensures failures { S.failures source.new ≡ failed_after result (S.failures source.old) }
-    ensures reads { S.tells → ReadsBy (node_at ranges depth made) node_then result
+    ensures reads { S.tells → ReadsBy (node_at builder.ranges depth made) node_then result
         (S.held source.old) (S.held source.new) }
 {
     wanted(depth, made)?;
-    tagged(alloc, ranges, depth - 1, made, source)
+    tagged(builder, depth - 1, made, source)
 }
 
 #[cycle(node)]
 #[tactic(auto, unfolding(crate::specs::Reading::tagged_at))]
 fn tagged<S: Source>(
-    alloc: Global,
-    ranges: Ranges,
+    builder: Builder,
     depth: u32,
     made: u32,
     source: &mut S,
@@ -211,21 +216,20 @@ fn tagged<S: Source>(
     requires { made < most_nodes }
     ensures counts { IfOk result (λ x. IsNodeRead (depth + 1) made (bound_of x.0) x.1) }
     ensures failures { S.failures source.new ≡ failed_after result (S.failures source.old) }
-    ensures reads { S.tells → ReadsBy (tagged_at ranges (node_at ranges depth) made) node_then result
+    ensures reads { S.tells → ReadsBy (tagged_at builder.ranges (node_at builder.ranges depth) made) node_then result
         (S.held source.old) (S.held source.new) }
 {
     let tag = next_byte(source)?;
-    if tag > ranges.tag {
+    if tag > builder.ranges.tag {
         return Err(CertificateFault::BadTag);
     }
-    body(alloc, ranges, tag, depth, made + 1, source)
+    body(builder, tag, depth, made + 1, source)
 }
 
 #[cycle(node)]
 #[tactic(auto, unfolding(crate::specs::Reading::body_at))]
 fn body<S: Source>(
-    alloc: Global,
-    ranges: Ranges,
+    builder: Builder,
     tag: u8,
     depth: u32,
     made: u32,
@@ -234,15 +238,15 @@ fn body<S: Source>(
     requires { made ≤ most_nodes }
     ensures counts { IfOk result (λ x. IsBodyRead depth made (bound_of x.0) x.1) }
     ensures failures { S.failures source.new ≡ failed_after result (S.failures source.old) }
-    ensures reads { S.tells → ReadsBy (body_at ranges (node_at ranges depth) tag made) node_then result
+    ensures reads { S.tells → ReadsBy (body_at builder.ranges (node_at builder.ranges depth) tag made) node_then result
         (S.held source.old) (S.held source.new) }
 {
     match tag {
         0 => overload(made, source),
-        1 => split(alloc, ranges, depth, made, source),
-        2 => cut(alloc, ranges, depth, made, source),
+        1 => split(builder, depth, made, source),
+        2 => cut(builder, depth, made, source),
         3 => Ok((Tree::Open, made)),
-        _ => close(alloc, ranges, depth, made, source),
+        _ => close(builder, depth, made, source),
     }
 }
 
@@ -270,8 +274,7 @@ fn two_boxes(alloc: Global) -> Result<(Box<Tree>, Box<Tree>), CertificateFault>
 #[cycle(node)]
 #[tactic(auto, unfolding(crate::specs::Reading::split_at))]
 fn split<S: Source>(
-    alloc: Global,
-    ranges: Ranges,
+    builder: Builder,
     depth: u32,
     made: u32,
     source: &mut S,
@@ -279,16 +282,16 @@ fn split<S: Source>(
     requires { made ≤ most_nodes }
     ensures counts { IfOk result (λ x. IsBodyRead depth made (bound_of x.0) x.1) }
     ensures failures { S.failures source.new ≡ failed_after result (S.failures source.old) }
-    ensures reads { S.tells → ReadsBy (split_at ranges (node_at ranges depth) made) node_then result
+    ensures reads { S.tells → ReadsBy (split_at builder.ranges (node_at builder.ranges depth) made) node_then result
         (S.held source.old) (S.held source.new) }
 {
-    let class = small(0, ranges.class, source)?;
-    let m = large(1, ranges.m, source)?;
+    let class = small(0, builder.ranges.class, source)?;
+    let m = large(1, builder.ranges.m, source)?;
     wanted(depth, made)?;
-    let (mut below, mut from) = two_boxes(alloc)?;
-    let (tree, made) = node(alloc, ranges, depth, made, source)?;
+    let (mut below, mut from) = two_boxes(builder.alloc)?;
+    let (tree, made) = node(builder, depth, made, source)?;
     let _open = Box::replace(&mut below, tree);
-    let (tree, made) = node(alloc, ranges, depth, made, source)?;
+    let (tree, made) = node(builder, depth, made, source)?;
     let _open = Box::replace(&mut from, tree);
     Ok((
         Tree::Split {
@@ -304,8 +307,7 @@ fn split<S: Source>(
 #[cycle(node)]
 #[tactic(auto, unfolding(crate::specs::Reading::cut_at))]
 fn cut<S: Source>(
-    alloc: Global,
-    ranges: Ranges,
+    builder: Builder,
     depth: u32,
     made: u32,
     source: &mut S,
@@ -313,13 +315,13 @@ fn cut<S: Source>(
     requires { made ≤ most_nodes }
     ensures counts { IfOk result (λ x. IsBodyRead depth made (bound_of x.0) x.1) }
     ensures failures { S.failures source.new ≡ failed_after result (S.failures source.old) }
-    ensures reads { S.tells → ReadsBy (cut_at ranges (node_at ranges depth) made) node_then result
+    ensures reads { S.tells → ReadsBy (cut_at builder.ranges (node_at builder.ranges depth) made) node_then result
         (S.held source.old) (S.held source.new) }
 {
     let set = large(1, u16::MAX, source)?;
-    let needed = small(0, ranges.class, source)?;
-    let count = large(2, ranges.children, source)?;
-    let (children, made) = row(alloc, ranges, depth, made, count, source)?;
+    let needed = small(0, builder.ranges.class, source)?;
+    let count = large(2, builder.ranges.children, source)?;
+    let (children, made) = row(builder, depth, made, count, source)?;
     Ok((
         Tree::Cut {
             set,
@@ -333,8 +335,7 @@ fn cut<S: Source>(
 #[cycle(node)]
 #[tactic(auto, unfolding(crate::specs::Reading::close_at))]
 fn close<S: Source>(
-    alloc: Global,
-    ranges: Ranges,
+    builder: Builder,
     depth: u32,
     made: u32,
     source: &mut S,
@@ -342,19 +343,18 @@ fn close<S: Source>(
     requires { made ≤ most_nodes }
     ensures counts { IfOk result (λ x. IsBodyRead depth made (bound_of x.0) x.1) }
     ensures failures { S.failures source.new ≡ failed_after result (S.failures source.old) }
-    ensures reads { S.tells → ReadsBy (close_at (node_at ranges depth) made) node_then result
+    ensures reads { S.tells → ReadsBy (close_at (node_at builder.ranges depth) made) node_then result
         (S.held source.old) (S.held source.new) }
 {
     let count = small(1, 2, source)?;
-    let (children, made) = row(alloc, ranges, depth, made, u16::from(count), source)?;
+    let (children, made) = row(builder, depth, made, u16::from(count), source)?;
     Ok((Tree::Close { children }, made))
 }
 
 // So many nodes, one after the other.
 #[cycle(node)]
 fn row<S: Source>(
-    alloc: Global,
-    ranges: Ranges,
+    builder: Builder,
     depth: u32,
     made: u32,
     count: u16,
@@ -364,14 +364,15 @@ fn row<S: Source>(
     requires some { 1 ≤ count }
     ensures counts { IfOk result (λ x. IsRowRead depth made (bounds_of x.0.items) x.1) }
     ensures failures { S.failures source.new ≡ failed_after result (S.failures source.old) }
-    ensures reads { S.tells → ReadsBy (row_at (node_at ranges depth) count made) (λ x rest. (bounds_of x.0.items, x.1, rest)) result
+    ensures reads { S.tells →
+        ReadsBy (row_at (node_at builder.ranges depth) count made) (λ x rest. (bounds_of x.0.items, x.1, rest)) result
         (S.held source.old) (S.held source.new) }
 {
     wanted(depth, made)?;
-    let mut children = Vec::with_capacity(alloc, usize::from(count))?;
+    let mut children = Vec::with_capacity(builder.alloc, usize::from(count))?;
     let mut reached = made;
     for _ in 0..count {
-        let (child, after) = node(alloc, ranges, depth, reached, source)?;
+        let (child, after) = node(builder, depth, reached, source)?;
         children.push_reserved(child);
         reached = after;
     }
@@ -392,7 +393,7 @@ fn certificate<S: Source>(alloc: Global, source: &mut S) -> Result<Certificate, 
     mark(0x42, source)?;
     let (ranges, end) = version(source)?;
     let batches = batches(source)?;
-    let (tree, _) = node(alloc, ranges, DEPTH_LIMIT, 0, source)?;
+    let (tree, _) = node(Builder { alloc, ranges }, DEPTH_LIMIT, 0, source)?;
     Ok(Certificate { end, batches, tree })
 }
 

@@ -1,5 +1,5 @@
 -- Numbers of few ones.
-use Rattle.std.proofs.Common.{◌≡◌, ℕ, zero, suc, ◌+◌, ◌*◌, ◌/◌, ◌^◌, ◌<◌, ◌≤◌, Bool, true, ◌&&◌, bit_xor, count_ones, ap, ◌∙◌, inl, inr, arith, lit<}
+use Rattle.std.proofs.Common.{◌≡◌, ℕ, zero, suc, ◌+◌, ◌*◌, ◌/◌, ◌^◌, ◌<◌, ◌≤◌, Bool, true, ◌&&◌, bit_xor, count_ones, ap, refl, ◌∙◌, inl, inr, arith, lit<}
 use Rattle.std.specs.Int.Count.{ones_step}
 use Rattle.std.proofs.Math.Nat.{pow-suc}
 use Rattle.std.proofs.lemmas.Bool.{and_parts}
@@ -40,38 +40,30 @@ pub record IsSplit (k a b m : ℕ) : Type 0 where
   pub right_few : count_ones right ≤ b
   pub sum : m ≡ bit_xor left right
 
-split_even : (k a b m : ℕ) → m ≡ 2 * (m / 2) → IsSplit k a b (m / 2) → IsSplit (suc k) a b m
-split_even k a b m e s = record {
-  left = s.left * 2 ^ 1 + 0;
-  right = s.right * 2 ^ 1 + 0;
+-- a last bit for each of them, of which there may be as many ones more
+split_more : (k a b c d x y last m : ℕ) → x < 2 ^ 1 → y < 2 ^ 1 → bit_xor x y ≡ last → a + count_ones x ≤ c → b + count_ones y ≤ d →
+    m ≡ 2 * (m / 2) + last → IsSplit k a b (m / 2) → IsSplit (suc k) c d m
+split_more k a b c d x y last m h i xor first second e s = record {
+  left = s.left * 2 ^ 1 + x;
+  right = s.right * 2 ^ 1 + y;
   left_fits = omega (arith, s.left_fits, pow-suc 2 k);
   right_fits = omega (arith, s.right_fits, pow-suc 2 k);
-  left_few = omega (arith, s.left_few, ones_cat 1 s.left 0 (lit< tt), ones_le_self 0);
-  right_few = omega (arith, s.right_few, ones_cat 1 s.right 0 (lit< tt), ones_le_self 0);
-  sum = omega (arith, xor_block 1 s.left s.right 0 0 (lit< tt) (lit< tt), s.sum);
+  left_few = omega (arith, s.left_few, ones_cat 1 s.left x h);
+  right_few = omega (arith, s.right_few, ones_cat 1 s.right y i);
+  sum = omega (arith, xor_block 1 s.left s.right x y h i, s.sum);
 }
+
+split_even : (k a b m : ℕ) → m ≡ 2 * (m / 2) → IsSplit k a b (m / 2) → IsSplit (suc k) a b m
+split_even k a b m e =
+    split_more k a b a b 0 0 0 m (lit< tt) (lit< tt) refl (omega (arith, ones_le_self 0)) (omega (arith, ones_le_self 0)) (omega arith)
 
 split_left : (k a b m : ℕ) → m ≡ 2 * (m / 2) + 1 → IsSplit k a b (m / 2) → IsSplit (suc k) (suc a) b m
-split_left k a b m e s = record {
-  left = s.left * 2 ^ 1 + 1;
-  right = s.right * 2 ^ 1 + 0;
-  left_fits = omega (arith, s.left_fits, pow-suc 2 k);
-  right_fits = omega (arith, s.right_fits, pow-suc 2 k);
-  left_few = omega (arith, s.left_few, ones_cat 1 s.left 1 (lit< tt), ones_le_self 1);
-  right_few = omega (arith, s.right_few, ones_cat 1 s.right 0 (lit< tt), ones_le_self 0);
-  sum = omega (arith, xor_block 1 s.left s.right 1 0 (lit< tt) (lit< tt), s.sum);
-}
+split_left k a b m e =
+    split_more k a b (suc a) b 1 0 1 m (lit< tt) (lit< tt) refl (omega (arith, ones_le_self 1)) (omega (arith, ones_le_self 0)) e
 
 split_right : (k a b m : ℕ) → m ≡ 2 * (m / 2) + 1 → IsSplit k a b (m / 2) → IsSplit (suc k) a (suc b) m
-split_right k a b m e s = record {
-  left = s.left * 2 ^ 1 + 0;
-  right = s.right * 2 ^ 1 + 1;
-  left_fits = omega (arith, s.left_fits, pow-suc 2 k);
-  right_fits = omega (arith, s.right_fits, pow-suc 2 k);
-  left_few = omega (arith, s.left_few, ones_cat 1 s.left 0 (lit< tt), ones_le_self 0);
-  right_few = omega (arith, s.right_few, ones_cat 1 s.right 1 (lit< tt), ones_le_self 1);
-  sum = omega (arith, xor_block 1 s.left s.right 0 1 (lit< tt) (lit< tt), s.sum);
-}
+split_right k a b m e =
+    split_more k a b a (suc b) 0 1 1 m (lit< tt) (lit< tt) refl (omega (arith, ones_le_self 0)) (omega (arith, ones_le_self 1)) e
 
 -- a number of at most a + b ones is such a sum
 pub split : (k a b m : ℕ) → m < 2 ^ k → count_ones m ≤ a + b → IsSplit k a b m

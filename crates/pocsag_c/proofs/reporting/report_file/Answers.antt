@@ -7,7 +7,7 @@ returns-clause-report c =
     let same = c.new-source.ensures in
     record {
       bounded = c.in_ok-bounded.bounded;
-      plan_of = record { round = c.in_ok-round.round; read = cc; plan_of = c.in_ok-bounded.ensures.plan };
+      plan_of = record { round = c.in_ok-round.round; read = cc; holds = c.in_ok-bounded.ensures.plan.plan_of };
       same_bound = refl;
       report_of = c.in_ok-told.ensures.report;
     }

@@ -21,7 +21,7 @@ check_each-returns-then-not-check_node t c =
     let some : i < length c.args.ways.now = omega arith in (
       λ h. absurd (cc h),
       λ a.
-          let parts = one_first c.args.question.takes_open c.args.classes.now c.args.question.end c.args.question.batches
+          let parts = one_first c.args.claim.now.takes_open c.args.claim.now.classes.now c.args.claim.now.end c.args.claim.now.batches
           c.args.limits.now c.args.depth c.args.ways.now c.args.children.now i w c.index-children-place.result some c.loop-place-test.true
           (way_at c.args.ways.now i (IdleIn 0) some)
           c.index-children-place.is (c.loop-place.invariant.rest a) in
@@ -36,19 +36,19 @@ check_each-loop-place-preserved t c =
     let i = c.loop-place.place in
     let w : Way = get_or c.args.ways.now i (IdleIn 0) in
     let some : i < length c.args.ways.now = omega arith in
-    let yes : AcceptsWithin c.args.question.takes_open c.args.classes.now c.args.question.end c.args.question.batches
+    let yes : AcceptsWithin c.args.claim.now.takes_open c.args.claim.now.classes.now c.args.claim.now.end c.args.claim.now.batches
     c.narrow-narrowed.result c.args.depth (bound_of c.index-children-place.result) =
     c.check_node.ensures.0 (cc) in
-    let here : AcceptsWithin c.args.question.takes_open c.args.classes.now c.args.question.end c.args.question.batches
-    (narrowed_limits c.args.classes.now c.args.limits.now w c.args.question.batches) c.args.depth (bound_of c.index-children-place.result) =
+    let here : AcceptsWithin c.args.claim.now.takes_open c.args.claim.now.classes.now c.args.claim.now.end c.args.claim.now.batches
+    (narrowed_limits c.args.claim.now.classes.now c.args.limits.now w c.args.claim.now.batches) c.args.depth (bound_of c.index-children-place.result) =
     rw c.narrow-narrowed.ensures.value at yes in
     record {
-      rest = λ a. (one_first c.args.question.takes_open c.args.classes.now c.args.question.end c.args.question.batches c.args.limits.now
+      rest = λ a. (one_first c.args.claim.now.takes_open c.args.claim.now.classes.now c.args.claim.now.end c.args.claim.now.batches c.args.limits.now
           c.args.depth c.args.ways.now c.args.children.now i w c.index-children-place.result some c.loop-place-test.true
           (way_at c.args.ways.now i (IdleIn 0) some)
           c.index-children-place.is (c.loop-place.invariant.rest a)).1;
       all = λ a. c.loop-place.invariant.all
-          (one_more c.args.question.takes_open c.args.classes.now c.args.question.end c.args.question.batches c.args.limits.now c.args.depth
+          (one_more c.args.claim.now.takes_open c.args.claim.now.classes.now c.args.claim.now.end c.args.claim.now.batches c.args.limits.now c.args.depth
           c.args.ways.now c.args.children.now i w c.index-children-place.result some c.loop-place-test.true
           (way_at c.args.ways.now i (IdleIn 0) some)
           c.index-children-place.is here a);
@@ -58,7 +58,7 @@ pub check_each-returns : goal.check_each-returns
 check_each-returns t c =
     let long : length c.args.ways.now ≡ length c.args.children.now = c.if-ways-children.false in (
       λ h. c.loop-place.invariant.all
-          (none_left c.args.question.takes_open c.args.classes.now c.args.question.end c.args.question.batches c.args.limits.now
+          (none_left c.args.claim.now.takes_open c.args.claim.now.classes.now c.args.claim.now.end c.args.claim.now.batches c.args.limits.now
           c.args.depth c.args.ways.now c.args.children.now c.loop-place.place (omega arith) (omega arith)),
       λ a. refl,
     )

@@ -1,17 +1,14 @@
-use Rattle.std.proofs.Common.{sym, ◌∙◌}
-use Rattle.pocsag_commands.proofs.Statuses.{done}
+use Rattle.std.proofs.lemmas.Result.{err_from_is_err_and}
+use Rattle.pocsag_commands.proofs.Bounding.{told_planned, why_refused}
 use Rattle.pocsag_commands.proofs.always.run_plan_always.Goals as goal
 
-pub returns-clause-planned : goal.returns-clause-planned
-returns-clause-planned g c = λ pages_tell tx_tells cert_tells zero.
-    done _ _ _ c.ended.ensures.value zero (c.plan_files_always-done.ensures.planned pages_tell tx_tells cert_tells)
+pub returns-in_err-written-clause-why : goal.returns-in_err-written-clause-why
+returns-in_err-written-clause-why g c = λ tells one.
+    let p = err_from_is_err_and c.from_residual.result c.from_residual.ensures.1 in
+    why_refused _ _ _ c.in_err-written.field-0.0 (c.in_err-written.ensures.explained tells) (rw (p.1, p.2) at one)
 
 pub returns-clause-told : goal.returns-clause-told
-returns-clause-told g c = λ pages_tell tx_tells cert_tells out_tells zero.
-    done _ _ _ c.ended.ensures.value zero (c.plan_files_always-done.ensures.told pages_tell tx_tells cert_tells out_tells)
-
-pub returns-clause-refused : goal.returns-clause-refused
-returns-clause-refused g c = λ one. c.plan_files_always-done.ensures.refused (sym c.ended.ensures.value ∙ one)
-
-pub returns-clause-why : goal.returns-clause-why
-returns-clause-why g c = λ tells one. c.plan_files_always-done.ensures.why tells (sym c.ended.ensures.value ∙ one)
+returns-clause-told g c = λ pages_tell tx_tells cert_tells out_tells.
+    told_planned _ _ _ _ _ _ c.in_ok-written.written (c.in_ok-written.ensures.headline pages_tell tx_tells cert_tells)
+    (c.in_ok-written.ensures.plan pages_tell)
+    c.tell_bounded.result _ _ (c.tell_bounded.ensures.told out_tells)

@@ -1,13 +1,22 @@
-use Rattle.std.proofs.Common.{sym, ◌∙◌}
-use Rattle.pocsag_commands.proofs.Statuses.{done}
+use Rattle.std.proofs.lemmas.Result.{err_from_is_err_and}
+use Rattle.pocsag_commands.specs.Commands.{round as of_round}
+use Rattle.pocsag_commands.proofs.Planning.{told_plan}
+use Rattle.pocsag_commands.proofs.Refusing.{why_round, why_unplanned}
 use Rattle.pocsag_commands.proofs.commands.run_input.Goals as goal
 
 pub returns-clause-told : goal.returns-clause-told
-returns-clause-told g c =
-    λ input_tells out_tells zero. done _ _ _ c.ended.ensures.value zero (c.plan_input-done.ensures.told input_tells out_tells)
+returns-clause-told g c = λ input_tells out_tells.
+    told_plan _ _ c.in_ok-plan.plan
+    (record { round = c.in_ok-round.round; read = c.in_ok-round.ensures.ok input_tells; holds = c.in_ok-plan.ensures.plan })
+    c.tell_plan.result _ _ (c.tell_plan.ensures.told out_tells)
 
-pub returns-clause-why : goal.returns-clause-why
-returns-clause-why g c = λ tells one. c.plan_input-done.ensures.why tells (sym c.ended.ensures.value ∙ one)
+pub returns-in_err-round-clause-why : goal.returns-in_err-round-clause-why
+returns-in_err-round-clause-why g c = λ tells one.
+    let p = err_from_is_err_and c.from_residual.result c.from_residual.ensures.1 in
+    of_round c.in_err-round.field-0.0 (why_round _ c.in_err-round.field-0.0 (c.in_err-round.ensures.err tells) (rw (p.1, p.2) at one))
 
-pub returns-clause-refused : goal.returns-clause-refused
-returns-clause-refused g c = λ one. c.plan_input-done.ensures.refused (sym c.ended.ensures.value ∙ one)
+pub returns-in_err-plan-clause-why : goal.returns-in_err-plan-clause-why
+returns-in_err-plan-clause-why g c = λ tells one.
+    let p = err_from_is_err_and c.from_residual-in_err-plan.result c.from_residual-in_err-plan.ensures.1 in
+    why_unplanned _ _ _ c.in_ok-round.round (c.in_ok-round.ensures.ok tells) c.in_err-plan.field-0.0 c.in_err-plan.ensures.fault
+    (rw (p.1, p.2) at one)

@@ -1,13 +1,27 @@
-use Rattle.std.proofs.Common.{sym, ◌∙◌}
-use Rattle.pocsag_commands.proofs.Statuses.{done}
+use Rattle.std.proofs.Common.{refl}
+use Rattle.std.proofs.lemmas.Result.{err_from_is_err_and}
+use Rattle.pocsag_plan.specs.Reports.{report_text}
+use Rattle.pocsag_commands.specs.Commands.{round as of_round}
+use Rattle.pocsag_commands.specs.Refusals.{IsReportRefused}
+use Rattle.pocsag_commands.proofs.Planning.{told_report}
+use Rattle.pocsag_commands.proofs.Refusing.{why_round, why_unplanned}
 use Rattle.pocsag_commands.proofs.commands.run_report.Goals as goal
 
 pub returns-clause-told : goal.returns-clause-told
-returns-clause-told g c =
-    λ pages_tell out_tells zero. done _ _ _ c.ended.ensures.value zero (c.report_file-done.ensures.told pages_tell out_tells)
+returns-clause-told g c = λ pages_tell out_tells.
+    told_report _ _ _ c.in_ok-plan.plan c.in_ok-told.told
+    (record { round = c.in_ok-round.round; read = c.in_ok-round.ensures.ok pages_tell; holds = c.in_ok-plan.ensures.plan })
+    c.in_ok-told.ensures.report c.tell.result _ _ (c.tell.ensures.told out_tells (report_text c.in_ok-told.told) refl)
 
-pub returns-clause-why : goal.returns-clause-why
-returns-clause-why g c = λ tells one. c.report_file-done.ensures.why tells (sym c.ended.ensures.value ∙ one)
+pub returns-in_err-round-clause-why : goal.returns-in_err-round-clause-why
+returns-in_err-round-clause-why g c = λ tells one.
+    let p = err_from_is_err_and c.from_residual.result c.from_residual.ensures.1 in
+    IsReportRefused.plan
+    (of_round c.in_err-round.field-0.0 (why_round _ c.in_err-round.field-0.0 (c.in_err-round.ensures.err tells) (rw (p.1, p.2) at one)))
 
-pub returns-clause-refused : goal.returns-clause-refused
-returns-clause-refused g c = λ one. c.report_file-done.ensures.refused (sym c.ended.ensures.value ∙ one)
+pub returns-in_err-plan-clause-why : goal.returns-in_err-plan-clause-why
+returns-in_err-plan-clause-why g c = λ tells one.
+    let p = err_from_is_err_and c.from_residual-in_err-plan.result c.from_residual-in_err-plan.ensures.1 in
+    IsReportRefused.plan
+    (why_unplanned _ _ _ c.in_ok-round.round (c.in_ok-round.ensures.ok tells) c.in_err-plan.field-0.0 c.in_err-plan.ensures.fault
+    (rw (p.1, p.2) at one))

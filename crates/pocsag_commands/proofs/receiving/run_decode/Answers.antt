@@ -1,13 +1,7 @@
-use Rattle.std.proofs.Common.{sym, ◌∙◌}
-use Rattle.pocsag_commands.proofs.Statuses.{done}
+use Rattle.std.proofs.Common.{◌∙◌}
+use Rattle.pocsag_commands.proofs.Refusing.{why_decoded_after}
 use Rattle.pocsag_commands.proofs.receiving.run_decode.Goals as goal
 
-pub returns-clause-listed : goal.returns-clause-listed
-returns-clause-listed g c =
-    λ tx_tells out_tells zero. done _ _ _ c.ended.ensures.value zero (c.decode_file-done.ensures.listed tx_tells out_tells)
-
 pub returns-clause-why : goal.returns-clause-why
-returns-clause-why g c = λ tells one. c.decode_file-done.ensures.why tells (sym c.ended.ensures.value ∙ one)
-
-pub returns-clause-refused : goal.returns-clause-refused
-returns-clause-refused g c = λ one. c.decode_file-done.ensures.refused (sym c.ended.ensures.value ∙ one)
+returns-clause-why g c = λ tells one.
+    why_decoded_after _ _ c.list_decoded.result (c.as_slice.ensures.value ∙ c.in_ok-bytes.ensures.whole tells) c.list_decoded.ensures.explained one

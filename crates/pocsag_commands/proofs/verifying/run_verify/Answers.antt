@@ -1,6 +1,28 @@
-use Rattle.pocsag_commands.proofs.Statuses.{done}
+use Rattle.std.proofs.Common.{ℕ, List, subst, refl, ◌∙◌}
+use Rattle.pocsag_words.specs.declared.ending.End.{End}
+use Rattle.pocsag_tree.specs.Spelling.{IsText}
+use Rattle.pocsag_tree.specs.Views.{bound_of}
+use Rattle.pocsag_commands.specs.Commands.{Checked}
+use Rattle.pocsag_commands.specs.Verifying.{IsTransmissionOf}
+use Rattle.pocsag_commands.proofs.Readback.{verified}
 use Rattle.pocsag_commands.proofs.verifying.run_verify.Goals as goal
 
-pub returns-clause-verified : goal.returns-clause-verified
-returns-clause-verified g c = λ pages_tell tx_tells cert_tells zero.
-    done _ _ _ c.ended.ensures.value zero (c.verify_files-done.ensures pages_tell tx_tells cert_tells)
+pub returns : goal.returns
+returns g c = λ pages_tell tx_tells cert_tells.
+    let certificate = c.in_ok-certificate.certificate in
+    let file : List ℕ = g.P.Source.held c.args.pages.now in
+    let shown_bytes : List ℕ = g.C.Source.held c.args.cert.now in
+    let text = subst (λ (e : End). IsText e certificate.batches (bound_of certificate.tree) shown_bytes)
+    (c.if-not-is_end.ensures refl) (c.in_ok-certificate.ensures.found cert_tells) in
+    let shown : Checked file shown_bytes c.args.end certificate.batches = record {
+      round = c.in_ok-round.round;
+      read = c.in_ok-round.ensures.ok pages_tell;
+      tree = bound_of certificate.tree;
+      text = text;
+      accepted = c.if-not-check.ensures.accepted.0 refl;
+      bound = c.if-not-check.ensures.bound refl;
+    } in
+    verified file c.args.end c.args.always (g.T.Source.held c.args.tx.now) shown_bytes certificate.batches shown c.in_ok-batches.batches
+    (subst (λ (v : List ℕ). IsTransmissionOf c.args.end c.in_ok-round.round c.in_ok-batches.batches v)
+    (c.as_slice.ensures.value ∙ c.in_ok-bytes.ensures.whole tx_tells) c.in_ok-batches.ensures)
+    (c.if-not-is_due.ensures refl) c.tell.result

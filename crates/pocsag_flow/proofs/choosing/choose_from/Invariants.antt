@@ -1,10 +1,10 @@
 use Rattle.std.proofs.Common.{slice_index}
 use Rattle.pocsag_flow.specs.Choosing.{overload}
-use Rattle.pocsag_flow.specs.Search.{IsStanding}
+use Rattle.pocsag_flow.specs.Search.{IsLoaded}
 use Rattle.pocsag_flow.proofs.choosing.choose_from.Given as goal
 
 abbrev pub invariant-loop-slot : goal.invariant-loop-slot
-invariant-loop-slot l = IsStanding l.classes l.limits l.standing
+invariant-loop-slot l = IsLoaded l.classes l.limits l.standing
 
 abbrev pub decreases-loop-slot : goal.decreases-loop-slot
 decreases-loop-slot l = overload l.classes l.limits (slice_index l.standing.early)

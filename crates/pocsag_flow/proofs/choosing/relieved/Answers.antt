@@ -1,14 +1,14 @@
 use Rattle.std.proofs.Common.{◌≡◌, ◌-◌, ◌<◌, arith, refl, slice_index}
 use Rattle.pocsag_flow.specs.declared.network.Network.{Network}
-use Rattle.pocsag_flow.specs.declared.network.Search.{Search}
+use Rattle.pocsag_flow.specs.declared.network.Progress.{Progress}
 use Rattle.pocsag_slots.proofs.Members.{held_some}
 use Rattle.pocsag_flow.proofs.Ends.{given_few, overload_less, shut_overloads}
 use Rattle.pocsag_flow.proofs.choosing.relieved.Goals as goal
 
 pub returns-then-moved-eq0-clause-overloads : goal.returns-then-moved-eq0-clause-overloads
 returns-then-moved-eq0-clause-overloads c =
-    let n : Network = record { classes = c.args.classes.now; limits = c.args.limits.now; loads = c.args.standing.now.loads } in
-    let before : Search = record { early = c.args.standing.now.early; reached = c.with_member.result; end = c.args.slot } in
+    let n : Network = record { classes = c.args.classes; limits = c.args.limits; loads = c.args.standing.now.loads } in
+    let before : Progress = record { early = c.args.standing.now.early; reached = c.with_member.result; end = c.args.slot } in
     let none : c.leave-moved.result ≡ 0 = omega arith in
     rw c.overload_of.ensures.fault
     (shut_overloads c.class_loads_add_up.ensures n before c.leave-moved.new.search c.args.slot
@@ -25,7 +25,7 @@ returns-then-moved-eq0-clause-set c =
 
 pub shifted-requires-clause-given : goal.shifted-requires-clause-given
 shifted-requires-clause-given c =
-    let n : Network = record { classes = c.args.classes.now; limits = c.args.limits.now; loads = c.args.standing.now.loads } in
+    let n : Network = record { classes = c.args.classes; limits = c.args.limits; loads = c.args.standing.now.loads } in
     let some : 0 < c.leave-moved.result = omega arith in
     let few = given_few n (slice_index c.args.standing.now.early)
     (slice_index c.leave-moved.new.search.early) c.args.slot c.leave-moved.new.search.end c.leave-moved.result
@@ -36,7 +36,7 @@ shifted-requires-clause-given c =
 
 pub returns-clause-less : goal.returns-clause-less
 returns-clause-less c =
-    let n : Network = record { classes = c.args.classes.now; limits = c.args.limits.now; loads = c.args.standing.now.loads } in
+    let n : Network = record { classes = c.args.classes; limits = c.args.limits; loads = c.args.standing.now.loads } in
     let some : 0 < c.leave-moved.result = omega arith in
     overload_less n (slice_index c.args.standing.now.early)
     (slice_index c.leave-moved.new.search.early) c.args.slot c.leave-moved.new.search.end c.leave-moved.result

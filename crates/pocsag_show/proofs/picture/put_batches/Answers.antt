@@ -1,8 +1,17 @@
-use Rattle.std.proofs.Common.{slice_index}
-use Rattle.pocsag_show.specs.Picture.{batch_line}
-use Rattle.pocsag_show.proofs.Ranges.{put_more}
+use Rattle.std.proofs.Common.{slice_index, arith}
+use Rattle.pocsag_show.specs.Picture.{batch_line, batch_lines}
+use Rattle.pocsag_show.proofs.Ranges.{put_all, put_next}
 use Rattle.pocsag_show.proofs.picture.put_batches.Goals as goal
 
 pub loop-batch-preserved : goal.loop-batch-preserved
-loop-batch-preserved c =
-    put_more (batch_line (slice_index c.args.letters.now)) c.loop-batch.batch _ _ _ c.loop-batch.invariant c.in_ok-put_batch.ensures
+loop-batch-preserved c = (
+  put_next (batch_line (slice_index c.args.letters.now)) c.args.low c.loop-batch.batch _ _ _
+      c.loop-batch.auto.batch c.loop-batch.invariant.0 c.in_ok-put_batch.ensures,
+  omega arith,
+)
+
+pub returns : goal.returns
+unfolding batch_lines
+returns c =
+    put_all (batch_line (slice_index c.args.letters.now)) c.args.low c.loop-batch.batch c.args.high _ _
+    c.loop-batch.auto.batch c.loop-batch.invariant.1 (omega arith) c.loop-batch.invariant.0

@@ -10,8 +10,8 @@ loop-rest-init c =
     let Y = c.split_at.result.1.now in
     let e : Y ≡ after_preamble c.args.bytes.now =
     c.split_at.ensures.back ∙ ap (λ (n : ℕ). drop n c.args.bytes.now) c.leading_len.ensures.value in
-    subst (λ (Z : List ℕ). IsUnderWay c.new-grid.result 0 Z (after_preamble c.args.bytes.now)) (sym e)
-    (at_start c.new-grid.result (after_preamble c.args.bytes.now) c.new-grid.ensures.letters c.new-grid.ensures.pages
+    subst (λ (Z : List ℕ). IsUnderWay c.args.numbers.now c.new-grid.result 0 Z (after_preamble c.args.bytes.now)) (sym e)
+    (at_start c.args.numbers.now c.new-grid.result (after_preamble c.args.bytes.now) c.new-grid.ensures.letters c.new-grid.ensures.starts
     c.new-grid.ensures.idles c.requires)
 
 pub take_word-requires : goal.take_word-requires
@@ -25,8 +25,8 @@ loop-rest-preserved c =
     let s = c.split_at-in-loop-rest in
     next_step c.loop-rest.place c.word_of.result s.result.0.now s.result.1.now c.loop-rest.rest.now s.ensures.front_len
     (sym (split_is 4 c.loop-rest.rest.now _ _ s.ensures.front s.ensures.back)) c.word_of.ensures
-    c.loop-rest.grid c.take_word.new.grid (after_preamble c.args.bytes.now) c.loop-rest.invariant c.in_ok-take_word.ensures
+    c.args.numbers.now c.loop-rest.grid c.take_word.new.grid (after_preamble c.args.bytes.now) c.loop-rest.invariant c.in_ok-take_word.ensures
 
 pub returns : goal.returns
 returns c =
-    at_end c.loop-rest.grid c.loop-rest.place c.loop-rest.rest.now (after_preamble c.args.bytes.now) (omega arith) c.loop-rest.invariant
+    at_end c.args.numbers.now c.loop-rest.grid c.loop-rest.place c.loop-rest.rest.now (after_preamble c.args.bytes.now) (omega arith) c.loop-rest.invariant

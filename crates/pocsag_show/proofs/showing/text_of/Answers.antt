@@ -9,5 +9,5 @@ returns-in_err-picture_of c =
 pub returns : goal.returns
 returns c =
     let j = c.in_ok-judged.ensures in
-    is_grid_text c.args.bytes.now _ c.in_ok-judged.judged j
-    (c.in_ok-picture_of.ensures _ j.grid (kinds_whole c.args.bytes.now c.in_ok-judged.judged j))
+    is_grid_text c.args.rows c.args.bytes.now _ c.in_ok-judged.judged j
+    (c.in_ok-picture_of.ensures _ _ j.grid (kinds_whole c.args.bytes.now c.in_ok-judged.judged j))

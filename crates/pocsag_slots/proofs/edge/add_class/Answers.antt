@@ -19,8 +19,8 @@ returns-then-classes-class-eq0-clause-ends c p h =
     (none_end c.args.classes.now (slice_index c.args.choice.now.early) p c.args.class (omega arith)
     (c.requires.chosen c.args.class c.requires.class))
 
-pub add-requires-clause-fits : goal.add-requires-clause-fits
-add-requires-clause-fits c =
+pub add_to-requires-clause-fits : goal.add_to-requires-clause-fits
+add_to-requires-clause-fits c =
     omega (
       arith,
       c.requires.starts c.start.result c.start.ensures.below,
@@ -29,11 +29,11 @@ add-requires-clause-fits c =
       count_few c.args.classes.now c.args.class c.requires.class,
     )
 
-pub add-requires-2-clause-fits : goal.add-requires-2-clause-fits
-add-requires-2-clause-fits c =
+pub add_to-requires-2-clause-fits : goal.add_to-requires-2-clause-fits
+add_to-requires-2-clause-fits c =
     omega (
       arith,
-      c.add.ensures c.start-2.result c.start-2.ensures.below,
+      c.add_to.ensures c.start-2.result c.start-2.ensures.below,
       c.requires.starts c.start-2.result c.start-2.ensures.below,
       starts_few c.args.classes.now (slice_index c.args.choice.now.early) c.start-2.result c.args.class (omega arith) c.requires.chosen,
       part c.start.result c.start-2.result (slice_index c.args.choice.now.early c.args.class),
@@ -41,8 +41,8 @@ add-requires-2-clause-fits c =
       count_few c.args.classes.now c.args.class c.requires.class,
     )
 
-pub add-requires-3-clause-fits : goal.add-requires-3-clause-fits
-add-requires-3-clause-fits c =
+pub add_to-requires-3-clause-fits : goal.add_to-requires-3-clause-fits
+add_to-requires-3-clause-fits c =
     omega (
       arith,
       c.requires.ends c.finish.result c.finish.ensures.below,
@@ -51,11 +51,11 @@ add-requires-3-clause-fits c =
       count_few c.args.classes.now c.args.class c.requires.class,
     )
 
-pub add-requires-4-clause-fits : goal.add-requires-4-clause-fits
-add-requires-4-clause-fits c =
+pub add_to-requires-4-clause-fits : goal.add_to-requires-4-clause-fits
+add_to-requires-4-clause-fits c =
     omega (
       arith,
-      c.add-3.ensures c.finish-2.result c.finish-2.ensures.below,
+      c.add_to-3.ensures c.finish-2.result c.finish-2.ensures.below,
       c.requires.ends c.finish-2.result c.finish-2.ensures.below,
       ends_few c.args.classes.now (slice_index c.args.choice.now.early) c.finish-2.result c.args.class (omega arith) c.requires.chosen,
       part c.finish.result c.finish-2.result (slice_index c.args.choice.now.early c.args.class),
@@ -68,17 +68,17 @@ returns-clause-starts c p h =
     let k = c.args.classes.now in
     let choice = slice_index c.args.choice.now.early in
     let n = c.args.class in
-    class_added (starts_at k choice p) n (slice_index c.args.edges.now.starts p) (slice_index c.add.new.sums p)
-    (slice_index c.add-2.new.sums p)
+    class_added (starts_at k choice p) n (slice_index c.args.edges.now.starts p) (slice_index c.add_to.new.sums p)
+    (slice_index c.add_to-2.new.sums p)
     c.start.result c.start-2.result _ _ p (choice n) (slice_index k.count n - choice n)
-    (c.requires.starts p h) (c.add.ensures p h) (c.add-2.ensures p h) c.start.ensures.value c.start-2.ensures.value refl
+    (c.requires.starts p h) (c.add_to.ensures p h) (c.add_to-2.ensures p h) c.start.ensures.value c.start-2.ensures.value refl
 
 pub returns-clause-ends : goal.returns-clause-ends
 returns-clause-ends c p h =
     let k = c.args.classes.now in
     let choice = slice_index c.args.choice.now.early in
     let n = c.args.class in
-    class_added (ends_at k choice p) n (slice_index c.args.edges.now.ends p) (slice_index c.add-3.new.sums p)
-    (slice_index c.add-4.new.sums p)
+    class_added (ends_at k choice p) n (slice_index c.args.edges.now.ends p) (slice_index c.add_to-3.new.sums p)
+    (slice_index c.add_to-4.new.sums p)
     c.finish.result c.finish-2.result _ _ p (choice n) (slice_index k.count n - choice n)
-    (c.requires.ends p h) (c.add-3.ensures p h) (c.add-4.ensures p h) c.finish.ensures.value c.finish-2.ensures.value refl
+    (c.requires.ends p h) (c.add_to-3.ensures p h) (c.add_to-4.ensures p h) c.finish.ensures.value c.finish-2.ensures.value refl

@@ -18,7 +18,7 @@ node-returns-clause-reads g t c = λ tells.
       shrinks = read.shrinks;
       bytes = λ k le.
           let held : List ℕ = but_last k (g.S.Source.held c.args.source.now) in
-          rw (node_stands c.args.ranges c.args.depth c.args.made held fine.0 fine.1) (read.bytes k le);
+          rw (node_stands c.args.builder.ranges c.args.depth c.args.made held fine.0 fine.1) (read.bytes k le);
     }
 
 -- ---- a row
@@ -47,7 +47,7 @@ row-loop-init g t c =
       failures = refl;
       shrinks = λ tells. omega arith;
       bytes = λ tells k le. row_starts
-          (node_at c.args.ranges c.args.depth) c.in_ok-children.children.items c.args.count c.args.made _ items;
+          (node_at c.args.builder.ranges c.args.depth) c.in_ok-children.children.items c.args.count c.args.made _ items;
     }
 
 pub row-loop-preserved : goal.row-loop-preserved
@@ -90,7 +90,7 @@ row-returns-in_err-wanted-clause-reads g t c = λ tells.
     let p = err_from_is_err_and c.from_residual.result c.from_residual.ensures.1 in
     record {
       shrinks = omega arith;
-      bytes = λ k le. rw (p.1, p.2) (row_is_early c.args.ranges c.args.depth c.args.count c.args.made _ c.in_err-wanted.field-0.0 _
+      bytes = λ k le. rw (p.1, p.2) (row_is_early c.args.builder.ranges c.args.depth c.args.count c.args.made _ c.in_err-wanted.field-0.0 _
           c.requires.some c.in_err-wanted.ensures.early);
     }
 
@@ -101,7 +101,7 @@ row-returns-in_err-children-clause-reads g t c = λ tells.
     let fine = c.in_ok-wanted.ensures.fine in
     record {
       shrinks = omega arith;
-      bytes = λ k le. rw (p.1, p.2) (λ here. row_ends_early c.args.ranges c.args.depth c.args.count c.args.made (but_last k held)
+      bytes = λ k le. rw (p.1, p.2) (λ here. row_ends_early c.args.builder.ranges c.args.depth c.args.count c.args.made (but_last k held)
           c.requires.some fine.0 fine.1 (but_last_all k held here));
     }
 
@@ -119,8 +119,8 @@ split-returns-in_err-wanted-clause-reads g t c = λ tells.
       bytes = λ k le.
           let longer : k ≤ length (g.S.Source.held c.small.new.source) = omega (arith, le, m.shrinks) in
           rw (p.1, p.2) (told c.args.depth c.args.made e _ _ early
-          (split_fails c.args.ranges (node_at c.args.ranges c.args.depth) c.in_ok-class.class c.in_ok-m.m c.args.made _ _ _ e
-          (class.bytes k longer) (m.bytes k le) (node_is_early c.args.ranges c.args.depth c.args.made _ e early)));
+          (split_fails c.args.builder.ranges (node_at c.args.builder.ranges c.args.depth) c.in_ok-class.class c.in_ok-m.m c.args.made _ _ _ e
+          (class.bytes k longer) (m.bytes k le) (node_is_early c.args.builder.ranges c.args.depth c.args.made _ e early)));
     }
 
 pub split-returns-in_err-below-clause-reads : goal.split-returns-in_err-below-clause-reads
@@ -135,7 +135,7 @@ split-returns-in_err-below-clause-reads g t c = λ tells.
       bytes = λ k le.
           let longer : k ≤ length (g.S.Source.held c.small.new.source) = omega (arith, le, m.shrinks) in
           rw (p.1, p.2, c.in_err-below.ensures) (λ here.
-          split_fails c.args.ranges (node_at c.args.ranges c.args.depth) c.in_ok-class.class c.in_ok-m.m c.args.made _ _ _ fault.Truncated
+          split_fails c.args.builder.ranges (node_at c.args.builder.ranges c.args.depth) c.in_ok-class.class c.in_ok-m.m c.args.made _ _ _ fault.Truncated
           (class.bytes k longer) (m.bytes k le)
-          (rw (but_last_all k held here) (node_ends c.args.ranges c.args.depth c.args.made fine.0 fine.1)));
+          (rw (but_last_all k held here) (node_ends c.args.builder.ranges c.args.depth c.args.made fine.0 fine.1)));
     }

@@ -35,6 +35,6 @@ invariant-row-loop g l = record {
   shrinks : g.S.Source.tells → length (g.S.Source.held l.source) ≤ length (g.S.Source.held l.fn.source);
   bytes : g.S.Source.tells → (k : ℕ) → k ≤ length (g.S.Source.held l.source) →
       with_front (map bound_of l.children.items)
-      (row_at (node_at l.ranges l.depth) (l.count - l.counter) l.reached (but_last k (g.S.Source.held l.source)))
-      ≡ row_at (node_at l.ranges l.depth) l.count l.made (but_last k (g.S.Source.held l.fn.source));
+      (row_at (node_at l.builder.ranges l.depth) (l.count - l.counter) l.reached (but_last k (g.S.Source.held l.source)))
+      ≡ row_at (node_at l.builder.ranges l.depth) l.count l.made (but_last k (g.S.Source.held l.fn.source));
 }

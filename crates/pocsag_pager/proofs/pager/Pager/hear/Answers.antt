@@ -44,16 +44,16 @@ returns-then-not-opens-clause-stands c = λ words s.
     record {
       place = place_more self.place words c.args.word s.place;
       open_page =
-          subst (IsOpen (words ++ c.args.word ∷ []) self.address) (sym c.if-waits.ensures)
+          subst (IsOpen (words ++ c.args.word ∷ []) self.address) (sym c.if-is_between_pages.ensures)
           (turn_open self.address self.place c.args.word words self.state None c.heard_as-heard.result s.place c.if-place-gt0.true
-          c.if-waits.ensures c.heard_as-heard.ensures s.open_page None (sym c.if-not-opens.ensures));
+          c.if-is_between_pages.ensures c.heard_as-heard.ensures s.open_page None (sym c.if-not-opens.ensures));
     }
 
 pub returns-then-not-opens-clause-ended : goal.returns-then-not-opens-clause-ended
 returns-then-not-opens-clause-ended c = λ words ps s have.
     let self = c.args.self.now in
     turn_ended self.address self.place c.args.word words self.state None c.heard_as-heard.result s.place c.if-place-gt0.true
-    c.if-waits.ensures c.heard_as-heard.ensures s.open_page ps None (sym (ending_none c.heard_as-heard.result)) have
+    c.if-is_between_pages.ensures c.heard_as-heard.ensures s.open_page ps None (sym (ending_none c.heard_as-heard.result)) have
 
 pub returns-in_err-kept-clause-memory : goal.returns-in_err-kept-clause-memory
 returns-in_err-kept-clause-memory c = λ words s e.

@@ -1,0 +1,176 @@
+ghost use Rattle.std.specs.Prelude.{OnOk};
+ghost use Rattle.pocsag_commands.specs.Notes.{AddsNotes};
+
+use crate::fault::Fault;
+use crate::file_notes::{note_header, note_line_feeds, note_record};
+use crate::note::{Notes, tell_notes};
+use crate::role::{Names, Role};
+use crate::watch::Trouble;
+use pocsag_decode::DecodeFault;
+use pocsag_pager::PagerFault;
+use pocsag_pages::RoundFault;
+use pocsag_tree::CertificateFault;
+use pocsag_words::{OutOfMemory, Sink};
+use std::alloc::Global;
+use std::io;
+
+/// What the notes on a command are made from.
+#[derive(Clone, Copy)]
+pub struct Scene<'a> {
+    /// The words for its files.
+    pub names: Names<'a>,
+    /// What it reads first.
+    pub subject: Role,
+    /// Where the system refused a file or a stream last.
+    pub trouble: Option<Trouble>,
+    /// The bytes of the page file, as far as they were read.
+    pub file: &'a [u8],
+}
+
+/// Tells notes on a command that is over: on its fault, or on what it did.
+pub fn tell_explained<S: Sink>(
+    alloc: Global,
+    done: Result<u8, Fault>,
+    scene: &Scene<'_>,
+    err: &mut S,
+) -> Result<(), Fault>
+    ensures told { S.tells → OnOk result (AddsNotes (S.taken err.old) (S.taken err.new)) }
+{
+    let mut notes = Notes::new(alloc);
+    match done {
+        Ok(0) => note_line_feeds(alloc, scene, &mut notes)?,
+        Ok(1) => note_not_shown(scene, &mut notes)?,
+        Ok(_) => {}
+        Err(fault) => explain(alloc, fault, scene, &mut notes)?,
+    }
+    tell_notes(alloc, err, notes.texts())
+}
+
+// Notes on a fault: the file by its role and its name with the system's reason; the line of the page file, the
+// record, its address and the offending field; and what to do.
+fn explain(
+    alloc: Global,
+    fault: Fault,
+    scene: &Scene<'_>,
+    notes: &mut Notes,
+) -> Result<(), OutOfMemory> {
+    let names = scene.names;
+    match fault {
+        Fault::Device | Fault::Write => note_trouble(scene, notes),
+        Fault::Round(RoundFault::ReadFault) => note_trouble(scene, notes),
+        Fault::Certificate(CertificateFault::ReadFault) => note_trouble(scene, notes),
+        Fault::TooLarge | Fault::Round(RoundFault::TooLarge) => {
+            let place = names.place(scene.subject);
+            notes.add(format_args!("{place}: at most 268435456 bytes are read"))
+        }
+        Fault::Round(refused) => explain_round(alloc, refused, scene, notes),
+        Fault::Unexpected(..) => {
+            notes.add(names.place(Role::PageFile))?;
+            note_line_feeds(alloc, scene, notes)
+        }
+        Fault::EqualPaths => note_names(&names, notes),
+        Fault::SearchLimit(..) => {
+            let place = names.place(Role::PageFile);
+            notes.add(format_args!(
+                "{place}: try --always, which refuses no round; or --limit N, up to 1000000"
+            ))
+        }
+        Fault::Transmission(refused) => explain_transmission(refused, scene, notes),
+        Fault::Pager(refused) => explain_pager(refused, scene, notes),
+        Fault::Certificate(_) => {
+            let place = names.place(Role::Certificate);
+            notes.add(format_args!(
+                "{place}: pocsag plan writes certificates; was this file changed or cut since?"
+            ))
+        }
+        Fault::NotThePages | Fault::NotTheEnd | Fault::NotTheBound => {
+            note_names(&names, notes)?;
+            notes.add("was one of them changed meanwhile? plan the round again")
+        }
+        Fault::OutOfMemory | Fault::BadLimit | Fault::BadRate => note_names(&names, notes),
+    }
+}
+
+// A certificate that does not show its batches.
+fn note_not_shown(scene: &Scene<'_>, notes: &mut Notes) -> Result<(), OutOfMemory> {
+    note_names(&scene.names, notes)?;
+    notes.add("is the certificate that of this page file, as it was when it was planned?")
+}
+
+// Which file the system refused, and why.
+fn note_trouble(scene: &Scene<'_>, notes: &mut Notes) -> Result<(), OutOfMemory> {
+    let Some(Trouble { role, code }) = scene.trouble else {
+        return note_names(&scene.names, notes);
+    };
+    let place = scene.names.place(role);
+    match code {
+        Some(code) => {
+            let reason = io::Error::from_raw_os_error(code);
+            notes.add(format_args!("{place}: {reason}"))
+        }
+        None => notes.add(format_args!("{place}: the system took nothing and told no reason")),
+    }
+}
+
+// The files of the command.
+fn note_names(names: &Names<'_>, notes: &mut Notes) -> Result<(), OutOfMemory> {
+    for role in [Role::PageFile, Role::Transmission, Role::Certificate] {
+        let place = names.place(role);
+        if place.name.is_some() {
+            notes.add(place)?;
+        }
+    }
+    Ok(())
+}
+
+fn explain_round(
+    alloc: Global,
+    refused: RoundFault,
+    scene: &Scene<'_>,
+    notes: &mut Notes,
+) -> Result<(), OutOfMemory> {
+    match refused {
+        RoundFault::BadHeader => note_header(scene, notes),
+        RoundFault::NoPages => {
+            let place = scene.names.place(Role::PageFile);
+            notes.add(format_args!("{place}: no record follows the header"))
+        }
+        RoundFault::OutOfMemory => note_names(&scene.names, notes),
+        refused => note_record(alloc, refused, scene, notes),
+    }
+}
+
+fn explain_transmission(
+    refused: DecodeFault,
+    scene: &Scene<'_>,
+    notes: &mut Notes,
+) -> Result<(), OutOfMemory> {
+    let place = scene.names.place(Role::Transmission);
+    match refused {
+        DecodeFault::NoSync(batch) => {
+            let number = batch.saturating_add(1);
+            notes.add(format_args!("{place}: batches count from 0 here; show calls it {number}"))
+        }
+        DecodeFault::BadWord(index) | DecodeFault::Orphan(index) => {
+            let (number, slot) = ((index / 16).saturating_add(1), index % 16);
+            notes.add(format_args!(
+                "{place}: codewords count from 0 here; it is that of slot {slot} in batch {number} of show"
+            ))
+        }
+        _ => notes.add(place),
+    }
+}
+
+fn explain_pager(
+    refused: PagerFault,
+    scene: &Scene<'_>,
+    notes: &mut Notes,
+) -> Result<(), OutOfMemory> {
+    match refused {
+        PagerFault::BadAddress => notes.add("ADDRESS: 0 to 2097151"),
+        PagerFault::ReservedAddress => {
+            notes.add("ADDRESS: 2007664 to 2007671 and 2045056 to 2045063 are reserved")
+        }
+        _ => notes.add(scene.names.place(Role::Transmission)),
+    }
+}

@@ -1,0 +1,70 @@
+use std::fmt::{self, Display};
+
+/// What a file or a stream is to a command.
+#[derive(Clone, Copy, PartialEq, Eq, Debug)]
+pub enum Role {
+    PageFile,
+    Transmission,
+    Certificate,
+    /// Standard output, for what the command tells.
+    Output,
+    /// Standard input, for the lines of an open round.
+    Lines,
+}
+
+impl Display for Role {
+    fn fmt<W: fmt::Write>(&self, f: &mut fmt::Formatter<W>) -> fmt::Result {
+        f.write_str(match self {
+            Role::PageFile => "page file",
+            Role::Transmission => "transmission",
+            Role::Certificate => "certificate",
+            Role::Output => "standard output",
+            Role::Lines => "standard input",
+        })
+    }
+}
+
+/// The words by which the files of a command were named, each where the command has such a file.
+#[derive(Clone, Copy, PartialEq, Eq, Debug)]
+pub struct Names<'a> {
+    pub pages: Option<&'a str>,
+    pub tx: Option<&'a str>,
+    pub cert: Option<&'a str>,
+}
+
+/// A file of a command, by its role and by the word that named it, if one did.
+#[derive(Clone, Copy, PartialEq, Eq, Debug)]
+pub struct Place<'a> {
+    pub role: Role,
+    pub name: Option<&'a str>,
+}
+
+impl<'a> Names<'a> {
+    /// No files.
+    pub const NONE: Names<'static> = Names {
+        pages: None,
+        tx: None,
+        cert: None,
+    };
+
+    /// The file of a role.
+    pub fn place(&self, role: Role) -> Place<'a> {
+        let name = match role {
+            Role::PageFile => self.pages,
+            Role::Transmission => self.tx,
+            Role::Certificate => self.cert,
+            Role::Output | Role::Lines => None,
+        };
+        Place { role, name }
+    }
+}
+
+impl Display for Place<'_> {
+    fn fmt<W: fmt::Write>(&self, f: &mut fmt::Formatter<W>) -> fmt::Result {
+        let role = self.role;
+        match self.name {
+            Some(name) => write!(f, "{role} {name}"),
+            None => write!(f, "{role}"),
+        }
+    }
+}

@@ -1,0 +1,70 @@
+use crate::role::Role;
+use std::alloc::Global;
+use std::cell::{Cell, RefCell};
+
+/// That the system refused a file or a stream.
+#[derive(Clone, Copy, PartialEq, Eq, Debug)]
+pub struct Trouble {
+    /// What the file is to the command.
+    pub role: Role,
+    /// The system's number of the reason, where it gave one.
+    pub code: Option<i32>,
+}
+
+/// What the devices of a command met, for the notes of `--verbose`: where the system refused one last, and the
+/// bytes of the page file that were read.
+#[derive(Drop)]
+pub struct Watch {
+    alloc: Global,
+    keeps: bool,
+    trouble: Cell<Option<Trouble>>,
+    file: RefCell<Vec<u8>>,
+}
+
+impl Watch {
+    /// Nothing was met yet. The bytes of the page file are kept only where notes are asked for.
+    pub fn new(alloc: Global, keeps: bool) -> Watch {
+        Watch {
+            alloc,
+            keeps,
+            trouble: Cell::new(None),
+            file: RefCell::new(Vec::new(alloc)),
+        }
+    }
+
+    /// The system refused a file or a stream.
+    pub fn meet(&self, role: Role, code: Option<i32>) {
+        self.trouble.set(Some(Trouble { role, code }));
+    }
+
+    /// Where the system refused one last, which is forgotten.
+    pub fn take_trouble(&self) -> Option<Trouble> {
+        self.trouble.replace(None)
+    }
+
+    /// Whether notes are asked for.
+    pub fn is_asked(&self) -> bool {
+        self.keeps
+    }
+
+    /// Some bytes of the page file were read. Where memory is wanting for them none are kept.
+    pub fn keep(&self, piece: &[u8]) {
+        if !self.keeps {
+            return;
+        }
+        let Ok(mut file) = self.file.try_borrow_mut() else {
+            return;
+        };
+        if file.extend_from_slice(piece).is_err() {
+            file.clear();
+        }
+    }
+
+    /// The bytes that were kept, which are kept no longer.
+    pub fn take_file(&self) -> Vec<u8> {
+        match self.file.try_replace(Vec::new(self.alloc)) {
+            Ok(file) => file,
+            Err(_) => Vec::new(self.alloc),
+        }
+    }
+}

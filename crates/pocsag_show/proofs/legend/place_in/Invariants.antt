@@ -1,0 +1,7 @@
+use Rattle.std.proofs.Common.{◌≡◌, ◌≤◌, take}
+use Rattle.pocsag_show.specs.Legend.{place_in}
+use Rattle.pocsag_show.proofs.legend.place_in.Given as goal
+
+abbrev pub invariant-loop-other : goal.invariant-loop-other
+invariant-loop-other l =
+    (l.count ≡ place_in l.window.low l.window.high (take l.other-index l.pages) l.placed) × (l.count ≤ l.other-index)

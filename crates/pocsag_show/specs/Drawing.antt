@@ -1,0 +1,140 @@
+-- The drawing of a transmission, as SVG 1.1 (this project's own). A row is a batch. Behind everything a row is hatched,
+-- as idle codewords are; on it lie the pages, each in its hue, the address codeword darker and with the page's label.
+use Rattle.std.specs.Prelude.{ℕ, ◌+◌, ◌-◌, ◌*◌, min, max, nat_le, if◌then◌else◌, List, [], ◌∷◌, ◌++◌, length, codes}
+use Rattle.std.specs.List.{flat_map, range_with_len}
+use Rattle.std.specs.Fmt.{decimal}
+use Rattle.pocsag_words.specs.declared.codeword.Kind.{Kind}
+use Rattle.pocsag_pages.specs.declared.page.Page.{Page}
+use Rattle.pocsag_show.specs.declared.placed.Placed.{Placed}
+use Rattle.pocsag_show.specs.declared.rows.Rows.{Rows}
+use Rattle.pocsag_show.specs.Escapes.{told}
+use Rattle.pocsag_show.specs.Grid.{idles_in}
+use Rattle.pocsag_show.specs.Legend.{end_row_of, first_row_of, is_drawn, key, legend, legend_lines}
+use Rattle.pocsag_show.specs.Marks.{closed, hatching, head, opened, rectangle, synchronisation, tail}
+use Rattle.pocsag_show.specs.Measures.{cell_left, height, row_top}
+use Rattle.pocsag_show.specs.Picture.{batches_in, counts_part, idles_part, totals_line}
+use Rattle.pocsag_show.specs.Placed.{index_behind, placed_in}
+use Rattle.pocsag_show.specs.Rows.{end_row, first_row, rows_between}
+use Rattle.pocsag_show.specs.Style.{style}
+
+-- What is drawn of a page in a row in which it has codewords: a rectangle over them, and its mark: where it begins in
+-- this row its address codeword, and else its label in small.
+unfoldable pub piece : (low : ℕ) → Placed → (row : ℕ) → List ℕ
+piece low pl row =
+    let from = max pl.start (16 * row) in
+    let behind = min (index_behind pl) (16 * row + 16) in
+    let x = cell_left from in
+    let y = row_top low row in
+    rectangle x y (28 * (behind - from)) ++ (if nat_le (16 * row) pl.start then head x y pl.number else tail x y pl.number)
+
+-- A page in the rows from one up to before another, in which it has codewords: a group of its hue, which tells what the
+-- page is, and its pieces.
+unfoldable pub page_title : Placed → List ℕ
+page_title pl = codes "<title>" ++ (told pl ++ codes "</title>")
+
+unfoldable pub group : (low : ℕ) → Placed → (first end : ℕ) → List ℕ
+group low pl first end = opened pl.number ++ (page_title pl ++ (flat_map (piece low pl) (rows_between first end) ++ closed))
+
+-- A page, where it has codewords in the rows that are drawn.
+unfoldable pub page_drawn : (low high : ℕ) → Placed → List ℕ
+page_drawn low high pl =
+    if is_drawn low high pl then group low pl (first_row_of low pl) (end_row_of high pl) else []
+
+-- The number of a batch, counted from 1, in a row with this upper side.
+unfoldable pub batch_number : (y row : ℕ) → List ℕ
+batch_number y row = codes "<text class='e' x='50' y='" ++ (decimal (y + 13) ++ (codes "'>" ++ (decimal (row + 1) ++ codes "</text>")))
+
+-- A row behind its pages: its batch, the synchronisation codeword, and the hatching of its sixteen codewords.
+unfoldable pub row_drawn : (low row : ℕ) → List ℕ
+row_drawn low row =
+    let y = row_top low row in
+    batch_number y row ++ (synchronisation 60 y ++ (hatching y 448 ++ (10 ∷ [])))
+
+-- A number over the rows.
+unfoldable pub numbered : (x y number : ℕ) → List ℕ
+numbered x y number =
+    codes "<text class='m' x='" ++ (decimal x ++ (codes "' y='" ++ (decimal y ++ (codes "'>" ++ (decimal number ++ codes "</text>")))))
+
+-- The numbers of the eight frames and, under them, of the sixteen slots.
+abbrev pub frame_number : ℕ → List ℕ
+frame_number frame = numbered (108 + 56 * frame) 60 frame
+
+abbrev pub slot_number : ℕ → List ℕ
+slot_number slot = numbered (94 + 28 * slot) 74 slot
+
+-- The words frame, slot and batch, and the numbers of the frames and slots.
+unfoldable pub axes : List ℕ
+axes =
+    codes "<text class='e' x='74' y='60'>frame</text><text class='e' x='74' y='74'>slot</text><text class='e' x='50' y='74'>batch</text>"
+    ++ (flat_map frame_number (range_with_len 0 8) ++ (flat_map slot_number (range_with_len 0 16) ++ (10 ∷ [])))
+
+-- A line at each side of a frame, over so many rows.
+unfoldable pub frame_line : (bottom frame : ℕ) → List ℕ
+frame_line bottom frame = codes "M" ++ (decimal (80 + 56 * frame) ++ (codes " 78V" ++ decimal bottom))
+
+unfoldable pub frame_lines : ℕ → List ℕ
+frame_lines count =
+    codes "<path class='f' d='" ++ (flat_map (frame_line (80 + 22 * count)) (range_with_len 0 9) ++ (codes "'/>" ++ (10 ∷ [])))
+
+-- The heading: which batches are drawn.
+unfoldable pub heading : (low high batches : ℕ) → List ℕ
+heading low high batches =
+    codes "Batches " ++ (decimal (low + 1) ++ (codes " to " ++ (decimal high ++ (codes " of " ++ decimal batches))))
+
+unfoldable pub size : ℕ → List ℕ
+size tall = codes " width='540' height='" ++ (decimal tall ++ (codes "' viewBox='0 0 540 " ++ (decimal tall ++ codes "'")))
+
+unfoldable pub kind_of_drawing : List ℕ
+kind_of_drawing = codes "<svg xmlns='http://www.w3.org/2000/svg' version='1.1' class='pocsag' role='img'"
+
+unfoldable pub opening : ℕ → List ℕ
+opening tall = kind_of_drawing ++ (size tall ++ (codes ">" ++ (10 ∷ [])))
+
+unfoldable pub ground : ℕ → List ℕ
+ground tall = codes "<rect class='b' width='540' height='" ++ (decimal tall ++ (codes "'/>" ++ (10 ∷ [])))
+
+-- What readers of screens tell: the heading, and the line of totals with what the drawing is.
+unfoldable pub title : (low high batches : ℕ) → List ℕ
+title low high batches = codes "<title>" ++ (heading low high batches ++ (codes "</title>" ++ (10 ∷ [])))
+
+unfoldable pub explanation : List ℕ
+explanation =
+    codes "A row is a batch: its number, its synchronisation codeword, and sixteen codewords in eight frames. "
+    ++ codes "A page has one hue and one letter, its address codeword is darker, and idle codewords are hatched."
+
+unfoldable pub description : (batches codewords idles : ℕ) → List ℕ
+description batches codewords idles = codes "<desc>" ++ (totals_line batches codewords idles ++ (explanation ++ (codes "</desc>" ++ (10 ∷ []))))
+
+-- The heading and the counts that are seen.
+unfoldable pub caption : (low high batches codewords idles : ℕ) → List ℕ
+caption low high batches codewords idles =
+    codes "<text class='t' x='12' y='22'>" ++ (heading low high batches ++ (codes "</text><text x='12' y='40'>"
+    ++ (counts_part batches codewords ++ (idles_part batches idles ++ (codes "</text>" ++ (10 ∷ []))))))
+
+-- What stands before the rows: what is told, and what is seen.
+unfoldable pub told_before : (low high batches codewords idles lines : ℕ) → List ℕ
+told_before low high batches codewords idles lines =
+    opening (height (high - low) lines) ++ (title low high batches ++ description batches codewords idles)
+
+unfoldable pub seen_before : (low high batches codewords idles lines : ℕ) → List ℕ
+seen_before low high batches codewords idles lines =
+    style ++ (ground (height (high - low) lines) ++ (caption low high batches codewords idles ++ axes))
+
+unfoldable pub front : (low high batches codewords idles lines : ℕ) → List ℕ
+front low high batches codewords idles lines =
+    told_before low high batches codewords idles lines ++ seen_before low high batches codewords idles lines
+
+-- The rows and the pages that lie on them.
+unfoldable pub rows_and_pages : (low high : ℕ) → List Placed → List ℕ
+rows_and_pages low high pls =
+    flat_map (row_drawn low) (rows_between low high) ++ (flat_map (page_drawn low high) pls ++ frame_lines (high - low))
+
+unfoldable pub drawing_text : (low high batches codewords idles : ℕ) → List Placed → List ℕ
+drawing_text low high batches codewords idles pls =
+    front low high batches codewords idles (legend_lines low high pls)
+    ++ (rows_and_pages low high pls ++ (key (high - low) ++ (legend low high pls ++ (codes "</svg>" ++ (10 ∷ [])))))
+
+-- The drawing of codewords that fill batches and of the pages that they read as: of the rows that are wanted.
+unfoldable pub drawing : Rows → List Kind → List Page → List ℕ
+drawing rows ks ps =
+    drawing_text (first_row rows) (end_row rows (batches_in ks)) (batches_in ks) (length ks - idles_in ks) (idles_in ks) (placed_in ks ps)
