@@ -1,26 +1,27 @@
 ghost use Rattle.std.specs.Prelude.{[]};
 
-use crate::devices::ReaderSource;
-use crate::files::{STANDARD, fault_of, open_source};
+use crate::desk::Desk;
+use crate::files::{STANDARD, open_source};
 use crate::keeping::Beside;
 use crate::misuse::is_regular_or_none;
 use crate::paths::Named;
 use crate::round_files::RoundFiles;
-use pocsag_commands::{Fault, tell};
+use pocsag_commands::{Fault, ReaderSource, Role, Watch, tell};
 use pocsag_journal::{Disk, Journal, JournalFault, Replayed, read_journal};
 use pocsag_open::{OpenRound, Planner, run_open_kept};
 use pocsag_pages::read_round;
 use pocsag_plan::Book;
 use pocsag_words::{DeviceFault, Sink};
-use std::alloc::Global;
 use std::fs::{File, OpenFile, OpenOptions, TryLockError};
 use std::io::Write;
+
+// What the journal is to the command.
+const ROLE: Role = Role::Lines;
 
 /// The file of a journal, which this program alone holds. Nothing is known of its bytes.
 #[derive(Drop)]
 pub struct JournalFile<'a> {
-    rt: &'a HostRuntime,
-    alloc: Global,
+    desk: Desk<'a>,
     path: &'a str,
     file: File,
     calls: u64,
@@ -30,29 +31,24 @@ pub struct JournalFile<'a> {
 impl<'a> JournalFile<'a> {
     // Opens or makes the file and locks it, unless another program holds it. The lock goes with the file, so what
     // stands at the path must still be the file that is locked.
-    fn hold(
-        rt: &'a HostRuntime,
-        alloc: Global,
-        path: &'a str,
-    ) -> Result<Option<JournalFile<'a>>, Fault> {
-        if !is_regular_or_none(rt, path) {
+    fn hold(desk: Desk<'a>, path: &'a str) -> Result<Option<JournalFile<'a>>, Fault> {
+        if !is_regular_or_none(desk.rt, path) {
             return Err(Fault::Device);
         }
         let mut options = OpenOptions::new();
         options.read(true).write(true).create(true);
-        let file = options.open(rt, path).map_err(fault_of)?;
+        let file = options.open(desk.rt, path).map_err(|error| desk.refused(ROLE, error))?;
         match file.try_lock() {
             Ok(()) => {}
             Err(TryLockError::WouldBlock) => return Ok(None),
-            Err(TryLockError::Error(error)) => return Err(fault_of(error)),
+            Err(TryLockError::Error(error)) => return Err(desk.refused(ROLE, error)),
         }
-        let held = Named::of(&file.metadata().map_err(fault_of)?);
-        if Named::at(rt, path) != Some(held) {
+        let metadata = file.metadata().map_err(|error| desk.refused(ROLE, error))?;
+        if Named::at(desk.rt, path) != Some(Named::of(&metadata)) {
             return Ok(None);
         }
         Ok(Some(JournalFile {
-            rt,
-            alloc,
+            desk,
             path,
             file,
             calls: 0,
@@ -60,19 +56,22 @@ impl<'a> JournalFile<'a> {
         }))
     }
 
-    fn read(&self, alloc: Global) -> Result<Replayed, JournalFault> {
+    fn read(&self) -> Result<Replayed, JournalFault> {
         match self.file.try_clone() {
-            Ok(file) => read_journal(alloc, &mut ReaderSource::new(file)),
+            Ok(file) => {
+                let mut source = ReaderSource::new(file, ROLE, self.desk.watch);
+                read_journal(self.desk.alloc, &mut source)
+            }
             Err(_) => Err(JournalFault::ReadFault),
         }
     }
 
     // Puts a file of the text at the path, and answers it, locked.
     fn put(&self, text: &[u8]) -> Result<File, Fault> {
-        let beside = Beside::make(self.rt, self.alloc, self.path)?;
+        let beside = Beside::make(self.desk, ROLE, self.path)?;
         let done = self.put_beside(&beside, text);
         if done.is_err() {
-            beside.remove(self.rt);
+            beside.remove(self.desk);
         }
         done
     }
@@ -80,14 +79,17 @@ impl<'a> JournalFile<'a> {
     fn put_beside(&self, beside: &Beside<'_>, text: &[u8]) -> Result<File, Fault> {
         let mut options = OpenOptions::new();
         options.write(true);
-        let mut file = options.open(self.rt, beside.path()).map_err(fault_of)?;
+        let desk = self.desk;
+        let mut file = options
+            .open(desk.rt, beside.path())
+            .map_err(|error| desk.refused(ROLE, error))?;
         match file.try_lock() {
             Ok(()) => {}
             Err(_) => return Err(Fault::Device),
         }
-        file.write_all(text).map_err(fault_of)?;
-        beside.sync(self.rt)?;
-        beside.put(self.rt)?;
+        file.write_all(text).map_err(|error| desk.unwritten(ROLE, error))?;
+        beside.sync(desk)?;
+        beside.put(desk)?;
         Ok(file)
     }
 }
@@ -135,67 +137,69 @@ impl Disk for JournalFile<'_> {
 }
 
 /// `open --journal`: keeps an open round whose edits are in the file of a journal before they are answered.
-pub fn open_kept<O: Sink, E: Sink>(
-    journal: &str,
-    always: bool,
-    places: &RoundFiles<'_>,
-    out: &mut O,
-    err: &mut E,
-) -> Result<u8, Fault> {
-    let (rt, alloc) = (places.rt, places.alloc);
-    let Some(file) = JournalFile::hold(rt, alloc, journal)? else {
-        return Ok(refuse(err, "another program holds the journal"));
+pub fn open_kept(journal: &str, always: bool, places: &RoundFiles<'_>) -> Result<u8, Fault> {
+    // The notes of `--verbose` name the files of the round, and not the journal.
+    let unheard = Watch::new(places.desk.alloc, false);
+    let desk = Desk {
+        watch: &unheard,
+        ..places.desk
     };
-    let Replayed {
-        book,
-        edits,
-        torn,
-    } = match file.read(alloc) {
+    let Some(file) = JournalFile::hold(desk, journal)? else {
+        return Ok(refuse(desk, "another program holds the journal"));
+    };
+    let replayed = match file.read() {
         Ok(replayed) => replayed,
-        Err(fault) => return tell_journal(err, fault),
+        Err(fault) => return tell_journal(desk, fault),
     };
-    if edits > 0 && places.pages.is_some() {
-        return Ok(refuse(err, "the journal holds edits, so the round cannot begin with PAGES"));
+    if replayed.edits > 0 && places.pages.is_some() {
+        return Ok(refuse(desk, "the journal holds edits, so the round cannot begin with PAGES"));
     }
+    let Replayed { book, edits, torn } = replayed;
     let book = match places.pages {
-        Some(path) => book_of(places, path)?,
+        Some(path) => book_of(places.desk, path)?,
         None => book,
     };
-    let keeper = match Journal::write_anew(alloc, file, &book) {
+    let keeper = match Journal::write_anew(desk.alloc, file, &book) {
         Ok(keeper) => keeper,
-        Err(fault) => return tell_journal(err, fault),
+        Err(fault) => return tell_journal(desk, fault),
     };
-    if torn > 0 {
-        let _ = tell(err, format_args!("pocsag: a torn line of {torn} bytes is cut off\n"));
-    }
-    let pages = book.len();
-    let _ = tell(err, format_args!("pocsag: {edits} edits read, {pages} pages\n"));
-    let mut input = ReaderSource::new(rt.stdin());
+    tell_start(desk, torn, edits, book.len());
+    let mut input = ReaderSource::new(desk.rt.stdin(), Role::Lines, places.desk.watch);
     let planner = &Planner { places, always };
     let mut round = OpenRound { book, keeper };
-    Ok(run_open_kept(alloc, planner, &mut round, &mut input, out, err))
+    run_open_kept(desk.alloc, planner, &mut round, &mut input, &mut places.desk.out())?;
+    Ok(0)
+}
+
+// Tells what the round begins with. That standard error fails changes nothing.
+fn tell_start(desk: Desk<'_>, torn: usize, edits: usize, pages: usize) {
+    let mut err = desk.err();
+    if torn > 0 {
+        let _ = tell(&mut err, format_args!("pocsag: a torn line of {torn} bytes is cut off\n"));
+    }
+    let _ = tell(&mut err, format_args!("pocsag: {edits} edits read, {pages} pages\n"));
 }
 
 // A book of the pages of a page file.
-fn book_of(places: &RoundFiles<'_>, path: &str) -> Result<Book, Fault> {
+fn book_of(desk: Desk<'_>, path: &str) -> Result<Book, Fault> {
     if path == STANDARD {
         return Err(Fault::EqualPaths);
     }
-    let mut pages = open_source(places.rt, Some(path))?;
-    let round = read_round(places.alloc, &mut pages)?;
-    Ok(Book::of_round(places.alloc, &round)?)
+    let mut pages = open_source(desk, Role::PageFile, Some(path))?;
+    let round = read_round(desk.alloc, &mut pages)?;
+    Ok(Book::of_round(desk.alloc, &round)?)
 }
 
-fn refuse<E: Sink>(err: &mut E, why: &str) -> u8 {
-    let _ = tell(err, format_args!("pocsag: {why}\n"));
+fn refuse(desk: Desk<'_>, why: &str) -> u8 {
+    let _ = tell(&mut desk.err(), format_args!("pocsag: {why}\n"));
     1
 }
 
 // Tells why there is no journal, and answers the status.
-fn tell_journal<E: Sink>(err: &mut E, fault: JournalFault) -> Result<u8, Fault> {
+fn tell_journal(desk: Desk<'_>, fault: JournalFault) -> Result<u8, Fault> {
     match fault {
         JournalFault::BadLine(_) | JournalFault::NoLine(_) | JournalFault::TooLarge => {
-            let _ = tell(err, format_args!("pocsag: {fault}\n"));
+            let _ = tell(&mut desk.err(), format_args!("pocsag: {fault}\n"));
             Ok(1)
         }
         JournalFault::ReadFault => Err(Fault::Device),

@@ -78,7 +78,7 @@ impl<'a> Places for RoundFiles<'a> {
     fn make(&self, tx: &str, cert: &str) -> Result<Outputs<WriterSink<'a, Output<File>>>, Fault> {
         refuse_equal(self.pages, tx, cert)?;
         refuse_equal(self.journal, tx, cert)?;
-        refuse_one_file(self.rt, self.journal, tx, cert)?;
+        refuse_one_file(self.desk.rt, self.journal, tx, cert)?;
         if tx == STANDARD || cert == STANDARD {
             return Err(Fault::EqualPaths);
         }

@@ -24,14 +24,15 @@ cut (x ∷ xs) ys (u ∷ us) vs e =
       | inr h ↦ inr (h.0, rw (same, h.1) refl, h.2)
     ]
 
-nothing : (xs ws : List ℕ) → xs ++ ws ≡ [] → ws ≡ []
-nothing [] ws e = e
-nothing (x ∷ xs) ws e = absurd (cc e)
+-- what is behind a list that adds up to nothing
+nothing : (xs : List ℕ) (ws : List ℕ) → ws ≢ [] → xs ++ ws ≢ []
+nothing [] ws n e = n e
+nothing (x ∷ xs) ws n e = cc e
 
 -- the front of a line, without its last byte, has no line feed
 front : (xs ws body : List ℕ) → HasNoLineFeed body → ws ≢ [] → xs ++ ws ≡ body ++ line_feed ∷ [] → HasNoLineFeed xs
 front [] ws body n m e = tt
-front (x ∷ xs) ws [] n m e = absurd (m (nothing xs ws (cc e)))
+front (x ∷ xs) ws [] n m e = absurd (nothing xs ws m (cc e))
 front (x ∷ xs) ws (b ∷ body) n m e =
     let same : b ≡ x = cc e in
     (subst (λ (c : ℕ). c ≢ line_feed) same n.0, front xs ws body n.1 m (cc e))

@@ -4,6 +4,7 @@ use Rattle.std.specs.List.{AllByRecursion}
 use Rattle.std.specs.Prelude.{Option, Some, None, codes}
 use Rattle.std.specs.Str.{bytes_eq}
 use Rattle.std.proofs.lemmas.List.{append-nil, length-append}
+use Rattle.std.proofs.lemmas.Option.{same_Some}
 use Rattle.std.proofs.lemmas.Slice.Eq.{bytes_eq-Decides}
 use Rattle.csv.specs.Machine.{line_feed, next_record}
 use Rattle.csv.specs.Reading.{default_config, records, records_from, strip_bom}
@@ -70,9 +71,6 @@ edit_is_read row before after d =
     let read = rw (append-nil (row_text default_writer row), back) at (read-write row []) in
     rw plain (only_read (row_text default_writer row) row read)
 
-some_row : (a b : Row) → Some a ≡ Some b → a ≡ b
-some_row a b e = cc e
-
 -- what is read of a line that is the text of an edit
 line_read : (line : List ℕ) (row : Row) (before after : List Page) → row_text default_writer row ≡ line → IsEdit row before after →
     first_of line ≡ Some row
@@ -87,7 +85,7 @@ same_bytes line = (bytes_eq-Decides line line).1 refl
 pub other_text : (line : List ℕ) (read : Row) (before after : List Page) → Some read ≡ first_of line →
     bytes_eq (row_text default_writer read) line ≡ false → MakesLine false line before after
 other_text line read before after e n = λ row other text d.
-    let same = some_row read row (e ∙ line_read line row before other text d) in
+    let same = same_Some read row (e ∙ line_read line row before other text d) in
     let is : row_text default_writer read ≡ line = ap (λ (r : Row). row_text default_writer r) same ∙ text in
     let yes : bytes_eq (row_text default_writer read) line ≡ true = rw is (same_bytes line) in
     cc (sym yes ∙ n)
@@ -95,7 +93,7 @@ other_text line read before after e n = λ row other text d.
 pub edit_refused : (line : List ℕ) (read : Row) (before after : List Page) (why : Refusal) → Some read ≡ first_of line →
     IsRefusedFor read before why → wants_memory why ≡ false → MakesLine false line before after
 edit_refused line read before after why e refused n = λ row other text d.
-    let same = some_row read row (e ∙ line_read line row before other text d) in
+    let same = same_Some read row (e ∙ line_read line row before other text d) in
     elim refused [
       | inl memory ↦ cc (sym memory ∙ n)
       | inr none ↦ none other (subst (λ (r : Row). IsEdit r before other) (sym same) d)

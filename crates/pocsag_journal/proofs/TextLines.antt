@@ -1,7 +1,7 @@
 -- Lines of a text, and the records that they are.
 use Rattle.std.proofs.Common.{Bool, true, false, ◌≡◌, ◌≢◌, ℕ, zero, suc, ◌+◌, ◌<◌, List, [], ◌∷◌, ◌++◌, length, take, arith, add-one, refl, sym, ap, ◌∙◌, subst, append_assoc, Some}
 use Rattle.std.proofs.lemmas.List.{append-nil}
-use Rattle.std.proofs.lemmas.Bool.{eqb-true}
+use Rattle.std.proofs.lemmas.Bool.{eqb-true, or_parts}
 use Rattle.std.specs.Prelude.{◌==◌, ◌||◌, Option, None, codes, slice_index}
 use Rattle.memchr.specs.Find.{NoneBefore, Passes, is_byte}
 use Rattle.std.specs.List.{AllByRecursion, list_any}
@@ -88,17 +88,13 @@ align (d ∷ ds) (r ∷ rs) rest torn p q n e =
       each = more.each;
     }
 
-both_false : (a b : Bool) → (a || b) ≡ false → (a ≡ false) × (b ≡ false)
-both_false true b e = absurd (cc e)
-both_false false b e = (refl, e)
-
 other_byte : (b : ℕ) → (b == line_feed) ≡ false → b ≢ line_feed
 other_byte b n e = let t : (b == line_feed) ≡ true = rw e refl in cc (sym t ∙ n)
 
 none_found : (bytes : List ℕ) → list_any (λ b. b == line_feed) bytes ≡ false → HasNoLineFeed bytes
 none_found [] e = tt
 none_found (b ∷ bytes) e =
-    let h = both_false (b == line_feed) (list_any (λ c. c == line_feed) bytes) e in
+    let h = or_parts (b == line_feed) (list_any (λ c. c == line_feed) bytes) e in
     (other_byte b h.0, none_found bytes h.1)
 
 -- the first line is one

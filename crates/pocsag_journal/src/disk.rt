@@ -17,5 +17,6 @@ pub trait Disk: Sink {
     fn replace(&mut self, text: &[u8]) -> Result<(), DeviceFault>
         ensures taken { Self.tells → OnOk result (Self.taken self.new ≡ text.now) }
         ensures safe { Self.tells → OnOk result (safe self.new ≡ text.now) }
-        ensures either { Self.tells → OnErr result ((Self.taken self.new ≡ Self.taken self.old) ⊎ (Self.taken self.new ≡ text.now)) };
+        ensures either { Self.tells → OnErr result
+            ((Self.taken self.new ≡ Self.taken self.old) ⊎ (Self.taken self.new ≡ text.now)) };
 }

@@ -15,6 +15,6 @@ pub use anew::text_of_pages;
 pub use disk::Disk;
 pub use fault::JournalFault;
 pub use journal::Journal;
-pub use laws::{a_prefix_is_read, readings_are_one};
+pub use laws::{a_prefix_is_read, journals_read_as_one};
 pub use reading::{JOURNAL_LIMIT, Replayed, read_journal};
 pub use text::first_line;

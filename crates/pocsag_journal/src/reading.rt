@@ -31,12 +31,15 @@ pub struct Replayed {
 /// Reads the journal that a source holds up to its end. A torn end is passed over; a line before it that is none of a
 /// journal is told by its number.
 pub fn read_journal<S: Source>(alloc: Global, source: &mut S) -> Result<Replayed, JournalFault>
-    ensures read { S.tells → IfOk result (λ replayed. Replays (S.held source.old) replayed.edits replayed.torn replayed.book) }
-    ensures told { S.tells → IfErr result (λ e. (e ≡ JournalFault.ReadFault) ⊎ (e ≡ JournalFault.TooLarge) ⊎ IsTold (S.held source.old) e) }
+    ensures read { S.tells → IfOk result
+        (λ replayed. Replays (S.held source.old) replayed.edits replayed.torn replayed.book) }
+    ensures told { S.tells → IfErr result
+        (λ e. (e ≡ JournalFault.ReadFault) ⊎ (e ≡ JournalFault.TooLarge) ⊎ IsTold (S.held source.old) e) }
 
     // Whatever edits the bytes are the text of, each accepted in its turn: their list is read.
-    ensures replay { S.tells → (rows : List Row) (torn : List ℕ) (pages : List Page) → IsRead (S.held source.old) rows torn →
-        IsRun rows [] pages → MatchResult result (λ replayed. ReplaysAs replayed.book replayed.edits replayed.torn pages rows torn) IsToldOf }
+    ensures replay { S.tells → (rows : List Row) (torn : List ℕ) (pages : List Page) →
+        IsRead (S.held source.old) rows torn → IsRun rows [] pages → MatchResult result
+        (λ replayed. ReplaysAs replayed.book replayed.edits replayed.torn pages rows torn) IsToldOf }
     ensures succeeded { OnOk result (S.failures source.new ≡ S.failures source.old) }
 {
     let bytes = read_whole(alloc, source, JOURNAL_LIMIT)?;

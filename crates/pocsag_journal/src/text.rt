@@ -17,7 +17,7 @@ pub fn first_line() -> &'static [u8]
 }
 
 // Writes one record.
-fn put_row(writer: &mut Writer<Vec<u8>>, row: &ByteRecord) -> Result<(), AllocError>
+fn put_line_of(writer: &mut Writer<Vec<u8>>, row: &ByteRecord) -> Result<(), AllocError>
     requires { IsReady writer.old }
     ensures { PutsRow result writer.old writer.new (fields_of row.now) }
 {
@@ -32,7 +32,7 @@ pub fn row_line(alloc: Global, row: &ByteRecord) -> Result<Vec<u8>, OutOfMemory>
     ensures { IfOk result (λ text. text.items ≡ row_text default_writer (fields_of row.now)) }
 {
     let mut writer = Writer::from_writer(Vec::new(alloc));
-    put_row(&mut writer, row)?;
+    put_line_of(&mut writer, row)?;
     match writer.into_inner() {
         Ok(text) => Ok(text),
         Err(_) => Err(OutOfMemory),

@@ -20,8 +20,8 @@ pub struct OpenRound<K: Keeper + Drop> {
     pub keeper: K,
 }
 
-/// Makes the edit that a record is, has it kept, and answers it; or tells why it is refused. No byte of it is kept before
-/// it is judged, and it is not answered before it is kept.
+/// Makes the edit that a record is, has it kept, and answers it; or tells why it is refused. No byte of it is kept
+/// before it is judged, and it is not answered before it is kept.
 pub fn answer_edit<K: Keeper + Drop, O: Sink>(
     alloc: Global,
     round: &mut OpenRound<K>,
@@ -29,10 +29,13 @@ pub fn answer_edit<K: Keeper + Drop, O: Sink>(
     out: &mut O,
 ) -> Result<(), Fault>
     ensures answered { K.tells → O.tells → OnOk result (IsAnswered (fields_of row.now) round.old.book round.new.book
-        (K.taken round.old.keeper) (K.taken round.new.keeper) (K.safe round.new.keeper) (O.taken out.old) (O.taken out.new)) }
+        (K.taken round.old.keeper) (K.taken round.new.keeper) (K.safe round.new.keeper)
+        (O.taken out.old) (O.taken out.new)) }
     ensures unanswered { K.tells → O.tells → OnErr result (IsLost (fields_of row.now) round.old.book round.new.book
-        (K.taken round.old.keeper) (K.taken round.new.keeper) (K.safe round.new.keeper) (O.taken out.old) (O.taken out.new)) }
-    ensures stands { K.stands_for round.old.keeper round.old.book → OnOk result (K.stands_for round.new.keeper round.new.book) }
+        (K.taken round.old.keeper) (K.taken round.new.keeper) (K.safe round.new.keeper)
+        (O.taken out.old) (O.taken out.new)) }
+    ensures stands { K.stands_for round.old.keeper round.old.book →
+        OnOk result (K.stands_for round.new.keeper round.new.book) }
     ensures lost { IfErr result (λ e. status_of e ≡ 3) }
 {
     match edit_row(alloc, &mut round.book, row) {

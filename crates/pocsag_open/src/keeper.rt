@@ -26,11 +26,13 @@ pub trait Keeper {
 
     /// Keeps an edit that was made, by the text of its record. Where it cannot, it took a prefix of that text.
     fn keep(&mut self, alloc: Global, row: &ByteRecord) -> Result<(), Fault>
-        ensures taken { tells → OnOk result (taken self.new ≡ taken self.old ++ row_text default_writer (fields_of row.now)) }
+        ensures taken { tells → OnOk result
+            (taken self.new ≡ taken self.old ++ row_text default_writer (fields_of row.now)) }
         ensures safe { tells → OnOk result (safe self.new ≡ taken self.new) }
-        ensures part { tells → OnErr result (TookPrefix (taken self.old) (taken self.new) (row_text default_writer (fields_of row.now))) }
-        ensures stands { (before after : List Page) → stands_for self.old before → IsEdit (fields_of row.now) before after →
-            OnOk result (stands_for self.new after) }
+        ensures part { tells → OnErr result
+            (TookPrefix (taken self.old) (taken self.new) (row_text default_writer (fields_of row.now))) }
+        ensures stands { (before after : List Page) → stands_for self.old before →
+            IsEdit (fields_of row.now) before after → OnOk result (stands_for self.new after) }
         ensures lost { IfErr result (λ e. status_of e ≡ 3) };
 
     /// Is called between two lines: what it took may be put shorter, and stands for the same pages.

@@ -86,8 +86,8 @@ fn book_of<F: Source>(alloc: Global, pages: &mut F) -> Result<Book, Fault>
     Ok(Book::of_round(alloc, &round)?)
 }
 
-/// The same of a round whose edits are kept, each before it is answered. Answers the lines of the input, one by one, up to
-/// its end.
+/// The same of a round whose edits are kept, each before it is answered. Answers the lines of the input, one by one,
+/// up to its end.
 pub fn run_open_kept<P: Places, K: Keeper + Drop, I: Source, O: Sink>(
     alloc: Global,
     planner: &Planner<'_, P>,
@@ -97,7 +97,8 @@ pub fn run_open_kept<P: Places, K: Keeper + Drop, I: Source, O: Sink>(
 ) -> Result<(), Fault>
     // It is done only at the end of the input, which did not fail; then what is kept stands for the pages.
     ensures input { OnOk result (I.failures input.new ≡ I.failures input.old) }
-    ensures stands { K.stands_for round.old.keeper round.old.book → OnOk result (K.stands_for round.new.keeper round.new.book) }
+    ensures stands { K.stands_for round.old.keeper round.old.book →
+        OnOk result (K.stands_for round.new.keeper round.new.book) }
     ensures lost { IfErr result (λ e. status_of e ≡ 3) }
 {
     let mut lines = Lines::new(alloc)?;
@@ -120,7 +121,8 @@ fn answer<P: Places, K: Keeper + Drop, O: Sink>(
     line: &[u8],
     out: &mut O,
 ) -> Result<(), Fault>
-    ensures stands { K.stands_for round.old.keeper round.old.book → OnOk result (K.stands_for round.new.keeper round.new.book) }
+    ensures stands { K.stands_for round.old.keeper round.old.book →
+        OnOk result (K.stands_for round.new.keeper round.new.book) }
     ensures lost { IfErr result (λ e. status_of e ≡ 3) }
 {
     let row = match record_of(alloc, line) {
