@@ -156,7 +156,7 @@ pub fn open_kept(journal: &str, always: bool, places: &RoundFiles<'_>) -> Result
     }
     let Replayed { book, edits, torn } = replayed;
     let book = match places.pages {
-        Some(path) => book_of(places.desk, path)?,
+        Some(path) => book_of_file(places.desk, path)?,
         None => book,
     };
     let keeper = match Journal::write_anew(desk.alloc, file, &book) {
@@ -181,7 +181,7 @@ fn tell_start(desk: Desk<'_>, torn: usize, edits: usize, pages: usize) {
 }
 
 // A book of the pages of a page file.
-fn book_of(desk: Desk<'_>, path: &str) -> Result<Book, Fault> {
+fn book_of_file(desk: Desk<'_>, path: &str) -> Result<Book, Fault> {
     if path == STANDARD {
         return Err(Fault::EqualPaths);
     }

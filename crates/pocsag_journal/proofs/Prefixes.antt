@@ -5,7 +5,7 @@ use Rattle.std.specs.List.{AllByRecursion}
 use Rattle.csv.specs.Machine.{line_feed}
 use Rattle.csv.specs.Writing.{default_writer, row_text}
 use Rattle.pocsag_pages.specs.PageFile.{Row}
-use Rattle.pocsag_journal.specs.Journals.{HasNoLineFeed, IsLine, IsRead, IsWholeLine, ReadsFirst, first_row, journal_text, rows_text}
+use Rattle.pocsag_journal.specs.Journals.{HasNoLineFeed, IsLine, IsRead, IsWholeLine, ReadsFirst, first_record, journal_text, rows_text}
 use Rattle.pocsag_journal.proofs.TextLines.{first_line}
 use Rattle.pocsag_journal.proofs.Readings.{one_reading, read_on}
 
@@ -82,7 +82,7 @@ firsts_of (row ∷ rows) each bytes rest e = elim (cut bytes rest (row_text defa
 
 -- *Any crash*
 pub prefix_read : (rows : List Row) → AllByRecursion IsLine rows → (bytes rest : List ℕ) → bytes ++ rest ≡ journal_text rows → ReadsFirst bytes rows
-prefix_read rows each bytes rest e = elim (cut bytes rest (row_text default_writer first_row) (rows_text rows) e) [
+prefix_read rows each bytes rest e = elim (cut bytes rest (row_text default_writer first_record) (rows_text rows) e) [
   | inl h ↦
       let more = firsts_of rows each h.0 rest h.2 in
       record {
@@ -92,8 +92,8 @@ prefix_read rows each bytes rest e = elim (cut bytes rest (row_text default_writ
         parts = more.parts;
         read = record {
           parts = inl
-              (h.1 ∙ ap (λ (t : List ℕ). row_text default_writer first_row ++ t) more.text
-              ∙ sym (append_assoc (row_text default_writer first_row) (rows_text more.firsts) more.torn));
+              (h.1 ∙ ap (λ (t : List ℕ). row_text default_writer first_record ++ t) more.text
+              ∙ sym (append_assoc (row_text default_writer first_record) (rows_text more.firsts) more.torn));
           each = more.each;
           end = more.end;
         };
@@ -107,7 +107,7 @@ prefix_read rows each bytes rest e = elim (cut bytes rest (row_text default_writ
         read = record {
           parts = inr (refl, refl);
           each = tt;
-          end = short bytes h.0 (row_text default_writer first_row) first_line h.2 h.1;
+          end = short bytes h.0 (row_text default_writer first_record) first_line h.2 h.1;
         };
       }
 ]
@@ -132,8 +132,8 @@ text_more (r ∷ rows) row =
 
 pub journal_more : (rows : List Row) (row : Row) → journal_text (rows ++ row ∷ []) ≡ journal_text rows ++ row_text default_writer row
 journal_more rows row =
-    ap (λ (t : List ℕ). row_text default_writer first_row ++ t) (text_more rows row)
-    ∙ sym (append_assoc (row_text default_writer first_row) (rows_text rows) (row_text default_writer row))
+    ap (λ (t : List ℕ). row_text default_writer first_record ++ t) (text_more rows row)
+    ∙ sym (append_assoc (row_text default_writer first_record) (rows_text rows) (row_text default_writer row))
 
 -- and at most one more
 pub one_more_read : (acknowledged rows : List Row) (row : Row) (part rest torn : List ℕ) → AllByRecursion IsLine acknowledged → IsLine row →

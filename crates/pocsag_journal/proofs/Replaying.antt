@@ -15,7 +15,7 @@ use Rattle.pocsag_pages.specs.PageFile.{Row, only_row, rows_of}
 use Rattle.pocsag_pages.specs.declared.page.Page.{Page}
 use Rattle.pocsag_open.specs.Runs.{Asked, IsDone, IsEdit, IsRefusedFor, IsRun, asked_of, wants_memory}
 use Rattle.pocsag_open.specs.declared.refusal.Refusal.{Refusal}
-use Rattle.pocsag_journal.specs.Journals.{HasNoLineFeed, IsBadLine, IsLine, IsRead, IsWholeLine, MakesLine, Replays, first, first_row, journal_text, later, rows_text}
+use Rattle.pocsag_journal.specs.Journals.{HasNoLineFeed, IsBadLine, IsLine, IsRead, IsWholeLine, MakesLine, Replays, first, first_record, journal_text, later, rows_text}
 use Rattle.pocsag_journal.proofs.EditRuns.{run_on}
 use Rattle.pocsag_journal.proofs.Prefixes.{all_more, journal_more}
 use Rattle.pocsag_journal.proofs.TextLines.{back_is}
@@ -124,19 +124,19 @@ nothing_read bytes pages e n = record {
 }
 
 pub first_bad : (bytes line rest : List ℕ) → bytes ≡ line ++ rest → IsWholeLine line →
-    bytes_eq line (row_text default_writer first_row) ≡ false → IsBadLine bytes 1
+    bytes_eq line (row_text default_writer first_record) ≡ false → IsBadLine bytes 1
 first_bad bytes line rest e whole n = first line rest whole e (λ same.
-    let yes : bytes_eq line (row_text default_writer first_row) ≡ true = rw same (same_bytes (row_text default_writer first_row)) in
+    let yes : bytes_eq line (row_text default_writer first_record) ≡ true = rw same (same_bytes (row_text default_writer first_record)) in
     cc (sym yes ∙ n))
 
 pub made_first : (bytes line rest : List ℕ) (pages : List Page) → bytes ≡ line ++ rest →
-    bytes_eq line (row_text default_writer first_row) ≡ true → pages ≡ [] → Made bytes rest 0 pages
+    bytes_eq line (row_text default_writer first_record) ≡ true → pages ≡ [] → Made bytes rest 0 pages
 unfolding IsRun rows_text
 made_first bytes line rest pages e t p =
-    let same = word_is line (row_text default_writer first_row) t in
+    let same = word_is line (row_text default_writer first_record) t in
     record {
       rows = [];
-      text = e ∙ ap (λ (l : List ℕ). l ++ rest) (same ∙ sym (append-nil (row_text default_writer first_row)));
+      text = e ∙ ap (λ (l : List ℕ). l ++ rest) (same ∙ sym (append-nil (row_text default_writer first_record)));
       each = tt;
       run = p;
       as_many = refl;

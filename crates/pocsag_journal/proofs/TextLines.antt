@@ -11,7 +11,7 @@ use Rattle.csv.specs.Writing.{default_writer, fields_text, is_blank, read_back, 
 use Rattle.csv.specs.declared.parser.State.TheVariants as st
 use Rattle.csv.proofs.RoundTrip.{read-write}
 use Rattle.pocsag_pages.specs.PageFile.{Row}
-use Rattle.pocsag_journal.specs.Journals.{HasNoLineFeed, IsLine, IsRead, IsWholeLine, first_row, journal_text, rows_text}
+use Rattle.pocsag_journal.specs.Journals.{HasNoLineFeed, IsLine, IsRead, IsWholeLine, first_record, journal_text, rows_text}
 
 -- two texts that begin with a line each and are equal begin with the same line
 pub split_lines : (a b xs ys : List ℕ) → HasNoLineFeed a → HasNoLineFeed b → a ++ line_feed ∷ xs ≡ b ++ line_feed ∷ ys →
@@ -98,7 +98,7 @@ none_found (b ∷ bytes) e =
     (other_byte b h.0, none_found bytes h.1)
 
 -- the first line is one
-pub first_line : IsWholeLine (row_text default_writer first_row)
+pub first_line : IsWholeLine (row_text default_writer first_record)
 unfolding fields_text is_blank
 first_line = record { body = codes "pocsag journal,1"; parts = refl; one = none_found (codes "pocsag journal,1") refl }
 

@@ -12,8 +12,8 @@ abbrev pub journal_limit : ℕ
 journal_limit = 1073741824
 
 -- The first record: it names the format and its version.
-abbrev pub first_row : Row
-first_row = codes "pocsag journal" ∷ codes "1" ∷ []
+abbrev pub first_record : Row
+first_record = codes "pocsag journal" ∷ codes "1" ∷ []
 
 -- The text of records, each as csv writes it.
 unfoldable pub rows_text : List Row → List ℕ
@@ -22,7 +22,7 @@ rows_text (row ∷ rows) = row_text default_writer row ++ rows_text rows
 
 -- *Journal text*: the first record, and then those of the edits.
 abbrev pub journal_text : List Row → List ℕ
-journal_text rows = row_text default_writer first_row ++ rows_text rows
+journal_text rows = row_text default_writer first_record ++ rows_text rows
 
 -- No byte is a line feed.
 abbrev pub HasNoLineFeed : List ℕ → Type 0
@@ -60,7 +60,7 @@ pub record Replays (bytes : List ℕ) (edits torn : ℕ) (pages : List Page) : T
 -- or that of an edit that the pages before it accept.
 pub data IsBadLine (bytes : List ℕ) : ℕ → Type 0 where
   first :
-      (line rest : List ℕ) → IsWholeLine line → bytes ≡ line ++ rest → line ≢ row_text default_writer first_row →
+      (line rest : List ℕ) → IsWholeLine line → bytes ≡ line ++ rest → line ≢ row_text default_writer first_record →
       IsBadLine bytes 1
   later :
       (rows : List Row) (pages : List Page) (line rest : List ℕ) → AllByRecursion IsLine rows → IsRun rows [] pages →

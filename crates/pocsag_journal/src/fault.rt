@@ -43,9 +43,9 @@ impl From<AllocError> for JournalFault {
 }
 
 impl From<WholeFault> for JournalFault {
-    ghost use Rattle.pocsag_journal.specs.Faults.{fault_of_whole};
+    ghost use Rattle.pocsag_journal.specs.Faults.{fault_of_reading};
 
-    ghost from_gives = { λ refused e. e ≡ fault_of_whole refused };
+    ghost from_gives = { λ refused e. e ≡ fault_of_reading refused };
 
     fn from(refused: WholeFault) -> JournalFault {
         match refused {

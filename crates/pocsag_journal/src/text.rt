@@ -2,7 +2,7 @@ ghost use Rattle.std.specs.Prelude.{◌≡◌, IfOk};
 ghost use Rattle.csv.specs.Records.{fields_of};
 ghost use Rattle.csv.specs.Writing.{default_writer, row_text};
 ghost use Rattle.pocsag_decode.specs.Lines.{IsReady, PutsRow};
-ghost use Rattle.pocsag_journal.specs.Journals.{first_row};
+ghost use Rattle.pocsag_journal.specs.Journals.{first_record};
 
 use csv::{ByteRecord, Writer};
 use pocsag_words::OutOfMemory;
@@ -11,7 +11,7 @@ use std::alloc::{AllocError, Global};
 /// The first line of a journal, which names the format and its version. The program `pocsag open` takes it as a line
 /// that changes nothing.
 pub fn first_line() -> &'static [u8]
-    ensures { result.now ≡ row_text default_writer first_row }
+    ensures { result.now ≡ row_text default_writer first_record }
 {
     b"pocsag journal,1\n"
 }

@@ -10,7 +10,7 @@ use Rattle.pocsag_plan.specs.OpenRound.{add_fault, fault_or_memory}
 use Rattle.pocsag_plan.specs.declared.refusal.AddFault.{AddFault}
 use Rattle.pocsag_plan.specs.declared.refusal.AddFault.TheVariants as adding
 use Rattle.pocsag_open.specs.Edited.{IsAdded, IsCancelled, IsEditRefused}
-use Rattle.pocsag_open.specs.Runs.{IsDone, asked_by, wants_memory}
+use Rattle.pocsag_open.specs.Runs.{IsDone, asked_by_line, wants_memory}
 use Rattle.pocsag_open.specs.declared.edits.Line.{Line}
 use Rattle.pocsag_open.specs.declared.edits.Line.TheVariants as line
 use Rattle.pocsag_open.specs.declared.refusal.Refusal.{Refusal}
@@ -45,7 +45,7 @@ by_fault a k m pages page f (Some g) e t h = inr (λ after d.
     cc (sym t ∙ ap (λ (q : Page). add_fault pages q) same ∙ d.free))
 
 pub refused_asking : (asking : Line) (pages : List Page) (why : Refusal) → IsEditRefused asking pages why →
-    (wants_memory why ≡ true) ⊎ ((after : List Page) → IsDone (asked_by asking) pages after → ⊥)
+    (wants_memory why ≡ true) ⊎ ((after : List Page) → IsDone (asked_by_line asking) pages after → ⊥)
 refused_asking (line.Add a k m) pages refusal.Unknown h = absurd h
 refused_asking (line.Add a k m) pages (refusal.Field f) (inl h) = inl (ap (λ (g : FieldFault). wants_memory (refusal.Field g)) h.0)
 refused_asking (line.Add a k m) pages (refusal.Field f) (inr e) = inr (λ after d. no_page a.now k.now m.now f pages after e d)

@@ -1,6 +1,6 @@
 ghost use Rattle.std.specs.Prelude.{◌≡◌, length, None};
 ghost use Rattle.csv.specs.Records.{fields_of};
-ghost use Rattle.pocsag_open.specs.Runs.{asked_by, asked_in, asked_of};
+ghost use Rattle.pocsag_open.specs.Runs.{asked_by_line, asked_in, asked_of};
 
 use csv::{ByteRecord, ReaderBuilder};
 use pocsag_words::{End, OutOfMemory};
@@ -60,7 +60,7 @@ pub fn record_of(alloc: Global, line: &[u8]) -> Result<Option<ByteRecord>, OutOf
 /// What the record asks for.
 #[tactic(auto, unfolding(crate::specs::Runs::asked_of))]
 pub fn line_of(row: &ByteRecord) -> Line<'_>
-    ensures { asked_by result ≡ asked_of (fields_of row.now) }
+    ensures { asked_by_line result ≡ asked_of (fields_of row.now) }
 {
     let asked = match row.len() {
         1 => bare_line(row),
