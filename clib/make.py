@@ -4,7 +4,8 @@
     clib/make.py FOLDER [PREFIX]    puts libpocsag.a, libpocsag.so.1, libpocsag.so, pocsag.h and pocsag.pc into FOLDER;
                                     PREFIX (/usr/local where none is given) stands in pocsag.pc
 
-It needs `rt` (which proves and builds the crate), `cc`, `ar` and `nm`. Exit status: 0 done, 1 not done, 2 usage.
+It needs `rt`, by which the crate is proved and built with what it stands on, where that is not done yet, `cc` and `ar`.
+Exit status: 0 done, 1 not done, 2 usage.
 """
 
 import os
@@ -15,7 +16,8 @@ import sys
 import tempfile
 
 HERE = pathlib.Path(os.path.realpath(__file__)).parent
-CRATE = HERE.parent / "crates/pocsag_c"
+TOP = HERE.parent
+CRATE = TOP / "crates/pocsag_c"
 MADE = CRATE / "out/libpocsag_c.a"
 SONAME = "libpocsag.so.1"
 
@@ -61,7 +63,7 @@ def main(words):
     if len(words) not in (1, 2) or words[0].startswith("-"):
         print(__doc__, file=sys.stderr)
         return 2
-    built = subprocess.run(["rt", "lib"], cwd=CRATE)
+    built = subprocess.run([sys.executable, TOP / "tools/build.py", CRATE.name])
     if built.returncode or not MADE.is_file():
         return 1
     make(pathlib.Path(words[0]), *words[1:] or ["/usr/local"])

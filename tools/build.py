@@ -2,7 +2,9 @@
 """Proves and builds crates of this repository, as many at once as there are processors and memory for.
 
     build.py program       the program and what it stands on; `./pocsag` calls it where a source has changed
-    build.py all           each crate, the tests of those that have some, and each program
+    build.py proofs        each crate and each program
+    build.py tests         the tests of the crates that have some, where their proofs stand; other calls may go on beside it
+    build.py all           each crate, the tests of the crates that have some, and each program
     build.py CRATE..       these crates with what they stand on, and their tests
 
 What an earlier call proved is not proved again. Exit status 0 where all of it stands, 3 where something does not.
@@ -186,6 +188,11 @@ def main(words):
         crates = workspace.read_crates()
         if words == ["program"]:
             build_program(crates)
+        elif words == ["proofs"]:
+            build(crates, [])
+        elif words == ["tests"]:
+            tested = {name: crate for name, crate in crates.items() if crate.has_tests}
+            run([tests(crate) for crate in tested.values()], tested)
         elif words == ["all"]:
             build(crates, crates.values())
         else:

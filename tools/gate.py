@@ -71,18 +71,21 @@ class Gate:
         elif not passed:
             self.fail(name, "it tried nothing")
 
-    def beside(self, parts):
-        """Runs parts side by side, each a name and the words of a command that takes one processor, the longest first.
-        What each printed is shown when it ends, as if it had run alone."""
+    def beside(self, parts, steps=()):
+        """Runs steps and parts side by side, each a name and the words of a command that takes one processor, the
+        longest first. What each printed is shown when it ends, as if it had run alone."""
         width = int(os.environ.get("RT_JOBS") or 0) or max(1, min(lanes.processors(), lanes.free_memory() // lanes.MEMORY))
         with concurrent.futures.ThreadPoolExecutor(width) as pool:
-            running = {pool.submit(self.told, words): name for name, *words in parts}
+            running = {pool.submit(self.told, words): (name, at < len(steps))
+                       for at, (name, *words) in enumerate([*steps, *parts])}
             for done in concurrent.futures.as_completed(running):
-                name, (status, text, took) = running[done], done.result()
+                (name, is_step), (status, text, took) = running[done], done.result()
                 self.say(f"== {name}")
                 print(text, end="" if text.endswith("\n") or not text else "\n", file=self.out, flush=True)
                 if status is None:
-                    self.fail(name, text)
+                    self.fail(name, "it could not be run")
+                elif is_step:
+                    self.judge_step(name, status)
                 else:
                     self.count(name, status, text)
                 self.say(f"-- {minutes(took)}")
@@ -104,6 +107,10 @@ class Gate:
             status, _ = self.shown(words)
         except OSError as error:
             status = error
+        return self.judge_step(name, status)
+
+    def judge_step(self, name, status):
+        """Counts a step, and says whether it passed."""
         if status:
             self.fail(name, f"it ended with status {status}")
         else:

@@ -65,6 +65,9 @@ def try_beside(tally):
     gate.beside([("missing", "/nowhere/no-such-command"), ("there", "echo", "1 passed, 0 failed")])
     tally.check("side by side: a command that is not there fails", (gate.passed, gate.failed) == (1, 1))
     gate = Gate(TOP, io.StringIO())
+    gate.beside([("part", "echo", "4 passed, 0 failed")], [("step", "true"), ("bad step", "sh", "-c", "exit 3")])
+    tally.check("side by side: steps count once", (gate.passed, gate.failed, gate.bad) == (5, 1, ["bad step"]), gate.bad)
+    gate = Gate(TOP, io.StringIO())
     script = "echo {0} begins; sleep 0.5; echo {0} ends; echo '1 passed, 0 failed'"
     began = time.monotonic()
     gate.beside([(it, "sh", "-c", script.format(it)) for it in "abc"])

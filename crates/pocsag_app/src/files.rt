@@ -20,8 +20,8 @@ pub fn path_of(word: &str) -> Option<&str> {
 
 // Opens a file to read it; a folder is none.
 fn open_file(desk: Desk<'_>, role: Role, path: &str) -> Result<File, Fault> {
-    let file = fs::open(desk.rt, path).map_err(|error| desk.refused(role, error))?;
-    let metadata = file.metadata().map_err(|error| desk.refused(role, error))?;
+    let file = desk.opened(role, fs::open(desk.rt, path))?;
+    let metadata = desk.opened(role, file.metadata())?;
     if metadata.is_dir() {
         desk.watch.meet(role, Some(IS_FOLDER));
         return Err(Fault::Device);
@@ -51,9 +51,8 @@ pub fn open_buffered<'a>(
     role: Role,
     path: Option<&str>,
 ) -> Result<ReaderSource<'a, BufReader<Input<File>>>, Fault> {
-    let reader = BufReader::new(desk.alloc, open_input(desk, role, path)?).map_err(
-        |error| desk.refused(role, error),
-    )?;
+    let input = open_input(desk, role, path)?;
+    let reader = desk.opened(role, BufReader::new(desk.alloc, input))?;
     Ok(ReaderSource::new(reader, role, desk.watch))
 }
 
@@ -64,9 +63,7 @@ fn open_output(desk: Desk<'_>, role: Role, word: &str) -> Result<Output<File>, F
     };
     let mut options = OpenOptions::new();
     options.write(true).create(true);
-    let file = options
-        .open(desk.rt, path)
-        .map_err(|error| desk.refused(role, error))?;
+    let file = desk.opened(role, options.open(desk.rt, path))?;
     Ok(Output::File(file))
 }
 
@@ -78,9 +75,9 @@ fn emptied<'a>(
 ) -> Result<WriterSink<'a, Output<File>>, Fault> {
     match &output {
         Output::File(file) => {
-            let metadata = file.metadata().map_err(|error| desk.refused(role, error))?;
+            let metadata = desk.opened(role, file.metadata())?;
             if metadata.is_file() {
-                file.set_len(0).map_err(|error| desk.refused(role, error))?;
+                desk.opened(role, file.set_len(0))?;
             }
         }
         Output::Standard(_) => {}

@@ -37,13 +37,13 @@ impl<'a> JournalFile<'a> {
         }
         let mut options = OpenOptions::new();
         options.read(true).write(true).create(true);
-        let file = options.open(desk.rt, path).map_err(|error| desk.refused(ROLE, error))?;
+        let file = desk.opened(ROLE, options.open(desk.rt, path))?;
         match file.try_lock() {
             Ok(()) => {}
             Err(TryLockError::WouldBlock) => return Ok(None),
-            Err(TryLockError::Error(error)) => return Err(desk.refused(ROLE, error)),
+            Err(TryLockError::Error(error)) => return desk.opened(ROLE, Err(error)),
         }
-        let metadata = file.metadata().map_err(|error| desk.refused(ROLE, error))?;
+        let metadata = desk.opened(ROLE, file.metadata())?;
         if Named::at(desk.rt, path) != Some(Named::of(&metadata)) {
             return Ok(None);
         }
@@ -80,14 +80,12 @@ impl<'a> JournalFile<'a> {
         let mut options = OpenOptions::new();
         options.write(true);
         let desk = self.desk;
-        let mut file = options
-            .open(desk.rt, beside.path())
-            .map_err(|error| desk.refused(ROLE, error))?;
+        let mut file = desk.opened(ROLE, options.open(desk.rt, beside.path()))?;
         match file.try_lock() {
             Ok(()) => {}
             Err(_) => return Err(Fault::Device),
         }
-        file.write_all(text).map_err(|error| desk.unwritten(ROLE, error))?;
+        desk.written(ROLE, file.write_all(text))?;
         beside.sync(desk)?;
         beside.put(desk)?;
         Ok(file)

@@ -18,13 +18,9 @@ impl<'a> Beside<'a> {
         let beside = Beside::of(desk, role, place)?;
         // What a process of the same number left when it was ended.
         beside.remove(desk);
-        let file = File::create_new(desk.rt, beside.path()).map_err(|error| desk.refused(
-            role, error,
-        ))?;
+        let file = desk.opened(role, File::create_new(desk.rt, beside.path()))?;
         match fs::metadata(desk.rt, place) {
-            Ok(old) => file
-                .set_permissions(old.permissions())
-                .map_err(|error| desk.refused(role, error))?,
+            Ok(old) => desk.opened(role, file.set_permissions(old.permissions()))?,
             Err(_) => {}
         }
         Ok(beside)
@@ -49,9 +45,7 @@ impl<'a> Beside<'a> {
 
     /// Puts the file in its place, at once and whole, and its name on the disk.
     pub fn put(&self, desk: Desk<'_>) -> Result<(), Fault> {
-        fs::rename(desk.rt, self.path(), self.place).map_err(|error| desk.unwritten(
-            self.role, error,
-        ))?;
+        desk.written(self.role, fs::rename(desk.rt, self.path(), self.place))?;
         sync(desk, self.role, folder_of(self.place))
     }
 
@@ -80,6 +74,6 @@ fn folder_of(path: &str) -> &str {
 }
 
 fn sync(desk: Desk<'_>, role: Role, path: &str) -> Result<(), Fault> {
-    let file = fs::open(desk.rt, path).map_err(|error| desk.refused(role, error))?;
-    file.sync_all().map_err(|error| desk.unwritten(role, error))
+    let file = desk.opened(role, fs::open(desk.rt, path))?;
+    desk.written(role, file.sync_all())
 }

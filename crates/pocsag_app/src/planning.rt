@@ -7,14 +7,16 @@ use crate::files::{STANDARD, make_outputs, open_buffered, open_source, refuse_on
 use crate::keeping::{Beside, put_both};
 use crate::misuse::{misused, tell_misuse};
 use crate::paths::refuse_equal;
-use crate::words::{PlanOrder, Search};
+use crate::words::{PlanOrder, SearchOrder};
 use pocsag_commands::{Fault, Role, expected_file, run_plan, run_plan_always, run_verify};
+use pocsag_open::Outputs;
 use pocsag_words::{Sink, SliceSource, Source};
 
 /// `plan`: plans from file to files, or from and to the standard streams. Where standard output takes one of
 /// the files, the lines go to standard error. Answers the exit status.
 pub fn plan(desk: Desk<'_>, order: PlanOrder<'_>) -> Result<u8, Fault>
-    ensures { HasEqual (map (λ path. path.now) (paths_of order.entry.pages order.entry.tx order.entry.cert)) → IsErrOf result EqualPaths }
+    ensures { HasEqual (map (λ path. path.now) (paths_of order.entry.pages order.entry.tx order.entry.cert)) →
+        IsErrOf result EqualPaths }
 {
     refuse_equal(order.pages, order.tx, order.cert)?;
     match misused(desk.rt, order) {
@@ -55,14 +57,14 @@ fn write_round<P: Source, O: Sink>(
     pages: &mut P,
     out: &mut O,
 ) -> Result<(), Fault> {
-    let mut outputs = make_outputs(desk, order.pages, order.tx, order.cert)?;
-    let Search {
+    let Outputs { mut tx, mut cert } = make_outputs(desk, order.pages, order.tx, order.cert)?;
+    let SearchOrder {
         limit,
         end,
         always,
         ..
     } = order.search;
-    let (tx, cert) = (&mut outputs.tx, &mut outputs.cert);
+    let (tx, cert) = (&mut tx, &mut cert);
     if always {
         return run_plan_always(desk.alloc, limit, end, pages, tx, cert, out);
     }
@@ -75,7 +77,7 @@ fn read_back<O: Sink>(desk: Desk<'_>, order: PlanOrder<'_>, out: &mut O) -> Resu
     let mut pages = open_source(desk, Role::PageFile, order.pages)?;
     let mut tx = open_source(desk, Role::Transmission, Some(order.tx))?;
     let mut cert = open_buffered(desk, Role::Certificate, Some(order.cert))?;
-    let Search { end, always, .. } = order.search;
+    let SearchOrder { end, always, .. } = order.search;
     run_verify(desk.alloc, end, always, &mut pages, &mut tx, &mut cert, out)
 }
 

@@ -50,31 +50,32 @@ pub enum Order<'a> {
     Report {
         pages: Option<&'a str>,
         rate: u32,
-        search: Search,
+        search: SearchOrder,
     },
 }
 
 impl<'a> Order<'a> {
     /// The words for the files of the command.
     pub fn names(self) -> Names<'a> {
-        let (pages, tx, cert) = match self {
-            Order::Input => (Some(None), None, None),
-            Order::Plan(order) => (
-                Some(order.pages),
-                Some(Some(order.tx)),
-                Some(Some(order.cert)),
-            ),
-            Order::Check { pages, cert } => (Some(pages), None, Some(cert)),
-            Order::Decode { tx } | Order::Hear { tx, .. } | Order::Show { tx, .. } => {
-                (None, Some(tx), None)
-            }
-            Order::Open { pages, .. } => (pages.map(Some), None, None),
-            Order::Report { pages, .. } => (Some(pages), None, None),
-        };
-        Names {
-            pages: pages.map(word_of),
-            tx: tx.map(word_of),
-            cert: cert.map(word_of),
+        match self {
+            Order::Input => of_pages(Some(STANDARD)),
+            Order::Plan(order) => Names {
+                pages: Some(word_of(order.pages)),
+                tx: Some(order.tx),
+                cert: Some(order.cert),
+            },
+            Order::Check { pages, cert } => Names {
+                pages: Some(word_of(pages)),
+                tx: None,
+                cert: Some(word_of(cert)),
+            },
+            Order::Decode { tx } | Order::Hear { tx, .. } | Order::Show { tx, .. } => Names {
+                pages: None,
+                tx: Some(word_of(tx)),
+                cert: None,
+            },
+            Order::Open { pages, .. } => of_pages(pages),
+            Order::Report { pages, .. } => of_pages(Some(word_of(pages))),
         }
     }
 
@@ -84,6 +85,15 @@ impl<'a> Order<'a> {
             Order::Decode { .. } | Order::Hear { .. } | Order::Show { .. } => Role::Transmission,
             _ => Role::PageFile,
         }
+    }
+}
+
+// The names of a command that has a page file alone, if it has one.
+fn of_pages(pages: Option<&str>) -> Names<'_> {
+    Names {
+        pages,
+        tx: None,
+        cert: None,
     }
 }
 
@@ -100,7 +110,7 @@ pub struct PlanOrder<'a> {
     /// The words for the transmission and for the certificate, of which one may name standard output.
     pub tx: &'a str,
     pub cert: &'a str,
-    pub search: Search,
+    pub search: SearchOrder,
     /// Whether the files are read back.
     pub verify: bool,
     /// Whether what stands there before is kept until both files are whole.
@@ -110,7 +120,7 @@ pub struct PlanOrder<'a> {
 /// How a plan is searched: the node limit, the end, and whether each round is answered; and how many pages
 /// the round must have, if that is given.
 #[derive(Clone, Copy, PartialEq, Eq, Debug)]
-pub struct Search {
+pub struct SearchOrder {
     pub expect: Option<u32>,
     pub limit: u32,
     pub end: End,
@@ -360,8 +370,13 @@ Lists what the pager of an address shows, past two wrong bits in each codeword",
 
 fn show_command<'a>(alloc: Global) -> Result<Command<'a>, AllocError> {
     let list = flag(alloc, LIST, "Lists where each page stands, as CSV").conflicts_with(SVG)?;
-    let rows = option(alloc, ROWS, "A-B", "Shows these batches alone, counted from 1")
-        .conflicts_with(LIST)?;
+    let rows = option(
+        alloc,
+        ROWS,
+        "A-B",
+        "Shows these batches alone, counted from 1",
+    )
+    .conflicts_with(LIST)?;
     Command::new(alloc, SHOW)
         .about("Shows what a transmission looks like, codeword by codeword")
         .after_help(SHOW_MANUAL)
@@ -419,8 +434,8 @@ fn end_of(found: &ArgMatches<'_>) -> Option<End> {
     }
 }
 
-fn search_of(found: &ArgMatches<'_>) -> Option<Search> {
-    Some(Search {
+fn search_of(found: &ArgMatches<'_>) -> Option<SearchOrder> {
+    Some(SearchOrder {
         expect: found.get_one::<u32>(EXPECT),
         limit: found.get_one::<u32>(LIMIT)?,
         end: end_of(found)?,

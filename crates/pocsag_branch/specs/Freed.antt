@@ -8,10 +8,10 @@ use Rattle.pocsag_slots.specs.Loads.{limits_of_all}
 use Rattle.pocsag_tree.specs.Bounds.{Bound, Bounds, closed_nodes, closed_nodes_in}
 use Rattle.pocsag_tree.specs.Views.{bound_of, bounds_of}
 use Rattle.pocsag_branch.specs.declared.question.Question.{Question}
-use Rattle.pocsag_branch.specs.declared.attempt.Halt.{Halt}
-use Rattle.pocsag_branch.specs.declared.attempt.Halt.TheVariants.{Met, Limit, OutOfMemory}
-use Rattle.pocsag_branch.specs.declared.attempt.Children.{Children}
-use Rattle.pocsag_branch.specs.declared.attempt.Children.TheVariants.{Whole, Kept}
+use Rattle.pocsag_branch.specs.declared.halt.Halt.{Halt}
+use Rattle.pocsag_branch.specs.declared.halt.Halt.TheVariants.{Met, Limit, OutOfMemory}
+use Rattle.pocsag_branch.specs.declared.halt.Children.{Children}
+use Rattle.pocsag_branch.specs.declared.halt.Children.TheVariants.{Whole, Kept}
 use Rattle.pocsag_branch.specs.Examined.{AreRefuted, IsAnswer, IsRefuted}
 
 -- Why an examination ends before its tree is whole.

@@ -2,13 +2,12 @@ ghost use Rattle.std.specs.Prelude.{◌<◌, All, slice_index};
 ghost use Rattle.pocsag_slots.specs.Loads.{IsAdmitted};
 ghost use Rattle.pocsag_slots.specs.Ways.{MayTake};
 ghost use Rattle.pocsag_branch.specs.Climbing.{IsClimb};
-ghost use Rattle.pocsag_branch.specs.Undecided.{AreNodeLimits};
 
 use crate::live::{LiveWays, is_live, live_ways};
 use crate::narrowing::certain_class;
-use crate::question::Question;
+use crate::node::Node;
 use pocsag_flow::choose_from;
-use pocsag_slots::{Choice, Classes, Limits, Way, narrow, ways};
+use pocsag_slots::{Choice, Way, narrow, ways};
 use pocsag_tour::{lies_outside, reached};
 
 // How often the climb goes on at most.
@@ -48,12 +47,12 @@ fn is_below(cost: Cost, other: Cost) -> bool {
 }
 
 // What the ways cost.
-fn cost_over(classes: &Classes, limits: &Limits, live: &LiveWays, out: &[Way]) -> Cost
-    requires { All (MayTake classes.now limits.now) out.now }
+fn cost_over(node: &Node<'_>, live: &LiveWays, out: &[Way]) -> Cost
+    requires { All (MayTake node.now.classes.now node.now.limits) out.now }
 {
     let mut cost = Cost { live: 0, all: 0 };
     for way in out {
-        let more = u32::from(is_live(live, classes, limits, *way));
+        let more = u32::from(is_live(live, node.classes, &node.limits, *way));
         cost = Cost {
             live: cost.live.saturating_add(more),
             all: cost.all.saturating_add(1),
@@ -62,11 +61,11 @@ fn cost_over(classes: &Classes, limits: &Limits, live: &LiveWays, out: &[Way]) -
     cost
 }
 
-fn cost_of(classes: &Classes, limits: &Limits, live: &LiveWays, set: u16, batches: u32) -> Cost {
-    match certain_class(classes, limits, set) {
+fn cost_of(node: &Node<'_>, live: &LiveWays, set: u16) -> Cost {
+    match certain_class(node, set) {
         Some(_) => {
-            let out = ways(classes, limits, set, batches);
-            cost_over(classes, limits, live, &out)
+            let out = ways(node.classes, &node.limits, set, node.question.batches);
+            cost_over(node, live, &out)
         }
         None => NONE_CERTAIN,
     }
@@ -74,37 +73,22 @@ fn cost_of(classes: &Classes, limits: &Limits, live: &LiveWays, set: u16, batche
 
 // One step: by the first live way that leads to a choice whose runs are all reached, or else by the one
 // that leads to the set of least cost, if that is less than the present one.
-fn better(
-    classes: &Classes,
-    question: Question,
-    limits: &Limits,
-    live: &LiveWays,
-    at: &Standing,
-) -> Climb
-    requires { AreNodeLimits classes.now question.batches limits.now }
-    ensures { IsClimb classes.now limits.now result }
+fn better(node: &Node<'_>, live: &LiveWays, at: &Standing) -> Climb
+    ensures { IsClimb node.now.classes.now node.now.limits result }
 {
-    let out = ways(classes, limits, at.set, question.batches);
-    step_over(classes, question, limits, live, at, &out)
+    let out = ways(node.classes, &node.limits, at.set, node.question.batches);
+    step_over(node, live, at, &out)
 }
 
-fn step_over(
-    classes: &Classes,
-    question: Question,
-    limits: &Limits,
-    live: &LiveWays,
-    at: &Standing,
-    out: &[Way],
-) -> Climb
-    requires limits { AreNodeLimits classes.now question.batches limits.now }
-    requires allowed { All (MayTake classes.now limits.now) out.now }
-    ensures { IsClimb classes.now limits.now result }
+fn step_over(node: &Node<'_>, live: &LiveWays, at: &Standing, out: &[Way]) -> Climb
+    requires { All (MayTake node.now.classes.now node.now.limits) out.now }
+    ensures { IsClimb node.now.classes.now node.now.limits result }
 {
     let mut best = Climb::Top;
     let mut least = at.cost;
     for way in out {
-        if is_live(live, classes, limits, *way) {
-            match tried(classes, question, limits, live, at, *way) {
+        if is_live(live, node.classes, &node.limits, *way) {
+            match tried(node, live, at, *way) {
                 Climb::Joined(choice) => return Climb::Joined(choice),
                 Climb::Higher(next) => {
                     if is_below(next.cost, least) {
@@ -120,64 +104,43 @@ fn step_over(
 }
 
 // The choice that takes the way, beginning with the one at hand.
-fn tried(
-    classes: &Classes,
-    question: Question,
-    limits: &Limits,
-    live: &LiveWays,
-    at: &Standing,
-    way: Way,
-) -> Climb
-    requires limits { AreNodeLimits classes.now question.batches limits.now }
-    requires way { MayTake classes.now limits.now way }
-    ensures { IsClimb classes.now limits.now result }
+fn tried(node: &Node<'_>, live: &LiveWays, at: &Standing, way: Way) -> Climb
+    requires { MayTake node.now.classes.now node.now.limits way }
+    ensures { IsClimb node.now.classes.now node.now.limits result }
 {
-    let narrowed = narrow(classes, limits, way, question.batches);
-    match choose_from(classes, &narrowed, &at.choice) {
-        Ok(choice) => standing_of(classes, question, limits, live, choice),
+    let narrowed = narrow(node.classes, &node.limits, way, node.question.batches);
+    match choose_from(node.classes, &narrowed, &at.choice) {
+        Ok(choice) => standing_of(node, live, choice),
         Err(_) => Climb::Top,
     }
 }
 
-fn standing_of(
-    classes: &Classes,
-    question: Question,
-    limits: &Limits,
-    live: &LiveWays,
-    choice: Choice,
-) -> Climb
-    requires limits { AreNodeLimits classes.now question.batches limits.now }
-    requires admitted { IsAdmitted classes.now limits.now (slice_index choice.early) }
-    ensures { IsClimb classes.now limits.now result }
+fn standing_of(node: &Node<'_>, live: &LiveWays, choice: Choice) -> Climb
+    requires { IsAdmitted node.now.classes.now node.now.limits (slice_index choice.early) }
+    ensures { IsClimb node.now.classes.now node.now.limits result }
 {
-    let set = reached(classes, &choice, question.batches);
-    if !lies_outside(classes, &choice, set) {
+    let set = reached(node.classes, &choice, node.question.batches);
+    if !lies_outside(node.classes, &choice, set) {
         return Climb::Joined(choice);
     }
-    let cost = cost_of(classes, limits, live, set, question.batches);
+    let cost = cost_of(node, live, set);
     Climb::Higher(Standing { choice, set, cost })
 }
 
 // An admitted choice whose runs are all reached, or one with a set that costs less, or the given one.
-pub(crate) fn climbed(
-    classes: &Classes,
-    question: Question,
-    limits: &Limits,
-    choice: Choice,
-) -> Choice
-    requires limits { AreNodeLimits classes.now question.batches limits.now }
-    requires admitted { IsAdmitted classes.now limits.now (slice_index choice.early) }
-    ensures { IsAdmitted classes.now limits.now (slice_index result.early) }
+pub(crate) fn climbed(node: &Node<'_>, choice: Choice) -> Choice
+    requires { IsAdmitted node.now.classes.now node.now.limits (slice_index choice.early) }
+    ensures { IsAdmitted node.now.classes.now node.now.limits (slice_index result.early) }
 {
-    let set = reached(classes, &choice, question.batches);
-    if !lies_outside(classes, &choice, set) {
+    let set = reached(node.classes, &choice, node.question.batches);
+    if !lies_outside(node.classes, &choice, set) {
         return choice;
     }
-    let live = live_ways(classes, limits, &choice, question.batches);
-    let cost = cost_of(classes, limits, &live, set, question.batches);
+    let live = live_ways(node.classes, &node.limits, &choice, node.question.batches);
+    let cost = cost_of(node, &live, set);
     let mut at = Standing { choice, set, cost };
     for _ in 0..CLIMBS {
-        match better(classes, question, limits, &live, &at) {
+        match better(node, &live, &at) {
             Climb::Top => break,
             Climb::Joined(joined) => return joined,
             Climb::Higher(next) => at = next,

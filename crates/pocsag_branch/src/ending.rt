@@ -2,7 +2,7 @@ ghost use Rattle.std.specs.Prelude.{◌+◌, ◌≤◌, IfOk, slice_index};
 ghost use Rattle.pocsag_slots.specs.Loads.{IsAdmitted, IsLeast, limits_of_all};
 ghost use Rattle.pocsag_slots.specs.Tours.{IsTour};
 ghost use Rattle.pocsag_branch.specs.Examined.{greatest_least, IsAnswer};
-ghost use Rattle.pocsag_branch.specs.Found.{IsFound, IsNodeLimit};
+ghost use Rattle.pocsag_branch.specs.Found.{IsFound};
 ghost use Rattle.pocsag_branch.specs.Shape.{RefusesOneLess};
 
 use crate::answer::Found;
@@ -15,7 +15,6 @@ use std::alloc::{AllocError, Global};
 
 // What is found where a tour was met with the least number of batches.
 pub(crate) fn settled(classes: &Classes, question: Question, set: u16, answer: Answer) -> Found
-    requires limit { IsNodeLimit question.limit }
     requires least { IsLeast classes.now question.batches }
     requires refuses { RefusesOneLess classes.now question.batches set }
     requires answer { IsAnswer classes.now question.end question.batches answer }

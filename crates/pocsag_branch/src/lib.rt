@@ -3,17 +3,18 @@
 //! suffice. What it answers, the checker accepts.
 
 mod answer;
-mod attempt;
 mod climbing;
 mod deciding;
 mod ending;
 mod examining;
 mod fault;
 mod freeing;
+mod halt;
 mod least;
 mod live;
 mod looking;
 mod narrowing;
+mod node;
 mod opening;
 mod question;
 mod refuting;

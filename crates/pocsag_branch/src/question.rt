@@ -1,18 +1,22 @@
 ghost use Rattle.std.specs.Prelude.{◌≡◌, ◌<◌};
+ghost use Rattle.pocsag_branch.specs.Found.{IsNodeLimit};
 ghost use Rattle.pocsag_branch.specs.declared.question.Stop.TheVariants.{OutOfMemory};
 
 use pocsag_slots::{Choice, Step};
 use pocsag_words::End;
 use std::alloc::AllocFailed;
 
-// What is asked of a node beside its limits: the end, the batches that are to be refuted, and how many
-// nodes may be made.
+// What is asked of a node beside its limits: the end, the batches that are to be refuted, how many nodes may
+// be made, and, of the free search alone, whether it tries a second time: then it looks across no other set and
+// takes other ways.
 #[derive(Clone, Copy)]
 pub(crate) struct Question {
     pub(crate) end: End,
     pub(crate) batches: u32,
     pub(crate) limit: u32,
+    pub(crate) second: bool,
     pub ghost some: { 0 < batches },
+    pub ghost limited: { IsNodeLimit limit },
 }
 
 // A choice and its tour with the batches that were to be refuted.

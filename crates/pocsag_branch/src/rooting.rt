@@ -6,6 +6,7 @@ ghost use Rattle.pocsag_branch.specs.Examined.{IsStop, IsTreeOf};
 use crate::deciding::decide;
 use crate::examining::{examine, grow};
 use crate::looking::form_for;
+use crate::node::Node;
 use crate::question::{Question, Stop};
 use pocsag_slots::{Choice, Classes, all_limits};
 use pocsag_tree::Tree;
@@ -14,13 +15,16 @@ use std::alloc::Global;
 
 // With the closed end, a choice that has a tour for the open end, if the free search meets one.
 fn open_choice(alloc: Global, classes: &Classes, question: Question) -> Result<Option<Choice>, Stop>
-    ensures choice { IfOk result (λ found. IfSome found (λ choice. IsAdmitted classes.now (limits_of_all classes.now question.batches) (slice_index choice.early))) }
+    ensures choice { IfOk result
+        (λ found. IfSome found
+        (λ choice. IsAdmitted classes.now (limits_of_all classes.now question.batches) (slice_index choice.early))) }
     ensures stop { IfErr result (IsStop classes.now question) }
 {
     let open = Question {
         end: End::Open,
         batches: question.batches,
         limit: question.limit,
+        second: question.second,
     };
     match question.end {
         End::Open => Ok(None),
@@ -38,20 +42,23 @@ fn open_choice(alloc: Global, classes: &Classes, question: Question) -> Result<O
 // The tree of the search from the limits of all choices, where the free search meets no tour. Where it meets
 // one for the open end alone, the root is to be closed at once.
 pub(crate) fn whole_tree(alloc: Global, classes: &Classes, question: Question) -> Result<Tree, Stop>
-    requires { 0 < question.limit }
     ensures tree { IfOk result (λ tree. IsTreeOf classes.now question (bound_of tree)) }
     ensures stop { IfErr result (IsStop classes.now question) }
 {
     decide(alloc, classes, question)?;
-    let limits = all_limits(classes, question.batches);
+    let root = Node {
+        classes,
+        question,
+        limits: all_limits(classes, question.batches),
+    };
     match open_choice(alloc, classes, question)? {
         Some(choice) => {
-            let form = form_for(alloc, classes, question, &limits, &choice)?;
-            let (tree, _) = grow(alloc, classes, question, &limits, form, 0)?;
+            let form = form_for(alloc, &root, &choice)?;
+            let (tree, _) = grow(alloc, &root, form, 0)?;
             Ok(tree)
         }
         None => {
-            let (tree, _) = examine(alloc, classes, question, &limits, 0)?;
+            let (tree, _) = examine(alloc, &root, 0)?;
             Ok(tree)
         }
     }

@@ -7,9 +7,9 @@ ghost use Rattle.pocsag_branch.specs.Freed.{IsFreeTree};
 ghost use Rattle.pocsag_branch.specs.Freely.{IsFoundFreely, IsFreeFault, IsNearlyFewest};
 
 use crate::answer::Found;
-use crate::attempt::Halt;
 use crate::deciding::free_tree;
 use crate::ending::{one_more, settled};
+use crate::halt::Halt;
 use crate::least::least_of;
 use crate::question::Question;
 use crate::within_one::{FreeFault, Near};
@@ -39,6 +39,7 @@ pub fn search_freely(
         end,
         batches: least.batches,
         limit: node_limit,
+        second: false,
     };
     match free_tree(alloc, classes, question) {
         Ok(tree) => freed(alloc, classes, question, &least.choice, tree),
@@ -64,7 +65,8 @@ fn freed(
 ) -> Result<Found, FreeFault>
     requires least { IsLeast classes.now question.batches }
     requires small { question.batches ≤ greatest_least }
-    requires admitted { IsAdmitted classes.now (limits_of_all classes.now question.batches) (slice_index choice.now.early) }
+    requires admitted { IsAdmitted classes.now (limits_of_all classes.now question.batches)
+        (slice_index choice.now.early) }
     requires tree { IsFreeTree classes.now question (bound_of tree) }
     ensures found { IfOk result (IsFoundFreely classes.now question.end question.limit) }
     ensures fault { IfErr result (λ fault. fault ≡ FreeFault.OutOfMemory) }

@@ -3,37 +3,36 @@ ghost use Rattle.pocsag_slots.specs.Sums.{holds};
 ghost use Rattle.pocsag_slots.specs.Ways.{MayTake};
 ghost use Rattle.pocsag_branch.specs.Examined.{IsForm};
 ghost use Rattle.pocsag_branch.specs.Freed.{IsOpen};
-ghost use Rattle.pocsag_branch.specs.Undecided.{AreNodeLimits, Falls};
+ghost use Rattle.pocsag_branch.specs.Undecided.{Falls};
 
 use crate::narrowing::certain_class;
-use crate::question::{Form, Question};
-use pocsag_slots::{CLASSES, Classes, Limits, SLOTS, Way, finish, holds, start, ways, with_member};
+use crate::node::Node;
+use crate::question::Form;
+use pocsag_slots::{CLASSES, SLOTS, Way, finish, holds, start, ways, with_member};
 
 // What stands in the count of ways for one that is decided already, and for a set that no class must
 // leave.
 const DECIDED: u32 = 1_000;
 
 // Whether the way is undecided: taking it and refusing it both narrow the limits.
-pub(crate) fn is_open(classes: &Classes, limits: &Limits, batches: u32, way: Way) -> bool
-    requires { MayTake classes.now limits.now way }
-    ensures { IsTrue result ↔ IsOpen classes.now batches limits.now way }
+pub(crate) fn is_open(node: &Node<'_>, way: Way) -> bool
+    requires { MayTake node.now.classes.now node.now.limits way }
+    ensures { IsTrue result ↔ IsOpen node.now.classes.now node.now.question.batches node.now.limits way }
 {
     match way {
-        Way::IdleIn(slot) => batches <= limits.cap[slot as usize],
-        Way::Early(class) => limits.lo[class as usize] == 0,
-        Way::Late(class) => classes.count[class as usize] <= limits.hi[class as usize],
+        Way::IdleIn(slot) => node.question.batches <= node.limits.cap[slot as usize],
+        Way::Early(class) => node.limits.lo[class as usize] == 0,
+        Way::Late(class) => node.classes.count[class as usize] <= node.limits.hi[class as usize],
     }
 }
 
 // Whether all the ways are open.
-fn are_open(classes: &Classes, limits: &Limits, batches: u32, out: &[Way]) -> bool
-    requires batches { 0 < batches }
-    requires limits { AreNodeLimits classes.now batches limits.now }
-    requires allowed { All (MayTake classes.now limits.now) out.now }
-    ensures { IsTrue result → All (Falls classes.now batches limits.now) out.now }
+fn are_open(node: &Node<'_>, out: &[Way]) -> bool
+    requires { All (MayTake node.now.classes.now node.now.limits) out.now }
+    ensures { IsTrue result → All (Falls node.now.classes.now node.now.question.batches node.now.limits) out.now }
 {
     for way in out {
-        if !is_open(classes, limits, batches, *way) {
+        if !is_open(node, *way) {
             return false;
         }
     }
@@ -54,16 +53,16 @@ fn add(between: &mut [u32; 256], from: u8, to: u8, decided: bool)
 }
 
 // The ways between boundaries that the limits allow: runs of the classes, and an idle in each slot.
-fn ways_between(classes: &Classes, limits: &Limits, batches: u32) -> [u32; 256] {
+fn ways_between(node: &Node<'_>) -> [u32; 256] {
     let mut between = [0; 256];
     for slot in 0..SLOTS as u8 {
-        let decided = limits.cap[slot as usize] < batches;
+        let decided = node.limits.cap[slot as usize] < node.question.batches;
         add(&mut between, slot, (slot + 1) % 16, decided);
     }
     for class in 0..CLASSES as u8 {
-        let count = classes.count[class as usize];
-        if limits.hi[class as usize] > 0 {
-            let decided = limits.lo[class as usize] > 0;
+        let count = node.classes.count[class as usize];
+        if node.limits.hi[class as usize] > 0 {
+            let decided = node.limits.lo[class as usize] > 0;
             add(
                 &mut between,
                 start(class, true),
@@ -71,8 +70,8 @@ fn ways_between(classes: &Classes, limits: &Limits, batches: u32) -> [u32; 256] 
                 decided,
             );
         }
-        if limits.lo[class as usize] < count {
-            let decided = limits.hi[class as usize] < count;
+        if node.limits.lo[class as usize] < count {
+            let decided = node.limits.hi[class as usize] < count;
             add(
                 &mut between,
                 start(class, false),
@@ -128,14 +127,13 @@ fn nearest(growing: &Growing) -> Option<u8>
 }
 
 // A cut at the set, where a class is certain for it and all ways across are open.
-fn cut_at(classes: &Classes, question: Question, limits: &Limits, set: u16) -> Option<Form>
-    requires limits { AreNodeLimits classes.now question.batches limits.now }
-    requires zero { holds set 0 ≡ true }
-    ensures { IfSome result (IsForm classes.now question limits.now) }
+fn cut_at(node: &Node<'_>, set: u16) -> Option<Form>
+    requires { holds set 0 ≡ true }
+    ensures { IfSome result (IsForm node.now.classes.now node.now.question node.now.limits) }
 {
-    let needed = certain_class(classes, limits, set)?;
-    let out = ways(classes, limits, set, question.batches);
-    if are_open(classes, limits, question.batches, &out) {
+    let needed = certain_class(node, set)?;
+    let out = ways(node.classes, &node.limits, set, node.question.batches);
+    if are_open(node, &out) {
         Some(Form::Cut { set, needed })
     } else {
         None
@@ -143,26 +141,20 @@ fn cut_at(classes: &Classes, question: Question, limits: &Limits, set: u16) -> O
 }
 
 // How many ways lead across the set that is reached, or many where no class must leave it.
-fn ways_across_reached(classes: &Classes, limits: &Limits, batches: u32, reached: u16) -> u32 {
-    match certain_class(classes, limits, reached) {
-        Some(_) => ways(classes, limits, reached, batches).len() as u32,
+fn ways_across_reached(node: &Node<'_>, reached: u16) -> u32 {
+    match certain_class(node, reached) {
+        Some(_) => ways(node.classes, &node.limits, reached, node.question.batches).len() as u32,
         None => DECIDED,
     }
 }
 
 // A cut at a set with fewer ways across than the set that is reached, if one is found. Sets grow from
 // boundary 0 by the boundary with the most ways into them.
-pub(crate) fn thinner(
-    classes: &Classes,
-    question: Question,
-    limits: &Limits,
-    reached: u16,
-) -> Option<Form>
-    requires { AreNodeLimits classes.now question.batches limits.now }
-    ensures { IfSome result (IsForm classes.now question limits.now) }
+pub(crate) fn thinner(node: &Node<'_>, reached: u16) -> Option<Form>
+    ensures { IfSome result (IsForm node.now.classes.now node.now.question node.now.limits) }
 {
-    let between = ways_between(classes, limits, question.batches);
-    let mut least = ways_across_reached(classes, limits, question.batches, reached);
+    let between = ways_between(node);
+    let mut least = ways_across_reached(node, reached);
     let mut best = None;
     let begun = Growing {
         set: with_member(0, 0),
@@ -172,7 +164,7 @@ pub(crate) fn thinner(
     let mut growing = grown(&between, begun, 0);
     for _ in 0..SLOTS {
         if growing.across < least {
-            if let Some(form) = cut_at(classes, question, limits, growing.set) {
+            if let Some(form) = cut_at(node, growing.set) {
                 best = Some(form);
                 least = growing.across;
             }

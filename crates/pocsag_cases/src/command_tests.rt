@@ -1,9 +1,11 @@
 //! The commands over memory: what each tells, what it leaves, and its exit status.
 
 use pocsag_commands::{
-    DEFAULT_LIMIT, Fault, run_check, run_decode, run_hear, run_input, run_plan, run_plan_always,
-    run_report, run_report_always, run_verify, tell_fault,
+    DEFAULT_LIMIT, Fault, Names, Role, Scene, Trouble, run_check, run_decode, run_hear, run_input,
+    run_plan, run_plan_always, run_report, run_report_always, run_verify, tell_explained,
+    tell_fault,
 };
+use pocsag_pages::RoundFault;
 use pocsag_words::{End, MemorySink, MemorySource};
 use std::alloc::Global;
 use std::test::Fail;
@@ -456,6 +458,71 @@ fn what_was_planned_is_read(rt: HostRuntime) -> Result<(), Fail> {
         assert_eq!(rt; told.status, status);
         assert_eq!(rt; told.out.bytes(), out.as_bytes());
         assert_eq!(rt; told.err.bytes(), err.as_bytes());
+    }
+    Ok(())
+}
+
+// What a command answered, the page file that it read, and the notes on it.
+type NoteCase = (Result<u8, Fault>, &'static [u8], &'static str);
+
+#[test]
+fn notes_are_told(rt: HostRuntime) -> Result<(), Fail> {
+    let names = Names {
+        pages: Some("p\n.csv"),
+        cert: Some("c"),
+        ..Names::NONE
+    };
+    let trouble = Some(Trouble {
+        role: Role::Certificate,
+        code: Some(2),
+    });
+    let swallowed = b"address,kind,message\n8,alpha,\"one\n9,tone0,\n";
+    let cases: [NoteCase; 6] = [
+        (Ok(0), LONE_TONE, ""),
+        (Ok(2), LONE_TONE, ""),
+        (
+            Ok(0),
+            swallowed,
+            "pocsag: page file p?.csv, line 2, record 1, address '8': the message holds 2 line feeds; \
+             if they are not meant, a quote is not closed\n",
+        ),
+        (
+            Err(Fault::Round(RoundFault::BadCharacter(1, 2))),
+            BAD_FILE,
+            "pocsag: page file p?.csv, line 2, record 1, address '7': the message is '12a', \
+             its kind 'numeric'; the byte is 0x61\n",
+        ),
+        (
+            Err(Fault::Device),
+            b"",
+            "pocsag: certificate c: No such file or directory (os error 2)\n",
+        ),
+        (
+            Err(Fault::EqualPaths),
+            b"",
+            "pocsag: page file p?.csv\npocsag: certificate c\n",
+        ),
+    ];
+    for (done, file, due) in cases {
+        let scene = Scene {
+            names,
+            subject: Role::PageFile,
+            trouble,
+            file,
+        };
+        let mut err = MemorySink::<300>::new(7, 1000);
+        assert_eq!(rt; tell_explained(rt.alloc(), done, &scene, &mut err), Ok(()));
+        assert_eq!(rt; err.bytes(), due.as_bytes());
+        let mut cut = MemorySink::<300>::new(7, 5);
+        let told = tell_explained(rt.alloc(), done, &scene, &mut cut);
+        assert_eq!(rt;
+            told,
+            if due.is_empty() {
+                Ok(())
+            } else {
+                Err(Fault::Write)
+            }
+        );
     }
     Ok(())
 }

@@ -3,7 +3,7 @@ use Rattle.pocsag_slots.specs.declared.class.Classes.{Classes}
 use Rattle.pocsag_tree.specs.declared.shape.Tree.{Tree}
 use Rattle.pocsag_tree.specs.Bounds.{Bound}
 use Rattle.pocsag_tree.specs.Views.{bound_of}
-use Rattle.pocsag_branch.specs.declared.attempt.Halt.{Halt}
+use Rattle.pocsag_branch.specs.declared.halt.Halt.{Halt}
 use Rattle.pocsag_branch.specs.declared.question.Question.{Question}
 use Rattle.pocsag_branch.specs.Freed.{IsFreeTree}
 use Rattle.pocsag_branch.proofs.deciding.free_tree.Goals as goal
@@ -23,6 +23,6 @@ within_limit k q r (Err halt) same_end same_batches less h = h
 
 pub returns-else-question-short-clause-tree : goal.returns-else-question-short-clause-tree
 returns-else-question-short-clause-tree c =
-    within_limit c.args.classes.now c.args.question c.within-in-Err-Limit.result c.tried-in-Err-Limit.result
-    c.within-in-Err-Limit.ensures.end c.within-in-Err-Limit.ensures.batches
-    (omega (arith, c.within-in-Err-Limit.ensures.limit)) c.tried-in-Err-Limit.ensures.tree
+    within_limit c.args.classes.now c.args.question c.within-second.result c.tried-in-Err-Limit.result
+    c.within-second.ensures.end c.within-second.ensures.batches
+    (omega (arith, c.within-second.ensures.limit)) c.tried-in-Err-Limit.ensures.tree

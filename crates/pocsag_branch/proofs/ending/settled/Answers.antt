@@ -8,7 +8,7 @@ use Rattle.pocsag_branch.proofs.ending.settled.Goals as goal
 pub returns : goal.returns
 returns c =
     let tree = least_tree c.args.classes.now c.args.question.end c.args.question.batches c.args.question.limit c.args.set
-    c.requires.limit.some c.requires.refuses in
+    c.args.question.limited.some c.requires.refuses in
     record {
       least = c.args.question.batches;
       is_least = c.requires.least;

@@ -9,7 +9,7 @@ returns-in-Some-clause-form c = (
   (c.requires.apart.exact 0 (omega arith)).1 at_start,
   c.in-Some.ensures.certain,
   omega arith,
-  ways_fall c.args.classes.now c.args.question.batches c.args.limits.now
-      (slice_index c.args.choice.now.early) c.requires.limits c.requires.admitted
-      c.args.set c.requires.apart c.args.question.some,
+  ways_fall c.args.node.now.classes.now c.args.node.now.question.batches c.args.node.now.limits
+      (slice_index c.args.choice.now.early) c.args.node.now.within c.requires.admitted
+      c.args.set c.requires.apart c.args.node.now.question.some,
 )

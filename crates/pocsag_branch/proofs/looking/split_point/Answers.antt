@@ -6,18 +6,18 @@ use Rattle.pocsag_branch.proofs.looking.split_point.Goals as goal
 
 pub returns-then-has_run_outside-clause-form : goal.returns-then-has_run_outside-clause-form
 returns-then-has_run_outside-clause-form c =
-    splits_outside c.args.classes.now c.args.question.batches c.args.limits.now
-    (slice_index c.args.choice.now.early) c.requires.limits c.requires.admitted
+    splits_outside c.args.node.now.classes.now c.args.node.now.question.batches c.args.node.now.limits
+    (slice_index c.args.choice.now.early) c.args.node.now.within c.requires.admitted
     c.args.set c.loop-class.class 1 c.requires.uncertain (at_one (c.if-has_run_outside.ensures.0 refl) refl)
 
 pub overflow_cast-result-then-has_run_outside-2 : goal.overflow_cast-result-then-has_run_outside-2
-overflow_cast-result-then-has_run_outside-2 c = omega (arith, count_few c.args.classes.now c.loop-class.class c.loop-class-test.true)
+overflow_cast-result-then-has_run_outside-2 c = omega (arith, count_few c.args.node.now.classes.now c.loop-class.class c.loop-class-test.true)
 
 pub returns-then-has_run_outside-2-clause-form : goal.returns-then-has_run_outside-2-clause-form
 returns-then-has_run_outside-2-clause-form c =
-    splits_outside c.args.classes.now c.args.question.batches c.args.limits.now
-    (slice_index c.args.choice.now.early) c.requires.limits c.requires.admitted
-    c.args.set c.loop-class.class (slice_index c.args.classes.now.count c.loop-class.class) c.requires.uncertain
+    splits_outside c.args.node.now.classes.now c.args.node.now.question.batches c.args.node.now.limits
+    (slice_index c.args.choice.now.early) c.args.node.now.within c.requires.admitted
+    c.args.set c.loop-class.class (slice_index c.args.node.now.classes.now.count c.loop-class.class) c.requires.uncertain
     (at_count (λ h. let held : c.has_run_outside.result ≡ true = c.has_run_outside.ensures.1 h in
     let lost : c.has_run_outside.result ≡ false = c.if-has_run_outside.false in absurd (cc))
     (c.if-has_run_outside-2.ensures.0 refl) refl)

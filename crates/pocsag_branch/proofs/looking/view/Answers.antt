@@ -7,7 +7,7 @@ returns-in-Err-Unclosed-clause-view c =
     let refused = rw c.in-Err-Unclosed.field-0-is at c.in-Err-Unclosed.ensures.refused in (
       rw refused.0 tt,
       refused.1,
-      closing_fall c.args.classes.now c.args.question.batches c.args.limits.now
-          (slice_index c.args.choice.now.early) c.requires.limits c.requires.admitted
-          refused.1 c.args.question.some,
+      closing_fall c.args.node.now.classes.now c.args.node.now.question.batches c.args.node.now.limits
+          (slice_index c.args.choice.now.early) c.args.node.now.within c.requires
+          refused.1 c.args.node.now.question.some,
     )

@@ -9,11 +9,11 @@ use Rattle.pocsag_branch.proofs.thinning.are_open.Goals as goal
 pub loop-way-preserved : goal.loop-way-preserved
 loop-way-preserved c =
     let i = c.loop-way.way-index in
-    All-more (Falls c.args.classes.now c.args.batches c.args.limits.now) c.args.out.now i
+    All-more (Falls c.args.node.now.classes.now c.args.node.now.question.batches c.args.node.now.limits) c.args.out.now i
     (IdleIn 0) c.loop-way-test.true c.loop-way.invariant
-    (open_falls c.args.classes.now c.args.batches c.args.limits.now
-    (get_or c.args.out.now i (IdleIn 0)) c.requires.batches c.requires.limits
-    (c.requires.allowed i (IdleIn 0) c.loop-way-test.true) (c.if-not-is_open.ensures.0 refl))
+    (open_falls c.args.node.now.classes.now c.args.node.now.question.batches c.args.node.now.limits
+    (get_or c.args.out.now i (IdleIn 0)) c.args.node.now.question.some c.args.node.now.within
+    (c.requires i (IdleIn 0) c.loop-way-test.true) (c.if-not-is_open.ensures.0 refl))
 
 pub returns : goal.returns
 returns c = λ held.

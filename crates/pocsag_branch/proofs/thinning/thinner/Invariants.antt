@@ -3,4 +3,4 @@ use Rattle.pocsag_branch.specs.Examined.{IsForm}
 use Rattle.pocsag_branch.proofs.thinning.thinner.Given as goal
 
 abbrev pub invariant-loop : goal.invariant-loop
-invariant-loop l = IfSome l.best (IsForm l.classes l.question l.limits)
+invariant-loop l = IfSome l.best (IsForm l.node.classes.now l.node.question l.node.limits)

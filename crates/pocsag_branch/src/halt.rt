@@ -1,16 +1,9 @@
 ghost use Rattle.std.specs.Prelude.{◌≡◌};
-ghost use Rattle.pocsag_branch.specs.declared.attempt.Halt.TheVariants.{OutOfMemory};
+ghost use Rattle.pocsag_branch.specs.declared.halt.Halt.TheVariants.{OutOfMemory};
 
-use crate::question::{Answer, Question};
+use crate::question::Answer;
 use pocsag_tree::Tree;
 use std::alloc::AllocFailed;
-
-// One try of the free search: in the second it looks across other sets and takes other ways.
-#[derive(Clone, Copy)]
-pub(crate) struct Attempt {
-    pub(crate) question: Question,
-    pub(crate) second: bool,
-}
 
 // Why a try ends before its tree is whole.
 #[derive(Drop)]
