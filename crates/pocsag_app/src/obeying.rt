@@ -1,5 +1,6 @@
 use crate::desk::Desk;
 use crate::files::{STANDARD, open_buffered, open_source};
+use crate::journaling::open_kept;
 use crate::planning::plan;
 use crate::round_files::RoundFiles;
 use crate::words::{Asked, Order, SearchOrder};
@@ -63,9 +64,21 @@ fn obeyed(desk: Desk<'_>, order: Order<'_>) -> Result<u8, Fault> {
         }
         Order::Open {
             pages,
+            journal,
             always,
             keep,
-        } => open_path(always, &RoundFiles { desk, pages, keep })?,
+        } => {
+            let places = RoundFiles {
+                desk,
+                pages,
+                journal,
+                keep,
+            };
+            if let Some(path) = journal {
+                return open_kept(path, always, &places);
+            }
+            open_path(always, &places)?
+        }
         Order::Report {
             pages,
             rate,

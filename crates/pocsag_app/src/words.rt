@@ -38,10 +38,11 @@ pub enum Order<'a> {
         tx: Option<&'a str>,
         view: View,
     },
-    /// `open`, or `open PAGES`: an open round, the path of the page file that it begins with, whether each
-    /// plan of it is answered, and whether old files are kept until the new ones are whole.
+    /// `open`, or `open PAGES`: an open round, the path of the page file that it begins with, that of its journal,
+    /// whether each plan of it is answered, and whether old files are kept until the new ones are whole.
     Open {
         pages: Option<&'a str>,
+        journal: Option<&'a str>,
         always: bool,
         keep: bool,
     },
@@ -162,6 +163,8 @@ const EXPECT: &str = "expect";
 
 const KEEP: &str = "keep";
 
+const JOURNAL: &str = "journal";
+
 const ALWAYS: &str = "always";
 
 const VERBOSE: &str = "verbose";
@@ -267,6 +270,10 @@ it is refused, and TX and CERT stay as they are";
 const KEEP_HELP: &str = "\
 Keeps what stands at TX and CERT until both are written whole,
 and puts them there by renaming, CERT first";
+
+const JOURNAL_HELP: &str = "\
+Keeps each edit in FILE before it is answered, and begins with
+the edits that FILE holds";
 
 const VERBOSE_HELP: &str = "\
 Tells more on standard error: which file and why, the line of a
@@ -384,6 +391,7 @@ fn open_command<'a>(alloc: Global) -> Result<Command<'a>, AllocError> {
         .about("Keeps an open round, which is edited and planned by the lines of standard input")
         .after_help(OPEN_MANUAL)
         .arg(Arg::new(alloc, PAGES).help("The page file that the round begins with"))?
+        .arg(option(alloc, JOURNAL, "FILE", JOURNAL_HELP))?
         .arg(always_flag(alloc))?
         .arg(flag(alloc, KEEP, KEEP_HELP))
 }
@@ -534,6 +542,7 @@ fn order_from<'a>(name: &str, found: &ArgMatches<'a>) -> Option<Order<'a>> {
         SHOW => show_order(found),
         ROUND => Some(Order::Open {
             pages: found.get_str(PAGES),
+            journal: found.get_str(JOURNAL),
             always: found.get_flag(ALWAYS),
             keep: found.get_flag(KEEP),
         }),

@@ -3,3 +3,4 @@ pub mod Edited
 pub mod Quotes
 pub mod Runs
 pub mod Spelling
+pub mod Keeping

@@ -1,6 +1,6 @@
 ghost use Rattle.std.specs.Prelude.{◌≡◌, length, IfErr, IfOk, None};
 ghost use Rattle.csv.specs.Records.{fields_of};
-ghost use Rattle.pocsag_open.specs.Runs.{asked_by, asked_in, asked_of};
+ghost use Rattle.pocsag_open.specs.Runs.{asked_by_line, asked_in, asked_of};
 ghost use Rattle.pocsag_open.specs.Spelling.{IsRowText, IsUnread, record_text};
 
 use crate::quoting::{Quoting, quoting_of, without_mark, without_return};
@@ -35,6 +35,8 @@ pub enum Line<'a> {
     },
     /// `clear`.
     Clear,
+    /// `pocsag journal,1`: the first line of a journal, which asks for nothing.
+    Journal,
     /// Anything else.
     Unknown,
 }
@@ -62,7 +64,7 @@ pub fn record_of(alloc: Global, line: &[u8]) -> Result<ByteRecord, Refusal>
 /// What the record asks for.
 #[tactic(auto, unfolding(crate::specs::Runs::asked_of))]
 pub fn line_of(row: &ByteRecord) -> Line<'_>
-    ensures { asked_by result ≡ asked_of (fields_of row.now) }
+    ensures { asked_by_line result ≡ asked_of (fields_of row.now) }
 {
     let asked = match row.len() {
         1 => bare_line(row),
@@ -98,11 +100,21 @@ fn cancel_line(row: &ByteRecord) -> Option<Line<'_>>
     ensures { asked_in result ≡ asked_of (fields_of row.now) }
 {
     if row.get(0)? != b"cancel".as_slice() {
-        return None;
+        return journal_line(row);
     }
     Some(Line::Cancel {
         address: row.get(1)?,
     })
+}
+
+// The first line of a journal, and its version.
+fn journal_line(row: &ByteRecord) -> Option<Line<'_>>
+    ensures { asked_in result ≡ None }
+{
+    if row.get(0)? == b"pocsag journal".as_slice() && row.get(1)? == b"1".as_slice() {
+        return Some(Line::Journal);
+    }
+    None
 }
 
 fn plan_line(row: &ByteRecord, end: End) -> Option<Line<'_>>
