@@ -25,7 +25,7 @@ use Rattle.pocsag_pages.proofs.GoodPages.{good_page}
 use Rattle.pocsag_pages.proofs.Judging.{after_header, grown, grown_end, grown_on, judged, small_file}
 use Rattle.pocsag_pages.proofs.Spelled.{characters_spelled, digits_spelled, tone_spelled}
 use Rattle.pocsag_decode.specs.Listing.{header, kind_field, message_field}
-use Rattle.pocsag_decode.specs.PageFiles.{HasText, IsOfText, page_file, page_record, whole_message}
+use Rattle.pocsag_decode.specs.PageFiles.{IsSpellable, IsOfText, page_file, page_record, whole_message}
 use Rattle.pocsag_decode.specs.PageFiles.IsOfText.{characters, digits, silent}
 use Rattle.pocsag_decode.proofs.Relisting.{characters_listed}
 use Rattle.pocsag_decode.proofs.Respelled.{spaced_back}
@@ -64,7 +64,7 @@ message_back a f (item ∷ items) low free (characters text e) =
     let same = characters_listed item items text e in
     rw same (characters_spelled a low free text (item ∷ items) e, alpha_few text (item ∷ items) e)
 
-record_back : (p : Page) → page_fault_of p ≡ None → HasText p → IsBack p
+record_back : (p : Page) → page_fault_of p ≡ None → IsSpellable p → IsBack p
 unfolding page_of
 record_back p fine text =
     let good = good_page p fine in
@@ -204,10 +204,10 @@ some_pages : (ps : List Page) → 0 < length ps → unless_empty ps ≡ Ok ps
 some_pages [] h = absurd (omega arith)
 some_pages (p ∷ ps) h = refl
 
-all_back : (ps : List Page) → All (λ p. page_fault_of p ≡ None) ps → All HasText ps → All IsBack ps
+all_back : (ps : List Page) → All (λ p. page_fault_of p ≡ None) ps → All IsSpellable ps → All IsBack ps
 all_back ps fine texts = λ k d h. record_back _ (fine k d h) (texts k d h)
 
-pub read_back : (R : List Page) → IsRound R → All HasText R → verdict (page_file R) ≡ Ok R
+pub read_back : (R : List Page) → IsRound R → All IsSpellable R → verdict (page_file R) ≡ Ok R
 read_back R round texts =
     let back = all_back R round.good.each texts in
     small_file (page_file R) (file_short R back round.few)

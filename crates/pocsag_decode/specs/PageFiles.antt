@@ -39,5 +39,5 @@ pub data IsOfText : ℕ → List ℕ → Type 0 where
   digits : {item : ℕ} {items : List ℕ} (text : List ℕ) → numeric_payload text ≡ Ok (item ∷ items) → IsOfText 0 (item ∷ items)
   characters : {item : ℕ} {items : List ℕ} (text : List ℕ) → alpha_payload text ≡ Ok (item ∷ items) → IsOfText 3 (item ∷ items)
 
-abbrev pub HasText : Page → Type 0
-HasText p = IsOfText p.function p.payload
+abbrev pub IsSpellable : Page → Type 0
+IsSpellable p = IsOfText p.function p.payload

@@ -4,7 +4,7 @@ ghost use Rattle.pocsag_pages.specs.declared.page.Page.{Page};
 ghost use Rattle.pocsag_pages.specs.PageFile.{page_of_fields, verdict};
 ghost use Rattle.pocsag_pages.specs.Pages.{IsRound, is_reserved, last_address};
 ghost use Rattle.pocsag_decode.specs.Listing.{kind_field, message_field};
-ghost use Rattle.pocsag_decode.specs.PageFiles.{HasText, page_file};
+ghost use Rattle.pocsag_decode.specs.PageFiles.{IsSpellable, page_file};
 ghost use Rattle.pocsag_decode.specs.Relisting.{IsSpelled};
 ghost use Rattle.pocsag_decode.specs.Faults.{HasFault, HasFaultThere, IsFaultless, ReadsAs};
 ghost use Rattle.pocsag_decode.specs.Standing.{StandsAfter};
@@ -47,5 +47,5 @@ pub fn listed_fields_are_read_back()
 /// The page file of a round's pages is read as that round, where the payload of each page is none, that of a numeric
 /// text with function 0, or that of an alphanumeric text with function 3.
 pub fn page_files_are_read_back()
-    ensures { (R : List Page) → IsRound R → All HasText R → verdict (page_file R) ≡ Ok R }
+    ensures { (R : List Page) → IsRound R → All IsSpellable R → verdict (page_file R) ≡ Ok R }
 {}

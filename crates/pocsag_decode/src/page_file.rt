@@ -13,7 +13,7 @@ use pocsag_words::{OutOfMemory, Sink, write_all};
 use std::alloc::{AllocError, Global};
 
 // The numeric characters that a message codeword holds.
-const ITEM_DIGITS: usize = 5;
+const ITEM_CHARACTERS: usize = 5;
 
 // The text with spaces behind it, up to this length.
 fn spaced(mut text: Vec<u8>, len: usize) -> Result<Vec<u8>, OutOfMemory>
@@ -36,7 +36,7 @@ fn whole_message(alloc: Global, function: u8, items: &[u32]) -> Result<Vec<u8>, 
     }
     let text = message_of(alloc, function, items)?;
     match function {
-        0 => spaced(text, ITEM_DIGITS * (items.len() - 1) + 1),
+        0 => spaced(text, ITEM_CHARACTERS * (items.len() - 1) + 1),
         _ => Ok(text),
     }
 }

@@ -19,21 +19,17 @@ use Rattle.pocsag_journal.specs.Journals.{HasNoLineFeed, IsBadLine, IsLine, IsRe
 use Rattle.pocsag_journal.proofs.EditRuns.{run_on}
 use Rattle.pocsag_journal.proofs.Prefixes.{all_more, journal_more}
 use Rattle.pocsag_journal.proofs.TextLines.{back_is}
+use Rattle.pocsag_open.proofs.RowTexts.{none_left}
 
 -- the record of a line, if it has one and no more
 abbrev pub first_of : List ℕ → Option Row
 first_of line = only_row (rows_of line)
 
-no_rows : (n : ℕ) → records_from default_config n st.StartRecord [] ≡ []
-unfolding records_from next_record
-no_rows zero = refl
-no_rows (suc n) = refl
-
 -- a record that is read and leaves nothing is the only one
 only_read : (text : List ℕ) (row : Row) → next_record default_config st.StartRecord [] [] text ≡ Some (row, st.StartRecord, []) →
     only_row (records default_config text) ≡ Some row
 unfolding records_from
-only_read text row e = rw (add-one, e, no_rows (length text)) refl
+only_read text row e = rw (add-one, e, none_left (length text)) refl
 
 is_true : (b : Bool) (asked : Asked) (before after : List Page) → IsDone (cond b (Some asked) None) before after → b ≡ true
 is_true true asked before after d = refl

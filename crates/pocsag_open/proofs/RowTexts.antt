@@ -162,7 +162,7 @@ row_begins (f ∷ []) t (last between_quotes) some = begins 34 _ refl refl
 row_begins (x ∷ fs) line (before {rest = r} (bare e) more) some = bare_begins x (44 ∷ r) e some (inr (r, refl))
 row_begins (f ∷ fs) line (before between_quotes more) some = begins 34 _ refl refl
 
-none_left : (n : ℕ) → records_from default_config n st.StartRecord [] ≡ []
+pub none_left : (n : ℕ) → records_from default_config n st.StartRecord [] ≡ []
 unfolding records_from next_record
 none_left zero = refl
 none_left (suc n) = refl
