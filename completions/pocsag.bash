@@ -24,8 +24,8 @@ _pocsag() {
         [check]='--verbose --help -h'
         [decode]='--verbose --help -h'
         [hear]='--verbose --help -h'
-         [show]='--svg --list --rows --verbose --help -h'
-         [open]='--journal --always --keep --verbose --help -h'
+        [show]='--svg --list --rows --verbose --help -h'
+        [open]='--journal --always --keep --verbose --help -h'
         [report]='--rate --limit --end --expect --always --verbose --help -h'
         [help]=''
     )
