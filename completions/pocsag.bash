@@ -25,7 +25,7 @@ _pocsag() {
         [decode]='--verbose --help -h'
         [hear]='--verbose --help -h'
         [show]='--svg --list --verbose --help -h'
-        [open]='--always --keep --verbose --help -h'
+        [open]='--journal --always --keep --verbose --help -h'
         [report]='--rate --limit --end --expect --always --verbose --help -h'
         [help]=''
     )

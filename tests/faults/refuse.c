@@ -3,6 +3,8 @@
  * REFUSE_ALLOC=N   the Nth call of malloc, calloc or realloc gives no memory
  * REFUSE_READ=N    the Nth call of read fails (EIO)
  * REFUSE_WRITE=N   the Nth call of write fails (EIO)
+ * REFUSE_SYNC=N    the Nth call of fsync or fdatasync fails (EIO)
+ * REFUSE_RENAME=N  the Nth call of rename fails (EIO)
  * REFUSE_LOSE=FD   what is written to this open file is lost, and claimed to be written
  * REFUSE_SHORT=1   each read and each write moves one byte at most
  * REFUSE_MARK=FD   a byte x is written to this open file when the call that is refused is reached, and a byte a at
@@ -27,8 +29,8 @@ extern void *__libc_malloc(size_t size);
 extern void *__libc_calloc(size_t count, size_t size);
 extern void *__libc_realloc(void *old, size_t size);
 
-static long allocs, reads, writes;
-static long alloc_at, read_at, write_at, is_short, are_same;
+static long allocs, reads, writes, syncs, renames;
+static long alloc_at, read_at, write_at, sync_at, rename_at, is_short, are_same;
 static int mark = -1, lost = -1, late = -1, failed = -1;
 static const char *kept, *given;
 
@@ -41,6 +43,8 @@ __attribute__((constructor)) static void start(void) {
     alloc_at = number("REFUSE_ALLOC");
     read_at = number("REFUSE_READ");
     write_at = number("REFUSE_WRITE");
+    sync_at = number("REFUSE_SYNC");
+    rename_at = number("REFUSE_RENAME");
     is_short = number("REFUSE_SHORT");
     are_same = number("REFUSE_SAME");
     const char *text = getenv("REFUSE_MARK");
@@ -51,7 +55,7 @@ __attribute__((constructor)) static void start(void) {
     late = text ? atoi(text) : -1;
     kept = getenv("REFUSE_KEPT");
     given = getenv("REFUSE_GIVEN");
-    allocs = reads = writes = 0;
+    allocs = reads = writes = syncs = renames = 0;
 }
 
 static int is_refused(long *count, long at) {
@@ -116,4 +120,19 @@ int statx(int folder, const char *restrict path, int flags, unsigned mask, struc
         found->stx_ino = 7;
     }
     return done;
+}
+
+int fsync(int file) {
+    if (is_refused(&syncs, sync_at)) { errno = EIO; return -1; }
+    return (int)syscall(SYS_fsync, file);
+}
+
+int fdatasync(int file) {
+    if (is_refused(&syncs, sync_at)) { errno = EIO; return -1; }
+    return (int)syscall(SYS_fdatasync, file);
+}
+
+int rename(const char *from, const char *to) {
+    if (is_refused(&renames, rename_at)) { errno = EIO; return -1; }
+    return (int)syscall(SYS_rename, from, to);
 }

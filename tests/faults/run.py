@@ -16,6 +16,7 @@ import tempfile
 sys.dont_write_bytecode = True
 sys.path.insert(0, str(pathlib.Path(__file__).resolve().parents[1]))
 sys.path.insert(0, str(pathlib.Path(__file__).resolve().parent))
+import kept
 import noted
 import read_back
 from tally import PROGRAM, TOP, Tally
@@ -465,6 +466,7 @@ def main():
         try_plan(tally, library, folder)
         for part in (try_open, try_open_pages, try_late_growths, try_devices, read_back.try_read_back):
             part(tally, library, folder)
+        kept.try_kept(tally, library, folder, run)
         noted.try_noted(tally, run, each_refusal, library, folder)
         files = {"pages.csv": LOOPS_APART, "cert.bin": CERTIFICATE}
         try_printing(tally, library, "check", ["check", "pages.csv", "cert.bin"], files, folder)

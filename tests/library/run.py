@@ -238,6 +238,9 @@ def try_examples(tally, folder, room):
         built = run("rustc", "--edition", "2021", EXAMPLES / "plan.rs", "-L", folder, "-l", "dylib=pocsag", "-o", room / "plan_rs")
         ran = run(room / "plan_rs", ROUND, env=beside) if built.returncode == 0 else built
         tally.check("the example in Rust", ran.stdout == wanted, (built.stderr, ran))
+        calls = ["rustc", "--edition", "2021", TOP / "bench/calls/main.rs", "-L", folder, "-l", "static=pocsag"]
+        built = run(*calls, "-o", room / "bench_calls")
+        tally.check("the benchmark of the calls is built", built.returncode == 0, built.stderr)
 
 
 def try_page(tally, folder, room):

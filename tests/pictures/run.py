@@ -5,9 +5,11 @@ devices refused; and makes the pictures of docs/pictures again and compares them
 It takes the binary that the gate left in crates/pocsag_app/out. The last line is 'N passed, M failed'.
 """
 
+import bisect
 import csv
 import importlib.util
 import io
+import math
 import pathlib
 import random
 import re
@@ -27,9 +29,29 @@ IDLE, TONE, MESSAGE = (bytes.fromhex(word) for word in ("7A89C197", "000026EC", 
 ZERO = bytes(4)
 HEAD = "       0  1  2  3  4  5  6  7"
 # Measures of the drawing: the left side of the first cell, a cell's width and height, the upper side of the first row,
-# and from row to row.
-LEFT, CELL, HEIGHT, UPPER, ROW = 72, 24, 18, 48, 22
-HUES = 26
+# and from row to row; how wide the dark part of an address codeword is, and the size of the legend.
+LEFT, CELL, HEIGHT, UPPER, ROW = 80, 28, 18, 80, 22
+DARK, MOST, COLUMNS, COLUMN = 24, 40, 3, 150
+HUES = 12
+VISIONS = {
+    "normal": ((1, 0, 0), (0, 1, 0), (0, 0, 1)),
+    # Machado, Oliveira and Fernandes, 2009, severity 1, over linear light
+    "protanopia": ((0.152286, 1.052583, -0.204868), (0.114503, 0.786281, 0.099216), (-0.003882, -0.048116, 1.051998)),
+    "deuteranopia": ((0.367322, 0.860646, -0.227968), (0.280085, 0.672501, 0.047413), (-0.011820, 0.042940, 0.968881)),
+    "tritanopia": ((1.255528, -0.076749, -0.178779), (-0.078411, 0.930809, 0.147602), (0.004733, 0.691367, 0.303900)),
+    "grey print": ((0.2126, 0.7152, 0.0722),) * 3,
+}
+
+
+# Pairs of colours and their difference, from the test data of Sharma, Wu and Dalal, 2005.
+SHARMA = [
+    ((50.0, 2.6772, -79.7751), (50.0, 0.0, -82.7485), 2.0425),
+    ((50.0, 3.1571, -77.2803), (50.0, 0.0, -82.7485), 2.8615),
+    ((50.0, -1.0, 2.0), (50.0, 0.0, 0.0), 2.3669),
+    ((50.0, 2.5, 0.0), (73.0, 25.0, -18.0), 27.1492),
+    ((60.2574, -34.0099, 36.2677), (60.4626, -34.1751, 39.4387), 1.2644),
+    ((2.0776, 0.0795, -1.1350), (0.9033, -0.0636, -0.5514), 0.9082),
+]
 
 
 def run(*words):
@@ -40,22 +62,32 @@ def millis(batches, rate):
     return -(-1000 * (576 + 544 * batches) // rate)
 
 
-def text_of(words):
-    """The text of codewords, worked out here by itself."""
-    page, letters = -1, []
-    for word in words:
-        if word == IDLE:
-            letters.append(".")
-        elif word[0] < 0x80:
-            page += 1
-            letters.append(chr(65 + page % 26))
-        else:
-            letters.append(chr(97 + page % 26))
+def pages_of(words):
+    """Where each page begins, behind which codeword it ends, and its number: how many pages have a smaller address."""
+    found = []
+    for start, end in starts_of(words):
+        address = (int.from_bytes(words[start], "big") >> 13 & 0x3FFFF) * 8 + start % 16 // 2
+        found.append((start, end, address))
+    ordered = sorted(address for _, _, address in found)
+    return [(start, end, bisect.bisect_left(ordered, address)) for start, end, address in found]
+
+
+def label_of(number, is_small=False):
+    """The letter of a page, and how many times it came, from the second time on."""
+    letter = chr((97 if is_small else 65) + number % 26)
+    return letter + (str(number // 26 + 1) if number > 25 else "")
+
+
+def text_of(words, first=1, last=None):
+    """The text of codewords, worked out here by itself: of these batches."""
+    letters = ["."] * len(words)
+    for start, end, number in pages_of(words):
+        letters[start:end] = [chr(65 + number % 26)] + [chr(97 + number % 26)] * (end - start - 1)
     batches, idles = len(words) // 16, letters.count(".")
     share = (200 * idles + len(words)) // (2 * len(words))
     times = ", ".join(f"{millis(batches, rate)} ms at {rate} bit/s" for rate in (512, 1200, 2400))
     lines = [f"batches {batches}, codewords {len(words) - idles}, idles {idles} ({share}%), airtime {times}", HEAD]
-    for batch in range(batches):
+    for batch in range(first - 1, min(last or batches, batches)):
         row = "".join(letters[16 * batch : 16 * batch + 16])
         frames = "".join(" " + row[at : at + 2] for at in range(0, 16, 2))
         lines.append(f"{batch + 1:>3}".ljust(5) + frames)
@@ -72,18 +104,6 @@ def random_words(chance, batches):
         may = word != IDLE
         words.append(word)
     return words
-
-
-def runs(words):
-    """How many runs of a page or of idles there are, each row by itself."""
-    page, count, last = 0, 0, None
-    for place, word in enumerate(words):
-        if word != IDLE and word[0] < 0x80:
-            page += 1
-        now = (place // 16, None if word == IDLE else page)
-        count += now != last
-        last = now
-    return count
 
 
 def check_text(tally, folder):
@@ -146,76 +166,111 @@ def starts_of(words):
     return list(zip(starts, ends))
 
 
-def rectangles_of(start, end):
-    """The rectangles of a run of codewords, one for each of its rows."""
-    found = []
-    while start < end:
-        stop = min(end, 16 * (start // 16) + 16)
-        found.append((LEFT + CELL * (start % 16), UPPER + ROW * (start // 16), CELL * (stop - start), HEIGHT))
-        start = stop
-    return found
-
-
 def shown_byte(byte):
     """A byte of a message as the drawing shows it: a control character by its picture."""
     return chr(0x2400 + byte) if byte < 32 else "\u2421" if byte == 127 else chr(byte)
 
 
-def drawn(group):
-    """The rectangles that a group of the drawing has."""
-    return [tuple(int(node.get(key)) for key in ("x", "y", "width", "height")) for node in group.findall(SVG + "rect")]
+def box(node):
+    return tuple(int(node.get(key)) for key in ("x", "y", "width", "height"))
 
 
-def check_pages(tally, name, root, words, listed):
-    """Each page in its place, with its hue, its letter and what is told of it; the idles between them, and the rows."""
-    due, at = [], 0
-    for number, (start, end) in enumerate(starts_of(words)):
-        due += [("i", None, None, rectangles_of(at, start))] if at < start else []
-        letter, (address, kind, message) = chr(65 + number % HUES), listed[number]
-        told = f"{letter}: address {address.decode()}, {kind.decode()}"
-        told += ": " + "".join(map(shown_byte, message)) if message or b"tone" not in kind else ""
-        spot = LEFT + CELL * (start % 16) + CELL // 2, UPPER + ROW * (start // 16) + 13
-        due.append((f"p{number % HUES}", told, (letter, *spot), rectangles_of(start, end)))
-        at = end
-    due += [("i", None, None, rectangles_of(at, len(words)))] if at < len(words) else []
+def marks_of(x, y, number):
+    """What an address codeword has: its dark part, and the label on it."""
+    return [("k", (x, y, DARK, HEIGHT)), ("l", label_of(number), x + 12, y + 13)]
+
+
+def due_pieces(start, end, number, low, high):
+    """What a page has in these rows: a rectangle in each, with its label."""
     found = []
-    for group in root.findall(SVG + "g"):
-        label = group.find(SVG + "text")
-        spot = label is not None and (label.text, int(label.get("x")), int(label.get("y"))) or None
-        found.append((group.get("class"), group.findtext(SVG + "title"), spot, drawn(group)))
-    wrong = [pair for pair in zip(found, due) if pair[0] != pair[1]]
-    tally.check(f"{name}: pages and idles", len(found) == len(due) and not wrong, wrong[:1])
-    rows = range(len(words) // 16)
-    numbers = [(node.text, node.get("y")) for node in root.findall(SVG + "text") if node.get("class") == "e"]
-    due_numbers = [(str(row + 1), str(UPPER + ROW * row + 13)) for row in rows]
-    tally.check(f"{name}: numbers of batches", numbers == due_numbers, numbers[:3])
-    syncs = [(54, UPPER + ROW * row, 12, HEIGHT) for row in rows]
-    tally.check(f"{name}: synchronisation codewords", drawn(root) == syncs, drawn(root)[:3])
-    sizes = root.get("viewBox"), f"0 0 {LEFT + 16 * CELL + 12} {UPPER + ROW * len(rows) + 12}"
-    tally.check(f"{name}: size", sizes[0] == sizes[1], sizes)
-    frames = [(node.text, node.get("x")) for node in root.findall(SVG + "text") if node.get("class") == "m"]
-    tally.check(f"{name}: frames", frames == [(str(f), str(LEFT + CELL * (2 * f + 1))) for f in range(8)], frames)
-    hues = re.findall(r"\.p(\d+)\{fill:hsl\((\d+),", root.findtext(SVG + "style"))
-    due_hues = [(str(number), str(137 * number % 360)) for number in range(HUES)] * 2
-    tally.check(f"{name}: hues", hues == due_hues and len(set(hues)) == HUES, hues)
+    for row in range(max(low, start // 16), min(high, (end + 15) // 16)):
+        begin, behind = max(start, 16 * row), min(end, 16 * row + 16)
+        x, y = LEFT + CELL * (begin % 16), UPPER + ROW * (row - low)
+        found.append((None, (x, y, CELL * (behind - begin), HEIGHT)))
+        found += marks_of(x, y, number) if begin == start else [("m", label_of(number, True), x + 12, y + 13)]
+    return found
 
 
-def check_drawing(tally, name, text, words, sent):
-    """A drawing that a parser takes, without scripts, with texts, and with one rectangle a run and row."""
+def found_pieces(group):
+    """What a group of the drawing has, in order."""
+    found = []
+    for node in group:
+        if node.tag == SVG + "rect":
+            found.append((node.get("class"), box(node)))
+        elif node.tag == SVG + "text":
+            found.append((node.get("class"), node.text, int(node.get("x")), int(node.get("y"))))
+    return found
+
+
+def due_groups(words, listed, low, high):
+    """The group of each page that has codewords in the rows, and the legend."""
+    groups, drawn = [], []
+    for (start, end, number), (address, kind, message) in zip(pages_of(words), listed, strict=True):
+        pieces = due_pieces(start, end, number, low, high)
+        if not pieces:
+            continue
+        told = f"{label_of(number)}: address {address.decode()}, {kind.decode()}"
+        told += ": " + "".join(map(shown_byte, message)) if message or b"tone" not in kind else ""
+        groups.append((f"p{number % HUES}", told, pieces))
+        drawn.append((number, start, f"{address.decode()} {kind.decode()}"))
+    if len(drawn) <= MOST:
+        places = {page: place for place, page in enumerate(sorted(drawn))}
+        for page in drawn:
+            x = LEFT + COLUMN * (places[page] % COLUMNS)
+            y = UPPER + ROW * (max(high - low, 0) + places[page] // COLUMNS) + 32
+            pieces = [(None, (x, y, CELL, HEIGHT)), *marks_of(x, y, page[0]), ("n", page[2], x + 34, y + 13)]
+            groups.append((f"p{page[0] % HUES}", None, pieces))
+    return groups, len(drawn)
+
+
+def check_rows(tally, name, root, words, low, high):
+    """What stands behind the pages: numbers, synchronisation codewords and hatching of each row; words and axes."""
+    rows = range(max(high - low, 0))
+    texts = [(node.get("class"), node.text, int(node.get("x")), int(node.get("y"))) for node in root.findall(SVG + "text")]
+    heading = f"Batches {low + 1} to {high} of {len(words) // 16}"
+    due = [("t", heading, 12, 22), ("e", "frame", 74, 60), ("e", "slot", 74, 74), ("e", "batch", 50, 74)]
+    due += [("m", str(frame), LEFT + CELL * (2 * frame + 1), 60) for frame in range(8)]
+    due += [("m", str(slot), LEFT + CELL * slot + CELL // 2, 74) for slot in range(16)]
+    due += [("e", str(low + row + 1), 50, UPPER + ROW * row + 13) for row in rows]
+    bottom = UPPER + ROW * len(rows) + 6
+    due += [("n", "idle codeword", 114, bottom + 13), ("n", "synchronisation codeword", 248, bottom + 13)]
+    tally.check(f"{name}: words and numbers", [text for text in texts if text[0]] == due, texts[:40])
+    tally.check(f"{name}: heading for readers of screens", root.findtext(SVG + "title") == heading, root.findtext(SVG + "title"))
+    syncs = [(60, UPPER + ROW * row, 12, HEIGHT) for row in rows] + [(230, bottom, 12, HEIGHT)]
+    found = [box(node) for node in root.findall(SVG + "rect") if node.get("class") == "s"]
+    tally.check(f"{name}: synchronisation codewords", found == syncs, found[:3])
+    hatched = [f"M{LEFT} {UPPER + ROW * row + 9}h{16 * CELL}" for row in rows] + [f"M{LEFT} {bottom + 9}h{CELL}"]
+    found = [node.get("d") for node in root.findall(SVG + "path") if node.get("class") == "h"]
+    tally.check(f"{name}: idles are hatched", found == hatched, found[:3])
+    lines = "".join(f"M{LEFT + 2 * CELL * frame} {UPPER - 2}V{UPPER + ROW * len(rows)}" for frame in range(9))
+    found = [node.get("d") for node in root.findall(SVG + "path") if node.get("class") == "f"]
+    tally.check(f"{name}: lines between frames", found == [lines], found)
+
+
+def check_drawing(tally, name, text, words, sent, first=1, last=None):
+    """A drawing that a parser takes, without scripts and without ids, and what is drawn."""
     root = ElementTree.fromstring(text)
     tally.check(f"{name}: svg", root.tag == SVG + "svg" and root.get("version") == "1.1", root.attrib)
-    told = [root[0].tag == SVG + "title", root[1].tag == SVG + "desc", root.get("aria-labelledby") == "title desc"]
+    told = [root[0].tag == SVG + "title", root[1].tag == SVG + "desc", root.get("role") == "img"]
     tally.check(f"{name}: texts for screen readers", all(told) and root[0].text and root[1].text, told)
     tags = {node.tag for node in root.iter()}
     known = {SVG + tag for tag in ("svg", "title", "desc", "style", "text", "rect", "path", "g")}
     tally.check(f"{name}: nothing but shapes and texts", tags <= known, tags)
-    active = [key for node in root.iter() for key in node.attrib if key.startswith("on") or "href" in key]
-    tally.check(f"{name}: no script", not active, active)
+    active = [key for node in root.iter() for key in node.attrib if key.startswith("on") or "href" in key or key == "id"]
+    tally.check(f"{name}: no script and no id", not active, active)
     tally.check(f"{name}: light and dark", b"prefers-color-scheme:dark" in text and b"@import" not in text)
-    rectangles = sum(1 for node in root.iter(SVG + "rect"))
-    due = runs(words) + len(words) // 16
-    tally.check(f"{name}: one rectangle a run and row", rectangles == due, (rectangles, due))
-    check_pages(tally, name, root, words, fields_of(run("decode", sent).stdout))
+    low, high = first - 1, min(last or len(words) // 16, len(words) // 16)
+    due, drawn = due_groups(words, fields_of(run("decode", sent).stdout), low, high)
+    found = [(group.get("class"), group.findtext(SVG + "title"), found_pieces(group)) for group in root.findall(SVG + "g")]
+    wrong = [pair for pair in zip(found, due) if pair[0] != pair[1]]
+    tally.check(f"{name}: pages and legend", len(found) == len(due) and not wrong, wrong[:1] or (len(found), len(due)))
+    check_rows(tally, name, root, words, low, high)
+    lines = (drawn + 2) // 3 if drawn <= MOST else 0
+    tall = 116 + ROW * (max(high - low, 0) + lines)
+    tally.check(f"{name}: size", root.get("viewBox") == f"0 0 540 {tall}", root.get("viewBox"))
+    rules = re.findall(r"([^{}]+)\{[^{}]*\}", root.findtext(SVG + "style").replace("@media screen and (prefers-color-scheme:dark){", ""))
+    selectors = [it.strip() for rule in rules for it in rule.split(",")]
+    tally.check(f"{name}: rules under one class", all(it.startswith(".pocsag ") for it in selectors), selectors[:5])
     return root
 
 
@@ -253,6 +308,127 @@ def check_svg(tally, folder):
     titles = [node.text for node in root.iter(SVG + "title")]
     due = "address 11, alpha: " + "".join(map(shown_byte, range(1, 128)))
     tally.check("each character of a message", any(title.endswith(due) for title in titles), titles)
+
+
+def check_rows_wanted(tally, folder):
+    """Some rows alone, of text and drawing; and words that name no rows."""
+    chance, path = random.Random(28), folder / "tx"
+    words = random_words(chance, 40)
+    path.write_bytes(make.transmission(words))
+    for word, first, last in (("3-7", 3, 7), ("3-", 3, None), ("5", 5, 5), ("1-1", 1, 1), ("38-99", 38, 99), ("40", 40, 40)):
+        done = run("show", path, "--rows", word)
+        tally.check(f"rows {word}", (done.returncode, done.stdout) == (0, text_of(words, first, last)), done.stdout)
+        done = run("show", path, f"--rows={word}", "--svg")
+        check_drawing(tally, f"rows {word}", done.stdout, words, path, first, last)
+    for word in ("0", "0-3", "7-3", "x", "3-x", "-", "3--5", "", "1-2-3", "+3", "18446744073709551616", "1.5"):
+        done = run("show", path, f"--rows={word}")
+        said = done.returncode == 2 and done.stdout == b"" and b"--rows" in done.stderr
+        tally.check(f"rows {word!r} are none", said, done)
+    done = run("show", path, "--rows", "2", "--list")
+    tally.check("rows and list", done.returncode == 2 and done.stdout == b"", done)
+
+
+def check_same_letters(tally, folder):
+    """A round in two orders: each page has one label and one hue in both drawings."""
+    chance, path = random.Random(5), folder / "tx"
+    seen = []
+    for _ in range(2):
+        shuffled = list(range(0, 8 * 60, 8))
+        chance.shuffle(shuffled)
+        words = []
+        for address in shuffled:
+            words += [IDLE] * (-len(words) % 16) + [bch(address // 8 << 13)] + [MESSAGE] * chance.randrange(1, 20)
+        path.write_bytes(make.transmission(words + [IDLE] * (-len(words) % 16)))
+        root = ElementTree.fromstring(run("show", path, "--svg").stdout)
+        groups = [(it.findtext(SVG + "title"), it.get("class")) for it in root.findall(SVG + "g") if it.find(SVG + "title") is not None]
+        seen.append({title.split(",")[0]: hue for title, hue in groups})
+    tally.check("letters and hues by address", seen[0] == seen[1] and len(seen[0]) == 60, seen)
+
+
+def bch(bits):
+    """The codeword with these high 21 bits below its highest: remainder by the generator, and even parity."""
+    word = bits & 0x7FFFF800
+    rest = word
+    for place in range(31, 10, -1):
+        if rest >> place & 1:
+            rest ^= 0b11101101001 << place - 10
+    word |= rest
+    return (word | bin(word).count("1") & 1).to_bytes(4, "big")
+
+
+def linear(part):
+    """A part of a colour as light."""
+    part /= 255
+    return part / 12.92 if part <= 0.04045 else ((part + 0.055) / 1.055) ** 2.4
+
+
+def lab_of(colour, vision):
+    """A colour as CIELAB has it (D65), as it is seen with a vision."""
+    light = [linear(int(colour[at : at + 2], 16)) for at in (0, 2, 4)]
+    red, green, blue = (min(1, max(0, sum(map(float.__mul__, map(float, row), light)))) for row in VISIONS[vision])
+    x = (0.4124564 * red + 0.3575761 * green + 0.1804375 * blue) / 0.95047
+    y = 0.2126729 * red + 0.7151522 * green + 0.0721750 * blue
+    z = (0.0193339 * red + 0.1191920 * green + 0.9503041 * blue) / 1.08883
+    x, y, z = (part ** (1 / 3) if part > 216 / 24389 else (24389 / 27 * part + 16) / 116 for part in (x, y, z))
+    return 116 * y - 16, 500 * (x - y), 200 * (y - z)
+
+
+def ciede2000(one, other):
+    """The difference of two colours of CIELAB."""
+    (l1, a1, b1), (l2, a2, b2) = one, other
+    mean = (math.hypot(a1, b1) + math.hypot(a2, b2)) / 2
+    grey = 0.5 * (1 - math.sqrt(mean**7 / (mean**7 + 25**7)))
+    a1, a2 = (1 + grey) * a1, (1 + grey) * a2
+    c1, c2 = math.hypot(a1, b1), math.hypot(a2, b2)
+    h1, h2 = math.degrees(math.atan2(b1, a1)) % 360, math.degrees(math.atan2(b2, a2)) % 360
+    turn = 0 if c1 * c2 == 0 else (h2 - h1 + 180) % 360 - 180
+    hue = h1 + h2 if c1 * c2 == 0 else (h1 + turn / 2) % 360
+    lightness, chroma = (l1 + l2) / 2, (c1 + c2) / 2
+    t = 1 - 0.17 * cosine(hue - 30) + 0.24 * cosine(2 * hue) + 0.32 * cosine(3 * hue + 6) - 0.20 * cosine(4 * hue - 63)
+    sl = 1 + 0.015 * (lightness - 50) ** 2 / math.sqrt(20 + (lightness - 50) ** 2)
+    sc, sh = 1 + 0.045 * chroma, 1 + 0.015 * chroma * t
+    rotation = -2 * math.sqrt(chroma**7 / (chroma**7 + 25**7)) * math.sin(math.radians(60 * math.exp(-(((hue - 275) / 25) ** 2))))
+    dl, dc, dh = (l2 - l1) / sl, (c2 - c1) / sc, 2 * math.sqrt(c1 * c2) * math.sin(math.radians(turn / 2)) / sh
+    return math.sqrt(dl**2 + dc**2 + dh**2 + rotation * dc * dh)
+
+
+def cosine(degrees):
+    return math.cos(math.radians(degrees))
+
+
+def check_hues(tally, folder):
+    """Hues that stand next to one another in the order of letters, and the dark part of each page beside each tint, are
+    at least 20 apart for each vision, in light and in dark; labels can be read."""
+    for one, other, due in SHARMA:
+        tally.check(f"CIEDE2000 of {one} and {other}", abs(ciede2000(one, other) - due) < 1e-4, ciede2000(one, other))
+    path = folder / "tx"
+    path.write_bytes(make.transmission([TONE]))
+    style = ElementTree.fromstring(run("show", path, "--svg").stdout).findtext(SVG + "style")
+    for scheme, rules, ink in zip(("light", "dark"), style.split("@media"), ("ffffff", "16181c"), strict=True):
+        tints = dict(re.findall(r"\.p(\d+) rect\{fill:#(\w{6})\}", rules))
+        darks = dict(re.findall(r"\.p(\d+) rect\.k\{fill:#(\w{6})\}", rules))
+        due = [str(hue) for hue in range(HUES)]
+        tally.check(f"{scheme}: hues", (list(tints), list(darks)) == (due, due), (tints, darks))
+        tints, darks = [tints[hue] for hue in due], [darks[hue] for hue in due]
+        for vision in VISIONS:
+            seen, heads = [lab_of(it, vision) for it in tints], [lab_of(it, vision) for it in darks]
+            least = min(ciede2000(seen[at - 1], seen[at]) for at in range(HUES))
+            tally.check(f"{scheme}, {vision}: neighbours", least >= 20, least)
+            least = min(ciede2000(tint, head) for tint in seen for head in heads)
+            tally.check(f"{scheme}, {vision}: a page's first codeword beside any page", least >= 20, least)
+        least = min(contrast(ink, head) for head in darks)
+        tally.check(f"{scheme}: labels on their ground", least >= 4.5, least)
+
+
+def contrast(one, other):
+    """The contrast of two colours, as the guidelines for web contents have it."""
+    bright, dim = sorted((luminance(one), luminance(other)), reverse=True)
+    return (bright + 0.05) / (dim + 0.05)
+
+
+def luminance(colour):
+    parts = (linear(int(colour[at : at + 2], 16)) for at in (0, 2, 4))
+    return sum(weight * part for weight, part in zip((0.2126, 0.7152, 0.0722), parts))
 
 
 def check_faults(tally, folder):
@@ -350,7 +526,10 @@ def check_pictures(tally, _folder):
 
 
 def main():
-    return run_parts(check_text, check_list, check_svg, check_faults, check_refusals, check_pictures)
+    return run_parts(
+        check_text, check_list, check_svg, check_rows_wanted, check_same_letters, check_hues, check_faults, check_refusals,
+        check_pictures,
+    )
 
 
 if __name__ == "__main__":

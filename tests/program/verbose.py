@@ -89,11 +89,11 @@ def run(words, folder, stdin=b""):
 
 
 def fresh(folder):
-    """The page file apart, no outputs, and a certificate for another page file."""
+    """No outputs, and a certificate for another page file: five batches."""
     for name in ("tx.bin", "cert.bin"):
         (folder / name).unlink(missing_ok=True)
-    (folder / "one.csv").write_bytes(HEADER + b"7,numeric,1\n15,numeric,1\n")
-    run(["plan", "one.csv", "one.bin", "other.cert"], folder)
+    (folder / "other.csv").write_bytes(HEADER + b"".join(b"%d,tone0,\n" % (8 * k) for k in range(9)))
+    run(["plan", "other.csv", "other.bin", "other.cert"], folder)
 
 
 def try_case(tally, folder, case):

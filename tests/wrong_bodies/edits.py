@@ -6,6 +6,9 @@ import re
 from source import all_functions, function_at, functions_of, homes_of, reached, with_one_clause
 
 
+UNOFFERED = "\npub unoffered : Unoffered\nunoffered = Unoffered\n"  # fits nothing
+
+
 class Unfit(Exception):
     """Says why an edit cannot be planted in these sources."""
 
@@ -79,6 +82,17 @@ def narrowed(texts, edits):
         own = names[0].rpartition("::")[2]
         if not any(own in words.get(it, {own}) for it in checked - {names[0]}):
             texts = with_one_clause(texts, names[0], edit.clause) or texts
+    return texts
+
+
+def unoffered(texts, edits):
+    """The planted texts in which the proof file of each function that must be refused has a line that fits nothing:
+    the prover then prints its open goals without looking for what to write for them, which costs as much again."""
+    texts, functions = dict(texts), {name: it for name, (_, it) in all_functions(texts).items()}
+    for name in {name for edit in edits if not edit.is_right for name in edit.names()}:
+        folder = f"proofs/{name.replace('::', '/')}"
+        if name in functions and functions[name].unit == name and f"{folder}/Proof.antt" not in texts:
+            texts[f"{folder}/Answers.antt"] = texts.get(f"{folder}/Answers.antt", "") + UNOFFERED
     return texts
 
 

@@ -18,6 +18,7 @@ CLAUSE = re.compile(r"`(?:\w+-)?returns")  # the name of a goal that a clause as
 OF_FUNCTIONS = ("Answers.antt", "Invariants.antt", "Proof.antt")
 # A proof file that names something which the edit took away, and what cites that proof.
 UNFITTING = re.compile(r"has no field|is not in scope|has no `|was not admitted|which was rejected")
+UNOFFERED = "`unoffered`"  # the line that was planted in a proof file and fits nothing
 UNREADABLE = re.compile(r"is not in scope|has no field|is no name|operand is missing|expected the end|cannot continue")
 
 
@@ -116,6 +117,9 @@ class Planted:
         if unit not in self.refused_units():
             return False, "NOT REFUSED"
         goals = list(self.goals(unit)) + list(self.lemmas() if may_be_lemma else ())
+        if goals and all(UNOFFERED in it for it in goals):
+            return False, "NOT REFUSED"
+        goals = [it for it in goals if UNOFFERED not in it]
         real = [it for it in goals if not (it.startswith("proofs/") and UNFITTING.search(it))]
         if real:
             # a clause before an invariant, and both before what a call asks for
@@ -160,7 +164,13 @@ class Room:
     def check(self, texts, only=()):
         """Checks the copy with these texts of its sources, the whole crate or these functions and what they call."""
         self.restore_kept()
+        for part in PARTS:
+            for at, _, names in os.walk(f"{self.folder}/{part}"):
+                for it in (f"{at}/{name}" for name in names):
+                    if os.path.relpath(it, self.folder) not in texts:
+                        os.remove(it)
         for path, text in texts.items():
+            os.makedirs(os.path.dirname(f"{self.folder}/{path}"), exist_ok=True)
             with open(f"{self.folder}/{path}", "w", encoding="utf-8") as it:
                 it.write(text)
         return Planted(texts, rt_check(self.folder, only))

@@ -32,7 +32,7 @@ import typing
 sys.dont_write_bytecode = True
 HERE = pathlib.Path(__file__).resolve().parent
 sys.path[:0] = [str(HERE), str(HERE.parent)]
-from edits import Edit, Unfit, clauses_of, narrowed, read_edits, right_change, rounds_of
+from edits import Edit, Unfit, clauses_of, narrowed, read_edits, right_change, rounds_of, unoffered
 from prover import PARTS, Room, rt_check
 from tally import TOP, Tally
 
@@ -118,7 +118,7 @@ def tried(room, edits, texts, is_whole=False):
         planted = edit.planted(planted)[0]
     names = [] if is_whole else [name for edit in edits for name in edit.names()]
     if names and all(edit.names() for edit in edits):
-        planted = narrowed(planted, edits)
+        planted = unoffered(narrowed(planted, edits), edits)
     else:
         names = []
     seen = room.check(planted, names)

@@ -38,13 +38,13 @@ impl<'a> Beside<'a> {
         self.path.as_str()
     }
 
-    // Synchronises what was written with the disk.
-    fn sync(&self, desk: Desk<'_>) -> Result<(), Fault> {
+    /// Synchronises what was written with the disk.
+    pub fn sync(&self, desk: Desk<'_>) -> Result<(), Fault> {
         sync(desk, self.role, self.path())
     }
 
-    // Puts the file in its place, at once and whole, and its name on the disk.
-    fn put(&self, desk: Desk<'_>) -> Result<(), Fault> {
+    /// Puts the file in its place, at once and whole, and its name on the disk.
+    pub fn put(&self, desk: Desk<'_>) -> Result<(), Fault> {
         desk.written(self.role, fs::rename(desk.rt, self.path(), self.place))?;
         sync(desk, self.role, folder_of(self.place))
     }

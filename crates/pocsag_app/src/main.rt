@@ -3,6 +3,7 @@
 
 mod desk;
 mod files;
+mod journaling;
 mod keeping;
 mod misuse;
 mod obeying;

@@ -1,8 +1,9 @@
 use crate::desk::Desk;
 use crate::files::{STANDARD, open_buffered, open_source};
+use crate::journaling::open_kept;
 use crate::planning::plan;
 use crate::round_files::RoundFiles;
-use crate::words::{Asked, Order, Search};
+use crate::words::{Asked, Order, SearchOrder};
 use pocsag_commands::{
     Fault, ReaderSource, Role, Scene, Watch, expected_file, run_check, run_decode, run_hear,
     run_input, run_report, run_report_always, run_show, tell, tell_explained, tell_fault,
@@ -63,9 +64,21 @@ fn obeyed(desk: Desk<'_>, order: Order<'_>) -> Result<u8, Fault> {
         }
         Order::Open {
             pages,
+            journal,
             always,
             keep,
-        } => open_path(always, &RoundFiles { desk, pages, keep })?,
+        } => {
+            let places = RoundFiles {
+                desk,
+                pages,
+                journal,
+                keep,
+            };
+            if let Some(path) = journal {
+                return open_kept(path, always, &places);
+            }
+            open_path(always, &places)?
+        }
         Order::Report {
             pages,
             rate,
@@ -112,7 +125,12 @@ fn open_path(always: bool, places: &RoundFiles<'_>) -> Result<(), Fault> {
 }
 
 // Reports on the plan of a page file.
-fn report_path(desk: Desk<'_>, rate: u32, search: Search, path: Option<&str>) -> Result<(), Fault> {
+fn report_path(
+    desk: Desk<'_>,
+    rate: u32,
+    search: SearchOrder,
+    path: Option<&str>,
+) -> Result<(), Fault> {
     let mut pages = open_source(desk, Role::PageFile, path)?;
     let Some(expected) = search.expect else {
         return report_round(desk, rate, search, &mut pages);
@@ -124,10 +142,10 @@ fn report_path(desk: Desk<'_>, rate: u32, search: Search, path: Option<&str>) ->
 fn report_round<P: Source>(
     desk: Desk<'_>,
     rate: u32,
-    search: Search,
+    search: SearchOrder,
     pages: &mut P,
 ) -> Result<(), Fault> {
-    let Search {
+    let SearchOrder {
         limit,
         end,
         always,

@@ -55,7 +55,8 @@ pub struct Named {
 }
 
 impl Named {
-    fn of(metadata: &Metadata) -> Named {
+    /// The file that the metadata are of.
+    pub fn of(metadata: &Metadata) -> Named {
         Named {
             device: metadata.dev(),
             number: metadata.ino(),

@@ -7,7 +7,7 @@ use crate::files::{STANDARD, make_outputs, open_buffered, open_source, refuse_on
 use crate::keeping::{Beside, put_both};
 use crate::misuse::{misused, tell_misuse};
 use crate::paths::refuse_equal;
-use crate::words::{PlanOrder, Search};
+use crate::words::{PlanOrder, SearchOrder};
 use pocsag_commands::{Fault, Role, expected_file, run_plan, run_plan_always, run_verify};
 use pocsag_open::Outputs;
 use pocsag_words::{Sink, SliceSource, Source};
@@ -15,7 +15,8 @@ use pocsag_words::{Sink, SliceSource, Source};
 /// `plan`: plans from file to files, or from and to the standard streams. Where standard output takes one of
 /// the files, the lines go to standard error. Answers the exit status.
 pub fn plan(desk: Desk<'_>, order: PlanOrder<'_>) -> Result<u8, Fault>
-    ensures { HasEqual (map (λ path. path.now) (paths_of order.entry.pages order.entry.tx order.entry.cert)) → IsErrOf result EqualPaths }
+    ensures { HasEqual (map (λ path. path.now) (paths_of order.entry.pages order.entry.tx order.entry.cert)) →
+        IsErrOf result EqualPaths }
 {
     refuse_equal(order.pages, order.tx, order.cert)?;
     match misused(desk.rt, order) {
@@ -57,7 +58,7 @@ fn write_round<P: Source, O: Sink>(
     out: &mut O,
 ) -> Result<(), Fault> {
     let Outputs { mut tx, mut cert } = make_outputs(desk, order.pages, order.tx, order.cert)?;
-    let Search {
+    let SearchOrder {
         limit,
         end,
         always,
@@ -76,7 +77,7 @@ fn read_back<O: Sink>(desk: Desk<'_>, order: PlanOrder<'_>, out: &mut O) -> Resu
     let mut pages = open_source(desk, Role::PageFile, order.pages)?;
     let mut tx = open_source(desk, Role::Transmission, Some(order.tx))?;
     let mut cert = open_buffered(desk, Role::Certificate, Some(order.cert))?;
-    let Search { end, always, .. } = order.search;
+    let SearchOrder { end, always, .. } = order.search;
     run_verify(desk.alloc, end, always, &mut pages, &mut tx, &mut cert, out)
 }
 

@@ -15,6 +15,8 @@ pub struct RoundFiles<'a> {
     pub desk: Desk<'a>,
     /// The path of that page file, if there is one.
     pub pages: Option<&'a str>,
+    /// The path of the journal, if there is one.
+    pub journal: Option<&'a str>,
     /// Whether what stands there before is kept until both files are whole.
     pub keep: bool,
 }
@@ -75,6 +77,8 @@ impl<'a> Places for RoundFiles<'a> {
 
     fn make(&self, tx: &str, cert: &str) -> Result<Outputs<WriterSink<'a, Output<File>>>, Fault> {
         refuse_equal(self.pages, tx, cert)?;
+        refuse_equal(self.journal, tx, cert)?;
+        refuse_one_file(self.desk.rt, self.journal, tx, cert)?;
         if tx == STANDARD || cert == STANDARD {
             return Err(Fault::EqualPaths);
         }

@@ -38,10 +38,11 @@ pub enum Order<'a> {
         tx: Option<&'a str>,
         view: View,
     },
-    /// `open`, or `open PAGES`: an open round, the path of the page file that it begins with, whether each
-    /// plan of it is answered, and whether old files are kept until the new ones are whole.
+    /// `open`, or `open PAGES`: an open round, the path of the page file that it begins with, that of its journal,
+    /// whether each plan of it is answered, and whether old files are kept until the new ones are whole.
     Open {
         pages: Option<&'a str>,
+        journal: Option<&'a str>,
         always: bool,
         keep: bool,
     },
@@ -49,7 +50,7 @@ pub enum Order<'a> {
     Report {
         pages: Option<&'a str>,
         rate: u32,
-        search: Search,
+        search: SearchOrder,
     },
 }
 
@@ -109,7 +110,7 @@ pub struct PlanOrder<'a> {
     /// The words for the transmission and for the certificate, of which one may name standard output.
     pub tx: &'a str,
     pub cert: &'a str,
-    pub search: Search,
+    pub search: SearchOrder,
     /// Whether the files are read back.
     pub verify: bool,
     /// Whether what stands there before is kept until both files are whole.
@@ -119,7 +120,7 @@ pub struct PlanOrder<'a> {
 /// How a plan is searched: the node limit, the end, and whether each round is answered; and how many pages
 /// the round must have, if that is given.
 #[derive(Clone, Copy, PartialEq, Eq, Debug)]
-pub struct Search {
+pub struct SearchOrder {
     pub expect: Option<u32>,
     pub limit: u32,
     pub end: End,
@@ -161,6 +162,8 @@ const VERIFY: &str = "verify";
 const EXPECT: &str = "expect";
 
 const KEEP: &str = "keep";
+
+const JOURNAL: &str = "journal";
 
 const ALWAYS: &str = "always";
 
@@ -268,6 +271,10 @@ const KEEP_HELP: &str = "\
 Keeps what stands at TX and CERT until both are written whole,
 and puts them there by renaming, CERT first";
 
+const JOURNAL_HELP: &str = "\
+Keeps each edit in FILE before it is answered, and begins with
+the edits that FILE holds";
+
 const VERBOSE_HELP: &str = "\
 Tells more on standard error: which file and why, the line of a
 record, the field that is wrong, and what to do";
@@ -363,8 +370,13 @@ Lists what the pager of an address shows, past two wrong bits in each codeword",
 
 fn show_command<'a>(alloc: Global) -> Result<Command<'a>, AllocError> {
     let list = flag(alloc, LIST, "Lists where each page stands, as CSV").conflicts_with(SVG)?;
-    let rows = option(alloc, ROWS, "A-B", "Shows these batches alone, counted from 1")
-        .conflicts_with(LIST)?;
+    let rows = option(
+        alloc,
+        ROWS,
+        "A-B",
+        "Shows these batches alone, counted from 1",
+    )
+    .conflicts_with(LIST)?;
     Command::new(alloc, SHOW)
         .about("Shows what a transmission looks like, codeword by codeword")
         .after_help(SHOW_MANUAL)
@@ -379,6 +391,7 @@ fn open_command<'a>(alloc: Global) -> Result<Command<'a>, AllocError> {
         .about("Keeps an open round, which is edited and planned by the lines of standard input")
         .after_help(OPEN_MANUAL)
         .arg(Arg::new(alloc, PAGES).help("The page file that the round begins with"))?
+        .arg(option(alloc, JOURNAL, "FILE", JOURNAL_HELP))?
         .arg(always_flag(alloc))?
         .arg(flag(alloc, KEEP, KEEP_HELP))
 }
@@ -421,8 +434,8 @@ fn end_of(found: &ArgMatches<'_>) -> Option<End> {
     }
 }
 
-fn search_of(found: &ArgMatches<'_>) -> Option<Search> {
-    Some(Search {
+fn search_of(found: &ArgMatches<'_>) -> Option<SearchOrder> {
+    Some(SearchOrder {
         expect: found.get_one::<u32>(EXPECT),
         limit: found.get_one::<u32>(LIMIT)?,
         end: end_of(found)?,
@@ -529,6 +542,7 @@ fn order_from<'a>(name: &str, found: &ArgMatches<'a>) -> Option<Order<'a>> {
         SHOW => show_order(found),
         ROUND => Some(Order::Open {
             pages: found.get_str(PAGES),
+            journal: found.get_str(JOURNAL),
             always: found.get_flag(ALWAYS),
             keep: found.get_flag(KEEP),
         }),

@@ -1,14 +1,10 @@
 -- File order: that it is legal, that there is one, and no other.
-use Rattle.std.proofs.Common.{◌≡◌, ℕ, zero, suc, ◌+◌, ◌-◌, ◌*◌, ◌/◌, ◌%◌, ◌<◌, ◌≤◌, List, [], ◌∷◌, ◌++◌, length, map, replicate, refl, sym, ap, subst, ◌∙◌, arith, length-append, inl, inr}
-use Rattle.std.proofs.lemmas.Bool.{cases_eq}
-use Rattle.std.proofs.lemmas.List.{length-map, length-replicate}
+use Rattle.pocsag_batch.proofs.Prelude.{◌≡◌, ℕ, zero, suc, ◌+◌, ◌-◌, ◌*◌, ◌/◌, ◌%◌, ◌<◌, ◌≤◌, List, [], ◌∷◌, ◌++◌, length, map, replicate, refl, sym, ap, subst, ◌∙◌, arith, inl, inr, cases_eq, length-map, length-replicate, Kind, Page, page_words, page_length, IsLegalFor, IsLeastFrom, IsInFrame, IsWhole, InOrder, at_end, past_page, IsFileOrder}
+use Rattle.std.proofs.Common.{length-append}
 use Rattle.std.proofs.lemmas.List.Elements.{All-contains_itself}
-use Rattle.pocsag_words.specs.declared.codeword.Kind.{Kind}
 use Rattle.pocsag_words.specs.declared.codeword.Kind.TheVariants.{Idle, Message}
 use Rattle.pocsag_words.specs.declared.ending.End.TheVariants.{Open}
-use Rattle.pocsag_pages.specs.declared.page.Page.{Page}
-use Rattle.pocsag_pages.specs.Reading.{Reads, at_end as no_words, past_idle, past_page as page_read, BeginsNoMessage, frame_at, page_words, page_length, IsLegalFor}
-use Rattle.pocsag_batch.specs.FileOrder.{IsLeastFrom, IsInFrame, IsWhole, InOrder, at_end, past_page, IsFileOrder}
+use Rattle.pocsag_pages.specs.Reading.{Reads, at_end as no_words, past_idle, past_page as page_read, BeginsNoMessage, frame_at}
 use Rattle.pocsag_pages.proofs.Readings.{reads_at}
 
 reads_idles : (gap i : ℕ) (ws : List Kind) (ps : List Page) → Reads ws (i + gap) ps → Reads (replicate gap Idle ++ ws) i ps

@@ -7,6 +7,7 @@ pub mod OrderLaws
 pub mod Orders
 pub mod PageLists
 pub mod Places
+pub mod Prelude
 pub mod Pushes
 pub mod Sayable
 pub mod Sent

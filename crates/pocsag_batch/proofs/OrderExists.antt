@@ -1,14 +1,6 @@
 -- The steps of a tour have an order.
-use Rattle.std.proofs.Common.{◌≡◌, ℕ, zero, suc, ◌+◌, List, [], ◌∷◌, ◌++◌, length, replicate, refl, ◌∙◌, arith, slice_index, slice_set}
-use Rattle.std.specs.List.{range_with_len}
-use Rattle.std.proofs.lemmas.List.{length-replicate, length-set}
-use Rattle.pocsag_words.specs.declared.ending.End.{End}
-use Rattle.pocsag_pages.specs.declared.page.Page.{Page}
-use Rattle.pocsag_slots.specs.declared.step.Step.{Step}
+use Rattle.pocsag_batch.proofs.Prelude.{◌≡◌, ℕ, zero, suc, ◌+◌, List, [], ◌∷◌, ◌++◌, length, replicate, refl, ◌∙◌, arith, slice_index, slice_set, range_with_len, length-replicate, length-set, End, Page, Step, IsTourFor, Links, AreChains, class_at, page_at, IsOrder}
 use Rattle.pocsag_slots.specs.declared.step.Step.TheVariants.{Idle as Stay, Run}
-use Rattle.pocsag_slots.specs.Tours.{IsTourFor}
-use Rattle.pocsag_batch.specs.Chains.{Links, AreChains}
-use Rattle.pocsag_batch.specs.Placing.{class_at, page_at, IsOrder}
 use Rattle.pocsag_batch.proofs.Chains.{chains_added}
 use Rattle.pocsag_batch.proofs.Orders.{Stands, order_stands, stands_first, stands_run}
 use Rattle.pocsag_slots.proofs.CountLemmas.{page_class_below}

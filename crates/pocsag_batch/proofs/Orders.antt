@@ -1,18 +1,10 @@
 -- The loop of `order_of`: each run takes the first place of its class that is left, and then the places are an order.
-use Rattle.std.proofs.Common.{◌≡◌, ℕ, ◌+◌, ◌<◌, ◌==◌, Bool, true, false, cond, List, [], ◌∷◌, ◌++◌, All, length, map, refl, sym, ap, ◌∙◌, arith, eq-eqb, inl, inr, slice_index, slice_set, append_assoc}
-use Rattle.std.proofs.lemmas.Bool.{cases_eq, ne_eqb}
-use Rattle.std.proofs.lemmas.List.{append-nil, map_push, nil_from_length}
-use Rattle.std.proofs.lemmas.List.Elements.{All-head, All-tail, filter-append}
+use Rattle.pocsag_batch.proofs.Prelude.{◌≡◌, ℕ, ◌+◌, ◌<◌, ◌==◌, Bool, true, false, cond, List, [], ◌∷◌, ◌++◌, All, length, map, refl, sym, ap, ◌∙◌, arith, eq-eqb, inl, inr, slice_index, slice_set, append_assoc, cases_eq, ne_eqb, append-nil, nil_from_length, All-head, All-tail, End, Page, Step, runs, IsTourFor, Links, AreChains, all_places, class_at, places_of, run_classes, HavePlaces, IsOrder}
+use Rattle.std.proofs.lemmas.List.{map_push}
+use Rattle.std.proofs.lemmas.List.Elements.{filter-append}
 use Rattle.std.proofs.lemmas.List.Sorted.{All-permutation}
-use Rattle.pocsag_words.specs.declared.ending.End.{End}
-use Rattle.pocsag_pages.specs.declared.page.Page.{Page}
-use Rattle.pocsag_slots.specs.declared.step.Step.{Step}
 use Rattle.pocsag_slots.specs.declared.step.Step.TheVariants.{Idle as Stay, Run}
-use Rattle.pocsag_slots.specs.Arcs.{runs}
-use Rattle.pocsag_slots.specs.Tours.{IsTourFor}
 use Rattle.pocsag_slots.proofs.Laying.{first_runs}
-use Rattle.pocsag_batch.specs.Chains.{Links, AreChains}
-use Rattle.pocsag_batch.specs.Placing.{all_places, class_at, places_of, run_classes, HavePlaces, IsOrder}
 use Rattle.pocsag_batch.proofs.Chains.{Takes, chains_left, takes_from}
 use Rattle.pocsag_batch.proofs.ClassLists.{alike_permuted, class_left, never_none, of_class, of_class_in, of_class_out, others_left, rest_same, without}
 use Rattle.pocsag_batch.proofs.Places.{all_within, tour_serves}

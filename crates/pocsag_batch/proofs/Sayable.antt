@@ -1,14 +1,9 @@
 -- Codewords that in order say what a layout says.
-use Rattle.std.proofs.Common.{◌≡◌, ℕ, ◌^◌, ◌<◌, List, [], ◌∷◌, ◌++◌, length, map, subst, All}
-use Rattle.pocsag_words.specs.declared.codeword.Kind.{Kind}
+use Rattle.pocsag_batch.proofs.Prelude.{◌≡◌, ℕ, ◌^◌, ◌<◌, List, [], ◌∷◌, ◌++◌, length, map, subst, All, Kind, Page, IsGoodPage, Step, HavePlaces, laid_by, page_at}
 use Rattle.pocsag_words.specs.declared.codeword.Kind.TheVariants.{Message}
-use Rattle.pocsag_pages.specs.declared.page.Page.{Page}
-use Rattle.pocsag_pages.specs.Pages.{IsGoodPage}
 use Rattle.pocsag_slots.specs.Saying.{IsSayable}
-use Rattle.pocsag_slots.specs.declared.step.Step.{Step}
 use Rattle.pocsag_slots.specs.declared.step.Step.TheVariants.{Idle as Stay, Run}
 use Rattle.pocsag_slots.proofs.Sayable.{HaveCodewords, idle_sayable, items_sayable, none_sayable, page_sayable}
-use Rattle.pocsag_batch.specs.Placing.{HavePlaces, laid_by, page_at}
 
 laid_sayable : HaveCodewords → (R : List Page) (order : List ℕ) (steps : List Step) → All IsGoodPage R → HavePlaces (length R) order steps →
     IsSayable (laid_by R order steps)

@@ -1,11 +1,11 @@
 -- A transmission on its way through a piece.
-use Rattle.std.proofs.Common.{◌≡◌, ℕ, suc, ◌+◌, ◌%◌, ◌<◌, ◌≤◌, ◌==◌, Bool, true, false, cond, List, [], ◌∷◌, ◌++◌, length, replicate, refl, sym, ap, ◌∙◌, arith, append_assoc}
-use Rattle.std.proofs.lemmas.List.{append-nil, length-append}
+use Rattle.pocsag_batch.proofs.Prelude.{◌≡◌, ℕ, suc, ◌+◌, ◌%◌, ◌<◌, ◌≤◌, ◌==◌, Bool, true, false, cond, List, [], ◌∷◌, ◌++◌, length, replicate, refl, sym, ap, ◌∙◌, arith, append_assoc, append-nil, bytes_of, body_from}
+use Rattle.std.proofs.lemmas.List.{length-append}
 use Rattle.std.specs.Prelude.{if◌then◌else◌}
 use Rattle.std.specs.List.{flat_map}
 use Rattle.std.specs.Int.{to_be_bytes, w32}
-use Rattle.pocsag_pages.specs.Bytes.{sync_word, synced, bytes_of}
-use Rattle.pocsag_batch.specs.Sending.{slot_bytes, body_from}
+use Rattle.pocsag_pages.specs.Bytes.{sync_word, synced}
+use Rattle.pocsag_batch.specs.Sending.{slot_bytes}
 
 -- what was taken and the piece are the transmission of the codewords that came
 pub record IsSent (tells : Type 0) (before taken piece came : List ℕ) : Type 0 where

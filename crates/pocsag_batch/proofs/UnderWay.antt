@@ -1,17 +1,11 @@
 -- The codewords that an iterator gave, of those that it had to give.
-use Rattle.std.proofs.Common.{◌≡◌, ℕ, ◌%◌, ◌≤◌, List, [], ◌∷◌, ◌++◌, length, map, take, refl, sym, ap, ◌∙◌, All, arith, append_assoc}
+use Rattle.pocsag_batch.proofs.Prelude.{◌≡◌, ℕ, ◌%◌, ◌≤◌, List, [], ◌∷◌, ◌++◌, length, map, take, refl, sym, ap, ◌∙◌, All, arith, append_assoc, All-head, All-tail, YieldsList, IsCodeword, kind_of, Kind, bytes_of, body_from}
 use Rattle.std.proofs.lemmas.List.{length-append, length-take, take-append-le}
-use Rattle.std.proofs.lemmas.List.Elements.{All-head, All-tail}
-use Rattle.std.proofs.lemmas.Iterator.{YieldsList, items_from_drains}
+use Rattle.std.proofs.lemmas.Iterator.{items_from_drains}
 use Rattle.std.specs.Iterator.{AlwaysYields, Drains, Yields}
 use Rattle.std.specs.Prelude.{Option}
-use Rattle.pocsag_words.specs.Codeword.{IsCodeword}
 use Rattle.pocsag_words.specs.Devices.{CallsPerByte, TookPrefix}
-use Rattle.pocsag_words.specs.Kinds.{kind_of}
-use Rattle.pocsag_words.specs.declared.codeword.Kind.{Kind}
-use Rattle.pocsag_pages.specs.Bytes.{bytes_of}
 use Rattle.pocsag_batch.specs.Saying.{IsSayable, Say, SendsPart}
-use Rattle.pocsag_batch.specs.Sending.{body_from}
 use Rattle.pocsag_batch.proofs.Sent.{bytes_append}
 
 -- codewords of one kind are one

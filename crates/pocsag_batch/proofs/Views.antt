@@ -1,16 +1,8 @@
 -- What the iterator over a layout has left.
-use Rattle.std.proofs.Common.{◌≡◌, ℕ, ◌-◌, ◌/◌, ◌<◌, Bool, List, [], ◌∷◌, ◌++◌, length, map, refl, take, drop, get_or, sym, ap, ◌∙◌, All}
-use Rattle.std.proofs.lemmas.List.{get_or_default, nil_from_length, take_rest}
-use Rattle.std.proofs.lemmas.List.Elements.{All-get_or}
-use Rattle.pocsag_words.specs.Kinds.{kind_of, address_kind}
-use Rattle.pocsag_words.specs.declared.codeword.Kind.{Kind}
+use Rattle.pocsag_batch.proofs.Prelude.{◌≡◌, ℕ, ◌-◌, ◌/◌, ◌<◌, Bool, List, [], ◌∷◌, ◌++◌, length, map, refl, take, drop, get_or, sym, ap, ◌∙◌, All, get_or_default, nil_from_length, All-get_or, kind_of, address_kind, Kind, Page, IsGoodPage, page_words, Step, HavePlaces, laid_by, page_at}
+use Rattle.std.proofs.lemmas.List.{take_rest}
 use Rattle.pocsag_words.specs.declared.codeword.Kind.TheVariants.{Address, Message}
-use Rattle.pocsag_pages.specs.declared.page.Page.{Page}
-use Rattle.pocsag_pages.specs.Pages.{IsGoodPage}
-use Rattle.pocsag_pages.specs.Reading.{page_words}
-use Rattle.pocsag_slots.specs.declared.step.Step.{Step}
 use Rattle.pocsag_slots.specs.declared.step.Step.TheVariants.{Run}
-use Rattle.pocsag_batch.specs.Placing.{HavePlaces, laid_by, page_at}
 use Rattle.pocsag_slots.proofs.Sayable.{kind_unreserved}
 
 page_is : (R : List Page) (k : ℕ) (p : Page) → k < length R → p ≡ get_or R k p → page_at R k ≡ p

@@ -20,7 +20,8 @@ use std::alloc::Global;
 #[cycle(examining)]
 pub(crate) fn examine(alloc: Global, node: &Node<'_>, made: u32) -> Result<(Tree, u32), Stop>
     requires { made ≤ node.now.question.limit }
-    ensures node { IfOk result (λ x. IsExamined node.now.classes.now node.now.question node.now.limits made x.1 (bound_of x.0)) }
+    ensures node { IfOk result
+        (λ x. IsExamined node.now.classes.now node.now.question node.now.limits made x.1 (bound_of x.0)) }
     ensures stop { IfErr result (IsStop node.now.classes.now node.now.question) }
 {
     if made >= node.question.limit {
@@ -41,7 +42,8 @@ pub(crate) fn grow(
     requires made { made < node.now.question.limit }
     requires form { IsForm node.now.classes.now node.now.question node.now.limits form }
     requires shape { StandsAs node.now.classes.now node.now.question.batches node.now.limits form }
-    ensures node { IfOk result (λ x. IsExamined node.now.classes.now node.now.question node.now.limits made x.1 (bound_of x.0)) }
+    ensures node { IfOk result
+        (λ x. IsExamined node.now.classes.now node.now.question node.now.limits made x.1 (bound_of x.0)) }
     ensures stop { IfErr result (IsStop node.now.classes.now node.now.question) }
 {
     match form {
@@ -59,9 +61,11 @@ fn cut(alloc: Global, node: &Node<'_>, set: u16, needed: u8, made: u32) -> Resul
     requires zero { IsTrue (holds set 0) }
     requires certain { IsTrue (class_certain node.now.classes.now node.now.limits set needed) }
     requires small { set < 2 ^ 16 }
-    requires fall { All (Falls node.now.classes.now node.now.question.batches node.now.limits) (ways_across node.now.classes.now node.now.limits set) }
+    requires fall { All (Falls node.now.classes.now node.now.question.batches node.now.limits)
+        (ways_across node.now.classes.now node.now.limits set) }
     requires shape { AdmitApart node.now.classes.now node.now.question.batches node.now.limits set }
-    ensures node { IfOk result (λ x. IsExamined node.now.classes.now node.now.question node.now.limits made x.1 (bound_of x.0)) }
+    ensures node { IfOk result
+        (λ x. IsExamined node.now.classes.now node.now.question node.now.limits made x.1 (bound_of x.0)) }
     ensures stop { IfErr result (IsStop node.now.classes.now node.now.question) }
 {
     let out = ways_out(node, set);
@@ -81,7 +85,8 @@ fn split(alloc: Global, node: &Node<'_>, class: u8, m: u16, made: u32) -> Result
     requires made { made < node.now.question.limit }
     requires point { IsSplitPoint node.now.classes.now node.now.question.batches node.now.limits class m }
     requires shape { AdmitSplit node.now.classes.now node.now.question.batches node.now.limits class m }
-    ensures node { IfOk result (λ x. IsExamined node.now.classes.now node.now.question node.now.limits made x.1 (bound_of x.0)) }
+    ensures node { IfOk result
+        (λ x. IsExamined node.now.classes.now node.now.question node.now.limits made x.1 (bound_of x.0)) }
     ensures stop { IfErr result (IsStop node.now.classes.now node.now.question) }
 {
     let under = Node {
@@ -113,9 +118,11 @@ fn split(alloc: Global, node: &Node<'_>, class: u8, m: u16, made: u32) -> Result
 fn close(alloc: Global, node: &Node<'_>, made: u32) -> Result<(Tree, u32), Stop>
     requires made { made < node.now.question.limit }
     requires closed { IsClosed node.now.question.end }
-    requires fall { All (Falls node.now.classes.now node.now.question.batches node.now.limits) (ways_to_close node.now.classes.now node.now.limits) }
+    requires fall { All (Falls node.now.classes.now node.now.question.batches node.now.limits)
+        (ways_to_close node.now.classes.now node.now.limits) }
     requires shape { AdmitUnclosed node.now.classes.now node.now.question.batches node.now.limits }
-    ensures node { IfOk result (λ x. IsExamined node.now.classes.now node.now.question node.now.limits made x.1 (bound_of x.0)) }
+    ensures node { IfOk result
+        (λ x. IsExamined node.now.classes.now node.now.question node.now.limits made x.1 (bound_of x.0)) }
     ensures stop { IfErr result (IsStop node.now.classes.now node.now.question) }
 {
     let out = ways_to_end(node);
@@ -129,7 +136,9 @@ fn row(alloc: Global, node: &Node<'_>, ways: &[Way], made: u32) -> Result<(Vec<T
     requires made { made ≤ node.now.question.limit }
     requires allowed { All (MayTake node.now.classes.now node.now.limits) ways.now }
     requires fall { All (Falls node.now.classes.now node.now.question.batches node.now.limits) ways.now }
-    ensures node { IfOk result (λ x. AreExamined node.now.classes.now node.now.question node.now.limits made x.1 ways.now (bounds_of x.0.items)) }
+    ensures node { IfOk result
+        (λ x. AreExamined node.now.classes.now node.now.question node.now.limits made x.1 ways.now
+        (bounds_of x.0.items)) }
     ensures stop { IfErr result (IsStop node.now.classes.now node.now.question) }
 {
     let mut children = Vec::new(alloc);

@@ -34,7 +34,8 @@ fn share(classes: &Classes, batches: u32, set: u16) -> u32
 pub(crate) fn least_of(classes: &Classes) -> Least
     requires { HasPage classes.now }
     ensures refuses { RefusesOneLess classes.now result.batches result.set }
-    ensures admitted { IsAdmitted classes.now (limits_of_all classes.now result.batches) (slice_index result.choice.early) }
+    ensures admitted { IsAdmitted classes.now (limits_of_all classes.now result.batches)
+        (slice_index result.choice.early) }
     ensures least { IsLeast classes.now result.batches }
     ensures bound { result.batches ≤ greatest_least }
 {

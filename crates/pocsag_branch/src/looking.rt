@@ -45,7 +45,8 @@ pub(crate) fn form_for(alloc: Global, node: &Node<'_>, choice: &Choice) -> Resul
 // Whether the choice has a tour: it is met, or its runs are apart, or the tour cannot be closed.
 pub(crate) fn view(alloc: Global, node: &Node<'_>, choice: &Choice) -> Result<View, Stop>
     requires { IsAdmitted node.now.classes.now node.now.limits (slice_index choice.now.early) }
-    ensures view { IfOk result (IsView node.now.classes.now node.now.question node.now.limits (slice_index choice.now.early)) }
+    ensures view { IfOk result
+        (IsView node.now.classes.now node.now.question node.now.limits (slice_index choice.now.early)) }
     ensures stop { IfErr result (IsStop node.now.classes.now node.now.question) }
 {
     let set = reached(node.classes, choice, node.question.batches);
@@ -69,7 +70,8 @@ pub(crate) fn view(alloc: Global, node: &Node<'_>, choice: &Choice) -> Result<Vi
 // The tour that was found.
 fn met(alloc: Global, node: &Node<'_>, choice: &Choice, steps: Vec<Step>) -> Stop
     requires choice { IsChoice node.now.classes.now (slice_index choice.now.early) }
-    requires tour { IsTour node.now.classes.now node.now.question.end (slice_index choice.now.early) node.now.question.batches steps.items }
+    requires tour { IsTour node.now.classes.now node.now.question.end
+        (slice_index choice.now.early) node.now.question.batches steps.items }
     ensures { IsStop node.now.classes.now node.now.question result }
 {
     let _pages = node.classes.count[0];

@@ -15,7 +15,8 @@ pub(crate) fn child_limits(node: &Node<'_>, way: Way) -> Limits
     requires falls { Falls node.now.classes.now node.now.question.batches node.now.limits way }
     ensures value { result ≡ narrowed_limits node.now.classes.now node.now.limits way node.now.question.batches }
     ensures limits { AreNodeLimits node.now.classes.now node.now.question.batches result }
-    ensures falls { undecided node.now.classes.now node.now.question.batches result < undecided node.now.classes.now node.now.question.batches node.now.limits }
+    ensures falls { undecided node.now.classes.now node.now.question.batches result <
+        undecided node.now.classes.now node.now.question.batches node.now.limits }
 {
     narrow(node.classes, &node.limits, way, node.question.batches)
 }
@@ -25,7 +26,8 @@ pub(crate) fn limits_under(node: &Node<'_>, class: u8, m: u16) -> Limits
     requires { IsSplitPoint node.now.classes.now node.now.question.batches node.now.limits class m }
     ensures value { result ≡ limits_below node.now.limits class m }
     ensures limits { AreNodeLimits node.now.classes.now node.now.question.batches result }
-    ensures falls { undecided node.now.classes.now node.now.question.batches result < undecided node.now.classes.now node.now.question.batches node.now.limits }
+    ensures falls { undecided node.now.classes.now node.now.question.batches result <
+        undecided node.now.classes.now node.now.question.batches node.now.limits }
 {
     below_split(&node.limits, class, u32::from(m))
 }
@@ -35,14 +37,16 @@ pub(crate) fn limits_over(node: &Node<'_>, class: u8, m: u16) -> Limits
     requires { IsSplitPoint node.now.classes.now node.now.question.batches node.now.limits class m }
     ensures value { result ≡ limits_from node.now.limits class m }
     ensures limits { AreNodeLimits node.now.classes.now node.now.question.batches result }
-    ensures falls { undecided node.now.classes.now node.now.question.batches result < undecided node.now.classes.now node.now.question.batches node.now.limits }
+    ensures falls { undecided node.now.classes.now node.now.question.batches result <
+        undecided node.now.classes.now node.now.question.batches node.now.limits }
 {
     from_split(&node.limits, class, u32::from(m))
 }
 
 // The ways out of the set, each of which settles an open question.
 pub(crate) fn ways_out(node: &Node<'_>, set: u16) -> ArrayVec<Way, 288>
-    requires { All (Falls node.now.classes.now node.now.question.batches node.now.limits) (ways_across node.now.classes.now node.now.limits set) }
+    requires { All (Falls node.now.classes.now node.now.question.batches node.now.limits)
+        (ways_across node.now.classes.now node.now.limits set) }
     ensures items { result.items ≡ ways_across node.now.classes.now node.now.limits set }
     ensures allowed { All (MayTake node.now.classes.now node.now.limits) result.items }
     ensures fall { All (Falls node.now.classes.now node.now.question.batches node.now.limits) result.items }
@@ -52,7 +56,8 @@ pub(crate) fn ways_out(node: &Node<'_>, set: u16) -> ArrayVec<Way, 288>
 
 // The ways to close, each of which settles an open question.
 pub(crate) fn ways_to_end(node: &Node<'_>) -> ArrayVec<Way, 2>
-    requires { All (Falls node.now.classes.now node.now.question.batches node.now.limits) (ways_to_close node.now.classes.now node.now.limits) }
+    requires { All (Falls node.now.classes.now node.now.question.batches node.now.limits)
+        (ways_to_close node.now.classes.now node.now.limits) }
     ensures items { result.items ≡ ways_to_close node.now.classes.now node.now.limits }
     ensures allowed { All (MayTake node.now.classes.now node.now.limits) result.items }
     ensures fall { All (Falls node.now.classes.now node.now.question.batches node.now.limits) result.items }

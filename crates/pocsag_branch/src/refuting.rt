@@ -19,7 +19,9 @@ use std::alloc::Global;
 
 // Whether the tree of a child is accepted for the node itself.
 fn stands_for(node: &Node<'_>, tree: &Tree) -> bool
-    ensures { IsTrue result ↔ AcceptsWithin false node.now.classes.now node.now.question.end node.now.question.batches node.now.limits greatest_depth (bound_of tree.now) }
+    ensures { IsTrue result ↔
+        AcceptsWithin false node.now.classes.now node.now.question.end node.now.question.batches node.now.limits
+        greatest_depth (bound_of tree.now) }
 {
     let Question { end, batches, .. } = node.question;
     accepts(node.classes, &node.limits, batches, tree, end)
@@ -29,7 +31,8 @@ fn stands_for(node: &Node<'_>, tree: &Tree) -> bool
 #[cycle(refuting)]
 pub(crate) fn refute(alloc: Global, node: &Node<'_>, examined: u32) -> Result<(Tree, u32), Halt>
     requires { examined ≤ node.now.question.limit }
-    ensures node { IfOk result (λ x. IsFreed node.now.classes.now node.now.question node.now.limits examined x.1 (bound_of x.0)) }
+    ensures node { IfOk result
+        (λ x. IsFreed node.now.classes.now node.now.question node.now.limits examined x.1 (bound_of x.0)) }
     ensures halt { IfErr result (IsHalt node.now.classes.now node.now.question) }
 {
     if examined >= node.question.limit {
@@ -56,8 +59,10 @@ fn refute_cut(
     requires zero { IsTrue (holds set 0) }
     requires certain { IsTrue (class_certain node.now.classes.now node.now.limits set needed) }
     requires small { set < 2 ^ 16 }
-    requires fall { All (Falls node.now.classes.now node.now.question.batches node.now.limits) (ways_across node.now.classes.now node.now.limits set) }
-    ensures node { IfOk result (λ x. IsFreed node.now.classes.now node.now.question node.now.limits examined x.1 (bound_of x.0)) }
+    requires fall { All (Falls node.now.classes.now node.now.question.batches node.now.limits)
+        (ways_across node.now.classes.now node.now.limits set) }
+    ensures node { IfOk result
+        (λ x. IsFreed node.now.classes.now node.now.question node.now.limits examined x.1 (bound_of x.0)) }
     ensures halt { IfErr result (IsHalt node.now.classes.now node.now.question) }
 {
     let out = ways_out(node, set);
@@ -83,8 +88,10 @@ pub(crate) fn refute_close(
 ) -> Result<(Tree, u32), Halt>
     requires examined { examined < node.now.question.limit }
     requires closed { IsClosed node.now.question.end }
-    requires fall { All (Falls node.now.classes.now node.now.question.batches node.now.limits) (ways_to_close node.now.classes.now node.now.limits) }
-    ensures node { IfOk result (λ x. IsFreed node.now.classes.now node.now.question node.now.limits examined x.1 (bound_of x.0)) }
+    requires fall { All (Falls node.now.classes.now node.now.question.batches node.now.limits)
+        (ways_to_close node.now.classes.now node.now.limits) }
+    ensures node { IfOk result
+        (λ x. IsFreed node.now.classes.now node.now.question node.now.limits examined x.1 (bound_of x.0)) }
     ensures halt { IfErr result (IsHalt node.now.classes.now node.now.question) }
 {
     let out = ways_to_end(node);
@@ -105,7 +112,8 @@ fn refute_split(
 ) -> Result<(Tree, u32), Halt>
     requires examined { examined < node.now.question.limit }
     requires point { IsSplitPoint node.now.classes.now node.now.question.batches node.now.limits class m }
-    ensures node { IfOk result (λ x. IsFreed node.now.classes.now node.now.question node.now.limits examined x.1 (bound_of x.0)) }
+    ensures node { IfOk result
+        (λ x. IsFreed node.now.classes.now node.now.question node.now.limits examined x.1 (bound_of x.0)) }
     ensures halt { IfErr result (IsHalt node.now.classes.now node.now.question) }
 {
     let under = Node {
@@ -151,7 +159,8 @@ fn refute_row(
     requires examined { examined ≤ node.now.question.limit }
     requires allowed { All (MayTake node.now.classes.now node.now.limits) ways.now }
     requires fall { All (Falls node.now.classes.now node.now.question.batches node.now.limits) ways.now }
-    ensures node { IfOk result (λ x. AreChildren node.now.classes.now node.now.question node.now.limits examined x.1 ways.now x.0) }
+    ensures node { IfOk result
+        (λ x. AreChildren node.now.classes.now node.now.question node.now.limits examined x.1 ways.now x.0) }
     ensures halt { IfErr result (IsHalt node.now.classes.now node.now.question) }
 {
     let mut children = Vec::new(alloc);

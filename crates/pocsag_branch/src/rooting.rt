@@ -15,7 +15,9 @@ use std::alloc::Global;
 
 // With the closed end, a choice that has a tour for the open end, if the free search meets one.
 fn open_choice(alloc: Global, classes: &Classes, question: Question) -> Result<Option<Choice>, Stop>
-    ensures choice { IfOk result (λ found. IfSome found (λ choice. IsAdmitted classes.now (limits_of_all classes.now question.batches) (slice_index choice.early))) }
+    ensures choice { IfOk result
+        (λ found. IfSome found
+        (λ choice. IsAdmitted classes.now (limits_of_all classes.now question.batches) (slice_index choice.early))) }
     ensures stop { IfErr result (IsStop classes.now question) }
 {
     let open = Question {

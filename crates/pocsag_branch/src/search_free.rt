@@ -65,7 +65,8 @@ fn freed(
 ) -> Result<Found, FreeFault>
     requires least { IsLeast classes.now question.batches }
     requires small { question.batches ≤ greatest_least }
-    requires admitted { IsAdmitted classes.now (limits_of_all classes.now question.batches) (slice_index choice.now.early) }
+    requires admitted { IsAdmitted classes.now (limits_of_all classes.now question.batches)
+        (slice_index choice.now.early) }
     requires tree { IsFreeTree classes.now question (bound_of tree) }
     ensures found { IfOk result (IsFoundFreely classes.now question.end question.limit) }
     ensures fault { IfErr result (λ fault. fault ≡ FreeFault.OutOfMemory) }

@@ -62,7 +62,8 @@ fn judged(
 ) -> Result<Found, SearchFault>
     requires least { IsLeast classes.now question.batches }
     requires small { question.batches ≤ greatest_least }
-    requires admitted { IsAdmitted classes.now (limits_of_all classes.now question.batches) (slice_index choice.now.early) }
+    requires admitted { IsAdmitted classes.now (limits_of_all classes.now question.batches)
+        (slice_index choice.now.early) }
     requires tree { IsTreeOf classes.now question (bound_of tree) }
     ensures found { IfOk result (IsFound classes.now question.end question.limit) }
     ensures fault { IfErr result (IsSearchFault classes.now question.end question.limit) }

@@ -48,7 +48,8 @@ fn write_asked(alloc: Global, pages: &[u8], search: Search) -> Result<Written, S
         BoundedHeadline pages.now search.end w.bounded.plan.batches w.bounded.bound
         (bound_of w.bounded.plan.tree) w.sent.items w.certificate.items) }
     ensures headline { IfOk result (λ w. w.bounded.bound ≡ w.bounded.plan.batches →
-        Headline pages.now search.end w.bounded.plan.batches (bound_of w.bounded.plan.tree) w.sent.items w.certificate.items) }
+        Headline pages.now search.end w.bounded.plan.batches
+        (bound_of w.bounded.plan.tree) w.sent.items w.certificate.items) }
     ensures plan { IfOk result (λ w. IsOfRound pages.now (λ round. IsPlanFor search round w.bounded)) }
     ensures explained { IfErr result (ExplainsStream search.effort pages.now search.end search.limit) }
 {
@@ -167,7 +168,8 @@ pub extern "C" fn pocsag_plan(
     ensures fewest { (result ≡ 0) ⊎ IsWithoutRoom result → always ≡ 0 → info.new.bound ≡ info.new.batches }
     // The headline with a bound.
     ensures bounded { result ≡ 0 → always ≢ 0 →
-        IsPlannedInto (IsHeadlineWithBound pages.now end info.new) tx.old tx.new tx_len.new cert.old cert.new cert_len.new }
+        IsPlannedInto
+        (IsHeadlineWithBound pages.now end info.new) tx.old tx.new tx_len.new cert.old cert.new cert_len.new }
     ensures counted { (result ≡ 0) ⊎ IsWithoutRoom result → IsCounted pages.now info.new }
 
     // Too small a buffer: the lengths are those of such a plan.

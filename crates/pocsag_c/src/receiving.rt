@@ -93,7 +93,8 @@ pub extern "C" fn pocsag_hear(
     place: &mut Place,
 ) -> u32
     ensures listed { result ≡ 0 → IsListed (HeardAndListed address tx.now []) listing.old listing.new listing_len.new }
-    ensures no_room { result ≡ 9 → HasNoRoom (HeardAndListed address tx.now []) listing.old listing.new listing_len.new }
+    ensures no_room { result ≡ 9 →
+        HasNoRoom (HeardAndListed address tx.now []) listing.old listing.new listing_len.new }
     ensures fault { result ≢ 0 → result ≢ 9 → TellsFault (ExplainsHearing address tx.now) result place.new }
     ensures untouched { result ≢ 0 → listing.new ≡ listing.old }
 {

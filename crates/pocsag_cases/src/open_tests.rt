@@ -107,12 +107,27 @@ const EDITS: Lines = &[
     ("cancel,8", "ok 2"),
     ("add,8,tone3,", "ok 3"),
     ("cancel,16\r", "ok 2"),
+    ("\"cancel\",\"24\"", "ok 1"),
+    ("\u{feff}\"add\",\"24\",numeric,\"17-U\"\r", "ok 2"),
     (
         "list",
-        "address,kind,message\n24,numeric,17-U\n8,tone3,\nok 2",
+        "address,kind,message\n8,tone3,\n24,numeric,17-U\nok 2",
     ),
     ("clear", "ok 0"),
     ("list", "address,kind,message\nok 0"),
+];
+
+// Spaces at the end of a numeric message are listed where they take codewords of their own, and then as few as take them.
+const SPACES: Lines = &[
+    ("add,0,numeric,   ", "ok 1"),
+    ("add,8,numeric,12   ", "ok 2"),
+    ("add,16,numeric,12    ", "ok 3"),
+    ("add,24,numeric,12345      ", "ok 4"),
+    ("add,32,alpha,A  ", "ok 5"),
+    (
+        "list",
+        "address,kind,message\n0,numeric, \n8,numeric,12\n16,numeric,12    \n24,numeric,12345      \n32,alpha,A  \nok 5",
+    ),
 ];
 
 const REFUSALS: Lines = &[
@@ -138,6 +153,17 @@ const REFUSALS: Lines = &[
     ("List", "refused: unknown edit"),
     ("list,", "refused: unknown edit"),
     ("list\rlist", "refused: unknown edit"),
+    ("clear\r\r", "refused: unknown edit"),
+    // Calls that were cut at the line feeds of their messages: each line is refused.
+    ("add,9,alpha,\"Fire, hall B", "refused: the line ends inside quotes"),
+    ("evacuate ward 3\"", "refused: a quote is out of place"),
+    ("add,9,alpha,\"Pump 4\r", "refused: the line ends inside quotes"),
+    ("\"clear", "refused: the line ends inside quotes"),
+    ("add,9,alpha,\"Say \"\"no\"\"", "refused: the line ends inside quotes"),
+    ("add,9,alpha,5\" pipe", "refused: a quote is out of place"),
+    ("add,9,alpha,\"Ward\" 3", "refused: a quote is out of place"),
+    ("add,9,alpha,\"Ward\"\r3", "refused: a quote is out of place"),
+    ("add,9,alpha,a\"b,\"c", "refused: a quote is out of place"),
     ("plan,tx.bin", "refused: unknown edit"),
     ("plan,tx.bin,cert.bin,soon", "refused: unknown edit"),
     ("list", "address,kind,message\n8,tone0,\nok 1"),
@@ -181,6 +207,7 @@ fn lines_are_answered_one_by_one(rt: HostRuntime) -> Result<(), Fail> {
     };
     let sessions = [
         (EMPTY, EDITS),
+        (EMPTY, SPACES),
         (EMPTY, REFUSALS),
         (EMPTY, PLANS),
         (TWO_PAGES, AFTER_PAGES),

@@ -2,7 +2,7 @@
 
 use crate::given::{ACROSS, DIGITS, IDLE, LONE_TONE, ONES, SECOND, Sent, TIGHT, cut, transmission};
 use pocsag_decode::DecodeFault;
-use pocsag_show::{ShowFault, show_list, show_svg, show_text};
+use pocsag_show::{Rows, ShowFault, show_list, show_svg, show_text};
 use pocsag_words::MemorySink;
 use std::alloc::Global;
 
@@ -22,18 +22,18 @@ batches 2, codewords 2, idles 30 (94%), airtime 3250 ms at 512 bit/s, 1387 ms at
 const TIGHT_TEXT: &[u8] = b"\
 batches 2, codewords 32, idles 0 (0%), airtime 3250 ms at 512 bit/s, 1387 ms at 1200 bit/s, 694 ms at 2400 bit/s
        0  1  2  3  4  5  6  7
-  1   Aa aa aa Bb bb bb bb bb
-  2   bb bb bb Cc cc cc cc cc
+  1   Aa aa aa Cc cc cc cc cc
+  2   cc cc cc Bb bb bb bb bb
 ";
 
 const MANY_TEXT: &[u8] = b"\
 batches 2, codewords 27, idles 5 (16%), airtime 3250 ms at 512 bit/s, 1387 ms at 1200 bit/s, 694 ms at 2400 bit/s
        0  1  2  3  4  5  6  7
-  1   AB CD EF GH IJ KL MN OP
-  2   QR ST UV WX YZ A. .. ..
+  1   AA EE II MM QQ UU XX ZZ
+  2   AA EE II MM QQ U. .. ..
 ";
 
-// 27 tones, of which the last has the first letter again.
+// 27 tones for eight addresses: four each for 8 to 12, three for 13 and two each for 14 and 15.
 const MANY: Sent = (
     32,
     SECOND,
@@ -79,9 +79,9 @@ fn show<const N: usize>(
     sink: &mut MemorySink<N>,
 ) -> Option<ShowFault> {
     match view {
-        View::Text => show_text(alloc, bytes, sink).err(),
+        View::Text => show_text(alloc, Rows::all(), bytes, sink).err(),
         View::List => show_list(alloc, bytes, sink).err(),
-        View::Drawing => show_svg(alloc, bytes, sink).err(),
+        View::Drawing => show_svg(alloc, Rows::all(), bytes, sink).err(),
     }
 }
 
@@ -163,7 +163,30 @@ const TOTALS: &[u8] =
 const LAST_ROWS: &[u8] = b"999   .. .. .. .. .. .. .. ..\n1000  .. .. .. .. .. .. .. ..\n";
 
 const DRAWN: &[u8] =
-    b"<g class=\"p0\"><title>A: address 8, tone0</title><rect x=\"72\" y=\"48\" width=\"24\" height=\"18\"/><text class=\"m\" x=\"84\" y=\"61\">A</text></g>\n<g class=\"i\"><rect x=\"96\" y=\"48\" width=\"360\" height=\"18\"/></g>\n";
+    b"<g class='p0'><title>A: address 8, tone0</title><rect x='80' y='80' width='28' height='18'/><rect class='k' x='80' y='80' width='24' height='18'/><text class='l' x='92' y='93'>A</text></g>\n";
+
+// The rows of a transmission of three batches, and what its text ends with where these are asked for.
+const ROWS: &[(u64, u64, &[u8])] = &[
+    (1, 1, b"  1   .. .. .. .. .. .. .. .A\n"),
+    (2, 2, b"  2   a. .. .. .. .. .. .. ..\n"),
+    (2, 9, b"  2   a. .. .. .. .. .. .. ..\n"),
+    (3, 3, b"       0  1  2  3  4  5  6  7\n"),
+];
+
+#[test]
+fn rows_that_are_wanted(rt: HostRuntime) {
+    let alloc = rt.alloc();
+    assert!(rt; Rows::new(0, 4).is_none());
+    assert!(rt; Rows::new(4, 3).is_none());
+    let bytes = transmission(alloc, ACROSS).expect(&rt, "an answer");
+    for (first, last, text) in ROWS {
+        let rows = Rows::new(*first, *last).expect(&rt, "rows");
+        let mut sink = MemorySink::<512>::new(512, 512);
+        assert_eq!(rt; show_text(alloc, rows, bytes.as_slice(), &mut sink).err(), None);
+        assert!(rt; sink.bytes().starts_with(&ACROSS_TEXT[..113]));
+        assert!(rt; sink.bytes().ends_with(text));
+    }
+}
 
 #[test]
 fn large_texts_and_drawings(rt: HostRuntime) {
@@ -187,5 +210,5 @@ fn large_texts_and_drawings(rt: HostRuntime) {
     let mut sink = MemorySink::<512>::new(16, 16);
     let told = show(alloc, View::Drawing, bytes.as_slice(), &mut sink);
     assert_eq!(rt; told, Some(ShowFault::WriteFault));
-    assert_eq!(rt; sink.bytes(), b"<svg xmlns=\"http".as_slice());
+    assert_eq!(rt; sink.bytes(), b"<svg xmlns='http".as_slice());
 }

@@ -109,6 +109,7 @@ fn devices(rt: HostRuntime) {
     }
     let mut slice = SliceSource::new(&bytes);
     for (room, count) in [(4, 4), (0, 0), (16, 6), (16, 0)] {
+        assert!(rt; room <= 16);
         assert_eq!(rt; slice.read(&mut wide[..room]), Ok(count));
     }
     assert_eq!(rt; wide[..6], bytes[4..]);

@@ -1,27 +1,20 @@
 -- An accepted tree bounds every transmission.
-use Rattle.std.proofs.Common.{◌≡◌, ℕ, zero, suc, ◌+◌, ◌-◌, ◌*◌, ◌%◌, ◌<◌, ◌≤◌, ◌==◌, Bool, true, false, List, [], ◌∷◌, ◌++◌, length, map, replicate, refl, sym, ap, subst, ◌∙◌, arith, slice_index, inl, inr, length-append}
-use Rattle.std.proofs.lemmas.Bool.{cases_lt}
+use Rattle.pocsag_check.proofs.Prelude.{◌≡◌, ℕ, zero, suc, ◌+◌, ◌-◌, ◌%◌, ◌<◌, ◌≤◌, ◌==◌, Bool, true, false, List, [], ◌∷◌, ◌++◌, length, map, refl, sym, ap, subst, ◌∙◌, arith, slice_index, inl, inr, length-append, cases_lt, End, Page, Bound, Classes, Limits, Step, runs, AreClassesOf, IsAdmitted, load, limits_of_all, finish_of, IsTour, LastIsWhole, Leads, idles, Accepts}
+use Rattle.std.proofs.Common.{◌*◌, replicate}
 use Rattle.std.proofs.lemmas.List.{append-nil, get_or-replicate, length-map}
 use Rattle.pocsag_words.specs.declared.codeword.Kind.{Kind}
 use Rattle.pocsag_words.specs.declared.codeword.Kind.TheVariants.{Message}
-use Rattle.pocsag_words.specs.declared.ending.End.{End}
 use Rattle.pocsag_words.specs.declared.ending.End.TheVariants.{Open, Closed}
-use Rattle.pocsag_pages.specs.declared.page.Page.{Page}
 use Rattle.pocsag_pages.specs.Reading.{AreApart, IsLegalFor, Reads, at_end, past_idle, past_page, frame_at}
-use Rattle.pocsag_tree.specs.Bounds.{Bound}
-use Rattle.pocsag_slots.specs.declared.class.Classes.{Classes}
-use Rattle.pocsag_slots.specs.declared.limit.Limits.{Limits}
-use Rattle.pocsag_slots.specs.declared.step.Step.{Step}
 use Rattle.pocsag_slots.specs.declared.step.Step.TheVariants.{Idle as Stay, Run}
-use Rattle.pocsag_slots.specs.Arcs.{arcs, early_in, runs, run_length}
+use Rattle.pocsag_slots.specs.Arcs.{arcs, early_in, run_length}
 use Rattle.pocsag_slots.specs.Cover.{covered}
-use Rattle.pocsag_slots.specs.Loads.{AreClassesOf, IsAdmitted, load, limits_of_all}
-use Rattle.pocsag_slots.specs.Numbering.{class_of, finish_of}
-use Rattle.pocsag_slots.specs.Tours.{IsTour, LastAs, LastIsWhole, Leads, idles}
+use Rattle.pocsag_slots.specs.Numbering.{class_of}
+use Rattle.pocsag_slots.specs.Tours.{LastAs}
 use Rattle.pocsag_slots.proofs.CoverLemmas.{covered_batches, covered_split, finish_is}
 use Rattle.pocsag_slots.proofs.Touring.{toured}
 use Rattle.pocsag_slots.proofs.Walks.{arcs_past_run, run_length_is}
-use Rattle.pocsag_check.specs.Accepting.{Accepts, AcceptsRoot}
+use Rattle.pocsag_check.specs.Accepting.{AcceptsRoot}
 use Rattle.pocsag_check.specs.Fitting.{busy, Fits}
 use Rattle.pocsag_check.proofs.Refuted.{refuted}
 use Rattle.pocsag_slots.proofs.Endings.{last_behind}

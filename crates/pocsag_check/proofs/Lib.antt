@@ -1,9 +1,10 @@
 pub mod Bounding
 pub mod Crossing
+pub mod Prelude
 pub mod Refuted
 pub mod Refuting
 pub mod RowChecks
+pub mod Spelled
 pub mod Tables
 pub mod Taking
 pub mod Turning
-pub mod Spelled

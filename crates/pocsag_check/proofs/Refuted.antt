@@ -1,22 +1,8 @@
 -- No tour of an admitted choice meets an accepted node.
-use Rattle.std.proofs.Common.{◌≡◌, ℕ, ◌+◌, ◌%◌, ◌<◌, ◌&&◌, ◌||◌, Bool, true, false, IsTrue, List, [], ◌∷◌, refl, arith, slice_index, ◌⊎◌, inl, inr, nat_lt}
-use Rattle.std.proofs.lemmas.Bool.{cases_lt}
-use Rattle.std.proofs.lemmas.Bool.Decides.{nat_tests}
-use Rattle.pocsag_words.specs.declared.ending.End.{End}
+use Rattle.pocsag_check.proofs.Prelude.{◌≡◌, ℕ, ◌+◌, ◌%◌, ◌<◌, ◌&&◌, ◌||◌, Bool, true, false, IsTrue, List, [], ◌∷◌, refl, arith, slice_index, ◌⊎◌, inl, inr, nat_lt, cases_lt, nat_tests, End, Bound, Bounds, overload, split, cut, close, unexamined, none, more, Classes, Limits, Step, Way, runs, IsAdmitted, finish_of, IsTour, LastIsWhole, Leads, idles, run_touches, class_certain, ways_across, ways_to_close, narrowed_limits, limits_below, limits_from, Accepts, AcceptsEach}
 use Rattle.pocsag_words.specs.declared.ending.End.TheVariants.{Open, Closed}
-use Rattle.pocsag_tree.specs.Bounds.{Bound, Bounds, overload, split, cut, close, unexamined, none, more}
-use Rattle.pocsag_slots.specs.declared.class.Classes.{Classes}
-use Rattle.pocsag_slots.specs.declared.limit.Limits.{Limits}
-use Rattle.pocsag_slots.specs.declared.step.Step.{Step}
 use Rattle.pocsag_slots.specs.declared.step.Step.TheVariants.{Idle as Stay, Run}
-use Rattle.pocsag_slots.specs.declared.way.Way.{Way}
-use Rattle.pocsag_slots.specs.Arcs.{runs}
-use Rattle.pocsag_slots.specs.Loads.{IsAdmitted}
-use Rattle.pocsag_slots.specs.Numbering.{finish_of}
-use Rattle.pocsag_slots.specs.Tours.{IsTour, LastIsWhole, Leads, idles}
-use Rattle.pocsag_slots.specs.Ways.{run_touches, class_certain, ways_across, ways_to_close, narrowed_limits, limits_below, limits_from}
 use Rattle.pocsag_slots.proofs.CoverLemmas.{finish_below}
-use Rattle.pocsag_check.specs.Accepting.{Accepts, AcceptsEach}
 use Rattle.pocsag_check.proofs.Crossing.{IsInside, crosses_or_stays}
 use Rattle.pocsag_check.proofs.Refuting.{AnyTaken, not_overloaded, admitted_below, admitted_from, admitted_narrowed}
 use Rattle.pocsag_check.proofs.Taking.{taken_way}

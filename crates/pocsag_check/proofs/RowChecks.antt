@@ -1,16 +1,11 @@
 -- The loop over the children of a node.
-use Rattle.std.proofs.Common.{◌≡◌, ℕ, zero, suc, ◌+◌, ◌<◌, ◌≤◌, Bool, List, [], ◌∷◌, length, get_or, drop, refl, sym, ap, ◌∙◌, arith, add-one}
+use Rattle.pocsag_check.proofs.Prelude.{◌≡◌, ℕ, zero, suc, ◌+◌, ◌<◌, ◌≤◌, Bool, List, [], ◌∷◌, length, get_or, refl, sym, ap, ◌∙◌, arith, End, Bounds, none, more, children_count, bound_of, Classes, Limits, Way, narrowed_limits, AcceptsEach, AcceptsWithin}
+use Rattle.std.proofs.Common.{drop, add-one}
 use Rattle.std.proofs.Math.Seq.{drop-cons}
 use Rattle.std.proofs.lemmas.List.{drop_all}
-use Rattle.pocsag_words.specs.declared.ending.End.{End}
 use Rattle.pocsag_tree.specs.declared.shape.Tree.{Tree}
-use Rattle.pocsag_tree.specs.Bounds.{Bounds, none, more, children_count}
-use Rattle.pocsag_tree.specs.Views.{bound_of, bounds_of}
-use Rattle.pocsag_slots.specs.declared.class.Classes.{Classes}
-use Rattle.pocsag_slots.specs.declared.limit.Limits.{Limits}
-use Rattle.pocsag_slots.specs.declared.way.Way.{Way}
-use Rattle.pocsag_slots.specs.Ways.{narrowed_limits}
-use Rattle.pocsag_check.specs.Accepting.{AcceptsEach, AcceptsWithin, AcceptsEachWithin}
+use Rattle.pocsag_tree.specs.Views.{bounds_of}
+use Rattle.pocsag_check.specs.Accepting.{AcceptsEachWithin}
 use Rattle.pocsag_tree.proofs.Counts.{count_of_bounds}
 
 pub row_long : (u : Bool) (k : Classes) (end : End) (b : ℕ) (l : Limits) (ws : List Way) (ts : Bounds) → AcceptsEach u k end b l ws ts →

@@ -1,19 +1,13 @@
 -- An accepted tree can be written: each of its fields is in the range of version PCB2.
-use Rattle.std.proofs.Common.{◌≡◌, ℕ, ◌-◌, ◌^◌, ◌<◌, ◌≤◌, Bool, false, List, [], ◌∷◌, length, nat_lt, refl, ap, arith, min, slice_index}
-use Rattle.pocsag_words.specs.declared.ending.End.{End}
+use Rattle.pocsag_check.proofs.Prelude.{◌≡◌, ℕ, ◌-◌, ◌<◌, ◌≤◌, Bool, false, List, [], ◌∷◌, length, nat_lt, refl, ap, arith, min, slice_index, End, Bound, Bounds, overload, split, cut, close, unexamined, none, more, children_count, Classes, Limits, Way, limits_of_all, limits_below, limits_from, narrowed_limits, ways_across, ways_to_close, Accepts, AcceptsEach, IsAccepted}
+use Rattle.std.proofs.Common.{◌^◌}
 use Rattle.pocsag_tree.specs.Limits.{most_nodes, second_ranges}
-use Rattle.pocsag_tree.specs.Bounds.{Bound, Bounds, overload, split, cut, close, unexamined, none, more, all_nodes, all_nodes_in, closed_nodes, closed_nodes_in, children_count}
+use Rattle.pocsag_tree.specs.Bounds.{all_nodes, all_nodes_in, closed_nodes, closed_nodes_in}
 use Rattle.pocsag_tree.specs.Spelling.{AreInRange, HasText, IsInRange}
-use Rattle.pocsag_slots.specs.declared.class.Classes.{Classes}
-use Rattle.pocsag_slots.specs.declared.limit.Limits.{Limits}
-use Rattle.pocsag_slots.specs.declared.way.Way.{Way}
 use Rattle.pocsag_slots.specs.declared.way.Way.TheVariants.{IdleIn, Early, Late}
-use Rattle.pocsag_slots.specs.Loads.{limits_of_all}
-use Rattle.pocsag_slots.specs.Ways.{limits_below, limits_from, narrowed_limits, ways_across, ways_to_close}
 use Rattle.pocsag_slots.proofs.LoadLemmas.{count_few}
 use Rattle.pocsag_slots.proofs.Members.{held_some}
 use Rattle.pocsag_slots.proofs.WayLemmas.{classes_few, one_or_none}
-use Rattle.pocsag_check.specs.Accepting.{Accepts, AcceptsEach, IsAccepted}
 use Rattle.pocsag_check.proofs.Refuting.{low_set}
 use Rattle.pocsag_check.proofs.RowChecks.{row_long}
 use Rattle.pocsag_check.proofs.Turning.{two_ways}

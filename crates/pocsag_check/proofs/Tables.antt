@@ -1,12 +1,8 @@
 -- A round has one class table for an end.
-use Rattle.std.proofs.Common.{◌≡◌, ℕ, ◌<◌, List, sym, ap, subst, ◌∙◌}
+use Rattle.pocsag_check.proofs.Prelude.{◌≡◌, ℕ, ◌<◌, List, sym, ap, subst, ◌∙◌, End, Page, Classes, AreClassesOf}
 use Rattle.std.proofs.Math.Bridge.{le_prop}
 use Rattle.std.proofs.Math.Nat.{ℕ_set}
 use Rattle.std.proofs.lemmas.List.{ext_get_or}
-use Rattle.pocsag_words.specs.declared.ending.End.{End}
-use Rattle.pocsag_pages.specs.declared.page.Page.{Page}
-use Rattle.pocsag_slots.specs.declared.class.Classes.{Classes}
-use Rattle.pocsag_slots.specs.Loads.{AreClassesOf}
 use Rattle.pocsag_slots.specs.Tables.{AreTables}
 
 tables_prop : (count turns : List ℕ) → IsProp (AreTables count turns)

@@ -1,18 +1,7 @@
 -- A tour that crosses a set takes one of its ways.
-use Rattle.std.proofs.Common.{◌≡◌, ℕ, zero, suc, ◌+◌, ◌<◌, ◌≤◌, true, false, cond, List, [], ◌∷◌, ◌++◌, arith, slice_index, inl, inr, nat_lt}
-use Rattle.std.proofs.lemmas.Bool.{cases_eq, cases_lt}
-use Rattle.std.proofs.lemmas.Bool.Decides.{nat_tests}
-use Rattle.pocsag_words.specs.declared.ending.End.{End}
-use Rattle.pocsag_slots.specs.declared.class.Classes.{Classes}
-use Rattle.pocsag_slots.specs.declared.limit.Limits.{Limits}
-use Rattle.pocsag_slots.specs.declared.step.Step.{Step}
-use Rattle.pocsag_slots.specs.declared.way.Way.{Way}
+use Rattle.pocsag_check.proofs.Prelude.{◌≡◌, ℕ, zero, suc, ◌+◌, ◌<◌, ◌≤◌, true, false, cond, List, [], ◌∷◌, ◌++◌, arith, slice_index, inl, inr, nat_lt, cases_eq, cases_lt, nat_tests, End, Classes, Limits, Step, Way, runs, IsAdmitted, joined_below, IsTour, slot_ways, ways_across}
 use Rattle.pocsag_slots.specs.declared.way.Way.TheVariants.{Early, Late}
-use Rattle.pocsag_slots.specs.Arcs.{runs}
-use Rattle.pocsag_slots.specs.Loads.{IsAdmitted}
-use Rattle.pocsag_slots.specs.Sums.{joined_below}
-use Rattle.pocsag_slots.specs.Tours.{IsTour}
-use Rattle.pocsag_slots.specs.Ways.{early_open, late_open, slot_ways, class_ways, ways_across}
+use Rattle.pocsag_slots.specs.Ways.{early_open, late_open, class_ways}
 use Rattle.pocsag_check.proofs.Crossing.{Crossed, by_idle, by_run}
 use Rattle.pocsag_check.proofs.Refuting.{AnyTaken}
 

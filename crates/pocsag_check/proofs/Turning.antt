@@ -1,11 +1,6 @@
 -- A set that holds boundary 0, and not all boundaries, is crossed by the idles of at least two slots.
-use Rattle.std.proofs.Common.{◌≡◌, ◌⊎◌, ℕ, zero, suc, ◌+◌, ◌-◌, ◌%◌, ◌<◌, ◌≤◌, ◌||◌, Bool, true, false, not, IsTrue, List, length, refl, arith, inl, inr, length-append}
-use Rattle.std.proofs.lemmas.Bool.{cases_eq, not-false, not-true, not_from_false}
-use Rattle.pocsag_slots.specs.declared.class.Classes.{Classes}
-use Rattle.pocsag_slots.specs.declared.limit.Limits.{Limits}
-use Rattle.pocsag_slots.specs.Numbering.{start_of, finish_of}
-use Rattle.pocsag_slots.specs.Sums.{holds, joined_below}
-use Rattle.pocsag_slots.specs.Ways.{class_certain, idle_crosses, run_touches, slot_ways, ways_across}
+use Rattle.pocsag_check.proofs.Prelude.{◌≡◌, ◌⊎◌, ℕ, zero, suc, ◌+◌, ◌-◌, ◌%◌, ◌<◌, ◌≤◌, ◌||◌, Bool, true, false, not, IsTrue, List, length, refl, arith, inl, inr, length-append, cases_eq, Classes, Limits, start_of, finish_of, holds, joined_below, class_certain, idle_crosses, run_touches, slot_ways, ways_across}
+use Rattle.std.proofs.lemmas.Bool.{not-false, not-true, not_from_false}
 use Rattle.pocsag_slots.proofs.CoverLemmas.{finish_below, start_below}
 use Rattle.pocsag_check.proofs.Crossing.{idle_leaves}
 use Rattle.pocsag_check.proofs.Refuted.{certain_is}

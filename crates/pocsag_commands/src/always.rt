@@ -27,7 +27,8 @@ pub fn run_plan_always<P: Source, T: Sink, C: Sink, O: Sink>(
     ensures planned { P.tells → T.tells → C.tells → OnOk result
         (PlannedAlways (P.held pages.old) end (T.taken tx.old) (T.taken tx.new) (C.taken cert.old) (C.taken cert.new)) }
     ensures told { P.tells → T.tells → C.tells → O.tells → OnOk result
-        (PlannedAlwaysAndTold (P.held pages.old) end (T.taken tx.old) (T.taken tx.new) (C.taken cert.old) (C.taken cert.new) (O.taken out.old) (O.taken out.new)) }
+        (PlannedAlwaysAndTold (P.held pages.old) end (T.taken tx.old) (T.taken tx.new)
+            (C.taken cert.old) (C.taken cert.new) (O.taken out.old) (O.taken out.new)) }
     ensures refused { status_after result ≡ 1 → (tx.new ≡ tx.old) × (cert.new ≡ cert.old) }
     ensures why { P.tells → status_after result ≡ 1 → IsRefusedAlways (P.held pages.old) limit }
     ensures leaves { P.tells → T.tells → C.tells →
@@ -38,7 +39,8 @@ pub fn run_plan_always<P: Source, T: Sink, C: Sink, O: Sink>(
 }
 
 fn tell_bounded<O: Sink>(pages: u32, batches: u32, bound: u32, out: &mut O) -> Result<(), Fault>
-    ensures told { O.tells → OnOk result (O.taken out.new ≡ O.taken out.old ++ plan_text pages batches ++ below_text batches bound) }
+    ensures told { O.tells → OnOk result
+        (O.taken out.new ≡ O.taken out.old ++ plan_text pages batches ++ below_text batches bound) }
     ensures lost { IfErr result (λ e. e ≡ Fault.Write) }
 {
     tell_plan(pages, batches, out)?;

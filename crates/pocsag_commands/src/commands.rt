@@ -17,7 +17,8 @@ pub const DEFAULT_LIMIT: u32 = 100_000;
 /// With no words: plans a page file with the default limit and the open end, and tells its pages and
 /// batches.
 pub fn run_input<I: Source, O: Sink>(alloc: Global, input: &mut I, out: &mut O) -> Result<(), Fault>
-    ensures told { I.tells → O.tells → OnOk result (ToldPlan (I.held input.old) open_end (O.taken out.old) (O.taken out.new)) }
+    ensures told { I.tells → O.tells → OnOk result
+        (ToldPlan (I.held input.old) open_end (O.taken out.old) (O.taken out.new)) }
     ensures why { I.tells → status_after result ≡ 1 → IsPlanRefused (I.held input.old) open_end default_limit }
     ensures refused { status_after result ≡ 1 → out.new ≡ out.old }
 {
@@ -40,7 +41,8 @@ pub fn run_plan<P: Source, T: Sink, C: Sink, O: Sink>(
     ensures planned { P.tells → T.tells → C.tells → OnOk result
         (Planned (P.held pages.old) end (T.taken tx.old) (T.taken tx.new) (C.taken cert.old) (C.taken cert.new)) }
     ensures told { P.tells → T.tells → C.tells → O.tells → OnOk result
-        (PlannedAndTold (P.held pages.old) end (T.taken tx.old) (T.taken tx.new) (C.taken cert.old) (C.taken cert.new) (O.taken out.old) (O.taken out.new)) }
+        (PlannedAndTold (P.held pages.old) end (T.taken tx.old) (T.taken tx.new)
+            (C.taken cert.old) (C.taken cert.new) (O.taken out.old) (O.taken out.new)) }
     ensures refused { status_after result ≡ 1 → (tx.new ≡ tx.old) × (cert.new ≡ cert.old) }
     ensures why { P.tells → status_after result ≡ 1 → IsPlanRefused (P.held pages.old) end limit }
     ensures leaves { P.tells → T.tells → C.tells →
@@ -59,7 +61,8 @@ pub fn run_report<P: Source, O: Sink>(
     pages: &mut P,
     out: &mut O,
 ) -> Result<(), Fault>
-    ensures told { P.tells → O.tells → OnOk result (Reported (P.held pages.old) end rate (O.taken out.old) (O.taken out.new)) }
+    ensures told { P.tells → O.tells → OnOk result
+        (Reported (P.held pages.old) end rate (O.taken out.old) (O.taken out.new)) }
     ensures why { P.tells → status_after result ≡ 1 → IsReportRefused (P.held pages.old) end limit rate }
     ensures refused { status_after result ≡ 1 → out.new ≡ out.old }
 {

@@ -2,7 +2,7 @@
 
 use crate::explaining::Scene;
 use crate::note::Notes;
-use crate::role::{Place, Role};
+use crate::role::{NamedFile, Role};
 use pocsag_pages::{FileRecords, RoundFault, line_feeds};
 use pocsag_words::OutOfMemory;
 use std::alloc::Global;
@@ -29,7 +29,7 @@ impl Display for Excerpt<'_> {
 // Where a record stands: the file, its line, its number and its address.
 #[derive(Clone, Copy)]
 struct Spot<'a> {
-    place: Place<'a>,
+    place: NamedFile<'a>,
     line: usize,
     number: u32,
     address: &'a [u8],
@@ -74,7 +74,7 @@ fn held_line_feeds(records: &FileRecords<'_>) -> usize {
 }
 
 // The number of the record that a fault names.
-fn number_of(refused: RoundFault) -> Option<u32> {
+fn record_number(refused: RoundFault) -> Option<u32> {
     match refused {
         RoundFault::FieldCount(number)
         | RoundFault::BadAddress(number)
@@ -108,7 +108,7 @@ pub fn note_record(
     scene: &Scene<'_>,
     notes: &mut Notes,
 ) -> Result<(), OutOfMemory> {
-    let Some(number) = number_of(refused) else {
+    let Some(number) = record_number(refused) else {
         return Ok(());
     };
     let mut records = FileRecords::of(alloc, scene.file);

@@ -34,7 +34,7 @@ pub struct Names<'a> {
 
 /// A file of a command, by its role and by the word that named it, if one did.
 #[derive(Clone, Copy, PartialEq, Eq, Debug)]
-pub struct Place<'a> {
+pub struct NamedFile<'a> {
     pub role: Role,
     pub name: Option<&'a str>,
 }
@@ -48,18 +48,18 @@ impl<'a> Names<'a> {
     };
 
     /// The file of a role.
-    pub fn place(&self, role: Role) -> Place<'a> {
+    pub fn place(&self, role: Role) -> NamedFile<'a> {
         let name = match role {
             Role::PageFile => self.pages,
             Role::Transmission => self.tx,
             Role::Certificate => self.cert,
             Role::Output | Role::Lines => None,
         };
-        Place { role, name }
+        NamedFile { role, name }
     }
 }
 
-impl Display for Place<'_> {
+impl Display for NamedFile<'_> {
     fn fmt<W: fmt::Write>(&self, f: &mut fmt::Formatter<W>) -> fmt::Result {
         let role = self.role;
         match self.name {

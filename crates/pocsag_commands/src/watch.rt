@@ -18,7 +18,8 @@ pub struct Watch {
     alloc: Global,
     keeps: bool,
     trouble: Cell<Option<Trouble>>,
-    file: RefCell<Vec<u8>>,
+    // None once memory was wanting for it.
+    file: RefCell<Option<Vec<u8>>>,
 }
 
 impl Watch {
@@ -28,7 +29,7 @@ impl Watch {
             alloc,
             keeps,
             trouble: Cell::new(None),
-            file: RefCell::new(Vec::new(alloc)),
+            file: RefCell::new(Some(Vec::new(alloc))),
         }
     }
 
@@ -55,16 +56,20 @@ impl Watch {
         let Ok(mut file) = self.file.try_borrow_mut() else {
             return;
         };
-        if file.extend_from_slice(piece).is_err() {
-            file.clear();
+        let is_kept = match &mut *file {
+            Some(bytes) => bytes.extend_from_slice(piece).is_ok(),
+            None => true,
+        };
+        if !is_kept {
+            *file = None;
         }
     }
 
     /// The bytes that were kept, which are kept no longer.
     pub fn take_file(&self) -> Vec<u8> {
-        match self.file.try_replace(Vec::new(self.alloc)) {
-            Ok(file) => file,
-            Err(_) => Vec::new(self.alloc),
+        match self.file.try_replace(Some(Vec::new(self.alloc))) {
+            Ok(Some(file)) => file,
+            _ => Vec::new(self.alloc),
         }
     }
 }

@@ -2,7 +2,9 @@ pub mod Feeding
 pub mod Judgements
 pub mod OneFault
 pub mod Preambles
+pub mod PageRows
 pub mod Relisting
+pub mod Respelled
 pub mod SentBytes
 pub mod Transmissions
 pub mod WordByWord

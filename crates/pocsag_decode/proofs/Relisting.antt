@@ -1,11 +1,10 @@
 -- What a listing spells is read back.
-use Rattle.std.proofs.Common.{◌≡◌, ℕ, ◌<◌, ◌≤◌, false, List, [], ◌∷◌, refl, ap, ◌∙◌, subst, sym}
+use Rattle.std.proofs.Common.{◌≡◌, ℕ, ◌≤◌, false, List, [], ◌∷◌, ◌∙◌}
 use Rattle.std.specs.Prelude.{Ok}
 use Rattle.std.specs.Fmt.{decimal}
 use Rattle.pocsag_text.specs.Characters.{space}
 use Rattle.pocsag_text.specs.Text.{alpha_payload, numeric_payload, trim_end}
 use Rattle.pocsag_text.proofs.RoundTrips.{alpha_text-back, numeric_text-back}
-use Rattle.pocsag_pages.specs.declared.page.Page.{Page}
 use Rattle.pocsag_pages.specs.Pages.{is_reserved, last_address}
 use Rattle.pocsag_pages.specs.PageFile.{page_of_fields}
 use Rattle.pocsag_pages.proofs.Spelled.{characters_spelled, digits_spelled, tone_spelled}
@@ -16,7 +15,7 @@ digits_listed : (item : ℕ) (items text : List ℕ) → numeric_payload text �
 unfolding message_field
 digits_listed item items text e = numeric_text-back text (item ∷ items) e
 
-characters_listed : (item : ℕ) (items text : List ℕ) → alpha_payload text ≡ Ok (item ∷ items) → message_field 3 (item ∷ items) ≡ text
+pub characters_listed : (item : ℕ) (items text : List ℕ) → alpha_payload text ≡ Ok (item ∷ items) → message_field 3 (item ∷ items) ≡ text
 unfolding message_field
 characters_listed item items text e = alpha_text-back text (item ∷ items) e
 

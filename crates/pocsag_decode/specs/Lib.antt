@@ -3,6 +3,7 @@ pub mod Faults
 pub mod Growing
 pub mod Lines
 pub mod Listing
+pub mod PageFiles
 pub mod Places
 pub mod Relisting
 pub mod Standing

@@ -1,9 +1,10 @@
 ghost use Rattle.std.specs.Prelude.{◌≡◌, ◌↔◌, ℕ, ◌<◌, ◌≤◌, ◌++◌, List, All, false};
 ghost use Rattle.std.specs.Fmt.{decimal};
 ghost use Rattle.pocsag_pages.specs.declared.page.Page.{Page};
-ghost use Rattle.pocsag_pages.specs.PageFile.{page_of_fields};
-ghost use Rattle.pocsag_pages.specs.Pages.{is_reserved, last_address};
+ghost use Rattle.pocsag_pages.specs.PageFile.{page_of_fields, verdict};
+ghost use Rattle.pocsag_pages.specs.Pages.{IsRound, is_reserved, last_address};
 ghost use Rattle.pocsag_decode.specs.Listing.{kind_field, message_field};
+ghost use Rattle.pocsag_decode.specs.PageFiles.{IsSpellable, page_file};
 ghost use Rattle.pocsag_decode.specs.Relisting.{IsSpelled};
 ghost use Rattle.pocsag_decode.specs.Faults.{HasFault, HasFaultThere, IsFaultless, ReadsAs};
 ghost use Rattle.pocsag_decode.specs.Standing.{StandsAfter};
@@ -41,4 +42,10 @@ pub fn listed_fields_are_read_back()
     ensures { (p : Page) → p.address ≤ last_address → is_reserved p.address ≡ false → IsSpelled p.function p.payload →
         page_of_fields (decimal p.address) (kind_field p.function p.payload) (message_field p.function p.payload)
         ≡ Ok p }
+{}
+
+/// The page file of a round's pages is read as that round, where the payload of each page is none, that of a numeric
+/// text with function 0, or that of an alphanumeric text with function 3.
+pub fn page_files_are_read_back()
+    ensures { (R : List Page) → IsRound R → All IsSpellable R → verdict (page_file R) ≡ Ok R }
 {}

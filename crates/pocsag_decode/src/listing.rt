@@ -89,7 +89,7 @@ pub fn message_of(alloc: Global, function: u8, items: &[u32]) -> Result<Vec<u8>,
 }
 
 // Writes one record.
-fn put_record(
+pub(crate) fn put_record(
     alloc: Global,
     writer: &mut Writer<Vec<u8>>,
     address: &[u8],

@@ -7,16 +7,16 @@ use Rattle.pocsag_plan.specs.OpenRound.{without}
 use Rattle.pocsag_open.specs.Edited.{IsAdded, IsCancelled}
 use Rattle.pocsag_open.specs.Runs.{Asked, IsDone, IsEdit, IsRun, add, asked_of, cancel, clear}
 
-ok_is : {A E : Type 0} (a b : A) → Ok {E = E} a ≡ Ok b → a ≡ b
-ok_is a b e = cc e
+ok_is : {A E : Type 0} (r : Result A E) (a b : A) → r ≡ Ok a → r ≡ Ok b → a ≡ b
+ok_is r a b d e = cc (sym d ∙ e)
 
 done_once : (asked : Option Asked) (before after other : List Page) → IsDone asked before after → IsDone asked before other → after ≡ other
 done_once None before after other p q = absurd p
 done_once (Some (add a k m)) before after other p q =
-    let same = ok_is p.page q.page (sym p.spelled ∙ q.spelled) in
+    let same = ok_is _ p.page q.page p.spelled q.spelled in
     p.behind ∙ ap (λ (page : Page). before ++ page ∷ []) same ∙ sym q.behind
 done_once (Some (cancel a)) before after other p q =
-    let same = ok_is p.tone q.tone (sym p.spelled ∙ q.spelled) in
+    let same = ok_is _ p.tone q.tone p.spelled q.spelled in
     p.rest ∙ ap (λ (tone : Page). without before tone.address) same ∙ sym q.rest
 done_once (Some clear) before after other p q = p ∙ sym q
 

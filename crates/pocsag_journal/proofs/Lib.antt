@@ -1,5 +1,7 @@
 pub mod EditRuns
-pub mod Lines
+pub mod TextLines
 pub mod Prefixes
 pub mod Readings
 pub mod Replaying
+pub mod Standing
+

@@ -5,8 +5,8 @@ use Rattle.std.specs.List.{AllByRecursion}
 use Rattle.csv.specs.Machine.{line_feed}
 use Rattle.csv.specs.Writing.{default_writer, row_text}
 use Rattle.pocsag_pages.specs.PageFile.{Row}
-use Rattle.pocsag_journal.specs.Journals.{HasNoLineFeed, IsLine, IsRead, IsWholeLine, ReadsFirst, first_row, journal_text, rows_text}
-use Rattle.pocsag_journal.proofs.Lines.{first_line}
+use Rattle.pocsag_journal.specs.Journals.{HasNoLineFeed, IsLine, IsRead, IsWholeLine, ReadsFirst, first_record, journal_text, rows_text}
+use Rattle.pocsag_journal.proofs.TextLines.{first_line}
 use Rattle.pocsag_journal.proofs.Readings.{one_reading, read_on}
 
 -- one of two texts whose continuations are equal goes on as the other
@@ -24,14 +24,15 @@ cut (x ∷ xs) ys (u ∷ us) vs e =
       | inr h ↦ inr (h.0, rw (same, h.1) refl, h.2)
     ]
 
-nothing : (xs ws : List ℕ) → xs ++ ws ≡ [] → ws ≡ []
-nothing [] ws e = e
-nothing (x ∷ xs) ws e = absurd (cc e)
+-- what is behind a list that adds up to nothing
+nothing : (xs : List ℕ) (ws : List ℕ) → ws ≢ [] → xs ++ ws ≢ []
+nothing [] ws n e = n e
+nothing (x ∷ xs) ws n e = cc e
 
 -- the front of a line, without its last byte, has no line feed
 front : (xs ws body : List ℕ) → HasNoLineFeed body → ws ≢ [] → xs ++ ws ≡ body ++ line_feed ∷ [] → HasNoLineFeed xs
 front [] ws body n m e = tt
-front (x ∷ xs) ws [] n m e = absurd (m (nothing xs ws (cc e)))
+front (x ∷ xs) ws [] n m e = absurd (nothing xs ws m (cc e))
 front (x ∷ xs) ws (b ∷ body) n m e =
     let same : b ≡ x = cc e in
     (subst (λ (c : ℕ). c ≢ line_feed) same n.0, front xs ws body n.1 m (cc e))
@@ -81,7 +82,7 @@ firsts_of (row ∷ rows) each bytes rest e = elim (cut bytes rest (row_text defa
 
 -- *Any crash*
 pub prefix_read : (rows : List Row) → AllByRecursion IsLine rows → (bytes rest : List ℕ) → bytes ++ rest ≡ journal_text rows → ReadsFirst bytes rows
-prefix_read rows each bytes rest e = elim (cut bytes rest (row_text default_writer first_row) (rows_text rows) e) [
+prefix_read rows each bytes rest e = elim (cut bytes rest (row_text default_writer first_record) (rows_text rows) e) [
   | inl h ↦
       let more = firsts_of rows each h.0 rest h.2 in
       record {
@@ -91,8 +92,8 @@ prefix_read rows each bytes rest e = elim (cut bytes rest (row_text default_writ
         parts = more.parts;
         read = record {
           parts = inl
-              (h.1 ∙ ap (λ (t : List ℕ). row_text default_writer first_row ++ t) more.text
-              ∙ sym (append_assoc (row_text default_writer first_row) (rows_text more.firsts) more.torn));
+              (h.1 ∙ ap (λ (t : List ℕ). row_text default_writer first_record ++ t) more.text
+              ∙ sym (append_assoc (row_text default_writer first_record) (rows_text more.firsts) more.torn));
           each = more.each;
           end = more.end;
         };
@@ -106,7 +107,7 @@ prefix_read rows each bytes rest e = elim (cut bytes rest (row_text default_writ
         read = record {
           parts = inr (refl, refl);
           each = tt;
-          end = short bytes h.0 (row_text default_writer first_row) first_line h.2 h.1;
+          end = short bytes h.0 (row_text default_writer first_record) first_line h.2 h.1;
         };
       }
 ]
@@ -118,7 +119,7 @@ acknowledged_read acknowledged rows part torn each read =
     let left = read_on _ acknowledged rows part torn each refl read in
     (left.left, left.parts)
 
-all_more : (rows : List Row) (row : Row) → AllByRecursion IsLine rows → IsLine row → AllByRecursion IsLine (rows ++ row ∷ [])
+pub all_more : (rows : List Row) (row : Row) → AllByRecursion IsLine rows → IsLine row → AllByRecursion IsLine (rows ++ row ∷ [])
 all_more [] row each line = (line, tt)
 all_more (r ∷ rows) row each line = (each.0, all_more rows row each.1 line)
 
@@ -131,8 +132,8 @@ text_more (r ∷ rows) row =
 
 pub journal_more : (rows : List Row) (row : Row) → journal_text (rows ++ row ∷ []) ≡ journal_text rows ++ row_text default_writer row
 journal_more rows row =
-    ap (λ (t : List ℕ). row_text default_writer first_row ++ t) (text_more rows row)
-    ∙ sym (append_assoc (row_text default_writer first_row) (rows_text rows) (row_text default_writer row))
+    ap (λ (t : List ℕ). row_text default_writer first_record ++ t) (text_more rows row)
+    ∙ sym (append_assoc (row_text default_writer first_record) (rows_text rows) (row_text default_writer row))
 
 -- and at most one more
 pub one_more_read : (acknowledged rows : List Row) (row : Row) (part rest torn : List ℕ) → AllByRecursion IsLine acknowledged → IsLine row →

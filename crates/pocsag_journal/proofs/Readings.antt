@@ -7,16 +7,16 @@ use Rattle.csv.specs.Writing.{default_writer, row_text}
 use Rattle.pocsag_pages.specs.PageFile.{Row}
 use Rattle.pocsag_pages.specs.declared.page.Page.{Page}
 use Rattle.pocsag_open.specs.Runs.{IsEdit, IsRun}
-use Rattle.pocsag_journal.specs.Journals.{HasNoLineFeed, IsBadLine, IsLine, IsRead, IsWholeLine, first, later, first_row, journal_text, rows_text}
+use Rattle.pocsag_journal.specs.Journals.{HasNoLineFeed, IsBadLine, IsLine, IsRead, IsWholeLine, first, later, first_record, journal_text, rows_text}
 use Rattle.pocsag_journal.proofs.EditRuns.{run_once, run_parts}
-use Rattle.pocsag_journal.proofs.Lines.{Left, align, first_line, no_whole_line, same_line}
+use Rattle.pocsag_journal.proofs.TextLines.{Left, align, first_line, no_whole_line, same_line}
 
 -- the first line in front of two equal texts
 behind_first : (done rows : List Row) (rest torn : List ℕ) → journal_text done ++ rest ≡ journal_text rows ++ torn →
     rows_text done ++ rest ≡ rows_text rows ++ torn
 behind_first done rows rest torn e =
-    (same_line (row_text default_writer first_row) (row_text default_writer first_row) (rows_text done ++ rest) (rows_text rows ++ torn) first_line first_line
-    (sym (append_assoc (row_text default_writer first_row) (rows_text done) rest) ∙ e ∙ append_assoc (row_text default_writer first_row) (rows_text rows) torn)).1
+    (same_line (row_text default_writer first_record) (row_text default_writer first_record) (rows_text done ++ rest) (rows_text rows ++ torn) first_line first_line
+    (sym (append_assoc (row_text default_writer first_record) (rows_text done) rest) ∙ e ∙ append_assoc (row_text default_writer first_record) (rows_text rows) torn)).1
 
 -- bytes that begin with the text of records read as these and more
 pub read_on : (bytes : List ℕ) (done rows : List Row) (rest torn : List ℕ) → AllByRecursion IsLine done → bytes ≡ journal_text done ++ rest →
@@ -24,8 +24,8 @@ pub read_on : (bytes : List ℕ) (done rows : List Row) (rest torn : List ℕ) �
 read_on bytes done rows rest torn each e read = elim read.parts [
   | inl whole ↦ align done rows rest torn each read.each read.end (behind_first done rows rest torn (sym e ∙ whole))
   | inr none ↦
-      absurd (no_whole_line (row_text default_writer first_row) (rows_text done ++ rest) torn first_line read.end
-      (sym (append_assoc (row_text default_writer first_row) (rows_text done) rest) ∙ sym e ∙ none.1))
+      absurd (no_whole_line (row_text default_writer first_record) (rows_text done ++ rest) torn first_line read.end
+      (sym (append_assoc (row_text default_writer first_record) (rows_text done) rest) ∙ sym e ∙ none.1))
 ]
 
 -- where nothing but an end without a line feed is left, there are no more records
@@ -47,8 +47,8 @@ one_reading bytes rows others torn rest read other = elim read.parts [
       (more.parts ∙ ap (λ (l : List Row). rows ++ l) over.0 ∙ append-nil rows, sym over.1)
   | inr none ↦ elim other.parts [
     | inl whole ↦
-        absurd (no_whole_line (row_text default_writer first_row) (rows_text others ++ rest) torn first_line read.end
-        (sym (append_assoc (row_text default_writer first_row) (rows_text others) rest) ∙ sym whole ∙ none.1))
+        absurd (no_whole_line (row_text default_writer first_record) (rows_text others ++ rest) torn first_line read.end
+        (sym (append_assoc (row_text default_writer first_record) (rows_text others) rest) ∙ sym whole ∙ none.1))
     | inr also ↦ (also.0 ∙ sym none.0, sym also.1 ∙ none.1)
   ]
 ]
@@ -69,8 +69,8 @@ pub no_bad_line : (bytes : List ℕ) (n : ℕ) → IsBadLine bytes n → (rows :
 unfolding IsRun
 no_bad_line bytes n (first line rest whole e other) rows torn pages read run = elim read.parts [
   | inl text ↦
-      other (same_line line (row_text default_writer first_row) rest (rows_text rows ++ torn) whole first_line
-      (sym e ∙ text ∙ append_assoc (row_text default_writer first_row) (rows_text rows) torn)).0
+      other (same_line line (row_text default_writer first_record) rest (rows_text rows ++ torn) whole first_line
+      (sym e ∙ text ∙ append_assoc (row_text default_writer first_record) (rows_text rows) torn)).0
   | inr none ↦ no_whole_line line rest torn whole read.end (sym e ∙ none.1)
 ]
 no_bad_line bytes n (later done here line rest each before whole e bad) rows torn pages read run =
@@ -80,4 +80,4 @@ no_bad_line bytes n (later done here line rest each before whole e bad) rows tor
     let parts = run_parts done more.left [] pages all in
     let here_is = run_once done [] parts.0 here parts.1 before in
     let on : IsRun (next.0 ∷ next.1) parts.0 pages = subst (λ (l : List Row). IsRun l parts.0 pages) next.2 parts.2 in
-    bad next.0 on.0 next.3 (subst (λ (p : List Page). IsEdit next.0 p on.0) (sym here_is) on.1)
+    bad next.0 on.0 next.3 (subst (λ (p : List Page). IsEdit next.0 p on.0) here_is on.1)

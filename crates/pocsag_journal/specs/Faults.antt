@@ -6,10 +6,10 @@ use Rattle.pocsag_journal.specs.declared.fault.JournalFault.{JournalFault}
 use Rattle.pocsag_journal.specs.declared.fault.JournalFault.TheVariants as fault
 use Rattle.pocsag_journal.specs.Journals.{IsBadLine}
 
-abbrev pub fault_of_whole : WholeFault → JournalFault
-fault_of_whole whole.ReadFault = fault.ReadFault
-fault_of_whole whole.TooLarge = fault.TooLarge
-fault_of_whole whole.OutOfMemory = fault.OutOfMemory
+abbrev pub fault_of_reading : WholeFault → JournalFault
+fault_of_reading whole.ReadFault = fault.ReadFault
+fault_of_reading whole.TooLarge = fault.TooLarge
+fault_of_reading whole.OutOfMemory = fault.OutOfMemory
 
 -- What is told of bytes that are no journal: the line that is none of one. Memory may be wanting.
 abbrev pub IsTold : List ℕ → JournalFault → Type 0
@@ -21,4 +21,5 @@ IsTold bytes _ = ⊥
 abbrev pub IsToldOf : JournalFault → Type 0
 IsToldOf (fault.BadLine n) = ⊥
 IsToldOf (fault.NoLine n) = ⊥
+IsToldOf fault.WriteFault = ⊥
 IsToldOf _ = Unit {0}

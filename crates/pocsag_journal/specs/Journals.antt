@@ -7,9 +7,13 @@ use Rattle.pocsag_pages.specs.PageFile.{Row}
 use Rattle.pocsag_pages.specs.declared.page.Page.{Page}
 use Rattle.pocsag_open.specs.Runs.{IsEdit, IsRun}
 
+-- The most bytes of a journal that is read.
+abbrev pub journal_limit : ℕ
+journal_limit = 1073741824
+
 -- The first record: it names the format and its version.
-abbrev pub first_row : Row
-first_row = codes "pocsag journal" ∷ codes "1" ∷ []
+abbrev pub first_record : Row
+first_record = codes "pocsag journal" ∷ codes "1" ∷ []
 
 -- The text of records, each as csv writes it.
 unfoldable pub rows_text : List Row → List ℕ
@@ -18,7 +22,7 @@ rows_text (row ∷ rows) = row_text default_writer row ++ rows_text rows
 
 -- *Journal text*: the first record, and then those of the edits.
 abbrev pub journal_text : List Row → List ℕ
-journal_text rows = row_text default_writer first_row ++ rows_text rows
+journal_text rows = row_text default_writer first_record ++ rows_text rows
 
 -- No byte is a line feed.
 abbrev pub HasNoLineFeed : List ℕ → Type 0
@@ -56,7 +60,7 @@ pub record Replays (bytes : List ℕ) (edits torn : ℕ) (pages : List Page) : T
 -- or that of an edit that the pages before it accept.
 pub data IsBadLine (bytes : List ℕ) : ℕ → Type 0 where
   first :
-      (line rest : List ℕ) → IsWholeLine line → bytes ≡ line ++ rest → line ≢ row_text default_writer first_row →
+      (line rest : List ℕ) → IsWholeLine line → bytes ≡ line ++ rest → line ≢ row_text default_writer first_record →
       IsBadLine bytes 1
   later :
       (rows : List Row) (pages : List Page) (line rest : List ℕ) → AllByRecursion IsLine rows → IsRun rows [] pages →
@@ -80,3 +84,31 @@ pub record ReadsFirst (bytes : List ℕ) (rows : List Row) : Type 0 where
   pub torn : List ℕ
   pub parts : rows ≡ firsts ++ left
   pub read : IsRead bytes firsts torn
+
+-- A record that adds a page.
+pub record IsAdd (row : Row) : Type 0 where
+  pub address : List ℕ
+  pub kind : List ℕ
+  pub message : List ℕ
+  pub fields : row ≡ codes "add" ∷ address ∷ kind ∷ message ∷ []
+
+-- The line is the text of a record that adds this page behind the others.
+pub record AddsLine (line : List ℕ) (before : List Page) (page : Page) (after : List Page) : Type 0 where
+  pub row : Row
+  pub adds : IsAdd row
+  pub one : IsLine row
+  pub text : row_text default_writer row ≡ line
+  pub edit : IsEdit row before after
+  pub behind : after ≡ before ++ page ∷ []
+
+-- The bytes are the journal text of a run that leads from no pages to these.
+pub record StandsFor (bytes : List ℕ) (pages : List Page) : Type 0 where
+  pub rows : List Row
+  pub text : bytes ≡ journal_text rows
+  pub each : AllByRecursion IsLine rows
+  pub run : IsRun rows [] pages
+
+-- *Written anew*: the same, and each record adds a page.
+pub record ListsPages (bytes : List ℕ) (pages : List Page) : Type 0 where
+  pub stands : StandsFor bytes pages
+  pub adds : AllByRecursion IsAdd stands.rows

@@ -3,6 +3,7 @@ ghost use Rattle.pocsag_journal.specs.declared.fault.JournalFault.TheVariants as
 
 use pocsag_pages::WholeFault;
 use pocsag_words::OutOfMemory;
+use std::alloc::AllocError;
 use thiserror::Error;
 
 /// Why a journal was not read or written.
@@ -10,6 +11,8 @@ use thiserror::Error;
 pub enum JournalFault {
     #[error("cannot read the journal")]
     ReadFault,
+    #[error("cannot write the journal")]
+    WriteFault,
     /// It has more than 1,073,741,824 bytes.
     #[error("the journal is too large")]
     TooLarge,
@@ -31,10 +34,18 @@ impl From<OutOfMemory> for JournalFault {
     }
 }
 
-impl From<WholeFault> for JournalFault {
-    ghost use Rattle.pocsag_journal.specs.Faults.{fault_of_whole};
+impl From<AllocError> for JournalFault {
+    ghost from_gives = { λ _ e. e ≡ fault.OutOfMemory };
 
-    ghost from_gives = { λ refused e. e ≡ fault_of_whole refused };
+    fn from(_refused: AllocError) -> JournalFault {
+        JournalFault::OutOfMemory
+    }
+}
+
+impl From<WholeFault> for JournalFault {
+    ghost use Rattle.pocsag_journal.specs.Faults.{fault_of_reading};
+
+    ghost from_gives = { λ refused e. e ≡ fault_of_reading refused };
 
     fn from(refused: WholeFault) -> JournalFault {
         match refused {

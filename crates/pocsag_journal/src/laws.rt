@@ -7,22 +7,23 @@ ghost use Rattle.pocsag_open.specs.Runs.{IsRun};
 ghost use Rattle.pocsag_journal.specs.Journals.{IsBadLine, IsLine, IsRead, ReadsFirst, journal_text};
 
 /// Bytes read as one list of records at most, with one torn end; and where these are a run, no line is bad.
-pub fn readings_are_one()
-    ensures one { (bytes : List ℕ) (rows others : List Row) (torn rest : List ℕ) → IsRead bytes rows torn → IsRead bytes others rest →
-        (others ≡ rows) × (rest ≡ torn) }
-    ensures good { (bytes : List ℕ) (rows : List Row) (torn : List ℕ) (pages : List Page) (line : ℕ) → IsRead bytes rows torn →
-        IsRun rows [] pages → ¬ IsBadLine bytes line }
-    ensures list { (rows : List Row) (before after other : List Page) → IsRun rows before after → IsRun rows before other → after ≡ other }
+pub fn journals_read_as_one()
+    ensures one { (bytes : List ℕ) (rows others : List Row) (torn rest : List ℕ) →
+        IsRead bytes rows torn → IsRead bytes others rest → (others ≡ rows) × (rest ≡ torn) }
+    ensures good { (bytes : List ℕ) (rows : List Row) (torn : List ℕ) (pages : List Page) (line : ℕ) →
+        IsRead bytes rows torn → IsRun rows [] pages → ¬ IsBadLine bytes line }
+    ensures list { (rows : List Row) (before after other : List Page) →
+        IsRun rows before after → IsRun rows before other → after ≡ other }
 {}
 
 /// Whatever a crash leaves of a journal's text: any prefix of it reads as the first of its records. Where it has the
 /// text of some of them whole, and part of that of one more, it reads as these, or as these and the one.
 pub fn a_prefix_is_read()
-    ensures firsts { (rows : List Row) → AllByRecursion IsLine rows → (bytes rest : List ℕ) → bytes ++ rest ≡ journal_text rows →
-        ReadsFirst bytes rows }
+    ensures firsts { (rows : List Row) → AllByRecursion IsLine rows → (bytes rest : List ℕ) →
+        bytes ++ rest ≡ journal_text rows → ReadsFirst bytes rows }
     ensures acknowledged { (kept rows : List Row) (part torn : List ℕ) → AllByRecursion IsLine kept →
         IsRead (journal_text kept ++ part) rows torn → (more : List Row) × (rows ≡ kept ++ more) }
-    ensures one_more { (kept rows : List Row) (row : Row) (part rest torn : List ℕ) → AllByRecursion IsLine kept → IsLine row →
-        part ++ rest ≡ row_text default_writer row → IsRead (journal_text kept ++ part) rows torn →
-        (rows ≡ kept) ⊎ (rows ≡ kept ++ row ∷ []) }
+    ensures one_more { (kept rows : List Row) (row : Row) (part rest torn : List ℕ) →
+        AllByRecursion IsLine kept → IsLine row → part ++ rest ≡ row_text default_writer row →
+        IsRead (journal_text kept ++ part) rows torn → (rows ≡ kept) ⊎ (rows ≡ kept ++ row ∷ []) }
 {}

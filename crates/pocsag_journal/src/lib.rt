@@ -8,7 +8,6 @@ mod fault;
 mod journal;
 mod laws;
 mod lines;
-mod memory_disk;
 mod reading;
 mod text;
 
@@ -16,7 +15,6 @@ pub use anew::text_of_pages;
 pub use disk::Disk;
 pub use fault::JournalFault;
 pub use journal::Journal;
-pub use laws::{a_prefix_is_read, edits_are_read_back, readings_are_one};
-pub use memory_disk::MemoryDisk;
-pub use reading::{Replayed, read_journal};
-pub use text::FIRST_LINE;
+pub use laws::{a_prefix_is_read, journals_read_as_one};
+pub use reading::{JOURNAL_LIMIT, Replayed, read_journal};
+pub use text::first_line;

@@ -1,14 +1,24 @@
-ghost use Rattle.std.specs.Prelude.{◌≤◌, length, take, IfNone, IfSome};
+ghost use Rattle.std.specs.Prelude.{◌≡◌, ◌++◌, IfNone, IfSome, IsTrue};
 ghost use Rattle.pocsag_journal.specs.Journals.{HasNoLineFeed, IsWholeLine};
 
 use memchr::memchr;
 
-/// The length of the first line, its line feed counted, if it is whole.
-pub fn line_len(bytes: &[u8]) -> Option<usize>
-    ensures within { IfSome result (λ len. len ≤ length bytes.now) }
-    ensures line { IfSome result (λ len. IsWholeLine (take len bytes.now)) }
+/// The first line, with its line feed, if it is whole, and what stands behind it.
+pub fn split_line(bytes: &[u8]) -> Option<(&[u8], &[u8])>
+    ensures parts { IfSome result (λ parts. bytes.now ≡ parts.0.now ++ parts.1.now) }
+    ensures line { IfSome result (λ parts. IsWholeLine parts.0.now) }
     ensures none { IfNone result (HasNoLineFeed bytes.now) }
 {
     let end = memchr(b'\n', bytes)?;
-    Some(end + 1)
+    Some(bytes.split_at(end + 1))
+}
+
+/// Whether the bytes are one whole line, and nothing behind it.
+pub fn is_one_line(bytes: &[u8]) -> bool
+    ensures { IsTrue result → IsWholeLine bytes.now }
+{
+    match split_line(bytes) {
+        Some(parts) => parts.1.is_empty(),
+        None => false,
+    }
 }

@@ -1,13 +1,13 @@
-ghost use Rattle.std.specs.Prelude.{◌≡◌, ◌⊎◌, ℕ, List, IfErr, IfOk, MatchResult, OnErr, OnOk};
+ghost use Rattle.std.specs.Prelude.{◌≡◌, ◌≤◌, ◌⊎◌, ℕ, List, [], length, IfErr, IfOk, MatchResult, OnOk};
 ghost use Rattle.pocsag_pages.specs.PageFile.{Row};
 ghost use Rattle.pocsag_pages.specs.declared.page.Page.{Page};
 ghost use Rattle.pocsag_open.specs.Runs.{IsRun};
 ghost use Rattle.pocsag_journal.specs.Faults.{IsTold, IsToldOf};
-ghost use Rattle.pocsag_journal.specs.Journals.{IsRead, MakesLine, Replays, ReplaysAs};
+ghost use Rattle.pocsag_journal.specs.Journals.{IsRead, MakesLine, Replays, ReplaysAs, journal_limit};
 
 use crate::fault::JournalFault;
-use crate::lines::line_len;
-use crate::text::{FIRST_LINE, row_line};
+use crate::lines::split_line;
+use crate::text::{first_line, row_line};
 use pocsag_open::edit_row;
 use pocsag_pages::{only_row, read_whole};
 use pocsag_plan::Book;
@@ -31,12 +31,15 @@ pub struct Replayed {
 /// Reads the journal that a source holds up to its end. A torn end is passed over; a line before it that is none of a
 /// journal is told by its number.
 pub fn read_journal<S: Source>(alloc: Global, source: &mut S) -> Result<Replayed, JournalFault>
-    ensures read { S.tells → IfOk result (λ replayed. Replays (S.held source.old) replayed.edits replayed.torn replayed.book) }
-    ensures told { S.tells → IfErr result (λ e. (e ≡ JournalFault.ReadFault) ⊎ (e ≡ JournalFault.TooLarge) ⊎ IsTold (S.held source.old) e) }
+    ensures read { S.tells → IfOk result
+        (λ replayed. Replays (S.held source.old) replayed.edits replayed.torn replayed.book) }
+    ensures told { S.tells → IfErr result
+        (λ e. (e ≡ JournalFault.ReadFault) ⊎ (e ≡ JournalFault.TooLarge) ⊎ IsTold (S.held source.old) e) }
 
     // Whatever edits the bytes are the text of, each accepted in its turn: their list is read.
-    ensures replay { S.tells → (rows : List Row) (torn : List ℕ) (pages : List Page) → IsRead (S.held source.old) rows torn →
-        IsRun rows [] pages → MatchResult result (λ replayed. ReplaysAs replayed.book replayed.edits replayed.torn pages rows torn) IsToldOf }
+    ensures replay { S.tells → (rows : List Row) (torn : List ℕ) (pages : List Page) →
+        IsRead (S.held source.old) rows torn → IsRun rows [] pages → MatchResult result
+        (λ replayed. ReplaysAs replayed.book replayed.edits replayed.torn pages rows torn) IsToldOf }
     ensures succeeded { OnOk result (S.failures source.new ≡ S.failures source.old) }
 {
     let bytes = read_whole(alloc, source, JOURNAL_LIMIT)?;
@@ -45,36 +48,44 @@ pub fn read_journal<S: Source>(alloc: Global, source: &mut S) -> Result<Replayed
 
 // Makes the edits of the lines, one after another.
 fn replay(alloc: Global, bytes: &[u8]) -> Result<Replayed, JournalFault>
+    requires { length bytes.now ≤ journal_limit }
     ensures read { IfOk result (λ replayed. Replays bytes.now replayed.edits replayed.torn replayed.book) }
     ensures told { IfErr result (λ e. IsTold bytes.now e) }
 {
     let mut book = Book::new(alloc);
     let mut edits = 0;
-    let Some(first) = line_len(bytes) else {
-        return Ok(Replayed {
-            book,
-            edits,
-            torn: bytes.len(),
-        });
-    };
-    if &bytes[..first] != FIRST_LINE {
-        return Err(JournalFault::BadLine(1));
-    }
-    let mut rest = &bytes[first..];
-    loop {
-        let Some(len) = line_len(rest) else {
+    let first = match split_line(bytes) {
+        Some(parts) => parts,
+        None => {
             return Ok(Replayed {
                 book,
                 edits,
-                torn: rest.len(),
+                torn: bytes.len(),
             });
+        }
+    };
+    let same = first.0 == first_line();
+    if !same {
+        return Err(JournalFault::BadLine(1));
+    }
+    let mut rest = first.1;
+    loop {
+        let next = match split_line(rest) {
+            Some(parts) => parts,
+            None => {
+                return Ok(Replayed {
+                    book,
+                    edits,
+                    torn: rest.len(),
+                });
+            }
         };
-        let made = replay_line(alloc, &mut book, &rest[..len])?;
+        let made = replay_line(alloc, &mut book, next.0)?;
         if !made {
             return Err(JournalFault::BadLine(edits + 2));
         }
         edits += 1;
-        rest = &rest[len..];
+        rest = next.1;
     }
 }
 
@@ -82,11 +93,13 @@ fn replay(alloc: Global, bytes: &[u8]) -> Result<Replayed, JournalFault>
 fn replay_line(alloc: Global, book: &mut Book, line: &[u8]) -> Result<bool, OutOfMemory>
     ensures { IfOk result (λ made. MakesLine made line.now book.old book.new) }
 {
-    let Some(row) = only_row(alloc, line)? else {
-        return Ok(false);
+    let row = match only_row(alloc, line)? {
+        Some(row) => row,
+        None => return Ok(false),
     };
     let text = row_line(alloc, &row)?;
-    if text.as_slice() != line {
+    let same = text.as_slice() == line;
+    if !same {
         return Ok(false);
     }
     match edit_row(alloc, book, &row) {

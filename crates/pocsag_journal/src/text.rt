@@ -2,6 +2,7 @@ ghost use Rattle.std.specs.Prelude.{◌≡◌, IfOk};
 ghost use Rattle.csv.specs.Records.{fields_of};
 ghost use Rattle.csv.specs.Writing.{default_writer, row_text};
 ghost use Rattle.pocsag_decode.specs.Lines.{IsReady, PutsRow};
+ghost use Rattle.pocsag_journal.specs.Journals.{first_record};
 
 use csv::{ByteRecord, Writer};
 use pocsag_words::OutOfMemory;
@@ -9,10 +10,14 @@ use std::alloc::{AllocError, Global};
 
 /// The first line of a journal, which names the format and its version. The program `pocsag open` takes it as a line
 /// that changes nothing.
-pub const FIRST_LINE: &[u8] = b"pocsag journal,1\n";
+pub fn first_line() -> &'static [u8]
+    ensures { result.now ≡ row_text default_writer first_record }
+{
+    b"pocsag journal,1\n"
+}
 
 // Writes one record.
-fn put_row(writer: &mut Writer<Vec<u8>>, row: &ByteRecord) -> Result<(), AllocError>
+fn put_line_of(writer: &mut Writer<Vec<u8>>, row: &ByteRecord) -> Result<(), AllocError>
     requires { IsReady writer.old }
     ensures { PutsRow result writer.old writer.new (fields_of row.now) }
 {
@@ -27,7 +32,7 @@ pub fn row_line(alloc: Global, row: &ByteRecord) -> Result<Vec<u8>, OutOfMemory>
     ensures { IfOk result (λ text. text.items ≡ row_text default_writer (fields_of row.now)) }
 {
     let mut writer = Writer::from_writer(Vec::new(alloc));
-    put_row(&mut writer, row)?;
+    put_line_of(&mut writer, row)?;
     match writer.into_inner() {
         Ok(text) => Ok(text),
         Err(_) => Err(OutOfMemory),

@@ -1,2 +1,4 @@
 pub mod Fields
+pub mod Quotes
 pub mod Refusals
+pub mod RowTexts

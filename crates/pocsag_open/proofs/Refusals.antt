@@ -1,6 +1,7 @@
 -- What is refused is no edit of these pages, or memory was wanting.
 use Rattle.std.proofs.Common.{◌≡◌, ◌⊎◌, inl, inr, ℕ, zero, suc, ◌<◌, Bool, true, false, List, [], ◌∷◌, length, refl, sym, ap, ◌∙◌, subst, arith, slice_index_or}
 use Rattle.std.specs.Prelude.{◌||◌, Option, Some, None, Result, Ok, Err, Contains, nat_eq}
+use Rattle.std.proofs.lemmas.Bool.{or_right}
 use Rattle.pocsag_pages.specs.Pages.{has_address}
 use Rattle.pocsag_pages.specs.PageFile.{page_of_fields}
 use Rattle.pocsag_pages.specs.declared.page.Page.{Page}
@@ -9,7 +10,7 @@ use Rattle.pocsag_plan.specs.OpenRound.{add_fault, fault_or_memory}
 use Rattle.pocsag_plan.specs.declared.refusal.AddFault.{AddFault}
 use Rattle.pocsag_plan.specs.declared.refusal.AddFault.TheVariants as adding
 use Rattle.pocsag_open.specs.Edited.{IsAdded, IsCancelled, IsEditRefused}
-use Rattle.pocsag_open.specs.Runs.{IsDone, asked_by, wants_memory}
+use Rattle.pocsag_open.specs.Runs.{IsDone, asked_by_line, wants_memory}
 use Rattle.pocsag_open.specs.declared.edits.Line.{Line}
 use Rattle.pocsag_open.specs.declared.edits.Line.TheVariants as line
 use Rattle.pocsag_open.specs.declared.refusal.Refusal.{Refusal}
@@ -18,14 +19,10 @@ use Rattle.pocsag_open.specs.declared.refusal.Refusal.TheVariants as refusal
 same_nat : (n : ℕ) → nat_eq n n ≡ true
 same_nat n = grind (arith)
 
-or_true : (a b : Bool) → b ≡ true → (a || b) ≡ true
-or_true true b e = refl
-or_true false b e = e
-
 at_place : (pages : List Page) (k : ℕ) (d : Page) → k < length pages → has_address pages (slice_index_or pages k d).address ≡ true
 at_place [] k d h = absurd (omega arith)
 at_place (p ∷ pages) zero d h = rw (same_nat p.address) refl
-at_place (p ∷ pages) (suc k) d h = or_true _ _ (at_place pages k d (omega arith))
+at_place (p ∷ pages) (suc k) d h = or_right _ _ (at_place pages k d (omega arith))
 
 there : (pages : List Page) (p : Page) → Contains pages p → has_address pages p.address ≡ true
 there pages p h = subst (λ (q : Page). has_address pages q.address ≡ true) h.2 (at_place pages h.0 p h.1)
@@ -48,20 +45,25 @@ by_fault a k m pages page f (Some g) e t h = inr (λ after d.
     cc (sym t ∙ ap (λ (q : Page). add_fault pages q) same ∙ d.free))
 
 pub refused_asking : (asking : Line) (pages : List Page) (why : Refusal) → IsEditRefused asking pages why →
-    (wants_memory why ≡ true) ⊎ ((after : List Page) → IsDone (asked_by asking) pages after → ⊥)
+    (wants_memory why ≡ true) ⊎ ((after : List Page) → IsDone (asked_by_line asking) pages after → ⊥)
 refused_asking (line.Add a k m) pages refusal.Unknown h = absurd h
 refused_asking (line.Add a k m) pages (refusal.Field f) (inl h) = inl (ap (λ (g : FieldFault). wants_memory (refusal.Field g)) h.0)
 refused_asking (line.Add a k m) pages (refusal.Field f) (inr e) = inr (λ after d. no_page a.now k.now m.now f pages after e d)
 refused_asking (line.Add a k m) pages (refusal.Add f) h = by_fault a.now k.now m.now pages h.0 f (add_fault pages h.0) h.1 refl h.2
 refused_asking (line.Add a k m) pages (refusal.Cancel f) h = absurd h
 refused_asking (line.Add a k m) pages (refusal.Undone f) h = absurd h
+refused_asking (line.Add a k m) pages refusal.InQuotes h = absurd h
+refused_asking (line.Add a k m) pages refusal.StrayQuote h = absurd h
 refused_asking (line.Cancel a) pages refusal.Unknown h = absurd h
 refused_asking (line.Cancel a) pages (refusal.Field f) h = inl (ap (λ (g : FieldFault). wants_memory (refusal.Field g)) h)
 refused_asking (line.Cancel a) pages (refusal.Add f) h = absurd h
 refused_asking (line.Cancel a) pages (refusal.Cancel f) h = inr (λ after d.
     never (sym (there pages d.page d.there) ∙ ap (λ (n : ℕ). has_address pages n) d.same ∙ h d.tone d.spelled))
 refused_asking (line.Cancel a) pages (refusal.Undone f) h = absurd h
+refused_asking (line.Cancel a) pages refusal.InQuotes h = absurd h
+refused_asking (line.Cancel a) pages refusal.StrayQuote h = absurd h
 refused_asking line.Clear pages why h = absurd h
 refused_asking line.List pages why h = inr (λ after d. d)
 refused_asking (line.Plan tx cert end) pages why h = inr (λ after d. d)
 refused_asking line.Unknown pages why h = inr (λ after d. d)
+refused_asking line.Journal pages why h = inr (λ after d. d)

@@ -1,3 +1,6 @@
 pub mod Answers
 pub mod Edited
+pub mod Quotes
 pub mod Runs
+pub mod Spelling
+pub mod Keeping

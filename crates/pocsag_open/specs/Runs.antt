@@ -26,15 +26,15 @@ asked_of (word ∷ address ∷ kind ∷ message ∷ []) =
 asked_of _ = None
 
 -- The edit that a line asks for, if it asks for one.
-abbrev pub asked_by : Line → Option Asked
-asked_by (line.Add address kind message) = Some (add address.now kind.now message.now)
-asked_by (line.Cancel address) = Some (cancel address.now)
-asked_by line.Clear = Some clear
-asked_by _ = None
+abbrev pub asked_by_line : Line → Option Asked
+asked_by_line (line.Add address kind message) = Some (add address.now kind.now message.now)
+asked_by_line (line.Cancel address) = Some (cancel address.now)
+asked_by_line line.Clear = Some clear
+asked_by_line _ = None
 
 abbrev pub asked_in : Option Line → Option Asked
 asked_in None = None
-asked_in (Some asking) = asked_by asking
+asked_in (Some asking) = asked_by_line asking
 
 -- What an edit does to the pages.
 abbrev pub IsDone : Option Asked → (before after : List Page) → Type 0

@@ -1,9 +1,14 @@
-ghost use Rattle.std.specs.Prelude.{◌≡◌, length, None};
+ghost use Rattle.std.specs.Prelude.{◌≡◌, length, IfErr, IfOk, None};
 ghost use Rattle.csv.specs.Records.{fields_of};
-ghost use Rattle.pocsag_open.specs.Runs.{asked_by, asked_in, asked_of};
+ghost use Rattle.pocsag_open.specs.Runs.{asked_by_line, asked_in, asked_of};
+ghost use Rattle.pocsag_open.specs.Spelling.{IsRowText, IsUnread, record_text};
 
-use csv::{ByteRecord, ReaderBuilder};
-use pocsag_words::{End, OutOfMemory};
+use crate::quoting::{Quoting, quoting_of, without_mark, without_return};
+use crate::refusal::Refusal;
+use csv::ByteRecord;
+use pocsag_commands::Fault;
+use pocsag_pages::only_row;
+use pocsag_words::End;
 use std::alloc::Global;
 use std::str;
 
@@ -30,35 +35,36 @@ pub enum Line<'a> {
     },
     /// `clear`.
     Clear,
+    /// `pocsag journal,1`: the first line of a journal, which asks for nothing.
+    Journal,
     /// Anything else.
     Unknown,
 }
 
-/// The record of a line that has one record and no more.
-pub fn record_of(alloc: Global, line: &[u8]) -> Result<Option<ByteRecord>, OutOfMemory> {
-    let mut reader = ReaderBuilder::new()
-        .has_headers(false)
-        .flexible(true)
-        .from_reader(alloc, line);
-    let mut row = ByteRecord::new(alloc);
-    let mut rest = ByteRecord::new(alloc);
-    // No read of bytes in memory fails, so an error is want of memory.
-    let Ok(found) = reader.read_byte_record(&mut row) else {
-        return Err(OutOfMemory);
-    };
-    let Ok(more) = reader.read_byte_record(&mut rest) else {
-        return Err(OutOfMemory);
-    };
-    if !found || more {
-        return Ok(None);
+/// The record of a line, a carriage return at its end passed over.
+pub fn record_of(alloc: Global, line: &[u8]) -> Result<ByteRecord, Refusal>
+    // The line is what the product would write for the record, or differs from it in quoting alone.
+    ensures spelled { IfOk result (λ row. IsRowText (fields_of row) (record_text line.now)) }
+    ensures refused { IfErr result (IsUnread (record_text line.now)) }
+{
+    let bare = without_return(line);
+    match quoting_of(without_mark(bare)) {
+        Quoting::Open => return Err(Refusal::InQuotes),
+        Quoting::Broken => return Err(Refusal::StrayQuote),
+        Quoting::Ended => return Err(Refusal::Unknown),
+        Quoting::Start | Quoting::Bare | Quoting::Closed => {}
     }
-    Ok(Some(row))
+    match only_row(alloc, bare) {
+        Ok(Some(row)) => Ok(row),
+        Ok(None) => Err(Refusal::Unknown),
+        Err(_) => Err(Refusal::Undone(Fault::OutOfMemory)),
+    }
 }
 
 /// What the record asks for.
 #[tactic(auto, unfolding(crate::specs::Runs::asked_of))]
 pub fn line_of(row: &ByteRecord) -> Line<'_>
-    ensures { asked_by result ≡ asked_of (fields_of row.now) }
+    ensures { asked_by_line result ≡ asked_of (fields_of row.now) }
 {
     let asked = match row.len() {
         1 => bare_line(row),
@@ -94,11 +100,21 @@ fn cancel_line(row: &ByteRecord) -> Option<Line<'_>>
     ensures { asked_in result ≡ asked_of (fields_of row.now) }
 {
     if row.get(0)? != b"cancel".as_slice() {
-        return None;
+        return journal_line(row);
     }
     Some(Line::Cancel {
         address: row.get(1)?,
     })
+}
+
+// The first line of a journal, and its version.
+fn journal_line(row: &ByteRecord) -> Option<Line<'_>>
+    ensures { asked_in result ≡ None }
+{
+    if row.get(0)? == b"pocsag journal".as_slice() && row.get(1)? == b"1".as_slice() {
+        return Some(Line::Journal);
+    }
+    None
 }
 
 fn plan_line(row: &ByteRecord, end: End) -> Option<Line<'_>>

@@ -2,16 +2,17 @@ ghost use Rattle.std.specs.Prelude.{◌≡◌, ◌++◌, length, false, true, Er
 ghost use Rattle.pocsag_pages.specs.PageFile.{verdict};
 ghost use Rattle.pocsag_pages.specs.declared.fault.RoundFault.{RoundFault};
 ghost use Rattle.pocsag_commands.specs.Faults.{status_of};
-ghost use Rattle.pocsag_open.specs.Answers.{IsPlanSent, IsPlanTold, pages_answer, plan_answer};
+ghost use Rattle.pocsag_open.specs.Answers.{IsPlanSent, IsPlanTold, plan_answer};
 
-use crate::editing::edit;
+use crate::answering::{OpenRound, answer_edit, refuse, tell_pages};
 use crate::edits::{Line, line_of, record_of};
+use crate::keeper::{Keeper, NoKeeper};
 use crate::lines::{Found, Lines};
 use crate::outputs::{Outputs, Places};
 use crate::refusal::Refusal;
 use crate::settling::settled;
 use pocsag_commands::{DEFAULT_LIMIT, Fault, tell};
-use pocsag_decode::{ListFault, list};
+use pocsag_decode::{ListFault, write_page_file};
 use pocsag_pages::read_round;
 use pocsag_plan::Book;
 use pocsag_words::{End, Sink, Source};
@@ -39,7 +40,11 @@ pub fn run_open<P: Places, I: Source, O: Sink>(
     ensures input { OnOk result (I.failures input.new ≡ I.failures input.old) }
     ensures lost { IfErr result (λ e. status_of e ≡ 3) }
 {
-    answer_lines(alloc, planner, Book::new(alloc), input, out)
+    let mut round = OpenRound {
+        book: Book::new(alloc),
+        keeper: NoKeeper,
+    };
+    run_open_kept(alloc, planner, &mut round, input, out)
 }
 
 /// `open PAGES`: the same, where the pages of the page file are open at first.
@@ -60,7 +65,13 @@ pub fn run_open_pages<P: Places, F: Source, I: Source, O: Sink>(
     ensures refused { IfErr result (λ e. status_of e ≡ 1 → (input.new ≡ input.old) × (out.new ≡ out.old)) }
 {
     match book_of(alloc, pages) {
-        Ok(book) => answer_lines(alloc, planner, book, input, out),
+        Ok(book) => {
+            let mut round = OpenRound {
+                book,
+                keeper: NoKeeper,
+            };
+            run_open_kept(alloc, planner, &mut round, input, out)
+        }
         Err(fault) => Err(fault),
     }
 }
@@ -75,14 +86,19 @@ fn book_of<F: Source>(alloc: Global, pages: &mut F) -> Result<Book, Fault>
     Ok(Book::of_round(alloc, &round)?)
 }
 
-fn answer_lines<P: Places, I: Source, O: Sink>(
+/// The same of a round whose edits are kept, each before it is answered. Answers the lines of the input, one by one,
+/// up to its end.
+pub fn run_open_kept<P: Places, K: Keeper + Drop, I: Source, O: Sink>(
     alloc: Global,
     planner: &Planner<'_, P>,
-    mut book: Book,
+    round: &mut OpenRound<K>,
     input: &mut I,
     out: &mut O,
 ) -> Result<(), Fault>
+    // It is done only at the end of the input, which did not fail; then what is kept stands for the pages.
     ensures input { OnOk result (I.failures input.new ≡ I.failures input.old) }
+    ensures stands { K.stands_for round.old.keeper round.old.book →
+        OnOk result (K.stands_for round.new.keeper round.new.book) }
     ensures lost { IfErr result (λ e. status_of e ≡ 3) }
 {
     let mut lines = Lines::new(alloc)?;
@@ -90,60 +106,44 @@ fn answer_lines<P: Places, I: Source, O: Sink>(
         match lines.read_line(input)? {
             Found::End => return Ok(()),
             Found::TooLong => refuse(Refusal::Unknown, out)?,
-            Found::Kept => answer(alloc, planner, &mut book, lines.line(), out)?,
+            Found::Kept => answer(alloc, planner, round, lines.line(), out)?,
         }
+        round.keeper.settle(alloc, &round.book)?;
     }
     Ok(())
 }
 
-fn refuse<O: Sink>(refusal: Refusal, out: &mut O) -> Result<(), Fault>
-    ensures { IfErr result (λ e. e ≡ Fault.Write) }
-{
-    tell(out, format_args!("refused: {refusal}\n"))
-}
-
-// How many pages there are now.
-#[tactic(auto, unfolding(crate::specs::Answers::pages_answer))]
-fn tell_pages<O: Sink>(book: &Book, out: &mut O) -> Result<(), Fault>
-    ensures told { O.tells → OnOk result (O.taken out.new ≡ O.taken out.old ++ pages_answer (length book.now)) }
-    ensures lost { IfErr result (λ e. e ≡ Fault.Write) }
-{
-    let pages = book.len();
-    tell(out, format_args!("ok {pages}\n"))
-}
-
 // Answers one line.
-fn answer<P: Places, O: Sink>(
+fn answer<P: Places, K: Keeper + Drop, O: Sink>(
     alloc: Global,
     planner: &Planner<'_, P>,
-    book: &mut Book,
+    round: &mut OpenRound<K>,
     line: &[u8],
     out: &mut O,
 ) -> Result<(), Fault>
+    ensures stands { K.stands_for round.old.keeper round.old.book →
+        OnOk result (K.stands_for round.new.keeper round.new.book) }
     ensures lost { IfErr result (λ e. status_of e ≡ 3) }
 {
     let row = match record_of(alloc, line) {
-        Ok(Some(row)) => row,
-        Ok(None) => return refuse(Refusal::Unknown, out),
-        Err(_) => return refuse(Refusal::Undone(Fault::OutOfMemory), out),
+        Ok(row) => row,
+        Err(refusal) => return refuse(refusal, out),
     };
     match line_of(&row) {
         Line::Plan { tx, cert, end } => {
-            let planned = plan_book(planner, book, tx, cert, end);
+            let planned = plan_book(planner, &round.book, tx, cert, end);
             match settled(planner.places, tx, cert, planned) {
                 Ok(planned) => tell_planned(planned, out),
                 Err(fault) => refuse(Refusal::Undone(fault), out),
             }
         }
-        Line::List => match list(alloc, book.pages(), out) {
-            Ok(()) => tell_pages(book, out),
+        Line::List => match write_page_file(alloc, round.book.pages(), out) {
+            Ok(()) => tell_pages(&round.book, out),
             Err(ListFault::OutOfMemory) => refuse(Refusal::Undone(Fault::OutOfMemory), out),
             Err(ListFault::WriteFault) => Err(Fault::Write),
         },
-        line => match edit(alloc, book, line) {
-            Ok(()) => tell_pages(book, out),
-            Err(refusal) => refuse(refusal, out),
-        },
+        Line::Journal => tell_pages(&round.book, out),
+        _ => answer_edit(alloc, round, &row, out),
     }
 }
 

@@ -11,6 +11,12 @@ use thiserror::Error;
 pub enum Refusal {
     #[error("unknown edit")]
     Unknown,
+    /// A quote of the line's last field is not closed.
+    #[error("the line ends inside quotes")]
+    InQuotes,
+    /// A quote stands inside a field that is not in quotes, or something that is no comma behind a field's quotes.
+    #[error("a quote is out of place")]
+    StrayQuote,
     /// The fields spell no page.
     #[error("{0}")]
     Field(FieldFault),

@@ -1,4 +1,5 @@
-ghost use Rattle.std.specs.Prelude.{◌≡◌, IfOk, Ok};
+ghost use Rattle.std.specs.Prelude.{◌≡◌, Err, IfOk, Ok};
+ghost use Rattle.pocsag_commands.specs.declared.fault.Fault.{Fault};
 
 use crate::outputs::Places;
 use pocsag_commands::Fault;
@@ -10,7 +11,8 @@ pub fn settled<P: Places, X: Drop>(
     cert: &str,
     planned: Result<X, Fault>,
 ) -> Result<X, Fault>
-    ensures { IfOk result (λ x. planned ≡ Ok x) }
+    ensures told { IfOk result (λ x. planned ≡ Ok x) }
+    ensures why { (f : Fault) → planned ≡ Err f → result ≡ Err f }
 {
     let done = places.settle(tx, cert, planned.is_ok());
     let told = planned?;

@@ -1,20 +1,11 @@
 -- What a pager has heard, one word at a time.
-use Rattle.std.proofs.Common.{◌≡◌, ◌≢◌, ℕ, ◌+◌, ◌-◌, ◌/◌, ◌%◌, ◌<◌, List, [], ◌∷◌, ◌++◌, length, map, sym, ap, ap₂, subst, ◌∙◌, ◌⊎◌, ◌^◌, inl, inr, arith, append_assoc, All}
-use Rattle.std.specs.Prelude.{Option, None, IsSome, option_to_list}
-use Rattle.std.specs.List.{AllZip}
-use Rattle.std.proofs.lemmas.List.{append-nil, map-append, length-map, length-append}
-use Rattle.std.proofs.lemmas.Bool.{cases_eq}
-use Rattle.std.proofs.lemmas.List.Elements.{All-head, All-tail}
+use Rattle.pocsag_pager.proofs.Prelude.{◌≡◌, ◌≢◌, ℕ, ◌+◌, ◌-◌, ◌/◌, ◌%◌, ◌<◌, List, [], ◌∷◌, ◌++◌, length, map, sym, ap, ap₂, subst, ◌∙◌, ◌⊎◌, ◌^◌, inl, inr, arith, append_assoc, All, Option, None, option_to_list, AllZip, map-append, length-map, cases_eq, All-head, All-tail, Kind, Page, unsynced, frame_at, IsMended, AreShown, said, shown_from, HaveEnded, IsElsewhere, ended_from, open_from, IsHeardAs, ending, next_open}
+use Rattle.std.specs.Prelude.{IsSome}
+use Rattle.std.proofs.lemmas.List.{append-nil, length-append}
 use Rattle.std.proofs.lemmas.Slice.Zip.{AllZip-long}
-use Rattle.pocsag_words.specs.declared.codeword.Kind.{Kind}
-use Rattle.pocsag_pages.specs.declared.page.Page.{Page}
-use Rattle.pocsag_pages.specs.Bytes.{unsynced}
-use Rattle.pocsag_pages.specs.Reading.{frame_at}
 use Rattle.pocsag_pager.specs.declared.pager.State.{State}
 use Rattle.pocsag_pager.specs.declared.pager.State.TheVariants.{Listening}
-use Rattle.pocsag_pager.specs.Shown.{HoldsOnceMended, IsMended, AreShown, said, shown_from}
-use Rattle.pocsag_pager.specs.Standing.{HaveEnded, IsElsewhere, ended_from, open_from}
-use Rattle.pocsag_pager.specs.Turns.{IsHeardAs, ending, next_open}
+use Rattle.pocsag_pager.specs.Shown.{HoldsOnceMended}
 use Rattle.pocsag_pager.proofs.Mending.{AreRepaired, heard_at, all_mended_same}
 use Rattle.pocsag_pager.proofs.Places.{ended_more, ending_none, next_open_elsewhere, next_open_same, open_more, shown_is}
 use Rattle.pocsag_pages.proofs.Lengths.{unsynced_codeword, unsynced_count, unsynced_more, unsynced_sync}

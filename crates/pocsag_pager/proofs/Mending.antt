@@ -1,11 +1,6 @@
 -- Each word is mended in just one way.
-use Rattle.std.proofs.Common.{◌≡◌, ℕ, ◌^◌, ◌<◌, ◌⊎◌, List, [], ◌∷◌, refl, sym, ap, ap₂, inl, inr}
-use Rattle.std.specs.Prelude.{Option, Some, None}
-use Rattle.std.specs.List.{AllZip}
-use Rattle.pocsag_words.specs.Codeword.{IsCodeword, IsNear, IsOnlyNear, HasNoneNear}
-use Rattle.pocsag_words.specs.declared.codeword.Kind.{Kind}
-use Rattle.pocsag_pager.specs.Shown.{IsMended, said}
-use Rattle.pocsag_pager.specs.Turns.{IsHeardAs}
+use Rattle.pocsag_pager.proofs.Prelude.{◌≡◌, ℕ, ◌^◌, ◌<◌, ◌⊎◌, List, [], ◌∷◌, refl, sym, ap, ap₂, inl, inr, Option, Some, None, AllZip, IsCodeword, IsNear, Kind, IsMended, said, IsHeardAs}
+use Rattle.pocsag_words.specs.Codeword.{IsOnlyNear, HasNoneNear}
 
 pub mended_same : (w : ℕ) (m n : Option ℕ) → IsMended w m → IsMended w n → m ≡ n
 mended_same w None None is also = refl

@@ -1,14 +1,8 @@
 -- The receiver, one word at a time, against the list of places.
-use Rattle.std.proofs.Common.{◌≡◌, ◌≢◌, ℕ, ◌+◌, ◌/◌, ◌%◌, Bool, true, false, not, ◌&&◌, cond, nat_eq, List, [], ◌∷◌, ◌++◌, length, refl, ap, arith}
-use Rattle.std.specs.Prelude.{Option, Some, None, option_to_list}
-use Rattle.std.proofs.lemmas.Bool.{ne_eqb}
-use Rattle.pocsag_words.specs.declared.codeword.Kind.{Kind}
+use Rattle.pocsag_pager.proofs.Prelude.{◌≡◌, ◌≢◌, ℕ, ◌+◌, ◌/◌, ◌%◌, Bool, true, false, cond, nat_eq, List, [], ◌∷◌, ◌++◌, length, refl, ap, arith, Option, Some, None, option_to_list, ne_eqb, Kind, Page, frame_at, is_ours, page_called, run_of, shown_from, ended_from, open_from, ending, next_open}
+use Rattle.std.proofs.Common.{not, ◌&&◌}
 use Rattle.pocsag_words.specs.declared.codeword.Kind.TheVariants.{Idle, Address, Message}
-use Rattle.pocsag_pages.specs.declared.page.Page.{Page}
-use Rattle.pocsag_pages.specs.Reading.{frame_at}
-use Rattle.pocsag_pager.specs.Shown.{is_ours, page_called, run_of, shown_from}
-use Rattle.pocsag_pager.specs.Standing.{ended_from, is_run, open_from}
-use Rattle.pocsag_pager.specs.Turns.{ending, next_open}
+use Rattle.pocsag_pager.specs.Standing.{is_run}
 
 -- ---- a run of message codewords has no page of its own
 

@@ -1,13 +1,8 @@
 -- What is shown is one list, of pages that may be listed.
-use Rattle.std.proofs.Common.{◌≡◌, ℕ, ◌+◌, ◌/◌, ◌%◌, ◌^◌, ◌<◌, Bool, true, false, cond, nat_eq, nat_lt, List, [], ◌∷◌, map, All, sym, ap, subst, ◌∙◌, arith}
-use Rattle.std.specs.Prelude.{Option, Some, None}
-use Rattle.std.proofs.lemmas.List.Elements.{All-cons, All-nil}
-use Rattle.pocsag_words.specs.declared.codeword.Kind.{Kind}
+use Rattle.pocsag_pager.proofs.Prelude.{◌≡◌, ℕ, ◌+◌, ◌/◌, ◌%◌, ◌^◌, ◌<◌, Bool, true, false, cond, nat_eq, List, [], ◌∷◌, map, All, sym, ap, subst, ◌∙◌, arith, Option, Some, None, All-cons, All-nil, Kind, Page, unsynced, AreShown, is_ours, page_called, run_of, said, shown_from}
+use Rattle.std.proofs.Common.{nat_lt}
 use Rattle.pocsag_words.specs.declared.codeword.Kind.TheVariants.{Idle, Address, Message}
-use Rattle.pocsag_pages.specs.declared.page.Page.{Page}
-use Rattle.pocsag_pages.specs.Bytes.{unsynced}
 use Rattle.pocsag_pages.specs.Listable.{IsListable}
-use Rattle.pocsag_pager.specs.Shown.{AreShown, is_ours, page_called, run_of, said, shown_from}
 use Rattle.pocsag_pager.proofs.Mending.{all_mended_same}
 
 pub one_list : (words : List ℕ) (a : ℕ) (ps qs : List Page) → AreShown words a ps → AreShown words a qs → ps ≡ qs

@@ -1,14 +1,8 @@
 -- The words of bytes, taken four bytes at a time.
-use Rattle.std.proofs.Common.{◌≡◌, ℕ, zero, suc, ◌+◌, ◌-◌, ◌*◌, ◌/◌, ◌^◌, ◌<◌, ◌≤◌, All, drop, List, [], ◌∷◌, ◌++◌, length, get_or, take, map, refl, sym, ap, ap₂, subst, ◌∙◌, arith, append_assoc, take-add}
-use Rattle.std.specs.Prelude.{Option, Some, None}
-use Rattle.std.specs.Int.{from_be_bytes, w32}
+use Rattle.pocsag_pager.proofs.Prelude.{◌≡◌, ℕ, zero, suc, ◌+◌, ◌-◌, ◌*◌, ◌/◌, ◌^◌, ◌<◌, ◌≤◌, All, drop, List, [], ◌∷◌, ◌++◌, length, get_or, take, map, refl, sym, ap, ap₂, subst, ◌∙◌, arith, append_assoc, Option, Some, None, from_be_bytes, w32, map-append, All-cons, All-nil, Page, words_of, AreShown, HaveEnded}
+use Rattle.std.proofs.Common.{take-add}
 use Rattle.std.specs.Simd.{first_chunks}
-use Rattle.std.proofs.lemmas.List.{map-append, take_more, length-take, take-append-drop}
-use Rattle.std.proofs.lemmas.List.Elements.{All-cons, All-nil}
-use Rattle.pocsag_pages.specs.declared.page.Page.{Page}
-use Rattle.pocsag_pages.specs.Bytes.{words_of}
-use Rattle.pocsag_pager.specs.Shown.{AreShown}
-use Rattle.pocsag_pager.specs.Standing.{HaveEnded}
+use Rattle.std.proofs.lemmas.List.{take_more, length-take, take-append-drop}
 
 pub chunk_words : (n : ℕ) (xs : List ℕ) → n ≡ length xs / 4 → map (from_be_bytes w32) (first_chunks 4 n xs) ≡ words_of xs
 chunk_words zero [] e = refl

@@ -115,11 +115,13 @@ pub fn bounded_stream<S: Source, T: Sink, C: Sink>(
     ensures headline { S.tells → T.tells → C.tells → IfOk result (λ bounded.
         WritesBounded (S.held source.old) search.end bounded.plan.batches bounded.bound (bound_of bounded.plan.tree)
         (T.taken tx.old) (T.taken tx.new) (C.taken cert.old) (C.taken cert.new)) }
-    ensures plan { S.tells → IfOk result (λ bounded. IsOfRound (S.held source.old) (λ round. IsPlanFor search round bounded)) }
+    ensures plan { S.tells →
+        IfOk result (λ bounded. IsOfRound (S.held source.old) (λ round. IsPlanFor search round bounded)) }
     ensures small { IfOk result (λ bounded. closed_nodes (bound_of bounded.plan.tree) ≤ search.limit) }
 
     // When each fault comes, and what it leaves.
-    ensures explained { S.tells → IfErr result (ExplainsStream search.effort (S.held source.old) search.end search.limit) }
+    ensures explained { S.tells →
+        IfErr result (ExplainsStream search.effort (S.held source.old) search.end search.limit) }
     ensures answered { search.effort ≡ Effort.Always → IfErr result (λ e. ¬ IsSearchLimit e) }
     ensures bad_limit { IsErrOf result StreamFault.BadLimit ↔ (¬ IsNodeLimit search.limit) }
     ensures unread { IsErrOf result StreamFault.BadLimit → source.new ≡ source.old }

@@ -7,7 +7,7 @@ use Rattle.std.proofs.lemmas.List.{map-append, take_all, take_more}
 use Rattle.std.proofs.lemmas.List.Sorted.{sum_by-IsPermutation}
 use Rattle.std.proofs.lemmas.List.Sums.{count_by_more_no, count_by_more_yes, sum_by-cons}
 use Rattle.pocsag_pages.specs.declared.page.Page.{Page}
-use Rattle.pocsag_show.specs.Numbers.{number_of}
+use Rattle.pocsag_show.specs.Numbers.{pages_below}
 
 -- up to the point where a list is parted, each element passes, and behind it none
 module _ (p : ℕ → Bool) (xs : List ℕ) (i : ℕ) (parted : IsPartitionPoint (λ y. p y ≡ true) (λ y. p y ≡ false) xs i) where
@@ -33,7 +33,7 @@ module _ (p : ℕ → Bool) (xs : List ℕ) (i : ℕ) (parted : IsPartitionPoint
       ∙ (failed rest (omega arith) ∙ passed i (omega arith) (omega arith)))
 
 -- the addresses that are smaller, in any order
-addresses_counted : (address : ℕ) (ps : List Page) → count_by (λ x. nat_lt x address) (map (λ p. p.address) ps) ≡ number_of ps address
+addresses_counted : (address : ℕ) (ps : List Page) → count_by (λ x. nat_lt x address) (map (λ p. p.address) ps) ≡ pages_below ps address
 addresses_counted address [] = refl
 addresses_counted address (p ∷ ps) =
     let one = λ (x : ℕ). cond (nat_lt x address) 1 0 in
@@ -42,7 +42,7 @@ addresses_counted address (p ∷ ps) =
     ∙ sym (sum_by-cons (λ (p : Page). cond (nat_lt p.address address) 1 0) p ps))
 
 pub number_is : (address : ℕ) (ps : List Page) (sorted : List ℕ) → IsPermutation (map (λ p. p.address) ps) sorted
-    → count_by (λ x. nat_lt x address) sorted ≡ number_of ps address
+    → count_by (λ x. nat_lt x address) sorted ≡ pages_below ps address
 number_is address ps sorted same =
     sum_by-IsPermutation (λ (x : ℕ). cond (nat_lt x address) 1 0) (map (λ p. p.address) ps) sorted same ∙ addresses_counted address ps
 

@@ -10,7 +10,7 @@ use Rattle.pocsag_show.specs.declared.rows.Rows.{Rows}
 use Rattle.pocsag_show.specs.Escapes.{told}
 use Rattle.pocsag_show.specs.Grid.{idles_in}
 use Rattle.pocsag_show.specs.Legend.{end_row_of, first_row_of, is_drawn, key, legend, legend_lines}
-use Rattle.pocsag_show.specs.Marks.{closed, hatching, head, opened, rectangle, synchronisation, tail}
+use Rattle.pocsag_show.specs.Marks.{group_end, hatching, head, opened, rectangle, synchronisation, tail}
 use Rattle.pocsag_show.specs.Measures.{cell_left, height, row_top}
 use Rattle.pocsag_show.specs.Picture.{batches_in, counts_part, idles_part, totals_line}
 use Rattle.pocsag_show.specs.Placed.{index_behind, placed_in}
@@ -33,7 +33,7 @@ unfoldable pub page_title : Placed → List ℕ
 page_title pl = codes "<title>" ++ (told pl ++ codes "</title>")
 
 unfoldable pub group : (low : ℕ) → Placed → (first end : ℕ) → List ℕ
-group low pl first end = opened pl.number ++ (page_title pl ++ (flat_map (piece low pl) (rows_between first end) ++ closed))
+group low pl first end = opened pl.number ++ (page_title pl ++ (flat_map (piece low pl) (rows_between first end) ++ group_end))
 
 -- A page, where it has codewords in the rows that are drawn.
 unfoldable pub page_drawn : (low high : ℕ) → Placed → List ℕ
@@ -51,16 +51,16 @@ row_drawn low row =
     batch_number y row ++ (synchronisation 60 y ++ (hatching y 448 ++ (10 ∷ [])))
 
 -- A number over the rows.
-unfoldable pub numbered : (x y number : ℕ) → List ℕ
-numbered x y number =
+unfoldable pub axis_number : (x y number : ℕ) → List ℕ
+axis_number x y number =
     codes "<text class='m' x='" ++ (decimal x ++ (codes "' y='" ++ (decimal y ++ (codes "'>" ++ (decimal number ++ codes "</text>")))))
 
 -- The numbers of the eight frames and, under them, of the sixteen slots.
 abbrev pub frame_number : ℕ → List ℕ
-frame_number frame = numbered (108 + 56 * frame) 60 frame
+frame_number frame = axis_number (108 + 56 * frame) 60 frame
 
 abbrev pub slot_number : ℕ → List ℕ
-slot_number slot = numbered (94 + 28 * slot) 74 slot
+slot_number slot = axis_number (94 + 28 * slot) 74 slot
 
 -- The words frame, slot and batch, and the numbers of the frames and slots.
 unfoldable pub axes : List ℕ

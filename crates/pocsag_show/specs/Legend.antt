@@ -4,7 +4,7 @@ use Rattle.std.specs.List.{count_by, flat_map}
 use Rattle.std.specs.Fmt.{decimal}
 use Rattle.pocsag_decode.specs.Listing.{kind_field}
 use Rattle.pocsag_show.specs.declared.placed.Placed.{Placed}
-use Rattle.pocsag_show.specs.Marks.{closed, hatching, head, opened, rectangle, synchronisation, text_at}
+use Rattle.pocsag_show.specs.Marks.{group_end, hatching, head, opened, rectangle, synchronisation, text_at}
 use Rattle.pocsag_show.specs.Placed.{index_behind}
 
 -- Of the rows from one up to before another the first in which a page has codewords, and the row behind the last.
@@ -57,7 +57,7 @@ unfoldable pub entry : (top place : ℕ) → Placed → List ℕ
 entry top place pl =
     let x = 80 + 150 * (place % 3) in
     let y = top + 22 * (place / 3) in
-    opened pl.number ++ (rectangle x y 28 ++ (head x y pl.number ++ (named (x + 34) y (names pl) ++ closed)))
+    opened pl.number ++ (rectangle x y 28 ++ (head x y pl.number ++ (named (x + 34) y (names pl) ++ group_end)))
 
 unfoldable pub entry_of : (low high : ℕ) → List Placed → Placed → List ℕ
 entry_of low high pls pl =

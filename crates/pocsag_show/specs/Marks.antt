@@ -29,8 +29,8 @@ tail x y number = codes "<text class='m" ++ (text_at (x + 12) y ++ (small_label 
 unfoldable pub opened : ℕ → List ℕ
 opened number = codes "<g class='p" ++ (decimal (hue number) ++ codes "'>")
 
-abbrev pub closed : List ℕ
-closed = codes "</g>" ++ (10 ∷ [])
+abbrev pub group_end : List ℕ
+group_end = codes "</g>" ++ (10 ∷ [])
 
 -- Idle codewords: a line of short dashes, as wide as the cells are high, so that its dashes hatch them.
 unfoldable pub hatching : (y width : ℕ) → List ℕ

@@ -6,11 +6,11 @@ use Rattle.std.specs.Fmt.{decimal}
 use Rattle.pocsag_pages.specs.declared.page.Page.{Page}
 
 -- How many pages have a smaller address: the pages of a round are numbered from 0 in order of their addresses.
-abbrev pub number_of : List Page → ℕ → ℕ
-number_of ps address = count_by (λ p. nat_lt p.address address) ps
+abbrev pub pages_below : List Page → ℕ → ℕ
+pages_below ps address = count_by (λ p. nat_lt p.address address) ps
 
 abbrev pub numbers_in : List Page → List ℕ
-numbers_in ps = map (λ p. number_of ps p.address) ps
+numbers_in ps = map (λ p. pages_below ps p.address) ps
 
 -- The letters from A to Z, and from a to z, again and again.
 abbrev pub capital : ℕ → ℕ

@@ -1,6 +1,6 @@
 ghost use Rattle.std.specs.Prelude.{◌≡◌, ◌<◌, ◌++◌, OnOk};
 ghost use Rattle.std.specs.List.{flat_map, range_with_len};
-ghost use Rattle.pocsag_show.specs.Drawing.{axes, caption, description, explanation, frame_number, front, ground, heading, kind_of_drawing, numbered, opening, seen_before, size, slot_number, title, told_before};
+ghost use Rattle.pocsag_show.specs.Drawing.{axes, caption, description, explanation, frame_number, front, ground, heading, kind_of_drawing, axis_number, opening, seen_before, size, slot_number, title, told_before};
 
 use crate::picture::{CODEWORDS, FRAMES, put_counts, put_idles, put_totals};
 use crate::pieces::put;
@@ -129,7 +129,7 @@ fn put_caption(
 }
 
 // Writes a number over the rows.
-#[tactic(auto, unfolding(crate::specs::Drawing::numbered))]
+#[tactic(auto, unfolding(crate::specs::Drawing::axis_number))]
 fn put_number(
     alloc: Global,
     text: &mut Vec<u8>,
@@ -137,7 +137,7 @@ fn put_number(
     y: usize,
     number: usize,
 ) -> Result<(), AllocError>
-    ensures { OnOk result (text.new.items ≡ text.old.items ++ numbered x y number) }
+    ensures { OnOk result (text.new.items ≡ text.old.items ++ axis_number x y number) }
 {
     let part = format!(in alloc; "<text class='m' x='{x}' y='{y}'>{number}</text>")?;
     put(text, part.as_bytes())

@@ -1,11 +1,6 @@
 -- How often codewords in a row cover a slot, and where the runs of a class start and end.
-use Rattle.std.proofs.Common.{◌≡◌, ℕ, zero, suc, ◌+◌, ◌-◌, ◌*◌, ◌/◌, ◌%◌, ◌<◌, ◌==◌, Bool, true, false, cond, arith}
-use Rattle.std.proofs.lemmas.Bool.Decides.{nat_tests}
-use Rattle.pocsag_words.specs.declared.ending.End.{End}
+use Rattle.pocsag_slots.proofs.Prelude.{◌≡◌, ℕ, zero, suc, ◌+◌, ◌-◌, ◌*◌, ◌/◌, ◌%◌, ◌<◌, ◌==◌, Bool, true, false, cond, arith, nat_tests, End, frame_at, covered, class_of, class_frame, class_rest, start_of, finish_of}
 use Rattle.pocsag_words.specs.declared.ending.End.TheVariants.{Open, Closed}
-use Rattle.pocsag_pages.specs.Reading.{frame_at}
-use Rattle.pocsag_slots.specs.Cover.{covered}
-use Rattle.pocsag_slots.specs.Numbering.{class_of, class_frame, class_rest, start_of, finish_of}
 
 -- one codeword more raises the whole turns exactly in its own slot
 cover_step : (i slot : ℕ) → slot < 16 → cond (i % 16 == slot) 1 0 + (i + 15 - slot) / 16 ≡ (i + 1 + 15 - slot) / 16

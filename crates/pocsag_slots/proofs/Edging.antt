@@ -1,12 +1,5 @@
 -- The load of a slot against that of the slot before: the runs that start between them, and those that end.
-use Rattle.std.proofs.Common.{◌≡◌, ℕ, zero, suc, [], ◌∷◌, ◌+◌, ◌-◌, ◌*◌, ◌/◌, ◌%◌, ◌<◌, ◌≤◌, ◌==◌, Bool, true, false, cond, slice_index, refl, sym, subst, ◌∙◌, arith}
-use Rattle.std.proofs.lemmas.Bool.Decides.{nat_tests}
-use Rattle.pocsag_slots.specs.declared.class.Classes.{Classes}
-use Rattle.pocsag_slots.specs.Cover.{covered}
-use Rattle.pocsag_slots.specs.Edges.{ends_at, starts_at}
-use Rattle.pocsag_slots.specs.Loads.{IsChoice, class_load, load}
-use Rattle.pocsag_slots.specs.Numbering.{class_rest, start_of, finish_of}
-use Rattle.pocsag_slots.specs.Sums.{sum_below}
+use Rattle.pocsag_slots.proofs.Prelude.{◌≡◌, ℕ, zero, suc, [], ◌∷◌, ◌+◌, ◌-◌, ◌*◌, ◌/◌, ◌%◌, ◌<◌, ◌≤◌, ◌==◌, Bool, true, false, cond, slice_index, refl, sym, subst, ◌∙◌, arith, nat_tests, Classes, covered, ends_at, starts_at, IsChoice, class_load, load, class_rest, start_of, finish_of, sum_below}
 use Rattle.pocsag_slots.proofs.CoverLemmas.{covered_is, start_below}
 use Rattle.pocsag_slots.proofs.LoadLemmas.{load_few}
 use Rattle.pocsag_slots.proofs.SumLemmas.{sum_below-add, sum_below-le, sum_below-part, sum_below-same, sum_below_more}

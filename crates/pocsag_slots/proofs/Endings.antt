@@ -1,15 +1,7 @@
 -- The last arc of a transmission that ends whole, and the last codeword of a tour that ends so.
-use Rattle.std.proofs.Common.{◌≡◌, ℕ, ◌+◌, ◌%◌, ◌<◌, ◌==◌, false, List, [], ◌∷◌, length, arith}
-use Rattle.std.proofs.lemmas.Bool.Decides.{nat_tests}
-use Rattle.pocsag_words.specs.declared.codeword.Kind.{Kind}
+use Rattle.pocsag_slots.proofs.Prelude.{◌≡◌, ℕ, ◌+◌, ◌%◌, ◌<◌, ◌==◌, false, List, [], ◌∷◌, length, arith, nat_tests, Kind, End, EndsWhole, EndsAs, frame_at, arcs, run_length, class_of, LastIsWhole, LastAs, Step}
 use Rattle.pocsag_words.specs.declared.codeword.Kind.TheVariants.{Idle, Address, Message}
-use Rattle.pocsag_words.specs.declared.ending.End.{End}
 use Rattle.pocsag_words.specs.declared.ending.End.TheVariants.{Open, Closed}
-use Rattle.pocsag_pages.specs.Reading.{EndsWhole, EndsAs, frame_at}
-use Rattle.pocsag_slots.specs.Arcs.{arcs, run_length}
-use Rattle.pocsag_slots.specs.Numbering.{class_of}
-use Rattle.pocsag_slots.specs.Tours.{LastIsWhole, LastAs}
-use Rattle.pocsag_slots.specs.declared.step.Step.{Step}
 use Rattle.pocsag_slots.specs.declared.step.Step.TheVariants.{Idle as Stay, Run}
 
 -- an address codeword alone in the last slot is a late run of class 135

@@ -1,17 +1,6 @@
 -- What a legal transmission says of its count of batches.
-use Rattle.std.proofs.Common.{◌≡◌, ℕ, ◌<◌, ◌≤◌, List, All, map, sym, subst, arith}
-use Rattle.pocsag_words.specs.Codeword.{IsCodeword}
-use Rattle.pocsag_words.specs.Kinds.{kind_of}
-use Rattle.pocsag_words.specs.declared.codeword.Kind.{Kind}
-use Rattle.pocsag_words.specs.declared.ending.End.{End}
-use Rattle.pocsag_pages.specs.declared.page.Page.{Page}
-use Rattle.pocsag_pages.specs.Reading.{AreApart, IsLegalFor, IsLegalList}
-use Rattle.pocsag_slots.specs.declared.class.Classes.{Classes}
-use Rattle.pocsag_slots.specs.declared.step.Step.{Step}
-use Rattle.pocsag_slots.specs.Arcs.{early_in}
-use Rattle.pocsag_slots.specs.Layout.{laid}
-use Rattle.pocsag_slots.specs.Loads.{AreClassesOf, IsChoice, IsLeast, load}
-use Rattle.pocsag_slots.specs.Tours.{IsTour}
+use Rattle.pocsag_slots.proofs.Prelude.{◌≡◌, ℕ, ◌<◌, ◌≤◌, List, All, map, sym, subst, arith, IsCodeword, kind_of, Kind, End, Page, AreApart, IsLegalFor, IsLegalList, Classes, Step, early_in, laid, AreClassesOf, IsChoice, load, IsTour}
+use Rattle.pocsag_slots.specs.Loads.{IsLeast}
 use Rattle.pocsag_slots.proofs.Laying.{laid_legal}
 use Rattle.pocsag_slots.proofs.Touring.{toured}
 

@@ -1,26 +1,8 @@
 -- The codewords of a tour's steps, in order, are a legal transmission.
-use Rattle.std.proofs.Common.{◌≡◌, ℕ, ◌+◌, ◌*◌, ◌/◌, ◌%◌, ◌<◌, ◌≤◌, ◌==◌, Bool, true, false, cond, List, [], ◌∷◌, ◌++◌, length, map, refl, sym, ap, subst, ◌∙◌, arith, eq-eqb, inl, inr, length-append, ◌⊎◌}
-use Rattle.std.specs.Prelude.{IsPermutation}
-use Rattle.std.proofs.lemmas.Bool.{cases_lt, eqb-true, ne_eqb}
-use Rattle.std.proofs.lemmas.List.{nil_from_length}
-use Rattle.std.proofs.lemmas.Bool.Decides.{nat_tests}
+use Rattle.pocsag_slots.proofs.Prelude.{◌≡◌, ℕ, ◌+◌, ◌*◌, ◌/◌, ◌%◌, ◌<◌, ◌≤◌, ◌==◌, Bool, true, false, cond, List, [], ◌∷◌, ◌++◌, length, map, refl, sym, ap, subst, ◌∙◌, arith, eq-eqb, inl, inr, length-append, ◌⊎◌, IsPermutation, cases_lt, eqb-true, ne_eqb, nil_from_length, nat_tests, sum_by-cons, IsPermutation-cons, IsPermutation-refl, IsPermutation-trans, Contains-permutation, length_permutation, sum_by-IsPermutation, Kind, End, Page, Reads, at_end, past_idle, past_page, BeginsNoMessage, EndsWhole, EndsAs, IsLegalFor, frame_at, page_words, page_length, Classes, arcs, runs, run_length, covered, AreClassesOf, load, first_of, without_first, laid, class_of, class_of_page, class_frame, start_of, finish_of, count_of, Leads, idles, IsTour, LastIsWhole, LastAs, Step}
 use Rattle.std.proofs.lemmas.List.Elements.{All-contains_itself}
-use Rattle.std.proofs.lemmas.List.Sums.{sum_by-cons}
-use Rattle.std.proofs.lemmas.List.Sorted.{IsPermutation-cons, IsPermutation-refl, IsPermutation-trans, Contains-permutation, length_permutation, sum_by-IsPermutation}
-use Rattle.pocsag_words.specs.declared.codeword.Kind.{Kind}
 use Rattle.pocsag_words.specs.declared.codeword.Kind.TheVariants.{Idle, Address, Message}
-use Rattle.pocsag_words.specs.declared.ending.End.{End}
 use Rattle.pocsag_words.specs.declared.ending.End.TheVariants.{Open, Closed}
-use Rattle.pocsag_pages.specs.declared.page.Page.{Page}
-use Rattle.pocsag_pages.specs.Reading.{Reads, at_end, past_idle, past_page, BeginsNoMessage, EndsWhole, EndsAs, IsLegalFor, frame_at, page_words, page_length}
-use Rattle.pocsag_slots.specs.declared.class.Classes.{Classes}
-use Rattle.pocsag_slots.specs.Arcs.{arcs, runs, run_length}
-use Rattle.pocsag_slots.specs.Cover.{covered}
-use Rattle.pocsag_slots.specs.Loads.{AreClassesOf, load}
-use Rattle.pocsag_slots.specs.Layout.{first_of, without_first, laid}
-use Rattle.pocsag_slots.specs.Numbering.{class_of, class_of_page, class_frame, start_of, finish_of, count_of}
-use Rattle.pocsag_slots.specs.Tours.{Leads, idles, IsTour, LastIsWhole, LastAs}
-use Rattle.pocsag_slots.specs.declared.step.Step.{Step}
 use Rattle.pocsag_slots.specs.declared.step.Step.TheVariants.{Idle as Stay, Run}
 use Rattle.pocsag_slots.proofs.CoverLemmas.{class_below, class_frame_is, covered_is, finish_is}
 use Rattle.pocsag_slots.proofs.Taking.{IsTaken, taken, left_counts}

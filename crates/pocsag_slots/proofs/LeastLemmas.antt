@@ -1,14 +1,7 @@
 -- The least load of a set of slots is attained class by class.
-use Rattle.std.proofs.Common.{◌≡◌, ℕ, ◌+◌, ◌-◌, ◌*◌, ◌%◌, ◌<◌, ◌≤◌, ◌==◌, min, true, false, cond, leb, refl, ap, ◌∙◌, arith, slice_index, inl, inr}
-use Rattle.std.proofs.lemmas.Bool.{cases_lt}
-use Rattle.std.proofs.lemmas.Bool.Decides.{nat_tests}
-use Rattle.std.proofs.Math.Nat.{mul-le-mul_left}
-use Rattle.pocsag_slots.specs.declared.class.Classes.{Classes}
-use Rattle.pocsag_slots.specs.declared.limit.Limits.{Limits}
-use Rattle.pocsag_slots.specs.Cover.{covered}
-use Rattle.pocsag_slots.specs.Loads.{AreInOrder, IsLeastLoad, Overloads, class_load, class_load_over, least_of_class, load}
-use Rattle.pocsag_slots.specs.Numbering.{class_rest, start_of}
-use Rattle.pocsag_slots.specs.Sums.{holds, sum_below, sum_over}
+use Rattle.pocsag_slots.proofs.Prelude.{◌≡◌, ℕ, ◌+◌, ◌-◌, ◌*◌, ◌%◌, ◌<◌, ◌≤◌, ◌==◌, true, false, cond, refl, ap, ◌∙◌, arith, slice_index, inl, inr, cases_lt, nat_tests, mul-le-mul_left, Classes, Limits, covered, AreInOrder, class_load, least_of_class, load, class_rest, start_of, holds, sum_below, sum_over}
+use Rattle.std.proofs.Common.{min, leb}
+use Rattle.pocsag_slots.specs.Loads.{IsLeastLoad, Overloads, class_load_over}
 use Rattle.pocsag_slots.proofs.CoverLemmas.{covered_split}
 use Rattle.pocsag_slots.proofs.LoadLemmas.{load_few, load_none}
 use Rattle.pocsag_slots.proofs.SumLemmas.{sum_over-most, sum_below-le, sum_below-same, sum_over-add, sum_over-at, sum_over-none, sum_over-same, sum_over-sum_below, sum_over-times}

@@ -1,8 +1,6 @@
 -- Limits in order.
-use Rattle.std.proofs.Common.{◌≡◌, ℕ, arith, replicate, slice_index}
-use Rattle.std.proofs.lemmas.List.{get_or-replicate}
-use Rattle.pocsag_slots.specs.declared.class.Classes.{Classes}
-use Rattle.pocsag_slots.specs.Loads.{AreInOrder, limits_of_all}
+use Rattle.pocsag_slots.proofs.Prelude.{◌≡◌, ℕ, arith, replicate, slice_index, get_or-replicate, Classes, AreInOrder}
+use Rattle.pocsag_slots.specs.Loads.{limits_of_all}
 
 pub all_ordered : (k : Classes) (batches : ℕ) → AreInOrder k (limits_of_all k batches)
 all_ordered k batches =

@@ -1,12 +1,6 @@
 -- Loads of slots by the runs of a class, and their bounds.
-use Rattle.std.proofs.Common.{◌≡◌, ℕ, ◌+◌, ◌-◌, ◌*◌, ◌%◌, ◌<◌, ◌≤◌, true, false, cond, ltb, arith, slice_index}
-use Rattle.std.proofs.lemmas.Bool.Decides.{nat_tests}
-use Rattle.std.proofs.Math.Nat.{mul-le-mul_left}
-use Rattle.pocsag_slots.specs.declared.class.Classes.{Classes}
-use Rattle.pocsag_slots.specs.Cover.{covered}
-use Rattle.pocsag_slots.specs.Loads.{IsChoice, class_load, load}
-use Rattle.pocsag_slots.specs.Numbering.{class_rest, start_of}
-use Rattle.pocsag_slots.specs.Sums.{sum_below}
+use Rattle.pocsag_slots.proofs.Prelude.{◌≡◌, ℕ, ◌+◌, ◌-◌, ◌*◌, ◌%◌, ◌<◌, ◌≤◌, true, false, cond, arith, slice_index, nat_tests, mul-le-mul_left, Classes, covered, IsChoice, class_load, load, class_rest, start_of, sum_below}
+use Rattle.std.proofs.Common.{ltb}
 use Rattle.pocsag_slots.proofs.CoverLemmas.{covered_is}
 use Rattle.pocsag_slots.proofs.SumLemmas.{sum_below-le, sum_below-part, sum_below-times, term-le-sum_below}
 

@@ -1,24 +1,12 @@
 -- Codewords that in order say what the steps of a tour lay out.
-use Rattle.std.proofs.Common.{◌≡◌, ℕ, ◌/◌, ◌^◌, ◌<◌, false, List, [], ◌∷◌, ◌++◌, map, ap, ◌∙◌, All, arith, refl}
-use Rattle.std.proofs.lemmas.Bool.Decides.{nat_tests}
-use Rattle.std.proofs.lemmas.List.Elements.{All-cons, All-head, All-nil, All-tail}
+use Rattle.pocsag_slots.proofs.Prelude.{◌≡◌, ℕ, ◌/◌, ◌^◌, ◌<◌, false, List, [], ◌∷◌, ◌++◌, map, ap, ◌∙◌, All, arith, refl, nat_tests, All-cons, All-head, All-nil, All-tail, IsCodeword, kind_of, Kind, End, Page, IsGoodPage, IsRound, IsLegalList, page_words, Classes, Step, first_of, without_first, laid, AreClassesOf, IsTour}
 use Rattle.std.proofs.lemmas.List.Sorted.{All-permutation}
-use Rattle.pocsag_words.specs.Codeword.{IsCodeword}
-use Rattle.pocsag_words.specs.Kinds.{address_kind, kind_of}
-use Rattle.pocsag_words.specs.declared.codeword.Kind.{Kind}
+use Rattle.pocsag_words.specs.Kinds.{address_kind}
 use Rattle.pocsag_words.specs.declared.codeword.Kind.TheVariants.{Idle, Address, Message}
-use Rattle.pocsag_words.specs.declared.ending.End.{End}
-use Rattle.pocsag_pages.specs.declared.page.Page.{Page}
-use Rattle.pocsag_pages.specs.Pages.{IsGoodPage, IsRound, is_reserved}
-use Rattle.pocsag_pages.specs.Reading.{IsLegalList, page_words}
+use Rattle.pocsag_pages.specs.Pages.{is_reserved}
 use Rattle.pocsag_pages.proofs.GoodPages.{good_pages}
-use Rattle.pocsag_slots.specs.declared.class.Classes.{Classes}
-use Rattle.pocsag_slots.specs.declared.step.Step.{Step}
 use Rattle.pocsag_slots.specs.declared.step.Step.TheVariants.{Idle as Stay, Run}
-use Rattle.pocsag_slots.specs.Layout.{first_of, without_first, laid}
-use Rattle.pocsag_slots.specs.Loads.{AreClassesOf}
 use Rattle.pocsag_slots.specs.Saying.{IsSayable}
-use Rattle.pocsag_slots.specs.Tours.{IsTour}
 use Rattle.pocsag_slots.proofs.Fewest.{laid_list_legal}
 use Rattle.pocsag_slots.proofs.Laying.{IsServed, served_left, served_tour, some_left}
 use Rattle.pocsag_slots.proofs.Taking.{taken}

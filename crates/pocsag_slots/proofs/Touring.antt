@@ -1,17 +1,5 @@
 -- A legal transmission is a tour.
-use Rattle.std.proofs.Common.{◌≡◌, ℕ, ◌+◌, ◌-◌, ◌*◌, ◌/◌, ◌<◌, ◌==◌, true, false, cond, List, length, refl, sym, ap, subst, ◌∙◌, arith, slice_index}
-use Rattle.std.proofs.lemmas.List.Sorted.{sum_by-IsPermutation}
-use Rattle.pocsag_words.specs.declared.codeword.Kind.{Kind}
-use Rattle.pocsag_words.specs.declared.ending.End.{End}
-use Rattle.pocsag_pages.specs.declared.page.Page.{Page}
-use Rattle.pocsag_pages.specs.Reading.{AreApart, IsLegalFor, page_length}
-use Rattle.pocsag_slots.specs.declared.class.Classes.{Classes}
-use Rattle.pocsag_slots.specs.declared.step.Step.{Step}
-use Rattle.pocsag_slots.specs.Arcs.{arcs, early_in, runs}
-use Rattle.pocsag_slots.specs.Cover.{covered}
-use Rattle.pocsag_slots.specs.Loads.{AreClassesOf, class_load, load}
-use Rattle.pocsag_slots.specs.Numbering.{class_of_page, count_of, turns_of}
-use Rattle.pocsag_slots.specs.Tours.{Leads, idles, IsTour}
+use Rattle.pocsag_slots.proofs.Prelude.{◌≡◌, ℕ, ◌+◌, ◌-◌, ◌*◌, ◌/◌, ◌<◌, ◌==◌, true, false, cond, List, length, refl, sym, ap, subst, ◌∙◌, arith, slice_index, sum_by-IsPermutation, Kind, End, Page, AreApart, IsLegalFor, page_length, Classes, Step, arcs, early_in, runs, covered, AreClassesOf, class_load, load, class_of_page, count_of, turns_of, Leads, idles, IsTour}
 use Rattle.pocsag_slots.proofs.CoverLemmas.{covered_batches}
 use Rattle.pocsag_slots.proofs.Endings.{ends_as}
 use Rattle.pocsag_slots.proofs.Rearranged.{rearranged}

@@ -1,19 +1,8 @@
 -- The arcs of a transmission lead along it, and cover its slots.
-use Rattle.std.proofs.Common.{◌≡◌, ℕ, suc, ◌+◌, ◌*◌, ◌/◌, ◌%◌, ◌<◌, ◌≤◌, ◌==◌, ◌&&◌, Bool, true, false, not, cond, List, [], ◌∷◌, ◌++◌, length, map, refl, sym, ap, subst, ◌∙◌, arith, length-append, eq-eqb, add-zero}
-use Rattle.std.proofs.lemmas.Bool.{ne_eqb}
+use Rattle.pocsag_slots.proofs.Prelude.{◌≡◌, ℕ, suc, ◌+◌, ◌*◌, ◌/◌, ◌%◌, ◌<◌, ◌≤◌, ◌==◌, ◌&&◌, Bool, true, false, cond, List, [], ◌∷◌, ◌++◌, length, map, refl, sym, ap, subst, ◌∙◌, arith, length-append, eq-eqb, ne_eqb, sum_by-cons, Kind, End, Page, Reads, at_end, past_idle, past_page, BeginsNoMessage, frame_at, page_length, arcs, runs, run_length, covered, class_of, class_of_page, class_rest, start_of, finish_of, count_of, turns_of, sum_below, Leads, idles, Step}
+use Rattle.std.proofs.Common.{not, add-zero}
 use Rattle.std.proofs.lemmas.List.{length-map}
-use Rattle.std.proofs.lemmas.List.Sums.{sum_by-cons}
-use Rattle.pocsag_words.specs.declared.codeword.Kind.{Kind}
 use Rattle.pocsag_words.specs.declared.codeword.Kind.TheVariants.{Idle, Address, Message}
-use Rattle.pocsag_words.specs.declared.ending.End.{End}
-use Rattle.pocsag_pages.specs.declared.page.Page.{Page}
-use Rattle.pocsag_pages.specs.Reading.{Reads, at_end, past_idle, past_page, BeginsNoMessage, frame_at, page_length}
-use Rattle.pocsag_slots.specs.Arcs.{arcs, runs, run_length}
-use Rattle.pocsag_slots.specs.Cover.{covered}
-use Rattle.pocsag_slots.specs.Numbering.{class_of, class_of_page, class_rest, start_of, finish_of, count_of, turns_of}
-use Rattle.pocsag_slots.specs.Sums.{sum_below}
-use Rattle.pocsag_slots.specs.Tours.{Leads, idles}
-use Rattle.pocsag_slots.specs.declared.step.Step.{Step}
 use Rattle.pocsag_slots.specs.declared.step.Step.TheVariants.{Idle as Stay, Run}
 use Rattle.pocsag_slots.proofs.CoverLemmas.{class_below, class_rest_is, start_is, finish_is, covered_split, covered_turns}
 use Rattle.pocsag_slots.proofs.SumLemmas.{sum_below-zero, sum_below-bump}

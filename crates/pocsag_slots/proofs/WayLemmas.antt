@@ -1,14 +1,11 @@
 -- Lists of ways: how they grow, how long they are, and that their ways may be taken.
-use Rattle.std.proofs.Common.{◌≡◌, ℕ, zero, suc, ◌+◌, ◌*◌, ◌<◌, ◌≤◌, ◌&&◌, Bool, true, false, nat_lt, cond, List, [], ◌∷◌, ◌++◌, All, length, refl, arith, add-one, length-append, append_assoc, slice_index}
-use Rattle.std.proofs.lemmas.Bool.Decides.{nat_tests}
-use Rattle.std.proofs.lemmas.List.Elements.{All-append, All-cons, All-nil}
+use Rattle.pocsag_slots.proofs.Prelude.{◌≡◌, ℕ, zero, suc, ◌+◌, ◌*◌, ◌<◌, ◌≤◌, ◌&&◌, Bool, true, false, cond, List, [], ◌∷◌, ◌++◌, All, length, refl, arith, add-one, length-append, slice_index, nat_tests, All-cons, All-nil, Classes, Limits, joined_below, class_ways, slot_ways, ways_across}
+use Rattle.std.proofs.Common.{nat_lt, append_assoc}
+use Rattle.std.proofs.lemmas.List.Elements.{All-append}
 use Rattle.std.proofs.lemmas.Bool.{and_parts}
-use Rattle.pocsag_slots.specs.declared.class.Classes.{Classes}
-use Rattle.pocsag_slots.specs.declared.limit.Limits.{Limits}
 use Rattle.pocsag_slots.specs.declared.way.Way.{Way}
 use Rattle.pocsag_slots.specs.declared.way.Way.TheVariants.{IdleIn, Early, Late}
-use Rattle.pocsag_slots.specs.Sums.{joined_below}
-use Rattle.pocsag_slots.specs.Ways.{MayTake, class_ways, early_open, idle_crosses, late_open, run_crosses, slot_ways, ways_across}
+use Rattle.pocsag_slots.specs.Ways.{MayTake, early_open, idle_crosses, late_open, run_crosses}
 
 pub joined_none : {X : Type 0} (f : ℕ → List X) → joined_below 0 f ≡ []
 unfolding joined_below

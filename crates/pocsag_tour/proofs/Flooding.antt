@@ -1,8 +1,5 @@
 -- What floods keep: each member is visited, and the last exits lead home.
-use Rattle.std.proofs.Common.{◌≡◌, ◌≢◌, ℕ, ◌<◌, true, false, List, length, slice_index, slice_set, get_or-set_same, get_or-set_other, refl, sym, subst, ◌∙◌, inl, inr}
-use Rattle.std.proofs.lemmas.Bool.{cases_eq}
-use Rattle.pocsag_slots.specs.Sums.{holds}
-use Rattle.pocsag_tour.specs.Moves.{arc_from, arc_to, IsEntering, IsExit, Home, at_root, by_exit, LeadHome}
+use Rattle.pocsag_tour.proofs.Prelude.{◌≡◌, ◌≢◌, ℕ, ◌<◌, true, false, List, length, slice_index, slice_set, get_or-set_same, get_or-set_other, refl, sym, subst, ◌∙◌, inl, inr, cases_eq, holds, arc_from, arc_to, IsEntering, IsExit, Home, at_root, by_exit, LeadHome}
 use Rattle.pocsag_tour.proofs.Geometry.{to_below}
 
 -- the set of one member

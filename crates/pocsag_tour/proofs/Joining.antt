@@ -1,11 +1,7 @@
 -- Where all runs start where boundary 0 leads, all arcs lead back to it.
-use Rattle.std.proofs.Common.{◌≡◌, ℕ, zero, suc, ◌+◌, ◌-◌, ◌%◌, ◌<◌, ◌≤◌, ◌==◌, Bool, true, false, cond, List, [], ◌∷◌, ◌++◌, refl, sym, ap, ◌∙◌, arith, eq-eqb, inl, inr}
-use Rattle.std.proofs.lemmas.Bool.{cases_eq, eqb-true, ne_eqb}
-use Rattle.pocsag_slots.specs.declared.step.Step.{Step}
+use Rattle.pocsag_tour.proofs.Prelude.{◌≡◌, ℕ, zero, suc, ◌+◌, ◌-◌, ◌%◌, ◌<◌, ◌≤◌, ◌==◌, Bool, true, false, cond, List, [], ◌∷◌, ◌++◌, refl, sym, ap, ◌∙◌, arith, eq-eqb, inl, inr, cases_eq, eqb-true, ne_eqb, Step, holds, LastIsWhole, Leads, AllLeadTo, arc_from, arc_to, IsBalanced, IsClosing, IsWay, NoneEnters, NoneLeaves, ins, outs, RunsStart, step_of, taken, Visited, by_arc}
 use Rattle.pocsag_slots.specs.declared.step.Step.TheVariants.{Idle as Stay, Run}
-use Rattle.pocsag_slots.specs.Sums.{holds}
-use Rattle.pocsag_slots.specs.Tours.{LastIsWhole, Leads}
-use Rattle.pocsag_tour.specs.Moves.{AllLeadTo, arc_from, arc_to, IsBalanced, IsClosing, IsWay, NoneEnters, NoneLeaves, ins, outs, RunsStart, step_of, taken, Visited, at_start, by_arc}
+use Rattle.pocsag_tour.specs.Moves.{at_start}
 use Rattle.pocsag_tour.proofs.Balances.{entered_less, flipped, in_term, ins_over, none_enters, none_leaves, outs_over, positive_term, set_balance}
 use Rattle.pocsag_tour.proofs.Geometry.{by_kind, from_below, from_idle, to_idle}
 use Rattle.pocsag_tour.proofs.Walks.{IsLess, ins_less, leads_over, leads_push, less_le, none_push, outs_less, taken_push}

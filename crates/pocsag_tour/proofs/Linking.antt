@@ -1,17 +1,13 @@
 -- Links between boundaries, and what they lead to.
-use Rattle.std.proofs.Common.{◌≡◌, ◌⊎◌, ℕ, ◌+◌, ◌%◌, ◌<◌, ◌≤◌, ◌==◌, Bool, true, false, List, length, slice_index, ltb, sym, ap, subst, ◌∙◌, arith, inl, inr, bit_or, max}
-use Rattle.std.proofs.lemmas.Bool.{cases_eq, lt-ltb, ltb-true}
-use Rattle.std.proofs.lemmas.Bool.Decides.{nat_tests}
+use Rattle.pocsag_tour.proofs.Prelude.{◌≡◌, ◌⊎◌, ℕ, ◌+◌, ◌%◌, ◌<◌, ◌≤◌, ◌==◌, Bool, true, false, List, length, slice_index, sym, ap, subst, ◌∙◌, arith, inl, inr, cases_eq, nat_tests, Classes, load, start_of, finish_of, holds, IsLed, AreReached, IsReached, runs_of}
+use Rattle.std.proofs.Common.{ltb, bit_or, max}
+use Rattle.std.proofs.lemmas.Bool.{lt-ltb, ltb-true}
 use Rattle.std.proofs.lemmas.Nat.Bits.{bit_at_or, bit_at-lt}
 use Rattle.std.specs.Int.{bit_at}
-use Rattle.pocsag_slots.specs.declared.class.Classes.{Classes}
-use Rattle.pocsag_slots.specs.Loads.{load}
-use Rattle.pocsag_slots.specs.Numbering.{start_of, finish_of}
-use Rattle.pocsag_slots.specs.Sums.{holds}
 use Rattle.pocsag_slots.proofs.CoverLemmas.{start_below}
 use Rattle.pocsag_slots.proofs.Members.{holds_none}
-use Rattle.pocsag_tour.specs.Links.{AddsLink, AreLinked, at_start, by_idle, by_link, by_run, Follows, HaveIdles, HaveRuns, IsLed, IsLinked}
-use Rattle.pocsag_tour.specs.Reached.{AreReached, IsReached, at_start as start, by_idle as on_idle, by_run as on_run, runs_of}
+use Rattle.pocsag_tour.specs.Links.{AddsLink, AreLinked, at_start, by_idle, by_link, by_run, Follows, HaveIdles, HaveRuns, IsLinked}
+use Rattle.pocsag_tour.specs.Reached.{at_start as start, by_idle as on_idle, by_run as on_run}
 
 either_bit : (a b : ℕ) → a < 2 → b < 2 → (max a b == 1) ≡ true → ((a == 1) ≡ true) ⊎ ((b == 1) ≡ true)
 either_bit a b h l e = grind (arith, cases_eq, nat_tests)

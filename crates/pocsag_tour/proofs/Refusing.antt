@@ -1,18 +1,8 @@
 -- What is refused has no tour.
-use Rattle.std.proofs.Common.{◌≡◌, ℕ, ◌+◌, ◌%◌, ◌<◌, ◌≤◌, ◌==◌, ◌&&◌, ◌⊎◌, nat_lt, Bool, true, false, not, cond, List, [], ◌∷◌, refl, subst, ◌∙◌, arith, eq-eqb, inl, inr}
-use Rattle.std.proofs.lemmas.Bool.{eqb-true}
-use Rattle.std.proofs.lemmas.Bool.Decides.{nat_tests}
-use Rattle.pocsag_words.specs.declared.ending.End.{End}
+use Rattle.pocsag_tour.proofs.Prelude.{◌≡◌, ℕ, ◌+◌, ◌%◌, ◌<◌, ◌≤◌, ◌==◌, ◌&&◌, ◌⊎◌, nat_lt, Bool, true, false, not, cond, List, [], ◌∷◌, refl, subst, ◌∙◌, arith, eq-eqb, inl, inr, eqb-true, nat_tests, End, Classes, Step, runs, load, start_of, finish_of, holds, idles, IsTour, LastIsWhole, Leads, IsReached, IsUnclosed, runs_of}
 use Rattle.pocsag_words.specs.declared.ending.End.TheVariants.{Closed}
-use Rattle.pocsag_slots.specs.declared.class.Classes.{Classes}
-use Rattle.pocsag_slots.specs.declared.step.Step.{Step}
 use Rattle.pocsag_slots.specs.declared.step.Step.TheVariants.{Idle as Stay, Run}
-use Rattle.pocsag_slots.specs.Arcs.{runs}
-use Rattle.pocsag_slots.specs.Loads.{load}
-use Rattle.pocsag_slots.specs.Numbering.{start_of, finish_of}
-use Rattle.pocsag_slots.specs.Sums.{holds}
-use Rattle.pocsag_slots.specs.Tours.{idles, IsTour, LastIsWhole, Leads}
-use Rattle.pocsag_tour.specs.Reached.{IsApart, IsReached, at_start, by_idle, by_run, IsUnclosed, runs_of}
+use Rattle.pocsag_tour.specs.Reached.{IsApart, at_start, by_idle, by_run}
 use Rattle.pocsag_slots.proofs.CoverLemmas.{finish_below, start_below}
 
 -- a closed way to boundary 0 has an idle in slot 15 or a late run of class 135

@@ -1,13 +1,6 @@
 -- With an idle in each slot all arcs lead to one another, and there is a tour for either end.
-use Rattle.std.proofs.Common.{◌≡◌, ℕ, zero, suc, ◌+◌, ◌-◌, ◌%◌, ◌<◌, ◌≤◌, true, List, refl, arith}
-use Rattle.pocsag_words.specs.declared.ending.End.{End}
+use Rattle.pocsag_tour.proofs.Prelude.{◌≡◌, ℕ, zero, suc, ◌+◌, ◌-◌, ◌%◌, ◌<◌, ◌≤◌, true, List, refl, arith, End, Classes, Step, IsChoice, load, SetsTakeMembers, holds, IsTour, AllLeadTo, arc_count, arc_from, arc_to, IsBalanced, IsClosing, NoneEnters}
 use Rattle.pocsag_words.specs.declared.ending.End.TheVariants.{Open, Closed}
-use Rattle.pocsag_slots.specs.declared.class.Classes.{Classes}
-use Rattle.pocsag_slots.specs.declared.step.Step.{Step}
-use Rattle.pocsag_slots.specs.Loads.{IsChoice, load}
-use Rattle.pocsag_slots.specs.Sums.{SetsTakeMembers, holds}
-use Rattle.pocsag_slots.specs.Tours.{IsTour}
-use Rattle.pocsag_tour.specs.Moves.{AllLeadTo, arc_count, arc_from, arc_to, IsBalanced, IsClosing, NoneEnters}
 use Rattle.pocsag_tour.proofs.Covering.{balanced_start, count_idle}
 use Rattle.pocsag_tour.proofs.Existing.{is_less, one_less, way_exists}
 use Rattle.pocsag_tour.proofs.Geometry.{from_below, from_idle, to_idle}

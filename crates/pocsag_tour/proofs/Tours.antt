@@ -1,19 +1,14 @@
 -- Ways over all arcs are tours, and what refusals say.
-use Rattle.std.proofs.Common.{◌≡◌, ℕ, ◌+◌, ◌-◌, ◌%◌, ◌<◌, ◌≤◌, ◌⊎◌, Bool, true, false, not, cond, List, refl, sym, subst, ◌∙◌, arith, inl, inr}
+use Rattle.pocsag_tour.proofs.Prelude.{◌≡◌, ℕ, ◌+◌, ◌-◌, ◌%◌, ◌<◌, ◌≤◌, ◌⊎◌, Bool, true, false, not, cond, List, refl, sym, subst, ◌∙◌, arith, inl, inr, End, Classes, Step, IsChoice, load, class_frame, start_of, finish_of, holds, IsTour, LastAs, arc_count, arc_from, arc_to, AreCounts, IsClosing, IsWay, NoneEnters, NoneLeaves, RunsStart, Visited, by_arc, AreReached, IsReached, IsUnclosed, runs_of}
 use Rattle.std.proofs.lemmas.Bool.{cases_Bool}
-use Rattle.pocsag_words.specs.declared.ending.End.{End}
 use Rattle.pocsag_words.specs.declared.ending.End.TheVariants.{Open}
-use Rattle.pocsag_slots.specs.declared.class.Classes.{Classes}
-use Rattle.pocsag_slots.specs.declared.step.Step.{Step}
-use Rattle.pocsag_slots.specs.Loads.{AreCarried, IsChoice, load}
-use Rattle.pocsag_slots.specs.Numbering.{class_frame, class_rest, start_of, finish_of}
-use Rattle.pocsag_slots.specs.Sums.{holds}
-use Rattle.pocsag_slots.specs.Tours.{IsTour, LastAs}
+use Rattle.pocsag_slots.specs.Loads.{AreCarried}
+use Rattle.pocsag_slots.specs.Numbering.{class_rest}
 use Rattle.pocsag_slots.specs.Ways.{run_crosses, idle_crosses}
 use Rattle.pocsag_tour.specs.declared.fault.TourFault.{TourFault}
 use Rattle.pocsag_tour.specs.declared.fault.TourFault.TheVariants.{Apart, Unclosed, OutOfMemory}
-use Rattle.pocsag_tour.specs.Moves.{arc_count, arc_from, arc_to, AreCounts, IsClosing, IsWay, NoneEnters, NoneLeaves, NoWay, RunsStart, Visited, at_start as visited_start, by_arc}
-use Rattle.pocsag_tour.specs.Reached.{AreReached, IsReached, at_start, by_idle, by_run, IsRefused, IsUnclosed, LiesOutside, NoIdleCrosses, NoRunCrosses, runs_of}
+use Rattle.pocsag_tour.specs.Moves.{NoWay, at_start as visited_start}
+use Rattle.pocsag_tour.specs.Reached.{at_start, by_idle, by_run, IsRefused, LiesOutside, NoIdleCrosses, NoRunCrosses}
 use Rattle.pocsag_tour.proofs.Covering.{balanced_start, count_early, count_idle, count_late}
 use Rattle.pocsag_tour.proofs.Geometry.{by_kind, from_below, from_early, from_idle, from_late, step_idle, step_late, to_below, to_early, to_idle, to_late}
 use Rattle.pocsag_tour.proofs.Joining.{balance_enters}

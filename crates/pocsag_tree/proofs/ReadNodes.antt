@@ -1,13 +1,8 @@
 -- A node that is read so is spelled so.
-use Rattle.std.proofs.Common.{◌≡◌, ℕ, zero, suc, ◌+◌, ◌<◌, ◌≤◌, inl, inr, eqb, ltb, List, ◌∷◌, ◌++◌, Ok, refl, sym, ap, ◌∙◌, append_assoc, arith}
-use Rattle.std.specs.Int.{w16, to_be_bytes}
-use Rattle.std.proofs.lemmas.Bool.{ltb-true, ltb-false, eqb-true, eqb-false}
-use Rattle.pocsag_tree.specs.declared.limits.Ranges.{Ranges}
-use Rattle.pocsag_tree.specs.Limits.{most_nodes}
+use Rattle.pocsag_tree.proofs.Prelude.{◌≡◌, ℕ, zero, suc, ◌+◌, ◌<◌, ◌≤◌, inl, inr, eqb, ltb, List, ◌∷◌, ◌++◌, Ok, refl, sym, ap, ◌∙◌, append_assoc, arith, w16, to_be_bytes, ltb-true, eqb-true, Ranges, most_nodes, Bound, Bounds, split, cut, close, unexamined, none, children_count, all_nodes, all_nodes_in, depth_of, deepest, IsInRange, AreInRange, row, Read, Reader, byte_at, small_at, large_at, row_at, overload_at, split_at, cut_at, close_at, body_at, tagged_at, node_at}
+use Rattle.std.proofs.lemmas.Bool.{ltb-false, eqb-false}
 use Rattle.pocsag_tree.specs.declared.refusals.CertificateFault.TheVariants as fault
-use Rattle.pocsag_tree.specs.Bounds.{Bound, Bounds, split, cut, close, unexamined, none, children_count, all_nodes, all_nodes_in, depth_of, deepest}
-use Rattle.pocsag_tree.specs.Spelling.{IsInRange, AreInRange, node, row}
-use Rattle.pocsag_tree.specs.Reading.{Read, Reader, byte_at, small_at, large_at, row_at, overload_at, split_at, cut_at, close_at, body_at, tagged_at, node_at}
+use Rattle.pocsag_tree.specs.Spelling.{node}
 use Rattle.pocsag_tree.proofs.Fields.{bind_ok, chosen, done, ok_is, byte_is, small_takes, large_takes}
 use Rattle.pocsag_tree.proofs.Fields.{guard_other, guard_then}
 use Rattle.pocsag_tree.proofs.SpelledNodes.{IsVersion, tag_of, behind, node-behind}

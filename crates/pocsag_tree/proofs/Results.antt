@@ -1,17 +1,12 @@
 -- What reading the whole of the bytes says of the answer.
-use Rattle.std.proofs.Common.{◌≡◌, ℕ, ◌⊎◌, inl, inr, List, [], ◌∷◌, ◌++◌, Some, None, Result, Ok, Err, refl, sym, ap, subst, ◌∙◌}
+use Rattle.pocsag_tree.proofs.Prelude.{◌≡◌, ℕ, ◌⊎◌, inl, inr, List, [], ◌∷◌, ◌++◌, Some, None, Result, Ok, Err, refl, sym, ap, subst, ◌∙◌, End, CertificateFault, Bound, bound_of, IsText, Fails, end_at, certificate_at, all_of}
 use Rattle.std.specs.Prelude.{IfOk, IfErr}
 use Rattle.std.proofs.lemmas.List.{append-nil}
-use Rattle.pocsag_words.specs.declared.ending.End.{End}
 use Rattle.pocsag_tree.specs.declared.shape.Certificate.{Certificate}
-use Rattle.pocsag_tree.specs.declared.refusals.CertificateFault.{CertificateFault}
 use Rattle.pocsag_tree.specs.declared.refusals.CertificateFault.TheVariants as fault
-use Rattle.pocsag_tree.specs.Bounds.{Bound}
-use Rattle.pocsag_tree.specs.Views.{bound_of}
-use Rattle.pocsag_tree.specs.Spelling.{IsText}
 use Rattle.pocsag_tree.specs.Parts.{HasFirst}
 use Rattle.pocsag_tree.specs.Answers.{IsRefusal, AnswersTriple, AnswersFault, IsFault, HasNoFault}
-use Rattle.pocsag_tree.specs.Reading.{Fails, Gives, IsWanting, end_at, certificate_at, all_of}
+use Rattle.pocsag_tree.specs.Reading.{Gives, IsWanting}
 use Rattle.pocsag_tree.proofs.Fields.{bind_ok, ok_is}
 use Rattle.pocsag_tree.proofs.Rows.{fails_along}
 use Rattle.pocsag_tree.proofs.Texts.{certificate_takes, certificate_again}

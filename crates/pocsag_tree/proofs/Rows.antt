@@ -1,11 +1,7 @@
 -- Reading one child after the other, as a loop does.
-use Rattle.std.proofs.Common.{◌≡◌, ℕ, suc, ◌-◌, ◌+◌, ◌≤◌, ◌<◌, max, List, [], ◌∷◌, ◌++◌, map, Result, Ok, Err, refl, sym, ap, ◌∙◌, arith}
-use Rattle.pocsag_tree.specs.declared.refusals.CertificateFault.{CertificateFault}
+use Rattle.pocsag_tree.proofs.Prelude.{◌≡◌, ℕ, suc, ◌-◌, ◌+◌, ◌≤◌, ◌<◌, max, List, [], ◌∷◌, ◌++◌, map, Result, Ok, Err, refl, sym, ap, ◌∙◌, arith, CertificateFault, Tree, Bound, Bounds, none, more, all_nodes, all_nodes_in, depth_of, deepest, bound_of, bounds_of, ◌>>=◌, Fails, Read, Reader, row_at}
 use Rattle.pocsag_tree.specs.declared.refusals.CertificateFault.TheVariants as fault
-use Rattle.pocsag_tree.specs.declared.shape.Tree.{Tree}
-use Rattle.pocsag_tree.specs.Bounds.{Bound, Bounds, none, more, all_nodes, all_nodes_in, depth_of, deepest}
-use Rattle.pocsag_tree.specs.Views.{bound_of, bounds_of, bounds_from}
-use Rattle.pocsag_tree.specs.Reading.{◌>>=◌, Fails, Read, Reader, row_at}
+use Rattle.pocsag_tree.specs.Views.{bounds_from}
 
 -- the trees, and then the row
 abbrev pub before : List Bound → Bounds → Bounds

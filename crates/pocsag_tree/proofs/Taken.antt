@@ -1,5 +1,6 @@
 -- What a writer took of a text that is written in pieces.
-use Rattle.std.proofs.Common.{◌≡◌, ℕ, ◌≤◌, List, ◌++◌, length, take, sym, ap, ◌∙◌, Result, Ok, Err, append_assoc, length-append, length-take, arith}
+use Rattle.pocsag_tree.proofs.Prelude.{◌≡◌, ℕ, ◌≤◌, List, ◌++◌, length, take, sym, ap, ◌∙◌, Result, Ok, Err, append_assoc, arith}
+use Rattle.std.proofs.Common.{length-append, length-take}
 use Rattle.std.proofs.lemmas.List.{take-append-le}
 use Rattle.std.specs.Result.{IsErrAnd}
 use Rattle.pocsag_words.specs.Devices.{Delivers, TookPrefix}

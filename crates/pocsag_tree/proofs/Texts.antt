@@ -1,15 +1,9 @@
 -- The two laws of *Certificate text*: what is read is spelled so, and what is spelled so is read.
-use Rattle.std.proofs.Common.{◌≡◌, ℕ, zero, suc, ◌<◌, ◌≤◌, ◌⊎◌, inl, inr, eqb, List, ◌∷◌, ◌++◌, Ok, refl, sym, ap, ◌∙◌, append_assoc, arith, lit<}
-use Rattle.std.specs.Int.{w32, to_be_bytes}
-use Rattle.std.proofs.lemmas.Bool.{eqb-true, eq-eqb}
-use Rattle.pocsag_words.specs.declared.ending.End.{End}
+use Rattle.pocsag_tree.proofs.Prelude.{◌≡◌, ℕ, zero, suc, ◌<◌, ◌≤◌, ◌⊎◌, inl, inr, eqb, List, ◌∷◌, ◌++◌, Ok, refl, sym, ap, ◌∙◌, append_assoc, arith, lit<, w32, to_be_bytes, eqb-true, End, Ranges, first_ranges, second_ranges, greatest_depth, Bound, all_nodes, IsText, ◌>>=◌, Read, byte_at, small_at, node_at, mark_at, end_of, version_at, batches_at, certificate_at}
+use Rattle.std.proofs.lemmas.Bool.{eq-eqb}
 use Rattle.pocsag_words.specs.declared.ending.End.TheVariants as ends
-use Rattle.pocsag_tree.specs.declared.limits.Ranges.{Ranges}
-use Rattle.pocsag_tree.specs.Limits.{first_ranges, second_ranges, greatest_depth}
 use Rattle.pocsag_tree.specs.declared.refusals.CertificateFault.TheVariants as fault
-use Rattle.pocsag_tree.specs.Bounds.{Bound, all_nodes}
-use Rattle.pocsag_tree.specs.Spelling.{HasText, node, end_byte, second_head, first_head, second_text, first_text, IsText}
-use Rattle.pocsag_tree.specs.Reading.{◌>>=◌, Read, byte_at, small_at, node_at, mark_at, end_of, version_at, batches_at, certificate_at}
+use Rattle.pocsag_tree.specs.Spelling.{HasText, node, end_byte, second_head, first_head, second_text, first_text}
 use Rattle.pocsag_tree.proofs.Fields.{bind_ok, guard_ok, chosen, ok_is, byte_is, byte_again, small_takes, batches_takes, batches_again}
 use Rattle.pocsag_tree.proofs.Fields.{guard_ok, guard_then}
 use Rattle.pocsag_tree.proofs.SpelledNodes.{IsVersion, first_ranges-is, second_ranges-is, node_again}

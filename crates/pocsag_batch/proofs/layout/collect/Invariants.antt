@@ -1,6 +1,4 @@
-use Rattle.std.proofs.Common.{◌≡◌, ◌++◌, map, All}
-use Rattle.pocsag_words.specs.Codeword.{IsCodeword}
-use Rattle.pocsag_words.specs.Kinds.{kind_of}
+use Rattle.pocsag_batch.proofs.Prelude.{◌≡◌, ◌++◌, map, All, IsCodeword, kind_of}
 use Rattle.pocsag_batch.proofs.layout.collect.Given as goal
 
 -- the codewords that are in the list, and those that are left, are all

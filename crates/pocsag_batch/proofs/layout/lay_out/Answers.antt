@@ -1,7 +1,4 @@
-use Rattle.std.proofs.Common.{◌≡◌, ℕ, List, map, sym, ap, ◌∙◌}
-use Rattle.pocsag_words.specs.Kinds.{kind_of}
-use Rattle.pocsag_slots.specs.Layout.{laid}
-use Rattle.pocsag_batch.specs.Placing.{laid_by}
+use Rattle.pocsag_batch.proofs.Prelude.{◌≡◌, ℕ, List, map, sym, ap, ◌∙◌, kind_of, laid, laid_by}
 use Rattle.pocsag_batch.proofs.Laying.{list_batches}
 use Rattle.pocsag_batch.proofs.layout.lay_out.Goals as goal
 

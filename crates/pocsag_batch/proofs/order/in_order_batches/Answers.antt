@@ -1,5 +1,4 @@
-use Rattle.std.proofs.Common.{◌≡◌, ◌+◌, ◌<◌, ◌≤◌, length, get_or, drop, arith, ap}
-use Rattle.pocsag_pages.specs.declared.page.Page.{Page}
+use Rattle.pocsag_batch.proofs.Prelude.{◌≡◌, ◌+◌, ◌<◌, ◌≤◌, length, get_or, drop, arith, ap, Page}
 use Rattle.pocsag_batch.proofs.FileOrders.{left_step}
 use Rattle.pocsag_pages.proofs.PageLists.{left}
 use Rattle.pocsag_batch.proofs.PageLists.{good_at}

@@ -1,6 +1,4 @@
-use Rattle.std.proofs.Common.{◌*◌, ◌≤◌, List, drop, length}
-use Rattle.pocsag_words.specs.declared.codeword.Kind.{Kind}
-use Rattle.pocsag_batch.specs.FileOrder.{IsFileOrder}
+use Rattle.pocsag_batch.proofs.Prelude.{◌*◌, ◌≤◌, List, drop, length, Kind, IsFileOrder}
 use Rattle.pocsag_batch.proofs.FileOrders.{HasLeft}
 use Rattle.pocsag_batch.proofs.order.in_order_batches.Given as goal
 

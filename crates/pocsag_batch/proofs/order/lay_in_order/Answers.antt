@@ -1,6 +1,4 @@
-use Rattle.std.proofs.Common.{◌≡◌, ◌+◌, ◌*◌, ◌<◌, ◌≤◌, length, get_or, drop, sym, ap, ◌∙◌, arith}
-use Rattle.pocsag_pages.specs.declared.page.Page.{Page}
-use Rattle.pocsag_pages.specs.Pages.{IsRound}
+use Rattle.pocsag_batch.proofs.Prelude.{◌≡◌, ◌+◌, ◌*◌, ◌<◌, ◌≤◌, length, get_or, drop, sym, ap, ◌∙◌, arith, Page, IsRound}
 use Rattle.pocsag_batch.proofs.Laying.{idled_length, laid_length, laid_more, laid_last, laid_batches, laid_legal}
 use Rattle.pocsag_pages.proofs.PageLists.{left}
 use Rattle.pocsag_batch.proofs.PageLists.{good_at}

@@ -1,7 +1,4 @@
-use Rattle.std.proofs.Common.{◌++◌, ◌*◌, ◌≤◌, List, drop, length, map}
-use Rattle.pocsag_words.specs.Kinds.{kind_of}
-use Rattle.pocsag_words.specs.declared.codeword.Kind.{Kind}
-use Rattle.pocsag_batch.specs.FileOrder.{InOrder, IsFileOrder}
+use Rattle.pocsag_batch.proofs.Prelude.{◌++◌, ◌*◌, ◌≤◌, List, drop, length, map, kind_of, Kind, InOrder, IsFileOrder}
 use Rattle.pocsag_batch.proofs.order.lay_in_order.Given as goal
 
 -- what is laid, and the rest in order from here, are the round in file order

@@ -1,12 +1,8 @@
-use Rattle.std.proofs.Common.{rules, ◌≡◌, ℕ, Bool, ◌+◌, ◌<◌, List, [], ◌∷◌, ◌++◌, drop, length, get_or, ap, ◌∙◌}
-use Rattle.std.proofs.lemmas.List.{drop_all, drop_more}
-use Rattle.pocsag_words.specs.declared.ending.End.{End}
-use Rattle.pocsag_pages.specs.declared.page.Page.{Page}
+use Rattle.pocsag_batch.proofs.Prelude.{◌≡◌, ℕ, Bool, ◌+◌, ◌<◌, List, [], ◌∷◌, ◌++◌, drop, length, get_or, ap, ◌∙◌, drop_all, End, Page, Step, AreChains, Links, all_places}
+use Rattle.std.proofs.Common.{rules}
+use Rattle.std.proofs.lemmas.List.{drop_more}
 use Rattle.pocsag_pages.proofs.GoodPages.{good_pages}
-use Rattle.pocsag_slots.specs.declared.step.Step.{Step}
 use Rattle.pocsag_slots.specs.declared.step.Step.TheVariants.{Idle as Stay, Run}
-use Rattle.pocsag_batch.specs.Chains.{AreChains, Links}
-use Rattle.pocsag_batch.specs.Placing.{all_places}
 use Rattle.pocsag_batch.proofs.Orders.{Stands, order_has_places, order_stands, stands_first, stands_run, takes}
 use Rattle.pocsag_batch.proofs.placing.order_of.Goals as goal
 

@@ -1,4 +1,4 @@
-use Rattle.std.proofs.Common.{drop}
+use Rattle.pocsag_batch.proofs.Prelude.{drop}
 use Rattle.pocsag_batch.proofs.Orders.{Stands}
 use Rattle.pocsag_batch.proofs.placing.order_of.Given as goal
 

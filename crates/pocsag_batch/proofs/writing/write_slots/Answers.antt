@@ -1,9 +1,6 @@
-use Rattle.std.proofs.Common.{List, refl}
-use Rattle.std.proofs.lemmas.Iterator.{YieldsList}
+use Rattle.pocsag_batch.proofs.Prelude.{List, refl, YieldsList, kind_of, Kind}
 use Rattle.std.proofs.lemmas.Iterator.Consumers.{YieldsList-from_first}
 use Rattle.std.specs.Iterator.{YieldsFirstBy}
-use Rattle.pocsag_words.specs.Kinds.{kind_of}
-use Rattle.pocsag_words.specs.declared.codeword.Kind.{Kind}
 use Rattle.pocsag_batch.proofs.UnderWay.{all_came, called_part, part_came, sends_part}
 use Rattle.pocsag_batch.proofs.writing.write_slots.Goals as goal
 

@@ -1,6 +1,4 @@
-use Rattle.std.proofs.Common.{◌≡◌, ◌+◌, ◌≤◌, ◌%◌, length, All}
-use Rattle.pocsag_words.specs.Codeword.{IsCodeword}
-use Rattle.pocsag_pages.specs.Bytes.{bytes_of}
+use Rattle.pocsag_batch.proofs.Prelude.{◌≡◌, ◌+◌, ◌≤◌, ◌%◌, length, All, IsCodeword, bytes_of}
 use Rattle.pocsag_batch.proofs.Sent.{IsSent}
 use Rattle.pocsag_batch.proofs.writing.write_words.Given as goal
 

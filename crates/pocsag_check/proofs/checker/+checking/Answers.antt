@@ -1,9 +1,5 @@
-use Rattle.std.proofs.Common.{◌≡◌, ◌<◌, refl, arith, length, get_or, IsTrue}
-use Rattle.pocsag_slots.specs.declared.way.Way.{Way}
+use Rattle.pocsag_check.proofs.Prelude.{◌≡◌, ◌<◌, refl, arith, length, get_or, IsTrue, Way, narrowed_limits, bound_of, AcceptsWithin}
 use Rattle.pocsag_slots.specs.declared.way.Way.TheVariants.{IdleIn}
-use Rattle.pocsag_slots.specs.Ways.{narrowed_limits}
-use Rattle.pocsag_tree.specs.Views.{bound_of}
-use Rattle.pocsag_check.specs.Accepting.{AcceptsWithin}
 use Rattle.pocsag_check.proofs.RowChecks.{as_long, one_first, one_more, none_left, way_at}
 use Rattle.pocsag_check.proofs.checker.+checking.Goals as goal
 

@@ -1,5 +1,5 @@
+use Rattle.pocsag_check.proofs.Prelude.{map}
 use Rattle.pocsag_words.specs.Kinds.{kind_of}
-use Rattle.std.proofs.Common.{map}
 use Rattle.pocsag_pages.proofs.GoodPages.{apart_pages}
 use Rattle.pocsag_check.proofs.Bounding.{bounded}
 use Rattle.pocsag_check.proofs.judging.check.Goals as goal

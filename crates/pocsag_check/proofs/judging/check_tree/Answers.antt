@@ -1,8 +1,4 @@
-use Rattle.std.proofs.Common.{◌-◌, subst, sym, arith}
-use Rattle.pocsag_slots.specs.declared.class.Classes.{Classes}
-use Rattle.pocsag_slots.specs.declared.limit.Limits.{Limits}
-use Rattle.pocsag_tree.specs.Views.{bound_of}
-use Rattle.pocsag_check.specs.Accepting.{AcceptsWithin, IsAccepted}
+use Rattle.pocsag_check.proofs.Prelude.{◌-◌, subst, sym, arith, Classes, Limits, bound_of, AcceptsWithin, IsAccepted}
 use Rattle.pocsag_check.proofs.Tables.{one_table}
 use Rattle.pocsag_check.proofs.judging.check_tree.Goals as goal
 

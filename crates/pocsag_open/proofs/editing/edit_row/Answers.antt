@@ -3,13 +3,13 @@ use Rattle.std.specs.Prelude.{IfErr, Option, Result, Ok, Err}
 use Rattle.csv.specs.Records.{fields_of}
 use Rattle.pocsag_pages.specs.declared.page.Page.{Page}
 use Rattle.pocsag_open.specs.Edited.{IsEditRefused}
-use Rattle.pocsag_open.specs.Runs.{Asked, IsDone, asked_by, wants_memory}
+use Rattle.pocsag_open.specs.Runs.{Asked, IsDone, asked_by_line, wants_memory}
 use Rattle.pocsag_open.specs.declared.edits.Line.{Line}
 use Rattle.pocsag_open.specs.declared.refusal.Refusal.{Refusal}
 use Rattle.pocsag_open.proofs.Refusals.{refused_asking}
 use Rattle.pocsag_open.proofs.editing.edit_row.Goals as goal
 
-refused : (r : Result (Unit {0}) Refusal) (asking : Line) (o : Option Asked) (pages : List Page) → asked_by asking ≡ o →
+refused : (r : Result (Unit {0}) Refusal) (asking : Line) (o : Option Asked) (pages : List Page) → asked_by_line asking ≡ o →
     IfErr r (IsEditRefused asking pages) → IfErr r (λ e. (wants_memory e ≡ true) ⊎ ((after : List Page) → IsDone o pages after → ⊥))
 refused (Ok u) asking o pages same h = tt
 refused (Err e) asking o pages same h =

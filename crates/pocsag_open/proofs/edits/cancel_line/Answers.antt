@@ -8,7 +8,8 @@ returns-in_err-get c = absurd (has_field (fields_of c.args.row.now) 0 (omega ari
 
 pub returns-then-ne : goal.returns-then-ne
 returns-then-ne c =
-    no_cancel (fields_of c.args.row.now) _ c.requires c.in_ok-get.ensures.value
+    c.journal_line.ensures
+    ∙ no_cancel (fields_of c.args.row.now) _ c.requires c.in_ok-get.ensures.value
     (rw c.as_slice.ensures at (negated _ (sym c.ne.ensures ∙ c.if-ne.true)))
 
 pub returns-in_err-get-2 : goal.returns-in_err-get-2

@@ -1,6 +1,5 @@
-use Rattle.std.proofs.Common.{refl, sym, ap}
+use Rattle.pocsag_pager.proofs.Prelude.{refl, sym, ap, words_of}
 use Rattle.std.proofs.lemmas.Result.{IfOk-weaker, MatchResult-from_both}
-use Rattle.pocsag_pages.specs.Bytes.{words_of}
 use Rattle.pocsag_pager.proofs.WholeWords.{not_both, shown_at}
 use Rattle.pocsag_pager.proofs.hearing.hear_all.Goals as goal
 

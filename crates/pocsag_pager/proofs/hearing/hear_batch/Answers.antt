@@ -1,7 +1,5 @@
-use Rattle.std.proofs.Common.{◌≡◌, ◌+◌, ◌*◌, ◌<◌, ◌++◌, ℕ, List, length, subst, ◌∙◌, arith}
+use Rattle.pocsag_pager.proofs.Prelude.{◌≡◌, ◌+◌, ◌*◌, ◌<◌, ◌++◌, ℕ, List, length, subst, ◌∙◌, arith, words_of, HasHeard}
 use Rattle.std.specs.Prelude.{OnOk}
-use Rattle.pocsag_pages.specs.Bytes.{words_of}
-use Rattle.pocsag_pager.specs.Standing.{HasHeard}
 use Rattle.pocsag_pager.proofs.WholeWords.{three_parts}
 use Rattle.pocsag_pager.proofs.hearing.hear_batch.Goals as goal
 

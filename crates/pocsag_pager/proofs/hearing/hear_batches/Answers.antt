@@ -1,6 +1,4 @@
-use Rattle.std.proofs.Common.{◌+◌, ◌*◌, ◌≤◌, ℕ, List, length, take, sym, subst, ◌∙◌, arith}
-use Rattle.pocsag_pages.specs.Bytes.{words_of}
-use Rattle.pocsag_pager.specs.Standing.{HasHeard}
+use Rattle.pocsag_pager.proofs.Prelude.{◌+◌, ◌*◌, ◌≤◌, ℕ, List, length, take, sym, subst, ◌∙◌, arith, words_of, HasHeard}
 use Rattle.pocsag_pager.proofs.WholeWords.{next_batch}
 use Rattle.pocsag_pager.proofs.hearing.hear_batches.Goals as goal
 

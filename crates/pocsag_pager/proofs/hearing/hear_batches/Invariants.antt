@@ -1,6 +1,4 @@
-use Rattle.std.proofs.Common.{◌≡◌, ◌*◌, take}
-use Rattle.pocsag_pages.specs.Bytes.{words_of}
-use Rattle.pocsag_pager.specs.Standing.{HasHeard, pager_address}
+use Rattle.pocsag_pager.proofs.Prelude.{◌≡◌, ◌*◌, take, words_of, HasHeard, pager_address}
 use Rattle.pocsag_pager.proofs.hearing.hear_batches.Given as goal
 
 abbrev pub invariant-loop-i : goal.invariant-loop-i

@@ -1,8 +1,6 @@
-use Rattle.std.proofs.Common.{◌≡◌, ◌+◌, ◌/◌, ◌++◌, ◌∷◌, [], ℕ, List, length, map, take, refl, sym, ap, subst, ◌∙◌, arith, append_assoc}
-use Rattle.std.specs.Int.{from_be_bytes, w32}
+use Rattle.pocsag_pager.proofs.Prelude.{◌≡◌, ◌+◌, ◌/◌, ◌++◌, ◌∷◌, [], ℕ, List, length, map, take, refl, sym, ap, subst, ◌∙◌, arith, append_assoc, from_be_bytes, w32, words_of, HasHeard}
 use Rattle.std.proofs.lemmas.List.{take_all}
-use Rattle.pocsag_pages.specs.Bytes.{words_of}
-use Rattle.pocsag_pager.specs.Standing.{HasHeard, Stands}
+use Rattle.pocsag_pager.specs.Standing.{Stands}
 use Rattle.pocsag_pager.proofs.WholeWords.{chunk_words, ended_at, one_more_word}
 use Rattle.pocsag_pager.proofs.hearing.hear_each.Goals as goal
 

@@ -1,6 +1,4 @@
-use Rattle.std.proofs.Common.{◌≡◌, ℕ, List, ◌++◌, map, take}
-use Rattle.std.specs.Int.{from_be_bytes, w32}
-use Rattle.pocsag_pager.specs.Standing.{HasHeard, pager_address}
+use Rattle.pocsag_pager.proofs.Prelude.{◌≡◌, ℕ, List, ◌++◌, map, take, from_be_bytes, w32, HasHeard, pager_address}
 use Rattle.pocsag_pager.proofs.hearing.hear_each.Given as goal
 
 abbrev pub invariant-loop-word : goal.invariant-loop-word

@@ -1,4 +1,4 @@
-use Rattle.pocsag_pages.specs.Bytes.{words_of}
+use Rattle.pocsag_pager.proofs.Prelude.{words_of}
 use Rattle.pocsag_pages.proofs.Lengths.{words_long}
 use Rattle.pocsag_pager.proofs.WholeWords.{words_small}
 use Rattle.pocsag_pager.proofs.hearing.hear_part.Goals as goal

@@ -1,4 +1,4 @@
-use Rattle.std.proofs.Common.{take}
+use Rattle.pocsag_slots.proofs.Prelude.{take}
 use Rattle.pocsag_slots.proofs.CountLemmas.{AreCounted}
 use Rattle.pocsag_slots.proofs.count.classes_of.Given as goal
 

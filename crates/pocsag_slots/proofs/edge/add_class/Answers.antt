@@ -1,5 +1,4 @@
-use Rattle.std.proofs.Common.{◌≤◌, ◌-◌, ◌==◌, cond, ℕ, refl, slice_index, arith}
-use Rattle.pocsag_slots.specs.Edges.{ends_at, starts_at}
+use Rattle.pocsag_slots.proofs.Prelude.{◌≤◌, ◌-◌, ◌==◌, cond, ℕ, refl, slice_index, arith, ends_at, starts_at}
 use Rattle.pocsag_slots.proofs.Edging.{class_added, class_skipped, ends_few, none_end, none_start, part_few, starts_few}
 use Rattle.pocsag_slots.proofs.LoadLemmas.{count_few}
 use Rattle.pocsag_slots.proofs.edge.add_class.Goals as goal

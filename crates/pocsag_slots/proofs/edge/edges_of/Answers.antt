@@ -1,5 +1,4 @@
-use Rattle.std.proofs.Common.{◌∙◌, sym, slice_index}
-use Rattle.pocsag_slots.specs.Edges.{ends_at, starts_at}
+use Rattle.pocsag_slots.proofs.Prelude.{◌∙◌, sym, slice_index, ends_at, starts_at}
 use Rattle.pocsag_slots.proofs.SumLemmas.{sum_below_none}
 use Rattle.pocsag_slots.proofs.edge.edges_of.Goals as goal
 use Rattle.pocsag_slots.proofs.Edging.{sixteen_zeros}

@@ -1,6 +1,4 @@
-use Rattle.std.proofs.Common.{◌≡◌, ℕ, ◌<◌, slice_index}
-use Rattle.pocsag_slots.specs.Edges.{ends_at, starts_at}
-use Rattle.pocsag_slots.specs.Sums.{sum_below}
+use Rattle.pocsag_slots.proofs.Prelude.{◌≡◌, ℕ, ◌<◌, slice_index, ends_at, starts_at, sum_below}
 use Rattle.pocsag_slots.proofs.edge.edges_of.Given as goal
 
 abbrev pub invariant-loop-class : goal.invariant-loop-class

@@ -1,5 +1,4 @@
-use Rattle.std.proofs.Common.{map}
-use Rattle.pocsag_words.specs.Kinds.{kind_of}
+use Rattle.pocsag_slots.proofs.Prelude.{map, kind_of}
 use Rattle.pocsag_slots.proofs.Fewest.{laid_list_legal}
 use Rattle.pocsag_slots.proofs.Touring.{toured}
 use Rattle.pocsag_slots.proofs.laws.codewords_and_tours_correspond.Goals as goal

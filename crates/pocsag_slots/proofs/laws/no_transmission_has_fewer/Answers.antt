@@ -1,5 +1,4 @@
-use Rattle.std.proofs.Common.{map}
-use Rattle.pocsag_words.specs.Kinds.{kind_of}
+use Rattle.pocsag_slots.proofs.Prelude.{map, kind_of}
 use Rattle.pocsag_slots.proofs.Fewest.{fewest}
 use Rattle.pocsag_slots.proofs.laws.no_transmission_has_fewer.Goals as goal
 

@@ -1,4 +1,4 @@
-use Rattle.std.proofs.Common.{◌*◌, ◌%◌, ◌^◌, bit_or}
+use Rattle.pocsag_slots.proofs.Prelude.{◌*◌, ◌%◌, ◌^◌, bit_or}
 use Rattle.pocsag_slots.proofs.Members.{adds_member}
 use Rattle.pocsag_slots.proofs.laws.sets_take_members.Goals as goal
 

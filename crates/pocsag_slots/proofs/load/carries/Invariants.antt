@@ -1,4 +1,4 @@
-use Rattle.std.proofs.Common.{◌≤◌, ◌<◌, ℕ, slice_index}
+use Rattle.pocsag_slots.proofs.Prelude.{◌≤◌, ◌<◌, ℕ, slice_index}
 use Rattle.pocsag_slots.proofs.load.carries.Given as goal
 
 abbrev pub invariant-loop-load : goal.invariant-loop-load

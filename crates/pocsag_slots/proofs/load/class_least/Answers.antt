@@ -1,4 +1,4 @@
-use Rattle.std.proofs.Common.{arith, sym}
+use Rattle.pocsag_slots.proofs.Prelude.{arith, sym}
 use Rattle.pocsag_slots.proofs.LeastLemmas.{least_none, least_of_class_is}
 use Rattle.pocsag_slots.proofs.load.class_least.Goals as goal
 

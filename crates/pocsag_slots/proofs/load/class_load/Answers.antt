@@ -1,5 +1,4 @@
-use Rattle.std.proofs.Common.{◌-◌, arith, slice_index, sym}
-use Rattle.std.proofs.Math.Nat.{mul-le-mul_left}
+use Rattle.pocsag_slots.proofs.Prelude.{◌-◌, arith, slice_index, sym, mul-le-mul_left}
 use Rattle.pocsag_slots.proofs.LoadLemmas.{count_few, load_none}
 use Rattle.pocsag_slots.proofs.load.class_load.Goals as goal
 

@@ -1,4 +1,4 @@
-use Rattle.std.proofs.Common.{arith, sym, ◌≡◌}
+use Rattle.pocsag_slots.proofs.Prelude.{arith, sym, ◌≡◌}
 use Rattle.pocsag_slots.proofs.LeastLemmas.{least_few, least_is}
 use Rattle.pocsag_slots.proofs.SumLemmas.{sum_below_none, summed}
 use Rattle.pocsag_slots.proofs.load.least_load.Goals as goal

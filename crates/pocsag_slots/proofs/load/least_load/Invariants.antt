@@ -1,6 +1,4 @@
-use Rattle.std.proofs.Common.{◌≡◌, ◌*◌, ◌^◌, ◌≤◌}
-use Rattle.pocsag_slots.specs.Loads.{least_of_class}
-use Rattle.pocsag_slots.specs.Sums.{sum_below}
+use Rattle.pocsag_slots.proofs.Prelude.{◌≡◌, ◌*◌, ◌^◌, ◌≤◌, least_of_class, sum_below}
 use Rattle.pocsag_slots.proofs.load.least_load.Given as goal
 
 abbrev pub invariant-loop-class : goal.invariant-loop-class

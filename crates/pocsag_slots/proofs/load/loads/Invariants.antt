@@ -1,5 +1,4 @@
-use Rattle.std.proofs.Common.{◌≡◌, ℕ, ◌-◌, ◌<◌, length, slice_index}
-use Rattle.pocsag_slots.specs.Loads.{load}
+use Rattle.pocsag_slots.proofs.Prelude.{◌≡◌, ℕ, ◌-◌, ◌<◌, length, slice_index, load}
 use Rattle.pocsag_slots.proofs.load.loads.Given as goal
 
 abbrev pub invariant-loop-slot : goal.invariant-loop-slot

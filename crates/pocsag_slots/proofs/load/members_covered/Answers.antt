@@ -1,5 +1,4 @@
-use Rattle.std.proofs.Common.{arith, sym, true, false, ◌+◌, ◌≡◌, ◌%◌}
-use Rattle.pocsag_slots.specs.Sums.{holds}
+use Rattle.pocsag_slots.proofs.Prelude.{arith, sym, true, false, ◌+◌, ◌≡◌, ◌%◌, holds}
 use Rattle.pocsag_slots.proofs.LeastLemmas.{members_more, members_none}
 use Rattle.pocsag_slots.proofs.load.members_covered.Goals as goal
 use Rattle.pocsag_slots.proofs.load.members_covered.Goals.{then-holds, else-holds}

@@ -1,6 +1,4 @@
-use Rattle.std.proofs.Common.{◌≡◌, ◌≤◌}
-use Rattle.pocsag_slots.specs.Cover.{covered}
-use Rattle.pocsag_slots.specs.Sums.{sum_over}
+use Rattle.pocsag_slots.proofs.Prelude.{◌≡◌, ◌≤◌, covered, sum_over}
 use Rattle.pocsag_slots.proofs.load.members_covered.Given as goal
 
 abbrev pub invariant-loop-place : goal.invariant-loop-place

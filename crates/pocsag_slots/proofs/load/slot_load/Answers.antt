@@ -1,5 +1,4 @@
-use Rattle.std.proofs.Common.{◌≡◌, ◌+◌, arith, slice_index, sym}
-use Rattle.pocsag_slots.specs.Loads.{load}
+use Rattle.pocsag_slots.proofs.Prelude.{◌≡◌, ◌+◌, arith, slice_index, sym, load}
 use Rattle.pocsag_slots.proofs.LoadLemmas.{loads_few}
 use Rattle.pocsag_slots.proofs.SumLemmas.{sum_below_none, summed}
 use Rattle.pocsag_slots.proofs.load.slot_load.Goals as goal

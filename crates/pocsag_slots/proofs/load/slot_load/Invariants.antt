@@ -1,6 +1,4 @@
-use Rattle.std.proofs.Common.{◌≡◌, slice_index}
-use Rattle.pocsag_slots.specs.Loads.{class_load}
-use Rattle.pocsag_slots.specs.Sums.{sum_below}
+use Rattle.pocsag_slots.proofs.Prelude.{◌≡◌, slice_index, class_load, sum_below}
 use Rattle.pocsag_slots.proofs.load.slot_load.Given as goal
 
 abbrev pub invariant-loop-class : goal.invariant-loop-class

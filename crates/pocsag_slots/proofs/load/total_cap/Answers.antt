@@ -1,5 +1,4 @@
-use Rattle.std.proofs.Common.{arith, sym, ◌≡◌}
-use Rattle.pocsag_slots.specs.Sums.{sum_over}
+use Rattle.pocsag_slots.proofs.Prelude.{arith, sym, ◌≡◌, sum_over}
 use Rattle.pocsag_slots.proofs.SumLemmas.{sum_below_none, summed}
 use Rattle.pocsag_slots.proofs.load.total_cap.Goals as goal
 

@@ -1,5 +1,4 @@
-use Rattle.std.proofs.Common.{◌≡◌, ◌*◌, ◌^◌, ◌≤◌, cond, slice_index}
-use Rattle.pocsag_slots.specs.Sums.{holds, sum_below}
+use Rattle.pocsag_slots.proofs.Prelude.{◌≡◌, ◌*◌, ◌^◌, ◌≤◌, cond, slice_index, holds, sum_below}
 use Rattle.pocsag_slots.proofs.load.total_cap.Given as goal
 
 abbrev pub invariant-loop-slot : goal.invariant-loop-slot

@@ -1,5 +1,4 @@
-use Rattle.std.proofs.Common.{arith, sym, true, false, ◌≡◌, cond}
-use Rattle.pocsag_slots.specs.Sums.{holds, sum_over}
+use Rattle.pocsag_slots.proofs.Prelude.{arith, sym, true, false, ◌≡◌, cond, holds, sum_over}
 use Rattle.pocsag_slots.proofs.SumLemmas.{sum_below_more, sum_below_none}
 use Rattle.pocsag_slots.proofs.set.size.Goals as goal
 use Rattle.pocsag_slots.proofs.set.size.Goals.{then-holds, else-holds}

@@ -1,5 +1,4 @@
-use Rattle.std.proofs.Common.{◌≡◌, ◌≤◌, cond}
-use Rattle.pocsag_slots.specs.Sums.{holds, sum_below}
+use Rattle.pocsag_slots.proofs.Prelude.{◌≡◌, ◌≤◌, cond, holds, sum_below}
 use Rattle.pocsag_slots.proofs.set.size.Given as goal
 
 abbrev pub invariant-loop-member : goal.invariant-loop-member

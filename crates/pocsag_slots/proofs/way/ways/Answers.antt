@@ -1,5 +1,5 @@
-use Rattle.std.proofs.Common.{◌≡◌, arith, sym, append-nil, ◌∙◌}
-use Rattle.pocsag_slots.specs.Ways.{ways_across}
+use Rattle.pocsag_slots.proofs.Prelude.{◌≡◌, arith, sym, ◌∙◌, ways_across}
+use Rattle.std.proofs.Common.{append-nil}
 use Rattle.pocsag_slots.proofs.WayLemmas.{class_added, classes_few, early_few, joined_none, slot_added, slots_few, ways_allowed}
 use Rattle.pocsag_slots.proofs.way.ways.Goals as goal
 

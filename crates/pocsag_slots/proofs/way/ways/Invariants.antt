@@ -1,6 +1,4 @@
-use Rattle.std.proofs.Common.{◌≡◌, ◌++◌}
-use Rattle.pocsag_slots.specs.Sums.{joined_below}
-use Rattle.pocsag_slots.specs.Ways.{class_ways, slot_ways}
+use Rattle.pocsag_slots.proofs.Prelude.{◌≡◌, ◌++◌, joined_below, class_ways, slot_ways}
 use Rattle.pocsag_slots.proofs.way.ways.Given as goal
 
 abbrev pub invariant-loop-slot : goal.invariant-loop-slot

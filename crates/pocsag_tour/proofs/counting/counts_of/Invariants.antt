@@ -1,5 +1,4 @@
-use Rattle.std.proofs.Common.{◌≡◌, ℕ, ◌<◌, length, slice_index}
-use Rattle.pocsag_tour.specs.Moves.{arc_count}
+use Rattle.pocsag_tour.proofs.Prelude.{◌≡◌, ℕ, ◌<◌, length, slice_index, arc_count}
 use Rattle.pocsag_tour.proofs.counting.counts_of.Given as goal
 
 abbrev pub invariant-loop-arc : goal.invariant-loop-arc

@@ -1,4 +1,5 @@
-use Rattle.std.proofs.Common.{◌≡◌, arith, rules, sym, slice_index}
+use Rattle.pocsag_tour.proofs.Prelude.{◌≡◌, arith, sym, slice_index}
+use Rattle.std.proofs.Common.{rules}
 use Rattle.pocsag_slots.proofs.SumLemmas.{sum_below_more, sum_below_none}
 use Rattle.pocsag_tour.proofs.counting.steps_over.Goals as goal
 

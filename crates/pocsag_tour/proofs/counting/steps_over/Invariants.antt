@@ -1,5 +1,5 @@
-use Rattle.std.proofs.Common.{◌≡◌, ◌*◌, ◌^◌, ◌≤◌, slice_index}
-use Rattle.pocsag_slots.specs.Sums.{sum_below}
+use Rattle.pocsag_tour.proofs.Prelude.{◌≡◌, ◌^◌, ◌≤◌, slice_index, sum_below}
+use Rattle.std.proofs.Common.{◌*◌}
 use Rattle.pocsag_tour.proofs.counting.steps_over.Given as goal
 
 abbrev pub invariant-loop-arc : goal.invariant-loop-arc

@@ -1,6 +1,4 @@
-use Rattle.std.proofs.Common.{◌≡◌, ℕ, ◌<◌, true, slice_index}
-use Rattle.pocsag_slots.specs.Sums.{holds}
-use Rattle.pocsag_tour.specs.Moves.{arc_from, arc_to}
+use Rattle.pocsag_tour.proofs.Prelude.{◌≡◌, ℕ, ◌<◌, true, slice_index, holds, arc_from, arc_to}
 use Rattle.pocsag_tour.proofs.flood.entering.Given as goal
 
 abbrev pub invariant-loop-arc : goal.invariant-loop-arc

@@ -1,4 +1,4 @@
-use Rattle.std.proofs.Common.{ℕ, ◌<◌, arith, ◌∙◌, length, length-set, refl, slice_index, [], ◌∷◌}
+use Rattle.pocsag_tour.proofs.Prelude.{ℕ, ◌<◌, arith, ◌∙◌, length, length-set, refl, slice_index, [], ◌∷◌}
 use Rattle.pocsag_tour.proofs.Flooding.{exits_low, grown_keeps, homes_start, homes_written}
 use Rattle.pocsag_tour.proofs.flood.exits_to.Goals as goal
 

@@ -1,6 +1,4 @@
-use Rattle.std.proofs.Common.{◌≡◌, ℕ, ◌-◌, ◌<◌, true, length, slice_index}
-use Rattle.pocsag_slots.specs.Sums.{holds}
-use Rattle.pocsag_tour.specs.Moves.{LeadHome}
+use Rattle.pocsag_tour.proofs.Prelude.{◌≡◌, ℕ, ◌-◌, ◌<◌, true, length, slice_index, holds, LeadHome}
 use Rattle.pocsag_tour.proofs.flood.exits_to.Given as goal
 
 abbrev pub invariant-loop-arc : goal.invariant-loop-arc

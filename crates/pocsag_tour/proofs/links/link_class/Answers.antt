@@ -1,4 +1,4 @@
-use Rattle.std.proofs.Common.{◌+◌, slice_index, arith}
+use Rattle.pocsag_tour.proofs.Prelude.{◌+◌, slice_index, arith}
 use Rattle.pocsag_tour.proofs.Linking.{AreLinks, link_at, runs_more, runs_none}
 use Rattle.pocsag_tour.proofs.links.link_class.Goals as goal
 

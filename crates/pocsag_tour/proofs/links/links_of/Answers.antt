@@ -1,4 +1,4 @@
-use Rattle.std.proofs.Common.{slice_index, arith}
+use Rattle.pocsag_tour.proofs.Prelude.{slice_index, arith}
 use Rattle.pocsag_tour.proofs.Linking.{idles_more}
 use Rattle.pocsag_tour.proofs.links.links_of.Goals as goal
 

@@ -1,4 +1,4 @@
-use Rattle.std.proofs.Common.{slice_index}
+use Rattle.pocsag_tour.proofs.Prelude.{slice_index}
 use Rattle.pocsag_tour.proofs.Linking.{WithIdles}
 use Rattle.pocsag_tour.proofs.links.links_of.Given as goal
 

@@ -1,4 +1,4 @@
-use Rattle.std.proofs.Common.{refl, slice_index}
+use Rattle.pocsag_tour.proofs.Prelude.{refl, slice_index}
 use Rattle.pocsag_tour.proofs.Linking.{no_links}
 use Rattle.pocsag_tour.proofs.links.run_links.Goals as goal
 use Rattle.pocsag_slots.proofs.Edging.{sixteen_zeros}

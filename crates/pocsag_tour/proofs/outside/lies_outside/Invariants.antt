@@ -1,4 +1,4 @@
-use Rattle.std.proofs.Common.{ℕ, ◌<◌, Bool, slice_index}
+use Rattle.pocsag_tour.proofs.Prelude.{ℕ, ◌<◌, Bool, slice_index}
 use Rattle.pocsag_tour.specs.Reached.{HasRunOutside}
 use Rattle.pocsag_tour.proofs.outside.lies_outside.Given as goal
 

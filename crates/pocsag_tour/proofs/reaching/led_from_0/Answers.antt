@@ -1,5 +1,5 @@
-use Rattle.std.proofs.Common.{refl, subst, sym, slice_index}
-use Rattle.pocsag_tour.specs.Links.{IsLed, at_start}
+use Rattle.pocsag_tour.proofs.Prelude.{refl, subst, sym, slice_index, IsLed}
+use Rattle.pocsag_tour.specs.Links.{at_start}
 use Rattle.pocsag_tour.proofs.Flooding.{lone}
 use Rattle.pocsag_tour.proofs.reaching.led_from_0.Goals as goal
 

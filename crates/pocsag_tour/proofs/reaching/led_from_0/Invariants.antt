@@ -1,6 +1,4 @@
-use Rattle.std.proofs.Common.{◌≡◌, ℕ, ◌-◌, true, slice_index}
-use Rattle.pocsag_slots.specs.Sums.{holds}
-use Rattle.pocsag_tour.specs.Links.{IsLed}
+use Rattle.pocsag_tour.proofs.Prelude.{◌≡◌, ℕ, ◌-◌, true, slice_index, holds, IsLed}
 use Rattle.pocsag_tour.proofs.reaching.led_from_0.Given as goal
 
 abbrev pub invariant-loop-set : goal.invariant-loop-set

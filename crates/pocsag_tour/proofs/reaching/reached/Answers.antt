@@ -1,4 +1,4 @@
-use Rattle.std.proofs.Common.{slice_index}
+use Rattle.pocsag_tour.proofs.Prelude.{slice_index}
 use Rattle.pocsag_tour.proofs.Linking.{all_reached}
 use Rattle.pocsag_tour.proofs.Tours.{no_idle_crosses, no_run_crosses}
 use Rattle.pocsag_tour.proofs.reaching.reached.Goals as goal

@@ -1,4 +1,4 @@
-use Rattle.std.proofs.Common.{slice_index}
+use Rattle.pocsag_tour.proofs.Prelude.{slice_index}
 use Rattle.pocsag_tour.proofs.Tours.{closing_idle, closing_late}
 use Rattle.pocsag_tour.proofs.touring.closing.Goals as goal
 

@@ -1,4 +1,5 @@
-use Rattle.std.proofs.Common.{IsTrue, Result, Ok, Err, IfOk, IfErr, slice_index}
+use Rattle.pocsag_tour.proofs.Prelude.{slice_index}
+use Rattle.std.proofs.Common.{IsTrue, Result, Ok, Err, IfOk, IfErr}
 use Rattle.pocsag_tour.proofs.Covering.{balanced_start}
 use Rattle.pocsag_tour.proofs.Joining.{joined_open}
 use Rattle.pocsag_tour.proofs.Tours.{reached_closed, reached_members, reached_start, refused, runs_start, tour_of}

@@ -1,5 +1,4 @@
-use Rattle.std.proofs.Common.{slice_index}
-use Rattle.std.proofs.lemmas.Result.{err_from_is_err_and}
+use Rattle.pocsag_tour.proofs.Prelude.{slice_index, err_from_is_err_and}
 use Rattle.pocsag_tour.proofs.Existing.{open_way_exists}
 use Rattle.pocsag_tour.proofs.touring.way.Goals as goal
 

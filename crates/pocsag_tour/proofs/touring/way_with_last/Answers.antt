@@ -1,5 +1,4 @@
-use Rattle.std.proofs.Common.{◌≡◌, ◌-◌, [], ◌∷◌, ◌++◌, arith, slice_index, slice_set}
-use Rattle.pocsag_tour.specs.Moves.{step_of}
+use Rattle.pocsag_tour.proofs.Prelude.{◌≡◌, ◌-◌, [], ◌∷◌, ◌++◌, arith, slice_index, slice_set, step_of}
 use Rattle.pocsag_tour.proofs.Joining.{balanced_without, closed_way, joined_closed}
 use Rattle.pocsag_tour.proofs.Walks.{less_by_set}
 use Rattle.pocsag_tour.proofs.touring.way_with_last.Goals as goal

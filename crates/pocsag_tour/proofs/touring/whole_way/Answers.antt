@@ -1,5 +1,4 @@
-use Rattle.std.proofs.Common.{arith, refl, slice_index}
-use Rattle.std.proofs.lemmas.Result.{err_from_is_err_and}
+use Rattle.pocsag_tour.proofs.Prelude.{arith, refl, slice_index, err_from_is_err_and}
 use Rattle.pocsag_tour.proofs.Existing.{closed_way_exists, way_exists}
 use Rattle.pocsag_tour.proofs.touring.whole_way.Goals as goal
 

@@ -1,5 +1,4 @@
-use Rattle.std.proofs.Common.{◌≡◌, ◌<◌, arith, sym, ap, ◌∙◌}
-use Rattle.pocsag_tour.specs.Moves.{arc_at, arc_from}
+use Rattle.pocsag_tour.proofs.Prelude.{◌≡◌, ◌<◌, arith, sym, ap, ◌∙◌, arc_at, arc_from}
 use Rattle.pocsag_tour.proofs.Geometry.{arc_of_kind, from_arc_at, kind_below, kind_of}
 use Rattle.pocsag_tour.proofs.walking.detour.Goals as goal
 

@@ -1,5 +1,4 @@
-use Rattle.std.proofs.Common.{◌≡◌, ◌≢◌, ℕ, ◌<◌, slice_index}
-use Rattle.pocsag_tour.specs.Moves.{arc_at}
+use Rattle.pocsag_tour.proofs.Prelude.{◌≡◌, ◌≢◌, ℕ, ◌<◌, slice_index, arc_at}
 use Rattle.pocsag_tour.proofs.walking.detour.Given as goal
 
 abbrev pub invariant-loop-kind : goal.invariant-loop-kind

@@ -1,5 +1,4 @@
-use Rattle.std.proofs.Common.{◌≡◌, ◌-◌, [], ◌∷◌, ◌++◌, arith, ◌∙◌, length-set, slice_index, slice_set}
-use Rattle.pocsag_tour.specs.Moves.{arc_to, IsWalk, step_of}
+use Rattle.pocsag_tour.proofs.Prelude.{◌≡◌, ◌-◌, [], ◌∷◌, ◌++◌, arith, ◌∙◌, length-set, slice_index, slice_set, arc_to, IsWalk, step_of}
 use Rattle.pocsag_tour.proofs.Walks.{IsLess, less_by_set, sum_less, walk_end, walk_on, walk_start}
 use Rattle.pocsag_tour.proofs.walking.walk.Goals as goal
 

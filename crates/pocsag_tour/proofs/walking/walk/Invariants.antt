@@ -1,6 +1,4 @@
-use Rattle.std.proofs.Common.{◌≡◌, length, slice_index}
-use Rattle.pocsag_slots.specs.Sums.{sum_below}
-use Rattle.pocsag_tour.specs.Moves.{IsWalk}
+use Rattle.pocsag_tour.proofs.Prelude.{◌≡◌, length, slice_index, sum_below, IsWalk}
 use Rattle.pocsag_tour.proofs.walking.walk.Given as goal
 
 abbrev pub invariant-loop-arc : goal.invariant-loop-arc

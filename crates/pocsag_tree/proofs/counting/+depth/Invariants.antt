@@ -1,6 +1,4 @@
-use Rattle.std.proofs.Common.{◌≡◌, ◌≤◌, drop, min, max}
-use Rattle.pocsag_tree.specs.Bounds.{deepest, greatest_count}
-use Rattle.pocsag_tree.specs.Views.{bounds_of}
+use Rattle.pocsag_tree.proofs.Prelude.{◌≡◌, ◌≤◌, drop, min, max, deepest, greatest_count, bounds_of}
 use Rattle.pocsag_tree.proofs.counting.+depth.Given as goal
 
 -- the greatest depth so far, and that of the trees that are left, make that of all the trees

@@ -1,10 +1,7 @@
-use Rattle.std.proofs.Common.{◌≡◌, ◌∷◌, [], ◌++◌, ◌≤◌, ℕ, List, length, map, refl, arith, rules}
-use Rattle.std.proofs.lemmas.Result.{err_from_is_err_and}
+use Rattle.pocsag_tree.proofs.Prelude.{◌≡◌, ◌∷◌, [], ◌++◌, ◌≤◌, ℕ, List, length, map, refl, arith, err_from_is_err_and, all_nodes_in, deepest, bound_of, bounds_of, but_last, node_at}
+use Rattle.std.proofs.Common.{rules}
 use Rattle.std.proofs.lemmas.List.{map_push}
 use Rattle.pocsag_tree.specs.declared.refusals.CertificateFault.TheVariants as fault
-use Rattle.pocsag_tree.specs.Bounds.{all_nodes_in, deepest}
-use Rattle.pocsag_tree.specs.Views.{bound_of, bounds_of}
-use Rattle.pocsag_tree.specs.Reading.{but_last, node_at}
 use Rattle.pocsag_tree.proofs.Early.{node_is_early, node_stands, node_ends, told, row_is_early, row_ends_early, split_fails}
 use Rattle.pocsag_tree.proofs.Fronts.{but_last_all}
 use Rattle.pocsag_tree.proofs.Rows.{row_starts, row_goes_on, row_ends, row_is_done, nodes-push, deepest-push}

@@ -1,7 +1,5 @@
-use Rattle.std.proofs.Common.{◌≡◌, ℕ, ◌≤◌, List, [], length, Err, ap, arith}
-use Rattle.std.proofs.lemmas.Result.{err_from_is_err_and}
+use Rattle.pocsag_tree.proofs.Prelude.{◌≡◌, ℕ, ◌≤◌, List, [], length, Err, ap, arith, err_from_is_err_and, but_last}
 use Rattle.pocsag_tree.specs.declared.refusals.CertificateFault.TheVariants as fault
-use Rattle.pocsag_tree.specs.Reading.{but_last}
 use Rattle.pocsag_tree.proofs.Fronts.{but_last_all, but_last_none}
 use Rattle.pocsag_tree.proofs.Results.{all_ends}
 use Rattle.pocsag_tree.proofs.reading.all.Goals as goal

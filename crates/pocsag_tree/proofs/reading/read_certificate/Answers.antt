@@ -1,5 +1,4 @@
-use Rattle.std.proofs.Common.{length}
-use Rattle.pocsag_tree.specs.Reading.{but_last}
+use Rattle.pocsag_tree.proofs.Prelude.{length, but_last}
 use Rattle.pocsag_tree.proofs.Results.{is_found, is_only, is_fault, is_first, is_short, is_wanting}
 use Rattle.pocsag_tree.proofs.reading.read_certificate.Goals as goal
 

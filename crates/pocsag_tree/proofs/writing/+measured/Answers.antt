@@ -1,4 +1,4 @@
-use Rattle.std.proofs.Common.{arith}
+use Rattle.pocsag_tree.proofs.Prelude.{arith}
 use Rattle.std.proofs.lemmas.Grind.{common_steps}
 use Rattle.pocsag_tree.proofs.Counts.{count_of_bounds, bound_of-cut, bound_of-close}
 use Rattle.pocsag_tree.proofs.writing.+measured.Goals as goal

@@ -1,9 +1,5 @@
-use Rattle.std.proofs.Common.{◌≡◌, ◌+◌, ◌*◌, ◌≤◌, drop}
+use Rattle.pocsag_tree.proofs.Prelude.{◌≡◌, ◌+◌, ◌*◌, ◌≤◌, drop, most_nodes, second_ranges, all_nodes_in, deepest, bounds_of, AreInRange}
 use Rattle.std.specs.Prelude.{◌↔◌}
-use Rattle.pocsag_tree.specs.Limits.{most_nodes, second_ranges}
-use Rattle.pocsag_tree.specs.Bounds.{all_nodes_in, deepest}
-use Rattle.pocsag_tree.specs.Views.{bounds_of}
-use Rattle.pocsag_tree.specs.Spelling.{AreInRange}
 use Rattle.pocsag_tree.proofs.writing.+measured.Given as goal
 
 abbrev pub decreases-measured : goal.decreases-measured

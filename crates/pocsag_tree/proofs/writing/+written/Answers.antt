@@ -1,8 +1,4 @@
-use Rattle.std.proofs.Common.{refl, arith, drop}
-use Rattle.pocsag_tree.specs.Limits.{second_ranges}
-use Rattle.pocsag_tree.specs.Bounds.{cut, close}
-use Rattle.pocsag_tree.specs.Views.{bounds_of}
-use Rattle.pocsag_tree.specs.Spelling.{IsInRange, row}
+use Rattle.pocsag_tree.proofs.Prelude.{refl, arith, drop, second_ranges, cut, close, bounds_of, IsInRange, row}
 use Rattle.pocsag_tree.proofs.Counts.{count_of_bounds, bound_of-cut, bound_of-close, split_text, cut_text, close_text, row-drop}
 use Rattle.pocsag_tree.proofs.Taken.{took_first, took_then, took_left, delivers_then, stopped}
 use Rattle.pocsag_tree.proofs.writing.+written.Goals as goal

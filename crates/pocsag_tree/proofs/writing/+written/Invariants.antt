@@ -1,7 +1,4 @@
-use Rattle.std.proofs.Common.{◌≡◌, ◌≤◌, ◌++◌, drop, length}
-use Rattle.pocsag_tree.specs.Limits.{second_ranges}
-use Rattle.pocsag_tree.specs.Views.{bounds_of}
-use Rattle.pocsag_tree.specs.Spelling.{AreInRange, row}
+use Rattle.pocsag_tree.proofs.Prelude.{◌≡◌, ◌≤◌, ◌++◌, drop, length, second_ranges, bounds_of, AreInRange, row}
 use Rattle.pocsag_tree.proofs.writing.+written.Given as goal
 
 -- what was taken so far, and the text of the trees that are left, are the text of the row

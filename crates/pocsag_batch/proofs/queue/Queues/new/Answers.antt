@@ -1,9 +1,4 @@
-use Rattle.std.proofs.Common.{◌≡◌, ◌≤◌, ℕ, ◌+◌, ◌-◌, ◌<◌, suc, List, length, slice_index, slice_set, ◌∙◌, arith}
-use Rattle.std.specs.List.{range_with_len}
-use Rattle.std.proofs.lemmas.List.{length-set}
-use Rattle.pocsag_pages.specs.declared.page.Page.{Page}
-use Rattle.pocsag_batch.specs.Chains.{AreChains}
-use Rattle.pocsag_batch.specs.Placing.{class_at}
+use Rattle.pocsag_batch.proofs.Prelude.{◌≡◌, ◌≤◌, ℕ, ◌+◌, ◌-◌, ◌<◌, suc, List, length, slice_index, slice_set, ◌∙◌, arith, range_with_len, length-set, Page, AreChains, class_at}
 use Rattle.pocsag_batch.proofs.Chains.{chains_added, class_at_item}
 use Rattle.pocsag_batch.proofs.queue.Queues.new.Goals as goal
 

@@ -1,6 +1,4 @@
-use Rattle.std.proofs.Common.{◌≡◌, ◌≤◌, ◌-◌, length}
-use Rattle.std.specs.List.{range_with_len}
-use Rattle.pocsag_batch.specs.Chains.{AreChains}
+use Rattle.pocsag_batch.proofs.Prelude.{◌≡◌, ◌≤◌, ◌-◌, length, range_with_len, AreChains}
 use Rattle.pocsag_batch.proofs.queue.Queues.new.Given as goal
 
 -- the queues of the places from here on

@@ -1,4 +1,4 @@
-use Rattle.std.proofs.Common.{ap, arith, length}
+use Rattle.pocsag_batch.proofs.Prelude.{ap, arith, length}
 use Rattle.pocsag_pages.proofs.GoodPages.{good_pages}
 use Rattle.pocsag_batch.proofs.slots.Slots.new.Goals as goal
 

@@ -1,6 +1,5 @@
-use Rattle.std.proofs.Common.{ℕ, ◌/◌, ◌^◌, ◌<◌, sym, ap, ◌∙◌}
+use Rattle.pocsag_batch.proofs.Prelude.{ℕ, ◌/◌, ◌^◌, ◌<◌, sym, ap, ◌∙◌, address_kind}
 use Rattle.std.proofs.lemmas.List.Elements.{All-rest}
-use Rattle.pocsag_words.specs.Kinds.{address_kind}
 use Rattle.pocsag_batch.proofs.Views.{begun_view}
 use Rattle.pocsag_batch.proofs.slots.SlotsIterator.next.Goals as goal
 

@@ -1,5 +1,4 @@
-use Rattle.std.proofs.Common.{◌≡◌, ◌++◌, map, replicate}
-use Rattle.pocsag_words.specs.Kinds.{kind_of}
+use Rattle.pocsag_batch.proofs.Prelude.{◌≡◌, ◌++◌, map, replicate, kind_of}
 use Rattle.pocsag_words.specs.declared.codeword.Kind.TheVariants.{Idle}
 use Rattle.pocsag_batch.proofs.word_list.WordList.push_idles.Given as goal
 

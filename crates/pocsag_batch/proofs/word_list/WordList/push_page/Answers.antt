@@ -1,6 +1,4 @@
-use Rattle.std.proofs.Common.{◌≡◌, ℕ, ◌/◌, ◌<◌, ◌∷◌, ◌++◌, length, get_or, map, take, sym, ap, ◌∙◌}
-use Rattle.std.proofs.lemmas.List.Elements.{All-get_or}
-use Rattle.pocsag_words.specs.Kinds.{kind_of}
+use Rattle.pocsag_batch.proofs.Prelude.{◌≡◌, ℕ, ◌/◌, ◌<◌, ◌∷◌, ◌++◌, length, get_or, map, take, sym, ap, ◌∙◌, All-get_or, kind_of}
 use Rattle.pocsag_words.specs.declared.codeword.Kind.TheVariants.{Address, Message}
 use Rattle.pocsag_slots.proofs.Sayable.{kind_unreserved}
 use Rattle.pocsag_batch.proofs.Pushes.{pushed, pushed_more, map_taken}

@@ -1,5 +1,4 @@
-use Rattle.std.proofs.Common.{◌≡◌, ◌/◌, ◌∷◌, ◌++◌, map, take}
-use Rattle.pocsag_words.specs.Kinds.{kind_of}
+use Rattle.pocsag_batch.proofs.Prelude.{◌≡◌, ◌/◌, ◌∷◌, ◌++◌, map, take, kind_of}
 use Rattle.pocsag_words.specs.declared.codeword.Kind.TheVariants.{Address, Message}
 use Rattle.pocsag_batch.proofs.word_list.WordList.push_page.Given as goal
 

@@ -1,4 +1,4 @@
-use Rattle.std.proofs.Common.{sym}
+use Rattle.pocsag_pager.proofs.Prelude.{sym}
 use Rattle.pocsag_pager.proofs.Hearings.{all_shown}
 use Rattle.pocsag_pager.proofs.pager.Pager.end.Goals as goal
 

@@ -1,6 +1,4 @@
-use Rattle.std.proofs.Common.{◌≡◌, ◌%◌, ◌<◌, ◌++◌, ◌∷◌, [], length, subst, sym, arith}
-use Rattle.std.specs.Prelude.{None}
-use Rattle.pocsag_pager.specs.Turns.{IsHeardAs}
+use Rattle.pocsag_pager.proofs.Prelude.{◌≡◌, ◌%◌, ◌<◌, ◌++◌, ◌∷◌, [], length, subst, sym, arith, None, IsHeardAs}
 use Rattle.pocsag_pager.proofs.Places.{ending_none}
 use Rattle.pocsag_pager.proofs.Hearings.{IsOpen, place_more, open_still, skip_ended, skip_open, turn_ended, turn_open}
 use Rattle.pocsag_pager.proofs.pager.Pager.hear.Goals as goal

@@ -1,5 +1,5 @@
-use Rattle.std.proofs.Common.{◌≡◌, ◌%◌, ℕ, length, arith, length-append, subst, sym}
-use Rattle.pocsag_pager.specs.Standing.{IsElsewhere}
+use Rattle.pocsag_pager.proofs.Prelude.{◌≡◌, ◌%◌, ℕ, length, arith, subst, sym, IsElsewhere}
+use Rattle.std.proofs.Common.{length-append}
 use Rattle.pocsag_pager.proofs.Hearings.{pass_all}
 use Rattle.pocsag_pager.proofs.pager.Pager.pass.Goals as goal
 

@@ -1,24 +1,26 @@
 -- Lines of a text, and the records that they are.
-use Rattle.std.proofs.Common.{◌≡◌, ◌≢◌, ◌⊎◌, inl, inr, ℕ, ◌+◌, List, [], ◌∷◌, ◌++◌, length, refl, sym, ap, ◌∙◌, subst, append_assoc, Some}
+use Rattle.std.proofs.Common.{Bool, true, false, ◌≡◌, ◌≢◌, ℕ, zero, suc, ◌+◌, ◌<◌, List, [], ◌∷◌, ◌++◌, length, take, arith, add-one, refl, sym, ap, ◌∙◌, subst, append_assoc, Some}
 use Rattle.std.proofs.lemmas.List.{append-nil}
-use Rattle.std.specs.Prelude.{Option}
-use Rattle.std.specs.List.{AllByRecursion}
+use Rattle.std.proofs.lemmas.Bool.{eqb-true, or_parts}
+use Rattle.std.specs.Prelude.{◌==◌, ◌||◌, Option, None, codes, slice_index}
+use Rattle.memchr.specs.Find.{NoneBefore, Passes, is_byte}
+use Rattle.std.specs.List.{AllByRecursion, list_any}
 use Rattle.csv.specs.Machine.{Read, line_feed, next_record}
 use Rattle.csv.specs.Reading.{default_config}
-use Rattle.csv.specs.Writing.{default_writer, read_back, row_text}
+use Rattle.csv.specs.Writing.{default_writer, fields_text, is_blank, read_back, row_text}
 use Rattle.csv.specs.declared.parser.State.TheVariants as st
 use Rattle.csv.proofs.RoundTrip.{read-write}
 use Rattle.pocsag_pages.specs.PageFile.{Row}
-use Rattle.pocsag_journal.specs.Journals.{HasNoLineFeed, IsLine, IsRead, IsWholeLine, first_row, journal_text, rows_text}
+use Rattle.pocsag_journal.specs.Journals.{HasNoLineFeed, IsLine, IsRead, IsWholeLine, first_record, journal_text, rows_text}
 
 -- two texts that begin with a line each and are equal begin with the same line
 pub split_lines : (a b xs ys : List ℕ) → HasNoLineFeed a → HasNoLineFeed b → a ++ line_feed ∷ xs ≡ b ++ line_feed ∷ ys →
     (a ≡ b) × (xs ≡ ys)
 split_lines [] [] xs ys p q e = (refl, cc e)
 split_lines [] (b ∷ bs) xs ys p q e = absurd (q.0 (cc e))
-split_lines (a ∷ as) [] xs ys p q e = absurd (p.0 (cc e))
-split_lines (a ∷ as) (b ∷ bs) xs ys p q e =
-    let h = split_lines as bs xs ys p.1 q.1 (cc e) in
+split_lines (a ∷ front) [] xs ys p q e = absurd (p.0 (cc e))
+split_lines (a ∷ front) (b ∷ bs) xs ys p q e =
+    let h = split_lines front bs xs ys p.1 q.1 (cc e) in
     let same : a ≡ b = cc e in
     (rw (same, h.0) refl, h.1)
 
@@ -26,27 +28,26 @@ split_lines (a ∷ as) (b ∷ bs) xs ys p q e =
 pub no_line : (a xs torn : List ℕ) → HasNoLineFeed torn → a ++ line_feed ∷ xs ≡ torn → ⊥
 no_line [] xs [] n e = cc e
 no_line [] xs (t ∷ ts) n e = n.0 (cc e)
-no_line (a ∷ as) xs [] n e = cc e
-no_line (a ∷ as) xs (t ∷ ts) n e = no_line as xs ts n.1 (cc e)
+no_line (a ∷ front) xs [] n e = cc e
+no_line (a ∷ front) xs (t ∷ ts) n e = no_line front xs ts n.1 (cc e)
 
 -- records with a field whose texts are equal are equal
-back_is : (row : Row) → row ≢ [] → read_back row ≡ row
+pub back_is : (row : Row) → row ≢ [] → read_back row ≡ row
 back_is [] n = absurd (n refl)
 back_is (x ∷ xs) n = refl
 
-some_is : (a b : Row) → (s : List ℕ) → Some {A = Read} (a, st.StartRecord, s) ≡ Some (b, st.StartRecord, s) → a ≡ b
-some_is a b s e = ap (λ (o : Option Read). first_of o) e where
-  first_of : Option Read → Row
-  first_of None = []
-  first_of (Some r) = r.0
+row_in : Option Read → Row
+row_in None = []
+row_in (Some r) = r.0
 
 pub same_row : (a b : Row) → a ≢ [] → b ≢ [] → row_text default_writer a ≡ row_text default_writer b → a ≡ b
+unfolding row_in
 same_row a b m n e =
-    let left = read-write a [] in
-    let right = read-write b [] in
     let both : row_text default_writer a ++ [] ≡ row_text default_writer b ++ [] = ap (λ (t : List ℕ). t ++ []) e in
     sym (back_is a m)
-    ∙ some_is (read_back a) (read_back b) [] (sym left ∙ ap (λ (t : List ℕ). next_record default_config st.StartRecord [] [] t) both ∙ right)
+    ∙ sym (ap row_in (read-write a []))
+    ∙ ap (λ (t : List ℕ). row_in (next_record default_config st.StartRecord [] [] t)) both
+    ∙ ap row_in (read-write b [])
     ∙ back_is b n
 
 -- a whole line in front
@@ -80,8 +81,38 @@ align (d ∷ ds) (r ∷ rs) rest torn p q n e =
     (sym (append_assoc (row_text default_writer d) (rows_text ds) rest) ∙ e ∙ append_assoc (row_text default_writer r) (rows_text rs) torn) in
     let more = align ds rs rest torn p.1 q.1 n h.1 in
     let same = same_row d r p.0.some q.0.some h.0 in
-    record { left = more.left; parts = rw (same, more.parts) refl; text = more.text; each = more.each }
+    record {
+      left = more.left;
+      parts = ap (λ (q : List Row). r ∷ q) more.parts ∙ ap (λ (x : Row). x ∷ (ds ++ more.left)) (sym same);
+      text = more.text;
+      each = more.each;
+    }
+
+other_byte : (b : ℕ) → (b == line_feed) ≡ false → b ≢ line_feed
+other_byte b n e = let t : (b == line_feed) ≡ true = rw e refl in cc (sym t ∙ n)
+
+none_found : (bytes : List ℕ) → list_any (λ b. b == line_feed) bytes ≡ false → HasNoLineFeed bytes
+none_found [] e = tt
+none_found (b ∷ bytes) e =
+    let h = or_parts (b == line_feed) (list_any (λ c. c == line_feed) bytes) e in
+    (other_byte b h.0, none_found bytes h.1)
 
 -- the first line is one
-pub first_line : IsWholeLine (row_text default_writer first_row)
-first_line = record { body = _; parts = refl; one = _ }
+pub first_line : IsWholeLine (row_text default_writer first_record)
+unfolding fields_text is_blank
+first_line = record { body = codes "pocsag journal,1"; parts = refl; one = none_found (codes "pocsag journal,1") refl }
+
+-- the first line, by the place of its line feed
+pub line_at : (bytes : List ℕ) (k : ℕ) → k < length bytes → ((i : ℕ) → i < k → slice_index bytes i ≢ line_feed) →
+    slice_index bytes k ≡ line_feed → IsWholeLine (take (suc k) bytes)
+line_at [] k h n e = absurd (omega arith)
+line_at (b ∷ bytes) zero h n e = record { body = []; parts = ap (λ (c : ℕ). c ∷ []) e; one = tt }
+line_at (b ∷ bytes) (suc k) h n e =
+    let more = line_at bytes k (omega arith) (λ i l. n (suc i) (omega arith)) e in
+    record { body = b ∷ more.body; parts = ap (λ (l : List ℕ). b ∷ l) more.parts; one = (n zero (omega arith), more.one) }
+
+pub line_found : (bytes : List ℕ) (k : ℕ) → NoneBefore (Passes (is_byte line_feed) bytes) 0 (length bytes) k →
+    Passes (is_byte line_feed) bytes k → IsWholeLine (take (k + 1) bytes)
+line_found bytes k first here =
+    rw add-one
+    (line_at bytes k first.high (λ i l e. first.before i (omega arith) l (rw e refl)) (eqb-true (slice_index bytes k) line_feed here))

@@ -1,6 +1,6 @@
 use Rattle.pocsag_journal.proofs.EditRuns.{run_once}
 use Rattle.pocsag_journal.proofs.Readings.{no_bad_line, one_reading}
-use Rattle.pocsag_journal.proofs.laws.readings_are_one.Goals as goal
+use Rattle.pocsag_journal.proofs.laws.journals_read_as_one.Goals as goal
 
 pub returns-clause-one : goal.returns-clause-one
 returns-clause-one c = one_reading

@@ -1,0 +1,37 @@
+use Rattle.std.proofs.Common.{◌≡◌, ℕ, List, [], ap, ◌∙◌, subst, sym, length}
+use Rattle.std.specs.Prelude.{IfErr, IfOk, MatchResult, Result, Ok, Err}
+use Rattle.pocsag_pages.specs.PageFile.{Row}
+use Rattle.pocsag_pages.specs.declared.page.Page.{Page}
+use Rattle.pocsag_open.specs.Runs.{IsRun}
+use Rattle.pocsag_journal.specs.Faults.{IsTold, IsToldOf}
+use Rattle.pocsag_journal.specs.Journals.{IsRead, Replays, ReplaysAs}
+use Rattle.pocsag_journal.specs.declared.fault.JournalFault.{JournalFault}
+use Rattle.pocsag_journal.specs.declared.fault.JournalFault.TheVariants as fault
+use Rattle.pocsag_journal.specs.declared.reading.Replayed.{Replayed}
+use Rattle.pocsag_journal.proofs.EditRuns.{run_once}
+use Rattle.pocsag_journal.proofs.Readings.{no_bad_line, one_reading}
+use Rattle.pocsag_journal.proofs.reading.read_journal.Goals as goal
+
+-- whatever edits the bytes are the text of: these were read
+these : (bytes held : List ℕ) → bytes ≡ held → (r : Result Replayed JournalFault) →
+    IfOk r (λ x. Replays bytes x.edits x.torn x.book) → IfErr r (IsTold bytes) → (rows : List Row) (torn : List ℕ) (pages : List Page) →
+    IsRead held rows torn → IsRun rows [] pages → MatchResult r (λ x. ReplaysAs x.book x.edits x.torn pages rows torn) IsToldOf
+these bytes held e (Ok x) read told rows torn pages is run =
+    let here = subst (λ (b : List ℕ). IsRead b rows torn) (sym e) is in
+    let one = one_reading bytes rows read.rows torn read.rest here read.read in (
+      run_once rows [] x.book pages (subst (λ (l : List Row). IsRun l [] x.book) one.0 read.run) run,
+      read.as_many ∙ ap length one.0,
+      read.cut ∙ ap length one.1,
+    )
+these bytes held e (Err (fault.BadLine n)) read told rows torn pages is run =
+    no_bad_line bytes n told rows torn pages (subst (λ (b : List ℕ). IsRead b rows torn) (sym e) is) run
+these bytes held e (Err (fault.NoLine n)) read told rows torn pages is run = told
+these bytes held e (Err fault.WriteFault) read told rows torn pages is run = told
+these bytes held e (Err fault.ReadFault) read told rows torn pages is run = tt
+these bytes held e (Err fault.TooLarge) read told rows torn pages is run = tt
+these bytes held e (Err fault.OutOfMemory) read told rows torn pages is run = tt
+
+pub returns-clause-replay : goal.returns-clause-replay
+returns-clause-replay g c = λ tells rows torn pages is run.
+    these c.as_slice.result.now (g.S.Source.held c.args.source.now) (c.as_slice.ensures.value ∙ c.in_ok-bytes.ensures.whole tells) c.replay.result
+    c.replay.ensures.read c.replay.ensures.told rows torn pages is run

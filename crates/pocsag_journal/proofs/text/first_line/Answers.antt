@@ -1,0 +1,7 @@
+use Rattle.std.proofs.Common.{refl}
+use Rattle.csv.specs.Writing.{fields_text, is_blank}
+use Rattle.pocsag_journal.proofs.text.first_line.Goals as goal
+
+pub returns : goal.returns
+unfolding fields_text is_blank
+returns c = refl

@@ -1,0 +1,64 @@
+ghost use Rattle.std.specs.Prelude.{◌≡◌, ◌++◌, length, IfErr, OnErr, OnOk};
+ghost use Rattle.csv.specs.Records.{fields_of};
+ghost use Rattle.pocsag_commands.specs.Faults.{status_of};
+ghost use Rattle.pocsag_open.specs.Answers.{pages_answer};
+ghost use Rattle.pocsag_open.specs.Keeping.{IsAnswered, IsLost};
+
+use crate::editing::edit_row;
+use crate::keeper::Keeper;
+use crate::refusal::Refusal;
+use csv::ByteRecord;
+use pocsag_commands::{Fault, tell};
+use pocsag_plan::Book;
+use pocsag_words::Sink;
+use std::alloc::Global;
+
+/// An open round: its pages, and what keeps its edits.
+#[derive(Drop)]
+pub struct OpenRound<K: Keeper + Drop> {
+    pub book: Book,
+    pub keeper: K,
+}
+
+/// Makes the edit that a record is, has it kept, and answers it; or tells why it is refused. No byte of it is kept
+/// before it is judged, and it is not answered before it is kept.
+pub fn answer_edit<K: Keeper + Drop, O: Sink>(
+    alloc: Global,
+    round: &mut OpenRound<K>,
+    row: &ByteRecord,
+    out: &mut O,
+) -> Result<(), Fault>
+    ensures answered { K.tells → O.tells → OnOk result (IsAnswered (fields_of row.now) round.old.book round.new.book
+        (K.taken round.old.keeper) (K.taken round.new.keeper) (K.safe round.new.keeper)
+        (O.taken out.old) (O.taken out.new)) }
+    ensures unanswered { K.tells → O.tells → OnErr result (IsLost (fields_of row.now) round.old.book round.new.book
+        (K.taken round.old.keeper) (K.taken round.new.keeper) (K.safe round.new.keeper)
+        (O.taken out.old) (O.taken out.new)) }
+    ensures stands { K.stands_for round.old.keeper round.old.book →
+        OnOk result (K.stands_for round.new.keeper round.new.book) }
+    ensures lost { IfErr result (λ e. status_of e ≡ 3) }
+{
+    match edit_row(alloc, &mut round.book, row) {
+        Ok(()) => {}
+        Err(refusal) => return refuse(refusal, out),
+    }
+    round.keeper.keep(alloc, row)?;
+    tell_pages(&round.book, out)
+}
+
+/// Tells why a line is refused.
+pub(crate) fn refuse<O: Sink>(refusal: Refusal, out: &mut O) -> Result<(), Fault>
+    ensures { IfErr result (λ e. e ≡ Fault.Write) }
+{
+    tell(out, format_args!("refused: {refusal}\n"))
+}
+
+/// How many pages there are now.
+#[tactic(auto, unfolding(crate::specs::Answers::pages_answer))]
+pub(crate) fn tell_pages<O: Sink>(book: &Book, out: &mut O) -> Result<(), Fault>
+    ensures told { O.tells → OnOk result (O.taken out.new ≡ O.taken out.old ++ pages_answer (length book.now)) }
+    ensures lost { IfErr result (λ e. e ≡ Fault.Write) }
+{
+    let pages = book.len();
+    tell(out, format_args!("ok {pages}\n"))
+}

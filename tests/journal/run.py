@@ -1,0 +1,321 @@
+#!/usr/bin/env python3
+"""Keeps an open round in a journal through kills, cuts, refused calls and a full disk.
+
+Each start must list what the edits that were answered `ok` leave, or these and one more. It takes the binary that the
+gate left in crates/pocsag_app/out. The last line is 'N passed, M failed'.
+"""
+
+import os
+import pathlib
+import random
+import resource
+import subprocess
+import sys
+import time
+
+sys.dont_write_bytecode = True
+sys.path.insert(0, str(pathlib.Path(__file__).resolve().parents[1]))
+from tally import PROGRAM, TOP, run_parts
+
+HEADER = b"address,kind,message\n"
+FIRST_LINE = b"pocsag journal,1\n"
+EDITS = 5000
+KILLS = 300
+SEED = 20261123
+LEAST = 1 << 20  # the least size at which a journal is written anew
+
+
+def after(pages, line):
+    """The pages after an edit, as pairs of an address and the rest of its record; nothing where it is refused."""
+    words = line.split(b",", 2)
+    if words[0] == b"add":
+        address = int(words[1])
+        if any(address == other for other, _ in pages):
+            return None
+        return pages + [(address, words[2])]
+    if words[0] == b"cancel":
+        left = [page for page in pages if page[0] != int(words[1])]
+        return left if len(left) < len(pages) else None
+    return [] if line == b"clear" else None
+
+
+def all_after(lines):
+    pages = []
+    for line in lines:
+        pages = after(pages, line)
+    return pages
+
+
+def listing(pages):
+    return HEADER + b"".join(b"%d,%s\n" % page for page in pages)
+
+
+def random_edit(chooser, pages):
+    """An edit, which is refused now and then."""
+    draw = chooser.random()
+    if draw < 0.02:
+        return b"clear"
+    if draw < 0.4 and pages:
+        return b"cancel,%d" % chooser.choice(pages)[0]
+    kind = chooser.choice((b"tone0,", b"numeric,555-1234", b'alpha,"Bed 2, ""now"""', b"alpha,Ward 3"))
+    return b"add,%d,%s" % (chooser.randrange(400), kind)
+
+
+def start(folder, *words, **more):
+    return subprocess.Popen(
+        [str(PROGRAM), "open", "--journal", "round.journal", *words],
+        stdin=subprocess.PIPE,
+        stdout=subprocess.PIPE,
+        stderr=subprocess.PIPE,
+        cwd=folder,
+        **more,
+    )
+
+
+def run(folder, lines, *words, **more):
+    """Sends all lines at once, and gives the output, what standard error tells, and the status."""
+    process = start(folder, *words, **more)
+    out, err = process.communicate(b"".join(line + b"\n" for line in lines), timeout=120)
+    return out, err, process.returncode
+
+
+def is_count(answer):
+    return answer.startswith(b"ok ")
+
+
+def listed(folder, *words, **more):
+    """What a start lists, without the line that ends it."""
+    out, err, status = run(folder, [b"list"], *words, **more)
+    return out[: out.rfind(b"ok ")] if status == 0 else None, err
+
+
+def try_first_use(tally, folder):
+    """Start, add ten, kill -9, start, list."""
+    place = folder / "first"
+    place.mkdir()
+    process = start(place)
+    lines = [b"add,%d,tone0," % (8 * number) for number in range(10)]
+    for number, line in enumerate(lines):
+        process.stdin.write(line + b"\n")
+        process.stdin.flush()
+        tally.check(f"first use {number}", process.stdout.readline() == b"ok %d\n" % (number + 1))
+    process.kill()
+    process.wait()
+    found, err = listed(place)
+    tally.check("first use: the list", found == listing(all_after(lines)), found)
+    tally.check("first use: what it tells", err == b"pocsag: 10 edits read, 10 pages\n", err)
+
+
+def one_life(process, chooser, pages, count):
+    """Sends edits one by one, and then a few without waiting, and kills it; gives the edits that were sent in their
+    order, as far as they are accepted, and how many of them were answered ok."""
+    sent, answered = [], 0
+    for _ in range(count):
+        line = random_edit(chooser, pages)
+        process.stdin.write(line + b"\n")
+        process.stdin.flush()
+        answer = process.stdout.readline()
+        later = after(pages, line)
+        if (later is not None) != is_count(answer):
+            return None
+        if later is not None:
+            pages = later
+            sent.append(line)
+            answered += 1
+    burst, many = [], []
+    for _ in range(chooser.randrange(4)):
+        line = random_edit(chooser, pages)
+        many.append(line)
+        later = after(pages, line)
+        if later is not None:
+            pages = later
+            burst.append(line)
+    process.stdin.write(b"".join(line + b"\n" for line in many))
+    process.stdin.flush()
+    time.sleep(chooser.random() * 0.004)
+    process.kill()
+    told = process.stdout.read()
+    process.wait()
+    answered += sum(is_count(answer) for answer in told.splitlines(True) if answer.endswith(b"\n"))
+    return sent + burst, answered
+
+
+def try_kills(tally, folder):
+    """Random edits, killed at random moments and started again each time."""
+    place = folder / "kills"
+    place.mkdir()
+    chooser = random.Random(SEED)
+    pages, edits, ahead = [], 0, 0
+    for life in range(KILLS):
+        process = start(place)
+        done = one_life(process, chooser, pages, EDITS // KILLS + 1)
+        if done is None:
+            tally.check(f"kill {life}: an answer", False)
+            return
+        sent, answered = done
+        edits += answered
+        found, err = listed(place)
+        kept = pages
+        for line in sent[:answered]:
+            kept = after(kept, line)
+        more = after(kept, sent[answered]) if answered < len(sent) else kept
+        tally.check(f"kill {life}", found in (listing(kept), listing(more)), (found, err))
+        ahead += found != listing(kept)
+        pages = kept if found == listing(kept) else more
+    tally.check("kills: edits in all", edits >= EDITS, edits)
+
+
+SAMPLE = [
+    b"add,5,alpha,Ward 3",
+    b"add,13,tone0,",
+    b'add,21,alpha,"Bed 2, ""now"""',
+    b"cancel,13",
+    b"add,29,numeric,555-1234",
+    b"clear",
+    b"add,37,alpha,Fire",
+    b"add,45,tone3,",
+]
+
+
+def try_cuts(tally, folder):
+    """A journal cut at every byte: the edits whose lines are whole are there."""
+    place = folder / "cuts"
+    place.mkdir()
+    path = place / "round.journal"
+    text = FIRST_LINE + b"".join(line + b"\n" for line in SAMPLE)
+    for length in range(len(text) + 1):
+        path.write_bytes(text[:length])
+        whole = text[:length].count(b"\n")
+        torn = length - (text[:length].rfind(b"\n") + 1)
+        pages = all_after(SAMPLE[: max(0, whole - 1)])
+        found, err = listed(place)
+        told = b"pocsag: a torn line of %d bytes is cut off\n" % torn if torn else b""
+        told += b"pocsag: %d edits read, %d pages\n" % (max(0, whole - 1), len(pages))
+        tally.check(f"cut at {length}", (found, err) == (listing(pages), told), (found, err))
+        anew = FIRST_LINE + b"".join(b"add,%d,%s\n" % page for page in pages)
+        tally.check(f"cut at {length}, written anew", path.read_bytes() == anew, path.read_bytes())
+
+
+def try_bad_lines(tally, folder):
+    """A line that is no edit, or none that is accepted, is told by its number, and the file stays as it is."""
+    place = folder / "bad"
+    place.mkdir()
+    path = place / "round.journal"
+    good = [FIRST_LINE] + [line + b"\n" for line in SAMPLE]
+    bad = [
+        b"list\n",
+        b"add,5,alpha,\n",
+        b'add,99,alpha,"x"\n',
+        b"cancel,99\n",
+        b"plan,a,b\n",
+        b"\n",
+        b"add,099999999,tone0,\n",
+        b"pocsag journal,2\n",
+        b"add,5,alpha,Ward 3\r\n",
+    ]
+    for number in range(len(good)):
+        for line in bad:
+            if number == 0 and line == FIRST_LINE:
+                continue
+            text = b"".join(good[:number] + [line] + good[number + 1 :])
+            path.write_bytes(text)
+            found = run(place, [b"list"])
+            due = b"pocsag: journal line %d: no edit that the pages before it accept\n" % (number + 1)
+            tally.check(f"bad line {number + 1} {line}", found == (b"", due, 1), found)
+            tally.check(f"bad line {number + 1} {line}: the file", path.read_bytes() == text)
+
+
+def try_use(tally, folder):
+    """One program at a time; PAGES; the lines as an input; what stands at FILE; plans."""
+    place = folder / "use"
+    place.mkdir()
+    path = place / "round.journal"
+    (place / "pages.csv").write_bytes(HEADER + b'8,alpha,"Ward 3, now"\n16,numeric,"12   345     "\n24,numeric, \n')
+    out, err, status = run(place, [b"list"], "pages.csv")
+    tally.check("PAGES and a new journal", (err, status) == (b"pocsag: 0 edits read, 3 pages\n", 0), (out, err))
+    again, err, status = run(place, [b"list", b"add,32,tone0,"])
+    tally.check("the pages of PAGES are kept", again.startswith(out) and err == b"pocsag: 3 edits read, 3 pages\n", (out, again, err))
+    held = path.read_bytes()
+    out, err, status = run(place, [b"list"], "pages.csv")
+    due = b"pocsag: the journal holds edits, so the round cannot begin with PAGES\n"
+    tally.check("PAGES and a journal with edits", (out, err, status) == (b"", due, 1), (out, err, status))
+    tally.check("PAGES and a journal with edits: the file", path.read_bytes() == held)
+    fed = subprocess.run([str(PROGRAM), "open"], input=held + b"list\n", capture_output=True, timeout=60)
+    tally.check("the journal as input", b"refused" not in fed.stdout and fed.stdout.count(b"ok ") == held.count(b"\n") + 1, fed)
+    process = start(place)
+    tally.check("a program that holds it", process.stderr.readline() == b"pocsag: 4 edits read, 4 pages\n")
+    second = run(place, [b"list"])
+    tally.check("a second program", second == (b"", b"pocsag: another program holds the journal\n", 1), second)
+    process.kill()
+    process.wait()
+    for pair in ((b"round.journal", b"c"), (b"t", b"round.journal"), (b"t", b"./round.journal")):
+        out, err, status = run(place, [b"plan,%s,%s" % pair])
+        tally.check(f"a plan to the journal {pair}", out == b"refused: the same file is named twice\n", out)
+    tally.check("a plan to the journal: the file", path.read_bytes().count(b"\n") == 5, path.read_bytes())
+    out, err, status = run(place, [b"plan,t,c", b"clear"], "--always", "--keep")
+    tally.check("a plan beside a journal", out == b"batches 2\nok 0\n" or out.startswith(b"batches "), out)
+    (place / "feed.csv").write_bytes(HEADER + b'8,tone0,\n16,alpha,"two\nlines"\n')
+    path.unlink()
+    out, err, status = run(place, [b"list"], "feed.csv")
+    due = b"pocsag: page 2: no line of a journal holds its message\n"
+    tally.check("a message with a line feed", (out, err, status) == (b"", due, 1), (out, err, status))
+    path.unlink(missing_ok=True)
+    (place / "other").write_bytes(b"")
+    path.symlink_to("other")
+    out, err, status = run(place, [b"list"])
+    tally.check("a link as a journal", (out, status) == (b"", 3), (out, err, status))
+    done = subprocess.run([str(PROGRAM), "open", "--journal", "/dev/full"], input=b"list\n", capture_output=True, timeout=60)
+    tally.check("a device as a journal", (done.stdout, done.returncode) == (b"", 3), done)
+
+
+def limited(size):
+    def limit():
+        resource.setrlimit(resource.RLIMIT_FSIZE, (size, size))
+
+    return limit
+
+
+def try_full_disk(tally, folder):
+    """A file that may not grow further: no ok, status 3, and the next start reads what was answered."""
+    place = folder / "full"
+    place.mkdir()
+    lines = [b"add,%d,alpha,Ward %d is full" % (8 * number, number) for number in range(40)]
+    for size in range(200, 900, 37):
+        (place / "round.journal").unlink(missing_ok=True)
+        out, err, status = run(place, lines, preexec_fn=limited(size), restore_signals=False)
+        answered = out.count(b"\n")
+        tally.check(f"full at {size}", 0 < answered < 40 and status == 3 and b"pocsag: cannot write\n" in err, (out, err, status))
+        tally.check(f"full at {size}: answers", all(map(is_count, out.splitlines())), out)
+        found, err = listed(place)
+        tally.check(f"full at {size}: the list", found == listing(all_after(lines[:answered])), (found, err))
+
+
+def try_growth(tally, folder):
+    """A long day: the journal stays small, and stands for the pages."""
+    place = folder / "growth"
+    place.mkdir()
+    path = place / "round.journal"
+    message = b"x" * 4000
+    turn = [b"add,8,alpha," + message, b"cancel,8"]
+    most = 0
+    process = start(place)
+    for _ in range(1000):
+        for line in turn:
+            process.stdin.write(line + b"\n")
+            process.stdin.flush()
+            process.stdout.readline()
+        most = max(most, path.stat().st_size)
+    process.kill()
+    process.wait()
+    tally.check("a long day: the size", LEAST < most < 2 * LEAST, most)
+    found, err = listed(place)
+    tally.check("a long day: the list", found == HEADER, (found, err))
+    tally.check("a long day: written anew", path.read_bytes() == FIRST_LINE)
+
+
+def main():
+    return run_parts(try_first_use, try_kills, try_cuts, try_bad_lines, try_use, try_full_disk, try_growth)
+
+
+if __name__ == "__main__":
+    sys.exit(main())
