@@ -1,13 +1,15 @@
 -- What a journal stands for once an edit more is kept.
-use Rattle.std.proofs.Common.{◌≡◌, ℕ, ◌+◌, ◌≤◌, arith, List, [], ◌∷◌, ◌++◌, length, take, refl, sym, ap, ◌∙◌, subst}
+use Rattle.std.proofs.Common.{◌≡◌, ℕ, ◌-◌, arith, List, [], ◌∷◌, ◌++◌, length, refl, sym, ap, ◌∙◌, subst}
 use Rattle.std.proofs.lemmas.List.{append-nil, length-append}
-use Rattle.std.proofs.Math.Seq.{take-append_seam, take-length}
+use Rattle.std.specs.Prelude.{Some, codes, slice_get}
+use Rattle.std.specs.List.{AllByRecursion}
+use Rattle.std.proofs.lemmas.Option.{same_Some}
 use Rattle.csv.specs.Writing.{default_writer, row_text}
-use Rattle.pocsag_words.specs.Devices.{TookPrefix}
 use Rattle.pocsag_pages.specs.PageFile.{Row}
 use Rattle.pocsag_pages.specs.declared.page.Page.{Page}
-use Rattle.pocsag_open.specs.Runs.{IsEdit}
-use Rattle.pocsag_journal.specs.Journals.{IsWholeLine, StandsFor, journal_text}
+use Rattle.pocsag_open.specs.Edited.{IsAdded}
+use Rattle.pocsag_open.specs.Runs.{IsEdit, IsRun, asked_of}
+use Rattle.pocsag_journal.specs.Journals.{AddsLine, IsAdd, IsLine, IsWholeLine, ListsPages, StandsFor, first_record, journal_text, rows_text}
 use Rattle.pocsag_journal.proofs.EditRuns.{run_on}
 use Rattle.pocsag_journal.proofs.Prefixes.{all_more, journal_more}
 use Rattle.pocsag_journal.proofs.Replaying.{edit_some}
@@ -21,8 +23,65 @@ stands_on text later row before after stands line edit e = record {
   run = run_on stands.rows row [] before after stands.run edit;
 }
 
-pub took_none : (taken due : List ℕ) → TookPrefix taken taken due
-took_none taken due = (omega arith, take-append_seam taken due)
+-- an edit that adds puts a page behind the others
+abbrev Behind : (before after : List Page) → Type 0
+Behind before after = (page : Page) × (after ≡ before ++ page ∷ [])
 
-pub took_all : (taken due : List ℕ) → TookPrefix taken (taken ++ due) due
-took_all taken due = (rw (length-append taken due) (omega arith), take-length (taken ++ due))
+added_behind : (row : Row) (before after : List Page) → IsAdd row → IsEdit row before after → Behind before after
+unfolding asked_of
+added_behind row before after adds edit =
+    let d : IsAdded adds.address adds.kind adds.message before after = subst (λ (r : Row). IsEdit r before after) adds.fields edit in
+    (d.page, d.behind)
+
+at_end : (before : List Page) (page : Page) → slice_get (before ++ page ∷ []) (length before) ≡ Some page
+at_end [] page = refl
+at_end (b ∷ before) page = at_end before page
+
+last_is : (before after : List Page) (page other : Page) → after ≡ before ++ page ∷ [] → slice_get after (length after - 1) ≡ Some other →
+    after ≡ before ++ other ∷ []
+last_is before after page other e last =
+    let place : length (before ++ page ∷ []) - 1 ≡ length before = rw (length-append before (page ∷ [])) (omega arith) in
+    let here = subst (λ (ps : List Page). slice_get ps (length ps - 1) ≡ Some other) e last in
+    let same = same_Some page other (sym (at_end before page) ∙ ap (λ (n : ℕ). slice_get (before ++ page ∷ []) n) (sym place) ∙ here) in
+    e ∙ ap (λ (p : Page). before ++ p ∷ []) same
+
+pub adds_line : (line : List ℕ) (row : Row) (before after : List Page) (page : Page) → IsAdd row → IsWholeLine line →
+    line ≡ row_text default_writer row → IsEdit row before after → slice_get after (length after - 1) ≡ Some page →
+    AddsLine line before page after
+adds_line line row before after page adds whole e edit last =
+    let behind = added_behind row before after adds edit in
+    record {
+      row = row;
+      adds = adds;
+      one = record { some = edit_some row before after edit; line = subst IsWholeLine e whole };
+      text = sym e;
+      edit = edit;
+      behind = last_is before after behind.0 page behind.1 last;
+    }
+
+-- the first line stands for no pages
+pub listed_first : (text : List ℕ) (pages : List Page) → text ≡ row_text default_writer first_record → pages ≡ [] → ListsPages text pages
+unfolding IsRun rows_text
+listed_first text pages e none = record {
+  stands = record {
+    rows = [];
+    text = e ∙ sym (append-nil (row_text default_writer first_record));
+    each = tt;
+    run = none;
+  };
+  adds = tt;
+}
+
+adds_more : (rows : List Row) (row : Row) → AllByRecursion IsAdd rows → IsAdd row → AllByRecursion IsAdd (rows ++ row ∷ [])
+adds_more [] row each add = (add, tt)
+adds_more (r ∷ rows) row each add = (each.0, adds_more rows row each.1 add)
+
+-- and one line more for one page more
+pub listed_on : (text line later : List ℕ) (before after : List Page) (page : Page) → ListsPages text before → AddsLine line before page after →
+    later ≡ text ++ line → ListsPages later after
+unfolding stands_on
+listed_on text line later before after page listed adds e = record {
+  stands = stands_on text later adds.row before after listed.stands adds.one.line adds.edit
+      (e ∙ ap (λ (t : List ℕ). text ++ t) (sym adds.text));
+  adds = adds_more listed.stands.rows adds.row listed.adds adds.adds;
+}
