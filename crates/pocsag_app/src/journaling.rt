@@ -150,7 +150,10 @@ pub fn open_kept(journal: &str, always: bool, places: &RoundFiles<'_>) -> Result
         Err(fault) => return tell_journal(desk, fault),
     };
     if replayed.edits > 0 && places.pages.is_some() {
-        return Ok(refuse(desk, "the journal holds edits, so the round cannot begin with PAGES"));
+        return Ok(refuse(
+            desk,
+            "the journal holds edits, so the round cannot begin with PAGES",
+        ));
     }
     let Replayed { book, edits, torn } = replayed;
     let book = match places.pages {
@@ -165,7 +168,13 @@ pub fn open_kept(journal: &str, always: bool, places: &RoundFiles<'_>) -> Result
     let mut input = ReaderSource::new(desk.rt.stdin(), Role::Lines, places.desk.watch);
     let planner = &Planner { places, always };
     let mut round = OpenRound { book, keeper };
-    run_open_kept(desk.alloc, planner, &mut round, &mut input, &mut places.desk.out())?;
+    run_open_kept(
+        desk.alloc,
+        planner,
+        &mut round,
+        &mut input,
+        &mut places.desk.out(),
+    )?;
     Ok(0)
 }
 
@@ -173,9 +182,15 @@ pub fn open_kept(journal: &str, always: bool, places: &RoundFiles<'_>) -> Result
 fn tell_start(desk: Desk<'_>, torn: usize, edits: usize, pages: usize) {
     let mut err = desk.err();
     if torn > 0 {
-        let _ = tell(&mut err, format_args!("pocsag: a torn line of {torn} bytes is cut off\n"));
+        let _ = tell(
+            &mut err,
+            format_args!("pocsag: a torn line of {torn} bytes is cut off\n"),
+        );
     }
-    let _ = tell(&mut err, format_args!("pocsag: {edits} edits read, {pages} pages\n"));
+    let _ = tell(
+        &mut err,
+        format_args!("pocsag: {edits} edits read, {pages} pages\n"),
+    );
 }
 
 // A book of the pages of a page file.

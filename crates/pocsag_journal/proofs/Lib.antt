@@ -4,4 +4,3 @@ pub mod Prefixes
 pub mod Readings
 pub mod Replaying
 pub mod Standing
-

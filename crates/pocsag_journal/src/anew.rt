@@ -32,11 +32,7 @@ pub fn text_of_pages(alloc: Global, pages: &[Page]) -> Result<Vec<u8>, JournalFa
 }
 
 // The line that adds a page to a round, once it is added, if there is such a line.
-fn add_line(
-    alloc: Global,
-    book: &mut Book,
-    page: &Page,
-) -> Result<Option<Vec<u8>>, OutOfMemory>
+fn add_line(alloc: Global, book: &mut Book, page: &Page) -> Result<Option<Vec<u8>>, OutOfMemory>
     requires { IsListable page.now }
     ensures { IfOk result (λ line. IfSome line (λ text. AddsLine text.items book.old page.now book.new)) }
 {

@@ -15,7 +15,7 @@ whole text pages so_far i low high e listed =
 pub loop-index-init : goal.loop-index-init
 loop-index-init c = (
   listed_first c.in_ok-text.text.items c.new-book.result (c.in_ok-text.ensures.items_if_clones_equal (λ x y h. h) ∙ c.first_line.ensures)
-  c.new-book.ensures,
+      c.new-book.ensures,
   c.new-book.ensures,
 )
 
@@ -24,11 +24,11 @@ loop-index-preserved c =
     let page = c.index-pages-index.result in
     let adds : AddsLine c.in-Some.line.items c.loop-index.book page c.add_line.new.book = rw c.in-Some.is at c.in_ok-line.ensures in (
       listed_on c.loop-index.text.items c.in-Some.line.items c.extend_from_slice.new.self.items c.loop-index.book c.add_line.new.book page
-      c.loop-index.invariant.0 adds
-      (c.in_ok-extend_from_slice.ensures.items ∙ ap (λ (t : List ℕ). c.loop-index.text.items ++ t) c.as_slice.ensures.value),
+          c.loop-index.invariant.0 adds
+          (c.in_ok-extend_from_slice.ensures.items ∙ ap (λ (t : List ℕ). c.loop-index.text.items ++ t) c.as_slice.ensures.value),
       adds.behind ∙ ap (λ (ps : List Page). ps ++ page ∷ []) c.loop-index.invariant.1
-      ∙ ap (λ (p : Page). take c.loop-index.index c.args.pages.now ++ p ∷ []) c.index-pages-index.is
-      ∙ sym (take_more c.args.pages.now c.loop-index.index page c.loop-index-test.true),
+          ∙ ap (λ (p : Page). take c.loop-index.index c.args.pages.now ++ p ∷ []) c.index-pages-index.is
+          ∙ sym (take_more c.args.pages.now c.loop-index.index page c.loop-index-test.true),
     )
 
 pub returns : goal.returns
