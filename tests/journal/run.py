@@ -307,7 +307,7 @@ def try_growth(tally, folder):
         most = max(most, path.stat().st_size)
     process.kill()
     process.wait()
-    tally.check("a long day: the size", LEAST < most < 2 * LEAST, most)
+    tally.check("a long day: the size", LEAST - 8192 < most < LEAST + 8192, most)
     found, err = listed(place)
     tally.check("a long day: the list", found == HEADER, (found, err))
     tally.check("a long day: written anew", path.read_bytes() == FIRST_LINE)
