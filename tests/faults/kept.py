@@ -6,17 +6,35 @@ import subprocess
 from tally import PROGRAM
 
 LINES = [b"add,8,alpha,Ward 3", b"add,16,tone0,", b"add,16,tone0,", b"cancel,8", b"add,24,numeric,55"]
-# The pages after each of the edits that are accepted.
-AFTER = [b"", b"8,alpha,Ward 3\n", b"8,alpha,Ward 3\n16,tone0,\n", b"16,tone0,\n", b"16,tone0,\n24,numeric,55\n"]
 HEADER = b"address,kind,message\n"
 
 
-def state_of(folder):
-    """How many of the accepted edits the next start has, and what it tells."""
-    command = [str(PROGRAM), "open", "--journal", str(folder / "kept.journal")]
-    done = subprocess.run(command, input=b"list\n", capture_output=True, timeout=60)
-    pages = done.stdout[len(HEADER) : done.stdout.rfind(b"ok ")]
-    return AFTER.index(pages) if done.returncode == 0 and pages in AFTER else None
+def after(pages, line):
+    """The records of the pages after an edit that is accepted."""
+    word, rest = line.split(b",", 1)
+    address = rest.split(b",")[0]
+    left = [page for page in pages if page.split(b",")[0] != address]
+    if word == b"cancel":
+        return left
+    return pages if len(left) < len(pages) else pages + [rest]
+
+
+def listed(path):
+    """The records that the next start has; nothing where it does not start."""
+    done = subprocess.run([str(PROGRAM), "open", "--journal", str(path)], input=b"list\n", capture_output=True, timeout=60)
+    if done.returncode != 0 or not done.stdout.startswith(HEADER):
+        return None
+    return done.stdout[len(HEADER) : done.stdout.rfind(b"ok ")].splitlines()
+
+
+def may_be(told):
+    """What may be there after these answers: the edits that were answered ok, or these and the next one."""
+    pages = []
+    for line, answer in zip(LINES, told):
+        if answer.startswith(b"ok "):
+            pages = after(pages, line)
+    more = after(pages, LINES[len(told)]) if len(told) < len(LINES) else pages
+    return pages, more
 
 
 def try_kept(tally, library, folder, run):
@@ -32,14 +50,12 @@ def try_kept(tally, library, folder, run):
             if not reached:
                 break
             told = done.stdout.splitlines()
-            answered = sum(answer.startswith(b"ok ") for answer in told)
-            found = state_of(folder)
-            holds = found is not None and answered <= found <= answered + 1
-            tally.check(f"journal without {kind} {number}", holds, (done, found))
-            fault = done.returncode == 3 and b"pocsag: " in done.stderr
-            refused = kind == "ALLOC" and b"refused: out of memory" in told
-            lost = kind in ("ALLOC", "WRITE") and done.returncode == 0
-            tally.check(f"journal without {kind} {number}: the status", fault or refused or lost, done)
+            found = listed(path)
+            tally.check(f"journal without {kind} {number}", found in may_be(told), (done, found))
+            is_fault = done.returncode == 3 and (b"pocsag: " in done.stderr or kind == "WRITE")
+            is_told = kind == "ALLOC" and b"refused: out of memory" in told
+            is_done = kind in ("ALLOC", "WRITE") and done.returncode == 0 and len(told) == len(LINES)
+            tally.check(f"journal without {kind} {number}: the status", is_fault or is_told or is_done, done)
         tally.check(f"journal: {kind}", number > least, number)
         for left in folder.glob("kept.journal.*.new"):
             os.unlink(left)

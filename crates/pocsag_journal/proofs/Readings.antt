@@ -1,8 +1,7 @@
 -- What bytes are read as.
-use Rattle.std.proofs.Common.{◌≡◌, ◌≢◌, ◌⊎◌, inl, inr, ℕ, ◌+◌, List, [], ◌∷◌, ◌++◌, length, refl, sym, ap, ◌∙◌, subst, append_assoc}
+use Rattle.std.proofs.Common.{◌≡◌, inl, inr, ℕ, List, [], ◌∷◌, ◌++◌, refl, sym, ap, ◌∙◌, subst, append_assoc}
 use Rattle.std.proofs.lemmas.List.{append-nil}
 use Rattle.std.specs.List.{AllByRecursion}
-use Rattle.csv.specs.Machine.{line_feed}
 use Rattle.csv.specs.Writing.{default_writer, row_text}
 use Rattle.pocsag_pages.specs.PageFile.{Row}
 use Rattle.pocsag_pages.specs.declared.page.Page.{Page}

@@ -1,7 +1,7 @@
 -- What a journal stands for once an edit more is kept.
 use Rattle.std.proofs.Common.{◌≡◌, ℕ, ◌-◌, arith, List, [], ◌∷◌, ◌++◌, length, refl, sym, ap, ◌∙◌, subst}
 use Rattle.std.proofs.lemmas.List.{append-nil, length-append}
-use Rattle.std.specs.Prelude.{Some, codes, slice_get}
+use Rattle.std.specs.Prelude.{Some, slice_get}
 use Rattle.std.specs.List.{AllByRecursion}
 use Rattle.std.proofs.lemmas.Option.{same_Some}
 use Rattle.csv.specs.Writing.{default_writer, row_text}
@@ -9,7 +9,7 @@ use Rattle.pocsag_pages.specs.PageFile.{Row}
 use Rattle.pocsag_pages.specs.declared.page.Page.{Page}
 use Rattle.pocsag_open.specs.Edited.{IsAdded}
 use Rattle.pocsag_open.specs.Runs.{IsEdit, IsRun, asked_of}
-use Rattle.pocsag_journal.specs.Journals.{AddsLine, IsAdd, IsLine, IsWholeLine, ListsPages, StandsFor, first_record, journal_text, rows_text}
+use Rattle.pocsag_journal.specs.Journals.{AddsLine, IsAdd, IsWholeLine, ListsPages, StandsFor, first_record, rows_text}
 use Rattle.pocsag_journal.proofs.EditRuns.{run_on}
 use Rattle.pocsag_journal.proofs.Prefixes.{all_more, journal_more}
 use Rattle.pocsag_journal.proofs.Replaying.{edit_some}

@@ -1,8 +1,7 @@
 -- Lines of a text, and the records that they are.
-use Rattle.std.proofs.Common.{Bool, true, false, ◌≡◌, ◌≢◌, ℕ, zero, suc, ◌+◌, ◌<◌, List, [], ◌∷◌, ◌++◌, length, take, arith, add-one, refl, sym, ap, ◌∙◌, subst, append_assoc, Some}
-use Rattle.std.proofs.lemmas.List.{append-nil}
+use Rattle.std.proofs.Common.{true, false, ◌≡◌, ◌≢◌, ℕ, zero, suc, ◌+◌, ◌<◌, List, [], ◌∷◌, ◌++◌, length, take, arith, add-one, refl, sym, ap, ◌∙◌, append_assoc, Some}
 use Rattle.std.proofs.lemmas.Bool.{eqb-true, or_parts}
-use Rattle.std.specs.Prelude.{◌==◌, ◌||◌, Option, None, codes, slice_index}
+use Rattle.std.specs.Prelude.{◌==◌, Option, None, codes, slice_index}
 use Rattle.memchr.specs.Find.{NoneBefore, Passes, is_byte}
 use Rattle.std.specs.List.{AllByRecursion, list_any}
 use Rattle.csv.specs.Machine.{Read, line_feed, next_record}
@@ -11,7 +10,7 @@ use Rattle.csv.specs.Writing.{default_writer, fields_text, is_blank, read_back, 
 use Rattle.csv.specs.declared.parser.State.TheVariants as st
 use Rattle.csv.proofs.RoundTrip.{read-write}
 use Rattle.pocsag_pages.specs.PageFile.{Row}
-use Rattle.pocsag_journal.specs.Journals.{HasNoLineFeed, IsLine, IsRead, IsWholeLine, first_record, journal_text, rows_text}
+use Rattle.pocsag_journal.specs.Journals.{HasNoLineFeed, IsLine, IsWholeLine, first_record, rows_text}
 
 -- two texts that begin with a line each and are equal begin with the same line
 pub split_lines : (a b xs ys : List ℕ) → HasNoLineFeed a → HasNoLineFeed b → a ++ line_feed ∷ xs ≡ b ++ line_feed ∷ ys →

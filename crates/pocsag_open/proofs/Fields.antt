@@ -1,10 +1,10 @@
 -- What the fields of a record ask for.
-use Rattle.std.proofs.Common.{◌≡◌, ℕ, zero, suc, ◌<◌, Bool, true, false, cond, List, [], ◌∷◌, length, refl, sym, ap, ◌∙◌, arith, codes}
-use Rattle.std.specs.Prelude.{Option, Some, None, not}
+use Rattle.std.proofs.Common.{◌≡◌, ℕ, zero, suc, ◌<◌, Bool, true, false, cond, List, [], ◌∷◌, length, refl, sym, arith, codes}
+use Rattle.std.specs.Prelude.{Some, None, not}
 use Rattle.std.specs.Str.{bytes_eq}
 use Rattle.csv.specs.Records.{field_at}
 use Rattle.pocsag_pages.specs.PageFile.{Row}
-use Rattle.pocsag_open.specs.Runs.{Asked, add, asked_of, cancel, clear}
+use Rattle.pocsag_open.specs.Runs.{add, asked_of, cancel, clear}
 
 pub has_field : (row : Row) (i : ℕ) → i < length row → None ≡ field_at row i → ⊥
 unfolding field_at

@@ -1,6 +1,6 @@
 -- What is refused is no edit of these pages, or memory was wanting.
-use Rattle.std.proofs.Common.{◌≡◌, ◌⊎◌, inl, inr, ℕ, zero, suc, ◌<◌, Bool, true, false, List, [], ◌∷◌, length, refl, sym, ap, ◌∙◌, subst, arith, slice_index_or}
-use Rattle.std.specs.Prelude.{◌||◌, Option, Some, None, Result, Ok, Err, Contains, nat_eq}
+use Rattle.std.proofs.Common.{◌≡◌, ◌⊎◌, inl, inr, ℕ, zero, suc, ◌<◌, true, false, List, [], ◌∷◌, length, refl, sym, ap, ◌∙◌, subst, arith, slice_index_or}
+use Rattle.std.specs.Prelude.{Option, Some, None, Result, Ok, Err, Contains, nat_eq}
 use Rattle.std.proofs.lemmas.Bool.{or_right}
 use Rattle.pocsag_pages.specs.Pages.{has_address}
 use Rattle.pocsag_pages.specs.PageFile.{page_of_fields}
@@ -8,8 +8,7 @@ use Rattle.pocsag_pages.specs.declared.page.Page.{Page}
 use Rattle.pocsag_pages.specs.declared.fault.FieldFault.{FieldFault}
 use Rattle.pocsag_plan.specs.OpenRound.{add_fault, fault_or_memory}
 use Rattle.pocsag_plan.specs.declared.refusal.AddFault.{AddFault}
-use Rattle.pocsag_plan.specs.declared.refusal.AddFault.TheVariants as adding
-use Rattle.pocsag_open.specs.Edited.{IsAdded, IsCancelled, IsEditRefused}
+use Rattle.pocsag_open.specs.Edited.{IsAdded, IsEditRefused}
 use Rattle.pocsag_open.specs.Runs.{IsDone, asked_by_line, wants_memory}
 use Rattle.pocsag_open.specs.declared.edits.Line.{Line}
 use Rattle.pocsag_open.specs.declared.edits.Line.TheVariants as line

@@ -1,5 +1,5 @@
 -- What the text of a record reads as, and where it stands at its end.
-use Rattle.std.proofs.Common.{◌≡◌, ℕ, zero, suc, ◌==◌, Bool, true, false, List, [], ◌∷◌, ◌++◌, length, refl, sym, ap, ◌∙◌, subst, ◌⊎◌, inl, inr, append_assoc, add-one}
+use Rattle.std.proofs.Common.{◌≡◌, ℕ, zero, suc, ◌==◌, false, List, [], ◌∷◌, ◌++◌, length, refl, sym, ap, ◌∙◌, subst, ◌⊎◌, inl, inr, append_assoc, add-one}
 use Rattle.std.specs.Prelude.{Some, None}
 use Rattle.pocsag_pages.specs.PageFile.{only_row}
 use Rattle.std.proofs.lemmas.List.{append-nil}

@@ -1,4 +1,4 @@
-use Rattle.std.proofs.Common.{List, subst}
+use Rattle.std.proofs.Common.{subst}
 use Rattle.csv.specs.Records.{fields_of}
 use Rattle.pocsag_journal.specs.Journals.{IsWholeLine}
 use Rattle.pocsag_journal.proofs.Standing.{adds_line}

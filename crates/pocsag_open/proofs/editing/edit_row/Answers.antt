@@ -1,6 +1,5 @@
 use Rattle.std.proofs.Common.{◌≡◌, ◌⊎◌, true, List, subst}
 use Rattle.std.specs.Prelude.{IfErr, Option, Result, Ok, Err}
-use Rattle.csv.specs.Records.{fields_of}
 use Rattle.pocsag_pages.specs.declared.page.Page.{Page}
 use Rattle.pocsag_open.specs.Edited.{IsEditRefused}
 use Rattle.pocsag_open.specs.Runs.{Asked, IsDone, asked_by_line, wants_memory}
