@@ -38,7 +38,7 @@ def options(text):
     found = {}
     for line in part(text, "Options"):
         spelled = re.split(r"  +", line.strip())[0]
-        for word, value in re.findall(r"(--?[\w-]+)(?: <(\w+)>)?", spelled):
+        for word, value in re.findall(r"(?<![\w<])(--?[\w-]+)(?: <([\w-]+)>)?", spelled):
             found[word] = value
     return found
 
@@ -65,7 +65,7 @@ def synopses(text):
     for piece in section(text, "SYNOPSIS").split(".br\n"):
         line = " ".join(re.sub(r"^\.\w+ ", "", word) for word in piece.splitlines())
         words = re.sub(r"[\[\]|]", " ", line).split()
-        if len(words) > 1:
+        if len(words) > 1 and not words[1].startswith("-"):
             found[words[1]] = words[2:]
     return found
 
@@ -77,9 +77,9 @@ def compare(tally, text):
     tally.check("a synopsis for each command", set(lines) == told - {"help"}, set(lines))
     tagged = {}
     for tag in terms(section(text, "OPTIONS")):
-        names = re.findall(r"--?[\w-]+", tag)
+        names = re.findall(r"(?<!\w)--?[\w-]+", tag)
         for name in names:
-            tagged[name] = re.sub(r"--?[\w-]+,?", "", tag).replace(",", "").strip()
+            tagged[name] = re.sub(r"(?<!\w)--?[\w-]+,?", "", tag).replace(",", "").strip()
     asked = dict.fromkeys(EVERYWHERE, "")
     for name in sorted(told - {"help"}):
         helped = options(help_of(name))
@@ -88,7 +88,7 @@ def compare(tally, text):
         written = {word for word in lines.get(name, []) if word.startswith("--")}
         tally.check(f"the options of {name}", written == set(own), (written, own))
         usage = re.search(r"^Usage: (.*)$", help_of(name), re.M)[1]
-        positional = re.findall(r"[<\[]([A-Z]+)[>\]]", re.sub(r"--\w+ <\w+>|\[OPTIONS\]", "", usage))
+        positional = re.findall(r"[<\[]([A-Z]+)[>\]]", re.sub(r"--\w+ <[\w-]+>|\[OPTIONS\]", "", usage))
         tail = [word for word in lines.get(name, []) if word.isupper()]
         values = [value for word, value in own.items() if value]
         tally.check(f"the words of {name}", sorted(tail) == sorted(positional + values), (tail, positional, values))

@@ -402,7 +402,7 @@ def last_line(tally, folder):
 
 
 def worked_session(tally, folder):
-    """The session of the page is answered as the page says; so are its commands for a shell."""
+    """The session of the page is answered as the page says. Its commands for a shell are run with those of the other papers."""
     text = PAGE.read_text().split("## A day at a small centre")[1]
     rows = [re.match(r"\| (?:`([^`]*)`)? ?\| `([^`]*)` \|", line) for line in text.split("\n")]
     rows = [(found[1], found[2].encode()) for found in rows if found]
@@ -412,15 +412,6 @@ def worked_session(tally, folder):
     tally.check("the page shows a session", len(rows) > 10, rows)
     tally.check("its lines are answered as it says", found == [due for _, due in rows], (found, rows))
     tally.check("it has no more lines", (status, rest, err) == (0, b"", b""), (status, rest, err))
-    blocks = [re.sub(r"(?m)^    ", "", block) for block in re.findall(r"(?m)(?:^    .*\n)+", text)]
-    due = [re.findall(r"`([^`]*)`", line) for line in re.findall(r"(?m)^prints (.*)$", text)]
-    tally.check("the page shows two blocks of commands", len(blocks) == 2 and len(due) == 2, (blocks, due))
-    (folder / "bin").mkdir()
-    (folder / "bin/pocsag").symlink_to(PROGRAM)
-    path = {**os.environ, "PATH": f"{folder / 'bin'}:{os.environ['PATH']}"}
-    for block, lines in zip(blocks, due):
-        done = subprocess.run(["bash", "-c", block], capture_output=True, cwd=folder, env=path, timeout=60)
-        tally.check("commands of the page print what it says", done.stdout.decode().splitlines() == lines, done)
 
 
 def main():

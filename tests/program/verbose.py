@@ -33,8 +33,9 @@ PAGE_FILES = [
     (HEADER + b"7,alpha," + b"a" * 4001 + b"\n", "record 1: the message is too long", ["page file p.csv, line 2, record 1, address '7': the message has 4001 bytes, where 4000 are allowed"]),
     (HEADER + b"8,tone0,\n9,tone0,\n0000008,tone1,\n", "record 3: the address is already there", ["page file p.csv, line 4, record 3, address '0000008'", "line 2, record 1, has the address already"]),
     (HEADER + b'8,numeric,"1\n2\n3\n\n', "record 1: bad character at 1", [r"page file p.csv, line 2, record 1, address '8': the message is '1\n2\n3\n\n', its kind 'numeric'; the byte is 0x0a", CLOSE % (1, 4)]),
+    # The quote that opens is closed by the next, and the field goes on to the line's end.
     (HEADER + b'8,tone0,"\n9,alpha,"Pump 4\n16,tone0,\n24,tone0,\n', "record 1: a tone page has no message",
-     [r"page file p.csv, line 2, record 1, address '8': the message is '\n9,alpha,Pump 4\"\n16,tone0,\n24,tone0,\n'".replace('Pump 4\\"', "Pump 4") + ", and the kind is 'tone0'", CLOSE % (1, 4)]),
+     [r"page file p.csv, line 2, record 1, address '8': the message is '\n9,alpha,Pump 4', and the kind is 'tone0'", CLOSE % (1, 1)]),
     (HEADER + b"".join(b"%d,tone0,\n" % k for k in range(20001)), "record 20001: too many pages", ["page file p.csv, line 20002, record 20001, address '20000': a round has at most 20000 pages; make two of this one"]),
 ]
 
@@ -55,7 +56,7 @@ CASES = [
     (APART, [*PLAN, "--expect", "3"], b"", 1, "", "pages 2, where 3 were expected", ["page file p.csv"]),
     (HEADER + b'8,alpha,"a\nb\n"\n9,alpha,"c\n', [*PLAN, "--expect", "3"], b"", 1, "", "pages 2, where 3 were expected",
      ["page file p.csv", "page file p.csv, line 2, record 1, address '8': the message holds 2 line feeds; if they are not meant, a quote is not closed", "page file p.csv: so do 1 further messages"]),
-    (HEADER + b'8,tone0,\n\n9,alpha,"Pump 4\n16,tone0,\n', [*PLAN, "--verify"], b"", 0, "pages 2\nbatches 3\nverified\n", None,
+    (HEADER + b'8,tone0,\n\n9,alpha,"Pump 4\n16,tone0,\n', [*PLAN, "--verify"], b"", 0, "pages 2\nbatches 1\nverified\n", None,
      ["page file p.csv, line 4, record 2, address '9': the message holds 2 line feeds; if they are not meant, a quote is not closed"]),
     (APART, [*PLAN], b"", 0, "pages 2\nbatches 3\n", None, []),
     (APART, [], APART, 0, "pages 2\nbatches 3\n", None, []),
