@@ -119,7 +119,7 @@ def help_options(*words):
     text = subprocess.run([str(PROGRAM), *words, "--help"], capture_output=True, text=True, timeout=60).stdout
     part = re.search(r"^Options:\n((?:  .*\n)+)", text, re.M)
     spelled = [re.split(r"  +", line.strip())[0] for line in part[1].splitlines() if line.lstrip().startswith("-")]
-    return set(re.findall(r"--?[\w-]+", " ".join(spelled)))
+    return set(re.findall(r"(?<![\w<])--?[\w-]+", " ".join(spelled)))
 
 
 def try_completions(tally, _folder):
