@@ -168,16 +168,34 @@ def build_program(crates):
     held.close()
 
 
+def record(crate):
+    """Where the sum of the sources stands that a library was built from."""
+    return STATE / f"{crate.name}.built"
+
+
+def is_library_built(crates, crate):
+    """A library without tests stands as its sources are, so there is nothing to wait for."""
+    if crate.is_program or crate.has_tests or not list((crate.folder / "out").glob(f"lib{crate.name}.*")):
+        return False
+    try:
+        return record(crate).read_text() == digest(sources(workspace.below(crates, crate.name)))
+    except OSError:
+        return False
+
+
 def build(crates, tested):
     """Proves the crates and the tests of some of them, and builds the programs among them."""
     paths = sources(workspace.below(crates, workspace.PROGRAM)) if workspace.PROGRAM in crates else []
     files, total = listing(paths), digest(paths)
+    libraries = {crate: digest(sources(workspace.below(crates, name))) for name, crate in crates.items() if not crate.is_program}
     held = lock_file()
     tasks = [proof(crate) for crate in crates.values()]
     tasks += [tests(crate) for crate in tested if crate.has_tests]
     run(tasks, crates)
     if paths:
         write_built(paths, total, files)
+    for crate, sum_of_sources in libraries.items():
+        record(crate).write_text(sum_of_sources)
     held.close()
 
 
@@ -197,7 +215,8 @@ def main(words):
             build(crates, crates.values())
         else:
             wanted = {name: crate for word in words for name, crate in workspace.below(crates, word).items()}
-            build({name: crate for name, crate in crates.items() if name in wanted}, [crates[word] for word in words])
+            if not all(is_library_built(crates, crates[word]) for word in words):
+                build({name: crate for name, crate in crates.items() if name in wanted}, [crates[word] for word in words])
     except (Refused, workspace.BadList) as why:
         say(why)
         return 3
