@@ -155,14 +155,26 @@ const REFUSALS: Lines = &[
     ("list\rlist", "refused: unknown edit"),
     ("clear\r\r", "refused: unknown edit"),
     // Calls that were cut at the line feeds of their messages: each line is refused.
-    ("add,9,alpha,\"Fire, hall B", "refused: the line ends inside quotes"),
+    (
+        "add,9,alpha,\"Fire, hall B",
+        "refused: the line ends inside quotes",
+    ),
     ("evacuate ward 3\"", "refused: a quote is out of place"),
-    ("add,9,alpha,\"Pump 4\r", "refused: the line ends inside quotes"),
+    (
+        "add,9,alpha,\"Pump 4\r",
+        "refused: the line ends inside quotes",
+    ),
     ("\"clear", "refused: the line ends inside quotes"),
-    ("add,9,alpha,\"Say \"\"no\"\"", "refused: the line ends inside quotes"),
+    (
+        "add,9,alpha,\"Say \"\"no\"\"",
+        "refused: the line ends inside quotes",
+    ),
     ("add,9,alpha,5\" pipe", "refused: a quote is out of place"),
     ("add,9,alpha,\"Ward\" 3", "refused: a quote is out of place"),
-    ("add,9,alpha,\"Ward\"\r3", "refused: a quote is out of place"),
+    (
+        "add,9,alpha,\"Ward\"\r3",
+        "refused: a quote is out of place",
+    ),
     ("add,9,alpha,a\"b,\"c", "refused: a quote is out of place"),
     ("plan,tx.bin", "refused: unknown edit"),
     ("plan,tx.bin,cert.bin,soon", "refused: unknown edit"),

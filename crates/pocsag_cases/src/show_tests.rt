@@ -182,7 +182,10 @@ fn rows_that_are_wanted(rt: HostRuntime) {
     for (first, last, text) in ROWS {
         let rows = Rows::new(*first, *last).expect(&rt, "rows");
         let mut sink = MemorySink::<512>::new(512, 512);
-        assert_eq!(rt; show_text(alloc, rows, bytes.as_slice(), &mut sink).err(), None);
+        assert_eq!(rt;
+            show_text(alloc, rows, bytes.as_slice(), &mut sink).err(),
+            None
+        );
         assert!(rt; sink.bytes().starts_with(&ACROSS_TEXT[..113]));
         assert!(rt; sink.bytes().ends_with(text));
     }

@@ -28,7 +28,7 @@ pub fn run_plan_always<P: Source, T: Sink, C: Sink, O: Sink>(
         (PlannedAlways (P.held pages.old) end (T.taken tx.old) (T.taken tx.new) (C.taken cert.old) (C.taken cert.new)) }
     ensures told { P.tells → T.tells → C.tells → O.tells → OnOk result
         (PlannedAlwaysAndTold (P.held pages.old) end (T.taken tx.old) (T.taken tx.new)
-            (C.taken cert.old) (C.taken cert.new) (O.taken out.old) (O.taken out.new)) }
+        (C.taken cert.old) (C.taken cert.new) (O.taken out.old) (O.taken out.new)) }
     ensures refused { status_after result ≡ 1 → (tx.new ≡ tx.old) × (cert.new ≡ cert.old) }
     ensures why { P.tells → status_after result ≡ 1 → IsRefusedAlways (P.held pages.old) limit }
     ensures leaves { P.tells → T.tells → C.tells →

@@ -42,7 +42,7 @@ pub fn run_plan<P: Source, T: Sink, C: Sink, O: Sink>(
         (Planned (P.held pages.old) end (T.taken tx.old) (T.taken tx.new) (C.taken cert.old) (C.taken cert.new)) }
     ensures told { P.tells → T.tells → C.tells → O.tells → OnOk result
         (PlannedAndTold (P.held pages.old) end (T.taken tx.old) (T.taken tx.new)
-            (C.taken cert.old) (C.taken cert.new) (O.taken out.old) (O.taken out.new)) }
+        (C.taken cert.old) (C.taken cert.new) (O.taken out.old) (O.taken out.new)) }
     ensures refused { status_after result ≡ 1 → (tx.new ≡ tx.old) × (cert.new ≡ cert.old) }
     ensures why { P.tells → status_after result ≡ 1 → IsPlanRefused (P.held pages.old) end limit }
     ensures leaves { P.tells → T.tells → C.tells →
