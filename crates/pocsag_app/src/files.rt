@@ -2,21 +2,14 @@ use crate::desk::Desk;
 use crate::paths::{Named, name_one_file};
 use crate::streams::{Input, Output};
 use pocsag_commands::{Fault, ReaderSource, Role, WriterSink};
+use pocsag_line::path_of;
 use pocsag_open::Outputs;
 use std::fs::{self, File, OpenFile, OpenOptions};
 use std::io::BufReader;
 use std::rt::Files;
 
-/// The word that names no path: standard input or standard output.
-pub const STANDARD: &str = "-";
-
 // The system's number for a folder where a file is wanted.
 const IS_FOLDER: i32 = 21;
-
-/// The path that a word is, unless it names a standard stream.
-pub fn path_of(word: &str) -> Option<&str> {
-    if word == STANDARD { None } else { Some(word) }
-}
 
 // Opens a file to read it; a folder is none.
 fn open_file(desk: Desk<'_>, role: Role, path: &str) -> Result<File, Fault> {

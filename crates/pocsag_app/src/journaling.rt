@@ -1,13 +1,14 @@
 ghost use Rattle.std.specs.Prelude.{[]};
 
 use crate::desk::Desk;
-use crate::files::{STANDARD, open_source};
+use crate::files::open_source;
 use crate::keeping::Beside;
 use crate::misuse::is_regular_or_none;
 use crate::paths::Named;
 use crate::round_files::RoundFiles;
 use pocsag_commands::{Fault, ReaderSource, Role, Watch, tell};
 use pocsag_journal::{Disk, Journal, JournalFault, Replayed, read_journal};
+use pocsag_line::STANDARD;
 use pocsag_open::{OpenRound, Planner, run_open_kept};
 use pocsag_pages::read_round;
 use pocsag_plan::Book;

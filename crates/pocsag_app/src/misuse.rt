@@ -1,6 +1,5 @@
-use crate::files::path_of;
-use crate::words::PlanOrder;
 use pocsag_commands::tell;
+use pocsag_line::{PlanOrder, path_of};
 use pocsag_words::Sink;
 use std::fs::{self, Metadata};
 use std::io;

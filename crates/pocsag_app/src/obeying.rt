@@ -1,13 +1,14 @@
 use crate::desk::Desk;
-use crate::files::{STANDARD, open_buffered, open_source};
+use crate::files::{open_buffered, open_source};
 use crate::journaling::open_kept;
+use crate::naming::{names_of, subject_of};
 use crate::planning::plan;
 use crate::round_files::RoundFiles;
-use crate::words::{Asked, Order, SearchOrder};
 use pocsag_commands::{
     Fault, ReaderSource, Role, Scene, Watch, expected_file, run_check, run_decode, run_hear,
     run_input, run_report, run_report_always, run_show, tell, tell_explained, tell_fault,
 };
+use pocsag_line::{Asked, Order, STANDARD, SearchOrder};
 use pocsag_open::{Planner, run_open, run_open_pages};
 use pocsag_words::{Sink, SliceSource, Source};
 use std::alloc::Global;
@@ -34,8 +35,8 @@ pub fn obey<E: Sink>(rt: &HostRuntime, alloc: Global, asked: Asked<'_>, err: &mu
     if asked.verbose {
         let file = watch.take_file();
         let scene = Scene {
-            names: asked.order.names(),
-            subject: asked.order.subject(),
+            names: names_of(asked.order),
+            subject: subject_of(asked.order),
             trouble: watch.take_trouble(),
             file: file.as_slice(),
         };

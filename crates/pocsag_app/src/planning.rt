@@ -3,12 +3,12 @@ ghost use Rattle.pocsag_commands.specs.declared.fault.Fault.TheVariants.{EqualPa
 ghost use Rattle.pocsag_app.specs.Paths.{HasEqual, paths_of};
 
 use crate::desk::Desk;
-use crate::files::{STANDARD, make_outputs, open_buffered, open_source, refuse_one_file};
+use crate::files::{make_outputs, open_buffered, open_source, refuse_one_file};
 use crate::keeping::{Beside, put_both};
 use crate::misuse::{misused, tell_misuse};
 use crate::paths::refuse_equal;
-use crate::words::{PlanOrder, SearchOrder};
 use pocsag_commands::{Fault, Role, expected_file, run_plan, run_plan_always, run_verify};
+use pocsag_line::{PlanOrder, STANDARD, SearchOrder};
 use pocsag_open::Outputs;
 use pocsag_words::{Sink, SliceSource, Source};
 

@@ -1,10 +1,11 @@
 use crate::desk::Desk;
-use crate::files::{STANDARD, make_outputs, refuse_one_file};
+use crate::files::{make_outputs, refuse_one_file};
 use crate::keeping::{Beside, put_both};
 use crate::misuse::is_regular_or_none;
 use crate::paths::refuse_equal;
 use crate::streams::Output;
 use pocsag_commands::{Fault, Role, WriterSink};
+use pocsag_line::STANDARD;
 use pocsag_open::{Outputs, Places};
 use std::fs::File;
 

@@ -6,8 +6,8 @@ use Rattle.pocsag_show.specs.Places.{place_listing}
 use Rattle.pocsag_show.specs.Showing.{Shows}
 use Rattle.pocsag_show.specs.declared.fault.ShowFault.{ShowFault}
 use Rattle.pocsag_show.specs.declared.fault.ShowFault.TheVariants as showing
-use Rattle.pocsag_commands.specs.declared.view.View.{View}
-use Rattle.pocsag_commands.specs.declared.view.View.TheVariants.{Grid, Places, Drawing}
+use Rattle.pocsag_show.specs.declared.view.View.{View}
+use Rattle.pocsag_show.specs.declared.view.View.TheVariants.{Grid, Places, Drawing}
 use Rattle.pocsag_commands.specs.declared.fault.Fault.{Fault}
 use Rattle.pocsag_commands.specs.declared.fault.Fault.TheVariants as fault
 

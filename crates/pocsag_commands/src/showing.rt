@@ -5,9 +5,8 @@ ghost use Rattle.pocsag_commands.specs.Showing.{Viewed};
 
 use crate::fault::Fault;
 use crate::receiving::TRANSMISSION_LIMIT;
-use crate::view::View;
 use pocsag_pages::read_whole;
-use pocsag_show::{ShowFault, show_list, show_svg, show_text};
+use pocsag_show::{ShowFault, View, show_list, show_svg, show_text};
 use pocsag_words::{Sink, Source};
 use std::alloc::Global;
 

@@ -24,8 +24,10 @@ mod rows;
 mod showing;
 mod style;
 mod telling;
+mod view;
 mod window;
 
 pub use fault::ShowFault;
 pub use rows::Rows;
 pub use showing::{show_list, show_svg, show_text};
+pub use view::View;

@@ -1,4 +1,4 @@
-use pocsag_show::Rows;
+use crate::rows::Rows;
 
 /// How a transmission is shown.
 #[derive(Clone, Copy, PartialEq, Eq, Debug)]

@@ -1,0 +1,84 @@
+use pocsag_show::View;
+use pocsag_words::End;
+
+/// The word that names no path: standard input or standard output.
+pub const STANDARD: &str = "-";
+
+/// The path that a word is, unless it names a standard stream.
+pub fn path_of(word: &str) -> Option<&str> {
+    if word == STANDARD { None } else { Some(word) }
+}
+
+/// What the command line asks for, and whether notes are told beside what is told without them.
+#[derive(Clone, Copy)]
+pub struct Asked<'a> {
+    pub order: Order<'a>,
+    pub verbose: bool,
+}
+
+/// A command and its words. Where a command reads standard input in place of a file, there is no path.
+#[derive(Clone, Copy)]
+pub enum Order<'a> {
+    /// No words: a page file from standard input.
+    Input,
+    /// `plan PAGES TX CERT`.
+    Plan(PlanOrder<'a>),
+    /// `check PAGES CERT`: the paths of the page file and of the certificate.
+    Check {
+        pages: Option<&'a str>,
+        cert: Option<&'a str>,
+    },
+    /// `decode TX`: the path of the transmission.
+    Decode {
+        tx: Option<&'a str>,
+    },
+    /// `hear ADDRESS TX`: a pager's address, and the path of the transmission.
+    Hear {
+        address: u32,
+        tx: Option<&'a str>,
+    },
+    /// `show TX`: the path of the transmission, and how it is shown.
+    Show {
+        tx: Option<&'a str>,
+        view: View,
+    },
+    /// `open`, or `open PAGES`: an open round, the path of the page file that it begins with, that of its journal,
+    /// whether each plan of it is answered, and whether old files are kept until the new ones are whole.
+    Open {
+        pages: Option<&'a str>,
+        journal: Option<&'a str>,
+        always: bool,
+        keep: bool,
+    },
+    /// `report PAGES`: the path of the page file, the rate, and how the plan is searched.
+    Report {
+        pages: Option<&'a str>,
+        rate: u32,
+        search: SearchOrder,
+    },
+}
+
+/// What `plan` is asked for.
+#[derive(Clone, Copy)]
+pub struct PlanOrder<'a> {
+    /// The path of the page file.
+    pub pages: Option<&'a str>,
+    /// The words for the transmission and for the certificate, of which one may name standard output.
+    pub tx: &'a str,
+    pub cert: &'a str,
+    pub search: SearchOrder,
+    /// Whether the files are read back.
+    pub verify: bool,
+    /// Whether what stands there before is kept until both files are whole.
+    pub keep: bool,
+}
+
+/// How a plan is searched: the node limit, the end, and whether each round is answered; and how many pages
+/// the round must have, if that is given.
+#[derive(Clone, Copy)]
+pub struct SearchOrder {
+    pub expect: Option<u32>,
+    pub limit: u32,
+    pub end: End,
+    pub always: bool,
+}
