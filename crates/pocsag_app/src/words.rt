@@ -2,6 +2,7 @@ use crate::files::{STANDARD, path_of};
 use clap::error::ErrorKind;
 use clap::{Arg, ArgAction, ArgMatches, Command, Error, value_parser};
 use pocsag_commands::{Names, Role, Rows, View};
+use pocsag_plan::{Effort, Search};
 use pocsag_words::End;
 use std::alloc::{AllocError, Global};
 
@@ -117,14 +118,11 @@ pub struct PlanOrder<'a> {
     pub keep: bool,
 }
 
-/// How a plan is searched: the node limit, the end, and whether each round is answered; and how many pages
-/// the round must have, if that is given.
+/// What is asked of the planner, and how many pages the round must have, if that is given.
 #[derive(Clone, Copy, PartialEq, Eq, Debug)]
 pub struct SearchOrder {
     pub expect: Option<u32>,
-    pub limit: u32,
-    pub end: End,
-    pub always: bool,
+    pub search: Search,
 }
 
 // The commands.
@@ -435,11 +433,18 @@ fn end_of(found: &ArgMatches<'_>) -> Option<End> {
 }
 
 fn search_of(found: &ArgMatches<'_>) -> Option<SearchOrder> {
+    let effort = if found.get_flag(ALWAYS) {
+        Effort::Always
+    } else {
+        Effort::Fewest
+    };
     Some(SearchOrder {
         expect: found.get_one::<u32>(EXPECT),
-        limit: found.get_one::<u32>(LIMIT)?,
-        end: end_of(found)?,
-        always: found.get_flag(ALWAYS),
+        search: Search {
+            limit: found.get_one::<u32>(LIMIT)?,
+            end: end_of(found)?,
+            effort,
+        },
     })
 }
 
