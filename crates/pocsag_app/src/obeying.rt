@@ -6,11 +6,11 @@ use crate::planning::plan;
 use crate::round_files::RoundFiles;
 use pocsag_commands::{
     Fault, ReaderSource, Role, Scene, Watch, expected_file, run_check, run_decode, run_hear,
-    run_input, run_report, run_report_always, run_show, tell, tell_explained, tell_fault,
+    run_input, run_report, run_show, tell, tell_explained, tell_fault,
 };
 use pocsag_line::{Asked, Order, STANDARD, SearchOrder};
 use pocsag_open::{Planner, run_open, run_open_pages};
-use pocsag_words::{Sink, SliceSource, Source};
+use pocsag_words::{Sink, SliceSource};
 use std::alloc::Global;
 use std::io::IsTerminal;
 
@@ -133,28 +133,11 @@ fn report_path(
     path: Option<&str>,
 ) -> Result<(), Fault> {
     let mut pages = open_source(desk, Role::PageFile, path)?;
-    let Some(expected) = search.expect else {
-        return report_round(desk, rate, search, &mut pages);
+    let SearchOrder { expect, search } = search;
+    let Some(expected) = expect else {
+        return run_report(desk.alloc, rate, search, &mut pages, &mut desk.out());
     };
     let file = expected_file(desk.alloc, expected, &mut pages)?;
-    report_round(desk, rate, search, &mut SliceSource::new(file.as_slice()))
-}
-
-fn report_round<P: Source>(
-    desk: Desk<'_>,
-    rate: u32,
-    search: SearchOrder,
-    pages: &mut P,
-) -> Result<(), Fault> {
-    let SearchOrder {
-        limit,
-        end,
-        always,
-        ..
-    } = search;
-    let mut out = desk.out();
-    if always {
-        return run_report_always(desk.alloc, rate, limit, end, pages, &mut out);
-    }
-    run_report(desk.alloc, rate, limit, end, pages, &mut out)
+    let mut pages = SliceSource::new(file.as_slice());
+    run_report(desk.alloc, rate, search, &mut pages, &mut desk.out())
 }

@@ -7,8 +7,8 @@ use crate::files::{make_outputs, open_buffered, open_source, refuse_one_file};
 use crate::keeping::{Beside, put_both};
 use crate::misuse::{misused, tell_misuse};
 use crate::paths::refuse_equal;
-use pocsag_commands::{Fault, Role, expected_file, run_plan, run_plan_always, run_verify};
-use pocsag_line::{PlanOrder, STANDARD, SearchOrder};
+use pocsag_commands::{Fault, PlanFiles, Role, expected_file, run_plan, run_verify};
+use pocsag_line::{PlanOrder, STANDARD};
 use pocsag_open::Outputs;
 use pocsag_words::{Sink, SliceSource, Source};
 
@@ -45,40 +45,32 @@ fn plan_files<O: Sink>(desk: Desk<'_>, order: PlanOrder<'_>, out: &mut O) -> Res
 fn write_files<O: Sink>(desk: Desk<'_>, order: PlanOrder<'_>, out: &mut O) -> Result<(), Fault> {
     let mut pages = open_source(desk, Role::PageFile, order.pages)?;
     let Some(expected) = order.search.expect else {
-        return write_round(desk, order, &mut pages, out);
+        return write_round(desk, order, pages, out);
     };
     let file = expected_file(desk.alloc, expected, &mut pages)?;
-    write_round(desk, order, &mut SliceSource::new(file.as_slice()), out)
+    write_round(desk, order, SliceSource::new(file.as_slice()), out)
 }
 
-fn write_round<P: Source, O: Sink>(
+fn write_round<P: Source + Drop, O: Sink>(
     desk: Desk<'_>,
     order: PlanOrder<'_>,
-    pages: &mut P,
+    pages: P,
     out: &mut O,
 ) -> Result<(), Fault> {
-    let Outputs { mut tx, mut cert } = make_outputs(desk, order.pages, order.tx, order.cert)?;
-    let SearchOrder {
-        limit,
-        end,
-        always,
-        ..
-    } = order.search;
-    let (tx, cert) = (&mut tx, &mut cert);
-    if always {
-        return run_plan_always(desk.alloc, limit, end, pages, tx, cert, out);
-    }
-    run_plan(desk.alloc, limit, end, pages, tx, cert, out)
+    let Outputs { tx, cert } = make_outputs(desk, order.pages, order.tx, order.cert)?;
+    let mut files = PlanFiles { pages, tx, cert };
+    run_plan(desk.alloc, order.search.search, &mut files, out)
 }
 
 fn read_back<O: Sink>(desk: Desk<'_>, order: PlanOrder<'_>, out: &mut O) -> Result<(), Fault> {
     // What is kept of the page file is what is read of it now.
     let _before = desk.watch.take_file();
-    let mut pages = open_source(desk, Role::PageFile, order.pages)?;
-    let mut tx = open_source(desk, Role::Transmission, Some(order.tx))?;
-    let mut cert = open_buffered(desk, Role::Certificate, Some(order.cert))?;
-    let SearchOrder { end, always, .. } = order.search;
-    run_verify(desk.alloc, end, always, &mut pages, &mut tx, &mut cert, out)
+    let mut files = PlanFiles {
+        pages: open_source(desk, Role::PageFile, order.pages)?,
+        tx: open_source(desk, Role::Transmission, Some(order.tx))?,
+        cert: open_buffered(desk, Role::Certificate, Some(order.cert))?,
+    };
+    run_verify(desk.alloc, order.search.search, &mut files, out)
 }
 
 // `--keep`: plans beside the places of the files, and puts both there once they are whole.

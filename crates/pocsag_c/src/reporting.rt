@@ -1,12 +1,12 @@
 ghost use Rattle.std.specs.Prelude.{◌≡◌, ◌≢◌, ◌↔◌, IfErr, IfOk};
+ghost use Rattle.pocsag_commands.specs.Reporting.{ExplainsReporting, IsReportOf};
 ghost use Rattle.pocsag_c.specs.Answers.{IsNoEnd, TellsFault};
-ghost use Rattle.pocsag_c.specs.Reporting.{ExplainsReport, ExplainsReporting, IsReportOf, IsSearchStopped, TellsReport};
+ghost use Rattle.pocsag_c.specs.Reporting.{ExplainsReport, IsSearchStopped, TellsReport};
 
 use crate::planning::{effort_of, end_of};
 use crate::refusal::{NOWHERE, Place, refusal_of};
-use pocsag_commands::Fault;
-use pocsag_pages::read_round;
-use pocsag_plan::{Effort, Report, Search, bounded_plan, report};
+use pocsag_commands::{BoundedReport, Fault, report_file};
+use pocsag_plan::{Effort, Search};
 use pocsag_words::SliceSource;
 use std::alloc::Global;
 
@@ -34,27 +34,15 @@ pub struct ReportInfo {
     pub place: Place,
 }
 
-// A report, with the bound of its plan.
-#[derive(Drop)]
-struct Reported {
-    report: Report,
-    bound: u32,
-}
-
-fn report_file(alloc: Global, pages: &[u8], rate: u32, search: Search) -> Result<Reported, Fault>
-    ensures report { IfOk result (λ told. IsReportOf pages.now search.end rate told.bound told.report) }
-    ensures fewest { search.effort ≡ Effort.Fewest → IfOk result (λ told. told.bound ≡ told.report.batches) }
-    ensures explained { IfErr result (ExplainsReporting pages.now search.end search.limit rate) }
+fn reported(alloc: Global, pages: &[u8], rate: u32, search: Search) -> Result<BoundedReport, Fault>
+    ensures report { IfOk result (IsReportOf pages.now search rate) }
+    ensures fewest { search.effort ≡ Effort.Fewest → IfOk result (λ answered.
+        answered.bound ≡ answered.report.batches) }
+    ensures explained { IfErr result (ExplainsReporting pages.now search rate) }
     ensures answered { search.effort ≡ Effort.Always → IfErr result (λ e. ¬ IsSearchStopped e) }
 {
     let mut source = SliceSource::new(pages);
-    let round = read_round(alloc, &mut source)?;
-    let bounded = bounded_plan(alloc, &round, search)?;
-    let told = report(&bounded.plan, rate)?;
-    Ok(Reported {
-        report: told,
-        bound: bounded.bound,
-    })
+    report_file(alloc, rate, search, &mut source)
 }
 
 const NO_REPORT: ReportInfo = ReportInfo {
@@ -81,7 +69,7 @@ pub extern "C" fn pocsag_report(
     always: u32,
     info: &mut ReportInfo,
 ) -> u32
-    ensures told { result ≡ 0 → TellsReport pages.now end rate info.new }
+    ensures told { result ≡ 0 → TellsReport pages.now end limit rate info.new }
     ensures fewest { result ≡ 0 → always ≡ 0 → info.new.bound ≡ info.new.batches }
     ensures bad_end { result ≡ 2 ↔ IsNoEnd end }
     ensures fault { result ≢ 0 → result ≢ 2 →
@@ -93,15 +81,14 @@ pub extern "C" fn pocsag_report(
         return 2;
     };
     let effort = effort_of(always);
-    match report_file(alloc, pages, rate, Search { limit, end, effort }) {
-        Ok(told) => {
-            let report = told.report;
+    match reported(alloc, pages, rate, Search { limit, end, effort }) {
+        Ok(BoundedReport { report, bound }) => {
             *info = ReportInfo {
                 pages: report.pages,
                 codewords: report.codewords,
                 in_order: report.in_order,
                 batches: report.batches,
-                bound: told.bound,
+                bound,
                 idles: report.idles,
                 bits: report.bits,
                 airtime_ms: report.airtime_ms,

@@ -1,11 +1,11 @@
 //! The commands over memory: what each tells, what it leaves, and its exit status.
 
 use pocsag_commands::{
-    DEFAULT_LIMIT, Fault, Names, Role, Scene, Trouble, run_check, run_decode, run_hear, run_input,
-    run_plan, run_plan_always, run_report, run_report_always, run_verify, tell_explained,
-    tell_fault,
+    DEFAULT_LIMIT, Fault, Names, PlanFiles, Role, Scene, Trouble, run_check, run_decode, run_hear,
+    run_input, run_plan, run_report, run_verify, tell_explained, tell_fault,
 };
 use pocsag_pages::RoundFault;
+use pocsag_plan::{Effort, Search};
 use pocsag_words::{End, MemorySink, MemorySource};
 use std::alloc::Global;
 use std::test::Fail;
@@ -25,31 +25,33 @@ const LOOPS_APART: &[u8] = b"address,kind,message\n\
 const ONE_FULL_BATCH: &[u8] = b"address,kind,message\n\
     0,numeric,111111111111111111111111111111111111111111111111111111111111111111111111111";
 
-// The limit, the end, and whether each round is answered.
-#[derive(Clone, Copy)]
-struct Search {
-    limit: u32,
-    end: End,
-    always: bool,
-}
-
 const OPEN: Search = Search {
     limit: DEFAULT_LIMIT,
     end: End::Open,
-    always: false,
+    effort: Effort::Fewest,
 };
 
 const CLOSED: Search = Search {
     limit: DEFAULT_LIMIT,
     end: End::Closed,
-    always: false,
+    effort: Effort::Fewest,
 };
 
-const fn open_to(limit: u32, always: bool) -> Search {
+const OPEN_ALWAYS: Search = Search {
+    effort: Effort::Always,
+    ..OPEN
+};
+
+const CLOSED_ALWAYS: Search = Search {
+    effort: Effort::Always,
+    ..CLOSED
+};
+
+const fn open_to(limit: u32, effort: Effort) -> Search {
     Search {
         limit,
         end: End::Open,
-        always,
+        effort,
     }
 }
 
@@ -84,22 +86,19 @@ const SOUND: Faults = Faults {
 };
 
 fn plan(alloc: Global, search: Search, file: &[u8], faults: Faults) -> Planned {
-    let Search { limit, end, always } = search;
-    let mut pages = MemorySource::new(file, 4, faults.pages);
-    let mut tx = MemorySink::<300>::new(9, faults.tx);
-    let mut cert = MemorySink::<100>::new(3, faults.cert);
+    let mut files = PlanFiles {
+        pages: MemorySource::new(file, 4, faults.pages),
+        tx: MemorySink::<300>::new(9, faults.tx),
+        cert: MemorySink::<100>::new(3, faults.cert),
+    };
     let mut out = MemorySink::<200>::new(1, 1000);
     let mut err = MemorySink::<100>::new(1, 1000);
-    let done = if always {
-        run_plan_always(alloc, limit, end, &mut pages, &mut tx, &mut cert, &mut out)
-    } else {
-        run_plan(alloc, limit, end, &mut pages, &mut tx, &mut cert, &mut out)
-    };
+    let done = run_plan(alloc, search, &mut files, &mut out);
     let status = status_of(done.map(|_| 0), &mut err);
     Planned {
         told: Told { status, out, err },
-        tx,
-        cert,
+        tx: files.tx,
+        cert: files.cert,
     }
 }
 
@@ -140,7 +139,7 @@ const LONE_PLAN: PlanCase = PlanCase {
 const fn apart_plan(limit: u32, out: &'static str, bound: u8) -> PlanCase {
     PlanCase {
         file: LOOPS_APART,
-        search: open_to(limit, true),
+        search: open_to(limit, Effort::Always),
         faults: SOUND,
         status: 0,
         out,
@@ -185,10 +184,16 @@ fn plans_are_told(rt: HostRuntime) -> Result<(), Fail> {
         },
         apart_plan(1, "pages 2\nbatches 3\nat least 2 batches\n", 2),
         apart_plan(3, "pages 2\nbatches 3\n", 3),
-        refused_plan(open_to(0, false), SOUND, 1, bad_limit, 0),
-        refused_plan(open_to(9, false), no_page, 3, no_read, 0),
-        refused_plan(open_to(9, false), cut_sending, 3, no_write, 100),
-        refused_plan(open_to(9, false), cut_certificate, 3, no_write, 140),
+        refused_plan(open_to(0, Effort::Fewest), SOUND, 1, bad_limit, 0),
+        refused_plan(open_to(9, Effort::Fewest), no_page, 3, no_read, 0),
+        refused_plan(open_to(9, Effort::Fewest), cut_sending, 3, no_write, 100),
+        refused_plan(
+            open_to(9, Effort::Fewest),
+            cut_certificate,
+            3,
+            no_write,
+            140,
+        ),
     ];
     for case in cases {
         let planned = plan(rt.alloc(), case.search, case.file, case.faults);
@@ -208,7 +213,7 @@ enum Command {
     Check,
     Decode,
     Hear(u32),
-    Verify(End, bool),
+    Verify(Search),
     // The rate first.
     Report(u32, Search),
 }
@@ -229,16 +234,12 @@ fn run(alloc: Global, command: Command, file: &[u8], planned: &Planned) -> Told 
         }),
         Command::Decode => run_decode(alloc, &mut tx, &mut out).map(|_| 0),
         Command::Hear(address) => run_hear(alloc, address, &mut tx, &mut out).map(|_| 0),
-        Command::Verify(end, always) => {
-            run_verify(alloc, end, always, &mut pages, &mut tx, &mut cert, &mut out).map(|_| 0)
+        Command::Verify(search) => {
+            let mut files = PlanFiles { pages, tx, cert };
+            run_verify(alloc, search, &mut files, &mut out).map(|_| 0)
         }
         Command::Report(rate, search) => {
-            let Search { limit, end, always } = search;
-            if always {
-                run_report_always(alloc, rate, limit, end, &mut pages, &mut out).map(|_| 0)
-            } else {
-                run_report(alloc, rate, limit, end, &mut pages, &mut out).map(|_| 0)
-            }
+            run_report(alloc, rate, search, &mut pages, &mut out).map(|_| 0)
         }
     };
     let status = status_of(done, &mut err);
@@ -280,7 +281,7 @@ type ReadCase = (
 #[test]
 fn what_was_planned_is_read(rt: HostRuntime) -> Result<(), Fail> {
     let alloc = rt.alloc();
-    let (to_one, to_three) = (open_to(1, true), open_to(3, true));
+    let (to_one, to_three) = (open_to(1, Effort::Always), open_to(3, Effort::Always));
     let lone = "address,kind,message\n8,tone0,\n";
     let none = "address,kind,message\n";
     let cases: [ReadCase; 20] = [
@@ -288,7 +289,7 @@ fn what_was_planned_is_read(rt: HostRuntime) -> Result<(), Fail> {
             ONE_FULL_BATCH,
             OPEN,
             ONE_FULL_BATCH,
-            Command::Verify(End::Closed, false),
+            Command::Verify(CLOSED),
             1,
             "",
             NOT_THE_END,
@@ -371,7 +372,7 @@ fn what_was_planned_is_read(rt: HostRuntime) -> Result<(), Fail> {
             LONE_TONE,
             OPEN,
             LONE_TONE,
-            Command::Verify(End::Open, false),
+            Command::Verify(OPEN),
             0,
             "verified\n",
             "",
@@ -380,7 +381,7 @@ fn what_was_planned_is_read(rt: HostRuntime) -> Result<(), Fail> {
             LONE_TONE,
             OPEN,
             OTHER_TONE,
-            Command::Verify(End::Open, false),
+            Command::Verify(OPEN),
             1,
             "",
             NOT_THE_PAGES,
@@ -390,7 +391,7 @@ fn what_was_planned_is_read(rt: HostRuntime) -> Result<(), Fail> {
             LONE_TONE,
             CLOSED,
             LONE_TONE,
-            Command::Verify(End::Closed, false),
+            Command::Verify(CLOSED),
             0,
             "verified\n",
             "",
@@ -399,7 +400,7 @@ fn what_was_planned_is_read(rt: HostRuntime) -> Result<(), Fail> {
             LONE_TONE,
             CLOSED,
             LONE_TONE,
-            Command::Verify(End::Open, false),
+            Command::Verify(OPEN),
             1,
             "",
             NOT_THE_BOUND,
@@ -408,7 +409,7 @@ fn what_was_planned_is_read(rt: HostRuntime) -> Result<(), Fail> {
             LONE_TONE,
             OPEN,
             LONE_TONE,
-            Command::Verify(End::Closed, true),
+            Command::Verify(CLOSED_ALWAYS),
             1,
             "",
             NOT_THE_BOUND,
@@ -418,7 +419,7 @@ fn what_was_planned_is_read(rt: HostRuntime) -> Result<(), Fail> {
             LOOPS_APART,
             to_one,
             LOOPS_APART,
-            Command::Verify(End::Open, false),
+            Command::Verify(OPEN),
             1,
             "",
             NOT_THE_BOUND,
@@ -427,7 +428,7 @@ fn what_was_planned_is_read(rt: HostRuntime) -> Result<(), Fail> {
             LOOPS_APART,
             to_one,
             LOOPS_APART,
-            Command::Verify(End::Open, true),
+            Command::Verify(OPEN_ALWAYS),
             0,
             "verified\n",
             "",
@@ -436,7 +437,7 @@ fn what_was_planned_is_read(rt: HostRuntime) -> Result<(), Fail> {
             LOOPS_APART,
             to_three,
             LOOPS_APART,
-            Command::Verify(End::Open, false),
+            Command::Verify(OPEN),
             0,
             "verified\n",
             "",
@@ -445,7 +446,7 @@ fn what_was_planned_is_read(rt: HostRuntime) -> Result<(), Fail> {
             LOOPS_APART,
             to_three,
             LOOPS_APART,
-            Command::Verify(End::Open, true),
+            Command::Verify(OPEN_ALWAYS),
             0,
             "verified\n",
             "",

@@ -1,4 +1,3 @@
-pub mod Bounding
 pub mod Endings
 pub mod Planning
 pub mod Readback

@@ -1,5 +1,5 @@
 -- What was read back.
-use Rattle.std.proofs.Common.{◌≡◌, ℕ, Bool, List, map, sym, ◌∙◌, subst, Ok, Err}
+use Rattle.std.proofs.Common.{◌≡◌, ℕ, List, map, sym, ◌∙◌, subst, Ok, Err}
 use Rattle.std.specs.Prelude.{Contains, IsPermutation, OnOk, Result}
 use Rattle.std.proofs.lemmas.List.{length-map}
 use Rattle.std.proofs.lemmas.List.Sorted.{Contains-permutation, IsPermutation-sym, length_permutation}
@@ -9,6 +9,7 @@ use Rattle.pocsag_pages.specs.Reading.{EndsAs, IsBatchList}
 use Rattle.pocsag_words.specs.Kinds.{kind_of}
 use Rattle.pocsag_words.specs.declared.ending.End.{End}
 use Rattle.pocsag_decode.specs.Faults.{ReadsAs}
+use Rattle.pocsag_plan.specs.declared.search.Search.{Search}
 use Rattle.pocsag_commands.specs.declared.fault.Fault.{Fault}
 use Rattle.pocsag_commands.specs.Commands.{Checked}
 use Rattle.pocsag_commands.specs.Verifying.{AreAmong, IsDueBound, IsTransmissionOf, Verified}
@@ -45,9 +46,9 @@ transmission end R X ps r among ends n same =
       );
     }
 
-pub verified : (file : List ℕ) (end : End) (always : Bool) (sent certificate : List ℕ) (bound : ℕ)
-    (checked : Checked file certificate end bound) (batches : ℕ) → IsTransmissionOf end checked.round batches sent →
-    IsDueBound always bound batches → (r : Result (Unit {0}) Fault) → OnOk r (Verified file end always sent certificate)
-verified file end always sent certificate bound checked batches transmission due (Ok u) =
+pub verified : (file : List ℕ) (search : Search) (sent certificate : List ℕ) (bound : ℕ)
+    (checked : Checked file certificate search.end bound) (batches : ℕ) → IsTransmissionOf search.end checked.round batches sent →
+    IsDueBound search.effort bound batches → (r : Result (Unit {0}) Fault) → OnOk r (Verified file search sent certificate)
+verified file search sent certificate bound checked batches transmission due (Ok u) =
     record { bound = bound; checked = checked; batches = batches; transmission = transmission; due = due }
-verified file end always sent certificate bound checked batches transmission due (Err e) = tt
+verified file search sent certificate bound checked batches transmission due (Err e) = tt

@@ -1,7 +1,6 @@
 -- Why a command refuses, by the fault that a call of it answered.
 use Rattle.std.proofs.Common.{◌≡◌, ℕ, List, Some, Ok, Err, ap, subst, arith, inl, inr}
 use Rattle.std.specs.Prelude.{◌⊎◌, IfErr, Result}
-use Rattle.pocsag_words.specs.declared.ending.End.{End}
 use Rattle.pocsag_pages.specs.PageFile.{verdict}
 use Rattle.pocsag_pages.specs.declared.fault.RoundFault.{RoundFault}
 use Rattle.pocsag_pages.specs.declared.fault.RoundFault.TheVariants as round
@@ -18,7 +17,7 @@ use Rattle.pocsag_pager.specs.declared.fault.PagerFault.{PagerFault}
 use Rattle.pocsag_show.specs.Showing.{Explains}
 use Rattle.pocsag_show.specs.declared.fault.ShowFault.{ShowFault}
 use Rattle.pocsag_show.specs.declared.fault.ShowFault.TheVariants as showing
-use Rattle.pocsag_plan.specs.declared.search.Effort.TheVariants.{Fewest}
+use Rattle.pocsag_plan.specs.declared.search.Search.{Search}
 use Rattle.pocsag_plan.specs.Plans.{ExplainsPlan}
 use Rattle.pocsag_plan.specs.declared.fault.PlanFault.{PlanFault}
 use Rattle.pocsag_plan.specs.declared.fault.PlanFault.TheVariants as planning
@@ -39,12 +38,12 @@ why_round file f (inr (inl e)) one =
     let three : status_of (fault.Round f) ≡ 3 = ap (λ (v : RoundFault). status_of (fault.Round v)) e in absurd (omega arith)
 why_round file f (inr (inr e)) one = e
 
-pub why_unplanned : (file : List ℕ) (end : End) (n : ℕ) (R : List Page) → verdict file ≡ Ok R → (e : PlanFault) → ExplainsPlan Fewest end R n e →
-    status_of (fault_of_plan e) ≡ 1 → IsPlanRefused file end n
-why_unplanned file end n R read planning.BadLimit said one = limit said
-why_unplanned file end n R read (planning.SearchLimit least found tree) said one =
-    stopped least found (bound_of tree) (record { round = R; read = read; holds = said.2 })
-why_unplanned file end n R read planning.OutOfMemory said one = absurd (omega arith)
+pub why_unplanned : (file : List ℕ) (R : List Page) → verdict file ≡ Ok R → (search : Search) (e : PlanFault) →
+    ExplainsPlan search.effort search.end R search.limit e → status_of (fault_of_plan e) ≡ 1 → IsPlanRefused file search
+why_unplanned file R read search planning.BadLimit said one = limit said
+why_unplanned file R read search (planning.SearchLimit least found tree) said one =
+    stopped said.0 least found (bound_of tree) (record { round = R; read = read; holds = said.2 })
+why_unplanned file R read search planning.OutOfMemory said one = absurd (omega arith)
 
 pub why_certificate : (e : CertificateFault) (bytes : List ℕ) → IsFault e bytes → status_of (fault.Certificate e) ≡ 1 → HasFirst e bytes
 why_certificate e bytes (inr first) one = first

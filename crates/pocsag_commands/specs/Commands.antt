@@ -13,13 +13,15 @@ use Rattle.pocsag_decode.specs.Faults.{ReadsAs}
 use Rattle.pocsag_decode.specs.Listing.{listing}
 use Rattle.pocsag_pager.specs.Faults.{hearing_fault}
 use Rattle.pocsag_pager.specs.Shown.{AreShown}
-use Rattle.pocsag_plan.specs.declared.airtime.Report.{Report}
 use Rattle.pocsag_plan.specs.declared.answer.Plan.{Plan}
 use Rattle.pocsag_plan.specs.declared.search.Effort.TheVariants.{Fewest}
-use Rattle.pocsag_plan.specs.Plans.{IsSearchTreeFor, NoneHasFewer}
-use Rattle.pocsag_plan.specs.Reports.{IsReport, report_text}
-use Rattle.pocsag_plan.specs.Streams.{IsPlanOf, IsStoppedAt, Writes, WritesCertificatePart, WritesPart}
-use Rattle.pocsag_commands.specs.Lines.{bound_text, plan_text}
+use Rattle.pocsag_plan.specs.declared.search.Search.{Search}
+use Rattle.pocsag_plan.specs.Plans.{IsSearchTreeFor, MayStop, NoneHasFewer}
+use Rattle.pocsag_plan.specs.Reports.{report_text}
+use Rattle.pocsag_plan.specs.Streams.{IsPlanOf, IsStoppedAt, Writes, WritesBounded, WritesCertificatePart, WritesPart}
+use Rattle.pocsag_commands.specs.Lines.{below_text, bound_text, plan_text}
+use Rattle.pocsag_commands.specs.Reporting.{IsReportOf}
+use Rattle.pocsag_commands.specs.declared.commands.BoundedReport.{BoundedReport}
 
 -- No words: the counts of a plan of the page file's round were told.
 pub record ToldPlan (file : List ℕ) (end : End) (out_before out_after : List ℕ) : Type 0 where
@@ -27,31 +29,41 @@ pub record ToldPlan (file : List ℕ) (end : End) (out_before out_after : List �
   pub plan_of : IsPlanOf file end plan
   pub told : out_after ≡ out_before ++ plan_text plan.pages plan.batches
 
--- `plan`: what both files took more is what the headline says.
-pub record Planned (file : List ℕ) (end : End) (tx_before tx_after cert_before cert_after : List ℕ) : Type 0 where
+-- `plan`: what both files took more is what the headline with a bound says, and what the headline says where the bound
+-- is the batches, as it is where only the fewest batches are an answer.
+pub record Planned (file : List ℕ) (search : Search) (tx_before tx_after cert_before cert_after : List ℕ) : Type 0 where
   pub batches : ℕ
+  pub bound : ℕ
   pub tree : Bound
-  pub writes : Writes file end batches tree tx_before tx_after cert_before cert_after
+  pub writes : WritesBounded file search.end batches bound tree tx_before tx_after cert_before cert_after
+  pub headline : bound ≡ batches → Writes file search.end batches tree tx_before tx_after cert_before cert_after
+  pub fewest : search.effort ≡ Fewest → bound ≡ batches
 
--- The same, with a tree that has the promised shape; and its counts were told.
-pub record PlannedAndTold (file : List ℕ) (end : End) (tx_before tx_after cert_before cert_after out_before out_after : List ℕ) : Type 0 where
-  pub planned : Planned file end tx_before tx_after cert_before cert_after
-  pub shaped : IsSearchTreeFor end planned.writes.headline.round planned.batches planned.tree
+-- The same, with a tree that has the promised shape where only the fewest batches are an answer; and its counts were
+-- told, with the bound where it is below the batches.
+pub record PlannedAndTold (file : List ℕ) (search : Search) (tx_before tx_after cert_before cert_after out_before out_after : List ℕ) : Type 0 where
+  pub planned : Planned file search tx_before tx_after cert_before cert_after
+  pub shaped : search.effort ≡ Fewest → IsSearchTreeFor search.end planned.writes.headline.round planned.batches planned.tree
   pub told : out_after ≡ out_before ++ plan_text (length planned.writes.headline.round) planned.batches
+      ++ below_text planned.batches planned.bound
 
 -- `plan` leaves each output as it was, or with a prefix of what the headline says, the transmission whole
 -- before the certificate.
-pub data LeavesOutputs (file : List ℕ) (end : End) (tx_before tx_after cert_before cert_after : List ℕ) : Type 0 where
-  nothing : tx_after ≡ tx_before → cert_after ≡ cert_before → LeavesOutputs file end tx_before tx_after cert_before cert_after
-  part : WritesPart Fewest file end tx_before tx_after → cert_after ≡ cert_before → LeavesOutputs file end tx_before tx_after cert_before cert_after
-  certificate_part : WritesCertificatePart Fewest file end tx_before tx_after cert_before cert_after → LeavesOutputs file end tx_before tx_after cert_before cert_after
-  all : Planned file end tx_before tx_after cert_before cert_after → LeavesOutputs file end tx_before tx_after cert_before cert_after
+pub data LeavesOutputs (file : List ℕ) (search : Search) (tx_before tx_after cert_before cert_after : List ℕ) : Type 0 where
+  nothing : tx_after ≡ tx_before → cert_after ≡ cert_before → LeavesOutputs file search tx_before tx_after cert_before cert_after
+  part : WritesPart search.effort file search.end tx_before tx_after → cert_after ≡ cert_before
+      → LeavesOutputs file search tx_before tx_after cert_before cert_after
+  certificate_part : WritesCertificatePart search.effort file search.end tx_before tx_after cert_before cert_after
+      → LeavesOutputs file search tx_before tx_after cert_before cert_after
+  all : Planned file search tx_before tx_after cert_before cert_after → LeavesOutputs file search tx_before tx_after cert_before cert_after
 
--- Why `plan` refuses: the limit is none, the page file has a fault, or the search stopped.
-pub data IsPlanRefused (file : List ℕ) (end : End) (limit : ℕ) : Type 0 where
-  limit : ¬ IsNodeLimit limit → IsPlanRefused file end limit
-  round : (f : RoundFault) → verdict file ≡ Err f → IsPlanRefused file end limit
-  stopped : (least found : ℕ) (tree : Bound) → IsStoppedAt file end limit least found tree → IsPlanRefused file end limit
+-- Why `plan` refuses: the limit is none, the page file has a fault, or the search stopped, as it does only where
+-- the fewest batches alone are an answer.
+pub data IsPlanRefused (file : List ℕ) (search : Search) : Type 0 where
+  limit : ¬ IsNodeLimit search.limit → IsPlanRefused file search
+  round : (f : RoundFault) → verdict file ≡ Err f → IsPlanRefused file search
+  stopped : MayStop search.effort → (least found : ℕ) (tree : Bound) → IsStoppedAt file search.end search.limit least found tree
+      → IsPlanRefused file search
 
 -- `check`: the page file is that of a round, and the certificate is a text of an end, a number of batches
 -- and a tree that the checker accepts for them, so no list of codewords that is legal for the round and the
@@ -84,10 +96,8 @@ pub record HeardAndListed (address : ℕ) (bytes out_before out_after : List ℕ
   pub shown : AreShown (words_of (after_preamble bytes)) address pages
   pub listed : out_after ≡ out_before ++ listing pages
 
--- `report`: the report of a plan of the page file's round was told.
-pub record Reported (file : List ℕ) (end : End) (rate : ℕ) (out_before out_after : List ℕ) : Type 0 where
-  pub plan : Plan
-  pub plan_of : IsPlanOf file end plan
-  pub report : Report
-  pub report_of : IsReport plan rate report
-  pub told : out_after ≡ out_before ++ report_text report
+-- `report`: the report of the plan of the page file's round was told, and its bound where that is below the batches.
+pub record Reported (file : List ℕ) (search : Search) (rate : ℕ) (out_before out_after : List ℕ) : Type 0 where
+  pub answered : BoundedReport
+  pub report_of : IsReportOf file search rate answered
+  pub told : out_after ≡ out_before ++ report_text answered.report ++ below_text answered.report.batches answered.bound

@@ -1,4 +1,3 @@
-pub mod Always
 pub mod Commands
 pub mod Expecting
 pub mod Faults
@@ -7,5 +6,6 @@ pub mod Lines
 pub mod Listing
 pub mod Notes
 pub mod Refusals
+pub mod Reporting
 pub mod Showing
 pub mod Verifying

@@ -2,6 +2,7 @@
 use Rattle.std.specs.Prelude.{◌≡◌, ℕ, ◌<◌, List, [], ◌∷◌, ◌++◌, length, codes, Some, Err}
 use Rattle.pocsag_words.specs.Frame.{input_limit}
 use Rattle.pocsag_words.specs.declared.ending.End.{End}
+use Rattle.pocsag_words.specs.declared.ending.End.TheVariants.{Open}
 use Rattle.pocsag_pages.specs.declared.fault.RoundFault.{RoundFault}
 use Rattle.pocsag_pages.specs.PageFile.{verdict}
 use Rattle.pocsag_tree.specs.Parts.{HasFirst}
@@ -11,13 +12,18 @@ use Rattle.pocsag_decode.specs.declared.fault.DecodeFault.{DecodeFault}
 use Rattle.pocsag_pager.specs.Faults.{hearing_fault}
 use Rattle.pocsag_pager.specs.declared.fault.PagerFault.{PagerFault}
 use Rattle.pocsag_plan.specs.Reports.{IsRate}
-use Rattle.pocsag_commands.specs.Always.{IsRefusedAlways}
+use Rattle.pocsag_plan.specs.declared.search.Effort.TheVariants.{Fewest}
+use Rattle.pocsag_plan.specs.declared.search.Search.{Search}
 use Rattle.pocsag_commands.specs.Commands.{IsPlanRefused}
 use Rattle.pocsag_commands.specs.Judging.{IsNotShown}
 
 -- The node limit where none is asked for.
 abbrev pub default_limit : ℕ
 default_limit = 100000
+
+-- What is asked of a planner where there are no words.
+abbrev pub default_search : Search
+default_search = record { limit = default_limit; end = Open; effort = Fewest }
 
 -- `decode` and `show`: the transmission is larger than is read, or it has a fault.
 pub data IsTransmissionRefused (bytes : List ℕ) : Type 0 where
@@ -30,14 +36,9 @@ pub data IsHearingRefused (address : ℕ) (bytes : List ℕ) : Type 0 where
   fault : (f : PagerFault) → hearing_fault address bytes ≡ Some f → IsHearingRefused address bytes
 
 -- `report`: the round is not planned, or the rate is none.
-pub data IsReportRefused (file : List ℕ) (end : End) (limit rate : ℕ) : Type 0 where
-  plan : IsPlanRefused file end limit → IsReportRefused file end limit rate
-  rate : ¬ IsRate rate → IsReportRefused file end limit rate
-
--- The same with `--always`.
-pub data IsReportRefusedAlways (file : List ℕ) (limit rate : ℕ) : Type 0 where
-  plan : IsRefusedAlways file limit → IsReportRefusedAlways file limit rate
-  rate : ¬ IsRate rate → IsReportRefusedAlways file limit rate
+pub data IsReportRefused (file : List ℕ) (search : Search) (rate : ℕ) : Type 0 where
+  plan : IsPlanRefused file search → IsReportRefused file search rate
+  rate : ¬ IsRate rate → IsReportRefused file search rate
 
 -- `check` has no verdict: the page file has a fault, or else the certificate has.
 pub data IsCheckFaulty (file certificate : List ℕ) : Type 0 where

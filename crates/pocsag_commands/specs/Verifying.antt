@@ -1,9 +1,12 @@
 -- What `--verify` reads back where its exit status is 0.
-use Rattle.std.specs.Prelude.{◌≡◌, ◌⊎◌, ℕ, ◌+◌, Bool, true, false, List, length, All, Contains}
+use Rattle.std.specs.Prelude.{◌≡◌, ◌⊎◌, ℕ, ◌+◌, List, length, All, Contains}
 use Rattle.pocsag_words.specs.declared.ending.End.{End}
 use Rattle.pocsag_pages.specs.declared.page.Page.{Page}
 use Rattle.pocsag_pages.specs.Bytes.{Sent}
 use Rattle.pocsag_pages.specs.Reading.{IsLegalList}
+use Rattle.pocsag_plan.specs.declared.search.Effort.{Effort}
+use Rattle.pocsag_plan.specs.declared.search.Effort.TheVariants.{Fewest, Always}
+use Rattle.pocsag_plan.specs.declared.search.Search.{Search}
 use Rattle.pocsag_commands.specs.Commands.{Checked}
 
 -- The pages are as many as the others, and each is among these.
@@ -17,16 +20,17 @@ pub record IsTransmissionOf (end : End) (round : List Page) (batches : ℕ) (byt
   pub sent : Sent bytes codewords
   pub legal : IsLegalList end codewords batches round
 
--- The bound that a certificate beside so many batches is for: that number, or with `--always` one less too.
-abbrev pub IsDueBound : Bool → (bound batches : ℕ) → Type 0
-IsDueBound false bound batches = bound ≡ batches
-IsDueBound true bound batches = (bound ≡ batches) ⊎ (bound + 1 ≡ batches)
+-- The bound that a certificate beside so many batches is for: that number, or, where one batch more than the bound is an
+-- answer, one less too.
+abbrev pub IsDueBound : Effort → (bound batches : ℕ) → Type 0
+IsDueBound Fewest bound batches = bound ≡ batches
+IsDueBound Always bound batches = (bound ≡ batches) ⊎ (bound + 1 ≡ batches)
 
 -- The transmission is one of the page file's round and the end, in so many batches, and the certificate is a
 -- text of the end, a bound and a tree that the checker accepts for them: the bound that is due.
-pub record Verified (file : List ℕ) (end : End) (always : Bool) (sent certificate : List ℕ) : Type 0 where
+pub record Verified (file : List ℕ) (search : Search) (sent certificate : List ℕ) : Type 0 where
   pub bound : ℕ
-  pub checked : Checked file certificate end bound
+  pub checked : Checked file certificate search.end bound
   pub batches : ℕ
-  pub transmission : IsTransmissionOf end checked.round batches sent
-  pub due : IsDueBound always bound batches
+  pub transmission : IsTransmissionOf search.end checked.round batches sent
+  pub due : IsDueBound search.effort bound batches

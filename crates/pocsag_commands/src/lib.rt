@@ -2,7 +2,6 @@
 //! The commands of the program, and the texts and exit statuses that they end with. They know no file: each
 //! reads sources, calls one public call of a crate below, and tells its answer to a sink.
 
-mod always;
 mod checking;
 mod commands;
 mod devices;
@@ -11,6 +10,7 @@ mod explaining;
 mod fault;
 mod file_notes;
 mod note;
+mod plan_files;
 mod receiving;
 mod role;
 mod showing;
@@ -18,13 +18,13 @@ mod telling;
 mod verifying;
 mod watch;
 
-pub use always::{run_plan_always, run_report_always};
 pub use checking::{Judged, judge_certificate, run_check};
-pub use commands::{DEFAULT_LIMIT, run_input, run_plan, run_report};
+pub use commands::{BoundedReport, DEFAULT_LIMIT, report_file, run_input, run_plan, run_report};
 pub use devices::{ReaderSource, WriterSink};
 pub use expecting::expected_file;
 pub use explaining::{Scene, tell_explained};
 pub use fault::Fault;
+pub use plan_files::PlanFiles;
 pub use pocsag_show::{Rows, View};
 pub use receiving::{TRANSMISSION_LIMIT, list_decoded, list_heard, run_decode, run_hear};
 pub use role::{NamedFile, Names, Role};

@@ -5,11 +5,13 @@ ghost use Rattle.pocsag_pages.specs.Reading.{EndsAs};
 ghost use Rattle.pocsag_commands.specs.Verifying.{AreAmong, IsDueBound, IsTransmissionOf, Verified};
 
 use crate::fault::Fault;
+use crate::plan_files::PlanFiles;
 use crate::receiving::TRANSMISSION_LIMIT;
 use crate::telling::tell;
 use pocsag_check::check;
 use pocsag_decode::decode;
 use pocsag_pages::{Page, Round, leading_len, read_round, read_whole};
+use pocsag_plan::{Effort, Search};
 use pocsag_tree::read_certificate;
 use pocsag_words::{BATCH_BYTES, End, Sink, Source};
 use std::alloc::Global;
@@ -17,29 +19,27 @@ use std::alloc::Global;
 /// `--verify`: reads a transmission and a certificate back, and tells `verified` where the one holds the
 /// pages of the page file and ends as is asked for, and the other shows its number of batches for them and
 /// the end, or with `--always` that number or one less.
-pub fn run_verify<P: Source, T: Source, C: Source, O: Sink>(
+pub fn run_verify<P: Source + Drop, T: Source + Drop, C: Source + Drop, O: Sink>(
     alloc: Global,
-    end: End,
-    always: bool,
-    pages: &mut P,
-    tx: &mut T,
-    cert: &mut C,
+    search: Search,
+    files: &mut PlanFiles<P, T, C>,
     out: &mut O,
 ) -> Result<(), Fault>
     ensures { P.tells → T.tells → C.tells → OnOk result
-        (Verified (P.held pages.old) end always (T.held tx.old) (C.held cert.old)) }
+        (Verified (P.held files.old.pages) search (T.held files.old.tx) (C.held files.old.cert)) }
 {
+    let PlanFiles { pages, tx, cert } = files;
     let round = read_round(alloc, pages)?;
     let bytes = read_whole(alloc, tx, TRANSMISSION_LIMIT)?;
-    let batches = read_back(alloc, bytes.as_slice(), &round, end)?;
+    let batches = read_back(alloc, bytes.as_slice(), &round, search.end)?;
     let certificate = read_certificate(alloc, cert)?;
-    if !is_end(certificate.end, end) {
+    if !is_end(certificate.end, search.end) {
         return Err(Fault::NotTheBound);
     }
-    if !is_due(certificate.batches as usize, batches, always) {
+    if !is_due(certificate.batches as usize, batches, search.effort) {
         return Err(Fault::NotTheBound);
     }
-    if !check(&round, certificate.batches, &certificate.tree, end) {
+    if !check(&round, certificate.batches, &certificate.tree, search.end) {
         return Err(Fault::NotTheBound);
     }
     tell(out, "verified\n")
@@ -70,10 +70,13 @@ fn is_end(one: End, other: End) -> bool
 }
 
 // Whether a certificate for the bound is due beside a transmission of so many batches.
-fn is_due(bound: usize, batches: usize, always: bool) -> bool
-    ensures { IsTrue result → IsDueBound always bound batches }
+fn is_due(bound: usize, batches: usize, effort: Effort) -> bool
+    ensures { IsTrue result → IsDueBound effort bound batches }
 {
-    bound == batches || always && bound == batches.saturating_sub(1)
+    match effort {
+        Effort::Fewest => bound == batches,
+        Effort::Always => bound == batches || bound == batches.saturating_sub(1),
+    }
 }
 
 // How many whole batches follow the leading bytes AA.

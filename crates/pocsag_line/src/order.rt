@@ -1,5 +1,5 @@
+use pocsag_plan::Search;
 use pocsag_show::View;
-use pocsag_words::End;
 
 /// The word that names no path: standard input or standard output.
 pub const STANDARD: &str = "-";
@@ -73,12 +73,9 @@ pub struct PlanOrder<'a> {
     pub keep: bool,
 }
 
-/// How a plan is searched: the node limit, the end, and whether each round is answered; and how many pages
-/// the round must have, if that is given.
+/// What is asked of the planner, and how many pages the round must have, if that is given.
 #[derive(Clone, Copy)]
 pub struct SearchOrder {
     pub expect: Option<u32>,
-    pub limit: u32,
-    pub end: End,
-    pub always: bool,
+    pub search: Search,
 }

@@ -1,6 +1,7 @@
 use crate::order::{Asked, Order, PlanOrder, SearchOrder, path_of};
 use clap::error::ErrorKind;
 use clap::{Arg, ArgAction, ArgMatches, Command, Error, value_parser};
+use pocsag_plan::{Effort, Search};
 use pocsag_show::{Rows, View};
 use pocsag_words::End;
 use std::alloc::{AllocError, Global};
@@ -313,11 +314,18 @@ fn end_of(found: &ArgMatches<'_>) -> Option<End> {
 }
 
 fn search_of(found: &ArgMatches<'_>) -> Option<SearchOrder> {
+    let effort = if found.get_flag(ALWAYS) {
+        Effort::Always
+    } else {
+        Effort::Fewest
+    };
     Some(SearchOrder {
         expect: found.get_one::<u32>(EXPECT),
-        limit: found.get_one::<u32>(LIMIT)?,
-        end: end_of(found)?,
-        always: found.get_flag(ALWAYS),
+        search: Search {
+            limit: found.get_one::<u32>(LIMIT)?,
+            end: end_of(found)?,
+            effort,
+        },
     })
 }
 

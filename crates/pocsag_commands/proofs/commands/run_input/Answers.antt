@@ -1,5 +1,6 @@
 use Rattle.std.proofs.lemmas.Result.{err_from_is_err_and}
 use Rattle.pocsag_commands.specs.Commands.{round as of_round}
+use Rattle.pocsag_commands.specs.Refusals.{default_search}
 use Rattle.pocsag_commands.proofs.Planning.{told_plan}
 use Rattle.pocsag_commands.proofs.Refusing.{why_round, why_unplanned}
 use Rattle.pocsag_commands.proofs.commands.run_input.Goals as goal
@@ -18,5 +19,5 @@ returns-in_err-round-clause-why g c = λ tells one.
 pub returns-in_err-plan-clause-why : goal.returns-in_err-plan-clause-why
 returns-in_err-plan-clause-why g c = λ tells one.
     let p = err_from_is_err_and c.from_residual-in_err-plan.result c.from_residual-in_err-plan.ensures.1 in
-    why_unplanned _ _ _ c.in_ok-round.round (c.in_ok-round.ensures.ok tells) c.in_err-plan.field-0.0 c.in_err-plan.ensures.fault
+    why_unplanned _ c.in_ok-round.round (c.in_ok-round.ensures.ok tells) default_search c.in_err-plan.field-0.0 c.in_err-plan.ensures.fault
     (rw (p.1, p.2) at one)

@@ -1,27 +1,8 @@
-use Rattle.std.proofs.Common.{refl}
 use Rattle.std.proofs.lemmas.Result.{err_from_is_err_and}
-use Rattle.pocsag_plan.specs.Reports.{report_text}
-use Rattle.pocsag_commands.specs.Commands.{round as of_round}
-use Rattle.pocsag_commands.specs.Refusals.{IsReportRefused}
-use Rattle.pocsag_commands.proofs.Planning.{told_report}
-use Rattle.pocsag_commands.proofs.Refusing.{why_round, why_unplanned}
+use Rattle.pocsag_commands.proofs.Planning.{why_unreported}
 use Rattle.pocsag_commands.proofs.commands.run_report.Goals as goal
 
-pub returns-clause-told : goal.returns-clause-told
-returns-clause-told g c = λ pages_tell out_tells.
-    told_report _ _ _ c.in_ok-plan.plan c.in_ok-told.told
-    (record { round = c.in_ok-round.round; read = c.in_ok-round.ensures.ok pages_tell; holds = c.in_ok-plan.ensures.plan })
-    c.in_ok-told.ensures.report c.tell.result _ _ (c.tell.ensures.told out_tells (report_text c.in_ok-told.told) refl)
-
-pub returns-in_err-round-clause-why : goal.returns-in_err-round-clause-why
-returns-in_err-round-clause-why g c = λ tells one.
+pub returns-in_err-answered-clause-why : goal.returns-in_err-answered-clause-why
+returns-in_err-answered-clause-why g c = λ tells one.
     let p = err_from_is_err_and c.from_residual.result c.from_residual.ensures.1 in
-    IsReportRefused.plan
-    (of_round c.in_err-round.field-0.0 (why_round _ c.in_err-round.field-0.0 (c.in_err-round.ensures.err tells) (rw (p.1, p.2) at one)))
-
-pub returns-in_err-plan-clause-why : goal.returns-in_err-plan-clause-why
-returns-in_err-plan-clause-why g c = λ tells one.
-    let p = err_from_is_err_and c.from_residual-in_err-plan.result c.from_residual-in_err-plan.ensures.1 in
-    IsReportRefused.plan
-    (why_unplanned _ _ _ c.in_ok-round.round (c.in_ok-round.ensures.ok tells) c.in_err-plan.field-0.0 c.in_err-plan.ensures.fault
-    (rw (p.1, p.2) at one))
+    why_unreported _ _ _ c.in_err-answered.field-0.0 (c.in_err-answered.ensures.explained tells) (rw (p.1, p.2) at one)

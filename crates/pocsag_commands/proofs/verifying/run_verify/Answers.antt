@@ -10,11 +10,11 @@ use Rattle.pocsag_commands.proofs.verifying.run_verify.Goals as goal
 pub returns : goal.returns
 returns g c = λ pages_tell tx_tells cert_tells.
     let certificate = c.in_ok-certificate.certificate in
-    let file : List ℕ = g.P.Source.held c.args.pages.now in
-    let shown_bytes : List ℕ = g.C.Source.held c.args.cert.now in
+    let file : List ℕ = g.P.Source.held c.args.files.now.pages in
+    let shown_bytes : List ℕ = g.C.Source.held c.args.files.now.cert in
     let text = subst (λ (e : End). IsText e certificate.batches (bound_of certificate.tree) shown_bytes)
     (c.if-not-is_end.ensures refl) (c.in_ok-certificate.ensures.found cert_tells) in
-    let shown : Checked file shown_bytes c.args.end certificate.batches = record {
+    let shown : Checked file shown_bytes c.args.search.end certificate.batches = record {
       round = c.in_ok-round.round;
       read = c.in_ok-round.ensures.ok pages_tell;
       tree = bound_of certificate.tree;
@@ -22,7 +22,7 @@ returns g c = λ pages_tell tx_tells cert_tells.
       accepted = c.if-not-check.ensures.accepted.0 refl;
       bound = c.if-not-check.ensures.bound refl;
     } in
-    verified file c.args.end c.args.always (g.T.Source.held c.args.tx.now) shown_bytes certificate.batches shown c.in_ok-batches.batches
-    (subst (λ (v : List ℕ). IsTransmissionOf c.args.end c.in_ok-round.round c.in_ok-batches.batches v)
+    verified file c.args.search (g.T.Source.held c.args.files.now.tx) shown_bytes certificate.batches shown c.in_ok-batches.batches
+    (subst (λ (v : List ℕ). IsTransmissionOf c.args.search.end c.in_ok-round.round c.in_ok-batches.batches v)
     (c.as_slice.ensures.value ∙ c.in_ok-bytes.ensures.whole tx_tells) c.in_ok-batches.ensures)
     (c.if-not-is_due.ensures refl) c.tell.result

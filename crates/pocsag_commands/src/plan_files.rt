@@ -1,0 +1,10 @@
+/// The files of a plan: `plan` reads the first and writes the other two, and `--verify` reads all three.
+#[derive(Drop)]
+pub struct PlanFiles<P: Drop, T: Drop, C: Drop> {
+    /// The page file.
+    pub pages: P,
+    /// The transmission.
+    pub tx: T,
+    /// The certificate.
+    pub cert: C,
+}
