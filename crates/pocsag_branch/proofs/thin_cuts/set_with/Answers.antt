@@ -1,0 +1,10 @@
+use Rattle.std.proofs.Common.{inl, inr, sym, ◌∙◌}
+use Rattle.std.proofs.lemmas.Bool.{cases_eq}
+use Rattle.pocsag_branch.proofs.thin_cuts.set_with.Goals as goal
+
+pub invariant_of-result-clause-zero : goal.invariant_of-result-clause-zero
+invariant_of-result-clause-zero c =
+    elim (cases_eq c.args.boundary 0) [
+      | inl same ↦ rw same at c.with_member-set.ensures.held
+      | inr other ↦ c.with_member-set.ensures.others 0 (λ e. other (sym e)) ∙ c.args.growing.zero
+    ]
