@@ -48,16 +48,16 @@ IsNoTour k q l choice Unclosed =
 abbrev pub IsForm : Classes → Task → Limits → Form → Type 0
 IsForm k q l (Overload set) = IsSet set × Overloads k l set
 IsForm k q l (Cut set needed) =
-    (needed < 136) × IsTrue (holds set 0) × IsTrue (class_certain k l set needed) × (set < 2 ^ 16)
+    IsTrue (holds set 0) × IsTrue (class_certain k l set needed.number) × (set < 2 ^ 16)
     × All (Falls k q.batches l) (ways_across k l set)
-IsForm k q l (Split c m) = IsSplitPoint k q.batches l c m
+IsForm k q l (Split c m) = IsSplitPoint k q.batches l c.number m
 IsForm k q l Close = IsClosed q.end × All (Falls k q.batches l) (ways_to_close k l)
 
 -- The node stands there as *Shape of the search's trees* says.
 abbrev pub StandsAs : Classes → ℕ → Limits → Form → Type 0
 StandsAs k batches l (Overload set) = Unit {0}
 StandsAs k batches l (Cut set needed) = AdmitApart k batches l set
-StandsAs k batches l (Split c m) = AdmitSplit k batches l c m
+StandsAs k batches l (Split c m) = AdmitSplit k batches l c.number m
 StandsAs k batches l Close = AdmitUnclosed k batches l
 
 -- The tree is accepted for the node, and no deeper than its limits leave questions open.

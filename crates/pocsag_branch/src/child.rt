@@ -6,7 +6,7 @@ ghost use Rattle.pocsag_branch.specs.Undecided.{AreNodeLimits, Falls, IsSplitPoi
 use crate::node::Node;
 use arrayvec::ArrayVec;
 use pocsag_slots::{
-    CLASSES, Limits, Way, below_split, closing_ways, from_split, is_certain, narrow, ways,
+    CLASSES, Class, Limits, Way, below_split, closing_ways, from_split, is_certain, narrow, ways,
 };
 
 // The limits of the child that takes the way.
@@ -22,25 +22,25 @@ pub(crate) fn child_limits(node: &Node<'_>, way: Way) -> Limits
 }
 
 // The limits of the lower child of a split.
-pub(crate) fn limits_under(node: &Node<'_>, class: u8, m: u16) -> Limits
-    requires { IsSplitPoint node.now.classes.now node.now.task.batches node.now.limits class m }
-    ensures value { result ≡ limits_below node.now.limits class m }
+pub(crate) fn limits_under(node: &Node<'_>, class: Class, m: u16) -> Limits
+    requires { IsSplitPoint node.now.classes.now node.now.task.batches node.now.limits class.number m }
+    ensures value { result ≡ limits_below node.now.limits class.number m }
     ensures limits { AreNodeLimits node.now.classes.now node.now.task.batches result }
     ensures falls { undecided node.now.classes.now node.now.task.batches result <
         undecided node.now.classes.now node.now.task.batches node.now.limits }
 {
-    below_split(&node.limits, class, u32::from(m))
+    below_split(&node.limits, class.number, u32::from(m))
 }
 
 // The limits of the upper child of a split.
-pub(crate) fn limits_over(node: &Node<'_>, class: u8, m: u16) -> Limits
-    requires { IsSplitPoint node.now.classes.now node.now.task.batches node.now.limits class m }
-    ensures value { result ≡ limits_from node.now.limits class m }
+pub(crate) fn limits_over(node: &Node<'_>, class: Class, m: u16) -> Limits
+    requires { IsSplitPoint node.now.classes.now node.now.task.batches node.now.limits class.number m }
+    ensures value { result ≡ limits_from node.now.limits class.number m }
     ensures limits { AreNodeLimits node.now.classes.now node.now.task.batches result }
     ensures falls { undecided node.now.classes.now node.now.task.batches result <
         undecided node.now.classes.now node.now.task.batches node.now.limits }
 {
-    from_split(&node.limits, class, u32::from(m))
+    from_split(&node.limits, class.number, u32::from(m))
 }
 
 // The ways out of the set, each of which settles an open question.
@@ -66,14 +66,14 @@ pub(crate) fn ways_to_end(node: &Node<'_>) -> ArrayVec<Way, 2>
 }
 
 // The first class that is certain for the set.
-pub(crate) fn certain_class(node: &Node<'_>, set: u16) -> Option<u8>
-    ensures known { IfSome result (λ c. c < 136) }
-    ensures certain { IfSome result (λ c. IsTrue (class_certain node.now.classes.now node.now.limits set c)) }
+pub(crate) fn certain_class(node: &Node<'_>, set: u16) -> Option<Class>
+    ensures certain { IfSome result
+        (λ class. IsTrue (class_certain node.now.classes.now node.now.limits set class.number)) }
     ensures none { IfNone result (NoneCertain node.now.classes.now node.now.limits set) }
 {
     for class in 0..CLASSES as u8 {
         if is_certain(node.classes, &node.limits, set, class) {
-            return Some(class);
+            return Some(Class { number: class });
         }
     }
     None

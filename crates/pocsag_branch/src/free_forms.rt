@@ -11,7 +11,7 @@ use crate::promised_forms::{form_at, why_no_tour};
 use crate::task::{Form, NoTour, Stop};
 use crate::thin_cuts::{is_undecided, thin_cut};
 use pocsag_flow::{ChooseFault, choose};
-use pocsag_slots::{Choice, Way, ways};
+use pocsag_slots::{Choice, Class, Way, ways};
 use std::alloc::Global;
 
 // Which node the free search makes under the limits.
@@ -104,9 +104,12 @@ fn split_at(node: &Node<'_>, way: Way) -> Option<Form>
     let _batches = node.task.batches;
     match way {
         Way::IdleIn(_) => None,
-        Way::Early(class) => Some(Form::Split { class, m: 1 }),
+        Way::Early(class) => Some(Form::Split {
+            class: Class { number: class },
+            m: 1,
+        }),
         Way::Late(class) => Some(Form::Split {
-            class,
+            class: Class { number: class },
             m: node.classes.count[class as usize] as u16,
         }),
     }

@@ -13,7 +13,7 @@ use crate::halt::{Children, Halt};
 use crate::node::Node;
 use crate::task::{Form, Task};
 use pocsag_check::accepts;
-use pocsag_slots::Way;
+use pocsag_slots::{Class, Way};
 use pocsag_tree::Tree;
 use std::alloc::Global;
 
@@ -51,13 +51,12 @@ fn free_cut(
     alloc: Global,
     node: &Node<'_>,
     set: u16,
-    needed: u8,
+    needed: Class,
     examined: u32,
 ) -> Result<(Tree, u32), Halt>
     requires examined { examined < node.now.task.limit }
-    requires needed { needed < 136 }
     requires zero { IsTrue (holds set 0) }
-    requires certain { IsTrue (class_certain node.now.classes.now node.now.limits set needed) }
+    requires certain { IsTrue (class_certain node.now.classes.now node.now.limits set needed.number) }
     requires small { set < 2 ^ 16 }
     requires fall { All (Falls node.now.classes.now node.now.task.batches node.now.limits)
         (ways_across node.now.classes.now node.now.limits set) }
@@ -71,7 +70,7 @@ fn free_cut(
         Children::Whole(children) => Ok((
             Tree::Cut {
                 set,
-                needed,
+                needed: needed.number,
                 children,
             },
             after,
@@ -102,12 +101,12 @@ pub(crate) fn free_close(alloc: Global, node: &Node<'_>, examined: u32) -> Resul
 fn free_split(
     alloc: Global,
     node: &Node<'_>,
-    class: u8,
+    class: Class,
     m: u16,
     examined: u32,
 ) -> Result<(Tree, u32), Halt>
     requires examined { examined < node.now.task.limit }
-    requires point { IsSplitPoint node.now.classes.now node.now.task.batches node.now.limits class m }
+    requires point { IsSplitPoint node.now.classes.now node.now.task.batches node.now.limits class.number m }
     ensures node { IfOk result
         (λ x. IsFreeNode node.now.classes.now node.now.task node.now.limits examined x.1 (bound_of x.0)) }
     ensures halt { IfErr result (IsHalt node.now.classes.now node.now.task) }
@@ -134,7 +133,7 @@ fn free_split(
     let from = Box::new(alloc, from)?;
     Ok((
         Tree::Split {
-            class,
+            class: class.number,
             m,
             below,
             from,

@@ -10,7 +10,7 @@ use crate::climb::climbed_choice;
 use crate::node::Node;
 use crate::task::{Answer, Form, NoTour, Stop};
 use pocsag_flow::{ChooseFault, choose};
-use pocsag_slots::{CLASSES, Choice, Step};
+use pocsag_slots::{CLASSES, Choice, Class, Step};
 use pocsag_tour::{TourFault, has_run_outside, lies_outside, reached, tour};
 use std::alloc::Global;
 
@@ -108,11 +108,14 @@ fn split_point(node: &Node<'_>, choice: &Choice, set: u16) -> Form
 {
     for class in 0..CLASSES as u8 {
         if has_run_outside(node.classes, choice, set, class, true) {
-            return Form::Split { class, m: 1 };
+            return Form::Split {
+                class: Class { number: class },
+                m: 1,
+            };
         }
         if has_run_outside(node.classes, choice, set, class, false) {
             return Form::Split {
-                class,
+                class: Class { number: class },
                 m: node.classes.count[class as usize] as u16,
             };
         }

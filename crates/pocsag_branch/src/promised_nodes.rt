@@ -11,7 +11,7 @@ use crate::child::{child_limits, limits_over, limits_under, ways_out, ways_to_en
 use crate::node::Node;
 use crate::promised_forms::promised_form;
 use crate::task::{Form, Stop};
-use pocsag_slots::Way;
+use pocsag_slots::{Class, Way};
 use pocsag_tree::Tree;
 use std::alloc::Global;
 
@@ -59,13 +59,12 @@ fn cut_node(
     alloc: Global,
     node: &Node<'_>,
     set: u16,
-    needed: u8,
+    needed: Class,
     made: u32,
 ) -> Result<(Tree, u32), Stop>
     requires made { made < node.now.task.limit }
-    requires needed { needed < 136 }
     requires zero { IsTrue (holds set 0) }
-    requires certain { IsTrue (class_certain node.now.classes.now node.now.limits set needed) }
+    requires certain { IsTrue (class_certain node.now.classes.now node.now.limits set needed.number) }
     requires small { set < 2 ^ 16 }
     requires fall { All (Falls node.now.classes.now node.now.task.batches node.now.limits)
         (ways_across node.now.classes.now node.now.limits set) }
@@ -79,7 +78,7 @@ fn cut_node(
     Ok((
         Tree::Cut {
             set,
-            needed,
+            needed: needed.number,
             children,
         },
         after,
@@ -90,13 +89,13 @@ fn cut_node(
 fn split_node(
     alloc: Global,
     node: &Node<'_>,
-    class: u8,
+    class: Class,
     m: u16,
     made: u32,
 ) -> Result<(Tree, u32), Stop>
     requires made { made < node.now.task.limit }
-    requires point { IsSplitPoint node.now.classes.now node.now.task.batches node.now.limits class m }
-    requires shape { AdmitSplit node.now.classes.now node.now.task.batches node.now.limits class m }
+    requires point { IsSplitPoint node.now.classes.now node.now.task.batches node.now.limits class.number m }
+    requires shape { AdmitSplit node.now.classes.now node.now.task.batches node.now.limits class.number m }
     ensures node { IfOk result
         (λ x. IsExamined node.now.classes.now node.now.task node.now.limits made x.1 (bound_of x.0)) }
     ensures stop { IfErr result (IsStop node.now.classes.now node.now.task) }
@@ -117,7 +116,7 @@ fn split_node(
     let from = Box::new(alloc, from)?;
     Ok((
         Tree::Split {
-            class,
+            class: class.number,
             m,
             below,
             from,

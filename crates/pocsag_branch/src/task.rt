@@ -2,7 +2,7 @@ ghost use Rattle.std.specs.Prelude.{◌≡◌, ◌<◌};
 ghost use Rattle.pocsag_branch.specs.Found.{IsNodeLimit};
 ghost use Rattle.pocsag_branch.specs.declared.task.Stop.TheVariants.{OutOfMemory};
 
-use pocsag_slots::{Choice, Step};
+use pocsag_slots::{Choice, Class, Step};
 use pocsag_words::End;
 use std::alloc::AllocFailed;
 
@@ -45,8 +45,8 @@ impl<T: Drop> From<AllocFailed<T>> for Stop {
 #[derive(Clone, Copy)]
 pub(crate) enum Form {
     Overload(u16),
-    Cut { set: u16, needed: u8 },
-    Split { class: u8, m: u16 },
+    Cut { set: u16, needed: Class },
+    Split { class: Class, m: u16 },
     Close,
 }
 

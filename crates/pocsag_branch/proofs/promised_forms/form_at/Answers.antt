@@ -5,7 +5,6 @@ use Rattle.pocsag_branch.proofs.promised_forms.form_at.Goals as goal
 
 pub returns-in-Some-clause-form : goal.returns-in-Some-clause-form
 returns-in-Some-clause-form c = (
-  c.in-Some.ensures.known,
   (c.requires.apart.exact 0 (omega arith)).1 at_start,
   c.in-Some.ensures.certain,
   omega arith,

@@ -12,7 +12,7 @@ close_node-returns-clause-node t c =
 pub cut_node-returns-clause-node : goal.cut_node-returns-clause-node
 cut_node-returns-clause-node t c =
     cut_made c.args.node.now.classes.now c.args.node.now.task c.args.node.now.limits c.args.made c.in_ok-children.after
-    c.args.set c.args.needed c.deref.result.now c.in_ok-children.children c.requires.needed c.requires.zero c.requires.certain
+    c.args.set c.args.needed.number c.deref.result.now c.in_ok-children.children c.args.needed.known c.requires.zero c.requires.certain
     c.requires.small c.requires.shape (c.deref.ensures.0 ∙ c.ways_out-out.ensures.items) c.in_ok-children.ensures.node
 
 pub child_nodes-loop-way-preserved : goal.child_nodes-loop-way-preserved
@@ -26,7 +26,7 @@ child_nodes-loop-way-preserved t c =
 pub split_node-returns-clause-node : goal.split_node-returns-clause-node
 split_node-returns-clause-node t c =
     split_made c.args.node.now.classes.now c.args.node.now.task c.args.node.now.limits c.args.made c.in_ok-below.between
-    c.in_ok-from.after c.args.class c.args.m c.limits_under.result c.limits_over.result c.in_ok-below.below c.in_ok-from.from
+    c.in_ok-from.after c.args.class.number c.args.m c.limits_under.result c.limits_over.result c.in_ok-below.below c.in_ok-from.from
     c.in_ok-below-2.below c.in_ok-from-2.from c.in_ok-below-2.ensures.ok c.in_ok-from-2.ensures.ok
     c.requires.point c.requires.shape c.limits_under.ensures.value c.limits_over.ensures.value c.in_ok-below.ensures.node
     c.in_ok-from.ensures.node
