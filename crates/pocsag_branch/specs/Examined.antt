@@ -1,11 +1,10 @@
 -- What the search owes node by node.
-use Rattle.std.specs.Prelude.{◌≡◌, ℕ, ◌+◌, ◌^◌, ◌<◌, ◌≤◌, Bool, true, false, IsTrue, List, ◌++◌, All, replicate, slice_index}
+use Rattle.std.specs.Prelude.{◌≡◌, ℕ, ◌+◌, ◌<◌, ◌≤◌, Bool, true, false, IsTrue, List, ◌++◌, All, replicate, slice_index}
 use Rattle.pocsag_words.specs.declared.ending.End.{End}
 use Rattle.pocsag_slots.specs.declared.class.Classes.{Classes}
 use Rattle.pocsag_slots.specs.declared.limit.Limits.{Limits}
 use Rattle.pocsag_slots.specs.declared.way.Way.{Way}
 use Rattle.pocsag_slots.specs.Loads.{IsChoice, Overloads, limits_of_all}
-use Rattle.pocsag_slots.specs.Sums.{holds}
 use Rattle.pocsag_slots.specs.Tours.{IsTour}
 use Rattle.pocsag_slots.specs.Ways.{class_certain, ways_across, ways_to_close}
 use Rattle.pocsag_tree.specs.Bounds.{Bound, Bounds, depth_of, deepest}
@@ -40,7 +39,7 @@ IsStop k q OutOfMemory = Unit {0}
 
 -- Why a choice that the limits admit has no tour for the end; the ways to close settle questions then.
 abbrev pub IsNoTour : Classes → Task → Limits → (ℕ → ℕ) → NoTour → Type 0
-IsNoTour k q l choice (Apart set) = IsApart k choice q.batches set × (set < 2 ^ 16)
+IsNoTour k q l choice (Apart set) = IsApart k choice q.batches set.members
 IsNoTour k q l choice Unclosed =
     IsClosed q.end × IsUnclosed k choice q.batches × All (Falls k q.batches l) (ways_to_close k l)
 
@@ -48,15 +47,14 @@ IsNoTour k q l choice Unclosed =
 abbrev pub IsForm : Classes → Task → Limits → Form → Type 0
 IsForm k q l (Overload set) = IsSet set × Overloads k l set
 IsForm k q l (Cut set needed) =
-    IsTrue (holds set 0) × IsTrue (class_certain k l set needed.number) × (set < 2 ^ 16)
-    × All (Falls k q.batches l) (ways_across k l set)
+    IsTrue (class_certain k l set.members needed.number) × All (Falls k q.batches l) (ways_across k l set.members)
 IsForm k q l (Split c m) = IsSplitPoint k q.batches l c.number m
 IsForm k q l Close = IsClosed q.end × All (Falls k q.batches l) (ways_to_close k l)
 
 -- The node stands there as *Shape of the search's trees* says.
 abbrev pub StandsAs : Classes → ℕ → Limits → Form → Type 0
 StandsAs k batches l (Overload set) = Unit {0}
-StandsAs k batches l (Cut set needed) = AdmitApart k batches l set
+StandsAs k batches l (Cut set needed) = AdmitApart k batches l set.members
 StandsAs k batches l (Split c m) = AdmitSplit k batches l c.number m
 StandsAs k batches l Close = AdmitUnclosed k batches l
 

@@ -3,6 +3,7 @@ ghost use Rattle.pocsag_slots.specs.Ways.{class_certain, limits_below, limits_fr
 ghost use Rattle.pocsag_branch.specs.Shape.{NoneCertain};
 ghost use Rattle.pocsag_branch.specs.Undecided.{AreNodeLimits, Falls, IsSplitPoint, undecided};
 
+use crate::boundaries::BoundarySet;
 use crate::node::Node;
 use arrayvec::ArrayVec;
 use pocsag_slots::{
@@ -44,14 +45,14 @@ pub(crate) fn limits_over(node: &Node<'_>, class: Class, m: u16) -> Limits
 }
 
 // The ways out of the set, each of which settles an open question.
-pub(crate) fn ways_out(node: &Node<'_>, set: u16) -> ArrayVec<Way, 288>
+pub(crate) fn ways_out(node: &Node<'_>, set: BoundarySet) -> ArrayVec<Way, 288>
     requires { All (Falls node.now.classes.now node.now.task.batches node.now.limits)
-        (ways_across node.now.classes.now node.now.limits set) }
-    ensures items { result.items ≡ ways_across node.now.classes.now node.now.limits set }
+        (ways_across node.now.classes.now node.now.limits set.members) }
+    ensures items { result.items ≡ ways_across node.now.classes.now node.now.limits set.members }
     ensures allowed { All (MayTake node.now.classes.now node.now.limits) result.items }
     ensures fall { All (Falls node.now.classes.now node.now.task.batches node.now.limits) result.items }
 {
-    ways(node.classes, &node.limits, set, node.task.batches)
+    ways(node.classes, &node.limits, set.members, node.task.batches)
 }
 
 // The ways to close, each of which settles an open question.
@@ -66,13 +67,13 @@ pub(crate) fn ways_to_end(node: &Node<'_>) -> ArrayVec<Way, 2>
 }
 
 // The first class that is certain for the set.
-pub(crate) fn certain_class(node: &Node<'_>, set: u16) -> Option<Class>
+pub(crate) fn certain_class(node: &Node<'_>, set: BoundarySet) -> Option<Class>
     ensures certain { IfSome result
-        (λ class. IsTrue (class_certain node.now.classes.now node.now.limits set class.number)) }
-    ensures none { IfNone result (NoneCertain node.now.classes.now node.now.limits set) }
+        (λ class. IsTrue (class_certain node.now.classes.now node.now.limits set.members class.number)) }
+    ensures none { IfNone result (NoneCertain node.now.classes.now node.now.limits set.members) }
 {
     for class in 0..CLASSES as u8 {
-        if is_certain(node.classes, &node.limits, set, class) {
+        if is_certain(node.classes, &node.limits, set.members, class) {
             return Some(Class { number: class });
         }
     }

@@ -3,12 +3,13 @@ ghost use Rattle.pocsag_slots.specs.Loads.{IsAdmitted};
 ghost use Rattle.pocsag_slots.specs.Ways.{MayTake};
 ghost use Rattle.pocsag_branch.specs.Climbing.{IsClimb};
 
+use crate::boundaries::{BoundarySet, reached_set};
 use crate::child::certain_class;
 use crate::live::{LiveWays, is_live, live_ways};
 use crate::node::Node;
 use pocsag_flow::choose_from;
 use pocsag_slots::{Choice, Way, narrow, ways};
-use pocsag_tour::{lies_outside, reached};
+use pocsag_tour::lies_outside;
 
 // How often the climb goes on at most.
 const CLIMBS: u32 = 64;
@@ -30,7 +31,7 @@ const NONE_CERTAIN: Cost = Cost {
 #[derive(Clone, Copy)]
 pub(crate) struct Candidate {
     pub(crate) choice: Choice,
-    set: u16,
+    set: BoundarySet,
     cost: Cost,
 }
 
@@ -61,10 +62,10 @@ fn cost_over(node: &Node<'_>, live: &LiveWays, out: &[Way]) -> Cost
     cost
 }
 
-fn cost_of(node: &Node<'_>, live: &LiveWays, set: u16) -> Cost {
+fn cost_of(node: &Node<'_>, live: &LiveWays, set: BoundarySet) -> Cost {
     match certain_class(node, set) {
         Some(_) => {
-            let out = ways(node.classes, &node.limits, set, node.task.batches);
+            let out = ways(node.classes, &node.limits, set.members, node.task.batches);
             cost_over(node, live, &out)
         }
         None => NONE_CERTAIN,
@@ -76,7 +77,12 @@ fn cost_of(node: &Node<'_>, live: &LiveWays, set: u16) -> Cost {
 fn step_from(node: &Node<'_>, live: &LiveWays, at: &Candidate) -> Climb
     ensures { IsClimb node.now.classes.now node.now.limits result }
 {
-    let out = ways(node.classes, &node.limits, at.set, node.task.batches);
+    let out = ways(
+        node.classes,
+        &node.limits,
+        at.set.members,
+        node.task.batches,
+    );
     best_step(node, live, at, &out)
 }
 
@@ -119,8 +125,8 @@ fn step_to(node: &Node<'_>, live: &LiveWays, choice: Choice) -> Climb
     requires { IsAdmitted node.now.classes.now node.now.limits (slice_index choice.early) }
     ensures { IsClimb node.now.classes.now node.now.limits result }
 {
-    let set = reached(node.classes, &choice, node.task.batches);
-    if !lies_outside(node.classes, &choice, set) {
+    let set = reached_set(node, &choice);
+    if !lies_outside(node.classes, &choice, set.members) {
         return Climb::Joined(choice);
     }
     let cost = cost_of(node, live, set);
@@ -132,8 +138,8 @@ pub(crate) fn climbed_choice(node: &Node<'_>, choice: Choice) -> Choice
     requires { IsAdmitted node.now.classes.now node.now.limits (slice_index choice.early) }
     ensures { IsAdmitted node.now.classes.now node.now.limits (slice_index result.early) }
 {
-    let set = reached(node.classes, &choice, node.task.batches);
-    if !lies_outside(node.classes, &choice, set) {
+    let set = reached_set(node, &choice);
+    if !lies_outside(node.classes, &choice, set.members) {
         return choice;
     }
     let live = live_ways(node.classes, &node.limits, &choice, node.task.batches);

@@ -5,6 +5,7 @@ ghost use Rattle.pocsag_tour.specs.Reached.{IsApart};
 ghost use Rattle.pocsag_branch.specs.Examined.{IsForm};
 ghost use Rattle.pocsag_branch.specs.FreeNode.{IsHalt, IsUndecidedWay};
 
+use crate::boundaries::BoundarySet;
 use crate::halt::Halt;
 use crate::node::Node;
 use crate::promised_forms::{form_at, why_no_tour};
@@ -40,9 +41,9 @@ fn free_form_for(alloc: Global, node: &Node<'_>, choice: &Choice) -> Result<Form
 
 // A split at an open way across the set that is reached, or across a thinner one in the first try; where
 // none is open, a cut; and where no class is certain, the split of the promised shape.
-fn free_form_at(node: &Node<'_>, choice: &Choice, set: u16) -> Form
+fn free_form_at(node: &Node<'_>, choice: &Choice, set: BoundarySet) -> Form
     requires admitted { IsAdmitted node.now.classes.now node.now.limits (slice_index choice.now.early) }
-    requires apart { IsApart node.now.classes.now (slice_index choice.now.early) node.now.task.batches set }
+    requires apart { IsApart node.now.classes.now (slice_index choice.now.early) node.now.task.batches set.members }
     ensures { IsForm node.now.classes.now node.now.task node.now.limits result }
 {
     if !node.task.second {
@@ -69,10 +70,10 @@ fn split_first(node: &Node<'_>, form: Form) -> Form
 }
 
 // The split at the first run way across the set that is open, in the second try at the last one.
-fn undecided_run(node: &Node<'_>, set: u16) -> Option<Form>
+fn undecided_run(node: &Node<'_>, set: BoundarySet) -> Option<Form>
     ensures { IfSome result (IsForm node.now.classes.now node.now.task node.now.limits) }
 {
-    let out = ways(node.classes, &node.limits, set, node.task.batches);
+    let out = ways(node.classes, &node.limits, set.members, node.task.batches);
     undecided_among(node, &out)
 }
 

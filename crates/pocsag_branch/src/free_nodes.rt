@@ -1,5 +1,4 @@
 ghost use Rattle.std.specs.Prelude.{false, ◌+◌, ◌<◌, ◌≤◌, ◌↔◌, ◌^◌, All, IsTrue, IfErr, IfOk};
-ghost use Rattle.pocsag_slots.specs.Sums.{holds};
 ghost use Rattle.pocsag_slots.specs.Ways.{class_certain, MayTake, ways_across, ways_to_close};
 ghost use Rattle.pocsag_tree.specs.Views.{bound_of};
 ghost use Rattle.pocsag_tree.specs.Limits.{greatest_depth};
@@ -7,6 +6,7 @@ ghost use Rattle.pocsag_check.specs.Accepting.{AcceptsWithin, IsClosed};
 ghost use Rattle.pocsag_branch.specs.FreeNode.{AreChildren, IsFreeNode, IsHalt};
 ghost use Rattle.pocsag_branch.specs.Undecided.{Falls, IsSplitPoint};
 
+use crate::boundaries::BoundarySet;
 use crate::child::{child_limits, limits_over, limits_under, ways_out, ways_to_end};
 use crate::free_forms::free_form;
 use crate::halt::{Children, Halt};
@@ -50,16 +50,14 @@ pub(crate) fn free_node(alloc: Global, node: &Node<'_>, examined: u32) -> Result
 fn free_cut(
     alloc: Global,
     node: &Node<'_>,
-    set: u16,
+    set: BoundarySet,
     needed: Class,
     examined: u32,
 ) -> Result<(Tree, u32), Halt>
     requires examined { examined < node.now.task.limit }
-    requires zero { IsTrue (holds set 0) }
-    requires certain { IsTrue (class_certain node.now.classes.now node.now.limits set needed.number) }
-    requires small { set < 2 ^ 16 }
+    requires certain { IsTrue (class_certain node.now.classes.now node.now.limits set.members needed.number) }
     requires fall { All (Falls node.now.classes.now node.now.task.batches node.now.limits)
-        (ways_across node.now.classes.now node.now.limits set) }
+        (ways_across node.now.classes.now node.now.limits set.members) }
     ensures node { IfOk result
         (λ x. IsFreeNode node.now.classes.now node.now.task node.now.limits examined x.1 (bound_of x.0)) }
     ensures halt { IfErr result (IsHalt node.now.classes.now node.now.task) }
@@ -69,7 +67,7 @@ fn free_cut(
     match children {
         Children::Whole(children) => Ok((
             Tree::Cut {
-                set,
+                set: set.members,
                 needed: needed.number,
                 children,
             },

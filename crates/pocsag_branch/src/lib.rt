@@ -3,6 +3,7 @@
 //! suffice. What it answers, the checker accepts.
 
 mod answer;
+mod boundaries;
 mod child;
 mod climb;
 mod fault;

@@ -5,13 +5,14 @@ ghost use Rattle.pocsag_tour.specs.Reached.{IsApart};
 ghost use Rattle.pocsag_branch.specs.Examined.{IsForm, IsStop, IsNoTour, StandsAs};
 ghost use Rattle.pocsag_branch.specs.Shape.{NoneCertain};
 
+use crate::boundaries::BoundarySet;
 use crate::child::certain_class;
 use crate::climb::climbed_choice;
 use crate::node::Node;
 use crate::task::{Answer, Form, NoTour, Stop};
 use pocsag_flow::{ChooseFault, choose};
 use pocsag_slots::{CLASSES, Choice, Class, Step};
-use pocsag_tour::{TourFault, has_run_outside, lies_outside, reached, tour};
+use pocsag_tour::{TourFault, has_run_outside, tour};
 use std::alloc::Global;
 
 // Which node is to be made under the limits. This is the one place where the search has a choice.
@@ -49,10 +50,6 @@ pub(crate) fn why_no_tour(alloc: Global, node: &Node<'_>, choice: &Choice) -> Re
         (IsNoTour node.now.classes.now node.now.task node.now.limits (slice_index choice.now.early)) }
     ensures stop { IfErr result (IsStop node.now.classes.now node.now.task) }
 {
-    let set = reached(node.classes, choice, node.task.batches);
-    if lies_outside(node.classes, choice, set) {
-        return Ok(NoTour::Apart(set));
-    }
     match tour(
         alloc,
         node.classes,
@@ -61,7 +58,7 @@ pub(crate) fn why_no_tour(alloc: Global, node: &Node<'_>, choice: &Choice) -> Re
         node.task.end,
     ) {
         Ok(steps) => Err(stop_with_tour(alloc, node, choice, steps)),
-        Err(TourFault::Apart(apart)) => Ok(NoTour::Apart(apart)),
+        Err(TourFault::Apart(members)) => Ok(NoTour::Apart(BoundarySet { members })),
         Err(TourFault::Unclosed) => Ok(NoTour::Unclosed),
         Err(TourFault::OutOfMemory) => Err(Stop::OutOfMemory),
     }
@@ -86,9 +83,9 @@ fn stop_with_tour(alloc: Global, node: &Node<'_>, choice: &Choice, steps: Vec<St
 }
 
 // A cut at the set that the choice reaches, where a class is certain for it, and else a split.
-pub(crate) fn form_at(node: &Node<'_>, choice: &Choice, set: u16) -> Form
+pub(crate) fn form_at(node: &Node<'_>, choice: &Choice, set: BoundarySet) -> Form
     requires admitted { IsAdmitted node.now.classes.now node.now.limits (slice_index choice.now.early) }
-    requires apart { IsApart node.now.classes.now (slice_index choice.now.early) node.now.task.batches set }
+    requires apart { IsApart node.now.classes.now (slice_index choice.now.early) node.now.task.batches set.members }
     ensures form { IsForm node.now.classes.now node.now.task node.now.limits result }
     ensures shape { StandsAs node.now.classes.now node.now.task.batches node.now.limits result }
 {
@@ -99,21 +96,21 @@ pub(crate) fn form_at(node: &Node<'_>, choice: &Choice, set: u16) -> Form
 }
 
 // The split of the first class with a run outside the set: at 1 where it is an early run.
-fn split_point(node: &Node<'_>, choice: &Choice, set: u16) -> Form
+fn split_point(node: &Node<'_>, choice: &Choice, set: BoundarySet) -> Form
     requires admitted { IsAdmitted node.now.classes.now node.now.limits (slice_index choice.now.early) }
-    requires apart { IsApart node.now.classes.now (slice_index choice.now.early) node.now.task.batches set }
-    requires uncertain { NoneCertain node.now.classes.now node.now.limits set }
+    requires apart { IsApart node.now.classes.now (slice_index choice.now.early) node.now.task.batches set.members }
+    requires uncertain { NoneCertain node.now.classes.now node.now.limits set.members }
     ensures form { IsForm node.now.classes.now node.now.task node.now.limits result }
     ensures shape { StandsAs node.now.classes.now node.now.task.batches node.now.limits result }
 {
     for class in 0..CLASSES as u8 {
-        if has_run_outside(node.classes, choice, set, class, true) {
+        if has_run_outside(node.classes, choice, set.members, class, true) {
             return Form::Split {
                 class: Class { number: class },
                 m: 1,
             };
         }
-        if has_run_outside(node.classes, choice, set, class, false) {
+        if has_run_outside(node.classes, choice, set.members, class, false) {
             return Form::Split {
                 class: Class { number: class },
                 m: node.classes.count[class as usize] as u16,

@@ -1,5 +1,4 @@
 ghost use Rattle.std.specs.Prelude.{◌+◌, ◌<◌, ◌≤◌, ◌^◌, All, IsTrue, IfErr, IfOk};
-ghost use Rattle.pocsag_slots.specs.Sums.{holds};
 ghost use Rattle.pocsag_slots.specs.Ways.{class_certain, MayTake, ways_across, ways_to_close};
 ghost use Rattle.pocsag_tree.specs.Views.{bound_of, bounds_of};
 ghost use Rattle.pocsag_check.specs.Accepting.{IsClosed};
@@ -7,6 +6,7 @@ ghost use Rattle.pocsag_branch.specs.Examined.{AreExamined, IsExamined, IsForm, 
 ghost use Rattle.pocsag_branch.specs.Shape.{AdmitApart, AdmitSplit, AdmitUnclosed};
 ghost use Rattle.pocsag_branch.specs.Undecided.{Falls, IsSplitPoint};
 
+use crate::boundaries::BoundarySet;
 use crate::child::{child_limits, limits_over, limits_under, ways_out, ways_to_end};
 use crate::node::Node;
 use crate::promised_forms::promised_form;
@@ -58,17 +58,15 @@ pub(crate) fn node_of_form(
 fn cut_node(
     alloc: Global,
     node: &Node<'_>,
-    set: u16,
+    set: BoundarySet,
     needed: Class,
     made: u32,
 ) -> Result<(Tree, u32), Stop>
     requires made { made < node.now.task.limit }
-    requires zero { IsTrue (holds set 0) }
-    requires certain { IsTrue (class_certain node.now.classes.now node.now.limits set needed.number) }
-    requires small { set < 2 ^ 16 }
+    requires certain { IsTrue (class_certain node.now.classes.now node.now.limits set.members needed.number) }
     requires fall { All (Falls node.now.classes.now node.now.task.batches node.now.limits)
-        (ways_across node.now.classes.now node.now.limits set) }
-    requires shape { AdmitApart node.now.classes.now node.now.task.batches node.now.limits set }
+        (ways_across node.now.classes.now node.now.limits set.members) }
+    requires shape { AdmitApart node.now.classes.now node.now.task.batches node.now.limits set.members }
     ensures node { IfOk result
         (λ x. IsExamined node.now.classes.now node.now.task node.now.limits made x.1 (bound_of x.0)) }
     ensures stop { IfErr result (IsStop node.now.classes.now node.now.task) }
@@ -77,7 +75,7 @@ fn cut_node(
     let (children, after) = child_nodes(alloc, node, &out, made + 1)?;
     Ok((
         Tree::Cut {
-            set,
+            set: set.members,
             needed: needed.number,
             children,
         },

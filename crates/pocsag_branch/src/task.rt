@@ -2,6 +2,7 @@ ghost use Rattle.std.specs.Prelude.{◌≡◌, ◌<◌};
 ghost use Rattle.pocsag_branch.specs.Found.{IsNodeLimit};
 ghost use Rattle.pocsag_branch.specs.declared.task.Stop.TheVariants.{OutOfMemory};
 
+use crate::boundaries::BoundarySet;
 use pocsag_slots::{Choice, Class, Step};
 use pocsag_words::End;
 use std::alloc::AllocFailed;
@@ -45,7 +46,7 @@ impl<T: Drop> From<AllocFailed<T>> for Stop {
 #[derive(Clone, Copy)]
 pub(crate) enum Form {
     Overload(u16),
-    Cut { set: u16, needed: Class },
+    Cut { set: BoundarySet, needed: Class },
     Split { class: Class, m: u16 },
     Close,
 }
@@ -54,6 +55,6 @@ pub(crate) enum Form {
 // cannot be closed.
 #[derive(Clone, Copy)]
 pub(crate) enum NoTour {
-    Apart(u16),
+    Apart(BoundarySet),
     Unclosed,
 }

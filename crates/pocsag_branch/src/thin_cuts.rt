@@ -5,6 +5,7 @@ ghost use Rattle.pocsag_branch.specs.Examined.{IsForm};
 ghost use Rattle.pocsag_branch.specs.FreeNode.{IsUndecidedWay};
 ghost use Rattle.pocsag_branch.specs.Undecided.{Falls};
 
+use crate::boundaries::BoundarySet;
 use crate::child::certain_class;
 use crate::node::Node;
 use crate::task::Form;
@@ -86,28 +87,31 @@ fn ways_between(node: &Node<'_>) -> [u32; 256] {
 // A set that grows: for each boundary the ways from there into the set, and the ways across it.
 #[derive(Clone, Copy)]
 struct GrowingSet {
-    set: u16,
+    set: BoundarySet,
     into: [u32; 16],
     across: u32,
     ghost long: { length into ≡ 16 },
-    ghost zero: { holds set 0 ≡ true },
 }
 
 // The set with the boundary more.
 fn set_with(between: &[u32; 256], growing: GrowingSet, boundary: u8) -> GrowingSet
     requires { boundary < 16 }
 {
-    let set = with_member(growing.set, boundary);
+    let members = with_member(growing.set.members, boundary);
     let mut into = growing.into;
     let mut across = growing.across.saturating_sub(into[boundary as usize]);
     for other in 0..SLOTS as u8 {
         let more = between[usize::from(boundary) * SLOTS + usize::from(other)];
         into[other as usize] = into[other as usize].saturating_add(more);
-        if !holds(set, other) {
+        if !holds(members, other) {
             across = across.saturating_add(more);
         }
     }
-    GrowingSet { set, into, across }
+    GrowingSet {
+        set: BoundarySet { members },
+        into,
+        across,
+    }
 }
 
 // The boundary outside the set with the most ways into it, the first of these.
@@ -118,7 +122,7 @@ fn nearest(growing: &GrowingSet) -> Option<u8>
     let mut most = 0;
     for boundary in 0..SLOTS as u8 {
         let into = growing.into[boundary as usize];
-        if !holds(growing.set, boundary) && (best.is_none() || into > most) {
+        if !holds(growing.set.members, boundary) && (best.is_none() || into > most) {
             best = Some(boundary);
             most = into;
         }
@@ -127,12 +131,11 @@ fn nearest(growing: &GrowingSet) -> Option<u8>
 }
 
 // A cut at the set, where a class is certain for it and all ways across are open.
-fn cut_at(node: &Node<'_>, set: u16) -> Option<Form>
-    requires { holds set 0 ≡ true }
+fn cut_at(node: &Node<'_>, set: BoundarySet) -> Option<Form>
     ensures { IfSome result (IsForm node.now.classes.now node.now.task node.now.limits) }
 {
     let needed = certain_class(node, set)?;
-    let out = ways(node.classes, &node.limits, set, node.task.batches);
+    let out = ways(node.classes, &node.limits, set.members, node.task.batches);
     if are_undecided(node, &out) {
         Some(Form::Cut { set, needed })
     } else {
@@ -141,23 +144,31 @@ fn cut_at(node: &Node<'_>, set: u16) -> Option<Form>
 }
 
 // How many ways lead across the set that is reached, or many where no class must leave it.
-fn ways_across_reached(node: &Node<'_>, reached: u16) -> u32 {
+fn ways_across_reached(node: &Node<'_>, reached: BoundarySet) -> u32 {
     match certain_class(node, reached) {
-        Some(_) => ways(node.classes, &node.limits, reached, node.task.batches).len() as u32,
+        Some(_) => ways(
+            node.classes,
+            &node.limits,
+            reached.members,
+            node.task.batches,
+        )
+        .len() as u32,
         None => DECIDED,
     }
 }
 
 // A cut at a set with fewer ways across than the set that is reached, if one is found. Sets grow from
 // boundary 0 by the boundary with the most ways into them.
-pub(crate) fn thin_cut(node: &Node<'_>, reached: u16) -> Option<Form>
+pub(crate) fn thin_cut(node: &Node<'_>, reached: BoundarySet) -> Option<Form>
     ensures { IfSome result (IsForm node.now.classes.now node.now.task node.now.limits) }
 {
     let between = ways_between(node);
     let mut least = ways_across_reached(node, reached);
     let mut best = None;
     let begun = GrowingSet {
-        set: with_member(0, 0),
+        set: BoundarySet {
+            members: with_member(0, 0),
+        },
         into: [0; SLOTS],
         across: 0,
     };

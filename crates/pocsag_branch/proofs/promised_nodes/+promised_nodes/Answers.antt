@@ -12,8 +12,8 @@ close_node-returns-clause-node t c =
 pub cut_node-returns-clause-node : goal.cut_node-returns-clause-node
 cut_node-returns-clause-node t c =
     cut_made c.args.node.now.classes.now c.args.node.now.task c.args.node.now.limits c.args.made c.in_ok-children.after
-    c.args.set c.args.needed.number c.deref.result.now c.in_ok-children.children c.args.needed.known c.requires.zero c.requires.certain
-    c.requires.small c.requires.shape (c.deref.ensures.0 ∙ c.ways_out-out.ensures.items) c.in_ok-children.ensures.node
+    c.args.set.members c.args.needed.number c.deref.result.now c.in_ok-children.children c.args.needed.known c.args.set.zero c.requires.certain
+    (omega arith) c.requires.shape (c.deref.ensures.0 ∙ c.ways_out-out.ensures.items) c.in_ok-children.ensures.node
 
 pub child_nodes-loop-way-preserved : goal.child_nodes-loop-way-preserved
 child_nodes-loop-way-preserved t c =
