@@ -4,7 +4,7 @@ ghost use Rattle.pocsag_batch.specs.Placing.{HavePlaces, IsOrder};
 
 use crate::queue::Queues;
 use pocsag_pages::Round;
-use pocsag_slots::Step;
+use pocsag_slots::{Class, Step};
 use pocsag_words::{End, OutOfMemory};
 use std::alloc::Global;
 
@@ -27,7 +27,7 @@ pub fn order_of(
         let Step::Run { class, .. } = *step else {
             continue;
         };
-        order.push(queues.take(class))?;
+        order.push(queues.take(Class { number: class }))?;
     }
     Ok(order)
 }

@@ -4,7 +4,7 @@ ghost use Rattle.pocsag_batch.specs.Chains.{AreChains};
 ghost use Rattle.pocsag_batch.specs.Placing.{all_places};
 
 use pocsag_pages::Page;
-use pocsag_slots::{CLASSES, class_of};
+use pocsag_slots::{CLASSES, Class, class_of};
 use pocsag_words::{End, OutOfMemory};
 use std::alloc::Global;
 use std::marker::Model;
@@ -38,7 +38,7 @@ impl Queues {
         let mut place = pages.len();
         while place > 0 {
             place -= 1;
-            let class = class_of(&pages[place], end) as usize;
+            let class = class_of(&pages[place], end).number as usize;
             next[place] = head[class];
             head[class] = place as u32;
         }
@@ -46,16 +46,15 @@ impl Queues {
     }
 
     // Takes the first place of the class.
-    pub(crate) fn take(&mut self, class: u8) -> u32
-        requires class { class < 136 }
+    pub(crate) fn take(&mut self, class: Class) -> u32
         requires long { length self.old.head ≡ 136 }
-        requires some { slice_index self.old.head class < length self.old.next }
-        ensures place { result ≡ slice_index self.old.head class }
+        requires some { slice_index self.old.head class.number < length self.old.next }
+        ensures place { result ≡ slice_index self.old.head class.number }
         ensures next { self.new.next ≡ self.old.next }
-        ensures head { self.new.head ≡ slice_set self.old.head class (slice_index self.old.next result) }
+        ensures head { self.new.head ≡ slice_set self.old.head class.number (slice_index self.old.next result) }
     {
-        let place = self.head[class as usize];
-        self.head[class as usize] = self.next[place as usize];
+        let place = self.head[class.number as usize];
+        self.head[class.number as usize] = self.next[place as usize];
         place
     }
 }

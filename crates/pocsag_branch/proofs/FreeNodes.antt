@@ -14,26 +14,26 @@ use Rattle.pocsag_tree.specs.Bounds.{Bound, Bounds, split, none, more, closed_no
 use Rattle.pocsag_tree.specs.Views.{bound_of, bounds_of}
 use Rattle.pocsag_tree.proofs.Counts.{bound_of-cut, bound_of-close, bound_of-split}
 use Rattle.pocsag_check.specs.Accepting.{AcceptsWithin, IsClosed}
-use Rattle.pocsag_branch.specs.declared.question.Question.{Question}
-use Rattle.pocsag_branch.specs.Freed.{AreFreed, IsFreed, IsOpen}
+use Rattle.pocsag_branch.specs.declared.task.Task.{Task}
+use Rattle.pocsag_branch.specs.FreeNode.{AreFreeNodes, IsFreeNode, IsUndecidedWay}
 use Rattle.pocsag_branch.specs.Undecided.{AreNodeLimits, Falls, IsSplitPoint, undecided}
 use Rattle.pocsag_branch.proofs.Falling.{early_falls, idle_falls, late_falls}
 use Rattle.pocsag_branch.proofs.Joining.{bounds_of-push, close_refuted, cut_refuted, refuted_more, split_refuted, with_last}
 
--- a way that is open settles a question
-pub open_falls : (k : Classes) (b : ℕ) (l : Limits) (w : Way) → 0 < b → AreNodeLimits k b l → MayTake k l w → IsOpen k b l w → Falls k b l w
-open_falls k b l (IdleIn slot) some limits may free = idle_falls k b l limits slot some may free
-open_falls k b l (Early c) some limits may free = early_falls k b l limits c may.0 free may.1
-open_falls k b l (Late c) some limits may free = late_falls k b l limits c may.0 free may.1
+-- a way that is undecided settles a question
+pub undecided_falls : (k : Classes) (b : ℕ) (l : Limits) (w : Way) → 0 < b → AreNodeLimits k b l → MayTake k l w → IsUndecidedWay k b l w → Falls k b l w
+undecided_falls k b l (IdleIn slot) some limits may free = idle_falls k b l limits slot some may free
+undecided_falls k b l (Early c) some limits may free = early_falls k b l limits c may.0 free may.1
+undecided_falls k b l (Late c) some limits may free = late_falls k b l limits c may.0 free may.1
 
 closed_nodes_in-last : (ts : Bounds) (t : Bound) → closed_nodes_in (with_last ts t) ≡ closed_nodes_in ts + closed_nodes t
 closed_nodes_in-last none t = omega arith
 closed_nodes_in-last (more s ts) t = omega (arith, closed_nodes_in-last ts t)
 
-freed_more : (k : Classes) (q : Question) (l : Limits) (made between after : ℕ) (ws : List Way) (ts : Bounds) (w : Way) (t : Bound) →
-    AreFreed k q l made between ws ts → IsFreed k q (narrowed_limits k l w q.batches) between after t →
+freed_more : (k : Classes) (q : Task) (l : Limits) (made between after : ℕ) (ws : List Way) (ts : Bounds) (w : Way) (t : Bound) →
+    AreFreeNodes k q l made between ws ts → IsFreeNode k q (narrowed_limits k l w q.batches) between after t →
     undecided k q.batches (narrowed_limits k l w q.batches) < undecided k q.batches l →
-    AreFreed k q l made after (ws ++ w ∷ []) (with_last ts t)
+    AreFreeNodes k q l made after (ws ++ w ∷ []) (with_last ts t)
 freed_more k q l made between after ws ts w t a h falls =
     record {
       refuted = refuted_more false k q.end q.batches l ws ts w t a.refuted h.refuted falls;
@@ -42,13 +42,13 @@ freed_more k q l made between after ws ts w t a h falls =
     }
 
 -- the loop over the ways
-pub free_row_goes_on : (k : Classes) (q : Question) (l : Limits) (made between after i : ℕ) (ws : List Way) (ts : List Tree) (d : Way)
+pub free_row_goes_on : (k : Classes) (q : Task) (l : Limits) (made between after i : ℕ) (ws : List Way) (ts : List Tree) (d : Way)
     (t : Tree)
     (pushed : List Tree) (narrowed : Limits) → i < length ws → narrowed ≡ narrowed_limits k l (get_or ws i d) q.batches →
     pushed ≡ ts ++ t ∷ [] →
-    AreFreed k q l made between (take i ws) (bounds_of ts) →
-    IsFreed k q narrowed between after (bound_of t) → undecided k q.batches narrowed < undecided k q.batches l →
-    AreFreed k q l made after (take (i + 1) ws) (bounds_of pushed)
+    AreFreeNodes k q l made between (take i ws) (bounds_of ts) →
+    IsFreeNode k q narrowed between after (bound_of t) → undecided k q.batches narrowed < undecided k q.batches l →
+    AreFreeNodes k q l made after (take (i + 1) ws) (bounds_of pushed)
 free_row_goes_on k q l made between after i ws ts d t pushed narrowed h same push a one falls =
     let w : Way = get_or ws i d in
     let ways : take (i + 1) ws ≡ take i ws ++ w ∷ [] = take_more ws i d h in
@@ -59,10 +59,10 @@ free_row_goes_on k q l made between after i ws ts d t pushed narrowed h same pus
     (rw same at falls)))
 
 -- a child that the checker accepts for the parent stands for it
-pub kept : (k : Classes) (q : Question) (l narrowed : Limits) (made between after deep : ℕ) (t : Bound) → made ≤ between →
-    IsFreed k q narrowed between after t → undecided k q.batches narrowed < undecided k q.batches l →
+pub kept : (k : Classes) (q : Task) (l narrowed : Limits) (made between after deep : ℕ) (t : Bound) → made ≤ between →
+    IsFreeNode k q narrowed between after t → undecided k q.batches narrowed < undecided k q.batches l →
     AcceptsWithin false k q.end q.batches l deep t →
-    IsFreed k q l made after t
+    IsFreeNode k q l made after t
 kept k q l narrowed made between after deep t later h falls a =
     record {
       refuted = record { accepted = a.1; deep = omega (arith, h.refuted.deep) };
@@ -70,22 +70,22 @@ kept k q l narrowed made between after deep t later h falls a =
       within = h.within;
     }
 
-pub kept_in_row : (k : Classes) (q : Question) (l narrowed : Limits) (made between after deep : ℕ) (ws : List Way) (ts : Bounds)
-    (t : Bound) → AreFreed k q l made between ws ts →
-    IsFreed k q narrowed between after t → undecided k q.batches narrowed < undecided k q.batches l →
-    AcceptsWithin false k q.end q.batches l deep t → IsFreed k q l made after t
+pub kept_in_row : (k : Classes) (q : Task) (l narrowed : Limits) (made between after deep : ℕ) (ws : List Way) (ts : Bounds)
+    (t : Bound) → AreFreeNodes k q l made between ws ts →
+    IsFreeNode k q narrowed between after t → undecided k q.batches narrowed < undecided k q.batches l →
+    AcceptsWithin false k q.end q.batches l deep t → IsFreeNode k q l made after t
 kept_in_row k q l narrowed made between after deep ws ts t row h falls a =
     kept k q l narrowed made between after deep t (omega (arith, row.few)) h falls a
 
-pub freed_before : (k : Classes) (q : Question) (l : Limits) (made after : ℕ) (t : Bound) → IsFreed k q l (made + 1) after t →
-    IsFreed k q l made after t
+pub freed_before : (k : Classes) (q : Task) (l : Limits) (made after : ℕ) (t : Bound) → IsFreeNode k q l (made + 1) after t →
+    IsFreeNode k q l made after t
 freed_before k q l made after t h = record { refuted = h.refuted; few = omega (arith, h.few); within = h.within }
 
-pub cut_freed : (k : Classes) (q : Question) (l : Limits) (made after set c : ℕ) (ws : List Way) (children : Vec Tree) → c < 136 →
+pub cut_freed : (k : Classes) (q : Task) (l : Limits) (made after set c : ℕ) (ws : List Way) (children : Vec Tree) → c < 136 →
     IsTrue (holds set 0) → IsTrue (class_certain k l set c) → set < 2 ^ 16 → ws ≡ ways_across k l set →
-    AreFreed k q l (made + 1) after ws (bounds_of children.items) → IsFreed k q l made after (bound_of (Cut set c children))
+    AreFreeNodes k q l (made + 1) after ws (bounds_of children.items) → IsFreeNode k q l made after (bound_of (Cut set c children))
 cut_freed k q l made after set c ws children known zero certain small all a =
-    let rest : AreFreed k q l (made + 1) after (ways_across k l set) (bounds_of children.items) =
+    let rest : AreFreeNodes k q l (made + 1) after (ways_across k l set) (bounds_of children.items) =
     rw all at a in
     rw (bound_of-cut (Cut set c children) set c children refl) (record {
       refuted = cut_refuted false k q.end q.batches l set c (bounds_of children.items) q.some known zero certain small rest.refuted;
@@ -93,11 +93,11 @@ cut_freed k q l made after set c ws children known zero certain small all a =
       within = rest.within;
     })
 
-pub close_freed : (k : Classes) (q : Question) (l : Limits) (made after : ℕ) (ws : List Way) (children : Vec Tree) → IsClosed q.end →
+pub close_freed : (k : Classes) (q : Task) (l : Limits) (made after : ℕ) (ws : List Way) (children : Vec Tree) → IsClosed q.end →
     ws ≡ ways_to_close k l →
-    AreFreed k q l (made + 1) after ws (bounds_of children.items) → IsFreed k q l made after (bound_of (Close children))
+    AreFreeNodes k q l (made + 1) after ws (bounds_of children.items) → IsFreeNode k q l made after (bound_of (Close children))
 close_freed k q l made after ws children closed all a =
-    let rest : AreFreed k q l (made + 1) after (ways_to_close k l) (bounds_of children.items) =
+    let rest : AreFreeNodes k q l (made + 1) after (ways_to_close k l) (bounds_of children.items) =
     rw all at a in
     rw (bound_of-close (Close children) children refl) (record {
       refuted = close_refuted false k q.end q.batches l (bounds_of children.items) q.some closed rest.refuted;
@@ -105,19 +105,19 @@ close_freed k q l made after ws children closed all a =
       within = rest.within;
     })
 
-pub split_freed : (k : Classes) (q : Question) (l : Limits) (made between after c m : ℕ) (under over : Limits) (s t : Tree)
+pub split_freed : (k : Classes) (q : Task) (l : Limits) (made between after c m : ℕ) (under over : Limits) (s t : Tree)
     (below above : Box Tree) →
     below.value ≡ s → above.value ≡ t → IsSplitPoint k q.batches l c m → under ≡ limits_below l c m → over ≡ limits_from l c m →
-    IsFreed k q under (made + 1) between (bound_of s) → IsFreed k q over between after (bound_of t) →
-    IsFreed k q l made after (bound_of (Split c m below above))
+    IsFreeNode k q under (made + 1) between (bound_of s) → IsFreeNode k q over between after (bound_of t) →
+    IsFreeNode k q l made after (bound_of (Split c m below above))
 split_freed k q l made between after c m under over s t below above low_is high_is point low high first second =
     let seen : bound_of (Split c m below above) ≡ split c m (bound_of s) (bound_of t) =
     bound_of-split (Split c m below above) c m below above refl
     ∙ ap (λ (x : Tree). split c m (bound_of x) (bound_of above.value)) low_is
     ∙ ap (λ (x : Tree). split c m (bound_of s) (bound_of x)) high_is in
-    let lower : IsFreed k q (limits_below l c m) (made + 1) between (bound_of s) =
+    let lower : IsFreeNode k q (limits_below l c m) (made + 1) between (bound_of s) =
     rw low at first in
-    let upper : IsFreed k q (limits_from l c m) between after (bound_of t) =
+    let upper : IsFreeNode k q (limits_from l c m) between after (bound_of t) =
     rw high at second in
     rw seen (record {
       refuted = split_refuted false k q.end q.batches l c m (bound_of s) (bound_of t) point lower.refuted upper.refuted;

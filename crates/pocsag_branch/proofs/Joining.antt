@@ -14,7 +14,7 @@ use Rattle.pocsag_tree.specs.Bounds.{Bound, Bounds, cut, close, split, none, mor
 use Rattle.pocsag_tree.specs.Views.{bound_of, bounds_of}
 use Rattle.pocsag_tree.proofs.Counts.{bound_of-cut, bound_of-close, bound_of-split}
 use Rattle.pocsag_check.specs.Accepting.{Accepts, AcceptsEach, IsClosed}
-use Rattle.pocsag_branch.specs.declared.question.Question.{Question}
+use Rattle.pocsag_branch.specs.declared.task.Task.{Task}
 use Rattle.pocsag_branch.specs.Examined.{AreExamined, AreRefuted, IsExamined, IsRefuted}
 use Rattle.pocsag_branch.specs.Marks.{opens, opens_in}
 use Rattle.pocsag_branch.specs.Shape.{AdmitApart, AdmitSplit, AdmitUnclosed, AreShaped, IsShaped}
@@ -63,7 +63,7 @@ refuted_more u k end b l ws ts w t a h falls =
       deep = deepest-last ts t (undecided k b l) a.deep (omega (arith, h.deep));
     }
 
-pub examined_more : (k : Classes) (q : Question) (l : Limits) (made between after : ℕ) (ws : List Way) (ts : Bounds) (w : Way) (t : Bound) →
+pub examined_more : (k : Classes) (q : Task) (l : Limits) (made between after : ℕ) (ws : List Way) (ts : Bounds) (w : Way) (t : Bound) →
     AreExamined k q l made between ws ts → IsExamined k q (narrowed_limits k l w q.batches) between after t →
     undecided k q.batches (narrowed_limits k l w q.batches) < undecided k q.batches l →
     AreExamined k q l made after (ws ++ w ∷ []) (with_last ts t)
@@ -75,7 +75,7 @@ examined_more k q l made between after ws ts w t a h falls =
     }
 
 -- the loop over the ways
-pub row_goes_on : (k : Classes) (q : Question) (l : Limits) (made between after i : ℕ) (ws : List Way) (ts : List Tree) (d : Way) (t : Tree)
+pub row_goes_on : (k : Classes) (q : Task) (l : Limits) (made between after i : ℕ) (ws : List Way) (ts : List Tree) (d : Way) (t : Tree)
     (pushed : List Tree) (narrowed : Limits) → i < length ws → narrowed ≡ narrowed_limits k l (get_or ws i d) q.batches →
     pushed ≡ ts ++ t ∷ [] →
     AreExamined k q l made between (take i ws) (bounds_of ts) →
@@ -110,7 +110,7 @@ split_refuted u k end b l c m s t point below above =
       deep = omega (arith, below.deep, above.deep, point.below_falls, point.from_falls);
     }
 
-pub cut_examined : (k : Classes) (q : Question) (l : Limits) (made after set c : ℕ) (ws : List Way) (ts : Bounds) → c < 136 →
+pub cut_examined : (k : Classes) (q : Task) (l : Limits) (made after set c : ℕ) (ws : List Way) (ts : Bounds) → c < 136 →
     IsTrue (holds set 0) → IsTrue (class_certain k l set c) → set < 2 ^ 16 → AdmitApart k q.batches l set → ws ≡ ways_across k l set →
     AreExamined k q l (made + 1) after ws ts → IsExamined k q l made after (cut set c ts)
 cut_examined k q l made after set c ws ts known zero certain small apart all a =
@@ -122,7 +122,7 @@ cut_examined k q l made after set c ws ts known zero certain small apart all a =
       fills = fills_node q.limit made after (opens_in ts) rest.fills;
     }
 
-pub close_examined : (k : Classes) (q : Question) (l : Limits) (made after : ℕ) (ws : List Way) (ts : Bounds) → IsClosed q.end →
+pub close_examined : (k : Classes) (q : Task) (l : Limits) (made after : ℕ) (ws : List Way) (ts : Bounds) → IsClosed q.end →
     AdmitUnclosed k q.batches l → ws ≡ ways_to_close k l →
     AreExamined k q l (made + 1) after ws ts → IsExamined k q l made after (close ts)
 close_examined k q l made after ws ts closed unclosed all a =
@@ -134,7 +134,7 @@ close_examined k q l made after ws ts closed unclosed all a =
       fills = fills_node q.limit made after (opens_in ts) rest.fills;
     }
 
-pub split_examined : (k : Classes) (q : Question) (l : Limits) (made between after c m : ℕ) (under over : Limits) (s t : Bound) →
+pub split_examined : (k : Classes) (q : Task) (l : Limits) (made between after c m : ℕ) (under over : Limits) (s t : Bound) →
     IsSplitPoint k q.batches l c m → AdmitSplit k q.batches l c m → under ≡ limits_below l c m → over ≡ limits_from l c m →
     IsExamined k q under (made + 1) between s → IsExamined k q over between after t →
     IsExamined k q l made after (split c m s t)
@@ -150,20 +150,20 @@ split_examined k q l made between after c m under over s t point parts low high 
     }
 
 -- the same of the trees
-pub cut_made : (k : Classes) (q : Question) (l : Limits) (made after set c : ℕ) (ws : List Way) (children : Vec Tree) → c < 136 →
+pub cut_made : (k : Classes) (q : Task) (l : Limits) (made after set c : ℕ) (ws : List Way) (children : Vec Tree) → c < 136 →
     IsTrue (holds set 0) → IsTrue (class_certain k l set c) → set < 2 ^ 16 → AdmitApart k q.batches l set → ws ≡ ways_across k l set →
     AreExamined k q l (made + 1) after ws (bounds_of children.items) → IsExamined k q l made after (bound_of (Cut set c children))
 cut_made k q l made after set c ws children known zero certain small apart all a =
     rw (bound_of-cut (Cut set c children) set c children refl)
     (cut_examined k q l made after set c ws (bounds_of children.items) known zero certain small apart all a)
 
-pub close_made : (k : Classes) (q : Question) (l : Limits) (made after : ℕ) (ws : List Way) (children : Vec Tree) → IsClosed q.end →
+pub close_made : (k : Classes) (q : Task) (l : Limits) (made after : ℕ) (ws : List Way) (children : Vec Tree) → IsClosed q.end →
     AdmitUnclosed k q.batches l → ws ≡ ways_to_close k l →
     AreExamined k q l (made + 1) after ws (bounds_of children.items) → IsExamined k q l made after (bound_of (Close children))
 close_made k q l made after ws children closed unclosed all a =
     rw (bound_of-close (Close children) children refl) (close_examined k q l made after ws (bounds_of children.items) closed unclosed all a)
 
-pub split_made : (k : Classes) (q : Question) (l : Limits) (made between after c m : ℕ) (under over : Limits) (s t : Tree)
+pub split_made : (k : Classes) (q : Task) (l : Limits) (made between after c m : ℕ) (under over : Limits) (s t : Tree)
     (below above : Box Tree) → below.value ≡ s → above.value ≡ t →
     IsSplitPoint k q.batches l c m → AdmitSplit k q.batches l c m → under ≡ limits_below l c m → over ≡ limits_from l c m →
     IsExamined k q under (made + 1) between (bound_of s) → IsExamined k q over between after (bound_of t) →

@@ -27,10 +27,10 @@ use Rattle.pocsag_check.proofs.Bounding.{bounded}
 use Rattle.pocsag_tour.specs.Reached.{IsApart, IsReached, at_start, by_idle, IsUnclosed}
 use Rattle.pocsag_slots.proofs.CoverLemmas.{start_below}
 use Rattle.pocsag_branch.proofs.OpenWays.{closing_ways_fall}
-use Rattle.pocsag_branch.specs.declared.question.Question.{Question}
+use Rattle.pocsag_branch.specs.declared.task.Task.{Task}
 use Rattle.pocsag_branch.specs.Examined.{IsRefuted, IsTreeOf}
 use Rattle.pocsag_branch.specs.Found.{IsBound}
-use Rattle.pocsag_branch.specs.Freed.{IsFreeTree}
+use Rattle.pocsag_branch.specs.FreeNode.{IsFreeTree}
 use Rattle.pocsag_branch.specs.Marks.{has_open, have_open, opens, opens_in}
 use Rattle.pocsag_branch.specs.Shape.{IsOneOverload, RefusesOneLess}
 use Rattle.pocsag_branch.specs.Undecided.{AreNodeLimits, Falls, class_left, slot_left, undecided}
@@ -204,7 +204,7 @@ refuted_accepted u k end b t h =
       root = rw one at h.accepted;
     }
 
-pub tree_whole : (k : Classes) (q : Question) (t : Bound) → IsTreeOf k q t → has_open t ≡ false → IsAccepted false k q.end (q.batches + 1) t
+pub tree_whole : (k : Classes) (q : Task) (t : Bound) → IsTreeOf k q t → has_open t ≡ false → IsAccepted false k q.end (q.batches + 1) t
 tree_whole k q t of whole =
     refuted_accepted false k q.end q.batches t
     (record {
@@ -212,7 +212,7 @@ tree_whole k q t of whole =
       deep = of.examined.refuted.deep;
     })
 
-pub tree_open : (k : Classes) (q : Question) (t : Bound) → IsTreeOf k q t → IsAccepted true k q.end (q.batches + 1) t
+pub tree_open : (k : Classes) (q : Task) (t : Bound) → IsTreeOf k q t → IsAccepted true k q.end (q.batches + 1) t
 tree_open k q t of = refuted_accepted true k q.end q.batches t of.examined.refuted
 
 pub set_refutes : (k : Classes) (end : End) (b set : ℕ) → RefusesOneLess k b set → IsAccepted false k end b (overload set)
@@ -274,7 +274,7 @@ least_tree k end b limit set some refuses =
       one = record { set = set; refuses = refuses; one_node = refl };
     })
 
-pub free_whole : (k : Classes) (q : Question) (t : Bound) → IsFreeTree k q t → IsAccepted false k q.end (q.batches + 1) t
+pub free_whole : (k : Classes) (q : Task) (t : Bound) → IsFreeTree k q t → IsAccepted false k q.end (q.batches + 1) t
 free_whole k q t of = refuted_accepted false k q.end q.batches t of.refuted
 
 -- the choice of a tour is admitted

@@ -3,8 +3,8 @@ use Rattle.std.specs.Prelude.{slice_index}
 use Rattle.pocsag_slots.specs.declared.class.Classes.{Classes}
 use Rattle.pocsag_slots.specs.declared.limit.Limits.{Limits}
 use Rattle.pocsag_slots.specs.Loads.{IsAdmitted}
-use Rattle.pocsag_branch.specs.declared.climbing.Climb.{Climb}
-use Rattle.pocsag_branch.specs.declared.climbing.Climb.TheVariants.{Top, Joined, Higher}
+use Rattle.pocsag_branch.specs.declared.climb.Climb.{Climb}
+use Rattle.pocsag_branch.specs.declared.climb.Climb.TheVariants.{Top, Joined, Higher}
 
 abbrev pub IsClimb : Classes → Limits → Climb → Type 0
 IsClimb k l Top = Unit {0}

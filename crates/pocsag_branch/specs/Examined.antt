@@ -1,25 +1,24 @@
 -- What the search owes node by node.
-use Rattle.std.specs.Prelude.{◌≡◌, ℕ, ◌+◌, ◌^◌, ◌<◌, ◌≤◌, Bool, true, false, IsTrue, List, ◌++◌, All, replicate, slice_index}
+use Rattle.std.specs.Prelude.{◌≡◌, ℕ, ◌+◌, ◌<◌, ◌≤◌, Bool, true, false, IsTrue, List, ◌++◌, All, replicate, slice_index}
 use Rattle.pocsag_words.specs.declared.ending.End.{End}
 use Rattle.pocsag_slots.specs.declared.class.Classes.{Classes}
 use Rattle.pocsag_slots.specs.declared.limit.Limits.{Limits}
 use Rattle.pocsag_slots.specs.declared.way.Way.{Way}
 use Rattle.pocsag_slots.specs.Loads.{IsChoice, Overloads, limits_of_all}
-use Rattle.pocsag_slots.specs.Sums.{holds}
 use Rattle.pocsag_slots.specs.Tours.{IsTour}
 use Rattle.pocsag_slots.specs.Ways.{class_certain, ways_across, ways_to_close}
 use Rattle.pocsag_tree.specs.Bounds.{Bound, Bounds, depth_of, deepest}
 use Rattle.pocsag_tree.specs.Spelling.{IsSet}
 use Rattle.pocsag_check.specs.Accepting.{Accepts, AcceptsEach, IsClosed}
 use Rattle.pocsag_tour.specs.Reached.{IsApart, IsUnclosed}
-use Rattle.pocsag_branch.specs.declared.question.Answer.{Answer}
-use Rattle.pocsag_branch.specs.declared.question.Form.{Form}
-use Rattle.pocsag_branch.specs.declared.question.Form.TheVariants.{Overload, Cut, Split, Close}
-use Rattle.pocsag_branch.specs.declared.question.Question.{Question}
-use Rattle.pocsag_branch.specs.declared.question.Stop.{Stop}
-use Rattle.pocsag_branch.specs.declared.question.Stop.TheVariants.{Met, OutOfMemory}
-use Rattle.pocsag_branch.specs.declared.question.View.{View}
-use Rattle.pocsag_branch.specs.declared.question.View.TheVariants.{Apart, Unclosed}
+use Rattle.pocsag_branch.specs.declared.task.Answer.{Answer}
+use Rattle.pocsag_branch.specs.declared.task.Form.{Form}
+use Rattle.pocsag_branch.specs.declared.task.Form.TheVariants.{Overload, Cut, Split, Close}
+use Rattle.pocsag_branch.specs.declared.task.Task.{Task}
+use Rattle.pocsag_branch.specs.declared.task.Stop.{Stop}
+use Rattle.pocsag_branch.specs.declared.task.Stop.TheVariants.{Met, OutOfMemory}
+use Rattle.pocsag_branch.specs.declared.task.NoTour.{NoTour}
+use Rattle.pocsag_branch.specs.declared.task.NoTour.TheVariants.{Apart, Unclosed}
 use Rattle.pocsag_branch.specs.Marks.{opens, opens_in}
 use Rattle.pocsag_branch.specs.Shape.{AdmitApart, AdmitSplit, AdmitUnclosed, IsShaped, AreShaped}
 use Rattle.pocsag_branch.specs.Undecided.{Falls, IsSplitPoint, undecided}
@@ -34,30 +33,29 @@ pub record IsAnswer (k : Classes) (end : End) (batches : ℕ) (answer : Answer) 
   pub tour : IsTour k end (slice_index answer.choice.early) batches answer.steps.items
 
 -- Why an examination ends before its tree is whole.
-abbrev pub IsStop : Classes → Question → Stop → Type 0
+abbrev pub IsStop : Classes → Task → Stop → Type 0
 IsStop k q (Met answer) = IsAnswer k q.end q.batches answer.value
 IsStop k q OutOfMemory = Unit {0}
 
 -- Why a choice that the limits admit has no tour for the end; the ways to close settle questions then.
-abbrev pub IsView : Classes → Question → Limits → (ℕ → ℕ) → View → Type 0
-IsView k q l choice (Apart set) = IsApart k choice q.batches set × (set < 2 ^ 16)
-IsView k q l choice Unclosed =
+abbrev pub IsNoTour : Classes → Task → Limits → (ℕ → ℕ) → NoTour → Type 0
+IsNoTour k q l choice (Apart set) = IsApart k choice q.batches set.members
+IsNoTour k q l choice Unclosed =
     IsClosed q.end × IsUnclosed k choice q.batches × All (Falls k q.batches l) (ways_to_close k l)
 
 -- The node may be made there, and each of its children settles a question that is open.
-abbrev pub IsForm : Classes → Question → Limits → Form → Type 0
+abbrev pub IsForm : Classes → Task → Limits → Form → Type 0
 IsForm k q l (Overload set) = IsSet set × Overloads k l set
 IsForm k q l (Cut set needed) =
-    (needed < 136) × IsTrue (holds set 0) × IsTrue (class_certain k l set needed) × (set < 2 ^ 16)
-    × All (Falls k q.batches l) (ways_across k l set)
-IsForm k q l (Split c m) = IsSplitPoint k q.batches l c m
+    IsTrue (class_certain k l set.members needed.number) × All (Falls k q.batches l) (ways_across k l set.members)
+IsForm k q l (Split c m) = IsSplitPoint k q.batches l c.number m
 IsForm k q l Close = IsClosed q.end × All (Falls k q.batches l) (ways_to_close k l)
 
 -- The node stands there as *Shape of the search's trees* says.
 abbrev pub StandsAs : Classes → ℕ → Limits → Form → Type 0
 StandsAs k batches l (Overload set) = Unit {0}
-StandsAs k batches l (Cut set needed) = AdmitApart k batches l set
-StandsAs k batches l (Split c m) = AdmitSplit k batches l c m
+StandsAs k batches l (Cut set needed) = AdmitApart k batches l set.members
+StandsAs k batches l (Split c m) = AdmitSplit k batches l c.number m
 StandsAs k batches l Close = AdmitUnclosed k batches l
 
 -- The tree is accepted for the node, and no deeper than its limits leave questions open.
@@ -80,18 +78,18 @@ pub record Fills (limit made after : ℕ) (marks : List Bool) : Type 0 where
   pub whole : 0 < unseen → after ≡ limit
 
 -- What is owed for a node, where so many were made before it and so many after it.
-pub record IsExamined (k : Classes) (q : Question) (l : Limits) (made after : ℕ) (t : Bound) : Type 0 where
+pub record IsExamined (k : Classes) (q : Task) (l : Limits) (made after : ℕ) (t : Bound) : Type 0 where
   pub refuted : IsRefuted true k q.end q.batches l t
   pub shaped : IsShaped k q.batches l t
   pub fills : Fills q.limit made after (opens t)
 
 -- The same for its children.
-pub record AreExamined (k : Classes) (q : Question) (l : Limits) (made after : ℕ) (ws : List Way) (ts : Bounds) : Type 0 where
+pub record AreExamined (k : Classes) (q : Task) (l : Limits) (made after : ℕ) (ws : List Way) (ts : Bounds) : Type 0 where
   pub refuted : AreRefuted true k q.end q.batches l ws ts
   pub shaped : AreShaped k q.batches l ws ts
   pub fills : Fills q.limit made after (opens_in ts)
 
 -- The whole tree of a search from the limits of all choices.
-pub record IsTreeOf (k : Classes) (q : Question) (t : Bound) : Type 0 where
+pub record IsTreeOf (k : Classes) (q : Task) (t : Bound) : Type 0 where
   pub after : ℕ
   pub examined : IsExamined k q (limits_of_all k q.batches) 0 after t

@@ -1,7 +1,7 @@
 pub mod Climbing
 pub mod Examined
 pub mod Found
-pub mod Freed
+pub mod FreeNode
 pub mod Freely
 pub mod Marks
 pub mod Shape

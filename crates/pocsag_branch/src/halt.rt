@@ -1,7 +1,7 @@
 ghost use Rattle.std.specs.Prelude.{◌≡◌};
 ghost use Rattle.pocsag_branch.specs.declared.halt.Halt.TheVariants.{OutOfMemory};
 
-use crate::question::Answer;
+use crate::task::Answer;
 use pocsag_tree::Tree;
 use std::alloc::AllocFailed;
 

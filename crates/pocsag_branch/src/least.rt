@@ -18,7 +18,7 @@ pub(crate) struct Least {
 }
 
 // How many batches the slots of the set need at least, where so many are too few.
-fn share(classes: &Classes, batches: u32, set: u16) -> u32
+fn batches_needed(classes: &Classes, batches: u32, set: u16) -> u32
     requires set { IsSet set }
     requires over { Overloads classes.now (limits_of_all classes.now batches) set }
     ensures refuses { RefusesOneLess classes.now result set }
@@ -40,7 +40,7 @@ pub(crate) fn least_of(classes: &Classes) -> Least
     ensures bound { result.batches ≤ greatest_least }
 {
     let mut set = 0xFFFF;
-    let mut batches = share(classes, 0, set);
+    let mut batches = batches_needed(classes, 0, set);
     loop {
         match choose(classes, &all_limits(classes, batches)) {
             Ok(choice) => {
@@ -51,7 +51,7 @@ pub(crate) fn least_of(classes: &Classes) -> Least
                 };
             }
             Err(ChooseFault::Overload(over)) => {
-                batches = share(classes, batches, over);
+                batches = batches_needed(classes, batches, over);
                 set = over;
             }
         }

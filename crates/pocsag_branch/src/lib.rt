@@ -3,29 +3,30 @@
 //! suffice. What it answers, the checker accepts.
 
 mod answer;
-mod climbing;
-mod deciding;
-mod ending;
-mod examining;
+mod boundaries;
+mod child;
+mod climb;
 mod fault;
-mod freeing;
+mod free_forms;
+mod free_nodes;
+mod free_root;
+mod free_search;
 mod halt;
 mod least;
 mod live;
-mod looking;
-mod narrowing;
 mod node;
-mod opening;
-mod question;
-mod refuting;
-mod rooting;
-mod search_free;
-mod searching;
-mod thinning;
+mod outcome;
+mod promised_forms;
+mod promised_nodes;
+mod promised_root;
+mod promised_search;
+mod task;
+mod thin_cuts;
+mod unfinished;
 mod within_one;
 
 pub use answer::Found;
 pub use fault::SearchFault;
-pub use search_free::{near, search_freely};
-pub use searching::search;
+pub use free_search::{near, search_freely};
+pub use promised_search::search;
 pub use within_one::{FreeFault, Near};

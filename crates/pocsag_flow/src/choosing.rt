@@ -39,15 +39,15 @@ pub fn choose_from(
     ensures least { IfErr result (λ fault. IsBelowLeast classes.now limits.now (set_of fault)) }
 {
     let choice = clamped(limits, start);
-    let mut standing = LoadedChoice {
+    let mut loaded = LoadedChoice {
         early: choice.early,
         loads: loads(classes, &choice),
     };
-    while let Some(slot) = overfull(&standing.loads, limits) {
-        standing = relieved(classes, limits, &standing, slot)?;
+    while let Some(slot) = overfull(&loaded.loads, limits) {
+        loaded = relieved(classes, limits, &loaded, slot)?;
     }
     Ok(Choice {
-        early: standing.early,
+        early: loaded.early,
     })
 }
 
@@ -85,29 +85,29 @@ fn overfull(counted: &[u32; 16], limits: &Limits) -> Option<u8>
 fn relieved(
     classes: &Classes,
     limits: &Limits,
-    standing: &LoadedChoice,
+    loaded: &LoadedChoice,
     slot: u8,
 ) -> Result<LoadedChoice, ChooseFault>
     requires ordered { AreInOrder classes.now limits.now }
-    requires standing { IsLoaded classes.now limits.now standing.now }
+    requires loaded { IsLoaded classes.now limits.now loaded.now }
     requires slot { slot < 16 }
-    requires above { slice_index limits.now.cap slot < slice_index standing.now.loads slot }
-    ensures standing { IfOk result (IsLoaded classes.now limits.now) }
+    requires above { slice_index limits.now.cap slot < slice_index loaded.now.loads slot }
+    ensures loaded { IfOk result (IsLoaded classes.now limits.now) }
     ensures less { IfOk result
         (λ after. overload classes.now limits.now (slice_index after.early)
-        < overload classes.now limits.now (slice_index standing.now.early)) }
+        < overload classes.now limits.now (slice_index loaded.now.early)) }
     ensures set { IfErr result (λ fault. IsSet (set_of fault)) }
     ensures overloads { IfErr result (λ fault. Overloads classes.now limits.now (set_of fault)) }
 {
     class_loads_add_up();
-    let excess = standing.loads[slot as usize] - limits.cap[slot as usize];
+    let excess = loaded.loads[slot as usize] - limits.cap[slot as usize];
     let network = Network {
         classes,
         limits,
-        loads: standing.loads,
+        loads: loaded.loads,
     };
     let mut search = Progress {
-        early: standing.early,
+        early: loaded.early,
         reached: with_member(0, slot),
         end: slot,
     };
@@ -117,7 +117,7 @@ fn relieved(
     }
     Ok(LoadedChoice {
         early: search.early,
-        loads: shifted(standing.loads, slot, search.end, moved),
+        loads: shifted(loaded.loads, slot, search.end, moved),
     })
 }
 

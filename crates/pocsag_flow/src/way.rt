@@ -4,7 +4,7 @@ ghost use Rattle.pocsag_slots.specs.Sums.{holds};
 ghost use Rattle.pocsag_flow.specs.Search.{StaysInside, LeadsInto, MayPush, Pushes};
 
 use crate::network::{Network, Progress};
-use pocsag_slots::{CLASSES, finish, holds, start, with_member};
+use pocsag_slots::{CLASSES, Class, finish, holds, start, with_member};
 
 // Moves up to `most` into the slot, which is not reached yet, and on where it has no room.
 #[cycle(push)]
@@ -41,7 +41,7 @@ pub(crate) fn leave(network: &Network, search: &mut Progress, slot: u8, most: u3
         return straight;
     }
     for class in 0..CLASSES as u8 {
-        let moved = switch(network, search, class, slot, most);
+        let moved = switch(network, search, Class { number: class }, slot, most);
         if moved > 0 {
             return moved;
         }
@@ -57,7 +57,7 @@ fn leave_straight(network: &Network, search: &mut Progress, slot: u8, most: u32)
     ensures pushes { Pushes network.now search.old search.new slot most result }
 {
     for class in 0..CLASSES as u8 {
-        let moved = switch_straight(network, search, class, slot, most);
+        let moved = switch_straight(network, search, Class { number: class }, slot, most);
         if moved > 0 {
             return moved;
         }
@@ -66,9 +66,14 @@ fn leave_straight(network: &Network, search: &mut Progress, slot: u8, most: u32)
 }
 
 #[cycle(push)]
-fn switch_straight(network: &Network, search: &mut Progress, class: u8, slot: u8, most: u32) -> u32
+fn switch_straight(
+    network: &Network,
+    search: &mut Progress,
+    class: Class,
+    slot: u8,
+    most: u32,
+) -> u32
     requires may { MayPush network.now search.old most }
-    requires class { class < 136 }
     requires reached { holds search.old.reached slot ≡ true }
     ensures pushes { Pushes network.now search.old search.new slot most result }
 {
@@ -81,14 +86,12 @@ fn switch_straight(network: &Network, search: &mut Progress, class: u8, slot: u8
 
 // Whether the slot is one end of the runs of the class, some of which may move, and the other end has
 // room.
-fn leads_to_room(network: &Network, class: u8, slot: u8) -> bool
-    requires { class < 136 }
-{
-    if network.limits.lo[class as usize] == network.limits.hi[class as usize] {
+fn leads_to_room(network: &Network, class: Class, slot: u8) -> bool {
+    if network.limits.lo[class.number as usize] == network.limits.hi[class.number as usize] {
         return false;
     }
-    let from = start(class, true);
-    let to = finish(class, true);
+    let from = start(class.number, true);
+    let to = finish(class.number, true);
     if slot == from {
         has_room(network, to)
     } else {
@@ -106,29 +109,28 @@ fn has_room(network: &Network, slot: u8) -> bool
 // asked of each class, and most have no run that may move.
 #[inline(always)]
 #[cycle(push)]
-fn switch(network: &Network, search: &mut Progress, class: u8, slot: u8, most: u32) -> u32
+fn switch(network: &Network, search: &mut Progress, class: Class, slot: u8, most: u32) -> u32
     requires may { MayPush network.now search.old most }
-    requires class { class < 136 }
     requires reached { holds search.old.reached slot ≡ true }
     ensures pushes { Pushes network.now search.old search.new slot most result }
     ensures leads { result ≡ 0 →
-        LeadsInto network.now.limits.now (slice_index search.new.early) search.new.reached class slot }
+        LeadsInto network.now.limits.now (slice_index search.new.early) search.new.reached class.number slot }
 {
-    if network.limits.lo[class as usize] == network.limits.hi[class as usize] {
+    if network.limits.lo[class.number as usize] == network.limits.hi[class.number as usize] {
         return 0;
     }
-    let early = search.early[class as usize];
-    let from = start(class, true);
-    let to = finish(class, true);
+    let early = search.early[class.number as usize];
+    let from = start(class.number, true);
+    let to = finish(class.number, true);
     if slot == from {
-        if network.limits.lo[class as usize] < early {
+        if network.limits.lo[class.number as usize] < early {
             if !holds(search.reached, to) {
                 return to_late(network, search, class, most);
             }
         }
     }
     if slot == to {
-        if early < network.limits.hi[class as usize] {
+        if early < network.limits.hi[class.number as usize] {
             if !holds(search.reached, from) {
                 return to_early(network, search, class, most);
             }
@@ -139,34 +141,32 @@ fn switch(network: &Network, search: &mut Progress, class: u8, slot: u8, most: u
 
 // Moves up to `most` runs of the class from early to late.
 #[cycle(push)]
-fn to_late(network: &Network, search: &mut Progress, class: u8, most: u32) -> u32
+fn to_late(network: &Network, search: &mut Progress, class: Class, most: u32) -> u32
     requires may { MayPush network.now search.old most }
-    requires class { class < 136 }
-    requires reached { holds search.old.reached (start_of class true) ≡ true }
-    requires apart { holds search.old.reached (finish_of class true) ≡ false }
-    requires room { slice_index network.now.limits.now.lo class < slice_index search.old.early class }
-    ensures pushes { Pushes network.now search.old search.new (start_of class true) most result }
-    ensures reached { holds search.new.reached (finish_of class true) ≡ true }
+    requires reached { holds search.old.reached (start_of class.number true) ≡ true }
+    requires apart { holds search.old.reached (finish_of class.number true) ≡ false }
+    requires room { slice_index network.now.limits.now.lo class.number < slice_index search.old.early class.number }
+    ensures pushes { Pushes network.now search.old search.new (start_of class.number true) most result }
+    ensures reached { holds search.new.reached (finish_of class.number true) ≡ true }
 {
-    let room = search.early[class as usize] - network.limits.lo[class as usize];
-    let moved = enter(network, search, finish(class, true), most.min(room));
-    search.early[class as usize] -= moved;
+    let room = search.early[class.number as usize] - network.limits.lo[class.number as usize];
+    let moved = enter(network, search, finish(class.number, true), most.min(room));
+    search.early[class.number as usize] -= moved;
     moved
 }
 
 // Moves up to `most` runs of the class from late to early.
 #[cycle(push)]
-fn to_early(network: &Network, search: &mut Progress, class: u8, most: u32) -> u32
+fn to_early(network: &Network, search: &mut Progress, class: Class, most: u32) -> u32
     requires may { MayPush network.now search.old most }
-    requires class { class < 136 }
-    requires reached { holds search.old.reached (finish_of class true) ≡ true }
-    requires apart { holds search.old.reached (start_of class true) ≡ false }
-    requires room { slice_index search.old.early class < slice_index network.now.limits.now.hi class }
-    ensures pushes { Pushes network.now search.old search.new (finish_of class true) most result }
-    ensures reached { holds search.new.reached (start_of class true) ≡ true }
+    requires reached { holds search.old.reached (finish_of class.number true) ≡ true }
+    requires apart { holds search.old.reached (start_of class.number true) ≡ false }
+    requires room { slice_index search.old.early class.number < slice_index network.now.limits.now.hi class.number }
+    ensures pushes { Pushes network.now search.old search.new (finish_of class.number true) most result }
+    ensures reached { holds search.new.reached (start_of class.number true) ≡ true }
 {
-    let room = network.limits.hi[class as usize] - search.early[class as usize];
-    let moved = enter(network, search, start(class, true), most.min(room));
-    search.early[class as usize] += moved;
+    let room = network.limits.hi[class.number as usize] - search.early[class.number as usize];
+    let moved = enter(network, search, start(class.number, true), most.min(room));
+    search.early[class.number as usize] += moved;
     moved
 }

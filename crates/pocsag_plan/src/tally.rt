@@ -25,7 +25,7 @@ pub(crate) fn count_page(classes: &mut Classes, page: &Page, end: End)
     ensures { (before after : List Page) →
         AreClassesOf classes.old end (before ++ after) → AreClassesOf classes.new end (before ++ page.now ∷ after) }
 {
-    let class = class_of(page, end) as usize;
+    let class = class_of(page, end).number as usize;
     let turns = whole_turns(page);
     classes.count[class] += 1;
     classes.turns[class] += turns;
@@ -37,7 +37,7 @@ pub(crate) fn discount_page(classes: &mut Classes, page: &Page, end: End)
     ensures { (before after : List Page) →
         AreClassesOf classes.old end (before ++ page.now ∷ after) → AreClassesOf classes.new end (before ++ after) }
 {
-    let class = class_of(page, end) as usize;
+    let class = class_of(page, end).number as usize;
     let turns = whole_turns(page);
     classes.count[class] -= 1;
     classes.turns[class] -= turns;

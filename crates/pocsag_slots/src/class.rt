@@ -1,4 +1,4 @@
-ghost use Rattle.std.specs.Prelude.{◌≡◌, length};
+ghost use Rattle.std.specs.Prelude.{◌≡◌, ◌<◌, length};
 ghost use Rattle.pocsag_slots.specs.Numbering.{class_count};
 ghost use Rattle.pocsag_slots.specs.Tables.{AreTables};
 
@@ -15,6 +15,13 @@ pub(crate) const SLOT_COUNT: u8 = SLOTS as u8;
 
 // The first class of an address codeword alone, in frame 0; only the closed end has them.
 pub(crate) const FIRST_BARE: u8 = 128;
+
+/// A class of pages by its number: the pages of a class start and end alike.
+#[derive(Clone, Copy)]
+pub struct Class {
+    pub number: u8,
+    pub ghost known: { number < class_count },
+}
 
 /// The pages of a round by classes: how many pages are in each class, and how many whole turns they
 /// take together.

@@ -5,22 +5,22 @@ ghost use Rattle.pocsag_slots.specs.Numbering.{class_of_page, slot_count};
 ghost use Rattle.pocsag_slots.specs.Sums.{sum_below};
 ghost use Rattle.pocsag_slots.specs.Tables.{turn_limit};
 
-use crate::class::{CLASSES, Classes, FIRST_BARE, SLOT_COUNT, SLOTS};
+use crate::class::{CLASSES, Class, Classes, FIRST_BARE, SLOT_COUNT, SLOTS};
 use pocsag_pages::{Page, Round};
 use pocsag_words::End;
 
-/// The class of the page, 0 to 135, for the end.
+/// The class of the page for the end.
 #[tactic(auto, unfolding(crate::specs::Numbering::class_of))]
-pub fn class_of(page: &Page, end: End) -> u8
-    ensures value { result ≡ class_of_page end page.now }
-    ensures below { result < 136 }
+pub fn class_of(page: &Page, end: End) -> Class
+    ensures { result.number ≡ class_of_page end page.now }
 {
     let frame = (page.address % 8) as u8;
     let message = page.payload.as_slice().len();
-    match end {
+    let number = match end {
         End::Closed if message == 0 => FIRST_BARE + frame,
         _ => frame * SLOT_COUNT + ((1 + message) % SLOTS) as u8,
-    }
+    };
+    Class { number }
 }
 
 /// How many whole turns of sixteen codewords the page takes.
@@ -42,7 +42,7 @@ pub fn classes_of(round: &Round, end: End) -> Classes
     let mut count = [0; CLASSES];
     let mut turns = [0; CLASSES];
     for page in round.pages() {
-        let class = class_of(page, end) as usize;
+        let class = class_of(page, end).number as usize;
         count[class] += 1;
         turns[class] += whole_turns(page);
     }

@@ -4,7 +4,7 @@ ghost use Rattle.pocsag_slots.specs.Loads.{early_of, IsChoice};
 ghost use Rattle.pocsag_slots.specs.Numbering.{class_count};
 
 use crate::boundary::{finish, start};
-use crate::class::{CLASS_COUNT, Choice, Classes, SLOTS};
+use crate::class::{CLASS_COUNT, Choice, Class, Classes, SLOTS};
 
 // How many runs of a choice start at each boundary, and how many end there.
 #[derive(Drop)]
@@ -22,23 +22,22 @@ fn add_to(sums: &mut [u32; SLOTS], boundary: u8, more: u32)
 }
 
 // Adds the runs of the class.
-fn add_class(edges: &mut Edges, classes: &Classes, choice: &Choice, class: u8)
+fn add_class(edges: &mut Edges, classes: &Classes, choice: &Choice, class: Class)
     requires chosen { IsChoice classes.now (early_of choice.now) }
-    requires class { class < 136 }
-    requires starts { CountStarts classes.now (early_of choice.now) class edges.old.starts }
-    requires ends { CountEnds classes.now (early_of choice.now) class edges.old.ends }
-    ensures starts { CountStarts classes.now (early_of choice.now) (class + 1) edges.new.starts }
-    ensures ends { CountEnds classes.now (early_of choice.now) (class + 1) edges.new.ends }
+    requires starts { CountStarts classes.now (early_of choice.now) class.number edges.old.starts }
+    requires ends { CountEnds classes.now (early_of choice.now) class.number edges.old.ends }
+    ensures starts { CountStarts classes.now (early_of choice.now) (class.number + 1) edges.new.starts }
+    ensures ends { CountEnds classes.now (early_of choice.now) (class.number + 1) edges.new.ends }
 {
-    if classes.count[class as usize] == 0 {
+    if classes.count[class.number as usize] == 0 {
         return;
     }
-    let early = choice.early[class as usize];
-    let late = classes.count[class as usize] - early;
-    add_to(&mut edges.starts, start(class, true), early);
-    add_to(&mut edges.starts, start(class, false), late);
-    add_to(&mut edges.ends, finish(class, true), early);
-    add_to(&mut edges.ends, finish(class, false), late);
+    let early = choice.early[class.number as usize];
+    let late = classes.count[class.number as usize] - early;
+    add_to(&mut edges.starts, start(class.number, true), early);
+    add_to(&mut edges.starts, start(class.number, false), late);
+    add_to(&mut edges.ends, finish(class.number, true), early);
+    add_to(&mut edges.ends, finish(class.number, false), late);
 }
 
 pub(crate) fn edges_of(classes: &Classes, choice: &Choice) -> Edges
@@ -51,7 +50,7 @@ pub(crate) fn edges_of(classes: &Classes, choice: &Choice) -> Edges
         ends: [0; SLOTS],
     };
     for class in 0..CLASS_COUNT {
-        add_class(&mut edges, classes, choice, class);
+        add_class(&mut edges, classes, choice, Class { number: class });
     }
     edges
 }

@@ -15,7 +15,7 @@ mod step;
 mod way;
 
 pub use boundary::{finish, frame, rest, start};
-pub use class::{CLASSES, Choice, Classes, SLOTS};
+pub use class::{CLASSES, Choice, Class, Classes, SLOTS};
 pub use count::{class_of, classes_of, whole_turns};
 pub use laws::{
     class_loads_add_up, codewords_and_tours_correspond, no_load_is_above_batches,

@@ -6,7 +6,7 @@ ghost use Rattle.pocsag_slots.specs.Sums.{holds, sum_over};
 ghost use Rattle.pocsag_slots.specs.Tables.{turn_limit};
 
 use crate::boundary::{rest, start};
-use crate::class::{CLASS_COUNT, Choice, Classes, SLOT_COUNT, SLOTS};
+use crate::class::{CLASS_COUNT, Choice, Class, Classes, SLOT_COUNT, SLOTS};
 use crate::edge::edges_of;
 use crate::limit::Limits;
 use crate::set::{holds, size};
@@ -25,20 +25,19 @@ fn times_covered(first: u8, codewords: u8, slot: u8) -> u32
 
 // How often the runs of the class cover the slot, where so many of them start early.
 #[tactic(auto, unfolding(crate::specs::Loads::class_load))]
-fn class_load(classes: &Classes, class: u8, early: u32, slot: u8) -> u32
-    requires class { class < 136 }
-    requires early { early ≤ slice_index classes.now.count class }
+fn class_load(classes: &Classes, class: Class, early: u32, slot: u8) -> u32
+    requires early { early ≤ slice_index classes.now.count class.number }
     requires slot { slot < 16 }
-    ensures value { result ≡ class_load classes.now slot class early }
-    ensures bound { result ≤ (turn_limit + 1) * slice_index classes.now.count class }
+    ensures value { result ≡ class_load classes.now slot class.number early }
+    ensures bound { result ≤ (turn_limit + 1) * slice_index classes.now.count class.number }
 {
-    if classes.count[class as usize] == 0 {
+    if classes.count[class.number as usize] == 0 {
         return 0;
     }
-    let late = classes.count[class as usize] - early;
-    let by_early = early * times_covered(start(class, true), rest(class), slot);
-    let by_late = late * times_covered(start(class, false), rest(class), slot);
-    classes.turns[class as usize] + by_early + by_late
+    let late = classes.count[class.number as usize] - early;
+    let by_early = early * times_covered(start(class.number, true), rest(class.number), slot);
+    let by_late = late * times_covered(start(class.number, false), rest(class.number), slot);
+    classes.turns[class.number as usize] + by_early + by_late
 }
 
 fn slot_load(classes: &Classes, choice: &Choice, slot: u8) -> u32
@@ -49,7 +48,12 @@ fn slot_load(classes: &Classes, choice: &Choice, slot: u8) -> u32
 {
     let mut total = 0;
     for class in 0..CLASS_COUNT {
-        total += class_load(classes, class, choice.early[class as usize], slot);
+        total += class_load(
+            classes,
+            Class { number: class },
+            choice.early[class as usize],
+            slot,
+        );
     }
     total
 }
@@ -104,25 +108,24 @@ fn members_covered(set: u16, first: u8, codewords: u8) -> u64
 
 // The least load of the class on the set of slots, of which there are so many.
 #[tactic(auto, unfolding(crate::specs::Loads::least_of_class))]
-fn class_least(classes: &Classes, limits: &Limits, set: u16, members: u64, class: u8) -> u64
+fn class_least(classes: &Classes, limits: &Limits, set: u16, members: u64, class: Class) -> u64
     requires ordered { AreInOrder classes.now limits.now }
     requires members { members ≡ sum_over set (λ _. 1) }
     requires small { members ≤ 16 }
-    requires class { class < 136 }
-    ensures value { result ≡ least_of_class classes.now limits.now set class }
+    ensures value { result ≡ least_of_class classes.now limits.now set class.number }
     ensures bound { result < 2 ^ 40 }
 {
-    if classes.count[class as usize] == 0 {
+    if classes.count[class.number as usize] == 0 {
         return 0;
     }
-    let count = u64::from(classes.count[class as usize]);
-    let lo = u64::from(limits.lo[class as usize]);
-    let hi = u64::from(limits.hi[class as usize]);
-    let early = members_covered(set, start(class, true), rest(class));
-    let late = members_covered(set, start(class, false), rest(class));
+    let count = u64::from(classes.count[class.number as usize]);
+    let lo = u64::from(limits.lo[class.number as usize]);
+    let hi = u64::from(limits.hi[class.number as usize]);
+    let early = members_covered(set, start(class.number, true), rest(class.number));
+    let late = members_covered(set, start(class.number, false), rest(class.number));
     let at_lo = lo * early + (count - lo) * late;
     let at_hi = hi * early + (count - hi) * late;
-    u64::from(classes.turns[class as usize]) * members + at_lo.min(at_hi)
+    u64::from(classes.turns[class.number as usize]) * members + at_lo.min(at_hi)
 }
 
 /// The least total load of the slots of the set, over all choices within the limits.
@@ -134,7 +137,7 @@ pub fn least_load(classes: &Classes, limits: &Limits, set: u16) -> u64
     let members = u64::from(size(set));
     let mut least = 0;
     for class in 0..CLASS_COUNT {
-        least += class_least(classes, limits, set, members, class);
+        least += class_least(classes, limits, set, members, Class { number: class });
     }
     least
 }

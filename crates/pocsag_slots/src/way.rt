@@ -2,7 +2,7 @@ ghost use Rattle.std.specs.Prelude.{◌≡◌, ◌<◌, ◌∷◌, [], ◌++◌,
 ghost use Rattle.arrayvec.specs.ArrayVec.{array_vec_len};
 ghost use Rattle.pocsag_slots.specs.Ways.{class_certain, early_open, late_open, MayTake, ways_across, ways_to_close};
 
-use crate::class::{CLASS_COUNT, CLASSES, Classes, SLOT_COUNT, SLOTS};
+use crate::class::{CLASS_COUNT, CLASSES, Class, Classes, SLOT_COUNT, SLOTS};
 use crate::limit::Limits;
 use crate::set::{crosses, idle_crosses, touches};
 use arrayvec::ArrayVec;
@@ -47,25 +47,24 @@ pub fn is_certain(classes: &Classes, limits: &Limits, set: u16, class: u8) -> bo
 }
 
 #[tactic(auto, unfolding(crate::specs::Ways::early_open))]
-fn is_open_early(classes: &Classes, limits: &Limits, set: u16, class: u8) -> bool
-    requires { class < 136 }
-    ensures { result ≡ early_open classes.now limits.now set class }
+fn is_open_early(classes: &Classes, limits: &Limits, set: u16, class: Class) -> bool
+    ensures { result ≡ early_open classes.now limits.now set class.number }
 {
-    if classes.count[class as usize] == 0 {
+    if classes.count[class.number as usize] == 0 {
         return false;
     }
-    crosses(class, true, set) && 0 < limits.hi[class as usize]
+    crosses(class.number, true, set) && 0 < limits.hi[class.number as usize]
 }
 
 #[tactic(auto, unfolding(crate::specs::Ways::late_open))]
-fn is_open_late(classes: &Classes, limits: &Limits, set: u16, class: u8) -> bool
-    requires { class < 136 }
-    ensures { result ≡ late_open classes.now limits.now set class }
+fn is_open_late(classes: &Classes, limits: &Limits, set: u16, class: Class) -> bool
+    ensures { result ≡ late_open classes.now limits.now set class.number }
 {
-    if classes.count[class as usize] == 0 {
+    if classes.count[class.number as usize] == 0 {
         return false;
     }
-    crosses(class, false, set) && limits.lo[class as usize] < classes.count[class as usize]
+    crosses(class.number, false, set)
+        && limits.lo[class.number as usize] < classes.count[class.number as usize]
 }
 
 fn push_if<const N: usize>(ways: &mut ArrayVec<Way, N>, allowed: bool, way: Way)
@@ -90,16 +89,11 @@ pub fn ways(classes: &Classes, limits: &Limits, set: u16, _batches: u32) -> Arra
         push_if(&mut found, idle_crosses(slot, set), Way::IdleIn(slot));
     }
     for class in 0..CLASS_COUNT {
-        push_if(
-            &mut found,
-            is_open_early(classes, limits, set, class),
-            Way::Early(class),
-        );
-        push_if(
-            &mut found,
-            is_open_late(classes, limits, set, class),
-            Way::Late(class),
-        );
+        let known = Class { number: class };
+        let early = is_open_early(classes, limits, set, known);
+        push_if(&mut found, early, Way::Early(class));
+        let late = is_open_late(classes, limits, set, known);
+        push_if(&mut found, late, Way::Late(class));
     }
     found
 }

@@ -3,7 +3,9 @@ ghost use Rattle.pocsag_slots.specs.Loads.{IsChoice};
 ghost use Rattle.pocsag_tour.specs.Links.{AddsLink, AreLinked, Follows, HaveIdles, HaveRuns};
 
 use crate::outside::run_count;
-use pocsag_slots::{CLASSES, Choice, Classes, SLOTS, finish, holds, loads, start, with_member};
+use pocsag_slots::{
+    CLASSES, Choice, Class, Classes, SLOTS, finish, holds, loads, start, with_member,
+};
 
 // Links the boundaries where the arc from one to the other is there.
 fn link(links: &mut [u16; 16], there: bool, from: u8, to: u8)
@@ -17,21 +19,30 @@ fn link(links: &mut [u16; 16], there: bool, from: u8, to: u8)
 }
 
 // Links the boundaries by the runs of the class.
-fn link_class(links: &mut [u16; 16], classes: &Classes, choice: &Choice, batches: u32, class: u8)
+fn link_class(links: &mut [u16; 16], classes: &Classes, choice: &Choice, batches: u32, class: Class)
     requires chosen { IsChoice classes.now (slice_index choice.now.early) }
-    requires class { class < 136 }
     requires linked { AreLinked classes.now (slice_index choice.now.early) batches (slice_index links.old) }
-    requires runs { HaveRuns classes.now (slice_index choice.now.early) (slice_index links.old) class }
+    requires runs { HaveRuns classes.now (slice_index choice.now.early) (slice_index links.old) class.number }
     ensures linked { AreLinked classes.now (slice_index choice.now.early) batches (slice_index links.new) }
-    ensures runs { HaveRuns classes.now (slice_index choice.now.early) (slice_index links.new) (class + 1) }
+    ensures runs { HaveRuns classes.now (slice_index choice.now.early) (slice_index links.new) (class.number + 1) }
 {
-    if classes.count[class as usize] == 0 {
+    if classes.count[class.number as usize] == 0 {
         return;
     }
     let early = run_count(classes, choice, class, true);
     let late = run_count(classes, choice, class, false);
-    link(links, early > 0, start(class, true), finish(class, true));
-    link(links, late > 0, start(class, false), finish(class, false));
+    link(
+        links,
+        early > 0,
+        start(class.number, true),
+        finish(class.number, true),
+    );
+    link(
+        links,
+        late > 0,
+        start(class.number, false),
+        finish(class.number, false),
+    );
 }
 
 // The links of the runs of the choice.
@@ -43,7 +54,13 @@ fn run_links(classes: &Classes, choice: &Choice, batches: u32) -> [u16; 16]
 {
     let mut links = [0; SLOTS];
     for class in 0..CLASSES as u8 {
-        link_class(&mut links, classes, choice, batches, class);
+        link_class(
+            &mut links,
+            classes,
+            choice,
+            batches,
+            Class { number: class },
+        );
     }
     links
 }

@@ -26,10 +26,10 @@ before_run end R links order steps i c e h is s =
     let first : drop i steps ≡ Run c e ∷ drop (i + 1) steps = drop_more steps i Stay h ∙ ap (λ step. step ∷ drop (i + 1) steps) is in
     rw (← first) s
 
-pub take-requires-clause-class : goal.take-requires-clause-class
-take-requires-clause-class c =
+pub invariant_of-take : goal.invariant_of-take
+invariant_of-take c =
     let s = before_run _ _ _ _ _ _ _ _ c.loop-step-test.true c.in-Run.is c.loop-step.invariant in
-    (takes _ _ _ _ _ _ _ _ s).small
+    record { known = (takes _ _ _ _ _ _ _ _ s).small }
 
 pub take-requires-clause-some : goal.take-requires-clause-some
 take-requires-clause-some c =

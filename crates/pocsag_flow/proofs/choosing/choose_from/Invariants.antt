@@ -4,7 +4,7 @@ use Rattle.pocsag_flow.specs.Search.{IsLoaded}
 use Rattle.pocsag_flow.proofs.choosing.choose_from.Given as goal
 
 abbrev pub invariant-loop-slot : goal.invariant-loop-slot
-invariant-loop-slot l = IsLoaded l.classes l.limits l.standing
+invariant-loop-slot l = IsLoaded l.classes l.limits l.loaded
 
 abbrev pub decreases-loop-slot : goal.decreases-loop-slot
-decreases-loop-slot l = overload l.classes l.limits (slice_index l.standing.early)
+decreases-loop-slot l = overload l.classes l.limits (slice_index l.loaded.early)

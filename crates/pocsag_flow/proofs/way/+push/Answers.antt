@@ -28,14 +28,14 @@ leave-loop-class-preserved t c =
 
 pub to_early-returns-clause-pushes : goal.to_early-returns-clause-pushes
 to_early-returns-clause-pushes t c =
-    moved_early c.args.network.now c.args.search.now c.enter-moved.new.search c.args.class c.args.most c.min.result c.enter-moved.result
-    c.requires.class c.requires.may.network c.requires.reached c.requires.apart
+    moved_early c.args.network.now c.args.search.now c.enter-moved.new.search c.args.class.number c.args.most c.min.result c.enter-moved.result
+    c.args.class.known c.requires.may.network c.requires.reached c.requires.apart
     (omega (arith, c.min.ensures, c.requires.room)) (omega (arith, c.min.ensures))
     (rw c.start.ensures.value at c.enter-moved.ensures.pushes)
 
 pub to_late-returns-clause-pushes : goal.to_late-returns-clause-pushes
 to_late-returns-clause-pushes t c =
-    moved_late c.args.network.now c.args.search.now c.enter-moved.new.search c.args.class c.args.most c.min.result c.enter-moved.result
-    c.requires.class c.requires.may.network c.requires.reached c.requires.apart
+    moved_late c.args.network.now c.args.search.now c.enter-moved.new.search c.args.class.number c.args.most c.min.result c.enter-moved.result
+    c.args.class.known c.requires.may.network c.requires.reached c.requires.apart
     (omega (arith, c.min.ensures, c.requires.room)) (omega (arith, c.min.ensures))
     (rw c.finish.ensures.value at c.enter-moved.ensures.pushes)

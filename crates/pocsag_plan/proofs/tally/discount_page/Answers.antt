@@ -8,12 +8,12 @@ whole_turns-turns-requires c = (All-here IsGoodPage c.requires.before c.requires
 pub invariant_of-classes : goal.invariant_of-classes
 invariant_of-classes c =
     record {
-      tables = lost_tables c.args.classes.now c.args.end c.args.page.now c.class_of-class.result c.whole_turns-turns.result
-          c.class_of-class.ensures.value c.whole_turns-turns.ensures.value c.class_of-class.ensures.below c.requires;
+      tables = lost_tables c.args.classes.now c.args.end c.args.page.now c.class_of-class.result.number c.whole_turns-turns.result
+          c.class_of-class.ensures c.whole_turns-turns.ensures.value c.class_of-class.result.known c.requires;
     }
 
 pub returns : goal.returns
 returns c before after of =
-    let now = lost c.args.classes.now c.args.end c.args.page.now c.class_of-class.result c.whole_turns-turns.result
-    c.class_of-class.ensures.value c.whole_turns-turns.ensures.value c.class_of-class.ensures.below before after of in
+    let now = lost c.args.classes.now c.args.end c.args.page.now c.class_of-class.result.number c.whole_turns-turns.result
+    c.class_of-class.ensures c.whole_turns-turns.ensures.value c.class_of-class.result.known before after of in
     record { count = now.each; turns = now.each_turns }

@@ -40,16 +40,16 @@ pub overflow_add-turns : goal.overflow_add-turns
 overflow_add-turns c =
     omega (
       arith,
-      (few_so_far c.loop-page.count c.loop-page.turns c.args.end _ c.loop-page.page-index c.class_of-class.result c.whole_turns.result
+      (few_so_far c.loop-page.count c.loop-page.turns c.args.end _ c.loop-page.page-index c.class_of-class.result.number c.whole_turns.result
           (of_round _ _ c.pages-page-items.ensures.pages c.pages-page-items.ensures.round) c.loop-page.invariant
-          c.class_of-class.ensures.below c.whole_turns.ensures.bound).1,
+          c.class_of-class.result.known c.whole_turns.ensures.bound).1,
     )
 
 pub loop-page-preserved : goal.loop-page-preserved
 loop-page-preserved c =
-    more_counted c.loop-page.count c.loop-page.turns c.args.end _ c.loop-page.page-index c.page-item.result c.class_of-class.result
+    more_counted c.loop-page.count c.loop-page.turns c.args.end _ c.loop-page.page-index c.page-item.result c.class_of-class.result.number
     c.whole_turns.result
-    c.loop-page-test.true c.page-item.is c.class_of-class.ensures.value c.whole_turns.ensures.value c.loop-page.invariant
+    c.loop-page-test.true c.page-item.is c.class_of-class.ensures c.whole_turns.ensures.value c.loop-page.invariant
 
 pub invariant_of-result : goal.invariant_of-result
 invariant_of-result c =

@@ -8,24 +8,24 @@ part a b x = part_few (a == b) x
 
 pub returns-then-classes-class-eq0-clause-starts : goal.returns-then-classes-class-eq0-clause-starts
 returns-then-classes-class-eq0-clause-starts c p h =
-    class_skipped _ c.args.class _ (c.requires.starts p h)
-    (none_start c.args.classes.now (slice_index c.args.choice.now.early) p c.args.class (omega arith)
-    (c.requires.chosen c.args.class c.requires.class))
+    class_skipped _ c.args.class.number _ (c.requires.starts p h)
+    (none_start c.args.classes.now (slice_index c.args.choice.now.early) p c.args.class.number (omega arith)
+    (c.requires.chosen c.args.class.number c.args.class.known))
 
 pub returns-then-classes-class-eq0-clause-ends : goal.returns-then-classes-class-eq0-clause-ends
 returns-then-classes-class-eq0-clause-ends c p h =
-    class_skipped _ c.args.class _ (c.requires.ends p h)
-    (none_end c.args.classes.now (slice_index c.args.choice.now.early) p c.args.class (omega arith)
-    (c.requires.chosen c.args.class c.requires.class))
+    class_skipped _ c.args.class.number _ (c.requires.ends p h)
+    (none_end c.args.classes.now (slice_index c.args.choice.now.early) p c.args.class.number (omega arith)
+    (c.requires.chosen c.args.class.number c.args.class.known))
 
 pub add_to-requires-clause-fits : goal.add_to-requires-clause-fits
 add_to-requires-clause-fits c =
     omega (
       arith,
       c.requires.starts c.start.result c.start.ensures.below,
-      starts_few c.args.classes.now (slice_index c.args.choice.now.early) c.start.result c.args.class (omega arith) c.requires.chosen,
-      c.requires.chosen c.args.class c.requires.class,
-      count_few c.args.classes.now c.args.class c.requires.class,
+      starts_few c.args.classes.now (slice_index c.args.choice.now.early) c.start.result c.args.class.number (omega arith) c.requires.chosen,
+      c.requires.chosen c.args.class.number c.args.class.known,
+      count_few c.args.classes.now c.args.class.number c.args.class.known,
     )
 
 pub add_to-requires-2-clause-fits : goal.add_to-requires-2-clause-fits
@@ -34,10 +34,10 @@ add_to-requires-2-clause-fits c =
       arith,
       c.add_to.ensures c.start-2.result c.start-2.ensures.below,
       c.requires.starts c.start-2.result c.start-2.ensures.below,
-      starts_few c.args.classes.now (slice_index c.args.choice.now.early) c.start-2.result c.args.class (omega arith) c.requires.chosen,
-      part c.start.result c.start-2.result (slice_index c.args.choice.now.early c.args.class),
-      c.requires.chosen c.args.class c.requires.class,
-      count_few c.args.classes.now c.args.class c.requires.class,
+      starts_few c.args.classes.now (slice_index c.args.choice.now.early) c.start-2.result c.args.class.number (omega arith) c.requires.chosen,
+      part c.start.result c.start-2.result (slice_index c.args.choice.now.early c.args.class.number),
+      c.requires.chosen c.args.class.number c.args.class.known,
+      count_few c.args.classes.now c.args.class.number c.args.class.known,
     )
 
 pub add_to-requires-3-clause-fits : goal.add_to-requires-3-clause-fits
@@ -45,9 +45,9 @@ add_to-requires-3-clause-fits c =
     omega (
       arith,
       c.requires.ends c.finish.result c.finish.ensures.below,
-      ends_few c.args.classes.now (slice_index c.args.choice.now.early) c.finish.result c.args.class (omega arith) c.requires.chosen,
-      c.requires.chosen c.args.class c.requires.class,
-      count_few c.args.classes.now c.args.class c.requires.class,
+      ends_few c.args.classes.now (slice_index c.args.choice.now.early) c.finish.result c.args.class.number (omega arith) c.requires.chosen,
+      c.requires.chosen c.args.class.number c.args.class.known,
+      count_few c.args.classes.now c.args.class.number c.args.class.known,
     )
 
 pub add_to-requires-4-clause-fits : goal.add_to-requires-4-clause-fits
@@ -56,17 +56,17 @@ add_to-requires-4-clause-fits c =
       arith,
       c.add_to-3.ensures c.finish-2.result c.finish-2.ensures.below,
       c.requires.ends c.finish-2.result c.finish-2.ensures.below,
-      ends_few c.args.classes.now (slice_index c.args.choice.now.early) c.finish-2.result c.args.class (omega arith) c.requires.chosen,
-      part c.finish.result c.finish-2.result (slice_index c.args.choice.now.early c.args.class),
-      c.requires.chosen c.args.class c.requires.class,
-      count_few c.args.classes.now c.args.class c.requires.class,
+      ends_few c.args.classes.now (slice_index c.args.choice.now.early) c.finish-2.result c.args.class.number (omega arith) c.requires.chosen,
+      part c.finish.result c.finish-2.result (slice_index c.args.choice.now.early c.args.class.number),
+      c.requires.chosen c.args.class.number c.args.class.known,
+      count_few c.args.classes.now c.args.class.number c.args.class.known,
     )
 
 pub returns-clause-starts : goal.returns-clause-starts
 returns-clause-starts c p h =
     let k = c.args.classes.now in
     let choice = slice_index c.args.choice.now.early in
-    let n = c.args.class in
+    let n = c.args.class.number in
     class_added (starts_at k choice p) n (slice_index c.args.edges.now.starts p) (slice_index c.add_to.new.sums p)
     (slice_index c.add_to-2.new.sums p)
     c.start.result c.start-2.result _ _ p (choice n) (slice_index k.count n - choice n)
@@ -76,7 +76,7 @@ pub returns-clause-ends : goal.returns-clause-ends
 returns-clause-ends c p h =
     let k = c.args.classes.now in
     let choice = slice_index c.args.choice.now.early in
-    let n = c.args.class in
+    let n = c.args.class.number in
     class_added (ends_at k choice p) n (slice_index c.args.edges.now.ends p) (slice_index c.add_to-3.new.sums p)
     (slice_index c.add_to-4.new.sums p)
     c.finish.result c.finish-2.result _ _ p (choice n) (slice_index k.count n - choice n)

@@ -31,15 +31,15 @@ pub push_if-requires-in-loop-class-2 : goal.push_if-requires-in-loop-class-2
 push_if-requires-in-loop-class-2 c =
     omega (
       arith,
-      early_few c.args.classes.now c.args.limits.now c.args.set c.loop-class.class c.is_open_early.result
+      early_few c.args.classes.now c.args.limits.now c.args.set c.loop-class.class c.is_open_early-early.result
           c.loop-class.found.items c.push_if-in-loop-class.new.ways.items c.loop-class.invariant c.push_if-in-loop-class.ensures,
     )
 
 pub loop-class-preserved : goal.loop-class-preserved
 loop-class-preserved c =
-    class_added c.args.classes.now c.args.limits.now c.args.set c.loop-class.class c.is_open_early.result c.is_open_late.result
+    class_added c.args.classes.now c.args.limits.now c.args.set c.loop-class.class c.is_open_early-early.result c.is_open_late-late.result
     c.loop-class.found.items c.push_if-in-loop-class.new.ways.items c.push_if-in-loop-class-2.new.ways.items
-    c.is_open_early.ensures c.is_open_late.ensures c.loop-class.invariant c.push_if-in-loop-class.ensures c.push_if-in-loop-class-2.ensures
+    c.is_open_early-early.ensures c.is_open_late-late.ensures c.loop-class.invariant c.push_if-in-loop-class.ensures c.push_if-in-loop-class-2.ensures
 
 across : goal.returns-clause-items
 unfolding ways_across

@@ -9,7 +9,7 @@ loop-place-preserved c =
     let at = place - 1 in
     let next : List ℕ = c.loop-place.next.items in
     let head : List ℕ = c.loop-place.head in
-    let class : ℕ = c.class_of-class.result in
+    let class : ℕ = c.class_of-class.result.number in
     let linked : List ℕ = slice_set next at (slice_index head class) in
     let some : 0 < place = c.loop-place-test.true in
     let most : place ≤ length R = c.loop-place.invariant.0 in
@@ -19,9 +19,9 @@ loop-place-preserved c =
     let before : AreChains c.args.end R (record { next = next; head = head }) (range_with_len (at + 1) (length R - place)) =
     rw (← left) c.loop-place.invariant.2 in
     let is : class ≡ class_at c.args.end R at =
-    c.class_of-class.ensures.value ∙ class_at_item c.args.end R at c.index-pages-place.result (omega arith) c.index-pages-place.is in (
+    c.class_of-class.ensures ∙ class_at_item c.args.end R at c.index-pages-place.result (omega arith) c.index-pages-place.is in (
       omega arith,
       length-set next at (slice_index head class) ∙ long,
       rw (← many)
-          (chains_added c.args.end R next head at (length R - place) class (omega arith) is c.class_of-class.ensures.below before),
+          (chains_added c.args.end R next head at (length R - place) class (omega arith) is c.class_of-class.result.known before),
     )

@@ -1,6 +1,0 @@
-use Rattle.std.proofs.Common.{◌≡◌, ℕ, ◌<◌, false}
-use Rattle.pocsag_slots.specs.Ways.{class_certain}
-use Rattle.pocsag_branch.proofs.narrowing.certain_class.Given as goal
-
-abbrev pub invariant-loop-class : goal.invariant-loop-class
-invariant-loop-class l = (c : ℕ) → c < l.class → class_certain l.node.classes.now l.node.limits l.set c ≡ false

@@ -1,6 +1,0 @@
-use Rattle.std.proofs.Common.{IfSome}
-use Rattle.pocsag_branch.specs.Examined.{IsForm}
-use Rattle.pocsag_branch.proofs.thinning.thinner.Given as goal
-
-abbrev pub invariant-loop : goal.invariant-loop
-invariant-loop l = IfSome l.best (IsForm l.node.classes.now l.node.question l.node.limits)

@@ -1,0 +1,91 @@
+ghost use Rattle.std.specs.Prelude.{◌≡◌, ◌<◌, IfErr, IfOk};
+ghost use Rattle.pocsag_tree.specs.Views.{bound_of};
+ghost use Rattle.pocsag_branch.specs.Examined.{IsStop};
+ghost use Rattle.pocsag_branch.specs.Found.{IsNodeLimit};
+ghost use Rattle.pocsag_branch.specs.FreeNode.{IsFreeTree, IsHalt};
+
+use crate::free_nodes::{free_close, free_node};
+use crate::halt::Halt;
+use crate::node::Node;
+use crate::task::{Stop, Task};
+use pocsag_slots::{Classes, all_limits};
+use pocsag_tree::Tree;
+use pocsag_words::End;
+use std::alloc::Global;
+
+// How many nodes the first try of the free search examines at most.
+const FIRST_TRY: u32 = 1_000;
+
+// How many nodes are examined at most to see whether a tour is there.
+const FUEL: u32 = 20_000;
+
+// One try of the free search from the limits of all choices. With the closed end it begins with the ways to
+// close: below them an open tour can always be closed.
+fn tree_of_try(alloc: Global, classes: &Classes, task: Task) -> Result<Tree, Halt>
+    ensures tree { IfOk result (λ tree. IsFreeTree classes.now task (bound_of tree)) }
+    ensures halt { IfErr result (IsHalt classes.now task) }
+{
+    let root = Node {
+        classes,
+        task,
+        limits: all_limits(classes, task.batches),
+    };
+    match task.end {
+        End::Open => {
+            let (tree, _) = free_node(alloc, &root, 0)?;
+            Ok(tree)
+        }
+        End::Closed => {
+            let (tree, _) = free_close(alloc, &root, 0)?;
+            Ok(tree)
+        }
+    }
+}
+
+// The same task with another limit, for the first try or the second.
+fn task_within(task: Task, limit: u32, second: bool) -> Task
+    requires { IsNodeLimit limit }
+    ensures end { result.end ≡ task.end }
+    ensures batches { result.batches ≡ task.batches }
+    ensures limit { result.limit ≡ limit }
+{
+    Task {
+        end: task.end,
+        batches: task.batches,
+        limit,
+        second,
+    }
+}
+
+// The tree of the free search. Where the first try stops at its limit, a second one has the rest.
+pub(crate) fn free_tree(alloc: Global, classes: &Classes, task: Task) -> Result<Tree, Halt>
+    ensures tree { IfOk result (λ tree. IsFreeTree classes.now task (bound_of tree)) }
+    ensures halt { IfErr result (IsHalt classes.now task) }
+{
+    let short = task.limit.min(FIRST_TRY);
+    let first = task_within(task, short, false);
+    match tree_of_try(alloc, classes, first) {
+        Ok(tree) => Ok(tree),
+        Err(Halt::Met(answer)) => Err(Halt::Met(answer)),
+        Err(Halt::OutOfMemory) => Err(Halt::OutOfMemory),
+        Err(Halt::Limit) => {
+            if task.limit == short {
+                return Err(Halt::Limit);
+            }
+            let second = task_within(task, task.limit - short, true);
+            tree_of_try(alloc, classes, second)
+        }
+    }
+}
+
+// Stops where the free search meets a tour with so many batches.
+pub(crate) fn stop_at_tour(alloc: Global, classes: &Classes, task: Task) -> Result<(), Stop>
+    ensures { IfErr result (IsStop classes.now task) }
+{
+    match free_tree(alloc, classes, task_within(task, FUEL, false)) {
+        Ok(_) => Ok(()),
+        Err(Halt::Limit) => Ok(()),
+        Err(Halt::Met(answer)) => Err(Stop::Met(answer)),
+        Err(Halt::OutOfMemory) => Err(Stop::OutOfMemory),
+    }
+}

@@ -1,0 +1,122 @@
+ghost use Rattle.std.specs.Prelude.{◌<◌, false, IfErr, IfOk, slice_index};
+ghost use Rattle.pocsag_slots.specs.Loads.{IsAdmitted, IsChoice};
+ghost use Rattle.pocsag_slots.specs.Tours.{IsTour};
+ghost use Rattle.pocsag_tour.specs.Reached.{IsApart};
+ghost use Rattle.pocsag_branch.specs.Examined.{IsForm, IsStop, IsNoTour, StandsAs};
+ghost use Rattle.pocsag_branch.specs.Shape.{NoneCertain};
+
+use crate::boundaries::BoundarySet;
+use crate::child::certain_class;
+use crate::climb::climbed_choice;
+use crate::node::Node;
+use crate::task::{Answer, Form, NoTour, Stop};
+use pocsag_flow::{ChooseFault, choose};
+use pocsag_slots::{CLASSES, Choice, Class, Step};
+use pocsag_tour::{TourFault, has_run_outside, tour};
+use std::alloc::Global;
+
+// Which node is to be made under the limits. This is the one place where the search has a choice.
+pub(crate) fn promised_form(alloc: Global, node: &Node<'_>) -> Result<Form, Stop>
+    ensures form { IfOk result (IsForm node.now.classes.now node.now.task node.now.limits) }
+    ensures shape { IfOk result (StandsAs node.now.classes.now node.now.task.batches node.now.limits) }
+    ensures stop { IfErr result (IsStop node.now.classes.now node.now.task) }
+{
+    match choose(node.classes, &node.limits) {
+        Ok(choice) => {
+            let best = climbed_choice(node, choice);
+            form_for(alloc, node, &best)
+        }
+        Err(ChooseFault::Overload(set)) => Ok(Form::Overload(set)),
+    }
+}
+
+// Which node is to be made where the limits admit the choice.
+pub(crate) fn form_for(alloc: Global, node: &Node<'_>, choice: &Choice) -> Result<Form, Stop>
+    requires { IsAdmitted node.now.classes.now node.now.limits (slice_index choice.now.early) }
+    ensures form { IfOk result (IsForm node.now.classes.now node.now.task node.now.limits) }
+    ensures shape { IfOk result (StandsAs node.now.classes.now node.now.task.batches node.now.limits) }
+    ensures stop { IfErr result (IsStop node.now.classes.now node.now.task) }
+{
+    match why_no_tour(alloc, node, choice)? {
+        NoTour::Apart(set) => Ok(form_at(node, choice, set)),
+        NoTour::Unclosed => Ok(Form::Close),
+    }
+}
+
+// Whether the choice has a tour: it is met, or its runs are apart, or the tour cannot be closed.
+pub(crate) fn why_no_tour(alloc: Global, node: &Node<'_>, choice: &Choice) -> Result<NoTour, Stop>
+    requires { IsAdmitted node.now.classes.now node.now.limits (slice_index choice.now.early) }
+    ensures no_tour { IfOk result
+        (IsNoTour node.now.classes.now node.now.task node.now.limits (slice_index choice.now.early)) }
+    ensures stop { IfErr result (IsStop node.now.classes.now node.now.task) }
+{
+    match tour(
+        alloc,
+        node.classes,
+        choice,
+        node.task.batches,
+        node.task.end,
+    ) {
+        Ok(steps) => Err(stop_with_tour(alloc, node, choice, steps)),
+        Err(TourFault::Apart(members)) => Ok(NoTour::Apart(BoundarySet { members })),
+        Err(TourFault::Unclosed) => Ok(NoTour::Unclosed),
+        Err(TourFault::OutOfMemory) => Err(Stop::OutOfMemory),
+    }
+}
+
+// The tour that was found.
+fn stop_with_tour(alloc: Global, node: &Node<'_>, choice: &Choice, steps: Vec<Step>) -> Stop
+    requires choice { IsChoice node.now.classes.now (slice_index choice.now.early) }
+    requires tour { IsTour node.now.classes.now node.now.task.end
+        (slice_index choice.now.early) node.now.task.batches steps.items }
+    ensures { IsStop node.now.classes.now node.now.task result }
+{
+    let _pages = node.classes.count[0];
+    let answer = Answer {
+        choice: *choice,
+        steps,
+    };
+    match Box::new(alloc, answer) {
+        Ok(answer) => Stop::Met(answer),
+        Err(_) => Stop::OutOfMemory,
+    }
+}
+
+// A cut at the set that the choice reaches, where a class is certain for it, and else a split.
+pub(crate) fn form_at(node: &Node<'_>, choice: &Choice, set: BoundarySet) -> Form
+    requires admitted { IsAdmitted node.now.classes.now node.now.limits (slice_index choice.now.early) }
+    requires apart { IsApart node.now.classes.now (slice_index choice.now.early) node.now.task.batches set.members }
+    ensures form { IsForm node.now.classes.now node.now.task node.now.limits result }
+    ensures shape { StandsAs node.now.classes.now node.now.task.batches node.now.limits result }
+{
+    match certain_class(node, set) {
+        Some(needed) => Form::Cut { set, needed },
+        None => split_point(node, choice, set),
+    }
+}
+
+// The split of the first class with a run outside the set: at 1 where it is an early run.
+fn split_point(node: &Node<'_>, choice: &Choice, set: BoundarySet) -> Form
+    requires admitted { IsAdmitted node.now.classes.now node.now.limits (slice_index choice.now.early) }
+    requires apart { IsApart node.now.classes.now (slice_index choice.now.early) node.now.task.batches set.members }
+    requires uncertain { NoneCertain node.now.classes.now node.now.limits set.members }
+    ensures form { IsForm node.now.classes.now node.now.task node.now.limits result }
+    ensures shape { StandsAs node.now.classes.now node.now.task.batches node.now.limits result }
+{
+    for class in 0..CLASSES as u8 {
+        if has_run_outside(node.classes, choice, set.members, class, true) {
+            return Form::Split {
+                class: Class { number: class },
+                m: 1,
+            };
+        }
+        if has_run_outside(node.classes, choice, set.members, class, false) {
+            return Form::Split {
+                class: Class { number: class },
+                m: node.classes.count[class as usize] as u16,
+            };
+        }
+    }
+    let _set = node.limits.cap[0];
+    unreachable!()
+}
