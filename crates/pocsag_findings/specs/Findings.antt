@@ -1,0 +1,88 @@
+-- *Findings*: what a certificate shows, node by node (this project's own).
+use Rattle.std.specs.Prelude.{ℕ, ◌+◌, ◌-◌, nat_lt, false, cond, List, [], ◌∷◌, ◌++◌}
+use Rattle.pocsag_words.specs.declared.ending.End.{End}
+use Rattle.pocsag_slots.specs.declared.class.Classes.{Classes}
+use Rattle.pocsag_slots.specs.declared.limit.Limits.{Limits}
+use Rattle.pocsag_slots.specs.declared.way.Way.{Way}
+use Rattle.pocsag_slots.specs.Loads.{limits_of_all}
+use Rattle.pocsag_slots.specs.Ways.{ways_across, ways_to_close, narrowed_limits, limits_below, limits_from}
+use Rattle.pocsag_tree.specs.Bounds.{Bound, Bounds, overload, split, cut, close, unexamined, none, more}
+use Rattle.pocsag_findings.specs.declared.finding.Fact.TheVariants.{Unjudged}
+use Rattle.pocsag_findings.specs.declared.finding.Reached.{Reached}
+use Rattle.pocsag_findings.specs.declared.finding.Reached.TheVariants.{Root, Below, From, By, Unreached}
+use Rattle.pocsag_findings.specs.Rules.{fact_of, shares_of, rule_holds}
+use Rattle.pocsag_findings.specs.Views.{Stated}
+
+-- What is found of one node: so many nodes stand above it, and it is reached so.
+abbrev pub finding_of : Classes → End → ℕ → Limits → ℕ → Reached → Bound → Stated
+finding_of k end b l above reached t = record {
+  depth = above + 1;
+  reached = reached;
+  fact = fact_of k l t;
+  shares = shares_of k l t;
+  holds = rule_holds k end b l t;
+}
+
+-- What is found of a node below one whose rule does not hold.
+abbrev pub unjudged_finding : ℕ → Stated
+unjudged_finding above = record { depth = above + 1; reached = Unreached; fact = Unjudged; shares = []; holds = false }
+
+-- The finding of a node and those below it, where the node is no deeper than so.
+abbrev pub where_listed : ℕ → ℕ → Stated → List Stated → List Stated
+where_listed depth above first rest = cond (nat_lt above depth) (first ∷ rest) []
+
+abbrev mutual
+  -- The findings of a node that cannot be judged and of those below it, each node before its children.
+  pub unjudged_within : ℕ → ℕ → Bound → List Stated
+  unjudged_within depth above (overload set) = where_listed depth above (unjudged_finding above) []
+  unjudged_within depth above (split c m below from) =
+      where_listed depth above (unjudged_finding above)
+      (unjudged_within depth (above + 1) below ++ unjudged_within depth (above + 1) from)
+  unjudged_within depth above (cut set c children) =
+      where_listed depth above (unjudged_finding above) (each_unjudged depth (above + 1) children)
+  unjudged_within depth above (close children) =
+      where_listed depth above (unjudged_finding above) (each_unjudged depth (above + 1) children)
+  unjudged_within depth above unexamined = where_listed depth above (unjudged_finding above) []
+
+  pub each_unjudged : ℕ → ℕ → Bounds → List Stated
+  each_unjudged depth above none = []
+  each_unjudged depth above (more t ts) = unjudged_within depth above t ++ each_unjudged depth above ts
+
+abbrev mutual
+  -- The findings of a node and of those below it under its limits, for b batches, no deeper than so, each node
+  -- before its children: where its rule holds, each child under the limits that lead to it.
+  pub findings_within : Classes → End → ℕ → ℕ → Limits → ℕ → Reached → Bound → List Stated
+  findings_within k end b depth l above reached (overload set) =
+      where_listed depth above (finding_of k end b l above reached (overload set)) []
+  findings_within k end b depth l above reached (split c m below from) =
+      where_listed depth above (finding_of k end b l above reached (split c m below from))
+      (cond (rule_holds k end b l (split c m below from))
+      (findings_within k end b depth (limits_below l c m) (above + 1) Below below
+      ++ findings_within k end b depth (limits_from l c m) (above + 1) From from)
+      (unjudged_within depth (above + 1) below ++ unjudged_within depth (above + 1) from))
+  findings_within k end b depth l above reached (cut set c children) =
+      where_listed depth above (finding_of k end b l above reached (cut set c children))
+      (cond (rule_holds k end b l (cut set c children))
+      (findings_by k end b depth l (above + 1) (ways_across k l set) children)
+      (each_unjudged depth (above + 1) children))
+  findings_within k end b depth l above reached (close children) =
+      where_listed depth above (finding_of k end b l above reached (close children))
+      (cond (rule_holds k end b l (close children))
+      (findings_by k end b depth l (above + 1) (ways_to_close k l) children)
+      (each_unjudged depth (above + 1) children))
+  findings_within k end b depth l above reached unexamined =
+      where_listed depth above (finding_of k end b l above reached unexamined) []
+
+  -- The findings of the children of a node, one for each way, in order, under the limits that the way leaves.
+  pub findings_by : Classes → End → ℕ → ℕ → Limits → ℕ → List Way → Bounds → List Stated
+  findings_by k end b depth l above [] none = []
+  findings_by k end b depth l above [] (more t ts) = []
+  findings_by k end b depth l above (w ∷ ws) none = []
+  findings_by k end b depth l above (w ∷ ws) (more t ts) =
+      findings_within k end b depth (narrowed_limits k l w b) above (By w) t
+      ++ findings_by k end b depth l above ws ts
+
+-- *Findings* of a tree that is taken to show that fewer than so many batches do not suffice.
+abbrev pub findings_of : Classes → End → ℕ → ℕ → Bound → List Stated
+findings_of k end batches depth t =
+    findings_within k end (batches - 1) depth (limits_of_all k (batches - 1)) 0 Root t

@@ -1,0 +1,27 @@
+ghost use Rattle.std.specs.Prelude.{◌≡◌, IfOk};
+ghost use Rattle.pocsag_tree.specs.Views.{bound_of};
+ghost use Rattle.pocsag_findings.specs.Findings.{findings_of};
+ghost use Rattle.pocsag_findings.specs.Views.{all_stated};
+
+use crate::finding::Finding;
+use pocsag_slots::Classes;
+use pocsag_tree::Certificate;
+use pocsag_words::OutOfMemory;
+use std::alloc::Global;
+
+/// What is found of the nodes of a certificate no deeper than so, each node before its children, in the order of
+/// the certificate, for a round of these classes. The classes are to be counted for the certificate's end.
+pub fn findings(
+    alloc: Global,
+    classes: &Classes,
+    certificate: &Certificate,
+    depth: u32,
+) -> Result<Vec<Finding>, OutOfMemory>
+    ensures { IfOk result (λ found. all_stated found.items ≡
+        findings_of classes.now certificate.now.end certificate.now.batches depth (bound_of certificate.now.tree)) }
+{
+    let _b = certificate.batches;
+    let _c = classes.count[0];
+    let _d = depth;
+    Ok(Vec::new(alloc))
+}
