@@ -10,7 +10,7 @@ use Rattle.pocsag_tree.specs.Bounds.{Bound, Bounds, overload, split, cut, close,
 use Rattle.pocsag_findings.specs.declared.finding.Fact.TheVariants.{Unjudged}
 use Rattle.pocsag_findings.specs.declared.finding.Reached.{Reached}
 use Rattle.pocsag_findings.specs.declared.finding.Reached.TheVariants.{Root, Below, From, By, Unreached}
-use Rattle.pocsag_findings.specs.Rules.{fact_of, shares_of, rule_holds}
+use Rattle.pocsag_findings.specs.Rules.{fact_of, fact_holds, shares_at}
 use Rattle.pocsag_findings.specs.Views.{Stated}
 
 -- What is found of one node: so many nodes stand above it, and it is reached so.
@@ -19,8 +19,8 @@ finding_of k end b l above reached t = record {
   depth = above + 1;
   reached = reached;
   fact = fact_of k l t;
-  shares = shares_of k l t;
-  holds = rule_holds k end b l t;
+  shares = shares_at k l t;
+  holds = fact_holds end b (fact_of k l t);
 }
 
 -- What is found of a node below one whose rule does not hold.
@@ -56,18 +56,18 @@ abbrev mutual
       where_listed depth above (finding_of k end b l above reached (overload set)) []
   findings_within k end b depth l above reached (split c m below from) =
       where_listed depth above (finding_of k end b l above reached (split c m below from))
-      (cond (rule_holds k end b l (split c m below from))
+      (cond (fact_holds end b (fact_of k l (split c m below from)))
       (findings_within k end b depth (limits_below l c m) (above + 1) Below below
       ++ findings_within k end b depth (limits_from l c m) (above + 1) From from)
       (unjudged_within depth (above + 1) below ++ unjudged_within depth (above + 1) from))
   findings_within k end b depth l above reached (cut set c children) =
       where_listed depth above (finding_of k end b l above reached (cut set c children))
-      (cond (rule_holds k end b l (cut set c children))
+      (cond (fact_holds end b (fact_of k l (cut set c children)))
       (findings_by k end b depth l (above + 1) (ways_across k l set) children)
       (each_unjudged depth (above + 1) children))
   findings_within k end b depth l above reached (close children) =
       where_listed depth above (finding_of k end b l above reached (close children))
-      (cond (rule_holds k end b l (close children))
+      (cond (fact_holds end b (fact_of k l (close children)))
       (findings_by k end b depth l (above + 1) (ways_to_close k l) children)
       (each_unjudged depth (above + 1) children))
   findings_within k end b depth l above reached unexamined =

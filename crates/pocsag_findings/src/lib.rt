@@ -3,6 +3,7 @@
 //! accepted exactly where all of them do.
 
 mod finding;
+mod judging;
 mod listing;
 
 pub use finding::{Fact, Finding, Reached, Share};
