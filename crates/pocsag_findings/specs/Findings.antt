@@ -32,46 +32,45 @@ abbrev pub where_listed : ℕ → ℕ → Stated → List Stated → List Stated
 where_listed depth above first rest = cond (nat_lt above depth) (first ∷ rest) []
 
 abbrev mutual
-  -- The findings of a node that cannot be judged and of those below it, each node before its children.
-  pub unjudged_within : ℕ → ℕ → Bound → List Stated
-  unjudged_within depth above (overload set) = where_listed depth above (unjudged_finding above) []
-  unjudged_within depth above (split c m below from) =
-      where_listed depth above (unjudged_finding above)
-      (unjudged_within depth (above + 1) below ++ unjudged_within depth (above + 1) from)
-  unjudged_within depth above (cut set c children) =
-      where_listed depth above (unjudged_finding above) (each_unjudged depth (above + 1) children)
-  unjudged_within depth above (close children) =
-      where_listed depth above (unjudged_finding above) (each_unjudged depth (above + 1) children)
-  unjudged_within depth above unexamined = where_listed depth above (unjudged_finding above) []
+  -- The findings of the nodes below one that cannot be judged, or whose rule does not hold, each node before its
+  -- children; so many nodes stand above the children.
+  pub unjudged_below : ℕ → ℕ → Bound → List Stated
+  unjudged_below depth above (overload set) = []
+  unjudged_below depth above (split c m below from) =
+      where_listed depth above (unjudged_finding above) (unjudged_below depth (above + 1) below)
+      ++ where_listed depth above (unjudged_finding above) (unjudged_below depth (above + 1) from)
+  unjudged_below depth above (cut set c children) = each_unjudged depth above children
+  unjudged_below depth above (close children) = each_unjudged depth above children
+  unjudged_below depth above unexamined = []
 
   pub each_unjudged : ℕ → ℕ → Bounds → List Stated
   each_unjudged depth above none = []
-  each_unjudged depth above (more t ts) = unjudged_within depth above t ++ each_unjudged depth above ts
+  each_unjudged depth above (more t ts) =
+      where_listed depth above (unjudged_finding above) (unjudged_below depth (above + 1) t) ++ each_unjudged depth above ts
+
+-- The findings of a node that cannot be judged, and of those below it.
+abbrev pub unjudged_within : ℕ → ℕ → Bound → List Stated
+unjudged_within depth above t = where_listed depth above (unjudged_finding above) (unjudged_below depth (above + 1) t)
+
+-- The findings of a node, and of those below it: these ones where its rule holds, and else that they cannot be judged.
+abbrev pub findings_with : Classes → End → ℕ → ℕ → Limits → ℕ → Reached → Bound → List Stated → List Stated
+findings_with k end b depth l above reached t below =
+    where_listed depth above (finding_of k end b l above reached t)
+    (cond (fact_holds end b (fact_of k l t)) below (unjudged_below depth (above + 1) t))
 
 abbrev mutual
-  -- The findings of a node and of those below it under its limits, for b batches, no deeper than so, each node
-  -- before its children: where its rule holds, each child under the limits that lead to it.
-  pub findings_within : Classes → End → ℕ → ℕ → Limits → ℕ → Reached → Bound → List Stated
-  findings_within k end b depth l above reached (overload set) =
-      where_listed depth above (finding_of k end b l above reached (overload set)) []
-  findings_within k end b depth l above reached (split c m below from) =
-      where_listed depth above (finding_of k end b l above reached (split c m below from))
-      (cond (fact_holds end b (fact_of k l (split c m below from)))
-      (findings_within k end b depth (limits_below l c m) (above + 1) Below below
-      ++ findings_within k end b depth (limits_from l c m) (above + 1) From from)
-      (unjudged_within depth (above + 1) below ++ unjudged_within depth (above + 1) from))
-  findings_within k end b depth l above reached (cut set c children) =
-      where_listed depth above (finding_of k end b l above reached (cut set c children))
-      (cond (fact_holds end b (fact_of k l (cut set c children)))
-      (findings_by k end b depth l (above + 1) (ways_across k l set) children)
-      (each_unjudged depth (above + 1) children))
-  findings_within k end b depth l above reached (close children) =
-      where_listed depth above (finding_of k end b l above reached (close children))
-      (cond (fact_holds end b (fact_of k l (close children)))
-      (findings_by k end b depth l (above + 1) (ways_to_close k l) children)
-      (each_unjudged depth (above + 1) children))
-  findings_within k end b depth l above reached unexamined =
-      where_listed depth above (finding_of k end b l above reached unexamined) []
+  -- The findings of the nodes below one whose rule holds under its limits for b batches, no deeper than so: each
+  -- child stands under the limits that lead to it, and before its own children.
+  pub findings_below : Classes → End → ℕ → ℕ → Limits → ℕ → Bound → List Stated
+  findings_below k end b depth l above (overload set) = []
+  findings_below k end b depth l above (split c m below from) =
+      findings_with k end b depth (limits_below l c m) above Below below
+      (findings_below k end b depth (limits_below l c m) (above + 1) below)
+      ++ findings_with k end b depth (limits_from l c m) above From from
+      (findings_below k end b depth (limits_from l c m) (above + 1) from)
+  findings_below k end b depth l above (cut set c children) = findings_by k end b depth l above (ways_across k l set) children
+  findings_below k end b depth l above (close children) = findings_by k end b depth l above (ways_to_close k l) children
+  findings_below k end b depth l above unexamined = []
 
   -- The findings of the children of a node, one for each way, in order, under the limits that the way leaves.
   pub findings_by : Classes → End → ℕ → ℕ → Limits → ℕ → List Way → Bounds → List Stated
@@ -79,8 +78,14 @@ abbrev mutual
   findings_by k end b depth l above [] (more t ts) = []
   findings_by k end b depth l above (w ∷ ws) none = []
   findings_by k end b depth l above (w ∷ ws) (more t ts) =
-      findings_within k end b depth (narrowed_limits k l w b) above (By w) t
+      findings_with k end b depth (narrowed_limits k l w b) above (By w) t
+      (findings_below k end b depth (narrowed_limits k l w b) (above + 1) t)
       ++ findings_by k end b depth l above ws ts
+
+-- The findings of a node and of those below it, under its limits.
+abbrev pub findings_within : Classes → End → ℕ → ℕ → Limits → ℕ → Reached → Bound → List Stated
+findings_within k end b depth l above reached t =
+    findings_with k end b depth l above reached t (findings_below k end b depth l (above + 1) t)
 
 -- *Findings* of a tree that is taken to show that fewer than so many batches do not suffice.
 abbrev pub findings_of : Classes → End → ℕ → ℕ → Bound → List Stated

@@ -2,13 +2,18 @@ ghost use Rattle.std.specs.Prelude.{◌≡◌, ◌&&◌, nat_lt, IfOk, slice_ind
 ghost use Rattle.pocsag_slots.specs.Loads.{AreInOrder};
 ghost use Rattle.pocsag_slots.specs.Numbering.{class_count};
 ghost use Rattle.pocsag_slots.specs.Ways.{class_certain};
+ghost use Rattle.pocsag_tree.specs.Views.{bound_of};
 ghost use Rattle.pocsag_findings.specs.declared.finding.Fact.TheVariants.{Split};
-ghost use Rattle.pocsag_findings.specs.Rules.{fact_holds, least_of_set, shares_of};
+ghost use Rattle.pocsag_findings.specs.Rules.{fact_holds, fact_of, least_of_set, shares_at, shares_of};
 
 use crate::finding::{Fact, Share};
-use pocsag_slots::{CLASSES, Classes, Limits, holds, is_certain, least_by_class, least_load};
+use crate::inquiry::Inquiry;
+use pocsag_slots::{
+    CLASSES, Classes, Limits, closing_ways, holds, is_certain, least_by_class, least_load,
+    total_cap, ways,
+};
+use pocsag_tree::Tree;
 use pocsag_words::{End, OutOfMemory};
-use std::alloc::Global;
 
 // Whether what a node states meets the rule of its kind, for the end and so many batches.
 pub(crate) fn is_met(fact: Fact, end: End, batches: u32) -> bool
@@ -32,14 +37,14 @@ pub(crate) fn is_met(fact: Fact, end: End, batches: u32) -> bool
 }
 
 // Whether the class is one that is certain for the set of boundaries.
-pub(crate) fn may_cut(classes: &Classes, limits: &Limits, set: u16, class: u8) -> bool
+fn may_cut(classes: &Classes, limits: &Limits, set: u16, class: u8) -> bool
     ensures { result ≡ (nat_lt class class_count && class_certain classes.now limits.now set class) }
 {
     (class as usize) < CLASSES && is_certain(classes, limits, set, class)
 }
 
 // What a split at m states.
-pub(crate) fn split_fact(limits: &Limits, class: u8, m: u16) -> Fact
+fn split_fact(limits: &Limits, class: u8, m: u16) -> Fact
     ensures { result ≡ Split class m (slice_index limits.now.lo class) (slice_index limits.now.hi class) }
 {
     let (lo, hi) = if (class as usize) < CLASSES {
@@ -51,24 +56,51 @@ pub(crate) fn split_fact(limits: &Limits, class: u8, m: u16) -> Fact
 }
 
 // The least load of the set of slots, as the sum of those by each class.
-pub(crate) fn least(classes: &Classes, limits: &Limits, set: u16) -> u64
+fn least_of_set(classes: &Classes, limits: &Limits, set: u16) -> u64
     requires { AreInOrder classes.now limits.now }
     ensures { result ≡ least_of_set classes.now limits.now set }
 {
     least_load(classes, limits, set)
 }
 
-// The shares of the classes in the least load of the set of slots.
-pub(crate) fn shares(
-    alloc: Global,
-    classes: &Classes,
-    limits: &Limits,
-    set: u16,
-) -> Result<Vec<Share>, OutOfMemory>
-    requires { AreInOrder classes.now limits.now }
-    ensures { IfOk result (λ found. found.items ≡ shares_of classes.now limits.now set) }
+// What the node states under the limits.
+pub(crate) fn fact_of(inquiry: &Inquiry, limits: &Limits, tree: &Tree) -> Fact
+    requires { AreInOrder inquiry.now.classes.now limits.now }
+    ensures { result ≡ fact_of inquiry.now.classes.now limits.now (bound_of tree.now) }
 {
-    let mut found = Vec::new(alloc);
+    match tree {
+        Tree::Overload(set) => Fact::Overload {
+            set: *set,
+            least: least_of_set(inquiry.classes, limits, *set),
+            room: total_cap(limits, *set),
+        },
+        Tree::Split { class, m, .. } => split_fact(limits, *class, *m),
+        Tree::Cut {
+            set,
+            needed,
+            children,
+        } => Fact::Cut {
+            set: *set,
+            needed: *needed,
+            is_certain: may_cut(inquiry.classes, limits, *set, *needed),
+            ways: ways(inquiry.classes, limits, *set, inquiry.batches).len(),
+            children: children.len(),
+        },
+        Tree::Close { children } => Fact::Close {
+            ways: closing_ways(inquiry.classes, limits).len(),
+            children: children.len(),
+        },
+        Tree::Open => Fact::Open,
+    }
+}
+
+// The shares of the classes in the least load of the set of slots.
+fn shares_of(inquiry: &Inquiry, limits: &Limits, set: u16) -> Result<Vec<Share>, OutOfMemory>
+    requires { AreInOrder inquiry.now.classes.now limits.now }
+    ensures { IfOk result (λ found. found.items ≡ shares_of inquiry.now.classes.now limits.now set) }
+{
+    let classes = inquiry.classes;
+    let mut found = Vec::new(inquiry.alloc);
     for class in 0..CLASSES as u8 {
         let least = least_by_class(classes, limits, set, class);
         if 0 < least {
@@ -80,4 +112,19 @@ pub(crate) fn shares(
         }
     }
     Ok(found)
+}
+
+// The shares that the node states.
+pub(crate) fn shares_at(
+    inquiry: &Inquiry,
+    limits: &Limits,
+    tree: &Tree,
+) -> Result<Vec<Share>, OutOfMemory>
+    requires { AreInOrder inquiry.now.classes.now limits.now }
+    ensures { IfOk result (λ found. found.items ≡ shares_at inquiry.now.classes.now limits.now (bound_of tree.now)) }
+{
+    match tree {
+        Tree::Overload(set) => shares_of(inquiry, limits, *set),
+        _ => Ok(Vec::new(inquiry.alloc)),
+    }
 }

@@ -3,6 +3,7 @@
 //! accepted exactly where all of them do.
 
 mod finding;
+mod inquiry;
 mod judging;
 mod listing;
 

@@ -2,38 +2,17 @@ ghost use Rattle.std.specs.Prelude.{◌≡◌, ◌+◌, ◌<◌, ◌∷◌, ◌+
 ghost use Rattle.pocsag_slots.specs.Loads.{AreInOrder};
 ghost use Rattle.pocsag_slots.specs.Ways.{MayTake};
 ghost use Rattle.pocsag_tree.specs.Views.{bound_of, bounds_of};
-ghost use Rattle.pocsag_findings.specs.Findings.{each_unjudged, finding_of, findings_by, findings_of, findings_within, unjudged_within};
-ghost use Rattle.pocsag_tree.specs.Bounds.{overload};
+ghost use Rattle.pocsag_findings.specs.Findings.{each_unjudged, findings_by, findings_of, findings_within, unjudged_below, unjudged_within};
 ghost use Rattle.pocsag_findings.specs.Rules.{fact_holds};
 ghost use Rattle.pocsag_findings.specs.Views.{all_stated};
 
 use crate::finding::{Fact, Finding, Reached, Share};
-use crate::judging::{is_met, least, may_cut, shares, split_fact};
-use pocsag_slots::{
-    Classes, Limits, Way, all_limits, below_split, closing_ways, from_split, narrow, total_cap,
-    ways,
-};
+use crate::inquiry::{Inquiry, Standing};
+use crate::judging::{fact_of, is_met, shares_at};
+use pocsag_slots::{Classes, Way, all_limits, below_split, closing_ways, from_split, narrow, ways};
 use pocsag_tree::{Certificate, Tree};
-use pocsag_words::{End, OutOfMemory};
+use pocsag_words::OutOfMemory;
 use std::alloc::Global;
-
-// What the nodes are judged for, and how deep they are listed: the batches are one fewer than the certificate's.
-#[derive(Clone, Copy)]
-struct Inquiry<'a> {
-    alloc: Global,
-    classes: &'a Classes,
-    end: End,
-    batches: u32,
-    depth: u32,
-}
-
-// Where a node stands: under these limits, below so many nodes, and how it is reached.
-#[derive(Clone, Copy)]
-struct Standing {
-    limits: Limits,
-    above: u32,
-    reached: Reached,
-}
 
 // Puts what a node states behind the findings, and answers whether its rule holds.
 fn put_fact(
@@ -86,14 +65,28 @@ fn put_unjudged(
         shares: Vec::new(inquiry.alloc),
         holds: false,
     })?;
+    put_below_unjudged(inquiry, above + 1, tree, found)
+}
+
+// Puts the findings of the nodes below one whose rule does not hold, or that cannot be judged.
+#[cycle(passing)]
+fn put_below_unjudged(
+    inquiry: &Inquiry,
+    above: u32,
+    tree: &Tree,
+    found: &mut Vec<Finding>,
+) -> Result<(), OutOfMemory>
+    ensures { OnOk result (all_stated found.new.items ≡ all_stated found.old.items
+        ++ unjudged_below inquiry.now.depth above (bound_of tree.now)) }
+{
     match tree {
         Tree::Overload(_) | Tree::Open => Ok(()),
         Tree::Split { below, from, .. } => {
-            put_unjudged(inquiry, above + 1, below, found)?;
-            put_unjudged(inquiry, above + 1, from, found)
+            put_unjudged(inquiry, above, below, found)?;
+            put_unjudged(inquiry, above, from, found)
         }
-        Tree::Cut { children, .. } => put_each_unjudged(inquiry, above + 1, children, found),
-        Tree::Close { children } => put_each_unjudged(inquiry, above + 1, children, found),
+        Tree::Cut { children, .. } => put_each_unjudged(inquiry, above, children, found),
+        Tree::Close { children } => put_each_unjudged(inquiry, above, children, found),
     }
 }
 
@@ -129,89 +122,33 @@ fn put_node(
     if place.above >= inquiry.depth {
         return Ok(());
     }
+    let fact = fact_of(inquiry, &place.limits, tree);
+    let shares = shares_at(inquiry, &place.limits, tree)?;
+    if !put_fact(inquiry, place, fact, shares, found)? {
+        return put_below_unjudged(inquiry, place.above + 1, tree, found);
+    }
     match tree {
-        Tree::Overload(set) => put_overload(inquiry, place, *set, found),
+        Tree::Overload(_) | Tree::Open => Ok(()),
         Tree::Split {
             class,
             m,
             below,
             from,
         } => {
-            let fact = split_fact(&place.limits, *class, *m);
-            if !put_fact(inquiry, place, fact, Vec::new(inquiry.alloc), found)? {
-                put_unjudged(inquiry, place.above + 1, below, found)?;
-                return put_unjudged(inquiry, place.above + 1, from, found);
-            }
-            let low = Standing {
-                limits: below_split(&place.limits, *class, u32::from(*m)),
-                above: place.above + 1,
-                reached: Reached::Below,
-            };
-            put_node(inquiry, &low, below, found)?;
-            let high = Standing {
-                limits: from_split(&place.limits, *class, u32::from(*m)),
-                above: place.above + 1,
-                reached: Reached::From,
-            };
-            put_node(inquiry, &high, from, found)
+            let low = below_split(&place.limits, *class, u32::from(*m));
+            put_node(inquiry, &place.child(low, Reached::Below), below, found)?;
+            let high = from_split(&place.limits, *class, u32::from(*m));
+            put_node(inquiry, &place.child(high, Reached::From), from, found)
         }
-        Tree::Cut {
-            set,
-            needed,
-            children,
-        } => {
+        Tree::Cut { set, children, .. } => {
             let out = ways(inquiry.classes, &place.limits, *set, inquiry.batches);
-            let fact = Fact::Cut {
-                set: *set,
-                needed: *needed,
-                is_certain: may_cut(inquiry.classes, &place.limits, *set, *needed),
-                ways: out.len(),
-                children: children.len(),
-            };
-            if !put_fact(inquiry, place, fact, Vec::new(inquiry.alloc), found)? {
-                return put_each_unjudged(inquiry, place.above + 1, children, found);
-            }
             put_each(inquiry, place, out.as_slice(), children, found)
         }
         Tree::Close { children } => {
             let out = closing_ways(inquiry.classes, &place.limits);
-            let fact = Fact::Close {
-                ways: out.len(),
-                children: children.len(),
-            };
-            if !put_fact(inquiry, place, fact, Vec::new(inquiry.alloc), found)? {
-                return put_each_unjudged(inquiry, place.above + 1, children, found);
-            }
             put_each(inquiry, place, out.as_slice(), children, found)
         }
-        Tree::Open => {
-            put_fact(inquiry, place, Fact::Open, Vec::new(inquiry.alloc), found)?;
-            Ok(())
-        }
     }
-}
-
-// Puts the finding of an overload.
-fn put_overload(
-    inquiry: &Inquiry,
-    place: &Standing,
-    set: u16,
-    found: &mut Vec<Finding>,
-) -> Result<(), OutOfMemory>
-    requires above { place.now.above < inquiry.now.depth }
-    requires ordered { AreInOrder inquiry.now.classes.now place.now.limits }
-    ensures { OnOk result (all_stated found.new.items ≡ all_stated found.old.items
-        ++ (finding_of inquiry.now.classes.now inquiry.now.end inquiry.now.batches
-        place.now.limits place.now.above place.now.reached (overload set) ∷ [])) }
-{
-    let fact = Fact::Overload {
-        set,
-        least: least(inquiry.classes, &place.limits, set),
-        room: total_cap(&place.limits, set),
-    };
-    let shares = shares(inquiry.alloc, inquiry.classes, &place.limits, set)?;
-    put_fact(inquiry, place, fact, shares, found)?;
-    Ok(())
 }
 
 // Puts the findings of the children of a node whose rule holds, each under the limits that its way leaves.
@@ -233,12 +170,14 @@ fn put_each(
         place.now.limits (place.now.above + 1) ways.now (bounds_of children.now)) }
 {
     for (index, child) in children.iter().enumerate() {
-        let below = Standing {
-            limits: narrow(inquiry.classes, &place.limits, ways[index], inquiry.batches),
-            above: place.above + 1,
-            reached: Reached::By(ways[index]),
-        };
-        put_node(inquiry, &below, child, found)?;
+        let way = ways[index];
+        let narrowed = narrow(inquiry.classes, &place.limits, way, inquiry.batches);
+        put_node(
+            inquiry,
+            &place.child(narrowed, Reached::By(way)),
+            child,
+            found,
+        )?;
     }
     Ok(())
 }

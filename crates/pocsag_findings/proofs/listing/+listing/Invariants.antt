@@ -1,4 +1,4 @@
-use Rattle.std.specs.Prelude.{◌≡◌, ◌+◌, ◌++◌, drop}
+use Rattle.std.specs.Prelude.{◌≡◌, ◌+◌, ◌-◌, ◌*◌, ◌++◌, drop}
 use Rattle.pocsag_tree.specs.Views.{bounds_of}
 use Rattle.pocsag_findings.specs.Findings.{findings_by}
 use Rattle.pocsag_findings.specs.Views.{all_stated}
@@ -13,3 +13,9 @@ invariant-put_each-loop-index l =
     ≡ all_stated l.fn.found.items
     ++ findings_by l.inquiry.classes.now l.inquiry.end l.inquiry.batches l.inquiry.depth l.place.limits (l.place.above + 1)
     l.ways (bounds_of l.children)
+
+abbrev pub decreases-put_node : goal.decreases-put_node
+decreases-put_node l = 2 * (l.inquiry.now.depth - l.place.now.above)
+
+abbrev pub decreases-put_each : goal.decreases-put_each
+decreases-put_each l = 2 * (l.inquiry.now.depth - l.place.now.above) - 1
