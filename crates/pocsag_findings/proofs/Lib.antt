@@ -1,3 +1,4 @@
 pub mod Leasts
+pub mod Nodes
 pub mod Shares
 pub mod Prelude

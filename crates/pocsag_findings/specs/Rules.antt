@@ -54,11 +54,11 @@ is_closed ends.Open = false
 is_closed ends.Closed = true
 
 -- Whether what a node states meets the rule of its kind, for an end and b batches: an overload's set is not empty and has
--- less room than its least load; a split's m parts what its limits allow; a cut's set holds boundary 0, its class is
--- certain, and it has a child for each way; a close stands for the closed end, and has a child for each way.
+-- less room than its least load; a split's class is one, and its m parts what the limits allow; a cut's set holds boundary
+-- 0, its class is certain, and it has a child for each way; a close stands for the closed end, and has a child for each.
 abbrev pub fact_holds : End → ℕ → Fact → Bool
 fact_holds end b (Overload set least room) = nat_lt 0 set && leb set greatest_set && nat_lt room least
-fact_holds end b (Split c m lo hi) = nat_lt lo m && leb m hi
+fact_holds end b (Split c m lo hi) = nat_lt c class_count && nat_lt lo m && leb m hi
 fact_holds end b (Cut set c certain ways children) =
     nat_lt 0 b && leb set greatest_set && holds set 0 && certain && (ways == children)
 fact_holds end b (Close ways children) = is_closed end && nat_lt 0 b && (ways == children)

@@ -21,7 +21,9 @@ pub(crate) fn is_met(fact: Fact, end: End, batches: u32) -> bool
 {
     match fact {
         Fact::Overload { set, least, room } => 0 < set && room < least,
-        Fact::Split { m, lo, hi, .. } => lo < u32::from(m) && u32::from(m) <= hi,
+        Fact::Split { class, m, lo, hi } => {
+            (class as usize) < CLASSES && lo < u32::from(m) && u32::from(m) <= hi
+        }
         Fact::Cut {
             set,
             is_certain,
