@@ -1,4 +1,4 @@
-use Rattle.pocsag_findings.proofs.Prelude.{count_of_bounds, arith, refl, sym, ◌∙◌, bound_of-cut, bound_of-close}
+use Rattle.pocsag_findings.proofs.Prelude.{count_of_bounds, arith, bound_of-cut, bound_of-close}
 use Rattle.pocsag_findings.proofs.judging.fact_of.Goals as goal
 
 pub returns-in-Cut : goal.returns-in-Cut

@@ -1,12 +1,11 @@
-use Rattle.pocsag_findings.proofs.Prelude.{◌≡◌, ℕ, ◌+◌, ◌++◌, List, Classes, End, Limits, Stated, arith, refl, sym, ap, ◌∙◌, true, length, bound_of-cut, bound_of-close, bound_of-split, count_of_bounds, cut, close, split}
-use Rattle.std.proofs.Common.{rules}
+use Rattle.pocsag_findings.proofs.Prelude.{◌≡◌, ℕ, ◌+◌, ◌++◌, List, Classes, End, Limits, Stated, arith, refl, sym, ap, ◌∙◌, true, length, bound_of-cut, bound_of-close, bound_of-split, count_of_bounds}
 use Rattle.std.proofs.lemmas.Result.{on_ok_weaker}
-use Rattle.pocsag_tree.specs.Views.{bound_of, bounds_of}
+use Rattle.pocsag_tree.specs.Views.{bound_of}
 use Rattle.pocsag_slots.specs.Ways.{limits_below, limits_from}
 use Rattle.pocsag_findings.specs.declared.finding.Reached.TheVariants.{Below, From}
 use Rattle.pocsag_findings.specs.Findings.{findings_within}
 use Rattle.pocsag_findings.specs.Views.{all_stated}
-use Rattle.pocsag_findings.specs.Rules.{fact_holds, fact_of}
+use Rattle.pocsag_findings.specs.Rules.{fact_holds}
 use Rattle.pocsag_findings.proofs.Nodes.{held_close, held_cut, held_split, held_node, two_more}
 use Rattle.pocsag_findings.proofs.listing.+listing.Goals as goal
 
