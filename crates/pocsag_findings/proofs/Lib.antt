@@ -1,0 +1,5 @@
+pub mod Leasts
+pub mod Nodes
+pub mod Ordered
+pub mod Shares
+pub mod Prelude

@@ -1,0 +1,11 @@
+#![tactic(auto)]
+//! What a certificate shows, node by node: what each node states, and whether its own rule holds. A tree is
+//! accepted exactly where all of them do.
+
+mod finding;
+mod inquiry;
+mod judging;
+mod listing;
+
+pub use finding::{Fact, Finding, Reached, Share};
+pub use listing::findings;
