@@ -1,12 +1,8 @@
 ghost use Rattle.std.specs.Prelude.{[]};
 
-use crate::desk::Desk;
-use crate::files::open_source;
-use crate::keeping::Beside;
-use crate::misuse::is_regular_or_none;
-use crate::paths::Named;
 use crate::round_files::RoundFiles;
 use pocsag_commands::{Fault, ReaderSource, Role, Watch, tell};
+use pocsag_files::{Beside, Desk, Named, is_regular_or_none, open_source};
 use pocsag_journal::{Disk, Journal, JournalFault, Replayed, read_journal};
 use pocsag_line::STANDARD;
 use pocsag_open::{OpenRound, Planner, run_open_kept};

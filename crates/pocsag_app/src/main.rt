@@ -1,17 +1,11 @@
 #![tactic(auto)]
 //! The program `pocsag`: reads its words, opens its files, and calls the command.
 
-mod desk;
-mod files;
 mod journaling;
-mod keeping;
-mod misuse;
 mod naming;
 mod obeying;
-mod paths;
 mod planning;
 mod round_files;
-mod streams;
 
 use crate::obeying::obey;
 use clap::Error;

@@ -1,5 +1,3 @@
-use crate::desk::Desk;
-use crate::files::{open_buffered, open_source};
 use crate::journaling::open_kept;
 use crate::naming::{names_of, subject_of};
 use crate::planning::plan;
@@ -8,6 +6,7 @@ use pocsag_commands::{
     Fault, ReaderSource, Role, Scene, Watch, expected_file, run_check, run_decode, run_hear,
     run_input, run_report, run_show, tell, tell_explained, tell_fault,
 };
+use pocsag_files::{Desk, open_buffered, open_source};
 use pocsag_line::{Asked, Order, STANDARD, SearchOrder};
 use pocsag_open::{Planner, run_open, run_open_pages};
 use pocsag_words::{Sink, SliceSource};

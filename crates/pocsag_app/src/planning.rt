@@ -1,15 +1,13 @@
 ghost use Rattle.std.specs.Prelude.{IsErrOf, map};
 ghost use Rattle.pocsag_commands.specs.declared.fault.Fault.TheVariants.{EqualPaths};
-ghost use Rattle.pocsag_app.specs.Paths.{HasEqual, paths_of};
+ghost use Rattle.pocsag_files.specs.Paths.{HasEqual, paths_of};
 
-use crate::desk::Desk;
-use crate::files::{make_outputs, open_buffered, open_source, refuse_one_file};
-use crate::keeping::{Beside, put_both};
-use crate::misuse::{misused, tell_misuse};
-use crate::paths::refuse_equal;
-use pocsag_commands::{Fault, PlanFiles, Role, expected_file, run_plan, run_verify};
+use pocsag_commands::{Fault, Outputs, PlanFiles, Role, expected_file, run_plan, run_verify};
+use pocsag_files::{
+    Beside, Desk, make_outputs, misused, open_buffered, open_source, put_both, refuse_equal,
+    refuse_one_file, tell_misuse,
+};
 use pocsag_line::{PlanOrder, STANDARD};
-use pocsag_open::Outputs;
 use pocsag_words::{Sink, SliceSource, Source};
 
 /// `plan`: plans from file to files, or from and to the standard streams. Where standard output takes one of

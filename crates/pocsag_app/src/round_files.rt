@@ -1,12 +1,9 @@
-use crate::desk::Desk;
-use crate::files::{make_outputs, refuse_one_file};
-use crate::keeping::{Beside, put_both};
-use crate::misuse::is_regular_or_none;
-use crate::paths::refuse_equal;
-use crate::streams::Output;
-use pocsag_commands::{Fault, Role, WriterSink};
+use pocsag_commands::{Fault, Outputs, Role, WriterSink};
+use pocsag_files::{
+    Beside, Desk, Output, is_regular_or_none, make_outputs, put_both, refuse_equal, refuse_one_file,
+};
 use pocsag_line::STANDARD;
-use pocsag_open::{Outputs, Places};
+use pocsag_open::Places;
 use std::fs::File;
 
 /// The files that the plans of an open round are written to, none of which is the page file that the round

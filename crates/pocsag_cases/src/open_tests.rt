@@ -1,7 +1,7 @@
 //! Open rounds over memory: what answers each line, and the exit status.
 
-use pocsag_commands::{Fault, tell_fault};
-use pocsag_open::{LINE_LIMIT, Outputs, Places, Planner, run_open, run_open_pages};
+use pocsag_commands::{Fault, Outputs, tell_fault};
+use pocsag_open::{LINE_LIMIT, Places, Planner, run_open, run_open_pages};
 use pocsag_words::{MemorySink, MemorySource};
 use std::alloc::Global;
 use std::process::Abort;

@@ -1,3 +1,5 @@
+use pocsag_words::Sink;
+
 /// The files of a plan: `plan` reads the first and writes the other two, and `--verify` reads all three.
 #[derive(Drop)]
 pub struct PlanFiles<P: Drop, T: Drop, C: Drop> {
@@ -7,4 +9,13 @@ pub struct PlanFiles<P: Drop, T: Drop, C: Drop> {
     pub tx: T,
     /// The certificate.
     pub cert: C,
+}
+
+/// The two outputs of a plan.
+#[derive(Drop)]
+pub struct Outputs<S: Sink + Drop> {
+    /// Takes the transmission.
+    pub tx: S,
+    /// Takes the certificate.
+    pub cert: S,
 }

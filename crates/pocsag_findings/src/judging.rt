@@ -9,7 +9,7 @@ ghost use Rattle.pocsag_findings.specs.Rules.{fact_holds, fact_of, least_of_set,
 use crate::finding::{Fact, Share};
 use crate::inquiry::Inquiry;
 use pocsag_slots::{
-    CLASSES, Classes, Limits, closing_ways, holds, is_certain, least_by_class, least_load,
+    CLASSES, Class, Classes, Limits, closing_ways, holds, is_certain, least_by_class, least_load,
     total_cap, ways,
 };
 use pocsag_tree::Tree;
@@ -104,7 +104,7 @@ fn shares_of(inquiry: &Inquiry, limits: &Limits, set: u16) -> Result<Vec<Share>,
     let classes = inquiry.classes;
     let mut found = Vec::new(inquiry.alloc);
     for class in 0..CLASSES as u8 {
-        let least = least_by_class(classes, limits, set, class);
+        let least = least_by_class(classes, limits, set, Class { number: class });
         if 0 < least {
             found.push(Share {
                 class,

@@ -18,5 +18,5 @@ pub use editing::edit_row;
 pub use keeper::{Keeper, NoKeeper};
 pub use lines::LINE_LIMIT;
 pub use opening::{Planner, run_open, run_open_kept, run_open_pages};
-pub use outputs::{Outputs, Places};
+pub use outputs::Places;
 pub use refusal::Refusal;

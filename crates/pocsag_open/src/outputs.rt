@@ -1,14 +1,5 @@
-use pocsag_commands::Fault;
+use pocsag_commands::{Fault, Outputs};
 use pocsag_words::Sink;
-
-/// The two outputs of a plan.
-#[derive(Drop)]
-pub struct Outputs<S: Sink + Drop> {
-    /// Takes the transmission.
-    pub tx: S,
-    /// Takes the certificate.
-    pub cert: S,
-}
 
 /// What makes the outputs of the plans of an open round, as files of a folder are.
 pub trait Places {

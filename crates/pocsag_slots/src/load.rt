@@ -129,10 +129,9 @@ fn class_least(classes: &Classes, limits: &Limits, set: u16, members: u64, class
 }
 
 /// The least load of the class on the set of slots, over all choices within the limits.
-pub fn least_by_class(classes: &Classes, limits: &Limits, set: u16, class: u8) -> u64
-    requires ordered { AreInOrder classes.now limits.now }
-    requires class { class < 136 }
-    ensures { result ≡ least_of_class classes.now limits.now set class }
+pub fn least_by_class(classes: &Classes, limits: &Limits, set: u16, class: Class) -> u64
+    requires { AreInOrder classes.now limits.now }
+    ensures { result ≡ least_of_class classes.now limits.now set class.number }
 {
     class_least(classes, limits, set, u64::from(size(set)), class)
 }

@@ -1,9 +1,8 @@
 use crate::desk::Desk;
 use crate::paths::{Named, name_one_file};
 use crate::streams::{Input, Output};
-use pocsag_commands::{Fault, ReaderSource, Role, WriterSink};
+use pocsag_commands::{Fault, Outputs, ReaderSource, Role, WriterSink};
 use pocsag_line::path_of;
-use pocsag_open::Outputs;
 use std::fs::{self, File, OpenFile, OpenOptions};
 use std::io::BufReader;
 use std::rt::Files;

@@ -1,6 +1,6 @@
 ghost use Rattle.std.specs.Prelude.{◌↔◌, ◌<◌, IsErrOf, IsTrue, length, map};
 ghost use Rattle.pocsag_commands.specs.declared.fault.Fault.TheVariants.{EqualPaths};
-ghost use Rattle.pocsag_app.specs.Paths.{HasEqual, IsNamedBefore, paths_of};
+ghost use Rattle.pocsag_files.specs.Paths.{HasEqual, IsNamedBefore, paths_of};
 
 use pocsag_commands::Fault;
 use std::fs::{self, Metadata};

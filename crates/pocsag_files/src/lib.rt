@@ -1,0 +1,16 @@
+#![tactic(auto)]
+//! The files that the program's words name: how they are opened, made, kept until both are whole, and told apart.
+
+mod desk;
+mod files;
+mod keeping;
+mod misuse;
+mod paths;
+mod streams;
+
+pub use desk::Desk;
+pub use files::{make_outputs, open_buffered, open_source, refuse_one_file};
+pub use keeping::{Beside, put_both};
+pub use misuse::{Misuse, is_regular_or_none, misused, tell_misuse};
+pub use paths::{Named, refuse_equal};
+pub use streams::{Input, Output};
