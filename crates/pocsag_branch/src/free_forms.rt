@@ -101,8 +101,6 @@ fn split_at(node: &Node<'_>, way: Way) -> Option<Form>
     requires open_way { IsUndecidedWay node.now.classes.now node.now.task.batches node.now.limits way }
     ensures { IfSome result (IsForm node.now.classes.now node.now.task node.now.limits) }
 {
-    let _limit = node.limits.cap[0];
-    let _batches = node.task.batches;
     match way {
         Way::IdleIn(_) => None,
         Way::Early(class) => Some(Form::Split {

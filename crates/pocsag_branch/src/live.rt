@@ -20,7 +20,6 @@ pub(crate) struct LiveWays {
 pub(crate) fn is_live(live: &LiveWays, classes: &Classes, limits: &Limits, way: Way) -> bool
     requires { MayTake classes.now limits.now way }
 {
-    let _pages = (classes.count[0], limits.cap[0]);
     match way {
         Way::IdleIn(slot) => holds(live.idles, slot),
         Way::Early(class) => live.early[class as usize],

@@ -20,7 +20,6 @@ pub(crate) fn found_at_least(classes: &Classes, task: Task, set: u16, answer: An
     requires answer { IsAnswer classes.now task.end task.batches answer }
     ensures { IsFound classes.now task.end task.limit result }
 {
-    let _pages = classes.count[0];
     Found {
         batches: task.batches,
         choice: answer.choice,

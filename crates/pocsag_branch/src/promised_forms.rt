@@ -71,7 +71,6 @@ fn stop_with_tour(alloc: Global, node: &Node<'_>, choice: &Choice, steps: Vec<St
         (slice_index choice.now.early) node.now.task.batches steps.items }
     ensures { IsStop node.now.classes.now node.now.task result }
 {
-    let _pages = node.classes.count[0];
     let answer = Answer {
         choice: *choice,
         steps,
@@ -117,6 +116,5 @@ fn split_point(node: &Node<'_>, choice: &Choice, set: BoundarySet) -> Form
             };
         }
     }
-    let _set = node.limits.cap[0];
     unreachable!()
 }

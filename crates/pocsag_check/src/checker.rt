@@ -76,11 +76,8 @@ pub(crate) fn check_node(claim: &Claim, limits: &Limits, tree: &Tree, depth: u32
                 return false;
             }
             let low = below_split(limits, *class, u32::from(*m));
-            if !check_node(claim, &low, below, depth - 1) {
-                return false;
-            }
             let high = from_split(limits, *class, u32::from(*m));
-            check_node(claim, &high, from, depth - 1)
+            check_node(claim, &low, below, depth - 1) && check_node(claim, &high, from, depth - 1)
         }
         Tree::Cut {
             set,

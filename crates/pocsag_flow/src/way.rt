@@ -40,8 +40,8 @@ pub(crate) fn leave(network: &Network, search: &mut Progress, slot: u8, most: u3
     if straight > 0 {
         return straight;
     }
-    for class in 0..CLASSES as u8 {
-        let moved = switch(network, search, Class { number: class }, slot, most);
+    for number in 0..CLASSES as u8 {
+        let moved = switch(network, search, Class { number }, slot, most);
         if moved > 0 {
             return moved;
         }
@@ -56,8 +56,8 @@ fn leave_straight(network: &Network, search: &mut Progress, slot: u8, most: u32)
     requires reached { holds search.old.reached slot ≡ true }
     ensures pushes { Pushes network.now search.old search.new slot most result }
 {
-    for class in 0..CLASSES as u8 {
-        let moved = switch_straight(network, search, Class { number: class }, slot, most);
+    for number in 0..CLASSES as u8 {
+        let moved = switch_straight(network, search, Class { number }, slot, most);
         if moved > 0 {
             return moved;
         }

@@ -49,8 +49,8 @@ pub(crate) fn edges_of(classes: &Classes, choice: &Choice) -> Edges
         starts: [0; SLOTS],
         ends: [0; SLOTS],
     };
-    for class in 0..CLASS_COUNT {
-        add_class(&mut edges, classes, choice, Class { number: class });
+    for number in 0..CLASS_COUNT {
+        add_class(&mut edges, classes, choice, Class { number });
     }
     edges
 }

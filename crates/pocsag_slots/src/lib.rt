@@ -1,7 +1,7 @@
 #![tactic(auto)]
 //! Classes of pages, loads of slots, ways out of a set of boundaries, and the correspondence of legal
-//! transmissions and tours. Below stand codewords, above only numbers on sixteen slots. Nothing here
-//! takes memory.
+//! transmissions and tours. Below stand codewords and pages; choosing, touring and searching
+//! above work on the numbers of the classes alone. Nothing here takes memory.
 
 mod boundary;
 mod class;

@@ -47,11 +47,11 @@ fn slot_load(classes: &Classes, choice: &Choice, slot: u8) -> u32
     ensures bound { result ≤ load_limit }
 {
     let mut total = 0;
-    for class in 0..CLASS_COUNT {
+    for number in 0..CLASS_COUNT {
         total += class_load(
             classes,
-            Class { number: class },
-            choice.early[class as usize],
+            Class { number },
+            choice.early[number as usize],
             slot,
         );
     }
@@ -144,8 +144,8 @@ pub fn least_load(classes: &Classes, limits: &Limits, set: u16) -> u64
 {
     let members = u64::from(size(set));
     let mut least = 0;
-    for class in 0..CLASS_COUNT {
-        least += class_least(classes, limits, set, members, Class { number: class });
+    for number in 0..CLASS_COUNT {
+        least += class_least(classes, limits, set, members, Class { number });
     }
     least
 }

@@ -88,12 +88,12 @@ pub fn ways(classes: &Classes, limits: &Limits, set: u16, _batches: u32) -> Arra
     for slot in 0..SLOT_COUNT {
         push_if(&mut found, idle_crosses(slot, set), Way::IdleIn(slot));
     }
-    for class in 0..CLASS_COUNT {
-        let known = Class { number: class };
-        let early = is_open_early(classes, limits, set, known);
-        push_if(&mut found, early, Way::Early(class));
-        let late = is_open_late(classes, limits, set, known);
-        push_if(&mut found, late, Way::Late(class));
+    for number in 0..CLASS_COUNT {
+        let class = Class { number };
+        let early = is_open_early(classes, limits, set, class);
+        push_if(&mut found, early, Way::Early(number));
+        let late = is_open_late(classes, limits, set, class);
+        push_if(&mut found, late, Way::Late(number));
     }
     found
 }

@@ -53,14 +53,8 @@ fn run_links(classes: &Classes, choice: &Choice, batches: u32) -> [u16; 16]
     ensures runs { HaveRuns classes.now (slice_index choice.now.early) (slice_index result) 136 }
 {
     let mut links = [0; SLOTS];
-    for class in 0..CLASSES as u8 {
-        link_class(
-            &mut links,
-            classes,
-            choice,
-            batches,
-            Class { number: class },
-        );
+    for number in 0..CLASSES as u8 {
+        link_class(&mut links, classes, choice, batches, Class { number });
     }
     links
 }

@@ -13,17 +13,17 @@ enter-returns-else-load-cap t c =
           c.leave.ensures.pushes c.leave.ensures.closed;
     }
 
-pub leave_straight-loop-class-preserved : goal.leave_straight-loop-class-preserved
-leave_straight-loop-class-preserved t c =
+pub leave_straight-loop-number-preserved : goal.leave_straight-loop-number-preserved
+leave_straight-loop-number-preserved t c =
     let none : c.switch_straight-moved.result ≡ 0 = omega arith in
-    left_same c.args.network.now c.args.search.now c.loop-class.search c.switch_straight-moved.new.search c.args.slot c.args.most
-    c.switch_straight-moved.result 0 c.loop-class.invariant c.switch_straight-moved.ensures.pushes none
+    left_same c.args.network.now c.args.search.now c.loop-number.search c.switch_straight-moved.new.search c.args.slot c.args.most
+    c.switch_straight-moved.result 0 c.loop-number.invariant c.switch_straight-moved.ensures.pushes none
 
-pub leave-loop-class-preserved : goal.leave-loop-class-preserved
-leave-loop-class-preserved t c =
+pub leave-loop-number-preserved : goal.leave-loop-number-preserved
+leave-loop-number-preserved t c =
     let none : c.switch-moved.result ≡ 0 = omega arith in
-    left_more c.args.network.now c.args.search.now c.loop-class.search c.switch-moved.new.search c.args.slot c.args.most
-    c.switch-moved.result c.loop-class.class c.loop-class.invariant c.switch-moved.ensures.pushes none
+    left_more c.args.network.now c.args.search.now c.loop-number.search c.switch-moved.new.search c.args.slot c.args.most
+    c.switch-moved.result c.loop-number.number c.loop-number.invariant c.switch-moved.ensures.pushes none
     (c.switch-moved.ensures.leads none)
 
 pub to_early-returns-clause-pushes : goal.to_early-returns-clause-pushes

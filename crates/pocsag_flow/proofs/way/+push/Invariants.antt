@@ -23,8 +23,8 @@ decreases-leave_straight l = 6 * (65536 - l.search.now.reached) + 4
 abbrev pub decreases-leave : goal.decreases-leave
 decreases-leave l = 6 * (65536 - l.search.now.reached) + 5
 
-abbrev pub invariant-leave_straight-loop-class : goal.invariant-leave_straight-loop-class
-invariant-leave_straight-loop-class l = Leaves l.network l.fn.search l.search l.slot 0
+abbrev pub invariant-leave_straight-loop-number : goal.invariant-leave_straight-loop-number
+invariant-leave_straight-loop-number l = Leaves l.network l.fn.search l.search l.slot 0
 
-abbrev pub invariant-leave-loop-class : goal.invariant-leave-loop-class
-invariant-leave-loop-class l = Leaves l.network l.fn.search l.search l.slot l.class
+abbrev pub invariant-leave-loop-number : goal.invariant-leave-loop-number
+invariant-leave-loop-number l = Leaves l.network l.fn.search l.search l.slot l.number

@@ -14,38 +14,38 @@ loop-slot-preserved c =
     slot_added c.args.set c.loop-slot.slot c.idle_crosses.result c.loop-slot.found.items c.push_if.new.ways.items
     c.idle_crosses.ensures c.loop-slot.invariant c.push_if.ensures
 
-pub loop-class-init : goal.loop-class-init
-loop-class-init c =
+pub loop-number-init : goal.loop-number-init
+loop-number-init c =
     let all : c.loop-slot.slot ≡ 16 = omega arith in
     rw (c.loop-slot.invariant, all, joined_none) (sym (append-nil _))
 
-pub push_if-requires-in-loop-class : goal.push_if-requires-in-loop-class
-push_if-requires-in-loop-class c =
+pub push_if-requires-in-loop-number : goal.push_if-requires-in-loop-number
+push_if-requires-in-loop-number c =
     omega (
       arith,
-      classes_few c.args.classes.now c.args.limits.now c.args.set c.loop-class.class c.loop-class.found.items
-          c.loop-class.invariant,
+      classes_few c.args.classes.now c.args.limits.now c.args.set c.loop-number.number c.loop-number.found.items
+          c.loop-number.invariant,
     )
 
-pub push_if-requires-in-loop-class-2 : goal.push_if-requires-in-loop-class-2
-push_if-requires-in-loop-class-2 c =
+pub push_if-requires-in-loop-number-2 : goal.push_if-requires-in-loop-number-2
+push_if-requires-in-loop-number-2 c =
     omega (
       arith,
-      early_few c.args.classes.now c.args.limits.now c.args.set c.loop-class.class c.is_open_early-early.result
-          c.loop-class.found.items c.push_if-in-loop-class.new.ways.items c.loop-class.invariant c.push_if-in-loop-class.ensures,
+      early_few c.args.classes.now c.args.limits.now c.args.set c.loop-number.number c.is_open_early-early.result
+          c.loop-number.found.items c.push_if-in-loop-number.new.ways.items c.loop-number.invariant c.push_if-in-loop-number.ensures,
     )
 
-pub loop-class-preserved : goal.loop-class-preserved
-loop-class-preserved c =
-    class_added c.args.classes.now c.args.limits.now c.args.set c.loop-class.class c.is_open_early-early.result c.is_open_late-late.result
-    c.loop-class.found.items c.push_if-in-loop-class.new.ways.items c.push_if-in-loop-class-2.new.ways.items
-    c.is_open_early-early.ensures c.is_open_late-late.ensures c.loop-class.invariant c.push_if-in-loop-class.ensures c.push_if-in-loop-class-2.ensures
+pub loop-number-preserved : goal.loop-number-preserved
+loop-number-preserved c =
+    class_added c.args.classes.now c.args.limits.now c.args.set c.loop-number.number c.is_open_early-early.result c.is_open_late-late.result
+    c.loop-number.found.items c.push_if-in-loop-number.new.ways.items c.push_if-in-loop-number-2.new.ways.items
+    c.is_open_early-early.ensures c.is_open_late-late.ensures c.loop-number.invariant c.push_if-in-loop-number.ensures c.push_if-in-loop-number-2.ensures
 
 across : goal.returns-clause-items
 unfolding ways_across
 across c =
-    let all : c.loop-class.class ≡ 136 = omega arith in
-    rw all at c.loop-class.invariant
+    let all : c.loop-number.number ≡ 136 = omega arith in
+    rw all at c.loop-number.invariant
 
 pub returns-clause-items : goal.returns-clause-items
 returns-clause-items c = across c
