@@ -1,5 +1,5 @@
 -- A tree of which all that is found holds is accepted.
-use Rattle.pocsag_findings.proofs.Prelude.{◌≡◌, ℕ, ◌+◌, ◌<◌, ◌≤◌, ◌++◌, ◌∷◌, [], List, Bool, IsTrue, cond, refl, sym, ap, ◌∙◌, arith, nat_lt, true, false, length, slice_index, Classes, End, Limits, Reached, Stated, Way, Bound, Bounds, overload, split, cut, close, unexamined, none, more, children_count}
+use Rattle.pocsag_findings.proofs.Prelude.{◌≡◌, ℕ, ◌+◌, ◌<◌, ◌≤◌, ◌∷◌, [], List, Bool, cond, refl, sym, ◌∙◌, arith, nat_lt, true, false, length, Classes, End, Limits, Reached, Stated, Way, Bound, Bounds, overload, split, cut, close, unexamined, none, more, children_count}
 use Rattle.std.specs.List.{AllByRecursion}
 use Rattle.std.proofs.lemmas.Bool.{and_parts}
 use Rattle.std.proofs.lemmas.Bool.Decides.{nat_tests}
@@ -11,7 +11,7 @@ use Rattle.pocsag_tree.specs.Bounds.{depth_of, deepest}
 use Rattle.pocsag_tree.specs.Spelling.{IsSet}
 use Rattle.pocsag_check.specs.Accepting.{Accepts, AcceptsEach, IsClosed}
 use Rattle.pocsag_findings.specs.declared.finding.Reached.TheVariants.{Below, From, By}
-use Rattle.pocsag_findings.specs.Findings.{findings_below, findings_by, findings_with, findings_within, unjudged_below}
+use Rattle.pocsag_findings.specs.Findings.{findings_below, findings_by, findings_within, unjudged_below}
 use Rattle.pocsag_findings.specs.Rules.{fact_holds, fact_of, least_of_set, room_of}
 use Rattle.pocsag_findings.proofs.Holding.{all, each, overload_fact}
 use Rattle.pocsag_findings.proofs.Nodes.{held_close, held_cut, held_split}

@@ -1,5 +1,5 @@
 -- All that is found of a tree holds exactly where the tree is accepted.
-use Rattle.pocsag_findings.proofs.Prelude.{◌≡◌, ℕ, ◌+◌, ◌<◌, ◌≤◌, ◌++◌, ◌∷◌, [], List, Bool, IsTrue, cond, refl, sym, ap, ◌∙◌, arith, nat_lt, true, false, length, slice_index, Classes, End, Limits, Reached, Stated, Way, Bound, Bounds, overload, split, cut, close, unexamined, none, more, children_count}
+use Rattle.pocsag_findings.proofs.Prelude.{◌≡◌, ℕ, ◌+◌, ◌<◌, ◌≤◌, ◌++◌, ◌∷◌, [], List, Bool, cond, refl, sym, ◌∙◌, arith, nat_lt, true, false, length, Classes, End, Limits, Reached, Stated, Way, Bound, Bounds, overload, split, cut, close, unexamined, none, more, children_count}
 use Rattle.std.specs.List.{AllByRecursion, list_all}
 use Rattle.std.proofs.lemmas.Bool.{and_parts}
 use Rattle.std.proofs.lemmas.Bool.Decides.{nat_tests}
@@ -9,14 +9,11 @@ use Rattle.pocsag_slots.specs.Loads.{AreInOrder, Overloads}
 use Rattle.pocsag_slots.specs.Sums.{holds}
 use Rattle.pocsag_slots.specs.Ways.{MayTake, class_certain, ways_across, ways_to_close, limits_below, limits_from, narrowed_limits}
 use Rattle.pocsag_slots.proofs.LeastLemmas.{least_is, overload_is}
-use Rattle.pocsag_tree.specs.Bounds.{depth_of, deepest}
-use Rattle.pocsag_tree.specs.Spelling.{IsSet}
-use Rattle.pocsag_check.specs.Accepting.{Accepts, AcceptsEach, IsClosed}
+use Rattle.pocsag_check.specs.Accepting.{Accepts, AcceptsEach}
 use Rattle.pocsag_check.proofs.RowChecks.{row_long}
 use Rattle.pocsag_findings.specs.declared.finding.Reached.TheVariants.{Below, From, By}
 use Rattle.pocsag_findings.specs.Findings.{findings_below, findings_by, findings_with, findings_within}
 use Rattle.pocsag_findings.specs.Rules.{fact_holds, fact_of, least_of_set, room_of}
-use Rattle.pocsag_findings.proofs.Nodes.{held_close, held_cut, held_split}
 use Rattle.pocsag_findings.proofs.Ordered.{across_allowed, closing_allowed, ordered_below, ordered_from, ordered_narrowed}
 
 abbrev pub all : List Stated → Bool
