@@ -1,3 +1,5 @@
+pub mod Accepted
+pub mod Holding
 pub mod Leasts
 pub mod Nodes
 pub mod Ordered

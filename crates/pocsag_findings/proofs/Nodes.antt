@@ -1,5 +1,5 @@
 -- The findings of a node, put behind those before it.
-use Rattle.pocsag_findings.proofs.Prelude.{◌≡◌, ℕ, ◌+◌, ◌<◌, ◌≤◌, ◌++◌, ◌∷◌, [], List, Bool, refl, sym, ap, ◌∙◌, arith, nat_lt, true, false, length, slice_index, Classes, End, Limits, Reached, Stated, Fact, Share, Bound, Bounds, split, cut, close, children_count}
+use Rattle.pocsag_findings.proofs.Prelude.{◌≡◌, ℕ, ◌+◌, ◌<◌, ◌≤◌, ◌++◌, ◌∷◌, [], List, arith, nat_lt, true, length, slice_index, Classes, End, Limits, Reached, Stated, Fact, Share, Bound, Bounds, split, cut, close, children_count}
 use Rattle.std.proofs.Common.{append_assoc}
 use Rattle.std.proofs.lemmas.Bool.Decides.{nat_tests}
 use Rattle.pocsag_slots.specs.Ways.{ways_across, ways_to_close}

@@ -1,8 +1,8 @@
 -- Limits stay in order at the children of a node.
-use Rattle.pocsag_findings.proofs.Prelude.{◌≡◌, ℕ, ◌+◌, ◌-◌, ◌<◌, ◌≤◌, [], ◌∷◌, List, refl, ap, arith, nat_lt, true, cond, slice_index, Classes, Limits, Way}
+use Rattle.pocsag_findings.proofs.Prelude.{◌≡◌, ℕ, ◌-◌, ◌<◌, ◌≤◌, [], ◌∷◌, ap, arith, nat_lt, cond, slice_index, Classes, Limits, Way}
 use Rattle.std.proofs.Common.{min, max}
-use Rattle.std.proofs.lemmas.Bool.Decides.{nat_tests}
-use Rattle.std.proofs.lemmas.List.Elements.{All-cons, All-nil, recursion_from_All}
+use Rattle.std.proofs.lemmas.Bool.{ltb-true}
+use Rattle.std.proofs.lemmas.List.Elements.{All-cons, recursion_from_All}
 use Rattle.std.specs.Prelude.{All}
 use Rattle.std.specs.List.{AllByRecursion}
 use Rattle.pocsag_slots.specs.declared.way.Way.TheVariants.{IdleIn, Early, Late}
@@ -49,13 +49,10 @@ ordered_narrowed k l (Late c) b o t = record {
 pub across_allowed : (k : Classes) (l : Limits) (set : ℕ) → AllByRecursion (MayTake k l) (ways_across k l set)
 across_allowed k l set = recursion_from_All (MayTake k l) (ways_across k l set) (ways_allowed k l set)
 
-less : (m n : ℕ) → nat_lt m n ≡ true → m < n
-less m n h = grind (arith, nat_tests)
-
 pub closing_allowed : (k : Classes) (l : Limits) → AllByRecursion (MayTake k l) (ways_to_close k l)
 unfolding ways_to_close
 closing_allowed k l =
     let late : All (MayTake k l) (cond (nat_lt (slice_index l.lo 135) (slice_index k.count 135)) (Late 135 ∷ []) []) =
     All-one_or_none (MayTake k l) (nat_lt (slice_index l.lo 135) (slice_index k.count 135)) (Late 135)
-    (λ free. (omega arith, less (slice_index l.lo 135) (slice_index k.count 135) free)) in
+    (λ free. (omega arith, ltb-true (slice_index l.lo 135) (slice_index k.count 135) free)) in
     recursion_from_All (MayTake k l) (ways_to_close k l) (All-cons (MayTake k l) (IdleIn 15) _ (omega arith) late)

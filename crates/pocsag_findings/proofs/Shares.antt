@@ -1,5 +1,5 @@
 -- The shares of classes in the least load of a set, class by class.
-use Rattle.pocsag_findings.proofs.Prelude.{◌≡◌, ℕ, ◌+◌, ◌<◌, ◌++◌, ◌∷◌, [], List, refl, ap, ◌∙◌, arith, nat_lt, true, false, slice_index, Classes, Limits}
+use Rattle.pocsag_findings.proofs.Prelude.{◌≡◌, ℕ, ◌+◌, ◌<◌, ◌++◌, ◌∷◌, [], List, refl, arith, nat_lt, true, false, slice_index, Classes, Limits}
 use Rattle.std.proofs.lemmas.Bool.Decides.{nat_tests}
 use Rattle.std.proofs.lemmas.List.{append-nil}
 use Rattle.pocsag_slots.specs.Loads.{least_of_class}

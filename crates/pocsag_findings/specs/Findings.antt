@@ -1,5 +1,6 @@
 -- *Findings*: what a certificate shows, node by node (this project's own).
-use Rattle.std.specs.Prelude.{ℕ, ◌+◌, ◌-◌, nat_lt, false, cond, List, [], ◌∷◌, ◌++◌}
+use Rattle.std.specs.Prelude.{ℕ, ◌+◌, ◌-◌, nat_lt, false, cond, IsTrue, List, [], ◌∷◌, ◌++◌}
+use Rattle.std.specs.List.{list_all}
 use Rattle.pocsag_words.specs.declared.ending.End.{End}
 use Rattle.pocsag_slots.specs.declared.class.Classes.{Classes}
 use Rattle.pocsag_slots.specs.declared.limit.Limits.{Limits}
@@ -91,3 +92,7 @@ findings_within k end b depth l above reached t =
 abbrev pub findings_of : Classes → End → ℕ → ℕ → Bound → List Stated
 findings_of k end batches depth t =
     findings_within k end (batches - 1) depth (limits_of_all k (batches - 1)) 0 Root t
+
+-- All that is found holds.
+abbrev pub AllHold : List Stated → Type 0
+AllHold fs = IsTrue (list_all (λ f. f.holds) fs)

@@ -8,7 +8,7 @@ use Rattle.pocsag_slots.specs.Loads.{least_of_class}
 use Rattle.pocsag_slots.specs.Numbering.{class_count}
 use Rattle.pocsag_slots.specs.Sums.{holds, joined_below, sum_below, sum_over}
 use Rattle.pocsag_slots.specs.Ways.{class_certain, ways_across, ways_to_close}
-use Rattle.pocsag_tree.specs.Bounds.{Bound, Bounds, overload, split, cut, close, unexamined, children_count}
+use Rattle.pocsag_tree.specs.Bounds.{Bound, overload, split, cut, close, unexamined, children_count}
 use Rattle.pocsag_tree.specs.Limits.{greatest_set}
 use Rattle.pocsag_findings.specs.declared.finding.Fact.{Fact}
 use Rattle.pocsag_findings.specs.declared.finding.Fact.TheVariants.{Overload, Split, Cut, Close, Open, Unjudged}

@@ -18,19 +18,19 @@ pub(crate) struct Inquiry<'a> {
 
 // Where a node stands: under these limits, below so many nodes, and how it is reached.
 #[derive(Clone, Copy)]
-pub(crate) struct Standing {
+pub(crate) struct Position {
     pub(crate) limits: Limits,
     pub(crate) above: u32,
     pub(crate) reached: Reached,
 }
 
-impl Standing {
+impl Position {
     // Where a child of the node stands.
-    pub(crate) fn child(&self, limits: Limits, reached: Reached) -> Standing
+    pub(crate) fn child(&self, limits: Limits, reached: Reached) -> Position
         requires { self.now.above + 1 < 2 ^ 32 }
         ensures { result ≡ record { limits = limits; above = self.now.above + 1; reached = reached } }
     {
-        Standing {
+        Position {
             limits,
             above: self.above + 1,
             reached,

@@ -5,7 +5,9 @@
 mod finding;
 mod inquiry;
 mod judging;
+mod laws;
 mod listing;
 
 pub use finding::{Fact, Finding, Reached, Share};
+pub use laws::{accepted_trees_hold, trees_that_hold_are_accepted};
 pub use listing::findings;

@@ -7,7 +7,7 @@ ghost use Rattle.pocsag_findings.specs.Rules.{fact_holds};
 ghost use Rattle.pocsag_findings.specs.Views.{all_stated};
 
 use crate::finding::{Fact, Finding, Reached, Share};
-use crate::inquiry::{Inquiry, Standing};
+use crate::inquiry::{Inquiry, Position};
 use crate::judging::{fact_of, is_met, shares_at};
 use pocsag_slots::{Classes, Way, all_limits, below_split, closing_ways, from_split, narrow, ways};
 use pocsag_tree::{Certificate, Tree};
@@ -17,7 +17,7 @@ use std::alloc::Global;
 // Puts what a node states behind the findings, and answers whether its rule holds.
 fn put_fact(
     inquiry: &Inquiry,
-    place: &Standing,
+    place: &Position,
     fact: Fact,
     shares: Vec<Share>,
     found: &mut Vec<Finding>,
@@ -110,7 +110,7 @@ fn put_each_unjudged(
 #[cycle(listing)]
 fn put_node(
     inquiry: &Inquiry,
-    place: &Standing,
+    place: &Position,
     tree: &Tree,
     found: &mut Vec<Finding>,
 ) -> Result<(), OutOfMemory>
@@ -155,7 +155,7 @@ fn put_node(
 #[cycle(listing)]
 fn put_each(
     inquiry: &Inquiry,
-    place: &Standing,
+    place: &Position,
     ways: &[Way],
     children: &[Tree],
     found: &mut Vec<Finding>,
@@ -201,7 +201,7 @@ pub fn findings(
         batches,
         depth,
     };
-    let root = Standing {
+    let root = Position {
         limits: all_limits(classes, batches),
         above: 0,
         reached: Reached::Root,
