@@ -2,3 +2,4 @@ pub mod Fields
 pub mod Quotes
 pub mod Refusals
 pub mod RowTexts
+pub mod SeenLines
