@@ -3,3 +3,4 @@ pub mod Quotes
 pub mod Refusals
 pub mod RowTexts
 pub mod SeenLines
+pub mod Telling
