@@ -1,6 +1,6 @@
 ghost use Rattle.std.specs.Prelude.{◌≡◌, ◌≤◌, [], ◌++◌, length, IfErr, IfOk, OnOk};
 ghost use Rattle.pocsag_commands.specs.Faults.{status_of};
-ghost use Rattle.pocsag_open.specs.Lines.{IsByteKept, IsFound, IsNextByte, between_places};
+ghost use Rattle.pocsag_open.specs.Lines.{IsByteKept, IsFound, IsNextByte, between_places, line_limit};
 
 use pocsag_commands::Fault;
 use pocsag_words::{DeviceFault, Source};
@@ -89,6 +89,7 @@ impl Lines {
     pub fn read_line<S: Source>(&mut self, source: &mut S) -> Result<Found, Fault>
         ensures found { S.tells → IfOk result (λ found. IsFound found (between_places self.old.piece self.old.start self.old.end ++ S.held source.old)
             self.new.line.items (between_places self.new.piece self.new.start self.new.end ++ S.held source.new)) }
+        ensures short { length self.new.line.items ≤ line_limit }
         ensures read { OnOk result (S.failures source.new ≡ S.failures source.old) }
         ensures lost { IfErr result (λ e. status_of e ≡ 3) }
     {
@@ -111,6 +112,7 @@ impl Lines {
     // Keeps one byte more of a line, unless the line is as long as may be.
     fn keep(&mut self, byte: u8) -> Result<Found, Fault>
         ensures kept { IfOk result (λ found. IsByteKept found byte self.old.line.items self.new.line.items) }
+        ensures short { length self.old.line.items ≤ line_limit → length self.new.line.items ≤ line_limit }
         ensures ahead { between_places self.new.piece self.new.start self.new.end ≡ between_places self.old.piece self.old.start self.old.end }
         ensures lost { IfErr result (λ e. e ≡ Fault.OutOfMemory) }
     {

@@ -1,8 +1,11 @@
-ghost use Rattle.std.specs.Prelude.{◌≡◌, ◌++◌, length, false, true, Err, IfErr, IfOk, OnErr, OnOk};
+ghost use Rattle.std.specs.Prelude.{◌≡◌, ◌≤◌, List, [], ◌++◌, length, false, true, Err, IfErr, IfOk, Ok, OnErr, OnOk};
 ghost use Rattle.pocsag_pages.specs.PageFile.{verdict};
 ghost use Rattle.pocsag_pages.specs.declared.fault.RoundFault.{RoundFault};
+ghost use Rattle.pocsag_pages.specs.declared.page.Page.{Page};
 ghost use Rattle.pocsag_commands.specs.Faults.{status_of};
 ghost use Rattle.pocsag_open.specs.Answers.{IsPlanSent, IsPlanTold, plan_answer};
+ghost use Rattle.pocsag_open.specs.Lines.{line_limit};
+ghost use Rattle.pocsag_open.specs.Replies.{IsLineReply, IsSession, TookMore};
 
 use crate::answering::{OpenRound, answer_edit, refuse, tell_pages};
 use crate::edits::{Line, line_of, record_of};
@@ -36,6 +39,10 @@ pub fn run_open<P: Places, I: Source, O: Sink>(
     input: &mut I,
     out: &mut O,
 ) -> Result<(), Fault>
+    // What is told are the replies to the lines of the input, one by one, from no pages on.
+    ensures session { I.tells → O.tells → OnOk result ((after : List Page) ×
+        TookMore (O.taken out.old) (O.taken out.new) (IsSession planner.now.always (I.held input.old) [] after)) }
+
     // It is done only at the end of the input, which did not fail.
     ensures input { OnOk result (I.failures input.new ≡ I.failures input.old) }
     ensures lost { IfErr result (λ e. status_of e ≡ 3) }
@@ -55,6 +62,11 @@ pub fn run_open_pages<P: Places, F: Source, I: Source, O: Sink>(
     input: &mut I,
     out: &mut O,
 ) -> Result<(), Fault>
+    // What is told are the replies to the lines of the input, one by one, from the pages of the page file on.
+    ensures session { F.tells → I.tells → O.tells → OnOk result ((before after : List Page) ×
+        (verdict (F.held pages.old) ≡ Ok before) ×
+        TookMore (O.taken out.old) (O.taken out.new) (IsSession planner.now.always (I.held input.old) before after)) }
+
     // It is done only at the end of the input, and neither it nor the page file failed.
     ensures input { OnOk result (I.failures input.new ≡ I.failures input.old) }
     ensures pages { OnOk result (F.failures pages.new ≡ F.failures pages.old) }
@@ -78,6 +90,7 @@ pub fn run_open_pages<P: Places, F: Source, I: Source, O: Sink>(
 
 // A book of the pages of a page file.
 fn book_of<F: Source>(alloc: Global, pages: &mut F) -> Result<Book, Fault>
+    ensures pages { F.tells → IfOk result (λ book. verdict (F.held pages.old) ≡ Ok book) }
     ensures read { OnOk result (F.failures pages.new ≡ F.failures pages.old) }
     ensures why { F.tells → IfErr result (λ e. status_of e ≡ 1 →
         (f : RoundFault) × (verdict (F.held pages.old) ≡ Err f)) }
@@ -95,6 +108,10 @@ pub fn run_open_kept<P: Places, K: Keeper + Drop, I: Source, O: Sink>(
     input: &mut I,
     out: &mut O,
 ) -> Result<(), Fault>
+    // What is told are the replies to the lines of the input, one by one, from the pages of the round on.
+    ensures session { I.tells → O.tells → OnOk result (TookMore (O.taken out.old) (O.taken out.new)
+        (IsSession planner.now.always (I.held input.old) round.old.book round.new.book)) }
+
     // It is done only at the end of the input, which did not fail; then what is kept stands for the pages.
     ensures input { OnOk result (I.failures input.new ≡ I.failures input.old) }
     ensures stands { K.stands_for round.old.keeper round.old.book →
@@ -110,7 +127,7 @@ pub fn run_open_kept<P: Places, K: Keeper + Drop, I: Source, O: Sink>(
         }
         round.keeper.settle(alloc, &round.book)?;
     }
-    Ok(())
+    Err(Fault::Device)
 }
 
 // Answers one line.
@@ -121,6 +138,9 @@ fn answer<P: Places, K: Keeper + Drop, O: Sink>(
     line: &[u8],
     out: &mut O,
 ) -> Result<(), Fault>
+    requires { length line.now ≤ line_limit }
+    ensures replied { O.tells → OnOk result (TookMore (O.taken out.old) (O.taken out.new)
+        (IsLineReply planner.now.always line.now round.old.book round.new.book)) }
     ensures stands { K.stands_for round.old.keeper round.old.book →
         OnOk result (K.stands_for round.new.keeper round.new.book) }
     ensures lost { IfErr result (λ e. status_of e ≡ 3) }
