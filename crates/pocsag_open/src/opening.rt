@@ -1,4 +1,4 @@
-ghost use Rattle.std.specs.Prelude.{◌≡◌, ◌≤◌, List, [], ◌++◌, length, false, true, Err, IfErr, IfOk, Ok, OnErr, OnOk};
+ghost use Rattle.std.specs.Prelude.{◌≡◌, ◌≤◌, List, [], ◌++◌, length, false, Err, IfErr, IfOk, Ok, OnErr, OnOk};
 ghost use Rattle.pocsag_pages.specs.PageFile.{verdict};
 ghost use Rattle.pocsag_pages.specs.declared.fault.RoundFault.{RoundFault};
 ghost use Rattle.pocsag_pages.specs.declared.page.Page.{Page};
@@ -17,7 +17,7 @@ use crate::settling::settled;
 use pocsag_commands::{DEFAULT_LIMIT, Fault, tell};
 use pocsag_decode::{ListFault, write_page_file};
 use pocsag_pages::read_round;
-use pocsag_plan::Book;
+use pocsag_plan::{Book, Effort, Search};
 use pocsag_words::{End, Sink, Source};
 use std::alloc::Global;
 
@@ -199,44 +199,38 @@ fn plan_book<P: Places>(
     ensures { IfOk result (λ planned. IsPlanTold end book.now planner.now.always planned.batches planned.bound) }
 {
     let mut outputs = planner.places.make(tx, cert)?;
-    if planner.always {
-        plan_within_one(book, &mut outputs, end)
-    } else {
-        plan_fewest(book, &mut outputs, end)
-    }
+    plan_sent(book, &mut outputs, planner.always, end)
 }
 
-// Writes both with the fewest batches.
-fn plan_fewest<S: Sink + Drop>(
+// Writes both, with the fewest batches, or where `always` is asked with one more if the limit is reached.
+fn plan_sent<S: Sink + Drop>(
     book: &Book,
     outputs: &mut Outputs<S>,
+    always: bool,
     end: End,
 ) -> Result<Planned, Fault>
-    ensures told { IfOk result (λ planned. IsPlanTold end book.now false planned.batches planned.bound) }
+    ensures told { IfOk result (λ planned. IsPlanTold end book.now always planned.batches planned.bound) }
     ensures sent { S.tells → IfOk result (λ planned. IsPlanSent end book.now planned.batches planned.bound
         (S.taken outputs.old.tx) (S.taken outputs.new.tx) (S.taken outputs.old.cert) (S.taken outputs.new.cert)) }
 {
-    let plan = book.plan_stream(&mut outputs.tx, &mut outputs.cert, DEFAULT_LIMIT, end)?;
-    Ok(Planned {
-        batches: plan.batches,
-        bound: plan.batches,
-    })
-}
-
-// The same, where the limit is reached with one batch more than the bound.
-fn plan_within_one<S: Sink + Drop>(
-    book: &Book,
-    outputs: &mut Outputs<S>,
-    end: End,
-) -> Result<Planned, Fault>
-    ensures told { IfOk result (λ planned. IsPlanTold end book.now true planned.batches planned.bound) }
-    ensures sent { S.tells → IfOk result (λ planned. IsPlanSent end book.now planned.batches planned.bound
-        (S.taken outputs.old.tx) (S.taken outputs.new.tx) (S.taken outputs.old.cert) (S.taken outputs.new.cert)) }
-{
-    let (tx, cert) = (&mut outputs.tx, &mut outputs.cert);
-    let bounded = book.plan_stream_always(tx, cert, DEFAULT_LIMIT, end)?;
+    let search = Search {
+        limit: DEFAULT_LIMIT,
+        end,
+        effort: effort_of(always),
+    };
+    let bounded = book.bounded_stream(&mut outputs.tx, &mut outputs.cert, search)?;
     Ok(Planned {
         batches: bounded.plan.batches,
         bound: bounded.bound,
     })
+}
+
+fn effort_of(always: bool) -> Effort
+    ensures { always ≡ false → result ≡ Effort.Fewest }
+{
+    if always {
+        Effort::Always
+    } else {
+        Effort::Fewest
+    }
 }
