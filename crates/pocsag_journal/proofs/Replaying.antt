@@ -15,7 +15,9 @@ use Rattle.pocsag_pages.specs.PageFile.{Row, only_row, rows_of}
 use Rattle.pocsag_pages.specs.declared.page.Page.{Page}
 use Rattle.pocsag_open.specs.Runs.{Asked, IsDone, IsEdit, IsRefusedFor, IsRun, asked_of, wants_memory}
 use Rattle.pocsag_open.specs.declared.refusal.Refusal.{Refusal}
-use Rattle.pocsag_journal.specs.Journals.{HasNoLineFeed, IsBadLine, IsLine, IsWholeLine, MakesLine, Replays, first, first_record, journal_text, later, rows_text}
+use Rattle.pocsag_open.specs.Lines.{HasNoLineFeed}
+use Rattle.pocsag_open.specs.Runs.{first_record}
+use Rattle.pocsag_journal.specs.Journals.{IsBadLine, IsLine, IsWholeLine, MakesLine, Replays, first, journal_text, later, rows_text}
 use Rattle.pocsag_journal.proofs.EditRuns.{run_on}
 use Rattle.pocsag_journal.proofs.Prefixes.{all_more, journal_more}
 use Rattle.pocsag_journal.proofs.TextLines.{back_is}

@@ -10,7 +10,9 @@ use Rattle.csv.specs.Writing.{default_writer, fields_text, is_blank, read_back, 
 use Rattle.csv.specs.declared.parser.State.TheVariants as st
 use Rattle.csv.proofs.RoundTrip.{read-write}
 use Rattle.pocsag_pages.specs.PageFile.{Row}
-use Rattle.pocsag_journal.specs.Journals.{HasNoLineFeed, IsLine, IsWholeLine, first_record, rows_text}
+use Rattle.pocsag_open.specs.Lines.{HasNoLineFeed}
+use Rattle.pocsag_open.specs.Runs.{first_record}
+use Rattle.pocsag_journal.specs.Journals.{IsLine, IsWholeLine, rows_text}
 
 -- two texts that begin with a line each and are equal begin with the same line
 pub split_lines : (a b xs ys : List ℕ) → HasNoLineFeed a → HasNoLineFeed b → a ++ line_feed ∷ xs ≡ b ++ line_feed ∷ ys →

@@ -5,15 +5,12 @@ use Rattle.csv.specs.Machine.{line_feed}
 use Rattle.csv.specs.Writing.{default_writer, row_text}
 use Rattle.pocsag_pages.specs.PageFile.{Row}
 use Rattle.pocsag_pages.specs.declared.page.Page.{Page}
-use Rattle.pocsag_open.specs.Runs.{IsEdit, IsRun}
+use Rattle.pocsag_open.specs.Lines.{HasNoLineFeed}
+use Rattle.pocsag_open.specs.Runs.{IsEdit, IsRun, first_record}
 
 -- The most bytes of a journal that is read.
 abbrev pub journal_limit : ℕ
 journal_limit = 1073741824
-
--- The first record: it names the format and its version.
-abbrev pub first_record : Row
-first_record = codes "pocsag journal" ∷ codes "1" ∷ []
 
 -- The text of records, each as csv writes it.
 unfoldable pub rows_text : List Row → List ℕ
@@ -23,10 +20,6 @@ rows_text (row ∷ rows) = row_text default_writer row ++ rows_text rows
 -- *Journal text*: the first record, and then those of the edits.
 abbrev pub journal_text : List Row → List ℕ
 journal_text rows = row_text default_writer first_record ++ rows_text rows
-
--- No byte is a line feed.
-abbrev pub HasNoLineFeed : List ℕ → Type 0
-HasNoLineFeed bytes = AllByRecursion (λ b. b ≢ line_feed) bytes
 
 -- Bytes without a line feed, and a line feed.
 pub record IsWholeLine (line : List ℕ) : Type 0 where

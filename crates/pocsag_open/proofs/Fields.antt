@@ -1,10 +1,13 @@
 -- What the fields of a record ask for.
-use Rattle.std.proofs.Common.{◌≡◌, ℕ, zero, suc, ◌<◌, Bool, true, false, cond, List, [], ◌∷◌, length, refl, sym, arith, codes}
+use Rattle.std.proofs.Common.{◌≡◌, ◌≢◌, inl, inr, ℕ, zero, suc, ◌<◌, Bool, true, false, cond, List, [], ◌∷◌, length, refl, sym, ap, ◌∙◌, arith, codes}
 use Rattle.std.specs.Prelude.{Some, None, not}
+use Rattle.std.proofs.lemmas.Slice.Eq.{bytes_eq-Decides}
+use Rattle.pocsag_words.specs.declared.ending.End.{End}
+use Rattle.pocsag_open.specs.Replies.{AsksNeither, AsksPlan, IsPlanEnd, end_word, list_record}
 use Rattle.std.specs.Str.{bytes_eq}
 use Rattle.csv.specs.Records.{field_at}
 use Rattle.pocsag_pages.specs.PageFile.{Row}
-use Rattle.pocsag_open.specs.Runs.{add, asked_of, cancel, clear}
+use Rattle.pocsag_open.specs.Runs.{add, asked_of, cancel, clear, first_record}
 
 pub has_field : (row : Row) (i : ℕ) → i < length row → None ≡ field_at row i → ⊥
 unfolding field_at
@@ -70,3 +73,68 @@ no_add (w ∷ f ∷ []) word n e t = absurd (omega arith)
 no_add (w ∷ f ∷ g ∷ []) word n e t = absurd (omega arith)
 no_add (w ∷ f ∷ g ∷ h ∷ []) word n e t = let same : word ≡ w = cc e in rw (sym same, t) refl
 no_add (w ∷ f ∷ g ∷ h ∷ i ∷ row) word n e t = absurd (omega arith)
+
+pub is_word : (word name : List ℕ) → bytes_eq word name ≡ true → word ≡ name
+is_word word name t = (bytes_eq-Decides word name).0 t
+
+pub is_other : (word name : List ℕ) → bytes_eq word name ≡ false → word ≢ name
+is_other word name t e = cc (t, (bytes_eq-Decides word name).1 e)
+
+pub single : (row : Row) (word : List ℕ) → length row ≡ 1 → Some word ≡ field_at row 0 → row ≡ word ∷ []
+unfolding field_at
+single [] word n e = absurd (omega arith)
+single (w ∷ []) word n e = let same : word ≡ w = cc e in ap (λ (f : List ℕ). f ∷ []) (sym same)
+single (w ∷ a ∷ row) word n e = absurd (omega arith)
+
+pub pair : (row : Row) (word other : List ℕ) → length row ≡ 2 → Some word ≡ field_at row 0 → Some other ≡ field_at row 1 → row ≡ word ∷ other ∷ []
+unfolding field_at
+pair [] word other n e h = absurd (omega arith)
+pair (w ∷ []) word other n e h = absurd (omega arith)
+pair (w ∷ a ∷ []) word other n e h =
+    let same : word ≡ w = cc e in
+    let second : other ≡ a = cc h in
+    rw (same, second) refl
+pair (w ∷ a ∷ b ∷ row) word other n e h = absurd (omega arith)
+
+-- a record of another length than one and two asks neither for the list nor for a journal
+pub neither_by_length : (row : Row) → length row ≢ 1 → length row ≢ 2 → AsksNeither row
+neither_by_length row m n = (λ e. m (ap length e), λ e. n (ap length e))
+
+-- nor does a record of one field that is not `list`
+pub neither_alone : (row : Row) (word : List ℕ) → row ≡ word ∷ [] → word ≢ codes "list" → AsksNeither row
+neither_alone row word e n = (λ h. n (cc (sym e ∙ h)), λ h. cc (sym e ∙ h))
+
+-- nor one of two fields that is not the first of a journal
+pub neither_of_two : (row : Row) (word : List ℕ) → length row ≡ 2 → Some word ≡ field_at row 0 → word ≢ codes "pocsag journal" → AsksNeither row
+unfolding field_at
+neither_of_two [] word n e d = absurd (omega arith)
+neither_of_two (w ∷ row) word n e d = (λ h. absurd (let k : length (w ∷ row) ≡ 1 = ap length h in omega arith), λ h. d (cc (e, h)))
+
+pub neither_second : (row : Row) (word : List ℕ) → length row ≡ 2 → Some word ≡ field_at row 1 → word ≢ codes "1" → AsksNeither row
+unfolding field_at
+neither_second [] word n e d = absurd (omega arith)
+neither_second (w ∷ []) word n e d = absurd (omega arith)
+neither_second (w ∷ a ∷ row) word n e d = (λ h. absurd (let k : length (w ∷ a ∷ row) ≡ 1 = ap length h in omega arith), λ h. d (cc (e, h)))
+
+-- nor the record of a plan
+pub neither_of_plan : (end : End) (row : Row) → IsPlanEnd end row → AsksNeither row
+neither_of_plan end row (inl h) = neither_by_length row (λ e. absurd (omega (arith, h.0))) (λ e. absurd (omega (arith, h.0)))
+neither_of_plan end row (inr h) = neither_by_length row (λ e. absurd (omega (arith, h.0))) (λ e. absurd (omega (arith, h.0)))
+
+-- the fields of the record of a plan
+pub plan_is : (end : End) (row : Row) (word : List ℕ) → IsPlanEnd end row → Some word ≡ field_at row 0 → word ≡ codes "plan" → AsksPlan end row
+unfolding field_at
+plan_is end [] word (inl h) e w = absurd (omega (arith, h.0))
+plan_is end (p ∷ []) word (inl h) e w = absurd (omega (arith, h.0))
+plan_is end (p ∷ tx ∷ []) word (inl h) e w = absurd (omega (arith, h.0))
+plan_is end (p ∷ tx ∷ cert ∷ []) word (inl h) e w = let same : p ≡ codes "plan" = cc (e, w) in (tx, cert, inr (h.1, rw same refl))
+plan_is end (p ∷ tx ∷ cert ∷ f ∷ row) word (inl h) e w = absurd (omega (arith, h.0))
+plan_is end [] word (inr h) e w = absurd (omega (arith, h.0))
+plan_is end (p ∷ []) word (inr h) e w = absurd (omega (arith, h.0))
+plan_is end (p ∷ tx ∷ []) word (inr h) e w = absurd (omega (arith, h.0))
+plan_is end (p ∷ tx ∷ cert ∷ []) word (inr h) e w = absurd (omega (arith, h.0))
+plan_is end (p ∷ tx ∷ cert ∷ f ∷ []) word (inr h) e w =
+    let same : p ≡ codes "plan" = cc (e, w) in
+    let last : f ≡ end_word end = cc (h.1) in
+    (tx, cert, inl (rw (same, last) refl))
+plan_is end (p ∷ tx ∷ cert ∷ f ∷ g ∷ row) word (inr h) e w = absurd (omega (arith, h.0))

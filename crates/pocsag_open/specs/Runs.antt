@@ -11,6 +11,10 @@ use Rattle.pocsag_open.specs.declared.refusal.Refusal.TheVariants as refusal
 use Rattle.pocsag_pages.specs.declared.fault.FieldFault.TheVariants as field
 use Rattle.pocsag_plan.specs.declared.refusal.AddFault.TheVariants as adding
 
+-- The first record of a journal: it names the format and its version.
+abbrev pub first_record : Row
+first_record = codes "pocsag journal" ∷ codes "1" ∷ []
+
 -- What a record asks for that is an edit.
 pub data Asked : Type 0 where
   add : (address kind message : List ℕ) → Asked

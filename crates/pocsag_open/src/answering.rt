@@ -3,15 +3,21 @@ ghost use Rattle.csv.specs.Records.{fields_of};
 ghost use Rattle.pocsag_commands.specs.Faults.{status_of};
 ghost use Rattle.pocsag_open.specs.Answers.{pages_answer};
 ghost use Rattle.pocsag_open.specs.Keeping.{IsAnswered, IsLost};
+ghost use Rattle.pocsag_open.specs.Replies.{IsEditReply, IsRefusalTold, TookMore};
 
 use crate::editing::edit_row;
 use crate::keeper::Keeper;
 use crate::refusal::Refusal;
+use arrayvec::ArrayString;
 use csv::ByteRecord;
 use pocsag_commands::{Fault, tell};
 use pocsag_plan::Book;
 use pocsag_words::Sink;
 use std::alloc::Global;
+use std::fmt::Write;
+
+// The longest words of a refusal.
+const LONGEST: usize = 200;
 
 /// An open round: its pages, and what keeps its edits.
 #[derive(Drop)]
@@ -34,6 +40,8 @@ pub fn answer_edit<K: Keeper + Drop, O: Sink>(
     ensures unanswered { K.tells → O.tells → OnErr result (IsLost (fields_of row.now) round.old.book round.new.book
         (K.taken round.old.keeper) (K.taken round.new.keeper) (K.safe round.new.keeper)
         (O.taken out.old) (O.taken out.new)) }
+    ensures replied { O.tells → OnOk result (TookMore (O.taken out.old) (O.taken out.new)
+        (IsEditReply (fields_of row.now) round.old.book round.new.book)) }
     ensures stands { K.stands_for round.old.keeper round.old.book →
         OnOk result (K.stands_for round.new.keeper round.new.book) }
     ensures lost { IfErr result (λ e. status_of e ≡ 3) }
@@ -48,9 +56,16 @@ pub fn answer_edit<K: Keeper + Drop, O: Sink>(
 
 /// Tells why a line is refused.
 pub(crate) fn refuse<O: Sink>(refusal: Refusal, out: &mut O) -> Result<(), Fault>
-    ensures { IfErr result (λ e. e ≡ Fault.Write) }
+    ensures told { O.tells → OnOk result
+        (TookMore (O.taken out.old) (O.taken out.new) (IsRefusalTold refusal)) }
+    ensures lost { IfErr result (λ e. e ≡ Fault.Write) }
 {
-    tell(out, format_args!("refused: {refusal}\n"))
+    let mut words = ArrayString::<LONGEST>::new();
+    let Ok(()) = write!(words, "{refusal}") else {
+        return Err(Fault::Write);
+    };
+    let words = words.as_str();
+    tell(out, format_args!("refused: {words}\n"))
 }
 
 /// How many pages there are now.

@@ -1,5 +1,6 @@
 ghost use Rattle.std.specs.Prelude.{◌≡◌, length, IfErr, IfOk, None};
 ghost use Rattle.csv.specs.Records.{fields_of};
+ghost use Rattle.pocsag_open.specs.Replies.{IsAskedBy, IsAskedIn, IsPlanEnd};
 ghost use Rattle.pocsag_open.specs.Runs.{asked_by_line, asked_in, asked_of};
 ghost use Rattle.pocsag_open.specs.Spelling.{IsRowText, IsUnread, record_text};
 
@@ -64,7 +65,8 @@ pub fn record_of(alloc: Global, line: &[u8]) -> Result<ByteRecord, Refusal>
 /// What the record asks for.
 #[tactic(auto, unfolding(crate::specs::Runs::asked_of))]
 pub fn line_of(row: &ByteRecord) -> Line<'_>
-    ensures { asked_by_line result ≡ asked_of (fields_of row.now) }
+    ensures edit { asked_by_line result ≡ asked_of (fields_of row.now) }
+    ensures asks { IsAskedBy result (fields_of row.now) }
 {
     let asked = match row.len() {
         1 => bare_line(row),
@@ -82,7 +84,8 @@ pub fn line_of(row: &ByteRecord) -> Line<'_>
 #[tactic(auto, unfolding(crate::specs::Runs::asked_of))]
 fn bare_line(row: &ByteRecord) -> Option<Line<'_>>
     requires { length (fields_of row.now) ≡ 1 }
-    ensures { asked_in result ≡ asked_of (fields_of row.now) }
+    ensures edit { asked_in result ≡ asked_of (fields_of row.now) }
+    ensures asks { IsAskedIn result (fields_of row.now) }
 {
     let word = row.get(0)?;
     if word == b"clear".as_slice() {
@@ -97,7 +100,8 @@ fn bare_line(row: &ByteRecord) -> Option<Line<'_>>
 #[tactic(auto, unfolding(crate::specs::Runs::asked_of))]
 fn cancel_line(row: &ByteRecord) -> Option<Line<'_>>
     requires { length (fields_of row.now) ≡ 2 }
-    ensures { asked_in result ≡ asked_of (fields_of row.now) }
+    ensures edit { asked_in result ≡ asked_of (fields_of row.now) }
+    ensures asks { IsAskedIn result (fields_of row.now) }
 {
     if row.get(0)? != b"cancel".as_slice() {
         return journal_line(row);
@@ -109,16 +113,24 @@ fn cancel_line(row: &ByteRecord) -> Option<Line<'_>>
 
 // The first line of a journal, and its version.
 fn journal_line(row: &ByteRecord) -> Option<Line<'_>>
-    ensures { asked_in result ≡ None }
+    requires { length (fields_of row.now) ≡ 2 }
+    ensures edit { asked_in result ≡ None }
+    ensures asks { IsAskedIn result (fields_of row.now) }
 {
-    if row.get(0)? == b"pocsag journal".as_slice() && row.get(1)? == b"1".as_slice() {
-        return Some(Line::Journal);
+    if row.get(0)? != b"pocsag journal".as_slice() {
+        return None;
     }
-    None
+    if row.get(1)? != b"1".as_slice() {
+        return None;
+    }
+    Some(Line::Journal)
 }
 
+// A plan for the end, which the fourth field names, or none where it is open.
 fn plan_line(row: &ByteRecord, end: End) -> Option<Line<'_>>
-    ensures { asked_in result ≡ None }
+    requires { IsPlanEnd end (fields_of row.now) }
+    ensures edit { asked_in result ≡ None }
+    ensures asks { IsAskedIn result (fields_of row.now) }
 {
     if row.get(0)? != b"plan".as_slice() {
         return None;
@@ -134,7 +146,8 @@ fn plan_line(row: &ByteRecord, end: End) -> Option<Line<'_>>
 #[tactic(auto, unfolding(crate::specs::Runs::asked_of))]
 fn long_line(row: &ByteRecord) -> Option<Line<'_>>
     requires { length (fields_of row.now) ≡ 4 }
-    ensures { asked_in result ≡ asked_of (fields_of row.now) }
+    ensures edit { asked_in result ≡ asked_of (fields_of row.now) }
+    ensures asks { IsAskedIn result (fields_of row.now) }
 {
     if row.get(0)? == b"add".as_slice() {
         return Some(Line::Add {

@@ -1,5 +1,6 @@
-ghost use Rattle.std.specs.Prelude.{◌≤◌, ◌≡◌, length, IfErr, OnOk};
+ghost use Rattle.std.specs.Prelude.{◌≡◌, ◌≤◌, [], ◌++◌, length, IfErr, IfOk, OnOk};
 ghost use Rattle.pocsag_commands.specs.Faults.{status_of};
+ghost use Rattle.pocsag_open.specs.Lines.{IsByteKept, IsFound, IsNextByte, between_places, line_limit};
 
 use pocsag_commands::Fault;
 use pocsag_words::{DeviceFault, Source};
@@ -34,7 +35,8 @@ pub struct Lines {
 
 impl Lines {
     pub fn new(alloc: Global) -> Result<Lines, Fault>
-        ensures { IfErr result (λ e. e ≡ Fault.OutOfMemory) }
+        ensures ahead { IfOk result (λ lines. between_places lines.piece lines.start lines.end ≡ []) }
+        ensures lost { IfErr result (λ e. e ≡ Fault.OutOfMemory) }
     {
         Ok(Lines {
             line: Vec::with_capacity(alloc, LINE_LIMIT)?,
@@ -45,13 +47,18 @@ impl Lines {
     }
 
     /// The line that is kept.
-    pub fn line(&self) -> &[u8] {
+    pub fn line(&self) -> &[u8]
+        ensures { result.now ≡ self.now.line.items }
+    {
         self.line.as_slice()
     }
 
     // Reads the next bytes of the source in place of those that are used up.
     fn read_ahead<S: Source>(&mut self, source: &mut S) -> Result<(), DeviceFault>
-        ensures { OnOk result (S.failures source.new ≡ S.failures source.old) }
+        ensures read { OnOk result (S.failures source.new ≡ S.failures source.old) }
+        ensures ahead { S.tells → OnOk result (S.held source.old ≡ between_places self.new.piece self.new.start self.new.end ++ S.held source.new) }
+        ensures end { S.tells → OnOk result (self.new.end ≤ self.new.start → S.held source.old ≡ []) }
+        ensures kept { self.new.line.items ≡ self.old.line.items }
     {
         self.start = 0;
         self.end = 0;
@@ -61,7 +68,10 @@ impl Lines {
 
     // The next byte, unless the source has ended.
     fn next_byte<S: Source>(&mut self, source: &mut S) -> Result<Option<u8>, DeviceFault>
-        ensures { OnOk result (S.failures source.new ≡ S.failures source.old) }
+        ensures read { OnOk result (S.failures source.new ≡ S.failures source.old) }
+        ensures next { S.tells → IfOk result (λ next. IsNextByte next
+            (between_places self.old.piece self.old.start self.old.end ++ S.held source.old) (between_places self.new.piece self.new.start self.new.end ++ S.held source.new)) }
+        ensures kept { self.new.line.items ≡ self.old.line.items }
     {
         if self.start >= self.end {
             self.read_ahead(source)?;
@@ -74,8 +84,12 @@ impl Lines {
         Ok(Some(byte))
     }
 
-    /// Reads the next line of the source. The last line may lack its line feed.
+    /// Reads the next line of the source. The last line may lack its line feed. A line of more bytes than a count
+    /// holds is taken for a fault of the source.
     pub fn read_line<S: Source>(&mut self, source: &mut S) -> Result<Found, Fault>
+        ensures found { S.tells → IfOk result (λ found. IsFound found (between_places self.old.piece self.old.start self.old.end ++ S.held source.old)
+            self.new.line.items (between_places self.new.piece self.new.start self.new.end ++ S.held source.new)) }
+        ensures short { length self.new.line.items ≤ line_limit }
         ensures read { OnOk result (S.failures source.new ≡ S.failures source.old) }
         ensures lost { IfErr result (λ e. status_of e ≡ 3) }
     {
@@ -92,12 +106,15 @@ impl Lines {
                 Some(byte) => found = self.keep(byte)?,
             }
         }
-        Ok(found)
+        Err(Fault::Device)
     }
 
     // Keeps one byte more of a line, unless the line is as long as may be.
     fn keep(&mut self, byte: u8) -> Result<Found, Fault>
-        ensures { IfErr result (λ e. e ≡ Fault.OutOfMemory) }
+        ensures kept { IfOk result (λ found. IsByteKept found byte self.old.line.items self.new.line.items) }
+        ensures short { length self.old.line.items ≤ line_limit → length self.new.line.items ≤ line_limit }
+        ensures ahead { between_places self.new.piece self.new.start self.new.end ≡ between_places self.old.piece self.old.start self.old.end }
+        ensures lost { IfErr result (λ e. e ≡ Fault.OutOfMemory) }
     {
         if self.line.len() >= LINE_LIMIT {
             return Ok(Found::TooLong);

@@ -1,8 +1,11 @@
-ghost use Rattle.std.specs.Prelude.{◌≡◌, ◌++◌, length, false, true, Err, IfErr, IfOk, OnErr, OnOk};
+ghost use Rattle.std.specs.Prelude.{◌≡◌, ◌≤◌, List, [], ◌++◌, length, false, Err, IfErr, IfOk, Ok, OnErr, OnOk};
 ghost use Rattle.pocsag_pages.specs.PageFile.{verdict};
 ghost use Rattle.pocsag_pages.specs.declared.fault.RoundFault.{RoundFault};
+ghost use Rattle.pocsag_pages.specs.declared.page.Page.{Page};
 ghost use Rattle.pocsag_commands.specs.Faults.{status_of};
 ghost use Rattle.pocsag_open.specs.Answers.{IsPlanSent, IsPlanTold, plan_answer};
+ghost use Rattle.pocsag_open.specs.Lines.{line_limit};
+ghost use Rattle.pocsag_open.specs.Replies.{IsLineReply, IsSession, TookMore};
 
 use crate::answering::{OpenRound, answer_edit, refuse, tell_pages};
 use crate::edits::{Line, line_of, record_of};
@@ -14,7 +17,7 @@ use crate::settling::settled;
 use pocsag_commands::{DEFAULT_LIMIT, Fault, tell};
 use pocsag_decode::{ListFault, write_page_file};
 use pocsag_pages::read_round;
-use pocsag_plan::Book;
+use pocsag_plan::{Book, Effort, Search};
 use pocsag_words::{End, Sink, Source};
 use std::alloc::Global;
 
@@ -36,6 +39,10 @@ pub fn run_open<P: Places, I: Source, O: Sink>(
     input: &mut I,
     out: &mut O,
 ) -> Result<(), Fault>
+    // What is told are the replies to the lines of the input, one by one, from no pages on.
+    ensures session { I.tells → O.tells → OnOk result ((after : List Page) ×
+        TookMore (O.taken out.old) (O.taken out.new) (IsSession planner.now.always (I.held input.old) [] after)) }
+
     // It is done only at the end of the input, which did not fail.
     ensures input { OnOk result (I.failures input.new ≡ I.failures input.old) }
     ensures lost { IfErr result (λ e. status_of e ≡ 3) }
@@ -55,6 +62,11 @@ pub fn run_open_pages<P: Places, F: Source, I: Source, O: Sink>(
     input: &mut I,
     out: &mut O,
 ) -> Result<(), Fault>
+    // What is told are the replies to the lines of the input, one by one, from the pages of the page file on.
+    ensures session { F.tells → I.tells → O.tells → OnOk result ((before after : List Page) ×
+        (verdict (F.held pages.old) ≡ Ok before) ×
+        TookMore (O.taken out.old) (O.taken out.new) (IsSession planner.now.always (I.held input.old) before after)) }
+
     // It is done only at the end of the input, and neither it nor the page file failed.
     ensures input { OnOk result (I.failures input.new ≡ I.failures input.old) }
     ensures pages { OnOk result (F.failures pages.new ≡ F.failures pages.old) }
@@ -78,6 +90,7 @@ pub fn run_open_pages<P: Places, F: Source, I: Source, O: Sink>(
 
 // A book of the pages of a page file.
 fn book_of<F: Source>(alloc: Global, pages: &mut F) -> Result<Book, Fault>
+    ensures pages { F.tells → IfOk result (λ book. verdict (F.held pages.old) ≡ Ok book) }
     ensures read { OnOk result (F.failures pages.new ≡ F.failures pages.old) }
     ensures why { F.tells → IfErr result (λ e. status_of e ≡ 1 →
         (f : RoundFault) × (verdict (F.held pages.old) ≡ Err f)) }
@@ -95,6 +108,10 @@ pub fn run_open_kept<P: Places, K: Keeper + Drop, I: Source, O: Sink>(
     input: &mut I,
     out: &mut O,
 ) -> Result<(), Fault>
+    // What is told are the replies to the lines of the input, one by one, from the pages of the round on.
+    ensures session { I.tells → O.tells → OnOk result (TookMore (O.taken out.old) (O.taken out.new)
+        (IsSession planner.now.always (I.held input.old) round.old.book round.new.book)) }
+
     // It is done only at the end of the input, which did not fail; then what is kept stands for the pages.
     ensures input { OnOk result (I.failures input.new ≡ I.failures input.old) }
     ensures stands { K.stands_for round.old.keeper round.old.book →
@@ -110,7 +127,7 @@ pub fn run_open_kept<P: Places, K: Keeper + Drop, I: Source, O: Sink>(
         }
         round.keeper.settle(alloc, &round.book)?;
     }
-    Ok(())
+    Err(Fault::Device)
 }
 
 // Answers one line.
@@ -121,6 +138,9 @@ fn answer<P: Places, K: Keeper + Drop, O: Sink>(
     line: &[u8],
     out: &mut O,
 ) -> Result<(), Fault>
+    requires { length line.now ≤ line_limit }
+    ensures replied { O.tells → OnOk result (TookMore (O.taken out.old) (O.taken out.new)
+        (IsLineReply planner.now.always line.now round.old.book round.new.book)) }
     ensures stands { K.stands_for round.old.keeper round.old.book →
         OnOk result (K.stands_for round.new.keeper round.new.book) }
     ensures lost { IfErr result (λ e. status_of e ≡ 3) }
@@ -179,44 +199,38 @@ fn plan_book<P: Places>(
     ensures { IfOk result (λ planned. IsPlanTold end book.now planner.now.always planned.batches planned.bound) }
 {
     let mut outputs = planner.places.make(tx, cert)?;
-    if planner.always {
-        plan_within_one(book, &mut outputs, end)
-    } else {
-        plan_fewest(book, &mut outputs, end)
-    }
+    plan_sent(book, &mut outputs, planner.always, end)
 }
 
-// Writes both with the fewest batches.
-fn plan_fewest<S: Sink + Drop>(
+// Writes both, with the fewest batches, or where `always` is asked with one more if the limit is reached.
+fn plan_sent<S: Sink + Drop>(
     book: &Book,
     outputs: &mut Outputs<S>,
+    always: bool,
     end: End,
 ) -> Result<Planned, Fault>
-    ensures told { IfOk result (λ planned. IsPlanTold end book.now false planned.batches planned.bound) }
+    ensures told { IfOk result (λ planned. IsPlanTold end book.now always planned.batches planned.bound) }
     ensures sent { S.tells → IfOk result (λ planned. IsPlanSent end book.now planned.batches planned.bound
         (S.taken outputs.old.tx) (S.taken outputs.new.tx) (S.taken outputs.old.cert) (S.taken outputs.new.cert)) }
 {
-    let plan = book.plan_stream(&mut outputs.tx, &mut outputs.cert, DEFAULT_LIMIT, end)?;
-    Ok(Planned {
-        batches: plan.batches,
-        bound: plan.batches,
-    })
-}
-
-// The same, where the limit is reached with one batch more than the bound.
-fn plan_within_one<S: Sink + Drop>(
-    book: &Book,
-    outputs: &mut Outputs<S>,
-    end: End,
-) -> Result<Planned, Fault>
-    ensures told { IfOk result (λ planned. IsPlanTold end book.now true planned.batches planned.bound) }
-    ensures sent { S.tells → IfOk result (λ planned. IsPlanSent end book.now planned.batches planned.bound
-        (S.taken outputs.old.tx) (S.taken outputs.new.tx) (S.taken outputs.old.cert) (S.taken outputs.new.cert)) }
-{
-    let (tx, cert) = (&mut outputs.tx, &mut outputs.cert);
-    let bounded = book.plan_stream_always(tx, cert, DEFAULT_LIMIT, end)?;
+    let search = Search {
+        limit: DEFAULT_LIMIT,
+        end,
+        effort: effort_of(always),
+    };
+    let bounded = book.bounded_stream(&mut outputs.tx, &mut outputs.cert, search)?;
     Ok(Planned {
         batches: bounded.plan.batches,
         bound: bounded.bound,
     })
+}
+
+fn effort_of(always: bool) -> Effort
+    ensures { always ≡ false → result ≡ Effort.Fewest }
+{
+    if always {
+        Effort::Always
+    } else {
+        Effort::Fewest
+    }
 }

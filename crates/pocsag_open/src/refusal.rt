@@ -4,31 +4,48 @@ ghost use Rattle.pocsag_open.specs.declared.refusal.Refusal.TheVariants as refus
 use pocsag_commands::Fault;
 use pocsag_pages::FieldFault;
 use pocsag_plan::{AddFault, NotThere, Refused};
-use thiserror::Error;
+use std::error::Error;
+use std::fmt::{self, Display, Formatter};
 
 /// Why an edit is refused. The round is as it was.
-#[derive(Clone, Copy, PartialEq, Eq, Debug, Error)]
+#[derive(Clone, Copy, PartialEq, Eq, Debug)]
 pub enum Refusal {
-    #[error("unknown edit")]
     Unknown,
     /// A quote of the line's last field is not closed.
-    #[error("the line ends inside quotes")]
     InQuotes,
     /// A quote stands inside a field that is not in quotes, or something that is no comma behind a field's quotes.
-    #[error("a quote is out of place")]
     StrayQuote,
     /// The fields spell no page.
-    #[error("{0}")]
     Field(FieldFault),
     /// The page may not follow the others.
-    #[error("{0}")]
     Add(AddFault),
-    #[error("{0}")]
     Cancel(NotThere),
     /// What was asked could not be done.
-    #[error("{0}")]
     Undone(Fault),
 }
+
+impl Display for Refusal {
+    ghost use Rattle.pocsag_open.specs.Replies.{own_words};
+
+    ghost output = { own_words };
+
+    fn fmt<W: fmt::Write>(&self, f: &mut Formatter<W>) -> fmt::Result {
+        match self {
+            Refusal::Unknown => f.write_str("unknown edit"),
+            Refusal::InQuotes => f.write_str("the line ends inside quotes"),
+            Refusal::StrayQuote => f.write_str("a quote is out of place"),
+            Refusal::Cancel(NotThere) => f.write_str("no such page"),
+            Refusal::Field(FieldFault::OutOfMemory)
+            | Refusal::Add(AddFault::OutOfMemory)
+            | Refusal::Undone(Fault::OutOfMemory) => f.write_str("out of memory"),
+            Refusal::Field(fault) => fault.fmt(f),
+            Refusal::Add(fault) => fault.fmt(f),
+            Refusal::Undone(fault) => fault.fmt(f),
+        }
+    }
+}
+
+impl Error for Refusal {}
 
 impl Refusal {
     ghost use Rattle.pocsag_open.specs.Runs.{wants_memory};

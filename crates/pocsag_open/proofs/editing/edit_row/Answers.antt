@@ -15,4 +15,4 @@ refused (Err e) asking o pages same h =
     subst (λ (q : Option Asked). (wants_memory e ≡ true) ⊎ ((after : List Page) → IsDone q pages after → ⊥)) same (refused_asking asking pages e h)
 
 pub returns-clause-refused : goal.returns-clause-refused
-returns-clause-refused c = refused c.edit.result c.line_of.result _ c.args.book.now c.line_of.ensures c.edit.ensures.refused
+returns-clause-refused c = refused c.edit.result c.line_of.result _ c.args.book.now c.line_of.ensures.edit c.edit.ensures.refused

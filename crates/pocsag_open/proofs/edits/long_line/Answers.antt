@@ -15,8 +15,8 @@ returns-in_err-get-3 c = absurd (has_field (fields_of c.args.row.now) 2 (omega a
 pub returns-in_err-get-4 : goal.returns-in_err-get-4
 returns-in_err-get-4 c = absurd (has_field (fields_of c.args.row.now) 3 (omega arith) c.in_err-get-4.ensures.value)
 
-pub returns-then-eq : goal.returns-then-eq
-returns-then-eq c =
+pub returns-then-eq-clause-edit : goal.returns-then-eq-clause-edit
+returns-then-eq-clause-edit c =
     add_asks (fields_of c.args.row.now) _ c.requires c.in_ok-get.ensures.value
     (rw c.as_slice.ensures at (sym c.eq.ensures ∙ c.if-eq.true))
     _ _ _ c.in_ok-get-2.ensures.value c.in_ok-get-3.ensures.value c.in_ok-get-4.ensures.value
@@ -24,19 +24,19 @@ returns-then-eq c =
 pub returns-in_err-get-5 : goal.returns-in_err-get-5
 returns-in_err-get-5 c = absurd (has_field (fields_of c.args.row.now) 3 (omega arith) c.in_err-get-5.ensures.value)
 
-pub returns-then-eq-2 : goal.returns-then-eq-2
-returns-then-eq-2 c =
-    c.plan_line.ensures
+pub returns-then-eq-2-clause-edit : goal.returns-then-eq-2-clause-edit
+returns-then-eq-2-clause-edit c =
+    c.plan_line.ensures.edit
     ∙ no_add (fields_of c.args.row.now) _ c.requires c.in_ok-get.ensures.value
     (rw c.as_slice.ensures at (sym c.eq.ensures ∙ c.if-eq.false))
 
-pub returns-then-eq-3 : goal.returns-then-eq-3
-returns-then-eq-3 c =
-    c.plan_line-then-eq-3.ensures
+pub returns-then-eq-3-clause-edit : goal.returns-then-eq-3-clause-edit
+returns-then-eq-3-clause-edit c =
+    c.plan_line-then-eq-3.ensures.edit
     ∙ no_add (fields_of c.args.row.now) _ c.requires c.in_ok-get.ensures.value
     (rw c.as_slice.ensures at (sym c.eq.ensures ∙ c.if-eq.false))
 
-pub returns : goal.returns
-returns c =
+pub returns-clause-edit : goal.returns-clause-edit
+returns-clause-edit c =
     no_add (fields_of c.args.row.now) _ c.requires c.in_ok-get.ensures.value
     (rw c.as_slice.ensures at (sym c.eq.ensures ∙ c.if-eq.false))

@@ -1,12 +1,12 @@
 use Rattle.std.proofs.Common.{refl}
-use Rattle.pocsag_open.proofs.opening.plan_within_one.Goals as goal
+use Rattle.pocsag_open.proofs.opening.plan_sent.Goals as goal
 
 pub returns-clause-told : goal.returns-clause-told
 returns-clause-told g c = record {
   plan = c.in_ok-bounded.bounded.plan;
-  plan_of = c.in_ok-bounded.ensures.plan;
+  plan_of = c.in_ok-bounded.ensures.plan.plan_of;
   same = refl;
-  fewest = λ never. cc;
+  fewest = λ never. c.in_ok-bounded.ensures.plan.fewest (c.effort_of.ensures never);
 }
 
 pub returns-clause-sent : goal.returns-clause-sent
