@@ -1,3 +1,4 @@
+pub mod Counting
 pub mod EditRuns
 pub mod TextLines
 pub mod Prefixes

@@ -1,3 +1,4 @@
 pub mod Faults
+pub mod Growth
 pub mod Journals
 pub mod Keeping
