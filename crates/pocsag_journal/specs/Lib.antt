@@ -2,3 +2,4 @@ pub mod Faults
 pub mod Growth
 pub mod Journals
 pub mod Keeping
+pub mod MemoryDisk

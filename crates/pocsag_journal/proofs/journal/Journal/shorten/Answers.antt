@@ -1,4 +1,4 @@
-use Rattle.std.proofs.Common.{ℕ, List, refl, ◌∙◌, subst}
+use Rattle.std.proofs.Common.{List, refl, ◌∙◌, subst}
 use Rattle.pocsag_pages.specs.declared.page.Page.{Page}
 use Rattle.pocsag_journal.specs.Growth.{small}
 use Rattle.pocsag_journal.specs.Journals.{ListsPages}
