@@ -3,6 +3,7 @@
 
 mod desk;
 mod files;
+mod journal_file;
 mod journaling;
 mod keeping;
 mod misuse;
