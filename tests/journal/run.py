@@ -326,8 +326,8 @@ def try_full_system(tally, folder):
 def fill_and_keep(tally, room):
     lines = [b"add,%d,alpha,%s" % (8 * number, b"w" * 900) for number in range(40)]
     for left in (8192, 16384, 24576):
-        fill(room, left)
         (room / "round.journal").unlink(missing_ok=True)
+        fill(room, left)
         out, err, status = run(room, lines)
         answered = out.count(b"\n")
         name = f"a file system with {left} bytes left"
@@ -340,7 +340,6 @@ def fill_and_keep(tally, room):
         found, err = listed(room)
         tally.check(f"{name}: the list", found in (listing(all_after(lines[:answered])), listing(all_after(lines[: answered + 1]))), (found, err))
     fill(room, 0)
-    (room / "new.journal").unlink(missing_ok=True)
     done = subprocess.run([str(PROGRAM), "open", "--journal", "new.journal"], input=lines[0] + b"\n", capture_output=True, cwd=room, timeout=60)
     tally.check("no room at the start", (done.stdout, done.stderr, done.returncode) == (b"", b"pocsag: cannot write\n", 3), done)
 
