@@ -1,5 +1,6 @@
 #!/usr/bin/env python3
-"""Keeps an open round in a journal through kills, cuts, refused calls and a full disk.
+"""Keeps an open round in a journal through kills, cuts, refused calls, a full disk and a full file system, and reads
+what `--verbose` tells of it.
 
 Each start must list what the edits that were answered `ok` leave, or these and one more. It takes the binary that the
 gate left in crates/pocsag_app/out. The last line is 'N passed, M failed'.
@@ -9,13 +10,14 @@ import os
 import pathlib
 import random
 import resource
+import shutil
 import subprocess
 import sys
 import time
 
 sys.dont_write_bytecode = True
 sys.path.insert(0, str(pathlib.Path(__file__).resolve().parents[1]))
-from tally import PROGRAM, TOP, run_parts
+from tally import PROGRAM, as_nobody, run_parts
 
 HEADER = b"address,kind,message\n"
 FIRST_LINE = b"pocsag journal,1\n"
@@ -290,6 +292,144 @@ def try_full_disk(tally, folder):
         tally.check(f"full at {size}: the list", found == listing(all_after(lines[:answered])), (found, err))
 
 
+def mount_small(place):
+    """Mounts a file system of 64 KiB at the place; says why where it cannot be."""
+    words = ["mount", "-t", "tmpfs", "-o", "size=64k", "tmpfs", str(place)]
+    if not shutil.which(words[0]):
+        return "there is no mount"
+    done = subprocess.run(words, capture_output=True, text=True, timeout=60)
+    return done.stderr.strip() if done.returncode else ""
+
+
+def fill(room, left):
+    """Leaves about so many bytes of a file system free."""
+    (room / "rest").unlink(missing_ok=True)
+    free = os.statvfs(room)
+    (room / "rest").write_bytes(b"x" * max(0, free.f_bavail * free.f_frsize - left))
+
+
+def try_full_system(tally, folder):
+    """A file system with no room left: no ok, status 3, and the next start reads what was answered; where there is no
+    room to write it anew the program ends with 3 and leaves it as it is."""
+    room = folder / "small"
+    room.mkdir()
+    why = mount_small(room)
+    if why:
+        print(f"left out: a small file system, since none can be mounted here ({why})")
+        return
+    try:
+        fill_and_keep(tally, room)
+    finally:
+        subprocess.run(["umount", str(room)], check=True, timeout=60)
+
+
+def fill_and_keep(tally, room):
+    lines = [b"add,%d,alpha,%s" % (8 * number, b"w" * 900) for number in range(40)]
+    for left in (8192, 16384, 24576):
+        (room / "round.journal").unlink(missing_ok=True)
+        fill(room, left)
+        out, err, status = run(room, lines)
+        answered = out.count(b"\n")
+        name = f"a file system with {left} bytes left"
+        tally.check(name, 0 < answered < 40 and status == 3 and err.endswith(b"pocsag: cannot write\n"), (out, err, status))
+        held = (room / "round.journal").read_bytes()
+        out, err, status = run(room, [b"list"])
+        tally.check(f"{name}: no room to write it anew", (out, status) == (b"", 3) and err == b"pocsag: cannot write\n", (err, status))
+        tally.check(f"{name}: it stays", (room / "round.journal").read_bytes() == held and not list(room.glob("*.new")), os.listdir(room))
+        (room / "rest").unlink()
+        found, err = listed(room)
+        tally.check(f"{name}: the list", found in (listing(all_after(lines[:answered])), listing(all_after(lines[: answered + 1]))), (found, err))
+    fill(room, 0)
+    done = subprocess.run([str(PROGRAM), "open", "--journal", "new.journal"], input=lines[0] + b"\n", capture_output=True, cwd=room, timeout=60)
+    tally.check("no room at the start", (done.stdout, done.stderr, done.returncode) == (b"", b"pocsag: cannot write\n", 3), done)
+
+
+NO_FILE, IS_FOLDER, NO_RIGHT, TOO_LARGE = (f"{os.strerror(code)} (os error {code})" for code in (2, 21, 13, 27))
+REGULAR = "a regular file is wanted, and no link to one"
+BAD = "journal line %d: no edit that the pages before it accept"
+BEGUN = "the journal holds edits, so the round cannot begin with PAGES"
+TWICE = "the same file is named twice"
+CANNOT = "cannot read or open a file"
+
+# The words behind `open`, the status, what is told without `--verbose`, and the notes behind it.
+REFUSED = [
+    (["--journal", "none/j"], 3, CANNOT, [f"journal none/j: {NO_FILE}"]),
+    (["--journal", "folder"], 3, CANNOT, [f"journal folder: {IS_FOLDER}"]),
+    (["--journal", "link"], 3, CANNOT, [f"journal link: {REGULAR}"]),
+    (["--journal", "/dev/full"], 3, CANNOT, [f"journal /dev/full: {REGULAR}"]),
+    (["--journal", "fifo"], 3, CANNOT, [f"journal fifo: {REGULAR}"]),
+    (["--journal", "a\nb/\x1b[2J"], 3, CANNOT, [f"journal a?b/?[2J: {NO_FILE}"]),
+    (["--journal", "-"], 1, TWICE, []),
+    (["pages.csv", "--journal", "pages.csv"], 1, TWICE, ["page file pages.csv"]),
+    (["pages.csv", "--journal", "./pages.csv"], 1, TWICE, ["page file pages.csv"]),
+    (["-", "--journal", "new"], 1, TWICE, ["page file -"]),
+    (["none.csv", "--journal", "new"], 3, CANNOT, [f"page file none.csv: {NO_FILE}"]),
+    (["pages.csv", "--journal", "held"], 1, BEGUN, ["journal held: it stays as it is"]),
+    (["--journal", "bad"], 1, BAD % 3, ["journal bad: it stays as it is"]),
+    (["--journal", "other"], 1, BAD % 1, ["journal other: it stays as it is"]),
+    (["feed.csv", "--journal", "new"], 1, "page 1: no line of a journal holds its message", ["journal new: it stays as it is"]),
+]
+
+
+def told(fault, notes):
+    return "".join(f"pocsag: {text}\n" for text in [fault, *notes]).encode()
+
+
+def try_verbose(tally, folder):
+    """What stands in the way is told by the journal's name and the system's reason, behind what is told without."""
+    place = folder / "verbose"
+    place.mkdir()
+    (place / "folder").mkdir()
+    (place / "held").write_bytes(FIRST_LINE + b"add,8,tone0,\n")
+    (place / "bad").write_bytes(FIRST_LINE + b"add,8,tone0,\nlist\n")
+    (place / "other").write_bytes(b"other\n")
+    (place / "link").symlink_to("held")
+    os.mkfifo(place / "fifo")
+    (place / "pages.csv").write_bytes(HEADER + b"8,tone0,\n")
+    (place / "feed.csv").write_bytes(HEADER + b'16,alpha,"two\nlines"\n')
+    stood = {path.name: path.read_bytes() for path in place.iterdir() if path.is_file()}
+    for words, status, fault, notes in REFUSED:
+        for more, due in (([], told(fault, [])), (["--verbose"], told(fault, notes))):
+            done = subprocess.run([str(PROGRAM), "open", *words, *more], input=b"list\n", capture_output=True, cwd=place, timeout=60)
+            holds = (done.stdout, done.stderr, done.returncode) == (b"", due, status)
+            tally.check(f"told of {words} {more}", holds, (done, due))
+        (place / "new").unlink(missing_ok=True)
+    stands = {path.name: path.read_bytes() for path in place.iterdir() if path.is_file()}
+    tally.check("told of each: the files stay", stands == stood, stands.keys())
+
+
+def try_verbose_later(tally, folder):
+    """The same of a journal that is held, that may not grow, and that may not be written anew."""
+    place = folder / "later"
+    place.mkdir()
+    place.chmod(0o777)
+    held = "another program holds the journal"
+    process = start(place)
+    process.stderr.readline()
+    for more, due in (([], told(held, [])), (["--verbose"], told(held, ["journal round.journal: it stays as it is"]))):
+        done = run(place, [b"list"], *more)
+        tally.check(f"told of a journal that is held {more}", done == (b"", due, 1), done)
+    process.kill()
+    process.wait()
+    read = b"pocsag: 0 edits read, 0 pages\n"
+    lines = [b"add,%d,tone0," % (8 * number) for number in range(9)]
+    for more, notes in (([], []), (["--verbose"], [f"journal round.journal: {TOO_LARGE}"])):
+        (place / "round.journal").unlink(missing_ok=True)
+        out, err, status = run(place, lines, *more, preexec_fn=limited(60), restore_signals=False)
+        due = read + told("cannot write", notes)
+        tally.check(f"told of a journal that may not grow {more}", (out.count(b"ok"), err, status) == (3, due, 3), (out, err, status))
+    user = as_nobody(place)
+    if not user:
+        return
+    (place / "round.journal").chmod(0o666)
+    place.chmod(0o755)
+    for more, notes in (([], []), (["--verbose"], [f"journal round.journal: {NO_RIGHT}"])):
+        words = [*user, str(PROGRAM), "open", "--journal", "round.journal", *more]
+        done = subprocess.run(words, input=b"list\n", capture_output=True, cwd=place, timeout=60)
+        holds = (done.stdout, done.stderr, done.returncode) == (b"", told("cannot write", notes), 3)
+        tally.check(f"told of a folder without rights {more}", holds, done)
+
+
 def try_growth(tally, folder):
     """A long day: the journal stays small, and stands for the pages."""
     place = folder / "growth"
@@ -314,7 +454,7 @@ def try_growth(tally, folder):
 
 
 def main():
-    return run_parts(try_first_use, try_kills, try_cuts, try_bad_lines, try_use, try_full_disk, try_growth)
+    return run_parts(try_first_use, try_kills, try_cuts, try_bad_lines, try_use, try_full_disk, try_full_system, try_verbose, try_verbose_later, try_growth)
 
 
 if __name__ == "__main__":

@@ -1,177 +1,84 @@
-ghost use Rattle.std.specs.Prelude.{[]};
-
+use crate::journal_file::JournalFile;
 use crate::round_files::RoundFiles;
-use pocsag_commands::{Fault, ReaderSource, Role, Watch, tell};
-use pocsag_files::{Beside, Desk, Named, is_regular_or_none, open_source};
-use pocsag_journal::{Disk, Journal, JournalFault, Replayed, read_journal};
+use pocsag_commands::{
+    Fault, Notes, ReaderSource, Role, Trouble, Watch, tell, tell_fault, tell_notes,
+};
+use pocsag_files::{Desk, Named, is_regular_or_none, open_source};
+use pocsag_journal::{Journal, JournalFault, Replayed};
 use pocsag_line::STANDARD;
 use pocsag_open::{OpenRound, Planner, run_open_kept};
 use pocsag_pages::read_round;
 use pocsag_plan::Book;
-use pocsag_words::{DeviceFault, Sink};
-use std::fs::{File, OpenFile, OpenOptions, TryLockError};
-use std::io::Write;
-
-// What the journal is to the command.
-const ROLE: Role = Role::Lines;
-
-/// The file of a journal, which this program alone holds. Nothing is known of its bytes.
-#[derive(Drop)]
-pub struct JournalFile<'a> {
-    desk: Desk<'a>,
-    path: &'a str,
-    file: File,
-    calls: u64,
-    failures: u64,
-}
-
-impl<'a> JournalFile<'a> {
-    // Opens or makes the file and locks it, unless another program holds it. The lock goes with the file, so what
-    // stands at the path must still be the file that is locked.
-    fn hold(desk: Desk<'a>, path: &'a str) -> Result<Option<JournalFile<'a>>, Fault> {
-        if !is_regular_or_none(desk.rt, path) {
-            return Err(Fault::Device);
-        }
-        let mut options = OpenOptions::new();
-        options.read(true).write(true).create(true);
-        let file = desk.opened(ROLE, options.open(desk.rt, path))?;
-        match file.try_lock() {
-            Ok(()) => {}
-            Err(TryLockError::WouldBlock) => return Ok(None),
-            Err(TryLockError::Error(error)) => return desk.opened(ROLE, Err(error)),
-        }
-        let metadata = desk.opened(ROLE, file.metadata())?;
-        if Named::at(desk.rt, path) != Some(Named::of(&metadata)) {
-            return Ok(None);
-        }
-        Ok(Some(JournalFile {
-            desk,
-            path,
-            file,
-            calls: 0,
-            failures: 0,
-        }))
-    }
-
-    fn read(&self) -> Result<Replayed, JournalFault> {
-        match self.file.try_clone() {
-            Ok(file) => {
-                let mut source = ReaderSource::new(file, ROLE, self.desk.watch);
-                read_journal(self.desk.alloc, &mut source)
-            }
-            Err(_) => Err(JournalFault::ReadFault),
-        }
-    }
-
-    // Puts a file of the text at the path, and answers it, locked.
-    fn put(&self, text: &[u8]) -> Result<File, Fault> {
-        let beside = Beside::make(self.desk, ROLE, self.path)?;
-        let done = self.put_beside(&beside, text);
-        if done.is_err() {
-            beside.remove(self.desk);
-        }
-        done
-    }
-
-    fn put_beside(&self, beside: &Beside<'_>, text: &[u8]) -> Result<File, Fault> {
-        let mut options = OpenOptions::new();
-        options.write(true);
-        let desk = self.desk;
-        let mut file = desk.opened(ROLE, options.open(desk.rt, beside.path()))?;
-        match file.try_lock() {
-            Ok(()) => {}
-            Err(_) => return Err(Fault::Device),
-        }
-        desk.written(ROLE, file.write_all(text))?;
-        beside.sync(desk)?;
-        beside.put(desk)?;
-        Ok(file)
-    }
-}
-
-impl Sink for JournalFile<'_> {
-    ghost tells = { ⊥ };
-
-    ghost taken = { λ _. [] };
-
-    ghost calls = { λ s. s.calls };
-
-    ghost failures = { λ s. s.failures };
-
-    fn write(&mut self, piece: &[u8]) -> Result<usize, DeviceFault> {
-        self.calls = self.calls.saturating_add(1);
-        match self.file.write(piece) {
-            Ok(count) if count > 0 || piece.is_empty() => Ok(count),
-            _ => {
-                self.failures = self.failures.saturating_add(1);
-                Err(DeviceFault)
-            }
-        }
-    }
-}
-
-impl Disk for JournalFile<'_> {
-    ghost safe = { λ _. [] };
-
-    fn sync(&mut self) -> Result<(), DeviceFault> {
-        match self.file.sync_data() {
-            Ok(()) => Ok(()),
-            Err(_) => Err(DeviceFault),
-        }
-    }
-
-    fn replace(&mut self, text: &[u8]) -> Result<(), DeviceFault> {
-        match self.put(text) {
-            Ok(file) => {
-                self.file = file;
-                Ok(())
-            }
-            Err(_) => Err(DeviceFault),
-        }
-    }
-}
+use std::fmt::Display;
+use std::io;
 
 /// `open --journal`: keeps an open round whose edits are in the file of a journal before they are answered.
-pub fn open_kept(journal: &str, always: bool, places: &RoundFiles<'_>) -> Result<u8, Fault> {
-    // The notes of `--verbose` name the files of the round, and not the journal.
-    let unheard = Watch::new(places.desk.alloc, false);
+pub fn open_kept(path: &str, always: bool, places: &RoundFiles<'_>) -> Result<u8, Fault> {
+    if path == STANDARD || is_first_file(path, places) {
+        return Err(Fault::EqualPaths);
+    }
+    if !is_regular_or_none(places.desk.rt, path) {
+        let status = tell_fault(&mut places.desk.err(), Fault::Device);
+        note(
+            places,
+            format_args!("journal {path}: a regular file is wanted, and no link to one"),
+        );
+        return Ok(status);
+    }
+    // What the system refuses of the journal is met apart from what it refuses of the other files.
+    let met = Watch::new(places.desk.alloc, false);
     let desk = Desk {
-        watch: &unheard,
+        watch: &met,
         ..places.desk
     };
-    let Some(file) = JournalFile::hold(desk, journal)? else {
-        return Ok(refuse(desk, "another program holds the journal"));
+    let done = open_on(desk, path, always, places);
+    match (done, met.take_trouble()) {
+        (Err(fault), Some(trouble)) => {
+            let status = tell_fault(&mut desk.err(), fault);
+            note_trouble(places, path, trouble);
+            Ok(status)
+        }
+        (done, _) => done,
+    }
+}
+
+// Whether the path is that of PAGES.
+fn is_first_file(path: &str, places: &RoundFiles<'_>) -> bool {
+    let Some(pages) = places.pages else {
+        return false;
+    };
+    let named = Named::at(places.desk.rt, path);
+    pages == path || named.is_some() && named == Named::at(places.desk.rt, pages)
+}
+
+// The same, over the desk on which the system's refusals of the journal are met.
+fn open_on(desk: Desk<'_>, path: &str, always: bool, places: &RoundFiles<'_>) -> Result<u8, Fault> {
+    let Some(file) = JournalFile::hold(desk, path)? else {
+        return Ok(refuse(places, path, "another program holds the journal"));
     };
     let replayed = match file.read() {
         Ok(replayed) => replayed,
-        Err(fault) => return tell_journal(desk, fault),
+        Err(fault) => return tell_journal(places, path, fault),
     };
-    if replayed.edits > 0 && places.pages.is_some() {
-        return Ok(refuse(
-            desk,
-            "the journal holds edits, so the round cannot begin with PAGES",
-        ));
-    }
     let Replayed { book, edits, torn } = replayed;
     let book = match places.pages {
-        Some(path) => book_of_file(places.desk, path)?,
+        Some(_) if edits > 0 => {
+            let why = "the journal holds edits, so the round cannot begin with PAGES";
+            return Ok(refuse(places, path, why));
+        }
+        Some(pages) => book_of_file(places.desk, pages)?,
         None => book,
     };
     let keeper = match Journal::write_anew(desk.alloc, file, &book) {
         Ok(keeper) => keeper,
-        Err(fault) => return tell_journal(desk, fault),
+        Err(fault) => return tell_journal(places, path, fault),
     };
     tell_start(desk, torn, edits, book.len());
     let mut input = ReaderSource::new(desk.rt.stdin(), Role::Lines, places.desk.watch);
     let planner = &Planner { places, always };
     let mut round = OpenRound { book, keeper };
-    run_open_kept(
-        desk.alloc,
-        planner,
-        &mut round,
-        &mut input,
-        &mut places.desk.out(),
-    )?;
+    let out = &mut places.desk.out();
+    run_open_kept(desk.alloc, planner, &mut round, &mut input, out)?;
     Ok(0)
 }
 
@@ -200,20 +107,44 @@ fn book_of_file(desk: Desk<'_>, path: &str) -> Result<Book, Fault> {
     Ok(Book::of_round(desk.alloc, &round)?)
 }
 
-fn refuse(desk: Desk<'_>, why: &str) -> u8 {
-    let _ = tell(&mut desk.err(), format_args!("pocsag: {why}\n"));
+// Tells why the journal does not serve, and answers the status.
+fn refuse<D: Display + Drop>(places: &RoundFiles<'_>, path: &str, why: D) -> u8 {
+    let _ = tell(&mut places.desk.err(), format_args!("pocsag: {why}\n"));
+    note(places, format_args!("journal {path}: it stays as it is"));
     1
 }
 
 // Tells why there is no journal, and answers the status.
-fn tell_journal(desk: Desk<'_>, fault: JournalFault) -> Result<u8, Fault> {
+fn tell_journal(places: &RoundFiles<'_>, path: &str, fault: JournalFault) -> Result<u8, Fault> {
     match fault {
         JournalFault::BadLine(_) | JournalFault::NoLine(_) | JournalFault::TooLarge => {
-            let _ = tell(&mut desk.err(), format_args!("pocsag: {fault}\n"));
-            Ok(1)
+            Ok(refuse(places, path, fault))
         }
         JournalFault::ReadFault => Err(Fault::Device),
         JournalFault::WriteFault => Err(Fault::Write),
         JournalFault::OutOfMemory => Err(Fault::OutOfMemory),
+    }
+}
+
+// Notes what the system refused of the journal, and why.
+fn note_trouble(places: &RoundFiles<'_>, path: &str, trouble: Trouble) {
+    match trouble.code {
+        Some(code) => {
+            let reason = io::Error::from_raw_os_error(code);
+            note(places, format_args!("journal {path}: {reason}"));
+        }
+        None => note(
+            places,
+            format_args!("journal {path}: the system took nothing and told no reason"),
+        ),
+    }
+}
+
+// Tells a note, where notes are asked for.
+fn note<D: Display + Drop>(places: &RoundFiles<'_>, text: D) {
+    let desk = places.desk;
+    let mut notes = Notes::new(desk.alloc);
+    if desk.watch.is_asked() && notes.add(text).is_ok() {
+        let _ = tell_notes(desk.alloc, &mut desk.err(), notes.texts());
     }
 }

@@ -1,6 +1,7 @@
 #![tactic(auto)]
 //! The program `pocsag`: reads its words, opens its files, and calls the command.
 
+mod journal_file;
 mod journaling;
 mod naming;
 mod obeying;

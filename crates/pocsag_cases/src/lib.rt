@@ -21,6 +21,8 @@ mod flow_tests;
 #[cfg(test)]
 mod given;
 #[cfg(test)]
+mod journal_tests;
+#[cfg(test)]
 mod open_tests;
 #[cfg(test)]
 mod page_tests;

@@ -39,7 +39,7 @@ pub fn tell_explained<S: Sink>(
     let mut notes = Notes::new(alloc);
     match done {
         Ok(0) => note_line_feeds(alloc, scene, &mut notes)?,
-        Ok(1) => note_not_shown(scene, &mut notes)?,
+        Ok(1) if scene.names.cert.is_some() => note_not_shown(scene, &mut notes)?,
         Ok(_) => {}
         Err(fault) => explain(alloc, fault, scene, &mut notes)?,
     }

@@ -24,6 +24,7 @@ pub use devices::{ReaderSource, WriterSink};
 pub use expecting::expected_file;
 pub use explaining::{Scene, tell_explained};
 pub use fault::Fault;
+pub use note::{Notes, tell_notes};
 pub use plan_files::{Outputs, PlanFiles};
 pub use pocsag_show::{Rows, View};
 pub use receiving::{TRANSMISSION_LIMIT, list_decoded, list_heard, run_decode, run_hear};

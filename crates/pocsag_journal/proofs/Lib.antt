@@ -1,4 +1,6 @@
+pub mod Counting
 pub mod EditRuns
+pub mod LineLengths
 pub mod TextLines
 pub mod Prefixes
 pub mod Readings

@@ -1,3 +1,5 @@
 pub mod Faults
+pub mod Growth
 pub mod Journals
 pub mod Keeping
+pub mod MemoryDisk

@@ -1,11 +1,13 @@
-ghost use Rattle.std.specs.Prelude.{◌≡◌, IfErr, IfOk};
-ghost use Rattle.pocsag_journal.specs.Keeping.{disk_of};
-ghost use Rattle.pocsag_journal.specs.Journals.{StandsFor};
+ghost use Rattle.std.specs.Prelude.{◌≡◌, ◌≢◌, IfErr, IfOk, OnOk};
+ghost use Rattle.pocsag_journal.specs.Growth.{IsSettled};
+ghost use Rattle.pocsag_journal.specs.Journals.{ListsPages};
+ghost use Rattle.pocsag_journal.specs.Keeping.{IsCounted, counted_of, disk_of};
 
 use crate::anew::text_of_pages;
 use crate::disk::Disk;
 use crate::fault::JournalFault;
 use crate::lines::is_one_line;
+use crate::reading::JOURNAL_LIMIT;
 use crate::text::row_line;
 use csv::ByteRecord;
 use pocsag_commands::Fault;
@@ -14,39 +16,86 @@ use pocsag_plan::Book;
 use pocsag_words::write_all;
 use std::alloc::Global;
 
-// The least length at which a journal may be written anew.
-const LEAST_LEN: usize = 1_048_576;
+// A journal of at most so many bytes stays as it is while its round is open.
+const LEAST_ANEW: usize = 1_048_576;
+
+// A longer one is written anew where it has more than so many times the bytes that its pages need.
+const TIMES_NEEDED: usize = 4;
+
+// What they need is counted once it has grown by one part in so many, so that counting costs each edit the same.
+const GROWTH_PARTS: usize = 8;
 
 /// The journal of an open round, on a disk that holds it.
 #[derive(Drop)]
 pub struct Journal<D: Disk + Drop> {
     disk: D,
-    // How many bytes it has, and with how many more it is looked at next.
+    // How many bytes it has, and how many it had when what its pages need was counted last.
     len: usize,
-    next_look: usize,
+    counted: usize,
 }
 
 impl<D: Disk + Drop> Journal<D> {
     /// Writes the journal of a round anew, in the place of all that the disk holds.
     pub fn write_anew(alloc: Global, mut disk: D, book: &Book) -> Result<Journal<D>, JournalFault>
-        ensures { D.tells → IfOk result (λ journal. StandsFor (D.taken (disk_of journal)) book.now) }
+        ensures adds { D.tells → IfOk result (λ journal. ListsPages (D.taken (disk_of journal)) book.now) }
+        ensures safe { D.tells → IfOk result (λ journal. D.safe (disk_of journal) ≡ D.taken (disk_of journal)) }
+        ensures counted { D.tells → IfOk result (λ journal. IsCounted journal (D.taken (disk_of journal))) }
     {
         let text = text_of_pages(alloc, book.pages())?;
+        let len = text.len();
+        if len > JOURNAL_LIMIT {
+            return Err(JournalFault::TooLarge);
+        }
         let Ok(()) = disk.replace(text.as_slice()) else {
             return Err(JournalFault::WriteFault);
         };
         Ok(Journal {
             disk,
-            len: text.len(),
-            next_look: LEAST_LEN,
+            len,
+            counted: len,
         })
+    }
+
+    /// The disk, with what it holds.
+    pub fn into_disk(self) -> D
+        ensures { result ≡ disk_of self }
+    {
+        self.disk
+    }
+
+    // Writes the journal anew where it is due and has more than so many times the bytes that its pages need. Where
+    // memory is wanting to count these, it stays as it is.
+    fn shorten(&mut self, alloc: Global, book: &Book) -> Result<(), JournalFault>
+        ensures settled { D.tells → IsCounted self.old (D.taken (disk_of self.old)) →
+            OnOk result (IsSettled book.now (counted_of self.old)
+            (D.taken (disk_of self.old)) (D.taken (disk_of self.new))) }
+        ensures counted { D.tells → IsCounted self.old (D.taken (disk_of self.old)) →
+            OnOk result (IsCounted self.new (D.taken (disk_of self.new))) }
+        ensures kept { D.tells → IsCounted self.old (D.taken (disk_of self.old)) →
+            IfErr result (λ e. e ≢ JournalFault.WriteFault →
+            (D.taken (disk_of self.new) ≡ D.taken (disk_of self.old)) × IsCounted self.new (D.taken (disk_of self.new))) }
+    {
+        let grown = self.counted.saturating_add(self.counted / GROWTH_PARTS);
+        if self.len <= LEAST_ANEW || self.len <= grown {
+            return Ok(());
+        }
+        self.counted = self.len;
+        let text = text_of_pages(alloc, book.pages())?;
+        if self.len <= text.len().saturating_mul(TIMES_NEEDED) {
+            return Ok(());
+        }
+        let Ok(()) = self.disk.replace(text.as_slice()) else {
+            return Err(JournalFault::WriteFault);
+        };
+        self.len = text.len();
+        self.counted = text.len();
+        Ok(())
     }
 }
 
 impl<D: Disk + Drop> Keeper for Journal<D> {
     ghost use Rattle.std.specs.Prelude.{ℕ, List};
-    ghost use Rattle.pocsag_journal.specs.Keeping.{disk_of};
-    ghost use Rattle.pocsag_journal.specs.Journals.{StandsFor};
+    ghost use Rattle.pocsag_journal.specs.Keeping.{IsHeld, disk_of};
 
     ghost tells = { D.tells };
 
@@ -54,12 +103,13 @@ impl<D: Disk + Drop> Keeper for Journal<D> {
 
     ghost safe = { λ journal. D.safe (disk_of journal) };
 
-    ghost stands_for = { λ journal pages. D.tells → StandsFor (D.taken (disk_of journal)) pages };
+    ghost stands_for = { λ journal pages. D.tells → IsHeld journal (D.taken (disk_of journal)) pages };
 
     fn keep(&mut self, alloc: Global, row: &ByteRecord) -> Result<(), Fault> {
         let line = row_line(alloc, row)?;
-        if !is_one_line(line.as_slice()) {
-            // No line of `open` has a field with a line feed.
+        let len = self.len.saturating_add(line.len());
+        // No line of `open` has a field with a line feed.
+        if !is_one_line(line.as_slice()) || len > JOURNAL_LIMIT {
             return Err(Fault::Write);
         }
         let Ok(()) = write_all(&mut self.disk, line.as_slice()) else {
@@ -68,27 +118,14 @@ impl<D: Disk + Drop> Keeper for Journal<D> {
         let Ok(()) = self.disk.sync() else {
             return Err(Fault::Write);
         };
-        self.len = self.len.saturating_add(line.len());
+        self.len = len;
         Ok(())
     }
 
-    // It is looked at each time that it has grown by an eighth, so that looking costs each edit the same.
     fn settle(&mut self, alloc: Global, book: &Book) -> Result<(), Fault> {
-        if self.len <= self.next_look {
-            return Ok(());
+        match self.shorten(alloc, book) {
+            Err(JournalFault::WriteFault) => Err(Fault::Write),
+            _ => Ok(()),
         }
-        self.next_look = self.len.saturating_add(self.len / 8);
-        let Ok(text) = text_of_pages(alloc, book.pages()) else {
-            return Ok(());
-        };
-        if self.len / 4 <= text.len() {
-            return Ok(());
-        }
-        let Ok(()) = self.disk.replace(text.as_slice()) else {
-            return Err(Fault::Write);
-        };
-        self.len = text.len();
-        self.next_look = LEAST_LEN.max(self.len);
-        Ok(())
     }
 }

@@ -1,9 +1,10 @@
-ghost use Rattle.std.specs.Prelude.{◌≡◌, ◌⊎◌, ℕ, List, [], ◌∷◌, ◌++◌};
+ghost use Rattle.std.specs.Prelude.{◌≡◌, ◌≤◌, ◌⊎◌, ℕ, List, [], ◌∷◌, ◌++◌, length};
 ghost use Rattle.std.specs.List.{AllByRecursion};
 ghost use Rattle.csv.specs.Writing.{default_writer, row_text};
 ghost use Rattle.pocsag_pages.specs.PageFile.{Row};
 ghost use Rattle.pocsag_pages.specs.declared.page.Page.{Page};
-ghost use Rattle.pocsag_open.specs.Runs.{IsRun};
+ghost use Rattle.pocsag_open.specs.Runs.{IsEdit, IsRun};
+ghost use Rattle.pocsag_journal.specs.Growth.{line_limit};
 ghost use Rattle.pocsag_journal.specs.Journals.{IsBadLine, IsLine, IsRead, ReadsFirst, journal_text};
 
 /// Bytes read as one list of records at most, with one torn end; and where these are a run, no line is bad.
@@ -26,4 +27,10 @@ pub fn a_prefix_is_read()
     ensures one_more { (kept rows : List Row) (row : Row) (part rest torn : List ℕ) →
         AllByRecursion IsLine kept → IsLine row → part ++ rest ≡ row_text default_writer row →
         IsRead (journal_text kept ++ part) rows torn → (rows ≡ kept) ⊎ (rows ≡ kept ++ row ∷ []) }
+{}
+
+/// A line of a journal, the text of an edit that some pages accept, has at most 8,192 bytes with its line feed.
+pub fn lines_are_short()
+    ensures { (row : Row) (before after : List Page) →
+        IsEdit row before after → length (row_text default_writer row) ≤ line_limit }
 {}

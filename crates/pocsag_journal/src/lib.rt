@@ -8,6 +8,7 @@ mod fault;
 mod journal;
 mod laws;
 mod lines;
+mod memory_disk;
 mod reading;
 mod text;
 
@@ -15,6 +16,7 @@ pub use anew::text_of_pages;
 pub use disk::Disk;
 pub use fault::JournalFault;
 pub use journal::Journal;
-pub use laws::{a_prefix_is_read, journals_read_as_one};
+pub use laws::{a_prefix_is_read, journals_read_as_one, lines_are_short};
+pub use memory_disk::MemoryDisk;
 pub use reading::{JOURNAL_LIMIT, Replayed, read_journal};
 pub use text::first_line;

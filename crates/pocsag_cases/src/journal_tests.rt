@@ -1,0 +1,279 @@
+//! Journals on disks in memory: what they hold once an edit is answered, whichever call fails, and what reading them
+//! gives.
+
+use crate::given::{Records, round_of_file};
+use pocsag_commands::Fault;
+use pocsag_journal::{
+    Journal, JournalFault, MemoryDisk, Replayed, first_line, read_journal, text_of_pages,
+};
+use pocsag_open::{OpenRound, Outputs, Places, Planner, run_open_kept};
+use pocsag_plan::Book;
+use pocsag_words::{MemorySink, MemorySource};
+use std::alloc::Global;
+use std::test::Fail;
+
+// A folder in which no file can be made.
+struct NoFolder;
+
+impl Places for NoFolder {
+    type Output = MemorySink<1>;
+
+    fn make(&self, _tx: &str, _cert: &str) -> Result<Outputs<MemorySink<1>>, Fault> {
+        Err(Fault::Device)
+    }
+}
+
+// What a round leaves: its answers, its disk, and how it ended.
+#[derive(Drop)]
+struct Left {
+    answers: MemorySink<8000>,
+    disk: MemoryDisk,
+    done: Result<(), Fault>,
+}
+
+// Keeps a round of no pages on the disk.
+fn keep(alloc: Global, disk: MemoryDisk, lines: &[u8]) -> Result<Left, JournalFault> {
+    let planner = &Planner {
+        places: &NoFolder,
+        always: false,
+    };
+    let book = Book::new(alloc);
+    let keeper = Journal::write_anew(alloc, disk, &book)?;
+    let mut round = OpenRound { book, keeper };
+    let mut input = MemorySource::new(lines, 7, u64::MAX);
+    let mut answers = MemorySink::new(5, u64::MAX);
+    let done = run_open_kept(alloc, planner, &mut round, &mut input, &mut answers);
+    Ok(Left {
+        answers,
+        disk: round.keeper.into_disk(),
+        done,
+    })
+}
+
+// A line, its answer, and whether it is an edit that is accepted.
+type Lines = &'static [(&'static str, &'static str, bool)];
+
+const LINES: Lines = &[
+    ("add,5,alpha,Ward 3\n", "ok 1\n", true),
+    ("add,0000013,tone0,\n", "ok 2\n", true),
+    (
+        "add,13,tone0,\n",
+        "refused: the address is already there\n",
+        false,
+    ),
+    ("cancel,5\n", "ok 1\n", true),
+    (
+        "plan,tx.bin,cert.bin\n",
+        "refused: cannot read or open a file\n",
+        false,
+    ),
+    ("add,21,alpha,\"Bed 2, \"\"now\"\"\"\n", "ok 2\n", true),
+    ("cancel,22\n", "refused: no such page\n", false),
+    (
+        "add,29,alpha,\"Fire\n",
+        "refused: the line ends inside quotes\n",
+        false,
+    ),
+    ("clear\n", "ok 0\n", true),
+    ("pocsag journal,1\n", "ok 0\n", false),
+    ("add,8,tone1,\n", "ok 1\n", true),
+];
+
+fn joined(alloc: Global, lines: Lines) -> Result<Vec<u8>, Fail> {
+    let mut bytes = Vec::new(alloc);
+    for (line, _, _) in lines {
+        bytes.extend_from_slice(line.as_bytes())?;
+    }
+    Ok(bytes)
+}
+
+// What is due of a disk that takes so many bytes of lines and serves so many calls of `sync`: the answers, what no
+// crash takes away, and whether all lines are answered.
+#[derive(Drop)]
+struct Due {
+    answers: Vec<u8>,
+    safe: Vec<u8>,
+    syncs: u64,
+    is_all: bool,
+}
+
+fn due_of(alloc: Global, takes: usize, settles: u64) -> Result<Due, Fail> {
+    let mut due = Due {
+        answers: Vec::new(alloc),
+        safe: first_line().to_vec(alloc)?,
+        syncs: 0,
+        is_all: true,
+    };
+    let mut left = takes;
+    for (line, answer, is_kept) in LINES {
+        if *is_kept {
+            if left < line.len() {
+                due.is_all = false;
+                return Ok(due);
+            }
+            left -= line.len();
+            due.syncs = due.syncs.saturating_add(1);
+            if due.syncs > settles {
+                due.is_all = false;
+                return Ok(due);
+            }
+            due.safe.extend_from_slice(line.as_bytes())?;
+        }
+        due.answers.extend_from_slice(answer.as_bytes())?;
+    }
+    Ok(due)
+}
+
+// Each edit that is answered `ok` was written whole and synchronised once, and a refused line never; where the disk
+// takes no more bytes, or serves no further call, the round ends without an answer.
+#[test]
+fn edits_are_kept_before_they_are_answered(rt: HostRuntime) -> Result<(), Fail> {
+    let alloc = rt.alloc();
+    let lines = joined(alloc, LINES)?;
+    let mut limits = vec![in alloc; (usize::MAX, u64::MAX); 1]?;
+    for takes in 0..100 {
+        limits.push((takes, u64::MAX))?;
+    }
+    for settles in 0..7 {
+        limits.push((usize::MAX, settles))?;
+    }
+    for (takes, settles) in limits.as_slice() {
+        let due = due_of(alloc, *takes, *settles)?;
+        let disk = MemoryDisk::new(alloc, *takes, settles.saturating_add(1));
+        let left = keep(alloc, disk, lines.as_slice())?;
+        let done = if due.is_all {
+            Ok(())
+        } else {
+            Err(Fault::Write)
+        };
+        assert_eq!(rt; left.done, done);
+        assert_eq!(rt; left.answers.bytes(), due.answers.as_slice());
+        assert_eq!(rt; left.disk.safe(), due.safe.as_slice());
+        assert_eq!(rt; left.disk.syncs(), due.syncs);
+    }
+    let none = keep(alloc, MemoryDisk::new(alloc, 1000, 0), lines.as_slice());
+    assert_eq!(rt; none.err(), Some(JournalFault::WriteFault));
+    Ok(())
+}
+
+// The bytes of a journal behind its first line, and what is read: how many edits, pages and bytes of a torn end, or
+// the fault.
+type Read = (&'static str, Result<(usize, usize, usize), JournalFault>);
+
+const READ: &[Read] = &[
+    ("", Ok((0, 0, 0))),
+    ("add", Ok((0, 0, 3))),
+    ("add,8,tone0,\n", Ok((1, 1, 0))),
+    ("add,8,tone0,\ncancel,8\nadd,8,tone1,\n", Ok((3, 1, 0))),
+    ("add,8,tone0,\nadd,16,tone0,\ncle", Ok((2, 2, 3))),
+    ("add,8,tone0,\nadd,16,tone0,\nclear\n", Ok((3, 0, 0))),
+    ("add,8,tone0,\nlist\n", Err(JournalFault::BadLine(3))),
+    ("add,8,tone0,\nlist\nclear\n", Err(JournalFault::BadLine(3))),
+    (
+        "add,8,tone0,\nadd,8,tone1,\nclear",
+        Err(JournalFault::BadLine(3)),
+    ),
+    ("add,8,tone0,\r\n", Err(JournalFault::BadLine(2))),
+    ("add,8,\"tone0\",\n", Err(JournalFault::BadLine(2))),
+    ("add,8,alpha,\"Fire\nclear\n", Err(JournalFault::BadLine(2))),
+    ("cancel,8\n", Err(JournalFault::BadLine(2))),
+    ("\n", Err(JournalFault::BadLine(2))),
+];
+
+fn told(read: Result<Replayed, JournalFault>) -> Result<(usize, usize, usize), JournalFault> {
+    let replayed = read?;
+    Ok((replayed.edits, replayed.book.len(), replayed.torn))
+}
+
+// A torn end is passed over, the first bad line told, and a first line that is another or torn.
+#[test]
+fn journals_are_read(rt: HostRuntime) -> Result<(), Fail> {
+    let alloc = rt.alloc();
+    for (lines, due) in READ {
+        let mut bytes = first_line().to_vec(alloc)?;
+        bytes.extend_from_slice(lines.as_bytes())?;
+        let mut source = MemorySource::new(bytes.as_slice(), 7, u64::MAX);
+        assert_eq!(rt; told(read_journal(alloc, &mut source)), *due);
+        let mut cut = MemorySource::new(bytes.as_slice(), 7, 9);
+        assert_eq!(rt;
+            told(read_journal(alloc, &mut cut)),
+            Err(JournalFault::ReadFault)
+        );
+    }
+    let others: [(&[u8], Result<(usize, usize, usize), JournalFault>); 4] = [
+        (b"", Ok((0, 0, 0))),
+        (b"pocsag journal", Ok((0, 0, 14))),
+        (b"pocsag journal,2\n", Err(JournalFault::BadLine(1))),
+        (b"add,8,tone0,\n", Err(JournalFault::BadLine(1))),
+    ];
+    for (bytes, due) in others {
+        let mut source = MemorySource::new(bytes, 7, u64::MAX);
+        assert_eq!(rt; told(read_journal(alloc, &mut source)), due);
+    }
+    Ok(())
+}
+
+// The records of a page file, and the journal that is written anew of its pages, or the fault.
+const ANEW: &[(Records, Result<&str, JournalFault>)] = &[
+    (
+        &[
+            ("24,tone2,", 0),
+            ("8,numeric,5 ", 2),
+            ("16,alpha,\"a, \"\"b\"\"\"", 0),
+        ],
+        Ok("add,24,tone2,\nadd,8,numeric,5 11\nadd,16,alpha,\"a, \"\"b\"\"\"\n"),
+    ),
+    (
+        &[("0,numeric,   ", 0), ("8,numeric,12345      ", 0)],
+        Ok("add,0,numeric, \nadd,8,numeric,12345      \n"),
+    ),
+    (
+        &[("8,tone0,", 0), ("16,alpha,\"two\nlines\"", 0)],
+        Err(JournalFault::NoLine(2)),
+    ),
+];
+
+#[test]
+fn journals_are_written_anew(rt: HostRuntime) -> Result<(), Fail> {
+    let alloc = rt.alloc();
+    for (records, due) in ANEW {
+        let round = round_of_file(alloc, records)?;
+        match text_of_pages(alloc, round.pages()) {
+            Ok(text) => {
+                assert_eq!(rt; due.is_ok(), true);
+                let (front, lines) = text.as_slice().split_at(first_line().len());
+                assert_eq!(rt; front, first_line());
+                assert_eq!(rt; lines, due.unwrap_or("").as_bytes());
+            }
+            Err(fault) => assert_eq!(rt; Some(fault), due.err()),
+        }
+    }
+    Ok(())
+}
+
+// A page of 4,000 letters comes and goes. Each two lines are 4,022 bytes, so that the journal has more than a megabyte
+// once line 521 is kept, and is written anew; where that fails the round ends, and what was kept is there.
+#[test]
+fn long_journals_are_written_anew(rt: HostRuntime) -> Result<(), Fail> {
+    let alloc = rt.alloc();
+    let mut lines = Vec::new(alloc);
+    for _ in 0..300 {
+        lines.extend_from_slice(b"add,8,alpha,")?;
+        lines.extend_from_slice(vec![in alloc; b'A'; 4000]?.as_slice())?;
+        lines.extend_from_slice(b"\ncancel,8\n")?;
+    }
+    let cases = [
+        (u64::MAX, Ok(()), 600, 160_897, (80, 0, 0)),
+        (522, Err(Fault::Write), 521, 1_049_750, (521, 1, 0)),
+    ];
+    for (settles, done, syncs, bytes, read) in cases {
+        let disk = MemoryDisk::new(alloc, usize::MAX, settles);
+        let left = keep(alloc, disk, lines.as_slice())?;
+        assert_eq!(rt; left.done, done);
+        assert_eq!(rt; left.disk.syncs(), syncs);
+        assert_eq!(rt; left.disk.bytes().len(), bytes);
+        let mut source = MemorySource::new(left.disk.bytes(), 4096, u64::MAX);
+        assert_eq!(rt; told(read_journal(alloc, &mut source)), Ok(read));
+    }
+    Ok(())
+}
