@@ -25,7 +25,7 @@ mod thinning;
 mod within_one;
 
 pub use answer::Found;
-pub use fault::SearchFault;
+pub use fault::{SearchFault, SearchLimit};
 pub use search_free::{near, search_freely};
 pub use searching::search;
 pub use within_one::{FreeFault, Near};

@@ -6,7 +6,7 @@ ghost use Rattle.pocsag_branch.specs.Found.{HasPage, IsFound, IsNodeLimit, IsSea
 
 use crate::answer::Found;
 use crate::ending::{one_more, settled};
-use crate::fault::SearchFault;
+use crate::fault::{SearchFault, SearchLimit};
 use crate::least::least_of;
 use crate::opening::is_unfinished;
 use crate::question::{Question, Stop};
@@ -71,11 +71,11 @@ fn judged(
     spare_batches_have_tours();
     tours_have_codewords();
     if is_unfinished(&tree) {
-        return Err(SearchFault::SearchLimit {
+        return Err(SearchFault::SearchLimit(SearchLimit {
             least: question.batches,
             found: question.batches + 1,
             tree,
-        });
+        }));
     }
     let steps = one_more(alloc, classes, choice, question.batches, question.end)?;
     Ok(Found {
