@@ -324,6 +324,15 @@ def check_rows_wanted(tally, folder):
         done = run("show", path, f"--rows={word}")
         said = done.returncode == 2 and done.stdout == b"" and b"--rows" in done.stderr
         tally.check(f"rows {word!r} are none", said, done)
+    for word in ("41-50", "41-", "41", "18446744073709551615"):
+        for more in ([], ["--svg"]):
+            done = run("show", path, "--rows", word, *more)
+            due = f"pocsag: rows {word}: the transmission has 40 batches\n".encode()
+            tally.check(f"rows {word} are behind the last", (done.returncode, done.stdout, done.stderr) == (1, b"", due), done)
+    cut = folder / "cut"
+    cut.write_bytes(path.read_bytes()[:-1])
+    done = run("show", cut, "--rows", "41")
+    tally.check("a cut transmission before its rows", (done.returncode, done.stderr) == (1, b"pocsag: the transmission is cut short\n"), done)
     done = run("show", path, "--rows", "2", "--list")
     tally.check("rows and list", done.returncode == 2 and done.stdout == b"", done)
 

@@ -75,5 +75,5 @@ pub record IsLimit (k : Classes) (end : End) (limit least found : ℕ) (tree : B
 
 -- What each fault of `search` says.
 abbrev pub IsSearchFault : Classes → End → ℕ → SearchFault → Type 0
-IsSearchFault k end limit (SearchLimit least found tree) = IsLimit k end limit least found (bound_of tree)
+IsSearchFault k end limit (SearchLimit stop) = IsLimit k end limit stop.least stop.found (bound_of stop.tree)
 IsSearchFault k end limit OutOfMemory = Unit {0}

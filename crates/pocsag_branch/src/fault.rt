@@ -5,13 +5,21 @@ use pocsag_tree::Tree;
 use std::alloc::AllocError;
 use thiserror::Error;
 
+/// So many nodes did not decide between `least` batches and `found`, one more.
+#[derive(Drop, Debug, Error)]
+#[error("search limit reached: at least {least} batches, {found} would do")]
+pub struct SearchLimit {
+    pub least: u32,
+    pub found: u32,
+    /// The nodes that were examined, and an `Open` for each that was not.
+    pub tree: Tree,
+}
+
 /// Why the search gave no answer.
 #[derive(Drop, Debug, Error)]
 pub enum SearchFault {
-    /// So many nodes did not decide between `least` batches and `found`, one more. The tree holds the
-    /// nodes that were examined, and an `Open` for each that was not.
-    #[error("search limit reached: at least {least} batches, {found} would do")]
-    SearchLimit { least: u32, found: u32, tree: Tree },
+    #[error("{0}")]
+    SearchLimit(SearchLimit),
     #[error("out of memory")]
     OutOfMemory,
 }

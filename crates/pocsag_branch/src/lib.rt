@@ -26,7 +26,7 @@ mod unfinished;
 mod within_one;
 
 pub use answer::Found;
-pub use fault::SearchFault;
+pub use fault::{SearchFault, SearchLimit};
 pub use free_search::{near, search_freely};
 pub use promised_search::search;
 pub use within_one::{FreeFault, Near};

@@ -5,7 +5,7 @@ ghost use Rattle.pocsag_branch.specs.Examined.{greatest_least, IsTreeOf};
 ghost use Rattle.pocsag_branch.specs.Found.{HasPage, IsFound, IsNodeLimit, IsSearchFault};
 
 use crate::answer::Found;
-use crate::fault::SearchFault;
+use crate::fault::{SearchFault, SearchLimit};
 use crate::least::least_of;
 use crate::outcome::{found_at_least, tour_of_one_more};
 use crate::promised_root::promised_tree;
@@ -71,11 +71,11 @@ fn found_or_limit(
     spare_batches_have_tours();
     tours_have_codewords();
     if is_unfinished(&tree) {
-        return Err(SearchFault::SearchLimit {
+        return Err(SearchFault::SearchLimit(SearchLimit {
             least: task.batches,
             found: task.batches + 1,
             tree,
-        });
+        }));
     }
     let steps = tour_of_one_more(alloc, classes, choice, task.batches, task.end)?;
     Ok(Found {

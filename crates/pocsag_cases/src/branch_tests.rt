@@ -125,13 +125,12 @@ fn node_limits(rt: HostRuntime) {
             .batches,
         3
     );
-    let Err(SearchFault::SearchLimit { least, found, tree }) = search(alloc, &classes, 2, End::Open)
-    else {
+    let Err(SearchFault::SearchLimit(stop)) = search(alloc, &classes, 2, End::Open) else {
         panic!(rt; "the limit is not reached");
     };
-    assert_eq!(rt; (least, found, nodes(&tree)), (2, 3, 2));
-    assert_eq!(rt; check(&round, 3, &tree, End::Open), false);
-    assert_eq!(rt; check_open(&round, 3, &tree, End::Open), true);
+    assert_eq!(rt; (stop.least, stop.found, nodes(&stop.tree)), (2, 3, 2));
+    assert_eq!(rt; check(&round, 3, &stop.tree, End::Open), false);
+    assert_eq!(rt; check_open(&round, 3, &stop.tree, End::Open), true);
     let Err(FreeFault::SearchLimit(stopped)) = search_freely(alloc, &classes, 1, End::Open) else {
         panic!(rt; "the limit is not reached freely");
     };

@@ -1,7 +1,7 @@
 //! The text of every fault.
 
 use pocsag_batch::FirstFault;
-use pocsag_branch::{FreeFault, SearchFault};
+use pocsag_branch::{FreeFault, SearchFault, SearchLimit};
 use pocsag_decode::{DecodeFault, ListFault};
 use pocsag_pager::PagerFault;
 use pocsag_pages::{FieldFault, PageFault, RoundFault, WholeFault};
@@ -206,10 +206,18 @@ fn transmissions_and_certificates(rt: HostRuntime) {
     );
 }
 
+// A search that stopped.
+fn stopped() -> SearchLimit {
+    SearchLimit {
+        least: 2,
+        found: 3,
+        tree: Tree::Open,
+    }
+}
+
 #[test]
 fn plans_and_edits(rt: HostRuntime) {
     let alloc = rt.alloc();
-    let (least, found) = (2, 3);
     expect_texts(
         &rt,
         alloc,
@@ -223,14 +231,7 @@ fn plans_and_edits(rt: HostRuntime) {
         &rt,
         alloc,
         &[
-            (
-                SearchFault::SearchLimit {
-                    least,
-                    found,
-                    tree: Tree::Open,
-                },
-                LIMIT_REACHED,
-            ),
+            (SearchFault::SearchLimit(stopped()), LIMIT_REACHED),
             (SearchFault::OutOfMemory, NO_MEMORY),
         ],
     );
@@ -252,14 +253,7 @@ fn plans_and_edits(rt: HostRuntime) {
         alloc,
         &[
             (PlanFault::BadLimit, BAD_LIMIT),
-            (
-                PlanFault::SearchLimit {
-                    least,
-                    found,
-                    tree: Tree::Open,
-                },
-                LIMIT_REACHED,
-            ),
+            (PlanFault::SearchLimit(stopped()), LIMIT_REACHED),
             (PlanFault::OutOfMemory, NO_MEMORY),
         ],
     );
@@ -272,14 +266,7 @@ fn plans_and_edits(rt: HostRuntime) {
                 StreamFault::Round(RoundFault::BadKind(9)),
                 "record 9: unknown kind",
             ),
-            (
-                StreamFault::SearchLimit {
-                    least,
-                    found,
-                    tree: Tree::Open,
-                },
-                LIMIT_REACHED,
-            ),
+            (StreamFault::SearchLimit(stopped()), LIMIT_REACHED),
             (StreamFault::OutOfMemory, NO_MEMORY),
             (StreamFault::Transmission(WriteFault), NO_WRITE),
             (StreamFault::Certificate(WriteFault), NO_WRITE),
@@ -303,14 +290,7 @@ fn plans_and_edits(rt: HostRuntime) {
         &[
             (BookFault::BadLimit, BAD_LIMIT),
             (BookFault::NoPages, "there are no pages"),
-            (
-                BookFault::SearchLimit {
-                    least,
-                    found,
-                    tree: Tree::Open,
-                },
-                LIMIT_REACHED,
-            ),
+            (BookFault::SearchLimit(stopped()), LIMIT_REACHED),
             (BookFault::OutOfMemory, NO_MEMORY),
         ],
     );

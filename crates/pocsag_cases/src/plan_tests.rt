@@ -99,7 +99,7 @@ fn plans(rt: HostRuntime) {
         let round = round_of_file(alloc, records).expect(&rt, "an answer");
         let told = plan(alloc, &round, limit, End::Open);
         assert!(rt;
-            matches!(told, Err(PlanFault::SearchLimit { .. })),
+            matches!(told, Err(PlanFault::SearchLimit(_))),
             "{records:?}"
         );
         let bounded = plan_always(alloc, &round, limit, End::Open).expect(&rt, "an answer");
@@ -125,10 +125,10 @@ fn limits_and_reports(rt: HostRuntime) {
         let told = plan_always(alloc, &round, limit, End::Open);
         assert!(rt; matches!(told, Err(PlanFault::BadLimit)), "{limit}");
     }
-    let Err(PlanFault::SearchLimit { least, found, .. }) = plan(alloc, &round, 2, End::Open) else {
+    let Err(PlanFault::SearchLimit(stop)) = plan(alloc, &round, 2, End::Open) else {
         panic!(rt; "planned");
     };
-    assert_eq!(rt; (least, found), (2, 3));
+    assert_eq!(rt; (stop.least, stop.found), (2, 3));
     assert_eq!(rt;
         plan(alloc, &round, 3, End::Open)
             .expect(&rt, "an answer")

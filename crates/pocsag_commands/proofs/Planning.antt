@@ -26,7 +26,7 @@ pub why_refused : (file : List ℕ) (search : Search) (e : StreamFault) → Expl
     → status_of (fault_of_stream e) ≡ 1 → IsPlanRefused file search
 why_refused file search streaming.BadLimit said one = limit said
 why_refused file search (streaming.Round f) said one = of_round f (why_round file f said.1 one)
-why_refused file search (streaming.SearchLimit least found tree) said one = stopped said.0 least found (bound_of tree) said.2
+why_refused file search (streaming.SearchLimit stop) said one = stopped said.0 stop.least stop.found (bound_of stop.tree) said.2
 why_refused file search streaming.OutOfMemory said one = absurd (omega arith)
 why_refused file search (streaming.Transmission f) said one = absurd (omega arith)
 why_refused file search (streaming.Certificate f) said one = absurd (omega arith)

@@ -41,8 +41,8 @@ why_round file f (inr (inr e)) one = e
 pub why_unplanned : (file : List ℕ) (R : List Page) → verdict file ≡ Ok R → (search : Search) (e : PlanFault) →
     ExplainsPlan search.effort search.end R search.limit e → status_of (fault_of_plan e) ≡ 1 → IsPlanRefused file search
 why_unplanned file R read search planning.BadLimit said one = limit said
-why_unplanned file R read search (planning.SearchLimit least found tree) said one =
-    stopped said.0 least found (bound_of tree) (record { round = R; read = read; holds = said.2 })
+why_unplanned file R read search (planning.SearchLimit stop) said one =
+    stopped said.0 stop.least stop.found (bound_of stop.tree) (record { round = R; read = read; holds = said.2 })
 why_unplanned file R read search planning.OutOfMemory said one = absurd (omega arith)
 
 pub why_certificate : (e : CertificateFault) (bytes : List ℕ) → IsFault e bytes → status_of (fault.Certificate e) ≡ 1 → HasFirst e bytes

@@ -87,7 +87,9 @@ fn explain(
             note_names(&names, notes)?;
             notes.add("was one of them changed meanwhile? plan the round again")
         }
-        Fault::OutOfMemory | Fault::BadLimit | Fault::BadRate => note_names(&names, notes),
+        Fault::OutOfMemory | Fault::BadLimit | Fault::BadRate | Fault::NoSuchRows { .. } => {
+            note_names(&names, notes)
+        }
     }
 }
 

@@ -5,6 +5,7 @@ use pocsag_decode::{DecodeFault, ListFault};
 use pocsag_pager::PagerFault;
 use pocsag_pages::{RoundFault, WholeFault};
 use pocsag_plan::{BadRate, PlanFault, StreamFault};
+use pocsag_show::Rows;
 use pocsag_tree::CertificateFault;
 use pocsag_words::OutOfMemory;
 use std::alloc::{AllocError, AllocFailed};
@@ -53,6 +54,9 @@ pub enum Fault {
     /// The round has so many pages, where `--expect` names another number.
     #[error("pages {0}, where {1} were expected")]
     Unexpected(u32, u32),
+    /// The transmission has so many batches, and the first row that `show` is asked for is behind them.
+    #[error("rows {rows}: the transmission has {batches} batches")]
+    NoSuchRows { rows: Rows, batches: u64 },
 }
 
 impl Fault {
@@ -173,7 +177,7 @@ impl From<PlanFault> for Fault {
     fn from(refused: PlanFault) -> Fault {
         match refused {
             PlanFault::BadLimit => Fault::BadLimit,
-            PlanFault::SearchLimit { least, found, .. } => Fault::SearchLimit(least, found),
+            PlanFault::SearchLimit(limit) => Fault::SearchLimit(limit.least, limit.found),
             PlanFault::OutOfMemory => Fault::OutOfMemory,
         }
     }
@@ -188,7 +192,7 @@ impl From<StreamFault> for Fault {
         match refused {
             StreamFault::BadLimit => Fault::BadLimit,
             StreamFault::Round(refused) => Fault::Round(refused),
-            StreamFault::SearchLimit { least, found, .. } => Fault::SearchLimit(least, found),
+            StreamFault::SearchLimit(limit) => Fault::SearchLimit(limit.least, limit.found),
             StreamFault::OutOfMemory => Fault::OutOfMemory,
             StreamFault::Transmission(_) | StreamFault::Certificate(_) => Fault::Write,
         }

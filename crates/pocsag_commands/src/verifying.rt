@@ -79,8 +79,8 @@ fn is_due(bound: usize, batches: usize, effort: Effort) -> bool
     }
 }
 
-// How many whole batches follow the leading bytes AA.
-fn batches_of(bytes: &[u8]) -> usize
+/// How many whole batches follow the leading bytes AA.
+pub(crate) fn batches_of(bytes: &[u8]) -> usize
     ensures { (codewords : List ℕ) → (sent : Sent bytes.now codewords) → result ≡ sent.batches }
 {
     bytes.len().saturating_sub(leading_len(bytes)) / BATCH_BYTES

@@ -115,7 +115,8 @@ each codeword, in eight frames of two: a capital letter for the address codeword
 page, the same letter small for its message codewords; a full stop for an idle. Letters
 go by address, so a page keeps its letter, and in the drawing its hue, however its round
 is sent. --rows A-B shows these batches, --rows A- those from A on, --rows A one; all of
-the transmission is read and judged whatever is shown.
+the transmission is read and judged whatever is shown, and rows behind its last batch are
+refused.
 
 Example:
   pocsag show tx.bin

@@ -5,4 +5,5 @@ pub mod Places
 pub mod Prelude
 pub mod Repairing
 pub mod Showing
+pub mod Wanting
 pub mod WholeWords

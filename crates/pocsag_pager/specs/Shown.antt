@@ -1,5 +1,5 @@
 -- What a pager shows of the words after a preamble: a list of places, over words that are mended.
-use Rattle.std.specs.Prelude.{◌≡◌, ℕ, ◌+◌, ◌/◌, ◌%◌, ◌==◌, ◌&&◌, if◌then◌else◌, List, [], ◌∷◌, map, Bool, Option, Some, None, MatchOption}
+use Rattle.std.specs.Prelude.{◌≡◌, ◌≢◌, ℕ, ◌+◌, ◌/◌, ◌%◌, ◌==◌, ◌&&◌, if◌then◌else◌, List, [], ◌∷◌, map, Bool, Option, Some, None, MatchOption}
 use Rattle.std.specs.List.{AllZip}
 use Rattle.pocsag_words.specs.Codeword.{HasNoneNear, IsOnlyNear}
 use Rattle.pocsag_words.specs.Kinds.{kind_of}
@@ -56,3 +56,7 @@ shown_from a i (Some (Message bits) ∷ ms) = shown_from a (i + 1) ms
 -- after a preamble.
 abbrev pub AreShown : List ℕ → ℕ → List Page → Type 0
 AreShown words a ps = HoldsOnceMended words (λ ms. ps ≡ shown_from a 0 ms)
+
+-- The pager shows a page at least: whatever pages are shown of the words, there are some.
+abbrev pub ShowsSome : List ℕ → ℕ → Type 0
+ShowsSome words a = (ps : List Page) → AreShown words a ps → ps ≢ []

@@ -1,5 +1,5 @@
 -- Where a pager stands after words, which it does not store (this project's own).
-use Rattle.std.specs.Prelude.{◌≡◌, ◌≢◌, ℕ, ◌+◌, ◌*◌, ◌%◌, ◌≤◌, ◌⊎◌, ◌&&◌, not, if◌then◌else◌, List, [], ◌∷◌, ◌++◌, length, Bool, true, false, Option, Some, None, IsSome, Result, OnOk, IfErr}
+use Rattle.std.specs.Prelude.{◌≡◌, ◌≢◌, ℕ, ◌+◌, ◌*◌, ◌%◌, ◌≤◌, ◌⊎◌, ◌&&◌, not, if◌then◌else◌, List, [], ◌∷◌, ◌++◌, length, Bool, true, false, Option, Some, None, IsSome, Result, OnOk, OnErr, IfErr}
 use Rattle.pocsag_words.specs.declared.codeword.Kind.{Kind}
 use Rattle.pocsag_words.specs.declared.codeword.Kind.TheVariants.{Idle, Address, Message}
 use Rattle.pocsag_pages.specs.declared.page.Page.{Page}
@@ -8,7 +8,7 @@ use Rattle.pocsag_pager.specs.declared.fault.PagerFault.{PagerFault}
 use Rattle.pocsag_pager.specs.declared.fault.PagerFault.TheVariants as fault
 use Rattle.pocsag_pager.specs.declared.pager.Pager.{Pager}
 use Rattle.pocsag_pager.specs.declared.pager.State.TheVariants.{Listening, Failed}
-use Rattle.pocsag_pager.specs.Shown.{HoldsOnceMended, is_ours, page_called}
+use Rattle.pocsag_pager.specs.Shown.{HoldsOnceMended, ShowsSome, is_ours, page_called}
 use Rattle.pocsag_pager.specs.Turns.{IsHeardAs}
 
 -- Whether all of these are message codewords, so that a page before them is still open.
@@ -76,6 +76,12 @@ Hears result before after pages_before pages_after bytes = record {
   memory : (words : List ℕ) → HasHeard before words pages_before → IfErr result (λ e. e ≡ fault.OutOfMemory);
   address : pager_address after ≡ pager_address before;
 }
+
+-- Where the call does not answer, a page at least is shown of the words that were heard and of those of the bytes: memory is
+-- wanted only for a page.
+abbrev pub WantsForPage : {T : Type 0} → Result T PagerFault → (before : Pager) → (pages_before : List Page) → List ℕ → Type 0
+WantsForPage result before pages_before bytes = (words : List ℕ) → HasHeard before words pages_before
+    → OnErr result (ShowsSome (words ++ words_of bytes) (pager_address before))
 
 -- So many places of a batch, from this one on, are all before the address's frame or all after it.
 abbrev pub IsElsewhere : ℕ → ℕ → ℕ → Type 0

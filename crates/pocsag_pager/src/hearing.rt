@@ -1,4 +1,4 @@
-ghost use Rattle.std.specs.Prelude.{◌≡◌, ◌≤◌, ◌⊎◌, ◌==◌, ◌%◌, ℕ, List, [], ◌++◌, length, filter, All, None, IfOk, IfErr, OnOk, MatchResult, option_to_list};
+ghost use Rattle.std.specs.Prelude.{◌≡◌, ◌≤◌, ◌⊎◌, ◌==◌, ◌%◌, ℕ, List, [], ◌++◌, length, filter, All, None, IfOk, IfErr, IsSome, OnErr, OnOk, MatchResult, option_to_list};
 ghost use Rattle.pocsag_words.specs.declared.ending.End.{End};
 ghost use Rattle.pocsag_pages.specs.declared.page.Page.{Page};
 ghost use Rattle.pocsag_pages.specs.Bytes.{after_preamble, bytes_of, leading, words_of};
@@ -7,8 +7,8 @@ ghost use Rattle.pocsag_pages.specs.Reading.{IsLegalList};
 ghost use Rattle.pocsag_pager.specs.Damage.{IsDamaged};
 ghost use Rattle.pocsag_pager.specs.Faults.{address_fault, bytes_fault, hearing_fault};
 ghost use Rattle.pocsag_pages.specs.Listable.{IsListable};
-ghost use Rattle.pocsag_pager.specs.Shown.{AreShown};
-ghost use Rattle.pocsag_pager.specs.Standing.{Hears, Stands, pager_address};
+ghost use Rattle.pocsag_pager.specs.Shown.{AreShown, ShowsSome};
+ghost use Rattle.pocsag_pager.specs.Standing.{Hears, Stands, WantsForPage, pager_address};
 
 use crate::fault::PagerFault;
 use crate::laws::{damage_is_repaired, shown_pages_are_one_list};
@@ -51,7 +51,8 @@ fn whole_batches(bytes: &[u8]) -> Result<&[u8], PagerFault>
 // Keeps the page, if there is one.
 #[inline(always)]
 fn keep(pages: &mut Vec<Page>, page: Option<Page>) -> Result<(), AllocError>
-    ensures { OnOk result (pages.new.items ≡ pages.old.items ++ option_to_list page) }
+    ensures kept { OnOk result (pages.new.items ≡ pages.old.items ++ option_to_list page) }
+    ensures memory { OnErr result (IsSome page) }
 {
     if let Some(page) = page {
         pages.push(page)?;
@@ -61,7 +62,8 @@ fn keep(pages: &mut Vec<Page>, page: Option<Page>) -> Result<(), AllocError>
 
 // Hears the words of these bytes, and keeps the pages that end.
 fn hear_each(pager: &mut Pager, pages: &mut Vec<Page>, bytes: &[u8]) -> Result<(), PagerFault>
-    ensures { Hears result pager.old pager.new pages.old.items pages.new.items bytes.now }
+    ensures heard { Hears result pager.old pager.new pages.old.items pages.new.items bytes.now }
+    ensures memory { WantsForPage result pager.old pages.old.items bytes.now }
 {
     let (words, _) = bytes.as_chunks::<4>();
     for word in words {
@@ -73,7 +75,8 @@ fn hear_each(pager: &mut Pager, pages: &mut Vec<Page>, bytes: &[u8]) -> Result<(
 
 // The same, where the words are passed over unheard if they change nothing.
 fn hear_part(pager: &mut Pager, pages: &mut Vec<Page>, bytes: &[u8]) -> Result<(), PagerFault>
-    ensures { Hears result pager.old pager.new pages.old.items pages.new.items bytes.now }
+    ensures heard { Hears result pager.old pager.new pages.old.items pages.new.items bytes.now }
+    ensures memory { WantsForPage result pager.old pages.old.items bytes.now }
 {
     let count = bytes.len() / 4;
     if pager.passes(count) {
@@ -86,7 +89,8 @@ fn hear_part(pager: &mut Pager, pages: &mut Vec<Page>, bytes: &[u8]) -> Result<(
 // Hears a batch in three parts: what is before the address's frame, the frame, and what is after it.
 fn hear_batch(pager: &mut Pager, pages: &mut Vec<Page>, batch: &[u8]) -> Result<(), PagerFault>
     requires { length batch.now ≡ 68 }
-    ensures { Hears result pager.old pager.new pages.old.items pages.new.items batch.now }
+    ensures heard { Hears result pager.old pager.new pages.old.items pages.new.items batch.now }
+    ensures memory { WantsForPage result pager.old pages.old.items batch.now }
 {
     let (before, rest) = batch.split_at(4 + 8 * pager.frame());
     let (frame, after) = rest.split_at(8);
@@ -101,6 +105,7 @@ fn hear_batches(alloc: Global, mut pager: Pager, bytes: &[u8]) -> Result<Vec<Pag
     requires whole { length bytes.now % 68 ≡ 0 }
     ensures shown { IfOk result (λ pages. AreShown (words_of bytes.now) (pager_address pager) pages.items) }
     ensures err { IfErr result (λ e. e ≡ PagerFault.OutOfMemory) }
+    ensures memory { OnErr result (ShowsSome (words_of bytes.now) (pager_address pager)) }
 {
     let mut pages = Vec::new(alloc);
     for i in 0..bytes.len() / BATCH_BYTES {
@@ -122,6 +127,10 @@ pub fn hear_all(alloc: Global, bytes: &[u8], address: u32) -> Result<Vec<Page>, 
     ensures err { IfErr result (λ e. (hearing_fault address bytes.now ≡ Some e)
         ⊎ ((hearing_fault address bytes.now ≡ None) × (e ≡ PagerFault.OutOfMemory))) }
     ensures listable { IfOk result (λ pages. All IsListable pages.items) }
+
+    // Memory is wanted only to keep a page that is shown, or its message.
+    ensures memory { hearing_fault address bytes.now ≡ None →
+        OnErr result (ShowsSome (words_of (after_preamble bytes.now)) address) }
 
     // *Damage repaired*: of a transmission that is legal for a round, with at most two wrong bits in
     // each word, the pager shows just the round's page for the address, or nothing.

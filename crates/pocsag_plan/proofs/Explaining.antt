@@ -17,7 +17,7 @@ use Rattle.std.proofs.Common.{ℕ}
 pub explained : (k : Classes) (end : End) (R : List Page) (limit : ℕ) (fault : SearchFault) → IsRound R → AreClassesOf k end R
     → IsNodeLimit limit →
     IsSearchFault k end limit fault → ExplainsPlan Fewest end R limit (fault_of_search fault)
-explained k end R limit (searching.SearchLimit least found tree) round classes within said =
+explained k end R limit (searching.SearchLimit stop) round classes within said =
     let sent = said.sent R round classes in (
       tt,
       within,

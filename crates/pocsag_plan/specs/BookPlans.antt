@@ -18,30 +18,30 @@ use Rattle.pocsag_plan.specs.Plans.{IsStopped, MayStop}
 -- A fault of `plan` keeps its name and what it carries.
 abbrev pub book_fault_of : PlanFault → BookFault
 book_fault_of planning.BadLimit = fault.BadLimit
-book_fault_of (planning.SearchLimit least found tree) = fault.SearchLimit least found tree
+book_fault_of (planning.SearchLimit stop) = fault.SearchLimit stop
 book_fault_of planning.OutOfMemory = fault.OutOfMemory
 
 -- The same fault of a stream: of no pages it is that of a round.
 abbrev pub stream_fault_of : BookFault → StreamFault
 stream_fault_of fault.BadLimit = streaming.BadLimit
 stream_fault_of fault.NoPages = streaming.Round round.NoPages
-stream_fault_of (fault.SearchLimit least found tree) = streaming.SearchLimit least found tree
+stream_fault_of (fault.SearchLimit stop) = streaming.SearchLimit stop
 stream_fault_of fault.OutOfMemory = streaming.OutOfMemory
 
 -- When each fault comes, and what it says. Memory is wanted only for a round and a limit that may be.
 abbrev pub ExplainsBook : Effort → End → List Page → ℕ → BookFault → Type 0
 ExplainsBook effort end R limit fault.BadLimit = ¬ IsNodeLimit limit
 ExplainsBook effort end R limit fault.NoPages = IsNodeLimit limit × (R ≡ [])
-ExplainsBook effort end R limit (fault.SearchLimit least found tree) =
-    MayStop effort × IsNodeLimit limit × IsRound R × IsStopped end R limit least found (bound_of tree)
+ExplainsBook effort end R limit (fault.SearchLimit stop) =
+    MayStop effort × IsNodeLimit limit × IsRound R × IsStopped end R limit stop.least stop.found (bound_of stop.tree)
 ExplainsBook effort end R limit fault.OutOfMemory = IsNodeLimit limit × IsRound R
 
 -- When each fault of a stream of a book comes, and what it says.
 abbrev pub ExplainsBookStream : Effort → End → List Page → ℕ → StreamFault → Type 0
 ExplainsBookStream effort end R limit streaming.BadLimit = ¬ IsNodeLimit limit
 ExplainsBookStream effort end R limit (streaming.Round f) = IsNodeLimit limit × (R ≡ []) × (f ≡ round.NoPages)
-ExplainsBookStream effort end R limit (streaming.SearchLimit least found tree) =
-    MayStop effort × IsNodeLimit limit × IsRound R × IsStopped end R limit least found (bound_of tree)
+ExplainsBookStream effort end R limit (streaming.SearchLimit stop) =
+    MayStop effort × IsNodeLimit limit × IsRound R × IsStopped end R limit stop.least stop.found (bound_of stop.tree)
 ExplainsBookStream effort end R limit streaming.OutOfMemory = IsNodeLimit limit × IsRound R
 ExplainsBookStream effort end R limit (streaming.Transmission f) = IsNodeLimit limit × IsRound R
 ExplainsBookStream effort end R limit (streaming.Certificate f) = IsNodeLimit limit × IsRound R

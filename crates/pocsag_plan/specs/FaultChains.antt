@@ -7,10 +7,10 @@ use Rattle.pocsag_plan.specs.declared.fault.StreamFault.{StreamFault}
 use Rattle.pocsag_plan.specs.declared.fault.StreamFault.TheVariants as streaming
 
 abbrev pub fault_of_search : SearchFault → PlanFault
-fault_of_search (searching.SearchLimit least found tree) = planning.SearchLimit least found tree
+fault_of_search (searching.SearchLimit stop) = planning.SearchLimit stop
 fault_of_search searching.OutOfMemory = planning.OutOfMemory
 
 abbrev pub stream_fault_of_plan : PlanFault → StreamFault
 stream_fault_of_plan planning.BadLimit = streaming.BadLimit
-stream_fault_of_plan (planning.SearchLimit least found tree) = streaming.SearchLimit least found tree
+stream_fault_of_plan (planning.SearchLimit stop) = streaming.SearchLimit stop
 stream_fault_of_plan planning.OutOfMemory = streaming.OutOfMemory

@@ -114,6 +114,6 @@ MayStop Always = ⊥
 -- When each fault of a planner comes, and what it says.
 abbrev pub ExplainsPlan : Effort → End → List Page → ℕ → PlanFault → Type 0
 ExplainsPlan effort end R limit fault.BadLimit = ¬ IsNodeLimit limit
-ExplainsPlan effort end R limit (fault.SearchLimit least found tree) =
-    MayStop effort × IsNodeLimit limit × IsStopped end R limit least found (bound_of tree)
+ExplainsPlan effort end R limit (fault.SearchLimit stop) =
+    MayStop effort × IsNodeLimit limit × IsStopped end R limit stop.least stop.found (bound_of stop.tree)
 ExplainsPlan effort end R limit fault.OutOfMemory = IsNodeLimit limit

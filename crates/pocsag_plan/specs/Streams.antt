@@ -97,8 +97,8 @@ abbrev pub ExplainsStream : Effort → List ℕ → End → ℕ → StreamFault 
 ExplainsStream effort file end limit fault.BadLimit = ¬ IsNodeLimit limit
 ExplainsStream effort file end limit (fault.Round f) =
     IsNodeLimit limit × ((f ≡ round.OutOfMemory) ⊎ (f ≡ round.ReadFault) ⊎ (verdict file ≡ Err f))
-ExplainsStream effort file end limit (fault.SearchLimit least found tree) =
-    MayStop effort × IsNodeLimit limit × IsStoppedAt file end limit least found (bound_of tree)
+ExplainsStream effort file end limit (fault.SearchLimit stop) =
+    MayStop effort × IsNodeLimit limit × IsStoppedAt file end limit stop.least stop.found (bound_of stop.tree)
 ExplainsStream effort file end limit fault.OutOfMemory = IsNodeLimit limit × IsOk (verdict file)
 ExplainsStream effort file end limit (fault.Transmission f) = IsNodeLimit limit × IsOk (verdict file)
 ExplainsStream effort file end limit (fault.Certificate f) = IsNodeLimit limit × IsOk (verdict file)
@@ -107,7 +107,7 @@ ExplainsStream effort file end limit (fault.Certificate f) = IsNodeLimit limit �
 abbrev pub IsSearchLimit : StreamFault → Type 0
 IsSearchLimit fault.BadLimit = ⊥
 IsSearchLimit (fault.Round f) = ⊥
-IsSearchLimit (fault.SearchLimit least found tree) = Unit {0}
+IsSearchLimit (fault.SearchLimit stop) = Unit {0}
 IsSearchLimit fault.OutOfMemory = ⊥
 IsSearchLimit (fault.Transmission f) = ⊥
 IsSearchLimit (fault.Certificate f) = ⊥
@@ -116,7 +116,7 @@ IsSearchLimit (fault.Certificate f) = ⊥
 abbrev pub IsBeforeWriting : StreamFault → Type 0
 IsBeforeWriting fault.BadLimit = Unit {0}
 IsBeforeWriting (fault.Round f) = Unit {0}
-IsBeforeWriting (fault.SearchLimit least found tree) = Unit {0}
+IsBeforeWriting (fault.SearchLimit stop) = Unit {0}
 IsBeforeWriting fault.OutOfMemory = Unit {0}
 IsBeforeWriting (fault.Transmission f) = ⊥
 IsBeforeWriting (fault.Certificate f) = ⊥
@@ -125,7 +125,7 @@ IsBeforeWriting (fault.Certificate f) = ⊥
 abbrev pub IsTransmission : StreamFault → Type 0
 IsTransmission fault.BadLimit = ⊥
 IsTransmission (fault.Round f) = ⊥
-IsTransmission (fault.SearchLimit least found tree) = ⊥
+IsTransmission (fault.SearchLimit stop) = ⊥
 IsTransmission fault.OutOfMemory = ⊥
 IsTransmission (fault.Transmission f) = Unit {0}
 IsTransmission (fault.Certificate f) = ⊥
@@ -133,7 +133,7 @@ IsTransmission (fault.Certificate f) = ⊥
 abbrev pub IsCertificate : StreamFault → Type 0
 IsCertificate fault.BadLimit = ⊥
 IsCertificate (fault.Round f) = ⊥
-IsCertificate (fault.SearchLimit least found tree) = ⊥
+IsCertificate (fault.SearchLimit stop) = ⊥
 IsCertificate fault.OutOfMemory = ⊥
 IsCertificate (fault.Transmission f) = ⊥
 IsCertificate (fault.Certificate f) = Unit {0}
@@ -142,7 +142,7 @@ IsCertificate (fault.Certificate f) = Unit {0}
 abbrev pub IsUnsent : StreamFault → Type 0
 IsUnsent fault.BadLimit = ⊥
 IsUnsent (fault.Round f) = ⊥
-IsUnsent (fault.SearchLimit least found tree) = ⊥
+IsUnsent (fault.SearchLimit stop) = ⊥
 IsUnsent fault.OutOfMemory = ⊥
 IsUnsent (fault.Transmission f) = Unit {0}
 IsUnsent (fault.Certificate f) = Unit {0}

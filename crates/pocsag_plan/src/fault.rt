@@ -3,9 +3,8 @@ ghost use Rattle.pocsag_plan.specs.declared.fault.PlanFault.TheVariants as plann
 ghost use Rattle.pocsag_plan.specs.declared.fault.StreamFault.TheVariants as streaming;
 ghost use Rattle.pocsag_plan.specs.FaultChains.{stream_fault_of_plan, fault_of_search};
 
-use pocsag_branch::SearchFault;
+use pocsag_branch::{SearchFault, SearchLimit};
 use pocsag_pages::RoundFault;
-use pocsag_tree::Tree;
 use pocsag_words::{OutOfMemory, WriteFault};
 use thiserror::Error;
 
@@ -15,10 +14,8 @@ pub enum PlanFault {
     /// The node limit is 0 or above 1,000,000.
     #[error("the limit must be 1 to 1000000")]
     BadLimit,
-    /// So many nodes did not decide between `least` batches and `found`, one more. The tree holds the
-    /// nodes that were examined, and an `Open` for each that was not.
-    #[error("search limit reached: at least {least} batches, {found} would do")]
-    SearchLimit { least: u32, found: u32, tree: Tree },
+    #[error("{0}")]
+    SearchLimit(SearchLimit),
     #[error("out of memory")]
     OutOfMemory,
 }
@@ -32,10 +29,8 @@ pub enum StreamFault {
     /// The page file gives no round.
     #[error("{0}")]
     Round(RoundFault),
-    /// So many nodes did not decide between `least` batches and `found`, one more. The tree holds the
-    /// nodes that were examined, and an `Open` for each that was not.
-    #[error("search limit reached: at least {least} batches, {found} would do")]
-    SearchLimit { least: u32, found: u32, tree: Tree },
+    #[error("{0}")]
+    SearchLimit(SearchLimit),
     #[error("out of memory")]
     OutOfMemory,
     /// The transmission was not taken whole: what was taken is a prefix of it.
@@ -64,9 +59,7 @@ impl From<SearchFault> for PlanFault {
 
     fn from(fault: SearchFault) -> PlanFault {
         match fault {
-            SearchFault::SearchLimit { least, found, tree } => {
-                PlanFault::SearchLimit { least, found, tree }
-            }
+            SearchFault::SearchLimit(limit) => PlanFault::SearchLimit(limit),
             SearchFault::OutOfMemory => PlanFault::OutOfMemory,
         }
     }
@@ -94,9 +87,7 @@ impl From<PlanFault> for StreamFault {
     fn from(fault: PlanFault) -> StreamFault {
         match fault {
             PlanFault::BadLimit => StreamFault::BadLimit,
-            PlanFault::SearchLimit { least, found, tree } => {
-                StreamFault::SearchLimit { least, found, tree }
-            }
+            PlanFault::SearchLimit(limit) => StreamFault::SearchLimit(limit),
             PlanFault::OutOfMemory => StreamFault::OutOfMemory,
         }
     }

@@ -1,6 +1,6 @@
 use crate::fault::{PlanFault, StreamFault};
+use pocsag_branch::SearchLimit;
 use pocsag_pages::{Page, PageFault, RoundFault};
-use pocsag_tree::Tree;
 use pocsag_words::OutOfMemory;
 use thiserror::Error;
 
@@ -48,10 +48,8 @@ pub enum BookFault {
     BadLimit,
     #[error("there are no pages")]
     NoPages,
-    /// So many nodes did not decide between `least` batches and `found`, one more. The tree holds the
-    /// nodes that were examined, and an `Open` for each that was not.
-    #[error("search limit reached: at least {least} batches, {found} would do")]
-    SearchLimit { least: u32, found: u32, tree: Tree },
+    #[error("{0}")]
+    SearchLimit(SearchLimit),
     #[error("out of memory")]
     OutOfMemory,
 }
@@ -91,9 +89,7 @@ impl From<PlanFault> for BookFault {
     fn from(fault: PlanFault) -> BookFault {
         match fault {
             PlanFault::BadLimit => BookFault::BadLimit,
-            PlanFault::SearchLimit { least, found, tree } => {
-                BookFault::SearchLimit { least, found, tree }
-            }
+            PlanFault::SearchLimit(limit) => BookFault::SearchLimit(limit),
             PlanFault::OutOfMemory => BookFault::OutOfMemory,
         }
     }
@@ -109,9 +105,7 @@ impl From<BookFault> for StreamFault {
         match fault {
             BookFault::BadLimit => StreamFault::BadLimit,
             BookFault::NoPages => StreamFault::Round(RoundFault::NoPages),
-            BookFault::SearchLimit { least, found, tree } => {
-                StreamFault::SearchLimit { least, found, tree }
-            }
+            BookFault::SearchLimit(limit) => StreamFault::SearchLimit(limit),
             BookFault::OutOfMemory => StreamFault::OutOfMemory,
         }
     }

@@ -1,5 +1,7 @@
 ghost use Rattle.std.specs.Prelude.{◌≡◌, ◌-◌, ◌<◌, ◌≤◌, ◌^◌, ◌⊎◌, IfSome, OnSome, IsNone};
 
+use std::fmt::{self, Display, Formatter};
+
 /// The rows that are wanted of a picture: batches, counted from 1.
 #[derive(Clone, Copy, PartialEq, Eq, Debug)]
 pub struct Rows {
@@ -32,5 +34,18 @@ impl Rows {
             return None;
         }
         Some(Rows { first, last })
+    }
+}
+
+impl Display for Rows {
+    fn fmt<W: fmt::Write>(&self, f: &mut Formatter<W>) -> fmt::Result {
+        let Rows { first, last } = *self;
+        if first == last {
+            write!(f, "{first}")
+        } else if last == u64::MAX {
+            write!(f, "{first}-")
+        } else {
+            write!(f, "{first}-{last}")
+        }
     }
 }

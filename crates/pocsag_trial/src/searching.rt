@@ -102,11 +102,11 @@ pub fn put_search(
     }
     match search(alloc, &classes, limit, end) {
         Ok(found) => put_found(round, &found, end, line),
-        Err(SearchFault::SearchLimit { least, found, tree }) => {
-            line.put(least);
-            line.put(found);
-            line.put(nodes(&tree));
-            line.put(check_open(round, found, &tree, end));
+        Err(SearchFault::SearchLimit(stop)) => {
+            line.put(stop.least);
+            line.put(stop.found);
+            line.put(nodes(&stop.tree));
+            line.put(check_open(round, stop.found, &stop.tree, end));
         }
         Err(SearchFault::OutOfMemory) => return Err(OutOfMemory),
     }

@@ -1,6 +1,8 @@
-use Rattle.pocsag_pager.proofs.Prelude.{refl, sym, ap, words_of}
+use Rattle.pocsag_pager.proofs.Prelude.{ℕ, List, refl, sym, ap, subst, words_of, pager_address}
 use Rattle.std.proofs.lemmas.Result.{IfOk-weaker, MatchResult-from_both}
 use Rattle.pocsag_pager.proofs.WholeWords.{not_both, shown_at}
+use Rattle.std.specs.Prelude.{OnErr}
+use Rattle.pocsag_pager.specs.Shown.{ShowsSome}
 use Rattle.pocsag_pager.proofs.hearing.hear_all.Goals as goal
 
 pub returns-in_err-batches-clause-repaired : goal.returns-in_err-batches-clause-repaired
@@ -17,3 +19,9 @@ returns-clause-repaired c = λ end T batches R round legal damaged fine.
     (shown_at _ _ _ _ _ _ (ap words_of (sym c.in_ok-batches.ensures.ok)) (sym c.in_ok-pager.ensures.address) refl shown))
     c.hear_batches.ensures.shown)
     c.hear_batches.ensures.err
+
+pub returns-clause-memory : goal.returns-clause-memory
+returns-clause-memory c = λ fine.
+    subst (λ (bytes : List ℕ). OnErr c.hear_batches.result (ShowsSome (words_of bytes) c.args.address)) c.in_ok-batches.ensures.ok
+    (subst (λ (a : ℕ). OnErr c.hear_batches.result (ShowsSome (words_of c.in_ok-batches.batches.now) a)) c.in_ok-pager.ensures.address
+    c.hear_batches.ensures.memory)

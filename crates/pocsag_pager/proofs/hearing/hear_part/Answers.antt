@@ -3,8 +3,8 @@ use Rattle.pocsag_pages.proofs.Lengths.{words_long}
 use Rattle.pocsag_pager.proofs.WholeWords.{words_small}
 use Rattle.pocsag_pager.proofs.hearing.hear_part.Goals as goal
 
-pub returns-then-passes : goal.returns-then-passes
-returns-then-passes c =
+pub returns-then-passes-clause-heard : goal.returns-then-passes-clause-heard
+returns-then-passes-clause-heard c =
     let bytes = c.args.bytes.now in
     record {
       heard =
