@@ -1,11 +1,12 @@
 -- `show`: what it leaves of standard output where its exit status is 0, and its faults.
-use Rattle.std.specs.Prelude.{◌≡◌, ℕ, ◌<◌, ◌≤◌, List, Option, Some, None, IfSome}
+use Rattle.std.specs.Prelude.{◌≡◌, ℕ, ◌<◌, ◌≤◌, List, Some, IfSome}
 use Rattle.pocsag_pages.specs.declared.page.Page.{Page}
 use Rattle.pocsag_decode.specs.Faults.{ReadsAs}
 use Rattle.pocsag_show.specs.Drawing.{drawing}
 use Rattle.pocsag_show.specs.Picture.{grid_text}
 use Rattle.pocsag_show.specs.Places.{place_listing}
 use Rattle.pocsag_show.specs.Showing.{Shows}
+use Rattle.pocsag_show.specs.Views.{rows_wanted}
 use Rattle.pocsag_show.specs.declared.fault.ShowFault.{ShowFault}
 use Rattle.pocsag_show.specs.declared.fault.ShowFault.TheVariants as showing
 use Rattle.pocsag_show.specs.declared.rows.Rows.{Rows}
@@ -25,12 +26,6 @@ pub record ReadsInBatches (bytes : List ℕ) (batches : ℕ) : Type 0 where
   pub pages : List Page
   pub reads : ReadsAs bytes pages
   pub as_many : reads.sent.batches ≡ batches
-
--- The rows that are asked for, if some are: the places are listed whole.
-abbrev pub rows_wanted : View → Option Rows
-rows_wanted (Grid rows) = Some rows
-rows_wanted Places = None
-rows_wanted (Drawing rows) = Some rows
 
 -- If rows are asked for, the first of them is a batch of the transmission.
 abbrev pub HasRows : View → (bytes : List ℕ) → Type 0

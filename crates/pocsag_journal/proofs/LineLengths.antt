@@ -18,7 +18,8 @@ use Rattle.pocsag_pages.specs.declared.page.Page.{Page}
 use Rattle.pocsag_open.specs.Edited.{IsAdded, IsCancelled}
 use Rattle.pocsag_open.specs.Runs.{IsEdit, asked_of}
 use Rattle.pocsag_journal.specs.Growth.{line_limit}
-use Rattle.pocsag_journal.proofs.Replaying.{is_true, word_is}
+use Rattle.pocsag_open.proofs.Fields.{is_word}
+use Rattle.pocsag_journal.proofs.Replaying.{is_true}
 
 -- each byte of a field is written once or twice
 twice_at_most : (t : Bool) (b : ℕ) (rest text : List ℕ) → length text ≤ 2 * length rest →
@@ -136,7 +137,7 @@ unfolding kind_of_field payload_of numeric_payload alpha_payload
 names_short n name message page e =
     let named = then_ok (or_fault (kind_of_field name) field.BadKind) _ page e in
     let its = there (kind_of_field name) field.BadKind named.0 named.1 in
-    let by = λ (word : List ℕ) (is : bytes_eq name word ≡ true). word_is name word is in
+    let by = λ (word : List ℕ) (is : bytes_eq name word ≡ true). is_word name word is in
     is_word _ named.0 _ (bytes_eq name (codes "tone0"))
     (λ is. word_short (codes "tone0") n name message page (by _ is) (omega arith) (λ h. silent_short message _ page h) e)
     (is_word _ named.0 _ (bytes_eq name (codes "tone1"))
@@ -165,16 +166,16 @@ unfolding asked_of fields_text is_blank
 line_length [] before after d = absurd d
 line_length (w ∷ []) before after d =
     subst (λ (x : List ℕ). length (row_text default_writer (x ∷ [])) ≤ line_limit)
-    (sym (word_is w (codes "clear") (is_true _ _ before after d))) (omega arith)
+    (sym (is_word w (codes "clear") (is_true _ _ before after d))) (omega arith)
 line_length (w ∷ a ∷ []) before after d =
-    let word = word_is w (codes "cancel") (is_true _ _ before after d) in
+    let word = is_word w (codes "cancel") (is_true _ _ before after d) in
     let cancelled : IsCancelled a before after = rw word at d in
     let short = fields_length a (codes "tone0") [] cancelled.tone cancelled.spelled in
     let six : length w ≡ 6 = ap length word in
     omega (arith, two_length w a, short.0, six)
 line_length (w ∷ a ∷ k ∷ []) before after d = absurd d
 line_length (w ∷ a ∷ k ∷ m ∷ []) before after d =
-    let word = word_is w (codes "add") (is_true _ _ before after d) in
+    let word = is_word w (codes "add") (is_true _ _ before after d) in
     let added : IsAdded a k m before after = rw word at d in
     let short = fields_length a k m added.page added.spelled in
     let three : length w ≡ 3 = ap length word in

@@ -17,6 +17,7 @@ use Rattle.pocsag_open.specs.Runs.{Asked, IsDone, IsEdit, IsRefusedFor, IsRun, a
 use Rattle.pocsag_open.specs.declared.refusal.Refusal.{Refusal}
 use Rattle.pocsag_open.specs.Lines.{HasNoLineFeed}
 use Rattle.pocsag_open.specs.Runs.{first_record}
+use Rattle.pocsag_open.proofs.Fields.{is_word}
 use Rattle.pocsag_journal.specs.Journals.{IsBadLine, IsLine, IsWholeLine, MakesLine, Replays, first, journal_text, later, rows_text}
 use Rattle.pocsag_journal.proofs.EditRuns.{run_on}
 use Rattle.pocsag_journal.proofs.Prefixes.{all_more, journal_more}
@@ -37,9 +38,6 @@ pub is_true : (b : Bool) (asked : Asked) (before after : List Page) → IsDone (
 is_true true asked before after d = refl
 is_true false asked before after d = absurd d
 
-pub word_is : (word other : List ℕ) → bytes_eq word other ≡ true → word ≡ other
-word_is word other t = (bytes_eq-Decides word other).0 t
-
 pub edit_some : (row : Row) (before after : List Page) → IsEdit row before after → row ≢ []
 unfolding asked_of
 edit_some [] before after d e = d
@@ -51,14 +49,14 @@ unfolding asked_of strip_bom
 starts_plain [] before after d = absurd d
 starts_plain (w ∷ []) before after d =
     subst (λ (x : List ℕ). strip_bom (row_text default_writer (x ∷ [])) ≡ row_text default_writer (x ∷ []))
-    (sym (word_is w (codes "clear") (is_true _ _ before after d))) refl
+    (sym (is_word w (codes "clear") (is_true _ _ before after d))) refl
 starts_plain (w ∷ a ∷ []) before after d =
     subst (λ (x : List ℕ). strip_bom (row_text default_writer (x ∷ a ∷ [])) ≡ row_text default_writer (x ∷ a ∷ []))
-    (sym (word_is w (codes "cancel") (is_true _ _ before after d))) refl
+    (sym (is_word w (codes "cancel") (is_true _ _ before after d))) refl
 starts_plain (w ∷ a ∷ k ∷ []) before after d = absurd d
 starts_plain (w ∷ a ∷ k ∷ m ∷ []) before after d =
     subst (λ (x : List ℕ). strip_bom (row_text default_writer (x ∷ a ∷ k ∷ m ∷ [])) ≡ row_text default_writer (x ∷ a ∷ k ∷ m ∷ []))
-    (sym (word_is w (codes "add") (is_true _ _ before after d))) refl
+    (sym (is_word w (codes "add") (is_true _ _ before after d))) refl
 starts_plain (w ∷ a ∷ k ∷ m ∷ n ∷ row) before after d = absurd d
 
 -- the first record of an edit's text is that of the edit
@@ -99,7 +97,7 @@ edit_refused line read before after why e refused n = λ row other text d.
 
 pub edit_made : (line : List ℕ) (read : Row) (before after : List Page) → bytes_eq (row_text default_writer read) line ≡ true →
     IsEdit read before after → MakesLine true line before after
-edit_made line read before after t d = (read, edit_some read before after d, word_is _ _ t, d)
+edit_made line read before after t d = (read, edit_some read before after d, is_word _ _ t, d)
 
 -- the lines so far were made
 pub record Made (bytes rest : List ℕ) (edits : ℕ) (pages : List Page) : Type 0 where
@@ -131,7 +129,7 @@ pub made_first : (bytes line rest : List ℕ) (pages : List Page) → bytes ≡ 
     bytes_eq line (row_text default_writer first_record) ≡ true → pages ≡ [] → Made bytes rest 0 pages
 unfolding IsRun rows_text
 made_first bytes line rest pages e t p =
-    let same = word_is line (row_text default_writer first_record) t in
+    let same = is_word line (row_text default_writer first_record) t in
     record {
       rows = [];
       text = e ∙ ap (λ (l : List ℕ). l ++ rest) (same ∙ sym (append-nil (row_text default_writer first_record)));

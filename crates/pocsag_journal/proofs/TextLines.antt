@@ -11,6 +11,7 @@ use Rattle.csv.specs.declared.parser.State.TheVariants as st
 use Rattle.csv.proofs.RoundTrip.{read-write}
 use Rattle.pocsag_pages.specs.PageFile.{Row}
 use Rattle.pocsag_open.specs.Lines.{HasNoLineFeed}
+use Rattle.pocsag_open.proofs.SeenLines.{none_found}
 use Rattle.pocsag_open.specs.Runs.{first_record}
 use Rattle.pocsag_journal.specs.Journals.{IsLine, IsWholeLine, rows_text}
 
@@ -88,15 +89,6 @@ align (d ∷ ds) (r ∷ rs) rest torn p q n e =
       text = more.text;
       each = more.each;
     }
-
-other_byte : (b : ℕ) → (b == line_feed) ≡ false → b ≢ line_feed
-other_byte b n e = let t : (b == line_feed) ≡ true = rw e refl in cc (sym t ∙ n)
-
-none_found : (bytes : List ℕ) → list_any (λ b. b == line_feed) bytes ≡ false → HasNoLineFeed bytes
-none_found [] e = tt
-none_found (b ∷ bytes) e =
-    let h = or_parts (b == line_feed) (list_any (λ c. c == line_feed) bytes) e in
-    (other_byte b h.0, none_found bytes h.1)
 
 -- the first line is one
 pub first_line : IsWholeLine (row_text default_writer first_record)

@@ -9,7 +9,7 @@ use Rattle.pocsag_pages.specs.declared.fault.FieldFault.{FieldFault}
 use Rattle.pocsag_plan.specs.OpenRound.{add_fault, fault_or_memory}
 use Rattle.pocsag_plan.specs.declared.refusal.AddFault.{AddFault}
 use Rattle.pocsag_open.specs.Edited.{IsAdded, IsEditRefused}
-use Rattle.pocsag_open.specs.Runs.{IsDone, asked_by_line, wants_memory}
+use Rattle.pocsag_open.specs.Runs.{IsDone, IsReason, asked_by_line, wants_memory}
 use Rattle.pocsag_open.specs.declared.edits.Line.{Line}
 use Rattle.pocsag_open.specs.declared.edits.Line.TheVariants as line
 use Rattle.pocsag_open.specs.declared.refusal.Refusal.{Refusal}
@@ -66,3 +66,14 @@ refused_asking line.List pages why h = inr (λ after d. d)
 refused_asking (line.Plan tx cert end) pages why h = inr (λ after d. d)
 refused_asking line.Unknown pages why h = inr (λ after d. d)
 refused_asking line.Journal pages why h = inr (λ after d. d)
+
+-- why a line is refused is why the edit is that it asks for
+pub reason_asking : (asking : Line) (pages : List Page) (why : Refusal) → IsEditRefused asking pages why →
+    IsReason (asked_by_line asking) pages why
+reason_asking (line.Add a k m) pages why h = h
+reason_asking (line.Cancel a) pages why h = h
+reason_asking line.Clear pages why h = h
+reason_asking line.List pages why h = h
+reason_asking (line.Plan tx cert end) pages why h = h
+reason_asking line.Journal pages why h = h
+reason_asking line.Unknown pages why h = h

@@ -1,10 +1,22 @@
 -- What was seen of a line, byte by byte.
-use Rattle.std.proofs.Common.{◌≡◌, ◌≢◌, ℕ, ◌+◌, ◌<◌, ◌≤◌, List, [], ◌∷◌, ◌++◌, length, refl, sym, ap, ◌∙◌, arith, append_assoc, length-append}
-use Rattle.std.proofs.lemmas.Grind.{common_steps}
+use Rattle.std.proofs.Common.{◌≡◌, ◌≢◌, ℕ, Bool, true, false, ◌+◌, ◌<◌, ◌≤◌, List, [], ◌∷◌, ◌++◌, length, refl, sym, ap, ◌∙◌, arith, append_assoc, length-append}
+use Rattle.std.proofs.lemmas.List.{length_push}
+use Rattle.std.proofs.lemmas.Bool.{or_parts}
+use Rattle.std.specs.Prelude.{◌==◌}
+use Rattle.std.specs.List.{list_any}
 use Rattle.csv.specs.Machine.{line_feed}
 use Rattle.pocsag_open.specs.Lines.{HasNoLineFeed, IsByteKept, IsSeen, line_limit}
 use Rattle.pocsag_open.specs.declared.lines.Found.{Found}
 use Rattle.pocsag_open.specs.declared.lines.Found.TheVariants as found
+
+other_byte : (b : ℕ) → (b == line_feed) ≡ false → b ≢ line_feed
+other_byte b n e = let t : (b == line_feed) ≡ true = rw e refl in cc (sym t ∙ n)
+
+pub none_found : (bytes : List ℕ) → list_any (λ b. b == line_feed) bytes ≡ false → HasNoLineFeed bytes
+none_found [] e = tt
+none_found (b ∷ bytes) e =
+    let h = or_parts (b == line_feed) (list_any (λ c. c == line_feed) bytes) e in
+    (other_byte b h.0, none_found bytes h.1)
 
 pub no_feed_more : (seen : List ℕ) (b : ℕ) → HasNoLineFeed seen → b ≢ line_feed → HasNoLineFeed (seen ++ b ∷ [])
 no_feed_more [] b h n = (n, tt)
@@ -14,30 +26,27 @@ some_more : (seen : List ℕ) (b : ℕ) → seen ++ b ∷ [] ≢ []
 some_more [] b e = cc e
 some_more (s ∷ seen) b e = cc e
 
-one_longer : (seen : List ℕ) (b : ℕ) → length (seen ++ b ∷ []) ≡ length seen + 1
-one_longer seen b = grind (arith, common_steps)
-
 pub seen_more : (f g : Found) (seen kept after : List ℕ) (b : ℕ) → IsSeen f seen kept → IsByteKept g b kept after → IsSeen g (seen ++ b ∷ []) after
 seen_more found.End found.Kept seen kept after b h k =
     let same : kept ≡ seen = h.1 ∙ sym h.0 in
-    let longer = one_longer seen b in
+    let longer = length_push seen b in
     let n : length kept ≡ length seen = ap length same in
     (some_more seen b, k.1 ∙ ap (λ (l : List ℕ). l ++ b ∷ []) same, omega (arith, k.0))
 seen_more found.End found.TooLong seen kept after b h k =
     let none : length kept ≡ 0 = ap length h.1 in
     absurd (omega (arith, k.0))
 seen_more found.Kept found.Kept seen kept after b h k =
-    let longer = one_longer seen b in
+    let longer = length_push seen b in
     let n : length kept ≡ length seen = ap length h.1 in
     (some_more seen b, k.1 ∙ ap (λ (l : List ℕ). l ++ b ∷ []) h.1, omega (arith, k.0))
 seen_more found.Kept found.TooLong seen kept after b h k =
-    let longer = one_longer seen b in
+    let longer = length_push seen b in
     let n : length kept ≡ length seen = ap length h.1 in
     let m : length after ≡ length kept = ap length k.1 in
     (omega (arith, k.0), omega (arith, k.0))
 seen_more found.TooLong found.Kept seen kept after b h k = absurd (omega (arith, h.0, k.0))
 seen_more found.TooLong found.TooLong seen kept after b h k =
-    let longer = one_longer seen b in
+    let longer = length_push seen b in
     let m : length after ≡ length kept = ap length k.1 in
     (omega (arith, h.0), omega (arith, h.1))
 seen_more f found.End seen kept after b h k = absurd k

@@ -60,16 +60,28 @@ other_neither line.Unknown row l p j h = h
 pub plan_due : (end : End) (row : Row) (pages : List Page) (why : Refusal) → AsksPlan end row → None ≡ asked_of row → IsRefusalDue row pages why
 plan_due end row pages why asks e =
     let neither = plan_neither end row asks in
-    record { edit = inr (λ after d. no_edit row e pages after d); list = λ h. absurd (neither.0 h); heading = neither.1 }
+    record {
+      edit = inr (λ after d. no_edit row e pages after d);
+      reason = inr (inr (end, asks));
+      list = λ h. absurd (neither.0 h);
+      heading = neither.1;
+    }
 
 -- want of memory is due where the list is refused
 pub list_due : (row : Row) (pages : List Page) → row ≡ list_record → None ≡ asked_of row → IsRefusalDue row pages (refusal.Undone fault.OutOfMemory)
 list_due row pages asks e =
-    record { edit = inr (λ after d. no_edit row e pages after d); list = λ h. refl; heading = λ h. cc (asks, h) }
+    record {
+      edit = inr (λ after d. no_edit row e pages after d);
+      reason = inr (inl asks);
+      list = λ h. refl;
+      heading = λ h. cc (asks, h);
+    }
 
 -- the reply to a record that is judged as an edit
 pub edit_reply : (always : Bool) (row : Row) (before after : List Page) (told : List ℕ) → AsksNeither row →
     IsEditReply row before after told → IsReply always row before after told
 edit_reply always row before after told neither (inl h) = edited h.0 h.1
 edit_reply always row before after told neither (inr h) =
-    refused h.1.0 (record { edit = h.1.1; list = λ e. absurd (neither.0 e); heading = neither.1 }) h.0 h.1.2
+    let due : IsRefusalDue row before h.1.0 =
+    record { edit = h.1.1; reason = inl h.1.2; list = λ (e : row ≡ list_record). absurd (neither.0 e); heading = neither.1 } in
+    refused h.1.0 due h.0 h.1.3

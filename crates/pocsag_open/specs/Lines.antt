@@ -29,10 +29,10 @@ abbrev pub between_places : (piece : List ℕ) (start end : ℕ) → List ℕ
 between_places piece start end = drop start (take end piece)
 
 -- What came of the next line: it is kept, or it has too many bytes, and what is left begins behind it; or nothing is left.
-abbrev pub IsFound : Found → (pending kept rest : List ℕ) → Type 0
-IsFound found.Kept pending kept rest = IsFirstLine pending kept rest × (length kept ≤ line_limit)
-IsFound found.TooLong pending kept rest = (line : List ℕ) × IsFirstLine pending line rest × (line_limit < length line)
-IsFound found.End pending kept rest = pending ≡ []
+abbrev pub IsLineFound : Found → (pending kept rest : List ℕ) → Type 0
+IsLineFound found.Kept pending kept rest = IsFirstLine pending kept rest × (length kept ≤ line_limit)
+IsLineFound found.TooLong pending kept rest = (line : List ℕ) × IsFirstLine pending line rest × (line_limit < length line)
+IsLineFound found.End pending kept rest = pending ≡ []
 
 -- The next byte of what is left, if there is one.
 abbrev pub IsNextByte : Option ℕ → (pending rest : List ℕ) → Type 0

@@ -11,8 +11,8 @@ use Rattle.pocsag_plan.specs.declared.refusal.AddFault.TheVariants as adding
 use Rattle.pocsag_decode.specs.PageFiles.{page_file}
 use Rattle.pocsag_commands.specs.declared.fault.Fault.TheVariants as fault
 use Rattle.pocsag_open.specs.Answers.{IsPlanTold, pages_answer, plan_answer}
-use Rattle.pocsag_open.specs.Lines.{AreLines, line_limit}
-use Rattle.pocsag_open.specs.Runs.{IsEdit, IsRefusedFor, first_record}
+use Rattle.pocsag_open.specs.Lines.{AreLines, HasNoLineFeed, line_limit}
+use Rattle.pocsag_open.specs.Runs.{IsEdit, IsReasonFor, IsRefusedFor, first_record}
 use Rattle.pocsag_open.specs.Spelling.{IsRowText, IsUnread, record_text}
 use Rattle.pocsag_open.specs.declared.edits.Line.{Line}
 use Rattle.pocsag_open.specs.declared.edits.Line.TheVariants as line
@@ -64,16 +64,19 @@ own_words (refusal.Add adding.OutOfMemory) = Some (codes "out of memory")
 own_words (refusal.Undone fault.OutOfMemory) = Some (codes "out of memory")
 own_words _ = None
 
--- The line that tells a refusal: `refused: ` and its words.
+-- The line that tells a refusal: `refused: ` and its words, which hold no line feed.
 pub record IsRefusalTold (why : Refusal) (told : List ℕ) : Type 0 where
   pub words : List ℕ
+  pub one : HasNoLineFeed words
   pub own : IfSome (own_words why) (λ own. words ≡ own)
   pub text : told ≡ codes "refused: " ++ (words ++ (line_feed ∷ []))
 
--- The reason is due where a record is refused: it is no edit that these pages accept, or memory was wanting; the list is
--- refused for want of memory alone, and the first record of a journal never.
+-- The reason is due where a record is refused: it is no edit that these pages accept, or memory was wanting, and the
+-- reason is that of the edit, unless it asks for the list or a plan; the list is refused for want of memory alone, and
+-- the first record of a journal never.
 pub record IsRefusalDue (row : Row) (pages : List Page) (why : Refusal) : Type 0 where
   pub edit : IsRefusedFor row pages why
+  pub reason : IsReasonFor row pages why ⊎ (row ≡ list_record) ⊎ ((end : End) × AsksPlan end row)
   pub list : row ≡ list_record → why ≡ refusal.Undone fault.OutOfMemory
   pub heading : row ≢ first_record
 
@@ -82,7 +85,7 @@ pub record IsRefusalDue (row : Row) (pages : List Page) (why : Refusal) : Type 0
 abbrev pub IsEditReply : (row : Row) → (before after : List Page) → (told : List ℕ) → Type 0
 IsEditReply row before after told =
     (IsEdit row before after × (told ≡ pages_answer (length after)))
-    ⊎ ((after ≡ before) × ((why : Refusal) × IsRefusedFor row before why × IsRefusalTold why told))
+    ⊎ ((after ≡ before) × ((why : Refusal) × IsRefusedFor row before why × IsReasonFor row before why × IsRefusalTold why told))
 
 -- *Reply* to a record.
 pub data IsReply (always : Bool) (row : Row) (before after : List Page) (told : List ℕ) : Type 0 where

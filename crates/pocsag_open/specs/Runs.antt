@@ -3,7 +3,7 @@ use Rattle.std.specs.Prelude.{◌≡◌, ◌⊎◌, ℕ, Bool, true, false, if�
 use Rattle.std.specs.Str.{bytes_eq}
 use Rattle.pocsag_pages.specs.PageFile.{Row}
 use Rattle.pocsag_pages.specs.declared.page.Page.{Page}
-use Rattle.pocsag_open.specs.Edited.{IsAdded, IsCancelled}
+use Rattle.pocsag_open.specs.Edited.{IsAddRefused, IsAdded, IsCancelRefused, IsCancelled}
 use Rattle.pocsag_open.specs.declared.edits.Line.{Line}
 use Rattle.pocsag_open.specs.declared.edits.Line.TheVariants as line
 use Rattle.pocsag_open.specs.declared.refusal.Refusal.{Refusal}
@@ -65,3 +65,14 @@ wants_memory _ = false
 -- An edit that is refused for this reason would not be accepted, or memory was wanting.
 abbrev pub IsRefusedFor : Row → List Page → Refusal → Type 0
 IsRefusedFor row pages why = (wants_memory why ≡ true) ⊎ ((after : List Page) → ¬ IsEdit row pages after)
+
+-- The reason for which an edit is refused: its page, its address, or that there is no such edit.
+abbrev pub IsReason : Option Asked → List Page → Refusal → Type 0
+IsReason None pages why = why ≡ refusal.Unknown
+IsReason (Some (add address kind message)) pages why = IsAddRefused address kind message pages why
+IsReason (Some (cancel address)) pages why = IsCancelRefused address pages why
+IsReason (Some clear) pages why = ⊥
+
+-- The record is refused as an edit for this reason.
+abbrev pub IsReasonFor : Row → List Page → Refusal → Type 0
+IsReasonFor row pages why = IsReason (asked_of row) pages why

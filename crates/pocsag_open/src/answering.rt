@@ -17,7 +17,7 @@ use std::alloc::Global;
 use std::fmt::Write;
 
 // The longest words of a refusal.
-const LONGEST: usize = 200;
+const LONGEST_WORDS: usize = 200;
 
 /// An open round: its pages, and what keeps its edits.
 #[derive(Drop)]
@@ -54,17 +54,20 @@ pub fn answer_edit<K: Keeper + Drop, O: Sink>(
     tell_pages(&round.book, out)
 }
 
-/// Tells why a line is refused.
+/// Tells why a line is refused, by one line. Words that are too long or hold a line feed cannot be told.
 pub(crate) fn refuse<O: Sink>(refusal: Refusal, out: &mut O) -> Result<(), Fault>
     ensures told { O.tells → OnOk result
         (TookMore (O.taken out.old) (O.taken out.new) (IsRefusalTold refusal)) }
     ensures lost { IfErr result (λ e. e ≡ Fault.Write) }
 {
-    let mut words = ArrayString::<LONGEST>::new();
+    let mut words = ArrayString::<LONGEST_WORDS>::new();
     let Ok(()) = write!(words, "{refusal}") else {
         return Err(Fault::Write);
     };
     let words = words.as_str();
+    if words.as_bytes().contains(&b'\n') {
+        return Err(Fault::Write);
+    }
     tell(out, format_args!("refused: {words}\n"))
 }
 

@@ -1,7 +1,7 @@
 ghost use Rattle.std.specs.Prelude.{◌≡◌, IfErr, OnErr, OnOk};
 ghost use Rattle.csv.specs.Records.{fields_of};
 ghost use Rattle.pocsag_open.specs.Edited.{IsAddRefused, IsAdded, IsCancelRefused, IsCancelled, IsEditRefused, IsMade};
-ghost use Rattle.pocsag_open.specs.Runs.{IsEdit, IsRefusedFor};
+ghost use Rattle.pocsag_open.specs.Runs.{IsEdit, IsReasonFor, IsRefusedFor};
 
 use crate::edits::{Line, line_of};
 use crate::refusal::Refusal;
@@ -15,6 +15,7 @@ use std::alloc::Global;
 pub fn edit_row(alloc: Global, book: &mut Book, row: &ByteRecord) -> Result<(), Refusal>
     ensures made { OnOk result (IsEdit (fields_of row.now) book.old book.new) }
     ensures refused { IfErr result (IsRefusedFor (fields_of row.now) book.old) }
+    ensures reason { IfErr result (IsReasonFor (fields_of row.now) book.old) }
     ensures unchanged { OnErr result (book.new ≡ book.old) }
 {
     edit(alloc, book, line_of(row))

@@ -1,6 +1,6 @@
 ghost use Rattle.std.specs.Prelude.{◌≡◌, ◌≤◌, [], ◌++◌, length, IfErr, IfOk, OnOk};
 ghost use Rattle.pocsag_commands.specs.Faults.{status_of};
-ghost use Rattle.pocsag_open.specs.Lines.{IsByteKept, IsFound, IsNextByte, between_places, line_limit};
+ghost use Rattle.pocsag_open.specs.Lines.{IsByteKept, IsLineFound, IsNextByte, between_places, line_limit};
 
 use pocsag_commands::Fault;
 use pocsag_words::{DeviceFault, Source};
@@ -87,7 +87,7 @@ impl Lines {
     /// Reads the next line of the source. The last line may lack its line feed. A line of more bytes than a count
     /// holds is taken for a fault of the source.
     pub fn read_line<S: Source>(&mut self, source: &mut S) -> Result<Found, Fault>
-        ensures found { S.tells → IfOk result (λ found. IsFound found (between_places self.old.piece self.old.start self.old.end ++ S.held source.old)
+        ensures found { S.tells → IfOk result (λ found. IsLineFound found (between_places self.old.piece self.old.start self.old.end ++ S.held source.old)
             self.new.line.items (between_places self.new.piece self.new.start self.new.end ++ S.held source.new)) }
         ensures short { length self.new.line.items ≤ line_limit }
         ensures read { OnOk result (S.failures source.new ≡ S.failures source.old) }

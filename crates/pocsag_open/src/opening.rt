@@ -216,7 +216,7 @@ fn plan_sent<S: Sink + Drop>(
     let search = Search {
         limit: DEFAULT_LIMIT,
         end,
-        effort: effort_of(always),
+        effort: effort_asked(always),
     };
     let bounded = book.bounded_stream(&mut outputs.tx, &mut outputs.cert, search)?;
     Ok(Planned {
@@ -225,7 +225,7 @@ fn plan_sent<S: Sink + Drop>(
     })
 }
 
-fn effort_of(always: bool) -> Effort
+fn effort_asked(always: bool) -> Effort
     ensures { always ≡ false → result ≡ Effort.Fewest }
 {
     if always {

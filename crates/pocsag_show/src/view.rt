@@ -13,10 +13,10 @@ pub enum View {
 
 impl View {
     ghost use Rattle.std.specs.Prelude.{◌≡◌};
-    ghost use Rattle.pocsag_commands.specs.Showing.{rows_wanted};
+    ghost use Rattle.pocsag_show.specs.Views.{rows_wanted};
 
     /// The rows that are asked for, if some are.
-    pub(crate) fn rows(self) -> Option<Rows>
+    pub fn rows(self) -> Option<Rows>
         ensures { result ≡ rows_wanted self }
     {
         match self {

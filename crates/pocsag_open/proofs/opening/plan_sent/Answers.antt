@@ -6,7 +6,7 @@ returns-clause-told g c = record {
   plan = c.in_ok-bounded.bounded.plan;
   plan_of = c.in_ok-bounded.ensures.plan.plan_of;
   same = refl;
-  fewest = λ never. c.in_ok-bounded.ensures.plan.fewest (c.effort_of.ensures never);
+  fewest = λ never. c.in_ok-bounded.ensures.plan.fewest (c.effort_asked.ensures never);
 }
 
 pub returns-clause-sent : goal.returns-clause-sent
