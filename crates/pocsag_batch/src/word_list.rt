@@ -63,8 +63,6 @@ impl WordList {
         ensures more { OnOk result (self.new ≡ self.old ++ word ∷ []) }
         ensures codewords { OnOk result (All IsCodeword self.new) }
     {
-        // What the type keeps of a codeword is told by a call on it.
-        let _ = word.raw();
         self.words.push(word)?;
         Ok(())
     }

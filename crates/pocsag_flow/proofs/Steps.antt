@@ -9,7 +9,7 @@ use Rattle.pocsag_slots.specs.Numbering.{finish_of, start_of}
 use Rattle.pocsag_slots.specs.Sums.{holds}
 use Rattle.pocsag_flow.specs.declared.network.Network.{Network}
 use Rattle.pocsag_flow.specs.declared.network.Progress.{Progress}
-use Rattle.pocsag_flow.specs.Search.{AreStuck, Includes, StaysInside, IsNetworkOf, IsOf, IsStuck, Keeps, LeadsInto, Leaves, Pushes, Relieves, same_slot}
+use Rattle.pocsag_flow.specs.Search.{AreStuck, Includes, StaysInside, IsNetworkOf, IsOf, IsStuck, Keeps, LeadsInto, Leaves, Pushes, same_slot}
 use Rattle.pocsag_flow.proofs.Shifts.{Moves, load_moved}
 
 -- a slot outside the larger set is outside the smaller one

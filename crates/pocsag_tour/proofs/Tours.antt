@@ -1,5 +1,5 @@
 -- Ways over all arcs are tours, and what refusals say.
-use Rattle.pocsag_tour.proofs.Prelude.{◌≡◌, ℕ, ◌+◌, ◌-◌, ◌%◌, ◌<◌, ◌≤◌, ◌⊎◌, Bool, true, false, not, cond, List, refl, sym, subst, ◌∙◌, arith, inl, inr, End, Classes, Step, IsChoice, load, class_frame, start_of, finish_of, holds, IsTour, LastAs, arc_count, arc_from, arc_to, AreCounts, IsClosing, IsWay, NoneEnters, NoneLeaves, RunsStart, Visited, by_arc, AreReached, IsReached, IsUnclosed, runs_of}
+use Rattle.pocsag_tour.proofs.Prelude.{◌≡◌, ℕ, ◌+◌, ◌-◌, ◌%◌, ◌<◌, ◌≤◌, Bool, true, false, not, cond, List, refl, sym, subst, ◌∙◌, arith, inl, inr, End, Classes, Step, IsChoice, load, class_frame, start_of, finish_of, holds, IsTour, LastAs, arc_count, arc_from, arc_to, AreCounts, IsClosing, IsWay, NoneEnters, NoneLeaves, RunsStart, Visited, by_arc, AreReached, IsReached, IsUnclosed, runs_of}
 use Rattle.std.proofs.lemmas.Bool.{cases_Bool}
 use Rattle.pocsag_words.specs.declared.ending.End.TheVariants.{Open}
 use Rattle.pocsag_slots.specs.Loads.{AreCarried}
