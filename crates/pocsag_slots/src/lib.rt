@@ -23,7 +23,7 @@ pub use laws::{
     transmissions_are_tours,
 };
 pub use limit::{Limits, all_limits, below_split, from_split, narrow};
-pub use load::{carries, least_load, loads, overloads};
+pub use load::{carries, least_by_class, least_load, loads, overloads, total_cap};
 pub use set::{crosses, holds, size, touches, with_member};
 pub use step::Step;
 pub use way::{WAYS, Way, closing_ways, is_certain, ways};

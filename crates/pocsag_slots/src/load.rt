@@ -125,6 +125,15 @@ fn class_least(classes: &Classes, limits: &Limits, set: u16, members: u64, class
     u64::from(classes.turns[class as usize]) * members + at_lo.min(at_hi)
 }
 
+/// The least load of the class on the set of slots, over all choices within the limits.
+pub fn least_by_class(classes: &Classes, limits: &Limits, set: u16, class: u8) -> u64
+    requires ordered { AreInOrder classes.now limits.now }
+    requires class { class < 136 }
+    ensures { result ≡ least_of_class classes.now limits.now set class }
+{
+    class_least(classes, limits, set, u64::from(size(set)), class)
+}
+
 /// The least total load of the slots of the set, over all choices within the limits.
 pub fn least_load(classes: &Classes, limits: &Limits, set: u16) -> u64
     requires { AreInOrder classes.now limits.now }
@@ -151,7 +160,8 @@ fn member_cap(limits: &Limits, set: u16, slot: u8) -> u64
     }
 }
 
-fn total_cap(limits: &Limits, set: u16) -> u64
+/// The caps of the slots of the set, added up.
+pub fn total_cap(limits: &Limits, set: u16) -> u64
     ensures { result ≡ sum_over set (slice_index limits.now.cap) }
 {
     let mut total = 0;
