@@ -2,18 +2,19 @@ use crate::files::{STANDARD, path_of};
 use clap::error::ErrorKind;
 use clap::{Arg, ArgAction, ArgMatches, Command, Error, value_parser};
 use pocsag_commands::{Names, Role, Rows, View};
+use pocsag_explain::Telling;
 use pocsag_words::End;
 use std::alloc::{AllocError, Global};
 
 /// What the command line asks for, and whether notes are told beside what is told without them.
-#[derive(Clone, Copy, PartialEq, Eq, Debug)]
+#[derive(Clone, Copy)]
 pub struct Asked<'a> {
     pub order: Order<'a>,
     pub verbose: bool,
 }
 
 /// A command and its words. Where a command reads standard input in place of a file, there is no path.
-#[derive(Clone, Copy, PartialEq, Eq, Debug)]
+#[derive(Clone, Copy)]
 pub enum Order<'a> {
     /// No words: a page file from standard input.
     Input,
@@ -23,6 +24,12 @@ pub enum Order<'a> {
     Check {
         pages: Option<&'a str>,
         cert: Option<&'a str>,
+    },
+    /// `explain PAGES CERT`: the same paths, and how the certificate is told.
+    Explain {
+        pages: Option<&'a str>,
+        cert: Option<&'a str>,
+        telling: Telling,
     },
     /// `decode TX`: the path of the transmission.
     Decode {
@@ -46,11 +53,12 @@ pub enum Order<'a> {
         always: bool,
         keep: bool,
     },
-    /// `report PAGES`: the path of the page file, the rate, and how the plan is searched.
+    /// `report PAGES`: the path of the page file, the rate, how the plan is searched, and whether its frames are told.
     Report {
         pages: Option<&'a str>,
         rate: u32,
         search: SearchOrder,
+        frames: bool,
     },
 }
 
@@ -64,7 +72,7 @@ impl<'a> Order<'a> {
                 tx: Some(order.tx),
                 cert: Some(order.cert),
             },
-            Order::Check { pages, cert } => Names {
+            Order::Check { pages, cert } | Order::Explain { pages, cert, .. } => Names {
                 pages: Some(word_of(pages)),
                 tx: None,
                 cert: Some(word_of(cert)),
@@ -103,7 +111,7 @@ fn word_of(path: Option<&str>) -> &str {
 }
 
 /// What `plan` is asked for.
-#[derive(Clone, Copy, PartialEq, Eq, Debug)]
+#[derive(Clone, Copy)]
 pub struct PlanOrder<'a> {
     /// The path of the page file.
     pub pages: Option<&'a str>,
@@ -119,7 +127,7 @@ pub struct PlanOrder<'a> {
 
 /// How a plan is searched: the node limit, the end, and whether each round is answered; and how many pages
 /// the round must have, if that is given.
-#[derive(Clone, Copy, PartialEq, Eq, Debug)]
+#[derive(Clone, Copy)]
 pub struct SearchOrder {
     pub expect: Option<u32>,
     pub limit: u32,
@@ -131,6 +139,8 @@ pub struct SearchOrder {
 const PLAN: &str = "plan";
 
 const CHECK: &str = "check";
+
+const EXPLAIN: &str = "explain";
 
 const DECODE: &str = "decode";
 
@@ -168,6 +178,12 @@ const JOURNAL: &str = "journal";
 const ALWAYS: &str = "always";
 
 const VERBOSE: &str = "verbose";
+
+const DEPTH: &str = "depth";
+
+const JSON: &str = "json";
+
+const EACH_FRAME: &str = "frames";
 
 const SVG: &str = "svg";
 
@@ -243,6 +259,18 @@ Example:
   pocsag show tx.bin --svg > tx.svg
   pocsag show tx.bin --rows 3-7";
 
+const EXPLAIN_MANUAL: &str = "\
+The first line is the sum of it: the batches that are shown, the codewords of the round,
+and the places of one batch less. Then each node of the certificate has a line, indented
+as the tree is: an overload names slots in which more codewords must stand than there is
+room for; a cut names boundaries that no transmission stays inside, and each way out has
+a node below it; a split has two cases. Where a node does not hold, the lines are 'not
+shown' and the first such node with the reason, and the status is 1. '-' as PAGES or CERT
+is standard input.
+
+Example:
+  pocsag explain pages.csv cert.bin";
+
 // What is said of a range of rows that is none.
 const BAD_ROWS: &str = "\
 invalid value for '--rows A-B': batches are counted from 1, as in 3-7, 3- or 5, and the
@@ -278,6 +306,12 @@ the edits that FILE holds";
 const VERBOSE_HELP: &str = "\
 Tells more on standard error: which file and why, the line of a
 record, the field that is wrong, and what to do";
+
+const DEPTH_HELP: &str = "How deep the nodes are that are told; what lies below is counted";
+
+const FRAMES_HELP: &str = "\
+Tells of each frame its pages, their codewords, and the idles in
+its two slots, the least room first";
 
 const TX_HELP: &str = "The transmission";
 
@@ -349,6 +383,21 @@ fn check_command<'a>(alloc: Global) -> Result<Command<'a>, AllocError> {
         .arg(positional(alloc, CERT, CERT_HELP))
 }
 
+fn explain_command<'a>(alloc: Global) -> Result<Command<'a>, AllocError> {
+    let depth = option(alloc, DEPTH, "N", DEPTH_HELP)
+        .value_parser(value_parser!(u32))
+        .default_value("3");
+    Command::new(alloc, EXPLAIN)
+        .about(
+            "Tells in words why fewer batches do not suffice for a page file, by its certificate",
+        )
+        .after_help(EXPLAIN_MANUAL)
+        .arg(positional(alloc, PAGES, PAGES_HELP))?
+        .arg(positional(alloc, CERT, CERT_HELP))?
+        .arg(depth)?
+        .arg(flag(alloc, JSON, "Tells the same facts as JSON"))
+}
+
 fn decode_command<'a>(alloc: Global) -> Result<Command<'a>, AllocError> {
     Command::new(alloc, DECODE)
         .about("Lists the pages of a transmission")
@@ -407,7 +456,8 @@ fn report_command<'a>(alloc: Global) -> Result<Command<'a>, AllocError> {
         .arg(limit_option(alloc))?
         .arg(end_option(alloc))?
         .arg(expect_option(alloc))?
-        .arg(always_flag(alloc))
+        .arg(always_flag(alloc))?
+        .arg(flag(alloc, EACH_FRAME, FRAMES_HELP))
 }
 
 fn command<'a>(alloc: Global) -> Result<Command<'a>, AllocError> {
@@ -419,6 +469,7 @@ fn command<'a>(alloc: Global) -> Result<Command<'a>, AllocError> {
         .arg(flag(alloc, VERBOSE, VERBOSE_HELP).global(true))?
         .subcommand(plan_command(alloc)?)?
         .subcommand(check_command(alloc)?)?
+        .subcommand(explain_command(alloc)?)?
         .subcommand(decode_command(alloc)?)?
         .subcommand(hear_command(alloc)?)?
         .subcommand(show_command(alloc)?)?
@@ -458,6 +509,19 @@ fn check_order<'a>(found: &ArgMatches<'a>) -> Option<Order<'a>> {
     Some(Order::Check {
         pages: path_of(found.get_str(PAGES)?),
         cert: path_of(found.get_str(CERT)?),
+    })
+}
+
+fn explain_order<'a>(found: &ArgMatches<'a>) -> Option<Order<'a>> {
+    let depth = found.get_one::<u32>(DEPTH)?;
+    Some(Order::Explain {
+        pages: path_of(found.get_str(PAGES)?),
+        cert: path_of(found.get_str(CERT)?),
+        telling: if found.get_flag(JSON) {
+            Telling::Facts(depth)
+        } else {
+            Telling::Lines(depth)
+        },
     })
 }
 
@@ -514,6 +578,7 @@ fn report_order<'a>(found: &ArgMatches<'a>) -> Option<Order<'a>> {
         pages: path_of(found.get_str(PAGES)?),
         rate: found.get_one::<u32>(RATE)?,
         search: search_of(found)?,
+        frames: found.get_flag(EACH_FRAME),
     })
 }
 
@@ -535,6 +600,7 @@ fn order_from<'a>(name: &str, found: &ArgMatches<'a>) -> Option<Order<'a>> {
     match name {
         PLAN => plan_order(found),
         CHECK => check_order(found),
+        EXPLAIN => explain_order(found),
         DECODE => Some(Order::Decode {
             tx: path_of(found.get_str(TX)?),
         }),

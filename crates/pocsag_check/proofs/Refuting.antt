@@ -10,7 +10,7 @@ use Rattle.pocsag_slots.proofs.SumLemmas.{sum_over-le}
 pub low_set : (xs : List ℕ) (c v d n : ℕ) → slice_index xs d ≤ n → (d ≡ c → v ≤ n) → slice_index (slice_set xs c v) d ≤ n
 low_set xs c v d n h here = grind (arith, cases_eq, get_or-set_other, cases_lt, get_or-set_same, set_past)
 
-high_set : (xs : List ℕ) (c v d n : ℕ) → n ≤ slice_index xs d → (d ≡ c → n ≤ v) → n ≤ slice_index (slice_set xs c v) d
+pub high_set : (xs : List ℕ) (c v d n : ℕ) → n ≤ slice_index xs d → (d ≡ c → n ≤ v) → n ≤ slice_index (slice_set xs c v) d
 high_set xs c v d n h here = grind (arith, cases_eq, get_or-set_other, cases_lt, get_or-set_same, set_past)
 
 -- loads within the caps are so in sum

@@ -12,7 +12,7 @@ use Rattle.pocsag_slots.specs.Arcs.{runs}
 use Rattle.pocsag_slots.specs.Numbering.{finish_of}
 use Rattle.pocsag_slots.specs.Tours.{idles}
 use Rattle.pocsag_explain.specs.declared.frames.FrameRoom.{FrameRoom}
-use Rattle.pocsag_explain.specs.Frames.{HasClasses, room_of}
+use Rattle.pocsag_explain.specs.Frames.{HasClasses, frame_row}
 
 -- how many idles stand in the two slots of a frame, where the steps start at boundary p
 abbrev pub room_from : ℕ → ℕ → List Step → ℕ
@@ -61,17 +61,17 @@ run_keeps frame total steps i p room c q e h is value small keeps =
 
 -- the eight frames, one more of them
 pub rooms_more : (R S : List Page) (steps : List Step) (n : ℕ) (rooms after : List FrameRoom) (r : FrameRoom) → S ≡ R
-    → rooms ≡ map (room_of R steps) (range_with_len 0 n) → r ≡ room_of S steps n → after ≡ rooms ++ r ∷ [] →
-    after ≡ map (room_of R steps) (range_with_len 0 (n + 1))
+    → rooms ≡ map (frame_row R steps) (range_with_len 0 n) → r ≡ frame_row S steps n → after ≡ rooms ++ r ∷ [] →
+    after ≡ map (frame_row R steps) (range_with_len 0 (n + 1))
 rooms_more R S steps n rooms after r same so_far is pushed =
-    let this : r ≡ room_of R steps n = is ∙ ap (λ (v : List Page). room_of v steps n) same in
+    let this : r ≡ frame_row R steps n = is ∙ ap (λ (v : List Page). frame_row v steps n) same in
     pushed ∙ ap (λ (v : List FrameRoom). v ++ r ∷ []) so_far
-    ∙ ap (λ (v : FrameRoom). map (room_of R steps) (range_with_len 0 n) ++ v ∷ []) this
-    ∙ sym (map-range_with_len_more (room_of R steps) 0 n n (omega arith))
+    ∙ ap (λ (v : FrameRoom). map (frame_row R steps) (range_with_len 0 n) ++ v ∷ []) this
+    ∙ sym (map-range_with_len_more (frame_row R steps) 0 n n (omega arith))
 
 pub all_rooms : (R : List Page) (steps : List Step) (n : ℕ) (rooms sorted : List FrameRoom) → 8 ≤ n → n ≤ 8
-    → rooms ≡ map (room_of R steps) (range_with_len 0 n) → IsPermutation rooms sorted →
-    IsPermutation (map (room_of R steps) (range_with_len 0 8)) sorted
+    → rooms ≡ map (frame_row R steps) (range_with_len 0 n) → IsPermutation rooms sorted →
+    IsPermutation (map (frame_row R steps) (range_with_len 0 8)) sorted
 all_rooms R steps n rooms sorted low high all same =
     let eight : n ≡ 8 = omega arith in
-    subst (λ (v : List FrameRoom). IsPermutation v sorted) (all ∙ ap (λ (m : ℕ). map (room_of R steps) (range_with_len 0 m)) eight) same
+    subst (λ (v : List FrameRoom). IsPermutation v sorted) (all ∙ ap (λ (m : ℕ). map (frame_row R steps) (range_with_len 0 m)) eight) same

@@ -17,7 +17,7 @@ use Rattle.pocsag_commands.specs.declared.fault.Fault.{Fault}
 use Rattle.pocsag_commands.specs.Faults.{fault_of_plan, status_of}
 use Rattle.pocsag_commands.specs.Lines.{below_text}
 use Rattle.pocsag_explain.specs.declared.frames.FrameRoom.{FrameRoom}
-use Rattle.pocsag_explain.specs.Frames.{AreByRoom, frame_line}
+use Rattle.pocsag_explain.specs.Frames.{AreByRoom, frame_text}
 use Rattle.pocsag_explain.specs.Reporting.{IsReportRefusedFor, ReportedFrames, limit, stopped}
 
 pub why_unplanned : (file : List ℕ) (search : Search) (rate : ℕ) (R : List Page) → verdict file ≡ Ok R → (e : PlanFault)
@@ -31,7 +31,7 @@ pub told_frames : (file : List ℕ) (search : Search) (rate : ℕ) (R : List Pag
     (steps : List Step) → rooms ≡ held → steps ≡ bounded.plan.steps.items → verdict file ≡ Ok R → IsPlanFor search R bounded → IsReport bounded.plan rate report → AreByRoom R steps held →
     (r : Result (Unit {0}) Fault) (out first second out' : List ℕ) → first ≡ out ++ report_text report →
     second ≡ first ++ below_text bounded.plan.batches bounded.bound →
-    OnOk r (out' ≡ second ++ flat_map frame_line rooms) → OnOk r (ReportedFrames file search rate out out')
+    OnOk r (out' ≡ second ++ flat_map frame_text rooms) → OnOk r (ReportedFrames file search rate out out')
 told_frames file search rate R bounded report rooms held steps alike same read of is by (Ok u) out first second out' one two three = record {
   round = R;
   read = read;
@@ -41,7 +41,7 @@ told_frames file search rate R bounded report rooms held steps alike same read o
   report_of = is;
   rooms = rooms;
   rooms_of = rw alike (subst (λ (v : List Step). AreByRoom R v held) same by);
-  told = three ∙ ap (λ (v : List ℕ). v ++ flat_map frame_line rooms)
+  told = three ∙ ap (λ (v : List ℕ). v ++ flat_map frame_text rooms)
       (two ∙ ap (λ (v : List ℕ). v ++ below_text bounded.plan.batches bounded.bound) one);
 }
 told_frames file search rate R bounded report rooms held steps alike same read of is by (Err e) out first second out' one two three = tt

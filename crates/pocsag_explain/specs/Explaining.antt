@@ -5,13 +5,13 @@ use Rattle.pocsag_commands.specs.Commands.{Checked}
 use Rattle.pocsag_commands.specs.Judging.{IsNotShown}
 
 -- The certificate shows its number of batches, with its end, for the round of the page file.
-pub record IsShown (file certificate : List ℕ) : Type 0 where
+pub record ShowsItsBatches (file certificate : List ℕ) : Type 0 where
   pub end : End
   pub batches : ℕ
   pub checked : Checked file certificate end batches
 
 -- The certificate is one of an end and a number of batches, and does not show them.
-pub record IsRefused (file certificate : List ℕ) : Type 0 where
+pub record DoesNotShow (file certificate : List ℕ) : Type 0 where
   pub end : End
   pub batches : ℕ
   pub not_shown : IsNotShown file certificate end batches

@@ -14,7 +14,7 @@ use Rattle.pocsag_plan.specs.Reports.{IsRate, IsReport, report_text}
 use Rattle.pocsag_plan.specs.Streams.{IsStoppedAt}
 use Rattle.pocsag_commands.specs.Lines.{below_text}
 use Rattle.pocsag_explain.specs.declared.frames.FrameRoom.{FrameRoom}
-use Rattle.pocsag_explain.specs.Frames.{AreByRoom, frame_line}
+use Rattle.pocsag_explain.specs.Frames.{AreByRoom, frame_text}
 
 -- The report of a plan of the page file's round was told, the bound where it is below the batches, and a line for
 -- each frame of the plan, the least room first.
@@ -27,7 +27,7 @@ pub record ReportedFrames (file : List ℕ) (search : Search) (rate : ℕ) (out_
   pub report_of : IsReport bounded.plan rate report
   pub rooms : List FrameRoom
   pub rooms_of : AreByRoom round bounded.plan.steps.items rooms
-  pub told : out_after ≡ out_before ++ report_text report ++ below_text bounded.plan.batches bounded.bound ++ flat_map frame_line rooms
+  pub told : out_after ≡ out_before ++ report_text report ++ below_text bounded.plan.batches bounded.bound ++ flat_map frame_text rooms
 
 -- The round is not planned as was asked, or the rate is none.
 pub data IsReportRefusedFor (file : List ℕ) (search : Search) (rate : ℕ) : Type 0 where

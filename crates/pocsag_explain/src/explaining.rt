@@ -1,7 +1,7 @@
 ghost use Rattle.std.specs.Prelude.{◌≡◌, IfErr, IfOk, IsFalse, IsTrue};
 ghost use Rattle.pocsag_commands.specs.Faults.{status_of};
 ghost use Rattle.pocsag_commands.specs.Refusals.{IsCheckFaulty};
-ghost use Rattle.pocsag_explain.specs.Explaining.{IsRefused, IsShown};
+ghost use Rattle.pocsag_explain.specs.Explaining.{DoesNotShow, ShowsItsBatches};
 
 use crate::facts::facts;
 use crate::outline::{first_refused, outline};
@@ -26,16 +26,21 @@ pub fn run_explain<P: Source, C: Source, O: Sink>(
     out: &mut O,
 ) -> Result<bool, Fault>
     ensures shown { P.tells → C.tells → IfOk result (λ shown. IsTrue shown →
-        IsShown (P.held pages.old) (C.held cert.old)) }
+        ShowsItsBatches (P.held pages.old) (C.held cert.old)) }
     ensures not_shown { P.tells → C.tells → IfOk result (λ shown. IsFalse shown →
-        IsRefused (P.held pages.old) (C.held cert.old)) }
+        DoesNotShow (P.held pages.old) (C.held cert.old)) }
     ensures why { P.tells → C.tells → IfErr result (λ e. status_of e ≡ 1 →
         IsCheckFaulty (P.held pages.old) (C.held cert.old)) }
     ensures untouched { IfErr result (λ e. status_of e ≡ 1 → out.new ≡ out.old) }
 {
     let round = read_round(alloc, pages)?;
     let certificate = read_certificate(alloc, cert)?;
-    let is_shown = check(&round, certificate.batches, &certificate.tree, certificate.end);
+    let is_shown = check(
+        &round,
+        certificate.batches,
+        &certificate.tree,
+        certificate.end,
+    );
     let text = explanation(alloc, telling, &round, &certificate, is_shown)?;
     match write_all(out, text.as_str().as_bytes()) {
         Ok(()) => Ok(is_shown),
@@ -53,7 +58,11 @@ fn explanation(
     is_shown: bool,
 ) -> Result<String, OutOfMemory> {
     let classes = classes_of(round, certificate.end);
-    let depth = if is_shown { telling.depth() } else { DEPTH_LIMIT };
+    let depth = if is_shown {
+        telling.depth()
+    } else {
+        DEPTH_LIMIT
+    };
     let found = findings(alloc, &classes, certificate, depth)?;
     let subject = Subject::new(round, certificate, is_shown, found.as_slice());
     match telling {

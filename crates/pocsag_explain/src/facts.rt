@@ -21,13 +21,13 @@ struct Explanation {
     nodes: u64,
     // The number of the first node that does not hold, if there is one.
     refused: Option<String>,
-    listed: Vec<Node>,
+    listed: Vec<ListedNode>,
 }
 
 #[derive(Drop, Serialize)]
-struct Node {
+struct ListedNode {
     node: String,
-    reached: Step,
+    reached: Link,
     holds: bool,
     fact: Stated,
 }
@@ -35,17 +35,12 @@ struct Node {
 // How a node is reached from the one above it.
 #[derive(Drop, Serialize)]
 #[serde(tag = "by", rename_all = "snake_case")]
-enum Step {
+enum Link {
     Root,
     FirstCase,
     SecondCase,
-    Idle {
-        slot: u8,
-    },
-    Page {
-        pages: Kind,
-        slot: u8,
-    },
+    Idle { slot: u8 },
+    Page { pages: Sort, slot: u8 },
     Unreached,
 }
 
@@ -60,7 +55,7 @@ enum Stated {
         shares: Vec<Part>,
     },
     Split {
-        pages: Kind,
+        pages: Sort,
         slot: u8,
         m: u16,
         fewest: u32,
@@ -68,7 +63,7 @@ enum Stated {
     },
     Cut {
         boundaries: Vec<u8>,
-        pages: Kind,
+        pages: Sort,
         certain: bool,
         ways: u64,
         children: u64,
@@ -83,7 +78,7 @@ enum Stated {
 
 // The pages of a class; no frame and no length for one that there is not.
 #[derive(Drop, Serialize)]
-struct Kind {
+struct Sort {
     frame: Option<u8>,
     length_modulo_16: Option<u8>,
     // Whether they are address codewords alone, in a class of their own.
@@ -93,13 +88,17 @@ struct Kind {
 // What the pages of a class cover of an overload's slots at the least.
 #[derive(Drop, Serialize)]
 struct Part {
-    pages: Kind,
+    pages: Sort,
     count: u32,
     least: u64,
 }
 
 /// The explanation as one line of JSON, with the findings no deeper than so.
-pub(crate) fn facts(alloc: Global, subject: &Subject<'_>, depth: u32) -> Result<String, OutOfMemory> {
+pub(crate) fn facts(
+    alloc: Global,
+    subject: &Subject<'_>,
+    depth: u32,
+) -> Result<String, OutOfMemory> {
     let explanation = whole(alloc, subject, depth)?;
     let Ok(mut text) = serde_json::to_string(alloc, &explanation) else {
         return Err(OutOfMemory);
@@ -108,11 +107,7 @@ pub(crate) fn facts(alloc: Global, subject: &Subject<'_>, depth: u32) -> Result<
     Ok(text)
 }
 
-fn whole(
-    alloc: Global,
-    subject: &Subject<'_>,
-    depth: u32,
-) -> Result<Explanation, AllocError> {
+fn whole(alloc: Global, subject: &Subject<'_>, depth: u32) -> Result<Explanation, AllocError> {
     let mut numbering = Numbering::new(alloc);
     let mut refused = None;
     let mut listed = Vec::new(alloc);
@@ -141,30 +136,34 @@ fn whole(
     })
 }
 
-fn node_of(alloc: Global, numbering: &Numbering, finding: &Finding) -> Result<Node, AllocError> {
-    Ok(Node {
+fn node_of(
+    alloc: Global,
+    numbering: &Numbering,
+    finding: &Finding,
+) -> Result<ListedNode, AllocError> {
+    Ok(ListedNode {
         node: numbering.name(alloc)?,
-        reached: step_of(finding.reached),
+        reached: link_of(finding.reached),
         holds: finding.holds,
         fact: statement_of(alloc, finding)?,
     })
 }
 
-fn step_of(reached: Reached) -> Step {
+fn link_of(reached: Reached) -> Link {
     match reached {
-        Reached::Root => Step::Root,
-        Reached::Below => Step::FirstCase,
-        Reached::From => Step::SecondCase,
-        Reached::By(Way::IdleIn(slot)) => Step::Idle { slot },
+        Reached::Root => Link::Root,
+        Reached::Below => Link::FirstCase,
+        Reached::From => Link::SecondCase,
+        Reached::By(Way::IdleIn(slot)) => Link::Idle { slot },
         Reached::By(Way::Early(class)) => page(class, true),
         Reached::By(Way::Late(class)) => page(class, false),
-        Reached::Unreached => Step::Unreached,
+        Reached::Unreached => Link::Unreached,
     }
 }
 
-fn page(class: u8, early: bool) -> Step {
-    Step::Page {
-        pages: kind_of(class),
+fn page(class: u8, early: bool) -> Link {
+    Link::Page {
+        pages: sort_of(class),
         slot: start_slot(class, early),
     }
 }
@@ -178,7 +177,7 @@ fn statement_of(alloc: Global, finding: &Finding) -> Result<Stated, AllocError> 
             shares: parts(alloc, finding.shares.as_slice())?,
         },
         Fact::Split { class, m, lo, hi } => Stated::Split {
-            pages: kind_of(class),
+            pages: sort_of(class),
             slot: start_slot(class, true),
             m,
             fewest: lo,
@@ -192,7 +191,7 @@ fn statement_of(alloc: Global, finding: &Finding) -> Result<Stated, AllocError> 
             children,
         } => Stated::Cut {
             boundaries: members(alloc, set)?,
-            pages: kind_of(needed),
+            pages: sort_of(needed),
             certain: is_certain,
             ways: ways as u64,
             children: children as u64,
@@ -210,7 +209,7 @@ fn parts(alloc: Global, shares: &[Share]) -> Result<Vec<Part>, AllocError> {
     let mut parts = Vec::new(alloc);
     for share in shares {
         parts.push(Part {
-            pages: kind_of(share.class),
+            pages: sort_of(share.class),
             count: share.pages,
             least: share.least,
         })?;
@@ -218,15 +217,15 @@ fn parts(alloc: Global, shares: &[Share]) -> Result<Vec<Part>, AllocError> {
     Ok(parts)
 }
 
-fn kind_of(class: u8) -> Kind {
+fn sort_of(class: u8) -> Sort {
     if class as usize >= CLASSES {
-        return Kind {
+        return Sort {
             frame: None,
             length_modulo_16: None,
             alone: false,
         };
     }
-    Kind {
+    Sort {
         frame: Some(frame(class)),
         length_modulo_16: Some(rest(class)),
         alone: is_bare(class),

@@ -1,7 +1,7 @@
 ghost use Rattle.std.specs.Prelude.{◌≡◌, ◌==◌, ◌+◌, ◌*◌, ◌<◌, ◌≤◌, if◌then◌else◌, IfOk, length};
 ghost use Rattle.pocsag_pages.specs.Pages.{IsRound};
 ghost use Rattle.pocsag_pages.specs.Reading.{page_length};
-ghost use Rattle.pocsag_explain.specs.Frames.{AreByRoom, codewords_in, HasClasses, pages_in, room_in, room_of, starts_in};
+ghost use Rattle.pocsag_explain.specs.Frames.{AreByRoom, frame_codewords, HasClasses, frame_pages, frame_idles, frame_row, starts_in};
 
 use pocsag_pages::{Page, Round};
 use pocsag_slots::{SLOTS, Step, finish};
@@ -9,10 +9,10 @@ use pocsag_words::OutOfMemory;
 use std::alloc::Global;
 
 // How many frames a batch has.
-const FRAMES: u32 = 8;
+const FRAME_COUNT: u32 = 8;
 
 // How many slots a batch has, as a number that slots are.
-const SLOT_COUNT: u8 = SLOTS as u8;
+const BATCH_SLOTS: u8 = SLOTS as u8;
 
 /// A frame of a plan, and the room that the plan leaves in it.
 #[derive(Clone, Copy)]
@@ -28,15 +28,19 @@ pub struct FrameRoom {
 }
 
 /// The frames of a plan of these steps, the least room first.
-pub fn frames_of(alloc: Global, round: &Round, steps: &[Step]) -> Result<Vec<FrameRoom>, OutOfMemory>
+pub fn frames_of(
+    alloc: Global,
+    round: &Round,
+    steps: &[Step],
+) -> Result<Vec<FrameRoom>, OutOfMemory>
     requires { HasClasses steps.now }
     ensures { IfOk result (λ rooms. AreByRoom round.now steps.now rooms.items) }
 {
     let mut rooms = Vec::new(alloc);
-    for frame in 0..FRAMES {
+    for frame in 0..FRAME_COUNT {
         rooms.push(frame_room(round.pages(), steps, frame))?;
     }
-    rooms.sort_unstable_by_key(|room| room.room);
+    rooms.sort_by_key(|room| room.room)?;
     Ok(rooms)
 }
 
@@ -44,24 +48,24 @@ fn frame_room(pages: &[Page], steps: &[Step], frame: u32) -> FrameRoom
     requires round { IsRound pages.now }
     requires classes { HasClasses steps.now }
     requires frame { frame < 8 }
-    ensures { result ≡ room_of pages.now steps.now frame }
+    ensures { result ≡ frame_row pages.now steps.now frame }
 {
     FrameRoom {
         frame,
         pages: pages_of(pages, frame),
-        codewords: codewords_of(pages, frame),
-        room: room_of(steps, frame as u8),
+        codewords: codewords_told(pages, frame),
+        room: room_left(steps, frame as u8),
     }
 }
 
 // How many pages start in the frame.
 fn pages_of(pages: &[Page], frame: u32) -> u32
     requires { IsRound pages.now }
-    ensures { result ≡ pages_in frame pages.now }
+    ensures { result ≡ frame_pages frame pages.now }
 {
     let mut count = 0;
     for page in pages {
-        if page.address % FRAMES == frame {
+        if page.address % FRAME_COUNT == frame {
             count += 1;
         }
     }
@@ -69,9 +73,9 @@ fn pages_of(pages: &[Page], frame: u32) -> u32
 }
 
 // How many codewords these pages have.
-fn codewords_of(pages: &[Page], frame: u32) -> u32
+fn codewords_told(pages: &[Page], frame: u32) -> u32
     requires { IsRound pages.now }
-    ensures { result ≡ codewords_in frame pages.now }
+    ensures { result ≡ frame_codewords frame pages.now }
 {
     let mut total = 0;
     for page in pages {
@@ -86,7 +90,7 @@ fn codewords_at(page: &Page, frame: u32) -> usize
     ensures value { result ≡ (if starts_in frame page.now then page_length page.now else 0) }
     ensures bound { result ≤ 1401 }
 {
-    if page.address % FRAMES == frame {
+    if page.address % FRAME_COUNT == frame {
         1 + page.payload.as_slice().len()
     } else {
         0
@@ -94,10 +98,10 @@ fn codewords_at(page: &Page, frame: u32) -> usize
 }
 
 // How many idles stand in the two slots of the frame.
-fn room_of(steps: &[Step], frame: u8) -> usize
+fn room_left(steps: &[Step], frame: u8) -> usize
     requires classes { HasClasses steps.now }
     requires frame { frame < 8 }
-    ensures { result ≡ room_in frame steps.now }
+    ensures { result ≡ frame_idles frame steps.now }
 {
     let mut place = 0;
     let mut room = 0;
@@ -105,7 +109,7 @@ fn room_of(steps: &[Step], frame: u8) -> usize
         match *step {
             Step::Idle => {
                 room += idle_at(place, frame);
-                place = (place + 1) % SLOT_COUNT;
+                place = (place + 1) % BATCH_SLOTS;
             }
             Step::Run { class, early } => place = finish(class, early),
         }

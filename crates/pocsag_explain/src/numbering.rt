@@ -9,7 +9,9 @@ pub(crate) struct Numbering {
 impl Numbering {
     /// Before the root.
     pub(crate) fn new(alloc: Global) -> Numbering {
-        Numbering { path: Vec::new(alloc) }
+        Numbering {
+            path: Vec::new(alloc),
+        }
     }
 
     /// Goes on to the next node, which stands so deep.

@@ -1,7 +1,7 @@
 //! A certificate as an indented list.
 
 use crate::numbering::Numbering;
-use crate::sentences::{Claim, refusal, statement, way_to};
+use crate::sentences::{Refuted, refusal, statement, way_to};
 use crate::subject::Subject;
 use crate::wording::counted;
 use pocsag_findings::{Finding, Reached};
@@ -17,7 +17,7 @@ pub(crate) fn outline(alloc: Global, subject: &Subject<'_>) -> Result<String, Al
         for _ in 1..finding.depth {
             text.push_str("  ")?;
         }
-        let line = line_of(alloc, subject.claim(), &numbering, finding)?;
+        let line = node_line(alloc, subject.refuted(), &numbering, finding)?;
         text.push_str(line.as_str())?;
         text.push_str("\n")?;
     }
@@ -40,27 +40,30 @@ fn summary(alloc: Global, subject: &Subject<'_>) -> Result<String, AllocError> {
     let pages = counted(alloc, subject.pages, "page")?;
     let codewords = counted(alloc, subject.codewords, "codeword")?;
     let room = subject.room();
-    let refuted = counted(alloc, u64::from(subject.claim().refuted), "batch")?;
-    let yet = if subject.codewords <= room { ", yet" } else { "" };
-    format!(
-        in alloc;
+    let refuted = counted(alloc, u64::from(subject.refuted().batches), "batch")?;
+    let yet = if subject.codewords <= room {
+        ", yet"
+    } else {
+        ""
+    };
+    format!(in alloc;
         "at least {shown}, {end}: {pages}, {codewords}, room for {room} in {refuted}{yet}\n"
     )
 }
 
 // The line of a node, without its indentation.
-fn line_of(
+fn node_line(
     alloc: Global,
-    claim: Claim,
+    refuted: Refuted,
     numbering: &Numbering,
     finding: &Finding,
 ) -> Result<String, AllocError> {
     let name = numbering.name(alloc)?;
     let way = way_to(alloc, finding.reached)?;
     let said = if finding.holds {
-        statement(alloc, claim, finding)?
+        statement(alloc, refuted, finding)?
     } else {
-        refusal(alloc, claim, finding)?
+        refusal(alloc, refuted, finding)?
     };
     format!(in alloc; "node {name}: {way}{said}")
 }
@@ -72,7 +75,7 @@ pub(crate) fn first_refused(alloc: Global, subject: &Subject<'_>) -> Result<Stri
         numbering.step(finding.depth)?;
         if !finding.holds {
             let name = numbering.name(alloc)?;
-            let why = refusal(alloc, subject.claim(), finding)?;
+            let why = refusal(alloc, subject.refuted(), finding)?;
             return format!(in alloc; "node {name}: {why}\n");
         }
     }

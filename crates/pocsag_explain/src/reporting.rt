@@ -1,7 +1,7 @@
 ghost use Rattle.std.specs.Prelude.{◌≡◌, ◌++◌, IfErr, OnOk};
 ghost use Rattle.std.specs.List.{flat_map};
 ghost use Rattle.pocsag_commands.specs.Faults.{status_after};
-ghost use Rattle.pocsag_explain.specs.Frames.{frame_line};
+ghost use Rattle.pocsag_explain.specs.Frames.{frame_text};
 ghost use Rattle.pocsag_explain.specs.Reporting.{IsReportRefusedFor, ReportedFrames};
 
 use crate::frames::{FrameRoom, frames_of};
@@ -35,7 +35,7 @@ pub fn run_frames<P: Source, O: Sink>(
 
 // Tells a line for each frame.
 fn tell_frames<O: Sink>(rooms: &[FrameRoom], out: &mut O) -> Result<(), Fault>
-    ensures told { O.tells → OnOk result (O.taken out.new ≡ O.taken out.old ++ flat_map frame_line rooms.now) }
+    ensures told { O.tells → OnOk result (O.taken out.new ≡ O.taken out.old ++ flat_map frame_text rooms.now) }
     ensures lost { IfErr result (λ e. e ≡ Fault.Write) }
 {
     for room in rooms {
@@ -44,9 +44,9 @@ fn tell_frames<O: Sink>(rooms: &[FrameRoom], out: &mut O) -> Result<(), Fault>
     Ok(())
 }
 
-#[tactic(auto, unfolding(crate::specs::Frames::frame_line))]
+#[tactic(auto, unfolding(crate::specs::Frames::frame_text))]
 fn tell_frame<O: Sink>(room: &FrameRoom, out: &mut O) -> Result<(), Fault>
-    ensures told { O.tells → OnOk result (O.taken out.new ≡ O.taken out.old ++ frame_line room.now) }
+    ensures told { O.tells → OnOk result (O.taken out.new ≡ O.taken out.old ++ frame_text room.now) }
     ensures lost { IfErr result (λ e. e ≡ Fault.Write) }
 {
     let FrameRoom {

@@ -1,6 +1,6 @@
 //! What a finding says, as a sentence that a person can check by hand.
 
-use crate::wording::{are_frames, counted, joined, kind, members, slots, start_slot};
+use crate::wording::{are_frames, boundaries, counted, joined, kind, slots, start_slot};
 use pocsag_findings::{Fact, Finding, Reached, Share};
 use pocsag_slots::{CLASSES, Way, frame, holds, size};
 use pocsag_words::End;
@@ -11,10 +11,10 @@ const MOST_SHARES: usize = 8;
 
 /// What a certificate is for: an end, and the number of batches that it refutes.
 #[derive(Clone, Copy)]
-pub(crate) struct Claim {
+pub(crate) struct Refuted {
     pub(crate) end: End,
     /// One batch less than the certificate shows to be needed.
-    pub(crate) refuted: u32,
+    pub(crate) batches: u32,
 }
 
 // What an overload compares: the codewords that must stand in a set of slots, and the room there.
@@ -46,13 +46,13 @@ fn with_page(alloc: Global, class: u8, early: bool) -> Result<String, AllocError
 /// What a node says whose rule holds.
 pub(crate) fn statement(
     alloc: Global,
-    claim: Claim,
+    refuted: Refuted,
     finding: &Finding,
 ) -> Result<String, AllocError> {
     match finding.fact {
         Fact::Overload { set, least, room } => {
             let load = Load { set, least, room };
-            overload(alloc, claim, load, finding.shares.as_slice())
+            overload_words(alloc, refuted, load, finding.shares.as_slice())
         }
         Fact::Split { class, m, .. } => split(alloc, class, m),
         Fact::Cut {
@@ -62,11 +62,11 @@ pub(crate) fn statement(
             ..
         } => {
             let kind = kind(alloc, needed)?;
-            let set = members(alloc, set)?;
+            let set = boundaries(alloc, set)?;
             let ways = counted(alloc, ways as u64, "way")?;
-            format!(in alloc; "some page of {kind} does not stay inside boundaries {set}; {ways} out")
+            format!(in alloc; "a page of {kind} starts or ends outside {set}; {ways} out")
         }
-        Fact::Close { ways, .. } => closing(alloc, ways),
+        Fact::Close { ways, .. } => closing_words(alloc, ways),
         Fact::Open => format!(in alloc; "not examined"),
         Fact::Unjudged => unjudged(alloc),
     }
@@ -85,17 +85,19 @@ fn split(alloc: Global, class: u8, m: u16) -> Result<String, AllocError> {
     format!(in alloc; "fewer than {m} pages of {kind} start in slot {slot}, or at least {m} do")
 }
 
-fn closing(alloc: Global, ways: usize) -> Result<String, AllocError> {
+fn closing_words(alloc: Global, ways: usize) -> Result<String, AllocError> {
     if ways == 1 {
         return format!(in alloc; "the last codeword is an idle in slot 15; 1 way");
     }
     let ways = counted(alloc, ways as u64, "way")?;
-    format!(in alloc; "the last codeword is an idle in slot 15, or a page of frame 7 and length 1 there; {ways}")
+    format!(in alloc;
+        "the last codeword is an idle in slot 15, or a page of frame 7 and length 1 there; {ways}"
+    )
 }
 
-fn overload(
+fn overload_words(
     alloc: Global,
-    claim: Claim,
+    refuted: Refuted,
     load: Load,
     shares: &[Share],
 ) -> Result<String, AllocError> {
@@ -104,11 +106,13 @@ fn overload(
     if are_starts(set, shares) {
         let pages = counted(alloc, least, "page")?;
         let verb = if least == 1 { "starts" } else { "start" };
-        let places = u64::from(claim.refuted).saturating_mul(u64::from(size(set)));
+        let places = u64::from(refuted.batches).saturating_mul(u64::from(size(set)));
         if room == places {
-            let batches = counted(alloc, u64::from(claim.refuted), "batch")?;
-            let have = if claim.refuted == 1 { "has" } else { "have" };
-            return format!(in alloc; "{place}: {pages} {verb} there, {batches} {have} room for {room}");
+            let batches = counted(alloc, u64::from(refuted.batches), "batch")?;
+            let have = if refuted.batches == 1 { "has" } else { "have" };
+            return format!(in alloc;
+                "{place}: {pages} {verb} there, {batches} {have} room for {room}"
+            );
         }
         return format!(in alloc; "{place}: {pages} {verb} there, room for {room}");
     }
@@ -154,13 +158,13 @@ fn origins(alloc: Global, shares: &[Share]) -> Result<String, AllocError> {
         let others = counted(alloc, classes, "other kind")?;
         items.push(format!(in alloc; "{more} from pages of {others}")?)?;
     }
-    joined(alloc, items.as_slice())
+    joined(alloc, items.as_slice(), ", ")
 }
 
 /// Why the rule of a node does not hold.
 pub(crate) fn refusal(
     alloc: Global,
-    claim: Claim,
+    refuted: Refuted,
     finding: &Finding,
 ) -> Result<String, AllocError> {
     match finding.fact {
@@ -173,7 +177,9 @@ pub(crate) fn refusal(
         Fact::Split { class, m, lo, hi } => {
             let kind = kind(alloc, class)?;
             let slot = start_slot(class, true);
-            format!(in alloc; "{lo} to {hi} pages of {kind} may start in slot {slot}: no split at {m}")
+            format!(in alloc;
+                "{lo} to {hi} pages of {kind} may start in slot {slot}: no split at {m}"
+            )
         }
         Fact::Cut {
             set,
@@ -186,11 +192,11 @@ pub(crate) fn refusal(
                 set,
                 needed,
                 is_certain,
-                exits: Exits { ways, children },
+                outlets: Outlets { ways, children },
             };
-            refused_cut(alloc, claim, cut)
+            refused_cut(alloc, refuted, cut)
         }
-        Fact::Close { ways, children } => refused_close(alloc, claim, Exits { ways, children }),
+        Fact::Close { ways, children } => refused_close(alloc, refuted, Outlets { ways, children }),
         Fact::Open => format!(in alloc; "not examined"),
         Fact::Unjudged => unjudged(alloc),
     }
@@ -198,7 +204,7 @@ pub(crate) fn refusal(
 
 // How many ways there are, and how many nodes for them.
 #[derive(Clone, Copy)]
-struct Exits {
+struct Outlets {
     ways: usize,
     children: usize,
 }
@@ -209,35 +215,35 @@ struct Cut {
     set: u16,
     needed: u8,
     is_certain: bool,
-    exits: Exits,
+    outlets: Outlets,
 }
 
-fn refused_cut(alloc: Global, claim: Claim, cut: Cut) -> Result<String, AllocError> {
-    if claim.refuted == 0 {
+fn refused_cut(alloc: Global, refuted: Refuted, cut: Cut) -> Result<String, AllocError> {
+    if refuted.batches == 0 {
         return format!(in alloc; "a cut, where there are no batches");
     }
-    let set = members(alloc, cut.set)?;
+    let set = boundaries(alloc, cut.set)?;
     if !holds(cut.set, 0) {
-        return format!(in alloc; "boundary 0 is not among boundaries {set}");
+        return format!(in alloc; "boundary 0 is not in the set of {set}");
     }
     if !cut.is_certain {
         let kind = kind(alloc, cut.needed)?;
-        return format!(in alloc; "no page of {kind} has to leave boundaries {set}");
+        return format!(in alloc; "no page of {kind} has to start or end outside {set}");
     }
-    let ways = counted(alloc, cut.exits.ways as u64, "way")?;
-    let nodes = counted(alloc, cut.exits.children as u64, "node")?;
-    format!(in alloc; "{ways} out of boundaries {set}, and {nodes} for them")
+    let ways = counted(alloc, cut.outlets.ways as u64, "way")?;
+    let nodes = counted(alloc, cut.outlets.children as u64, "node")?;
+    format!(in alloc; "{ways} out of {set}, and {nodes} for them")
 }
 
-fn refused_close(alloc: Global, claim: Claim, exits: Exits) -> Result<String, AllocError> {
-    match claim.end {
+fn refused_close(alloc: Global, refuted: Refuted, outlets: Outlets) -> Result<String, AllocError> {
+    match refuted.end {
         End::Open => return format!(in alloc; "a closed end, where the end is open"),
         End::Closed => {}
     }
-    if claim.refuted == 0 {
+    if refuted.batches == 0 {
         return format!(in alloc; "a closed end, where there are no batches");
     }
-    let ways = counted(alloc, exits.ways as u64, "way")?;
-    let nodes = counted(alloc, exits.children as u64, "node")?;
+    let ways = counted(alloc, outlets.ways as u64, "way")?;
+    let nodes = counted(alloc, outlets.children as u64, "node")?;
     format!(in alloc; "{ways} to close, and {nodes} for them")
 }

@@ -1,4 +1,4 @@
-use crate::sentences::Claim;
+use crate::sentences::Refuted;
 use pocsag_findings::Finding;
 use pocsag_pages::{Page, Round};
 use pocsag_tree::{Certificate, nodes};
@@ -31,27 +31,31 @@ impl<'a> Subject<'a> {
             batches: certificate.batches,
             is_shown,
             pages: round.pages().len() as u64,
-            codewords: codewords_of(round.pages()),
-            nodes: if is_shown { nodes(&certificate.tree) } else { findings.len() as u64 },
+            codewords: all_codewords(round.pages()),
+            nodes: if is_shown {
+                nodes(&certificate.tree)
+            } else {
+                findings.len() as u64
+            },
             findings,
         }
     }
 
     /// What the certificate is for.
-    pub(crate) fn claim(&self) -> Claim {
-        Claim {
+    pub(crate) fn refuted(&self) -> Refuted {
+        Refuted {
             end: self.end,
-            refuted: self.batches.saturating_sub(1),
+            batches: self.batches.saturating_sub(1),
         }
     }
 
     /// How many codewords the refuted batches hold.
     pub(crate) fn room(&self) -> u64 {
-        16 * u64::from(self.claim().refuted)
+        16 * u64::from(self.refuted().batches)
     }
 }
 
-fn codewords_of(pages: &[Page]) -> u64 {
+fn all_codewords(pages: &[Page]) -> u64 {
     let mut codewords: u64 = 0;
     for page in pages {
         codewords = codewords.saturating_add(page.payload.as_slice().len() as u64);

@@ -12,6 +12,6 @@ loop-frame-preserved c =
 pub returns : goal.returns
 returns c = record {
   each = all_rooms c.args.round.now c.args.steps.now c.loop-frame.frame c.loop-frame.rooms.items _ c.loop-frame-test.false
-      c.loop-frame.auto.frame-end c.loop-frame.invariant c.sort_unstable_by_key.ensures.permutation;
-  order = IsNonDecreasingBy-from_sort_by_key (λ (r : FrameRoom). r.room) _ c.sort_unstable_by_key.ensures.sorted (λ f a r h. search rules);
+      c.loop-frame.auto.frame-end c.loop-frame.invariant c.in_ok-sort_by_key.ensures.permutation;
+  order = IsNonDecreasingBy-from_sort_by_key (λ (r : FrameRoom). r.room) _ c.in_ok-sort_by_key.ensures.sorted (λ f a r h. search rules);
 }

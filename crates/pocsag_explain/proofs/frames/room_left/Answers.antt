@@ -1,9 +1,9 @@
 use Rattle.std.proofs.Common.{◌+◌, drop, List}
 use Rattle.pocsag_slots.specs.declared.step.Step.{Step}
-use Rattle.pocsag_explain.specs.Frames.{room_in}
+use Rattle.pocsag_explain.specs.Frames.{frame_idles}
 use Rattle.pocsag_explain.proofs.Rooms.{class_small, idle_keeps, next_step, run_keeps}
-use Rattle.pocsag_explain.proofs.frames.room_of.Goals.{in-Idle, in-Run}
-use Rattle.pocsag_explain.proofs.frames.room_of.Goals as goal
+use Rattle.pocsag_explain.proofs.frames.room_left.Goals.{in-Idle, in-Run}
+use Rattle.pocsag_explain.proofs.frames.room_left.Goals as goal
 
 pub finish-place-requires : goal.finish-place-requires
 finish-place-requires c =
@@ -13,7 +13,7 @@ finish-place-requires c =
 pub loop-step-preserved : goal.loop-step-preserved
 loop-step-preserved c =
     let steps : List Step = c.args.steps.now in
-    let total = room_in c.args.frame steps in
+    let total = frame_idles c.args.frame steps in
     let i = c.loop-step.step-index in
     elim c.match-step.branch [
       | in-Idle w ↦

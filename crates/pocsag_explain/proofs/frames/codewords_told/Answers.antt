@@ -6,7 +6,7 @@ use Rattle.pocsag_pages.specs.Pages.{IsGoodPage}
 use Rattle.pocsag_pages.specs.Reading.{page_length}
 use Rattle.pocsag_pages.proofs.GoodPages.{good_pages}
 use Rattle.pocsag_explain.specs.Frames.{starts_in}
-use Rattle.pocsag_explain.proofs.frames.codewords_of.Goals as goal
+use Rattle.pocsag_explain.proofs.frames.codewords_told.Goals as goal
 
 pub codewords_at-total-requires : goal.codewords_at-total-requires
 codewords_at-total-requires c =

@@ -1,0 +1,7 @@
+pub mod Accepted
+pub mod Holding
+pub mod Leasts
+pub mod Nodes
+pub mod Ordered
+pub mod Shares
+pub mod Prelude

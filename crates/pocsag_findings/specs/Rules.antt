@@ -1,0 +1,66 @@
+-- *Rules of nodes*: what a node states under its limits, and whether its own rule holds, whatever lies below it.
+use Rattle.std.specs.Prelude.{ℕ, ◌&&◌, ◌==◌, nat_lt, leb, Bool, true, false, cond, List, [], ◌∷◌, length, slice_index}
+use Rattle.pocsag_words.specs.declared.ending.End.{End}
+use Rattle.pocsag_words.specs.declared.ending.End.TheVariants as ends
+use Rattle.pocsag_slots.specs.declared.class.Classes.{Classes}
+use Rattle.pocsag_slots.specs.declared.limit.Limits.{Limits}
+use Rattle.pocsag_slots.specs.Loads.{least_of_class}
+use Rattle.pocsag_slots.specs.Numbering.{class_count}
+use Rattle.pocsag_slots.specs.Sums.{holds, joined_below, sum_below, sum_over}
+use Rattle.pocsag_slots.specs.Ways.{class_certain, ways_across, ways_to_close}
+use Rattle.pocsag_tree.specs.Bounds.{Bound, overload, split, cut, close, unexamined, children_count}
+use Rattle.pocsag_tree.specs.Limits.{greatest_set}
+use Rattle.pocsag_findings.specs.declared.finding.Fact.{Fact}
+use Rattle.pocsag_findings.specs.declared.finding.Fact.TheVariants.{Overload, Split, Cut, Close, Open, Unjudged}
+use Rattle.pocsag_findings.specs.declared.finding.Share.{Share}
+
+-- The room of a set of slots: how often pages may cover its slots, added up.
+abbrev pub room_of : Limits → ℕ → ℕ
+room_of l set = sum_over set (slice_index l.cap)
+
+-- The least load of a set of slots: its least load by each class, added up.
+abbrev pub least_of_set : Classes → Limits → ℕ → ℕ
+least_of_set k l set = sum_below class_count (least_of_class k l set)
+
+-- The share of a class in the least load of a set, where it has one.
+abbrev pub share_of : Classes → Limits → ℕ → ℕ → List Share
+share_of k l set c =
+    cond (nat_lt 0 (least_of_class k l set c))
+    (record { class = c; pages = slice_index k.count c; least = least_of_class k l set c } ∷ []) []
+
+-- The shares of all classes in the least load of a set, classes in order.
+abbrev pub shares_of : Classes → Limits → ℕ → List Share
+shares_of k l set = joined_below class_count (share_of k l set)
+
+-- What a node states under its limits.
+abbrev pub fact_of : Classes → Limits → Bound → Fact
+fact_of k l (overload set) = Overload set (least_of_set k l set) (room_of l set)
+fact_of k l (split c m below above) = Split c m (slice_index l.lo c) (slice_index l.hi c)
+fact_of k l (cut set c children) =
+    Cut set c (nat_lt c class_count && class_certain k l set c) (length (ways_across k l set)) (children_count children)
+fact_of k l (close children) = Close (length (ways_to_close k l)) (children_count children)
+fact_of k l unexamined = Open
+
+-- The shares that a node states: those of an overload, and else none.
+abbrev pub shares_at : Classes → Limits → Bound → List Share
+shares_at k l (overload set) = shares_of k l set
+shares_at k l (split c m below above) = []
+shares_at k l (cut set c children) = []
+shares_at k l (close children) = []
+shares_at k l unexamined = []
+
+abbrev pub is_closed : End → Bool
+is_closed ends.Open = false
+is_closed ends.Closed = true
+
+-- Whether what a node states meets the rule of its kind, for an end and b batches: an overload's set is not empty and has
+-- less room than its least load; a split's class is one, and its m parts what the limits allow; a cut's set holds boundary
+-- 0, its class is certain, and it has a child for each way; a close stands for the closed end, and has a child for each.
+abbrev pub fact_holds : End → ℕ → Fact → Bool
+fact_holds end b (Overload set least room) = nat_lt 0 set && leb set greatest_set && nat_lt room least
+fact_holds end b (Split c m lo hi) = nat_lt c class_count && nat_lt lo m && leb m hi
+fact_holds end b (Cut set c certain ways children) =
+    nat_lt 0 b && leb set greatest_set && holds set 0 && certain && (ways == children)
+fact_holds end b (Close ways children) = is_closed end && nat_lt 0 b && (ways == children)
+fact_holds end b Open = false
+fact_holds end b Unjudged = false

@@ -1,0 +1,132 @@
+ghost use Rattle.std.specs.Prelude.{◌≡◌, ◌&&◌, nat_lt, IfOk, slice_index};
+ghost use Rattle.pocsag_slots.specs.Loads.{AreInOrder};
+ghost use Rattle.pocsag_slots.specs.Numbering.{class_count};
+ghost use Rattle.pocsag_slots.specs.Ways.{class_certain};
+ghost use Rattle.pocsag_tree.specs.Views.{bound_of};
+ghost use Rattle.pocsag_findings.specs.declared.finding.Fact.TheVariants.{Split};
+ghost use Rattle.pocsag_findings.specs.Rules.{fact_holds, fact_of, least_of_set, shares_at, shares_of};
+
+use crate::finding::{Fact, Share};
+use crate::inquiry::Inquiry;
+use pocsag_slots::{
+    CLASSES, Classes, Limits, closing_ways, holds, is_certain, least_by_class, least_load,
+    total_cap, ways,
+};
+use pocsag_tree::Tree;
+use pocsag_words::{End, OutOfMemory};
+
+// Whether what a node states meets the rule of its kind, for the end and so many batches.
+pub(crate) fn is_met(fact: Fact, end: End, batches: u32) -> bool
+    ensures { result ≡ fact_holds end batches fact }
+{
+    match fact {
+        Fact::Overload { set, least, room } => 0 < set && room < least,
+        Fact::Split { class, m, lo, hi } => {
+            (class as usize) < CLASSES && lo < u32::from(m) && u32::from(m) <= hi
+        }
+        Fact::Cut {
+            set,
+            is_certain,
+            ways,
+            children,
+            ..
+        } => 0 < batches && holds(set, 0) && is_certain && ways == children,
+        Fact::Close { ways, children } => {
+            matches!(end, End::Closed) && 0 < batches && ways == children
+        }
+        Fact::Open | Fact::Unjudged => false,
+    }
+}
+
+// Whether the class is one that is certain for the set of boundaries.
+fn may_cut(classes: &Classes, limits: &Limits, set: u16, class: u8) -> bool
+    ensures { result ≡ (nat_lt class class_count && class_certain classes.now limits.now set class) }
+{
+    (class as usize) < CLASSES && is_certain(classes, limits, set, class)
+}
+
+// What a split at m states.
+fn split_fact(limits: &Limits, class: u8, m: u16) -> Fact
+    ensures { result ≡ Split class m (slice_index limits.now.lo class) (slice_index limits.now.hi class) }
+{
+    let (lo, hi) = if (class as usize) < CLASSES {
+        (limits.lo[class as usize], limits.hi[class as usize])
+    } else {
+        (0, 0)
+    };
+    Fact::Split { class, m, lo, hi }
+}
+
+// The least load of the set of slots, as the sum of those by each class.
+fn least_of_set(classes: &Classes, limits: &Limits, set: u16) -> u64
+    requires { AreInOrder classes.now limits.now }
+    ensures { result ≡ least_of_set classes.now limits.now set }
+{
+    least_load(classes, limits, set)
+}
+
+// What the node states under the limits.
+pub(crate) fn fact_of(inquiry: &Inquiry, limits: &Limits, tree: &Tree) -> Fact
+    requires { AreInOrder inquiry.now.classes.now limits.now }
+    ensures { result ≡ fact_of inquiry.now.classes.now limits.now (bound_of tree.now) }
+{
+    match tree {
+        Tree::Overload(set) => Fact::Overload {
+            set: *set,
+            least: least_of_set(inquiry.classes, limits, *set),
+            room: total_cap(limits, *set),
+        },
+        Tree::Split { class, m, .. } => split_fact(limits, *class, *m),
+        Tree::Cut {
+            set,
+            needed,
+            children,
+        } => Fact::Cut {
+            set: *set,
+            needed: *needed,
+            is_certain: may_cut(inquiry.classes, limits, *set, *needed),
+            ways: ways(inquiry.classes, limits, *set, inquiry.batches).len(),
+            children: children.len(),
+        },
+        Tree::Close { children } => Fact::Close {
+            ways: closing_ways(inquiry.classes, limits).len(),
+            children: children.len(),
+        },
+        Tree::Open => Fact::Open,
+    }
+}
+
+// The shares of the classes in the least load of the set of slots.
+fn shares_of(inquiry: &Inquiry, limits: &Limits, set: u16) -> Result<Vec<Share>, OutOfMemory>
+    requires { AreInOrder inquiry.now.classes.now limits.now }
+    ensures { IfOk result (λ found. found.items ≡ shares_of inquiry.now.classes.now limits.now set) }
+{
+    let classes = inquiry.classes;
+    let mut found = Vec::new(inquiry.alloc);
+    for class in 0..CLASSES as u8 {
+        let least = least_by_class(classes, limits, set, class);
+        if 0 < least {
+            found.push(Share {
+                class,
+                pages: classes.count[class as usize],
+                least,
+            })?;
+        }
+    }
+    Ok(found)
+}
+
+// The shares that the node states.
+pub(crate) fn shares_at(
+    inquiry: &Inquiry,
+    limits: &Limits,
+    tree: &Tree,
+) -> Result<Vec<Share>, OutOfMemory>
+    requires { AreInOrder inquiry.now.classes.now limits.now }
+    ensures { IfOk result (λ found. found.items ≡ shares_at inquiry.now.classes.now limits.now (bound_of tree.now)) }
+{
+    match tree {
+        Tree::Overload(set) => shares_of(inquiry, limits, *set),
+        _ => Ok(Vec::new(inquiry.alloc)),
+    }
+}
