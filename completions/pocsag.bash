@@ -10,7 +10,7 @@ _pocsag() {
         mapfile -t COMPREPLY < <(compgen -W "512 1200 2400" -- "$word")
         return
         ;;
-    --limit | --expect | --rows)
+    --limit | --expect | --rows | --depth)
         COMPREPLY=()
         return
         ;;
@@ -22,14 +22,15 @@ _pocsag() {
         [pocsag]='--verbose --help --version -h -V'
         [plan]='--limit --end --expect --always --verify --keep --verbose --help -h'
         [check]='--verbose --help -h'
+        [explain]='--depth --json --verbose --help -h'
         [decode]='--verbose --help -h'
         [hear]='--verbose --help -h'
         [show]='--svg --list --rows --verbose --help -h'
         [open]='--journal --always --keep --verbose --help -h'
-        [report]='--rate --limit --end --expect --always --verbose --help -h'
+        [report]='--rate --limit --end --expect --always --frames --verbose --help -h'
         [help]=''
     )
-    local commands='plan check decode hear show open report help'
+    local commands='plan check explain decode hear show open report help'
     if [[ $word == -* ]]; then
         mapfile -t COMPREPLY < <(compgen -W "${options[$command]-}" -- "$word")
     elif ((COMP_CWORD == 1)) || [[ $command == help && $COMP_CWORD -eq 2 ]]; then

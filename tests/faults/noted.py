@@ -23,10 +23,12 @@ def commands(folder):
         (["plan", pages, sent, shown, "--keep", "--expect", "3"], b"", file, {**tx, **cert, **output}),
         ([], (folder / "noted.csv").read_bytes(), {"page file": "-"}, output),
         (["check", pages, shown], b"", {**file, **cert}, output),
+        (["explain", pages, shown], b"", {**file, **cert}, output),
         (["decode", sent], b"", tx, output),
         (["hear", "8", sent], b"", tx, output),
         (["show", sent], b"", tx, output),
         (["report", pages, "--rate", "512"], b"", file, output),
+        (["report", pages, "--rate", "512", "--frames"], b"", file, output),
     ]
 
 

@@ -17,7 +17,7 @@ from tally import PROGRAM, TOP, Tally, as_nobody
 
 PLACES = ["bin/pocsag", "share/man/man1/pocsag.1", "share/bash-completion/completions/pocsag"]
 LIBRARY = ["lib/libpocsag.a", "lib/libpocsag.so.1", "lib/pkgconfig/pocsag.pc", "include/pocsag.h", "lib/libpocsag.so"]
-COMMANDS = ["plan", "check", "decode", "hear", "show", "open", "report"]
+COMMANDS = ["plan", "check", "explain", "decode", "hear", "show", "open", "report"]
 # Options with a value, and what is offered for it.
 VALUES = {"--end": {"open", "closed"}, "--rate": {"512", "1200", "2400"}, "--limit": set(), "--expect": set()}
 

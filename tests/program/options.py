@@ -17,7 +17,9 @@ RATES = ("512", "1200", "2400")
 USAGE = [
     ["plan", "p", "t", "c", "--rate", "512"], ["plan", "p", "t", "c", "--svg"], ["plan", "p", "t", "c", "--list"],
     ["check", "p", "c", "--end", "open"], ["check", "p", "c", "--limit", "5"], ["check", "p", "c", "--verify"],
-    ["check", "p", "c", "--rate", "512"], ["check", "p", "c", "--svg"], ["decode", "t", "--end", "open"],
+    ["check", "p", "c", "--rate", "512"], ["check", "p", "c", "--svg"], ["check", "p", "c", "--json"], ["explain", "p"],
+    ["explain", "p", "c", "--end", "open"], ["explain", "p", "c", "--rows", "1"], ["explain", "p", "c", "--depth", "-1"],
+    ["report", "p", "--rate", "512", "--json"], ["report", "p", "--frames"], ["decode", "t", "--end", "open"],
     ["decode", "t", "--list"], ["decode", "t", "--verify"], ["hear", "8", "t", "--end", "open"],
     ["hear", "8", "t", "--always"], ["show", "t", "--always"], ["show", "t", "--end", "open"],
     ["show", "t", "--list", "--svg"], ["show", "t", "--rows", "0"], ["show", "t", "--rows", "7-3"],

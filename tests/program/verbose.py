@@ -120,7 +120,7 @@ def try_verbose(tally, folder):
     before = run(["--verbose", "plan", "none.csv", "t", "c"], folder)
     behind = run(["plan", "none.csv", "t", "c", "--verbose"], folder)
     tally.check("--verbose before the command", before.stderr == behind.stderr and before.returncode == 3, before)
-    for words in ([], ["plan"], ["check"], ["decode"], ["hear"], ["show"], ["open"], ["report"]):
+    for words in ([], ["plan"], ["check"], ["explain"], ["decode"], ["hear"], ["show"], ["open"], ["report"]):
         done = run([*words, "--help"], folder)
         tally.check(f"--verbose in the help of {words}", b"--verbose" in done.stdout, done.stdout)
         longest = max(len(line) for line in done.stdout.splitlines())

@@ -10,7 +10,7 @@ pub fn names_of(order: Order<'_>) -> Names<'_> {
             tx: Some(order.tx),
             cert: Some(order.cert),
         },
-        Order::Check { pages, cert } => Names {
+        Order::Check { pages, cert } | Order::Explain { pages, cert, .. } => Names {
             pages: Some(word_of(pages)),
             tx: None,
             cert: Some(word_of(cert)),

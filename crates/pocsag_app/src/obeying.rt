@@ -6,10 +6,12 @@ use pocsag_commands::{
     Fault, ReaderSource, Role, Scene, Watch, expected_file, run_check, run_decode, run_hear,
     run_input, run_report, run_show, tell, tell_explained, tell_fault,
 };
+use pocsag_explain::{run_explain, run_frames};
 use pocsag_files::{Desk, open_buffered, open_source};
+use pocsag_findings::Telling;
 use pocsag_line::{Asked, Order, STANDARD, SearchOrder};
 use pocsag_open::{Planner, run_open, run_open_pages};
-use pocsag_words::{Sink, SliceSource};
+use pocsag_words::{Sink, SliceSource, Source};
 use std::alloc::Global;
 use std::io::IsTerminal;
 
@@ -50,6 +52,11 @@ fn obeyed(desk: Desk<'_>, order: Order<'_>) -> Result<u8, Fault> {
         Order::Input => plan_input(desk)?,
         Order::Plan(order) => return plan(desk, order),
         Order::Check { pages, cert } => return check_paths(desk, pages, cert),
+        Order::Explain {
+            pages,
+            cert,
+            telling,
+        } => return explain_paths(desk, telling, pages, cert),
         Order::Decode { tx } => {
             let mut tx = open_source(desk, Role::Transmission, tx)?;
             run_decode(desk.alloc, &mut tx, &mut desk.out())?;
@@ -83,7 +90,16 @@ fn obeyed(desk: Desk<'_>, order: Order<'_>) -> Result<u8, Fault> {
             pages,
             rate,
             search,
-        } => report_path(desk, rate, search, pages)?,
+            frames,
+        } => report_path(
+            desk,
+            Reporting {
+                rate,
+                search,
+                frames,
+            },
+            pages,
+        )?,
     }
     Ok(0)
 }
@@ -108,6 +124,22 @@ fn check_paths(desk: Desk<'_>, pages: Option<&str>, cert: Option<&str>) -> Resul
     Ok(if is_shown { 0 } else { 1 })
 }
 
+// Explains a certificate; the status is 1 where it does not show its batches.
+fn explain_paths(
+    desk: Desk<'_>,
+    telling: Telling,
+    pages: Option<&str>,
+    cert: Option<&str>,
+) -> Result<u8, Fault> {
+    if pages.is_none() && cert.is_none() {
+        return Err(Fault::EqualPaths);
+    }
+    let mut pages = open_source(desk, Role::PageFile, pages)?;
+    let mut cert = open_buffered(desk, Role::Certificate, cert)?;
+    let is_shown = run_explain(desk.alloc, telling, &mut pages, &mut cert, &mut desk.out())?;
+    Ok(if is_shown { 0 } else { 1 })
+}
+
 // Keeps an open round, that of a page file where its path is given.
 fn open_path(always: bool, places: &RoundFiles<'_>) -> Result<(), Fault> {
     let desk = places.desk;
@@ -124,19 +156,29 @@ fn open_path(always: bool, places: &RoundFiles<'_>) -> Result<(), Fault> {
     run_open_pages(desk.alloc, planner, &mut pages, &mut input, &mut desk.out())
 }
 
-// Reports on the plan of a page file.
-fn report_path(
-    desk: Desk<'_>,
+// What a report is asked for: a rate, how the plan is searched, and whether its frames are told.
+#[derive(Clone, Copy)]
+struct Reporting {
     rate: u32,
     search: SearchOrder,
-    path: Option<&str>,
-) -> Result<(), Fault> {
+    frames: bool,
+}
+
+// Reports on the plan of a page file.
+fn report_path(desk: Desk<'_>, asked: Reporting, path: Option<&str>) -> Result<(), Fault> {
     let mut pages = open_source(desk, Role::PageFile, path)?;
-    let SearchOrder { expect, search } = search;
-    let Some(expected) = expect else {
-        return run_report(desk.alloc, rate, search, &mut pages, &mut desk.out());
+    let Some(expected) = asked.search.expect else {
+        return report_round(desk, asked, &mut pages);
     };
     let file = expected_file(desk.alloc, expected, &mut pages)?;
-    let mut pages = SliceSource::new(file.as_slice());
-    run_report(desk.alloc, rate, search, &mut pages, &mut desk.out())
+    report_round(desk, asked, &mut SliceSource::new(file.as_slice()))
+}
+
+fn report_round<P: Source>(desk: Desk<'_>, asked: Reporting, pages: &mut P) -> Result<(), Fault> {
+    let search = asked.search.search;
+    let mut out = desk.out();
+    if asked.frames {
+        return run_frames(desk.alloc, asked.rate, search, pages, &mut out);
+    }
+    run_report(desk.alloc, asked.rate, search, pages, &mut out)
 }

@@ -30,6 +30,6 @@ pub use pocsag_show::{Rows, View};
 pub use receiving::{TRANSMISSION_LIMIT, list_decoded, list_heard, run_decode, run_hear};
 pub use role::{NamedFile, Names, Role};
 pub use showing::run_show;
-pub use telling::{tell, tell_fault};
+pub use telling::{tell, tell_below, tell_fault};
 pub use verifying::run_verify;
 pub use watch::{Trouble, Watch};

@@ -1,3 +1,4 @@
+use pocsag_findings::Telling;
 use pocsag_plan::Search;
 use pocsag_show::View;
 
@@ -28,6 +29,12 @@ pub enum Order<'a> {
         pages: Option<&'a str>,
         cert: Option<&'a str>,
     },
+    /// `explain PAGES CERT`: the same paths, and how the certificate is told.
+    Explain {
+        pages: Option<&'a str>,
+        cert: Option<&'a str>,
+        telling: Telling,
+    },
     /// `decode TX`: the path of the transmission.
     Decode {
         tx: Option<&'a str>,
@@ -50,11 +57,12 @@ pub enum Order<'a> {
         always: bool,
         keep: bool,
     },
-    /// `report PAGES`: the path of the page file, the rate, and how the plan is searched.
+    /// `report PAGES`: the path of the page file, the rate, how the plan is searched, and whether its frames are told.
     Report {
         pages: Option<&'a str>,
         rate: u32,
         search: SearchOrder,
+        frames: bool,
     },
 }
 

@@ -1,6 +1,7 @@
 use crate::order::{Asked, Order, PlanOrder, SearchOrder, path_of};
 use clap::error::ErrorKind;
 use clap::{Arg, ArgAction, ArgMatches, Command, Error, value_parser};
+use pocsag_findings::Telling;
 use pocsag_plan::{Effort, Search};
 use pocsag_show::{Rows, View};
 use pocsag_words::End;
@@ -10,6 +11,8 @@ use std::alloc::{AllocError, Global};
 const PLAN: &str = "plan";
 
 const CHECK: &str = "check";
+
+const EXPLAIN: &str = "explain";
 
 const DECODE: &str = "decode";
 
@@ -47,6 +50,12 @@ const JOURNAL: &str = "journal";
 const ALWAYS: &str = "always";
 
 const VERBOSE: &str = "verbose";
+
+const DEPTH: &str = "depth";
+
+const JSON: &str = "json";
+
+const EACH_FRAME: &str = "frames";
 
 const SVG: &str = "svg";
 
@@ -123,6 +132,18 @@ Example:
   pocsag show tx.bin --svg > tx.svg
   pocsag show tx.bin --rows 3-7";
 
+const EXPLAIN_MANUAL: &str = "\
+The first line is the sum of it: the batches that are shown, the codewords of the round,
+and the places of one batch less. Then each node of the certificate has a line, indented
+as the tree is: an overload names slots in which more codewords must stand than there is
+room for; a cut names boundaries that no transmission stays inside, and each way out has
+a node below it; a split has two cases. Where a node does not hold, the lines are 'not
+shown' and the first such node with the reason, and the status is 1. '-' as PAGES or CERT
+is standard input.
+
+Example:
+  pocsag explain pages.csv cert.bin";
+
 // What is said of a range of rows that is none.
 const BAD_ROWS: &str = "\
 invalid value for '--rows A-B': batches are counted from 1, as in 3-7, 3- or 5, and the
@@ -158,6 +179,12 @@ the edits that FILE holds";
 const VERBOSE_HELP: &str = "\
 Tells more on standard error: which file and why, the line of a
 record, the field that is wrong, and what to do";
+
+const DEPTH_HELP: &str = "How deep the nodes are that are told; what lies below is counted";
+
+const FRAMES_HELP: &str = "\
+Tells of each frame its pages, their codewords, and the idles in
+its two slots, the least room first";
 
 const TX_HELP: &str = "The transmission";
 
@@ -229,6 +256,21 @@ fn check_command<'a>(alloc: Global) -> Result<Command<'a>, AllocError> {
         .arg(positional(alloc, CERT, CERT_HELP))
 }
 
+fn explain_command<'a>(alloc: Global) -> Result<Command<'a>, AllocError> {
+    let depth = option(alloc, DEPTH, "N", DEPTH_HELP)
+        .value_parser(value_parser!(u32))
+        .default_value("3");
+    Command::new(alloc, EXPLAIN)
+        .about(
+            "Tells in words why fewer batches do not suffice for a page file, by its certificate",
+        )
+        .after_help(EXPLAIN_MANUAL)
+        .arg(positional(alloc, PAGES, PAGES_HELP))?
+        .arg(positional(alloc, CERT, CERT_HELP))?
+        .arg(depth)?
+        .arg(flag(alloc, JSON, "Tells the same facts as JSON"))
+}
+
 fn decode_command<'a>(alloc: Global) -> Result<Command<'a>, AllocError> {
     Command::new(alloc, DECODE)
         .about("Lists the pages of a transmission")
@@ -287,7 +329,8 @@ fn report_command<'a>(alloc: Global) -> Result<Command<'a>, AllocError> {
         .arg(limit_option(alloc))?
         .arg(end_option(alloc))?
         .arg(expect_option(alloc))?
-        .arg(always_flag(alloc))
+        .arg(always_flag(alloc))?
+        .arg(flag(alloc, EACH_FRAME, FRAMES_HELP))
 }
 
 fn command<'a>(alloc: Global) -> Result<Command<'a>, AllocError> {
@@ -299,6 +342,7 @@ fn command<'a>(alloc: Global) -> Result<Command<'a>, AllocError> {
         .arg(flag(alloc, VERBOSE, VERBOSE_HELP).global(true))?
         .subcommand(plan_command(alloc)?)?
         .subcommand(check_command(alloc)?)?
+        .subcommand(explain_command(alloc)?)?
         .subcommand(decode_command(alloc)?)?
         .subcommand(hear_command(alloc)?)?
         .subcommand(show_command(alloc)?)?
@@ -345,6 +389,19 @@ fn check_order<'a>(found: &ArgMatches<'a>) -> Option<Order<'a>> {
     Some(Order::Check {
         pages: path_of(found.get_str(PAGES)?),
         cert: path_of(found.get_str(CERT)?),
+    })
+}
+
+fn explain_order<'a>(found: &ArgMatches<'a>) -> Option<Order<'a>> {
+    let depth = found.get_one::<u32>(DEPTH)?;
+    Some(Order::Explain {
+        pages: path_of(found.get_str(PAGES)?),
+        cert: path_of(found.get_str(CERT)?),
+        telling: if found.get_flag(JSON) {
+            Telling::Facts(depth)
+        } else {
+            Telling::Lines(depth)
+        },
     })
 }
 
@@ -401,6 +458,7 @@ fn report_order<'a>(found: &ArgMatches<'a>) -> Option<Order<'a>> {
         pages: path_of(found.get_str(PAGES)?),
         rate: found.get_one::<u32>(RATE)?,
         search: search_of(found)?,
+        frames: found.get_flag(EACH_FRAME),
     })
 }
 
@@ -422,6 +480,7 @@ fn order_from<'a>(name: &str, found: &ArgMatches<'a>) -> Option<Order<'a>> {
     match name {
         PLAN => plan_order(found),
         CHECK => check_order(found),
+        EXPLAIN => explain_order(found),
         DECODE => Some(Order::Decode {
             tx: path_of(found.get_str(TX)?),
         }),

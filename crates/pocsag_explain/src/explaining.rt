@@ -1,0 +1,75 @@
+ghost use Rattle.std.specs.Prelude.{◌≡◌, IfErr, IfOk, IsFalse, IsTrue};
+ghost use Rattle.pocsag_commands.specs.Faults.{status_of};
+ghost use Rattle.pocsag_commands.specs.Refusals.{IsCheckFaulty};
+ghost use Rattle.pocsag_explain.specs.Explaining.{DoesNotShow, ShowsItsBatches};
+
+use crate::facts::facts;
+use crate::outline::{first_refused, outline};
+use crate::subject::Subject;
+use pocsag_check::check;
+use pocsag_commands::Fault;
+use pocsag_findings::{Telling, findings};
+use pocsag_pages::{Round, read_round};
+use pocsag_slots::classes_of;
+use pocsag_tree::{Certificate, DEPTH_LIMIT, read_certificate};
+use pocsag_words::{OutOfMemory, Sink, Source, write_all};
+use std::alloc::Global;
+
+/// `explain PAGES CERT`: tells why fewer batches do not suffice for the page file, by its certificate, or which
+/// node of the certificate does not hold. Answers whether the certificate shows its number of batches.
+pub fn run_explain<P: Source, C: Source, O: Sink>(
+    alloc: Global,
+    telling: Telling,
+    pages: &mut P,
+    cert: &mut C,
+    out: &mut O,
+) -> Result<bool, Fault>
+    ensures shown { P.tells → C.tells → IfOk result (λ shown. IsTrue shown →
+        ShowsItsBatches (P.held pages.old) (C.held cert.old)) }
+    ensures not_shown { P.tells → C.tells → IfOk result (λ shown. IsFalse shown →
+        DoesNotShow (P.held pages.old) (C.held cert.old)) }
+    ensures why { P.tells → C.tells → IfErr result (λ e. status_of e ≡ 1 →
+        IsCheckFaulty (P.held pages.old) (C.held cert.old)) }
+    ensures untouched { IfErr result (λ e. status_of e ≡ 1 → out.new ≡ out.old) }
+{
+    let round = read_round(alloc, pages)?;
+    let certificate = read_certificate(alloc, cert)?;
+    let is_shown = check(
+        &round,
+        certificate.batches,
+        &certificate.tree,
+        certificate.end,
+    );
+    let text = explanation(alloc, telling, &round, &certificate, is_shown)?;
+    match write_all(out, text.as_str().as_bytes()) {
+        Ok(()) => Ok(is_shown),
+        Err(_) => Err(Fault::Write),
+    }
+}
+
+// What is told of a certificate that the checker accepts or not. The first node that does not hold may stand at any
+// depth.
+fn explanation(
+    alloc: Global,
+    telling: Telling,
+    round: &Round,
+    certificate: &Certificate,
+    is_shown: bool,
+) -> Result<String, OutOfMemory> {
+    let classes = classes_of(round, certificate.end);
+    let depth = if is_shown {
+        telling.depth()
+    } else {
+        DEPTH_LIMIT
+    };
+    let found = findings(alloc, &classes, certificate, depth)?;
+    let subject = Subject::new(round, certificate, is_shown, found.as_slice());
+    match telling {
+        Telling::Lines(_) if is_shown => Ok(outline(alloc, &subject)?),
+        Telling::Lines(_) => {
+            let refused = first_refused(alloc, &subject)?;
+            Ok(format!(in alloc; "not shown\n{refused}")?)
+        }
+        Telling::Facts(depth) => facts(alloc, &subject, depth),
+    }
+}

@@ -1,0 +1,16 @@
+#![tactic(auto)]
+//! What a person asks of a plan and of a certificate: which frames have room, and why fewer batches do not suffice.
+
+mod explaining;
+mod facts;
+mod frames;
+mod numbering;
+mod outline;
+mod reporting;
+mod sentences;
+mod subject;
+mod wording;
+
+pub use explaining::run_explain;
+pub use frames::{FrameRoom, frames_of};
+pub use reporting::run_frames;

@@ -1,0 +1,17 @@
+/// How a certificate is explained.
+#[derive(Clone, Copy)]
+pub enum Telling {
+    /// As an indented list of its nodes no deeper than so; the root alone has depth 1.
+    Lines(u32),
+    /// The same facts as JSON.
+    Facts(u32),
+}
+
+impl Telling {
+    /// How deep the nodes are that are told.
+    pub fn depth(self) -> u32 {
+        match self {
+            Telling::Lines(depth) | Telling::Facts(depth) => depth,
+        }
+    }
+}

@@ -1,0 +1,272 @@
+#!/usr/bin/env python3
+"""Runs `explain` and `report --frames` of the compiled program.
+
+The sentences of `explain` are written by hand, from the rules of docs/CERTIFICATES.md over rounds that a person can
+count. The verdict has to be that of `check`, whatever the certificate. The frames are counted again from the page file
+and from the letters of `show`. It takes the binary that the gate left in crates/pocsag_app/out. The last line is
+'N passed, M failed'.
+"""
+
+import json
+import pathlib
+import random
+import subprocess
+import sys
+
+sys.dont_write_bytecode = True
+sys.path.insert(0, str(pathlib.Path(__file__).resolve().parents[1]))
+from tally import PROGRAM, TOP, run_parts
+
+EXAMPLES = TOP / "examples"
+HEADER = "address,kind,message\n"
+OPEN, CLOSED = 0, 1
+TONES = HEADER + "".join(f"{address},tone0,\n" for address in (5, 13, 21))
+LOOP = HEADER + f"0,numeric,{'5' * 75}\n"
+
+
+def run(*words, stdin=b""):
+    return subprocess.run([str(PROGRAM), *map(str, words)], input=stdin, capture_output=True, timeout=110)
+
+
+def overload(*slots):
+    return b"\0" + sum(1 << slot for slot in slots).to_bytes(2, "big")
+
+
+def split(number, m, below, from_m):
+    return bytes([1, number]) + m.to_bytes(2, "big") + below + from_m
+
+
+def cut(boundaries, number, *children):
+    members = sum(1 << boundary for boundary in boundaries).to_bytes(2, "big")
+    return b"\2" + members + bytes([number]) + len(children).to_bytes(2, "big") + b"".join(children)
+
+
+def close(*children):
+    return bytes([4, len(children)]) + b"".join(children)
+
+
+def certificate(end, batches, node):
+    return b"PCB2" + bytes([end]) + batches.to_bytes(4, "big") + node
+
+
+APART = (EXAMPLES / "loops-apart.csv").read_text()
+EACH_LOOP = "1 from 1 page of frame 0 and length 0 modulo 16, 1 from 1 page of frame 3 and length 0 modulo 16"
+SUM_APART = "at least 3 batches, open end: 2 pages, 32 codewords, room for 32 in 2 batches, yet"
+SUM_TONES = "at least 2 batches, open end: 3 pages, 3 codewords, room for 16 in 1 batch, yet"
+STARTS = "frame 5 (slots 10 and 11): 3 pages start there, 1 batch has room for 2"
+ROOT_APART = "node 1: a page of frame 3 and length 0 modulo 16 starts or ends outside boundary 0; 2 ways out"
+CUT_APART = cut([0], 48, overload(0), overload(15))
+
+# A page file, its certificate, more words, the status, and what is told.
+SHOWN = [
+    ("the worked case", APART, certificate(OPEN, 3, CUT_APART), [], [
+        SUM_APART, ROOT_APART,
+        f"  node 1.1: with an idle in slot 0: slots 0: 2 codewords at the least, room for 1: {EACH_LOOP}",
+        f"  node 1.2: with an idle in slot 15: slots 15: 2 codewords at the least, room for 1: {EACH_LOOP}",
+    ]),
+    ("its root alone", APART, certificate(OPEN, 3, CUT_APART), ["--depth", "1"], [SUM_APART, ROOT_APART, ".. 2 nodes below"]),
+    ("its sum alone", APART, certificate(OPEN, 3, CUT_APART), ["--depth", "0"], [SUM_APART, ".. 3 nodes below"]),
+    ("the sample round", (EXAMPLES / "round.csv").read_text(), certificate(OPEN, 2, overload(*range(16))), [], [
+        "at least 2 batches, open end: 6 pages, 24 codewords, room for 16 in 1 batch",
+        "node 1: all slots: 24 codewords, room for 16",
+    ]),
+    ("a full frame", TONES, certificate(OPEN, 2, overload(10, 11)), [], [SUM_TONES, f"node 1: {STARTS}"]),
+    ("two cases", TONES, certificate(OPEN, 2, split(81, 1, overload(11), overload(10, 11))), [], [
+        SUM_TONES,
+        "node 1: no page of frame 5 and length 1 modulo 16 starts in slot 10, or at least 1 does",
+        "  node 1.1: in the first case: slots 11: 3 codewords at the least, room for 1: "
+        "3 from 3 pages of frame 5 and length 1 modulo 16",
+        f"  node 1.2: in the second case: {STARTS}",
+    ]),
+    ("two cases at 2", TONES, certificate(OPEN, 2, split(81, 2, overload(11), overload(10))), ["--depth=1"], [
+        SUM_TONES,
+        "node 1: fewer than 2 pages of frame 5 and length 1 modulo 16 start in slot 10, or at least 2 do",
+        ".. 2 nodes below",
+    ]),
+    ("slots of more frames", TONES, certificate(OPEN, 2, overload(3, 10, 11)), [], None),
+    ("one batch", TONES, certificate(OPEN, 1, overload(10, 11)), [], [
+        "at least 1 batch, open end: 3 pages, 3 codewords, room for 0 in 0 batches",
+        "node 1: frame 5 (slots 10 and 11): 3 pages start there, 0 batches have room for 0",
+    ]),
+    ("a closed end", LOOP, certificate(CLOSED, 2, close(overload(15))), [], [
+        "at least 2 batches, closed end: 1 page, 16 codewords, room for 16 in 1 batch, yet",
+        "node 1: the last codeword is an idle in slot 15; 1 way",
+        "  node 1.1: with an idle in slot 15: slots 15: 1 codeword at the least, room for 0: "
+        "1 from 1 page of frame 0 and length 0 modulo 16",
+    ]),
+    ("a closed end with tones", TONES, certificate(CLOSED, 2, overload(10, 11)), [], [
+        "at least 2 batches, closed end: 3 pages, 3 codewords, room for 16 in 1 batch, yet", f"node 1: {STARTS}",
+    ]),
+]
+REFUSED = [
+    ("another slot", APART, certificate(OPEN, 3, cut([0], 48, overload(0), overload(0))),
+     "node 1.2: slots 0: 2 codewords at the least, room for 2"),
+    ("one batch more", APART, certificate(OPEN, 4, overload(15)), "node 1: slots 15: 2 codewords at the least, room for 3"),
+    ("one page alone", LOOP, certificate(OPEN, 2, overload(15)), "node 1: slots 15: 1 codeword at the least, room for 1"),
+    ("a missing way", APART, certificate(OPEN, 3, cut([0, 1], 48, overload(0), overload(15), overload(1))),
+     "node 1: 2 ways out of boundaries 0 and 1, and 3 nodes for them"),
+    ("without boundary 0", APART, certificate(OPEN, 3, cut([6], 48, overload(0), overload(15))),
+     "node 1: boundary 0 is not in the set of boundary 6"),
+    ("a class that may stay", APART, certificate(OPEN, 3, cut([0], 0, overload(0), overload(15))),
+     "node 1: no page of frame 0 and length 0 modulo 16 has to start or end outside boundary 0"),
+    ("a split too high", TONES, certificate(OPEN, 2, split(81, 4, overload(11), overload(10))),
+     "node 1: 0 to 3 pages of frame 5 and length 1 modulo 16 may start in slot 10: no split at 4"),
+    ("a deep one", TONES, certificate(OPEN, 2, split(81, 1, split(81, 1, overload(11), overload(11)), overload(10, 11))),
+     "node 1.1: 0 to 0 pages of frame 5 and length 1 modulo 16 may start in slot 10: no split at 1"),
+    ("a close of the open end", LOOP, certificate(OPEN, 2, close(overload(15))), "node 1: a closed end, where the end is open"),
+    ("not examined", TONES, certificate(OPEN, 2, b"\3"), "node 1: not examined"),
+    ("a cut of no batches", APART, certificate(OPEN, 1, CUT_APART), "node 1: a cut, where there are no batches"),
+]
+
+
+def explained(folder, pages, text, *words):
+    (folder / "pages.csv").write_text(pages)
+    (folder / "cert.bin").write_bytes(text)
+    return run("explain", folder / "pages.csv", folder / "cert.bin", *words)
+
+
+def try_sentences(tally, folder):
+    for name, pages, text, words, lines in SHOWN:
+        done = explained(folder, pages, text, *words)
+        if lines is None:
+            checked = run("check", folder / "pages.csv", folder / "cert.bin")
+            tally.check(f"explain: {name}", done.returncode == checked.returncode, done)
+            continue
+        wanted = "".join(f"{line}\n" for line in lines).encode()
+        tally.check(f"explain: {name}", (done.returncode, done.stdout, done.stderr) == (0, wanted, b""), done)
+    for name, pages, text, line in REFUSED:
+        done = explained(folder, pages, text)
+        wanted = f"not shown\n{line}\n".encode()
+        tally.check(f"explain, refused: {name}", (done.returncode, done.stdout, done.stderr) == (1, wanted, b""), done)
+        told = explained(folder, pages, text, "--depth", "1")
+        tally.check(f"explain, refused at any depth: {name}", told.stdout == wanted, told)
+
+
+def kind(frame, length, alone=False):
+    return {"frame": frame, "length_modulo_16": length, "alone": alone}
+
+
+def try_json(tally, folder):
+    done = explained(folder, APART, certificate(OPEN, 3, CUT_APART), "--json")
+    shares = [{"pages": kind(frame, 0), "count": 1, "least": 1} for frame in (0, 3)]
+
+    def leaf(number, slot):
+        fact = {"kind": "overload", "slots": [slot], "least": 2, "room": 1, "shares": shares}
+        return {"node": number, "reached": {"by": "idle", "slot": slot}, "holds": True, "fact": fact}
+
+    root = {"kind": "cut", "boundaries": [0], "pages": kind(3, 0), "certain": True, "ways": 2, "children": 2}
+    wanted = {
+        "shown": True, "end": "open", "batches": 3, "pages": 2, "codewords": 32, "room": 32, "nodes": 3, "refused": None,
+        "listed": [{"node": "1", "reached": {"by": "root"}, "holds": True, "fact": root}, leaf("1.1", 0), leaf("1.2", 15)],
+    }
+    tally.check("the worked case as JSON", done.returncode == 0 and json.loads(done.stdout) == wanted, done)
+    tally.check("JSON is one line", done.stdout.count(b"\n") == 1 and done.stdout.endswith(b"}\n"), done)
+    text = certificate(OPEN, 3, cut([0], 48, overload(0), overload(0)))
+    told = json.loads(explained(folder, APART, text, "--json", "--depth", "1").stdout)
+    names = [node["node"] for node in told["listed"]]
+    tally.check("refused, as JSON", (told["shown"], told["refused"], names) == (False, "1.2", ["1"]), told)
+    text = certificate(OPEN, 2, split(81, 1, overload(11), overload(10, 11)))
+    told = json.loads(explained(folder, TONES, text, "--json").stdout)
+    fact = {"kind": "split", "pages": kind(5, 1), "slot": 10, "m": 1, "fewest": 0, "most": 3}
+    ways = [node["reached"]["by"] for node in told["listed"]]
+    tally.check("a split as JSON", told["listed"][0]["fact"] == fact and ways == ["root", "first_case", "second_case"], told)
+
+
+def try_words(tally, folder):
+    explained(folder, APART, certificate(OPEN, 3, CUT_APART))
+    pages, cert = folder / "pages.csv", folder / "cert.bin"
+    whole = run("explain", pages, cert)
+    piped = run("explain", "-", cert, stdin=pages.read_bytes())
+    tally.check("the page file by a pipe", piped.stdout == whole.stdout and piped.returncode == 0, piped)
+    piped = run("explain", pages, "-", stdin=cert.read_bytes())
+    tally.check("the certificate by a pipe", piped.stdout == whole.stdout and piped.returncode == 0, piped)
+    cases = [
+        (["explain", "-", "-"], 1, b"pocsag: the same file is named twice\n"),
+        (["explain", pages, pages], 1, b"pocsag: not a certificate\n"),
+        (["explain", folder / "none", cert], 3, b"pocsag: cannot read or open a file\n"),
+        (["explain", pages, folder / "none"], 3, b"pocsag: cannot read or open a file\n"),
+    ]
+    for words, status, err in cases:
+        done = run(*words)
+        tally.check(f"{words}", (done.returncode, done.stdout, done.stderr) == (status, b"", err), done)
+    for words in (["explain", pages], ["explain", pages, cert, "--depth"], ["explain", pages, cert, "--depth", "x"], ["explain", pages, cert, "--rows", "1"]):
+        done = run(*words)
+        tally.check(f"usage {words}", done.returncode == 2 and done.stdout == b"", done)
+    full = subprocess.run([str(PROGRAM), "explain", str(pages), str(cert)], stdout=open("/dev/full", "w"), stderr=subprocess.PIPE, timeout=60)
+    tally.check("a full device", (full.returncode, full.stderr) == (3, b"pocsag: cannot write\n"), full)
+    (folder / "cert.bin").write_bytes(certificate(OPEN, 4, overload(15)))
+    done = run("explain", pages, cert, "--verbose")
+    tally.check("notes where it is not shown", done.returncode == 1 and b"pocsag: certificate " in done.stderr, done)
+
+
+def some_round(chance):
+    """A page file of some pages, with the frame and the length of each."""
+    rows, pages = [], []
+    for address in chance.sample(range(64), chance.randint(1, 12)):
+        if chance.random() < 0.3:
+            rows.append(f"{address},tone{chance.randrange(4)},\n")
+            pages.append((address % 8, 1))
+        else:
+            digits = chance.randint(1, 90)
+            rows.append(f"{address},numeric,{'7' * digits}\n")
+            pages.append((address % 8, 1 + -(-4 * digits // 20)))
+    return HEADER + "".join(rows), pages
+
+
+def idles_of(grid):
+    """How many full stops of each frame stand in the lines of `show`."""
+    found = [0] * 8
+    for line in grid.decode().splitlines()[2:]:
+        for frame, pair in enumerate(line.split()[1:]):
+            found[frame] += pair.count(".")
+    return found
+
+
+def try_planned(tally, folder):
+    """The certificates of `plan`: their verdict is that of `check`, and each accepted one has a bottleneck. And the frames."""
+    chance = random.Random(7)
+    for number in range(60):
+        text, pages = some_round(chance)
+        (folder / "pages.csv").write_text(text)
+        end = chance.choice(["open", "closed"])
+        names = [folder / name for name in ("pages.csv", "tx.bin", "cert.bin")]
+        planned = run("plan", *names, "--end", end, "--always")
+        batches = int(planned.stdout.split()[3])
+        checked, done = run("check", names[0], names[2]), run("explain", names[0], names[2])
+        sum_of_it = f"{len(pages)} page{'s' * (len(pages) > 1)}, {sum(n for _, n in pages)} codeword"
+        holds = checked.returncode == done.returncode == 0 and sum_of_it.encode() in done.stdout and b"\nnode 1: " in done.stdout
+        tally.check(f"planned {number}: explained", holds, (text, done))
+        bytes_ = bytearray(names[2].read_bytes())
+        bytes_[chance.randrange(9, len(bytes_))] ^= 1 << chance.randrange(8)
+        names[2].write_bytes(bytes_)
+        checked, done = run("check", names[0], names[2]), run("explain", names[0], names[2])
+        same = (done.returncode, done.stderr) == (checked.returncode, checked.stderr)
+        tally.check(f"planned {number}: the verdict of check", same and (b"not shown" in done.stdout) == (checked.stdout == b"not shown\n"), (checked, done))
+        words = ["report", names[0], "--rate", "1200", "--end", end, "--always"]
+        plain, framed = run(*words), run(*words, "--frames")
+        idles = idles_of(run("show", names[1]).stdout)
+        rows = [
+            (idles[frame], frame, f"frame {frame} pages {len(mine)} codewords {sum(mine)} room {idles[frame]}\n")
+            for frame in range(8) for mine in [[n for at, n in pages if at == frame]]
+        ]
+        told = framed.stdout[len(plain.stdout):].decode().splitlines(True)
+        holds = framed.stdout.startswith(plain.stdout) and framed.returncode == 0 and sorted(told) == sorted(row for _, _, row in rows)
+        holds = holds and told == [row for _, _, row in sorted(rows)]
+        tally.check(f"planned {number}: frames of {batches} batches", holds, (text, framed, rows))
+
+
+def try_frames(tally, folder):
+    done = run("report", EXAMPLES / "round.csv", "--rate", "1200", "--frames")
+    # the pages by their addresses, the idles by the letters of `show` in README's Quick start
+    rows = [(0, 3, 5, 0), (3, 2, 13, 0), (5, 1, 6, 0), (6, 0, 0, 0), (7, 0, 0, 0), (1, 0, 0, 2), (4, 0, 0, 2), (2, 0, 0, 4)]
+    wanted = [f"frame {frame} pages {pages} codewords {words} room {room}" for frame, pages, words, room in rows]
+    told = done.stdout.decode().splitlines()
+    tally.check("the frames of the sample round", done.returncode == 0 and told[7:] == wanted, told)
+    bad = run("report", EXAMPLES / "round.csv", "--rate", "7", "--frames")
+    tally.check("frames at no rate", (bad.returncode, bad.stdout, bad.stderr) == (1, b"", b"pocsag: the rate must be 512, 1200 or 2400\n"), bad)
+    bad = run("report", EXAMPLES / "round.csv", "--rate", "512", "--limit", "0", "--frames")
+    tally.check("frames with no limit", (bad.returncode, bad.stdout, bad.stderr) == (1, b"", b"pocsag: the limit must be 1 to 1000000\n"), bad)
+
+
+if __name__ == "__main__":
+    sys.exit(run_parts(try_sentences, try_json, try_words, try_planned, try_frames))
