@@ -6,6 +6,9 @@ import subprocess
 from tally import PROGRAM
 
 LINES = [b"add,8,alpha,Ward 3", b"add,16,tone0,", b"add,16,tone0,", b"cancel,8", b"add,24,numeric,55"]
+# The journal has more than a megabyte once the line of this number is kept, and is written anew.
+LONG = [b"add,8,alpha," + b"A" * 4000, b"cancel,8"] * 265
+ANEW_AT = 521
 HEADER = b"address,kind,message\n"
 
 
@@ -27,35 +30,59 @@ def listed(path):
     return done.stdout[len(HEADER) : done.stdout.rfind(b"ok ")].splitlines()
 
 
-def may_be(told):
+def may_be(lines, told):
     """What may be there after these answers: the edits that were answered ok, or these and the next one."""
     pages = []
-    for line, answer in zip(LINES, told):
+    for line, answer in zip(lines, told):
         if answer.startswith(b"ok "):
             pages = after(pages, line)
-    more = after(pages, LINES[len(told)]) if len(told) < len(LINES) else pages
+    more = after(pages, lines[len(told)]) if len(told) < len(lines) else pages
     return pages, more
 
 
+def try_once(tally, library, path, run, lines, kind, number):
+    """The call of this number refused: whether it was reached, the run, and what it answered."""
+    path.unlink(missing_ok=True)
+    command = [str(PROGRAM), "open", "--journal", str(path), "--verbose"]
+    done, reached = run(command, library, kind, number, stdin=b"".join(line + b"\n" for line in lines))
+    told = done.stdout.splitlines()
+    if reached:
+        found = listed(path)
+        tally.check(f"journal without {kind} {number}", found in may_be(lines, told), (done, found))
+    for left in path.parent.glob(f"{path.name}.*.new"):
+        os.unlink(left)
+    return reached, done, told
+
+
+def names_it(done, path):
+    """The fault is told in one line, and in another the journal by its name with the system's reason."""
+    first, *notes = [line for line in done.stderr.splitlines() if b" edits read, " not in line]
+    return first.startswith(b"pocsag: cannot ") and notes == [f"pocsag: journal {path}: {os.strerror(5)} (os error 5)".encode()]
+
+
 def try_kept(tally, library, folder, run):
-    """Each growth, read, write, synchronisation and renaming in turn."""
+    """Each growth, read, write, synchronisation and renaming in turn; then those with which a long journal is written
+    anew."""
     path = folder / "kept.journal"
-    command = [str(PROGRAM), "open", "--journal", str(path)]
     for kind, least in (("ALLOC", 20), ("READ", 3), ("WRITE", 8), ("SYNC", 6), ("RENAME", 1)):
-        number = 0
+        number, named = 0, 0
         while True:
             number += 1
-            path.unlink(missing_ok=True)
-            done, reached = run(command, library, kind, number, stdin=b"".join(line + b"\n" for line in LINES))
+            reached, done, told = try_once(tally, library, path, run, LINES, kind, number)
             if not reached:
                 break
-            told = done.stdout.splitlines()
-            found = listed(path)
-            tally.check(f"journal without {kind} {number}", found in may_be(told), (done, found))
             is_fault = done.returncode == 3 and (b"pocsag: " in done.stderr or kind == "WRITE")
             is_told = kind == "ALLOC" and b"refused: out of memory" in told
             is_done = kind in ("ALLOC", "WRITE") and done.returncode == 0 and len(told) == len(LINES)
             tally.check(f"journal without {kind} {number}: the status", is_fault or is_told or is_done, done)
+            named += is_fault and names_it(done, path)
         tally.check(f"journal: {kind}", number > least, number)
-        for left in folder.glob("kept.journal.*.new"):
-            os.unlink(left)
+        least_named = {"ALLOC": 0, "SYNC": number - 1, "RENAME": number - 1}.get(kind, 1)
+        tally.check(f"journal: {kind} named", named >= least_named, named)
+    anew = 0
+    for kind, numbers in (("RENAME", [2]), ("SYNC", range(ANEW_AT, ANEW_AT + 7)), ("WRITE", range(2 * ANEW_AT, 2 * ANEW_AT + 7))):
+        for number in numbers:
+            reached, done, told = try_once(tally, library, path, run, LONG, kind, number)
+            tally.check(f"a long journal without {kind} {number}", reached and done.returncode == 3, done.returncode)
+            anew += len(told) == ANEW_AT and names_it(done, path)
+    tally.check("a long journal that could not be written anew", anew >= 4, anew)

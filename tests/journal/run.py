@@ -430,6 +430,22 @@ def try_verbose_later(tally, folder):
         tally.check(f"told of a folder without rights {more}", holds, done)
 
 
+def try_many(tally, folder):
+    """A round of 20,000 pages, which is all that there may be: it is written, read and written anew."""
+    place = folder / "many"
+    place.mkdir()
+    file = HEADER + b"".join(b"%d,alpha,Ward %d\n" % (number, number) for number in range(20000))
+    (place / "pages.csv").write_bytes(file)
+    out, err, status = run(place, [b"add,20000,tone0,", b"cancel,0", b"add,20000,tone0,"], "pages.csv")
+    due = b"refused: too many pages\nok 19999\nok 20000\n"
+    tally.check("many pages", (out, err, status) == (due, b"pocsag: 0 edits read, 20000 pages\n", 0), (out, err, status))
+    found, err = listed(place)
+    tally.check("many pages: the edits", err == b"pocsag: 20002 edits read, 20000 pages\n", err)
+    tally.check("many pages: the list", found == file.replace(b"0,alpha,Ward 0\n", b"", 1) + b"20000,tone0,\n")
+    found, err = listed(place)
+    tally.check("many pages: written anew", err == b"pocsag: 20000 edits read, 20000 pages\n", err)
+
+
 def try_growth(tally, folder):
     """A long day: the journal stays small, and stands for the pages."""
     place = folder / "growth"
@@ -454,7 +470,7 @@ def try_growth(tally, folder):
 
 
 def main():
-    return run_parts(try_first_use, try_kills, try_cuts, try_bad_lines, try_use, try_full_disk, try_full_system, try_verbose, try_verbose_later, try_growth)
+    return run_parts(try_first_use, try_kills, try_cuts, try_bad_lines, try_use, try_full_disk, try_full_system, try_verbose, try_verbose_later, try_many, try_growth)
 
 
 if __name__ == "__main__":

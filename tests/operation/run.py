@@ -134,27 +134,37 @@ def is_one_of(now, before, due):
 
 
 def try_kills(tally, folder):
-    """The program is ended at random moments, while it puts now one plan and now another in place."""
-    room = folder / "kills"
+    """The program is ended at random moments, while it puts now one plan and now another in place; the same of the plan
+    lines of an open round."""
+    keep = [str(PROGRAM), "plan", "pages.csv", "tx.bin", "cert.bin", "--keep"]
+    kill_often(tally, folder / "kills", keep, b"", KILLS)
+    keep_open = [str(PROGRAM), "open", "pages.csv", "--keep"]
+    kill_often(tally, folder / "kills of open", keep_open, b"plan,tx.bin,cert.bin\n", KILLS // 4)
+
+
+def kill_often(tally, room, words, lines, kills):
+    """Ends the command at random moments, its page file now this one and now that one."""
     room.mkdir()
     files = [HEADER + b"".join(b"%d,numeric,%d\n" % (k, 10**9 + k + n) for k in range(4000)) for n in (0, 5000)]
-    dues = [planned(folder, file, f"due {n}") for n, file in enumerate(files)]
+    dues = [planned(room, file, f"due {n}") for n, file in enumerate(files)]
     (room / "pages.csv").write_bytes(files[0])
-    words = [str(PROGRAM), "plan", "pages.csv", "tx.bin", "cert.bin", "--keep"]
     start = time.monotonic()
-    subprocess.run(words, cwd=room, check=True, capture_output=True)
+    subprocess.run(words, cwd=room, input=lines, check=True, capture_output=True)
     whole = time.monotonic() - start
     chance = random.Random(28)
     ended = 0
-    for number in range(KILLS):
+    for number in range(kills):
         before, due = stand(room), dues[number % 2]
         (room / "pages.csv").write_bytes(files[number % 2])
-        process = subprocess.Popen(words, cwd=room, stdout=subprocess.DEVNULL, stderr=subprocess.DEVNULL)
+        process = subprocess.Popen(words, cwd=room, stdin=subprocess.PIPE, stdout=subprocess.DEVNULL, stderr=subprocess.DEVNULL)
+        process.stdin.write(lines)
+        process.stdin.flush()
         time.sleep(chance.uniform(0, 1.3 * whole))
         process.send_signal(chance.choice([signal.SIGKILL, signal.SIGINT, signal.SIGTERM]))
         ended += process.wait(60) != 0
-        tally.check(f"ended at a random moment, {number}", is_one_of(stand(room), before, due))
-    tally.check("some were ended and some were not", 0 < ended < KILLS, ended)
+        process.stdin.close()
+        tally.check(f"ended at a random moment, {words[1]} {number}", is_one_of(stand(room), before, due))
+    tally.check(f"some of {words[1]} were ended", 0 < ended and (ended < kills or lines), ended)
 
 
 def try_single_calls(tally, folder):

@@ -35,7 +35,7 @@ pub fn open_kept(path: &str, always: bool, places: &RoundFiles<'_>) -> Result<u8
     match (done, met.take_trouble()) {
         (Err(fault), Some(trouble)) => {
             let status = tell_fault(&mut desk.err(), fault);
-            note_trouble(places, path, trouble);
+            note_refused(places, path, trouble);
             Ok(status)
         }
         (done, _) => done,
@@ -127,7 +127,7 @@ fn tell_journal(places: &RoundFiles<'_>, path: &str, fault: JournalFault) -> Res
 }
 
 // Notes what the system refused of the journal, and why.
-fn note_trouble(places: &RoundFiles<'_>, path: &str, trouble: Trouble) {
+fn note_refused(places: &RoundFiles<'_>, path: &str, trouble: Trouble) {
     match trouble.code {
         Some(code) => {
             let reason = io::Error::from_raw_os_error(code);

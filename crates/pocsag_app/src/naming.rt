@@ -2,7 +2,7 @@ use pocsag_commands::{Names, Role};
 use pocsag_line::{Order, STANDARD};
 
 /// The words for the files of a command.
-pub fn names_of(order: Order<'_>) -> Names<'_> {
+pub fn names_in(order: Order<'_>) -> Names<'_> {
     match order {
         Order::Input => of_pages(Some(STANDARD)),
         Order::Plan(order) => Names {

@@ -1,5 +1,5 @@
 use crate::journaling::open_kept;
-use crate::naming::{names_of, subject_of};
+use crate::naming::{names_in, subject_of};
 use crate::planning::plan;
 use crate::round_files::RoundFiles;
 use pocsag_commands::{
@@ -36,7 +36,7 @@ pub fn obey<E: Sink>(rt: &HostRuntime, alloc: Global, asked: Asked<'_>, err: &mu
     if asked.verbose {
         let file = watch.take_file();
         let scene = Scene {
-            names: names_of(asked.order),
+            names: names_in(asked.order),
             subject: subject_of(asked.order),
             trouble: watch.take_trouble(),
             file: file.as_slice(),

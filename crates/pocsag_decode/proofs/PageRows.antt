@@ -122,7 +122,7 @@ escaped_short (b ∷ x) = elim (cases_Bool (b == 34)) [
   | inr n ↦ rw n (let h = escaped_short x in omega arith)
 ]
 
-field_short : (x : List ℕ) → length (field_text default_writer x) ≤ 2 * length x + 2
+pub field_short : (x : List ℕ) → length (field_text default_writer x) ≤ 2 * length x + 2
 field_short x = elim (cases_Bool (needs_quotes default_writer x)) [
   | inl e ↦ rw e (omega (arith, escaped_short x, length-append (escaped default_writer x) (34 ∷ [])))
   | inr n ↦ rw n (omega arith)

@@ -54,7 +54,7 @@ pub(crate) fn statement(
             let load = Load { set, least, room };
             overload_words(alloc, refuted, load, finding.shares.as_slice())
         }
-        Fact::Split { class, m, .. } => split(alloc, class, m),
+        Fact::Split { class, m, .. } => split_words(alloc, class, m),
         Fact::Cut {
             set,
             needed,
@@ -76,7 +76,7 @@ fn unjudged(alloc: Global) -> Result<String, AllocError> {
     format!(in alloc; "not judged, since a node above it does not hold")
 }
 
-fn split(alloc: Global, class: u8, m: u16) -> Result<String, AllocError> {
+fn split_words(alloc: Global, class: u8, m: u16) -> Result<String, AllocError> {
     let kind = kind(alloc, class)?;
     let slot = start_slot(class, true);
     if m == 1 {

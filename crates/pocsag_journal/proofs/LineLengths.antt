@@ -5,43 +5,20 @@ use Rattle.std.specs.Str.{bytes_eq}
 use Rattle.std.proofs.lemmas.Bool.{or_parts}
 use Rattle.std.proofs.lemmas.Bool.Decides.{nat_tests}
 use Rattle.std.proofs.lemmas.List.{append-nil, length-append}
-use Rattle.csv.specs.Writing.{default_writer, escaped, field_text, fields_text, is_blank, needs_quotes, quote_mark, row_text}
+use Rattle.std.proofs.lemmas.Slice.Eq.{bytes_eq-Decides}
+use Rattle.csv.specs.Writing.{default_writer, field_text, fields_text, is_blank, row_text}
 use Rattle.pocsag_text.specs.declared.fault.TextFault.{TextFault}
 use Rattle.pocsag_text.specs.Characters.{is_bad_digit}
 use Rattle.pocsag_text.specs.Text.{alpha_payload, is_bad_byte, numeric_payload, text_fault, unless}
 use Rattle.pocsag_text.proofs.Payloads.{fault_none}
+use Rattle.pocsag_decode.proofs.PageRows.{field_short}
 use Rattle.pocsag_pages.specs.PageFile.{◌>>=◌, Row, address_digits, address_of, fault_if, function_of, kind_of_field, of_text, or_fault, page_of_fields, payload_of}
 use Rattle.pocsag_pages.specs.Pages.{is_reserved}
 use Rattle.pocsag_pages.specs.declared.fault.FieldFault.{FieldFault}
 use Rattle.pocsag_pages.specs.declared.fault.FieldFault.TheVariants as field
 use Rattle.pocsag_pages.specs.declared.page.Page.{Page}
-use Rattle.pocsag_open.specs.Edited.{IsAdded, IsCancelled}
-use Rattle.pocsag_open.specs.Runs.{IsEdit, asked_of}
-use Rattle.pocsag_journal.specs.Growth.{line_limit}
-use Rattle.pocsag_open.proofs.Fields.{is_word}
-use Rattle.pocsag_journal.proofs.Replaying.{is_true}
-
--- each byte of a field is written once or twice
-twice_at_most : (t : Bool) (b : ℕ) (rest text : List ℕ) → length text ≤ 2 * length rest →
-    length (cond t (quote_mark ∷ b ∷ text) (b ∷ text)) ≤ 2 * length (b ∷ rest)
-twice_at_most true b rest text h = omega (arith, h)
-twice_at_most false b rest text h = omega (arith, h)
-
-escaped_length : (field : List ℕ) → length (escaped default_writer field) ≤ 2 * length field
-unfolding escaped
-escaped_length [] = omega arith
-escaped_length (b ∷ rest) = twice_at_most (b == quote_mark) b rest (escaped default_writer rest) (escaped_length rest)
-
--- and quotes stand at both ends
-quoted_at_most : (t : Bool) (field text : List ℕ) → length text ≤ 2 * length field →
-    length (cond t (quote_mark ∷ (text ++ (quote_mark ∷ []))) field) ≤ 2 * length field + 2
-quoted_at_most true field text h =
-    let all : length (text ++ (quote_mark ∷ [])) ≡ length text + 1 = length-append text (quote_mark ∷ []) in
-    omega (arith, h, all)
-quoted_at_most false field text h = omega arith
-
-field_length : (field : List ℕ) → length (field_text default_writer field) ≤ 2 * length field + 2
-field_length field = quoted_at_most (needs_quotes default_writer field) field (escaped default_writer field) (escaped_length field)
+use Rattle.pocsag_open.specs.Runs.{Asked, IsDone, IsEdit, add, asked_of, cancel, clear}
+use Rattle.pocsag_journal.specs.Growth.{kept_line_limit}
 
 -- the fields of an edit
 two_length : (word address : List ℕ) →
@@ -53,7 +30,7 @@ two_length word address =
     let a : length (second ++ []) ≡ length second = ap length (append-nil second) in
     let b = length-append first (44 ∷ (second ++ [])) in
     let c = length-append (first ++ (44 ∷ (second ++ []))) (10 ∷ []) in
-    omega (arith, field_length word, field_length address, a, b, c)
+    omega (arith, field_short word, field_short address, a, b, c)
 
 four_length : (word address name message : List ℕ) →
     length (row_text default_writer (word ∷ address ∷ name ∷ message ∷ [])) ≤ 2 * (length word + length address + length name + length message) + 12
@@ -68,7 +45,7 @@ four_length word address name message =
     let c = length-append second (44 ∷ (third ++ (44 ∷ (fourth ++ [])))) in
     let d = length-append first (44 ∷ (second ++ (44 ∷ (third ++ (44 ∷ (fourth ++ [])))))) in
     let e = length-append (first ++ (44 ∷ (second ++ (44 ∷ (third ++ (44 ∷ (fourth ++ []))))))) (10 ∷ []) in
-    omega (arith, field_length word, field_length address, field_length name, field_length message, a, b, c, d, e)
+    omega (arith, field_short word, field_short address, field_short name, field_short message, a, b, c, d, e)
 
 -- the fields of a page
 then_ok : {A B : Type 0} (r : Result A FieldFault) (f : A → Result B FieldFault) (b : B) → (r >>= f) ≡ Ok b →
@@ -91,9 +68,9 @@ address_length address n e =
     let few = (or_parts (nat_eq (length address) 0) (nat_lt address_digits (length address)) none).1 in
     grind (arith, nat_tests)
 
-is_word : {K P : Type 0} (found k : K) (other : Option K) (t : Bool) → (t ≡ true → P) → (other ≡ Some k → P) → cond t (Some found) other ≡ Some k → P
-is_word found k other true here more e = here refl
-is_word found k other false here more e = more e
+first_of_words : {K P : Type 0} (found k : K) (other : Option K) (t : Bool) → (t ≡ true → P) → (other ≡ Some k → P) → cond t (Some found) other ≡ Some k → P
+first_of_words found k other true here more e = here refl
+first_of_words found k other false here more e = more e
 
 -- what is left of the fields once the address is read
 abbrev AreShort : (name message : List ℕ) → Type 0
@@ -137,18 +114,18 @@ unfolding kind_of_field payload_of numeric_payload alpha_payload
 names_short n name message page e =
     let named = then_ok (or_fault (kind_of_field name) field.BadKind) _ page e in
     let its = there (kind_of_field name) field.BadKind named.0 named.1 in
-    let by = λ (word : List ℕ) (is : bytes_eq name word ≡ true). is_word name word is in
-    is_word _ named.0 _ (bytes_eq name (codes "tone0"))
+    let by = λ (word : List ℕ) (is : bytes_eq name word ≡ true). (bytes_eq-Decides name word).0 is in
+    first_of_words _ named.0 _ (bytes_eq name (codes "tone0"))
     (λ is. word_short (codes "tone0") n name message page (by _ is) (omega arith) (λ h. silent_short message _ page h) e)
-    (is_word _ named.0 _ (bytes_eq name (codes "tone1"))
+    (first_of_words _ named.0 _ (bytes_eq name (codes "tone1"))
     (λ is. word_short (codes "tone1") n name message page (by _ is) (omega arith) (λ h. silent_short message _ page h) e)
-    (is_word _ named.0 _ (bytes_eq name (codes "tone2"))
+    (first_of_words _ named.0 _ (bytes_eq name (codes "tone2"))
     (λ is. word_short (codes "tone2") n name message page (by _ is) (omega arith) (λ h. silent_short message _ page h) e)
-    (is_word _ named.0 _ (bytes_eq name (codes "tone3"))
+    (first_of_words _ named.0 _ (bytes_eq name (codes "tone3"))
     (λ is. word_short (codes "tone3") n name message page (by _ is) (omega arith) (λ h. silent_short message _ page h) e)
-    (is_word _ named.0 _ (bytes_eq name (codes "numeric"))
+    (first_of_words _ named.0 _ (bytes_eq name (codes "numeric"))
     (λ is. word_short (codes "numeric") n name message page (by _ is) (omega arith) (λ h. text_short is_bad_digit message _ _ page h) e)
-    (is_word _ named.0 None (bytes_eq name (codes "alpha"))
+    (first_of_words _ named.0 None (bytes_eq name (codes "alpha"))
     (λ is. word_short (codes "alpha") n name message page (by _ is) (omega arith) (λ h. text_short is_bad_byte message _ _ page h) e)
     (λ none. absurd (cc none))))))) its
 
@@ -160,24 +137,31 @@ fields_length address name message page e =
     let b = then_ok (fault_if (is_reserved a.0) field.ReservedAddress) _ page a.2 in
     (address_length address a.0 (there (address_of address) field.BadAddress a.0 a.1), names_short a.0 name message page b.2)
 
+-- what an edit asks for is done
+done : {P : Type 0} (t : Bool) (asked : Asked) (before after : List Page) → (t ≡ true → IsDone (Some asked) before after → P) →
+    IsDone (cond t (Some asked) None) before after → P
+done true asked before after here d = here refl d
+done false asked before after here d = absurd d
+
 -- *Length of a line*
-pub line_length : (row : Row) (before after : List Page) → IsEdit row before after → length (row_text default_writer row) ≤ line_limit
+pub line_length : (row : Row) (before after : List Page) → IsEdit row before after → length (row_text default_writer row) ≤ kept_line_limit
 unfolding asked_of fields_text is_blank
 line_length [] before after d = absurd d
 line_length (w ∷ []) before after d =
-    subst (λ (x : List ℕ). length (row_text default_writer (x ∷ [])) ≤ line_limit)
-    (sym (is_word w (codes "clear") (is_true _ _ before after d))) (omega arith)
+    done (bytes_eq w (codes "clear")) clear before after
+    (λ t made. subst (λ (x : List ℕ). length (row_text default_writer (x ∷ [])) ≤ kept_line_limit)
+    (sym ((bytes_eq-Decides w (codes "clear")).0 t)) (omega arith)) d
 line_length (w ∷ a ∷ []) before after d =
-    let word = is_word w (codes "cancel") (is_true _ _ before after d) in
-    let cancelled : IsCancelled a before after = rw word at d in
-    let short = fields_length a (codes "tone0") [] cancelled.tone cancelled.spelled in
-    let six : length w ≡ 6 = ap length word in
-    omega (arith, two_length w a, short.0, six)
+    done (bytes_eq w (codes "cancel")) (cancel a) before after
+    (λ t made.
+    let short = fields_length a (codes "tone0") [] made.tone made.spelled in
+    let six : length w ≡ 6 = ap length ((bytes_eq-Decides w (codes "cancel")).0 t) in
+    omega (arith, two_length w a, short.0, six)) d
 line_length (w ∷ a ∷ k ∷ []) before after d = absurd d
 line_length (w ∷ a ∷ k ∷ m ∷ []) before after d =
-    let word = is_word w (codes "add") (is_true _ _ before after d) in
-    let added : IsAdded a k m before after = rw word at d in
-    let short = fields_length a k m added.page added.spelled in
-    let three : length w ≡ 3 = ap length word in
-    omega (arith, four_length w a k m, short.0, short.1.0, short.1.1, three)
+    done (bytes_eq w (codes "add")) (add a k m) before after
+    (λ t made.
+    let short = fields_length a k m made.page made.spelled in
+    let three : length w ≡ 3 = ap length ((bytes_eq-Decides w (codes "add")).0 t) in
+    omega (arith, four_length w a k m, short.0, short.1.0, short.1.1, three)) d
 line_length (w ∷ a ∷ k ∷ m ∷ n ∷ row) before after d = absurd d

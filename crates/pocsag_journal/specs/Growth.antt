@@ -4,8 +4,8 @@ use Rattle.pocsag_pages.specs.declared.page.Page.{Page}
 use Rattle.pocsag_journal.specs.Journals.{ListsPages}
 
 -- The most bytes of a line, with its line feed.
-abbrev pub line_limit : ℕ
-line_limit = 8192
+abbrev pub kept_line_limit : ℕ
+kept_line_limit = 8192
 
 -- A journal of at most so many bytes, a megabyte, stays as it is while its round is open.
 abbrev pub least_anew : ℕ

@@ -9,19 +9,19 @@ abbrev pub disk_of : {D : Type 0} → Journal D → D
 disk_of journal = journal.disk
 
 -- How many bytes it has by its own count.
-abbrev pub bytes_of : {D : Type 0} → Journal D → ℕ
-bytes_of journal = journal.len
+abbrev pub journal_length : {D : Type 0} → Journal D → ℕ
+journal_length journal = journal.len
 
 -- How many it had when what its pages need was counted last.
 abbrev pub counted_of : {D : Type 0} → Journal D → ℕ
 counted_of journal = journal.counted
 
 -- The journal has what the disk took, by its own count, and no more than is read.
-pub record IsCounted {D : Type 0} (journal : Journal D) (taken : List ℕ) : Type 0 where
-  pub all : bytes_of journal ≡ length taken
+pub record IsMeasured {D : Type 0} (journal : Journal D) (taken : List ℕ) : Type 0 where
+  pub all : journal_length journal ≡ length taken
   pub readable : length taken ≤ journal_limit
 
 -- What the disk took stands for the pages, and can be read again.
 pub record IsHeld {D : Type 0} (journal : Journal D) (taken : List ℕ) (pages : List Page) : Type 0 where
   pub stands : StandsFor taken pages
-  pub counted : IsCounted journal taken
+  pub counted : IsMeasured journal taken

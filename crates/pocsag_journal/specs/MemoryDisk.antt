@@ -21,8 +21,8 @@ abbrev pub disk_syncs : MemoryDisk → ℕ
 disk_syncs disk = disk.syncs
 
 -- How many bytes it still takes, and how many calls of `sync` and `replace` it still serves, before each fails.
-abbrev pub bytes_left : MemoryDisk → ℕ
-bytes_left disk = disk.bytes_left
+abbrev pub disk_room : MemoryDisk → ℕ
+disk_room disk = disk.bytes_left
 
 abbrev pub settlings_left : MemoryDisk → ℕ
 settlings_left disk = disk.settlings_left

@@ -1,7 +1,7 @@
 ghost use Rattle.std.specs.Prelude.{◌≡◌, ◌≢◌, IfErr, IfOk, OnOk};
 ghost use Rattle.pocsag_journal.specs.Growth.{IsSettled};
 ghost use Rattle.pocsag_journal.specs.Journals.{ListsPages};
-ghost use Rattle.pocsag_journal.specs.Keeping.{IsCounted, counted_of, disk_of};
+ghost use Rattle.pocsag_journal.specs.Keeping.{IsMeasured, counted_of, disk_of};
 
 use crate::anew::text_of_pages;
 use crate::disk::Disk;
@@ -39,7 +39,7 @@ impl<D: Disk + Drop> Journal<D> {
     pub fn write_anew(alloc: Global, mut disk: D, book: &Book) -> Result<Journal<D>, JournalFault>
         ensures adds { D.tells → IfOk result (λ journal. ListsPages (D.taken (disk_of journal)) book.now) }
         ensures safe { D.tells → IfOk result (λ journal. D.safe (disk_of journal) ≡ D.taken (disk_of journal)) }
-        ensures counted { D.tells → IfOk result (λ journal. IsCounted journal (D.taken (disk_of journal))) }
+        ensures counted { D.tells → IfOk result (λ journal. IsMeasured journal (D.taken (disk_of journal))) }
     {
         let text = text_of_pages(alloc, book.pages())?;
         let len = text.len();
@@ -66,14 +66,14 @@ impl<D: Disk + Drop> Journal<D> {
     // Writes the journal anew where it is due and has more than so many times the bytes that its pages need. Where
     // memory is wanting to count these, it stays as it is.
     fn shorten(&mut self, alloc: Global, book: &Book) -> Result<(), JournalFault>
-        ensures settled { D.tells → IsCounted self.old (D.taken (disk_of self.old)) →
+        ensures settled { D.tells → IsMeasured self.old (D.taken (disk_of self.old)) →
             OnOk result (IsSettled book.now (counted_of self.old)
             (D.taken (disk_of self.old)) (D.taken (disk_of self.new))) }
-        ensures counted { D.tells → IsCounted self.old (D.taken (disk_of self.old)) →
-            OnOk result (IsCounted self.new (D.taken (disk_of self.new))) }
-        ensures kept { D.tells → IsCounted self.old (D.taken (disk_of self.old)) →
+        ensures counted { D.tells → IsMeasured self.old (D.taken (disk_of self.old)) →
+            OnOk result (IsMeasured self.new (D.taken (disk_of self.new))) }
+        ensures kept { D.tells → IsMeasured self.old (D.taken (disk_of self.old)) →
             IfErr result (λ e. e ≢ JournalFault.WriteFault →
-            (D.taken (disk_of self.new) ≡ D.taken (disk_of self.old)) × IsCounted self.new (D.taken (disk_of self.new))) }
+            (D.taken (disk_of self.new) ≡ D.taken (disk_of self.old)) × IsMeasured self.new (D.taken (disk_of self.new))) }
     {
         let grown = self.counted.saturating_add(self.counted / GROWTH_PARTS);
         if self.len <= LEAST_ANEW || self.len <= grown {

@@ -4,7 +4,7 @@ ghost use Rattle.csv.specs.Writing.{default_writer, row_text};
 ghost use Rattle.pocsag_pages.specs.PageFile.{Row};
 ghost use Rattle.pocsag_pages.specs.declared.page.Page.{Page};
 ghost use Rattle.pocsag_open.specs.Runs.{IsEdit, IsRun};
-ghost use Rattle.pocsag_journal.specs.Growth.{line_limit};
+ghost use Rattle.pocsag_journal.specs.Growth.{kept_line_limit};
 ghost use Rattle.pocsag_journal.specs.Journals.{IsBadLine, IsLine, IsRead, ReadsFirst, journal_text};
 
 /// Bytes read as one list of records at most, with one torn end; and where these are a run, no line is bad.
@@ -32,5 +32,5 @@ pub fn a_prefix_is_read()
 /// A line of a journal, the text of an edit that some pages accept, has at most 8,192 bytes with its line feed.
 pub fn lines_are_short()
     ensures { (row : Row) (before after : List Page) →
-        IsEdit row before after → length (row_text default_writer row) ≤ line_limit }
+        IsEdit row before after → length (row_text default_writer row) ≤ kept_line_limit }
 {}

@@ -20,9 +20,9 @@ pub struct MemoryDisk {
 impl MemoryDisk {
     ghost use Rattle.std.specs.Prelude.{◌≡◌, []};
     ghost use Rattle.pocsag_journal.specs.MemoryDisk.{
-      bytes_left,
       disk_calls,
       disk_failures,
+      disk_room,
       disk_safe,
       disk_syncs,
       disk_taken,
@@ -35,7 +35,7 @@ impl MemoryDisk {
         ensures calls { disk_calls result ≡ 0 }
         ensures failures { disk_failures result ≡ 0 }
         ensures syncs { disk_syncs result ≡ 0 }
-        ensures bytes { bytes_left result ≡ takes }
+        ensures room { disk_room result ≡ takes }
         ensures settlings { settlings_left result ≡ settles }
     {
         MemoryDisk {

@@ -136,15 +136,6 @@ pub fn least_by_class(classes: &Classes, limits: &Limits, set: u16, class: Class
     class_least(classes, limits, set, u64::from(size(set)), class)
 }
 
-/// The least load of the class on the set of slots, over all choices within the limits.
-pub fn least_by_class(classes: &Classes, limits: &Limits, set: u16, class: u8) -> u64
-    requires ordered { AreInOrder classes.now limits.now }
-    requires class { class < 136 }
-    ensures { result ≡ least_of_class classes.now limits.now set class }
-{
-    class_least(classes, limits, set, u64::from(size(set)), class)
-}
-
 /// The least total load of the slots of the set, over all choices within the limits.
 pub fn least_load(classes: &Classes, limits: &Limits, set: u16) -> u64
     requires { AreInOrder classes.now limits.now }
