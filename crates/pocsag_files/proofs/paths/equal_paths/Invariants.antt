@@ -1,6 +1,6 @@
 use Rattle.std.proofs.Common.{ℕ, ◌<◌, map}
-use Rattle.pocsag_app.specs.Paths.{IsNamedBefore}
-use Rattle.pocsag_app.proofs.paths.equal_paths.Given as goal
+use Rattle.pocsag_files.specs.Paths.{IsNamedBefore}
+use Rattle.pocsag_files.proofs.paths.equal_paths.Given as goal
 
 -- none of the paths so far is named before
 abbrev pub invariant-loop-place : goal.invariant-loop-place

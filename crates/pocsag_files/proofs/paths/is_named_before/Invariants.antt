@@ -1,5 +1,5 @@
 use Rattle.std.proofs.Common.{◌≡◌, ℕ, ◌<◌, [], map, get_or}
-use Rattle.pocsag_app.proofs.paths.is_named_before.Given as goal
+use Rattle.pocsag_files.proofs.paths.is_named_before.Given as goal
 
 -- none of the paths so far
 abbrev pub invariant-loop-earlier : goal.invariant-loop-earlier
