@@ -3,11 +3,11 @@ use Rattle.std.proofs.Common.{◌≡◌, ◌≢◌, inl, inr, ℕ, zero, suc, �
 use Rattle.std.specs.Prelude.{Some, None, not}
 use Rattle.std.proofs.lemmas.Slice.Eq.{bytes_eq-Decides}
 use Rattle.pocsag_words.specs.declared.ending.End.{End}
-use Rattle.pocsag_open.specs.Replies.{AsksNeither, AsksPlan, IsPlanEnd, end_word, list_record}
+use Rattle.pocsag_open.specs.Replies.{AsksNeither, AsksPlan, IsPlanEnd, end_word}
 use Rattle.std.specs.Str.{bytes_eq}
 use Rattle.csv.specs.Records.{field_at}
 use Rattle.pocsag_pages.specs.PageFile.{Row}
-use Rattle.pocsag_open.specs.Runs.{add, asked_of, cancel, clear, first_record}
+use Rattle.pocsag_open.specs.Runs.{add, asked_of, cancel, clear}
 
 pub has_field : (row : Row) (i : ℕ) → i < length row → None ≡ field_at row i → ⊥
 unfolding field_at

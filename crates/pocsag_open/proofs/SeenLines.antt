@@ -1,11 +1,11 @@
 -- What was seen of a line, byte by byte.
-use Rattle.std.proofs.Common.{◌≡◌, ◌≢◌, ℕ, Bool, true, false, ◌+◌, ◌<◌, ◌≤◌, List, [], ◌∷◌, ◌++◌, length, refl, sym, ap, ◌∙◌, arith, append_assoc, length-append}
+use Rattle.std.proofs.Common.{◌≡◌, ◌≢◌, ℕ, true, false, List, [], ◌∷◌, ◌++◌, length, refl, sym, ap, ◌∙◌, arith, append_assoc}
 use Rattle.std.proofs.lemmas.List.{length_push}
 use Rattle.std.proofs.lemmas.Bool.{or_parts}
 use Rattle.std.specs.Prelude.{◌==◌}
 use Rattle.std.specs.List.{list_any}
 use Rattle.csv.specs.Machine.{line_feed}
-use Rattle.pocsag_open.specs.Lines.{HasNoLineFeed, IsByteKept, IsSeen, line_limit}
+use Rattle.pocsag_open.specs.Lines.{HasNoLineFeed, IsByteKept, IsSeen}
 use Rattle.pocsag_open.specs.declared.lines.Found.{Found}
 use Rattle.pocsag_open.specs.declared.lines.Found.TheVariants as found
 

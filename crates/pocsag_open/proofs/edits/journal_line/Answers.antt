@@ -1,4 +1,4 @@
-use Rattle.std.proofs.Common.{◌≡◌, List, ℕ, codes, sym, ◌∙◌, arith}
+use Rattle.std.proofs.Common.{◌≡◌, codes, sym, ◌∙◌, arith}
 use Rattle.csv.specs.Records.{fields_of}
 use Rattle.pocsag_open.proofs.Fields.{has_field, is_other, is_word, negated, neither_of_two, neither_second, pair, unnegated}
 use Rattle.pocsag_open.proofs.edits.journal_line.Goals as goal

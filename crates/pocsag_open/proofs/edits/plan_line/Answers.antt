@@ -1,4 +1,4 @@
-use Rattle.std.proofs.Common.{◌≡◌, codes, sym, ◌∙◌}
+use Rattle.std.proofs.Common.{sym, ◌∙◌}
 use Rattle.csv.specs.Records.{fields_of}
 use Rattle.pocsag_open.proofs.Fields.{is_word, plan_is, unnegated}
 use Rattle.pocsag_open.proofs.edits.plan_line.Goals as goal

@@ -1,10 +1,7 @@
-use Rattle.std.proofs.Common.{◌≡◌, List, ℕ, ◌++◌, length, Err, refl, sym, ap, ◌∙◌, append_assoc}
-use Rattle.csv.specs.Records.{fields_of}
+use Rattle.std.proofs.Common.{◌≡◌, List, ℕ, ◌++◌, length, Err, refl, ap, ◌∙◌, append_assoc}
 use Rattle.pocsag_decode.specs.PageFiles.{page_file}
-use Rattle.pocsag_commands.specs.declared.fault.Fault.TheVariants as fault
 use Rattle.pocsag_open.specs.Answers.{pages_answer, plan_answer}
 use Rattle.pocsag_open.specs.Replies.{listed, noted, planned, read, refused, unread}
-use Rattle.pocsag_open.specs.declared.refusal.Refusal.TheVariants as refusal
 use Rattle.pocsag_open.proofs.Sessions.{edit_reply, list_due, other_neither, plan_due}
 use Rattle.pocsag_open.proofs.Telling.{on_ok, told_as}
 use Rattle.pocsag_open.proofs.opening.answer.Goals as goal

@@ -1,5 +1,4 @@
-use Rattle.std.proofs.Common.{◌≡◌, ◌++◌, refl, sym, ◌∙◌, rules}
-use Rattle.pocsag_open.specs.Ahead.{ahead_of}
+use Rattle.std.proofs.Common.{refl, rules}
 use Rattle.pocsag_open.specs.Replies.{too_long}
 use Rattle.pocsag_open.proofs.Sessions.{no_reply, one_reply}
 use Rattle.pocsag_open.proofs.opening.run_open_kept.Goals.{in-TooLong+in_ok-refuse-in-TooLong, in-Kept+in_ok-answer-in-Kept}

@@ -1,6 +1,5 @@
-use Rattle.std.proofs.Common.{◌≡◌, ◌≢◌, ℕ, List, [], ◌∷◌, ◌++◌, ap, sym, ◌∙◌, rules}
+use Rattle.std.proofs.Common.{◌≢◌, [], ◌∷◌, ◌++◌, rules}
 use Rattle.csv.specs.Machine.{line_feed}
-use Rattle.pocsag_open.specs.Lines.{between_places}
 use Rattle.pocsag_open.proofs.SeenLines.{byte_passes, no_feed_more, seen_more}
 use Rattle.pocsag_open.proofs.lines.Lines.read_line.Goals as goal
 
