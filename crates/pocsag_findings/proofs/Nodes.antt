@@ -1,5 +1,5 @@
 -- The findings of a node, put behind those before it.
-use Rattle.pocsag_findings.proofs.Prelude.{◌≡◌, ℕ, ◌+◌, ◌<◌, ◌≤◌, ◌++◌, ◌∷◌, [], List, arith, nat_lt, true, length, slice_index, Classes, End, Limits, Reached, Stated, Fact, Share, Bound, Bounds, split, cut, close, children_count}
+use Rattle.pocsag_findings.proofs.Prelude.{◌≡◌, ℕ, ◌+◌, ◌<◌, ◌≤◌, ◌++◌, ◌∷◌, [], List, Bool, sym, ◌∙◌, arith, nat_lt, true, length, slice_index, Classes, End, Limits, Reached, Stated, Fact, Share, Bound, Bounds, split, cut, close, children_count}
 use Rattle.std.proofs.Common.{append_assoc}
 use Rattle.std.proofs.lemmas.Bool.Decides.{nat_tests}
 use Rattle.pocsag_slots.specs.Ways.{ways_across, ways_to_close}
@@ -22,6 +22,13 @@ held_node k end b depth l above how t fact shares below old mid new h is stated 
 pub held_split : (k : Classes) (end : End) (b : ℕ) (l : Limits) (c m : ℕ) (below from : Bound) →
     fact_holds end b (fact_of k l (split c m below from)) ≡ true → (c < 136) × (slice_index l.lo c < m) × (m ≤ slice_index l.hi c)
 held_split k end b l c m below from h = grind (arith, nat_tests)
+
+-- the same of a node that states so
+pub split_says : (k : Classes) (end : End) (b : ℕ) (l : Limits) (c m : ℕ) (below from t : Bound) (fact : Fact) (holds : Bool) →
+    fact ≡ fact_of k l t → t ≡ split c m below from → holds ≡ fact_holds end b fact → holds ≡ true →
+    (c < 136) × (slice_index l.lo c < m) × (m ≤ slice_index l.hi c)
+split_says k end b l c m below from t fact holds is node met held =
+    held_split k end b l c m below from (rw (is, node) at (sym met ∙ held))
 
 pub held_cut : (k : Classes) (end : End) (b : ℕ) (l : Limits) (set c : ℕ) (children : Bounds) →
     fact_holds end b (fact_of k l (cut set c children)) ≡ true → (0 < b) × (length (ways_across k l set) ≡ children_count children)

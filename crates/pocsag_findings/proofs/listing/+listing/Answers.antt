@@ -6,26 +6,54 @@ use Rattle.pocsag_findings.specs.declared.finding.Reached.TheVariants.{Below, Fr
 use Rattle.pocsag_findings.specs.Findings.{findings_within}
 use Rattle.pocsag_findings.specs.Views.{all_stated}
 use Rattle.pocsag_findings.specs.Rules.{fact_holds}
-use Rattle.pocsag_findings.proofs.Nodes.{held_close, held_cut, held_split, held_node, two_more}
+use Rattle.pocsag_findings.proofs.Nodes.{held_close, held_cut, held_node, split_says, two_more}
 use Rattle.pocsag_findings.proofs.listing.+listing.Goals as goal
 
 pub put_node-below_split-low-requires-clause-class : goal.put_node-below_split-low-requires-clause-class
 put_node-below_split-low-requires-clause-class t c =
-    let is = bound_of-split c.args.tree.now c.in-Split.class c.in-Split.m c.in-Split.below c.in-Split.from c.in-Split.is in
-    let held : fact_holds c.args.inquiry.now.end c.args.inquiry.now.batches c.fact_of-fact.result ≡ true =
-    sym c.in_ok-put_fact.ensures.holds ∙ c.if-not-branch.false in
-    (held_split c.args.inquiry.now.classes.now c.args.inquiry.now.end c.args.inquiry.now.batches c.args.place.now.limits _ _
-    (bound_of c.in-Split.below.value) (bound_of c.in-Split.from.value)
-    (rw (c.fact_of-fact.ensures, is) at held)).0
+    (split_says c.args.inquiry.now.classes.now c.args.inquiry.now.end c.args.inquiry.now.batches c.args.place.now.limits _ _
+    (bound_of c.in-Split.below.value) (bound_of c.in-Split.from.value) _ _ _ c.fact_of-fact.ensures
+    (bound_of-split c.args.tree.now c.in-Split.class c.in-Split.m c.in-Split.below c.in-Split.from c.in-Split.is)
+    c.in_ok-put_fact.ensures.holds c.if-not-branch.false).0
+
+pub put_node-below_split-low-requires-clause-above : goal.put_node-below_split-low-requires-clause-above
+put_node-below_split-low-requires-clause-above t c =
+    rw c.from.ensures
+    ((split_says c.args.inquiry.now.classes.now c.args.inquiry.now.end c.args.inquiry.now.batches c.args.place.now.limits _ _
+    (bound_of c.in-Split.below.value) (bound_of c.in-Split.from.value) _ _ _ c.fact_of-fact.ensures
+    (bound_of-split c.args.tree.now c.in-Split.class c.in-Split.m c.in-Split.below c.in-Split.from c.in-Split.is)
+    c.in_ok-put_fact.ensures.holds c.if-not-branch.false).1)
+
+pub put_node-below_split-low-requires-clause-within : goal.put_node-below_split-low-requires-clause-within
+put_node-below_split-low-requires-clause-within t c =
+    rw c.from.ensures
+    ((split_says c.args.inquiry.now.classes.now c.args.inquiry.now.end c.args.inquiry.now.batches c.args.place.now.limits _ _
+    (bound_of c.in-Split.below.value) (bound_of c.in-Split.from.value) _ _ _ c.fact_of-fact.ensures
+    (bound_of-split c.args.tree.now c.in-Split.class c.in-Split.m c.in-Split.below c.in-Split.from c.in-Split.is)
+    c.in_ok-put_fact.ensures.holds c.if-not-branch.false).2)
 
 pub put_node-from_split-high-requires-clause-class : goal.put_node-from_split-high-requires-clause-class
 put_node-from_split-high-requires-clause-class t c =
-    let is = bound_of-split c.args.tree.now c.in-Split.class c.in-Split.m c.in-Split.below c.in-Split.from c.in-Split.is in
-    let held : fact_holds c.args.inquiry.now.end c.args.inquiry.now.batches c.fact_of-fact.result ≡ true =
-    sym c.in_ok-put_fact.ensures.holds ∙ c.if-not-branch.false in
-    (held_split c.args.inquiry.now.classes.now c.args.inquiry.now.end c.args.inquiry.now.batches c.args.place.now.limits _ _
-    (bound_of c.in-Split.below.value) (bound_of c.in-Split.from.value)
-    (rw (c.fact_of-fact.ensures, is) at held)).0
+    (split_says c.args.inquiry.now.classes.now c.args.inquiry.now.end c.args.inquiry.now.batches c.args.place.now.limits _ _
+    (bound_of c.in-Split.below.value) (bound_of c.in-Split.from.value) _ _ _ c.fact_of-fact.ensures
+    (bound_of-split c.args.tree.now c.in-Split.class c.in-Split.m c.in-Split.below c.in-Split.from c.in-Split.is)
+    c.in_ok-put_fact.ensures.holds c.if-not-branch.false).0
+
+pub put_node-from_split-high-requires-clause-above : goal.put_node-from_split-high-requires-clause-above
+put_node-from_split-high-requires-clause-above t c =
+    rw c.from-in-Split.ensures
+    ((split_says c.args.inquiry.now.classes.now c.args.inquiry.now.end c.args.inquiry.now.batches c.args.place.now.limits _ _
+    (bound_of c.in-Split.below.value) (bound_of c.in-Split.from.value) _ _ _ c.fact_of-fact.ensures
+    (bound_of-split c.args.tree.now c.in-Split.class c.in-Split.m c.in-Split.below c.in-Split.from c.in-Split.is)
+    c.in_ok-put_fact.ensures.holds c.if-not-branch.false).1)
+
+pub put_node-from_split-high-requires-clause-within : goal.put_node-from_split-high-requires-clause-within
+put_node-from_split-high-requires-clause-within t c =
+    rw c.from-in-Split.ensures
+    ((split_says c.args.inquiry.now.classes.now c.args.inquiry.now.end c.args.inquiry.now.batches c.args.place.now.limits _ _
+    (bound_of c.in-Split.below.value) (bound_of c.in-Split.from.value) _ _ _ c.fact_of-fact.ensures
+    (bound_of-split c.args.tree.now c.in-Split.class c.in-Split.m c.in-Split.below c.in-Split.from c.in-Split.is)
+    c.in_ok-put_fact.ensures.holds c.if-not-branch.false).2)
 
 pub put_node-put_each-requires : goal.put_node-put_each-requires
 put_node-put_each-requires t c =
