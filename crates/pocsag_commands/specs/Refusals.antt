@@ -16,6 +16,8 @@ use Rattle.pocsag_plan.specs.declared.search.Effort.TheVariants.{Fewest}
 use Rattle.pocsag_plan.specs.declared.search.Search.{Search}
 use Rattle.pocsag_commands.specs.Commands.{IsPlanRefused}
 use Rattle.pocsag_commands.specs.Judging.{IsNotShown}
+use Rattle.pocsag_commands.specs.Showing.{IsBehindLast}
+use Rattle.pocsag_commands.specs.declared.view.View.{View}
 
 -- The node limit where none is asked for.
 abbrev pub default_limit : ℕ
@@ -29,6 +31,11 @@ default_search = record { limit = default_limit; end = Open; effort = Fewest }
 pub data IsTransmissionRefused (bytes : List ℕ) : Type 0 where
   too_large : input_limit < length bytes → IsTransmissionRefused bytes
   fault : (f : DecodeFault) → HasFault bytes f → IsTransmissionRefused bytes
+
+-- `show`: the same, or the rows that are asked for are behind its last batch.
+pub data IsShowRefused (view : View) (bytes : List ℕ) : Type 0 where
+  transmission : IsTransmissionRefused bytes → IsShowRefused view bytes
+  rows : IsBehindLast view bytes → IsShowRefused view bytes
 
 -- `hear`: the transmission is larger than is read, or the address or the bytes have a fault.
 pub data IsHearingRefused (address : ℕ) (bytes : List ℕ) : Type 0 where

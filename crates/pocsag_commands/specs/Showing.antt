@@ -1,4 +1,4 @@
--- `show`: what it leaves of standard output where its exit status is 0, why it refuses, and its faults.
+-- `show`: what it leaves of standard output where its exit status is 0, and its faults.
 use Rattle.std.specs.Prelude.{◌≡◌, ℕ, ◌<◌, ◌≤◌, List, Option, Some, None, IfSome}
 use Rattle.pocsag_pages.specs.declared.page.Page.{Page}
 use Rattle.pocsag_decode.specs.Faults.{ReadsAs}
@@ -9,7 +9,6 @@ use Rattle.pocsag_show.specs.Showing.{Shows}
 use Rattle.pocsag_show.specs.declared.fault.ShowFault.{ShowFault}
 use Rattle.pocsag_show.specs.declared.fault.ShowFault.TheVariants as showing
 use Rattle.pocsag_show.specs.declared.rows.Rows.{Rows}
-use Rattle.pocsag_commands.specs.Refusals.{IsTransmissionRefused}
 use Rattle.pocsag_commands.specs.declared.view.View.{View}
 use Rattle.pocsag_commands.specs.declared.view.View.TheVariants.{Grid, Places, Drawing}
 use Rattle.pocsag_commands.specs.declared.fault.Fault.{Fault}
@@ -44,11 +43,6 @@ pub record IsBehindLast (view : View) (bytes : List ℕ) : Type 0 where
   pub batches : ℕ
   pub reads : ReadsInBatches bytes batches
   pub behind : batches < rows.first
-
--- Why `show` refuses: the transmission is refused, or the rows that are asked for are behind its last batch.
-pub data IsShowRefused (view : View) (bytes : List ℕ) : Type 0 where
-  transmission : IsTransmissionRefused bytes → IsShowRefused view bytes
-  rows : IsBehindLast view bytes → IsShowRefused view bytes
 
 abbrev pub fault_of_show : ShowFault → Fault
 fault_of_show (showing.Transmission f) = fault.Transmission f

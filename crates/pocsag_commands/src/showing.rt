@@ -1,6 +1,7 @@
 ghost use Rattle.std.specs.Prelude.{◌≡◌, IfErr, OnOk};
 ghost use Rattle.pocsag_commands.specs.Faults.{status_after, status_of};
-ghost use Rattle.pocsag_commands.specs.Showing.{HasRows, IsShowRefused, Viewed, rows_wanted};
+ghost use Rattle.pocsag_commands.specs.Refusals.{IsShowRefused};
+ghost use Rattle.pocsag_commands.specs.Showing.{HasRows, Viewed};
 
 use crate::fault::Fault;
 use crate::receiving::TRANSMISSION_LIMIT;
@@ -8,7 +9,7 @@ use crate::verifying::batches_of;
 use crate::view::View;
 use pocsag_decode::decode;
 use pocsag_pages::read_whole;
-use pocsag_show::{Rows, ShowFault, show_list, show_svg, show_text};
+use pocsag_show::{ShowFault, show_list, show_svg, show_text};
 use pocsag_words::{Sink, Source};
 use std::alloc::Global;
 
@@ -49,21 +50,12 @@ pub fn run_show<T: Source, O: Sink>(
     Ok(())
 }
 
-fn rows_wanted(view: View) -> Option<Rows>
-    ensures { result ≡ rows_wanted view }
-{
-    match view {
-        View::Grid(rows) | View::Drawing(rows) => Some(rows),
-        View::Places => None,
-    }
-}
-
 // Rows of which a transmission has none are refused, once its bytes read as pages.
 fn refuse_rows(alloc: Global, view: View, bytes: &[u8]) -> Result<(), Fault>
     ensures rows { OnOk result (HasRows view bytes.now) }
     ensures why { IfErr result (λ e. status_of e ≡ 1 → IsShowRefused view bytes.now) }
 {
-    let Some(rows) = rows_wanted(view) else {
+    let Some(rows) = view.rows() else {
         return Ok(());
     };
     let batches = batches_of(bytes) as u64;

@@ -10,3 +10,18 @@ pub enum View {
     /// As a picture of these rows.
     Drawing(Rows),
 }
+
+impl View {
+    ghost use Rattle.std.specs.Prelude.{◌≡◌};
+    ghost use Rattle.pocsag_commands.specs.Showing.{rows_wanted};
+
+    /// The rows that are asked for, if some are.
+    pub(crate) fn rows(self) -> Option<Rows>
+        ensures { result ≡ rows_wanted self }
+    {
+        match self {
+            View::Grid(rows) | View::Drawing(rows) => Some(rows),
+            View::Places => None,
+        }
+    }
+}

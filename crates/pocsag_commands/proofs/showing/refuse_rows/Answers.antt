@@ -1,6 +1,6 @@
 use Rattle.std.proofs.Common.{refl, sym, arith}
 use Rattle.std.proofs.lemmas.Result.{err_from_is_err_and}
-use Rattle.pocsag_commands.specs.Showing.{IsShowRefused}
+use Rattle.pocsag_commands.specs.Refusals.{IsShowRefused}
 use Rattle.pocsag_commands.specs.declared.fault.Fault.TheVariants as fault
 use Rattle.pocsag_commands.proofs.Refusing.{why_decoded}
 use Rattle.pocsag_commands.proofs.showing.refuse_rows.Goals as goal

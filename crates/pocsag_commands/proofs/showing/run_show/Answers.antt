@@ -1,6 +1,6 @@
 use Rattle.std.proofs.Common.{ℕ, List, subst, ◌∙◌}
 use Rattle.std.proofs.lemmas.Result.{err_from_is_err_and}
-use Rattle.pocsag_commands.specs.Showing.{IsShowRefused}
+use Rattle.pocsag_commands.specs.Refusals.{IsShowRefused}
 use Rattle.pocsag_commands.proofs.Refusing.{why_not_shown}
 use Rattle.pocsag_commands.proofs.showing.run_show.Goals as goal
 
