@@ -17,7 +17,7 @@ use Rattle.pocsag_plan.specs.declared.search.Search.{Search}
 use Rattle.pocsag_commands.specs.Commands.{IsPlanRefused}
 use Rattle.pocsag_commands.specs.Judging.{IsNotShown}
 use Rattle.pocsag_commands.specs.Showing.{IsBehindLast}
-use Rattle.pocsag_commands.specs.declared.view.View.{View}
+use Rattle.pocsag_show.specs.declared.view.View.{View}
 
 -- The node limit where none is asked for.
 abbrev pub default_limit : ℕ
