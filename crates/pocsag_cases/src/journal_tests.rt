@@ -237,8 +237,8 @@ const ANEW: &[(Records, Result<&str, JournalFault>)] = &[
 fn journals_are_written_anew(rt: HostRuntime) -> Result<(), Fail> {
     let alloc = rt.alloc();
     for (records, due) in ANEW {
-        let round = round_of_file(alloc, records)?;
-        match text_of_pages(alloc, round.pages()) {
+        let book = Book::of_round(alloc, &round_of_file(alloc, records)?)?;
+        match text_of_pages(alloc, book.pages()) {
             Ok(text) => {
                 assert_eq!(rt; due.is_ok(), true);
                 let (front, lines) = text.as_slice().split_at(first_line().len());
