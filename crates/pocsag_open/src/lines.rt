@@ -56,7 +56,8 @@ impl Lines {
     // Reads the next bytes of the source in place of those that are used up.
     fn read_ahead<S: Source>(&mut self, source: &mut S) -> Result<(), DeviceFault>
         ensures read { OnOk result (S.failures source.new ≡ S.failures source.old) }
-        ensures ahead { S.tells → OnOk result (S.held source.old ≡ between_places self.new.piece self.new.start self.new.end ++ S.held source.new) }
+        ensures ahead { S.tells → OnOk result (S.held source.old ≡
+            between_places self.new.piece self.new.start self.new.end ++ S.held source.new) }
         ensures end { S.tells → OnOk result (self.new.end ≤ self.new.start → S.held source.old ≡ []) }
         ensures kept { self.new.line.items ≡ self.old.line.items }
     {
@@ -70,7 +71,8 @@ impl Lines {
     fn next_byte<S: Source>(&mut self, source: &mut S) -> Result<Option<u8>, DeviceFault>
         ensures read { OnOk result (S.failures source.new ≡ S.failures source.old) }
         ensures next { S.tells → IfOk result (λ next. IsNextByte next
-            (between_places self.old.piece self.old.start self.old.end ++ S.held source.old) (between_places self.new.piece self.new.start self.new.end ++ S.held source.new)) }
+            (between_places self.old.piece self.old.start self.old.end ++ S.held source.old)
+            (between_places self.new.piece self.new.start self.new.end ++ S.held source.new)) }
         ensures kept { self.new.line.items ≡ self.old.line.items }
     {
         if self.start >= self.end {
@@ -87,7 +89,8 @@ impl Lines {
     /// Reads the next line of the source. The last line may lack its line feed. A line of more bytes than a count
     /// holds is taken for a fault of the source.
     pub fn read_line<S: Source>(&mut self, source: &mut S) -> Result<Found, Fault>
-        ensures found { S.tells → IfOk result (λ found. IsLineFound found (between_places self.old.piece self.old.start self.old.end ++ S.held source.old)
+        ensures found { S.tells → IfOk result (λ found. IsLineFound found
+            (between_places self.old.piece self.old.start self.old.end ++ S.held source.old)
             self.new.line.items (between_places self.new.piece self.new.start self.new.end ++ S.held source.new)) }
         ensures short { length self.new.line.items ≤ line_limit }
         ensures read { OnOk result (S.failures source.new ≡ S.failures source.old) }
@@ -113,7 +116,8 @@ impl Lines {
     fn keep(&mut self, byte: u8) -> Result<Found, Fault>
         ensures kept { IfOk result (λ found. IsByteKept found byte self.old.line.items self.new.line.items) }
         ensures short { length self.old.line.items ≤ line_limit → length self.new.line.items ≤ line_limit }
-        ensures ahead { between_places self.new.piece self.new.start self.new.end ≡ between_places self.old.piece self.old.start self.old.end }
+        ensures ahead { between_places self.new.piece self.new.start self.new.end ≡
+            between_places self.old.piece self.old.start self.old.end }
         ensures lost { IfErr result (λ e. e ≡ Fault.OutOfMemory) }
     {
         if self.line.len() >= LINE_LIMIT {

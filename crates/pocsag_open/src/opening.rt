@@ -177,7 +177,8 @@ struct Planned {
 // The batches of a plan, and the bound where it is below them.
 #[tactic(auto, unfolding(crate::specs::Answers::plan_answer))]
 fn tell_planned<O: Sink>(planned: Planned, out: &mut O) -> Result<(), Fault>
-    ensures told { O.tells → OnOk result (O.taken out.new ≡ O.taken out.old ++ plan_answer planned.batches planned.bound) }
+    ensures told { O.tells → OnOk result
+        (O.taken out.new ≡ O.taken out.old ++ plan_answer planned.batches planned.bound) }
     ensures lost { IfErr result (λ e. e ≡ Fault.Write) }
 {
     let Planned { batches, bound } = planned;
