@@ -24,7 +24,7 @@ CITED = re.compile(r"[A-Za-z_][\w']*(?:-\w+)*(?:\.[A-Za-z_][\w']*(?:-\w+)*)*")
 IGNORED_CRATES = {"pocsag_cases", "pocsag_rounds", "pocsag_trial"}
 ITEM = re.compile(r"^(?:pub(?:\([^)]*\))? )?(?:const )?(?:unsafe )?(?:extern \"C\" )?(?:fn|struct|enum|trait|const|static|type) (\w+)")
 LAST_COLUMN = 120
-UNBROKEN = {"pocsag_app", "pocsag_commands", "pocsag_journal", "pocsag_open", "pocsag_show"}  # crates that still have longer lines
+UNBROKEN = {"pocsag_app", "pocsag_commands", "pocsag_files", "pocsag_show"}  # crates that still have longer lines
 
 
 def passed_on(root):
