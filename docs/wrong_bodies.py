@@ -35,7 +35,7 @@ def goal_of(told):
     """The clause or other goal, by its name."""
     quoted = re.search(r"\(`([^`]+)`\)|error: `([^`]+)`", told)
     name = (quoted[1] or quoted[2]) if quoted else ""
-    clause = re.search(r"clause-([\w-]+)$", name) or re.search(r"\(clause `(\w+)` alone\)$", told)
+    clause = re.search(r"clause-([\w-]+)$", name)
     if clause:
         return f"clause `{clause[1]}`"
     if "requires" in name:

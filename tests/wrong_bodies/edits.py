@@ -1,10 +1,9 @@
 """Wrong bodies: the files `.edit`, and the rounds in which as many as fit are planted side by side."""
 
-import copy
 import pathlib
 import re
 
-from source import all_functions, function_at, functions_of, homes_of, reached, with_copy, with_one_clause
+from source import all_functions, function_at, functions_of, homes_of, reached, with_one_clause
 
 
 UNOFFERED = "\npub unoffered : Unoffered\nunoffered = Unoffered\n"  # fits nothing
@@ -19,8 +18,8 @@ class Edit:
     clause that it was last refused at where that is known."""
 
     def __init__(self, name, text):
-        self.name, self.pairs, self.function, self.clause, self.goal = name, [], None, None, None
-        self.functions, self.is_alone, self.is_right, self.copied = [], False, False, None
+        self.name, self.pairs, self.function, self.clause = name, [], None, None
+        self.functions, self.is_alone, self.is_right = [], False, False
         path = old = None
         for line in text.split("\n"):
             word, _, rest = line.partition(":")
@@ -36,10 +35,7 @@ class Edit:
                 old = None
 
     def planted(self, texts):
-        """The texts with this edit, and the place of each pair as (path, line, whole text); raises Unfit. An edit of
-        a copy leaves the function itself as it is."""
-        if self.copied:
-            return with_copy(texts, *self.copied), []
+        """The texts with this edit, and the place of each pair as (path, line, whole text); raises Unfit."""
         texts, places = dict(texts), []
         for path, old, new in self.pairs:
             if path not in texts:
@@ -52,35 +48,6 @@ class Edit:
         if not places:
             raise Unfit("it has no 'file:', 'old:' and 'new:'")
         return texts, places
-
-    def in_place(self):
-        """The same edit of the function itself."""
-        if not self.copied:
-            return self
-        edit = copy.copy(self)
-        edit.functions, edit.copied = [self.copied[0]], None
-        return edit
-
-    def without_copy(self, told):
-        """What is told of the copy, as of the function."""
-        if not self.copied:
-            return told
-        function, name, _ = self.copied
-        return told.replace(name.rpartition("::")[2], function.name.rpartition("::")[2])
-
-    def of_copy(self, texts, number):
-        """The same edit of a copy of the function beside it, where that is possible: so that those that call the
-        function rest on it as it is, and many wrong bodies of one function are tried side by side."""
-        if self.is_alone or len(self.functions) != 1 or self.function not in (None, self.functions[0].name):
-            return self
-        function = self.functions[0]
-        if function.is_called_unnamed or function.unit != function.name or not all(it.startswith("src/") for it, _, _ in self.pairs):
-            return self
-        edit, name = copy.copy(self), f"{function.name}_copy_{number}"
-        edit.functions, edit.function = [function._replace(name=name, unit=name)], None
-        path, changed = all_functions(self.planted(texts)[0])[function.name]
-        edit.copied = function, name, self.planted(texts)[0][path].split("\n")[changed.first:changed.last + 1]
-        return edit
 
     def look(self, texts):
         """Finds the functions that the edit changes, and whether it has to be tried with no other beside it."""
@@ -105,19 +72,17 @@ class Edit:
 
 def narrowed(texts, edits):
     """The planted texts in which the contract of each function keeps, of the clauses with a name, the one that its
-    edit names, where nothing else that is checked beside it rests on the others; and those edits."""
+    edit names, where nothing else that is checked beside it rests on the others."""
     words, functions = reached(texts), {name: it for name, (_, it) in all_functions(texts).items()}
-    checked, found = {name for edit in edits for name in edit.names()}, set()
+    checked = {name for edit in edits for name in edit.names()}
     for edit in edits:
         names = edit.names()
         if not edit.clause or len(names) != 1 or names[0] not in functions or functions[names[0]].is_called_unnamed:
             continue
         own = names[0].rpartition("::")[2]
         if not any(own in words.get(it, {own}) for it in checked - {names[0]}):
-            left = with_one_clause(texts, names[0], edit.clause)
-            texts = left or texts
-            found |= {edit} if left else set()
-    return texts, found
+            texts = with_one_clause(texts, names[0], edit.clause) or texts
+    return texts
 
 
 def unoffered(texts, edits):
@@ -132,9 +97,7 @@ def unoffered(texts, edits):
 
 
 class Round:
-    """Edits that are planted side by side: at most one in each function, copy of one, or cycle of functions."""
-
-    MOST = 30  # a check holds all of them in memory
+    """Edits that are planted side by side: at most one in each function or cycle of functions."""
 
     def __init__(self, texts):
         self.edits, self.texts, self.units, self.is_full = [], texts, set(), False
@@ -142,7 +105,7 @@ class Round:
     def take(self, edit):
         """Plants the edit if it fits, and says whether it did."""
         units = {it.unit for it in edit.functions}
-        if self.is_full or len(self.edits) == self.MOST or edit.is_alone and self.edits or units & self.units:
+        if self.is_full or edit.is_alone and self.edits or units & self.units:
             return False
         try:
             self.texts = edit.planted(self.texts)[0]
@@ -178,15 +141,10 @@ def read_edits(folders, texts, clauses=()):
         edit.clause = dict(clauses).get(re.sub("[_-]", " ", file.stem))
         try:
             edit.look(texts)
-            good.append(edit.of_copy(texts, len(good)))
+            good.append(edit)
         except Unfit as why:
             bad[edit.name] = str(why)
     return good, bad
-
-
-def has_proof(texts, function):
-    """Whether the function has a proof file."""
-    return any(it.startswith(f"proofs/{function.name.replace('::', '/')}/") for it in texts)
 
 
 def right_change(texts, taken):
@@ -196,7 +154,7 @@ def right_change(texts, taken):
     listed = [(path, it) for path in sorted(texts) if path.startswith("src/")
               for it in functions_of(path, texts[path], homes)]
     names = {it.name.rpartition("::")[2] for _, it in listed}
-    for path, function in sorted(listed, key=lambda it: not has_proof(texts, it[1])):
+    for path, function in listed:
         lines = texts[path].split("\n")[function.first:function.last + 1]
         opens = [place for place, line in enumerate(lines) if line.strip() == "{"]
         if not opens or function.unit in taken or function.name.startswith("tests::"):
@@ -206,7 +164,7 @@ def right_change(texts, taken):
             continue
         old = "\n".join(lines[:opens[0] + 1])
         edit = Edit("a change that is right", "")
-        edit.pairs = [(path, old, f"{old}\n{lines[opens[0]].partition('{')[0]}    let _right = 0_u8;")]
+        edit.pairs = [(path, old, old + "\n    let _right = 0_u8;")]
         edit.functions, edit.is_right = [function], True
-        return edit.of_copy(texts, 0)
+        return edit
     return None

@@ -87,11 +87,6 @@ class Verdict(typing.NamedTuple):
     told: str
     elsewhere: set = frozenset()
 
-    def at_clause(self, clause):
-        """The verdict where the contract kept this clause alone, which the names of goals then leave out."""
-        is_nameless = self.holds and "(`returns" in self.told and "-clause-" not in self.told
-        return self._replace(told=f"{self.told} (clause `{clause}` alone)") if is_nameless else self
-
 
 def judged(seen, edit, is_alone):
     """The verdict on an edit after a check in which it was planted."""
@@ -110,8 +105,7 @@ def judged(seen, edit, is_alone):
     for unit in sorted(own) + (sorted(elsewhere) if is_alone and not named else []):
         holds, said = seen.judge(unit, may_be_lemma=not edit.functions)
         if holds:
-            told = f"refused in {unit}: {said}"
-            return Verdict(True, edit.without_copy(told), elsewhere)
+            return Verdict(True, f"refused in {unit}: {said}", elsewhere)
         told.append(said)
     return Verdict(False, max(told, key=lambda it: it.startswith("BAD")), elsewhere)
 
@@ -123,16 +117,13 @@ def tried(room, edits, texts, is_whole=False):
     for edit in edits:
         planted = edit.planted(planted)[0]
     names = [] if is_whole else [name for edit in edits for name in edit.names()]
-    clauses = set()
     if names and all(edit.names() for edit in edits):
-        planted, clauses = narrowed(planted, edits)
-        planted = unoffered(planted, edits)
+        planted = unoffered(narrowed(planted, edits), edits)
     else:
         names = []
     seen = room.check(planted, names)
     if seen.said.has_verdict:
-        found = {it: judged(seen, it, len(edits) == 1) for it in edits}
-        return {edit: it.at_clause(edit.clause) if edit in clauses else it for edit, it in found.items()}
+        return {it: judged(seen, it, len(edits) == 1) for it in edits}
     if names:
         return tried(room, edits, texts, is_whole=True)
     at_errors = {it.unit for it in (seen.at(path, line) for path, line, _ in seen.said.places) if it}
@@ -155,8 +146,7 @@ def verdicts(room, edits, texts):
     found = tried(room, edits, texts)
     reached = set()
     for edit in [it for it in edits if not found[it].holds]:
-        in_place = edit.in_place()
-        found[edit] = tried(room, [in_place], texts, is_whole=True)[in_place]
+        found[edit] = tried(room, [edit], texts, is_whole=True)[edit]
         reached |= found[edit].elsewhere
     again = [it for it in edits if found[it].holds and reached & {function.unit for function in it.functions}]
     if again:

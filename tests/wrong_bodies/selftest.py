@@ -179,7 +179,7 @@ def clauses_kept(clauses):
     for name, clause in clauses:
         edits.append(Edit(name, ""))
         edits[-1].function, edits[-1].clause = name, clause
-    texts, _ = narrowed(SMALL, edits)
+    texts = narrowed(SMALL, edits)
     parts = re.split(r"fn (\w+)", texts["src/lib.rt"])
     return {name: re.findall(r"ensures (\w+)", text) for name, text in zip(parts[1::2], parts[2::2])}, texts
 

@@ -167,20 +167,3 @@ def without_answers(text, clauses):
         if not is_removed:
             kept.append(line)
     return "\n".join(kept)
-
-
-def with_copy(texts, function, name, lines):
-    """The texts with a copy of a function behind it, of these lines and under another name, and with copies of its
-    proof files."""
-    own, other = function.name.rpartition("::")[2], name.rpartition("::")[2]
-    head = next(at for at, line in enumerate(lines) if HEAD.match(line))
-    renamed = re.sub(rf"\bfn {own}\b", f"fn {other}", lines[head], count=1)
-    path, found = all_functions(texts)[function.name]
-    all_lines = texts[path].split("\n")
-    all_lines[found.last + 1:found.last + 1] = ["", *lines[:head], renamed, *lines[head + 1:]]
-    texts = {**texts, path: "\n".join(all_lines)}
-    folder, target = (f"proofs/{it.replace('::', '/')}/" for it in (function.name, name))
-    module, others = (f".proofs.{it.replace('::', '.')}." for it in (function.name, name))
-    for file in [it for it in texts if it.startswith(folder)]:
-        texts[target + file.removeprefix(folder)] = texts[file].replace(module, others)
-    return texts
