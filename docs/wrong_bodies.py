@@ -72,8 +72,15 @@ def titles_of(crate):
     return sorted(title_of(edit.stem) for folder in folders for edit in folder.glob("*.edit"))
 
 
+def is_at_the_same(row, told):
+    """Whether a row's clause is the one that a run tells without its name, as it does where it tries that one alone."""
+    function, _, clause = row.partition(", ")
+    return clause.startswith("clause ") and told.startswith(f"{function}, `") and "returns" in told and "clause" not in told
+
+
 def main():
-    rows = {**kept_rows(), **told_rows(sys.stdin.read())}
+    rows = kept_rows()
+    rows |= {name: row for name, row in told_rows(sys.stdin.read()).items() if not is_at_the_same(rows.get(name, ""), row)}
     page = HEAD
     for crate in sorted((TOP / "crates").iterdir()):
         titles = [it for it in titles_of(crate.name) if (crate.name, it) in rows]

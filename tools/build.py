@@ -3,6 +3,8 @@
 
     build.py program       the program and what it stands on; `./pocsag` calls it where a source has changed
     build.py proofs        each crate and each program
+    build.py first         of these the program, what another crate stands on and what has tests
+    build.py last          the others
     build.py tests         the tests of the crates that have some, where their proofs stand; other calls may go on beside it
     build.py all           each crate, the tests of the crates that have some, and each program
     build.py CRATE..       these crates with what they stand on, and their tests
@@ -21,6 +23,7 @@ import time
 
 sys.dont_write_bytecode = True
 import lanes
+import rt_beside
 import workspace
 from workspace import TOP
 
@@ -133,7 +136,8 @@ def run(tasks, crates):
     """Runs the tasks, and shows what one that failed printed."""
     if not shutil.which("rt"):
         raise Refused("the command rt of the toolchain is missing: put the folder bin of its kit into PATH (README, Install)")
-    folders = lock_folders(crates)
+    # a toolchain that rt_beside does not know locks the folders itself
+    folders = lock_folders(crates) if rt_beside.kit_script() else []
     try:
         failed = lanes.Lanes(tasks, say, int(os.environ.get("RT_JOBS") or 0)).run()
     finally:
@@ -208,6 +212,11 @@ def main(words):
             build_program(crates)
         elif words == ["proofs"]:
             build(crates, [])
+        elif words in (["first"], ["last"]):
+            first = {it for it, crate in crates.items() if crate.has_tests or workspace.above(crates, it) or it == workspace.PROGRAM}
+            chosen = first if words == ["first"] else crates.keys() - first
+            wanted = set().union(*(workspace.below(crates, it) for it in chosen))
+            build({it: crate for it, crate in crates.items() if it in wanted}, [])
         elif words == ["tests"]:
             tested = {name: crate for name, crate in crates.items() if crate.has_tests}
             run([tests(crate) for crate in tested.values()], tested)

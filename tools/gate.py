@@ -71,34 +71,48 @@ class Gate:
         elif not passed:
             self.fail(name, "it tried nothing")
 
-    def beside(self, parts, steps=()):
-        """Runs steps and parts side by side, each a name and the words of a command that takes one processor, the
-        longest first. What each printed is shown when it ends, as if it had run alone."""
+    def beside(self, parts, steps=(), behind=None):
+        """Runs steps and parts side by side, each a name and the words of a command that takes one processor, in this
+        order. What each printed is shown when it ends, as if it had run alone. `behind` has by a step's name the parts
+        that begin when it has passed, and are left out where it fails."""
         width = int(os.environ.get("RT_JOBS") or 0) or max(1, min(lanes.processors(), lanes.free_memory() // lanes.MEMORY))
         with concurrent.futures.ThreadPoolExecutor(width) as pool:
             running = {pool.submit(self.told, words): (name, at < len(steps))
                        for at, (name, *words) in enumerate([*steps, *parts])}
-            for done in concurrent.futures.as_completed(running):
-                (name, is_step), (status, text, took) = running[done], done.result()
-                self.say(f"== {name}")
-                print(text, end="" if text.endswith("\n") or not text else "\n", file=self.out, flush=True)
-                if status is None:
-                    self.fail(name, "it could not be run")
-                elif is_step:
-                    self.judge_step(name, status)
-                else:
-                    self.count(name, status, text)
-                self.say(f"-- {minutes(took)}")
+            while running:
+                for done in concurrent.futures.wait(running, return_when=concurrent.futures.FIRST_COMPLETED).done:
+                    name, is_step = running.pop(done)
+                    if self.has_passed(name, is_step, *done.result()):
+                        more = (behind or {}).get(name, ()) if is_step else ()
+                        running |= {pool.submit(self.told, words): (it, False) for it, *words in more}
+
+    def has_passed(self, name, is_step, status, text, took, busy):
+        """Shows what a step or a part that has ended printed, counts it, and says whether a step passed."""
+        self.say(f"== {name}")
+        print(text, end="" if text.endswith("\n") or not text else "\n", file=self.out, flush=True)
+        has_passed = False
+        if status is None:
+            self.fail(name, "it could not be run")
+        elif is_step:
+            has_passed = self.judge_step(name, status)
+        else:
+            self.count(name, status, text)
+        self.say(f"-- {minutes(took)}, {minutes(busy)} of processors")
+        return has_passed
 
     def told(self, words):
-        """The status of a command, what it printed, and how long it took; no status where it could not be run."""
+        """The status of a command, what it printed, how long it took, and how long processors were busy with it and
+        with what it started; no status where it could not be run."""
         began = time.monotonic()
         how = {"cwd": self.folder, "stdin": subprocess.DEVNULL, "stdout": subprocess.PIPE, "stderr": subprocess.STDOUT}
         try:
-            ran = subprocess.run(words, text=True, errors="replace", **how)
-            return ran.returncode, ran.stdout, time.monotonic() - began
+            with subprocess.Popen(words, text=True, errors="replace", **how) as process:
+                text = process.stdout.read()
+                _, status, used = os.wait4(process.pid, 0)
+                process.returncode = os.waitstatus_to_exitcode(status)
         except OSError as error:
-            return None, str(error), time.monotonic() - began
+            return None, str(error), time.monotonic() - began, 0
+        return process.returncode, text, time.monotonic() - began, used.ru_utime + used.ru_stime
 
     def step(self, name, *words):
         """Runs a command that counts nothing, as one thing to pass."""

@@ -68,6 +68,10 @@ def try_beside(tally):
     gate.beside([("part", "echo", "4 passed, 0 failed")], [("step", "true"), ("bad step", "sh", "-c", "exit 3")])
     tally.check("side by side: steps count once", (gate.passed, gate.failed, gate.bad) == (5, 1, ["bad step"]), gate.bad)
     gate = Gate(TOP, io.StringIO())
+    behind = {"step": [("behind it", "echo", "2 passed, 0 failed")], "bad step": [("left out", "echo", "9 passed, 0 failed")]}
+    gate.beside([("part", "echo", "4 passed, 0 failed")], [("step", "true"), ("bad step", "sh", "-c", "exit 3")], behind)
+    tally.check("side by side: what stands behind a step", (gate.passed, gate.failed, gate.bad) == (7, 1, ["bad step"]), gate.bad)
+    gate = Gate(TOP, io.StringIO())
     script = "echo {0} begins; sleep 0.5; echo {0} ends; echo '1 passed, 0 failed'"
     began = time.monotonic()
     gate.beside([(it, "sh", "-c", script.format(it)) for it in "abc"])

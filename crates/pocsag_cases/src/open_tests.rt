@@ -60,7 +60,7 @@ const TWO_PAGES: Beginning = Beginning {
 };
 
 // Runs an open round on these lines, and compares its status, its answers and its fault.
-fn assert_session<R: Abort>(
+fn assert_answers<R: Abort>(
     rt: &R,
     alloc: Global,
     beginning: Beginning,
@@ -92,7 +92,7 @@ fn assert_session<R: Abort>(
     Ok(())
 }
 
-// Each line and its answer, or the session's next line.
+// Each line and its answer, or the next line.
 type Lines = &'static [(&'static str, &'static str)];
 
 const EDITS: Lines = &[
@@ -217,7 +217,7 @@ fn lines_are_answered_one_by_one(rt: HostRuntime) -> Result<(), Fail> {
         always: true,
         ..TWO_PAGES
     };
-    let sessions = [
+    let rounds = [
         (EMPTY, EDITS),
         (EMPTY, SPACES),
         (EMPTY, REFUSALS),
@@ -225,7 +225,7 @@ fn lines_are_answered_one_by_one(rt: HostRuntime) -> Result<(), Fail> {
         (TWO_PAGES, AFTER_PAGES),
         (always, AFTER_PAGES),
     ];
-    for (beginning, cases) in sessions {
+    for (beginning, cases) in rounds {
         let mut lines = Vec::new(alloc);
         let mut answers = Vec::new(alloc);
         for (line, answer) in cases {
@@ -235,7 +235,7 @@ fn lines_are_answered_one_by_one(rt: HostRuntime) -> Result<(), Fail> {
             answers.push(b'\n')?;
         }
         let due = (0, answers.as_slice(), b"".as_slice());
-        assert_session(&rt, alloc, beginning, lines.as_slice(), due)?;
+        assert_answers(&rt, alloc, beginning, lines.as_slice(), due)?;
     }
     Ok(())
 }
@@ -258,7 +258,7 @@ fn long_lines_are_passed_over(rt: HostRuntime) -> Result<(), Fail> {
         refused: unknown edit\naddress,kind,message\n8,tone0,\nok 1\n\
         refused: unknown edit\naddress,kind,message\n8,tone0,\nok 1\nok 0\n";
     let due = (0, answers.as_slice(), b"".as_slice());
-    assert_session(&rt, alloc, EMPTY, lines.as_slice(), due)
+    assert_answers(&rt, alloc, EMPTY, lines.as_slice(), due)
 }
 
 // A page file with a fault, a page file, an input and an output that fail in mid-stream.
@@ -294,7 +294,7 @@ fn faults_end_the_round(rt: HostRuntime) -> Result<(), Fail> {
     ];
     for (beginning, status, answers, told) in cases {
         let due = (status, answers.as_bytes(), told.as_bytes());
-        assert_session(&rt, rt.alloc(), beginning, b"cancel,8\ncancel,16\n", due)?;
+        assert_answers(&rt, rt.alloc(), beginning, b"cancel,8\ncancel,16\n", due)?;
     }
     Ok(())
 }

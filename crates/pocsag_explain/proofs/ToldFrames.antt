@@ -23,8 +23,8 @@ use Rattle.pocsag_explain.specs.Reporting.{IsReportRefusedFor, ReportedFrames, l
 pub why_unplanned : (file : List ℕ) (search : Search) (rate : ℕ) (R : List Page) → verdict file ≡ Ok R → (e : PlanFault)
     → ExplainsPlan search.effort search.end R search.limit e → status_of (fault_of_plan e) ≡ 1 → IsReportRefusedFor file search rate
 why_unplanned file search rate R read planning.BadLimit said one = limit said
-why_unplanned file search rate R read (planning.SearchLimit least found tree) said one =
-    stopped said.0 least found (bound_of tree) (record { round = R; read = read; holds = said.2 })
+why_unplanned file search rate R read (planning.SearchLimit stop) said one =
+    stopped said.0 stop.least stop.found (bound_of stop.tree) (record { round = R; read = read; holds = said.2 })
 why_unplanned file search rate R read planning.OutOfMemory said one = absurd (omega arith)
 
 pub told_frames : (file : List ℕ) (search : Search) (rate : ℕ) (R : List Page) (bounded : Bounded) (report : Report) (rooms held : List FrameRoom)
