@@ -73,7 +73,8 @@ impl<D: Disk + Drop> Journal<D> {
             OnOk result (IsMeasured self.new (D.taken (disk_of self.new))) }
         ensures kept { D.tells → IsMeasured self.old (D.taken (disk_of self.old)) →
             IfErr result (λ e. e ≢ JournalFault.WriteFault →
-            (D.taken (disk_of self.new) ≡ D.taken (disk_of self.old)) × IsMeasured self.new (D.taken (disk_of self.new))) }
+            (D.taken (disk_of self.new) ≡ D.taken (disk_of self.old))
+            × IsMeasured self.new (D.taken (disk_of self.new))) }
     {
         let grown = self.counted.saturating_add(self.counted / GROWTH_PARTS);
         if self.len <= LEAST_ANEW || self.len <= grown {
