@@ -1,4 +1,4 @@
--- Paths as texts.
+-- Paths as texts, and the files that they name.
 use Rattle.std.specs.Prelude.{◌≡◌, ℕ, ◌<◌, List, [], ◌∷◌, length, slice_index_or, Option, Some, None}
 
 -- One of the texts before the place is that at the place.
@@ -17,3 +17,8 @@ pub record HasEqual (texts : List (List ℕ)) : Type 0 where
 abbrev pub paths_of : {X : Type 0} → Option X → (tx cert : X) → List X
 paths_of None tx cert = tx ∷ cert ∷ []
 paths_of (Some pages) tx cert = pages ∷ tx ∷ cert ∷ []
+
+-- Both files are known, and they are one.
+abbrev pub AreOne : {X : Type 0} → Option X → Option X → Type 0
+AreOne (Some one) (Some other) = one ≡ other
+AreOne _ _ = ⊥

@@ -104,8 +104,8 @@ pub fn refuse_one_file<R: Files>(
     tx: &str,
     cert: &str,
 ) -> Result<(), Fault> {
-    let named = [pages, path_of(tx), path_of(cert)].map(|path| Named::at(rt, path?));
-    if name_one_file(&named) {
+    let [pages, tx, cert] = [pages, path_of(tx), path_of(cert)].map(|path| Named::at(rt, path?));
+    if name_one_file(pages, tx, cert) {
         return Err(Fault::EqualPaths);
     }
     Ok(())

@@ -1,6 +1,6 @@
-ghost use Rattle.std.specs.Prelude.{◌↔◌, ◌<◌, IsErrOf, IsTrue, length, map};
+ghost use Rattle.std.specs.Prelude.{◌↔◌, ◌⊎◌, ◌<◌, IsErrOf, IsTrue, length, map};
 ghost use Rattle.pocsag_commands.specs.declared.fault.Fault.TheVariants.{EqualPaths};
-ghost use Rattle.pocsag_files.specs.Paths.{HasEqual, IsNamedBefore, paths_of};
+ghost use Rattle.pocsag_files.specs.Paths.{AreOne, HasEqual, IsNamedBefore, paths_of};
 
 use pocsag_commands::Fault;
 use std::fs::{self, Metadata};
@@ -72,12 +72,18 @@ impl Named {
     }
 }
 
-/// Whether two of the paths name one file.
-pub fn name_one_file(named: &[Option<Named>; 3]) -> bool {
-    let [first, second, third] = *named;
-    is_same(first, second) || is_same(first, third) || is_same(second, third)
+/// Whether two of the files that the paths of a plan name are one.
+pub fn name_one_file(pages: Option<Named>, tx: Option<Named>, cert: Option<Named>) -> bool
+    ensures { IsTrue result ↔ (AreOne pages tx ⊎ AreOne pages cert ⊎ AreOne tx cert) }
+{
+    are_one(pages, tx) || are_one(pages, cert) || are_one(tx, cert)
 }
 
-fn is_same(one: Option<Named>, other: Option<Named>) -> bool {
-    one.is_some() && one == other
+fn are_one(one: Option<Named>, other: Option<Named>) -> bool
+    ensures { IsTrue result ↔ AreOne one other }
+{
+    match (one, other) {
+        (Some(one), Some(other)) => one == other,
+        _ => false,
+    }
 }
