@@ -156,7 +156,8 @@ def right_change(texts, taken):
     names = {it.name.rpartition("::")[2] for _, it in listed}
     for path, function in listed:
         lines = texts[path].split("\n")[function.first:function.last + 1]
-        opens = [place for place, line in enumerate(lines) if line.strip() == "{"]
+        opens = ([place for place, line in enumerate(lines) if line.strip() == "{"]
+                 or [place for place, line in enumerate(lines) if line.endswith(") {") or re.search(r"-> .* \{$", line)])
         if not opens or function.unit in taken or function.name.startswith("tests::"):
             continue
         body = "\n".join(lines[opens[0]:])

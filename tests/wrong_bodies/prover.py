@@ -17,7 +17,7 @@ SEARCHED = re.compile(r"`search` did not prove (`.*)")
 CLAUSE = re.compile(r"`(?:\w+-)?returns")  # the name of a goal that a clause asks for; in a cycle behind a function's
 OF_FUNCTIONS = ("Answers.antt", "Invariants.antt", "Proof.antt")
 # A proof file that names something which the edit took away, and what cites that proof.
-UNFITTING = re.compile(r"has no field|is not in scope|has no `|was not admitted|which was rejected")
+UNFITTING = re.compile(r"has no field|is not in scope|has no `|was not admitted|which was rejected|expected a declaration")
 UNOFFERED = "`unoffered`"  # the line that was planted in a proof file and fits nothing
 UNREADABLE = re.compile(r"is not in scope|has no field|is no name|operand is missing|expected the end|cannot continue")
 

@@ -161,7 +161,7 @@ def without_answers(text, clauses):
     """A proof file without the answers to the goals of these clauses."""
     kept, is_removed = [], False
     for line in text.split("\n"):
-        found = re.match(r"(?:pub )?([^\s:]+)(?: |$)", line)
+        found = re.match(r"(?:pub )?([^\W\d][^\s:]*)(?: |$)", line)
         if found:
             is_removed = found[1].rpartition("-clause-")[2] in clauses and "-clause-" in found[1]
         if not is_removed:

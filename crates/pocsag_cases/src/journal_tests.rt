@@ -2,11 +2,11 @@
 //! gives.
 
 use crate::given::{Records, round_of_file};
-use pocsag_commands::Fault;
+use pocsag_commands::{Fault, Outputs};
 use pocsag_journal::{
     Journal, JournalFault, MemoryDisk, Replayed, first_line, read_journal, text_of_pages,
 };
-use pocsag_open::{OpenRound, Outputs, Places, Planner, run_open_kept};
+use pocsag_open::{OpenRound, Places, Planner, run_open_kept};
 use pocsag_plan::Book;
 use pocsag_words::{MemorySink, MemorySource};
 use std::alloc::Global;
