@@ -144,10 +144,9 @@ uint32_t pocsag_check(const uint8_t *pages, size_t pages_len,
                       const uint8_t *cert, size_t cert_len,
                       struct pocsag_check_info *info);
 
-/* Whether the certificate shows its number of batches for the page file, as pocsag_check does: OK or NOT_SHOWN. Puts the
- * text into `text` that says why fewer batches do not suffice, node by node to the depth, or which node does not hold:
- * that of `explain`, in the form of the number. TEXT_TOO_SMALL: the length is told; `info` is that of the verdict.
- * BAD_FORM, a fault, or want of memory: the length is 0. */
+/* Judges the certificate for the page file as pocsag_check does, OK or NOT_SHOWN, and puts into `text` why fewer batches
+ * do not suffice, by the nodes no deeper than `depth`, or which node does not hold. `form` is POCSAG_IN_WORDS or
+ * POCSAG_AS_JSON. TEXT_TOO_SMALL: the length and `info` are told. Else: the length is 0. */
 uint32_t pocsag_explain(const uint8_t *pages, size_t pages_len,
                         const uint8_t *cert, size_t cert_len,
                         uint32_t form, uint32_t depth,

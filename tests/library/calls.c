@@ -113,8 +113,9 @@ static uint32_t call_of(int call, const struct texts *whole, struct texts *t)
         return pocsag_hear(8, whole->tx, whole->tx_len, t->tx, LARGE, &t->tx_len, &place);
     case 4:
     case 5:
-        return pocsag_explain(pages, pages_len, whole->cert, whole->cert_len, call == 4 ? POCSAG_IN_WORDS : POCSAG_AS_JSON,
-                              POCSAG_DEFAULT_DEPTH, t->tx, LARGE, &t->tx_len, &check);
+        return pocsag_explain(pages, pages_len, whole->cert, whole->cert_len,
+                              call == 4 ? POCSAG_IN_WORDS : POCSAG_AS_JSON, POCSAG_DEFAULT_DEPTH, t->tx, LARGE,
+                              &t->tx_len, &check);
     default:
         return pocsag_report(pages, pages_len, 1200, 100000, end, always, &report);
     }
