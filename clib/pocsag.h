@@ -24,11 +24,18 @@ extern "C" {
 #endif
 
 /* The number of this interface, which pocsag_version answers. */
-#define POCSAG_VERSION 1u
+#define POCSAG_VERSION 2u
 
 /* The end of a transmission: it ends the last message, or the last codeword is no message codeword. */
 #define POCSAG_END_OPEN 0u
 #define POCSAG_END_CLOSED 1u
+
+/* How a certificate is explained: as an indented list in words, or the same facts as JSON. */
+#define POCSAG_IN_WORDS 0u
+#define POCSAG_AS_JSON 1u
+
+/* How deep the nodes are that the program tells where no depth is given; the root alone has depth 1. */
+#define POCSAG_DEFAULT_DEPTH 3u
 
 /* The node limit that the program takes where none is given, and the greatest one. */
 #define POCSAG_DEFAULT_LIMIT 100000u
@@ -45,6 +52,8 @@ extern "C" {
 #define POCSAG_TX_TOO_SMALL 7u
 #define POCSAG_CERT_TOO_SMALL 8u
 #define POCSAG_LISTING_TOO_SMALL 9u
+#define POCSAG_TEXT_TOO_SMALL 10u
+#define POCSAG_BAD_FORM 11u            /* the form is neither 0 nor 1 */
 /* Of a page file. From POCSAG_FIELD_COUNT to POCSAG_BAD_PAYLOAD place.record_number says which record. */
 #define POCSAG_PAGES_TOO_LARGE 17u     /* over 268,435,456 bytes */
 #define POCSAG_BAD_HEADER 18u
@@ -98,7 +107,7 @@ struct pocsag_plan_info {
     struct pocsag_place place;
 };
 
-/* What a check tells. Where one of the two cannot be read, all but the place is 0. */
+/* What a check or an explanation tells. Where one of the two cannot be read, all but the place is 0. */
 struct pocsag_check_info {
     uint32_t end;     /* that the certificate names */
     uint32_t batches; /* that it names */
@@ -134,6 +143,15 @@ uint32_t pocsag_plan(const uint8_t *pages, size_t pages_len,
 uint32_t pocsag_check(const uint8_t *pages, size_t pages_len,
                       const uint8_t *cert, size_t cert_len,
                       struct pocsag_check_info *info);
+
+/* Judges the certificate for the page file as pocsag_check does, OK or NOT_SHOWN, and puts into `text` why fewer batches
+ * do not suffice, by the nodes no deeper than `depth`, or which node does not hold. `form` is POCSAG_IN_WORDS or
+ * POCSAG_AS_JSON. TEXT_TOO_SMALL: the length and `info` are told. Else: the length is 0. */
+uint32_t pocsag_explain(const uint8_t *pages, size_t pages_len,
+                        const uint8_t *cert, size_t cert_len,
+                        uint32_t form, uint32_t depth,
+                        uint8_t *text, size_t text_size, size_t *text_len,
+                        struct pocsag_check_info *info);
 
 /* Puts the listing of the pages of a transmission into `listing`. */
 uint32_t pocsag_decode(const uint8_t *tx, size_t tx_len,

@@ -41,7 +41,7 @@ class Fault(Exception):
 
 
 NAMES = {
-    2: "BadEnd", 3: "OutOfMemory", 4: "BadRate", 5: "BadLimit", 6: "SearchLimit",
+    2: "BadEnd", 3: "OutOfMemory", 4: "BadRate", 5: "BadLimit", 6: "SearchLimit", 11: "BadForm",
     17: "PagesTooLarge", 18: "BadHeader", 19: "FieldCount", 20: "BadAddress", 21: "ReservedAddress", 22: "BadKind",
     23: "MessageForTone", 24: "EmptyMessage", 25: "BadCharacter", 26: "TooLong", 27: "DuplicateAddress",
     28: "TooManyPages", 29: "BadPayload", 30: "NoPages",
@@ -56,7 +56,9 @@ globals().update({fault.__name__: fault for fault in FAULTS.values()})
 Plan = namedtuple("Plan", "transmission certificate pages codewords in_order batches bound")
 Report = namedtuple("Report", "pages codewords in_order batches idles bits airtime_ms bound")
 Shown = namedtuple("Shown", "is_shown is_closed batches")
+Explanation = namedtuple("Explanation", "is_shown is_closed batches text")
 OPEN, CLOSED = 0, 1
+IN_WORDS, AS_JSON = 0, 1
 
 
 def raised(status, place):
@@ -110,6 +112,19 @@ class Pocsag:
         if status > 1:
             raise raised(status, info.place)
         return Shown(status == 0, info.end == CLOSED, info.batches)
+
+    def explain(self, pages, certificate, form=IN_WORDS, depth=3, size=65_536):
+        """Why fewer batches than the certificate's do not suffice for the page file, or which node does not hold."""
+        info, length, text = CheckInfo(), ctypes.c_size_t(), buffer_of(size)
+        status = self.library.pocsag_explain(
+            *bytes_in(pages), *bytes_in(certificate), ctypes.c_uint32(form), ctypes.c_uint32(depth),
+            text, ctypes.c_size_t(size), ctypes.byref(length), ctypes.byref(info),
+        )  # fmt: skip
+        if status == 10:
+            return self.explain(pages, certificate, form, depth, length.value)
+        if status > 1:
+            raise raised(status, info.place)
+        return Explanation(status == 0, info.end == CLOSED, info.batches, bytes(text)[: length.value])
 
     def decode(self, transmission):
         """The listing of a transmission."""

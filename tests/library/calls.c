@@ -93,7 +93,7 @@ static uint32_t plan(struct texts *t)
 }
 
 /* How many calls take memory. */
-#define CALLS 5
+#define CALLS 7
 
 /* One of them, its texts into t. */
 static uint32_t call_of(int call, const struct texts *whole, struct texts *t)
@@ -111,6 +111,11 @@ static uint32_t call_of(int call, const struct texts *whole, struct texts *t)
         return pocsag_decode(whole->tx, whole->tx_len, t->tx, LARGE, &t->tx_len, &place);
     case 3:
         return pocsag_hear(8, whole->tx, whole->tx_len, t->tx, LARGE, &t->tx_len, &place);
+    case 4:
+    case 5:
+        return pocsag_explain(pages, pages_len, whole->cert, whole->cert_len,
+                              call == 4 ? POCSAG_IN_WORDS : POCSAG_AS_JSON, POCSAG_DEFAULT_DEPTH, t->tx, LARGE,
+                              &t->tx_len, &check);
     default:
         return pocsag_report(pages, pages_len, 1200, 100000, end, always, &report);
     }
@@ -174,6 +179,32 @@ static void try_listings(const struct texts *whole)
     }
 }
 
+static void try_explanations(const struct texts *whole)
+{
+    static uint8_t text[LARGE];
+    for (uint32_t form = POCSAG_IN_WORDS; form <= POCSAG_AS_JSON; form++) {
+        struct pocsag_check_info info, other;
+        size_t wanted, told;
+        uint8_t *file = guarded(pages_len), *cert = guarded(whole->cert_len);
+        memcpy(file, pages, pages_len);
+        memcpy(cert, whole->cert, whole->cert_len);
+        if (pocsag_explain(file, pages_len, cert, whole->cert_len, form, 3, text, LARGE, &wanted, &info) != POCSAG_OK)
+            wrong("the explanation", (long)form);
+        uint8_t *just = guarded(wanted), *small = guarded(wanted - 1);
+        if (pocsag_explain(file, pages_len, cert, whole->cert_len, form, 3, just, wanted, &told, &other) != POCSAG_OK ||
+            told != wanted || memcmp(just, text, wanted) != 0)
+            wrong("an explanation that just fits", (long)told);
+        if (pocsag_explain(file, pages_len, cert, whole->cert_len, form, 3, small, wanted - 1, &told, &other) !=
+                POCSAG_TEXT_TOO_SMALL ||
+            told != wanted || !is_untouched(small, wanted - 1) || memcmp(&info, &other, sizeof info) != 0)
+            wrong("an explanation that does not fit", (long)told);
+        if (pocsag_explain(file, pages_len, cert, whole->cert_len, 2 + form, 3, small, wanted - 1, &told, &other) !=
+                POCSAG_BAD_FORM ||
+            told != 0 || !is_untouched(small, wanted - 1))
+            wrong("a form that is none", (long)form);
+    }
+}
+
 static void try_buffers(const struct texts *whole)
 {
     struct pocsag_plan_info info;
@@ -193,6 +224,7 @@ static void try_buffers(const struct texts *whole)
             wrong("a small buffer is written", (long)less);
     }
     try_listings(whole);
+    try_explanations(whole);
     struct pocsag_check_info check;
     uint8_t *file = guarded(pages_len), *cert = guarded(whole->cert_len);
     memcpy(file, pages, pages_len);

@@ -29,7 +29,7 @@ EXAMPLES = TOP / "clib/examples"
 ROUND = TOP / "examples/round.csv"
 ROUNDS, CHANGED = 1_200, 400
 ROUNDS_OF_BOTH, CHANGED_OF_BOTH = 2_000, 8_000
-CALLS = {"pocsag_check", "pocsag_decode", "pocsag_hear", "pocsag_plan", "pocsag_report", "pocsag_version"}
+CALLS = {"pocsag_check", "pocsag_decode", "pocsag_explain", "pocsag_hear", "pocsag_plan", "pocsag_report", "pocsag_version"}
 
 # What the program prints where a call answers a status.
 SAID = {
@@ -137,10 +137,19 @@ class Library:
             shown = (0, b"at least %d batches%s\n" % (shown.batches, closed)) if shown.is_shown else (1, b"not shown\n")
         answers = [
             (shown, program("check", self.pages, self.cert)),
+            self.explanation(pages, cert, pocsag.IN_WORDS, 3),
             (attempt(self.pocsag.decode, tx), program("decode", self.tx)),
             (attempt(self.pocsag.hear, address, tx), program("hear", address, self.tx)),
         ]
         return all(self.is_same(*pair) for pair in answers)
+
+    def explanation(self, pages, cert, form, depth):
+        """What the library and the program tell of a certificate; both files stand where the program reads them."""
+        words = ["--depth", depth] + ["--json"] * (form == pocsag.AS_JSON)
+        told = attempt(self.pocsag.explain, pages, cert, form, depth)
+        if not isinstance(told, pocsag.Fault):
+            told = (int(not told.is_shown), told.text)
+        return told, program("explain", self.pages, self.cert, *words)
 
     @staticmethod
     def is_same(answer, told):
@@ -181,7 +190,7 @@ def try_changed(tally, library, plans, count, seed):
 
 def try_faults(tally, library):
     call, sample = library.pocsag, ROUND.read_bytes()
-    tally.check("the version", call.version() == 1)
+    tally.check("the version", call.version() == 2)
     for name, wanted, given in (
         ("a limit of 0", pocsag.BadLimit, dict(limit=0)),
         ("a limit above the greatest", pocsag.BadLimit, dict(limit=1_000_001)),
@@ -198,6 +207,8 @@ def try_faults(tally, library):
     plan = call.plan(sample)
     other = call.check(sample.replace(b"20451", b"2"), plan.certificate)
     tally.check("a certificate of another round may not be shown, and is judged", other.batches == 2, other)
+    fault = attempt(call.explain, sample, plan.certificate, form=2)
+    tally.check("a form that is none", type(fault) is pocsag.BadForm, fault)
 
 
 def try_reports(tally, library):
@@ -209,6 +220,26 @@ def try_reports(tally, library):
         tally.check(f"the report at {rate}", (0, text) == program("report", ROUND, "--rate", rate), told)
     fault = attempt(library.pocsag.report, ROUND.read_bytes(), 1201)
     tally.check("a rate that is none", type(fault) is pocsag.BadRate, fault)
+
+
+def try_explanations(tally, library):
+    """The texts of the program's `explain`, for the certificate of each example and for another round's."""
+    call, wrong, number = library.pocsag, [], 0
+    files = [path.read_bytes() for path in sorted((TOP / "examples").glob("*.csv"))]
+    plans = [(pages, attempt(call.plan, pages, end=end)) for pages in files for end in (pocsag.OPEN, pocsag.CLOSED)]
+    pairs = [(pages, plan.certificate) for pages, plan in plans if isinstance(plan, pocsag.Plan)]
+    pairs += [(ROUND.read_bytes(), certificate) for _, certificate in pairs]
+    for pages, certificate in pairs:
+        library.pages.write_bytes(pages)
+        library.cert.write_bytes(certificate)
+        for form in (pocsag.IN_WORDS, pocsag.AS_JSON):
+            for depth in (0, 1, 3, 300, 4_294_967_295):
+                number += 1
+                answer, told = library.explanation(pages, certificate, form, depth)
+                wrong += [(answer, told)] * (not library.is_same(answer, told))
+    tally.check(f"{number} explanations are those of the program", pairs and not wrong, wrong[:2])
+    shown = {library.pocsag.explain(*pair).is_shown for pair in pairs}
+    tally.check("some of them are of certificates that are not shown", shown == {False, True}, shown)
 
 
 def try_symbols(tally, folder):
@@ -283,6 +314,7 @@ def all_answers(library, pages, tx, cert, address, end, always):
     answers = [
         attempt(library.plan, pages, end=end, always=always),
         attempt(library.check, pages, cert),
+        attempt(library.explain, pages, cert, address % 2, address % 8),
         attempt(library.decode, tx),
         attempt(library.hear, address, tx),
         attempt(library.report, pages, 1200, end=end, always=always),
@@ -338,6 +370,7 @@ def try_library(tally, room):
     try_symbols(tally, folder)
     try_faults(tally, library)
     try_reports(tally, library)
+    try_explanations(tally, library)
     try_examples(tally, folder, room)
     try_page(tally, folder, room)
     try_calls(tally, folder, room, ways_to_try())

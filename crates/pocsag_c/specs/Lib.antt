@@ -1,4 +1,5 @@
 pub mod Answers
+pub mod Explaining
 pub mod Listings
 pub mod Plans
 pub mod Reporting

@@ -14,7 +14,7 @@ use Rattle.pocsag_c.specs.declared.refusal.Refusal.{Refusal}
 
 -- The number of the interface.
 abbrev pub interface_version : ℕ
-interface_version = 1
+interface_version = 2
 
 -- A refusal that has no place; one for a record of the page file; and one for a batch or a codeword.
 abbrev pub plain_refusal : (status : ℕ) → Refusal
@@ -94,6 +94,8 @@ refusal_of (fault.Transmission f) = transmission_refusal f
 refusal_of (fault.Pager f) = pager_refusal f
 refusal_of _ = plain_refusal 15
 
--- A status of the faults: none of those for what was done, was not shown, or had no room.
+-- A status of the faults: none of those for what was done, was not shown, had no room, or was asked for by no number.
 abbrev pub IsRefusing : ℕ → Type 0
-IsRefusing status = (status ≢ 0) × (status ≢ 1) × (status ≢ 2) × (status ≢ 7) × (status ≢ 8) × (status ≢ 9)
+IsRefusing status =
+    (status ≢ 0) × (status ≢ 1) × (status ≢ 2) × (status ≢ 7) × (status ≢ 8) × (status ≢ 9)
+    × (status ≢ 10) × (status ≢ 11)

@@ -8,7 +8,7 @@ use pocsag_commands::{Fault, Judged, judge_certificate};
 use pocsag_words::{End, SliceSource};
 use std::alloc::Global;
 
-/// What a check tells.
+/// What a check tells; all but the place is 0 where nothing was judged.
 #[repr(C)]
 #[derive(Clone, Copy, PartialEq, Eq, Debug)]
 pub struct CheckInfo {
@@ -21,7 +21,7 @@ pub struct CheckInfo {
 }
 
 // The number of an end.
-pub(crate) fn end_number(end: End) -> u32
+fn end_number(end: End) -> u32
     ensures { result ≡ number_of_end end }
 {
     match end {
@@ -29,6 +29,25 @@ pub(crate) fn end_number(end: End) -> u32
         End::Closed => 1,
     }
 }
+
+// What is told of a certificate that was judged.
+pub(crate) fn info_of_judged(judged: Judged) -> CheckInfo
+    ensures end { result.end ≡ number_of_end judged.end }
+    ensures batches { result.batches ≡ judged.batches }
+{
+    CheckInfo {
+        end: end_number(judged.end),
+        batches: judged.batches,
+        place: NOWHERE,
+    }
+}
+
+// What is told where nothing is judged.
+pub(crate) const NOT_JUDGED: CheckInfo = CheckInfo {
+    end: 0,
+    batches: 0,
+    place: NOWHERE,
+};
 
 fn judged(alloc: Global, pages: &[u8], cert: &[u8]) -> Result<Judged, Fault>
     ensures shown { IfOk result (λ judged. IsTrue judged.is_shown →
@@ -57,22 +76,15 @@ pub extern "C" fn pocsag_check(
     // Any other status is that of the fault of one of them, with its place.
     ensures fault { result ≢ 0 → result ≢ 1 → TellsFault (ExplainsJudging pages.now cert.now) result info.new.place }
 {
+    *info = NOT_JUDGED;
     match judged(alloc, pages, cert) {
         Ok(judged) => {
-            *info = CheckInfo {
-                end: end_number(judged.end),
-                batches: judged.batches,
-                place: NOWHERE,
-            };
+            *info = info_of_judged(judged);
             u32::from(!judged.is_shown)
         }
         Err(fault) => {
             let refusal = refusal_of(fault);
-            *info = CheckInfo {
-                end: 0,
-                batches: 0,
-                place: refusal.place,
-            };
+            info.place = refusal.place;
             refusal.status
         }
     }

@@ -7,6 +7,7 @@ ghost use Rattle.std.specs.Prelude.{◌≡◌};
 ghost use Rattle.pocsag_c.specs.Statuses.{interface_version};
 
 mod checking;
+mod explaining;
 mod handing;
 mod planning;
 mod receiving;
@@ -14,6 +15,7 @@ mod refusal;
 mod reporting;
 
 pub use checking::{CheckInfo, pocsag_check};
+pub use explaining::pocsag_explain;
 pub use planning::{PlanInfo, pocsag_plan};
 pub use receiving::{pocsag_decode, pocsag_hear};
 pub use refusal::Place;
@@ -24,5 +26,5 @@ pub use reporting::{ReportInfo, pocsag_report};
 pub extern "C" fn pocsag_version() -> u32
     ensures { result ≡ interface_version }
 {
-    1
+    2
 }

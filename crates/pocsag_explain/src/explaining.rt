@@ -1,13 +1,15 @@
 ghost use Rattle.std.specs.Prelude.{◌≡◌, IfErr, IfOk, IsFalse, IsTrue};
+ghost use Rattle.pocsag_commands.specs.Commands.{Checked};
 ghost use Rattle.pocsag_commands.specs.Faults.{status_of};
+ghost use Rattle.pocsag_commands.specs.Judging.{IsNotShown};
 ghost use Rattle.pocsag_commands.specs.Refusals.{IsCheckFaulty};
-ghost use Rattle.pocsag_explain.specs.Explaining.{DoesNotShow, ShowsItsBatches};
+ghost use Rattle.pocsag_explain.specs.Explaining.{DoesNotShow, ExplainsUntold, ShowsItsBatches};
 
 use crate::facts::facts;
 use crate::outline::{first_refused, outline};
 use crate::subject::Subject;
 use pocsag_check::check;
-use pocsag_commands::Fault;
+use pocsag_commands::{Fault, Judged};
 use pocsag_findings::{Telling, findings};
 use pocsag_pages::{Round, read_round};
 use pocsag_slots::classes_of;
@@ -32,19 +34,50 @@ pub fn run_explain<P: Source, C: Source, O: Sink>(
         IsCheckFaulty (P.held pages.old) (C.held cert.old)) }
     ensures untouched { IfErr result (λ e. status_of e ≡ 1 → out.new ≡ out.old) }
 {
-    let round = read_round(alloc, pages)?;
-    let certificate = read_certificate(alloc, cert)?;
-    let is_shown = check(
-        &round,
-        certificate.batches,
-        &certificate.tree,
-        certificate.end,
-    );
-    let text = explanation(alloc, telling, &round, &certificate, is_shown)?;
-    match write_all(out, text.as_str().as_bytes()) {
-        Ok(()) => Ok(is_shown),
+    let explained = explain_certificate(alloc, telling, pages, cert)?;
+    match write_all(out, explained.text.as_str().as_bytes()) {
+        Ok(()) => Ok(explained.judged.is_shown),
         Err(_) => Err(Fault::Write),
     }
+}
+
+/// A certificate beside the round of a page file, in words or as facts.
+#[derive(Drop)]
+pub struct Explained {
+    /// What it names, and the verdict.
+    pub judged: Judged,
+    /// What is told of it.
+    pub text: String,
+}
+
+/// Reads a page file and then a certificate, each up to its end, judges the certificate for the file's round, and
+/// makes the text that `explain` tells of it.
+pub fn explain_certificate<P: Source, C: Source>(
+    alloc: Global,
+    telling: Telling,
+    pages: &mut P,
+    cert: &mut C,
+) -> Result<Explained, Fault>
+    ensures shown { P.tells → C.tells → IfOk result (λ explained. IsTrue explained.judged.is_shown →
+        Checked (P.held pages.old) (C.held cert.old) explained.judged.end explained.judged.batches) }
+    ensures not_shown { P.tells → C.tells → IfOk result (λ explained. IsFalse explained.judged.is_shown →
+        IsNotShown (P.held pages.old) (C.held cert.old) explained.judged.end explained.judged.batches) }
+    ensures why { P.tells → C.tells → IfErr result (ExplainsUntold (P.held pages.old) (C.held cert.old)) }
+{
+    let round = read_round(alloc, pages)?;
+    let certificate = read_certificate(alloc, cert)?;
+    let batches = certificate.batches;
+    let end = certificate.end;
+    let is_shown = check(&round, batches, &certificate.tree, end);
+    let text = explanation(alloc, telling, &round, &certificate, is_shown)?;
+    Ok(Explained {
+        judged: Judged {
+            end,
+            batches,
+            is_shown,
+        },
+        text,
+    })
 }
 
 // What is told of a certificate that the checker accepts or not. The first node that does not hold may stand at any

@@ -11,6 +11,6 @@ mod sentences;
 mod subject;
 mod wording;
 
-pub use explaining::run_explain;
+pub use explaining::{Explained, explain_certificate, run_explain};
 pub use frames::{FrameRoom, frames_of};
 pub use reporting::run_frames;
