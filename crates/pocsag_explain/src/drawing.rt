@@ -24,7 +24,7 @@ than their bars add up to. Upright lines are the boundaries that a cut names; bo
 // The rules of the drawing, all under one class, for light and for dark.
 const STYLE: &str = "\
 <style type='text/css'>\
-.pocsag-why text{fill:#1b1d21;font:11px sans-serif}.pocsag-why .m{text-anchor:middle}.pocsag-why .e{text-anchor:end}\
+.pocsag-why text{fill:#1b1d21;font:11px sans-serif}.pocsag-why .m{text-anchor:middle;font-size:9px}.pocsag-why .e{text-anchor:end}\
 .pocsag-why .b{fill:#fff}.pocsag-why .c{fill:#a8c3e6}.pocsag-why .n,.pocsag-why .w{fill:#7a2329}\
 .pocsag-why .r{stroke:#1b1d21;stroke-width:2}.pocsag-why .x{stroke:#777b82}\
 .pocsag-why .s{stroke:#7a2329;stroke-width:2;stroke-dasharray:4 3}\
