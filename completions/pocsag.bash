@@ -22,7 +22,7 @@ _pocsag() {
         [pocsag]='--verbose --help --version -h -V'
         [plan]='--limit --end --expect --always --verify --keep --verbose --help -h'
         [check]='--verbose --help -h'
-        [explain]='--depth --json --verbose --help -h'
+        [explain]='--depth --json --svg --verbose --help -h'
         [decode]='--verbose --help -h'
         [hear]='--verbose --help -h'
         [show]='--svg --list --rows --verbose --help -h'

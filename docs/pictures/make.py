@@ -1,5 +1,5 @@
 #!/usr/bin/env python3
-"""Makes the pictures of this folder by the compiled program, from examples/round.csv.
+"""Makes the pictures of this folder by the compiled program, from examples/round.csv and examples/loops-apart.csv.
 
 It takes the binary that the gate left in crates/pocsag_app/out. `tests/pictures/run.py` makes them again and compares.
 """
@@ -16,6 +16,7 @@ TOP = pathlib.Path(__file__).resolve().parents[2]
 HERE = pathlib.Path(__file__).resolve().parent
 PROGRAM = TOP / "crates/pocsag_app/out/pocsag_app"
 ROUND = TOP / "examples/round.csv"
+APART = [TOP / "examples" / name for name in ("loops-apart.csv", "loops-apart.cert")]
 PREAMBLE = b"\xaa" * 72
 SYNC = bytes.fromhex("7CD215D8")
 IDLE = bytes.fromhex("7A89C197")
@@ -117,6 +118,7 @@ def pictures():
             addresses = [int(row["address"]) for row in csv.DictReader(file)]
         ordered.write_bytes(in_file_order(words, found, addresses))
         return {
+            "loops-apart.svg": run("explain", *APART, "--svg"),
             "round-in-file-order.svg": run("show", ordered, "--svg"),
             "round-in-fewest-batches.svg": run("show", sent, "--svg"),
             "round-tour.svg": tour(found, len(words)),

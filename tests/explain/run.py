@@ -1,8 +1,8 @@
 #!/usr/bin/env python3
 """Runs `explain` and `report --frames` of the compiled program.
 
-The sentences of `explain` are written by hand, from the rules of docs/CERTIFICATES.md over rounds that a person can
-count. The verdict has to be that of `check`, whatever the certificate. The frames are counted again from the page file
+The sentences of `explain` and the numbers of its drawings are written by hand, from the rules of docs/CERTIFICATES.md over
+rounds that a person can count. The verdict has to be that of `check`, whatever the certificate. The frames are counted again from the page file
 and from the letters of `show`. It takes the binary that the gate left in crates/pocsag_app/out. The last line is
 'N passed, M failed'.
 """
@@ -10,8 +10,10 @@ and from the letters of `show`. It takes the binary that the gate left in crates
 import json
 import pathlib
 import random
+import re
 import subprocess
 import sys
+import xml.etree.ElementTree as ElementTree
 
 sys.dont_write_bytecode = True
 sys.path.insert(0, str(pathlib.Path(__file__).resolve().parents[1]))
@@ -172,6 +174,134 @@ def try_json(tally, folder):
     tally.check("a split as JSON", told["listed"][0]["fact"] == fact and ways == ["root", "first_case", "second_case"], told)
 
 
+SVG = "{http://www.w3.org/2000/svg}"
+# Measures of the drawing: the ground of the bars, the height of the highest, the left side of slot 0 and the width of a slot.
+GROUND, HIGHEST, LEFT, WIDTH = 98, 80, 80, 28
+EVERY = list(range(16))
+IN_EACH, TWO_PLACES = [2] * 16, [2] * 16
+# Three tones of frame 5: each may start in slot 10 or in slot 11, so that no slot alone must have one.
+NO_TONE, ONE_PLACE = [0] * 16, [1] * 16
+TONES_LATE = [0] * 11 + [3] + [0] * 4
+
+# A page file, its certificate, the status, the heading, and of each node that is drawn its line, what must stand in each
+# slot, the room there, the slots that are marked, and the boundaries.
+DRAWN = [
+    ("the worked case", APART, certificate(OPEN, 3, CUT_APART), 0, SUM_APART, [
+        (ROOT_APART, IN_EACH, TWO_PLACES, [], [0]),
+        (f"node 1.1: with an idle in slot 0: slots 0: 2 codewords at the least, room for 1: {EACH_LOOP}",
+         IN_EACH, [1] + [2] * 15, [0], []),
+        (f"node 1.2: with an idle in slot 15: slots 15: 2 codewords at the least, room for 1: {EACH_LOOP}",
+         IN_EACH, [2] * 15 + [1], [15], []),
+    ]),
+    ("a full frame", TONES, certificate(OPEN, 2, overload(10, 11)), 0, SUM_TONES, [
+        (f"node 1: {STARTS}", NO_TONE, ONE_PLACE, [10, 11], []),
+    ]),
+    ("two cases", TONES, certificate(OPEN, 2, split(81, 1, overload(11), overload(10, 11))), 0, SUM_TONES, [
+        ("node 1: no page of frame 5 and length 1 modulo 16 starts in slot 10, or at least 1 does", NO_TONE, ONE_PLACE, [], []),
+        ("node 1.1: in the first case: slots 11: 3 codewords at the least, room for 1: "
+         "3 from 3 pages of frame 5 and length 1 modulo 16", TONES_LATE, ONE_PLACE, [11], []),
+        (f"node 1.2: in the second case: {STARTS}", [0] * 10 + [1] + [0] * 5, ONE_PLACE, [10, 11], []),
+    ]),
+    ("no batches", TONES, certificate(OPEN, 1, overload(10, 11)), 0,
+     "at least 1 batch, open end: 3 pages, 3 codewords, room for 0 in 0 batches", [
+        ("node 1: frame 5 (slots 10 and 11): 3 pages start there, 0 batches have room for 0", NO_TONE, [0] * 16, [10, 11], []),
+    ]),
+    ("a closed end", LOOP, certificate(CLOSED, 2, close(overload(15))), 0,
+     "at least 2 batches, closed end: 1 page, 16 codewords, room for 16 in 1 batch, yet", [
+        ("node 1: the last codeword is an idle in slot 15; 1 way", [1] * 16, ONE_PLACE, [], []),
+        ("node 1.1: with an idle in slot 15: slots 15: 1 codeword at the least, room for 0: "
+         "1 from 1 page of frame 0 and length 0 modulo 16", [1] * 16, [1] * 15 + [0], [15], []),
+    ]),
+    ("a refused node", APART, certificate(OPEN, 3, cut([0], 48, overload(0), overload(0))), 1,
+     "not shown: node 1.2: slots 0: 2 codewords at the least, room for 2", [
+        (ROOT_APART, IN_EACH, TWO_PLACES, [], [0]),
+        (f"node 1.1: with an idle in slot 0: slots 0: 2 codewords at the least, room for 1: {EACH_LOOP}",
+         IN_EACH, [1] + [2] * 15, [0], []),
+        ("node 1.2: with an idle in slot 15: slots 0: 2 codewords at the least, room for 2", IN_EACH, [2] * 15 + [1], [0], []),
+    ]),
+    ("a refused root", APART, certificate(OPEN, 3, cut([0, 1], 48, overload(0), overload(15), overload(1))), 1,
+     "not shown: node 1: 2 ways out of boundaries 0 and 1, and 3 nodes for them", [
+        ("node 1: 2 ways out of boundaries 0 and 1, and 3 nodes for them", IN_EACH, TWO_PLACES, [], [0, 1]),
+    ]),
+    ("a refused node below those that are drawn", TONES,
+     certificate(OPEN, 2, split(81, 1, overload(11), split(81, 2, overload(9), overload(10)))), 1,
+     "not shown: node 1.2.1: slots 9: 0 codewords at the least, room for 1", [
+        ("node 1: no page of frame 5 and length 1 modulo 16 starts in slot 10, or at least 1 does", NO_TONE, ONE_PLACE, [], []),
+        ("node 1.1: in the first case: slots 11: 3 codewords at the least, room for 1: "
+         "3 from 3 pages of frame 5 and length 1 modulo 16", TONES_LATE, ONE_PLACE, [11], []),
+        ("node 1.2: in the second case: fewer than 2 pages of frame 5 and length 1 modulo 16 start in slot 10, or at least 2 do",
+         [0] * 10 + [1] + [0] * 5, ONE_PLACE, [], []),
+    ]),
+]
+
+
+def words_of(nodes):
+    return " ".join(node.text for node in nodes)
+
+
+def due_column(slot, least, room, is_marked, most):
+    """What a column has: its title, its bar, the line of the room, its numbers, and the wedge of a slot that is named."""
+    x, bar, line = LEFT + WIDTH * slot, HIGHEST * least // most, GROUND - HIGHEST * room // most
+    codewords = "codeword" if least == 1 else "codewords"
+    rect = ("n" if is_marked else "c", x + 4, GROUND - bar, 20, bar)
+    paths = [("w", f"M{x + 9} 4h10l-5 8z")] if is_marked else []
+    numbers = [(x + 14, y, str(number)) for y, number in ((112, slot), (126, least), (140, room))]
+    return f"slot {slot}: {least} {codewords} at the least, room for {room}", rect, [*paths, ("r", f"M{x} {line}h28")], numbers
+
+
+def found_column(group):
+    rect = group.find(SVG + "rect")
+    box = tuple(int(rect.get(key)) for key in ("x", "y", "width", "height"))
+    paths = [(path.get("class"), path.get("d")) for path in group.findall(SVG + "path")]
+    numbers = [(int(text.get("x")), int(text.get("y")), text.text) for text in group.findall(SVG + "text")]
+    return group.findtext(SVG + "title"), (rect.get("class"), *box), paths, numbers
+
+
+def try_form(tally, name, root, text):
+    """A drawing that may stand beside others on one page: one class, no id, no script."""
+    tags = {node.tag for node in root.iter()}
+    known = {SVG + tag for tag in ("svg", "title", "desc", "style", "text", "rect", "path", "g")}
+    active = [key for node in root.iter() for key in node.attrib if key.startswith("on") or "href" in key or key == "id"]
+    tally.check(f"{name}: shapes and texts alone, and no id", tags <= known and not active, (tags, active))
+    rules = re.findall(r"([^{}]+)\{[^{}]*\}", root.findtext(SVG + "style").replace("@media screen and (prefers-color-scheme:dark){", ""))
+    selectors = [it.strip() for rule in rules for it in rule.split(",")]
+    tally.check(f"{name}: rules under one class", all(it.startswith(".pocsag-why ") for it in selectors), selectors)
+    tally.check(f"{name}: light and dark", b"prefers-color-scheme:dark" in text and b"@import" not in text, text[:300])
+    told = (root.tag, root.get("class"), root.get("role"), root.get("version"), root[0].tag, root[1].tag)
+    tally.check(f"{name}: told to readers of screens", told == (SVG + "svg", "pocsag-why", "img", "1.1", SVG + "title", SVG + "desc"), told)
+    bases = [int(node.get("y")) for node in root.findall(SVG + "text")]
+    tall = int(root.get("height"))
+    holds = root.get("viewBox") == f"0 0 540 {tall}" and bases == sorted(set(bases)) and bases[-1] < tall
+    tally.check(f"{name}: size", holds, (root.attrib, bases))
+
+
+def try_drawings(tally, folder):
+    for name, pages, text, status, heading, nodes in DRAWN:
+        done = explained(folder, pages, text, "--svg")
+        tally.check(f"drawing: {name}", (done.returncode, done.stderr) == (status, b"") and done.stdout.endswith(b"</svg>\n"), done)
+        root = ElementTree.fromstring(done.stdout)
+        try_form(tally, f"drawing: {name}", root, done.stdout)
+        tally.check(f"drawing: {name}: heading", root.findtext(SVG + "title") == heading, root.findtext(SVG + "title"))
+        seen = words_of(root.findall(SVG + "text"))
+        tally.check(f"drawing: {name}: words", seen == f"{heading} {root.findtext(SVG + 'desc')}", seen)
+        groups = root.findall(SVG + "g")
+        tally.check(f"drawing: {name}: nodes", [words_of(g.findall(SVG + "text")) for g in groups] == [n[0] for n in nodes], words_of(groups[0]))
+        most = max(1, *(number for node in nodes for number in [*node[1], *node[2]]))
+        for group, (line, least, room, marked, boundaries) in zip(groups, nodes):
+            number = line.split(":")[0]
+            inner = group.find(SVG + "g")
+            due = [due_column(slot, least[slot], room[slot], slot in marked, most) for slot in EVERY]
+            found = [found_column(column) for column in inner.findall(SVG + "g")]
+            tally.check(f"drawing: {name}: columns of {number}", found == due, (found, due))
+            lines = [path.get("d") for path in inner.findall(SVG + "path") if path.get("class") == "s"]
+            due = [f"M{LEFT + WIDTH * boundary} 6V102" for boundary in boundaries]
+            tally.check(f"drawing: {name}: boundaries of {number}", lines == due, lines)
+    explained(folder, APART, certificate(OPEN, 3, CUT_APART))
+    for words in (["--svg", "--json"], ["--svg", "--depth", "2"], ["--svg", "x"]):
+        done = run("explain", folder / "pages.csv", folder / "cert.bin", *words)
+        tally.check(f"usage {words}", done.returncode == 2 and done.stdout == b"", done)
+
+
 def try_words(tally, folder):
     explained(folder, APART, certificate(OPEN, 3, CUT_APART))
     pages, cert = folder / "pages.csv", folder / "cert.bin"
@@ -269,4 +399,4 @@ def try_frames(tally, folder):
 
 
 if __name__ == "__main__":
-    sys.exit(run_parts(try_sentences, try_json, try_words, try_planned, try_frames))
+    sys.exit(run_parts(try_sentences, try_json, try_drawings, try_words, try_planned, try_frames))

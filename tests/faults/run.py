@@ -426,7 +426,7 @@ def try_late_growths(tally, library, folder):
     others = [["check", names[0], names[2]], ["decode", names[1]], ["hear", "8", names[1]]]
     others += [["show", names[1], *more] for more in ([], ["--svg"], ["--list"])]
     others += [["report", names[0], "--rate", "512", *more] for more in ([], ["--always"], ["--frames"])]
-    others += [["explain", names[0], names[2], *more] for more in ([], ["--json"])]
+    others += [["explain", names[0], names[2], *more] for more in ([], ["--json"], ["--svg"])]
     for words in [*plans, *others, []]:
         done, count = late_growths([str(PROGRAM), *words], library, b"" if words else pages.read_bytes())
         tally.check(f"no growth after the first byte: {words[:1]}", done.returncode == 0 and count == 0, (words, count, done.stderr))
@@ -473,6 +473,7 @@ def main():
         try_printing(tally, library, "check", ["check", "pages.csv", "cert.bin"], files, folder)
         try_printing(tally, library, "explain", ["explain", "pages.csv", "cert.bin"], files, folder)
         try_printing(tally, library, "explain --json", ["explain", "pages.csv", "cert.bin", "--json"], files, folder)
+        try_printing(tally, library, "explain --svg", ["explain", "pages.csv", "cert.bin", "--svg"], files, folder)
         files = {"pages.csv": LOOPS_APART}
         try_printing(tally, library, "report", ["report", "pages.csv", "--rate", "1200"], files, folder)
         try_printing(tally, library, "report --frames", ["report", "pages.csv", "--rate", "1200", "--frames"], files, folder)

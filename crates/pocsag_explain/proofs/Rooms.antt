@@ -1,5 +1,5 @@
 -- The idles of a frame, step by step.
-use Rattle.std.proofs.Common.{◌≡◌, ℕ, ◌+◌, ◌*◌, ◌%◌, ◌<◌, ◌≤◌, ◌==◌, Bool, true, false, List, [], ◌∷◌, ◌++◌, cond, arith, ap, sym, subst, ◌∙◌, refl, eq-eqb, drop, get_or, length, map, not, inl, inr}
+use Rattle.std.proofs.Common.{◌≡◌, ℕ, ◌+◌, ◌*◌, ◌%◌, ◌<◌, ◌≤◌, ◌==◌, Bool, true, false, List, [], ◌∷◌, ◌++◌, cond, arith, ap, sym, subst, ◌∙◌, refl, eq-eqb, drop, get_or, length, map, inl, inr}
 use Rattle.std.proofs.lemmas.Bool.{cases_lt}
 use Rattle.std.proofs.lemmas.List.{drop_more}
 use Rattle.std.proofs.lemmas.List.FromFn.{map-range_with_len_more}
@@ -8,7 +8,6 @@ use Rattle.std.specs.List.Sorted.{IsPermutation}
 use Rattle.pocsag_pages.specs.declared.page.Page.{Page}
 use Rattle.pocsag_slots.specs.declared.step.Step.{Step}
 use Rattle.pocsag_slots.specs.declared.step.Step.TheVariants.{Idle as Stay, Run}
-use Rattle.pocsag_slots.specs.Arcs.{runs}
 use Rattle.pocsag_slots.specs.Numbering.{finish_of}
 use Rattle.pocsag_slots.specs.Tours.{idles}
 use Rattle.pocsag_explain.specs.declared.frames.FrameRoom.{FrameRoom}

@@ -5,6 +5,7 @@ ghost use Rattle.pocsag_commands.specs.Judging.{IsNotShown};
 ghost use Rattle.pocsag_commands.specs.Refusals.{IsCheckFaulty};
 ghost use Rattle.pocsag_explain.specs.Explaining.{DoesNotShow, ExplainsUntold, ShowsItsBatches};
 
+use crate::drawing::drawing;
 use crate::facts::facts;
 use crate::outline::{first_refused, outline};
 use crate::subject::Subject;
@@ -104,5 +105,6 @@ fn explanation(
             Ok(format!(in alloc; "not shown\n{refused}")?)
         }
         Telling::Facts(depth) => facts(alloc, &subject, depth),
+        Telling::Drawing => Ok(drawing(alloc, &subject)?),
     }
 }

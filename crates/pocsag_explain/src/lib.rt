@@ -1,6 +1,8 @@
 #![tactic(auto)]
 //! What a person asks of a plan and of a certificate: which frames have room, and why fewer batches do not suffice.
 
+mod columns;
+mod drawing;
 mod explaining;
 mod facts;
 mod frames;

@@ -30,8 +30,8 @@ pub(crate) fn outline(alloc: Global, subject: &Subject<'_>) -> Result<String, Al
     Ok(text)
 }
 
-// The first line: what is shown, and what the round and the batches hold.
-fn summary(alloc: Global, subject: &Subject<'_>) -> Result<String, AllocError> {
+/// The first line: what is shown, and what the round and the batches hold.
+pub(crate) fn summary(alloc: Global, subject: &Subject<'_>) -> Result<String, AllocError> {
     let shown = counted(alloc, u64::from(subject.batches), "batch")?;
     let end = match subject.end {
         End::Open => "open end",
@@ -51,8 +51,8 @@ fn summary(alloc: Global, subject: &Subject<'_>) -> Result<String, AllocError> {
     )
 }
 
-// The line of a node, without its indentation.
-fn node_line(
+/// The line of a node, without its indentation.
+pub(crate) fn node_line(
     alloc: Global,
     refuted: Refuted,
     numbering: &Numbering,

@@ -1,4 +1,5 @@
 pub mod Accepted
+pub mod Columns
 pub mod Holding
 pub mod Leasts
 pub mod Nodes

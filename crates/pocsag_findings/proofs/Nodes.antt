@@ -3,14 +3,21 @@ use Rattle.pocsag_findings.proofs.Prelude.{◌≡◌, ℕ, ◌+◌, ◌<◌, ◌
 use Rattle.std.proofs.Common.{append_assoc}
 use Rattle.std.proofs.lemmas.Bool.Decides.{nat_tests}
 use Rattle.pocsag_slots.specs.Ways.{ways_across, ways_to_close}
-use Rattle.pocsag_findings.specs.Rules.{fact_holds, fact_of, shares_at}
+use Rattle.pocsag_findings.specs.Rules.{columns_at, fact_holds, fact_of, shares_at}
 use Rattle.pocsag_findings.specs.Findings.{findings_below, findings_within}
 
 -- a node whose rule holds, where those below it are found behind it
 pub held_node : (k : Classes) (end : End) (b depth : ℕ) (l : Limits) (above : ℕ) (how : Reached) (t : Bound) (fact : Fact)
     (shares : List Share) (below old mid new : List Stated) → above < depth → fact ≡ fact_of k l t → shares ≡ shares_at k l t →
     fact_holds end b fact ≡ true →
-    mid ≡ old ++ record { depth = above + 1; reached = how; fact = fact; shares = shares; holds = fact_holds end b fact } ∷ [] →
+    mid ≡ old ++ record {
+      depth = above + 1;
+      reached = how;
+      fact = fact;
+      shares = shares;
+      columns = columns_at k l above;
+      holds = fact_holds end b fact;
+    } ∷ [] →
     new ≡ mid ++ below → below ≡ findings_below k end b depth l (above + 1) t →
     new ≡ old ++ findings_within k end b depth l above how t
 held_node k end b depth l above how t fact shares below old mid new h is stated held first all rest =

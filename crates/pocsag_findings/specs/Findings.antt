@@ -11,7 +11,7 @@ use Rattle.pocsag_tree.specs.Bounds.{Bound, Bounds, overload, split, cut, close,
 use Rattle.pocsag_findings.specs.declared.finding.Fact.TheVariants.{Unjudged}
 use Rattle.pocsag_findings.specs.declared.finding.Reached.{Reached}
 use Rattle.pocsag_findings.specs.declared.finding.Reached.TheVariants.{Root, Below, From, By, Unreached}
-use Rattle.pocsag_findings.specs.Rules.{fact_of, fact_holds, shares_at}
+use Rattle.pocsag_findings.specs.Rules.{fact_of, fact_holds, columns_at, shares_at}
 use Rattle.pocsag_findings.specs.Views.{Stated}
 
 -- What is found of one node: so many nodes stand above it, and it is reached so.
@@ -21,12 +21,20 @@ finding_of k end b l above reached t = record {
   reached = reached;
   fact = fact_of k l t;
   shares = shares_at k l t;
+  columns = columns_at k l above;
   holds = fact_holds end b (fact_of k l t);
 }
 
 -- What is found of a node below one whose rule does not hold.
 abbrev pub unjudged_finding : ℕ → Stated
-unjudged_finding above = record { depth = above + 1; reached = Unreached; fact = Unjudged; shares = []; holds = false }
+unjudged_finding above = record {
+  depth = above + 1;
+  reached = Unreached;
+  fact = Unjudged;
+  shares = [];
+  columns = [];
+  holds = false;
+}
 
 -- The finding of a node and those below it, where the node is no deeper than so.
 abbrev pub where_listed : ℕ → ℕ → Stated → List Stated → List Stated

@@ -1,15 +1,17 @@
 -- *Rules of nodes*: what a node states under its limits, and whether its own rule holds, whatever lies below it.
-use Rattle.std.specs.Prelude.{ℕ, ◌&&◌, ◌==◌, nat_lt, leb, Bool, true, false, cond, List, [], ◌∷◌, length, slice_index}
+use Rattle.std.specs.Prelude.{ℕ, ◌^◌, ◌&&◌, ◌==◌, nat_lt, leb, Bool, true, false, cond, List, [], ◌∷◌, length, map, slice_index}
+use Rattle.std.specs.List.{range_with_len}
 use Rattle.pocsag_words.specs.declared.ending.End.{End}
 use Rattle.pocsag_words.specs.declared.ending.End.TheVariants as ends
 use Rattle.pocsag_slots.specs.declared.class.Classes.{Classes}
 use Rattle.pocsag_slots.specs.declared.limit.Limits.{Limits}
 use Rattle.pocsag_slots.specs.Loads.{least_of_class}
-use Rattle.pocsag_slots.specs.Numbering.{class_count}
+use Rattle.pocsag_slots.specs.Numbering.{class_count, slot_count}
 use Rattle.pocsag_slots.specs.Sums.{holds, joined_below, sum_below, sum_over}
 use Rattle.pocsag_slots.specs.Ways.{class_certain, ways_across, ways_to_close}
 use Rattle.pocsag_tree.specs.Bounds.{Bound, overload, split, cut, close, unexamined, children_count}
 use Rattle.pocsag_tree.specs.Limits.{greatest_set}
+use Rattle.pocsag_findings.specs.declared.finding.Column.{Column}
 use Rattle.pocsag_findings.specs.declared.finding.Fact.{Fact}
 use Rattle.pocsag_findings.specs.declared.finding.Fact.TheVariants.{Overload, Split, Cut, Close, Open, Unjudged}
 use Rattle.pocsag_findings.specs.declared.finding.Share.{Share}
@@ -48,6 +50,22 @@ shares_at k l (split c m below above) = []
 shares_at k l (cut set c children) = []
 shares_at k l (close children) = []
 shares_at k l unexamined = []
+
+-- What must stand in one slot at the least, by the least load of the set of that slot alone, and the room in it.
+abbrev pub column_of : Classes → Limits → ℕ → Column
+column_of k l slot = record { least = least_of_set k l (2 ^ slot); room = slice_index l.cap slot }
+
+-- The columns of the sixteen slots, in order.
+abbrev pub columns_of : Classes → Limits → List Column
+columns_of k l = map (column_of k l) (range_with_len 0 slot_count)
+
+-- How deep the nodes are of which columns are found: the root, which has depth 1, and the nodes right below it.
+abbrev pub drawn_depth : ℕ
+drawn_depth = 2
+
+-- The columns that are found of a node below so many: those of its limits where it stands high enough, and else none.
+abbrev pub columns_at : Classes → Limits → ℕ → List Column
+columns_at k l above = cond (nat_lt above drawn_depth) (columns_of k l) []
 
 abbrev pub is_closed : End → Bool
 is_closed ends.Open = false

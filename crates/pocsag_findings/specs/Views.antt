@@ -1,5 +1,6 @@
--- How contracts see findings: without where their shares lie in memory.
+-- How contracts see findings: without where their shares and columns lie in memory.
 use Rattle.std.specs.Prelude.{ℕ, Bool, List, map}
+use Rattle.pocsag_findings.specs.declared.finding.Column.{Column}
 use Rattle.pocsag_findings.specs.declared.finding.Fact.{Fact}
 use Rattle.pocsag_findings.specs.declared.finding.Finding.{Finding}
 use Rattle.pocsag_findings.specs.declared.finding.Reached.{Reached}
@@ -11,10 +12,18 @@ pub record Stated : Type 0 where
   pub reached : Reached
   pub fact : Fact
   pub shares : List Share
+  pub columns : List Column
   pub holds : Bool
 
 abbrev pub stated : Finding → Stated
-stated f = record { depth = f.depth; reached = f.reached; fact = f.fact; shares = f.shares.items; holds = f.holds }
+stated f = record {
+  depth = f.depth;
+  reached = f.reached;
+  fact = f.fact;
+  shares = f.shares.items;
+  columns = f.columns.items;
+  holds = f.holds;
+}
 
 -- What several findings state, in order.
 abbrev pub all_stated : List Finding → List Stated

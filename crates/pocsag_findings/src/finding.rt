@@ -24,6 +24,15 @@ pub struct Share {
     pub least: u64,
 }
 
+/// What must stand in one slot under the limits of a node, and how much may.
+#[derive(Clone, Copy, PartialEq, Eq, Debug)]
+pub struct Column {
+    /// The least load of the slot.
+    pub least: u64,
+    /// How often pages may cover it.
+    pub room: u32,
+}
+
 /// What a node states, with the numbers that its rule compares.
 #[derive(Clone, Copy, PartialEq, Eq, Debug)]
 pub enum Fact {
@@ -69,6 +78,8 @@ pub struct Finding {
     pub fact: Fact,
     /// Of an overload the classes that must cover some of the set, in order; of another node nothing.
     pub shares: Vec<Share>,
+    /// Of the root and the nodes right below it the sixteen slots, in order; of another node nothing.
+    pub columns: Vec<Column>,
     /// Whether the node's own rule holds, whatever lies below it.
     pub holds: bool,
 }

@@ -1,19 +1,22 @@
-ghost use Rattle.std.specs.Prelude.{◌≡◌, ◌&&◌, nat_lt, IfOk, slice_index};
+ghost use Rattle.std.specs.Prelude.{◌≡◌, ◌&&◌, ◌<◌, nat_lt, IfOk, slice_index};
 ghost use Rattle.pocsag_slots.specs.Loads.{AreInOrder};
 ghost use Rattle.pocsag_slots.specs.Numbering.{class_count};
 ghost use Rattle.pocsag_slots.specs.Ways.{class_certain};
 ghost use Rattle.pocsag_tree.specs.Views.{bound_of};
 ghost use Rattle.pocsag_findings.specs.declared.finding.Fact.TheVariants.{Split};
-ghost use Rattle.pocsag_findings.specs.Rules.{fact_holds, fact_of, least_of_set, shares_at, shares_of};
+ghost use Rattle.pocsag_findings.specs.Rules.{column_of, columns_at, columns_of, fact_holds, fact_of, least_of_set, shares_at, shares_of};
 
-use crate::finding::{Fact, Share};
+use crate::finding::{Column, Fact, Share};
 use crate::inquiry::Inquiry;
 use pocsag_slots::{
-    CLASSES, Class, Classes, Limits, closing_ways, holds, is_certain, least_by_class, least_load,
-    total_cap, ways,
+    CLASSES, Class, Classes, Limits, SLOTS, closing_ways, holds, is_certain, least_by_class,
+    least_load, total_cap, ways,
 };
 use pocsag_tree::Tree;
 use pocsag_words::{End, OutOfMemory};
+
+// How deep the nodes are of which the columns are found: the root, and the nodes right below it.
+const DRAWN_DEPTH: u32 = 2;
 
 // Whether what a node states meets the rule of its kind, for the end and so many batches.
 pub(crate) fn is_met(fact: Fact, end: End, batches: u32) -> bool
@@ -63,6 +66,46 @@ fn least_of_set(classes: &Classes, limits: &Limits, set: u16) -> u64
     ensures { result ≡ least_of_set classes.now limits.now set }
 {
     least_load(classes, limits, set)
+}
+
+// What must stand in the slot under the limits, and the room in it.
+fn column_of(inquiry: &Inquiry, limits: &Limits, slot: u8) -> Column
+    requires ordered { AreInOrder inquiry.now.classes.now limits.now }
+    requires slot { slot < 16 }
+    ensures { result ≡ column_of inquiry.now.classes.now limits.now slot }
+{
+    Column {
+        least: least_of_set(inquiry.classes, limits, 1 << slot),
+        room: limits.cap[slot as usize],
+    }
+}
+
+// The columns of the sixteen slots under the limits.
+fn columns_of(inquiry: &Inquiry, limits: &Limits) -> Result<Vec<Column>, OutOfMemory>
+    requires { AreInOrder inquiry.now.classes.now limits.now }
+    ensures { IfOk result (λ found. found.items ≡ columns_of inquiry.now.classes.now limits.now) }
+{
+    let mut found = Vec::new(inquiry.alloc);
+    for slot in 0..SLOTS as u8 {
+        found.push(column_of(inquiry, limits, slot))?;
+    }
+    Ok(found)
+}
+
+// The columns that are found of a node below so many.
+pub(crate) fn columns_at(
+    inquiry: &Inquiry,
+    limits: &Limits,
+    above: u32,
+) -> Result<Vec<Column>, OutOfMemory>
+    requires { AreInOrder inquiry.now.classes.now limits.now }
+    ensures { IfOk result (λ found. found.items ≡ columns_at inquiry.now.classes.now limits.now above) }
+{
+    if above < DRAWN_DEPTH {
+        columns_of(inquiry, limits)
+    } else {
+        Ok(Vec::new(inquiry.alloc))
+    }
 }
 
 // What the node states under the limits.

@@ -9,7 +9,7 @@ mod laws;
 mod listing;
 mod telling;
 
-pub use finding::{Fact, Finding, Reached, Share};
+pub use finding::{Column, Fact, Finding, Reached, Share};
 pub use laws::{accepted_trees_hold, trees_that_hold_are_accepted};
 pub use listing::findings;
 pub use telling::Telling;

@@ -3,12 +3,12 @@ ghost use Rattle.pocsag_slots.specs.Loads.{AreInOrder};
 ghost use Rattle.pocsag_slots.specs.Ways.{MayTake};
 ghost use Rattle.pocsag_tree.specs.Views.{bound_of, bounds_of};
 ghost use Rattle.pocsag_findings.specs.Findings.{each_unjudged, findings_by, findings_of, findings_within, unjudged_below, unjudged_within};
-ghost use Rattle.pocsag_findings.specs.Rules.{fact_holds};
+ghost use Rattle.pocsag_findings.specs.Rules.{columns_at, fact_holds};
 ghost use Rattle.pocsag_findings.specs.Views.{all_stated};
 
 use crate::finding::{Fact, Finding, Reached, Share};
 use crate::inquiry::{Inquiry, Position};
-use crate::judging::{fact_of, is_met, shares_at};
+use crate::judging::{columns_at, fact_of, is_met, shares_at};
 use pocsag_slots::{Classes, Way, all_limits, below_split, closing_ways, from_split, narrow, ways};
 use pocsag_tree::{Certificate, Tree};
 use pocsag_words::OutOfMemory;
@@ -22,23 +22,27 @@ fn put_fact(
     shares: Vec<Share>,
     found: &mut Vec<Finding>,
 ) -> Result<bool, OutOfMemory>
-    requires { place.now.above < inquiry.now.depth }
+    requires above { place.now.above < inquiry.now.depth }
+    requires ordered { AreInOrder inquiry.now.classes.now place.now.limits }
     ensures put { OnOk result (all_stated found.new.items ≡ all_stated found.old.items
         ++ (record {
           depth = place.now.above + 1;
           reached = place.now.reached;
           fact = fact;
           shares = shares.items;
+          columns = columns_at inquiry.now.classes.now place.now.limits place.now.above;
           holds = fact_holds inquiry.now.end inquiry.now.batches fact;
         } ∷ [])) }
     ensures holds { IfOk result (λ holds. holds ≡ fact_holds inquiry.now.end inquiry.now.batches fact) }
 {
     let holds = is_met(fact, inquiry.end, inquiry.batches);
+    let columns = columns_at(inquiry, &place.limits, place.above)?;
     found.push(Finding {
         depth: place.above + 1,
         reached: place.reached,
         fact,
         shares,
+        columns,
         holds,
     })?;
     Ok(holds)
@@ -63,6 +67,7 @@ fn put_unjudged(
         reached: Reached::Unreached,
         fact: Fact::Unjudged,
         shares: Vec::new(inquiry.alloc),
+        columns: Vec::new(inquiry.alloc),
         holds: false,
     })?;
     put_below_unjudged(inquiry, above + 1, tree, found)

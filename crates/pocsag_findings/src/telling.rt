@@ -5,6 +5,8 @@ pub enum Telling {
     Lines(u32),
     /// The same facts as JSON.
     Facts(u32),
+    /// As a drawing of its root and of the nodes right below it.
+    Drawing,
 }
 
 impl Telling {
@@ -12,6 +14,7 @@ impl Telling {
     pub fn depth(self) -> u32 {
         match self {
             Telling::Lines(depth) | Telling::Facts(depth) => depth,
+            Telling::Drawing => 2,
         }
     }
 }

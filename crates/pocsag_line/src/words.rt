@@ -142,7 +142,8 @@ shown' and the first such node with the reason, and the status is 1. '-' as PAGE
 is standard input.
 
 Example:
-  pocsag explain pages.csv cert.bin";
+  pocsag explain pages.csv cert.bin
+  pocsag explain pages.csv cert.bin --svg > cert.svg";
 
 // What is said of a range of rows that is none.
 const BAD_ROWS: &str = "\
@@ -181,6 +182,10 @@ Tells more on standard error: which file and why, the line of a
 record, the field that is wrong, and what to do";
 
 const DEPTH_HELP: &str = "How deep the nodes are that are told; what lies below is counted";
+
+const PICTURE_HELP: &str = "\
+Draws the root and the nodes right below it as an SVG picture:
+the slots as columns, what must stand in each, and the room";
 
 const FRAMES_HELP: &str = "\
 Tells of each frame its pages, their codewords, and the idles in
@@ -260,6 +265,9 @@ fn explain_command<'a>(alloc: Global) -> Result<Command<'a>, AllocError> {
     let depth = option(alloc, DEPTH, "N", DEPTH_HELP)
         .value_parser(value_parser!(u32))
         .default_value("3");
+    let svg = flag(alloc, SVG, PICTURE_HELP)
+        .conflicts_with(JSON)?
+        .conflicts_with(DEPTH)?;
     Command::new(alloc, EXPLAIN)
         .about(
             "Tells in words why fewer batches do not suffice for a page file, by its certificate",
@@ -268,7 +276,8 @@ fn explain_command<'a>(alloc: Global) -> Result<Command<'a>, AllocError> {
         .arg(positional(alloc, PAGES, PAGES_HELP))?
         .arg(positional(alloc, CERT, CERT_HELP))?
         .arg(depth)?
-        .arg(flag(alloc, JSON, "Tells the same facts as JSON"))
+        .arg(flag(alloc, JSON, "Tells the same facts as JSON"))?
+        .arg(svg)
 }
 
 fn decode_command<'a>(alloc: Global) -> Result<Command<'a>, AllocError> {
@@ -397,7 +406,9 @@ fn explain_order<'a>(found: &ArgMatches<'a>) -> Option<Order<'a>> {
     Some(Order::Explain {
         pages: path_of(found.get_str(PAGES)?),
         cert: path_of(found.get_str(CERT)?),
-        telling: if found.get_flag(JSON) {
+        telling: if found.get_flag(SVG) {
+            Telling::Drawing
+        } else if found.get_flag(JSON) {
             Telling::Facts(depth)
         } else {
             Telling::Lines(depth)

@@ -1,4 +1,4 @@
-use Rattle.std.proofs.Common.{◌≡◌, ◌+◌, ◌<◌, ◌≤◌, ℕ, All, List, length, get_or, take, subst, sym, arith, ap, sum_by, cond}
+use Rattle.std.proofs.Common.{◌≡◌, ◌+◌, ℕ, All, get_or, take, subst, sym, arith, ap, sum_by, cond}
 use Rattle.std.proofs.lemmas.List.Elements.{All-get_or}
 use Rattle.std.proofs.lemmas.List.Sums.{sum_by_more}
 use Rattle.pocsag_pages.specs.declared.page.Page.{Page}

@@ -1,0 +1,128 @@
+//! A certificate as a drawing: of the root and of each node right below it the sixteen slots as columns.
+
+use crate::columns::{Scale, columns};
+use crate::numbering::Numbering;
+use crate::outline::{first_refused, node_line, summary};
+use crate::subject::Subject;
+use pocsag_findings::Finding;
+use std::alloc::{AllocError, Global};
+
+// How many characters stand in a line at the most, where its words are no longer.
+const LINE: usize = 84;
+
+// How far it is from line to line, and from the top of the columns of a node to what stands below them.
+const LINE_HEIGHT: u64 = 15;
+
+const COLUMNS_HEIGHT: u64 = 156;
+
+// What the signs of the drawing say.
+const KEY: &str = "\
+A bar is what must stand in its slot at the least, and the short line across it the room there, both in codewords. \
+Dark bars with a wedge over them are the slots that an overload names; several slots together may need more \
+than their bars add up to. Upright lines are the boundaries that a cut names; boundary 5 is the left side of slot 5.";
+
+// The rules of the drawing, all under one class, for light and for dark.
+const STYLE: &str = "\
+<style type='text/css'>\
+.pocsag-why text{fill:#1b1d21;font:11px sans-serif}.pocsag-why .m{text-anchor:middle;font-size:9px}.pocsag-why .e{text-anchor:end}\
+.pocsag-why .b{fill:#fff}.pocsag-why .c{fill:#a8c3e6}.pocsag-why .n,.pocsag-why .w{fill:#7a2329}\
+.pocsag-why .r{stroke:#1b1d21;stroke-width:2}.pocsag-why .x{stroke:#777b82}\
+.pocsag-why .s{stroke:#7a2329;stroke-width:2;stroke-dasharray:4 3}\
+@media screen and (prefers-color-scheme:dark){.pocsag-why text{fill:#fff}.pocsag-why .b{fill:#16181c}\
+.pocsag-why .c{fill:#34516f}.pocsag-why .n,.pocsag-why .w{fill:#ffb4a8}.pocsag-why .r{stroke:#fff}\
+.pocsag-why .x{stroke:#8a8f98}.pocsag-why .s{stroke:#ffb4a8}}\
+</style>\n";
+
+// What is drawn so far, and how tall it is.
+#[derive(Drop)]
+struct Sheet {
+    alloc: Global,
+    text: String,
+    height: u64,
+}
+
+impl Sheet {
+    // Adds a line of words.
+    fn put_line(&mut self, words: &str) -> Result<(), AllocError> {
+        let base = self.height.saturating_add(13);
+        let line = format!(in self.alloc; "<text x='12' y='{base}'>{words}</text>\n")?;
+        self.text.push_str(line.as_str())?;
+        self.height = self.height.saturating_add(LINE_HEIGHT);
+        Ok(())
+    }
+
+    // Adds words in as many lines as they need.
+    fn put_words(&mut self, words: &str) -> Result<(), AllocError> {
+        let mut line = String::new(self.alloc);
+        for word in words.split(' ') {
+            if line.len().saturating_add(word.len()) >= LINE {
+                self.put_line(line.as_str())?;
+                line.clear();
+            }
+            if line.len() > 0 {
+                line.push_str(" ")?;
+            }
+            line.push_str(word)?;
+        }
+        self.put_line(line.as_str())
+    }
+
+    // Adds the line of a node, and its columns.
+    fn put_node(&mut self, line: &str, scale: Scale, finding: &Finding) -> Result<(), AllocError> {
+        self.text.push_str("<g class='d'>\n")?;
+        self.put_words(line)?;
+        let top = self.height;
+        let place = format!(in self.alloc; "<g transform='translate(0 {top})'>\n")?;
+        self.text.push_str(place.as_str())?;
+        let columns = columns(self.alloc, scale, finding)?;
+        self.text.push_str(columns.as_str())?;
+        self.text.push_str("</g></g>\n")?;
+        self.height = self.height.saturating_add(COLUMNS_HEIGHT);
+        Ok(())
+    }
+}
+
+// The sum of it; where the certificate does not show its batches, that, and the first node that does not hold.
+fn heading(alloc: Global, subject: &Subject<'_>) -> Result<String, AllocError> {
+    if subject.is_shown {
+        return summary(alloc, subject);
+    }
+    let refused = first_refused(alloc, subject)?;
+    format!(in alloc; "not shown: {refused}")
+}
+
+/// The explanation as SVG 1.1: the nodes of which columns are found, one below the other, on one scale.
+pub(crate) fn drawing(alloc: Global, subject: &Subject<'_>) -> Result<String, AllocError> {
+    let heading = heading(alloc, subject)?;
+    let heading = heading.as_str().trim_end();
+    let mut sheet = Sheet {
+        alloc,
+        text: String::new(alloc),
+        height: 8,
+    };
+    sheet.put_words(heading)?;
+    let scale = Scale::new(subject.findings);
+    let mut numbering = Numbering::new(alloc);
+    for finding in subject.findings {
+        numbering.step(finding.depth)?;
+        if finding.columns.len() > 0 {
+            let line = node_line(alloc, subject.refuted(), &numbering, finding)?;
+            sheet.put_node(line.as_str(), scale, finding)?;
+        }
+    }
+    sheet.put_words(KEY)?;
+    page(alloc, heading, &sheet)
+}
+
+// The whole page, of what was drawn.
+fn page(alloc: Global, heading: &str, sheet: &Sheet) -> Result<String, AllocError> {
+    let tall = sheet.height.saturating_add(8);
+    let body = sheet.text.as_str();
+    let front = format!(in alloc;
+        "<svg xmlns='http://www.w3.org/2000/svg' version='1.1' class='pocsag-why' role='img' width='540' height='{tall}'"
+    )?;
+    let front = front.as_str();
+    format!(in alloc;
+        "{front} viewBox='0 0 540 {tall}'>\n<title>{heading}</title>\n<desc>{KEY}</desc>\n{STYLE}<rect class='b' width='540' height='{tall}'/>\n{body}</svg>\n"
+    )
+}
