@@ -1,6 +1,6 @@
 -- How long the text of an edit is.
 use Rattle.std.proofs.Common.{◌≡◌, ℕ, ◌+◌, ◌*◌, ◌≤◌, Bool, true, false, cond, List, [], ◌∷◌, ◌++◌, length, arith, refl, sym, ap, subst}
-use Rattle.std.specs.Prelude.{Option, Some, None, Result, Ok, Err, codes, ◌==◌, ◌||◌, nat_eq, nat_lt}
+use Rattle.std.specs.Prelude.{Option, Some, None, Result, Ok, Err, codes, ◌||◌, nat_eq, nat_lt}
 use Rattle.std.specs.Str.{bytes_eq}
 use Rattle.std.proofs.lemmas.Bool.{or_parts}
 use Rattle.std.proofs.lemmas.Bool.Decides.{nat_tests}

@@ -1,4 +1,4 @@
-use Rattle.pocsag_pager.proofs.Prelude.{ℕ, List, refl, sym, ap, subst, words_of, pager_address}
+use Rattle.pocsag_pager.proofs.Prelude.{ℕ, List, refl, sym, ap, subst, words_of}
 use Rattle.std.proofs.lemmas.Result.{IfOk-weaker, MatchResult-from_both}
 use Rattle.pocsag_pager.proofs.WholeWords.{not_both, shown_at}
 use Rattle.std.specs.Prelude.{OnErr}
