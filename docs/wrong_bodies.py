@@ -24,7 +24,8 @@ each kind that a planner, checker or receiver can go wrong by stand in `crates/N
 one; the others in `tests/wrong_bodies/NAME/`. The second column names the function, as the prover does, and the
 goal of it that stays open: a clause of its contract (`returns` where it has one clause without a name, with the
 place where it returns behind it), else an invariant of its loop that leads to one, or what a call in it asks for;
-for an entry of a table the lemma that the table is right. The page is made by `docs/wrong_bodies.py` from what that
+for an entry of a table the lemma that the table is right. A method stands under the module of its type, though its text
+may be in another file of the crate. The page is made by `docs/wrong_bodies.py` from what that
 script prints; an edit that a run did not name keeps its line. A run reads it too: it tries a wrong body against the
 clause that stands here first.
 
