@@ -116,20 +116,22 @@ def rt(crate, *words, arguments=()):
     return lambda jobs: [*BESIDE, *words, "--jobs", str(jobs), *after]
 
 
-def proof(crate):
+def proof(crates, crate):
     """The proof of a library, or the proof, build and first run of a program."""
+    weight = workspace.weight(crates, crate.name)
     if crate.is_program:
         words = rt(crate, "run", arguments=["--help"] if crate.name == workspace.PROGRAM else [])
     else:
         words = rt(crate, "lib")
     begins, ends = f"proving {crate.name}", f"{crate.name} proved"
-    return lanes.Task(crate.name, crate.uses, crate.lines(), crate.folder, words, begins, ends)
+    return lanes.Task(crate.name, crate.uses, weight, crate.folder, words, begins, ends)
 
 
-def tests(crate):
+def tests(crates, crate):
     """The proof and the run of a crate's tests, over the work that its own proof kept."""
+    weight = workspace.weight(crates, crate.name)
     begins, ends = f"proving the tests of {crate.name}", f"the tests of {crate.name} proved and passed"
-    return lanes.Task(f"{crate.name} tests", (*crate.uses, crate.name), crate.lines(), crate.folder, rt(crate, "test"), begins, ends, least=3)
+    return lanes.Task(f"{crate.name} tests", (*crate.uses, crate.name), weight, crate.folder, rt(crate, "test"), begins, ends, least=3)
 
 
 def run(tasks, crates):
@@ -165,7 +167,7 @@ def build_program(crates):
     if os.access(BINARY, os.X_OK) and read_built()[1] == total:
         return
     say("proving and building once: some 16 minutes on four processors, 2 GB of memory for each of them, 6 GB of disk")
-    run([proof(crate) for crate in wanted.values()], wanted)
+    run([proof(wanted, crate) for crate in wanted.values()], wanted)
     if not os.access(BINARY, os.X_OK):
         raise Refused(f"'rt run' left no program in {BINARY.parent.relative_to(TOP)}")
     write_built(paths, total, files)
@@ -193,8 +195,8 @@ def build(crates, tested):
     files, total = listing(paths), digest(paths)
     libraries = {crate: digest(sources(workspace.below(crates, name))) for name, crate in crates.items() if not crate.is_program}
     held = lock_file()
-    tasks = [proof(crate) for crate in crates.values()]
-    tasks += [tests(crate) for crate in tested if crate.has_tests]
+    tasks = [proof(crates, crate) for crate in crates.values()]
+    tasks += [tests(crates, crate) for crate in tested if crate.has_tests]
     run(tasks, crates)
     if paths:
         write_built(paths, total, files)
@@ -219,7 +221,7 @@ def main(words):
             build({it: crate for it, crate in crates.items() if it in wanted}, [])
         elif words == ["tests"]:
             tested = {name: crate for name, crate in crates.items() if crate.has_tests}
-            run([tests(crate) for crate in tested.values()], tested)
+            run([tests(crates, crate) for crate in tested.values()], tested)
         elif words == ["all"]:
             build(crates, crates.values())
         else:

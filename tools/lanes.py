@@ -84,13 +84,20 @@ class Lanes:
         self.say(f"{minutes(time.monotonic() - self.start)} {task.begins} ({number} of {len(self.tasks)})")
 
     def begin_all(self):
-        """Begins what is ready, as long as a lane is idle; the idle lanes are shared out."""
+        """Begins what is ready, as long as a lane is idle."""
         ready = self.ready()
         for at, task in enumerate(ready):
             idle = self.lanes - sum(jobs for _, _, jobs, _ in self.running.values())
             if idle <= 0:
                 return
-            self.begin(task, max(min(task.least, self.lanes), min(4, idle // (len(ready) - at))))
+            self.begin(task, self.share(task, idle // (len(ready) - at)))
+
+    def share(self, task, idle):
+        """How many jobs a task gets: its share of the idle lanes, and of all lanes its chain's share of what is left, since
+        jobs cannot be added later; lanes are shared for a while where that is more."""
+        left = sum(it.weight for name, it in self.tasks.items() if name not in self.done)
+        chain = round(self.lanes * self.behind[task.name] / max(left, 1))
+        return max(1, min(4, self.lanes, max(task.least, idle, chain)))
 
     def end_some(self):
         """Takes out the tasks that have ended; gives the name and the text of one that failed."""

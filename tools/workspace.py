@@ -10,6 +10,7 @@ PROGRAM = "pocsag_app"
 # A line of the list: a name, what kind of crate it is, and after a colon the libraries that it uses.
 LINE = re.compile(r"([\w-]+)((?: +[\w=+.-]+)*) *(?::([\w\s,/-]*))?")
 TEST = re.compile(r"^\s*#\s*\[[^]]*\btest\b", re.M)
+FUNCTION = re.compile(r"\bfn \w")
 
 
 class BadList(Exception):
@@ -36,10 +37,9 @@ class Crate:
     def has_tests(self):
         return any(TEST.search(text) for text in self.texts())
 
-    def lines(self):
-        """How many lines of code, definitions and proofs it has: how long its proof takes grows with them."""
-        files = [path for part in PARTS for path in (self.folder / part).glob("**/*") if path.suffix in (".rt", ".antt")]
-        return sum(path.read_bytes().count(b"\n") for path in files)
+    def functions(self):
+        """How many functions it has."""
+        return sum(len(FUNCTION.findall(text)) for text in self.texts())
 
 
 def read_crates(top=TOP):
@@ -85,3 +85,8 @@ def below(crates, name):
 def above(crates, name):
     """The crates that stand on the crate, directly or not."""
     return [other for other in crates if other != name and name in below(crates, other)]
+
+
+def weight(crates, name):
+    """How long a crate's proof takes beside others': each function costs some seconds, and more where more stands below."""
+    return crates[name].functions() * (len(below(crates, name)) + 5)
