@@ -5,10 +5,6 @@ use pocsag_slots::{Choice, Step, classes_of};
 use pocsag_tour::{TourFault, has_run_outside, reached};
 use pocsag_words::End;
 
-const fn early(class: u8) -> Step {
-    Step::Run { class, early: true }
-}
-
 // Rounds with a class that starts late, the batches and the end, and the steps of the tour, or why there is none.
 const TOURS: &[(
     &[(u32, usize)],
@@ -36,7 +32,16 @@ const TOURS: &[(
         None,
         1,
         End::Open,
-        Ok(&[early(6), early(58)]),
+        Ok(&[
+            Step::Run {
+                class: 6,
+                early: true,
+            },
+            Step::Run {
+                class: 58,
+                early: true,
+            },
+        ]),
     ),
     (
         &[(0, 5), (3, 9)],
@@ -53,15 +58,33 @@ const TOURS: &[(
         Err(TourFault::Unclosed),
     ),
     (&[(7, 0)], Some(113), 1, End::Idle, Err(TourFault::Unclosed)),
-    (&[(0, 14)], None, 1, End::Idle, Ok(&[early(15), Step::Idle])),
+    (
+        &[(0, 14)],
+        None,
+        1,
+        End::Idle,
+        Ok(&[
+            Step::Run {
+                class: 15,
+                early: true,
+            },
+            Step::Idle,
+        ]),
+    ),
     (
         &[(0, 13), (7, 0), (15, 16)],
         Some(135),
         2,
         End::Closed,
         Ok(&[
-            early(14),
-            early(113),
+            Step::Run {
+                class: 14,
+                early: true,
+            },
+            Step::Run {
+                class: 113,
+                early: true,
+            },
             Step::Run {
                 class: 135,
                 early: false,
