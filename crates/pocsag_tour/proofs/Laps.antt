@@ -1,5 +1,5 @@
 -- Laps of a walk: many steps that lead back are so many walks on.
-use Rattle.pocsag_tour.proofs.Prelude.{◌≡◌, ◌≢◌, ℕ, zero, suc, ◌+◌, ◌-◌, ◌<◌, ◌≤◌, ◌==◌, Bool, true, false, cond, List, [], ◌∷◌, ◌++◌, length, slice_index, slice_set, refl, sym, ap, ◌∙◌, subst, arith, eq-eqb, inl, inr, get_or-set_same, get_or-set_other, cases_eq, Step, holds, sum_below, arc_at, arc_from, arc_to, IsDeparture, IsWalk, step_of}
+use Rattle.pocsag_tour.proofs.Prelude.{◌≡◌, ◌≢◌, ℕ, zero, suc, ◌+◌, ◌-◌, ◌<◌, ◌≤◌, ◌==◌, true, false, cond, List, [], ◌∷◌, ◌++◌, length, slice_index, slice_set, refl, sym, ap, ◌∙◌, subst, arith, inl, inr, get_or-set_same, get_or-set_other, cases_eq, Step, holds, sum_below, arc_at, arc_from, arc_to, IsDeparture, IsWalk, step_of}
 use Rattle.std.proofs.Common.{◌*◌, append_assoc, get_or, map, take}
 use Rattle.std.specs.List.{repeat}
 use Rattle.std.proofs.lemmas.List.{append-nil}
