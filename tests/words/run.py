@@ -2,7 +2,7 @@
 """Lists each word of specs/ that a public clause cites, and wants a row of docs/DEFINITIONS.md for it that names its
 file; and wants each word of specs/ to have one meaning: no name is given in two modules. Of the code it wants that no
 two crates give a name to two things, a module aside, but for the names of twice.txt, which tells of each why; and that
-each line of a clause ends at column 120, but in crates that still have longer ones (break_lines.py breaks them).
+each line of a clause ends at column 120 (break_lines.py breaks longer ones).
 
 A clause is public where it stands on a function that its crate passes on, on a method of a type that it
 passes on, on a method of a public trait, or on a command of the program. The last line is
@@ -24,7 +24,6 @@ CITED = re.compile(r"[A-Za-z_][\w']*(?:-\w+)*(?:\.[A-Za-z_][\w']*(?:-\w+)*)*")
 IGNORED_CRATES = {"pocsag_cases", "pocsag_rounds", "pocsag_trial"}
 ITEM = re.compile(r"^(?:pub(?:\([^)]*\))? )?(?:const )?(?:unsafe )?(?:extern \"C\" )?(?:fn|struct|enum|trait|const|static|type) (\w+)")
 LAST_COLUMN = 120
-UNBROKEN = {"pocsag_app", "pocsag_commands", "pocsag_files", "pocsag_show"}  # crates that still have longer lines
 
 
 def passed_on(root):
@@ -136,7 +135,7 @@ def check_items(tally):
 def check_lengths(tally):
     """Wants each line of a clause to end at the last column."""
     for crate, file in sources():
-        lines = file.read_text().split("\n") if crate not in UNBROKEN else []
+        lines = file.read_text().split("\n")
         long = [place for place, line in enumerate(lines) if len(line) > LAST_COLUMN and not line.strip().startswith(("ghost use", "//"))]
         there = [place + 1 for place in long if in_clause(lines, place)]
         tally.check(f"clauses of {crate} {file.name}", not there, f"end behind column {LAST_COLUMN} at the lines {there}")

@@ -1,5 +1,5 @@
 -- Runs of edits.
-use Rattle.std.proofs.Common.{◌≡◌, List, [], ◌∷◌, ◌++◌, refl, sym, ap, ◌∙◌, subst}
+use Rattle.std.proofs.Common.{◌≡◌, ℕ, List, [], ◌∷◌, ◌++◌, refl, sym, ap, ◌∙◌, subst}
 use Rattle.std.specs.Prelude.{Option, Some, None, Result, Ok}
 use Rattle.pocsag_pages.specs.PageFile.{Row}
 use Rattle.pocsag_pages.specs.declared.page.Page.{Page}
@@ -9,14 +9,17 @@ use Rattle.pocsag_open.specs.Runs.{Asked, IsDone, IsEdit, IsRun, add, asked_of, 
 ok_is : {A E : Type 0} (r : Result A E) (a b : A) → r ≡ Ok a → r ≡ Ok b → a ≡ b
 ok_is r a b d e = cc (sym d ∙ e)
 
+some_is : {A : Type 0} (o : Option A) (a b : A) → o ≡ Some a → o ≡ Some b → a ≡ b
+some_is o a b d e = cc (sym d ∙ e)
+
 done_once : (asked : Option Asked) (before after other : List Page) → IsDone asked before after → IsDone asked before other → after ≡ other
 done_once None before after other p q = absurd p
 done_once (Some (add a k m)) before after other p q =
     let same = ok_is _ p.page q.page p.spelled q.spelled in
     p.behind ∙ ap (λ (page : Page). before ++ page ∷ []) same ∙ sym q.behind
 done_once (Some (cancel a)) before after other p q =
-    let same = ok_is _ p.tone q.tone p.spelled q.spelled in
-    p.rest ∙ ap (λ (tone : Page). without before tone.address) same ∙ sym q.rest
+    let same = some_is _ p.page.address q.page.address p.spelled q.spelled in
+    p.rest ∙ ap (λ (address : ℕ). without before address) same ∙ sym q.rest
 done_once (Some clear) before after other p q = p ∙ sym q
 
 -- an edit leads to one list

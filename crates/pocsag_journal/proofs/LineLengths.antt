@@ -154,9 +154,9 @@ line_length (w ∷ []) before after d =
 line_length (w ∷ a ∷ []) before after d =
     done (bytes_eq w (codes "cancel")) (cancel a) before after
     (λ t made.
-    let short = fields_length a (codes "tone0") [] made.tone made.spelled in
+    let short = address_length a made.page.address made.spelled in
     let six : length w ≡ 6 = ap length ((bytes_eq-Decides w (codes "cancel")).0 t) in
-    omega (arith, two_length w a, short.0, six)) d
+    omega (arith, two_length w a, short, six)) d
 line_length (w ∷ a ∷ k ∷ []) before after d = absurd d
 line_length (w ∷ a ∷ k ∷ m ∷ []) before after d =
     done (bytes_eq w (codes "add")) (add a k m) before after

@@ -54,10 +54,10 @@ refused_asking (line.Add a k m) pages (refusal.Undone f) h = absurd h
 refused_asking (line.Add a k m) pages refusal.InQuotes h = absurd h
 refused_asking (line.Add a k m) pages refusal.StrayQuote h = absurd h
 refused_asking (line.Cancel a) pages refusal.Unknown h = absurd h
-refused_asking (line.Cancel a) pages (refusal.Field f) h = inl (ap (λ (g : FieldFault). wants_memory (refusal.Field g)) h)
+refused_asking (line.Cancel a) pages (refusal.Field f) h = absurd h
 refused_asking (line.Cancel a) pages (refusal.Add f) h = absurd h
 refused_asking (line.Cancel a) pages (refusal.Cancel f) h = inr (λ after d.
-    never (sym (there pages d.page d.there) ∙ ap (λ (n : ℕ). has_address pages n) d.same ∙ h d.tone d.spelled))
+    never (sym (there pages d.page d.there) ∙ h d.page.address d.spelled))
 refused_asking (line.Cancel a) pages (refusal.Undone f) h = absurd h
 refused_asking (line.Cancel a) pages refusal.InQuotes h = absurd h
 refused_asking (line.Cancel a) pages refusal.StrayQuote h = absurd h

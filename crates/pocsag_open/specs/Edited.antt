@@ -1,8 +1,7 @@
 -- What an edit of an open round does to its pages, and why it is refused (this project's own).
-use Rattle.std.specs.Prelude.{◌≡◌, ◌⊎◌, ℕ, false, List, [], ◌∷◌, ◌++◌, codes, Contains, None, Result, Ok, Err, IsOk}
+use Rattle.std.specs.Prelude.{◌≡◌, ◌⊎◌, ℕ, false, List, [], ◌∷◌, ◌++◌, Contains, Some, None, Ok, Err, IsOk}
 use Rattle.pocsag_pages.specs.Pages.{has_address}
-use Rattle.pocsag_pages.specs.PageFile.{page_of_fields}
-use Rattle.pocsag_pages.specs.declared.fault.FieldFault.{FieldFault}
+use Rattle.pocsag_pages.specs.PageFile.{address_of, page_of_fields}
 use Rattle.pocsag_pages.specs.declared.fault.FieldFault.TheVariants as field
 use Rattle.pocsag_pages.specs.declared.page.Page.{Page}
 use Rattle.pocsag_plan.specs.OpenRound.{add_fault, fault_or_memory, without}
@@ -26,24 +25,18 @@ IsAddRefused address kind message pages (refusal.Add f) =
     (page : Page) × (page_of_fields address kind message ≡ Ok page) × (f ≡ fault_or_memory (add_fault pages page))
 IsAddRefused address kind message pages _ = ⊥
 
--- A page of an address codeword alone at the address that a field spells, if it spells one.
-abbrev pub tone_at : List ℕ → Result Page FieldFault
-tone_at address = page_of_fields address (codes "tone0") []
-
 -- The page of the address that the field of a `cancel` spells is taken out.
-pub record IsCancelled (address : List ℕ) (before after : List Page) : Type 0 where
-  pub tone : Page
-  pub spelled : tone_at address ≡ Ok tone
+pub record IsCancelled (spelling : List ℕ) (before after : List Page) : Type 0 where
   pub page : Page
   pub there : Contains before page
-  pub same : page.address ≡ tone.address
-  pub rest : after ≡ without before tone.address
+  pub spelled : address_of spelling ≡ Some page.address
+  pub rest : after ≡ without before page.address
 
--- The field spells no address, or that of no page; or memory was wanting.
-abbrev pub IsCancelRefused : (address : List ℕ) → List Page → Refusal → Type 0
-IsCancelRefused address pages (refusal.Field f) = f ≡ field.OutOfMemory
-IsCancelRefused address pages (refusal.Cancel absent) = (tone : Page) → tone_at address ≡ Ok tone → has_address pages tone.address ≡ false
-IsCancelRefused address pages _ = ⊥
+-- The field spells no address, or that of no page.
+abbrev pub IsCancelRefused : (spelling : List ℕ) → List Page → Refusal → Type 0
+IsCancelRefused spelling pages (refusal.Cancel absent) =
+    (address : ℕ) → address_of spelling ≡ Some address → has_address pages address ≡ false
+IsCancelRefused spelling pages _ = ⊥
 
 -- What each line that edits did.
 abbrev pub IsMade : Line → (before after : List Page) → Type 0

@@ -6,7 +6,7 @@ ghost use Rattle.pocsag_open.specs.Runs.{IsEdit, IsReasonFor, IsRefusedFor};
 use crate::edits::{Line, line_of};
 use crate::refusal::Refusal;
 use csv::ByteRecord;
-use pocsag_pages::{FieldFault, page_of_fields};
+use pocsag_pages::{page_of_fields, parse_address};
 use pocsag_plan::{Book, NotThere};
 use std::alloc::Global;
 
@@ -33,7 +33,7 @@ pub(crate) fn edit(alloc: Global, book: &mut Book, line: Line<'_>) -> Result<(),
             kind,
             message,
         } => add_fields(alloc, book, address, kind, message),
-        Line::Cancel { address } => cancel_field(alloc, book, address),
+        Line::Cancel { address } => cancel_field(book, address),
         Line::Clear => {
             *book = Book::new(alloc);
             Ok(())
@@ -58,17 +58,15 @@ fn add_fields(
     Ok(())
 }
 
-// What spells no address is that of no page. A page of an address codeword alone takes no memory.
-fn cancel_field(alloc: Global, book: &mut Book, address: &[u8]) -> Result<(), Refusal>
-    ensures made { OnOk result (IsCancelled address.now book.old book.new) }
-    ensures refused { IfErr result (IsCancelRefused address.now book.old) }
+// What spells no address is that of no page.
+fn cancel_field(book: &mut Book, field: &[u8]) -> Result<(), Refusal>
+    ensures made { OnOk result (IsCancelled field.now book.old book.new) }
+    ensures refused { IfErr result (IsCancelRefused field.now book.old) }
     ensures unchanged { OnErr result (book.new ≡ book.old) }
 {
-    let page = match page_of_fields(alloc, address, b"tone0", b"") {
-        Ok(page) => page,
-        Err(FieldFault::OutOfMemory) => return Err(Refusal::Field(FieldFault::OutOfMemory)),
-        Err(_) => return Err(Refusal::Cancel(NotThere)),
+    let Some(address) = parse_address(field) else {
+        return Err(Refusal::Cancel(NotThere));
     };
-    let _page = book.cancel(page.address)?;
+    let _page = book.cancel(address)?;
     Ok(())
 }

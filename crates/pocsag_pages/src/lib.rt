@@ -23,7 +23,7 @@ pub use laws::{readings_are_one, readings_are_plain, rounds_are_apart, rounds_ar
 pub use page::{LAST_ADDRESS, Page, Payload};
 pub use pocsag_words::{BATCH_BITS, PREAMBLE_BITS, SYNC_WORD};
 pub use preamble::leading_len;
-pub use record::page_of_fields;
+pub use record::{page_of_fields, parse_address};
 pub use round::{PAGE_LIMIT, Round};
 pub use rule::{ITEM_LIMIT, is_reserved_address, page_fault};
 pub use walking::{FileRecords, line_feeds};

@@ -73,8 +73,9 @@ fn parse_decimal(digits: &[u8]) -> Option<u32>
     Some(value)
 }
 
+/// The address that a field of text spells, in one to seven digits; none where it spells none.
 #[tactic(auto, unfolding(crate::specs::PageFile::address_of))]
-fn parse_address(field: &[u8]) -> Option<u32>
+pub fn parse_address(field: &[u8]) -> Option<u32>
     ensures value { result ≡ address_of field.now }
     ensures low { IfSome result (λ address. address ≤ last_address) }
 {

@@ -84,8 +84,7 @@ pub(crate) fn counted_plan(
     ensures limit { ¬ IsErrOf result PlanFault.BadLimit }
     ensures fault { IfErr result (ExplainsPlan search.effort search.end round.now search.limit) }
 {
-    // A round has a page, as both searches want.
-    let _pages = round.pages();
+    round.keeps_rules();
     match search.effort {
         Effort::Fewest => {
             let found = pocsag_branch::search(alloc, classes, search.limit, search.end)?;

@@ -165,8 +165,7 @@ pub fn send<T: Sink, C: Sink>(
     ensures writers { WritesInTurn T.failures C.failures tx.old tx.new cert.old cert.new (fault_in result) }
     ensures unsent { IfErr result IsUnsent }
 {
-    // A round holds its facts where it is read.
-    let _pages = round.pages();
+    round.keeps_rules();
     let plan = &bounded.plan;
     let slots = Slots::new(round, &plan.steps, &plan.order);
     let Ok(()) = write_slots(slots, tx) else {

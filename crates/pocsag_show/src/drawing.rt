@@ -48,7 +48,8 @@ fn put_row(alloc: Global, text: &mut Vec<u8>, low: usize, row: usize) -> Result<
 
 // Writes the rows that are drawn.
 fn put_rows(alloc: Global, text: &mut Vec<u8>, window: Window) -> Result<(), AllocError>
-    ensures { OnOk result (text.new.items ≡ text.old.items ++ flat_map (row_drawn window.low) (rows_between window.low window.high)) }
+    ensures { OnOk result (text.new.items ≡ text.old.items
+        ++ flat_map (row_drawn window.low) (rows_between window.low window.high)) }
 {
     for row in window.low..window.high {
         put_row(alloc, text, window.low, row)?;
@@ -118,7 +119,8 @@ fn drawing_text(
     requires some { 0 < counts.batches }
     requires few { window.high < 2 ^ 59 }
     requires listable { All (λ pl. IsListable pl.page) pages.now }
-    ensures { IfOk result (λ v. v.items ≡ drawing_text window.low window.high counts.batches counts.codewords counts.idles pages.now) }
+    ensures { IfOk result
+        (λ v. v.items ≡ drawing_text window.low window.high counts.batches counts.codewords counts.idles pages.now) }
 {
     let mut text = Vec::new(alloc);
     put_front(
@@ -139,7 +141,8 @@ fn drawing_text(
 pub(crate) fn drawing_of(alloc: Global, rows: Rows, judged: &Judged) -> Result<Vec<u8>, AllocError>
     requires listable { All (λ pl. IsListable pl.page) judged.now.placed.items }
     requires some { 16 ≤ length judged.now.grid.letters.items }
-    ensures { IfOk result (λ v. v.items ≡ drawing_text (first_row rows) (end_row rows (length judged.now.grid.letters.items / 16))
+    ensures { IfOk result
+        (λ v. v.items ≡ drawing_text (first_row rows) (end_row rows (length judged.now.grid.letters.items / 16))
         (length judged.now.grid.letters.items / 16) (length judged.now.grid.letters.items - judged.now.grid.idles)
         judged.now.grid.idles judged.now.placed.items) }
 {

@@ -46,7 +46,8 @@ fn put_pieces(
 ) -> Result<(), AllocError>
     requires { window.high < 2 ^ 59 }
     ensures { OnOk result (text.new.items ≡ text.old.items
-        ++ flat_map (piece window.low placed.now) (rows_between (first_row_of window.low placed.now) (end_row_of window.high placed.now))) }
+        ++ flat_map (piece window.low placed.now)
+        (rows_between (first_row_of window.low placed.now) (end_row_of window.high placed.now))) }
 {
     let first = placed.first_row(window);
     let end = placed.end_row(window);

@@ -92,7 +92,7 @@ if_holds : (b : Bool) → b ≡ true → ◌≡◌ {A = ℕ} (cond b 1 0) 1
 if_holds true h = refl
 if_holds false h = absurd (cc)
 
-cond_few : (b : Bool) → cond b 1 0 ≤ 1
+pub cond_few : (b : Bool) → cond b 1 0 ≤ 1
 cond_few true = omega arith
 cond_few false = omega arith
 

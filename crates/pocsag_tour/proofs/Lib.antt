@@ -4,6 +4,7 @@ pub mod Existing
 pub mod Flooding
 pub mod Geometry
 pub mod Joining
+pub mod Laps
 pub mod Linking
 pub mod Prelude
 pub mod Refusing

@@ -5,6 +5,7 @@ use Rattle.pocsag_slots.specs.declared.step.Step.TheVariants.{Idle as Stay, Run}
 use Rattle.pocsag_tour.specs.Reached.{IsApart, at_start, by_idle, by_run}
 use Rattle.pocsag_slots.proofs.CoverLemmas.{finish_below, start_below}
 use Rattle.pocsag_slots.proofs.Endings.{idles_last}
+use Rattle.pocsag_tour.proofs.Walks.{hit}
 
 -- a closed way to boundary 0 has an idle in slot 15 or a late run of class 135
 one_idle : (p : ℕ) → p < 16 → (p + 1) % 16 ≡ 0 → ◌≡◌ {A = ℕ} (cond (p == 15) 1 0) 1
@@ -48,9 +49,6 @@ split_run false false f n h = inr (omega arith)
 same_head : (d c : ℕ) (f e : Bool) → (d == c) ≡ true → f ≡ e → start_of d f ≡ start_of c e
 same_head d c f e x y = let same : d ≡ c = eqb-true d c x in rw (same, y) refl
 
-own_idle : (p : ℕ) → ◌≡◌ {A = ℕ} (cond (p == p) 1 0) 1
-own_idle p = let t : (p == p) ≡ true = eq-eqb p p refl in rw t refl
-
 own_run : (d : ℕ) (f : Bool) (b : Bool) → b ≡ true → ◌≡◌ {A = ℕ} (cond (b && cond f f (not f)) 1 0) 1
 own_run d true true h = refl
 own_run d false true h = refl
@@ -65,7 +63,7 @@ all_reached k choice b c e p [] have idle h r leads some = absurd (omega arith)
 all_reached k choice b c e p (Stay ∷ ss) have idle h r leads some =
     all_reached k choice b c e ((p + 1) % 16) ss have
     (λ s l more. idle s l (omega (arith, more)))
-    (omega arith) (by_idle p h (idle p h (omega (arith, own_idle p))) r) leads some
+    (omega arith) (by_idle p h (idle p h (omega (arith, hit p))) r) leads some
 all_reached k choice b c e p (Run d f ∷ ss) have idle h r leads some =
     elim (split_run (d == c) e f (runs c e ss) some) [
       | inl here ↦ subst (IsReached k choice b) (leads.0 ∙ same_head d c f e here.0 here.1) r

@@ -91,7 +91,10 @@ taken_idle s ss =
 run_hit : (c d b a : ℕ) → (c ≡ d → b ≡ a) → (b ≡ a → c ≡ d) → ◌≡◌ {A = ℕ} (cond (d == c) 1 0) (cond (b == a) 1 0)
 run_hit c d b a to fro = grind (arith, cases_eq, ne_eqb)
 
-no_hit : (b a : ℕ) → b ≢ a → ◌≡◌ {A = ℕ} (cond (b == a) 1 0) 0
+pub hit : (a : ℕ) → ◌≡◌ {A = ℕ} (cond (a == a) 1 0) 1
+hit a = let t : (a == a) ≡ true = eq-eqb a a refl in rw t refl
+
+pub no_hit : (b a : ℕ) → b ≢ a → ◌≡◌ {A = ℕ} (cond (b == a) 1 0) 0
 no_hit b a ne = let y : (b == a) ≡ false = ne_eqb b a ne in rw y refl
 
 early_step : (b : ℕ) → b < 136 → (a : ℕ) → a < 288 → ◌≡◌ {A = ℕ} (runs b true (step_of a ∷ [])) (cond (b == a) 1 0)
@@ -202,8 +205,7 @@ stuck left p root h balanced spent =
     elim (cases_eq p root) [
       | inl same ↦ same
       | inr other ↦
-          let one : ◌≡◌ {A = ℕ} (cond (p == p) 1 0) 1 = (let t : (p == p) ≡ true = eq-eqb p p refl in rw t refl) in
-          absurd (omega (arith, balanced p h, outs_spent left p spent, no_hit p root other))
+          absurd (omega (arith, balanced p h, outs_spent left p spent, hit p, no_hit p root other))
     ]
 
 spent_home : (counts exits left : ℕ → ℕ) (root set : ℕ) → IsBalanced left root root → IsSpent left root →

@@ -6,17 +6,17 @@ use Rattle.pocsag_plan.proofs.planning.counted_plan.Goals as goal
 
 pub search-requires-clause-pages : goal.search-requires-clause-pages
 search-requires-clause-pages c =
-    has_page c.args.classes.now c.args.search.end c.args.round.now c.requires.counted c.pages-pages.ensures.round.some
+    has_page c.args.classes.now c.args.search.end c.args.round.now c.requires.counted c.keeps_rules.ensures.some
 
 pub within_one-requires-clause-pages : goal.within_one-requires-clause-pages
 within_one-requires-clause-pages c =
-    has_page c.args.classes.now c.args.search.end c.args.round.now c.requires.counted c.pages-pages.ensures.round.some
+    has_page c.args.classes.now c.args.search.end c.args.round.now c.requires.counted c.keeps_rules.ensures.some
 
 pub returns-in_err-found-in-Fewest-clause-fault : goal.returns-in_err-found-in-Fewest-clause-fault
 returns-in_err-found-in-Fewest-clause-fault c =
     let p = err_from_is_err_and c.from_residual.result c.from_residual.ensures.1 in
     rw (p.1, p.2, c.in-Fewest.is)
-    (explained c.args.classes.now c.args.search.end c.args.round.now c.args.search.limit c.in_err-found-in-Fewest.field-0.0 c.pages-pages.ensures.round
+    (explained c.args.classes.now c.args.search.end c.args.round.now c.args.search.limit c.in_err-found-in-Fewest.field-0.0 c.keeps_rules.ensures
     c.requires.counted c.requires.limited c.in_err-found-in-Fewest.ensures.fault)
 
 pub completed-requires-clause-within : goal.completed-requires-clause-within

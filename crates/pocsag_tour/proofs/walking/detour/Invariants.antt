@@ -1,5 +1,9 @@
-use Rattle.pocsag_tour.proofs.Prelude.{◌≡◌, ◌≢◌, ℕ, ◌<◌, slice_index, arc_at}
+use Rattle.pocsag_tour.proofs.Prelude.{slice_index}
+use Rattle.pocsag_tour.specs.Laps.{ArePassed, IsPassed}
 use Rattle.pocsag_tour.proofs.walking.detour.Given as goal
 
 abbrev pub invariant-loop-kind : goal.invariant-loop-kind
-invariant-loop-kind l = (j : ℕ) → j < l.kind → arc_at l.boundary j ≢ l.exit → slice_index l.left (arc_at l.boundary j) ≡ 0
+invariant-loop-kind l = record {
+  passed : ArePassed (slice_index l.left) (slice_index l.exits) (slice_index l.kinds);
+  here : IsPassed (slice_index l.left) l.exit l.boundary l.kind;
+}

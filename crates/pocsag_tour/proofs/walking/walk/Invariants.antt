@@ -1,10 +1,12 @@
-use Rattle.pocsag_tour.proofs.Prelude.{◌≡◌, length, slice_index, sum_below, IsWalk}
+use Rattle.pocsag_tour.proofs.Prelude.{slice_index, sum_below, IsWalk}
+use Rattle.pocsag_tour.specs.Laps.{ArePassed}
 use Rattle.pocsag_tour.proofs.walking.walk.Given as goal
 
-abbrev pub invariant-loop-arc : goal.invariant-loop-arc
-invariant-loop-arc l =
-    (length l.left ≡ 288)
-    × IsWalk (slice_index l.counts) (slice_index l.exits.arcs) (slice_index l.left) l.steps.items l.at l.root
+abbrev pub invariant-laps : goal.invariant-laps
+invariant-laps l = record {
+  walk : IsWalk (slice_index l.counts) (slice_index l.exits.arcs) (slice_index l.left) l.steps.items l.at l.root;
+  passed : ArePassed (slice_index l.left) (slice_index l.exits.arcs) (slice_index l.kinds);
+}
 
-abbrev pub decreases-loop-arc : goal.decreases-loop-arc
-decreases-loop-arc l = sum_below 288 (slice_index l.left)
+abbrev pub decreases-laps : goal.decreases-laps
+decreases-laps l = sum_below 288 (slice_index l.left)
