@@ -5,7 +5,7 @@
     build.py proofs        each crate and each program
     build.py first         of these the program, what another crate stands on and what has tests
     build.py last          the others
-    build.py tests         the tests of the crates that have some, where their proofs stand; other calls may go on beside it
+    build.py tests [CRATE..]  the tests of the crates that have some, or of these, where their proofs stand; other calls may go on beside it
     build.py all           each crate, the tests of the crates that have some, and each program
     build.py CRATE..       these crates with what they stand on, and their tests
 
@@ -219,8 +219,8 @@ def main(words):
             chosen = first if words == ["first"] else crates.keys() - first
             wanted = set().union(*(workspace.below(crates, it) for it in chosen))
             build({it: crate for it, crate in crates.items() if it in wanted}, [])
-        elif words == ["tests"]:
-            tested = {name: crate for name, crate in crates.items() if crate.has_tests}
+        elif words[:1] == ["tests"]:
+            tested = {name: crate for name, crate in crates.items() if crate.has_tests and name in (words[1:] or crates)}
             run([tests(crates, crate) for crate in tested.values()], tested)
         elif words == ["all"]:
             build(crates, crates.values())

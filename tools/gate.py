@@ -71,12 +71,16 @@ class Gate:
         elif not passed:
             self.fail(name, "it tried nothing")
 
+    def width(self, sets=1):
+        """How many parts may run side by side, where so many sets of them do."""
+        room = lanes.free_memory() // lanes.MEMORY // sets
+        return int(os.environ.get("RT_JOBS") or 0) or max(1, min(lanes.processors(), room))
+
     def beside(self, parts, steps=(), behind=None):
         """Runs steps and parts side by side, each a name and the words of a command that takes one processor, in this
         order. What each printed is shown when it ends, as if it had run alone. `behind` has by a step's name the parts
         that begin when it has passed, and are left out where it fails."""
-        width = int(os.environ.get("RT_JOBS") or 0) or max(1, min(lanes.processors(), lanes.free_memory() // lanes.MEMORY))
-        with concurrent.futures.ThreadPoolExecutor(width) as pool:
+        with concurrent.futures.ThreadPoolExecutor(self.width()) as pool:
             running = {pool.submit(self.told, words): (name, at < len(steps))
                        for at, (name, *words) in enumerate([*steps, *parts])}
             while running:

@@ -1,10 +1,14 @@
 """A copy of a crate in which edits are planted, and what the prover says of it."""
 
 import os
+import pathlib
 import re
 import shutil
 import subprocess
+import sys
 
+sys.path.insert(0, str(pathlib.Path(__file__).resolve().parents[2] / "tools"))
+import rt_beside
 from source import function_at, functions_of, homes_of
 
 PARTS = ("src", "specs", "proofs")
@@ -30,9 +34,9 @@ def link_or_copy(source, target):
         shutil.copy2(source, target)
 
 
-def rt_check(folder, only=()):
-    """What `rt check` prints in a crate's folder: of the whole crate, or of these functions and what they call."""
-    words = ["rt", "check", "--jobs", "1", *(word for name in only for word in ("--only", name))]
+def rt_check(folder, only=(), words=("rt", "check", "--jobs", "1")):
+    """What a check prints in a crate's folder: of the whole crate, or of these functions and what they call."""
+    words = [*words, *(word for name in only for word in ("--only", name))]
     how = {"cwd": folder, "stdin": subprocess.DEVNULL, "stdout": subprocess.PIPE, "stderr": subprocess.STDOUT}
     try:
         ran = subprocess.run(words, timeout=60 * MINUTES, encoding="utf-8", errors="replace", check=False, **how)
@@ -145,6 +149,7 @@ class Room:
         for part in PARTS:
             if os.path.isdir(f"{crate.folder}/{part}"):
                 shutil.copytree(f"{crate.folder}/{part}", f"{self.folder}/{part}")
+        self.words = rt_beside.check_words(self.folder)
 
     def restore_kept(self):
         """Puts what the crate's own proof left in the place of what a refused check left."""
@@ -173,4 +178,4 @@ class Room:
             os.makedirs(os.path.dirname(f"{self.folder}/{path}"), exist_ok=True)
             with open(f"{self.folder}/{path}", "w", encoding="utf-8") as it:
                 it.write(text)
-        return Planted(texts, rt_check(self.folder, only))
+        return Planted(texts, rt_check(self.folder, only, *filter(None, [self.words])))

@@ -3,6 +3,8 @@
 
   python3 tests/wrong_bodies/run.py [CRATE..]         all crates, or these alone
   python3 tests/wrong_bodies/run.py --list [CRATE..]  only shows what would be planted in which round
+  --others, before the crates                         leaves out must-fail, which `rt ci` tries
+  --proved, before the crates                         takes it that they are proved as they are, as `./test` has seen
 
 A wrong body is a file `.edit` in crates/CRATE/must-fail or tests/wrong_bodies/CRATE: a line `file: src/x.rt`, then
 pairs of lines `old: TEXT` and `new: TEXT`, where each old text stands once in the file. The function that must be
@@ -38,6 +40,7 @@ from tally import TOP, Tally
 
 PAGE = TOP / "docs/WRONG_BODIES.md"  # names the clause that each was refused at
 MEMORY = 2 << 20  # for each crate, in kB
+OTHERS, PROVED = "--others", "--proved"
 
 
 def newest(folder):
@@ -73,11 +76,14 @@ class Crate:
         return {str(it.relative_to(self.folder)): it.read_text() for it in files}
 
 
-def crates_of(top):
-    """The crates that crates.txt lists, by name."""
+def crates_of(top, is_without_must_fail=False):
+    """The crates that crates.txt lists, by name; where that is asked for, without the wrong bodies that `rt ci` tries."""
     listed = [it.partition("#")[0].strip() for it in (top / "crates.txt").read_text().splitlines()]
     lines = {it.partition(":")[0].split()[0]: it for it in listed if it}
-    return {name: Crate(top, name, lines) for name in lines}
+    found = {name: Crate(top, name, lines) for name in lines}
+    for crate in found.values():
+        crate.folders = [it for it in crate.folders if not is_without_must_fail or it.name != "must-fail"]
+    return found
 
 
 class Verdict(typing.NamedTuple):
@@ -166,23 +172,24 @@ def planned(crate):
     return texts, [it.edits for it in rounds], bad
 
 
-def try_crate(crate, say=print):
+def try_crate(crate, say=print, is_proved=False):
     """Tries a crate's edits. Gives a name, whether it holds and what to say, for each of them, for the change that is
-    right and for the unchanged copy."""
+    right and, where it is not known that the crate is proved, for the unchanged copy."""
     texts, plan, bad = planned(crate)
     results = [(f"{crate.name}/{name}", False, f"BAD EDIT: {why}") for name, why in bad.items()]
     if not plan:
         return results
     started = time.monotonic()
-    if not crate.is_kept() and not rt_check(crate.folder).is_proved:
+    if not is_proved and not crate.is_kept() and not rt_check(crate.folder).is_proved:
         return [*results, (f"{crate.name} as it is", False, "not proved, so nothing was tried: run rt check there")]
     with tempfile.TemporaryDirectory(prefix="wrong-bodies-") as top:
         room = Room(crate, top)
         for edits in plan:
             for edit, it in verdicts(room, edits, texts).items():
                 results.append((f"{crate.name}/{edit.name}", it.holds, it.told))
-        is_proved = room.check(texts).said.is_proved
-        results.append((f"{crate.name} unchanged", is_proved, "the copy is not proved at the end"))
+        if not is_proved:
+            holds = room.check(texts).said.is_proved
+            results.append((f"{crate.name} unchanged", holds, "the copy is not proved at the end"))
     if not any(it.is_right for edits in plan for it in edits):
         results.append((f"{crate.name}/a change that is right", False, "no function was found to make it in"))
     say(f"{crate.name}: {len(plan)} rounds in {time.monotonic() - started:.0f} s")
@@ -210,8 +217,9 @@ def show_plan(crates):
 
 
 def main(words):
-    known = crates_of(TOP)
-    names = [it for it in words if it != "--list"]
+    known = crates_of(TOP, OTHERS in words)
+    options = [it for it in (OTHERS, PROVED) if it in words]
+    names = [it for it in words if it not in ("--list", *options)]
     unknown = [it for it in names if it not in known]
     if unknown:
         print(f"wrong_bodies: crates.txt has no {', '.join(unknown)}", file=sys.stderr)
@@ -222,22 +230,22 @@ def main(words):
     if not shutil.which("rt"):
         print("wrong_bodies: the command rt is missing in PATH", file=sys.stderr)
         return 2
-    return try_one(crates[0]) if len(crates) == 1 else try_all(crates)
+    return try_one(crates[0], PROVED in words) if len(crates) == 1 else try_all(crates, options)
 
 
-def try_one(crate):
+def try_one(crate, is_proved):
     """Tries the edits of one crate, and prints each verdict; gives the exit status."""
     tally = Tally()
-    for name, holds, told in try_crate(crate):
+    for name, holds, told in try_crate(crate, is_proved=is_proved):
         tally.check(f"wrong body {name}", holds, told)
         if holds and told.startswith("refused"):
             print(f"wrong body {name}: {told}", flush=True)
     return tally.end()
 
 
-def apart(crate):
+def apart(crate, options):
     """Tries a crate in a process of its own: what it prints, and the processor seconds that it takes."""
-    words = [sys.executable, str(HERE / "run.py"), crate.name]
+    words = [sys.executable, str(HERE / "run.py"), *options, crate.name]
     process = subprocess.Popen(words, stdout=subprocess.PIPE, stderr=subprocess.STDOUT, text=True, errors="replace")
     text = process.stdout.read()
     _, status, used = os.wait4(process.pid, 0)
@@ -245,12 +253,12 @@ def apart(crate):
     return crate, text, used.ru_utime + used.ru_stime
 
 
-def try_all(crates):
+def try_all(crates, options):
     """Tries crates side by side, and prints what each costs; gives the exit status."""
     tally, total = Tally(), 0
     with concurrent.futures.ThreadPoolExecutor(lanes()) as pool:
         # the highest first, since they take longest
-        running = [pool.submit(apart, it) for it in reversed(crates) if any(map(pathlib.Path.is_dir, it.folders))]
+        running = [pool.submit(apart, it, options) for it in reversed(crates) if any(map(pathlib.Path.is_dir, it.folders))]
         for done in concurrent.futures.as_completed(running):
             crate, text, used = done.result()
             found = re.search(r"^(\d+) passed, (\d+) failed$", text, re.M)

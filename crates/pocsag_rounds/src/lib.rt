@@ -1,6 +1,7 @@
 #![tactic(auto)]
-//! The worked rounds that the tests of `pocsag_cases` and the calls of `pocsag_trial` share.
+//! The worked rounds that the crates of tests and the calls of `pocsag_trial` share, and what the tests make of rows.
 
+pub mod given;
 mod rounds;
 mod touring;
 

@@ -4,28 +4,23 @@ use pocsag_pages::{Page, Payload, Round, RoundFault, read_round};
 use pocsag_words::{MemorySource, OutOfMemory};
 use std::alloc::Global;
 
-pub(crate) const SYNC: u32 = 0x7cd2_15d8;
+pub const SYNC: u32 = 0x7cd2_15d8;
 
-pub(crate) const IDLE: u32 = 0x7a89_c197;
+pub const IDLE: u32 = 0x7a89_c197;
 
 /// The address codeword of address 8, 11 or 15 with function 0.
-pub(crate) const SECOND: u32 = 0x26ec;
+pub const SECOND: u32 = 0x26ec;
 
 /// The message codeword of `11111`.
-pub(crate) const ONES: u32 = 0xc444_47b9;
+pub const ONES: u32 = 0xc444_47b9;
 
 /// The message codeword of `12345`.
-pub(crate) const DIGITS: u32 = 0xc261_572c;
+pub const DIGITS: u32 = 0xc261_572c;
 
 /// A page: its address, its function and its items.
-pub(crate) type PageRow = (u32, u8, &'static [u32]);
+pub type PageRow = (u32, u8, &'static [u32]);
 
-pub(crate) fn page(
-    alloc: Global,
-    address: u32,
-    function: u8,
-    items: &[u32],
-) -> Result<Page, OutOfMemory> {
+pub fn page(alloc: Global, address: u32, function: u8, items: &[u32]) -> Result<Page, OutOfMemory> {
     Ok(Page {
         address,
         function,
@@ -33,7 +28,7 @@ pub(crate) fn page(
     })
 }
 
-pub(crate) fn pages(alloc: Global, rows: &[PageRow]) -> Result<Vec<Page>, OutOfMemory> {
+pub fn pages(alloc: Global, rows: &[PageRow]) -> Result<Vec<Page>, OutOfMemory> {
     let mut list = Vec::new(alloc);
     for (address, function, items) in rows {
         list.push(page(alloc, *address, *function, items)?)?;
@@ -42,7 +37,7 @@ pub(crate) fn pages(alloc: Global, rows: &[PageRow]) -> Result<Vec<Page>, OutOfM
 }
 
 /// So many pages of an address codeword alone, at the addresses from 0 on.
-pub(crate) fn tones(alloc: Global, count: u32) -> Result<Vec<Page>, OutOfMemory> {
+pub fn tones(alloc: Global, count: u32) -> Result<Vec<Page>, OutOfMemory> {
     let mut list = Vec::new(alloc);
     for address in 0..count {
         list.push(page(alloc, address, 0, &[])?)?;
@@ -51,9 +46,9 @@ pub(crate) fn tones(alloc: Global, count: u32) -> Result<Vec<Page>, OutOfMemory>
 }
 
 /// The records of a page file: what each begins with, and how many digits 1 follow.
-pub(crate) type Records = &'static [(&'static str, usize)];
+pub type Records = &'static [(&'static str, usize)];
 
-pub(crate) fn page_file(alloc: Global, records: &[(&str, usize)]) -> Result<Vec<u8>, OutOfMemory> {
+pub fn page_file(alloc: Global, records: &[(&str, usize)]) -> Result<Vec<u8>, OutOfMemory> {
     let mut file = Vec::from_slice(alloc, b"address,kind,message\n".as_slice())?;
     for (begins, ones) in records {
         file.extend_from_slice(begins.as_bytes())?;
@@ -65,25 +60,25 @@ pub(crate) fn page_file(alloc: Global, records: &[(&str, usize)]) -> Result<Vec<
     Ok(file)
 }
 
-pub(crate) fn round_of_file(alloc: Global, records: &[(&str, usize)]) -> Result<Round, RoundFault> {
+pub fn round_of_file(alloc: Global, records: &[(&str, usize)]) -> Result<Round, RoundFault> {
     let file = page_file(alloc, records)?;
     let mut source = MemorySource::new(file.as_slice(), 64, u64::MAX);
     read_round(alloc, &mut source)
 }
 
 /// Codewords: how many there are, which one stands where nothing else is said, and the others by place.
-pub(crate) type Sent = (usize, u32, &'static [(usize, u32)]);
+pub type Sent = (usize, u32, &'static [(usize, u32)]);
 
 /// One tone at slot 0.
-pub(crate) const LONE_TONE: Sent = (16, IDLE, &[(0, SECOND)]);
+pub const LONE_TONE: Sent = (16, IDLE, &[(0, SECOND)]);
 
 /// One page of `12345` for address 7 across two batches.
-pub(crate) const ACROSS: Sent = (32, IDLE, &[(15, 0), (16, DIGITS)]);
+pub const ACROSS: Sent = (32, IDLE, &[(15, 0), (16, DIGITS)]);
 
 /// Three pages that fill two batches.
-pub(crate) const TIGHT: Sent = (32, ONES, &[(0, 0), (6, SECOND), (22, 0)]);
+pub const TIGHT: Sent = (32, ONES, &[(0, 0), (6, SECOND), (22, 0)]);
 
-pub(crate) fn words(alloc: Global, sent: Sent) -> Result<Vec<u32>, OutOfMemory> {
+pub fn words(alloc: Global, sent: Sent) -> Result<Vec<u32>, OutOfMemory> {
     let (count, other, placed) = sent;
     let mut words = vec![in alloc; other; count]?;
     for (place, word) in placed {
@@ -95,7 +90,7 @@ pub(crate) fn words(alloc: Global, sent: Sent) -> Result<Vec<u32>, OutOfMemory> 
 }
 
 /// The bytes of the preamble and of batches of these codewords.
-pub(crate) fn bytes_of(alloc: Global, words: &[u32]) -> Result<Vec<u8>, OutOfMemory> {
+pub fn bytes_of(alloc: Global, words: &[u32]) -> Result<Vec<u8>, OutOfMemory> {
     let mut bytes = vec![in alloc; 0xaa; 72]?;
     for (place, word) in words.iter().enumerate() {
         if place % 16 == 0 {
@@ -106,11 +101,11 @@ pub(crate) fn bytes_of(alloc: Global, words: &[u32]) -> Result<Vec<u8>, OutOfMem
     Ok(bytes)
 }
 
-pub(crate) fn transmission(alloc: Global, sent: Sent) -> Result<Vec<u8>, OutOfMemory> {
+pub fn transmission(alloc: Global, sent: Sent) -> Result<Vec<u8>, OutOfMemory> {
     bytes_of(alloc, words(alloc, sent)?.as_slice())
 }
 
 /// The first so many bytes.
-pub(crate) fn cut(bytes: &[u8], len: usize) -> &[u8] {
+pub fn cut(bytes: &[u8], len: usize) -> &[u8] {
     &bytes[..len.min(bytes.len())]
 }

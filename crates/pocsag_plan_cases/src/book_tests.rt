@@ -1,8 +1,8 @@
 //! Open rounds.
 
-use crate::given::{IDLE, LONE_TONE, PageRow, SECOND, Sent, transmission};
 use pocsag_pages::{Page, Payload};
 use pocsag_plan::{AddFault, Book, BookFault, Bounded, Edit, NotThere};
+use pocsag_rounds::given::{IDLE, LONE_TONE, PageRow, SECOND, Sent, transmission};
 use pocsag_rounds::round_of;
 use pocsag_words::{End, MemorySink};
 use std::alloc::Global;

@@ -1,7 +1,9 @@
 //! Transmissions as they are shown: grids, drawings and listings.
 
-use crate::given::{ACROSS, DIGITS, IDLE, LONE_TONE, ONES, SECOND, Sent, TIGHT, cut, transmission};
 use pocsag_decode::DecodeFault;
+use pocsag_rounds::given::{
+    ACROSS, DIGITS, IDLE, LONE_TONE, ONES, SECOND, Sent, TIGHT, cut, transmission,
+};
 use pocsag_show::{Rows, ShowFault, show_list, show_svg, show_text};
 use pocsag_words::MemorySink;
 use std::alloc::Global;

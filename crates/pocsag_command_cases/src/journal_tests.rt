@@ -1,13 +1,13 @@
 //! Journals on disks in memory: what they hold once an edit is answered, whichever call fails, and what reading them
 //! gives.
 
-use crate::given::{Records, round_of_file};
 use pocsag_commands::{Fault, Outputs};
 use pocsag_journal::{
     Journal, JournalFault, MemoryDisk, Replayed, first_line, read_journal, text_of_pages,
 };
 use pocsag_open::{OpenRound, Places, Planner, run_open_kept};
 use pocsag_plan::Book;
+use pocsag_rounds::given::{Records, round_of_file};
 use pocsag_words::{MemorySink, MemorySource};
 use std::alloc::Global;
 use std::test::Fail;
