@@ -204,10 +204,10 @@ def ways_across(members, lo, hi, cap, count, b):
 
 def closing_ways(end, lo, hi, cap, count, b):
     """The ways in which the transmission may end as its end asks, as `ways_across` has them."""
-    ways = [(CAP, 15, min(cap[15], b - 1))]
+    last = [(CAP, 15, min(cap[15], b - 1))]
     if end == CLOSED_END and count[135] >= 1 and lo[135] < count[135]:
-        ways.append((HI, 135, min(hi[135], count[135] - 1)))
-    return ways
+        last.append((HI, 135, min(hi[135], count[135] - 1)))
+    return last
 
 
 def changes(node, limits, end, b, count, turns):

@@ -13,9 +13,9 @@ VERSIONS = 'data[:4] in (b"PCB1", b"PCB2", b"PCB4")'
 SECOND_END = "number(1, OPEN_END, CLOSED_END)"
 FOURTH_END = 'IDLE_END if data[:4] == b"PCB4"'
 MAY_CLOSE = "if tag == CLOSE and end in (CLOSED_END, IDLE_END) and b >= 1:"
-LAST_IDLE = "ways = [(CAP, 15, min(cap[15], b - 1))]"
+LAST_IDLE = "last = [(CAP, 15, min(cap[15], b - 1))]"
 LAST_PAGE = "if end == CLOSED_END and count[135] >= 1 and lo[135] < count[135]:"
-LAST_PAGE_WAY = f"{LAST_PAGE}\n        ways.append((HI, 135, min(hi[135], count[135] - 1)))"
+LAST_PAGE_WAY = f"{LAST_PAGE}\n        last.append((HI, 135, min(hi[135], count[135] - 1)))"
 LATE_WAYS = """if late and lo[c] < count[c]:
             ways.append((HI, c, min(hi[c], count[c] - 1)))"""
 
@@ -264,23 +264,23 @@ OF_VERDICTS = [
     ("no Close with the closed end", MAY_CLOSE, "if tag == CLOSE and end == IDLE_END and b >= 1:"),
     ("no Close with the idle end", MAY_CLOSE, "if tag == CLOSE and end == CLOSED_END and b >= 1:"),
     ("a Close with b of 0", MAY_CLOSE, "if tag == CLOSE and end in (CLOSED_END, IDLE_END):"),
-    ("the last idle in slot 0", LAST_IDLE, "ways = [(CAP, 0, min(cap[0], b - 1))]"),
-    ("the last idle lowers the cap each time", LAST_IDLE, "ways = [(CAP, 15, cap[15] - 1)]"),
-    ("the last idle narrows nothing", LAST_IDLE, "ways = [(CAP, 15, cap[15])]"),
+    ("the last idle in slot 0", LAST_IDLE, "last = [(CAP, 0, min(cap[0], b - 1))]"),
+    ("the last idle lowers the cap each time", LAST_IDLE, "last = [(CAP, 15, cap[15] - 1)]"),
+    ("the last idle narrows nothing", LAST_IDLE, "last = [(CAP, 15, cap[15])]"),
     ("a last idle alone", LAST_PAGE, "if False:"),
-    ("the last page before the last idle", "ways.append((HI, 135,", "ways.insert(0, (HI, 135,"),
+    ("the last page before the last idle", "last.append((HI, 135,", "last.insert(0, (HI, 135,"),
     (
         "the last page is of frame 0",
         LAST_PAGE_WAY,
         "if end == CLOSED_END and count[128] >= 1 and lo[128] < count[128]:\n"
-        "        ways.append((HI, 128, min(hi[128], count[128] - 1)))",
+        "        last.append((HI, 128, min(hi[128], count[128] - 1)))",
     ),
     (
         "a last page with the idle end",
         LAST_PAGE_WAY,
         "c = 113 if end == IDLE_END else 135\n"
         "    if count[c] >= 1 and lo[c] < count[c]:\n"
-        "        ways.append((HI, c, min(hi[c], count[c] - 1)))",
+        "        last.append((HI, c, min(hi[c], count[c] - 1)))",
     ),
     ("the last page where all start early too", LAST_PAGE, "if end == CLOSED_END and count[135] >= 1:"),
     ("a last page where there is none", LAST_PAGE, "if end == CLOSED_END:"),
