@@ -3,6 +3,7 @@
 
 use crate::library;
 use crate::reading::pages_of;
+use crate::slots::End;
 use crate::timing::{beside, print_times};
 use crate::tree::Tree;
 
@@ -221,7 +222,7 @@ pub fn run() {
     for address in 0..20_000 {
         pages += &format!("{address},tone0,\n");
     }
-    let certificate = halved(999_999, 1, 0, 2500).certificate(false, 1250);
+    let certificate = halved(999_999, 1, 0, 2500).certificate(End::Open, 1250);
     let plain = || check(pages.as_bytes(), &certificate);
     print_times("check, 999,999 nodes", 1, beside(RUNS, plain, || library::check(pages.as_bytes(), &certificate)));
 }

@@ -92,5 +92,5 @@ pub fn classes_of(pages: &[Page]) -> Classes {
 pub fn write<T: Write, C: Write>(pages: &[Page], found: &Found, tx: T, cert: &mut C) -> io::Result<()> {
     let order = order_of(pages, &found.steps);
     write_transmission(tx, pages, &found.steps, &order)?;
-    cert.write_all(&found.tree.certificate(false, found.batches))
+    cert.write_all(&found.tree.certificate(End::Open, found.batches))
 }

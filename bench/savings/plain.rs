@@ -1,5 +1,5 @@
 //! What planning saves: the batches of random rounds in file order, by the greedy queue of usual encoders
-//! and planned, beside a sixteenth of their codewords.
+//! and planned, beside a sixteenth of their codewords; and how many more they are with an idle codeword last.
 
 #[allow(dead_code)]
 #[path = "../search/choosing.rs"]
@@ -66,35 +66,37 @@ fn by_queue(pages: &[Page]) -> u32 {
     index.div_ceil(16)
 }
 
-fn fewest(pages: &[Page]) -> u32 {
-    match search_freely(&classes_of(pages, End::Open), NODE_LIMIT, End::Open).0 {
+fn fewest(pages: &[Page], end: End) -> u32 {
+    match search_freely(&classes_of(pages, end), NODE_LIMIT, end).0 {
         Ok(found) => found.batches,
         Err(_) => panic!("the search met its limit"),
     }
 }
 
 fn main() {
-    println!("| Round | pages | codewords / 16 | fewest | greedy queue | file order | saved against the queue |");
-    println!("|---|---|---|---|---|---|---|");
+    println!("| Round | pages | codewords / 16 | fewest | greedy queue | file order | saved against the queue | more with an idle last |");
+    println!("|---|---|---|---|---|---|---|---|");
     for (name, length) in KINDS {
         for (count, rounds) in SIZES {
             let mut random = Random::new();
-            let (mut codewords, mut least, mut queue, mut order) = (0u64, 0u64, 0u64, 0u64);
+            let (mut codewords, mut least, mut idle, mut queue, mut order) = (0u64, 0u64, 0u64, 0u64, 0u64);
             for _ in 0..rounds {
                 let pages = round(&mut random, count, length);
                 codewords += pages.iter().map(|page| u64::from(page.length)).sum::<u64>();
-                least += u64::from(fewest(&pages));
+                least += u64::from(fewest(&pages, End::Open));
+                idle += u64::from(fewest(&pages, End::Idle));
                 queue += u64::from(by_queue(&pages));
                 order += u64::from(in_order(&pages));
             }
             let average = |sum: u64| sum as f64 / f64::from(rounds);
             println!(
-                "| {name} | {count} | {:.1} | {:.1} | {:.1} | {:.1} | {:.1} % |",
+                "| {name} | {count} | {:.1} | {:.1} | {:.1} | {:.1} | {:.1} % | {:.2} |",
                 average(codewords) / 16.0,
                 average(least),
                 average(queue),
                 average(order),
                 100.0 * (queue - least) as f64 / queue as f64,
+                average(idle - least),
             );
         }
     }

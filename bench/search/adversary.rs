@@ -3,14 +3,14 @@
 use crate::free::search_freely;
 use crate::promised::search;
 use crate::random::Random;
-use crate::slots::{End, Page, classes_of};
+use crate::slots::{End, Page, classes_of, end_of};
 
 /// The words after `adversary`: `promised` or `free`, the end, how many pages, how many edits, how many
 /// random numbers are thrown away first, and at how many nodes it stops.
 pub fn run(words: &[String]) {
     let [kind, end, pages, edits, skipped, enough] = words else { panic!("six words") };
     let number = |word: &String| word.parse::<u32>().expect("a number");
-    let end = if end == "closed" { End::Closed } else { End::Open };
+    let end = end_of(end);
     let mut random = Random::new();
     for _ in 0..number(skipped) {
         random.below(2);

@@ -12,17 +12,24 @@ pub fn fewest(pages: &[Page], end: End) -> u32 {
     let most = pages.iter().map(|page| page.length + 16).sum::<u32>() + 32;
     // bit `sent` of a word: the pages `sent` can stand before the index
     let mut before = vec![0u128; most as usize + 1];
-    // the same, the last codeword being no message codeword
+    // the same, the last codeword being no message codeword, or an idle one
     let mut whole = vec![0u128; most as usize + 1];
+    let mut idle = vec![0u128; most as usize + 1];
     before[0] = 1;
     for index in 0..most {
         let place = index as usize;
         let sets = before[place];
-        if sets >> all & 1 == 1 && index % 16 == 0 && (end == End::Open || whole[place] >> all & 1 == 1) {
+        let ending = match end {
+            End::Open => sets,
+            End::Closed => whole[place],
+            End::Idle => idle[place],
+        };
+        if ending >> all & 1 == 1 && index % 16 == 0 {
             return index / 16;
         }
         before[place + 1] |= sets;
         whole[place + 1] |= sets;
+        idle[place + 1] |= sets;
         for (number, page) in pages.iter().enumerate().filter(|(_, page)| page.frame == index % 16 / 2) {
             let next = place + page.length as usize;
             if next > most as usize {
@@ -60,7 +67,12 @@ pub fn is_transmission(pages: &[Page], steps: &[Step], batches: u32, end: End) -
         last = left.swap_remove(place).length;
         index += u64::from(last);
     }
-    left.is_empty() && index == 16 * u64::from(batches) && (end == End::Open || last == 1)
+    let ends = match end {
+        End::Open => true,
+        End::Closed => last == 1,
+        End::Idle => steps.last() == Some(&Step::Idle),
+    };
+    left.is_empty() && index == 16 * u64::from(batches) && ends
 }
 
 /// Whether the steps take as many runs of each class early as the choice says.
@@ -71,8 +83,8 @@ pub fn are_steps_of(choice: &Choice, steps: &[Step]) -> bool {
     })
 }
 
-/// Whether the tree has the shape that is promised, by all choices that the limits of each node admit.
-pub fn is_shaped(classes: &Classes, batches: u32, limits: &Limits, tree: &Tree) -> bool {
+/// Whether the tree has the shape that is promised for the end, by all choices that the limits of each node admit.
+pub fn is_shaped(classes: &Classes, end: End, batches: u32, limits: &Limits, tree: &Tree) -> bool {
     match tree {
         Tree::Overload(_) | Tree::Open => true,
         Tree::Split { class, m, below, from } => {
@@ -84,23 +96,23 @@ pub fn is_shaped(classes: &Classes, batches: u32, limits: &Limits, tree: &Tree) 
                     && if early { *m == 1 } else { late && u32::from(*m) == classes.count[place] }
             };
             some_apart(classes, batches, limits, &fits)
-                && is_shaped(classes, batches, &below_split(limits, *class, u32::from(*m)), below)
-                && is_shaped(classes, batches, &from_split(limits, *class, u32::from(*m)), from)
+                && is_shaped(classes, end, batches, &below_split(limits, *class, u32::from(*m)), below)
+                && is_shaped(classes, end, batches, &from_split(limits, *class, u32::from(*m)), from)
         }
         Tree::Cut { set, children, .. } => {
             some_apart(classes, batches, limits, &|_, reached| reached == *set)
                 && ways(classes, limits, *set)
                     .zip(children)
-                    .all(|(way, child)| is_shaped(classes, batches, &narrow(classes, limits, way, batches), child))
+                    .all(|(way, child)| is_shaped(classes, end, batches, &narrow(classes, limits, way, batches), child))
         }
         Tree::Close { children } => {
             some_admitted(classes, batches, limits, &|choice| {
                 let set = reached(classes, choice, batches);
-                !is_apart(classes, choice, set) && !can_close(classes, choice, batches)
-            }) && closing_ways(classes, limits)
+                !is_apart(classes, choice, set) && !can_close(classes, end, choice, batches)
+            }) && closing_ways(classes, end, limits)
                 .into_iter()
                 .zip(children)
-                .all(|(way, child)| is_shaped(classes, batches, &narrow(classes, limits, way, batches), child))
+                .all(|(way, child)| is_shaped(classes, end, batches, &narrow(classes, limits, way, batches), child))
         }
     }
 }

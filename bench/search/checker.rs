@@ -12,15 +12,15 @@ struct Bounds {
 }
 
 pub struct Checker {
-    closed: bool,
+    end: End,
     /// The batches that are to be refuted.
     batches: i64,
     count: Vec<i64>,
     turns: Vec<i64>,
 }
 
-fn class_of(page: &Page, closed: bool) -> usize {
-    if closed && page.length == 1 { 128 + page.frame as usize } else { page.frame as usize * 16 + page.length as usize % 16 }
+fn class_of(page: &Page, end: End) -> usize {
+    if end == End::Closed && page.length == 1 { 128 + page.frame as usize } else { page.frame as usize * 16 + page.length as usize % 16 }
 }
 
 fn frame(class: usize) -> usize {
@@ -58,11 +58,10 @@ pub fn check(pages: &[Page], batches: u32, tree: &Tree, end: End) -> bool {
     if batches == 0 {
         return false;
     }
-    let closed = end == End::Closed;
-    let mut checker = Checker { closed, batches: i64::from(batches) - 1, count: vec![0; 136], turns: vec![0; 136] };
+    let mut checker = Checker { end, batches: i64::from(batches) - 1, count: vec![0; 136], turns: vec![0; 136] };
     for page in pages {
-        checker.count[class_of(page, closed)] += 1;
-        checker.turns[class_of(page, closed)] += i64::from(page.length / 16);
+        checker.count[class_of(page, end)] += 1;
+        checker.turns[class_of(page, end)] += i64::from(page.length / 16);
     }
     let bounds = Bounds { lo: vec![0; 136], hi: checker.count.clone(), cap: vec![checker.batches; 16] };
     checker.node(&bounds, tree, 300)
@@ -97,10 +96,10 @@ impl Checker {
             }
             Tree::Close { children } => {
                 let mut exits = vec![Exit::Idle(15)];
-                if self.count[135] >= 1 && bounds.lo[135] < self.count[135] {
+                if self.end == End::Closed && self.count[135] >= 1 && bounds.lo[135] < self.count[135] {
                     exits.push(Exit::Late(135));
                 }
-                self.closed && self.batches >= 1 && self.each(bounds, exits, children, depth)
+                self.end != End::Open && self.batches >= 1 && self.each(bounds, exits, children, depth)
             }
         }
     }

@@ -6,7 +6,7 @@ use std::fs::write;
 use crate::families::{FAMILIES, HARD, hard};
 use crate::promised::search;
 use crate::random::Random;
-use crate::slots::{End, Page, classes_of};
+use crate::slots::{ENDS, Page, classes_of};
 
 const HARD_LIMIT: u32 = 1_000_000;
 const LIMIT: u32 = 100_000;
@@ -29,10 +29,10 @@ pub fn run(words: &[String]) {
 /// The page file, and for each end the certificate; none where the search stops at the limit.
 fn write_round(path: &str, pages: &[Page], limit: u32) {
     write(format!("{path}.csv"), page_file(pages)).expect("a page file");
-    for (word, end) in [("open", End::Open), ("closed", End::Closed)] {
+    for (word, end) in ENDS {
         let classes = classes_of(pages, end);
         if let Ok(found) = search(&classes, limit, end) {
-            write(format!("{path}.{word}"), found.tree.certificate(end == End::Closed, found.batches)).expect("a certificate");
+            write(format!("{path}.{word}"), found.tree.certificate(end, found.batches)).expect("a certificate");
         }
     }
 }

@@ -7,8 +7,8 @@
 //! 4. Where a class is certain: a `Split` at the first open run way across the set, in the second try at the
 //!    last one, `Early(c)` at 1 and `Late(c)` at the count; where no run way is open, a `Cut` at the set.
 //! 5. A child's tree that the checker accepts under the limits of the node itself stands for the node.
-//! 6. With the closed end the root is a `Close` unless its choice has a tour. It counts as examined, so that a
-//!    tree never has more nodes than were examined.
+//! 6. With the closed or the idle end the root is a `Close` unless its choice has a tour. It counts as examined, so
+//!    that a tree never has more nodes than were examined.
 //! 7. Two tries: at most 1,000 nodes in the first; then the rest of the limit.
 
 use crate::choosing::{choose, least_of};
@@ -94,7 +94,8 @@ fn tries(classes: &Classes, batches: u32, limit: u32, end: End) -> (Result<Tree,
     (second, examined + again)
 }
 
-/// With the closed end the children of the root end the transmission: below them every tour can be closed.
+/// Where the end asks something of the last codeword the children of the root end the transmission so: below them every
+/// tour can end as asked.
 fn examine_root(question: &Question, examined: &mut u32) -> Result<Tree, Stop> {
     let Plain { classes, batches, end, .. } = question.plain;
     let limits = all_limits(classes, batches);
@@ -136,7 +137,10 @@ fn children(question: &Question, limits: &Limits, form: Form, examined: &mut u32
     let narrowed: Vec<Limits> = match form {
         Form::Split { class, m } => vec![below_split(limits, class, m), from_split(limits, class, m)],
         Form::Cut { set, .. } => ways(classes, limits, set).map(|way| narrow(classes, limits, way, batches)).collect(),
-        Form::Close => closing_ways(classes, limits).into_iter().map(|way| narrow(classes, limits, way, batches)).collect(),
+        Form::Close => {
+            let ways = closing_ways(classes, question.plain.end, limits).into_iter();
+            ways.map(|way| narrow(classes, limits, way, batches)).collect()
+        }
     };
     let mut trees = Vec::new();
     for child in &narrowed {

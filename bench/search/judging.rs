@@ -20,9 +20,9 @@ pub fn accepts(classes: &Classes, limits: &Limits, batches: u32, tree: &Tree, en
                 && accepts_each(classes, limits, batches, ways(classes, limits, *set), children, end)
         }
         Tree::Close { children } => {
-            end == End::Closed
+            end != End::Open
                 && batches >= 1
-                && accepts_each(classes, limits, batches, closing_ways(classes, limits).into_iter(), children, end)
+                && accepts_each(classes, limits, batches, closing_ways(classes, end, limits).into_iter(), children, end)
         }
         Tree::Open => false,
     }

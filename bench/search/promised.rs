@@ -3,8 +3,8 @@
 //! 1. `least_of` gives `least`, the set that refuses one batch less, and a choice admitted at `least`.
 //! 2. `decide` (the free search with a fuel of 20,000 nodes) looks for a tour with `least` batches. Where it
 //!    finds one, that is the answer, with one node.
-//! 3. With the closed end `decide` then looks for a tour for the open end. Where it finds one that cannot be
-//!    closed, the root is a `Close`. No other `Close` can occur then, nor any where it finds none.
+//! 3. With the closed or the idle end `decide` then looks for a tour for the open end. Where it finds one that cannot
+//!    end as asked, the root is a `Close`. No other `Close` can occur then, nor any where it finds none.
 //! 4. At every other node: `choose` (all runs early at first), then the climb to another admitted choice.
 //!    The children are made by the choice at which the climb ends, and by nothing else.
 //! 5. Climb: among the ways across the set reached, in the order of `ways`, each that is live is taken:
@@ -65,7 +65,7 @@ pub fn sight_of(question: &Question, choice: Choice) -> Sight {
     let set = reached(question.classes, &choice, question.batches);
     if is_apart(question.classes, &choice, set) {
         Sight::Apart { choice, set }
-    } else if question.end == End::Open || can_close(question.classes, &choice, question.batches) {
+    } else if can_close(question.classes, question.end, &choice, question.batches) {
         Sight::Met(choice)
     } else {
         Sight::Unclosed
@@ -94,7 +94,7 @@ fn examine_root(question: &Question) -> Result<Tree, Choice> {
     let limits = all_limits(question.classes, question.batches);
     let open = match question.end {
         End::Open => None,
-        End::Closed => decide(question.classes, question.batches, End::Open),
+        End::Closed | End::Idle => decide(question.classes, question.batches, End::Open),
     };
     let (tree, _) = match open {
         Some(choice) => node(question, &limits, sight_of(question, choice), 1)?,
@@ -121,7 +121,8 @@ fn node(question: &Question, limits: &Limits, sight: Sight, made: u32) -> Result
         Sight::Overfull(set) => Ok((Tree::Overload(set), made)),
         Sight::Met(choice) => Err(choice),
         Sight::Unclosed => {
-            let (children, made) = row(question, limits, closing_ways(classes, limits).into_iter(), made)?;
+            let ways = closing_ways(classes, question.end, limits).into_iter();
+            let (children, made) = row(question, limits, ways, made)?;
             Ok((Tree::Close { children }, made))
         }
         Sight::Apart { choice, set } => match certain_class(classes, limits, set) {

@@ -7,6 +7,14 @@ pub const SLOTS: usize = 16;
 pub enum End {
     Open,
     Closed,
+    Idle,
+}
+
+/// Each end with the word that names it.
+pub const ENDS: [(&str, End); 3] = [("open", End::Open), ("closed", End::Closed), ("idle", End::Idle)];
+
+pub fn end_of(word: &str) -> End {
+    ENDS.iter().find(|(name, _)| *name == word).expect("an end").1
 }
 
 /// A page as the search sees it: its frame and how many codewords it has.
@@ -204,12 +212,13 @@ pub fn run_ways<'a>(classes: &'a Classes, limits: &'a Limits, set: u16) -> impl 
     })
 }
 
-pub fn closing_ways(classes: &Classes, limits: &Limits) -> Vec<Way> {
-    let mut found = vec![Way::IdleIn(15)];
-    if limits.lo[135] < classes.count[135] {
-        found.push(Way::Late(135));
+/// The ways in which a tour may end as the end asks; nothing closes the open end.
+pub fn closing_ways(classes: &Classes, end: End, limits: &Limits) -> Vec<Way> {
+    match end {
+        End::Open => vec![],
+        End::Closed if limits.lo[135] < classes.count[135] => vec![Way::IdleIn(15), Way::Late(135)],
+        End::Closed | End::Idle => vec![Way::IdleIn(15)],
     }
-    found
 }
 
 /// The limits where the way is taken.

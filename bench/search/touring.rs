@@ -53,10 +53,15 @@ pub fn is_apart(classes: &Classes, choice: &Choice, set: u16) -> bool {
     (0..CLASSES).any(|class| [true, false].iter().any(|early| has_run_outside(classes, choice, set, class, *early)))
 }
 
-/// Whether a tour of the choice can end as the closed end wants: with an idle in slot 15, or with a late
-/// run of class 135.
-pub fn can_close(classes: &Classes, choice: &Choice, batches: u32) -> bool {
-    loads(classes, &choice.early)[15] < batches || choice.early[135] < classes.count[135]
+/// Whether a tour of the choice can end as the end asks: with an idle in slot 15, or for the closed end with a
+/// late run of class 135.
+pub fn can_close(classes: &Classes, end: End, choice: &Choice, batches: u32) -> bool {
+    let has_idle = loads(classes, &choice.early)[15] < batches;
+    match end {
+        End::Open => true,
+        End::Closed => has_idle || choice.early[135] < classes.count[135],
+        End::Idle => has_idle,
+    }
 }
 
 const KINDS: usize = 18;
@@ -139,7 +144,7 @@ fn walk(arcs: &mut Arcs, root: usize, room: usize) -> Vec<Step> {
     }
 }
 
-/// A tour of a choice whose runs are all reached, and which can be closed where the end is closed.
+/// A tour of a choice whose runs are all reached, and which can end as the end asks.
 pub fn tour(classes: &Classes, choice: &Choice, batches: u32, end: End) -> Vec<Step> {
     let mut arcs = arcs_of(classes, choice, batches);
     let room = arcs.left.iter().flatten().map(|count| *count as usize).sum();

@@ -1,5 +1,7 @@
 //! Bound trees in plain Rust.
 
+use crate::slots::End;
+
 #[derive(Debug)]
 pub enum Tree {
     Overload(u16),
@@ -32,7 +34,7 @@ impl Tree {
         matches!(self, Tree::Open) || self.children().into_iter().any(Tree::has_open)
     }
 
-    /// The tree as a certificate of version 2 spells it.
+    /// The tree as certificates of versions 2 and 4 spell it.
     fn write(&self, bytes: &mut Vec<u8>) {
         match self {
             Tree::Overload(set) => {
@@ -57,10 +59,13 @@ impl Tree {
         }
     }
 
-    /// The certificate of the tree, of version 2, for so many batches and the closed or the open end.
-    pub fn certificate(&self, is_closed: bool, batches: u32) -> Vec<u8> {
-        let mut bytes = b"PCB2".to_vec();
-        bytes.push(u8::from(is_closed));
+    /// The certificate of the tree for so many batches, in the version of the end.
+    pub fn certificate(&self, end: End, batches: u32) -> Vec<u8> {
+        let mut bytes = match end {
+            End::Open => b"PCB2\0".to_vec(),
+            End::Closed => b"PCB2\x01".to_vec(),
+            End::Idle => b"PCB4".to_vec(),
+        };
         bytes.extend(batches.to_be_bytes());
         self.write(&mut bytes);
         bytes

@@ -6,59 +6,69 @@ use crate::families::{FAMILIES, HARD, hard, small};
 use crate::free::search_freely;
 use crate::promised::search;
 use crate::random::Random;
-use crate::slots::{End, Page, all_limits, classes_of};
+use crate::slots::{ENDS, End, Page, all_limits, classes_of, end_of};
 use crate::tree::Tree;
 
-const ENDS: [End; 2] = [End::Open, End::Closed];
 const LIMIT: u32 = 100_000;
 const SMALL_ROUNDS: u32 = 5_000;
 const ROUNDS: u32 = 300;
 
-/// Rounds with their fewest batches for the open and the closed end, of pages with their frame and length.
-const EXAMPLES: &[(&str, &[(u32, u32)], u32, u32)] = &[
-    ("lone tone", &[(0, 1)], 1, 1),
-    ("three tones in one frame", &[(5, 1), (5, 1), (5, 1)], 2, 2),
-    ("one full batch", &[(0, 16)], 1, 2),
-    ("loop apart", &[(3, 16)], 2, 2),
-    ("loops apart", &[(0, 16), (3, 16)], 3, 3),
-    ("two numbers that fill a batch", &[(0, 6), (3, 10)], 1, 2),
-    ("three pages that fill two batches", &[(0, 6), (3, 10), (3, 16)], 2, 3),
-    ("two in the last frame", &[(7, 2), (7, 2)], 2, 3),
-    ("long number", &[(7, 50)], 4, 5),
-    ("long text", &[(0, 1401)], 88, 88),
-    ("closed with an address alone", &[(0, 14), (7, 1), (7, 17)], 2, 2),
-    ("closed both ways", &[(0, 14), (7, 1), (7, 3), (1, 14)], 2, 3),
+/// Rounds with their fewest batches for the open, the closed and the idle end, of pages with their frame and length.
+const EXAMPLES: &[(&str, &[(u32, u32)], [u32; 3])] = &[
+    ("lone tone", &[(0, 1)], [1, 1, 1]),
+    ("lone tone in the last frame", &[(7, 1)], [1, 1, 1]),
+    ("two tones in the last frame", &[(7, 1), (7, 1)], [1, 1, 2]),
+    ("three tones in one frame", &[(5, 1), (5, 1), (5, 1)], [2, 2, 2]),
+    ("one full batch", &[(0, 16)], [1, 2, 2]),
+    ("loop apart", &[(3, 16)], [2, 2, 2]),
+    ("loops apart", &[(0, 16), (3, 16)], [3, 3, 3]),
+    ("two numbers that fill a batch", &[(0, 6), (3, 10)], [1, 2, 2]),
+    ("three pages that fill two batches", &[(0, 6), (3, 10), (3, 16)], [2, 3, 3]),
+    ("two in the last frame", &[(7, 2), (7, 2)], [2, 3, 3]),
+    ("long number", &[(7, 50)], [4, 5, 5]),
+    ("long text", &[(0, 1401)], [88, 88, 88]),
+    ("closed with an address alone", &[(0, 14), (7, 1), (7, 17)], [2, 2, 3]),
+    ("closed both ways", &[(0, 14), (7, 1), (7, 3), (1, 14)], [2, 3, 3]),
 ];
 
 pub fn run() {
-    for (name, pages, open, closed) in EXAMPLES {
+    for (name, pages, fewest_batches) in EXAMPLES {
         let pages = hard(pages);
-        for (end, batches) in [(End::Open, *open), (End::Closed, *closed)] {
+        for ((_, end), batches) in ENDS.into_iter().zip(*fewest_batches) {
             assert_eq!(fewest(&pages, end), batches, "{name}");
             try_round(&pages, end, Some(batches));
         }
     }
-    println!("{} examples, both ends", EXAMPLES.len());
+    println!("{} examples, each end", EXAMPLES.len());
     let mut random = Random::new();
     let mut shaped = 0;
     for _ in 0..SMALL_ROUNDS {
         let pages = small(&mut random);
-        for end in ENDS {
+        for (_, end) in ENDS {
             let want = fewest(&pages, end);
             let nodes = try_round(&pages, end, Some(want));
             shaped += u32::from(nodes > 1);
             try_limits(&pages, end, nodes);
         }
     }
-    println!("{SMALL_ROUNDS} small rounds, both ends: as the brute force; {shaped} trees of more than one node");
+    println!("{SMALL_ROUNDS} small rounds, each end: as the brute force; {shaped} trees of more than one node");
     for (name, make) in FAMILIES {
         for _ in 0..ROUNDS {
             let pages = make(&mut random);
-            for end in ENDS {
+            for (_, end) in ENDS {
                 try_round(&pages, end, None);
             }
+            let [open, closed, idle] = ENDS.map(|(_, end)| batches_of(&pages, end));
+            assert!(open <= closed && closed <= idle && idle <= open + 1, "{pages:?}: {open}, {closed}, {idle}");
         }
-        println!("{name}: {ROUNDS} rounds, both ends");
+        println!("{name}: {ROUNDS} rounds, each end");
+    }
+}
+
+fn batches_of(pages: &[Page], end: End) -> u32 {
+    match search_freely(&classes_of(pages, end), LIMIT, end).0 {
+        Ok(found) => found.batches,
+        Err(_) => panic!("the free search at its limit: {pages:?}"),
     }
 }
 
@@ -81,7 +91,7 @@ fn try_round(pages: &[Page], end: End, want: Option<u32>) -> u32 {
     let Some(found) = &answers[0] else { return LIMIT };
     if pages.len() <= 10 && found.tree.nodes() > 1 {
         let least = found.batches - 1;
-        assert!(is_shaped(&classes, least, &all_limits(&classes, least), &found.tree), "shape: {pages:?} {end:?}");
+        assert!(is_shaped(&classes, end, least, &all_limits(&classes, least), &found.tree), "shape: {pages:?} {end:?}");
     }
     found.tree.nodes()
 }
@@ -145,9 +155,12 @@ fn tree_nodes(tree: &Tree) -> u64 {
     u64::from(tree.nodes())
 }
 
-/// The nodes of so many rounds of each family, 300 where no number is given, and of the hard rounds.
+/// The nodes of so many rounds of each family, 300 where no number is given, and of the hard rounds, for the ends that
+/// follow: the open and the closed one where none is named.
 pub fn print_nodes(words: &[String]) {
     let rounds: u32 = words.first().map_or(ROUNDS, |word| word.parse().expect("a number of rounds"));
+    let named: Vec<End> = words.iter().skip(1).map(|word| end_of(word)).collect();
+    let ends = if named.is_empty() { vec![End::Open, End::Closed] } else { named };
     println!("| Family | least + 1 | promised avg | > 10 | > 100 | > 1,000 | max | limit | free avg | max | examined avg | max | limit |");
     println!("|---|---|---|---|---|---|---|---|---|---|---|---|---|");
     for (name, make) in FAMILIES {
@@ -155,7 +168,7 @@ pub fn print_nodes(words: &[String]) {
         let (mut promised, mut free, mut examined, mut more) = (Tally::default(), Tally::default(), Tally::default(), 0);
         for _ in 0..rounds {
             let pages = make(&mut random);
-            for end in ENDS {
+            for end in ends.iter().copied() {
                 let classes = classes_of(&pages, end);
                 match search(&classes, LIMIT, end) {
                     Ok(found) => promised.add(tree_nodes(&found.tree), false),
@@ -190,7 +203,7 @@ pub fn print_nodes(words: &[String]) {
     }
     println!("\n| Hard round | end | answer | promised | free | examined |\n|---|---|---|---|---|---|");
     for (name, pages) in HARD {
-        for end in ENDS {
+        for end in ends.iter().copied() {
             let classes = classes_of(&hard(pages), end);
             let promised = match search(&classes, 1_000_000, end) {
                 Ok(found) => found.tree.nodes().to_string(),

@@ -13,6 +13,8 @@ KINDS = {b"numeric": (rb"[0-9*U \-\]\[]{1,4000}", 4), b"alpha": (rb"[\x01-\x7f]{
 LARGEST_FILE = 268435456
 UNQUOTED = re.compile(rb"([^,\r\n]*)(,|\r\n|\r|\n|\Z)")  # what of a field is not quoted, and what ends it
 OVERLOAD, SPLIT, CUT, OPEN, CLOSE = range(5)
+OPEN_END, CLOSED_END, IDLE_END = range(3)
+TOLD = ("", " with a closed end", " with an idle last")  # of each end
 LO, HI, CAP = range(3)  # the places in limits, which are (lo, hi, cap)
 
 
@@ -86,10 +88,10 @@ def pages_of(data):
 
 
 def classes_of(pages, end):
-    """`count` and `turns` by class, for pages (frame, length) and the end, 0 for open or 1 for closed."""
+    """`count` and `turns` by class, for pages (frame, length) and the end."""
     count, turns = [0] * 136, [0] * 136
     for frame, length in pages:
-        c = 128 + frame if end == 1 and length == 1 else 16 * frame + length % 16
+        c = 128 + frame if end == CLOSED_END and length == 1 else 16 * frame + length % 16
         count[c] += 1
         turns[c] += length // 16
     return tuple(count), tuple(turns)
@@ -109,8 +111,8 @@ def parse(data):
         return value
 
     try:
-        need(data[:4] in (b"PCB1", b"PCB2"))
-        end = 0 if first else number(1, 0, 1)
+        need(data[:4] in (b"PCB1", b"PCB2", b"PCB4"))
+        end = OPEN_END if first else IDLE_END if data[:4] == b"PCB4" else number(1, OPEN_END, CLOSED_END)
         batches = number(4, 1, 2 ** 32 - 1)
         wanted = [[1, top]]  # for each depth how many nodes are still to come, and where they go
         while wanted:
@@ -200,9 +202,12 @@ def ways_across(members, lo, hi, cap, count, b):
     return ways
 
 
-def closing_ways(lo, hi, cap, count, b):
-    late = [(HI, 135, min(hi[135], count[135] - 1))] if count[135] >= 1 and lo[135] < count[135] else []
-    return [(CAP, 15, min(cap[15], b - 1))] + late
+def closing_ways(end, lo, hi, cap, count, b):
+    """The ways in which the transmission may end as its end asks, as `ways_across` has them."""
+    last = [(CAP, 15, min(cap[15], b - 1))]
+    if end == CLOSED_END and count[135] >= 1 and lo[135] < count[135]:
+        last.append((HI, 135, min(hi[135], count[135] - 1)))
+    return last
 
 
 def changes(node, limits, end, b, count, turns):
@@ -215,8 +220,8 @@ def changes(node, limits, end, b, count, turns):
         return [(HI, c, m - 1), (LO, c, m)]
     if tag == CUT and b >= 1 and members & 1 and c <= 135 and certain(c, members, lo, hi, count):
         return ways_across(members, lo, hi, cap, count, b)
-    if tag == CLOSE and end == 1 and b >= 1:
-        return closing_ways(lo, hi, cap, count, b)
+    if tag == CLOSE and end in (CLOSED_END, IDLE_END) and b >= 1:
+        return closing_ways(end, lo, hi, cap, count, b)
     return None
 
 
@@ -252,7 +257,7 @@ def verdict(pages_bytes, certificate_bytes):
     end, batches, tree = certificate
     if not accepted(tree, end, batches, *classes_of(pages, end)):
         return "not shown"
-    return "at least %d batches" % batches + (" with a closed end" if end == 1 else "")
+    return "at least %d batches" % batches + TOLD[end]
 
 
 def main(pages_file, certificate_file):

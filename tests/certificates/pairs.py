@@ -3,7 +3,7 @@ wrong.py errs somewhere. They are made without the program, and are the same at 
 
 import checker
 import wrong
-from checker import CLOSE, CUT, OVERLOAD, SPLIT
+from checker import CLOSE, CLOSED_END, CUT, IDLE_END, OPEN_END, OVERLOAD, SPLIT
 from rounds import HEADER, edge_files, large_files, near_pages, odd_file, page_file, small_pages
 from trees import UNEXAMINED, Builder, certificate, overload
 
@@ -14,12 +14,15 @@ TRIES_OF_WRONG_RULES = 16
 FOUND_OF_WRONG_RULES = 3
 ODD_FILES = 500
 LONE_TONE = HEADER + b"8,tone0,\n"
-THREE_OVERLOADED = certificate(0, 1, overload(0x0003))
+ENDS = (OPEN_END, CLOSED_END, IDLE_END)
+VERSIONS = ((OPEN_END, False), (OPEN_END, True), (IDLE_END, False))  # an end with it, and whether it is the first
+THREE_OVERLOADED = certificate(OPEN_END, 1, overload(0x0003))
 
 
 def shapes(source):
     """Kinds of nodes on the levels of a tree, the root's first, with the end: each kind on each of the levels."""
-    for end, inner in ((0, (SPLIT, CUT)), (1, (SPLIT, CUT, CLOSE))):
+    for end in ENDS:
+        inner = (SPLIT, CUT) if end == OPEN_END else (SPLIT, CUT, CLOSE)
         yield end, (OVERLOAD,)
         for depth in range(1, DEEPEST_SHAPE):
             for level in range(depth):
@@ -48,9 +51,9 @@ def of_trees(source):
                 pages, builder, tree = built(source, end, shape)
             batches = builder.b + 1
             yield "accepted", pages, certificate(end, batches, tree)
-            heads = [(end, batches + 1), (end, batches - 1), (1 - end, batches)]
+            heads = [(end, batches + 1), (end, batches - 1), *((other, batches) for other in ENDS if other != end)]
             yield from (("another head", pages, certificate(*head, tree)) for head in heads)
-            yield "first version", pages, certificate(0, batches, tree, first=True)
+            yield "first version", pages, certificate(OPEN_END, batches, tree, first=True)
             others = list(builder.neighbours(tree))
             for other in source.sample(others, min(NEIGHBOURS_OF_A_TREE, len(others))):
                 yield "beside", pages, certificate(end, batches, other)
@@ -82,7 +85,7 @@ def of_files(source):
     for data in files:
         yield "page file", data, THREE_OVERLOADED
         pages = checker.pages_of(data)
-        for end in (0, 1) if pages else ():
+        for end in ENDS if pages else ():
             for members in (0xFFFF, 1 << source.randrange(16), 1 << source.randrange(16) | 1 << source.randrange(16)):
                 count, turns = checker.classes_of(pages, end)
                 least = checker.least_load(members, (0,) * 136, count, count, turns)
@@ -110,7 +113,7 @@ def wide(count):
 
 
 def at_edges():
-    """Trees with a field at the edge of its range and just beyond it, in both versions."""
+    """Trees with a field at the edge of its range and just beyond it, in each version."""
     for members in (0, 1, 65535):
         yield overload(members)
         yield CUT, members, 0, 0, (UNEXAMINED,) * 2
@@ -129,18 +132,18 @@ def at_edges():
 
 def of_bytes():
     """Certificates at the edges of their ranges, cut short, or too long."""
-    for first in (False, True):
+    for end, first in VERSIONS:
         for tree in at_edges():
             for batches in (0, 1, 2, 2**32 - 1) if tree == overload(1) else (1,):
-                text = certificate(0, batches, tree, first)
+                text = certificate(end, batches, tree, first)
                 yield "edge", LONE_TONE, text
                 yield "edge", LONE_TONE, text + b"\0"
                 yield from (("edge", LONE_TONE, text[:cut]) for cut in range(max(0, len(text) - 4), len(text)))
-        whole = certificate(0, 2, (SPLIT, 0, 0, 1, (overload(3), (CUT, 1, 0, 0, (UNEXAMINED,) * 2))), first)
+        whole = certificate(end, 2, (SPLIT, 0, 0, 1, (overload(3), (CUT, 1, 0, 0, (UNEXAMINED,) * 2))), first)
         for place in range(len(whole)):
             yield "cut short", LONE_TONE, whole[:place]
             near = {whole[place] ^ 1, whole[place] ^ 32, whole[place] ^ 128}
-            for byte in sorted(near | {0, 1, 2, 3, 4, 5, 0x30, 0x33, 0x51, 255}):
+            for byte in sorted(near | {0, 1, 2, 3, 4, 5, *range(0x30, 0x36), 0x51, 255}):
                 yield "another byte", LONE_TONE, whole[:place] + bytes([byte]) + whole[place + 1:]
     yield from (("no page file", data, text) for data in (b"", HEADER) for text in (b"", b"PCB2", THREE_OVERLOADED))
 
@@ -148,7 +151,7 @@ def of_bytes():
 def large():
     """Pairs that take long: many pages, many nodes."""
     yield from (("many pages", data, THREE_OVERLOADED) for data in large_files())
-    yield from (("many nodes", LONE_TONE, certificate(0, 1, wide(count))) for count in (1_000_000, 1_000_001))
+    yield from (("many nodes", LONE_TONE, certificate(OPEN_END, 1, wide(count))) for count in (1_000_000, 1_000_001))
 
 
 def pairs(source):

@@ -1,6 +1,8 @@
 """Page files for the comparison of the checkers: those of rounds with given frames and lengths, and files whose
 quotes, line ends and fields are odd."""
 
+from checker import OPEN_END
+
 HEADER = b"address,kind,message\n"
 BYTE_ORDER_MARK = b"\xef\xbb\xbf"
 NUMERIC = b"0123456789*U -]["
@@ -26,10 +28,10 @@ def page_file(source, pages):
     return HEADER + b"".join(records)
 
 
-def small_pages(source, end=0):
-    """Frames and lengths of a few pages, alike ones among them; most often they leave no idle. For the closed end
-    there are often pages that may come last."""
-    pages = [(7, 1)] * source.choice([0, 1, 1, 2, 3]) if end == 1 else []
+def small_pages(source, end=OPEN_END):
+    """Frames and lengths of a few pages, alike ones among them; most often they leave no idle. For the ends that ask
+    something of the last codeword there are often pages that the closed end lets come last."""
+    pages = [] if end == OPEN_END else [(7, 1)] * source.choice([0, 1, 1, 2, 3])
     for _ in range(source.randrange(1, 4)):
         page = source.randrange(8), source.choice([1, 1, 2, 3, 4, 6, 8, 10, 12, 15, 16, 16, 17, 20, 31, 32, 33])
         pages += [page] * source.choice([1, 1, 1, 2, 3])

@@ -24,16 +24,16 @@ sys.path.insert(0, str(HERE.parent))
 sys.path.insert(0, str(HERE))
 import checker
 import wrong
-from checker import CLOSE, CUT, SPLIT
+from checker import CLOSE, CUT, SPLIT, TOLD
 from pairs import pairs
 from rounds import HEADER
-from tally import PROGRAM, Tally
+from tally import ENDS, PROGRAM, Tally
 from trees import UNEXAMINED, certificate, overload
 
 CHANGES = 3_000
 PLANNED = 60
 RUN_AS_A_PROGRAM = 6  # pairs of each answer
-YES = re.compile(r"at least \d+ batches( with a closed end)?\n")
+YES = re.compile(r"at least \d+ batches( with a closed end| with an idle last)?\n")
 REFUSED = re.compile(
     r"pocsag: (the header must be address,kind,message|there are no pages|the file is too large|record \d+: ("
     r"three fields are wanted|bad address|reserved address|unknown kind|a tone page has no message|the message is "
@@ -57,6 +57,8 @@ LOOPS_APART = ONE_FULL + LOOP_APART
 EXACT = b"0,numeric," + ones(25) + b"\n3,numeric," + ones(45) + b"\n"
 TIGHT = EXACT + b"11,numeric," + ones(75) + b"\n"
 BOTH_WAYS = b"0,numeric," + ones(65) + b"\n7,tone0,\n15,numeric," + ones(10) + b"\n1,numeric," + ones(65) + b"\n"
+FULL_OF_TONES = b"".join(b"%d,tone0,\n" % address for address in range(16))
+LAST_TONE = b"7,tone0,\n"
 LONG_NUMERIC = b"7,numeric," + ones(241) + b"\n"
 LONG_ALPHA = b"0,alpha," + b"A" * 4000 + b"\n"
 
@@ -72,6 +74,15 @@ EXAMPLES = [
     (BOTH_WAYS, "50434232 01 00000003 04 02 00 FFFF 00 8000", "at least 3 batches with a closed end"),
     (LONG_NUMERIC, "50434232 01 00000005 04 01 00 8000", "at least 5 batches with a closed end"),
     (LONG_ALPHA, "50434232 00 00000058 00 FFFF", "at least 88 batches"),
+    (LONE_TONE, "50434234 00000001 00 0003", "at least 1 batches with an idle last"),
+    (ONE_FULL, "50434234 00000002 04 01 00 FFFF", "at least 2 batches with an idle last"),
+    (FULL_OF_TONES, "50434234 00000002 04 01 00 FFFF", "at least 2 batches with an idle last"),
+    (BOTH_WAYS, "50434234 00000003 04 01 00 FFFF", "at least 3 batches with an idle last"),
+    (LAST_TONE, "50434234 00000001 00 C000", "at least 1 batches with an idle last"),
+    (LAST_TONE, "50434234 00000002 04 01 00 C000", "not shown"),
+    (BOTH_WAYS, "50434234 00000003 04 02 00 FFFF 00 8000", "not shown"),
+    (FULL_OF_TONES, "50434232 01 00000002 04 02 00 FFFF 00 8000", "not shown"),
+    (FULL_OF_TONES, "50434232 00 00000002 00 FFFF", "not shown"),
     (LOOPS_APART, "50434231 00000003 02 0001 30 0002 00 0001 00 4000", "not shown"),
     (LOOPS_APART, "50434231 00000003 02 0002 30 0002 00 0001 00 0002", "not shown"),
     (LOOPS_APART, "50434231 00000003 02 0001 00 0002 00 0001 00 8000", "not shown"),
@@ -91,6 +102,12 @@ EXAMPLES = [
     (LOOPS_APART, "50434231 00000003 02 0001 30 0002 00 0001 00 80", "no certificate"),
     (LONE_TONE, "", "no certificate"),
     (LONE_TONE, "50434233 00", "no certificate"),
+    (LONE_TONE, "50434233 00000001 00 0003", "no certificate"),
+    (LONE_TONE, "50434235 00000001 00 0003", "no certificate"),
+    (LONE_TONE, "50434234 02 00000001 00 0003", "no certificate"),
+    (LONE_TONE, "50434234 00000000 00 0003", "no certificate"),
+    (LONE_TONE, "50434234 00000001 04 00", "no certificate"),
+    (LONE_TONE, "50434234 00000001 04 03 00 0001 00 0001 00 0001", "no certificate"),
     (LONE_TONE, "50434231 00000001 07", "no certificate"),
     (LONE_TONE, "50434231 00000001 04 01 00 0001", "no certificate"),
     (LONE_TONE, "50434231 00000001 01 00 07D1 03 03", "no certificate"),
@@ -138,7 +155,7 @@ class Product:
     def planned(self, pages, end):
         """The certificate that the program writes for the round."""
         self.write(pages)
-        done = self.run("plan", "pages.csv", "tx.bin", "cert.bin", "--end", end)
+        done = self.run("plan", "pages.csv", "tx.bin", "cert.bin", *ENDS[end])
         return (self.folder / "cert.bin").read_bytes() if done.returncode == 0 else None
 
     def second_checker(self, pages, text):
@@ -209,7 +226,7 @@ def changed(source, text):
     if kind == 2:
         return certificate(end, batches + source.choice([-1, 1]), tree, first)
     if kind == 3 and not first:
-        return certificate(1 - end, batches, tree)
+        return certificate((end + source.randrange(1, len(TOLD))) % len(TOLD), batches, tree)
     return certificate(end, batches, changed_node(source, tree), first)
 
 
@@ -235,13 +252,12 @@ class Comparing:
             self.compare("example", HEADER + records, bytes.fromhex(text), due)
         for _ in range(PLANNED):
             pages = random_round(source)
-            for end in ("open", "closed"):
+            for end, told in zip(ENDS, TOLD):
                 text = self.product.planned(pages, end)
-                self.tally.check("planned", text is not None, pages)
-                if text:
-                    batches = int.from_bytes(text[5:9], "big")
-                    due = f"at least {batches} batches" + (" with a closed end" if end == "closed" else "")
-                    self.compare("planned", pages, text, due)
+                certified = text and checker.parse(text)
+                self.tally.check("planned", certified, pages)
+                if certified:
+                    self.compare("planned", pages, text, f"at least {certified[1]} batches{told}")
 
     def changes(self, source):
         for _ in range(CHANGES):

@@ -2,7 +2,7 @@
 trees that are built at random for small rounds, and trees that differ from others in one thing."""
 
 import checker
-from checker import CLOSE, CUT, OPEN, OVERLOAD, SPLIT
+from checker import CLOSE, CUT, IDLE_END, OPEN, OVERLOAD, SPLIT
 
 UNEXAMINED = (OPEN, 0, 0, 0, ())
 
@@ -25,9 +25,10 @@ def spelled(tree):
 
 
 def certificate(end, batches, tree, first=False):
-    """The bytes of a certificate, in the first version where that is asked for."""
+    """The bytes of a certificate: in the version of its end, or in the first where that is asked for."""
     number = (batches % 2**32).to_bytes(4, "big")
-    return (b"PCB1" if first else b"PCB2" + bytes([end])) + number + spelled(tree)
+    head = b"PCB1" if first else b"PCB4" if end == IDLE_END else b"PCB2" + bytes([end])
+    return head + number + spelled(tree)
 
 
 def overload(members):

@@ -8,6 +8,14 @@ SOURCE = (pathlib.Path(__file__).resolve().parent / "checker.py").read_text()
 
 EARLY_WAYS = """if early and hi[c] >= 1:
             ways.append((LO, c, max(lo[c], 1)))"""
+APART = "if end == CLOSED_END and length == 1"
+VERSIONS = 'data[:4] in (b"PCB1", b"PCB2", b"PCB4")'
+SECOND_END = "number(1, OPEN_END, CLOSED_END)"
+FOURTH_END = 'IDLE_END if data[:4] == b"PCB4"'
+MAY_CLOSE = "if tag == CLOSE and end in (CLOSED_END, IDLE_END) and b >= 1:"
+LAST_IDLE = "last = [(CAP, 15, min(cap[15], b - 1))]"
+LAST_PAGE = "if end == CLOSED_END and count[135] >= 1 and lo[135] < count[135]:"
+LAST_PAGE_WAY = f"{LAST_PAGE}\n        last.append((HI, 135, min(hi[135], count[135] - 1)))"
 LATE_WAYS = """if late and lo[c] < count[c]:
             ways.append((HI, c, min(hi[c], count[c] - 1)))"""
 
@@ -78,13 +86,10 @@ OF_FILES = [
     ("a part of a codeword is none", "len(message) + 19) // 20", "len(message)) // 20"),
     ("the address codeword is not counted", "return address, 1 +", "return address, 0 +"),
     ("the frame is taken from the high bits", "(address % 8, length)", "(address // 8 % 8, length)"),
-    ("length 1 is apart with the open end too", "if end == 1 and length == 1", "if length == 1"),
-    ("length 1 is not apart with the closed end", "if end == 1 and length == 1", "if False"),
-    (
-        "lengths 1 modulo 16 are apart with the closed end",
-        "if end == 1 and length == 1",
-        "if end == 1 and length % 16 == 1",
-    ),
+    ("length 1 is apart with the open end too", APART, "if end != IDLE_END and length == 1"),
+    ("length 1 is not apart with the closed end", APART, "if False"),
+    ("length 1 is apart with the idle end too", APART, "if end != OPEN_END and length == 1"),
+    ("lengths 1 modulo 16 are apart with the closed end", APART, "if end == CLOSED_END and length % 16 == 1"),
     ("whole turns are rounded up", "+= length // 16", "+= (length + 15) // 16"),
     ("whole turns are not counted", "turns[c] += length // 16", "turns[c] += 0"),
     ("whole turns are those of one page", "turns[c] += length // 16", "turns[c] = length // 16"),
@@ -105,11 +110,17 @@ OF_RUNS = [
 ]
 
 OF_BYTES = [
-    ("the first version has a byte for the end", "end = 0 if first else number(1, 0, 1)", "end = number(1, 0, 1)"),
-    ("a third version", 'data[:4] in (b"PCB1", b"PCB2")', 'data[:3] == b"PCB"'),
-    ("the first version is not read", 'data[:4] in (b"PCB1", b"PCB2")', 'data[:4] == b"PCB2"'),
-    ("the end may be 2", "else number(1, 0, 1)", "else number(1, 0, 2)"),
-    ("the first version means the closed end", "end = 0 if first", "end = 1 if first"),
+    ("the first version has a byte for the end", "end = OPEN_END if first else", "end ="),
+    ("any version", VERSIONS, 'data[:3] == b"PCB"'),
+    ("a third version", VERSIONS, 'data[:4] in (b"PCB1", b"PCB2", b"PCB3", b"PCB4")'),
+    ("the first version is not read", VERSIONS, 'data[:4] in (b"PCB2", b"PCB4")'),
+    ("the fourth version is not read", VERSIONS, 'data[:4] in (b"PCB1", b"PCB2")'),
+    ("the second version names the idle end too", SECOND_END, "number(1, OPEN_END, IDLE_END)"),
+    ("the first version means the closed end", "end = OPEN_END if first", "end = CLOSED_END if first"),
+    ("the fourth version means the open end", FOURTH_END, 'OPEN_END if data[:4] == b"PCB4"'),
+    ("the fourth version means the closed end", FOURTH_END, 'CLOSED_END if data[:4] == b"PCB4"'),
+    ("the fourth version has a byte for the end", FOURTH_END, 'number(1, IDLE_END, IDLE_END) if data[:4] == b"PCB4"'),
+    ("the fourth version passes a byte over", FOURTH_END, 'number(1, 0, 255) if data[:4] == b"PCB4"'),
     ("the low byte first", '"big")', '"little")'),
     ("B may be 0", "batches = number(4, 1,", "batches = number(4, 0,"),
     ("B has two bytes", "batches = number(4, 1,", "batches = number(2, 0,"),
@@ -249,28 +260,30 @@ OF_VERDICTS = [
     ("late narrows to one page less", "(HI, c, min(hi[c], count[c] - 1))", "(HI, c, hi[c] - 1)"),
     ("late narrows to all but one", "(HI, c, min(hi[c], count[c] - 1))", "(HI, c, count[c] - 1)"),
     ("late narrows nothing", "(HI, c, min(hi[c], count[c] - 1))", "(HI, c, hi[c])"),
-    ("a Close with the open end", "if tag == CLOSE and end == 1 and", "if tag == CLOSE and"),
-    ("a Close with b of 0", "end == 1 and b >= 1:", "end == 1:"),
-    ("the last idle in slot 0", "return [(CAP, 15, min(cap[15], b - 1))]", "return [(CAP, 0, min(cap[0], b - 1))]"),
-    (
-        "the last idle lowers the cap each time",
-        "return [(CAP, 15, min(cap[15], b - 1))]",
-        "return [(CAP, 15, cap[15] - 1)]",
-    ),
-    ("the last idle narrows nothing", "return [(CAP, 15, min(cap[15], b - 1))]", "return [(CAP, 15, cap[15])]"),
-    ("a last idle alone", "b - 1))] + late", "b - 1))]"),
-    (
-        "the last page before the last idle",
-        "return [(CAP, 15, min(cap[15], b - 1))] + late",
-        "return late + [(CAP, 15, min(cap[15], b - 1))]",
-    ),
+    ("a Close with the open end", MAY_CLOSE, "if tag == CLOSE and b >= 1:"),
+    ("no Close with the closed end", MAY_CLOSE, "if tag == CLOSE and end == IDLE_END and b >= 1:"),
+    ("no Close with the idle end", MAY_CLOSE, "if tag == CLOSE and end == CLOSED_END and b >= 1:"),
+    ("a Close with b of 0", MAY_CLOSE, "if tag == CLOSE and end in (CLOSED_END, IDLE_END):"),
+    ("the last idle in slot 0", LAST_IDLE, "last = [(CAP, 0, min(cap[0], b - 1))]"),
+    ("the last idle lowers the cap each time", LAST_IDLE, "last = [(CAP, 15, cap[15] - 1)]"),
+    ("the last idle narrows nothing", LAST_IDLE, "last = [(CAP, 15, cap[15])]"),
+    ("a last idle alone", LAST_PAGE, "if False:"),
+    ("the last page before the last idle", "last.append((HI, 135,", "last.insert(0, (HI, 135,"),
     (
         "the last page is of frame 0",
-        "late = [(HI, 135, min(hi[135], count[135] - 1))] if count[135] >= 1 and lo[135] < count[135]",
-        "late = [(HI, 128, min(hi[128], count[128] - 1))] if count[128] >= 1 and lo[128] < count[128]",
+        LAST_PAGE_WAY,
+        "if end == CLOSED_END and count[128] >= 1 and lo[128] < count[128]:\n"
+        "        last.append((HI, 128, min(hi[128], count[128] - 1)))",
     ),
-    ("the last page where all start early too", "count[135] >= 1 and lo[135] < count[135]", "count[135] >= 1"),
-    ("a last page where there is none", "count[135] >= 1 and lo[135] < count[135]", "True"),
+    (
+        "a last page with the idle end",
+        LAST_PAGE_WAY,
+        "c = 113 if end == IDLE_END else 135\n"
+        "    if count[c] >= 1 and lo[c] < count[c]:\n"
+        "        last.append((HI, c, min(hi[c], count[c] - 1)))",
+    ),
+    ("the last page where all start early too", LAST_PAGE, "if end == CLOSED_END and count[135] >= 1:"),
+    ("a last page where there is none", LAST_PAGE, "if end == CLOSED_END:"),
     ("the last page narrows to one less", "min(hi[135], count[135] - 1)", "hi[135] - 1"),
     ("the last page narrows nothing", "min(hi[135], count[135] - 1)", "hi[135]"),
     ("no way narrows", "limits = changed(limits, change) if change else limits", "pass"),
@@ -279,7 +292,9 @@ OF_VERDICTS = [
         "waiting.extend((child, limits, way)",
         "waiting.extend((child, ((0,) * 136, count, (b,) * 16), way)",
     ),
-    ("the closed end is not told", 'if end == 1 else "")', 'if False else "")'),
+    ("the closed end is not told", '" with a closed end"', '""'),
+    ("the idle end is not told", '" with an idle last"', '""'),
+    ("the idle end is told as the closed one", '" with an idle last"', '" with a closed end"'),
     (
         "a page file is judged after the certificate",
         'return "refused"',

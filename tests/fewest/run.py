@@ -2,14 +2,18 @@
 """Plans small random rounds with the built program and compares them with a brute force of its own.
 
 For each round and end, with `--always` and without: the batches are those of the brute force; the transmission's codewords, read here,
-are the round's pages; and the certificate is accepted by the program's checker and by the second one, and
-by neither for one batch more. The last line is 'N passed, M failed'.
+are the round's pages, and the last one is what the end asks for; and the certificate is accepted by the program's
+checker and by the second one, and by neither for one batch more. So is each certificate of some larger rounds: there the
+closed end takes no fewer batches than the open one, the idle end no fewer than the closed one, and at most one more than
+the open one. The last line is 'N passed, M failed'.
 """
 
 import csv
 import io
+import itertools
 import pathlib
 import random
+import re
 import subprocess
 import sys
 import tempfile
@@ -20,14 +24,26 @@ HERE = pathlib.Path(__file__).resolve().parent
 sys.path.insert(0, str(HERE.parent))
 sys.path.insert(0, str(HERE.parent / "certificates"))
 import checker
-from tally import PROGRAM, Tally
+from rounds import page_file
+from tally import ENDS, PROGRAM, Tally
+from trees import certificate
 
 ROUNDS = 1_500
+LARGER_ROUNDS = 1_000
 SYNC = "7cd215d8"
 IDLE = "7a89c197"
+TOLD = dict(zip(ENDS, checker.TOLD))
+
+# Rounds as (address, number of message codewords), and the fewest batches for each end.
+EXAMPLES = [
+    ([(address, 0) for address in range(16)], {"open": 1, "closed": 1, "idle": 2}),
+    ([(0, 15)], {"open": 1, "closed": 2, "idle": 2}),
+    ([(7, 0)], {"open": 1, "closed": 1, "idle": 1}),
+]
 
 
-def fewest(pages, is_closed):
+@lru_cache(maxsize=16)
+def fewest(pages, end):
     """The fewest batches of pages (frame, length), by a dynamic program over the pages that are left.
 
     A page is sent from the first index in its frame that is not before the end of the pages before it: to
@@ -48,9 +64,10 @@ def fewest(pages, is_closed):
         return min(end_of(page, earliest(done ^ 1 << page)) for page in range(len(pages)) if done >> page & 1)
 
     def batches(page):
-        end = end_of(page, earliest(everything ^ 1 << page))
-        ends_in_message = end % 16 == 0 and pages[page][1] > 1
-        return (end + 15) // 16 + (is_closed and ends_in_message)
+        """Where that page comes last; an idle behind it takes a batch more only where it ends with its batch."""
+        length = end_of(page, earliest(everything ^ 1 << page))
+        wants_idle = end == "idle" or (end == "closed" and pages[page][1] > 1)
+        return (length + wants_idle + 15) // 16
 
     return min(batches(page) for page in range(len(pages)))
 
@@ -65,6 +82,10 @@ def random_round(source):
 
 def record(address, items):
     return f"{address},numeric,{'1' * 5 * items}\n" if items else f"{address},tone0,\n"
+
+
+def framed(pages):
+    return tuple((address % 8, 1 + items) for address, items in pages)
 
 
 def pages_read(sent):
@@ -89,31 +110,67 @@ def pages_read(sent):
     return sorted(map(tuple, pages))
 
 
+def ends_as(sent, end):
+    """Whether the last codeword is what the end asks for: an idle one, or for the closed end no message codeword."""
+    return end == "open" or sent[-4:].hex() == IDLE or end == "closed" and sent[-4] >> 7 == 0
+
+
 def run(words, folder):
     return subprocess.run([str(PROGRAM), *words], cwd=folder, capture_output=True, timeout=110)
 
 
-def one_more(certificate):
-    batches = int.from_bytes(certificate[5:9], "big") + 1
-    return certificate[:5] + batches.to_bytes(4, "big") + certificate[9:]
+def one_more(text):
+    """The certificate with one batch more."""
+    end, batches, tree = checker.parse(text)
+    return certificate(end, batches + 1, tree)
+
+
+def is_of(text, end):
+    """Whether the certificate is in the version that is written for the end."""
+    known = checker.parse(text)
+    return known is not None and TOLD[end] == checker.TOLD[known[0]] and text == certificate(*known)
+
+
+def try_second_checker(tally, pages, text, end, batches):
+    tally.check("certificate's version", is_of(text, end), (end, pages, text.hex()))
+    tally.check("second checker", checker.verdict(pages, text) == f"at least {batches} batches{TOLD[end]}", (pages, text.hex()))
+    tally.check("second checker, one more", checker.verdict(pages, one_more(text)) == "not shown", (pages, text.hex()))
+
+
+def try_own_checker(tally, folder, end):
+    """The program's own checker on what it wrote last, and on the same for one batch more."""
+    text = (folder / "cert.bin").read_bytes()
+    checked = run(["check", "pages.csv", "cert.bin"], folder)
+    told = re.fullmatch(r"at least \d+ batches(.*)\n", checked.stdout.decode())
+    tally.check("checked", checked.returncode == 0 and told and told[1] == TOLD[end], checked)
+    (folder / "more.bin").write_bytes(one_more(text))
+    checked = run(["check", "pages.csv", "more.bin"], folder)
+    tally.check("one more is not shown", (checked.returncode, checked.stdout) == (1, b"not shown\n"), checked)
 
 
 def try_round(tally, folder, pages, end, search):
     text = ("address,kind,message\n" + "".join(record(*page) for page in pages)).encode()
     (folder / "pages.csv").write_bytes(text)
-    due = fewest(tuple((address % 8, 1 + items) for address, items in pages), end == "closed")
-    planned = run(["plan", "pages.csv", "tx.bin", "cert.bin", "--end", end, *search], folder)
+    due = fewest(framed(pages), end)
+    planned = run(["plan", "pages.csv", "tx.bin", "cert.bin", *ENDS[end], *search], folder)
     printed = f"pages {len(pages)}\nbatches {due}\n".encode()
     tally.check(" ".join(["fewest", end, "end", *search]), planned.returncode == 0 and planned.stdout == printed, (text, due, planned))
     if planned.returncode != 0:
         return
-    sent, certificate = (folder / "tx.bin").read_bytes(), (folder / "cert.bin").read_bytes()
+    sent = (folder / "tx.bin").read_bytes()
     tally.check("read as the round", pages_read(sent) == sorted(pages) and len(sent) == 72 + 68 * due, (text, sent.hex()))
-    if end == "closed":
-        tally.check("ends whole", sent[-4:].hex() == IDLE or not sent[-4] >> 7, (text, sent[-4:].hex()))
-    shown = f"at least {due} batches" + (" with a closed end" if end == "closed" else "")
-    tally.check("second checker", checker.verdict(text, certificate) == shown, (text, certificate.hex()))
-    tally.check("second checker, one more", checker.verdict(text, one_more(certificate)) == "not shown", (text, certificate.hex()))
+    if end != "open":
+        tally.check("ends as asked", ends_as(sent, end), (text, end, sent[-4:].hex()))
+    try_second_checker(tally, text, (folder / "cert.bin").read_bytes(), end, due)
+
+
+def try_examples(tally, folder):
+    for pages, due in EXAMPLES:
+        tally.check("example", {end: fewest(framed(pages), end) for end in ENDS} == due, pages)
+        for end in ENDS:
+            try_round(tally, folder, pages, end, [])
+    words = (folder / "tx.bin").read_bytes()[72:]
+    tally.check("the tone in the last frame starts early", words[60:64].hex() != IDLE, words.hex())
 
 
 def try_checks(tally, folder, source):
@@ -122,18 +179,45 @@ def try_checks(tally, folder, source):
         pages = random_round(source)
         text = "address,kind,message\n" + "".join(record(*page) for page in pages)
         (folder / "pages.csv").write_text(text)
-        for words in (["open"], ["closed"], ["open", "--always"], ["closed", "--always"]):
-            planned = run(["plan", "pages.csv", "tx.bin", "cert.bin", "--verify", "--end", *words], folder)
+        for end, search in itertools.product(ENDS, ([], ["--always"])):
+            planned = run(["plan", "pages.csv", "tx.bin", "cert.bin", "--verify", *ENDS[end], *search], folder)
             tally.check("verified", planned.stdout.endswith(b"\nverified\n"), planned)
-            checked = run(["check", "pages.csv", "cert.bin"], folder)
-            tally.check("checked", checked.returncode == 0 and checked.stdout.startswith(b"at least "), checked)
-            certificate = (folder / "cert.bin").read_bytes()
-            (folder / "more.bin").write_bytes(one_more(certificate))
-            checked = run(["check", "pages.csv", "more.bin"], folder)
-            tally.check("one more is not shown", (checked.returncode, checked.stdout) == (1, b"not shown\n"), checked)
+            try_own_checker(tally, folder, end)
             decoded = run(["decode", "tx.bin"], folder)
             listed = sorted(csv.reader(io.StringIO(decoded.stdout.decode())))
             tally.check("decoded", listed == sorted(csv.reader(io.StringIO(text))), decoded)
+
+
+def larger_round(source):
+    """Frames and lengths of up to sixty pages, most often as many codewords as fill whole batches."""
+    lengths = source.choice([[1], [1, 2, 3, 4], [1, 15, 16, 17, 32], [2, 4, 6, 8, 10, 12, 14], list(range(1, 33))])
+    frames = source.choice([range(8), range(8), (0, 7), (3, 4, 7)])
+    pages = [(source.choice(frames), source.choice(lengths)) for _ in range(source.randrange(8, 60))]
+    rest = -sum(length for _, length in pages) % 16
+    return pages + [(source.choice(frames), rest)] * (rest > 0 and source.random() < 0.7)
+
+
+def try_ends(tally, folder, source):
+    """Rounds too large for the brute force: their batches for each end beside those for the others."""
+    seen = set()
+    for _ in range(LARGER_ROUNDS):
+        text, batches = page_file(source, larger_round(source)), []
+        (folder / "pages.csv").write_bytes(text)
+        for end in ENDS:
+            planned = run(["plan", "pages.csv", "tx.bin", "cert.bin", "--always", *ENDS[end]], folder)
+            told = re.fullmatch(rb"pages \d+\nbatches (\d+)\n", planned.stdout)
+            tally.check(f"larger round, {end} end", planned.returncode == 0 and told, (text, planned))
+            if planned.returncode != 0 or not told:
+                return
+            batches.append(int(told[1]))
+            sent = (folder / "tx.bin").read_bytes()
+            tally.check("as many batches", len(sent) == 72 + 68 * batches[-1] and ends_as(sent, end), (text, end))
+            try_second_checker(tally, text, (folder / "cert.bin").read_bytes(), end, batches[-1])
+            try_own_checker(tally, folder, end)
+        of_open, of_closed, of_idle = batches
+        tally.check("ends", of_open <= of_closed <= of_idle <= of_open + 1, (text, batches))
+        seen.add((of_closed - of_open, of_idle - of_open))
+    tally.check("the ends differ in every way", seen == {(0, 0), (0, 1), (1, 1)}, seen)
 
 
 def main():
@@ -143,10 +227,11 @@ def main():
         folder = pathlib.Path(name)
         for _ in range(ROUNDS):
             pages = random_round(source)
-            for end in ("open", "closed"):
-                for search in ([], ["--always"]):
-                    try_round(tally, folder, pages, end, search)
+            for end, search in itertools.product(ENDS, ([], ["--always"])):
+                try_round(tally, folder, pages, end, search)
         try_checks(tally, folder, source)
+        try_ends(tally, folder, source)
+        try_examples(tally, folder)
     return tally.end()
 
 
