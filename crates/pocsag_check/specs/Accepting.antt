@@ -1,7 +1,6 @@
 -- *Accepted*, this project's own: which bound trees show that fewer batches do not suffice.
 use Rattle.std.specs.Prelude.{ℕ, ◌-◌, ◌^◌, ◌<◌, ◌≤◌, Bool, IsTrue, List, [], ◌∷◌, slice_index}
 use Rattle.pocsag_words.specs.declared.ending.End.{End}
-use Rattle.pocsag_words.specs.declared.ending.End.TheVariants.{Open, Closed}
 use Rattle.pocsag_tree.specs.Limits.{greatest_depth}
 use Rattle.pocsag_tree.specs.Spelling.{IsSet}
 use Rattle.pocsag_tree.specs.Bounds.{Bound, Bounds, deepest, depth_of, overload, split, cut, close, unexamined, none, more}
@@ -11,11 +10,8 @@ use Rattle.pocsag_slots.specs.declared.way.Way.{Way}
 use Rattle.pocsag_pages.specs.declared.page.Page.{Page}
 use Rattle.pocsag_slots.specs.Loads.{AreClassesOf, Overloads, limits_of_all}
 use Rattle.pocsag_slots.specs.Sums.{holds}
+use Rattle.pocsag_slots.specs.Tours.{AsksForLast}
 use Rattle.pocsag_slots.specs.Ways.{class_certain, ways_across, ways_to_close, narrowed_limits, limits_below, limits_from}
-
-abbrev pub IsClosed : End → Type 0
-IsClosed Open = ⊥
-IsClosed Closed = Unit {0}
 
 abbrev mutual
   -- The node shows that no transmission of b batches, legal for the end, meets the limits; the first
@@ -30,7 +26,7 @@ abbrev mutual
       (c < 136) × (1 ≤ b) × IsTrue (holds set 0) × IsTrue (class_certain k l set c) × (set < 2 ^ 16)
       × AcceptsEach takes_open k end b l (ways_across k l set) children
   Accepts takes_open k end b l (close children) =
-      IsClosed end × (1 ≤ b) × AcceptsEach takes_open k end b l (ways_to_close k l) children
+      AsksForLast end × (1 ≤ b) × AcceptsEach takes_open k end b l (ways_to_close k end l) children
   Accepts takes_open k end b l unexamined = IsTrue takes_open
 
   -- Each way has its child, in order, accepted under the limits that the way leaves.

@@ -1,9 +1,10 @@
 ghost use Rattle.std.specs.Prelude.{◌↔◌, ◌<◌, ◌≤◌, All, IsTrue, slice_index};
 ghost use Rattle.pocsag_slots.specs.Loads.{AreInOrder};
 ghost use Rattle.pocsag_slots.specs.Sums.{holds};
+ghost use Rattle.pocsag_slots.specs.Tours.{AsksForLast};
 ghost use Rattle.pocsag_slots.specs.Ways.{class_certain, MayTake};
 ghost use Rattle.pocsag_tree.specs.Views.{bound_of, bounds_of};
-ghost use Rattle.pocsag_check.specs.Accepting.{AcceptsEachWithin, AcceptsWithin, IsClosed};
+ghost use Rattle.pocsag_check.specs.Accepting.{AcceptsEachWithin, AcceptsWithin};
 
 use pocsag_slots::{
     CLASSES, Classes, Limits, Way, below_split, closing_ways, from_split, holds, is_certain,
@@ -46,11 +47,11 @@ fn cuts(claim: &Claim, limits: &Limits, set: u16, class: u8) -> bool
 }
 
 fn closes(claim: &Claim) -> bool
-    ensures { IsTrue result ↔ (IsClosed claim.now.end × (1 ≤ claim.now.batches)) }
+    ensures { IsTrue result ↔ (AsksForLast claim.now.end × (1 ≤ claim.now.batches)) }
 {
     match claim.end {
         End::Open => false,
-        End::Closed => claim.batches >= 1,
+        End::Closed | End::Idle => claim.batches >= 1,
     }
 }
 
@@ -94,7 +95,7 @@ pub(crate) fn check_node(claim: &Claim, limits: &Limits, tree: &Tree, depth: u32
             if !closes(claim) {
                 return false;
             }
-            let out = closing_ways(claim.classes, limits);
+            let out = closing_ways(claim.classes, claim.end, limits);
             check_each(claim, limits, out.as_slice(), children, depth - 1)
         }
         Tree::Open => claim.takes_open,

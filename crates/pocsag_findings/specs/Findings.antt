@@ -19,10 +19,10 @@ abbrev pub finding_of : Classes → End → ℕ → Limits → ℕ → Reached �
 finding_of k end b l above reached t = record {
   depth = above + 1;
   reached = reached;
-  fact = fact_of k l t;
+  fact = fact_of k end l t;
   shares = shares_at k l t;
   columns = columns_at k l above;
-  holds = fact_holds end b (fact_of k l t);
+  holds = fact_holds end b (fact_of k end l t);
 }
 
 -- What is found of a node below one whose rule does not hold.
@@ -65,7 +65,7 @@ unjudged_within depth above t = where_listed depth above (unjudged_finding above
 abbrev pub findings_with : Classes → End → ℕ → ℕ → Limits → ℕ → Reached → Bound → List Stated → List Stated
 findings_with k end b depth l above reached t below =
     where_listed depth above (finding_of k end b l above reached t)
-    (cond (fact_holds end b (fact_of k l t)) below (unjudged_below depth (above + 1) t))
+    (cond (fact_holds end b (fact_of k end l t)) below (unjudged_below depth (above + 1) t))
 
 abbrev mutual
   -- The findings of the nodes below one whose rule holds under its limits for b batches, no deeper than so: each
@@ -78,7 +78,7 @@ abbrev mutual
       ++ findings_with k end b depth (limits_from l c m) above From from
       (findings_below k end b depth (limits_from l c m) (above + 1) from)
   findings_below k end b depth l above (cut set c children) = findings_by k end b depth l above (ways_across k l set) children
-  findings_below k end b depth l above (close children) = findings_by k end b depth l above (ways_to_close k l) children
+  findings_below k end b depth l above (close children) = findings_by k end b depth l above (ways_to_close k end l) children
   findings_below k end b depth l above unexamined = []
 
   -- The findings of the children of a node, one for each way, in order, under the limits that the way leaves.

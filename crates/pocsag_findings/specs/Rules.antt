@@ -34,14 +34,14 @@ share_of k l set c =
 abbrev pub shares_of : Classes → Limits → ℕ → List Share
 shares_of k l set = joined_below class_count (share_of k l set)
 
--- What a node states under its limits.
-abbrev pub fact_of : Classes → Limits → Bound → Fact
-fact_of k l (overload set) = Overload set (least_of_set k l set) (room_of l set)
-fact_of k l (split c m below above) = Split c m (slice_index l.lo c) (slice_index l.hi c)
-fact_of k l (cut set c children) =
+-- What a node states under its limits, for an end.
+abbrev pub fact_of : Classes → End → Limits → Bound → Fact
+fact_of k end l (overload set) = Overload set (least_of_set k l set) (room_of l set)
+fact_of k end l (split c m below above) = Split c m (slice_index l.lo c) (slice_index l.hi c)
+fact_of k end l (cut set c children) =
     Cut set c (nat_lt c class_count && class_certain k l set c) (length (ways_across k l set)) (children_count children)
-fact_of k l (close children) = Close (length (ways_to_close k l)) (children_count children)
-fact_of k l unexamined = Open
+fact_of k end l (close children) = Close (length (ways_to_close k end l)) (children_count children)
+fact_of k end l unexamined = Open
 
 -- The shares that a node states: those of an overload, and else none.
 abbrev pub shares_at : Classes → Limits → Bound → List Share
@@ -67,18 +67,21 @@ drawn_depth = 2
 abbrev pub columns_at : Classes → Limits → ℕ → List Column
 columns_at k l above = cond (nat_lt above drawn_depth) (columns_of k l) []
 
-abbrev pub is_closed : End → Bool
-is_closed ends.Open = false
-is_closed ends.Closed = true
+-- Whether the end asks for something of the last codeword.
+abbrev pub asks_for_last : End → Bool
+asks_for_last ends.Open = false
+asks_for_last ends.Closed = true
+asks_for_last ends.Idle = true
 
 -- Whether what a node states meets the rule of its kind, for an end and b batches: an overload's set is not empty and has
 -- less room than its least load; a split's class is one, and its m parts what the limits allow; a cut's set holds boundary
--- 0, its class is certain, and it has a child for each way; a close stands for the closed end, and has a child for each.
+-- 0, its class is certain, and it has a child for each way; a close stands for an end that asks for something of the last
+-- codeword, and has a child for each way.
 abbrev pub fact_holds : End → ℕ → Fact → Bool
 fact_holds end b (Overload set least room) = nat_lt 0 set && leb set greatest_set && nat_lt room least
 fact_holds end b (Split c m lo hi) = nat_lt c class_count && nat_lt lo m && leb m hi
 fact_holds end b (Cut set c certain ways children) =
     nat_lt 0 b && leb set greatest_set && holds set 0 && certain && (ways == children)
-fact_holds end b (Close ways children) = is_closed end && nat_lt 0 b && (ways == children)
+fact_holds end b (Close ways children) = asks_for_last end && nat_lt 0 b && (ways == children)
 fact_holds end b Open = false
 fact_holds end b Unjudged = false

@@ -58,7 +58,7 @@ pub enum Fact {
         ways: usize,
         children: usize,
     },
-    /// A transmission with the closed end ends in one of so many ways.
+    /// A transmission that ends as the end asks for does so in one of so many ways.
     Close {
         ways: usize,
         children: usize,

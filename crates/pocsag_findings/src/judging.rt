@@ -35,7 +35,7 @@ pub(crate) fn is_met(fact: Fact, end: End, batches: u32) -> bool
             ..
         } => 0 < batches && holds(set, 0) && is_certain && ways == children,
         Fact::Close { ways, children } => {
-            matches!(end, End::Closed) && 0 < batches && ways == children
+            matches!(end, End::Closed | End::Idle) && 0 < batches && ways == children
         }
         Fact::Open | Fact::Unjudged => false,
     }
@@ -111,7 +111,7 @@ pub(crate) fn columns_at(
 // What the node states under the limits.
 pub(crate) fn fact_of(inquiry: &Inquiry, limits: &Limits, tree: &Tree) -> Fact
     requires { AreInOrder inquiry.now.classes.now limits.now }
-    ensures { result ≡ fact_of inquiry.now.classes.now limits.now (bound_of tree.now) }
+    ensures { result ≡ fact_of inquiry.now.classes.now inquiry.now.end limits.now (bound_of tree.now) }
 {
     match tree {
         Tree::Overload(set) => Fact::Overload {
@@ -132,7 +132,7 @@ pub(crate) fn fact_of(inquiry: &Inquiry, limits: &Limits, tree: &Tree) -> Fact
             children: children.len(),
         },
         Tree::Close { children } => Fact::Close {
-            ways: closing_ways(inquiry.classes, limits).len(),
+            ways: closing_ways(inquiry.classes, inquiry.end, limits).len(),
             children: children.len(),
         },
         Tree::Open => Fact::Open,

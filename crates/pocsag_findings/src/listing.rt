@@ -150,7 +150,7 @@ fn put_node(
             put_each(inquiry, place, out.as_slice(), children, found)
         }
         Tree::Close { children } => {
-            let out = closing_ways(inquiry.classes, &place.limits);
+            let out = closing_ways(inquiry.classes, inquiry.end, &place.limits);
             put_each(inquiry, place, out.as_slice(), children, found)
         }
     }

@@ -6,7 +6,7 @@ use Rattle.pocsag_words.specs.Kinds.{kind_of}
 use Rattle.pocsag_words.specs.declared.codeword.Kind.{Kind}
 use Rattle.pocsag_words.specs.declared.codeword.Kind.TheVariants.{Idle, Address, Message}
 use Rattle.pocsag_words.specs.declared.ending.End.{End}
-use Rattle.pocsag_words.specs.declared.ending.End.TheVariants.{Open, Closed}
+use Rattle.pocsag_words.specs.declared.ending.End.TheVariants as ends
 use Rattle.pocsag_pages.specs.declared.page.Page.{Page}
 
 -- How many codewords a batch has, the synchronisation codeword not counted (a rule of Annex 1).
@@ -58,12 +58,19 @@ EndsWhole [] = Unit {0}
 EndsWhole (w ∷ []) = BeginsNoMessage (w ∷ [])
 EndsWhole (w ∷ v ∷ ws) = EndsWhole (v ∷ ws)
 
+-- The last codeword is an idle one.
+abbrev pub EndsIdle : List Kind → Type 0
+EndsIdle [] = ⊥
+EndsIdle (w ∷ []) = w ≡ Idle
+EndsIdle (w ∷ v ∷ ws) = EndsIdle (v ∷ ws)
+
 -- The end that was asked for (this project's own; with the open end nothing more is asked).
 abbrev pub EndsAs : End → List Kind → Type 0
-EndsAs Open ws = Unit {0}
-EndsAs Closed ws = EndsWhole ws
+EndsAs ends.Open ws = Unit {0}
+EndsAs ends.Closed ws = EndsWhole ws
+EndsAs ends.Idle ws = EndsIdle ws
 
--- *Legal* for the open end, and *Legal with the closed end*.
+-- *Legal* for the open end, *Legal with the closed end*, and *Legal with the idle end*.
 abbrev pub IsLegalFor : End → List Kind → ℕ → List Page → Type 0
 IsLegalFor end T batches R = IsLegal T batches R × EndsAs end T
 

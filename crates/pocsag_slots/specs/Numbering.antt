@@ -2,7 +2,7 @@
 use Rattle.std.specs.Prelude.{ℕ, ◌+◌, ◌-◌, ◌*◌, ◌/◌, ◌%◌, ◌==◌, nat_lt, Bool, cond, List, count_by}
 use Rattle.std.specs.Prelude.{sum_by}
 use Rattle.pocsag_words.specs.declared.ending.End.{End}
-use Rattle.pocsag_words.specs.declared.ending.End.TheVariants.{Open, Closed}
+use Rattle.pocsag_words.specs.declared.ending.End.TheVariants as ends
 use Rattle.pocsag_pages.specs.declared.page.Page.{Page}
 use Rattle.pocsag_pages.specs.Reading.{batch_length, page_length}
 
@@ -18,7 +18,7 @@ first_bare = 128
 abbrev pub class_count : ℕ
 class_count = 136
 
--- The class and the slot with which a transmission with the closed end may end.
+-- The class with which a transmission with the closed end may end, and the slot in which one ends.
 abbrev pub last_class : ℕ
 last_class = 135
 
@@ -28,8 +28,9 @@ last_slot = 15
 -- The class of a page of this frame and length. With the closed end an address codeword alone, which
 -- may end a transmission, is in a class of its own.
 unfoldable pub class_of : End → ℕ → ℕ → ℕ
-class_of Open frame len = frame * slot_count + len % slot_count
-class_of Closed frame len = cond (len == 1) (first_bare + frame) (frame * slot_count + len % slot_count)
+class_of ends.Open frame len = frame * slot_count + len % slot_count
+class_of ends.Closed frame len = cond (len == 1) (first_bare + frame) (frame * slot_count + len % slot_count)
+class_of ends.Idle frame len = frame * slot_count + len % slot_count
 
 abbrev pub class_of_page : End → Page → ℕ
 class_of_page end p = class_of end (p.address % 8) (page_length p)

@@ -2,7 +2,7 @@
 -- the batches with idles.
 use Rattle.std.specs.Prelude.{◌≡◌, ℕ, ◌+◌, ◌%◌, ◌^◌, ◌<◌, ◌≤◌, ◌==◌, Bool, true, false, cond, List, [], ◌∷◌, slice_index}
 use Rattle.pocsag_words.specs.declared.ending.End.{End}
-use Rattle.pocsag_words.specs.declared.ending.End.TheVariants.{Open, Closed}
+use Rattle.pocsag_words.specs.declared.ending.End.TheVariants as ends
 use Rattle.pocsag_pages.specs.declared.page.Page.{Page}
 use Rattle.pocsag_slots.specs.declared.class.Classes.{Classes}
 use Rattle.pocsag_slots.specs.declared.step.Step.{Step}
@@ -30,9 +30,23 @@ LastIsWhole (Stay ∷ []) = Unit {0}
 LastIsWhole (Run c e ∷ []) = (c ≡ last_class) × (e ≡ false)
 LastIsWhole (s ∷ t ∷ ss) = LastIsWhole (t ∷ ss)
 
+-- The last arc is an idle.
+abbrev pub LastIsIdle : List Step → Type 0
+LastIsIdle [] = ⊥
+LastIsIdle (Stay ∷ []) = Unit {0}
+LastIsIdle (Run c e ∷ []) = ⊥
+LastIsIdle (s ∷ t ∷ ss) = LastIsIdle (t ∷ ss)
+
 abbrev pub LastAs : End → List Step → Type 0
-LastAs Open ss = Unit {0}
-LastAs Closed ss = LastIsWhole ss
+LastAs ends.Open ss = Unit {0}
+LastAs ends.Closed ss = LastIsWhole ss
+LastAs ends.Idle ss = LastIsIdle ss
+
+-- The end asks for something of the last codeword.
+abbrev pub AsksForLast : End → Type 0
+AsksForLast ends.Open = ⊥
+AsksForLast ends.Closed = Unit {0}
+AsksForLast ends.Idle = Unit {0}
 
 -- *Tour* of a choice with so many batches, for an end, from boundary 0 to boundary 0.
 pub record IsTour (k : Classes) (end : End) (choice : ℕ → ℕ) (batches : ℕ) (steps : List Step) : Type 0 where

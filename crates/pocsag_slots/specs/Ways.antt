@@ -1,5 +1,7 @@
 -- The ways out of a set of boundaries, and what each leaves of the limits (this project's own).
 use Rattle.std.specs.Prelude.{ℕ, ◌+◌, ◌-◌, ◌%◌, ◌<◌, ◌&&◌, ◌||◌, nat_lt, min, max, Bool, true, false, not, cond, List, [], ◌∷◌, ◌++◌, slice_index, slice_set}
+use Rattle.pocsag_words.specs.declared.ending.End.{End}
+use Rattle.pocsag_words.specs.declared.ending.End.TheVariants as ends
 use Rattle.pocsag_slots.specs.declared.class.Classes.{Classes}
 use Rattle.pocsag_slots.specs.declared.limit.Limits.{Limits}
 use Rattle.pocsag_slots.specs.declared.way.Way.{Way}
@@ -45,11 +47,13 @@ class_ways k l set c = cond (early_open k l set c) (Early c ∷ []) [] ++ cond (
 unfoldable pub ways_across : Classes → Limits → ℕ → List Way
 ways_across k l set = joined_below slot_count (slot_ways set) ++ joined_below class_count (class_ways k l set)
 
--- The ways in which a transmission with the closed end may end: an idle in the last slot, or an
--- address codeword alone there.
-unfoldable pub ways_to_close : Classes → Limits → List Way
-ways_to_close k l =
+-- The ways in which a transmission may end as an end asks for: an idle in the last slot, or with the
+-- closed end an address codeword alone there. The open end asks for none.
+unfoldable pub ways_to_close : Classes → End → Limits → List Way
+ways_to_close k ends.Open l = []
+ways_to_close k ends.Closed l =
     IdleIn last_slot ∷ cond (nat_lt (slice_index l.lo last_class) (slice_index k.count last_class)) (Late last_class ∷ []) []
+ways_to_close k ends.Idle l = IdleIn last_slot ∷ []
 
 -- The way is open under the limits.
 abbrev pub MayTake : Classes → Limits → Way → Type 0

@@ -1,4 +1,4 @@
-ghost use Rattle.std.specs.Prelude.{◌≡◌, ℕ, ◌/◌, ◌<◌, ◌≤◌, length, slice_index};
+ghost use Rattle.std.specs.Prelude.{◌≡◌, ◌≢◌, ℕ, ◌/◌, ◌<◌, ◌≤◌, length, slice_index};
 ghost use Rattle.pocsag_pages.specs.Reading.{page_length};
 ghost use Rattle.pocsag_slots.specs.Loads.{AreClassesOf};
 ghost use Rattle.pocsag_slots.specs.Numbering.{class_of_page, slot_count};
@@ -37,7 +37,7 @@ pub fn classes_of(round: &Round, end: End) -> Classes
     ensures counted { AreClassesOf result end round.now }
     ensures pages { sum_below 136 (slice_index result.count) ≡ length round.now }
     // The classes of an address codeword alone are the closed end's.
-    ensures open_end { end ≡ End.Open → (c : ℕ) → 128 ≤ c → c < 136 → slice_index result.count c ≡ 0 }
+    ensures bare { end ≢ End.Closed → (c : ℕ) → 128 ≤ c → c < 136 → slice_index result.count c ≡ 0 }
 {
     let mut count = [0; CLASSES];
     let mut turns = [0; CLASSES];

@@ -6,6 +6,7 @@ use crate::class::{CLASS_COUNT, CLASSES, Class, Classes, SLOT_COUNT, SLOTS};
 use crate::limit::Limits;
 use crate::set::{crosses, idle_crosses, touches};
 use arrayvec::ArrayVec;
+use pocsag_words::End;
 
 /// How many ways there are: an idle for each slot, and two runs for each class.
 pub const WAYS: usize = SLOTS + 2 * CLASSES;
@@ -98,19 +99,25 @@ pub fn ways(classes: &Classes, limits: &Limits, set: u16, _batches: u32) -> Arra
     found
 }
 
-/// The ways in which a transmission with the closed end may end: an idle in slot 15, or an address
-/// codeword alone there, where the limits allow one.
+/// The ways in which a transmission may end as the end asks for: an idle in slot 15, or with the closed
+/// end an address codeword alone there, where the limits allow one. The open end asks for none.
 #[tactic(auto, unfolding(crate::specs::Ways::ways_to_close))]
-pub fn closing_ways(classes: &Classes, limits: &Limits) -> ArrayVec<Way, 2>
-    ensures items { result.items ≡ ways_to_close classes.now limits.now }
+pub fn closing_ways(classes: &Classes, end: End, limits: &Limits) -> ArrayVec<Way, 2>
+    ensures items { result.items ≡ ways_to_close classes.now end limits.now }
     ensures allowed { All (MayTake classes.now limits.now) result.items }
 {
     let mut found = ArrayVec::new();
-    found.push(Way::IdleIn(SLOT_COUNT - 1));
-    push_if(
-        &mut found,
-        limits.lo[CLASSES - 1] < classes.count[CLASSES - 1],
-        Way::Late(CLASS_COUNT - 1),
-    );
+    match end {
+        End::Open => {}
+        End::Closed => {
+            found.push(Way::IdleIn(SLOT_COUNT - 1));
+            push_if(
+                &mut found,
+                limits.lo[CLASSES - 1] < classes.count[CLASSES - 1],
+                Way::Late(CLASS_COUNT - 1),
+            );
+        }
+        End::Idle => found.push(Way::IdleIn(SLOT_COUNT - 1)),
+    }
     found
 }

@@ -2,7 +2,7 @@
 -- the idles of the 16 slots. Counts are functions from these numbers.
 use Rattle.std.specs.Prelude.{◌≡◌, ◌≢◌, ℕ, ◌+◌, ◌-◌, ◌*◌, ◌/◌, ◌%◌, ◌<◌, ◌≤◌, ◌==◌, nat_lt, Bool, true, false, cond, List, [], ◌∷◌, slice_index}
 use Rattle.pocsag_words.specs.declared.ending.End.{End}
-use Rattle.pocsag_words.specs.declared.ending.End.TheVariants.{Closed}
+use Rattle.pocsag_words.specs.declared.ending.End.TheVariants as ends
 use Rattle.pocsag_slots.specs.declared.class.Classes.{Classes}
 use Rattle.pocsag_slots.specs.declared.step.Step.{Step}
 use Rattle.pocsag_slots.specs.declared.step.Step.TheVariants.{Idle as Stay, Run}
@@ -10,7 +10,7 @@ use Rattle.pocsag_slots.specs.Arcs.{runs}
 use Rattle.pocsag_slots.specs.Loads.{load}
 use Rattle.pocsag_slots.specs.Numbering.{start_of, finish_of}
 use Rattle.pocsag_slots.specs.Sums.{holds, sum_below}
-use Rattle.pocsag_slots.specs.Tours.{Leads, idles, LastAs, LastIsWhole}
+use Rattle.pocsag_slots.specs.Tours.{AsksForLast, Leads, idles, LastAs}
 use Rattle.pocsag_tour.specs.declared.fault.TourFault.{TourFault}
 use Rattle.pocsag_tour.specs.declared.fault.TourFault.TheVariants.{Apart, Unclosed, OutOfMemory}
 
@@ -134,18 +134,17 @@ pub record IsWalk (counts exits left : ℕ → ℕ) (steps : List Step) (p root 
   pub no_other : (c : ℕ) (e : Bool) → 136 ≤ c → runs c e steps ≡ 0
   pub kept : (q : ℕ) → IsExit counts exits q → left (exits q) ≡ 0 → IsSpent left q
 
--- An arc with which a tour for the closed end can end.
+-- An arc that a tour can take last: it leads from the last boundary to boundary 0.
 pub record IsClosing (counts : ℕ → ℕ) (a : ℕ) : Type 0 where
   pub known : a < all_arcs
   pub there : 0 < counts a
   pub from : arc_from a ≡ 15
   pub to : arc_to a ≡ 0
-  pub last : LastIsWhole (step_of a ∷ [])
 
 -- What is known where the runs are not apart, and yet no way for the end was given: memory is wanted only
 -- where there is one.
 abbrev pub NoWay : (ℕ → ℕ) → End → TourFault → Type 0
 NoWay counts end (Apart set) = ⊥
 NoWay counts end Unclosed =
-    (end ≡ Closed) × (counts 287 ≡ 0) × (counts 271 ≡ 0) × ((steps : List Step) × IsWay counts 0 steps)
+    AsksForLast end × (counts 287 ≡ 0) × (end ≡ ends.Closed → counts 271 ≡ 0) × ((steps : List Step) × IsWay counts 0 steps)
 NoWay counts end OutOfMemory = (steps : List Step) × (IsWay counts 0 steps × LastAs end steps)

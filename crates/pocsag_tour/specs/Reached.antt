@@ -1,13 +1,13 @@
 -- What is reached from boundary 0, and when a choice has no tour, by *Arc* and *Tour*.
 use Rattle.std.specs.Prelude.{◌≡◌, ◌↔◌, ℕ, ◌+◌, ◌-◌, ◌%◌, ◌<◌, Bool, true, false, cond, List, slice_index}
 use Rattle.pocsag_words.specs.declared.ending.End.{End}
-use Rattle.pocsag_words.specs.declared.ending.End.TheVariants.{Open, Closed}
+use Rattle.pocsag_words.specs.declared.ending.End.TheVariants as ends
 use Rattle.pocsag_slots.specs.declared.class.Classes.{Classes}
 use Rattle.pocsag_slots.specs.declared.step.Step.{Step}
 use Rattle.pocsag_slots.specs.Loads.{load}
 use Rattle.pocsag_slots.specs.Numbering.{start_of, finish_of}
 use Rattle.pocsag_slots.specs.Sums.{holds}
-use Rattle.pocsag_slots.specs.Tours.{IsTour}
+use Rattle.pocsag_slots.specs.Tours.{AsksForLast, IsTour}
 use Rattle.pocsag_slots.specs.Ways.{run_crosses, idle_crosses}
 use Rattle.pocsag_tour.specs.declared.fault.TourFault.{TourFault}
 use Rattle.pocsag_tour.specs.declared.fault.TourFault.TheVariants.{Apart, Unclosed, OutOfMemory}
@@ -58,16 +58,16 @@ pub record IsApart (k : Classes) (choice : ℕ → ℕ) (batches set : ℕ) : Ty
   pub no_run : NoRunCrosses k choice set
   pub no_idle : NoIdleCrosses k choice batches set
 
--- The choice has a tour for the open end, but no arc with which a tour for the closed end could end:
--- no idle in slot 15, and no late run of class 135.
-pub record IsUnclosed (k : Classes) (choice : ℕ → ℕ) (batches : ℕ) : Type 0 where
+-- The choice has a tour for the open end, but no arc with which a tour for this end could end: no idle
+-- in slot 15, and for the closed end no late run of class 135.
+pub record IsUnclosed (k : Classes) (end : End) (choice : ℕ → ℕ) (batches : ℕ) : Type 0 where
   pub steps : List Step
-  pub tour : IsTour k Open choice batches steps
+  pub tour : IsTour k ends.Open choice batches steps
   pub no_idle : load k choice 15 ≡ batches
-  pub no_late : runs_of k choice 135 false ≡ 0
+  pub no_late : end ≡ ends.Closed → runs_of k choice 135 false ≡ 0
 
 -- What a refusal says; memory is wanted only where there is a tour.
 abbrev pub IsRefused : Classes → (ℕ → ℕ) → ℕ → End → TourFault → Type 0
 IsRefused k choice batches end (Apart set) = IsApart k choice batches set
-IsRefused k choice batches end Unclosed = (end ≡ Closed) × IsUnclosed k choice batches
+IsRefused k choice batches end Unclosed = AsksForLast end × IsUnclosed k end choice batches
 IsRefused k choice batches end OutOfMemory = (steps : List Step) × IsTour k end choice batches steps

@@ -10,7 +10,7 @@ pub enum TourFault {
     /// Some run lies outside this set, which is all the boundaries that are reached from boundary 0.
     #[error("the runs are apart")]
     Apart(u16),
-    /// There is a tour for the open end, and none for the closed end.
+    /// There is a tour for the open end, and none for the end that was asked for.
     #[error("the tour cannot be closed")]
     Unclosed,
     #[error("out of memory")]

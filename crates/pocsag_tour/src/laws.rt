@@ -1,21 +1,20 @@
 ghost use Rattle.std.specs.Prelude.{ℕ, ◌<◌, List};
 ghost use Rattle.pocsag_words.specs.declared.ending.End.{End};
-ghost use Rattle.pocsag_words.specs.declared.ending.End.TheVariants.{Closed};
 ghost use Rattle.pocsag_slots.specs.declared.class.Classes.{Classes};
 ghost use Rattle.pocsag_slots.specs.declared.step.Step.{Step};
 ghost use Rattle.pocsag_slots.specs.Loads.{IsChoice, load};
-ghost use Rattle.pocsag_slots.specs.Tours.{IsTour};
+ghost use Rattle.pocsag_slots.specs.Tours.{AsksForLast, IsTour};
 ghost use Rattle.pocsag_tour.specs.Reached.{IsApart, IsUnclosed};
 
 use pocsag_slots::sets_take_members;
 
-/// A choice whose runs are apart has no tour for either end.
+/// A choice whose runs are apart has no tour for any end.
 pub fn apart_has_no_tour()
     ensures { (k : Classes) (end : End) (choice : ℕ → ℕ) (b set : ℕ) (steps : List Step) →
         IsApart k choice b set → IsTour k end choice b steps → ⊥ }
 {}
 
-/// A choice has a tour, for either end, with any number of batches that is above each of its loads: so
+/// A choice has a tour, for any end, with any number of batches that is above each of its loads: so
 /// one batch more than the loads need always has a tour.
 pub fn spare_batches_have_tours()
     ensures { (k : Classes) (end : End) (choice : ℕ → ℕ) (b : ℕ) →
@@ -25,8 +24,8 @@ pub fn spare_batches_have_tours()
     sets_take_members();
 }
 
-/// A choice whose tours cannot be closed has no tour for the closed end.
-pub fn unclosed_has_no_closed_tour()
-    ensures { (k : Classes) (choice : ℕ → ℕ) (b : ℕ) (steps : List Step) →
-        IsUnclosed k choice b → IsTour k Closed choice b steps → ⊥ }
+/// A choice whose tours cannot end as an end asks for has no tour for that end.
+pub fn unclosed_has_no_tour()
+    ensures { (k : Classes) (end : End) (choice : ℕ → ℕ) (b : ℕ) (steps : List Step) →
+        AsksForLast end → IsUnclosed k end choice b → IsTour k end choice b steps → ⊥ }
 {}

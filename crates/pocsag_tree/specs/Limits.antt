@@ -18,7 +18,7 @@ abbrev pub most_batches : ℕ
 most_batches = 2 ^ 32 - 1
 
 -- The greatest class, number m of a `Split`, number of children of a `Cut`, and tag, in version PCB1 and in
--- version PCB2.
+-- versions PCB2 and PCB4.
 abbrev pub first_ranges : Ranges
 first_ranges = record { class = 127; m = 2000; children = 272; tag = 3 }
 

@@ -40,6 +40,7 @@ judged (mark byte) n = if n == byte then Ok [] else Err fault.NotCertificate
 judged version n =
     if n == 0x31 then Ok (field w32 1 most_batches ∷ node first_ranges 1 ∷ []) else
     if n == 0x32 then Ok (field w8 0 1 ∷ field w32 1 most_batches ∷ node second_ranges 1 ∷ []) else
+    if n == 0x34 then Ok (field w32 1 most_batches ∷ node second_ranges 1 ∷ []) else
     Err fault.Version
 judged (field width low high) n = if nat_le low n && nat_le n high then Ok [] else Err fault.BadField
 judged (children r depth width low high) n = if nat_le low n && nat_le n high then Ok (replicate n (node r depth)) else Err fault.BadField

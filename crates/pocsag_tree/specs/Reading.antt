@@ -137,6 +137,7 @@ mark_at wanted bytes = do
   byte ← byte_at bytes
   if byte.0 == wanted then Ok byte.1 else Err fault.NotCertificate
 
+-- The end by its byte in PCB2.
 abbrev pub end_of : ℕ → End
 end_of n = if n == 0 then ends.Open else ends.Closed
 
@@ -144,7 +145,8 @@ unfoldable pub version_at : List ℕ → Result (Ranges × End × List ℕ) Cert
 version_at bytes = do
   byte ← byte_at bytes
   if byte.0 == 0x31 then Ok (first_ranges, ends.Open, byte.1) else
-      if byte.0 == 0x32 then (small_at 0 1 byte.1 >>= λ end. Ok (second_ranges, end_of end.0, end.1)) else Err fault.Version
+      if byte.0 == 0x32 then (small_at 0 1 byte.1 >>= λ end. Ok (second_ranges, end_of end.0, end.1)) else
+      if byte.0 == 0x34 then Ok (second_ranges, ends.Idle, byte.1) else Err fault.Version
 
 unfoldable pub long_number_at : List ℕ → Result (ℕ × List ℕ) CertificateFault
 long_number_at bytes = do

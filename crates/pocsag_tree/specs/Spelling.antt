@@ -58,17 +58,19 @@ abbrev mutual
   row none = []
   row (more t ts) = node t ++ row ts
 
--- The byte of the end.
-abbrev pub end_byte : End → ℕ
-end_byte ends.Open = 0
-end_byte ends.Closed = 1
+-- The version that is written for an end, and the end where the version has a byte for it: PCB2 (32) for
+-- the open end (0) and the closed one (1), PCB4 (34) for the idle end.
+abbrev pub version_bytes : End → List ℕ
+version_bytes ends.Open = 0x32 ∷ 0 ∷ []
+version_bytes ends.Closed = 0x32 ∷ 1 ∷ []
+version_bytes ends.Idle = 0x34 ∷ []
 
--- The text in version PCB2: the mark 50 43 42 and 32, the end, the batches, and the tree.
-abbrev pub second_head : End → ℕ → List ℕ
-second_head end batches = 0x50 ∷ 0x43 ∷ 0x42 ∷ 0x32 ∷ end_byte end ∷ to_be_bytes w32 batches
+-- The text that is written: the mark 50 43 42, the version with the end, the batches, and the tree.
+abbrev pub written_head : End → ℕ → List ℕ
+written_head end batches = 0x50 ∷ 0x43 ∷ 0x42 ∷ (version_bytes end ++ to_be_bytes w32 batches)
 
-abbrev pub second_text : End → ℕ → Bound → List ℕ
-second_text end batches tree = second_head end batches ++ node tree
+abbrev pub written_text : End → ℕ → Bound → List ℕ
+written_text end batches tree = written_head end batches ++ node tree
 
 -- The text in version PCB1, for the open end alone: the mark and 31, the batches, and the tree.
 abbrev pub first_head : ℕ → List ℕ
@@ -77,10 +79,10 @@ first_head batches = 0x50 ∷ 0x43 ∷ 0x42 ∷ 0x31 ∷ to_be_bytes w32 batches
 abbrev pub first_text : ℕ → Bound → List ℕ
 first_text batches tree = first_head batches ++ node tree
 
--- The bytes are the text in PCB2 of something that has one.
-pub record IsSecondText (end : End) (batches : ℕ) (tree : Bound) (bytes : List ℕ) : Type 0 where
+-- The bytes are the text in PCB2 or in PCB4, as the end is, of something that has one.
+pub record IsWrittenText (end : End) (batches : ℕ) (tree : Bound) (bytes : List ℕ) : Type 0 where
   pub has_text : HasText second_ranges batches tree
-  pub text : bytes ≡ second_text end batches tree
+  pub text : bytes ≡ written_text end batches tree
 
 -- The bytes are the text in PCB1 of something that has one.
 pub record IsFirstText (end : End) (batches : ℕ) (tree : Bound) (bytes : List ℕ) : Type 0 where
@@ -90,4 +92,4 @@ pub record IsFirstText (end : End) (batches : ℕ) (tree : Bound) (bytes : List 
 
 -- The bytes are a certificate text of this end, number of batches and tree, in one of the versions.
 abbrev pub IsText : End → ℕ → Bound → List ℕ → Type 0
-IsText end batches tree bytes = IsSecondText end batches tree bytes ⊎ IsFirstText end batches tree bytes
+IsText end batches tree bytes = IsWrittenText end batches tree bytes ⊎ IsFirstText end batches tree bytes

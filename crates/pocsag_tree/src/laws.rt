@@ -7,7 +7,7 @@ ghost use Rattle.pocsag_tree.specs.Bounds.{Bound};
 ghost use Rattle.pocsag_tree.specs.Spelling.{IsText};
 ghost use Rattle.pocsag_tree.specs.Parts.{HasFirst};
 
-/// No two certificates have one text, over both versions together.
+/// No two certificates have one text, over all versions together.
 pub fn one_certificate()
     ensures { (bytes : List ℕ)
         (end other_end : End) (batches other_batches : ℕ) (tree other_tree : Bound)
@@ -15,7 +15,7 @@ pub fn one_certificate()
         → (end ≡ other_end) × (batches ≡ other_batches) × (tree ≡ other_tree) }
 {}
 
-/// No text of a certificate is a proper prefix of another, over both versions together.
+/// No text of a certificate is a proper prefix of another, over all versions together.
 pub fn no_text_begins_another()
     ensures { (bytes more : List ℕ)
         (end other_end : End) (batches other_batches : ℕ) (tree other_tree : Bound)

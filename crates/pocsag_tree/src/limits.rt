@@ -25,7 +25,7 @@ pub const FIRST_VERSION: Ranges = Ranges {
     tag: 3,
 };
 
-/// The ranges of version PCB2, which is the one that is written.
+/// The ranges of versions PCB2 and PCB4, which are written: PCB4 for the idle end, and PCB2 for the others.
 pub const SECOND_VERSION: Ranges = Ranges {
     class: 135,
     m: 20_000,

@@ -102,6 +102,7 @@ fn mark<S: Source>(wanted: u8, source: &mut S) -> Result<(), CertificateFault>
     }
 }
 
+// The end by its byte in PCB2.
 fn end_from(byte: u8) -> End
     ensures { result ≡ end_of byte }
 {
@@ -122,6 +123,9 @@ fn version<S: Source>(source: &mut S) -> Result<(Ranges, End), CertificateFault>
     if byte == 0x32 {
         let end = small(0, 1, source)?;
         return Ok((SECOND_VERSION, end_from(end)));
+    }
+    if byte == 0x34 {
+        return Ok((SECOND_VERSION, End::Idle));
     }
     Err(CertificateFault::Version)
 }
@@ -415,7 +419,7 @@ fn all<S: Source>(alloc: Global, source: &mut S) -> Result<Certificate, Certific
     Ok(certificate)
 }
 
-/// Reads a certificate, in version PCB2 or PCB1, up to the end of the input.
+/// Reads a certificate, in version PCB1, PCB2 or PCB4, up to the end of the input.
 ///
 /// The fault is the first from left to right. It reads no node deeper than `DEPTH_LIMIT` and no
 /// more than `NODE_LIMIT` nodes, whatever the bytes are. It takes one byte in each read, so a reader

@@ -3,7 +3,7 @@ ghost use Rattle.pocsag_words.specs.Devices.{CountsFailures, Delivers, HasFailed
 ghost use Rattle.pocsag_tree.specs.Limits.{most_nodes, second_ranges};
 ghost use Rattle.pocsag_tree.specs.Bounds.{all_nodes, all_nodes_in, depth_of, deepest, children_count};
 ghost use Rattle.pocsag_tree.specs.Views.{bound_of, bounds_of};
-ghost use Rattle.pocsag_tree.specs.Spelling.{IsInRange, AreInRange, HasText, IsSet, split_head, cut_head, close_head, node, row, end_byte, second_head, second_text};
+ghost use Rattle.pocsag_tree.specs.Spelling.{IsInRange, AreInRange, HasText, IsSet, split_head, cut_head, close_head, node, row, written_head, written_text};
 
 use crate::limits::{DEPTH_LIMIT, NODE_LIMIT, SECOND_VERSION};
 use crate::refusals::TreeWriteFault;
@@ -153,28 +153,23 @@ fn write_close_head<S: Sink>(children: usize, writer: &mut S) -> Result<(), Devi
     write_all(writer, &[4, children as u8])
 }
 
-fn byte_from(end: End) -> u8
-    ensures { result ≡ end_byte end }
-{
-    match end {
-        End::Open => 0,
-        End::Closed => 1,
-    }
-}
-
 fn write_head<S: Sink>(end: End, batches: u32, writer: &mut S) -> Result<(), DeviceFault>
     ensures delivers { S.tells → Delivers result (S.taken writer.old) (S.taken writer.new)
-        (second_head end batches) }
+        (written_head end batches) }
     ensures failures { CountsFailures result (S.failures writer.old) (S.failures writer.new) }
 {
-    let end = byte_from(end);
-    let batches = batches.to_be_bytes();
-    write_all(
-        writer,
-        &[
-            0x50, 0x43, 0x42, 0x32, end, batches[0], batches[1], batches[2], batches[3],
-        ],
-    )
+    let b = batches.to_be_bytes();
+    match end {
+        End::Open => write_all(
+            writer,
+            &[0x50, 0x43, 0x42, 0x32, 0, b[0], b[1], b[2], b[3]],
+        ),
+        End::Closed => write_all(
+            writer,
+            &[0x50, 0x43, 0x42, 0x32, 1, b[0], b[1], b[2], b[3]],
+        ),
+        End::Idle => write_all(writer, &[0x50, 0x43, 0x42, 0x34, b[0], b[1], b[2], b[3]]),
+    }
 }
 
 // Writes the text of a tree: the node, and then all below it.
@@ -239,7 +234,7 @@ pub fn write_text<S: Sink>(
 ) -> Result<(), DeviceFault>
     requires { HasText second_ranges batches (bound_of tree.now) }
     ensures delivers { S.tells → Delivers result (S.taken writer.old) (S.taken writer.new)
-        (second_text end batches (bound_of tree.now)) }
+        (written_text end batches (bound_of tree.now)) }
     ensures failures { CountsFailures result (S.failures writer.old) (S.failures writer.new) }
 {
     write_head(end, batches, writer)?;
@@ -255,7 +250,8 @@ fn has_text(batches: u32, tree: &Tree) -> bool
     measured(tree, DEPTH_LIMIT, 0).is_some()
 }
 
-/// Writes the certificate of the end, the number of batches and the tree, in version PCB2.
+/// Writes the certificate of the end, the number of batches and the tree: in version PCB4 for the idle
+/// end, and in PCB2 for the others.
 ///
 /// `BadTree` where they have none: no batches, a field outside its range, a depth above
 /// `DEPTH_LIMIT`, or more than `NODE_LIMIT` nodes; then nothing is written. After `WriteFault` a
@@ -275,7 +271,7 @@ pub fn write_certificate<S: Sink>(
     ensures untouched { IsErrOf result TreeWriteFault.BadTree → writer.new ≡ writer.old }
     // The text is written whole, or a prefix of it where the writer failed.
     ensures delivers { S.tells → Delivers result (S.taken writer.old) (S.taken writer.new)
-        (second_text end batches (bound_of tree.now)) }
+        (written_text end batches (bound_of tree.now)) }
     ensures succeeded { ¬ IsErrOf result TreeWriteFault.WriteFault
         → S.failures writer.new ≡ S.failures writer.old }
     ensures failed { IsErrOf result TreeWriteFault.WriteFault
