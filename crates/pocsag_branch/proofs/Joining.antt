@@ -6,6 +6,7 @@ use Rattle.pocsag_slots.specs.declared.class.Classes.{Classes}
 use Rattle.pocsag_slots.specs.declared.limit.Limits.{Limits}
 use Rattle.pocsag_slots.specs.declared.way.Way.{Way}
 use Rattle.pocsag_slots.specs.Sums.{holds}
+use Rattle.pocsag_slots.specs.Tours.{AsksForLast}
 use Rattle.pocsag_slots.specs.Ways.{class_certain, limits_below, limits_from, narrowed_limits, ways_across, ways_to_close}
 use Rattle.std.specs.Global.{Vec, Box}
 use Rattle.pocsag_tree.specs.declared.shape.Tree.{Tree}

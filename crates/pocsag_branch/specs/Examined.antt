@@ -5,7 +5,7 @@ use Rattle.pocsag_slots.specs.declared.class.Classes.{Classes}
 use Rattle.pocsag_slots.specs.declared.limit.Limits.{Limits}
 use Rattle.pocsag_slots.specs.declared.way.Way.{Way}
 use Rattle.pocsag_slots.specs.Loads.{IsChoice, Overloads, limits_of_all}
-use Rattle.pocsag_slots.specs.Tours.{IsTour}
+use Rattle.pocsag_slots.specs.Tours.{AsksForLast, IsTour}
 use Rattle.pocsag_slots.specs.Ways.{class_certain, ways_across, ways_to_close}
 use Rattle.pocsag_tree.specs.Bounds.{Bound, Bounds, depth_of, deepest}
 use Rattle.pocsag_tree.specs.Spelling.{IsSet}
