@@ -65,6 +65,26 @@ const JUDGED: &[(&[(u32, usize)], bool, &[u8])] = &[
         b"PCB2\x01\x00\x00\x00\x03\x04\x01\x00\xff\xff",
     ),
     (LONG, true, b"PCB2\x01\x00\x00\x00\x05\x04\x01\x00\x80\x00"),
+    // The idle end, which only an idle in slot 15 closes.
+    (LONE_TONE, true, b"PCB4\x00\x00\x00\x01\x00\x00\x03"),
+    (EXACT, true, b"PCB4\x00\x00\x00\x02\x04\x01\x00\xff\xff"),
+    (
+        EXACT,
+        false,
+        b"PCB4\x00\x00\x00\x02\x04\x02\x00\xff\xff\x00\xff\xff",
+    ),
+    (
+        BOTH_WAYS,
+        true,
+        b"PCB4\x00\x00\x00\x03\x04\x01\x00\xff\xff",
+    ),
+    (
+        BOTH_WAYS,
+        false,
+        b"PCB4\x00\x00\x00\x03\x04\x02\x00\xff\xff\x00\x80\x00",
+    ),
+    (LONG, true, b"PCB4\x00\x00\x00\x05\x04\x01\x00\x80\x00"),
+    (LONG, false, b"PCB4\x00\x00\x00\x06\x04\x01\x00\x80\x00"),
     // Bad certificates.
     (
         LOOPS_APART,

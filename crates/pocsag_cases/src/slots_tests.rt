@@ -21,6 +21,8 @@ const COUNTS: &[(&[(u32, usize)], End, usize, u32, u32)] = &[
     (THREE_TONES, End::Open, 133, 0, 0),
     (THREE_TONES, End::Closed, 81, 0, 0),
     (THREE_TONES, End::Closed, 133, 3, 0),
+    (THREE_TONES, End::Idle, 81, 3, 0),
+    (THREE_TONES, End::Idle, 133, 0, 0),
     (LOOPS_APART, End::Open, 0, 1, 1),
     (LOOPS_APART, End::Open, 48, 1, 1),
     (CLOSED_MIXED, End::Closed, 14, 1, 0),
@@ -45,6 +47,13 @@ const WAYS: &[(&[(u32, usize)], u16, &[Way])] = &[
             Way::Late(58),
         ],
     ),
+];
+
+// Ends with the ways in which a transmission of a page alone in frame 7 may end so.
+const CLOSING: &[(End, &[Way])] = &[
+    (End::Open, &[]),
+    (End::Closed, &[Way::IdleIn(15), Way::Late(135)]),
+    (End::Idle, &[Way::IdleIn(15)]),
 ];
 
 #[test]
@@ -103,9 +112,12 @@ fn limits_and_loads(rt: HostRuntime) {
     assert_eq!(rt; loads(&classes, &Choice { early }), [2; 16]);
     assert_eq!(rt; carries(&classes, &Choice { early }, 2), true);
     assert_eq!(rt; carries(&classes, &Choice { early }, 1), false);
-    let out = closing_ways(&classes, &all_limits(&classes, 1));
-    assert_eq!(rt;
-        out.as_slice(),
-        [Way::IdleIn(15), Way::Late(135)].as_slice()
-    );
+    for (end, wanted) in CLOSING {
+        let classes = classes_of(
+            &round_of(rt.alloc(), CLOSED_MIXED).expect(&rt, "an answer"),
+            *end,
+        );
+        let out = closing_ways(&classes, *end, &all_limits(&classes, 1));
+        assert_eq!(rt; out.as_slice(), *wanted);
+    }
 }

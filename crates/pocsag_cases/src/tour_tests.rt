@@ -5,14 +5,17 @@ use pocsag_slots::{Choice, Step, classes_of};
 use pocsag_tour::{TourFault, has_run_outside, reached};
 use pocsag_words::End;
 
-// Rounds with a class that starts late, the batches and the end, and the runs of the tour by class and whether
-// they start early, or why there is none.
+const fn early(class: u8) -> Step {
+    Step::Run { class, early: true }
+}
+
+// Rounds with a class that starts late, the batches and the end, and the steps of the tour, or why there is none.
 const TOURS: &[(
     &[(u32, usize)],
     Option<u8>,
     u32,
     End,
-    Result<&[(u8, bool)], TourFault>,
+    Result<&[Step], TourFault>,
 )] = &[
     (
         &[(3, 15)],
@@ -33,7 +36,7 @@ const TOURS: &[(
         None,
         1,
         End::Open,
-        Ok(&[(6, true), (58, true)]),
+        Ok(&[early(6), early(58)]),
     ),
     (
         &[(0, 5), (3, 9)],
@@ -43,11 +46,33 @@ const TOURS: &[(
         Err(TourFault::Unclosed),
     ),
     (
+        &[(0, 5), (3, 9)],
+        None,
+        1,
+        End::Idle,
+        Err(TourFault::Unclosed),
+    ),
+    (&[(7, 0)], Some(113), 1, End::Idle, Err(TourFault::Unclosed)),
+    (
+        &[(0, 14)],
+        None,
+        1,
+        End::Idle,
+        Ok(&[early(15), Step::Idle]),
+    ),
+    (
         &[(0, 13), (7, 0), (15, 16)],
         Some(135),
         2,
         End::Closed,
-        Ok(&[(14, true), (113, true), (135, false)]),
+        Ok(&[
+            early(14),
+            early(113),
+            Step::Run {
+                class: 135,
+                early: false,
+            },
+        ]),
     ),
 ];
 
@@ -58,16 +83,7 @@ fn tours(rt: HostRuntime) {
         assert!(rt; *batches > 0);
         let found = tour_of(rt.alloc(), &round, *late, *batches, *end);
         match (found, wanted) {
-            (Ok(steps), Ok(runs)) => {
-                assert_eq!(rt; steps.len(), runs.len(), "{pages:?}");
-                for (step, (class, early)) in steps.as_slice().iter().zip(runs.iter()) {
-                    let run = Step::Run {
-                        class: *class,
-                        early: *early,
-                    };
-                    assert_eq!(rt; *step, run, "{pages:?}");
-                }
-            }
+            (Ok(steps), Ok(due)) => assert_eq!(rt; steps.as_slice(), *due, "{pages:?}"),
             (Err(fault), Err(due)) => {
                 assert_eq!(rt; fault, NoTour::Refused(*due), "{pages:?}");
             }

@@ -6,14 +6,17 @@ use pocsag_tree::{
 use pocsag_words::{End, MemorySink, MemorySource, OutOfMemory};
 use std::alloc::Global;
 
-// The certificate of two loops apart, in both versions.
+// The certificate of two loops apart, in all versions.
 const APART: &[u8] = b"PCB1\0\0\0\x03\x02\0\x01\x30\0\x02\0\0\x01\0\x80\0";
 
 const APART_AGAIN: &[u8] = b"PCB2\0\0\0\0\x03\x02\0\x01\x30\0\x02\0\0\x01\0\x80\0";
 
+const APART_WITH_IDLE: &[u8] = b"PCB4\0\0\0\x03\x02\0\x01\x30\0\x02\0\0\x01\0\x80\0";
+
 const REFUSED: &[(&[u8], CertificateFault)] = &[
     (b"\0", CertificateFault::NotCertificate),
     (b"PCB3", CertificateFault::Version),
+    (b"PCB5", CertificateFault::Version),
     (b"PCB1\0\0\0\x01\x07", CertificateFault::BadTag),
     (b"PCB1\0\0\0\x01\0\0\0", CertificateFault::BadField),
     (b"PCB1", CertificateFault::Truncated),
@@ -77,6 +80,11 @@ const REFUSED: &[(&[u8], CertificateFault)] = &[
         CertificateFault::Truncated,
     ),
     (b"PCB2\0\0\0\0\x01\x05", CertificateFault::BadTag),
+    (b"PCB4\0\0\0\0", CertificateFault::BadField),
+    (b"PCB4\0\0\0\x01\x01\x87", CertificateFault::Truncated),
+    (b"PCB4\0\0\0\x01\x01\x88", CertificateFault::BadField),
+    (b"PCB4\0\0\0\x01\x05", CertificateFault::BadTag),
+    (b"PCB4\0\0\0\x01\0\0\x03\0", CertificateFault::Trailing),
 ];
 
 // Certificates, and what is written of them.
@@ -102,6 +110,9 @@ const KEPT: &[&[u8]] = &[
     b"PCB2\x01\0\0\0\x03\x04\x02\0\xff\xff\0\x80\0",
     b"PCB2\x01\0\0\0\x03\x04\x01\0\xff\xff",
     b"PCB2\0\0\0\0\x01\x01\0\x4e\x20\x03\x03",
+    b"PCB4\0\0\0\x01\0\0\x03",
+    b"PCB4\0\0\0\x02\x04\x01\0\xff\xff",
+    APART_WITH_IDLE,
 ];
 
 // The fault of these bytes, read one at a time, from a device that lasts for so many.
@@ -116,7 +127,7 @@ fn certificates_read(rt: HostRuntime) {
     for (bytes, due) in REFUSED {
         assert_eq!(rt; fault(alloc, bytes, u64::MAX), Some(*due), "{bytes:?}");
     }
-    for whole in [APART, APART_AGAIN] {
+    for whole in [APART, APART_AGAIN, APART_WITH_IDLE] {
         for len in 0..whole.len() {
             let told = fault(alloc, &whole[..len], u64::MAX);
             assert_eq!(rt; told, Some(CertificateFault::Truncated), "{len}");

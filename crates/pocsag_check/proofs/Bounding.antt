@@ -1,23 +1,22 @@
 -- An accepted tree bounds every transmission.
-use Rattle.pocsag_check.proofs.Prelude.{◌≡◌, ℕ, zero, suc, ◌+◌, ◌-◌, ◌%◌, ◌<◌, ◌≤◌, ◌==◌, Bool, true, false, List, [], ◌∷◌, ◌++◌, length, map, refl, sym, ap, subst, ◌∙◌, arith, slice_index, inl, inr, length-append, cases_lt, End, Page, Bound, Classes, Limits, Step, runs, AreClassesOf, IsAdmitted, load, limits_of_all, finish_of, IsTour, LastIsWhole, Leads, idles, Accepts}
+use Rattle.pocsag_check.proofs.Prelude.{◌≡◌, ℕ, zero, suc, ◌+◌, ◌-◌, ◌%◌, ◌<◌, ◌≤◌, ◌==◌, Bool, true, false, List, [], ◌∷◌, ◌++◌, length, map, refl, sym, ap, subst, ◌∙◌, arith, slice_index, inl, inr, length-append, cases_lt, End, Page, Bound, Classes, Limits, Step, runs, AreClassesOf, IsAdmitted, load, limits_of_all, finish_of, IsTour, LastAs, LastIsIdle, LastIsWhole, Leads, idles, Accepts}
 use Rattle.std.proofs.Common.{◌*◌, replicate}
 use Rattle.std.proofs.lemmas.List.{append-nil, get_or-replicate, length-map}
 use Rattle.pocsag_words.specs.declared.codeword.Kind.{Kind}
 use Rattle.pocsag_words.specs.declared.codeword.Kind.TheVariants.{Message}
-use Rattle.pocsag_words.specs.declared.ending.End.TheVariants.{Open, Closed}
+use Rattle.pocsag_words.specs.declared.ending.End.TheVariants as ends
 use Rattle.pocsag_pages.specs.Reading.{AreApart, IsLegalFor, Reads, at_end, past_idle, past_page, frame_at}
 use Rattle.pocsag_slots.specs.declared.step.Step.TheVariants.{Idle as Stay, Run}
 use Rattle.pocsag_slots.specs.Arcs.{arcs, early_in, run_length}
 use Rattle.pocsag_slots.specs.Cover.{covered}
 use Rattle.pocsag_slots.specs.Numbering.{class_of}
-use Rattle.pocsag_slots.specs.Tours.{LastAs}
 use Rattle.pocsag_slots.proofs.CoverLemmas.{covered_batches, covered_split, finish_is}
 use Rattle.pocsag_slots.proofs.Touring.{toured}
 use Rattle.pocsag_slots.proofs.Walks.{arcs_past_run, run_length_is}
 use Rattle.pocsag_check.specs.Accepting.{AcceptsRoot}
 use Rattle.pocsag_check.specs.Fitting.{busy, Fits}
 use Rattle.pocsag_check.proofs.Refuted.{refuted}
-use Rattle.pocsag_slots.proofs.Endings.{last_behind}
+use Rattle.pocsag_slots.proofs.Endings.{idle_behind, last_behind}
 
 busy_run : (items : List ℕ) (rest : List Kind) (i slot : ℕ) → slot < 16 →
     busy i (map Message items ++ rest) slot ≡ covered i (length items) slot + busy (i + length items) rest slot
@@ -127,10 +126,20 @@ last_append : (ss : List Step) (g : ℕ) → LastIsWhole (ss ++ replicate (suc g
 last_append [] g = last_stays g
 last_append (s ∷ ss) g = last_behind s (ss ++ replicate (suc g) Stay) (last_append ss g)
 
+idle_stays : (g : ℕ) → LastIsIdle (replicate (suc g) Stay)
+idle_stays zero = tt
+idle_stays (suc g) = idle_stays g
+
+idle_append : (ss : List Step) (g : ℕ) → LastIsIdle (ss ++ replicate (suc g) Stay)
+idle_append [] g = idle_stays g
+idle_append (s ∷ ss) g = idle_behind s (ss ++ replicate (suc g) Stay) (idle_append ss g)
+
 last_as : (end : End) (ss : List Step) (g : ℕ) → LastAs end ss → LastAs end (ss ++ replicate g Stay)
-last_as Open ss g h = tt
-last_as Closed ss zero h = rw (append-nil ss) h
-last_as Closed ss (suc g) h = last_append ss g
+last_as ends.Open ss g h = tt
+last_as ends.Closed ss zero h = rw (append-nil ss) h
+last_as ends.Closed ss (suc g) h = last_append ss g
+last_as ends.Idle ss zero h = rw (append-nil ss) h
+last_as ends.Idle ss (suc g) h = idle_append ss g
 
 lengthened : (k : Classes) (end : End) (choice : ℕ → ℕ) (n m : ℕ) (steps : List Step) →
     IsTour k end choice n steps → IsTour k end choice (n + m) (steps ++ replicate (16 * m) Stay)

@@ -6,7 +6,7 @@ pub use Rattle.pocsag_slots.specs.Loads.{AreClassesOf, IsAdmitted, limits_of_all
 pub use Rattle.pocsag_slots.specs.Numbering.{finish_of, start_of}
 unfoldable pub use Rattle.pocsag_slots.specs.Sums.{joined_below}
 pub use Rattle.pocsag_slots.specs.Sums.{holds}
-pub use Rattle.pocsag_slots.specs.Tours.{IsTour, LastIsWhole, Leads, idles}
+pub use Rattle.pocsag_slots.specs.Tours.{AsksForLast, IsTour, LastAs, LastIsIdle, LastIsWhole, Leads, idles}
 unfoldable pub use Rattle.pocsag_slots.specs.Ways.{class_certain, idle_crosses, run_touches, slot_ways, ways_across, ways_to_close}
 pub use Rattle.pocsag_slots.specs.Ways.{limits_below, limits_from, narrowed_limits}
 pub use Rattle.pocsag_slots.specs.declared.class.Classes.{Classes}

@@ -1,8 +1,9 @@
 -- No tour of an admitted choice meets an accepted node.
-use Rattle.pocsag_check.proofs.Prelude.{◌≡◌, ℕ, ◌+◌, ◌%◌, ◌<◌, ◌&&◌, ◌||◌, Bool, true, false, IsTrue, List, [], ◌∷◌, refl, arith, slice_index, ◌⊎◌, inl, inr, nat_lt, cases_lt, nat_tests, End, Bound, Bounds, overload, split, cut, close, unexamined, none, more, Classes, Limits, Step, Way, runs, IsAdmitted, finish_of, IsTour, LastIsWhole, Leads, idles, run_touches, class_certain, ways_across, ways_to_close, narrowed_limits, limits_below, limits_from, Accepts, AcceptsEach}
-use Rattle.pocsag_words.specs.declared.ending.End.TheVariants.{Open, Closed}
+use Rattle.pocsag_check.proofs.Prelude.{◌≡◌, ℕ, ◌+◌, ◌%◌, ◌<◌, ◌&&◌, ◌||◌, Bool, true, false, IsTrue, List, [], ◌∷◌, refl, arith, slice_index, ◌⊎◌, inl, inr, nat_lt, cases_lt, nat_tests, End, Bound, Bounds, overload, split, cut, close, unexamined, none, more, Classes, Limits, Step, Way, runs, IsAdmitted, finish_of, AsksForLast, IsTour, LastIsWhole, Leads, idles, run_touches, class_certain, ways_across, ways_to_close, narrowed_limits, limits_below, limits_from, Accepts, AcceptsEach}
+use Rattle.pocsag_words.specs.declared.ending.End.TheVariants as ends
 use Rattle.pocsag_slots.specs.declared.step.Step.TheVariants.{Idle as Stay, Run}
 use Rattle.pocsag_slots.proofs.CoverLemmas.{finish_below}
+use Rattle.pocsag_slots.proofs.Endings.{idles_last}
 use Rattle.pocsag_check.proofs.Crossing.{IsInside, crosses_or_stays}
 use Rattle.pocsag_check.proofs.Refuting.{AnyTaken, not_overloaded, admitted_below, admitted_from, admitted_narrowed}
 use Rattle.pocsag_check.proofs.Taking.{taken_way}
@@ -57,10 +58,13 @@ ends_by (Stay ∷ (t ∷ ss)) p small leads whole = more_idle p (t ∷ ss) (ends
 ends_by (Run c e ∷ (t ∷ ss)) p small leads whole =
     more_run p c e (t ∷ ss) (ends_by (t ∷ ss) (finish_of c e) (finish_below c e) leads.1 whole)
 
-closing_way : (k : Classes) (l : Limits) (choice : ℕ → ℕ) (b : ℕ) (steps : List Step) →
-    IsTour k Closed choice b steps → IsAdmitted k l choice → AnyTaken k choice b (ways_to_close k l)
+closing_way : (k : Classes) (end : End) (l : Limits) (choice : ℕ → ℕ) (b : ℕ) (steps : List Step) → AsksForLast end →
+    IsTour k end choice b steps → IsAdmitted k l choice → AnyTaken k choice b (ways_to_close k end l)
 unfolding ways_to_close
-closing_way k l choice b steps tour a = grind (arith, ends_by, AnyTaken, nat_tests)
+closing_way k ends.Open l choice b steps asks tour a = absurd asks
+closing_way k ends.Closed l choice b steps asks tour a = grind (arith, ends_by, AnyTaken, nat_tests)
+closing_way k ends.Idle l choice b steps asks tour a =
+    inl (omega arith, omega (arith, idles_last 0 steps (omega arith) tour.leads tour.last, tour.idle 15 (omega arith)))
 
 mutual
   pub refuted : (t : Bound) (k : Classes) (end : End) (l : Limits) (choice : ℕ → ℕ) (b : ℕ) (steps : List Step) →
@@ -77,9 +81,9 @@ mutual
             (taken_way k end l choice b set steps tour a crossed)
         | inr inside ↦ not_inside k end l choice b set c steps accepted.0 tour a accepted.3 inside
       ]
-  refuted (close children) k Open l choice b steps tour a accepted = absurd accepted.0
-  refuted (close children) k Closed l choice b steps tour a accepted =
-      each_refuted children (ways_to_close k l) k Closed l choice b steps tour a accepted.2 (closing_way k l choice b steps tour a)
+  refuted (close children) k end l choice b steps tour a accepted =
+      each_refuted children (ways_to_close k end l) k end l choice b steps tour a accepted.2
+      (closing_way k end l choice b steps accepted.0 tour a)
   refuted unexamined k end l choice b steps tour a accepted = absurd (cc accepted)
 
   pub each_refuted : (ts : Bounds) (ws : List Way) (k : Classes) (end : End) (l : Limits) (choice : ℕ → ℕ) (b : ℕ) (steps : List Step) →

@@ -1,6 +1,7 @@
--- An accepted tree can be written: each of its fields is in the range of version PCB2.
-use Rattle.pocsag_check.proofs.Prelude.{◌≡◌, ℕ, ◌-◌, ◌<◌, ◌≤◌, Bool, false, List, [], ◌∷◌, length, nat_lt, refl, ap, arith, min, slice_index, End, Bound, Bounds, overload, split, cut, close, unexamined, none, more, children_count, Classes, Limits, Way, limits_of_all, limits_below, limits_from, narrowed_limits, ways_across, ways_to_close, Accepts, AcceptsEach, IsAccepted}
+-- An accepted tree can be written: each of its fields is in the range of versions PCB2 and PCB4.
+use Rattle.pocsag_check.proofs.Prelude.{◌≡◌, ℕ, ◌-◌, ◌<◌, ◌≤◌, Bool, false, List, [], ◌∷◌, length, nat_lt, refl, ap, arith, min, slice_index, End, Bound, Bounds, overload, split, cut, close, unexamined, none, more, children_count, Classes, Limits, Way, limits_of_all, AsksForLast, limits_below, limits_from, narrowed_limits, ways_across, ways_to_close, Accepts, AcceptsEach, IsAccepted}
 use Rattle.std.proofs.Common.{◌^◌}
+use Rattle.pocsag_words.specs.declared.ending.End.TheVariants as ends
 use Rattle.pocsag_tree.specs.Limits.{most_nodes, second_ranges}
 use Rattle.pocsag_tree.specs.Bounds.{all_nodes, all_nodes_in, closed_nodes, closed_nodes_in}
 use Rattle.pocsag_tree.specs.Spelling.{AreInRange, HasText, IsInRange}
@@ -40,13 +41,17 @@ few_ways : (k : Classes) (l : Limits) (set : ℕ) → length (ways_across k l se
 unfolding ways_across
 few_ways k l set = classes_few k l set 136 (ways_across k l set) refl
 
-few_endings : (k : Classes) (l : Limits) → length (ways_to_close k l) ≤ 2
+few_endings : (k : Classes) (end : End) (l : Limits) → length (ways_to_close k end l) ≤ 2
 unfolding ways_to_close
-few_endings k l = omega (arith, one_or_none (nat_lt (slice_index l.lo 135) (slice_index k.count 135)) (Late 135))
+few_endings k ends.Open l = omega arith
+few_endings k ends.Closed l = omega (arith, one_or_none (nat_lt (slice_index l.lo 135) (slice_index k.count 135)) (Late 135))
+few_endings k ends.Idle l = omega arith
 
-some_ending : (k : Classes) (l : Limits) → 1 ≤ length (ways_to_close k l)
+some_ending : (k : Classes) (end : End) (l : Limits) → AsksForLast end → 1 ≤ length (ways_to_close k end l)
 unfolding ways_to_close
-some_ending k l = omega arith
+some_ending k ends.Open l asks = absurd asks
+some_ending k ends.Closed l asks = omega arith
+some_ending k ends.Idle l asks = omega arith
 
 mutual
   in_range : (t : Bound) (u : Bool) (k : Classes) (end : End) (b : ℕ) (l : Limits) → AreCounted k l → Accepts u k end b l t →
@@ -68,11 +73,11 @@ mutual
         each_in_range children u k end b l (ways_across k l set) of a.5,
       )
   in_range (close children) u k end b l of a =
-      let long : length (ways_to_close k l) ≡ children_count children = row_long u k end b l (ways_to_close k l) children a.2 in (
+      let long : length (ways_to_close k end l) ≡ children_count children = row_long u k end b l (ways_to_close k end l) children a.2 in (
         omega arith,
-        omega (arith, long, some_ending k l),
-        omega (arith, long, few_endings k l),
-        each_in_range children u k end b l (ways_to_close k l) of a.2,
+        omega (arith, long, some_ending k end l a.0),
+        omega (arith, long, few_endings k end l),
+        each_in_range children u k end b l (ways_to_close k end l) of a.2,
       )
   in_range unexamined u k end b l of a = tt
 
@@ -99,7 +104,7 @@ mutual
   all_closed (split c m below above) k end b l a =
       omega (arith, all_closed below k end b (limits_below l c m) a.3, all_closed above k end b (limits_from l c m) a.4)
   all_closed (cut set c children) k end b l a = omega (arith, each_closed children k end b l (ways_across k l set) a.5)
-  all_closed (close children) k end b l a = omega (arith, each_closed children k end b l (ways_to_close k l) a.2)
+  all_closed (close children) k end b l a = omega (arith, each_closed children k end b l (ways_to_close k end l) a.2)
   all_closed unexamined k end b l a = absurd (cc a)
 
   each_closed : (ts : Bounds) (k : Classes) (end : End) (b : ℕ) (l : Limits) (ws : List Way) → AcceptsEach false k end b l ws ts →

@@ -3,13 +3,14 @@ use Rattle.pocsag_findings.proofs.Prelude.{◌≡◌, ℕ, ◌+◌, ◌<◌, ◌
 use Rattle.std.specs.List.{AllByRecursion}
 use Rattle.std.proofs.lemmas.Bool.{and_parts}
 use Rattle.std.proofs.lemmas.Bool.Decides.{nat_tests}
-use Rattle.pocsag_words.specs.declared.ending.End.TheVariants.{Open, Closed}
+use Rattle.pocsag_words.specs.declared.ending.End.TheVariants as ends
 use Rattle.pocsag_slots.specs.Loads.{AreInOrder, Overloads}
 use Rattle.pocsag_slots.specs.Sums.{holds}
+use Rattle.pocsag_slots.specs.Tours.{AsksForLast}
 use Rattle.pocsag_slots.specs.Ways.{MayTake, class_certain, ways_across, ways_to_close, limits_below, limits_from, narrowed_limits}
 use Rattle.pocsag_tree.specs.Bounds.{depth_of, deepest}
 use Rattle.pocsag_tree.specs.Spelling.{IsSet}
-use Rattle.pocsag_check.specs.Accepting.{Accepts, AcceptsEach, IsClosed}
+use Rattle.pocsag_check.specs.Accepting.{Accepts, AcceptsEach}
 use Rattle.pocsag_findings.specs.declared.finding.Reached.TheVariants.{Below, From, By}
 use Rattle.pocsag_findings.specs.Findings.{findings_below, findings_by, findings_within, unjudged_below}
 use Rattle.pocsag_findings.specs.Rules.{fact_holds, fact_of, least_of_set, room_of}
@@ -18,7 +19,7 @@ use Rattle.pocsag_findings.proofs.Nodes.{held_close, held_cut, held_split}
 use Rattle.pocsag_findings.proofs.Ordered.{across_allowed, closing_allowed, ordered_below, ordered_from, ordered_narrowed}
 
 held_overload : (k : Classes) (end : End) (b : ℕ) (l : Limits) (set : ℕ) → AreInOrder k l →
-    fact_holds end b (fact_of k l (overload set)) ≡ true → IsSet set × Overloads k l set
+    fact_holds end b (fact_of k end l (overload set)) ≡ true → IsSet set × Overloads k l set
 held_overload k end b l set o h =
     let least : room_of l set < least_of_set k l set = grind (arith, nat_tests) in
     let some : 1 ≤ set = grind (arith, nat_tests) in
@@ -33,7 +34,7 @@ record IsCutAt (k : Classes) (l : Limits) (set c : ℕ) : Type 0 where
   small : set < 65536
 
 cut_at : (k : Classes) (end : End) (b : ℕ) (l : Limits) (set c : ℕ) (children : Bounds) →
-    fact_holds end b (fact_of k l (cut set c children)) ≡ true → IsCutAt k l set c
+    fact_holds end b (fact_of k end l (cut set c children)) ≡ true → IsCutAt k l set c
 cut_at k end b l set c children h = record {
   class = grind (arith, nat_tests);
   start = grind (arith, nat_tests);
@@ -41,10 +42,11 @@ cut_at k end b l set c children h = record {
   small = grind (arith, nat_tests);
 }
 
-closed_end : (k : Classes) (end : End) (b : ℕ) (l : Limits) (children : Bounds) →
-    fact_holds end b (fact_of k l (close children)) ≡ true → IsClosed end
-closed_end k Open b l children h = absurd (cc h)
-closed_end k Closed b l children h = tt
+asking_end : (k : Classes) (end : End) (b : ℕ) (l : Limits) (children : Bounds) →
+    fact_holds end b (fact_of k end l (close children)) ≡ true → AsksForLast end
+asking_end k ends.Open b l children h = absurd (cc h)
+asking_end k ends.Closed b l children h = tt
+asking_end k ends.Idle b l children h = tt
 
 -- a listed node that holds with those below it
 parts : (listed held : Bool) (first : Stated) (below unjudged : List Stated) → listed ≡ true → first.holds ≡ held →
@@ -55,10 +57,10 @@ parts true false first below unjudged l e h = absurd (cc (sym e ∙ (and_parts f
 
 within_parts : (k : Classes) (end : End) (b depth : ℕ) (l : Limits) (above : ℕ) (how : Reached) (t : Bound) → above < depth →
     all (findings_within k end b depth l above how t) ≡ true →
-    (fact_holds end b (fact_of k l t) ≡ true) × (all (findings_below k end b depth l (above + 1) t) ≡ true)
+    (fact_holds end b (fact_of k end l t) ≡ true) × (all (findings_below k end b depth l (above + 1) t) ≡ true)
 within_parts k end b depth l above how t h a =
     let listed : nat_lt above depth ≡ true = grind (arith, nat_tests) in
-    parts (nat_lt above depth) (fact_holds end b (fact_of k l t)) _ (findings_below k end b depth l (above + 1) t)
+    parts (nat_lt above depth) (fact_holds end b (fact_of k end l t)) _ (findings_below k end b depth l (above + 1) t)
     (unjudged_below depth (above + 1) t) listed refl a
 
 mutual
@@ -91,9 +93,9 @@ mutual
   accepts (close children) k end b depth l above how o deep a =
       let node = within_parts k end b depth l above how (close children) (omega arith) a in
       let says = held_close k end b l children node.0 in (
-        closed_end k end b l children node.0,
+        asking_end k end b l children node.0,
         omega (arith, says.0),
-        accepts_each children k end b depth l (above + 1) (ways_to_close k l) o (closing_allowed k l) says.1 (omega arith) node.1,
+        accepts_each children k end b depth l (above + 1) (ways_to_close k end l) o (closing_allowed k end l) says.1 (omega arith) node.1,
       )
   accepts unexamined k end b depth l above how o deep a =
       absurd (cc (within_parts k end b depth l above how unexamined (omega arith) a).0)

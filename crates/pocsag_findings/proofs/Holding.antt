@@ -4,16 +4,17 @@ use Rattle.std.specs.List.{AllByRecursion, list_all}
 use Rattle.std.proofs.lemmas.Bool.{and_parts}
 use Rattle.std.proofs.lemmas.Bool.Decides.{nat_tests}
 use Rattle.std.proofs.lemmas.List.Folds.{list_all-append}
-use Rattle.pocsag_words.specs.declared.ending.End.TheVariants.{Open, Closed}
+use Rattle.pocsag_words.specs.declared.ending.End.TheVariants as ends
 use Rattle.pocsag_slots.specs.Loads.{AreInOrder, Overloads}
 use Rattle.pocsag_slots.specs.Sums.{holds}
+use Rattle.pocsag_slots.specs.Tours.{AsksForLast}
 use Rattle.pocsag_slots.specs.Ways.{MayTake, class_certain, ways_across, ways_to_close, limits_below, limits_from, narrowed_limits}
 use Rattle.pocsag_slots.proofs.LeastLemmas.{least_is, overload_is}
 use Rattle.pocsag_check.specs.Accepting.{Accepts, AcceptsEach}
 use Rattle.pocsag_check.proofs.RowChecks.{row_long}
 use Rattle.pocsag_findings.specs.declared.finding.Reached.TheVariants.{Below, From, By}
 use Rattle.pocsag_findings.specs.Findings.{findings_below, findings_by, findings_with, findings_within}
-use Rattle.pocsag_findings.specs.Rules.{fact_holds, fact_of, least_of_set, room_of}
+use Rattle.pocsag_findings.specs.Rules.{asks_for_last, fact_holds, fact_of, least_of_set, room_of}
 use Rattle.pocsag_findings.proofs.Ordered.{across_allowed, closing_allowed, ordered_below, ordered_from, ordered_narrowed}
 
 abbrev pub all : List Stated → Bool
@@ -24,9 +25,14 @@ pub overload_fact : (k : Classes) (l : Limits) (set : ℕ) → AreInOrder k l �
     (room_of l set < least_of_set k l set → Overloads k l set) × (Overloads k l set → room_of l set < least_of_set k l set)
 overload_fact k l set o = overload_is k l set (least_of_set k l set) (least_is k l set o)
 
+asked : (end : End) → AsksForLast end → asks_for_last end ≡ true
+asked ends.Open asks = absurd asks
+asked ends.Closed asks = refl
+asked ends.Idle asks = refl
+
 -- the rule of an accepted node holds
 accepted_fact : (t : Bound) (k : Classes) (end : End) (b : ℕ) (l : Limits) → AreInOrder k l → Accepts false k end b l t →
-    fact_holds end b (fact_of k l t) ≡ true
+    fact_holds end b (fact_of k end l t) ≡ true
 accepted_fact (overload set) k end b l o a =
     let more_than : room_of l set < least_of_set k l set = (overload_fact k l set o).1 a.1 in
     let some = a.0.0 in
@@ -45,10 +51,10 @@ accepted_fact (cut set c children) k end b l o a =
     let certain : class_certain k l set c ≡ true = a.3 in
     let set_small : set < 65536 = omega (arith, a.4) in
     grind (arith, nat_tests)
-accepted_fact (close children) k Open b l o a = absurd a.0
-accepted_fact (close children) k Closed b l o a =
-    let long : length (ways_to_close k l) ≡ children_count children = row_long false k Closed b l (ways_to_close k l) children a.2 in
+accepted_fact (close children) k end b l o a =
+    let long : length (ways_to_close k end l) ≡ children_count children = row_long false k end b l (ways_to_close k end l) children a.2 in
     let some : 1 ≤ b = a.1 in
+    let asks : asks_for_last end ≡ true = asked end a.0 in
     grind (arith, nat_tests)
 accepted_fact unexamined k end b l o a = absurd (cc a)
 
@@ -67,7 +73,7 @@ each xs ys h = and_parts (all xs) (all ys) (sym (list_all-append (λ (f : Stated
 with_all : (k : Classes) (end : End) (b depth : ℕ) (l : Limits) (above : ℕ) (how : Reached) (t : Bound) (below : List Stated) →
     AreInOrder k l → Accepts false k end b l t → all below ≡ true → all (findings_with k end b depth l above how t below) ≡ true
 with_all k end b depth l above how t below o a rest =
-    with_listed (nat_lt above depth) (fact_holds end b (fact_of k l t)) _ below _ (accepted_fact t k end b l o a)
+    with_listed (nat_lt above depth) (fact_holds end b (fact_of k end l t)) _ below _ (accepted_fact t k end b l o a)
     (accepted_fact t k end b l o a) rest
 
 mutual
@@ -88,7 +94,7 @@ mutual
   all_below (cut set c children) k end b depth l above o a =
       all_by children k end b depth l above (ways_across k l set) o (across_allowed k l set) a.5
   all_below (close children) k end b depth l above o a =
-      all_by children k end b depth l above (ways_to_close k l) o (closing_allowed k l) a.2
+      all_by children k end b depth l above (ways_to_close k end l) o (closing_allowed k end l) a.2
   all_below unexamined k end b depth l above o a = refl
 
   all_by : (ts : Bounds) (k : Classes) (end : End) (b depth : ℕ) (l : Limits) (above : ℕ) (ws : List Way) → AreInOrder k l →

@@ -1,10 +1,11 @@
 -- Limits stay in order at the children of a node.
-use Rattle.pocsag_findings.proofs.Prelude.{◌≡◌, ℕ, ◌-◌, ◌<◌, ◌≤◌, [], ◌∷◌, ap, arith, nat_lt, cond, slice_index, Classes, Limits, Way}
+use Rattle.pocsag_findings.proofs.Prelude.{◌≡◌, ℕ, ◌-◌, ◌<◌, ◌≤◌, [], ◌∷◌, ap, arith, nat_lt, cond, slice_index, Classes, End, Limits, Way}
 use Rattle.std.proofs.Common.{min, max}
 use Rattle.std.proofs.lemmas.Bool.{ltb-true}
 use Rattle.std.proofs.lemmas.List.Elements.{All-cons, recursion_from_All}
 use Rattle.std.specs.Prelude.{All}
 use Rattle.std.specs.List.{AllByRecursion}
+use Rattle.pocsag_words.specs.declared.ending.End.TheVariants as ends
 use Rattle.pocsag_slots.specs.declared.way.Way.TheVariants.{IdleIn, Early, Late}
 use Rattle.pocsag_slots.specs.Loads.{AreInOrder}
 use Rattle.pocsag_slots.specs.Ways.{MayTake, limits_below, limits_from, narrowed_limits, ways_across, ways_to_close}
@@ -49,10 +50,12 @@ ordered_narrowed k l (Late c) b o t = record {
 pub across_allowed : (k : Classes) (l : Limits) (set : ℕ) → AllByRecursion (MayTake k l) (ways_across k l set)
 across_allowed k l set = recursion_from_All (MayTake k l) (ways_across k l set) (ways_allowed k l set)
 
-pub closing_allowed : (k : Classes) (l : Limits) → AllByRecursion (MayTake k l) (ways_to_close k l)
+pub closing_allowed : (k : Classes) (end : End) (l : Limits) → AllByRecursion (MayTake k l) (ways_to_close k end l)
 unfolding ways_to_close
-closing_allowed k l =
+closing_allowed k ends.Open l = tt
+closing_allowed k ends.Closed l =
     let late : All (MayTake k l) (cond (nat_lt (slice_index l.lo 135) (slice_index k.count 135)) (Late 135 ∷ []) []) =
     All-one_or_none (MayTake k l) (nat_lt (slice_index l.lo 135) (slice_index k.count 135)) (Late 135)
     (λ free. (omega arith, ltb-true (slice_index l.lo 135) (slice_index k.count 135) free)) in
-    recursion_from_All (MayTake k l) (ways_to_close k l) (All-cons (MayTake k l) (IdleIn 15) _ (omega arith) late)
+    recursion_from_All (MayTake k l) (ways_to_close k ends.Closed l) (All-cons (MayTake k l) (IdleIn 15) _ (omega arith) late)
+closing_allowed k ends.Idle l = (omega arith, tt)

@@ -2,7 +2,7 @@
 use Rattle.pocsag_slots.proofs.Prelude.{◌≡◌, ◌≢◌, ℕ, ◌+◌, ◌*◌, ◌/◌, ◌%◌, ◌<◌, ◌≤◌, ◌==◌, Bool, cond, List, [], ◌∷◌, All, length, take, refl, sym, ap, ◌∙◌, subst, arith, eq-eqb, slice_index, slice_index_or, slice_set, get_or-set_same, get_or-set_other, inl, inr, replicate, cases_eq, ne_eqb, nat_tests, get_or-replicate, All-head, All-tail, End, Page, page_length, class_of, class_of_page, class_rest, count_of, turns_of, sum_below}
 use Rattle.std.proofs.lemmas.List.{length-replicate, length-set}
 use Rattle.std.proofs.lemmas.List.Sums.{count_by-le-length, sum_by_more}
-use Rattle.pocsag_words.specs.declared.ending.End.TheVariants.{Open, Closed}
+use Rattle.pocsag_words.specs.declared.ending.End.TheVariants as ends
 use Rattle.pocsag_slots.specs.Tables.{AreTables}
 use Rattle.pocsag_slots.proofs.CoverLemmas.{class_below, class_rest_is}
 use Rattle.pocsag_slots.proofs.SumLemmas.{sum_below-bump, sum_below-same, sum_below-zero}
@@ -81,8 +81,9 @@ turns_whole end c (p ∷ R) h =
 
 bare_length : (end : End) (frame n : ℕ) → frame < 8 → 128 ≤ class_of end frame n → n ≡ 1
 unfolding class_of
-bare_length Open frame n h l = absurd (omega arith)
-bare_length Closed frame n h l = grind (arith, nat_tests)
+bare_length ends.Open frame n h l = absurd (omega arith)
+bare_length ends.Closed frame n h l = grind (arith, nat_tests)
+bare_length ends.Idle frame n h l = absurd (omega arith)
 
 turns_bare : (end : End) (c : ℕ) (R : List Page) → 128 ≤ c → turns_of end R c ≡ 0
 turns_bare end c [] h = refl
@@ -95,17 +96,20 @@ turns_bare end c (p ∷ R) h =
       | inr other ↦ omega (arith, turns_out end p R c other)
     ]
 
-open_below : (frame n : ℕ) → frame < 8 → class_of Open frame n < 128
+-- only the closed end has classes of an address codeword alone
+other_below : (end : End) (frame n : ℕ) → end ≢ ends.Closed → frame < 8 → class_of end frame n < 128
 unfolding class_of
-open_below frame n h = omega arith
+other_below ends.Open frame n other h = omega arith
+other_below ends.Closed frame n other h = absurd (other refl)
+other_below ends.Idle frame n other h = omega arith
 
-pub count_bare : (c : ℕ) (R : List Page) → 128 ≤ c → count_of Open R c ≡ 0
-count_bare c [] h = refl
-count_bare c (p ∷ R) h =
-    let rest = count_bare c R h in
-    let below : class_of_page Open p < 128 = open_below (p.address % 8) (page_length p) (omega arith) in
-    let other : class_of_page Open p ≢ c = omega arith in
-    omega (arith, count_out Open p R c other)
+pub count_bare : (end : End) (c : ℕ) (R : List Page) → end ≢ ends.Closed → 128 ≤ c → count_of end R c ≡ 0
+count_bare end c [] other h = refl
+count_bare end c (p ∷ R) other h =
+    let rest = count_bare end c R other h in
+    let below : class_of_page end p < 128 = other_below end (p.address % 8) (page_length p) other (omega arith) in
+    let apart : class_of_page end p ≢ c = omega arith in
+    omega (arith, count_out end p R c apart)
 
 -- each page is in one class
 counts_sum : (end : End) (R : List Page) → sum_below 136 (count_of end R) ≡ length R

@@ -1,6 +1,6 @@
 -- How often codewords in a row cover a slot, and where the runs of a class start and end.
 use Rattle.pocsag_slots.proofs.Prelude.{◌≡◌, ℕ, zero, suc, ◌+◌, ◌-◌, ◌*◌, ◌/◌, ◌%◌, ◌<◌, ◌==◌, Bool, true, false, cond, arith, nat_tests, End, frame_at, covered, class_of, class_frame, class_rest, start_of, finish_of}
-use Rattle.pocsag_words.specs.declared.ending.End.TheVariants.{Open, Closed}
+use Rattle.pocsag_words.specs.declared.ending.End.TheVariants as ends
 
 -- one codeword more raises the whole turns exactly in its own slot
 cover_step : (i slot : ℕ) → slot < 16 → cond (i % 16 == slot) 1 0 + (i + 15 - slot) / 16 ≡ (i + 1 + 15 - slot) / 16
@@ -26,18 +26,21 @@ covered_batches b slot h = omega (arith, covered_is 0 (16 * b) slot h)
 
 pub class_below : (end : End) (frame n : ℕ) → frame < 8 → class_of end frame n < 136
 unfolding class_of
-class_below Open frame n h = omega arith
-class_below Closed frame n h = grind (arith, nat_tests)
+class_below ends.Open frame n h = omega arith
+class_below ends.Closed frame n h = grind (arith, nat_tests)
+class_below ends.Idle frame n h = omega arith
 
 pub class_frame_is : (end : End) (frame n : ℕ) → frame < 8 → class_frame (class_of end frame n) ≡ frame
 unfolding class_of class_frame
-class_frame_is Open frame n h = grind (arith, nat_tests)
-class_frame_is Closed frame n h = grind (arith, nat_tests)
+class_frame_is ends.Open frame n h = grind (arith, nat_tests)
+class_frame_is ends.Closed frame n h = grind (arith, nat_tests)
+class_frame_is ends.Idle frame n h = grind (arith, nat_tests)
 
 pub class_rest_is : (end : End) (frame n : ℕ) → frame < 8 → class_rest (class_of end frame n) ≡ n % 16
 unfolding class_of class_rest
-class_rest_is Open frame n h = grind (arith, nat_tests)
-class_rest_is Closed frame n h = grind (arith, nat_tests)
+class_rest_is ends.Open frame n h = grind (arith, nat_tests)
+class_rest_is ends.Closed frame n h = grind (arith, nat_tests)
+class_rest_is ends.Idle frame n h = grind (arith, nat_tests)
 
 pub start_is : (end : End) (i n : ℕ) → start_of (class_of end (frame_at i) n) (i % 2 == 0) ≡ i % 16
 unfolding start_of

@@ -1,8 +1,8 @@
 -- The codewords of a tour's steps, in order, are a legal transmission.
-use Rattle.pocsag_slots.proofs.Prelude.{◌≡◌, ℕ, ◌+◌, ◌*◌, ◌/◌, ◌%◌, ◌<◌, ◌≤◌, ◌==◌, Bool, true, false, cond, List, [], ◌∷◌, ◌++◌, length, map, refl, sym, ap, subst, ◌∙◌, arith, eq-eqb, inl, inr, length-append, ◌⊎◌, IsPermutation, cases_lt, eqb-true, ne_eqb, nil_from_length, nat_tests, sum_by-cons, IsPermutation-cons, IsPermutation-refl, IsPermutation-trans, Contains-permutation, length_permutation, sum_by-IsPermutation, Kind, End, Page, Reads, at_end, past_idle, past_page, BeginsNoMessage, EndsWhole, EndsAs, IsLegalFor, frame_at, page_words, page_length, Classes, arcs, runs, run_length, covered, AreClassesOf, load, first_of, without_first, laid, class_of, class_of_page, class_frame, start_of, finish_of, count_of, Leads, idles, IsTour, LastIsWhole, LastAs, Step}
+use Rattle.pocsag_slots.proofs.Prelude.{◌≡◌, ℕ, ◌+◌, ◌*◌, ◌/◌, ◌%◌, ◌<◌, ◌≤◌, ◌==◌, Bool, true, false, cond, List, [], ◌∷◌, ◌++◌, length, map, refl, sym, ap, subst, ◌∙◌, arith, eq-eqb, inl, inr, length-append, ◌⊎◌, IsPermutation, cases_lt, eqb-true, ne_eqb, nil_from_length, nat_tests, sum_by-cons, IsPermutation-cons, IsPermutation-refl, IsPermutation-trans, Contains-permutation, length_permutation, sum_by-IsPermutation, Kind, End, Page, Reads, at_end, past_idle, past_page, BeginsNoMessage, EndsIdle, EndsWhole, EndsAs, IsLegalFor, frame_at, page_words, page_length, Classes, arcs, runs, run_length, covered, AreClassesOf, load, first_of, without_first, laid, class_of, class_of_page, class_frame, start_of, finish_of, count_of, Leads, idles, IsTour, LastIsIdle, LastIsWhole, LastAs, Step}
 use Rattle.std.proofs.lemmas.List.Elements.{All-contains_itself}
 use Rattle.pocsag_words.specs.declared.codeword.Kind.TheVariants.{Idle, Address, Message}
-use Rattle.pocsag_words.specs.declared.ending.End.TheVariants.{Open, Closed}
+use Rattle.pocsag_words.specs.declared.ending.End.TheVariants as ends
 use Rattle.pocsag_slots.specs.declared.step.Step.TheVariants.{Idle as Stay, Run}
 use Rattle.pocsag_slots.proofs.CoverLemmas.{class_below, class_frame_is, covered_is, finish_is}
 use Rattle.pocsag_slots.proofs.Taking.{IsTaken, taken, left_counts}
@@ -162,7 +162,7 @@ some_laid end R Stay ss = omega arith
 some_laid end R (Run c e) ss = omega arith
 
 -- a page of class 135 is an address codeword alone
-bare_page : (p : Page) → class_of_page Closed p ≡ 135 → p.payload ≡ []
+bare_page : (p : Page) → class_of_page ends.Closed p ≡ 135 → p.payload ≡ []
 unfolding class_of
 bare_page p h =
     let one : (page_length p == 1) ≡ true = short (page_length p == 1) h in
@@ -173,26 +173,43 @@ bare_page p h =
     short true e = refl
     short false e = absurd (omega arith)
 
-ends_laid : (ss : List Step) (R : List Page) → IsServed Closed R ss → LastIsWhole ss → EndsWhole (laid Closed R ss)
+ends_laid : (ss : List Step) (R : List Page) → IsServed ends.Closed R ss → LastIsWhole ss → EndsWhole (laid ends.Closed R ss)
 ends_laid [] R s h = absurd h
 ends_laid (Stay ∷ []) R s h = tt
 ends_laid (Stay ∷ (t ∷ ss)) R s h =
-    ends_more Idle (laid Closed R (t ∷ ss)) (some_laid Closed R t ss) (ends_laid (t ∷ ss) R (record { each = s.each }) h)
+    ends_more Idle (laid ends.Closed R (t ∷ ss)) (some_laid ends.Closed R t ss) (ends_laid (t ∷ ss) R (record { each = s.each }) h)
 ends_laid (Run c e ∷ []) R s h =
-    let p = first_of Closed c R in
-    let taken_page = taken Closed c R (some_left Closed R c e [] s) in
+    let p = first_of ends.Closed c R in
+    let taken_page = taken ends.Closed c R (some_left ends.Closed R c e [] s) in
     let bare : p.payload ≡ [] = bare_page p (taken_page.class ∙ h.0) in
     subst (λ (items : List ℕ). EndsWhole ((Address (p.address / 8) p.function ∷ map Message items) ++ [])) (sym bare) tt
 ends_laid (Run c e ∷ (t ∷ ss)) R s h =
-    let p = first_of Closed c R in
-    let left = without_first Closed c R in
-    let taken_page = taken Closed c R (some_left Closed R c e (t ∷ ss) s) in
-    ends_behind (page_words p) (laid Closed left (t ∷ ss)) (some_laid Closed left t ss)
-    (ends_laid (t ∷ ss) left (served_left Closed R c e (t ∷ ss) p left s taken_page) h)
+    let p = first_of ends.Closed c R in
+    let left = without_first ends.Closed c R in
+    let taken_page = taken ends.Closed c R (some_left ends.Closed R c e (t ∷ ss) s) in
+    ends_behind (page_words p) (laid ends.Closed left (t ∷ ss)) (some_laid ends.Closed left t ss)
+    (ends_laid (t ∷ ss) left (served_left ends.Closed R c e (t ∷ ss) p left s taken_page) h)
+
+idle_more : (w : Kind) (ws : List Kind) → EndsIdle ws → EndsIdle (w ∷ ws)
+idle_more w [] e = absurd e
+idle_more w (v ∷ ws) e = e
+
+idle_after : (us ws : List Kind) → EndsIdle ws → EndsIdle (us ++ ws)
+idle_after [] ws e = e
+idle_after (u ∷ us) ws e = idle_more u (us ++ ws) (idle_after us ws e)
+
+idle_laid : (end : End) (ss : List Step) (R : List Page) → LastIsIdle ss → EndsIdle (laid end R ss)
+idle_laid end [] R h = absurd h
+idle_laid end (Stay ∷ []) R h = refl
+idle_laid end (Stay ∷ (t ∷ ss)) R h = idle_more Idle (laid end R (t ∷ ss)) (idle_laid end (t ∷ ss) R h)
+idle_laid end (Run c e ∷ []) R h = absurd h
+idle_laid end (Run c e ∷ (t ∷ ss)) R h =
+    idle_after (page_words (first_of end c R)) (laid end (without_first end c R) (t ∷ ss)) (idle_laid end (t ∷ ss) (without_first end c R) h)
 
 ends_as_laid : (end : End) (ss : List Step) (R : List Page) → IsServed end R ss → LastAs end ss → EndsAs end (laid end R ss)
-ends_as_laid Open ss R s h = tt
-ends_as_laid Closed ss R s h = ends_laid ss R s h
+ends_as_laid ends.Open ss R s h = tt
+ends_as_laid ends.Closed ss R s h = ends_laid ss R s h
+ends_as_laid ends.Idle ss R s h = idle_laid ends.Idle ss R h
 
 -- no page has a class from 136 on
 no_class : (end : End) (R : List Page) (c : ℕ) → 136 ≤ c → count_of end R c ≡ 0

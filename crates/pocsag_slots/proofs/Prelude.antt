@@ -1,6 +1,6 @@
 -- What several proofs of the crate import, passed on to all of them.
 pub use Rattle.pocsag_pages.specs.Pages.{IsGoodPage, IsRound}
-pub use Rattle.pocsag_pages.specs.Reading.{AreApart, BeginsNoMessage, EndsAs, EndsWhole, IsLegalFor, IsLegalList, Reads, at_end, frame_at, page_length, page_words, past_idle, past_page}
+pub use Rattle.pocsag_pages.specs.Reading.{AreApart, BeginsNoMessage, EndsAs, EndsIdle, EndsWhole, IsLegalFor, IsLegalList, Reads, at_end, frame_at, page_length, page_words, past_idle, past_page}
 pub use Rattle.pocsag_pages.specs.declared.page.Page.{Page}
 unfoldable pub use Rattle.pocsag_slots.specs.Arcs.{early_in}
 pub use Rattle.pocsag_slots.specs.Arcs.{arcs, run_length, runs}
@@ -12,7 +12,7 @@ pub use Rattle.pocsag_slots.specs.Loads.{AreClassesOf, AreInOrder, IsChoice}
 unfoldable pub use Rattle.pocsag_slots.specs.Numbering.{class_frame, class_of, class_rest, finish_of, start_of}
 pub use Rattle.pocsag_slots.specs.Numbering.{class_of_page, count_of, turns_of}
 unfoldable pub use Rattle.pocsag_slots.specs.Sums.{holds, joined_below, sum_below, sum_over}
-pub use Rattle.pocsag_slots.specs.Tours.{IsTour, LastAs, LastIsWhole, Leads, idles}
+pub use Rattle.pocsag_slots.specs.Tours.{IsTour, LastAs, LastIsIdle, LastIsWhole, Leads, idles}
 unfoldable pub use Rattle.pocsag_slots.specs.Ways.{class_ways, slot_ways, ways_across}
 pub use Rattle.pocsag_slots.specs.declared.class.Classes.{Classes}
 pub use Rattle.pocsag_slots.specs.declared.limit.Limits.{Limits}

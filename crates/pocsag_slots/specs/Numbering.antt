@@ -18,7 +18,7 @@ first_bare = 128
 abbrev pub class_count : ℕ
 class_count = 136
 
--- The class with which a transmission with the closed end may end, and the slot in which one ends.
+-- The class with which a transmission with the closed end may end, and the last slot of a batch.
 abbrev pub last_class : ℕ
 last_class = 135
 

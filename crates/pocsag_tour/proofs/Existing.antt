@@ -1,7 +1,7 @@
 -- That there is a way, without walking it: the floods and the walk over plain numbers.
-use Rattle.pocsag_tour.proofs.Prelude.{◌≡◌, ◌≢◌, ℕ, zero, suc, ◌+◌, ◌-◌, ◌^◌, ◌<◌, ◌≤◌, ◌==◌, ◌&&◌, nat_lt, Bool, true, false, not, cond, List, [], ◌∷◌, ◌++◌, ◌⊎◌, refl, arith, eq-eqb, inl, inr, cases_eq, eqb-true, ne_eqb, nat_tests, Step, SetsTakeMembers, holds, sum_below, LastAs, AllLeadTo, arc_from, arc_to, IsBalanced, IsClosing, IsDeparture, IsEntering, IsSpent, IsWalk, IsWay, LeadHome, NoneEnters, step_of}
+use Rattle.pocsag_tour.proofs.Prelude.{◌≡◌, ◌≢◌, ℕ, zero, suc, ◌+◌, ◌-◌, ◌^◌, ◌<◌, ◌≤◌, ◌==◌, ◌&&◌, nat_lt, Bool, true, false, not, cond, List, [], ◌∷◌, ◌++◌, ◌⊎◌, refl, arith, eq-eqb, inl, inr, cases_eq, eqb-true, ne_eqb, nat_tests, End, Step, SetsTakeMembers, holds, sum_below, LastAs, AllLeadTo, arc_from, arc_to, IsBalanced, IsClosing, IsDeparture, IsEntering, IsSpent, IsWalk, IsWay, LeadHome, NoneEnters, step_of}
 use Rattle.std.proofs.lemmas.Bool.{and_parts, not-false, not-true}
-use Rattle.pocsag_words.specs.declared.ending.End.TheVariants.{Open, Closed}
+use Rattle.pocsag_words.specs.declared.ending.End.TheVariants as ends
 use Rattle.pocsag_slots.specs.Sums.{AddsMember}
 use Rattle.pocsag_tour.proofs.Flooding.{grown_keeps, homes_more, homes_start}
 use Rattle.pocsag_tour.proofs.Geometry.{from_below}
@@ -180,16 +180,17 @@ way_exists law counts root h balanced all =
 
 -- a way for an end: any, or one that takes a closing arc last
 pub open_way_exists : SetsTakeMembers → (counts : ℕ → ℕ) → IsBalanced counts 0 0 → AllLeadTo counts 0 →
-    (steps : List Step) × (IsWay counts 0 steps × LastAs Open steps)
+    (steps : List Step) × (IsWay counts 0 steps × LastAs ends.Open steps)
 open_way_exists law counts balanced all =
     let way : (steps : List Step) × IsWay counts 0 steps = way_exists law counts 0 (omega arith) balanced all in
     (way.0, (way.1, tt))
 
-pub closed_way_exists : SetsTakeMembers → (counts : ℕ → ℕ) (last : ℕ) → IsClosing counts last → IsBalanced counts 0 0 → AllLeadTo counts 0 →
-    (steps : List Step) × (IsWay counts 0 steps × LastAs Closed steps)
-closed_way_exists law counts last z balanced all =
+pub closing_way_exists : SetsTakeMembers → (counts : ℕ → ℕ) (end : End) (last : ℕ) → IsClosing counts last → LastAs end (step_of last ∷ []) →
+    IsBalanced counts 0 0 → AllLeadTo counts 0 → (steps : List Step) × (IsWay counts 0 steps × LastAs end steps)
+closing_way_exists law counts end last z ending balanced all =
     let less : ℕ → ℕ = one_less counts last in
     let l : IsLess last counts less = is_less counts last z.there in
     let way : (steps : List Step) × IsWay less 15 steps =
     way_exists law less 15 (omega arith) (balanced_without counts less last balanced z l) (joined_closed counts less last balanced all z l) in
-    (way.0 ++ (step_of last ∷ []), closed_way counts less last way.0 z l way.1)
+    let whole = closed_way counts less last way.0 z l way.1 in
+    (way.0 ++ (step_of last ∷ []), (whole.0, whole.1 end ending))

@@ -1,5 +1,6 @@
 -- Where all runs start where boundary 0 leads, all arcs lead back to it.
-use Rattle.pocsag_tour.proofs.Prelude.{◌≡◌, ℕ, zero, suc, ◌+◌, ◌-◌, ◌%◌, ◌<◌, ◌≤◌, ◌==◌, Bool, true, false, cond, List, [], ◌∷◌, ◌++◌, refl, sym, ap, ◌∙◌, arith, eq-eqb, inl, inr, cases_eq, eqb-true, ne_eqb, Step, holds, LastIsWhole, Leads, AllLeadTo, arc_from, arc_to, IsBalanced, IsClosing, IsWay, NoneEnters, NoneLeaves, ins, outs, RunsStart, step_of, taken, Visited, by_arc}
+use Rattle.pocsag_tour.proofs.Prelude.{◌≡◌, ℕ, zero, suc, ◌+◌, ◌-◌, ◌%◌, ◌<◌, ◌≤◌, ◌==◌, Bool, true, false, cond, List, [], ◌∷◌, ◌++◌, refl, sym, ap, ◌∙◌, arith, eq-eqb, inl, inr, cases_eq, eqb-true, ne_eqb, End, Step, holds, LastAs, LastIsIdle, LastIsWhole, Leads, AllLeadTo, arc_from, arc_to, IsBalanced, IsClosing, IsWay, NoneEnters, NoneLeaves, ins, outs, RunsStart, step_of, taken, Visited, by_arc}
+use Rattle.pocsag_words.specs.declared.ending.End.TheVariants as ends
 use Rattle.pocsag_slots.specs.declared.step.Step.TheVariants.{Idle as Stay, Run}
 use Rattle.pocsag_tour.specs.Moves.{at_start}
 use Rattle.pocsag_tour.proofs.Balances.{entered_less, flipped, in_term, ins_over, none_enters, none_leaves, outs_over, positive_term, set_balance}
@@ -110,12 +111,24 @@ joined_closed counts less a balanced all z l set held none b h some =
     ])
     b h (let le : less b ≤ counts b = less_le a counts less l b in omega arith)
 
-pub last_push : (ss : List Step) (s : Step) → LastIsWhole (s ∷ []) → LastIsWhole (ss ++ (s ∷ []))
+last_push : (ss : List Step) (s : Step) → LastIsWhole (s ∷ []) → LastIsWhole (ss ++ (s ∷ []))
 last_push [] s h = h
 last_push (Stay ∷ []) s h = h
 last_push (Run c e ∷ []) s h = h
 last_push (Stay ∷ t ∷ ss) s h = last_push (t ∷ ss) s h
 last_push (Run c e ∷ t ∷ ss) s h = last_push (t ∷ ss) s h
+
+idle_push : (ss : List Step) (s : Step) → LastIsIdle (s ∷ []) → LastIsIdle (ss ++ (s ∷ []))
+idle_push [] s h = h
+idle_push (Stay ∷ []) s h = h
+idle_push (Run c e ∷ []) s h = h
+idle_push (Stay ∷ t ∷ ss) s h = idle_push (t ∷ ss) s h
+idle_push (Run c e ∷ t ∷ ss) s h = idle_push (t ∷ ss) s h
+
+last_as_push : (end : End) (ss : List Step) (s : Step) → LastAs end (s ∷ []) → LastAs end (ss ++ (s ∷ []))
+last_as_push ends.Open ss s h = tt
+last_as_push ends.Closed ss s h = last_push ss s h
+last_as_push ends.Idle ss s h = idle_push ss s h
 
 closed_takes : (counts less : ℕ → ℕ) (a : ℕ) (ss : List Step) → a < 288 → IsLess a counts less → Leads 0 ss (arc_from a) →
     ((b : ℕ) → b < 288 → taken b ss ≡ less b) → (b : ℕ) → b < 288 → taken b (ss ++ (step_of a ∷ [])) ≡ counts b
@@ -132,7 +145,8 @@ closed_takes counts less a ss h l leads takes b m =
     ]
 
 pub closed_way : (counts less : ℕ → ℕ) (a : ℕ) (ss : List Step) → IsClosing counts a → IsLess a counts less → IsWay less 15 ss →
-    IsWay counts 0 (ss ++ (step_of a ∷ [])) × LastIsWhole (ss ++ (step_of a ∷ []))
+    IsWay counts 0 (ss ++ (step_of a ∷ []))
+    × ((end : End) → LastAs end (step_of a ∷ []) → LastAs end (ss ++ (step_of a ∷ [])))
 closed_way counts less a ss z l w =
     let leads : Leads 0 ss (arc_from a) = rw z.from w.leads in (
       record {
@@ -140,5 +154,5 @@ closed_way counts less a ss z l w =
         takes = λ b h. closed_takes counts less a ss z.known l leads w.takes b h;
         no_other = none_push a ss z.known w.no_other;
       },
-      last_push ss (step_of a) z.last,
+      λ end last. last_as_push end ss (step_of a) last,
     )

@@ -4,7 +4,7 @@ pub use Rattle.pocsag_slots.specs.Loads.{IsChoice, load}
 unfoldable pub use Rattle.pocsag_slots.specs.Numbering.{class_frame, finish_of, start_of}
 unfoldable pub use Rattle.pocsag_slots.specs.Sums.{holds, sum_below}
 pub use Rattle.pocsag_slots.specs.Sums.{SetsTakeMembers}
-pub use Rattle.pocsag_slots.specs.Tours.{IsTour, LastAs, LastIsWhole, Leads, idles}
+pub use Rattle.pocsag_slots.specs.Tours.{AsksForLast, IsTour, LastAs, LastIsIdle, LastIsWhole, Leads, idles}
 pub use Rattle.pocsag_slots.specs.declared.class.Classes.{Classes}
 pub use Rattle.pocsag_slots.specs.declared.step.Step.{Step}
 pub use Rattle.pocsag_tour.specs.Links.{IsLed}

@@ -1,9 +1,10 @@
 -- What is refused has no tour.
-use Rattle.pocsag_tour.proofs.Prelude.{◌≡◌, ℕ, ◌+◌, ◌%◌, ◌<◌, ◌≤◌, ◌==◌, ◌&&◌, ◌⊎◌, nat_lt, Bool, true, false, not, cond, List, [], ◌∷◌, refl, subst, ◌∙◌, arith, eq-eqb, inl, inr, eqb-true, nat_tests, End, Classes, Step, runs, load, start_of, finish_of, holds, idles, IsTour, LastIsWhole, Leads, IsReached, IsUnclosed, runs_of}
-use Rattle.pocsag_words.specs.declared.ending.End.TheVariants.{Closed}
+use Rattle.pocsag_tour.proofs.Prelude.{◌≡◌, ℕ, ◌+◌, ◌%◌, ◌<◌, ◌≤◌, ◌==◌, ◌&&◌, ◌⊎◌, nat_lt, Bool, true, false, not, cond, List, [], ◌∷◌, refl, subst, ◌∙◌, arith, eq-eqb, inl, inr, eqb-true, nat_tests, End, Classes, Step, runs, load, start_of, finish_of, holds, idles, AsksForLast, IsTour, LastIsWhole, Leads, IsReached, IsUnclosed, runs_of}
+use Rattle.pocsag_words.specs.declared.ending.End.TheVariants as ends
 use Rattle.pocsag_slots.specs.declared.step.Step.TheVariants.{Idle as Stay, Run}
 use Rattle.pocsag_tour.specs.Reached.{IsApart, at_start, by_idle, by_run}
 use Rattle.pocsag_slots.proofs.CoverLemmas.{finish_below, start_below}
+use Rattle.pocsag_slots.proofs.Endings.{idles_last}
 
 -- a closed way to boundary 0 has an idle in slot 15 or a late run of class 135
 one_idle : (p : ℕ) → p < 16 → (p + 1) % 16 ≡ 0 → ◌≡◌ {A = ℕ} (cond (p == 15) 1 0) 1
@@ -27,9 +28,13 @@ closes p (Run c e ∷ t ∷ ss) h leads whole =
       | inr late ↦ inr (omega (arith, late))
     ]
 
-pub never_closed : (k : Classes) (choice : ℕ → ℕ) (b : ℕ) (ss : List Step) → IsUnclosed k choice b → IsTour k Closed choice b ss → ⊥
+pub never_unclosed : (k : Classes) (end : End) (choice : ℕ → ℕ) (b : ℕ) (ss : List Step) → AsksForLast end → IsUnclosed k end choice b →
+    IsTour k end choice b ss → ⊥
 unfolding runs_of
-never_closed k choice b ss u t = grind (arith, closes)
+never_unclosed k ends.Open choice b ss asks u t = absurd asks
+never_unclosed k ends.Closed choice b ss asks u t = let late = u.no_late refl in grind (arith, closes)
+never_unclosed k ends.Idle choice b ss asks u t =
+    absurd (omega (arith, idles_last 0 ss (omega arith) t.leads t.last, t.idle 15 (omega arith), u.no_idle))
 
 -- the head of steps is a run of the class, or it is among the others
 split_run : (b e f : Bool) (n : ℕ) → 0 < cond (b && cond e f (not f)) 1 0 + n → ((b ≡ true) × (f ≡ e)) ⊎ (0 < n)

@@ -1,11 +1,10 @@
--- With an idle in each slot all arcs lead to one another, and there is a tour for either end.
+-- With an idle in each slot all arcs lead to one another, and there is a tour that ends with an idle, which serves each end.
 use Rattle.pocsag_tour.proofs.Prelude.{◌≡◌, ℕ, zero, suc, ◌+◌, ◌-◌, ◌%◌, ◌<◌, ◌≤◌, true, List, refl, arith, End, Classes, Step, IsChoice, load, SetsTakeMembers, holds, IsTour, AllLeadTo, arc_count, arc_from, arc_to, IsBalanced, IsClosing, NoneEnters}
-use Rattle.pocsag_words.specs.declared.ending.End.TheVariants.{Open, Closed}
 use Rattle.pocsag_tour.proofs.Covering.{balanced_start, count_idle}
 use Rattle.pocsag_tour.proofs.Existing.{is_less, one_less, way_exists}
 use Rattle.pocsag_tour.proofs.Geometry.{from_below, from_idle, to_idle}
 use Rattle.pocsag_tour.proofs.Joining.{balanced_without, closed_way, joined_closed}
-use Rattle.pocsag_tour.proofs.Tours.{closing_idle, tour_of}
+use Rattle.pocsag_tour.proofs.Tours.{closing_idle, idle_is_last, tour_of}
 use Rattle.pocsag_tour.proofs.Walks.{IsLess}
 
 abbrev HasIdles : (ℕ → ℕ) → Type 0
@@ -28,7 +27,7 @@ all_lead counts idle set home none a h some =
 
 pub spare_tour : SetsTakeMembers → (k : Classes) (end : End) (choice : ℕ → ℕ) (b : ℕ) → IsChoice k choice →
     ((slot : ℕ) → slot < 16 → load k choice slot < b) → (steps : List Step) × IsTour k end choice b steps
-spare_tour law k end choice b chosen spare = tour_for end
+spare_tour law k end choice b chosen spare = whole
   where
     counts : ℕ → ℕ
     counts = arc_count k choice b
@@ -48,13 +47,10 @@ spare_tour law k end choice b chosen spare = tour_for end
     less : IsLess 287 counts (one_less counts 287)
     less = is_less counts 287 closing.there
 
-    tour_for : (end : End) → (steps : List Step) × IsTour k end choice b steps
-    tour_for Open =
-        let way = way_exists law counts 0 (omega arith) balanced (all_lead counts idle) in
-        (way.0, tour_of k Open choice b counts way.0 (λ a h. refl) chosen within way.1 tt)
-    tour_for Closed =
+    whole : (steps : List Step) × IsTour k end choice b steps
+    whole =
         let way = way_exists law (one_less counts 287) 15 (omega arith)
         (balanced_without counts (one_less counts 287) 287 balanced closing less)
         (joined_closed counts (one_less counts 287) 287 balanced (all_lead counts idle) closing less) in
-        let whole = closed_way counts (one_less counts 287) 287 way.0 closing less way.1 in
-        (_, tour_of k Closed choice b counts _ (λ a h. refl) chosen within whole.0 whole.1)
+        let ended = closed_way counts (one_less counts 287) 287 way.0 closing less way.1 in
+        (_, tour_of k end choice b counts _ (λ a h. refl) chosen within ended.0 (ended.1 end (idle_is_last end)))

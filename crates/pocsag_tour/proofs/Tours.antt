@@ -1,7 +1,7 @@
 -- Ways over all arcs are tours, and what refusals say.
-use Rattle.pocsag_tour.proofs.Prelude.{◌≡◌, ℕ, ◌+◌, ◌-◌, ◌%◌, ◌<◌, ◌≤◌, Bool, true, false, not, cond, List, refl, sym, subst, ◌∙◌, arith, inl, inr, End, Classes, Step, IsChoice, load, class_frame, start_of, finish_of, holds, IsTour, LastAs, arc_count, arc_from, arc_to, AreCounts, IsClosing, IsWay, NoneEnters, NoneLeaves, RunsStart, Visited, by_arc, AreReached, IsReached, IsUnclosed, runs_of}
+use Rattle.pocsag_tour.proofs.Prelude.{◌≡◌, ℕ, ◌+◌, ◌-◌, ◌%◌, ◌<◌, ◌≤◌, Bool, true, false, not, cond, List, [], ◌∷◌, refl, sym, subst, ◌∙◌, arith, inl, inr, End, Classes, Step, IsChoice, load, class_frame, start_of, finish_of, holds, IsTour, LastAs, arc_count, arc_from, arc_to, AreCounts, IsClosing, IsWay, NoneEnters, NoneLeaves, RunsStart, Visited, by_arc, step_of, AreReached, IsReached, IsUnclosed, runs_of}
 use Rattle.std.proofs.lemmas.Bool.{cases_Bool}
-use Rattle.pocsag_words.specs.declared.ending.End.TheVariants.{Open}
+use Rattle.pocsag_words.specs.declared.ending.End.TheVariants as ends
 use Rattle.pocsag_slots.specs.Loads.{AreCarried}
 use Rattle.pocsag_slots.specs.Numbering.{class_rest}
 use Rattle.pocsag_slots.specs.Ways.{run_crosses, idle_crosses}
@@ -220,15 +220,16 @@ runs_start k choice b counts set are within exact none a h some =
           (omega arith) h some out))
     ]
 
-pub unclosed : (k : Classes) (choice : ℕ → ℕ) (b : ℕ) (counts : ℕ → ℕ) (ss : List Step) → AreCounts k choice b counts → IsChoice k choice →
-    ((slot : ℕ) → slot < 16 → load k choice slot ≤ b) → IsWay counts 0 ss → counts 287 ≡ 0 → counts 271 ≡ 0 → IsUnclosed k choice b
+pub unclosed : (k : Classes) (end : End) (choice : ℕ → ℕ) (b : ℕ) (counts : ℕ → ℕ) (ss : List Step) → AreCounts k choice b counts →
+    IsChoice k choice → ((slot : ℕ) → slot < 16 → load k choice slot ≤ b) → IsWay counts 0 ss → counts 287 ≡ 0 →
+    (end ≡ ends.Closed → counts 271 ≡ 0) → IsUnclosed k end choice b
 unfolding runs_of
-unclosed k choice b counts ss are chosen within w idle late =
+unclosed k end choice b counts ss are chosen within w idle late =
     record {
       steps = ss;
-      tour = tour_of k Open choice b counts ss are chosen within w tt;
+      tour = tour_of k ends.Open choice b counts ss are chosen within w tt;
       no_idle = omega (arith, some_idle k choice b counts are 15 (omega arith), within 15 (omega arith));
-      no_late = omega (arith, are 271 (omega arith), count_late k choice b 135 (omega arith));
+      no_late = λ closed. omega (arith, late closed, are 271 (omega arith), count_late k choice b 135 (omega arith));
     }
 
 -- why there was no way says why there is no tour
@@ -237,28 +238,23 @@ pub refused : (k : Classes) (choice : ℕ → ℕ) (b : ℕ) (counts : ℕ → �
     ((slot : ℕ) → slot < 16 → load k choice slot ≤ b) → NoWay counts end fault → IsRefused k choice b end fault
 refused k choice b counts end (Apart set) are chosen within never = absurd never
 refused k choice b counts end Unclosed are chosen within known =
-    (known.0, unclosed k choice b counts known.3.0 are chosen within known.3.1 known.1 known.2)
+    (known.0, unclosed k end choice b counts known.3.0 are chosen within known.3.1 known.1 known.2)
 refused k choice b counts end OutOfMemory are chosen within known =
     (known.0, tour_of k end choice b counts known.0 are chosen within known.1.0 known.1.1)
 
--- the two arcs that may close
+-- the two arcs that may close, and the ends that they serve
 pub closing_idle : (counts : ℕ → ℕ) → 0 < counts 287 → IsClosing counts 287
-closing_idle counts some =
-    record {
-      known = omega arith;
-      there = some;
-      from = from_idle 15;
-      to = to_idle 15;
-      last = rw (step_idle 15) tt;
-    }
+closing_idle counts some = record { known = omega arith; there = some; from = from_idle 15; to = to_idle 15 }
+
+pub idle_is_last : (end : End) → LastAs end (step_of 287 ∷ [])
+idle_is_last ends.Open = tt
+idle_is_last ends.Closed = rw (step_idle 15) tt
+idle_is_last ends.Idle = rw (step_idle 15) tt
 
 pub closing_late : (counts : ℕ → ℕ) → 0 < counts 271 → IsClosing counts 271
 unfolding start_of finish_of class_frame class_rest
 closing_late counts some =
-    record {
-      known = omega arith;
-      there = some;
-      from = from_late 135 (omega arith);
-      to = to_late 135 (omega arith);
-      last = rw (step_late 135 (omega arith)) (refl, refl);
-    }
+    record { known = omega arith; there = some; from = from_late 135 (omega arith); to = to_late 135 (omega arith) }
+
+pub late_is_last : LastAs ends.Closed (step_of 271 ∷ [])
+late_is_last = rw (step_late 135 (omega arith)) (refl, refl)

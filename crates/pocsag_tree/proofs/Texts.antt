@@ -3,7 +3,7 @@ use Rattle.pocsag_tree.proofs.Prelude.{◌≡◌, ℕ, zero, suc, ◌<◌, ◌�
 use Rattle.std.proofs.lemmas.Bool.{eq-eqb}
 use Rattle.pocsag_words.specs.declared.ending.End.TheVariants as ends
 use Rattle.pocsag_tree.specs.declared.refusals.CertificateFault.TheVariants as fault
-use Rattle.pocsag_tree.specs.Spelling.{HasText, node, end_byte, second_head, first_head, second_text, first_text}
+use Rattle.pocsag_tree.specs.Spelling.{HasText, node, version_bytes, written_head, first_head, written_text, first_text}
 use Rattle.pocsag_tree.proofs.Fields.{bind_ok, guard_ok, chosen, ok_is, byte_is, byte_again, small_takes, batches_takes, batches_again}
 use Rattle.pocsag_tree.proofs.Fields.{guard_ok, guard_then}
 use Rattle.pocsag_tree.proofs.SpelledNodes.{IsVersion, first_ranges-is, second_ranges-is, node_again}
@@ -29,15 +29,15 @@ mark_again wanted rest lt = rw (byte_again wanted rest lt, eq-eqb wanted wanted 
 abbrev pub IsFirst : Ranges × End × List ℕ → List ℕ → Type 0
 IsFirst x bytes = (x.0 ≡ first_ranges) × (x.1 ≡ ends.Open) × (bytes ≡ 0x31 ∷ x.2)
 
-abbrev pub IsSecond : Ranges × End × List ℕ → List ℕ → Type 0
-IsSecond x bytes = (x.0 ≡ second_ranges) × (bytes ≡ 0x32 ∷ end_byte x.1 ∷ x.2)
+abbrev pub IsWritten : Ranges × End × List ℕ → List ℕ → Type 0
+IsWritten x bytes = (x.0 ≡ second_ranges) × (bytes ≡ version_bytes x.1 ++ x.2)
 
-end_byte-of : (n : ℕ) → n ≤ 1 → end_byte (end_of n) ≡ n
-end_byte-of zero le = refl
-end_byte-of (suc zero) le = refl
-end_byte-of (suc (suc n)) le = absurd (omega arith)
+second_bytes : (n : ℕ) → n ≤ 1 → version_bytes (end_of n) ≡ 0x32 ∷ n ∷ []
+second_bytes zero le = refl
+second_bytes (suc zero) le = refl
+second_bytes (suc (suc n)) le = absurd (omega arith)
 
-version_takes : (bytes : List ℕ) (x : Ranges × End × List ℕ) → version_at bytes ≡ Ok x → IsFirst x bytes ⊎ IsSecond x bytes
+version_takes : (bytes : List ℕ) (x : Ranges × End × List ℕ) → version_at bytes ≡ Ok x → IsFirst x bytes ⊎ IsWritten x bytes
 unfolding version_at
 version_takes bytes x e =
     let a = bind_ok (byte_at bytes) _ x e in
@@ -46,24 +46,36 @@ version_takes bytes x e =
       | inl h ↦
           let built : Ranges × End × List ℕ = (first_ranges, ends.Open, a.0.1) in
           inl (rw (← (ok_is built x h.1)) (refl, refl, first.parts ∙ ap (λ n. n ∷ a.0.1) (eqb-true _ _ h.0)))
-      | inr h ↦
-          let g = guard_then (eqb a.0.0 0x32) fault.Version (small_at 0 1 a.0.1 >>= λ end. Ok (second_ranges, end_of end.0, end.1)) x h.1 in
-          let b = bind_ok (small_at 0 1 a.0.1) _ x g.1 in
-          let p = small_takes 0 1 a.0.1 b.0 b.1 in
-          let built : Ranges × End × List ℕ = (second_ranges, end_of b.0.0, b.0.1) in
-          let whole : bytes ≡ 0x32 ∷ end_byte (end_of b.0.0) ∷ b.0.1 = first.parts ∙ ap (λ n. n ∷ a.0.1) (eqb-true _ _ g.0)
-          ∙ ap (λ y. 0x32 ∷ y) p.0.parts ∙ ap (λ n. 0x32 ∷ n ∷ b.0.1) (sym (end_byte-of b.0.0 p.1.most)) in
-          inr (rw (← (ok_is built x b.2)) (refl, whole))
+      | inr h ↦ elim (chosen (eqb a.0.0 0x32) (small_at 0 1 a.0.1 >>= λ end. Ok (second_ranges, end_of end.0, end.1)) _ (Ok x) h.1) [
+        | inl g ↦
+            let b = bind_ok (small_at 0 1 a.0.1) _ x g.1 in
+            let p = small_takes 0 1 a.0.1 b.0 b.1 in
+            let built : Ranges × End × List ℕ = (second_ranges, end_of b.0.0, b.0.1) in
+            let whole : bytes ≡ version_bytes (end_of b.0.0) ++ b.0.1 = first.parts ∙ ap (λ n. n ∷ a.0.1) (eqb-true _ _ g.0)
+            ∙ ap (λ y. 0x32 ∷ y) p.0.parts ∙ ap (λ v. v ++ b.0.1) (sym (second_bytes b.0.0 p.1.most)) in
+            inr (rw (← (ok_is built x b.2)) (refl, whole))
+        | inr g ↦
+            let built : Ranges × End × List ℕ = (second_ranges, ends.Idle, a.0.1) in
+            let f = guard_ok (eqb a.0.0 0x34) built x fault.Version g.1 in
+            inr (rw (← f.1) (refl, first.parts ∙ ap (λ n. n ∷ a.0.1) (eqb-true _ _ f.0)))
+      ]
     ]
 
 first_again : (rest : List ℕ) → version_at (0x31 ∷ rest) ≡ Ok (first_ranges, ends.Open, rest)
 unfolding version_at
 first_again rest = refl
 
-second_again : (end : End) (rest : List ℕ) → version_at (0x32 ∷ end_byte end ∷ rest) ≡ Ok (second_ranges, end, rest)
+written_again : (end : End) (rest : List ℕ) → version_at (version_bytes end ++ rest) ≡ Ok (second_ranges, end, rest)
 unfolding version_at small_at
-second_again ends.Open rest = refl
-second_again ends.Closed rest = refl
+written_again ends.Open rest = refl
+written_again ends.Closed rest = refl
+written_again ends.Idle rest = refl
+
+-- the text that is written, and what comes after it, by its fields
+written_parts : (end : End) (batches : ℕ) (tree : Bound) (rest : List ℕ) → written_text end batches tree ++ rest
+    ≡ 0x50 ∷ 0x43 ∷ 0x42 ∷ (version_bytes end ++ (to_be_bytes w32 batches ++ (node tree ++ rest)))
+written_parts end batches tree rest = append_assoc (written_head end batches) (node tree) rest
+    ∙ ap (λ y. 0x50 ∷ 0x43 ∷ 0x42 ∷ y) (append_assoc (version_bytes end) (to_be_bytes w32 batches) (node tree ++ rest))
 
 -- a certificate behind its version
 record TakesRest (r : Ranges) (bytes : List ℕ) (batches : ℕ) (tree : Bound) (rest : List ℕ) : Type 0 where
@@ -112,10 +124,10 @@ certificate_takes bytes x e =
       | inr h ↦
           let t = rest_takes second_ranges second_ranges-is version.2 batches tree f.1
           (rw (← h.0) g.1) in
-          let parts : bytes ≡ second_text version.1 batches.0 tree.0 ++ tree.2 = mark
-          ∙ ap (λ y. 0x50 ∷ 0x43 ∷ 0x42 ∷ y) (h.1 ∙ ap (λ y. 0x32 ∷ end_byte version.1 ∷ y) t.parts)
-          ∙ sym (append_assoc (second_head version.1 batches.0) (node tree.0) tree.2) in
-          (second_text version.1 batches.0 tree.0, inl (record { has_text = t.has_text; text = refl }), parts)
+          let parts : bytes ≡ written_text version.1 batches.0 tree.0 ++ tree.2 = mark
+          ∙ ap (λ y. 0x50 ∷ 0x43 ∷ 0x42 ∷ y) (h.1 ∙ ap (λ y. version_bytes version.1 ++ y) t.parts)
+          ∙ sym (written_parts version.1 batches.0 tree.0 tree.2) in
+          (written_text version.1 batches.0 tree.0, inl (record { has_text = t.has_text; text = refl }), parts)
     ])
 
 -- a certificate behind its version
@@ -134,11 +146,9 @@ rest_again r end batches tree bytes rest v has version =
 pub certificate_again : (end : End) (batches : ℕ) (tree : Bound) (text rest : List ℕ) → IsText end batches tree text
     → certificate_at (text ++ rest) ≡ Ok (end, batches, tree, rest)
 certificate_again end batches tree text rest (inl is) =
-    let regrouped : text ++ rest ≡ 0x50 ∷ 0x43 ∷ 0x42 ∷ 0x32 ∷ end_byte end ∷ to_be_bytes w32 batches ++ (node tree ++ rest) =
-    ap (λ t. t ++ rest) is.text ∙ append_assoc (second_head end batches) (node tree) rest in
-    ap certificate_at regrouped ∙ rest_again second_ranges end batches tree
-    (0x32 ∷ end_byte end ∷ to_be_bytes w32 batches ++ (node tree ++ rest)) rest second_ranges-is is.has_text
-    (second_again end (to_be_bytes w32 batches ++ (node tree ++ rest)))
+    ap certificate_at (ap (λ t. t ++ rest) is.text ∙ written_parts end batches tree rest) ∙ rest_again second_ranges end batches tree
+    (version_bytes end ++ (to_be_bytes w32 batches ++ (node tree ++ rest))) rest second_ranges-is is.has_text
+    (written_again end (to_be_bytes w32 batches ++ (node tree ++ rest)))
 certificate_again end batches tree text rest (inr is) =
     let regrouped : text ++ rest ≡ 0x50 ∷ 0x43 ∷ 0x42 ∷ 0x31 ∷ to_be_bytes w32 batches ++ (node tree ++ rest) = ap (λ t. t ++ rest) is.text
     ∙ append_assoc (first_head batches) (node tree) rest in

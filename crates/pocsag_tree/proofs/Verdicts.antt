@@ -57,22 +57,29 @@ version_leads parts bytes = of_byte parts bytes (byte_at bytes) (one_byte bytes)
     of_byte : (parts : List Part) (bytes : List ℕ) (r : Result (ℕ × List ℕ) CertificateFault) → ReadsNumber w8 bytes r
         → Leads (at (version ∷ parts) 0 bytes) (behind_version parts)
         (r >>= λ byte. cond (eqb byte.0 0x31) (Ok (first_ranges, ends.Open, byte.1))
-        (cond (eqb byte.0 0x32) (small_at 0 1 byte.1 >>= λ end. Ok (second_ranges, end_of end.0, end.1)) (Err fault.Version)))
+        (cond (eqb byte.0 0x32) (small_at 0 1 byte.1 >>= λ end. Ok (second_ranges, end_of end.0, end.1))
+        (cond (eqb byte.0 0x34) (Ok (second_ranges, ends.Idle, byte.1)) (Err fault.Version))))
     of_byte parts bytes (Err f) reads = λ given. short_part _ _ _ _ _ refl (reads.ends f refl given)
     of_byte parts bytes (Ok x) reads =
         cond_both (eqb x.0 0x31) (Ok (first_ranges, ends.Open, x.1))
-        (cond (eqb x.0 0x32) (small_at 0 1 x.1 >>= λ end. Ok (second_ranges, end_of end.0, end.1)) (Err fault.Version))
+        (cond (eqb x.0 0x32) (small_at 0 1 x.1 >>= λ end. Ok (second_ranges, end_of end.0, end.1))
+        (cond (eqb x.0 0x34) (Ok (second_ranges, ends.Idle, x.1)) (Err fault.Version)))
         (Leads (at (version ∷ parts) 0 bytes) (behind_version parts))
         (λ t v m. right_part _ (field w32 1 (2 ^ 32 - 1) ∷ node first_ranges 1 ∷ []) _ _ _ _ _ _ refl
         (reads.value x refl) (rw t refl) m)
-        (λ s. cond_both (eqb x.0 0x32) (small_at 0 1 x.1 >>= λ end. Ok (second_ranges, end_of end.0, end.1)) (Err fault.Version)
+        (λ s. cond_both (eqb x.0 0x32) (small_at 0 1 x.1 >>= λ end. Ok (second_ranges, end_of end.0, end.1))
+        (cond (eqb x.0 0x34) (Ok (second_ranges, ends.Idle, x.1)) (Err fault.Version))
         (Leads (at (version ∷ parts) 0 bytes) (behind_version parts))
         (λ t. along (at (version ∷ parts) 0 bytes) (at (field w8 0 1 ∷ field w32 1 (2 ^ 32 - 1) ∷ node second_ranges 1 ∷ parts) 0 x.1)
         (behind_version parts) (small_at 0 1 x.1 >>= λ end. Ok (second_ranges, end_of end.0, end.1))
         (λ v m. right_part _ (field w8 0 1 ∷ field w32 1 (2 ^ 32 - 1) ∷ node second_ranges 1 ∷ []) _ _ _ _ _ _ refl
         (reads.value x refl) (rw (s, t) refl) m)
         (then_leads _ _ _ _ _ (small_leads 0 1 0 (field w32 1 (2 ^ 32 - 1) ∷ node second_ranges 1 ∷ parts) x.1) (λ y is v m. m)))
-        (λ t given. wrong_part _ _ _ _ _ _ _ refl (reads.value x refl) (rw (s, t) refl)))
+        (λ t. cond_both (eqb x.0 0x34) (Ok (second_ranges, ends.Idle, x.1)) (Err fault.Version)
+        (Leads (at (version ∷ parts) 0 bytes) (behind_version parts))
+        (λ u v m. right_part _ (field w32 1 (2 ^ 32 - 1) ∷ node second_ranges 1 ∷ []) _ _ _ _ _ _ refl
+        (reads.value x refl) (rw (s, t, u) refl) m)
+        (λ u given. wrong_part _ _ _ _ _ _ _ refl (reads.value x refl) (rw (s, t, u) refl))))
 
 batches_leads : (nodes : ℕ) (parts : List Part) (bytes : List ℕ)
     → Leads (at (field w32 1 (2 ^ 32 - 1) ∷ parts) nodes bytes) (λ x. at parts nodes x.1) (batches_at bytes)

@@ -68,10 +68,8 @@ returns-clause-pages c =
     c.loop-page.invariant)
     ∙ ap length c.pages-page-items.ensures.pages
 
-pub returns-clause-open_end : goal.returns-clause-open_end
-returns-clause-open_end c open_end k l h =
-    let of =
-    whole c.loop-page.count c.loop-page.turns c.args.end _ c.loop-page.page-index c.loop-page-test.false
-    c.loop-page.auto.page-index-end c.loop-page.invariant in
-    (subst (λ (end : End). AreCounted c.loop-page.count c.loop-page.turns end c.pages-page-items.result.now) open_end of).each k h
-    ∙ count_bare k c.pages-page-items.result.now l
+pub returns-clause-bare : goal.returns-clause-bare
+returns-clause-bare c other k l h =
+    (whole c.loop-page.count c.loop-page.turns c.args.end _ c.loop-page.page-index c.loop-page-test.false
+    c.loop-page.auto.page-index-end c.loop-page.invariant).each k h
+    ∙ count_bare c.args.end k c.pages-page-items.result.now other l

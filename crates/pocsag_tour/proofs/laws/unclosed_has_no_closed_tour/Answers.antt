@@ -1,5 +1,0 @@
-use Rattle.pocsag_tour.proofs.Refusing.{never_closed}
-use Rattle.pocsag_tour.proofs.laws.unclosed_has_no_closed_tour.Goals as goal
-
-pub returns : goal.returns
-returns c = never_closed
