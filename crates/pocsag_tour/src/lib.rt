@@ -14,7 +14,7 @@ mod touring;
 mod walking;
 
 pub use fault::TourFault;
-pub use laws::{apart_has_no_tour, spare_batches_have_tours, unclosed_has_no_closed_tour};
+pub use laws::{apart_has_no_tour, spare_batches_have_tours, unclosed_has_no_tour};
 pub use outside::{has_run_outside, lies_outside};
 pub use reaching::reached;
 pub use touring::tour;
