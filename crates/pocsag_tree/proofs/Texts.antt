@@ -1,5 +1,5 @@
 -- The two laws of *Certificate text*: what is read is spelled so, and what is spelled so is read.
-use Rattle.pocsag_tree.proofs.Prelude.{◌≡◌, ℕ, zero, suc, ◌<◌, ◌≤◌, ◌⊎◌, inl, inr, eqb, List, ◌∷◌, ◌++◌, Ok, refl, sym, ap, ◌∙◌, append_assoc, arith, lit<, w32, to_be_bytes, eqb-true, End, Ranges, first_ranges, second_ranges, greatest_depth, Bound, all_nodes, IsText, ◌>>=◌, Read, byte_at, small_at, node_at, mark_at, end_of, version_at, batches_at, certificate_at}
+use Rattle.pocsag_tree.proofs.Prelude.{◌≡◌, ℕ, zero, suc, ◌<◌, ◌≤◌, ◌⊎◌, inl, inr, eqb, List, [], ◌∷◌, ◌++◌, Ok, refl, sym, ap, ◌∙◌, append_assoc, arith, lit<, w32, to_be_bytes, eqb-true, End, Ranges, first_ranges, second_ranges, greatest_depth, Bound, all_nodes, IsText, ◌>>=◌, Read, byte_at, small_at, node_at, mark_at, end_of, version_at, batches_at, certificate_at}
 use Rattle.std.proofs.lemmas.Bool.{eq-eqb}
 use Rattle.pocsag_words.specs.declared.ending.End.TheVariants as ends
 use Rattle.pocsag_tree.specs.declared.refusals.CertificateFault.TheVariants as fault
