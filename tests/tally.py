@@ -8,6 +8,8 @@ import tempfile
 
 TOP = pathlib.Path(__file__).resolve().parents[1]
 PROGRAM = TOP / "crates/pocsag_app/out/pocsag_app"  # as the gate left it
+# The words that ask `plan` and `report` for each end.
+ENDS = {"open": ["--end", "open"], "closed": ["--end", "closed"], "idle": ["--idle-last"]}
 
 
 class Tally:
