@@ -1,7 +1,8 @@
 -- No tour of an admitted choice meets an accepted node.
-use Rattle.pocsag_check.proofs.Prelude.{◌≡◌, ℕ, ◌+◌, ◌%◌, ◌<◌, ◌&&◌, ◌||◌, Bool, true, false, IsTrue, List, [], ◌∷◌, refl, arith, slice_index, ◌⊎◌, inl, inr, nat_lt, cases_lt, nat_tests, End, Bound, Bounds, overload, split, cut, close, unexamined, none, more, Classes, Limits, Step, Way, runs, IsAdmitted, finish_of, AsksForLast, IsTour, LastIsWhole, Leads, idles, run_touches, class_certain, ways_across, ways_to_close, narrowed_limits, limits_below, limits_from, Accepts, AcceptsEach}
+use Rattle.pocsag_check.proofs.Prelude.{◌≡◌, ℕ, ◌+◌, ◌%◌, ◌<◌, ◌&&◌, ◌||◌, Bool, true, false, cond, IsTrue, List, [], ◌∷◌, refl, arith, slice_index, ◌⊎◌, inl, inr, nat_lt, cases_lt, nat_tests, End, Bound, Bounds, overload, split, cut, close, unexamined, none, more, Classes, Limits, Step, Way, runs, IsAdmitted, finish_of, AsksForLast, IsTour, LastIsWhole, Leads, idles, run_touches, class_certain, ways_across, ways_to_close, narrowed_limits, limits_below, limits_from, Accepts, AcceptsEach}
 use Rattle.pocsag_words.specs.declared.ending.End.TheVariants as ends
 use Rattle.pocsag_slots.specs.declared.step.Step.TheVariants.{Idle as Stay, Run}
+use Rattle.pocsag_slots.specs.declared.way.Way.TheVariants.{IdleIn, Late}
 use Rattle.pocsag_slots.proofs.CoverLemmas.{finish_below}
 use Rattle.pocsag_slots.proofs.Endings.{idles_last}
 use Rattle.pocsag_check.proofs.Crossing.{IsInside, crosses_or_stays}
@@ -58,11 +59,18 @@ ends_by (Stay ∷ (t ∷ ss)) p small leads whole = more_idle p (t ∷ ss) (ends
 ends_by (Run c e ∷ (t ∷ ss)) p small leads whole =
     more_run p c e (t ∷ ss) (ends_by (t ∷ ss) (finish_of c e) (finish_below c e) leads.1 whole)
 
+closed_way : (k : Classes) (l : Limits) (choice : ℕ → ℕ) (b : ℕ) (steps : List Step) → IsTour k ends.Closed choice b steps →
+    IsAdmitted k l choice →
+    AnyTaken k choice b (IdleIn 15 ∷ cond (nat_lt (slice_index l.lo 135) (slice_index k.count 135)) (Late 135 ∷ []) [])
+closed_way k l choice b steps tour a =
+    let ending : EndsBy 0 steps = ends_by steps 0 (omega arith) tour.leads tour.last in
+    grind (arith, ending, AnyTaken, nat_tests)
+
 closing_way : (k : Classes) (end : End) (l : Limits) (choice : ℕ → ℕ) (b : ℕ) (steps : List Step) → AsksForLast end →
     IsTour k end choice b steps → IsAdmitted k l choice → AnyTaken k choice b (ways_to_close k end l)
 unfolding ways_to_close
 closing_way k ends.Open l choice b steps asks tour a = absurd asks
-closing_way k ends.Closed l choice b steps asks tour a = grind (arith, ends_by, AnyTaken, nat_tests)
+closing_way k ends.Closed l choice b steps asks tour a = closed_way k l choice b steps tour a
 closing_way k ends.Idle l choice b steps asks tour a =
     inl (omega arith, omega (arith, idles_last 0 steps (omega arith) tour.leads tour.last, tour.idle 15 (omega arith)))
 
