@@ -73,11 +73,7 @@ const JUDGED: &[(&[(u32, usize)], bool, &[u8])] = &[
         false,
         b"PCB4\x00\x00\x00\x02\x04\x02\x00\xff\xff\x00\xff\xff",
     ),
-    (
-        BOTH_WAYS,
-        true,
-        b"PCB4\x00\x00\x00\x03\x04\x01\x00\xff\xff",
-    ),
+    (BOTH_WAYS, true, b"PCB4\x00\x00\x00\x03\x04\x01\x00\xff\xff"),
     (
         BOTH_WAYS,
         false,

@@ -53,13 +53,7 @@ const TOURS: &[(
         Err(TourFault::Unclosed),
     ),
     (&[(7, 0)], Some(113), 1, End::Idle, Err(TourFault::Unclosed)),
-    (
-        &[(0, 14)],
-        None,
-        1,
-        End::Idle,
-        Ok(&[early(15), Step::Idle]),
-    ),
+    (&[(0, 14)], None, 1, End::Idle, Ok(&[early(15), Step::Idle])),
     (
         &[(0, 13), (7, 0), (15, 16)],
         Some(135),

@@ -158,17 +158,26 @@ fn write_head<S: Sink>(end: End, batches: u32, writer: &mut S) -> Result<(), Dev
         (written_head end batches) }
     ensures failures { CountsFailures result (S.failures writer.old) (S.failures writer.new) }
 {
-    let b = batches.to_be_bytes();
+    let batches = batches.to_be_bytes();
     match end {
         End::Open => write_all(
             writer,
-            &[0x50, 0x43, 0x42, 0x32, 0, b[0], b[1], b[2], b[3]],
+            &[
+                0x50, 0x43, 0x42, 0x32, 0, batches[0], batches[1], batches[2], batches[3],
+            ],
         ),
         End::Closed => write_all(
             writer,
-            &[0x50, 0x43, 0x42, 0x32, 1, b[0], b[1], b[2], b[3]],
+            &[
+                0x50, 0x43, 0x42, 0x32, 1, batches[0], batches[1], batches[2], batches[3],
+            ],
         ),
-        End::Idle => write_all(writer, &[0x50, 0x43, 0x42, 0x34, b[0], b[1], b[2], b[3]]),
+        End::Idle => write_all(
+            writer,
+            &[
+                0x50, 0x43, 0x42, 0x34, batches[0], batches[1], batches[2], batches[3],
+            ],
+        ),
     }
 }
 
