@@ -19,7 +19,7 @@ sys.path.insert(0, str(pathlib.Path(__file__).resolve().parent))
 import kept
 import noted
 import read_back
-from tally import PROGRAM, TOP, Tally
+from tally import ENDS, PROGRAM, TOP, Tally
 
 HERE = pathlib.Path(__file__).resolve().parent
 TRIAL = TOP / "crates/pocsag_trial/out/pocsag_trial"

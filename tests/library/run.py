@@ -23,13 +23,17 @@ TOP = HERE.parents[1]
 sys.path[:0] = [str(HERE.parent), str(TOP / "clib"), str(TOP / "clib/examples")]
 import make
 import pocsag
-from tally import PROGRAM, run_parts
+from tally import ENDS, PROGRAM, run_parts
 
 EXAMPLES = TOP / "clib/examples"
 ROUND = TOP / "examples/round.csv"
 ROUNDS, CHANGED = 1_200, 400
 ROUNDS_OF_BOTH, CHANGED_OF_BOTH = 2_000, 8_000
 CALLS = {"pocsag_check", "pocsag_decode", "pocsag_explain", "pocsag_hear", "pocsag_plan", "pocsag_report", "pocsag_version"}
+
+# The words of the program for each end, and what its `check` tells of it.
+WORDS = dict(zip((pocsag.OPEN, pocsag.CLOSED, pocsag.IDLE), ENDS.values()))
+TOLD = dict(zip(WORDS, (b"", b" with a closed end", b" with an idle last")))
 
 # What the program prints where a call answers a status.
 SAID = {
@@ -114,7 +118,7 @@ class Library:
     def beside_program(self, pages, end, always):
         """Whether a plan, its check and its listings are those of the program; and the plan."""
         self.pages.write_bytes(pages)
-        words = [*ENDS[end], *["--always"] * always]
+        words = [*WORDS[end], *["--always"] * always]
         status, text = program("plan", self.pages, self.tx, self.cert, *words)
         plan = attempt(self.pocsag.plan, pages, end=end, always=always)
         if isinstance(plan, pocsag.Fault):
@@ -162,7 +166,7 @@ def try_bytes(tally, library, rounds, seed):
     wrong, plans = [], []
     for number in range(rounds):
         pages = random_file(source)
-        same, plan = library.beside_program(pages, source.randrange(2), source.randrange(4) == 0)
+        same, plan = library.beside_program(pages, source.randrange(3), source.randrange(4) == 0)
         plans += [(pages, plan)] * (plan is not None)
         wrong += [number] * (not same)
     tally.check(f"{rounds} rounds are planned as the program plans them", not wrong, wrong[:5])
@@ -225,7 +229,7 @@ def try_explanations(tally, library):
     """The texts of the program's `explain`, for the certificate of each example and for another round's."""
     call, wrong, number = library.pocsag, [], 0
     files = [path.read_bytes() for path in sorted((TOP / "examples").glob("*.csv"))]
-    plans = [(pages, attempt(call.plan, pages, end=end)) for pages in files for end in ENDS]
+    plans = [(pages, attempt(call.plan, pages, end=end)) for pages in files for end in WORDS]
     pairs = [(pages, plan.certificate) for pages, plan in plans if isinstance(plan, pocsag.Plan)]
     pairs += [(ROUND.read_bytes(), certificate) for _, certificate in pairs]
     for pages, certificate in pairs:

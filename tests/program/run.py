@@ -16,12 +16,15 @@ sys.path.insert(0, str(pathlib.Path(__file__).resolve().parent))
 import edges
 import options
 import verbose
-from tally import PROGRAM, run_parts
+from tally import ENDS, PROGRAM, run_parts
 
 HEADER = b"address,kind,message\n"
 PREAMBLE = b"\xaa" * 72
 SYNC = "7CD215D8"
 IDLE = "7A89C197"
+# How certificates begin, and what `check` tells of them, for each end.
+HEADS = {"open": b"PCB2\0", "closed": b"PCB2\1", "idle": b"PCB4"}
+TOLD = {"open": b"", "closed": b" with a closed end", "idle": b" with an idle last"}
 MESSAGE = "C44447B9"
 
 
