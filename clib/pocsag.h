@@ -24,11 +24,12 @@ extern "C" {
 #endif
 
 /* The number of this interface, which pocsag_version answers. */
-#define POCSAG_VERSION 2u
+#define POCSAG_VERSION 3u
 
-/* The end of a transmission: it ends the last message, or the last codeword is no message codeword. */
+/* The end of a transmission: it ends the last message, or the last codeword is no message codeword, or an idle one. */
 #define POCSAG_END_OPEN 0u
 #define POCSAG_END_CLOSED 1u
+#define POCSAG_END_IDLE 2u
 
 /* How a certificate is explained: as an indented list in words, or the same facts as JSON. */
 #define POCSAG_IN_WORDS 0u
@@ -44,7 +45,7 @@ extern "C" {
 /* Statuses. */
 #define POCSAG_OK 0u
 #define POCSAG_NOT_SHOWN 1u            /* the checker does not accept the certificate's tree */
-#define POCSAG_BAD_END 2u              /* the end is neither 0 nor 1 */
+#define POCSAG_BAD_END 2u              /* the end is none of 0, 1 and 2 */
 #define POCSAG_OUT_OF_MEMORY 3u
 #define POCSAG_BAD_RATE 4u             /* the rate is none of 512, 1200 and 2400 */
 #define POCSAG_BAD_LIMIT 5u            /* the limit is 0 or above 1,000,000 */

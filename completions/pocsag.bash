@@ -20,14 +20,14 @@ _pocsag() {
     fi
     local -A options=(
         [pocsag]='--verbose --help --version -h -V'
-        [plan]='--limit --end --expect --always --verify --keep --verbose --help -h'
+        [plan]='--limit --end --idle-last --expect --always --verify --keep --verbose --help -h'
         [check]='--verbose --help -h'
         [explain]='--depth --json --svg --verbose --help -h'
         [decode]='--verbose --help -h'
         [hear]='--verbose --help -h'
         [show]='--svg --list --rows --verbose --help -h'
         [open]='--journal --always --keep --verbose --help -h'
-        [report]='--rate --limit --end --expect --always --frames --verbose --help -h'
+        [report]='--rate --limit --end --idle-last --expect --always --frames --verbose --help -h'
         [help]=''
     )
     local commands='plan check explain decode hear show open report help'

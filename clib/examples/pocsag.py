@@ -55,9 +55,9 @@ globals().update({fault.__name__: fault for fault in FAULTS.values()})
 
 Plan = namedtuple("Plan", "transmission certificate pages codewords in_order batches bound")
 Report = namedtuple("Report", "pages codewords in_order batches idles bits airtime_ms bound")
-Shown = namedtuple("Shown", "is_shown is_closed batches")
-Explanation = namedtuple("Explanation", "is_shown is_closed batches text")
-OPEN, CLOSED = 0, 1
+Shown = namedtuple("Shown", "is_shown end batches")
+Explanation = namedtuple("Explanation", "is_shown end batches text")
+OPEN, CLOSED, IDLE = 0, 1, 2
 IN_WORDS, AS_JSON = 0, 1
 
 
@@ -111,7 +111,7 @@ class Pocsag:
         status = self.library.pocsag_check(*bytes_in(pages), *bytes_in(certificate), ctypes.byref(info))
         if status > 1:
             raise raised(status, info.place)
-        return Shown(status == 0, info.end == CLOSED, info.batches)
+        return Shown(status == 0, info.end, info.batches)
 
     def explain(self, pages, certificate, form=IN_WORDS, depth=3, size=65_536):
         """Why fewer batches than the certificate's do not suffice for the page file, or which node does not hold."""
@@ -124,7 +124,7 @@ class Pocsag:
             return self.explain(pages, certificate, form, depth, length.value)
         if status > 1:
             raise raised(status, info.place)
-        return Explanation(status == 0, info.end == CLOSED, info.batches, bytes(text)[: length.value])
+        return Explanation(status == 0, info.end, info.batches, bytes(text)[: length.value])
 
     def decode(self, transmission):
         """The listing of a transmission."""

@@ -17,11 +17,11 @@ import xml.etree.ElementTree as ElementTree
 
 sys.dont_write_bytecode = True
 sys.path.insert(0, str(pathlib.Path(__file__).resolve().parents[1]))
-from tally import PROGRAM, TOP, run_parts
+from tally import ENDS, PROGRAM, TOP, run_parts
 
 EXAMPLES = TOP / "examples"
 HEADER = "address,kind,message\n"
-OPEN, CLOSED = 0, 1
+OPEN, CLOSED, IDLE = 0, 1, 2
 TONES = HEADER + "".join(f"{address},tone0,\n" for address in (5, 13, 21))
 LOOP = HEADER + f"0,numeric,{'5' * 75}\n"
 
@@ -48,7 +48,8 @@ def close(*children):
 
 
 def certificate(end, batches, node):
-    return b"PCB2" + bytes([end]) + batches.to_bytes(4, "big") + node
+    head = b"PCB4" if end == IDLE else b"PCB2" + bytes([end])
+    return head + batches.to_bytes(4, "big") + node
 
 
 APART = (EXAMPLES / "loops-apart.csv").read_text()
@@ -99,6 +100,15 @@ SHOWN = [
     ("a closed end with tones", TONES, certificate(CLOSED, 2, overload(10, 11)), [], [
         "at least 2 batches, closed end: 3 pages, 3 codewords, room for 16 in 1 batch, yet", f"node 1: {STARTS}",
     ]),
+    ("an idle end", LOOP, certificate(IDLE, 2, close(overload(15))), [], [
+        "at least 2 batches, idle end: 1 page, 16 codewords, room for 16 in 1 batch, yet",
+        "node 1: the last codeword is an idle in slot 15; 1 way",
+        "  node 1.1: with an idle in slot 15: slots 15: 1 codeword at the least, room for 0: "
+        "1 from 1 page of frame 0 and length 0 modulo 16",
+    ]),
+    ("an idle end with tones", TONES, certificate(IDLE, 2, overload(10, 11)), [], [
+        "at least 2 batches, idle end: 3 pages, 3 codewords, room for 16 in 1 batch, yet", f"node 1: {STARTS}",
+    ]),
 ]
 REFUSED = [
     ("another slot", APART, certificate(OPEN, 3, cut([0], 48, overload(0), overload(0))),
@@ -116,6 +126,9 @@ REFUSED = [
     ("a deep one", TONES, certificate(OPEN, 2, split(81, 1, split(81, 1, overload(11), overload(11)), overload(10, 11))),
      "node 1.1: 0 to 0 pages of frame 5 and length 1 modulo 16 may start in slot 10: no split at 1"),
     ("a close of the open end", LOOP, certificate(OPEN, 2, close(overload(15))), "node 1: a closed end, where the end is open"),
+    ("a close of no batches", LOOP, certificate(CLOSED, 1, close(overload(15))), "node 1: a closed end, where there are no batches"),
+    ("an idle end of no batches", LOOP, certificate(IDLE, 1, close(overload(15))), "node 1: an idle end, where there are no batches"),
+    ("a late tone for an idle end", LOOP, certificate(IDLE, 2, close(overload(15), overload(15))), "node 1: 1 way to close, and 2 nodes for them"),
     ("not examined", TONES, certificate(OPEN, 2, b"\3"), "node 1: not examined"),
     ("a cut of no batches", APART, certificate(OPEN, 1, CUT_APART), "node 1: a cut, where there are no batches"),
 ]
@@ -358,9 +371,9 @@ def try_planned(tally, folder):
     for number in range(60):
         text, pages = some_round(chance)
         (folder / "pages.csv").write_text(text)
-        end = chance.choice(["open", "closed"])
+        end = ENDS[chance.choice([*ENDS])]
         names = [folder / name for name in ("pages.csv", "tx.bin", "cert.bin")]
-        planned = run("plan", *names, "--end", end, "--always")
+        planned = run("plan", *names, *end, "--always")
         batches = int(planned.stdout.split()[3])
         checked, done = run("check", names[0], names[2]), run("explain", names[0], names[2])
         sum_of_it = f"{len(pages)} page{'s' * (len(pages) > 1)}, {sum(n for _, n in pages)} codeword"
@@ -372,7 +385,7 @@ def try_planned(tally, folder):
         checked, done = run("check", names[0], names[2]), run("explain", names[0], names[2])
         same = (done.returncode, done.stderr) == (checked.returncode, checked.stderr)
         tally.check(f"planned {number}: the verdict of check", same and (b"not shown" in done.stdout) == (checked.stdout == b"not shown\n"), (checked, done))
-        words = ["report", names[0], "--rate", "1200", "--end", end, "--always"]
+        words = ["report", names[0], "--rate", "1200", *end, "--always"]
         plain, framed = run(*words), run(*words, "--frames")
         idles = idles_of(run("show", names[1]).stdout)
         rows = [

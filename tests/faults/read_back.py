@@ -5,7 +5,7 @@ import subprocess
 import sys
 
 sys.dont_write_bytecode = True
-from tally import PROGRAM
+from tally import ENDS, PROGRAM
 
 HEADER = b"address,kind,message\n"
 SYNC, IDLE, FIRST, MORE = "7CD215D8", "7A89C197", "00000000", "C44447B9"
@@ -17,6 +17,8 @@ NOT_THE_END = b"pocsag: the transmission does not end as was asked for\n"
 # The round's pages in three batches, the last message of which goes on to the end.
 OPEN_END = [SYNC, *6 * [IDLE], FIRST, *9 * [MORE], SYNC, *6 * [MORE], *10 * [IDLE], SYNC, FIRST, *15 * [MORE]]
 TOLD = b"pages 2\nbatches 3\n"
+# How the certificates of each end begin.
+HEADS = {"open": b"PCB2\0", "closed": b"PCB2\1", "idle": b"PCB4"}
 
 
 def run(words, folder, **more):
@@ -27,12 +29,12 @@ def read_back(folder, library, end, always, kept, given):
     """`plan --verify` of the round, where one of its files is read back as other bytes."""
     (folder / "given").write_bytes(given)
     environment = dict(os.environ, LD_PRELOAD=str(library), REFUSE_KEPT=kept, REFUSE_GIVEN="given")
-    words = ["plan", "pages.csv", "tx.bin", "cert.bin", "--verify", "--end", end, *always]
+    words = ["plan", "pages.csv", "tx.bin", "cert.bin", "--verify", *ENDS[end], *always]
     return run(words, folder, env=environment)
 
 
-def certificate(is_closed, batches, tree):
-    return b"PCB2" + bytes([is_closed]) + batches.to_bytes(4, "big") + bytes.fromhex(tree)
+def certificate(end, batches, tree):
+    return HEADS[end] + batches.to_bytes(4, "big") + bytes.fromhex(tree)
 
 
 def try_read_back(tally, library, folder):
@@ -40,16 +42,16 @@ def try_read_back(tally, library, folder):
     (folder / "pages.csv").write_bytes(ROUND)
     cut, overloaded = "02 0001 30 0002 00 0001 00 8000", "00 FFFF"
     no_version = b"pocsag: unknown certificate version\n"
-    for end, is_closed in (("open", False), ("closed", True)):
-        three, two, one = ((is_closed, batches, tree) for batches, tree in ((3, cut), (2, overloaded), (1, overloaded)))
+    for end, other in (("open", "closed"), ("closed", "idle"), ("idle", "open")):
+        three, two, one = ((end, batches, tree) for batches, tree in ((3, cut), (2, overloaded), (1, overloaded)))
         certificates = [
             ("what was written", certificate(*three), b"", b""),
             ("a certificate for one batch less", certificate(*two), NOT_THE_BOUND, b""),
             ("a certificate for two batches less", certificate(*one), NOT_THE_BOUND, NOT_THE_BOUND),
-            ("a certificate for one batch more", certificate(is_closed, 4, cut), NOT_THE_BOUND, NOT_THE_BOUND),
-            ("the other end", certificate(not is_closed, 3, cut), NOT_THE_BOUND, NOT_THE_BOUND),
-            ("a tree that is not accepted", certificate(is_closed, 3, overloaded), NOT_THE_BOUND, NOT_THE_BOUND),
-            ("an open tree", certificate(is_closed, 3, "03"), NOT_THE_BOUND, NOT_THE_BOUND),
+            ("a certificate for one batch more", certificate(end, 4, cut), NOT_THE_BOUND, NOT_THE_BOUND),
+            ("another end", certificate(other, 3, cut), NOT_THE_BOUND, NOT_THE_BOUND),
+            ("a tree that is not accepted", certificate(end, 3, overloaded), NOT_THE_BOUND, NOT_THE_BOUND),
+            ("an open tree", certificate(end, 3, "03"), NOT_THE_BOUND, NOT_THE_BOUND),
             ("no certificate", b"PCB3", no_version, no_version),
         ]
         for name, given, fault, fault_always in certificates:
@@ -70,17 +72,17 @@ def try_transmissions(tally, library, folder, end):
         ("a page more", ROUND + b"8,tone0,\n"),
         ("another function", HEADER + b"0,alpha,a\n3,numeric," + b"1" * 75 + b"\n"),
     ]
-    run(["plan", "pages.csv", "tx.bin", "cert.bin", "--end", end], folder)
+    run(["plan", "pages.csv", "tx.bin", "cert.bin", *ENDS[end]], folder)
     sent = (folder / "tx.bin").read_bytes()
     cases = [("what was written", sent, b""), ("a preamble more", b"\xaa" * 9 + sent, b"")]
     last_message = b"\xaa" * 72 + bytes.fromhex("".join(OPEN_END))
-    cases += [("a message at the end", last_message, NOT_THE_END if end == "closed" else b"")]
+    cases += [("a message at the end", last_message, NOT_THE_END if end != "open" else b"")]
     cases += [("cut short", sent[:-1], b"pocsag: the transmission is cut short\n")]
     cases += [("a batch more", sent + IDLES, NOT_THE_BOUND)]
     cases += [("two batches more", sent + 2 * IDLES, NOT_THE_BOUND)]
     for name, text in others:
         (folder / "other.csv").write_bytes(text)
-        run(["plan", "other.csv", "tx.bin", "cert.bin", "--end", end], folder)
+        run(["plan", "other.csv", "tx.bin", "cert.bin", *ENDS[end]], folder)
         cases.append((name, (folder / "tx.bin").read_bytes(), NOT_THE_PAGES))
     for name, given, fault in cases:
         for always in ([], ["--always"]):

@@ -19,7 +19,7 @@ sys.path.insert(0, str(pathlib.Path(__file__).resolve().parent))
 import kept
 import noted
 import read_back
-from tally import PROGRAM, TOP, Tally
+from tally import ENDS, PROGRAM, TOP, Tally
 
 HERE = pathlib.Path(__file__).resolve().parent
 TRIAL = TOP / "crates/pocsag_trial/out/pocsag_trial"
@@ -356,7 +356,7 @@ def try_open(tally, library, folder):
     files = b"%s/open.bin,%s/open.cert" % (bytes(folder), bytes(folder))
     edits = [
         b"add,8,tone0,", b"add,17,numeric,5550199", b'add,26,alpha,"Ward 3, bed 2"', b"list", b"cancel,17", b"cancel,99",
-        b"add,8,tone1,", b"add,38,alpha,Gate", b"plan," + files, b"plan," + files + b",closed", b"bogus", b"list",
+        b"add,8,tone1,", b"add,38,alpha,Gate", b"plan," + files, b"plan," + files + b",closed", b"plan," + files + b",idle", b"bogus", b"list",
         b"cancel,38", b"clear", b"plan," + files, b"add,7,tone3,", b"list",
     ]
     (folder / "open.csv").write_bytes(b"address,kind,message\n")
@@ -422,7 +422,7 @@ def try_late_growths(tally, library, folder):
     records = b"".join(b"%d,alpha,%s\n" % (k, b"Ward %d" % k * (1 + k % 7)) for k in range(900))
     pages.write_bytes(b"address,kind,message\n" + records)
     names = [str(path) for path in (pages, sent, cert)]
-    plans = [["plan", *names, "--end", end, *more] for end in ("open", "closed") for more in ([], ["--always"])]
+    plans = [["plan", *names, *end, *more] for end in ENDS.values() for more in ([], ["--always"])]
     others = [["check", names[0], names[2]], ["decode", names[1]], ["hear", "8", names[1]]]
     others += [["show", names[1], *more] for more in ([], ["--svg"], ["--list"])]
     others += [["report", names[0], "--rate", "512", *more] for more in ([], ["--always"], ["--frames"])]

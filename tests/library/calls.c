@@ -1,6 +1,6 @@
 /* Calls of the library with memory refused, with guard pages behind each buffer, and from several threads:
  *
- *     calls PAGES CLOSED ALWAYS
+ *     calls PAGES END ALWAYS
  *
  * It is linked with the archive, and with malloc, realloc and free wrapped. It prints a line of what it counted; its
  * status is 0 where nothing was wrong, and else it says what was. */

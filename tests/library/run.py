@@ -23,13 +23,17 @@ TOP = HERE.parents[1]
 sys.path[:0] = [str(HERE.parent), str(TOP / "clib"), str(TOP / "clib/examples")]
 import make
 import pocsag
-from tally import PROGRAM, run_parts
+from tally import ENDS, PROGRAM, run_parts
 
 EXAMPLES = TOP / "clib/examples"
 ROUND = TOP / "examples/round.csv"
 ROUNDS, CHANGED = 1_200, 400
 ROUNDS_OF_BOTH, CHANGED_OF_BOTH = 2_000, 8_000
 CALLS = {"pocsag_check", "pocsag_decode", "pocsag_explain", "pocsag_hear", "pocsag_plan", "pocsag_report", "pocsag_version"}
+
+# The words of the program for each end, and what its `check` tells of it.
+WORDS = dict(zip((pocsag.OPEN, pocsag.CLOSED, pocsag.IDLE), ENDS.values()))
+TOLD = dict(zip(WORDS, (b"", b" with a closed end", b" with an idle last")))
 
 # What the program prints where a call answers a status.
 SAID = {
@@ -114,7 +118,7 @@ class Library:
     def beside_program(self, pages, end, always):
         """Whether a plan, its check and its listings are those of the program; and the plan."""
         self.pages.write_bytes(pages)
-        words = ["--end", "closed"] * (end == pocsag.CLOSED) + ["--always"] * always
+        words = [*WORDS[end], *["--always"] * always]
         status, text = program("plan", self.pages, self.tx, self.cert, *words)
         plan = attempt(self.pocsag.plan, pages, end=end, always=always)
         if isinstance(plan, pocsag.Fault):
@@ -123,7 +127,7 @@ class Library:
         told = b"pages %d\nbatches %d\n" % (plan.pages, plan.batches)
         same = same and text == told + (b"at least %d batches\n" % plan.bound) * (plan.bound < plan.batches)
         shown = self.pocsag.check(pages, plan.certificate)
-        same = same and shown == (True, end == pocsag.CLOSED, plan.bound)
+        same = same and shown == (True, end, plan.bound)
         return same, plan
 
     def reads_alike(self, pages, tx, cert, address):
@@ -133,8 +137,7 @@ class Library:
         self.cert.write_bytes(cert)
         shown = attempt(self.pocsag.check, pages, cert)
         if not isinstance(shown, pocsag.Fault):
-            closed = b" with a closed end" * shown.is_closed
-            shown = (0, b"at least %d batches%s\n" % (shown.batches, closed)) if shown.is_shown else (1, b"not shown\n")
+            shown = (0, b"at least %d batches%s\n" % (shown.batches, TOLD[shown.end])) if shown.is_shown else (1, b"not shown\n")
         answers = [
             (shown, program("check", self.pages, self.cert)),
             self.explanation(pages, cert, pocsag.IN_WORDS, 3),
@@ -163,7 +166,7 @@ def try_bytes(tally, library, rounds, seed):
     wrong, plans = [], []
     for number in range(rounds):
         pages = random_file(source)
-        same, plan = library.beside_program(pages, source.randrange(2), source.randrange(4) == 0)
+        same, plan = library.beside_program(pages, source.randrange(3), source.randrange(4) == 0)
         plans += [(pages, plan)] * (plan is not None)
         wrong += [number] * (not same)
     tally.check(f"{rounds} rounds are planned as the program plans them", not wrong, wrong[:5])
@@ -190,11 +193,11 @@ def try_changed(tally, library, plans, count, seed):
 
 def try_faults(tally, library):
     call, sample = library.pocsag, ROUND.read_bytes()
-    tally.check("the version", call.version() == 2)
+    tally.check("the version", call.version() == 3)
     for name, wanted, given in (
         ("a limit of 0", pocsag.BadLimit, dict(limit=0)),
         ("a limit above the greatest", pocsag.BadLimit, dict(limit=1_000_001)),
-        ("an end that is none", pocsag.BadEnd, dict(end=2)),
+        ("an end that is none", pocsag.BadEnd, dict(end=3)),
     ):
         fault = attempt(call.plan, sample, **given)
         tally.check(name, type(fault) is wanted, fault)
@@ -226,7 +229,7 @@ def try_explanations(tally, library):
     """The texts of the program's `explain`, for the certificate of each example and for another round's."""
     call, wrong, number = library.pocsag, [], 0
     files = [path.read_bytes() for path in sorted((TOP / "examples").glob("*.csv"))]
-    plans = [(pages, attempt(call.plan, pages, end=end)) for pages in files for end in (pocsag.OPEN, pocsag.CLOSED)]
+    plans = [(pages, attempt(call.plan, pages, end=end)) for pages in files for end in WORDS]
     pairs = [(pages, plan.certificate) for pages, plan in plans if isinstance(plan, pocsag.Plan)]
     pairs += [(ROUND.read_bytes(), certificate) for _, certificate in pairs]
     for pages, certificate in pairs:
@@ -304,9 +307,9 @@ def try_calls(tally, folder, room, ways):
         if built.returncode:
             tally.check(f"calls {name} are built", "sanitize" in str(flags) and b"cannot find" in built.stderr, built.stderr)
             continue
-        for closed, always in ((0, 0), (1, 0), (0, 1)) if not before else ((0, 0),):
-            ran = run(*before, room / "calls", ROUND, closed, always)
-            tally.check(f"refused memory, small buffers and threads {name}, {closed} {always}", ran.returncode == 0, (ran.stdout, ran.stderr[-2000:]))
+        for end, always in ((0, 0), (1, 0), (2, 0), (0, 1)) if not before else ((0, 0),):
+            ran = run(*before, room / "calls", ROUND, end, always)
+            tally.check(f"refused memory, small buffers and threads {name}, {end} {always}", ran.returncode == 0, (ran.stdout, ran.stderr[-2000:]))
 
 
 def all_answers(library, pages, tx, cert, address, end, always):
@@ -327,7 +330,7 @@ def try_both(tally, one, other, rounds, count, seed):
     source = random.Random(seed)
     wrong, files = [], []
     for number in range(rounds):
-        pages, end, always = random_file(source), source.randrange(2), number % 3 == 0
+        pages, end, always = random_file(source), source.randrange(3), number % 3 == 0
         plan = one.plan(pages, end=end, always=always)
         files.append((pages, plan.transmission, plan.certificate))
         address = source.randrange(2_100_000)

@@ -175,7 +175,7 @@ def many_edits(tally, folder):
 
 def plans_of_the_list(tally, folder, program, kept):
     """What is planned holds the pages of the list, and the certificate shows its batches for them."""
-    for end, told in ((b"open", b""), (b"closed", b" with a closed end")):
+    for end, told in ((b"open", b""), (b"closed", b" with a closed end"), (b"idle", b" with an idle last")):
         answer = program.ask(b"plan,many.bin,many.cert," + end)
         sent = subprocess.run([str(PROGRAM), "decode", "many.bin"], capture_output=True, cwd=folder, timeout=60)
         found = sorted(sent.stdout.strip(b"\n").split(b"\n")[1:])
@@ -200,6 +200,8 @@ WORDS = [
     (b"cancel,+16", b"refused: no such page"),
     (b"plan,tx.bin,cert.bin", b"batches 1"),
     (b"plan,tx.bin,cert.bin,closed", b"batches 1"),
+    (b"plan,tx.bin,cert.bin,idle", b"batches 1"),
+    (b"plan,tx.bin,cert.bin,Idle", b"refused: unknown edit"),
     (b"plan,tx.bin,cert.bin,open", b"batches 1"),
     (b"plan,tx.bin,cert.bin,soon", b"refused: unknown edit"),
     (b"plan,tx.bin,tx.bin", b"refused: the same file is named twice"),

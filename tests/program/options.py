@@ -11,7 +11,7 @@ sys.dont_write_bytecode = True
 from tally import PROGRAM, TOP
 
 HEADER = b"address,kind,message\n"
-ENDS = ([], ["--end", "open"], ["--end", "closed"], ["--end=closed"])
+ENDS = ([], ["--end", "open"], ["--end", "closed"], ["--end=closed"], ["--idle-last"])
 LIMITS = ([], ["--limit", "100000"], ["--limit=1000000"], ["--limit", "1"])
 RATES = ("512", "1200", "2400")
 USAGE = [
@@ -30,6 +30,11 @@ USAGE = [
     ["plan", "p", "t", "c", "--end"], ["plan", "p", "t", "c", "--limit"], ["plan", "p", "t", "c", "--always=yes"],
     ["plan", "p", "t", "c", "--verify=yes"], ["plan", "p", "t", "c", "--end", "closed", "--end", "open"],
     ["plan", "p", "t", "c", "--limit", "5", "--limit", "6"], ["plan", "p", "t", "c", "--limit", "-1"],
+    ["plan", "p", "t", "c", "--idle-last", "--end", "open"], ["plan", "p", "t", "c", "--end", "closed", "--idle-last"],
+    ["plan", "p", "t", "c", "--idle-last", "--idle-last"], ["plan", "p", "t", "c", "--idle-last=yes"],
+    ["plan", "p", "t", "c", "--end", "idle"], ["report", "p", "--rate", "512", "--end", "closed", "--idle-last"],
+    ["report", "p", "--rate", "512", "--end=idle"], ["check", "p", "c", "--idle-last"], ["explain", "p", "c", "--idle-last"],
+    ["open", "--idle-last"], ["show", "t", "--idle-last"], ["--idle-last"],
 ]
 
 
@@ -68,18 +73,23 @@ ROUNDS = [
 ]
 
 
+def end_in(words):
+    """The end that the words ask for."""
+    return "idle" if "--idle-last" in words else "closed" if any("closed" in word for word in words) else "open"
+
+
 class Due:
     """What is due of a round for an end."""
 
-    def __init__(self, pages, is_closed):
-        self.pages, self.is_closed = pages, is_closed
+    def __init__(self, pages, end):
+        self.pages, self.end = pages, end
         self.shapes = tuple((address % 8, 1 + items) for address, items in pages)
-        self.fewest = FEWEST.fewest(self.shapes, is_closed)
+        self.fewest = FEWEST.fewest(self.shapes, end)
         self.text = HEADER + "".join(FEWEST.record(*page) for page in pages).encode()
         self.codewords = sum(length for _, length in self.shapes)
 
     def in_order(self):
-        """The batches of file order, which is the same for either end."""
+        """The batches of file order, which is the same for every end."""
         index = 0
         for frame, length in self.shapes:
             while index % 16 // 2 != frame:
@@ -89,7 +99,7 @@ class Due:
 
     def shown(self, bound):
         """What `check` tells of a certificate for the bound."""
-        return b"at least %d batches%s\n" % (bound, b" with a closed end" if self.is_closed else b"")
+        return b"at least %d batches%s\n" % (bound, FEWEST.TOLD[self.end].encode())
 
     def report(self, rate, batches):
         bits = 576 + 544 * batches
@@ -101,12 +111,11 @@ class Due:
     def are_written(self, folder, batches, bound):
         """Whether both files are those of a plan with so many batches and that bound: read here and by the program."""
         sent = (folder / "tx.bin").read_bytes()
-        ends_whole = sent[-4:].hex() == FEWEST.IDLE or not sent[-4] >> 7
         shown = run(["check", "pages.csv", "cert.bin"], folder)
         return (
             FEWEST.pages_read(sent) == sorted(self.pages)
             and len(sent) == 72 + 68 * batches
-            and (ends_whole or not self.is_closed)
+            and FEWEST.ends_as(sent, self.end)
             and (shown.returncode, shown.stdout) == (0, self.shown(bound))
         )
 
@@ -137,7 +146,7 @@ def try_plan_options(tally, folder):
     """`plan` with each end, limit, `--always`, `--verify` and `--verbose`."""
     flags = ([], ["--always"]), ([], ["--verify"]), VERBOSE
     for pages, end, limit, always, verify, verbose in itertools.product(ROUNDS, ENDS, LIMITS, *flags):
-        due = Due(pages, any("closed" in word for word in end))
+        due = Due(pages, end_in(end))
         (folder / "pages.csv").write_bytes(due.text)
         done = run(["plan", *end, "pages.csv", "tx.bin", *limit, "cert.bin", *always, *verify, *verbose], folder)
         name = " ".join(["plan", *end, *limit, *always, *verify, *verbose])
@@ -155,7 +164,7 @@ def try_plan_options(tally, folder):
 def try_report_options(tally, folder):
     """`report` with each rate, end, limit, `--always` and `--verbose`, of the plan that `plan` makes with them."""
     for pages, end, limit, always, verbose in itertools.product(ROUNDS, ENDS, LIMITS, ([], ["--always"]), VERBOSE):
-        due = Due(pages, any("closed" in word for word in end))
+        due = Due(pages, end_in(end))
         (folder / "pages.csv").write_bytes(due.text)
         planned = run(["plan", "pages.csv", "tx.bin", "cert.bin", *end, *limit, *always], folder)
         of_plan = judged(due, planned, limit, bool(always))
@@ -174,12 +183,12 @@ def try_open_options(tally, folder):
     """`open` with and without PAGES, `--always` and `--verbose`, and its plans with each end."""
     for pages, *words in itertools.product(ROUNDS, ([], ["pages.csv"]), ([], ["--always"]), VERBOSE):
         words = sum(words, [])
-        text = Due(pages, False).text
+        text = Due(pages, "open").text
         (folder / "pages.csv").write_bytes(text)
         edits = [] if "pages.csv" in words else [b"add," + record for record in text.splitlines()[1:]]
         counted = [b"ok %d" % (place + 1) for place in range(len(edits))]
-        for end in (b"", b",open", b",closed"):
-            due = Due(pages, end == b",closed")
+        for end in (b"", b",open", b",closed", b",idle"):
+            due = Due(pages, end[1:].decode() or "open")
             lines = [*edits, b"plan,tx.bin,cert.bin" + end]
             done = run(["open", *words], folder, b"\n".join(lines) + b"\n")
             told = b"\n".join([*counted, b"batches %d" % due.fewest]) + b"\n"
@@ -191,7 +200,7 @@ def try_open_options(tally, folder):
 def try_input_options(tally, folder):
     """No words: the fewest batches for the open end."""
     for pages, verbose in itertools.product(ROUNDS, VERBOSE):
-        due = Due(pages, False)
+        due = Due(pages, "open")
         told = b"pages %d\nbatches %d\n" % (len(pages), due.fewest)
         done = run(verbose, folder, due.text)
         tally.check(f"no words {verbose}", (done.returncode, done.stdout, done.stderr) == (0, told, b""), (due.text, done))
@@ -207,7 +216,7 @@ def try_foreign_options(tally, folder):
 
 def try_bad_numbers(tally, folder):
     """Rates and limits that are none, beside each other option: status 1, and nothing told."""
-    (folder / "pages.csv").write_bytes(Due(ROUNDS[0], False).text)
+    (folder / "pages.csv").write_bytes(Due(ROUNDS[0], "open").text)
     no_rate, no_limit = b"pocsag: the rate must be 512, 1200 or 2400\n", b"pocsag: the limit must be 1 to 1000000\n"
     for end, always, verbose in itertools.product(ENDS, ([], ["--always"]), VERBOSE):
         always = always + verbose

@@ -16,12 +16,15 @@ sys.path.insert(0, str(pathlib.Path(__file__).resolve().parent))
 import edges
 import options
 import verbose
-from tally import PROGRAM, run_parts
+from tally import ENDS, PROGRAM, run_parts
 
 HEADER = b"address,kind,message\n"
 PREAMBLE = b"\xaa" * 72
 SYNC = "7CD215D8"
 IDLE = "7A89C197"
+# How certificates begin, and what `check` tells of them, for each end.
+HEADS = {"open": b"PCB2\0", "closed": b"PCB2\1", "idle": b"PCB4"}
+TOLD = {"open": b"", "closed": b" with a closed end", "idle": b" with an idle last"}
 MESSAGE = "C44447B9"
 
 
@@ -84,6 +87,13 @@ ROUNDS = {
     "no-last-line-feed": (b"8,tone0,", 1, 1, 1, places("000026EC", (0, 1))),
 }
 
+# Their fewest batches with an idle last.
+IDLE_LAST = {
+    "lone-tone": 1, "lone-address-7": 1, "five-digits": 1, "three-tones-one-frame": 2, "one-full-batch": 2, "loop-apart": 2,
+    "loops-apart": 3, "two-numeric-exact": 2, "three-pages-tight": 3, "two-in-last-frame": 3, "closed-mixed": 3,
+    "closed-both-ways": 3, "long-numeric": 5, "long-alpha": 88, "file-order-2000": 126, "round-size": 1251,
+}  # fmt: skip
+
 # What a listing shows of the rounds whose records are spelled otherwise.
 SPELLED = {name: [b"8,tone0,"] for name in ("crlf", "empty-lines", "quoted-fields", "leading-zeros", "no-last-line-feed")}
 
@@ -117,23 +127,24 @@ REFUSED = {
 def try_round(tally, folder, name, end):
     """A round planned, checked, decoded and read back."""
     records, open_batches, closed_batches, _, sent = ROUNDS[name]
-    batches = open_batches if end == "open" else closed_batches
+    batches = {"open": open_batches, "closed": closed_batches, "idle": IDLE_LAST.get(name)}[end]
     if batches is None:
         return
     pages, tx, cert = folder / "pages.csv", folder / "tx.bin", folder / "cert.bin"
     pages.write_bytes(HEADER + records)
     lines = SPELLED.get(name) or records.strip(b"\n").split(b"\n")
-    done = run(["plan", "pages.csv", "tx.bin", "cert.bin", "--end", end, "--verify"], folder)
+    done = run(["plan", "pages.csv", "tx.bin", "cert.bin", *ENDS[end], "--verify"], folder)
     told = b"pages %d\nbatches %d\nverified\n" % (len(lines), batches)
     tally.check(f"plan {name} {end}", (done.returncode, done.stdout, done.stderr) == (0, told, b""), done)
     wrote = tx.read_bytes()
-    holds = len(wrote) == 72 + 68 * batches and (end == "closed" or sent is None or wrote in sent)
+    holds = len(wrote) == 72 + 68 * batches and (end != "open" or sent is None or wrote in sent)
     tally.check(f"transmission of {name} {end}", holds, wrote[:200].hex())
-    tally.check(f"last codeword of {name} {end}", end == "open" or wrote[-4] < 128, wrote[-4:])
+    holds = {"open": True, "closed": wrote[-4] < 128, "idle": wrote[-4:] == bytes.fromhex(IDLE)}[end]
+    tally.check(f"last codeword of {name} {end}", holds, wrote[-4:])
     done = run(["check", "pages.csv", "cert.bin"], folder)
-    told = b"at least %d batches" % batches + (b" with a closed end\n" if end == "closed" else b"\n")
+    told = b"at least %d batches" % batches + TOLD[end] + b"\n"
     tally.check(f"check {name} {end}", done.returncode == 0 and done.stdout == told, done)
-    head = b"PCB2" + bytes([end == "closed"]) + batches.to_bytes(4, "big")
+    head = HEADS[end] + batches.to_bytes(4, "big")
     tally.check(f"certificate of {name} {end}", cert.read_bytes().startswith(head), cert.read_bytes()[:20])
     done = run(["decode", "tx.bin"], folder)
     holds = done.returncode == 0 and done.stdout.startswith(HEADER)
@@ -143,8 +154,8 @@ def try_round(tally, folder, name, end):
 
 def try_rounds(tally, folder):
     for name, (records, batches, _, in_order, _) in ROUNDS.items():
-        try_round(tally, folder, name, "open")
-        try_round(tally, folder, name, "closed")
+        for end in ENDS:
+            try_round(tally, folder, name, end)
         done = run([], folder, HEADER + records)
         count = len(SPELLED.get(name) or records.strip(b"\n").split(b"\n"))
         holds = done.returncode == 0 and done.stdout == b"pages %d\nbatches %d\n" % (count, batches)
@@ -217,30 +228,30 @@ def try_always(tally, folder):
     pages, tx, cert = folder / "pages.csv", folder / "tx.bin", folder / "cert.bin"
     plan = ["plan", "pages.csv", "tx.bin", "cert.bin", "--always"]
     below = b"pages 2\nbatches 3\nat least 2 batches\n"
-    for end, closed in (("open", b""), ("closed", b" with a closed end")):
+    for end in ENDS:
         pages.write_bytes(HEADER + ROUNDS["loops-apart"][0])
-        done = run([*plan, "--end", end, "--limit", "1", "--verify"], folder)
+        done = run([*plan, *ENDS[end], "--limit", "1", "--verify"], folder)
         holds = (done.returncode, done.stdout, done.stderr) == (0, below + b"verified\n", b"")
         tally.check(f"one batch more than the bound, {end}", holds, done)
-        holds = len(tx.read_bytes()) == 72 + 68 * 3 and cert.read_bytes()[4:9] == bytes([end == "closed", 0, 0, 0, 2])
+        holds = len(tx.read_bytes()) == 72 + 68 * 3 and cert.read_bytes().startswith(HEADS[end] + bytes([0, 0, 0, 2]))
         tally.check(f"its files, {end}", holds, cert.read_bytes()[:20])
         done = run(["check", "pages.csv", "cert.bin"], folder)
-        told = b"at least 2 batches" + closed + b"\n"
+        told = b"at least 2 batches" + TOLD[end] + b"\n"
         tally.check(f"its certificate, {end}", (done.returncode, done.stdout) == (0, told), done)
         done = run(["decode", "tx.bin"], folder)
         tally.check(f"its pages, {end}", sorted(done.stdout.splitlines()) == sorted(pages.read_bytes().splitlines()), done)
-        done = run([*plan, "--end", end, "--verify"], folder)
+        done = run([*plan, *ENDS[end], "--verify"], folder)
         tally.check(f"the fewest at the default limit, {end}", done.stdout == b"pages 2\nbatches 3\nverified\n", done)
         for name, shape, batches in HARD:
             pages.write_bytes(hard_round(shape))
-            done = run([*plan[:-1], "--end", end], folder)
+            done = run([*plan[:-1], *ENDS[end]], folder)
             refused = done.returncode == 1 and b"search limit reached" in done.stderr and done.stdout == b""
             tally.check(f"{name} refused without --always, {end}", refused, done)
-            done = run([*plan, "--end", end, "--verify"], folder)
+            done = run([*plan, *ENDS[end], "--verify"], folder)
             told = b"pages %d\nbatches %d\nverified\n" % (len(shape), batches)
             tally.check(f"{name} answered, {end}", (done.returncode, done.stdout, done.stderr) == (0, told, b""), done)
             done = run(["check", "pages.csv", "cert.bin"], folder)
-            told = b"at least %d batches" % batches + closed + b"\n"
+            told = b"at least %d batches" % batches + TOLD[end] + b"\n"
             tally.check(f"{name} shown to be the fewest, {end}", (done.returncode, done.stdout) == (0, told), done)
     pages.write_bytes(HEADER + ROUNDS["loops-apart"][0])
     done = run(["report", "pages.csv", "--rate", "1200", "--always", "--limit", "1"], folder)
@@ -335,6 +346,7 @@ ONE_FULL = b"0,numeric," + ones(75) + b"\n"
 LOOP_APART = b"3,numeric," + ones(75) + b"\n"
 EXACT = b"0,numeric," + ones(25) + b"\n3,numeric," + ones(45) + b"\n"
 BOTH_WAYS = b"0,numeric," + ones(65) + b"\n7,tone0,\n15,numeric," + ones(10) + b"\n1,numeric," + ones(65) + b"\n"
+SIXTEEN = b"".join(b"%d,tone0,\n" % address for address in range(16))
 CHECKS = [
     ("lone-tone", b"8,tone0,\n", "50434231 00000001 00 0003", b"at least 1 batches\n", b"", 0),
     ("lone-tone closed", b"8,tone0,\n", "50434232 01 00000001 00 0003", b"at least 1 batches with a closed end\n", b"", 0),
@@ -344,6 +356,13 @@ CHECKS = [
     ("loops-apart PCB2", ONE_FULL + LOOP_APART, "50434232 00 00000003 02 0001 30 0002 00 0001 00 8000", b"at least 3 batches\n", b"", 0),
     ("closed-exact", EXACT, "50434232 01 00000002 04 01 00 FFFF", b"at least 2 batches with a closed end\n", b"", 0),
     ("closed-both-ways", BOTH_WAYS, "50434232 01 00000003 04 02 00 FFFF 00 8000", b"at least 3 batches with a closed end\n", b"", 0),
+    ("lone-tone idle", b"8,tone0,\n", "50434234 00000001 00 0003", b"at least 1 batches with an idle last\n", b"", 0),
+    ("idle-exact", EXACT, "50434234 00000002 04 01 00 FFFF", b"at least 2 batches with an idle last\n", b"", 0),
+    ("sixteen tones", SIXTEEN, "50434234 00000002 04 01 00 FFFF", b"at least 2 batches with an idle last\n", b"", 0),
+    ("sixteen tones closed", SIXTEEN, "50434232 01 00000002 04 01 00 FFFF", b"not shown\n", b"", 1),
+    ("idle-both-ways", BOTH_WAYS, "50434234 00000003 04 01 00 FFFF", b"at least 3 batches with an idle last\n", b"", 0),
+    ("two ways for an idle", BOTH_WAYS, "50434234 00000003 04 02 00 FFFF 00 8000", b"not shown\n", b"", 1),
+    ("a byte of the end in PCB4", b"8,tone0,\n", "50434234 00 00000001 00 0003", b"", b"the certificate is malformed", 1),
     ("long-alpha", b"0,alpha," + b"A" * 4000 + b"\n", "50434232 00 00000058 00 FFFF", b"at least 88 batches\n", b"", 0),
     ("last set 4000", ONE_FULL + LOOP_APART, "50434231 00000003 02 0001 30 0002 00 0001 00 4000", b"not shown\n", b"", 1),
     ("off centre", ONE_FULL + LOOP_APART, "50434231 00000003 02 0002 30 0002 00 0001 00 0002", b"not shown\n", b"", 1),

@@ -7,13 +7,14 @@ use Rattle.pocsag_slots.specs.declared.limit.Limits.{Limits}
 use Rattle.pocsag_slots.specs.declared.way.Way.{Way}
 use Rattle.pocsag_slots.specs.declared.way.Way.TheVariants.{IdleIn, Early, Late}
 use Rattle.pocsag_slots.specs.Sums.{holds}
+use Rattle.pocsag_slots.specs.Tours.{AsksForLast}
 use Rattle.pocsag_slots.specs.Ways.{MayTake, class_certain, limits_below, limits_from, narrowed_limits, ways_across, ways_to_close}
 use Rattle.pocsag_tree.specs.declared.shape.Tree.{Tree}
 use Rattle.pocsag_tree.specs.declared.shape.Tree.TheViews.{Split, Cut, Close}
 use Rattle.pocsag_tree.specs.Bounds.{Bound, Bounds, split, none, more, closed_nodes, closed_nodes_in}
 use Rattle.pocsag_tree.specs.Views.{bound_of, bounds_of}
 use Rattle.pocsag_tree.proofs.Counts.{bound_of-cut, bound_of-close, bound_of-split}
-use Rattle.pocsag_check.specs.Accepting.{AcceptsWithin, IsClosed}
+use Rattle.pocsag_check.specs.Accepting.{AcceptsWithin}
 use Rattle.pocsag_branch.specs.declared.task.Task.{Task}
 use Rattle.pocsag_branch.specs.FreeNode.{AreFreeNodes, IsFreeNode, IsUndecidedWay}
 use Rattle.pocsag_branch.specs.Undecided.{AreNodeLimits, Falls, IsSplitPoint, undecided}
@@ -93,11 +94,11 @@ cut_freed k q l made after set c ws children known zero certain small all a =
       within = rest.within;
     })
 
-pub close_freed : (k : Classes) (q : Task) (l : Limits) (made after : ℕ) (ws : List Way) (children : Vec Tree) → IsClosed q.end →
-    ws ≡ ways_to_close k l →
+pub close_freed : (k : Classes) (q : Task) (l : Limits) (made after : ℕ) (ws : List Way) (children : Vec Tree) → AsksForLast q.end →
+    ws ≡ ways_to_close k q.end l →
     AreFreeNodes k q l (made + 1) after ws (bounds_of children.items) → IsFreeNode k q l made after (bound_of (Close children))
 close_freed k q l made after ws children closed all a =
-    let rest : AreFreeNodes k q l (made + 1) after (ways_to_close k l) (bounds_of children.items) =
+    let rest : AreFreeNodes k q l (made + 1) after (ways_to_close k q.end l) (bounds_of children.items) =
     rw all at a in
     rw (bound_of-close (Close children) children refl) (record {
       refuted = close_refuted false k q.end q.batches l (bounds_of children.items) q.some closed rest.refuted;

@@ -6,6 +6,7 @@ use Rattle.pocsag_slots.specs.declared.class.Classes.{Classes}
 use Rattle.pocsag_slots.specs.declared.limit.Limits.{Limits}
 use Rattle.pocsag_slots.specs.declared.way.Way.{Way}
 use Rattle.pocsag_slots.specs.Sums.{holds}
+use Rattle.pocsag_slots.specs.Tours.{AsksForLast}
 use Rattle.pocsag_slots.specs.Ways.{class_certain, limits_below, limits_from, narrowed_limits, ways_across, ways_to_close}
 use Rattle.std.specs.Global.{Vec, Box}
 use Rattle.pocsag_tree.specs.declared.shape.Tree.{Tree}
@@ -13,7 +14,7 @@ use Rattle.pocsag_tree.specs.declared.shape.Tree.TheViews.{Split, Cut, Close}
 use Rattle.pocsag_tree.specs.Bounds.{Bound, Bounds, cut, close, split, none, more, deepest, depth_of}
 use Rattle.pocsag_tree.specs.Views.{bound_of, bounds_of}
 use Rattle.pocsag_tree.proofs.Counts.{bound_of-cut, bound_of-close, bound_of-split}
-use Rattle.pocsag_check.specs.Accepting.{Accepts, AcceptsEach, IsClosed}
+use Rattle.pocsag_check.specs.Accepting.{Accepts, AcceptsEach}
 use Rattle.pocsag_branch.specs.declared.task.Task.{Task}
 use Rattle.pocsag_branch.specs.Examined.{AreExamined, AreRefuted, IsExamined, IsRefuted}
 use Rattle.pocsag_branch.specs.Marks.{opens, opens_in}
@@ -46,12 +47,12 @@ AcceptsEach-last u k end b l [] (more s ts) w t a h = absurd a
 AcceptsEach-last u k end b l (v ∷ ws) none w t a h = absurd a
 AcceptsEach-last u k end b l (v ∷ ws) (more s ts) w t a h = (a.0, AcceptsEach-last u k end b l ws ts w t a.1 h)
 
-AreShaped-last : (k : Classes) (b : ℕ) (l : Limits) (ws : List Way) (ts : Bounds) (w : Way) (t : Bound) →
-    AreShaped k b l ws ts → IsShaped k b (narrowed_limits k l w b) t → AreShaped k b l (ws ++ w ∷ []) (with_last ts t)
-AreShaped-last k b l [] none w t a h = (h, tt)
-AreShaped-last k b l [] (more s ts) w t a h = absurd a
-AreShaped-last k b l (v ∷ ws) none w t a h = absurd a
-AreShaped-last k b l (v ∷ ws) (more s ts) w t a h = (a.0, AreShaped-last k b l ws ts w t a.1 h)
+AreShaped-last : (k : Classes) (end : End) (b : ℕ) (l : Limits) (ws : List Way) (ts : Bounds) (w : Way) (t : Bound) →
+    AreShaped k end b l ws ts → IsShaped k end b (narrowed_limits k l w b) t → AreShaped k end b l (ws ++ w ∷ []) (with_last ts t)
+AreShaped-last k end b l [] none w t a h = (h, tt)
+AreShaped-last k end b l [] (more s ts) w t a h = absurd a
+AreShaped-last k end b l (v ∷ ws) none w t a h = absurd a
+AreShaped-last k end b l (v ∷ ws) (more s ts) w t a h = (a.0, AreShaped-last k end b l ws ts w t a.1 h)
 
 pub refuted_more : (u : Bool) (k : Classes) (end : End) (b : ℕ) (l : Limits) (ws : List Way) (ts : Bounds) (w : Way) (t : Bound) →
     AreRefuted u k end b l ws ts → IsRefuted u k end b (narrowed_limits k l w b) t →
@@ -70,7 +71,7 @@ pub examined_more : (k : Classes) (q : Task) (l : Limits) (made between after : 
 examined_more k q l made between after ws ts w t a h falls =
     record {
       refuted = refuted_more true k q.end q.batches l ws ts w t a.refuted h.refuted falls;
-      shaped = AreShaped-last k q.batches l ws ts w t a.shaped h.shaped;
+      shaped = AreShaped-last k q.end q.batches l ws ts w t a.shaped h.shaped;
       fills = rw (opens_in-last ts t) (fills_join q.limit made between after (opens_in ts) (opens t) a.fills h.fills);
     }
 
@@ -97,8 +98,8 @@ pub cut_refuted : (u : Bool) (k : Classes) (end : End) (b : ℕ) (l : Limits) (s
 cut_refuted u k end b l set c ts some known zero certain small a =
     record { accepted = (known, omega arith, zero, certain, small, a.accepted); deep = omega (arith, a.deep) }
 
-pub close_refuted : (u : Bool) (k : Classes) (end : End) (b : ℕ) (l : Limits) (ts : Bounds) → 0 < b → IsClosed end →
-    AreRefuted u k end b l (ways_to_close k l) ts → IsRefuted u k end b l (close ts)
+pub close_refuted : (u : Bool) (k : Classes) (end : End) (b : ℕ) (l : Limits) (ts : Bounds) → 0 < b → AsksForLast end →
+    AreRefuted u k end b l (ways_to_close k end l) ts → IsRefuted u k end b l (close ts)
 close_refuted u k end b l ts some closed a =
     record { accepted = (closed, omega arith, a.accepted); deep = omega (arith, a.deep) }
 
@@ -122,11 +123,11 @@ cut_examined k q l made after set c ws ts known zero certain small apart all a =
       fills = fills_node q.limit made after (opens_in ts) rest.fills;
     }
 
-pub close_examined : (k : Classes) (q : Task) (l : Limits) (made after : ℕ) (ws : List Way) (ts : Bounds) → IsClosed q.end →
-    AdmitUnclosed k q.batches l → ws ≡ ways_to_close k l →
+pub close_examined : (k : Classes) (q : Task) (l : Limits) (made after : ℕ) (ws : List Way) (ts : Bounds) → AsksForLast q.end →
+    AdmitUnclosed k q.end q.batches l → ws ≡ ways_to_close k q.end l →
     AreExamined k q l (made + 1) after ws ts → IsExamined k q l made after (close ts)
 close_examined k q l made after ws ts closed unclosed all a =
-    let rest : AreExamined k q l (made + 1) after (ways_to_close k l) ts =
+    let rest : AreExamined k q l (made + 1) after (ways_to_close k q.end l) ts =
     rw all at a in
     record {
       refuted = close_refuted true k q.end q.batches l ts q.some closed rest.refuted;
@@ -157,8 +158,8 @@ cut_made k q l made after set c ws children known zero certain small apart all a
     rw (bound_of-cut (Cut set c children) set c children refl)
     (cut_examined k q l made after set c ws (bounds_of children.items) known zero certain small apart all a)
 
-pub close_made : (k : Classes) (q : Task) (l : Limits) (made after : ℕ) (ws : List Way) (children : Vec Tree) → IsClosed q.end →
-    AdmitUnclosed k q.batches l → ws ≡ ways_to_close k l →
+pub close_made : (k : Classes) (q : Task) (l : Limits) (made after : ℕ) (ws : List Way) (children : Vec Tree) → AsksForLast q.end →
+    AdmitUnclosed k q.end q.batches l → ws ≡ ways_to_close k q.end l →
     AreExamined k q l (made + 1) after ws (bounds_of children.items) → IsExamined k q l made after (bound_of (Close children))
 close_made k q l made after ws children closed unclosed all a =
     rw (bound_of-close (Close children) children refl) (close_examined k q l made after ws (bounds_of children.items) closed unclosed all a)

@@ -1,7 +1,9 @@
 -- Where an admitted choice is apart, no way out of what it reaches is decided, and no split either.
 use Rattle.std.proofs.Common.{◌≡◌, ℕ, ◌-◌, ◌<◌, ◌≤◌, ◌&&◌, ◌||◌, nat_lt, Bool, true, false, cond, [], ◌∷◌, All, refl, arith, slice_index, inl, inr}
 use Rattle.std.proofs.lemmas.Bool.{and_parts, cases_eq, cases_lt, lt-ltb, ltb-false, ltb-true}
-use Rattle.std.proofs.lemmas.List.Elements.{All-append, All-cons}
+use Rattle.std.proofs.lemmas.List.Elements.{All-append, All-cons, All-nil}
+use Rattle.pocsag_words.specs.declared.ending.End.{End}
+use Rattle.pocsag_words.specs.declared.ending.End.TheVariants as ends
 use Rattle.pocsag_slots.specs.declared.class.Classes.{Classes}
 use Rattle.pocsag_slots.specs.declared.limit.Limits.{Limits}
 use Rattle.pocsag_slots.specs.declared.way.Way.TheVariants.{IdleIn, Early, Late}
@@ -80,16 +82,19 @@ late_free k l set c uncertain some touches =
     (nat_lt 0 (slice_index l.lo c)) (nat_lt (slice_index l.hi c) (slice_index k.count c)) uncertain
     (lt-ltb 0 (slice_index k.count c) some) touches)
 
--- where slot 15 may be left to idles, and each page of class 135 may start late
-pub closing_ways_fall : (k : Classes) (batches : ℕ) (l : Limits) → AreNodeLimits k batches l → 0 < batches →
+-- where slot 15 may be left to idles, and, for the closed end, each page of class 135 may start late
+pub closing_ways_fall : (k : Classes) (end : End) (batches : ℕ) (l : Limits) → AreNodeLimits k batches l → 0 < batches →
     batches ≤ slice_index l.cap 15 →
-    slice_index k.count 135 ≤ slice_index l.hi 135 → All (Falls k batches l) (ways_to_close k l)
+    (end ≡ ends.Closed → slice_index k.count 135 ≤ slice_index l.hi 135) → All (Falls k batches l) (ways_to_close k end l)
 unfolding ways_to_close
-closing_ways_fall k batches l limits some full none =
+closing_ways_fall k ends.Open batches l limits some full none = All-nil (Falls k batches l)
+closing_ways_fall k ends.Idle batches l limits some full none =
+    All-cons (Falls k batches l) (IdleIn 15) [] (idle_falls k batches l limits 15 some (omega arith) full) (All-nil (Falls k batches l))
+closing_ways_fall k ends.Closed batches l limits some full none =
     All-cons (Falls k batches l) (IdleIn 15) (cond (nat_lt (slice_index l.lo 135) (slice_index k.count 135)) (Late 135 ∷ []) [])
     (idle_falls k batches l limits 15 some (omega arith) full)
     (All-one_or_none (Falls k batches l) (nat_lt (slice_index l.lo 135) (slice_index k.count 135)) (Late 135)
-    (λ allowed. late_falls k batches l limits 135 (omega arith) none (ltb-true (slice_index l.lo 135) (slice_index k.count 135) allowed)))
+    (λ allowed. late_falls k batches l limits 135 (omega arith) (none refl) (ltb-true (slice_index l.lo 135) (slice_index k.count 135) allowed)))
 
 module _ (k : Classes) (batches : ℕ) (l : Limits) (choice : ℕ → ℕ) (limits : AreNodeLimits k batches l)
     (admitted : IsAdmitted k l choice) where
@@ -145,11 +150,12 @@ module _ (k : Classes) (batches : ℕ) (l : Limits) (choice : ℕ → ℕ) (limi
       (All-joined_below (Falls k batches l) 16 (slot_ways set) (λ slot h. slot_ways_fall set slot apart some h))
       (All-joined_below (Falls k batches l) 136 (class_ways k l set) (λ c h. class_ways_fall set c apart h))
 
-  pub closing_fall : IsUnclosed k choice batches → 0 < batches → All (Falls k batches l) (ways_to_close k l)
-  closing_fall unclosed some =
+  pub closing_fall : (end : End) → IsUnclosed k end choice batches → 0 < batches → All (Falls k batches l) (ways_to_close k end l)
+  closing_fall end unclosed some =
       let last : load k choice 15 ≤ slice_index l.cap 15 = admitted.capped 15 (omega arith) in
       let most : choice 135 ≤ slice_index l.hi 135 = admitted.within.most 135 (omega arith) in
-      closing_ways_fall k batches l limits some (omega (arith, unclosed.no_idle)) (omega (arith, unclosed.no_late, late_runs k choice 135))
+      closing_ways_fall k end batches l limits some (omega (arith, unclosed.no_idle))
+      (λ closed. omega (arith, unclosed.no_late closed, late_runs k choice 135))
 
   pub splits_outside : (set c m : ℕ) → NoneCertain k l set → SplitsAt k choice set c m → IsSplitPoint k batches l c m
   splits_outside set c m uncertain (at_one outside one) =

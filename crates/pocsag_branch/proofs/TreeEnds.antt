@@ -73,7 +73,7 @@ mutual
       let both = or_parts (has_open s) (has_open t) whole in
       (a.0, a.1, a.2, sealed s k end b (limits_below l c m) both.0 a.3, sealed t k end b (limits_from l c m) both.1 a.4)
   sealed (cut set c ts) k end b l whole a = (a.0, a.1, a.2, a.3, a.4, each_sealed ts (ways_across k l set) k end b l whole a.5)
-  sealed (close ts) k end b l whole a = (a.0, a.1, each_sealed ts (ways_to_close k l) k end b l whole a.2)
+  sealed (close ts) k end b l whole a = (a.0, a.1, each_sealed ts (ways_to_close k end l) k end b l whole a.2)
   sealed unexamined k end b l whole a = absurd (cc)
 
   each_sealed : (ts : Bounds) (ws : List Way) (k : Classes) (end : End) (b : ℕ) (l : Limits) → have_open ts ≡ false →
@@ -249,8 +249,9 @@ never_apart k choice b set room apart =
     let out : holds set at ≡ false = run.starts in
     absurd (cc)
 
-pub never_unclosed : (k : Classes) (choice : ℕ → ℕ) (b : ℕ) → ((slot : ℕ) → slot < 16 → load k choice slot < b) → IsUnclosed k choice b → ⊥
-never_unclosed k choice b room unclosed = omega (arith, room 15 (omega arith), unclosed.no_idle)
+pub never_unclosed : (k : Classes) (end : End) (choice : ℕ → ℕ) (b : ℕ) → ((slot : ℕ) → slot < 16 → load k choice slot < b) →
+    IsUnclosed k end choice b → ⊥
+never_unclosed k end choice b room unclosed = omega (arith, room 15 (omega arith), unclosed.no_idle)
 
 pub has_room : (k : Classes) (choice : ℕ → ℕ) (b : ℕ) → IsAdmitted k (limits_of_all k b) choice → (slot : ℕ) → slot < 16 →
     load k choice slot < b + 1
@@ -291,7 +292,8 @@ tour_admitted k end b choice steps among tour =
     }
 
 -- at the root nothing is decided
-pub root_closing : (k : Classes) (b : ℕ) → 0 < b → All (Falls k b (limits_of_all k b)) (ways_to_close k (limits_of_all k b))
-root_closing k b some =
+pub root_closing : (k : Classes) (end : End) (b : ℕ) → 0 < b →
+    All (Falls k b (limits_of_all k b)) (ways_to_close k end (limits_of_all k b))
+root_closing k end b some =
     let last : slice_index (replicate 16 b) 15 ≡ b = get_or-replicate 16 15 b 0 (omega arith) in
-    closing_ways_fall k b (limits_of_all k b) (all_node_limits k b) some (omega arith) (omega arith)
+    closing_ways_fall k end b (limits_of_all k b) (all_node_limits k b) some (omega arith) (λ closed. omega arith)

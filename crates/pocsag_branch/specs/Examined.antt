@@ -5,11 +5,11 @@ use Rattle.pocsag_slots.specs.declared.class.Classes.{Classes}
 use Rattle.pocsag_slots.specs.declared.limit.Limits.{Limits}
 use Rattle.pocsag_slots.specs.declared.way.Way.{Way}
 use Rattle.pocsag_slots.specs.Loads.{IsChoice, Overloads, limits_of_all}
-use Rattle.pocsag_slots.specs.Tours.{IsTour}
+use Rattle.pocsag_slots.specs.Tours.{AsksForLast, IsTour}
 use Rattle.pocsag_slots.specs.Ways.{class_certain, ways_across, ways_to_close}
 use Rattle.pocsag_tree.specs.Bounds.{Bound, Bounds, depth_of, deepest}
 use Rattle.pocsag_tree.specs.Spelling.{IsSet}
-use Rattle.pocsag_check.specs.Accepting.{Accepts, AcceptsEach, IsClosed}
+use Rattle.pocsag_check.specs.Accepting.{Accepts, AcceptsEach}
 use Rattle.pocsag_tour.specs.Reached.{IsApart, IsUnclosed}
 use Rattle.pocsag_branch.specs.declared.task.Answer.{Answer}
 use Rattle.pocsag_branch.specs.declared.task.Form.{Form}
@@ -41,7 +41,7 @@ IsStop k q OutOfMemory = Unit {0}
 abbrev pub IsNoTour : Classes → Task → Limits → (ℕ → ℕ) → NoTour → Type 0
 IsNoTour k q l choice (Apart set) = IsApart k choice q.batches set.members
 IsNoTour k q l choice Unclosed =
-    IsClosed q.end × IsUnclosed k choice q.batches × All (Falls k q.batches l) (ways_to_close k l)
+    AsksForLast q.end × IsUnclosed k q.end choice q.batches × All (Falls k q.batches l) (ways_to_close k q.end l)
 
 -- The node may be made there, and each of its children settles a question that is open.
 abbrev pub IsForm : Classes → Task → Limits → Form → Type 0
@@ -49,14 +49,14 @@ IsForm k q l (Overload set) = IsSet set × Overloads k l set
 IsForm k q l (Cut set needed) =
     IsTrue (class_certain k l set.members needed.number) × All (Falls k q.batches l) (ways_across k l set.members)
 IsForm k q l (Split c m) = IsSplitPoint k q.batches l c.number m
-IsForm k q l Close = IsClosed q.end × All (Falls k q.batches l) (ways_to_close k l)
+IsForm k q l Close = AsksForLast q.end × All (Falls k q.batches l) (ways_to_close k q.end l)
 
 -- The node stands there as *Shape of the search's trees* says.
-abbrev pub StandsAs : Classes → ℕ → Limits → Form → Type 0
-StandsAs k batches l (Overload set) = Unit {0}
-StandsAs k batches l (Cut set needed) = AdmitApart k batches l set.members
-StandsAs k batches l (Split c m) = AdmitSplit k batches l c.number m
-StandsAs k batches l Close = AdmitUnclosed k batches l
+abbrev pub StandsAs : Classes → Task → Limits → Form → Type 0
+StandsAs k q l (Overload set) = Unit {0}
+StandsAs k q l (Cut set needed) = AdmitApart k q.batches l set.members
+StandsAs k q l (Split c m) = AdmitSplit k q.batches l c.number m
+StandsAs k q l Close = AdmitUnclosed k q.end q.batches l
 
 -- The tree is accepted for the node, and no deeper than its limits leave questions open.
 pub record IsRefuted (takes_open : Bool) (k : Classes) (end : End) (batches : ℕ) (l : Limits) (t : Bound) : Type 0 where
@@ -80,13 +80,13 @@ pub record Fills (limit made after : ℕ) (marks : List Bool) : Type 0 where
 -- What is owed for a node, where so many were made before it and so many after it.
 pub record IsExamined (k : Classes) (q : Task) (l : Limits) (made after : ℕ) (t : Bound) : Type 0 where
   pub refuted : IsRefuted true k q.end q.batches l t
-  pub shaped : IsShaped k q.batches l t
+  pub shaped : IsShaped k q.end q.batches l t
   pub fills : Fills q.limit made after (opens t)
 
 -- The same for its children.
 pub record AreExamined (k : Classes) (q : Task) (l : Limits) (made after : ℕ) (ws : List Way) (ts : Bounds) : Type 0 where
   pub refuted : AreRefuted true k q.end q.batches l ws ts
-  pub shaped : AreShaped k q.batches l ws ts
+  pub shaped : AreShaped k q.end q.batches l ws ts
   pub fills : Fills q.limit made after (opens_in ts)
 
 -- The whole tree of a search from the limits of all choices.

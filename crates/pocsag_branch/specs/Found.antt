@@ -54,7 +54,7 @@ pub record IsFound (k : Classes) (end : End) (limit : ℕ) (found : Found) : Typ
   -- it is one `Overload`.
   pub examined : opens (bound_of found.tree) ≡ replicate (closed_nodes (bound_of found.tree)) false
   pub few : closed_nodes (bound_of found.tree) ≤ limit
-  pub shaped : IsSearchTree k least found.batches (bound_of found.tree)
+  pub shaped : IsSearchTree k end least found.batches (bound_of found.tree)
 
 -- *Search limit*: what `SearchLimit` says.
 pub record IsLimit (k : Classes) (end : End) (limit least found : ℕ) (tree : Bound) : Type 0 where
@@ -71,7 +71,7 @@ pub record IsLimit (k : Classes) (end : End) (limit least found : ℕ) (tree : B
   pub marks : opens tree ≡ replicate limit false ++ replicate unseen true
   -- the checker accepts the tree with its `Open` nodes; it is at most 300 deep, and has the promised shape.
   pub accepted : IsAccepted true k end found tree
-  pub shaped : IsShaped k least (limits_of_all k least) tree
+  pub shaped : IsShaped k end least (limits_of_all k least) tree
 
 -- What each fault of `search` says.
 abbrev pub IsSearchFault : Classes → End → ℕ → SearchFault → Type 0

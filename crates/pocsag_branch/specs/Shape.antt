@@ -1,6 +1,7 @@
 -- *Shape of the search's trees*, this project's own: under which limits the nodes of a tree stand, where
 -- so many batches are asked for.
 use Rattle.std.specs.Prelude.{◌≡◌, ℕ, ◌+◌, ◌-◌, ◌<◌, true, false, List, [], ◌∷◌, slice_index}
+use Rattle.pocsag_words.specs.declared.ending.End.{End}
 use Rattle.pocsag_tree.specs.Bounds.{Bound, Bounds, overload, split, cut, close, unexamined, none, more}
 use Rattle.pocsag_slots.specs.declared.class.Classes.{Classes}
 use Rattle.pocsag_slots.specs.declared.limit.Limits.{Limits}
@@ -36,31 +37,32 @@ pub record AdmitSplit (k : Classes) (batches : ℕ) (l : Limits) (c m : ℕ) : T
   pub uncertain : NoneCertain k l set
   pub splits : SplitsAt k choice set c m
 
--- The limits admit a choice with a tour for the open end and none for the closed end.
-pub record AdmitUnclosed (k : Classes) (batches : ℕ) (l : Limits) : Type 0 where
+-- The limits admit a choice with a tour for the open end and none for this end.
+pub record AdmitUnclosed (k : Classes) (end : End) (batches : ℕ) (l : Limits) : Type 0 where
   pub choice : ℕ → ℕ
   pub admitted : IsAdmitted k l choice
-  pub unclosed : IsUnclosed k choice batches
+  pub unclosed : IsUnclosed k end choice batches
 
 abbrev mutual
   -- Each `Cut`, `Split` and `Close` of the tree stands under limits that admit such a choice.
-  pub IsShaped : Classes → ℕ → Limits → Bound → Type 0
-  IsShaped k batches l (overload set) = Unit {0}
-  IsShaped k batches l (split c m below above) =
-      AdmitSplit k batches l c m × IsShaped k batches (limits_below l c m) below × IsShaped k batches (limits_from l c m) above
-  IsShaped k batches l (cut set c children) =
-      AdmitApart k batches l set × AreShaped k batches l (ways_across k l set) children
-  IsShaped k batches l (close children) =
-      AdmitUnclosed k batches l × AreShaped k batches l (ways_to_close k l) children
-  IsShaped k batches l unexamined = Unit {0}
+  pub IsShaped : Classes → End → ℕ → Limits → Bound → Type 0
+  IsShaped k end batches l (overload set) = Unit {0}
+  IsShaped k end batches l (split c m below above) =
+      AdmitSplit k batches l c m × IsShaped k end batches (limits_below l c m) below
+      × IsShaped k end batches (limits_from l c m) above
+  IsShaped k end batches l (cut set c children) =
+      AdmitApart k batches l set × AreShaped k end batches l (ways_across k l set) children
+  IsShaped k end batches l (close children) =
+      AdmitUnclosed k end batches l × AreShaped k end batches l (ways_to_close k end l) children
+  IsShaped k end batches l unexamined = Unit {0}
 
   -- Each way has its child, in order, of that shape under the limits that the way leaves.
-  pub AreShaped : Classes → ℕ → Limits → List Way → Bounds → Type 0
-  AreShaped k batches l [] none = Unit {0}
-  AreShaped k batches l [] (more t ts) = ⊥
-  AreShaped k batches l (w ∷ ws) none = ⊥
-  AreShaped k batches l (w ∷ ws) (more t ts) =
-      IsShaped k batches (narrowed_limits k l w batches) t × AreShaped k batches l ws ts
+  pub AreShaped : Classes → End → ℕ → Limits → List Way → Bounds → Type 0
+  AreShaped k end batches l [] none = Unit {0}
+  AreShaped k end batches l [] (more t ts) = ⊥
+  AreShaped k end batches l (w ∷ ws) none = ⊥
+  AreShaped k end batches l (w ∷ ws) (more t ts) =
+      IsShaped k end batches (narrowed_limits k l w batches) t × AreShaped k end batches l ws ts
 
 -- The set refuses one batch less: each choice loads it above what its slots hold in so many batches but one.
 pub record RefusesOneLess (k : Classes) (batches set : ℕ) : Type 0 where
@@ -74,9 +76,11 @@ pub record IsOneOverload (k : Classes) (batches : ℕ) (tree : Bound) : Type 0 w
   pub refuses : RefusesOneLess k batches set
   pub one_node : tree ≡ overload set
 
--- A tree of the search, where some choice of starts needs `least` batches at least, and so many are answered.
-pub data IsSearchTree (k : Classes) (least batches : ℕ) (tree : Bound) : Type 0 where
+-- A tree of the search for the end, where some choice of starts needs `least` batches at least, and so many are
+-- answered.
+pub data IsSearchTree (k : Classes) (end : End) (least batches : ℕ) (tree : Bound) : Type 0 where
   -- Where the least is answered, the tree is one `Overload`, of a set that refuses one batch less;
-  at_least : batches ≡ least → IsOneOverload k least tree → IsSearchTree k least batches tree
+  at_least : batches ≡ least → IsOneOverload k least tree → IsSearchTree k end least batches tree
   -- and where one batch more is, each node stands where the shape allows it, under the limits of the least.
-  one_more : batches ≡ least + 1 → IsShaped k least (limits_of_all k least) tree → IsSearchTree k least batches tree
+  one_more :
+      batches ≡ least + 1 → IsShaped k end least (limits_of_all k least) tree → IsSearchTree k end least batches tree

@@ -58,12 +58,12 @@ pub(crate) fn ways_out(node: &Node<'_>, set: BoundarySet) -> ArrayVec<Way, 288>
 // The ways to close, each of which settles an open question.
 pub(crate) fn ways_to_end(node: &Node<'_>) -> ArrayVec<Way, 2>
     requires { All (Falls node.now.classes.now node.now.task.batches node.now.limits)
-        (ways_to_close node.now.classes.now node.now.limits) }
-    ensures items { result.items ≡ ways_to_close node.now.classes.now node.now.limits }
+        (ways_to_close node.now.classes.now node.now.task.end node.now.limits) }
+    ensures items { result.items ≡ ways_to_close node.now.classes.now node.now.task.end node.now.limits }
     ensures allowed { All (MayTake node.now.classes.now node.now.limits) result.items }
     ensures fall { All (Falls node.now.classes.now node.now.task.batches node.now.limits) result.items }
 {
-    closing_ways(node.classes, &node.limits)
+    closing_ways(node.classes, node.task.end, &node.limits)
 }
 
 // The first class that is certain for the set.

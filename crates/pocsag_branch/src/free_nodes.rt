@@ -1,8 +1,9 @@
 ghost use Rattle.std.specs.Prelude.{false, ◌+◌, ◌<◌, ◌≤◌, ◌↔◌, ◌^◌, All, IsTrue, IfErr, IfOk};
+ghost use Rattle.pocsag_slots.specs.Tours.{AsksForLast};
 ghost use Rattle.pocsag_slots.specs.Ways.{class_certain, MayTake, ways_across, ways_to_close};
 ghost use Rattle.pocsag_tree.specs.Views.{bound_of};
 ghost use Rattle.pocsag_tree.specs.Limits.{greatest_depth};
-ghost use Rattle.pocsag_check.specs.Accepting.{AcceptsWithin, IsClosed};
+ghost use Rattle.pocsag_check.specs.Accepting.{AcceptsWithin};
 ghost use Rattle.pocsag_branch.specs.FreeNode.{AreChildren, IsFreeNode, IsHalt};
 ghost use Rattle.pocsag_branch.specs.Undecided.{Falls, IsSplitPoint};
 
@@ -80,9 +81,9 @@ fn free_cut(
 #[cycle(free_nodes)]
 pub(crate) fn free_close(alloc: Global, node: &Node<'_>, examined: u32) -> Result<(Tree, u32), Halt>
     requires examined { examined < node.now.task.limit }
-    requires closed { IsClosed node.now.task.end }
+    requires asks { AsksForLast node.now.task.end }
     requires fall { All (Falls node.now.classes.now node.now.task.batches node.now.limits)
-        (ways_to_close node.now.classes.now node.now.limits) }
+        (ways_to_close node.now.classes.now node.now.task.end node.now.limits) }
     ensures node { IfOk result
         (λ x. IsFreeNode node.now.classes.now node.now.task node.now.limits examined x.1 (bound_of x.0)) }
     ensures halt { IfErr result (IsHalt node.now.classes.now node.now.task) }

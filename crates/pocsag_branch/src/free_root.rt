@@ -19,8 +19,8 @@ const FIRST_TRY: u32 = 1_000;
 // How many nodes are examined at most to see whether a tour is there.
 const FUEL: u32 = 20_000;
 
-// One try of the free search from the limits of all choices. With the closed end it begins with the ways to
-// close: below them an open tour can always be closed.
+// One try of the free search from the limits of all choices. Where the end asks for something of the last codeword,
+// it begins with the ways to close: below them an open tour can always be closed.
 fn tree_of_try(alloc: Global, classes: &Classes, task: Task) -> Result<Tree, Halt>
     ensures tree { IfOk result (λ tree. IsFreeTree classes.now task (bound_of tree)) }
     ensures halt { IfErr result (IsHalt classes.now task) }
@@ -35,7 +35,7 @@ fn tree_of_try(alloc: Global, classes: &Classes, task: Task) -> Result<Tree, Hal
             let (tree, _) = free_node(alloc, &root, 0)?;
             Ok(tree)
         }
-        End::Closed => {
+        End::Closed | End::Idle => {
             let (tree, _) = free_close(alloc, &root, 0)?;
             Ok(tree)
         }

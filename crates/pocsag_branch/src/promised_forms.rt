@@ -18,7 +18,7 @@ use std::alloc::Global;
 // Which node is to be made under the limits. This is the one place where the search has a choice.
 pub(crate) fn promised_form(alloc: Global, node: &Node<'_>) -> Result<Form, Stop>
     ensures form { IfOk result (IsForm node.now.classes.now node.now.task node.now.limits) }
-    ensures shape { IfOk result (StandsAs node.now.classes.now node.now.task.batches node.now.limits) }
+    ensures shape { IfOk result (StandsAs node.now.classes.now node.now.task node.now.limits) }
     ensures stop { IfErr result (IsStop node.now.classes.now node.now.task) }
 {
     match choose(node.classes, &node.limits) {
@@ -34,7 +34,7 @@ pub(crate) fn promised_form(alloc: Global, node: &Node<'_>) -> Result<Form, Stop
 pub(crate) fn form_for(alloc: Global, node: &Node<'_>, choice: &Choice) -> Result<Form, Stop>
     requires { IsAdmitted node.now.classes.now node.now.limits (slice_index choice.now.early) }
     ensures form { IfOk result (IsForm node.now.classes.now node.now.task node.now.limits) }
-    ensures shape { IfOk result (StandsAs node.now.classes.now node.now.task.batches node.now.limits) }
+    ensures shape { IfOk result (StandsAs node.now.classes.now node.now.task node.now.limits) }
     ensures stop { IfErr result (IsStop node.now.classes.now node.now.task) }
 {
     match why_no_tour(alloc, node, choice)? {
@@ -86,7 +86,7 @@ pub(crate) fn form_at(node: &Node<'_>, choice: &Choice, set: BoundarySet) -> For
     requires admitted { IsAdmitted node.now.classes.now node.now.limits (slice_index choice.now.early) }
     requires apart { IsApart node.now.classes.now (slice_index choice.now.early) node.now.task.batches set.members }
     ensures form { IsForm node.now.classes.now node.now.task node.now.limits result }
-    ensures shape { StandsAs node.now.classes.now node.now.task.batches node.now.limits result }
+    ensures shape { StandsAs node.now.classes.now node.now.task node.now.limits result }
 {
     match certain_class(node, set) {
         Some(needed) => Form::Cut { set, needed },
@@ -100,7 +100,7 @@ fn split_point(node: &Node<'_>, choice: &Choice, set: BoundarySet) -> Form
     requires apart { IsApart node.now.classes.now (slice_index choice.now.early) node.now.task.batches set.members }
     requires uncertain { NoneCertain node.now.classes.now node.now.limits set.members }
     ensures form { IsForm node.now.classes.now node.now.task node.now.limits result }
-    ensures shape { StandsAs node.now.classes.now node.now.task.batches node.now.limits result }
+    ensures shape { StandsAs node.now.classes.now node.now.task node.now.limits result }
 {
     for class in 0..CLASSES as u8 {
         if has_run_outside(node.classes, choice, set.members, class, true) {

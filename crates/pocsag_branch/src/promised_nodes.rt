@@ -1,7 +1,7 @@
 ghost use Rattle.std.specs.Prelude.{◌+◌, ◌<◌, ◌≤◌, ◌^◌, All, IsTrue, IfErr, IfOk};
+ghost use Rattle.pocsag_slots.specs.Tours.{AsksForLast};
 ghost use Rattle.pocsag_slots.specs.Ways.{class_certain, MayTake, ways_across, ways_to_close};
 ghost use Rattle.pocsag_tree.specs.Views.{bound_of, bounds_of};
-ghost use Rattle.pocsag_check.specs.Accepting.{IsClosed};
 ghost use Rattle.pocsag_branch.specs.Examined.{AreExamined, IsExamined, IsForm, IsStop, StandsAs};
 ghost use Rattle.pocsag_branch.specs.Shape.{AdmitApart, AdmitSplit, AdmitUnclosed};
 ghost use Rattle.pocsag_branch.specs.Undecided.{Falls, IsSplitPoint};
@@ -41,7 +41,7 @@ pub(crate) fn node_of_form(
 ) -> Result<(Tree, u32), Stop>
     requires made { made < node.now.task.limit }
     requires form { IsForm node.now.classes.now node.now.task node.now.limits form }
-    requires shape { StandsAs node.now.classes.now node.now.task.batches node.now.limits form }
+    requires shape { StandsAs node.now.classes.now node.now.task node.now.limits form }
     ensures node { IfOk result
         (λ x. IsExamined node.now.classes.now node.now.task node.now.limits made x.1 (bound_of x.0)) }
     ensures stop { IfErr result (IsStop node.now.classes.now node.now.task) }
@@ -126,10 +126,10 @@ fn split_node(
 #[cycle(promised_nodes)]
 fn close_node(alloc: Global, node: &Node<'_>, made: u32) -> Result<(Tree, u32), Stop>
     requires made { made < node.now.task.limit }
-    requires closed { IsClosed node.now.task.end }
+    requires asks { AsksForLast node.now.task.end }
     requires fall { All (Falls node.now.classes.now node.now.task.batches node.now.limits)
-        (ways_to_close node.now.classes.now node.now.limits) }
-    requires shape { AdmitUnclosed node.now.classes.now node.now.task.batches node.now.limits }
+        (ways_to_close node.now.classes.now node.now.task.end node.now.limits) }
+    requires shape { AdmitUnclosed node.now.classes.now node.now.task.end node.now.task.batches node.now.limits }
     ensures node { IfOk result
         (λ x. IsExamined node.now.classes.now node.now.task node.now.limits made x.1 (bound_of x.0)) }
     ensures stop { IfErr result (IsStop node.now.classes.now node.now.task) }

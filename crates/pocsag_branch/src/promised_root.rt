@@ -13,7 +13,7 @@ use pocsag_tree::Tree;
 use pocsag_words::End;
 use std::alloc::Global;
 
-// With the closed end, a choice that has a tour for the open end, if the free search meets one.
+// With another end than the open one, a choice that has a tour for the open end, if the free search meets one.
 fn choice_for_open_end(alloc: Global, classes: &Classes, task: Task) -> Result<Option<Choice>, Stop>
     ensures choice { IfOk result
         (λ found. IfSome found
@@ -28,7 +28,7 @@ fn choice_for_open_end(alloc: Global, classes: &Classes, task: Task) -> Result<O
     };
     match task.end {
         End::Open => Ok(None),
-        End::Closed => match stop_at_tour(alloc, classes, open) {
+        End::Closed | End::Idle => match stop_at_tour(alloc, classes, open) {
             Ok(()) => Ok(None),
             Err(Stop::Met(answer)) => {
                 let met = Box::into_inner(answer);

@@ -13,10 +13,11 @@ use Rattle.pocsag_c.specs.Statuses.{refusal_of}
 abbrev pub number_of_end : End → ℕ
 number_of_end ends.Open = 0
 number_of_end ends.Closed = 1
+number_of_end ends.Idle = 2
 
 -- The number of no end.
 abbrev pub IsNoEnd : ℕ → Type 0
-IsNoEnd number = (number ≢ 0) × (number ≢ 1)
+IsNoEnd number = (number ≢ 0) × (number ≢ 1) × (number ≢ 2)
 
 -- The status and the place are those of a fault that says this.
 pub record TellsFault (Explains : Fault → Type 0) (status : ℕ) (place : Place) : Type 0 where

@@ -14,7 +14,7 @@ use Rattle.pocsag_c.specs.declared.refusal.Refusal.{Refusal}
 
 -- The number of the interface.
 abbrev pub interface_version : ℕ
-interface_version = 2
+interface_version = 3
 
 -- A refusal that has no place; one for a record of the page file; and one for a batch or a codeword.
 abbrev pub plain_refusal : (status : ℕ) → Refusal

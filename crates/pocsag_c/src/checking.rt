@@ -12,7 +12,7 @@ use std::alloc::Global;
 #[repr(C)]
 #[derive(Clone, Copy, PartialEq, Eq, Debug)]
 pub struct CheckInfo {
-    /// The end that the certificate names: 0 for the open one, 1 for the closed one.
+    /// The end that the certificate names: 0 for the open one, 1 for the closed one, 2 for the idle one.
     pub end: u32,
     /// The number of batches that it names.
     pub batches: u32,
@@ -27,6 +27,7 @@ fn end_number(end: End) -> u32
     match end {
         End::Open => 0,
         End::Closed => 1,
+        End::Idle => 2,
     }
 }
 

@@ -26,5 +26,5 @@ pub use reporting::{ReportInfo, pocsag_report};
 pub extern "C" fn pocsag_version() -> u32
     ensures { result ≡ interface_version }
 {
-    2
+    3
 }

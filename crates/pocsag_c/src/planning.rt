@@ -110,6 +110,7 @@ pub(crate) fn end_of(number: u32) -> Option<End>
     match number {
         0 => Some(End::Open),
         1 => Some(End::Closed),
+        2 => Some(End::Idle),
         _ => None,
     }
 }
@@ -148,7 +149,7 @@ fn hand_out_both(
 
 /// Plans a page file, and puts the transmission and the certificate into two buffers: 0, or 7 or 8 where
 /// that of the transmission or of the certificate is too small. In these cases both lengths are told. The
-/// end is 0 for the open one and 1 for the closed one; where `always` is not 0, no round is refused.
+/// end is 0 for the open one, 1 for the closed one and 2 for the idle one; where `always` is not 0, no round is refused.
 #[unsafe(no_mangle)]
 pub extern "C" fn pocsag_plan(
     alloc: Global,

@@ -25,6 +25,11 @@ const LOOPS_APART: &[u8] = b"address,kind,message\n\
 const ONE_FULL_BATCH: &[u8] = b"address,kind,message\n\
     0,numeric,111111111111111111111111111111111111111111111111111111111111111111111111111";
 
+// A tone for each slot of a batch.
+const SIXTEEN_TONES: &[u8] = b"address,kind,message\n\
+    0,tone0,\n1,tone0,\n2,tone0,\n3,tone0,\n4,tone0,\n5,tone0,\n6,tone0,\n7,tone0,\n\
+    8,tone0,\n9,tone0,\n10,tone0,\n11,tone0,\n12,tone0,\n13,tone0,\n14,tone0,\n15,tone0,\n";
+
 const OPEN: Search = Search {
     limit: DEFAULT_LIMIT,
     end: End::Open,
@@ -34,6 +39,12 @@ const OPEN: Search = Search {
 const CLOSED: Search = Search {
     limit: DEFAULT_LIMIT,
     end: End::Closed,
+    effort: Effort::Fewest,
+};
+
+const IDLE_LAST: Search = Search {
+    limit: DEFAULT_LIMIT,
+    end: End::Idle,
     effort: Effort::Fewest,
 };
 
@@ -284,7 +295,7 @@ fn what_was_planned_is_read(rt: HostRuntime) -> Result<(), Fail> {
     let (to_one, to_three) = (open_to(1, Effort::Always), open_to(3, Effort::Always));
     let lone = "address,kind,message\n8,tone0,\n";
     let none = "address,kind,message\n";
-    let cases: [ReadCase; 20] = [
+    let cases: [ReadCase; 24] = [
         (
             ONE_FULL_BATCH,
             OPEN,
@@ -329,6 +340,42 @@ fn what_was_planned_is_read(rt: HostRuntime) -> Result<(), Fail> {
             0,
             "at least 1 batches with a closed end\n",
             "",
+        ),
+        (
+            LONE_TONE,
+            IDLE_LAST,
+            LONE_TONE,
+            Command::Check,
+            0,
+            "at least 1 batches with an idle last\n",
+            "",
+        ),
+        (
+            SIXTEEN_TONES,
+            IDLE_LAST,
+            SIXTEEN_TONES,
+            Command::Verify(IDLE_LAST),
+            0,
+            "verified\n",
+            "",
+        ),
+        (
+            SIXTEEN_TONES,
+            CLOSED,
+            SIXTEEN_TONES,
+            Command::Verify(IDLE_LAST),
+            1,
+            "",
+            NOT_THE_END,
+        ),
+        (
+            LONE_TONE,
+            CLOSED,
+            LONE_TONE,
+            Command::Verify(IDLE_LAST),
+            1,
+            "",
+            NOT_THE_BOUND,
         ),
         (LONE_TONE, OPEN, LONE_TONE, Command::Decode, 0, lone, ""),
         (LONE_TONE, OPEN, LONE_TONE, Command::Hear(9), 0, none, ""),

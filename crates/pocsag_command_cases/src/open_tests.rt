@@ -189,6 +189,7 @@ const PLANS: Lines = &[
     ("add,13,tone0,", "ok 2"),
     ("add,21,tone0,", "ok 3"),
     ("plan,tx.bin,cert.bin,closed", "batches 2"),
+    ("plan,tx.bin,cert.bin,idle", "batches 2"),
     (
         "plan,tx.bin,tx.bin",
         "refused: the same file is named twice",

@@ -1,14 +1,16 @@
 -- What the last bytes of a transmission say, and how many batches it has.
-use Rattle.std.proofs.Common.{◌≡◌, ℕ, ◌+◌, ◌*◌, ◌-◌, ◌/◌, ◌%◌, ◌^◌, ◌<◌, ◌≤◌, List, [], ◌∷◌, ◌++◌, length, map, get_or, replicate, All, refl, ap, ◌∙◌, subst, inl, inr, arith, eq-eqb}
-use Rattle.std.specs.Int.{to_be_bytes, w32}
+use Rattle.std.proofs.Common.{◌≡◌, ℕ, ◌+◌, ◌*◌, ◌-◌, ◌/◌, ◌%◌, ◌^◌, ◌<◌, ◌≤◌, List, [], ◌∷◌, ◌++◌, length, map, take, drop, get_or, replicate, All, refl, sym, ap, ◌∙◌, subst, inl, inr, arith, eq-eqb, append_assoc}
+use Rattle.std.specs.Int.{from_be_bytes, to_be_bytes, w32}
 use Rattle.std.specs.List.{flat_map}
 use Rattle.std.proofs.lemmas.Bool.{cases_eq, lt-ltb, ne_eqb}
-use Rattle.std.proofs.lemmas.List.{get_or-append_right, length-append}
+use Rattle.std.proofs.lemmas.List.{drop_at, get_or-append_right, length-append, length-take-le, take-append-drop}
 use Rattle.std.proofs.lemmas.List.Elements.{All-head, All-tail}
+use Rattle.std.proofs.lemmas.Nat.{from_be_bytes-to_be_bytes_4}
 use Rattle.pocsag_words.specs.Codeword.{IsCodeword}
-use Rattle.pocsag_words.specs.Kinds.{kind_of}
+use Rattle.pocsag_words.specs.Kinds.{idle_word, kind_of}
+use Rattle.pocsag_words.specs.declared.codeword.Kind.TheVariants.{Idle}
 use Rattle.pocsag_pages.specs.Bytes.{Sent, after_preamble, body_bytes, leading, sync_word, synced}
-use Rattle.pocsag_pages.specs.Reading.{BeginsNoMessage, EndsWhole}
+use Rattle.pocsag_pages.specs.Reading.{BeginsNoMessage, EndsIdle, EndsWhole}
 use Rattle.pocsag_pages.proofs.Lengths.{body_length, synced_count}
 use Rattle.pocsag_decode.proofs.Preambles.{BeginsOther, after_is, count_is}
 
@@ -58,6 +60,48 @@ ends_synced i (w ∷ v ∷ T) are low =
           more (subst (λ (n : ℕ). n < 128) (fourth_behind (to_be_bytes w32 w) rest some) (rw (ne_eqb _ _ n) at low))
     ]
 
+-- the last four bytes, and those of the idle codeword
+abbrev pub last_four : List ℕ → List ℕ
+last_four bytes = drop (length bytes - 4) bytes
+
+abbrev pub idle_bytes : List ℕ
+idle_bytes = 0x7a ∷ 0x89 ∷ 0xc1 ∷ 0x97 ∷ []
+
+four_behind : (front back : List ℕ) → 4 ≤ length back → last_four (front ++ back) ≡ last_four back
+four_behind front back long =
+    let m : ℕ = length back - 4 in
+    let n : ℕ = length (front ++ back) - 4 in
+    let parts : front ++ back ≡ (front ++ take m back) ++ drop m back =
+    ap (λ (ys : List ℕ). front ++ ys) (sym (take-append-drop m back)) ∙ sym (append_assoc front (take m back) (drop m back)) in
+    let size : length (front ++ take m back) ≡ n =
+    omega (arith, length-append front (take m back), length-append front back, length-take-le m back (omega arith)) in
+    ap (drop n) parts ∙ drop_at (front ++ take m back) (drop m back) n size
+
+idle_from : (w : ℕ) → w < 2 ^ 32 → to_be_bytes w32 w ≡ idle_bytes → kind_of w ≡ Idle
+idle_from w fits e =
+    let same : w ≡ idle_word = sym (from_be_bytes-to_be_bytes_4 w fits) ∙ ap (from_be_bytes w32) e in
+    ap kind_of same
+
+idle_synced : (i : ℕ) (T : List ℕ) → All IsCodeword T → 0 < length T → last_four (bytes_from i T) ≡ idle_bytes → EndsIdle (map kind_of T)
+idle_synced i [] are some e = absurd (omega arith)
+idle_synced i (w ∷ []) are some e =
+    let fits : w < 2 ^ 32 = (All-head IsCodeword w [] are).fits in
+    elim (cases_eq (i % 16) 0) [
+      | inl first ↦ idle_from w fits (rw (eq-eqb _ _ first) at e)
+      | inr later ↦ idle_from w fits (rw (ne_eqb _ _ later) at e)
+    ]
+idle_synced i (w ∷ v ∷ T) are some e =
+    let rest = bytes_from (i + 1) (v ∷ T) in
+    let long = some_bytes (i + 1) v T in
+    let more = idle_synced (i + 1) (v ∷ T) (All-tail IsCodeword w (v ∷ T) are) (omega arith) in
+    elim (cases_eq (i % 16) 0) [
+      | inl first ↦
+          let front = to_be_bytes w32 sync_word ++ to_be_bytes w32 w in
+          more (subst (λ (bs : List ℕ). bs ≡ idle_bytes) (four_behind front rest long) (rw (eq-eqb _ _ first) at e))
+      | inr later ↦
+          more (subst (λ (bs : List ℕ). bs ≡ idle_bytes) (four_behind (to_be_bytes w32 w) rest long) (rw (ne_eqb _ _ later) at e))
+    ]
+
 module _ (X T : List ℕ) (s : Sent X T) where
   after_sent : after_preamble X ≡ body_bytes T
   after_sent =
@@ -81,3 +125,11 @@ module _ (X T : List ℕ) (s : Sent X T) where
       ends_synced 0 T s.codewords
       (subst (λ (n : ℕ). n < 128)
       (ap fourth_last s.bytes ∙ fourth_behind (replicate s.preamble 0xaa) (body_bytes T) (omega arith)) low)
+
+  pub idle_last : last_four X ≡ idle_bytes → EndsIdle (map kind_of T)
+  idle_last e =
+      let some = s.whole.0 in
+      let whole = s.whole.1 in
+      let size = body_of_batches in
+      idle_synced 0 T s.codewords (omega arith)
+      (sym (ap last_four s.bytes ∙ four_behind (replicate s.preamble 0xaa) (body_bytes T) (omega arith)) ∙ e)

@@ -45,7 +45,8 @@ pub enum Fault {
     /// What was read back from the transmission's file is not what was planned.
     #[error("the transmission does not hold the pages of the page file")]
     NotThePages,
-    /// The same: a message goes on to the end of the transmission, where the closed end was asked for.
+    /// The same: a message goes on to the end of the transmission, where the closed end was asked for, or its last
+    /// codeword is no idle one, where the idle end was.
     #[error("the transmission does not end as was asked for")]
     NotTheEnd,
     /// What was read back from the certificate's file is not what was planned.

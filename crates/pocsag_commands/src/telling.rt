@@ -56,6 +56,10 @@ pub fn tell_bound<O: Sink>(end: End, batches: u32, out: &mut O) -> Result<(), Fa
             out,
             format_args!("at least {batches} batches with a closed end\n"),
         ),
+        End::Idle => tell(
+            out,
+            format_args!("at least {batches} batches with an idle last\n"),
+        ),
     }
 }
 

@@ -1,7 +1,7 @@
 ghost use Rattle.std.specs.Prelude.{◌≡◌, List, ℕ, All, Contains, map, IfOk, IsTrue, length, OnOk};
 ghost use Rattle.pocsag_words.specs.Kinds.{kind_of};
 ghost use Rattle.pocsag_pages.specs.Bytes.{Sent};
-ghost use Rattle.pocsag_pages.specs.Reading.{EndsAs};
+ghost use Rattle.pocsag_pages.specs.Reading.{EndsAs, EndsIdle};
 ghost use Rattle.pocsag_commands.specs.Verifying.{AreAmong, IsDueBound, IsTransmissionOf, Verified};
 
 use crate::fault::Fault;
@@ -15,6 +15,9 @@ use pocsag_plan::{Effort, Search};
 use pocsag_tree::read_certificate;
 use pocsag_words::{BATCH_BYTES, End, Sink, Source};
 use std::alloc::Global;
+
+// The bytes of the idle codeword.
+const IDLE_BYTES: [u8; 4] = [0x7A, 0x89, 0xC1, 0x97];
 
 /// `--verify`: reads a transmission and a certificate back, and tells `verified` where the one holds the
 /// pages of the page file and ends as is asked for, and the other shows its number of batches for them and
@@ -66,6 +69,7 @@ fn is_end(one: End, other: End) -> bool
     match one {
         End::Open => matches!(other, End::Open),
         End::Closed => matches!(other, End::Closed),
+        End::Idle => matches!(other, End::Idle),
     }
 }
 
@@ -87,14 +91,23 @@ pub(crate) fn batches_of(bytes: &[u8]) -> usize
 }
 
 // Whether the last codeword of a transmission may be its last: for the closed end it is no message codeword,
-// whose first bit is 1.
+// whose first bit is 1, and for the idle end it is the idle one.
 fn ends_as(end: End, bytes: &[u8]) -> bool
     ensures { IsTrue result → (codewords : List ℕ) → Sent bytes.now codewords → EndsAs end (map kind_of codewords) }
 {
     match end {
         End::Open => true,
         End::Closed => bytes.len() >= 4 && bytes[bytes.len() - 4] < 128,
+        End::Idle => is_idle_last(bytes),
     }
+}
+
+// Whether the last word of a transmission is the idle codeword.
+fn is_idle_last(bytes: &[u8]) -> bool
+    ensures { IsTrue result → (codewords : List ℕ) → Sent bytes.now codewords → EndsIdle (map kind_of codewords) }
+{
+    let from = bytes.len().saturating_sub(4);
+    &bytes[from..] == IDLE_BYTES.as_slice()
 }
 
 // Whether the pages are as many as those that were sent, and each is among these, which are in order of

@@ -125,6 +125,7 @@ fn whole(alloc: Global, subject: &Subject<'_>, depth: u32) -> Result<Explanation
         end: match subject.end {
             End::Open => "open",
             End::Closed => "closed",
+            End::Idle => "idle",
         },
         batches: subject.batches,
         pages: subject.pages,

@@ -36,6 +36,7 @@ pub(crate) fn summary(alloc: Global, subject: &Subject<'_>) -> Result<String, Al
     let end = match subject.end {
         End::Open => "open end",
         End::Closed => "closed end",
+        End::Idle => "idle end",
     };
     let pages = counted(alloc, subject.pages, "page")?;
     let codewords = counted(alloc, subject.codewords, "codeword")?;

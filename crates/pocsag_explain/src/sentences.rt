@@ -236,12 +236,13 @@ fn refused_cut(alloc: Global, refuted: Refuted, cut: Cut) -> Result<String, Allo
 }
 
 fn refused_close(alloc: Global, refuted: Refuted, outlets: Outlets) -> Result<String, AllocError> {
-    match refuted.end {
+    let end = match refuted.end {
         End::Open => return format!(in alloc; "a closed end, where the end is open"),
-        End::Closed => {}
-    }
+        End::Closed => "a closed end",
+        End::Idle => "an idle end",
+    };
     if refuted.batches == 0 {
-        return format!(in alloc; "a closed end, where there are no batches");
+        return format!(in alloc; "{end}, where there are no batches");
     }
     let ways = counted(alloc, outlets.ways as u64, "way")?;
     let nodes = counted(alloc, outlets.children as u64, "node")?;

@@ -39,6 +39,8 @@ const LIMIT: &str = "limit";
 
 const END: &str = "end";
 
+const IDLE_LAST: &str = "idle-last";
+
 const VERIFY: &str = "verify";
 
 const EXPECT: &str = "expect";
@@ -107,7 +109,8 @@ Each line of standard input is an edit, and is answered at once by one line:
   add,ADDRESS,KIND,MESSAGE   adds a page, its fields as in a page file
   cancel,ADDRESS             takes the page of that address out
   list                       lists the pages, before the answer
-  plan,TX,CERT[,END]         writes both files as the command plan does
+  plan,TX,CERT[,END]         writes both files as the command plan does; END is open,
+                             closed or idle
   clear                      takes all pages out
 A line is a CSV record of at most 65536 bytes. The answer is 'ok N' with the number of
 pages, 'batches B' after plan, or 'refused: ' and why: the round is then as it was. With
@@ -160,6 +163,10 @@ const END_HELP: &str = "\
 What ends the last message: the end of the transmission itself
 (open), or an idle or an address codeword behind it
 (closed)";
+
+const IDLE_LAST_HELP: &str = "\
+Ends with an idle codeword: some receivers show a page only when
+another codeword than a message follows it";
 
 const ALWAYS_HELP: &str = "\
 Answers every round: where the limit is reached, with one batch
@@ -215,6 +222,10 @@ fn end_option<'a>(alloc: Global) -> Arg<'a> {
         .default_value(OPEN)
 }
 
+fn idle_last_flag<'a>(alloc: Global) -> Result<Arg<'a>, AllocError> {
+    flag(alloc, IDLE_LAST, IDLE_LAST_HELP).conflicts_with(END)
+}
+
 fn always_flag<'a>(alloc: Global) -> Arg<'a> {
     flag(alloc, ALWAYS, ALWAYS_HELP)
 }
@@ -242,6 +253,7 @@ Writes a page file's transmission with the fewest batches, and the certificate o
         .arg(positional(alloc, CERT, CERT_HELP))?
         .arg(limit_option(alloc))?
         .arg(end_option(alloc))?
+        .arg(idle_last_flag(alloc)?)?
         .arg(expect_option(alloc))?
         .arg(always_flag(alloc))?
         .arg(flag(
@@ -337,6 +349,7 @@ fn report_command<'a>(alloc: Global) -> Result<Command<'a>, AllocError> {
         .arg(rate)?
         .arg(limit_option(alloc))?
         .arg(end_option(alloc))?
+        .arg(idle_last_flag(alloc)?)?
         .arg(expect_option(alloc))?
         .arg(always_flag(alloc))?
         .arg(flag(alloc, EACH_FRAME, FRAMES_HELP))
@@ -360,6 +373,9 @@ fn command<'a>(alloc: Global) -> Result<Command<'a>, AllocError> {
 }
 
 fn end_of(found: &ArgMatches<'_>) -> Option<End> {
+    if found.get_flag(IDLE_LAST) {
+        return Some(End::Idle);
+    }
     match found.get_str(END)? {
         OPEN => Some(End::Open),
         CLOSED => Some(End::Closed),

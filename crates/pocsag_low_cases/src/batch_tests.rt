@@ -49,6 +49,8 @@ const LAID: &[(&[(u32, usize)], Option<u8>, u32, End, Sent)] = &[
     (&[(8, 0)], Some(1), 1, End::Open, LATE_TONE),
     (&[(8, 0)], None, 1, End::Closed, LONE_TONE),
     (&[(8, 0)], Some(128), 1, End::Closed, LATE_TONE),
+    (&[(8, 0)], None, 1, End::Idle, LONE_TONE),
+    (&[(7, 0)], None, 1, End::Idle, (16, IDLE, &[(14, 0)])),
 ];
 
 // Rounds with the batches of a tour, and the places of their pages in it.

@@ -15,6 +15,26 @@ const LOOPS_APART: &[(u32, usize)] = &[(0, 15), (3, 15)];
 
 const BOTH_WAYS: &[(u32, usize)] = &[(0, 13), (7, 0), (15, 2), (1, 13)];
 
+// A tone for each slot of a batch.
+const SIXTEEN: &[(u32, usize)] = &[
+    (0, 0),
+    (1, 0),
+    (2, 0),
+    (3, 0),
+    (4, 0),
+    (5, 0),
+    (6, 0),
+    (7, 0),
+    (8, 0),
+    (9, 0),
+    (10, 0),
+    (11, 0),
+    (12, 0),
+    (13, 0),
+    (14, 0),
+    (15, 0),
+];
+
 // Eight pages for which each tree of the promised shape has at least 354,623 nodes.
 const EIGHT: &[(u32, usize)] = &[
     (5, 4),
@@ -46,21 +66,35 @@ const FEWEST: &[(&[(u32, usize)], End, u32)] = &[
     (&[(0, 13), (7, 0), (15, 16)], End::Closed, 2),
     (BOTH_WAYS, End::Closed, 3),
     (BOTH_WAYS, End::Open, 2),
+    (&[(8, 0)], End::Idle, 1),
+    (&[(7, 0)], End::Idle, 1),
+    (&[(0, 15)], End::Closed, 2),
+    (&[(0, 15)], End::Idle, 2),
+    (&[(7, 49)], End::Idle, 5),
+    (&[(0, 5), (3, 9)], End::Idle, 2),
+    (&[(0, 13), (7, 0), (15, 16)], End::Idle, 3),
+    (BOTH_WAYS, End::Idle, 3),
+    (SIXTEEN, End::Open, 1),
+    (SIXTEEN, End::Closed, 1),
+    (SIXTEEN, End::Idle, 2),
 ];
 
 // The same of so many tones.
-const FEWEST_OF_TONES: [(u32, End, u32); 3] = [
+const FEWEST_OF_TONES: [(u32, End, u32); 4] = [
     (2_000, End::Open, 125),
     (20_000, End::Open, 1_250),
     (20_000, End::Closed, 1_250),
+    (20_000, End::Idle, 1_251),
 ];
 
 // The same of the free search within so many nodes, with the most nodes that its tree has.
-const FREELY: [(&[(u32, usize)], u32, End, u32, u64); 4] = [
+const FREELY: [(&[(u32, usize)], u32, End, u32, u64); 6] = [
     (EIGHT, 1_000, End::Open, 9, 40),
     (LOOPS_APART, 100_000, End::Open, 3, 100_000),
     (BOTH_WAYS, 100_000, End::Closed, 3, 100_000),
     (BOTH_WAYS, 100_000, End::Open, 2, 100_000),
+    (BOTH_WAYS, 100_000, End::Idle, 3, 100_000),
+    (SIXTEEN, 100_000, End::Idle, 2, 100_000),
 ];
 
 // The search answers so many batches, with a tree that the checker accepts for them, and for no more.

@@ -3,7 +3,7 @@ use Rattle.std.specs.Prelude.{◌≡◌, ◌≢◌, ◌⊎◌, ℕ, ◌<◌, ◌
 use Rattle.csv.specs.Machine.{line_feed}
 use Rattle.csv.specs.Records.{field_at}
 use Rattle.pocsag_words.specs.declared.ending.End.{End}
-use Rattle.pocsag_words.specs.declared.ending.End.TheVariants.{Open, Closed}
+use Rattle.pocsag_words.specs.declared.ending.End.TheVariants as ends
 use Rattle.pocsag_pages.specs.PageFile.{Row}
 use Rattle.pocsag_pages.specs.declared.page.Page.{Page}
 use Rattle.pocsag_pages.specs.declared.fault.FieldFault.TheVariants as field
@@ -25,18 +25,19 @@ list_record = codes "list" ∷ []
 
 -- The word by which a line names an end.
 abbrev pub end_word : End → List ℕ
-end_word Open = codes "open"
-end_word Closed = codes "closed"
+end_word ends.Open = codes "open"
+end_word ends.Closed = codes "closed"
+end_word ends.Idle = codes "idle"
 
 -- The record asks for a plan for the end: `plan,TX,CERT` and the word of the end, or without a word for the open end.
 abbrev pub AsksPlan : End → Row → Type 0
 AsksPlan end row = (tx cert : List ℕ) ×
-    ((row ≡ codes "plan" ∷ tx ∷ cert ∷ end_word end ∷ []) ⊎ ((end ≡ Open) × (row ≡ codes "plan" ∷ tx ∷ cert ∷ [])))
+    ((row ≡ codes "plan" ∷ tx ∷ cert ∷ end_word end ∷ []) ⊎ ((end ≡ ends.Open) × (row ≡ codes "plan" ∷ tx ∷ cert ∷ [])))
 
 -- So many fields has the record of a plan for the end, and the fourth is the word of the end.
 abbrev pub IsPlanEnd : End → Row → Type 0
 IsPlanEnd end row =
-    ((length row ≡ 3) × (end ≡ Open)) ⊎ ((length row ≡ 4) × (Some (end_word end) ≡ field_at row 3))
+    ((length row ≡ 3) × (end ≡ ends.Open)) ⊎ ((length row ≡ 4) × (Some (end_word end) ≡ field_at row 3))
 
 -- The record asks neither for the list nor for what the first line of a journal asks for.
 abbrev pub AsksNeither : Row → Type 0

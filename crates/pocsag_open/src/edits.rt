@@ -162,5 +162,8 @@ fn long_line(row: &ByteRecord) -> Option<Line<'_>>
     if row.get(3)? == b"closed".as_slice() {
         return plan_line(row, End::Closed);
     }
+    if row.get(3)? == b"idle".as_slice() {
+        return plan_line(row, End::Idle);
+    }
     None
 }

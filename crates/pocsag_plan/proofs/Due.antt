@@ -4,7 +4,7 @@ use Rattle.pocsag_words.specs.declared.codeword.Kind.{Kind}
 use Rattle.pocsag_words.specs.declared.ending.End.{End}
 use Rattle.pocsag_pages.specs.declared.page.Page.{Page}
 use Rattle.pocsag_pages.specs.Bytes.{bytes_of}
-use Rattle.pocsag_tree.specs.Spelling.{second_text}
+use Rattle.pocsag_tree.specs.Spelling.{written_text}
 use Rattle.pocsag_tree.specs.Bounds.{Bound}
 use Rattle.pocsag_tree.specs.Views.{bound_of}
 use Rattle.pocsag_slots.specs.declared.step.Step.{Step}
@@ -25,7 +25,7 @@ use Rattle.pocsag_plan.specs.Streams.{HasHeadline, HeadlineOf, Writes, WritesAll
 module _ (R : List Page) (bounded : Bounded) (is : IsBounded bounded.plan.end R bounded.plan bounded.bound) where
   pub due : (steps : List Step) (order : List ℕ) (said : List Kind) (U : List ℕ) →
       steps ≡ bounded.plan.steps.items → order ≡ bounded.plan.order.items → said ≡ laid_by R order steps → Say said U →
-      HeadlineOf R bounded (bytes_of U) (second_text bounded.plan.end bounded.bound (bound_of bounded.plan.tree))
+      HeadlineOf R bounded (bytes_of U) (written_text bounded.plan.end bounded.bound (bound_of bounded.plan.tree))
   due steps order said U these places lays say =
       let plan = bounded.plan in
       let view : laid_by R order steps ≡ laid_by R plan.order.items plan.steps.items =

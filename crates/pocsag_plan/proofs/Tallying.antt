@@ -1,16 +1,17 @@
 -- Class tables that gain or lose one page, wherever it stands.
-use Rattle.std.proofs.Common.{◌≡◌, ◌≢◌, ℕ, ◌+◌, ◌-◌, ◌/◌, ◌<◌, ◌≤◌, ◌==◌, cond, List, [], ◌∷◌, ◌++◌, All, length, sym, ◌∙◌, subst, arith, slice_index, slice_set, get_or-set_same, get_or-set_other, inl, inr}
+use Rattle.std.proofs.Common.{◌≡◌, ◌≢◌, ℕ, ◌+◌, ◌-◌, ◌/◌, ◌<◌, ◌≤◌, ◌==◌, ◌⊎◌, cond, List, [], ◌∷◌, ◌++◌, All, length, sym, ◌∙◌, subst, arith, slice_index, slice_set, get_or-set_same, get_or-set_other, inl, inr}
 use Rattle.std.proofs.lemmas.Bool.{cases_eq}
 use Rattle.std.proofs.lemmas.Bool.Decides.{nat_tests}
 use Rattle.std.proofs.lemmas.List.{length-append, length-set}
 use Rattle.std.proofs.lemmas.List.Elements.{All-cons, All-head, All-tail, All-weaker}
 use Rattle.pocsag_words.specs.declared.ending.End.{End}
+use Rattle.pocsag_words.specs.declared.ending.End.TheVariants as ends
 use Rattle.pocsag_pages.specs.declared.page.Page.{Page}
 use Rattle.pocsag_pages.specs.Pages.{IsGoodPage}
 use Rattle.pocsag_pages.specs.Reading.{page_length}
 use Rattle.pocsag_slots.specs.declared.class.Classes.{Classes}
 use Rattle.pocsag_slots.specs.Loads.{AreClassesOf}
-use Rattle.pocsag_slots.specs.Numbering.{class_of_page, count_of, turns_of}
+use Rattle.pocsag_slots.specs.Numbering.{class_of, class_of_page, count_of, turns_of}
 use Rattle.pocsag_slots.specs.Tables.{AreTables}
 use Rattle.pocsag_slots.proofs.CountLemmas.{AreCounted, IsShort, tables_of}
 use Rattle.pocsag_slots.proofs.Walks.{count_of-cons, turns_of-cons}
@@ -136,3 +137,15 @@ module _ (k : Classes) (end : End) (p : Page) (at whole : ℕ) (class : at ≡ c
       tables_of _ _ end (can.before ++ can.after) (lost can.before can.after can.counted)
       (omega (arith, can.few, length-append can.before (p ∷ can.after), length-append can.before can.after))
       (short_pages (can.before ++ can.after) (All-amid IsGoodPage can.before can.after p can.good))
+
+-- the table for the open end is that for the idle end
+idle_classes : (k : Classes) (ps : List Page) → AreClassesOf k ends.Open ps → AreClassesOf k ends.Idle ps
+unfolding class_of
+idle_classes k ps of = record { count = of.count; turns = of.turns }
+
+pub open_or_idle : (k : Classes) (end : End) (ps qs : List Page) → (end ≡ ends.Open) ⊎ (end ≡ ends.Idle) → ps ≡ qs →
+    AreClassesOf k ends.Open ps → AreClassesOf k end qs
+open_or_idle k ends.Open ps qs e same of = subst (λ (rs : List Page). AreClassesOf k ends.Open rs) same of
+open_or_idle k ends.Idle ps qs e same of = subst (λ (rs : List Page). AreClassesOf k ends.Idle rs) same (idle_classes k ps of)
+open_or_idle k ends.Closed ps qs (inl e) same of = cc e
+open_or_idle k ends.Closed ps qs (inr e) same of = cc e

@@ -6,7 +6,7 @@ use Rattle.pocsag_pages.specs.Bytes.{bytes_of}
 use Rattle.pocsag_pages.specs.PageFile.{verdict}
 use Rattle.pocsag_pages.specs.Reading.{IsLegalList}
 use Rattle.pocsag_tree.specs.Bounds.{Bound}
-use Rattle.pocsag_tree.specs.Spelling.{IsSecondText}
+use Rattle.pocsag_tree.specs.Spelling.{IsWrittenText}
 use Rattle.pocsag_check.specs.Accepting.{IsAcceptedFor}
 
 -- For a round and an end, with a bound.
@@ -20,7 +20,7 @@ pub record RoundHeadline (round : List Page) (end : End) (batches bound : ℕ) (
   pub fewest : (others : List ℕ) (n : ℕ) → IsLegalList end others n round → bound ≤ n
   -- and the certificate is the text of the end, the bound and the tree, and the checker accepts that tree
   -- for them.
-  pub text : IsSecondText end bound tree certificate
+  pub text : IsWrittenText end bound tree certificate
   pub accepted : IsAcceptedFor false end round bound tree
 
 -- For a page file and an end.

@@ -38,7 +38,7 @@ pub record IsNearLeast (k : Classes) (batches : ℕ) : Type 0 where
 -- A plan of the round for the end, and a bound for which its tree is.
 pub record IsBounded (end : End) (R : List Page) (plan : Plan) (bound : ℕ) : Type 0 where
   -- It is for the end that was asked for, and counts the pages, the codewords of the pages, and the batches
-  -- of file order, which has the open end for either end.
+  -- of file order, which has the open end for every end.
   pub asked : plan.end ≡ end
   pub pages : plan.pages ≡ length R
   pub codewords : plan.codewords ≡ sum_by page_length R
@@ -67,7 +67,7 @@ pub record IsSearchTreeFor (end : End) (R : List Page) (batches : ℕ) (tree : B
   pub classes : AreClassesOf table end R
   pub least : ℕ
   pub is_least : IsLeast table least
-  pub shaped : IsSearchTree table least batches tree
+  pub shaped : IsSearchTree table end least batches tree
 
 -- A plan of the round for the end.
 pub record IsPlan (end : End) (R : List Page) (plan : Plan) : Type 0 where
@@ -104,7 +104,7 @@ pub record IsStopped (end : End) (R : List Page) (limit least found : ℕ) (tree
   pub marks : opens tree ≡ replicate limit false ++ replicate unseen true
   -- the checker accepts the tree with its `Open` nodes, and it has the shape of the search's trees.
   pub accepted : IsAcceptedFor true end R found tree
-  pub shaped : IsShaped table least (limits_of_all table least) tree
+  pub shaped : IsShaped table end least (limits_of_all table least) tree
 
 -- A planner stops at its limit only where the fewest batches alone are an answer.
 abbrev pub MayStop : Effort → Type 0

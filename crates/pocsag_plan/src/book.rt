@@ -15,7 +15,7 @@ use std::alloc::Global;
 use std::marker::Model;
 
 /// An open round: pages that may stand in one round, in the order in which they were added, and the class
-/// tables of these pages for either end, which each edit changes and nothing counts again.
+/// tables of these pages for the ends, which each edit changes and nothing counts again.
 #[derive(Drop)]
 pub struct Book {
     pages: IndexMap<u32, Page>,
@@ -98,7 +98,8 @@ impl Book {
         ensures { AreClassesOf result.now end self.now }
     {
         match end {
-            End::Open => &self.for_open,
+            // An idle may follow any page, so that its end counts as the open one does.
+            End::Open | End::Idle => &self.for_open,
             End::Closed => &self.for_closed,
         }
     }

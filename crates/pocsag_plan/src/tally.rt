@@ -9,7 +9,7 @@ use pocsag_pages::Page;
 use pocsag_slots::{CLASSES, Classes, class_of, whole_turns};
 use pocsag_words::End;
 
-// The table of no pages, which is the same for either end.
+// The table of no pages, which is the same for every end.
 pub(crate) fn no_classes() -> Classes
     ensures { (end : End) → AreClassesOf result end [] }
 {

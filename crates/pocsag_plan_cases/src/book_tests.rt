@@ -102,6 +102,7 @@ fn pages_cancelled(rt: HostRuntime) {
         assert!(rt; book.page(left.len()).is_none());
         let (open, closed) = (book.classes(End::Open), book.classes(End::Closed));
         assert_eq!(rt; [open.count[81], closed.count[133]], *counts, "{left:?}");
+        assert_eq!(rt; book.classes(End::Idle).count[81], open.count[81]);
         assert_eq!(rt; closed.count[81], 0);
         expect_batches(&rt, &book, *batches);
     }
@@ -137,6 +138,24 @@ fn rounds_reopened(rt: HostRuntime) {
             && cert
                 .bytes()
                 .starts_with(b"PCB2\x00\x00\x00\x00\x01\x00".as_slice())
+    );
+}
+
+// A page of the last frame starts early, so that an idle stands behind it, and the certificate is a PCB4.
+#[test]
+fn idle_last(rt: HostRuntime) {
+    let alloc = rt.alloc();
+    let round = round_of(alloc, &[(7, 0)]).expect(&rt, "a round");
+    let book = Book::of_round(alloc, &round).expect(&rt, "memory");
+    let mut tx = MemorySink::<400>::new(64, u64::MAX);
+    let mut cert = MemorySink::<100>::new(64, u64::MAX);
+    let plan = book.plan_stream(&mut tx, &mut cert, 100_000, End::Idle);
+    assert_eq!(rt; plan.expect(&rt, "a plan").batches, 1);
+    let due = transmission(alloc, (16, IDLE, &[(14, 0)])).expect(&rt, "an answer");
+    assert_eq!(rt; tx.bytes(), due.as_slice());
+    assert!(rt;
+        cert.bytes()
+            .starts_with(b"PCB4\x00\x00\x00\x01\x00".as_slice())
     );
 }
 

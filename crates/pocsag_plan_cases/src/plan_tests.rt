@@ -40,6 +40,7 @@ const HARD: Records = &[
 const PLANNED: &[(Records, End, u32, u32)] = &[
     (ONE_TONE, End::Open, 1, 1),
     (ONE_TONE, End::Closed, 1, 1),
+    (ONE_TONE, End::Idle, 1, 1),
     (
         &[("5,tone0,", 0), ("13,tone0,", 0), ("21,tone0,", 0)],
         End::Open,
@@ -49,6 +50,7 @@ const PLANNED: &[(Records, End, u32, u32)] = &[
     (LOOPS_APART, End::Open, 3, 3),
     (EXACT, End::Open, 1, 1),
     (EXACT, End::Closed, 2, 1),
+    (EXACT, End::Idle, 2, 1),
     (THREE_TIGHT, End::Open, 2, 3),
     (
         &[("7,numeric,12345", 0), ("15,numeric,12345", 0)],
@@ -66,6 +68,7 @@ const PLANNED: &[(Records, End, u32, u32)] = &[
     ),
     (BOTH_WAYS, End::Open, 2, 2),
     (BOTH_WAYS, End::Closed, 3, 2),
+    (BOTH_WAYS, End::Idle, 3, 2),
 ];
 
 // Rounds with a limit of nodes within which `plan` refuses, and the batches and the bound of the plan that is

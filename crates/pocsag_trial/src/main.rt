@@ -68,7 +68,7 @@ enum Trial {
     StreamLong,
 }
 
-const TRIALS: [Trial; 56] = [
+const TRIALS: [Trial; 57] = [
     Trial::PackNumeric,
     Trial::PackAlpha,
     Trial::UnpackNumeric,
@@ -115,6 +115,7 @@ const TRIALS: [Trial; 56] = [
     Trial::Planning(Planning::StreamTwoNumeric),
     Trial::Planning(Planning::StreamLoopsApart),
     Trial::Planning(Planning::StreamClosed),
+    Trial::Planning(Planning::StreamIdle),
     Trial::Planning(Planning::StreamAlways),
     Trial::Planning(Planning::StreamAlwaysToOneNode),
     Trial::Planning(Planning::BookOfTight),

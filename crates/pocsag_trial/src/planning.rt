@@ -22,6 +22,7 @@ pub enum Planning {
     StreamTwoNumeric,
     StreamLoopsApart,
     StreamClosed,
+    StreamIdle,
     StreamAlways,
     StreamAlwaysToOneNode,
     BookOfTight,
@@ -45,6 +46,7 @@ pub fn name_of(planning: Planning) -> &'static str {
         Planning::StreamTwoNumeric => "plan_stream of two-numeric-exact",
         Planning::StreamLoopsApart => "plan_stream of loops-apart",
         Planning::StreamClosed => "plan_stream of closed-both-ways",
+        Planning::StreamIdle => "plan_stream of closed-both-ways with an idle last",
         Planning::StreamAlways => "plan_stream_always of loops-apart",
         Planning::StreamAlwaysToOneNode => "plan_stream_always of loops-apart to 1 node",
         Planning::BookOfTight => "Book::of_round of three-pages-tight",
@@ -67,6 +69,7 @@ pub fn run(alloc: Global, planning: Planning, line: &mut Line) -> Result<(), Out
         Planning::StreamTwoNumeric => show_stream(alloc, TWO_NUMERIC, End::Open, line),
         Planning::StreamLoopsApart => show_stream(alloc, LOOPS_APART, End::Open, line),
         Planning::StreamClosed => show_stream(alloc, CLOSED_BOTH_WAYS, End::Closed, line),
+        Planning::StreamIdle => show_stream(alloc, CLOSED_BOTH_WAYS, End::Idle, line),
         Planning::StreamAlways => show_stream_always(alloc, LOOPS_APART, LIMIT, line),
         Planning::StreamAlwaysToOneNode => show_stream_always(alloc, LOOPS_APART, 1, line),
         Planning::BookOfTight => show_book_of_tight(alloc, line),
@@ -248,7 +251,7 @@ fn add_tone(
     Ok(())
 }
 
-// How many pages there are, and the tables for both ends.
+// How many pages there are, and the two tables.
 fn tables_of(book: &Book) -> (usize, Classes, Classes) {
     (
         book.len(),

@@ -6,11 +6,11 @@ use Rattle.pocsag_branch.proofs.promised_forms.why_no_tour.Goals as goal
 pub returns-in-Err-Unclosed-clause-no_tour : goal.returns-in-Err-Unclosed-clause-no_tour
 returns-in-Err-Unclosed-clause-no_tour c =
     let refused = rw c.in-Err-Unclosed.field-0-is at c.in-Err-Unclosed.ensures.refused in (
-      rw refused.0 tt,
+      refused.0,
       refused.1,
       closing_fall c.args.node.now.classes.now c.args.node.now.task.batches c.args.node.now.limits
           (slice_index c.args.choice.now.early) c.args.node.now.within c.requires
-          refused.1 c.args.node.now.task.some,
+          c.args.node.now.task.end refused.1 c.args.node.now.task.some,
     )
 
 pub invariant_of-result : goal.invariant_of-result

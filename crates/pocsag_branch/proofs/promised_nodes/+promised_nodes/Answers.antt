@@ -6,7 +6,7 @@ use Rattle.pocsag_branch.proofs.promised_nodes.+promised_nodes.Goals as goal
 pub close_node-returns-clause-node : goal.close_node-returns-clause-node
 close_node-returns-clause-node t c =
     close_made c.args.node.now.classes.now c.args.node.now.task c.args.node.now.limits c.args.made c.in_ok-children.after
-    c.deref.result.now c.in_ok-children.children c.requires.closed c.requires.shape
+    c.deref.result.now c.in_ok-children.children c.requires.asks c.requires.shape
     (c.deref.ensures.0 ∙ c.ways_to_end-out.ensures.items) c.in_ok-children.ensures.node
 
 pub cut_node-returns-clause-node : goal.cut_node-returns-clause-node

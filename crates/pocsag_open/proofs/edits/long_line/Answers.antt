@@ -36,6 +36,12 @@ returns-then-eq-3-clause-edit c =
     ∙ no_add (fields_of c.args.row.now) _ c.requires c.in_ok-get.ensures.value
     (rw c.as_slice.ensures at (sym c.eq.ensures ∙ c.if-eq.false))
 
+pub returns-then-eq-4-clause-edit : goal.returns-then-eq-4-clause-edit
+returns-then-eq-4-clause-edit c =
+    c.plan_line-then-eq-4.ensures.edit
+    ∙ no_add (fields_of c.args.row.now) _ c.requires c.in_ok-get.ensures.value
+    (rw c.as_slice.ensures at (sym c.eq.ensures ∙ c.if-eq.false))
+
 pub returns-clause-edit : goal.returns-clause-edit
 returns-clause-edit c =
     no_add (fields_of c.args.row.now) _ c.requires c.in_ok-get.ensures.value
