@@ -42,7 +42,7 @@ fn word_at(bytes: &[u8], at: usize) -> u32
 }
 
 // Puts the bytes of a word from an index on.
-fn put_word(bytes: &mut [u8], at: usize, word: u32)
+fn set_word(bytes: &mut [u8], at: usize, word: u32)
     requires { at + 4 ≤ length bytes.old }
     ensures { bytes.new ≡ take at bytes.old ++ (to_be_bytes w32 word ++ drop (at + 4) bytes.old) }
 {
@@ -90,7 +90,7 @@ pub fn repair_all(bytes: &mut [u8]) -> Repaired
     while bytes.len() - at >= 4 {
         let before = word_at(bytes, at);
         let after = repaired_word(place, before);
-        put_word(bytes, at, after);
+        set_word(bytes, at, after);
         told = with_word(told, before, after);
         at += 4;
         place += 1;

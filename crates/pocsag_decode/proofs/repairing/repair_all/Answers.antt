@@ -26,8 +26,8 @@ loop-bytes-preserved c =
     let long = long_now _ _ _ _ _ _ t in
     let room : c.loop-bytes.at + 4 ≤ length c.args.bytes.now = omega arith in
     let fits : c.word_at-before.result < 2 ^ 32 = c.word_at-before.type_inv in
-    repairing_more _ _ _ _ _ _ t c.word_at-before.result c.repaired_word-after.result c.put_word.new.bytes room fits c.word_at-before.ensures
-    c.repaired_word-after.ensures c.put_word.ensures _ _ c.with_word-told.ensures.words c.with_word-told.ensures.bits
+    repairing_more _ _ _ _ _ _ t c.word_at-before.result c.repaired_word-after.result c.set_word.new.bytes room fits c.word_at-before.ensures
+    c.repaired_word-after.ensures c.set_word.ensures _ _ c.with_word-told.ensures.words c.with_word-told.ensures.bits
 
 pub returns-clause-repaired : goal.returns-clause-repaired
 returns-clause-repaired c =

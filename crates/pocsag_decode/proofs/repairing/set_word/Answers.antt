@@ -1,6 +1,6 @@
 use Rattle.std.proofs.Common.{◌≡◌, ℕ, ◌+◌, ◌-◌, ◌≤◌, List, [], ◌∷◌, ◌++◌, length, take, drop, slice_set, refl, sym, ap, ◌∙◌, arith}
 use Rattle.std.proofs.lemmas.List.{drop-drop, length-drop, length-take-le, set-append_right, take-append-drop}
-use Rattle.pocsag_decode.proofs.repairing.put_word.Goals as goal
+use Rattle.pocsag_decode.proofs.repairing.set_word.Goals as goal
 
 -- a write behind the front
 behind : (p q : List ℕ) (n i k y : ℕ) → length p ≡ n → i ≡ n + k → slice_set (p ++ q) i y ≡ p ++ slice_set q k y
