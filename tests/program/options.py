@@ -23,7 +23,7 @@ USAGE = [
     ["decode", "t", "--list"], ["decode", "t", "--verify"], ["hear", "8", "t", "--end", "open"],
     ["hear", "8", "t", "--always"], ["show", "t", "--always"], ["show", "t", "--end", "open"],
     ["show", "t", "--list", "--svg"], ["show", "t", "--rows", "0"], ["show", "t", "--rows", "7-3"],
-    ["show", "t", "--rows", "1", "--list"], ["show", "t", "--rows"], ["decode", "t", "--rows", "1"], ["open", "--end", "open"], ["open", "--limit", "5"], ["open", "--verify"],
+    ["show", "t", "--rows", "1", "--list"], ["show", "t", "--rows"], ["decode", "t", "--rows", "1"], ["hear", "8", "t", "--repair"], ["plan", "p", "t", "c", "--repair"], ["decode", "t", "--repair=yes"], ["--repair"], ["open", "--end", "open"], ["open", "--limit", "5"], ["open", "--verify"],
     ["open", "--rate", "512"], ["open", "p", "--end", "closed"], ["open", "p", "q"], ["report", "p", "--always"],
     ["report", "p", "--rate", "512", "--verify"], ["report", "p", "t", "c"], ["report", "p", "--rate", "512", "--svg"],
     ["--always"], ["--end", "open"], ["--limit", "5"], ["--verify"], ["--verbose=yes"],

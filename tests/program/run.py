@@ -15,6 +15,7 @@ sys.path.insert(0, str(pathlib.Path(__file__).resolve().parents[1]))
 sys.path.insert(0, str(pathlib.Path(__file__).resolve().parent))
 import edges
 import options
+import repair
 import verbose
 from tally import ENDS, PROGRAM, run_parts
 
@@ -532,6 +533,7 @@ def main():
         try_words,
         *edges.PARTS,
         *options.PARTS,
+        *repair.PARTS,
         *verbose.PARTS,
     )
 

@@ -39,6 +39,9 @@ PAGE_FILES = [
     (HEADER + b"".join(b"%d,tone0,\n" % k for k in range(20001)), "record 20001: too many pages", ["page file p.csv, line 20002, record 20001, address '20000': a round has at most 20000 pages; make two of this one"]),
 ]
 
+# A batch of idles whose synchronisation codeword has a wrong bit, and whose last word has two or three.
+TWICE_DAMAGED, BEYOND_REPAIR = (b"\xaa" * 72 + bytes.fromhex("7CD215D9" + "7A89C197" * 15 + last) for last in ("7A89C194", "7A89C190"))
+
 # Files, words, standard input, status, what is told on standard output, the fault, and the notes.
 NO_FILE, IS_FOLDER, NO_SPACE = (f"{os.strerror(code)} (os error {code})" for code in (2, 21, 28))
 CASES = [
@@ -73,6 +76,13 @@ CASES = [
      ["transmission -: codewords count from 0 here; it is that of slot 15 in batch 1 of show"]),
     (APART, ["show", "-"], b"\xaa" * 72 + bytes.fromhex("7CD215D8" + "7A89C197" * 16) + b"\x55" * 68, 1, "", "batch 1: no synchronisation codeword",
      ["transmission -: batches count from 0 here; show calls it 2"]),
+    (APART, ["decode", "-", "--repair"], TWICE_DAMAGED, 0, HEADER.decode(), None, ["transmission -: corrected bits 3, words 2"]),
+    (APART, ["show", "-", "--repair", "--list"], TWICE_DAMAGED, 0, "batch,frame,slot,codewords,address,kind,message\n", None,
+     ["transmission -: corrected bits 3, words 2", "batch 1: r .. .. .. .. .. .. .. .r"]),
+    (APART, ["show", "-", "--repair"], BEYOND_REPAIR, 1, "", "codeword 15: not a codeword",
+     ["transmission -: codewords count from 0 here; it is that of slot 15 in batch 1 of show", "transmission -: corrected bits 1, words 1",
+      "batch 1: r .. .. .. .. .. .. .. .."]),
+    (APART, ["decode", "none", "--repair"], b"", 3, "", "cannot read or open a file", [f"transmission none: {NO_FILE}"]),
     (APART, ["show", "none", "--svg"], b"", 3, "", "cannot read or open a file", [f"transmission none: {NO_FILE}"]),
     (APART, ["hear", "2097152", "p.csv"], b"", 1, "", "bad address", ["ADDRESS: 0 to 2097151"]),
     (APART, ["hear", "2007664", "p.csv"], b"", 1, "", "reserved address", ["ADDRESS: " + RESERVED]),

@@ -26,7 +26,7 @@ pub fn open_kept(path: &str, always: bool, places: &RoundFiles<'_>) -> Result<u8
         return Ok(status);
     }
     // What the system refuses of the journal is met apart from what it refuses of the other files.
-    let met = Watch::new(places.desk.alloc, false);
+    let met = Watch::new(places.desk.alloc, None);
     let desk = Desk {
         watch: &met,
         ..places.desk

@@ -35,7 +35,7 @@ fn words_of(rt: &HostRuntime, alloc: Global) -> Result<Vec<String>, Fault> {
 
 fn run(rt: &HostRuntime) -> u8 {
     let alloc = rt.alloc();
-    let unheard = Watch::new(alloc, false);
+    let unheard = Watch::new(alloc, None);
     let mut err = WriterSink::new(rt.stderr(), Role::Output, &unheard);
     let words = match words_of(rt, alloc) {
         Ok(words) => words,

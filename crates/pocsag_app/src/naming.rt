@@ -1,4 +1,4 @@
-use pocsag_commands::{Names, Role};
+use pocsag_commands::{Names, RepairNotes, Role};
 use pocsag_line::{Order, STANDARD};
 
 /// The words for the files of a command.
@@ -15,7 +15,7 @@ pub fn names_in(order: Order<'_>) -> Names<'_> {
             tx: None,
             cert: Some(word_of(cert)),
         },
-        Order::Decode { tx } | Order::Hear { tx, .. } | Order::Show { tx, .. } => Names {
+        Order::Decode { tx, .. } | Order::Hear { tx, .. } | Order::Show { tx, .. } => Names {
             pages: None,
             tx: Some(word_of(tx)),
             cert: None,
@@ -30,6 +30,15 @@ pub fn subject_of(order: Order<'_>) -> Role {
     match order {
         Order::Decode { .. } | Order::Hear { .. } | Order::Show { .. } => Role::Transmission,
         _ => Role::PageFile,
+    }
+}
+
+/// What is told of the repair of a command.
+pub fn repair_in(order: Order<'_>) -> RepairNotes {
+    match order {
+        Order::Decode { repair: true, .. } => RepairNotes::Counts,
+        Order::Show { repair: true, .. } => RepairNotes::Marks,
+        _ => RepairNotes::None,
     }
 }
 

@@ -1,9 +1,9 @@
 use crate::journaling::open_kept;
-use crate::naming::{names_in, subject_of};
+use crate::naming::{names_in, repair_in, subject_of};
 use crate::planning::plan;
 use crate::round_files::RoundFiles;
 use pocsag_commands::{
-    Fault, ReaderSource, Role, Scene, Watch, expected_file, run_check, run_decode, run_hear,
+    Fault, ReaderSource, RepairNotes, Role, Scene, Watch, expected_file, run_check, run_decode, run_hear,
     run_input, run_report, run_show, tell, tell_explained, tell_fault,
 };
 use pocsag_explain::{run_explain, run_frames};
@@ -22,7 +22,13 @@ const AT_TERMINAL: &str =
 /// Opens the files of an order and runs its command on them; with `--verbose` it tells notes behind the fault.
 /// Answers the exit status.
 pub fn obey<E: Sink>(rt: &HostRuntime, alloc: Global, asked: Asked<'_>, err: &mut E) -> u8 {
-    let watch = Watch::new(alloc, asked.verbose);
+    let repair = repair_in(asked.order);
+    let kept = if repair == RepairNotes::None {
+        Role::PageFile
+    } else {
+        Role::Transmission
+    };
+    let watch = Watch::new(alloc, asked.verbose.then_some(kept));
     let desk = Desk {
         rt,
         alloc,
@@ -40,6 +46,7 @@ pub fn obey<E: Sink>(rt: &HostRuntime, alloc: Global, asked: Asked<'_>, err: &mu
             subject: subject_of(asked.order),
             trouble: watch.take_trouble(),
             file: file.as_slice(),
+            repair,
         };
         let _ = tell_explained(alloc, done, &scene, err);
     }
@@ -57,17 +64,17 @@ fn obeyed(desk: Desk<'_>, order: Order<'_>) -> Result<u8, Fault> {
             cert,
             telling,
         } => return explain_paths(desk, telling, pages, cert),
-        Order::Decode { tx } => {
+        Order::Decode { tx, repair } => {
             let mut tx = open_source(desk, Role::Transmission, tx)?;
-            run_decode(desk.alloc, &mut tx, &mut desk.out())?;
+            run_decode(desk.alloc, repair, &mut tx, &mut desk.out())?;
         }
         Order::Hear { address, tx } => {
             let mut tx = open_source(desk, Role::Transmission, tx)?;
             run_hear(desk.alloc, address, &mut tx, &mut desk.out())?;
         }
-        Order::Show { tx, view } => {
+        Order::Show { tx, view, repair } => {
             let mut tx = open_source(desk, Role::Transmission, tx)?;
-            run_show(desk.alloc, view, &mut tx, &mut desk.out())?;
+            run_show(desk.alloc, view, repair, &mut tx, &mut desk.out())?;
         }
         Order::Open {
             pages,

@@ -1,7 +1,8 @@
 //! The commands over memory: what each tells, what it leaves, and its exit status.
 
 use pocsag_commands::{
-    DEFAULT_LIMIT, Fault, Names, PlanFiles, Role, Scene, Trouble, run_check, run_decode, run_hear,
+    DEFAULT_LIMIT, Fault, Names, PlanFiles, RepairNotes, Role, Scene, Trouble, run_check,
+    run_decode, run_hear,
     run_input, run_plan, run_report, run_verify, tell_explained, tell_fault,
 };
 use pocsag_pages::RoundFault;
@@ -243,7 +244,7 @@ fn run(alloc: Global, command: Command, file: &[u8], planned: &Planned) -> Told 
         } else {
             1
         }),
-        Command::Decode => run_decode(alloc, &mut tx, &mut out).map(|_| 0),
+        Command::Decode => run_decode(alloc, false, &mut tx, &mut out).map(|_| 0),
         Command::Hear(address) => run_hear(alloc, address, &mut tx, &mut out).map(|_| 0),
         Command::Verify(search) => {
             let mut files = PlanFiles { pages, tx, cert };
@@ -510,6 +511,56 @@ fn what_was_planned_is_read(rt: HostRuntime) -> Result<(), Fail> {
     Ok(())
 }
 
+// What is wrong in each word behind the preamble of a lone tone, what is told of its repair, and the notes.
+const REPAIR_CASES: [(&[u32], RepairNotes, &str); 4] = [
+    (&[1], RepairNotes::None, ""),
+    (
+        &[],
+        RepairNotes::Marks,
+        "pocsag: transmission t.bin: corrected bits 0, words 0\n",
+    ),
+    (
+        &[1, 0, 3],
+        RepairNotes::Counts,
+        "pocsag: transmission t.bin: corrected bits 3, words 2\n",
+    ),
+    (
+        &[1, 0, 3],
+        RepairNotes::Marks,
+        "pocsag: transmission t.bin: corrected bits 3, words 2\n\
+         pocsag: batch 1: r .r .. .. .. .. .. .. ..\n",
+    ),
+];
+
+#[test]
+fn repairs_are_told(rt: HostRuntime) -> Result<(), Fail> {
+    let alloc = rt.alloc();
+    let names = Names {
+        tx: Some("t.bin"),
+        ..Names::NONE
+    };
+    for (wrong, repair, due) in REPAIR_CASES {
+        let planned = plan(alloc, OPEN, LONE_TONE, SOUND);
+        let mut file = Vec::new(alloc);
+        file.extend_from_slice(planned.tx.bytes()).expect(&rt, "memory");
+        for (place, flipped) in wrong.iter().enumerate() {
+            let at = 75 + 4 * place.min(16);
+            file[at.min(139)] ^= *flipped as u8;
+        }
+        let scene = Scene {
+            names,
+            subject: Role::Transmission,
+            trouble: None,
+            file: file.as_slice(),
+            repair,
+        };
+        let mut err = MemorySink::<300>::new(7, 1000);
+        assert_eq!(rt; tell_explained(alloc, Ok(0), &scene, &mut err), Ok(()));
+        assert_eq!(rt; err.bytes(), due.as_bytes());
+    }
+    Ok(())
+}
+
 // What a command answered, the page file that it read, and the notes on it.
 type NoteCase = (Result<u8, Fault>, &'static [u8], &'static str);
 
@@ -557,6 +608,7 @@ fn notes_are_told(rt: HostRuntime) -> Result<(), Fail> {
             subject: Role::PageFile,
             trouble,
             file,
+            repair: RepairNotes::None,
         };
         let mut err = MemorySink::<300>::new(7, 1000);
         assert_eq!(rt; tell_explained(rt.alloc(), done, &scene, &mut err), Ok(()));

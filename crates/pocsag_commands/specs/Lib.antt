@@ -6,6 +6,7 @@ pub mod Lines
 pub mod Listing
 pub mod Notes
 pub mod Refusals
+pub mod Repairing
 pub mod Reporting
 pub mod Showing
 pub mod Verifying

@@ -1,5 +1,5 @@
 -- Why each command refuses: what is so of what it read where its exit status is 1.
-use Rattle.std.specs.Prelude.{◌≡◌, ℕ, ◌<◌, List, [], ◌∷◌, ◌++◌, length, codes, Some, Err}
+use Rattle.std.specs.Prelude.{◌≡◌, ℕ, ◌<◌, Bool, List, [], ◌∷◌, ◌++◌, length, codes, Some, Err}
 use Rattle.pocsag_words.specs.Frame.{input_limit}
 use Rattle.pocsag_words.specs.declared.ending.End.{End}
 use Rattle.pocsag_words.specs.declared.ending.End.TheVariants.{Open}
@@ -16,6 +16,7 @@ use Rattle.pocsag_plan.specs.declared.search.Effort.TheVariants.{Fewest}
 use Rattle.pocsag_plan.specs.declared.search.Search.{Search}
 use Rattle.pocsag_commands.specs.Commands.{IsPlanRefused}
 use Rattle.pocsag_commands.specs.Judging.{IsNotShown}
+use Rattle.pocsag_commands.specs.Repairing.{IsSoOfRead}
 use Rattle.pocsag_commands.specs.Showing.{IsBehindLast}
 use Rattle.pocsag_show.specs.declared.view.View.{View}
 
@@ -27,15 +28,15 @@ default_limit = 100000
 abbrev pub default_search : Search
 default_search = record { limit = default_limit; end = Open; effort = Fewest }
 
--- `decode`: the transmission is larger than is read, or it has a fault.
-pub data IsTransmissionRefused (bytes : List ℕ) : Type 0 where
-  too_large : input_limit < length bytes → IsTransmissionRefused bytes
-  fault : (f : DecodeFault) → HasFault bytes f → IsTransmissionRefused bytes
+-- `decode`: the transmission is larger than is read, or it has a fault, with repair one that stays.
+pub data IsTransmissionRefused (file : List ℕ) (repair : Bool) : Type 0 where
+  too_large : input_limit < length file → IsTransmissionRefused file repair
+  fault : (f : DecodeFault) → IsSoOfRead file repair (λ bytes. HasFault bytes f) → IsTransmissionRefused file repair
 
 -- `show`: the same, or the rows that are asked for are behind its last batch.
-pub data IsShowRefused (view : View) (bytes : List ℕ) : Type 0 where
-  transmission : IsTransmissionRefused bytes → IsShowRefused view bytes
-  rows : IsBehindLast view bytes → IsShowRefused view bytes
+pub data IsShowRefused (view : View) (file : List ℕ) (repair : Bool) : Type 0 where
+  transmission : IsTransmissionRefused file repair → IsShowRefused view file repair
+  rows : IsSoOfRead file repair (IsBehindLast view) → IsShowRefused view file repair
 
 -- `hear`: the transmission is larger than is read, or the address or the bytes have a fault.
 pub data IsHearingRefused (address : ℕ) (bytes : List ℕ) : Type 0 where

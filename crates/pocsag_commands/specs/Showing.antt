@@ -1,7 +1,8 @@
 -- `show`: what it leaves of standard output where its exit status is 0, and its faults.
 use Rattle.std.specs.Prelude.{◌≡◌, ℕ, ◌<◌, ◌≤◌, List, Some, IfSome}
 use Rattle.pocsag_pages.specs.declared.page.Page.{Page}
-use Rattle.pocsag_decode.specs.Faults.{ReadsAs}
+use Rattle.pocsag_decode.specs.Faults.{HasFault, ReadsAs}
+use Rattle.pocsag_decode.specs.declared.fault.DecodeFault.{DecodeFault}
 use Rattle.pocsag_show.specs.Drawing.{drawing}
 use Rattle.pocsag_show.specs.Picture.{grid_text}
 use Rattle.pocsag_show.specs.Places.{place_listing}
@@ -38,6 +39,11 @@ pub record IsBehindLast (view : View) (bytes : List ℕ) : Type 0 where
   pub batches : ℕ
   pub reads : ReadsInBatches bytes batches
   pub behind : batches < rows.first
+
+-- Why bytes are not shown: they have a fault, or the rows that are asked for are behind their last batch.
+pub data WhyNotShown (view : View) (bytes : List ℕ) : Type 0 where
+  faulty : (f : DecodeFault) → HasFault bytes f → WhyNotShown view bytes
+  rows : IsBehindLast view bytes → WhyNotShown view bytes
 
 abbrev pub fault_of_show : ShowFault → Fault
 fault_of_show (showing.Transmission f) = fault.Transmission f

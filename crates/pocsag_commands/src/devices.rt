@@ -42,9 +42,7 @@ impl<'a, R: Read> Source for ReaderSource<'a, R> {
         self.calls = self.calls.saturating_add(1);
         match self.reader.read(buffer) {
             Ok(count) => {
-                if self.role == Role::PageFile {
-                    self.watch.keep(&buffer[..count]);
-                }
+                self.watch.keep(self.role, &buffer[..count]);
                 Ok(count)
             }
             Err(error) => {

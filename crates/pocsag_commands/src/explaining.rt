@@ -4,6 +4,7 @@ ghost use Rattle.pocsag_commands.specs.Notes.{AddsNotes};
 use crate::fault::Fault;
 use crate::file_notes::{note_header, note_line_feeds, note_record};
 use crate::note::{Notes, tell_notes};
+use crate::repair_notes::{RepairNotes, note_repair};
 use crate::role::{Names, Role};
 use crate::watch::Trouble;
 use pocsag_decode::DecodeFault;
@@ -23,8 +24,11 @@ pub struct Scene<'a> {
     pub subject: Role,
     /// Where the system refused a file or a stream last.
     pub trouble: Option<Trouble>,
-    /// The bytes of the page file, as far as they were read.
+    /// The bytes of the file that is kept for notes, as far as they were read: of a transmission that is repaired, or of
+    /// the page file.
     pub file: &'a [u8],
+    /// What is told of its repair.
+    pub repair: RepairNotes,
 }
 
 /// Tells notes on a command that is over: on its fault, or on what it did.
@@ -38,11 +42,12 @@ pub fn tell_explained<S: Sink>(
 {
     let mut notes = Notes::new(alloc);
     match done {
-        Ok(0) => note_line_feeds(alloc, scene, &mut notes)?,
+        Ok(0) if scene.names.pages.is_some() => note_line_feeds(alloc, scene, &mut notes)?,
         Ok(1) if scene.names.cert.is_some() => note_not_shown(scene, &mut notes)?,
         Ok(_) => {}
         Err(fault) => explain(alloc, fault, scene, &mut notes)?,
     }
+    note_repair(alloc, scene, &mut notes)?;
     tell_notes(alloc, err, notes.texts())
 }
 

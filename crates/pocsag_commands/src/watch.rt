@@ -12,19 +12,19 @@ pub struct Trouble {
 }
 
 /// What the devices of a command met, for the notes of `--verbose`: where the system refused one last, and the
-/// bytes of the page file that were read.
+/// bytes of one file that were read.
 #[derive(Drop)]
 pub struct Watch {
     alloc: Global,
-    keeps: bool,
+    keeps: Option<Role>,
     trouble: Cell<Option<Trouble>>,
     // None once memory was wanting for it.
     file: RefCell<Option<Vec<u8>>>,
 }
 
 impl Watch {
-    /// Nothing was met yet. The bytes of the page file are kept only where notes are asked for.
-    pub fn new(alloc: Global, keeps: bool) -> Watch {
+    /// Nothing was met yet. Where notes are asked for, the bytes of one file are kept.
+    pub fn new(alloc: Global, keeps: Option<Role>) -> Watch {
         Watch {
             alloc,
             keeps,
@@ -45,12 +45,12 @@ impl Watch {
 
     /// Whether notes are asked for.
     pub fn is_asked(&self) -> bool {
-        self.keeps
+        self.keeps.is_some()
     }
 
-    /// Some bytes of the page file were read. Where memory is wanting for them none are kept.
-    pub fn keep(&self, piece: &[u8]) {
-        if !self.keeps {
+    /// Some bytes of the file of a role were read. Where memory is wanting for those that are kept none are.
+    pub fn keep(&self, role: Role, piece: &[u8]) {
+        if self.keeps != Some(role) {
             return;
         }
         let Ok(mut file) = self.file.try_borrow_mut() else {

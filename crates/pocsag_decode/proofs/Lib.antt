@@ -4,6 +4,8 @@ pub mod OneFault
 pub mod Preambles
 pub mod PageRows
 pub mod Relisting
+pub mod Repairs
+pub mod Restoring
 pub mod Respelled
 pub mod SentBytes
 pub mod Transmissions

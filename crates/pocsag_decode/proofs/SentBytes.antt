@@ -63,7 +63,7 @@ synced_good (w ∷ T) before i good r at are h =
           (All-tail IsCodeword w T are) (rest_follows before w T good n are h)))
     ]
 
-body_begins : (T : List ℕ) → BeginsOther (body_bytes T)
+pub body_begins : (T : List ℕ) → BeginsOther (body_bytes T)
 body_begins [] = tt
 body_begins (w ∷ T) = omega arith
 

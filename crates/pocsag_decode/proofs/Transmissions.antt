@@ -110,7 +110,7 @@ resynced before (w ∷ v ∷ ws) good r whole i at =
     ]
 
 -- four bytes are those of their word
-four_bytes : (a b c d : ℕ) → a < 256 → b < 256 → c < 256 → d < 256
+pub four_bytes : (a b c d : ℕ) → a < 256 → b < 256 → c < 256 → d < 256
     → to_be_bytes w32 (from_be_bytes w32 (a ∷ b ∷ c ∷ d ∷ [])) ≡ a ∷ b ∷ c ∷ d ∷ []
 four_bytes a b c d p q r s = be_bytes_4 (a ∷ b ∷ c ∷ d ∷ []) (from_be_bytes w32 (a ∷ b ∷ c ∷ d ∷ [])) refl (each) refl where
   each : (i : ℕ) → get_or (a ∷ b ∷ c ∷ d ∷ []) i 0 < 256

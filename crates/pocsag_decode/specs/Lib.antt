@@ -6,5 +6,6 @@ pub mod Listing
 pub mod PageFiles
 pub mod Places
 pub mod Relisting
+pub mod Repairing
 pub mod Standing
 pub mod Taking

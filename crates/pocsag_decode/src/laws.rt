@@ -1,11 +1,15 @@
-ghost use Rattle.std.specs.Prelude.{◌≡◌, ◌↔◌, ℕ, ◌<◌, ◌≤◌, ◌++◌, List, All, false};
+ghost use Rattle.std.specs.Prelude.{◌≡◌, ◌↔◌, ℕ, ◌<◌, ◌≤◌, ◌==◌, ◌++◌, List, All, false, filter};
 ghost use Rattle.std.specs.Fmt.{decimal};
 ghost use Rattle.pocsag_pages.specs.declared.page.Page.{Page};
+ghost use Rattle.pocsag_pages.specs.Bytes.{Sent, after_preamble, words_of};
 ghost use Rattle.pocsag_pages.specs.PageFile.{page_of_fields, verdict};
 ghost use Rattle.pocsag_pages.specs.Pages.{IsRound, is_reserved, last_address};
+ghost use Rattle.pocsag_pager.specs.Damage.{IsDamaged};
+ghost use Rattle.pocsag_pager.specs.Shown.{AreShown};
 ghost use Rattle.pocsag_decode.specs.Listing.{kind_field, message_field};
 ghost use Rattle.pocsag_decode.specs.PageFiles.{IsSpellable, page_file};
 ghost use Rattle.pocsag_decode.specs.Relisting.{IsSpelled};
+ghost use Rattle.pocsag_decode.specs.Repairing.{IsRepairOf};
 ghost use Rattle.pocsag_decode.specs.Faults.{HasFault, HasFaultThere, IsFaultless, ReadsAs};
 ghost use Rattle.pocsag_decode.specs.Standing.{StandsAfter};
 ghost use Rattle.pocsag_decode.specs.declared.state.Decoder.{Decoder};
@@ -34,6 +38,20 @@ pub fn a_fault_there_stays()
 /// What a decoder stands after has no fault at a byte that is there.
 pub fn standing_is_without_fault()
     ensures { (d : Decoder) (X : List ℕ) (f : DecodeFault) → StandsAfter d X → ¬ HasFaultThere X f }
+{}
+
+/// What was sent comes back: the repair of bytes with at most two wrong bits in each word of a transmission is that
+/// transmission, and so is that of its own bytes.
+pub fn repair_restores()
+    ensures damaged { (X T Y Z : List ℕ) → Sent X T → IsDamaged X Y → IsRepairOf Y Z → Z ≡ X }
+    ensures whole { (X T Y : List ℕ) → Sent X T → IsRepairOf X Y → Y ≡ X }
+{}
+
+/// What the pager of an address shows of bytes are the pages of that address, in order, among those that the repaired
+/// bytes read as.
+pub fn repaired_pages_are_heard()
+    ensures { (X Y : List ℕ) (ps qs : List Page) (a : ℕ) → All (λ b. b < 256) X → IsRepairOf X Y → ReadsAs Y ps →
+        AreShown (words_of (after_preamble X)) a qs → qs ≡ filter (λ p. p.address == a) ps }
 {}
 
 /// The three fields of a page's record in a listing spell the page, where its address may stand in a round and its

@@ -10,15 +10,20 @@ mod growing;
 mod laws;
 mod listing;
 mod page_file;
+mod repaired;
+mod repairing;
 mod state;
 mod whole;
 
 pub use fault::{DecodeFault, ListFault};
 pub use laws::{
     a_fault_there_stays, faults_are_one, listed_fields_are_read_back, no_fault_is_a_reading,
-    page_files_are_read_back, readings_of_bytes_are_one, standing_is_without_fault,
+    page_files_are_read_back, readings_of_bytes_are_one, repair_restores, repaired_pages_are_heard,
+    standing_is_without_fault,
 };
 pub use listing::{kind_of_page, list, message_of};
 pub use page_file::write_page_file;
+pub use repaired::Repaired;
+pub use repairing::repair_all;
 pub use state::Decoder;
 pub use whole::decode;

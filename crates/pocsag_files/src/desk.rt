@@ -1,4 +1,4 @@
-use pocsag_commands::{Fault, Names, Role, Scene, Watch, WriterSink, tell_explained};
+use pocsag_commands::{Fault, Names, RepairNotes, Role, Scene, Watch, WriterSink, tell_explained};
 use std::alloc::Global;
 use std::io::{self, ErrorKind, Stderr, Stdout};
 
@@ -62,6 +62,7 @@ impl<'a> Desk<'a> {
             subject: Role::Transmission,
             trouble,
             file: b"",
+            repair: RepairNotes::None,
         };
         let _ = tell_explained(self.alloc, Err(Fault::Device), &scene, &mut self.err());
     }

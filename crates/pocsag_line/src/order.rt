@@ -35,19 +35,21 @@ pub enum Order<'a> {
         cert: Option<&'a str>,
         telling: Telling,
     },
-    /// `decode TX`: the path of the transmission.
+    /// `decode TX`: the path of the transmission, and whether its words are repaired.
     Decode {
         tx: Option<&'a str>,
+        repair: bool,
     },
     /// `hear ADDRESS TX`: a pager's address, and the path of the transmission.
     Hear {
         address: u32,
         tx: Option<&'a str>,
     },
-    /// `show TX`: the path of the transmission, and how it is shown.
+    /// `show TX`: the path of the transmission, how it is shown, and whether its words are repaired.
     Show {
         tx: Option<&'a str>,
         view: View,
+        repair: bool,
     },
     /// `open`, or `open PAGES`: an open round, the path of the page file that it begins with, that of its journal,
     /// whether each plan of it is answered, and whether old files are kept until the new ones are whole.

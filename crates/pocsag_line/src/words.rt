@@ -65,6 +65,8 @@ const LIST: &str = "list";
 
 const ROWS: &str = "rows";
 
+const REPAIR: &str = "repair";
+
 const OPEN: &str = "open";
 
 const CLOSED: &str = "closed";
@@ -128,7 +130,8 @@ page, the same letter small for its message codewords; a full stop for an idle. 
 go by address, so a page keeps its letter, and in the drawing its hue, however its round
 is sent. --rows A-B shows these batches, --rows A- those from A on, --rows A one; all of
 the transmission is read and judged whatever is shown, and rows behind its last batch are
-refused.
+refused. With --repair it is shown as it is once each word is repaired; --verbose then
+tells of each batch which words were: r for such a word, the synchronisation codeword first.
 
 Example:
   pocsag show tx.bin
@@ -197,6 +200,10 @@ the slots as columns, what must stand in each, and the room";
 const FRAMES_HELP: &str = "\
 Tells of each frame its pages, their codewords, and the idles in
 its two slots, the least room first";
+
+const REPAIR_HELP: &str = "\
+Corrects up to two wrong bits in each word before it is read,
+whatever its address; --verbose tells how many words and bits";
 
 const TX_HELP: &str = "The transmission";
 
@@ -295,7 +302,8 @@ fn explain_command<'a>(alloc: Global) -> Result<Command<'a>, AllocError> {
 fn decode_command<'a>(alloc: Global) -> Result<Command<'a>, AllocError> {
     Command::new(alloc, DECODE)
         .about("Lists the pages of a transmission")
-        .arg(positional(alloc, TX, TX_HELP))
+        .arg(positional(alloc, TX, TX_HELP))?
+        .arg(flag(alloc, REPAIR, REPAIR_HELP))
 }
 
 fn hear_command<'a>(alloc: Global) -> Result<Command<'a>, AllocError> {
@@ -326,7 +334,8 @@ fn show_command<'a>(alloc: Global) -> Result<Command<'a>, AllocError> {
         .arg(positional(alloc, TX, TX_HELP))?
         .arg(flag(alloc, SVG, "Draws it as an SVG picture"))?
         .arg(rows)?
-        .arg(list)
+        .arg(list)?
+        .arg(flag(alloc, REPAIR, REPAIR_HELP))
 }
 
 fn open_command<'a>(alloc: Global) -> Result<Command<'a>, AllocError> {
@@ -477,6 +486,7 @@ fn show_order<'a>(found: &ArgMatches<'a>) -> Option<Order<'a>> {
     Some(Order::Show {
         tx: path_of(found.get_str(TX)?),
         view,
+        repair: found.get_flag(REPAIR),
     })
 }
 
@@ -510,6 +520,7 @@ fn order_from<'a>(name: &str, found: &ArgMatches<'a>) -> Option<Order<'a>> {
         EXPLAIN => explain_order(found),
         DECODE => Some(Order::Decode {
             tx: path_of(found.get_str(TX)?),
+            repair: found.get_flag(REPAIR),
         }),
         HEAR => hear_order(found),
         SHOW => show_order(found),

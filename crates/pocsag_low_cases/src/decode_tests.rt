@@ -1,9 +1,9 @@
 //! The decoder and the listing.
 
-use pocsag_decode::{DecodeFault, Decoder, ListFault, decode, list};
+use pocsag_decode::{DecodeFault, Decoder, ListFault, decode, list, repair_all};
 use pocsag_rounds::given::{
-    ACROSS, DIGITS, IDLE, LONE_TONE, ONES, PageRow, SECOND, Sent, TIGHT, bytes_of, cut, pages,
-    transmission,
+    ACROSS, DIGITS, IDLE, LONE_TONE, ONES, PageRow, SECOND, SYNC, Sent, TIGHT, bytes_of, cut,
+    pages, transmission,
 };
 use pocsag_text::pack_alpha;
 use pocsag_words::{MemorySink, OutOfMemory, address_word, message_word};
@@ -80,6 +80,40 @@ fn wrong_bits(rt: HostRuntime) {
             assert_eq!(rt; decode(alloc, bytes.as_slice()).err(), Some(due), "{place}");
             bytes[place] = right;
         }
+    }
+}
+
+// What is wrong in each word behind the preamble, what is repaired of it, and the fault that is left.
+const REPAIRED: &[(&[u32], u64, u64, Option<DecodeFault>)] = &[
+    (&[], 0, 0, None),
+    (&[0x8000_0001, 0x4000_0000, 3, 0, 1], 4, 6, None),
+    (&[7], 0, 0, Some(DecodeFault::NoSync(0))),
+    (&[1, 7, 0, 1], 2, 2, Some(DecodeFault::BadWord(0))),
+    // An idle codeword, with one bit wrong, in place of the synchronisation codeword.
+    (&[SYNC ^ IDLE ^ 1], 0, 0, Some(DecodeFault::NoSync(0))),
+];
+
+#[test]
+fn repairs(rt: HostRuntime) {
+    let alloc = rt.alloc();
+    for (wrong, words, bits, fault) in REPAIRED {
+        let right = transmission(alloc, LONE_TONE).expect(&rt, "an answer");
+        let mut bytes = transmission(alloc, LONE_TONE).expect(&rt, "an answer");
+        // Bytes that are no whole word stay.
+        bytes.extend_from_slice(b"end").expect(&rt, "memory");
+        for (place, flipped) in wrong.iter().enumerate() {
+            for (byte, bits) in flipped.to_be_bytes().iter().enumerate() {
+                let at = 72 + 4 * place.min(16) + byte;
+                bytes[at.min(139)] ^= *bits;
+            }
+        }
+        let told = repair_all(bytes.as_mut_slice());
+        assert_eq!(rt; (told.words, told.bits), (*words, *bits), "{wrong:?}");
+        assert_eq!(rt; decode(alloc, cut(bytes.as_slice(), 140)).err(), *fault, "{wrong:?}");
+        if fault.is_none() {
+            assert_eq!(rt; cut(bytes.as_slice(), 140), right.as_slice(), "{wrong:?}");
+        }
+        assert_eq!(rt; bytes.as_slice().ends_with(b"end"), true, "{wrong:?}");
     }
 }
 

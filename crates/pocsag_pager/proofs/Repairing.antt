@@ -104,7 +104,7 @@ page_case : (b : Bool) (p q : Page) (ps qs : List Page) → (b ≡ true → p �
 page_case true p q ps qs here rest = ap₂ ◌∷◌ (here refl) rest
 page_case false p q ps qs here rest = rest
 
-shown_is_chosen : (a i : ℕ) (ks : List Kind) → shown_from a i (map Some ks) ≡ filter (calls a) (pages_from i ks)
+pub shown_is_chosen : (a i : ℕ) (ks : List Kind) → shown_from a i (map Some ks) ≡ filter (calls a) (pages_from i ks)
 shown_is_chosen a i [] = refl
 shown_is_chosen a i (Idle ∷ ks) = shown_is_chosen a (i + 1) ks
 shown_is_chosen a i (Address high function ∷ ks) =

@@ -1,32 +1,18 @@
-use Rattle.std.proofs.Common.{ℕ, List, subst, ◌∙◌}
-use Rattle.std.proofs.lemmas.Result.{err_from_is_err_and}
-use Rattle.pocsag_commands.specs.Refusals.{IsShowRefused}
-use Rattle.pocsag_commands.proofs.Refusing.{why_not_shown}
+use Rattle.std.proofs.Common.{ℕ, List, ◌∙◌, subst}
+use Rattle.std.specs.Prelude.{OnOk}
+use Rattle.pocsag_commands.specs.Showing.{Viewed}
+use Rattle.pocsag_commands.proofs.Refusing.{restored_bytes, why_not_shown_after}
 use Rattle.pocsag_commands.proofs.showing.run_show.Goals as goal
 
-pub returns-in_err-show_text-in-Grid-clause-why : goal.returns-in_err-show_text-in-Grid-clause-why
-returns-in_err-show_text-in-Grid-clause-why g c = λ tells one.
-    let p = err_from_is_err_and c.from_residual-in_err-show_text-in-Grid.result c.from_residual-in_err-show_text-in-Grid.ensures.1 in
-    IsShowRefused.transmission
-    (why_not_shown _ _ c.in_err-show_text-in-Grid.field-0.0 (c.as_slice-bytes.ensures.value ∙ c.in_ok-file.ensures.whole tells) c.in_err-show_text-in-Grid.ensures.fault
-    (rw (p.1, p.2) at one))
+pub returns-clause-restored : goal.returns-clause-restored
+returns-clause-restored g c = λ tells told on X codewords sent damaged.
+    let same =
+    restored_bytes (g.T.Source.held c.args.tx.now) c.in_ok-file.file.items X c.args.repair on (c.in_ok-file.ensures.read tells)
+    (c.repair_restores.ensures.damaged X codewords _ _ sent damaged) in
+    subst (λ (bytes : List ℕ). OnOk c.show_bytes.result (Viewed c.args.view bytes (g.O.Sink.taken c.args.out.now) (g.O.Sink.taken c.show_bytes.new.out))) (c.as_slice.ensures.value ∙ same)
+    (c.show_bytes.ensures.shown told)
 
-pub returns-in_err-show_list-in-Places-clause-why : goal.returns-in_err-show_list-in-Places-clause-why
-returns-in_err-show_list-in-Places-clause-why g c = λ tells one.
-    let p = err_from_is_err_and c.from_residual-in_err-show_list-in-Places.result c.from_residual-in_err-show_list-in-Places.ensures.1 in
-    IsShowRefused.transmission
-    (why_not_shown _ _ c.in_err-show_list-in-Places.field-0.0 (c.as_slice-bytes.ensures.value ∙ c.in_ok-file.ensures.whole tells) c.in_err-show_list-in-Places.ensures.fault
-    (rw (p.1, p.2) at one))
-
-pub returns-in_err-show_svg-in-Drawing-clause-why : goal.returns-in_err-show_svg-in-Drawing-clause-why
-returns-in_err-show_svg-in-Drawing-clause-why g c = λ tells one.
-    let p = err_from_is_err_and c.from_residual-in_err-show_svg-in-Drawing.result c.from_residual-in_err-show_svg-in-Drawing.ensures.1 in
-    IsShowRefused.transmission
-    (why_not_shown _ _ c.in_err-show_svg-in-Drawing.field-0.0 (c.as_slice-bytes.ensures.value ∙ c.in_ok-file.ensures.whole tells) c.in_err-show_svg-in-Drawing.ensures.fault
-    (rw (p.1, p.2) at one))
-
-pub returns-in_err-refuse_rows-clause-why : goal.returns-in_err-refuse_rows-clause-why
-returns-in_err-refuse_rows-clause-why g c = λ tells one.
-    let p = err_from_is_err_and c.from_residual-in_err-refuse_rows.result c.from_residual-in_err-refuse_rows.ensures.1 in
-    subst (λ (bytes : List ℕ). IsShowRefused c.args.view bytes) (c.as_slice-bytes.ensures.value ∙ c.in_ok-file.ensures.whole tells)
-    (c.in_err-refuse_rows.ensures.why (rw (p.1, p.2) at one))
+pub returns-clause-why : goal.returns-clause-why
+returns-clause-why g c = λ tells one.
+    why_not_shown_after c.args.view (g.T.Source.held c.args.tx.now) c.in_ok-file.file.items c.as_slice.result.now c.args.repair
+    c.show_bytes.result (c.in_ok-file.ensures.read tells) c.as_slice.ensures.value c.show_bytes.ensures.why one

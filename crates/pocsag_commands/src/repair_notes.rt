@@ -1,0 +1,89 @@
+//! Notes on what `--repair` corrected.
+
+use crate::explaining::Scene;
+use crate::note::Notes;
+use crate::role::Role;
+use pocsag_decode::{Repaired, repair_all};
+use pocsag_pages::leading_len;
+use pocsag_words::{BATCH_BYTES, OutOfMemory};
+use std::alloc::Global;
+use std::fmt::{self, Display};
+
+// How many batches are marked.
+const MARKED: u64 = 100;
+
+/// What is told of a repair.
+#[derive(Clone, Copy, PartialEq, Eq, Debug)]
+pub enum RepairNotes {
+    /// Nothing was repaired.
+    None,
+    /// How many words and bits were corrected.
+    Counts,
+    /// The same, and which words of each batch.
+    Marks,
+}
+
+// A batch before and after its repair, told as a letter for each word: r where it was corrected, and else a full stop;
+// the synchronisation codeword first, and then the frames.
+#[derive(Clone, Copy)]
+struct Marks<'a> {
+    before: &'a [u8],
+    after: &'a [u8],
+}
+
+impl Display for Marks<'_> {
+    fn fmt<W: fmt::Write>(&self, f: &mut fmt::Formatter<W>) -> fmt::Result {
+        let mut rest = self.after;
+        let mut is_first_of_frame = false;
+        for word in self.before.chunks(4) {
+            if is_first_of_frame {
+                f.write_str(" ")?;
+            }
+            let (repaired, behind) = rest.split_at(rest.len().min(4));
+            f.write_str(if repaired == word { "." } else { "r" })?;
+            rest = behind;
+            is_first_of_frame = !is_first_of_frame;
+        }
+        Ok(())
+    }
+}
+
+/// How many words and bits of the transmission were corrected and, where that is asked for, which.
+pub fn note_repair(alloc: Global, scene: &Scene<'_>, notes: &mut Notes) -> Result<(), OutOfMemory> {
+    if scene.repair == RepairNotes::None || scene.file.is_empty() {
+        return Ok(());
+    }
+    let mut repaired = Vec::new(alloc);
+    repaired.extend_from_slice(scene.file)?;
+    let Repaired { words, bits } = repair_all(repaired.as_mut_slice());
+    let place = scene.names.place(Role::Transmission);
+    notes.add(format_args!("{place}: corrected bits {bits}, words {words}"))?;
+    if scene.repair == RepairNotes::Marks {
+        return note_marks(scene.file, repaired.as_slice(), notes);
+    }
+    Ok(())
+}
+
+// The batches with words that were corrected, counted from 1 as `show` does.
+fn note_marks(before: &[u8], after: &[u8], notes: &mut Notes) -> Result<(), OutOfMemory> {
+    let first = leading_len(before);
+    let mut rest = after.get(first..).unwrap_or(&[]);
+    let (mut number, mut marked) = (0u64, 0u64);
+    for before in before[first..].chunks(BATCH_BYTES) {
+        number = number.saturating_add(1);
+        let (after, behind) = rest.split_at(rest.len().min(BATCH_BYTES));
+        rest = behind;
+        if after == before {
+            continue;
+        }
+        if marked < MARKED {
+            notes.add(format_args!("batch {number}: {}", Marks { before, after }))?;
+        }
+        marked = marked.saturating_add(1);
+    }
+    if marked > MARKED {
+        let more = marked - MARKED;
+        notes.add(format_args!("words of {more} further batches"))?;
+    }
+    Ok(())
+}

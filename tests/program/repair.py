@@ -1,0 +1,97 @@
+"""`--repair` of `decode` and `show` with every other option that it can stand beside: of a transmission with at most two
+wrong bits in each word all is told that is told of the transmission itself, and a word with three stays a fault."""
+
+import random
+import subprocess
+import sys
+
+sys.dont_write_bytecode = True
+from tally import PROGRAM
+
+HEADER = b"address,kind,message\n"
+FRONT, WORD, BATCH = 72, 4, 68
+VIEWS = ([], ["--rows", "1"], ["--rows", "2-"], ["--svg"], ["--svg", "--rows", "1-2"], ["--list"])
+
+
+def run(words, folder):
+    return subprocess.run([str(PROGRAM), *words], capture_output=True, cwd=folder, timeout=110)
+
+
+def random_file(source):
+    """A page file with pages of all kinds."""
+    addresses = source.sample(range(2000000), source.randint(1, 30))
+    records = []
+    for address in addresses:
+        kind = source.choice(["tone0", "tone1", "tone2", "tone3", "numeric", "alpha"])
+        text = "" if kind.startswith("tone") else "".join(source.choice("0123456789") for _ in range(source.randint(1, 60)))
+        records.append(f"{address},{kind},{text}\n".encode())
+    return HEADER + b"".join(records)
+
+
+def flipped(word, bits):
+    number = int.from_bytes(word, "big")
+    for bit in bits:
+        number ^= 1 << bit
+    return number.to_bytes(WORD, "big")
+
+
+def damaged(sent, source):
+    """The bytes with up to two wrong bits in each word, how many words and bits are wrong, and the marks of each batch."""
+    out, words, bits, marks = [sent[:FRONT]], 0, 0, []
+    for batch in range(FRONT, len(sent), BATCH):
+        letters = ""
+        for place in range(batch, batch + BATCH, WORD):
+            wrong = source.sample(range(32), source.choice([0, 0, 0, 1, 2]))
+            out.append(flipped(sent[place : place + WORD], wrong))
+            words, bits = words + bool(wrong), bits + len(wrong)
+            letters += ("r" if wrong else ".") + (" " if (place - batch) // WORD % 2 == 0 else "")
+        if "r" in letters:
+            marks.append(f"pocsag: batch {(batch - FRONT) // BATCH + 1}: {letters.rstrip()}\n")
+    return b"".join(out), words, bits, marks
+
+
+def try_transmission(tally, folder, source):
+    (folder / "p.csv").write_bytes(random_file(source))
+    run(["plan", "p.csv", "tx.bin", "cert.bin", "--always"], folder)
+    sent = (folder / "tx.bin").read_bytes()
+    received, words, bits, marks = damaged(sent, source)
+    (folder / "rx.bin").write_bytes(received)
+    count = f"pocsag: transmission rx.bin: corrected bits {bits}, words {words}\n"
+    for command, views, notes in (("decode", ([],), count), ("show", VIEWS, count + "".join(marks))):
+        for view in views:
+            due = run([command, "tx.bin", *view], folder)
+            plain = run([command, "tx.bin", *view, "--repair"], folder)
+            same = (plain.returncode, plain.stdout, plain.stderr) == (due.returncode, due.stdout, due.stderr)
+            tally.check(f"{command} {view} of what was sent", same, plain)
+            for more in ([], ["--verbose"]):
+                done = run([command, "rx.bin", *view, "--repair", *more], folder)
+                told = notes if more and due.returncode == 0 else None
+                holds = (done.returncode, done.stdout) == (due.returncode, due.stdout) and (told is None or done.stderr.decode() == told)
+                tally.check(f"{command} {view} {more} of what was received", holds, (done, told))
+            refused = run([command, "rx.bin", *view], folder).returncode
+            tally.check(f"{command} {view} refuses it without repair", refused == (1 if words else due.returncode), refused)
+    try_beyond(tally, folder, source, sent)
+
+
+def try_beyond(tally, folder, source, sent):
+    """Three wrong bits in one word."""
+    place = source.randrange((len(sent) - FRONT) // WORD)
+    at = FRONT + WORD * place
+    wrong = flipped(sent[at : at + WORD], source.sample(range(32), 3))
+    (folder / "rx.bin").write_bytes(sent[:at] + wrong + sent[at + WORD :])
+    batch, word = divmod(place, 17)
+    fault = f"batch {batch}: no synchronisation codeword" if word == 0 else f"codeword {16 * batch + word - 1}: not a codeword"
+    for command in ("decode", "show"):
+        done = run([command, "rx.bin", "--repair"], folder)
+        tally.check(f"{command} of three wrong bits", (done.returncode, done.stdout, done.stderr) == (1, b"", f"pocsag: {fault}\n".encode()), done)
+
+
+def try_repair(tally, folder):
+    source = random.Random(584)
+    for _ in range(12):
+        try_transmission(tally, folder, source)
+    by_pager = run(["hear", "8", "rx.bin"], folder)
+    tally.check("hear of the same", by_pager.returncode == 0, by_pager)
+
+
+PARTS = (try_repair,)
