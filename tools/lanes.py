@@ -58,7 +58,9 @@ class Lanes:
     def __init__(self, tasks, say, lanes=None):
         self.tasks = {task.name: task for task in tasks}
         self.say = say
-        self.lanes = lanes or max(1, min(processors(), free_memory() // MEMORY))
+        self.room = max(1, free_memory() // MEMORY)  # for so many tasks
+        # A proof loads and ends with one job, which is a third of its time: so many more jobs keep the processors busy.
+        self.lanes = lanes or min(processors() * 3 // 2, self.room)
         self.done, self.running = set(), {}
         self.start = time.monotonic()
         self.behind = {}
@@ -84,20 +86,14 @@ class Lanes:
         self.say(f"{minutes(time.monotonic() - self.start)} {task.begins} ({number} of {len(self.tasks)})")
 
     def begin_all(self):
-        """Begins what is ready, as long as a lane is idle."""
+        """Begins what is ready, as long as a lane is idle and there is memory for one more; the idle lanes are shared out."""
         ready = self.ready()
         for at, task in enumerate(ready):
             idle = self.lanes - sum(jobs for _, _, jobs, _ in self.running.values())
-            if idle <= 0:
+            if idle <= 0 or len(self.running) >= self.room:
                 return
-            self.begin(task, self.share(task, idle // (len(ready) - at)))
-
-    def share(self, task, idle):
-        """How many jobs a task gets: its share of the idle lanes, and of all lanes its chain's share of what is left, since
-        jobs cannot be added later; lanes are shared for a while where that is more."""
-        left = sum(it.weight for name, it in self.tasks.items() if name not in self.done)
-        chain = round(self.lanes * self.behind[task.name] / max(left, 1))
-        return max(1, min(4, self.lanes, max(task.least, idle, chain)))
+            shared = -(-idle // (len(ready) - at))
+            self.begin(task, max(min(task.least, self.lanes), min(4, shared)))
 
     def end_some(self):
         """Takes out the tasks that have ended; gives the name and the text of one that failed."""
