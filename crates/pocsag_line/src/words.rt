@@ -209,6 +209,22 @@ const TX_HELP: &str = "The transmission";
 
 const CERT_HELP: &str = "The certificate";
 
+const VERIFY_HELP: &str = "Reads TX and CERT back, and compares them with the page file";
+
+const ROWS_HELP: &str = "Shows these batches alone, counted from 1";
+
+const PLAN_ABOUT: &str =
+    "Writes a page file's transmission with the fewest batches, and the certificate of that";
+
+const CHECK_ABOUT: &str =
+    "Tells whether a certificate shows that fewer batches do not suffice for a page file";
+
+const EXPLAIN_ABOUT: &str =
+    "Tells in words why fewer batches do not suffice for a page file, by its certificate";
+
+const HEAR_ABOUT: &str =
+    "Lists what the pager of an address shows, past two wrong bits in each codeword";
+
 fn positional<'a>(alloc: Global, id: &'a str, help: &'a str) -> Arg<'a> {
     Arg::new(alloc, id).required(true).help(help)
 }
@@ -249,54 +265,51 @@ fn flag<'a>(alloc: Global, id: &'a str, help: &'a str) -> Arg<'a> {
 }
 
 fn plan_command<'a>(alloc: Global) -> Result<Command<'a>, AllocError> {
+    let idle_last = idle_last_flag(alloc)?;
+    let args = vec![in alloc;
+        positional(alloc, PAGES, PAGES_HELP),
+        positional(alloc, TX, TX_HELP),
+        positional(alloc, CERT, CERT_HELP),
+        limit_option(alloc),
+        end_option(alloc),
+        idle_last,
+        expect_option(alloc),
+        always_flag(alloc),
+        flag(alloc, VERIFY, VERIFY_HELP),
+        flag(alloc, KEEP, KEEP_HELP),
+    ]?;
     Command::new(alloc, PLAN)
-        .about(
-            "\
-Writes a page file's transmission with the fewest batches, and the certificate of that",
-        )
+        .about(PLAN_ABOUT)
         .after_help(PLAN_MANUAL)
-        .arg(positional(alloc, PAGES, PAGES_HELP))?
-        .arg(positional(alloc, TX, TX_HELP))?
-        .arg(positional(alloc, CERT, CERT_HELP))?
-        .arg(limit_option(alloc))?
-        .arg(end_option(alloc))?
-        .arg(idle_last_flag(alloc)?)?
-        .arg(expect_option(alloc))?
-        .arg(always_flag(alloc))?
-        .arg(flag(
-            alloc,
-            VERIFY,
-            "Reads TX and CERT back, and compares them with the page file",
-        ))?
-        .arg(flag(alloc, KEEP, KEEP_HELP))
+        .args(args)
 }
 
 fn check_command<'a>(alloc: Global) -> Result<Command<'a>, AllocError> {
     Command::new(alloc, CHECK)
-        .about(
-            "Tells whether a certificate shows that fewer batches do not suffice for a page file",
-        )
+        .about(CHECK_ABOUT)
         .arg(positional(alloc, PAGES, PAGES_HELP))?
         .arg(positional(alloc, CERT, CERT_HELP))
 }
 
-fn explain_command<'a>(alloc: Global) -> Result<Command<'a>, AllocError> {
-    let depth = option(alloc, DEPTH, "N", DEPTH_HELP)
+fn depth_option<'a>(alloc: Global) -> Arg<'a> {
+    option(alloc, DEPTH, "N", DEPTH_HELP)
         .value_parser(value_parser!(u32))
-        .default_value("3");
-    let svg = flag(alloc, SVG, PICTURE_HELP)
-        .conflicts_with(JSON)?
-        .conflicts_with(DEPTH)?;
+        .default_value("3")
+}
+
+fn explain_command<'a>(alloc: Global) -> Result<Command<'a>, AllocError> {
+    let svg = flag(alloc, SVG, PICTURE_HELP).conflicts_with_all(&[JSON, DEPTH])?;
+    let args = vec![in alloc;
+        positional(alloc, PAGES, PAGES_HELP),
+        positional(alloc, CERT, CERT_HELP),
+        depth_option(alloc),
+        flag(alloc, JSON, "Tells the same facts as JSON"),
+        svg,
+    ]?;
     Command::new(alloc, EXPLAIN)
-        .about(
-            "Tells in words why fewer batches do not suffice for a page file, by its certificate",
-        )
+        .about(EXPLAIN_ABOUT)
         .after_help(EXPLAIN_MANUAL)
-        .arg(positional(alloc, PAGES, PAGES_HELP))?
-        .arg(positional(alloc, CERT, CERT_HELP))?
-        .arg(depth)?
-        .arg(flag(alloc, JSON, "Tells the same facts as JSON"))?
-        .arg(svg)
+        .args(args)
 }
 
 fn decode_command<'a>(alloc: Global) -> Result<Command<'a>, AllocError> {
@@ -311,74 +324,92 @@ fn hear_command<'a>(alloc: Global) -> Result<Command<'a>, AllocError> {
         value_parser!(u32),
     );
     Command::new(alloc, HEAR)
-        .about(
-            "\
-Lists what the pager of an address shows, past two wrong bits in each codeword",
-        )
+        .about(HEAR_ABOUT)
         .arg(address)?
         .arg(positional(alloc, TX, TX_HELP))
 }
 
+fn rows_option<'a>(alloc: Global) -> Result<Arg<'a>, AllocError> {
+    option(alloc, ROWS, "A-B", ROWS_HELP).conflicts_with(LIST)
+}
+
 fn show_command<'a>(alloc: Global) -> Result<Command<'a>, AllocError> {
     let list = flag(alloc, LIST, "Lists where each page stands, as CSV").conflicts_with(SVG)?;
-    let rows = option(
-        alloc,
-        ROWS,
-        "A-B",
-        "Shows these batches alone, counted from 1",
-    )
-    .conflicts_with(LIST)?;
+    let rows = rows_option(alloc)?;
+    let args = vec![in alloc;
+        positional(alloc, TX, TX_HELP),
+        flag(alloc, SVG, "Draws it as an SVG picture"),
+        rows,
+        list,
+        flag(alloc, REPAIR, REPAIR_HELP),
+    ]?;
     Command::new(alloc, SHOW)
         .about("Shows what a transmission looks like, codeword by codeword")
         .after_help(SHOW_MANUAL)
-        .arg(positional(alloc, TX, TX_HELP))?
-        .arg(flag(alloc, SVG, "Draws it as an SVG picture"))?
-        .arg(rows)?
-        .arg(list)?
-        .arg(flag(alloc, REPAIR, REPAIR_HELP))
+        .args(args)
 }
 
 fn open_command<'a>(alloc: Global) -> Result<Command<'a>, AllocError> {
+    let args = vec![in alloc;
+        Arg::new(alloc, PAGES).help("The page file that the round begins with"),
+        option(alloc, JOURNAL, "FILE", JOURNAL_HELP),
+        always_flag(alloc),
+        flag(alloc, KEEP, KEEP_HELP),
+    ]?;
     Command::new(alloc, ROUND)
         .about("Keeps an open round, which is edited and planned by the lines of standard input")
         .after_help(OPEN_MANUAL)
-        .arg(Arg::new(alloc, PAGES).help("The page file that the round begins with"))?
-        .arg(option(alloc, JOURNAL, "FILE", JOURNAL_HELP))?
-        .arg(always_flag(alloc))?
-        .arg(flag(alloc, KEEP, KEEP_HELP))
+        .args(args)
+}
+
+fn rate_option<'a>(alloc: Global) -> Arg<'a> {
+    option(alloc, RATE, "R", "Bits a second: 512, 1200 or 2400")
+        .value_parser(value_parser!(u32))
+        .required(true)
 }
 
 fn report_command<'a>(alloc: Global) -> Result<Command<'a>, AllocError> {
-    let rate = option(alloc, RATE, "R", "Bits a second: 512, 1200 or 2400")
-        .required(true)
-        .value_parser(value_parser!(u32));
+    let idle_last = idle_last_flag(alloc)?;
+    let args = vec![in alloc;
+        positional(alloc, PAGES, PAGES_HELP),
+        rate_option(alloc),
+        limit_option(alloc),
+        end_option(alloc),
+        idle_last,
+        expect_option(alloc),
+        always_flag(alloc),
+        flag(alloc, EACH_FRAME, FRAMES_HELP),
+    ]?;
     Command::new(alloc, REPORT)
         .about("Tells what the plan of a page file takes on the air")
-        .arg(positional(alloc, PAGES, PAGES_HELP))?
-        .arg(rate)?
-        .arg(limit_option(alloc))?
-        .arg(end_option(alloc))?
-        .arg(idle_last_flag(alloc)?)?
-        .arg(expect_option(alloc))?
-        .arg(always_flag(alloc))?
-        .arg(flag(alloc, EACH_FRAME, FRAMES_HELP))
+        .args(args)
 }
 
-fn command<'a>(alloc: Global) -> Result<Command<'a>, AllocError> {
-    Command::new(alloc, "pocsag")
-        .bin_name("pocsag")?
-        .version(VERSION)
-        .about(ABOUT)
-        .after_help(MANUAL)
-        .arg(flag(alloc, VERBOSE, VERBOSE_HELP).global(true))?
+// Half of the commands, in the order in which they are told.
+fn with_first_commands<'a>(alloc: Global, program: Command<'a>) -> Result<Command<'a>, AllocError> {
+    program
         .subcommand(plan_command(alloc)?)?
         .subcommand(check_command(alloc)?)?
         .subcommand(explain_command(alloc)?)?
-        .subcommand(decode_command(alloc)?)?
+        .subcommand(decode_command(alloc)?)
+}
+
+fn with_last_commands<'a>(alloc: Global, program: Command<'a>) -> Result<Command<'a>, AllocError> {
+    program
         .subcommand(hear_command(alloc)?)?
         .subcommand(show_command(alloc)?)?
         .subcommand(open_command(alloc)?)?
         .subcommand(report_command(alloc)?)
+}
+
+fn command<'a>(alloc: Global) -> Result<Command<'a>, AllocError> {
+    let program = Command::new(alloc, "pocsag")
+        .bin_name("pocsag")?
+        .version(VERSION)
+        .about(ABOUT)
+        .after_help(MANUAL)
+        .arg(flag(alloc, VERBOSE, VERBOSE_HELP).global(true))?;
+    with_last_commands(alloc, with_first_commands(alloc, program)?)
 }
 
 fn end_of(found: &ArgMatches<'_>) -> Option<End> {
