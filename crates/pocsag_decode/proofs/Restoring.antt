@@ -1,11 +1,11 @@
 -- The repair of damaged bytes is what was sent, and holds what each pager shows of them.
-use Rattle.std.proofs.Common.{◌≡◌, ◌≢◌, ℕ, ◌+◌, ◌*◌, ◌/◌, ◌%◌, ◌<◌, ◌≤◌, List, [], ◌∷◌, ◌++◌, length, map, filter, replicate, Option, Some, All, count_ones, refl, sym, ap, ap₂, ◌∙◌, subst, inl, inr, arith}
+use Rattle.std.proofs.Common.{◌≡◌, ◌≢◌, ℕ, ◌+◌, ◌*◌, ◌/◌, ◌%◌, ◌<◌, ◌≤◌, List, [], ◌∷◌, ◌++◌, length, map, filter, replicate, Option, Some, All, count_ones, refl, sym, ap, ap₂, ◌∙◌, subst, inl, inr, arith, lit<}
 use Rattle.std.specs.Int.{to_be_bytes, w32}
 use Rattle.std.specs.Int.Bits.{xor_self}
 use Rattle.std.specs.List.{AllZip, flat_map}
 use Rattle.std.proofs.lemmas.Bool.{cases_eq, eq-eqb, ne_eqb}
 use Rattle.std.proofs.lemmas.List.{append-nil, nil_from_length}
-use Rattle.std.proofs.lemmas.List.Elements.{All-head, All-tail}
+use Rattle.std.proofs.lemmas.List.Elements.{All-append, All-cons, All-head, All-nil, All-replicate, All-tail}
 use Rattle.std.proofs.lemmas.Nat.{ones_le_self}
 use Rattle.std.proofs.lemmas.Slice.Zip.{AllZip-long}
 use Rattle.pocsag_words.specs.Codeword.{IsCodeword, IsNear}
@@ -20,11 +20,12 @@ use Rattle.pocsag_pager.proofs.Chosen.{calls}
 use Rattle.pocsag_pager.proofs.Mending.{mended_same}
 use Rattle.pocsag_pager.proofs.Repairing.{shown_is_chosen}
 use Rattle.pocsag_decode.specs.Carried.{unfinished}
-use Rattle.pocsag_decode.specs.Faults.{ReadsAs, words}
+use Rattle.pocsag_decode.specs.Faults.{IsFaultless, ReadsAs, words}
 use Rattle.pocsag_decode.specs.Repairing.{AreRepaired, IsRepairOf, IsRepaired, sync, no_sync, codeword, beyond}
 use Rattle.pocsag_decode.proofs.Preambles.{Parts, after_is, count_is, leading_is}
 use Rattle.pocsag_decode.proofs.Repairs.{repaired_words}
-use Rattle.pocsag_decode.proofs.SentBytes.{body_begins, codewords_are}
+use Rattle.pocsag_decode.proofs.Judgements.{whole_no_fault}
+use Rattle.pocsag_decode.proofs.SentBytes.{body_begins, codewords_are, reads_whole}
 use Rattle.pocsag_decode.proofs.Words.{bytes_count}
 
 -- the synchronisation codeword where one is due, and codewords elsewhere
@@ -115,6 +116,29 @@ module _ (X T : List ℕ) (s : Sent X T) where
 
   pub undamaged : IsDamaged X X
   undamaged = record { long = refl; preamble = refl; words = all_near (words X) }
+
+-- ---- what reads as pages has no fault
+
+small_four : (a b c d : ℕ) (rest : List ℕ) → a < 256 → b < 256 → c < 256 → d < 256 → All (λ x. x < 256) rest →
+    All (λ x. x < 256) (a ∷ b ∷ c ∷ d ∷ rest)
+small_four a b c d rest h i j k small =
+    All-cons (λ x. x < 256) a (b ∷ c ∷ d ∷ rest) h (All-cons (λ x. x < 256) b (c ∷ d ∷ rest) i (All-cons (λ x. x < 256) c (d ∷ rest) j
+    (All-cons (λ x. x < 256) d rest k small)))
+
+small_bytes : (ws : List ℕ) → All (λ b. b < 256) (flat_map (to_be_bytes w32) ws)
+small_bytes [] = All-nil _
+small_bytes (w ∷ ws) =
+    small_four (w / 16777216 % 256) (w / 65536 % 256) (w / 256 % 256) (w % 256) (flat_map (to_be_bytes w32) ws)
+    (omega arith) (omega arith) (omega arith) (omega arith) (small_bytes ws)
+
+pub no_fault_of_reading : (X : List ℕ) (ps : List Page) → ReadsAs X ps → IsFaultless X
+no_fault_of_reading X ps r =
+    let s = r.sent in
+    let small : All (λ b. b < 256) X =
+    subst (All (λ b. b < 256)) (sym s.bytes)
+    (All-append (λ b. b < 256) (replicate s.preamble 0xaa) (body_bytes r.codewords) (All-replicate (λ b. b < 256) s.preamble 0xaa (lit< tt))
+    (small_bytes (synced 0 r.codewords))) in
+    whole_no_fault X (reads_whole X ps small r)
 
 -- ---- what a pager shows
 

@@ -40,6 +40,11 @@ pub fn standing_is_without_fault()
     ensures { (d : Decoder) (X : List ℕ) (f : DecodeFault) → StandsAfter d X → ¬ HasFaultThere X f }
 {}
 
+/// What reads as pages has no fault.
+pub fn readings_have_no_fault()
+    ensures { (X : List ℕ) (ps : List Page) → ReadsAs X ps → IsFaultless X }
+{}
+
 /// What was sent comes back: the repair of bytes with at most two wrong bits in each word of a transmission is that
 /// transmission, and so is that of its own bytes.
 pub fn repair_restores()

@@ -18,8 +18,8 @@ mod whole;
 pub use fault::{DecodeFault, ListFault};
 pub use laws::{
     a_fault_there_stays, faults_are_one, listed_fields_are_read_back, no_fault_is_a_reading,
-    page_files_are_read_back, readings_of_bytes_are_one, repair_restores, repaired_pages_are_heard,
-    standing_is_without_fault,
+    page_files_are_read_back, readings_have_no_fault, readings_of_bytes_are_one, repair_restores,
+    repaired_pages_are_heard, standing_is_without_fault,
 };
 pub use listing::{kind_of_page, list, message_of};
 pub use page_file::write_page_file;
