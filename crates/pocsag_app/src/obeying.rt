@@ -3,8 +3,8 @@ use crate::naming::{names_in, repair_in, subject_of};
 use crate::planning::plan;
 use crate::round_files::RoundFiles;
 use pocsag_commands::{
-    Fault, ReaderSource, RepairNotes, Role, Scene, Watch, expected_file, run_check, run_decode, run_hear,
-    run_input, run_report, run_show, tell, tell_explained, tell_fault,
+    Fault, ReaderSource, RepairNotes, Role, Scene, Watch, expected_file, run_check, run_decode,
+    run_hear, run_input, run_report, run_show, tell, tell_explained, tell_fault,
 };
 use pocsag_explain::{run_explain, run_frames};
 use pocsag_files::{Desk, open_buffered, open_source};

@@ -2,8 +2,7 @@
 
 use pocsag_commands::{
     DEFAULT_LIMIT, Fault, Names, PlanFiles, RepairNotes, Role, Scene, Trouble, run_check,
-    run_decode, run_hear,
-    run_input, run_plan, run_report, run_verify, tell_explained, tell_fault,
+    run_decode, run_hear, run_input, run_plan, run_report, run_verify, tell_explained, tell_fault,
 };
 use pocsag_pages::RoundFault;
 use pocsag_plan::{Effort, Search};
@@ -495,7 +494,8 @@ fn repairs_are_told(rt: HostRuntime) -> Result<(), Fail> {
     for (wrong, repair, due) in REPAIR_CASES {
         let planned = plan(alloc, OPEN, LONE_TONE, SOUND);
         let mut file = Vec::new(alloc);
-        file.extend_from_slice(planned.tx.bytes()).expect(&rt, "memory");
+        file.extend_from_slice(planned.tx.bytes())
+            .expect(&rt, "memory");
         for (place, flipped) in wrong.iter().enumerate() {
             let at = 75 + 4 * place.min(16);
             file[at.min(139)] ^= *flipped as u8;

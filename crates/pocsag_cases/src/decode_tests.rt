@@ -109,7 +109,11 @@ fn repairs(rt: HostRuntime) {
         }
         let told = repair_all(bytes.as_mut_slice());
         assert_eq!(rt; (told.words, told.bits), (*words, *bits), "{wrong:?}");
-        assert_eq!(rt; decode(alloc, cut(bytes.as_slice(), 140)).err(), *fault, "{wrong:?}");
+        assert_eq!(rt;
+            decode(alloc, cut(bytes.as_slice(), 140)).err(),
+            *fault,
+            "{wrong:?}"
+        );
         if fault.is_none() {
             assert_eq!(rt; cut(bytes.as_slice(), 140), right.as_slice(), "{wrong:?}");
         }
