@@ -297,8 +297,14 @@ fn depth_option<'a>(alloc: Global) -> Arg<'a> {
         .default_value("3")
 }
 
+fn drawing_flag<'a>(alloc: Global) -> Result<Arg<'a>, AllocError> {
+    flag(alloc, SVG, PICTURE_HELP)
+        .conflicts_with(JSON)?
+        .conflicts_with(DEPTH)
+}
+
 fn explain_command<'a>(alloc: Global) -> Result<Command<'a>, AllocError> {
-    let svg = flag(alloc, SVG, PICTURE_HELP).conflicts_with_all(&[JSON, DEPTH])?;
+    let svg = drawing_flag(alloc)?;
     let args = vec![in alloc;
         positional(alloc, PAGES, PAGES_HELP),
         positional(alloc, CERT, CERT_HELP),
