@@ -10,7 +10,7 @@ use Rattle.pocsag_tree.specs.Parts.{HasFirst}
 use Rattle.pocsag_tree.specs.Views.{bound_of}
 use Rattle.pocsag_tree.specs.declared.refusals.CertificateFault.{CertificateFault}
 use Rattle.pocsag_tree.specs.declared.refusals.CertificateFault.TheVariants as certificate
-use Rattle.pocsag_decode.specs.Faults.{HasFault}
+use Rattle.pocsag_decode.specs.Faults.{HasFault, IsFaultless}
 use Rattle.pocsag_decode.specs.Repairing.{IsRepairOf}
 use Rattle.pocsag_decode.specs.declared.fault.DecodeFault.{DecodeFault}
 use Rattle.pocsag_pager.specs.Faults.{hearing_fault}
@@ -70,6 +70,13 @@ why_decoded_after file bytes X repair (Err e) read same said one =
     let why = why_decoded X e said one in
     IsTransmissionRefused.fault why.0
     (record { bytes = bytes; read = read; holds = subst (λ (l : List ℕ). HasFault l why.0) same why.1 })
+
+-- bytes that are those of a reading are not refused
+pub never_refused : (X bytes : List ℕ) (r : Result (Unit {0}) Fault) → bytes ≡ X → IsFaultless X → IfErr r (ExplainsDecoding bytes) →
+    ¬ (status_after r ≡ 1)
+never_refused X bytes (Ok done) same none said one = absurd (omega arith)
+never_refused X bytes (Err e) same none said one =
+    let why = why_decoded bytes e said one in none why.0 (subst (λ (l : List ℕ). HasFault l why.0) same why.1)
 
 -- the bytes of a file that are read are those that were sent
 pub restored_bytes : (file bytes X : List ℕ) (repair : Bool) → repair ≡ true → AreReadOf file repair bytes →

@@ -11,7 +11,9 @@ ghost use Rattle.pocsag_commands.specs.Repairing.{AreReadOf, IsSoOfRead};
 ghost use Rattle.pocsag_commands.specs.Refusals.{IsHearingRefused, IsTransmissionRefused};
 
 use crate::fault::Fault;
-use pocsag_decode::{decode, list, readings_of_bytes_are_one, repair_all, repair_restores};
+use pocsag_decode::{
+    decode, list, readings_have_no_fault, readings_of_bytes_are_one, repair_all, repair_restores,
+};
 use pocsag_pager::hear_all;
 use pocsag_pages::read_whole;
 use pocsag_words::{INPUT_LIMIT, Sink, Source};
@@ -49,11 +51,15 @@ pub fn run_decode<T: Source, O: Sink>(
     // *Repaired for all*: of a transmission with at most two wrong bits in each word just its pages are listed.
     ensures restored { T.tells → O.tells → repair ≡ true → (X : List ℕ) (pages : List Page) → ReadsAs X pages →
         IsDamaged X (T.held tx.old) → OnOk result (O.taken out.new ≡ O.taken out.old ++ listing pages) }
+    // And it is refused only where it is larger than is read.
+    ensures taken { T.tells → repair ≡ true → (X : List ℕ) (pages : List Page) → ReadsAs X pages →
+        IsDamaged X (T.held tx.old) → status_after result ≡ 1 → input_limit < length (T.held tx.old) }
     ensures why { T.tells → status_after result ≡ 1 → IsTransmissionRefused (T.held tx.old) repair }
     ensures refused { status_after result ≡ 1 → out.new ≡ out.old }
 {
     repair_restores();
     readings_of_bytes_are_one();
+    readings_have_no_fault();
     let bytes = read_transmission(alloc, repair, tx)?;
     list_decoded(alloc, bytes.as_slice(), out)
 }

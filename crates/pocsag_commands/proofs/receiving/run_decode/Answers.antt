@@ -4,7 +4,7 @@ use Rattle.pocsag_pages.specs.declared.page.Page.{Page}
 use Rattle.pocsag_decode.specs.Faults.{ReadsAs}
 use Rattle.pocsag_decode.specs.Listing.{listing}
 use Rattle.pocsag_commands.specs.Commands.{Decoded}
-use Rattle.pocsag_commands.proofs.Refusing.{restored_bytes, why_decoded_after}
+use Rattle.pocsag_commands.proofs.Refusing.{never_refused, restored_bytes, why_decoded_after}
 use Rattle.pocsag_commands.proofs.receiving.run_decode.Goals as goal
 
 -- what is listed of the bytes that were sent are their pages
@@ -22,6 +22,15 @@ returns-clause-restored g c = λ tells told on X ps reads damaged.
     (listed_as_sent X c.as_slice.result.now ps (g.O.Sink.taken c.args.out.now) (g.O.Sink.taken c.list_decoded.new.out) (λ qs h. c.readings_of_bytes_are_one.ensures X qs ps h reads)
     (c.as_slice.ensures.value ∙ same))
     (c.list_decoded.ensures.listed told)
+
+pub returns-clause-taken : goal.returns-clause-taken
+returns-clause-taken g c = λ tells on X ps reads damaged one.
+    let same =
+    restored_bytes (g.T.Source.held c.args.tx.now) c.in_ok-bytes.bytes.items X c.args.repair on (c.in_ok-bytes.ensures.read tells)
+    (c.repair_restores.ensures.damaged X reads.codewords _ _ reads.sent damaged) in
+    absurd
+    (never_refused X c.as_slice.result.now c.list_decoded.result (c.as_slice.ensures.value ∙ same)
+    (c.readings_have_no_fault.ensures X ps reads) c.list_decoded.ensures.explained one)
 
 pub returns-clause-why : goal.returns-clause-why
 returns-clause-why g c = λ tells one.
