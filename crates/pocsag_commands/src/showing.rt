@@ -43,7 +43,8 @@ pub fn run_show<T: Source, O: Sink>(
 
     // *Repaired for all*: of a transmission with at most two wrong bits in each word it shows what it shows of the
     // transmission itself.
-    ensures restored { T.tells → O.tells → repair ≡ true → (X codewords : List ℕ) → Sent X codewords → IsDamaged X (T.held tx.old) →
+    ensures restored { T.tells → O.tells → repair ≡ true → (X codewords : List ℕ) → Sent X codewords →
+        IsDamaged X (T.held tx.old) →
         OnOk result (Viewed view X (O.taken out.old) (O.taken out.new)) }
     ensures why { T.tells → status_after result ≡ 1 → IsShowRefused view (T.held tx.old) repair }
     ensures refused { status_after result ≡ 1 → out.new ≡ out.old }
