@@ -510,21 +510,21 @@ fn what_was_planned_is_read(rt: HostRuntime) -> Result<(), Fail> {
     Ok(())
 }
 
-// What is wrong in each word behind the preamble of a lone tone, what is told of its repair, and the notes.
-const REPAIR_CASES: [(&[u32], RepairNotes, &str); 4] = [
-    (&[1], RepairNotes::None, ""),
+// What is wrong in the last byte of the first words behind the preamble of a lone tone, what is told of its repair, and the notes.
+const REPAIR_CASES: [([u8; 3], RepairNotes, &str); 4] = [
+    ([1, 0, 0], RepairNotes::None, ""),
     (
-        &[],
+        [0, 0, 0],
         RepairNotes::Marks,
         "pocsag: transmission t.bin: corrected bits 0, words 0\n",
     ),
     (
-        &[1, 0, 3],
+        [1, 0, 3],
         RepairNotes::Counts,
         "pocsag: transmission t.bin: corrected bits 3, words 2\n",
     ),
     (
-        &[1, 0, 3],
+        [1, 0, 3],
         RepairNotes::Marks,
         "pocsag: transmission t.bin: corrected bits 3, words 2\n\
          pocsag: batch 1: r .r .. .. .. .. .. .. ..\n",
@@ -544,8 +544,9 @@ fn repairs_are_told(rt: HostRuntime) -> Result<(), Fail> {
         file.extend_from_slice(planned.tx.bytes())
             .expect(&rt, "memory");
         for (place, flipped) in wrong.iter().enumerate() {
-            let at = 75 + 4 * place.min(16);
-            file[at.min(139)] ^= *flipped as u8;
+            if let Some(byte) = file.get_mut(75 + 4 * place) {
+                *byte ^= *flipped;
+            }
         }
         let scene = Scene {
             names,
