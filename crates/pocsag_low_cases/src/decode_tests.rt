@@ -83,14 +83,19 @@ fn wrong_bits(rt: HostRuntime) {
     }
 }
 
-// What is wrong in each word behind the preamble, what is repaired of it, and the fault that is left.
-const REPAIRED: &[(&[u32], u64, u64, Option<DecodeFault>)] = &[
-    (&[], 0, 0, None),
-    (&[0x8000_0001, 0x4000_0000, 3, 0, 1], 4, 6, None),
-    (&[7], 0, 0, Some(DecodeFault::NoSync(0))),
-    (&[1, 7, 0, 1], 2, 2, Some(DecodeFault::BadWord(0))),
+// What is wrong in each of the first words behind the preamble, what is repaired of it, and the fault that is left.
+const REPAIRED: [([u32; 5], u64, u64, Option<DecodeFault>); 5] = [
+    ([0, 0, 0, 0, 0], 0, 0, None),
+    ([0x8000_0001, 0x4000_0000, 3, 0, 1], 4, 6, None),
+    ([7, 0, 0, 0, 0], 0, 0, Some(DecodeFault::NoSync(0))),
+    ([1, 7, 0, 1, 0], 2, 2, Some(DecodeFault::BadWord(0))),
     // An idle codeword, with one bit wrong, in place of the synchronisation codeword.
-    (&[SYNC ^ IDLE ^ 1], 0, 0, Some(DecodeFault::NoSync(0))),
+    (
+        [SYNC ^ IDLE ^ 1, 0, 0, 0, 0],
+        0,
+        0,
+        Some(DecodeFault::NoSync(0)),
+    ),
 ];
 
 #[test]
@@ -103,15 +108,16 @@ fn repairs(rt: HostRuntime) {
         bytes.extend_from_slice(b"end").expect(&rt, "memory");
         for (place, flipped) in wrong.iter().enumerate() {
             for (byte, bits) in flipped.to_be_bytes().iter().enumerate() {
-                let at = 72 + 4 * place.min(16) + byte;
-                bytes[at.min(139)] ^= *bits;
+                if let Some(sent) = bytes.get_mut(72 + 4 * place + byte) {
+                    *sent ^= *bits;
+                }
             }
         }
         let told = repair_all(bytes.as_mut_slice());
-        assert_eq!(rt; (told.words, told.bits), (*words, *bits), "{wrong:?}");
+        assert_eq!(rt; (told.words, told.bits), (words, bits), "{wrong:?}");
         assert_eq!(rt;
             decode(alloc, cut(bytes.as_slice(), 140)).err(),
-            *fault,
+            fault,
             "{wrong:?}"
         );
         if fault.is_none() {
