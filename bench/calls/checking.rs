@@ -66,6 +66,7 @@ impl Checker {
     fn least_load(&self, limits: &Limits, set: u16) -> u64 {
         let size = covered(set, 0, 16);
         (0..136)
+            .filter(|class| self.count[*class] > 0)
             .map(|class| {
                 let early = covered(set, start(class, true), rest(class));
                 let late = covered(set, start(class, false), rest(class));

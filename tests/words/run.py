@@ -21,7 +21,7 @@ IMPORT = re.compile(r"ghost use Rattle\.(pocsag_\w+)\.specs\.([\w.]+)\.\{([^}]*)
 MODULE_IMPORT = re.compile(r"ghost use Rattle\.(pocsag_\w+)\.specs\.([\w.]+) as (\w+);")
 GIVEN = re.compile(r"(?:(?:pub|record|data|abbrev|unfoldable) )+([^\s:{(]+)")
 CITED = re.compile(r"[A-Za-z_][\w']*(?:-\w+)*(?:\.[A-Za-z_][\w']*(?:-\w+)*)*")
-IGNORED_CRATES = {"pocsag_command_cases", "pocsag_low_cases", "pocsag_plan_cases", "pocsag_rounds", "pocsag_search_cases", "pocsag_trial"}
+IGNORED_CRATES = {f"pocsag_{of}" for of in ("command_cases", "low_cases", "plan_cases", "rounds", "search_cases", "trial")}
 ITEM = re.compile(r"^(?:pub(?:\([^)]*\))? )?(?:const )?(?:unsafe )?(?:extern \"C\" )?(?:fn|struct|enum|trait|const|static|type) (\w+)")
 LAST_COLUMN = 120
 
