@@ -1,12 +1,8 @@
 #![tactic(auto)]
 //! The program `pocsag`: reads its words, opens its files, and calls the command.
 
-mod journal_file;
-mod journaling;
 mod naming;
 mod obeying;
-mod planning;
-mod round_files;
 
 use crate::obeying::obey;
 use clap::Error;

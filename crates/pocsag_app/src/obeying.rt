@@ -1,7 +1,4 @@
-use crate::journaling::open_kept;
 use crate::naming::{names_in, repair_in, subject_of};
-use crate::planning::plan;
-use crate::round_files::RoundFiles;
 use pocsag_commands::{
     Fault, ReaderSource, RepairNotes, Role, Scene, Watch, expected_file, run_check, run_decode,
     run_hear, run_input, run_report, run_show, tell, tell_explained, tell_fault,
@@ -11,6 +8,7 @@ use pocsag_files::{Desk, open_buffered, open_source};
 use pocsag_findings::Telling;
 use pocsag_line::{Asked, Order, STANDARD, SearchOrder};
 use pocsag_open::{Planner, run_open, run_open_pages};
+use pocsag_orders::{RoundFiles, open_kept, plan};
 use pocsag_words::{Sink, SliceSource, Source};
 use std::alloc::Global;
 use std::io::IsTerminal;
