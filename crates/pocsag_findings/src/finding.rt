@@ -1,7 +1,7 @@
 use pocsag_slots::Way;
 
 /// How a node is reached from the one above it.
-#[derive(Clone, Copy, PartialEq, Eq, Debug)]
+#[derive(Clone, Copy)]
 pub enum Reached {
     /// It is the root.
     Root,
@@ -16,7 +16,7 @@ pub enum Reached {
 }
 
 /// What the pages of one class cover of a set of slots at the least.
-#[derive(Clone, Copy, PartialEq, Eq, Debug)]
+#[derive(Clone, Copy)]
 pub struct Share {
     pub class: u8,
     pub pages: u32,
@@ -25,7 +25,7 @@ pub struct Share {
 }
 
 /// What must stand in one slot under the limits of a node, and how much may.
-#[derive(Clone, Copy, PartialEq, Eq, Debug)]
+#[derive(Clone, Copy)]
 pub struct Column {
     /// The least load of the slot.
     pub least: u64,
@@ -34,7 +34,7 @@ pub struct Column {
 }
 
 /// What a node states, with the numbers that its rule compares.
-#[derive(Clone, Copy, PartialEq, Eq, Debug)]
+#[derive(Clone, Copy)]
 pub enum Fact {
     /// At least so many codewords of pages stand in the slots of the set, and there is room for so many.
     Overload {
@@ -70,7 +70,7 @@ pub enum Fact {
 }
 
 /// What is found of one node of a tree.
-#[derive(Drop, Debug)]
+#[derive(Drop)]
 pub struct Finding {
     /// How deep the node stands; the root alone has depth 1.
     pub depth: u32,

@@ -106,6 +106,27 @@ fn judge_rows(
     }
 }
 
+// The round of all the records of the reader, the header first; `row` is where they are read into.
+fn judge_all(
+    alloc: Global,
+    reader: &mut Reader<&[u8]>,
+    row: &mut ByteRecord,
+) -> Result<Round, RoundFault>
+    requires { StandsAt reader.old }
+    ensures ok { IfOk result (λ r. verdict_of_rows (rows_left reader.old) ≡ Ok r) }
+    ensures err { IfErr result
+        (λ e. (e ≡ RoundFault.OutOfMemory) ⊎ (verdict_of_rows (rows_left reader.old) ≡ Err e)) }
+{
+    let found = next_row(reader, row)?;
+    if !found {
+        return Err(RoundFault::BadHeader);
+    }
+    if !is_header_row(row) {
+        return Err(RoundFault::BadHeader);
+    }
+    judge_rows(alloc, reader, row)
+}
+
 // The round of the bytes of a page file that is not too large.
 fn judge_file(alloc: Global, bytes: &[u8]) -> Result<Round, RoundFault>
     ensures ok { IfOk result (λ r. verdict_of_rows (rows_of bytes.now) ≡ Ok r) }
@@ -114,14 +135,7 @@ fn judge_file(alloc: Global, bytes: &[u8]) -> Result<Round, RoundFault>
 {
     let mut reader = rows_reader(alloc, bytes);
     let mut row = ByteRecord::new(alloc);
-    let found = next_row(&mut reader, &mut row)?;
-    if !found {
-        return Err(RoundFault::BadHeader);
-    }
-    if !is_header_row(&row) {
-        return Err(RoundFault::BadHeader);
-    }
-    judge_rows(alloc, &mut reader, &mut row)
+    judge_all(alloc, &mut reader, &mut row)
 }
 
 /// The round of the page file that a reader holds up to its end, or the file's first fault.

@@ -1,4 +1,5 @@
 ghost use Rattle.std.specs.Prelude.{◌≡◌, ◌≢◌, ◌^◌, ◌<◌, ◌≤◌, ◌⊎◌, ◌∷◌, [], length, None, All, IfErr, IfNone, IfOk, IfSome, IsOk};
+ghost use Rattle.std.specs.Str.{bytes_eq};
 ghost use Rattle.csv.specs.Records.{fields_of};
 ghost use Rattle.pocsag_text.specs.Bits.{AreItems};
 ghost use Rattle.pocsag_text.specs.Text.{item_limit};
@@ -25,7 +26,7 @@ pub(crate) enum PageKind {
 }
 
 // The three fields of a record.
-#[derive(Drop)]
+#[derive(Clone, Copy)]
 struct Fields<'a> {
     address: &'a [u8],
     kind: &'a [u8],
@@ -40,10 +41,16 @@ fn three_fields(row: &ByteRecord) -> Option<Fields<'_>>
         return None;
     }
     Some(Fields {
-        address: row.get(0)?,
-        kind: row.get(1)?,
-        message: row.get(2)?,
+        address: row.get(0).unwrap(),
+        kind: row.get(1).unwrap(),
+        message: row.get(2).unwrap(),
     })
+}
+
+fn is_word(field: &[u8], word: &[u8]) -> bool
+    ensures { result ≡ bytes_eq field.now word.now }
+{
+    field == word
 }
 
 // Whether the record is the header of a page file.
@@ -54,9 +61,9 @@ pub(crate) fn is_header_row(row: &ByteRecord) -> bool
     let Some(fields) = three_fields(row) else {
         return false;
     };
-    fields.address == b"address".as_slice()
-        && fields.kind == b"kind".as_slice()
-        && fields.message == b"message".as_slice()
+    is_word(fields.address, b"address")
+        && is_word(fields.kind, b"kind")
+        && is_word(fields.message, b"message")
 }
 
 fn parse_decimal(digits: &[u8]) -> Option<u32>
@@ -96,22 +103,22 @@ fn parse_kind(field: &[u8]) -> Option<PageKind>
     ensures value { result ≡ kind_of_field field.now }
     ensures known { IfSome result (λ kind. function_of kind < 4) }
 {
-    if field == b"tone0".as_slice() {
+    if is_word(field, b"tone0") {
         return Some(PageKind::Tone(0));
     }
-    if field == b"tone1".as_slice() {
+    if is_word(field, b"tone1") {
         return Some(PageKind::Tone(1));
     }
-    if field == b"tone2".as_slice() {
+    if is_word(field, b"tone2") {
         return Some(PageKind::Tone(2));
     }
-    if field == b"tone3".as_slice() {
+    if is_word(field, b"tone3") {
         return Some(PageKind::Tone(3));
     }
-    if field == b"numeric".as_slice() {
+    if is_word(field, b"numeric") {
         return Some(PageKind::Numeric);
     }
-    if field == b"alpha".as_slice() {
+    if is_word(field, b"alpha") {
         return Some(PageKind::Alpha);
     }
     None
@@ -171,11 +178,15 @@ pub fn page_of_fields(
     // Memory is wanted only by fields that spell a page.
     ensures memory { result ≡ Err FieldFault.OutOfMemory → IsOk (page_of_fields address.now kind.now message.now) }
 {
-    let address = parse_address(address).ok_or(FieldFault::BadAddress)?;
+    let Some(address) = parse_address(address) else {
+        return Err(FieldFault::BadAddress);
+    };
     if is_reserved_address(address) {
         return Err(FieldFault::ReservedAddress);
     }
-    let kind = parse_kind(kind).ok_or(FieldFault::BadKind)?;
+    let Some(kind) = parse_kind(kind) else {
+        return Err(FieldFault::BadKind);
+    };
     let payload = pack_message(alloc, kind, message)?;
     Ok(Page {
         address,
@@ -195,6 +206,8 @@ pub(crate) fn page_of_row(alloc: Global, row: &ByteRecord) -> Result<Page, Recor
     // Memory is wanted only by a record that is a page.
     ensures memory { result ≡ Err (RecordFault.Field FieldFault.OutOfMemory) → IsOk (page_of (fields_of row.now)) }
 {
-    let fields = three_fields(row).ok_or(RecordFault::FieldCount)?;
+    let Some(fields) = three_fields(row) else {
+        return Err(RecordFault::FieldCount);
+    };
     page_of_fields(alloc, fields.address, fields.kind, fields.message).map_err(RecordFault::Field)
 }

@@ -70,7 +70,7 @@ fn classes_and_ways(rt: HostRuntime) {
             End::Open,
         );
         let out = ways(&classes, &all_limits(&classes, 2), *set, 2);
-        assert_eq!(rt; out.as_slice(), *wanted);
+        assert!(rt; out.as_slice() == *wanted, "{pages:?} {set}");
     }
     let classes = classes_of(
         &round_of(rt.alloc(), THREE_TONES).expect(&rt, "an answer"),
@@ -118,6 +118,6 @@ fn limits_and_loads(rt: HostRuntime) {
             *end,
         );
         let out = closing_ways(&classes, *end, &all_limits(&classes, 1));
-        assert_eq!(rt; out.as_slice(), *wanted);
+        assert!(rt; out.as_slice() == *wanted, "{end:?}");
     }
 }

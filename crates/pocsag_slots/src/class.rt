@@ -25,7 +25,7 @@ pub struct Class {
 
 /// The pages of a round by classes: how many pages are in each class, and how many whole turns they
 /// take together.
-#[derive(Clone, Copy, PartialEq, Eq, Debug)]
+#[derive(Clone, Copy, PartialEq, Eq)]
 pub struct Classes {
     pub count: [u32; CLASSES],
     pub turns: [u32; CLASSES],

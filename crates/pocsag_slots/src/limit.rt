@@ -7,7 +7,7 @@ use crate::class::{CLASSES, Classes, SLOTS};
 use crate::way::Way;
 
 /// Bounds on the early count of each class, and on the load of each slot.
-#[derive(Clone, Copy, PartialEq, Eq, Debug)]
+#[derive(Clone, Copy)]
 pub struct Limits {
     pub lo: [u32; CLASSES],
     pub hi: [u32; CLASSES],

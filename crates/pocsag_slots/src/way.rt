@@ -12,7 +12,7 @@ use pocsag_words::End;
 pub const WAYS: usize = SLOTS + 2 * CLASSES;
 
 /// A way out of a set of boundaries: an idle in a slot, or an early or a late run of a class.
-#[derive(Clone, Copy, PartialEq, Eq, Debug)]
+#[derive(Clone, Copy, PartialEq, Eq)]
 pub enum Way {
     IdleIn(u8),
     Early(u8),

@@ -5,7 +5,7 @@ pub const DEPTH_LIMIT: u32 = 300;
 pub const NODE_LIMIT: u32 = 1_000_000;
 
 /// The greatest numbers that the fields of one version of certificates may have.
-#[derive(Clone, Copy, PartialEq, Eq, Debug)]
+#[derive(Clone, Copy)]
 pub struct Ranges {
     /// The greatest class.
     pub class: u8,

@@ -116,18 +116,15 @@ fn version<S: Source>(source: &mut S) -> Result<(Ranges, End), CertificateFault>
     ensures reads { S.tells → ReadsBy version_at (λ x rest. (x.0, x.1, rest)) result
         (S.held source.old) (S.held source.new) }
 {
-    let byte = next_byte(source)?;
-    if byte == 0x31 {
-        return Ok((FIRST_VERSION, End::Open));
+    match next_byte(source)? {
+        0x31 => Ok((FIRST_VERSION, End::Open)),
+        0x32 => {
+            let end = small(0, 1, source)?;
+            Ok((SECOND_VERSION, end_from(end)))
+        }
+        0x34 => Ok((SECOND_VERSION, End::Idle)),
+        _ => Err(CertificateFault::Version),
     }
-    if byte == 0x32 {
-        let end = small(0, 1, source)?;
-        return Ok((SECOND_VERSION, end_from(end)));
-    }
-    if byte == 0x34 {
-        return Ok((SECOND_VERSION, End::Idle));
-    }
-    Err(CertificateFault::Version)
 }
 
 // A number of four bytes.

@@ -13,7 +13,7 @@ const IDLE: u32 = 0x7A89_C197;
 const MESSAGE: u32 = 0x10_0000;
 
 /// What a codeword says.
-#[derive(Clone, Copy, PartialEq, Eq, Debug)]
+#[derive(Clone, Copy, PartialEq, Eq)]
 pub enum Kind {
     /// The idle codeword, which stands where nothing else does.
     Idle,

@@ -4,9 +4,9 @@ use Rattle.pocsag_pages.proofs.record.page_of_fields.Goals as goal
 
 pub returns-clause-good : goal.returns-clause-good
 returns-clause-good c =
-    let low = rw c.in_ok-address.ensures.ok_part at c.parse_address.ensures.low in
-    let known = rw c.in_ok-kind.ensures.ok_part at c.parse_kind.ensures.known in
+    let low = c.in-Some.ensures.low in
+    let known = c.in-Some-parse_kind.ensures.known in
     let payload = c.in_ok-payload.ensures in
     rw c.function.ensures
-    (good_record _ c.in_ok-kind.kind c.in_ok-payload.payload low (sym c.is_reserved_address.ensures ∙ c.if-is_reserved_address.false)
+    (good_record _ c.in-Some-parse_kind.kind c.in_ok-payload.payload low (sym c.is_reserved_address.ensures ∙ c.if-is_reserved_address.false)
     known payload.silent payload.few payload.small)

@@ -1,5 +1,6 @@
 use Rattle.std.proofs.Common.{◌≡◌, ℕ, zero, suc, ◌<◌, List, [], ◌∷◌, length, sym, arith}
-use Rattle.std.specs.Prelude.{Some, None}
+use Rattle.std.specs.Prelude.{Option, Some, None, IsSome, option_map}
+use Rattle.std.specs.Borrow.{Bor}
 use Rattle.csv.specs.Records.{fields_of, field_at}
 use Rattle.pocsag_pages.proofs.record.three_fields.Goals as goal
 
@@ -18,19 +19,21 @@ three_are (f ∷ g ∷ []) a b c n x y z = absurd (omega arith)
 three_are (f ∷ g ∷ h ∷ []) a b c n x y z = cc
 three_are (f ∷ g ∷ h ∷ k ∷ rows) a b c n x y z = absurd (omega arith)
 
-pub returns-in_err-get-clause-none : goal.returns-in_err-get-clause-none
-returns-in_err-get-clause-none c =
-    rw c.from_residual.ensures (λ n. has_field (fields_of c.args.row.now) 0 (omega arith) (sym c.in_err-get.ensures.value))
+is_there : (rows : List (List ℕ)) (i : ℕ) (field : Option (Bor (List ℕ))) → i < length rows →
+    option_map (λ f. f.now) field ≡ field_at rows i → IsSome field
+is_there rows i None h e = absurd (has_field rows i h (sym e))
+is_there rows i (Some f) h e = cc
 
-pub returns-in_err-get-2-clause-none : goal.returns-in_err-get-2-clause-none
-returns-in_err-get-2-clause-none c =
-    rw c.from_residual-in_err-get-2.ensures (λ n. has_field (fields_of c.args.row.now) 1 (omega arith) (sym c.in_err-get-2.ensures.value))
+pub unwrap-requires : goal.unwrap-requires
+unwrap-requires c = is_there (fields_of c.args.row.now) 0 _ (omega arith) c.get.ensures.value
 
-pub returns-in_err-get-3-clause-none : goal.returns-in_err-get-3-clause-none
-returns-in_err-get-3-clause-none c =
-    rw c.from_residual-in_err-get-3.ensures (λ n. has_field (fields_of c.args.row.now) 2 (omega arith) (sym c.in_err-get-3.ensures.value))
+pub unwrap-requires-2 : goal.unwrap-requires-2
+unwrap-requires-2 c = is_there (fields_of c.args.row.now) 1 _ (omega arith) c.get-2.ensures.value
+
+pub unwrap-requires-3 : goal.unwrap-requires-3
+unwrap-requires-3 c = is_there (fields_of c.args.row.now) 2 _ (omega arith) c.get-3.ensures.value
 
 pub returns-clause-some : goal.returns-clause-some
 returns-clause-some c =
-    three_are (fields_of c.args.row.now) _ _ _ (omega arith) c.in_ok-get.ensures.value c.in_ok-get-2.ensures.value
-    c.in_ok-get-3.ensures.value
+    three_are (fields_of c.args.row.now) _ _ _ (omega arith) (rw c.unwrap.ensures at c.get.ensures.value)
+    (rw c.unwrap-2.ensures at c.get-2.ensures.value) (rw c.unwrap-3.ensures at c.get-3.ensures.value)
