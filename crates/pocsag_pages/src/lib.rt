@@ -15,6 +15,7 @@ mod round;
 mod rule;
 mod walking;
 mod whole;
+mod wide_record;
 
 pub use csv_row::only_row;
 pub use fault::{FieldFault, PageFault, RoundFault, WholeFault};

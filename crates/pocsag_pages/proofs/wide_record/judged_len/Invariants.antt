@@ -1,0 +1,12 @@
+use Rattle.std.proofs.Common.{◌≡◌, ◌+◌, ◌<◌, drop}
+use Rattle.csv.specs.declared.parser.State.TheVariants as st
+use Rattle.pocsag_pages.specs.WideRecords.{state_of}
+use Rattle.pocsag_pages.proofs.WideRecords.{read_length}
+use Rattle.pocsag_pages.proofs.wide_record.judged_len.Given as goal
+
+-- what is read of the text is what was passed and what is read of the rest
+abbrev pub invariant-loop-count : goal.invariant-loop-count
+invariant-loop-count l = record {
+  rest : read_length st.StartRecord 0 l.text ≡ l.count + read_length (state_of l.place) l.commas (drop l.count l.text);
+  few : l.commas < 3;
+}

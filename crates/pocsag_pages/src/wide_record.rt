@@ -1,0 +1,123 @@
+ghost use Rattle.std.specs.Prelude.{◌≡◌, ◌==◌, ◌+◌, ◌<◌, ◌≤◌, ◌⊎◌, All, IsTrue, ℕ, count_by, drop, length, take};
+ghost use Rattle.csv.specs.Machine.{in_field, step};
+ghost use Rattle.csv.specs.Reading.{default_config, records, strip_bom};
+ghost use Rattle.pocsag_pages.specs.PageFile.{rows_of, verdict_of_rows};
+ghost use Rattle.pocsag_pages.specs.WideRecords.{IsNarrow, commas_after, ends_of, HasFewCommas, state_of};
+
+// The most commas that a file of any length may have for its records to be read whole, fields and all.
+const FEW_COMMAS: usize = 1_000_000;
+
+// Where `csv` stands in a text.
+#[derive(Clone, Copy)]
+pub(crate) enum Place {
+    RecordStart,
+    FieldStart,
+    Bare,
+    Quoted,
+    AfterQuote,
+    AfterReturn,
+}
+
+// What a byte ends.
+#[derive(Clone, Copy)]
+pub(crate) enum Ends {
+    Nothing,
+    Field,
+    Record,
+}
+
+// What a byte does that no quote stands around.
+fn bare_step(byte: u8) -> (Place, Ends)
+    ensures place { state_of result.0 ≡ (in_field default_config byte).0 }
+    ensures ends { result.1 ≡ ends_of (in_field default_config byte).1 }
+{
+    match byte {
+        b',' => (Place::FieldStart, Ends::Field),
+        b'\r' => (Place::AfterReturn, Ends::Record),
+        b'\n' => (Place::RecordStart, Ends::Record),
+        _ => (Place::Bare, Ends::Nothing),
+    }
+}
+
+// Where `csv` stands after a byte, and what that ends.
+fn next_place(place: Place, byte: u8) -> (Place, Ends)
+    ensures place { state_of result.0 ≡ (step default_config (state_of place) byte).0 }
+    ensures ends { result.1 ≡ ends_of (step default_config (state_of place) byte).1 }
+{
+    match place {
+        Place::Quoted if byte == b'"' => (Place::AfterQuote, Ends::Nothing),
+        Place::Quoted => (Place::Quoted, Ends::Nothing),
+        Place::RecordStart | Place::AfterReturn if byte == b'\r' || byte == b'\n' => (
+            Place::RecordStart,
+            Ends::Nothing,
+        ),
+        Place::Bare => bare_step(byte),
+        _ if byte == b'"' => (Place::Quoted, Ends::Nothing),
+        _ => bare_step(byte),
+    }
+}
+
+// How many commas of the record at hand stand between fields, after a byte that ends this.
+fn commas_after(commas: u8, ends: Ends) -> u8
+    requires { commas < 3 }
+    ensures { result ≡ commas_after commas ends }
+{
+    match ends {
+        Ends::Nothing => commas,
+        Ends::Field => commas + 1,
+        Ends::Record => 0,
+    }
+}
+
+// How much of a text has its verdict, and no record of more than four fields: all up to the comma behind the third
+// field of a record, or the whole text.
+fn judged_len(text: &[u8]) -> usize
+    ensures within { result ≤ length text.now }
+    ensures same { verdict_of_rows (records default_config (take result text.now)) ≡ verdict_of_rows (records default_config text.now) }
+    ensures narrow { All IsNarrow (records default_config (take result text.now)) }
+{
+    let mut place = Place::RecordStart;
+    let mut commas = 0;
+    for (count, byte) in text.iter().enumerate() {
+        let (next, ends) = next_place(place, *byte);
+        place = next;
+        commas = commas_after(commas, ends);
+        if commas == 3 {
+            return count + 1;
+        }
+    }
+    text.len()
+}
+
+// How many bytes of a file are a byte order mark.
+fn mark_len(bytes: &[u8]) -> usize
+    ensures within { result ≤ length bytes.now }
+    ensures rest { drop result bytes.now ≡ strip_bom bytes.now }
+    ensures kept { (count : ℕ) → strip_bom (take (result + count) bytes.now) ≡ take count (strip_bom bytes.now) }
+{
+    if bytes.starts_with(b"\xEF\xBB\xBF") {
+        3
+    } else {
+        0
+    }
+}
+
+// Whether the fields of any record of the file take little memory.
+fn has_few_commas(bytes: &[u8]) -> bool
+    ensures { IsTrue result → HasFewCommas bytes.now }
+{
+    bytes.len() <= FEW_COMMAS
+        || bytes.iter().filter(|byte| **byte == b',').count() <= FEW_COMMAS.max(bytes.len() / 32)
+}
+
+// The part of a page file that `csv` has to read for its verdict.
+pub(crate) fn judged_part(bytes: &[u8]) -> &[u8]
+    ensures same { verdict_of_rows (rows_of result.now) ≡ verdict_of_rows (rows_of bytes.now) }
+    ensures narrow { HasFewCommas bytes.now ⊎ All IsNarrow (rows_of result.now) }
+{
+    if has_few_commas(bytes) {
+        return bytes;
+    }
+    let mark = mark_len(bytes);
+    &bytes[..mark + judged_len(&bytes[mark..])]
+}
