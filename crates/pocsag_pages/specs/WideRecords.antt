@@ -38,4 +38,4 @@ IsNarrow row = length row ≤ 4
 
 -- The fields of all records together are few beside the bytes of the file, or few at all.
 abbrev pub HasFewCommas : List ℕ → Type 0
-HasFewCommas bytes = count_by (λ byte. byte == 44) bytes ≤ max 1000000 (length bytes / 32)
+HasFewCommas bytes = count_by (λ byte. byte == 44) bytes ≤ max 100000 (length bytes / 32)

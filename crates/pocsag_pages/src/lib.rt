@@ -2,6 +2,7 @@
 //! Pages, rounds of pages and page files; and, in `specs/`, what a transmission says: readings,
 //! legal transmissions and their bytes (Recommendation ITU-R M.584-2, Annex 1).
 
+mod commas;
 mod csv_row;
 mod draft;
 mod fault;

@@ -4,8 +4,7 @@ ghost use Rattle.csv.specs.Reading.{default_config, records, strip_bom};
 ghost use Rattle.pocsag_pages.specs.PageFile.{rows_of, verdict_of_rows};
 ghost use Rattle.pocsag_pages.specs.WideRecords.{IsNarrow, commas_after, ends_of, HasFewCommas, state_of};
 
-// The most commas that a file of any length may have for its records to be read whole, fields and all.
-const FEW_COMMAS: usize = 1_000_000;
+use crate::commas::has_few_commas;
 
 // Where `csv` stands in a text.
 #[derive(Clone, Copy)]
@@ -73,7 +72,8 @@ fn commas_after(commas: u8, ends: Ends) -> u8
 // field of a record, or the whole text.
 fn judged_len(text: &[u8]) -> usize
     ensures within { result ≤ length text.now }
-    ensures same { verdict_of_rows (records default_config (take result text.now)) ≡ verdict_of_rows (records default_config text.now) }
+    ensures same { verdict_of_rows (records default_config (take result text.now))
+        ≡ verdict_of_rows (records default_config text.now) }
     ensures narrow { All IsNarrow (records default_config (take result text.now)) }
 {
     let mut place = Place::RecordStart;
@@ -100,14 +100,6 @@ fn mark_len(bytes: &[u8]) -> usize
     } else {
         0
     }
-}
-
-// Whether the fields of any record of the file take little memory.
-fn has_few_commas(bytes: &[u8]) -> bool
-    ensures { IsTrue result → HasFewCommas bytes.now }
-{
-    bytes.len() <= FEW_COMMAS
-        || bytes.iter().filter(|byte| **byte == b',').count() <= FEW_COMMAS.max(bytes.len() / 32)
 }
 
 // The part of a page file that `csv` has to read for its verdict.
