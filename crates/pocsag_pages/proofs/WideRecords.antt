@@ -1,10 +1,11 @@
 -- A text up to the comma behind the third field of a record has the verdict of the whole text.
-use Rattle.std.proofs.Common.{◌≡◌, ℕ, zero, suc, ◌+◌, ◌<◌, ◌≤◌, ◌==◌, ◌&&◌, ◌||◌, Bool, true, false, ◌⊎◌, inl, inr, List, [], ◌∷◌, ◌++◌, All, get_or, length, length-take, take, take-append-drop, drop, refl, sym, ap, ◌∙◌, arith, add-one}
-use Rattle.std.specs.Prelude.{Some, None, Err, if◌then◌else◌}
+use Rattle.std.proofs.Common.{◌≡◌, ℕ, zero, suc, ◌+◌, ◌<◌, ◌≤◌, ◌==◌, ◌&&◌, ◌||◌, Bool, true, false, ◌⊎◌, inl, inr, List, [], ◌∷◌, ◌++◌, All, get_or, length, length-take, length-take-le, drop-drop, unwrap_or, take, take-append-drop, drop, refl, sym, ap, ◌∙◌, arith, add-one}
+use Rattle.std.specs.Prelude.{Option, Some, None, Err, if◌then◌else◌}
 use Rattle.std.proofs.lemmas.Bool.{and_parts, eqb-true, eqb-false, eq-eqb, ne_eqb}
 use Rattle.std.proofs.lemmas.List.{drop_all, drop_more, length-append}
 use Rattle.std.proofs.lemmas.List.Elements.{All-nil, All-cons}
-use Rattle.csv.specs.Machine.{next_record, ends_at_end, in_field, is_end, step, fields_after, field_after}
+use Rattle.memchr.specs.Find.{IsFirstByte, is_byte}
+use Rattle.csv.specs.Machine.{Runs, next_record, ends_at_end, in_field, is_end, step, fields_after, field_after}
 use Rattle.csv.specs.Reading.{default_config, records, records_from, records_next, strip_bom, is_bom}
 use Rattle.csv.specs.declared.parser.Action.{Action}
 use Rattle.csv.specs.declared.parser.Action.TheVariants as act
@@ -345,6 +346,41 @@ module _ (text : List ℕ) (i k : ℕ) (s : State) where
       read_length st.StartRecord 0 text ≡ i
   unfolding read_length
   read_whole h e = e ∙ rw (drop_all i text h) (omega arith)
+
+-- bytes that only join the field at hand
+join_read : (s : State) (k : ℕ) (run tail : List ℕ) → k < 3 → Runs default_config s run →
+    read_length s k (run ++ tail) ≡ length run + read_length s k tail
+unfolding read_length Runs
+join_read s k [] tail few h = omega arith
+join_read s k (c ∷ run) tail few h =
+    let on : (k == 3) ≡ false = ne_eqb k 3 (λ e. absurd (omega (arith, e))) in
+    rw (h.0, on, join_read s k run tail few h.1) (omega arith)
+
+pub read_past : (text : List ℕ) (i n k : ℕ) (s : State) → k < 3 → n ≤ length (drop i text) →
+    Runs default_config s (take n (drop i text)) → read_length st.StartRecord 0 text ≡ i + read_length s k (drop i text) →
+    read_length st.StartRecord 0 text ≡ i + n + read_length s k (drop (i + n) text)
+read_past text i n k s few within joins e =
+    let parts : take n (drop i text) ++ drop n (drop i text) ≡ drop i text = take-append-drop n (drop i text) in
+    let past = join_read s k (take n (drop i text)) (drop n (drop i text)) few joins in
+    let size : length (take n (drop i text)) ≡ n = length-take-le n (drop i text) within in
+    e ∙ rw (← (ap (read_length s k) parts), past, size, drop-drop n i text) (omega arith)
+
+pub joins_quoted : (xs : List ℕ) (n : ℕ) → ((k : ℕ) → k < n → get_or xs k 0 ≡ 34 → ⊥) → n ≤ length xs →
+    Runs default_config st.InQuoted (take n xs)
+unfolding Runs
+joins_quoted xs zero not within = tt
+joins_quoted [] (suc n) not within = absurd (omega arith)
+joins_quoted (c ∷ xs) (suc n) not within =
+    let other : (c == 34) ≡ false = ne_eqb c 34 (not 0 (omega arith)) in
+    (rw other refl, joins_quoted xs n (λ k below. not (suc k) (omega arith)) (omega arith))
+
+pub joins_to : (xs : List ℕ) (r : Option ℕ) (n : ℕ) → IsFirstByte (is_byte 34) xs r → n ≡ unwrap_or r (length xs) →
+    Runs default_config st.InQuoted (take n xs)
+joins_to xs None n h e =
+    joins_quoted xs n (λ k below q. h k (omega arith) (omega arith) (eq-eqb (get_or xs k 0) 34 q)) (omega arith)
+joins_to xs (Some m) n h e =
+    let low : m < length xs = (h.0).high in
+    joins_quoted xs n (λ k below q. (h.0).before k (omega arith) (omega arith) (eq-eqb (get_or xs k 0) 34 q)) (omega arith)
 
 pub few_after : (k : ℕ) (e : Ends) → k < 3 → (commas_after k e ≡ 3 → ⊥) → commas_after k e < 3
 few_after k ends.Nothing h not = h

@@ -1,10 +1,11 @@
 ghost use Rattle.std.specs.Prelude.{◌≡◌, ◌==◌, ◌+◌, ◌<◌, ◌≤◌, ◌⊎◌, All, IsTrue, ℕ, count_by, drop, length, take};
-ghost use Rattle.csv.specs.Machine.{in_field, step};
+ghost use Rattle.csv.specs.Machine.{Runs, in_field, step};
 ghost use Rattle.csv.specs.Reading.{default_config, records, strip_bom};
 ghost use Rattle.pocsag_pages.specs.PageFile.{rows_of, verdict_of_rows};
 ghost use Rattle.pocsag_pages.specs.WideRecords.{IsNarrow, commas_after, ends_of, HasFewCommas, state_of};
 
 use crate::commas::has_few_commas;
+use memchr::memchr;
 
 // Where `csv` stands in a text.
 #[derive(Clone, Copy)]
@@ -68,6 +69,17 @@ fn commas_after(commas: u8, ends: Ends) -> u8
     }
 }
 
+// How many bytes at the start of the rest do nothing but join the field at hand: in quotes, those before the next one.
+fn joined_len(place: Place, rest: &[u8]) -> usize
+    ensures within { result ≤ length rest.now }
+    ensures join { Runs default_config (state_of place) (take result rest.now) }
+{
+    match place {
+        Place::Quoted => memchr(b'"', rest).unwrap_or(rest.len()),
+        _ => 0,
+    }
+}
+
 // How much of a text has its verdict, and no record of more than four fields: all up to the comma behind the third
 // field of a record, or the whole text.
 fn judged_len(text: &[u8]) -> usize
@@ -78,15 +90,18 @@ fn judged_len(text: &[u8]) -> usize
 {
     let mut place = Place::RecordStart;
     let mut commas = 0;
-    for (count, byte) in text.iter().enumerate() {
-        let (next, ends) = next_place(place, *byte);
+    let mut count = 0;
+    while count < text.len() {
+        let (next, ends) = next_place(place, text[count]);
         place = next;
         commas = commas_after(commas, ends);
+        count += 1;
         if commas == 3 {
-            return count + 1;
+            return count;
         }
+        count += joined_len(place, &text[count..]);
     }
-    text.len()
+    count
 }
 
 // How many bytes of a file are a byte order mark.

@@ -1,4 +1,4 @@
-use Rattle.std.proofs.Common.{◌≡◌, ◌+◌, ◌<◌, drop}
+use Rattle.std.proofs.Common.{◌≡◌, ◌+◌, ◌-◌, ◌<◌, ◌≤◌, drop, length}
 use Rattle.csv.specs.declared.parser.State.TheVariants as st
 use Rattle.pocsag_pages.specs.WideRecords.{state_of}
 use Rattle.pocsag_pages.proofs.WideRecords.{read_length}
@@ -9,4 +9,8 @@ abbrev pub invariant-loop-count : goal.invariant-loop-count
 invariant-loop-count l = record {
   rest : read_length st.StartRecord 0 l.text ≡ l.count + read_length (state_of l.place) l.commas (drop l.count l.text);
   few : l.commas < 3;
+  within : l.count ≤ length l.text;
 }
+
+abbrev pub decreases-loop-count : goal.decreases-loop-count
+decreases-loop-count l = length l.text - l.count
