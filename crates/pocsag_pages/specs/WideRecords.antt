@@ -4,20 +4,20 @@ use Rattle.csv.specs.declared.parser.Action.{Action}
 use Rattle.csv.specs.declared.parser.Action.TheVariants as act
 use Rattle.csv.specs.declared.parser.State.{State}
 use Rattle.csv.specs.declared.parser.State.TheVariants as st
-use Rattle.pocsag_pages.specs.declared.wide_record.Place.{Place}
-use Rattle.pocsag_pages.specs.declared.wide_record.Place.TheVariants as place
+use Rattle.pocsag_pages.specs.declared.wide_record.CsvState.{CsvState}
+use Rattle.pocsag_pages.specs.declared.wide_record.CsvState.TheVariants as csv_state
 use Rattle.pocsag_pages.specs.declared.wide_record.Ends.{Ends}
 use Rattle.pocsag_pages.specs.declared.wide_record.Ends.TheVariants as ends
 use Rattle.pocsag_pages.specs.PageFile.{Row}
 
--- A place as the state of csv's machine. In the default dialect there is no escape and no comment.
-abbrev pub state_of : Place → State
-state_of place.RecordStart = st.StartRecord
-state_of place.FieldStart = st.StartField
-state_of place.Bare = st.InField
-state_of place.Quoted = st.InQuoted
-state_of place.AfterQuote = st.AfterQuote
-state_of place.AfterReturn = st.AfterCr
+-- A state as that of csv's machine. In the default dialect there is no escape and no comment.
+abbrev pub state_of : CsvState → State
+state_of csv_state.RecordStart = st.StartRecord
+state_of csv_state.FieldStart = st.StartField
+state_of csv_state.Bare = st.InField
+state_of csv_state.Quoted = st.InQuoted
+state_of csv_state.AfterQuote = st.AfterQuote
+state_of csv_state.AfterReturn = st.AfterCr
 
 -- What an action of csv's machine ends.
 abbrev pub ends_of : Action → Ends

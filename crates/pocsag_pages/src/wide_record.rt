@@ -9,7 +9,7 @@ use memchr::memchr;
 
 // Where `csv` stands in a text.
 #[derive(Clone, Copy)]
-pub(crate) enum Place {
+pub(crate) enum CsvState {
     RecordStart,
     FieldStart,
     Bare,
@@ -27,32 +27,32 @@ pub(crate) enum Ends {
 }
 
 // What a byte does that no quote stands around.
-fn bare_step(byte: u8) -> (Place, Ends)
-    ensures place { state_of result.0 ≡ (in_field default_config byte).0 }
+fn bare_step(byte: u8) -> (CsvState, Ends)
+    ensures state { state_of result.0 ≡ (in_field default_config byte).0 }
     ensures ends { result.1 ≡ ends_of (in_field default_config byte).1 }
 {
     match byte {
-        b',' => (Place::FieldStart, Ends::Field),
-        b'\r' => (Place::AfterReturn, Ends::Record),
-        b'\n' => (Place::RecordStart, Ends::Record),
-        _ => (Place::Bare, Ends::Nothing),
+        b',' => (CsvState::FieldStart, Ends::Field),
+        b'\r' => (CsvState::AfterReturn, Ends::Record),
+        b'\n' => (CsvState::RecordStart, Ends::Record),
+        _ => (CsvState::Bare, Ends::Nothing),
     }
 }
 
 // Where `csv` stands after a byte, and what that ends.
-fn next_place(place: Place, byte: u8) -> (Place, Ends)
-    ensures place { state_of result.0 ≡ (step default_config (state_of place) byte).0 }
-    ensures ends { result.1 ≡ ends_of (step default_config (state_of place) byte).1 }
+fn next_state(state: CsvState, byte: u8) -> (CsvState, Ends)
+    ensures state { state_of result.0 ≡ (step default_config (state_of state) byte).0 }
+    ensures ends { result.1 ≡ ends_of (step default_config (state_of state) byte).1 }
 {
-    match place {
-        Place::Quoted if byte == b'"' => (Place::AfterQuote, Ends::Nothing),
-        Place::Quoted => (Place::Quoted, Ends::Nothing),
-        Place::RecordStart | Place::AfterReturn if byte == b'\r' || byte == b'\n' => (
-            Place::RecordStart,
+    match state {
+        CsvState::Quoted if byte == b'"' => (CsvState::AfterQuote, Ends::Nothing),
+        CsvState::Quoted => (CsvState::Quoted, Ends::Nothing),
+        CsvState::RecordStart | CsvState::AfterReturn if byte == b'\r' || byte == b'\n' => (
+            CsvState::RecordStart,
             Ends::Nothing,
         ),
-        Place::Bare => bare_step(byte),
-        _ if byte == b'"' => (Place::Quoted, Ends::Nothing),
+        CsvState::Bare => bare_step(byte),
+        _ if byte == b'"' => (CsvState::Quoted, Ends::Nothing),
         _ => bare_step(byte),
     }
 }
@@ -70,12 +70,12 @@ fn commas_after(commas: u8, ends: Ends) -> u8
 }
 
 // How many bytes at the start of the rest do nothing but join the field at hand: in quotes, those before the next one.
-fn joined_len(place: Place, rest: &[u8]) -> usize
+fn joined_len(state: CsvState, rest: &[u8]) -> usize
     ensures within { result ≤ length rest.now }
-    ensures join { Runs default_config (state_of place) (take result rest.now) }
+    ensures join { Runs default_config (state_of state) (take result rest.now) }
 {
-    match place {
-        Place::Quoted => memchr(b'"', rest).unwrap_or(rest.len()),
+    match state {
+        CsvState::Quoted => memchr(b'"', rest).unwrap_or(rest.len()),
         _ => 0,
     }
 }
@@ -88,18 +88,18 @@ fn judged_len(text: &[u8]) -> usize
         ≡ verdict_of_rows (records default_config text.now) }
     ensures narrow { All IsNarrow (records default_config (take result text.now)) }
 {
-    let mut place = Place::RecordStart;
+    let mut state = CsvState::RecordStart;
     let mut commas = 0;
     let mut count = 0;
     while count < text.len() {
-        let (next, ends) = next_place(place, text[count]);
-        place = next;
+        let (next, ends) = next_state(state, text[count]);
+        state = next;
         commas = commas_after(commas, ends);
         count += 1;
         if commas == 3 {
             return count;
         }
-        count += joined_len(place, &text[count..]);
+        count += joined_len(state, &text[count..]);
     }
     count
 }

@@ -6,16 +6,16 @@ use Rattle.pocsag_pages.proofs.wide_record.judged_len.Goals as goal
 
 pub returns-then-commas-eq3-clause-same : goal.returns-then-commas-eq3-clause-same
 returns-then-commas-eq3-clause-same c =
-    let ends = ap (commas_after c.loop-count.commas) c.next_place-next.ensures.ends in
+    let ends = ap (commas_after c.loop-count.commas) c.next_state-next.ensures.ends in
     same_verdict _ _
-    (read_stop c.args.text.now c.loop-count.count c.loop-count.commas (state_of c.loop-count.place) c.loop-count-test.true
+    (read_stop c.args.text.now c.loop-count.count c.loop-count.commas (state_of c.loop-count.state) c.loop-count-test.true
     c.loop-count.invariant.rest (sym (c.commas_after-commas.ensures ∙ ends) ∙ c.if-commas-eq3.true))
 
 pub returns-then-commas-eq3-clause-narrow : goal.returns-then-commas-eq3-clause-narrow
 returns-then-commas-eq3-clause-narrow c =
-    let ends = ap (commas_after c.loop-count.commas) c.next_place-next.ensures.ends in
+    let ends = ap (commas_after c.loop-count.commas) c.next_state-next.ensures.ends in
     narrow_records _ _
-    (read_stop c.args.text.now c.loop-count.count c.loop-count.commas (state_of c.loop-count.place) c.loop-count-test.true
+    (read_stop c.args.text.now c.loop-count.count c.loop-count.commas (state_of c.loop-count.state) c.loop-count-test.true
     c.loop-count.invariant.rest (sym (c.commas_after-commas.ensures ∙ ends) ∙ c.if-commas-eq3.true))
 
 pub loop-count-preserved : goal.loop-count-preserved
@@ -23,10 +23,10 @@ loop-count-preserved c =
     let text = c.args.text.now in
     let i = c.loop-count.count in
     let k = c.commas_after-commas.result in
-    let ends = ap (commas_after c.loop-count.commas) c.next_place-next.ensures.ends in
+    let ends = ap (commas_after c.loop-count.commas) c.next_state-next.ensures.ends in
     let stepped =
-    read_on text i c.loop-count.commas (state_of c.loop-count.place) _ k c.loop-count-test.true c.loop-count.invariant.rest
-    c.next_place-next.ensures.place (c.commas_after-commas.ensures ∙ ends) c.if-commas-eq3.false in
+    read_on text i c.loop-count.commas (state_of c.loop-count.state) _ k c.loop-count-test.true c.loop-count.invariant.rest
+    c.next_state-next.ensures.state (c.commas_after-commas.ensures ∙ ends) c.if-commas-eq3.false in
     let few =
     rw (sym c.commas_after-commas.ensures) at
     (few_after c.loop-count.commas _ c.loop-count.invariant.few
@@ -42,11 +42,11 @@ loop-count-preserved c =
 pub returns-clause-narrow : goal.returns-clause-narrow
 returns-clause-narrow c =
     narrow_records _ _
-    (read_whole c.args.text.now c.loop-count.count c.loop-count.commas (state_of c.loop-count.place) c.loop-count-test.false
+    (read_whole c.args.text.now c.loop-count.count c.loop-count.commas (state_of c.loop-count.state) c.loop-count-test.false
     c.loop-count.invariant.rest)
 
 pub returns-clause-same : goal.returns-clause-same
 returns-clause-same c =
     same_verdict _ _
-    (read_whole c.args.text.now c.loop-count.count c.loop-count.commas (state_of c.loop-count.place) c.loop-count-test.false
+    (read_whole c.args.text.now c.loop-count.count c.loop-count.commas (state_of c.loop-count.state) c.loop-count-test.false
     c.loop-count.invariant.rest)

@@ -7,7 +7,7 @@ use Rattle.pocsag_pages.proofs.wide_record.judged_len.Given as goal
 -- what is read of the text is what was passed and what is read of the rest
 abbrev pub invariant-loop-count : goal.invariant-loop-count
 invariant-loop-count l = record {
-  rest : read_length st.StartRecord 0 l.text ≡ l.count + read_length (state_of l.place) l.commas (drop l.count l.text);
+  rest : read_length st.StartRecord 0 l.text ≡ l.count + read_length (state_of l.state) l.commas (drop l.count l.text);
   few : l.commas < 3;
   within : l.count ≤ length l.text;
 }
