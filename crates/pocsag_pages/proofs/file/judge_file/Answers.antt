@@ -5,24 +5,30 @@ use Rattle.pocsag_pages.proofs.file.judge_file.Goals as goal
 
 pub returns-then-not-found-clause-err : goal.returns-then-not-found-clause-err
 returns-then-not-found-clause-err c =
-    inr (sym c.judged_part.ensures.same ∙ ap verdict_of_rows (sym c.rows_reader-reader.ensures.rows ∙ c.in_ok-found.ensures.none c.if-not-found.true) ∙ no_header)
+    inr
+    (sym c.judged_part.ensures.same
+    ∙ ap verdict_of_rows (sym c.rows_reader-reader.ensures.rows ∙ c.in_ok-found.ensures.none c.if-not-found.true)
+    ∙ no_header)
 
 pub returns-then-not-is_header_row-clause-err : goal.returns-then-not-is_header_row-clause-err
 returns-then-not-is_header_row-clause-err c =
     inr
-    (sym c.judged_part.ensures.same ∙ ap verdict_of_rows (sym c.rows_reader-reader.ensures.rows ∙ c.in_ok-found.ensures.found c.if-not-found.false)
+    (sym c.judged_part.ensures.same
+    ∙ ap verdict_of_rows (sym c.rows_reader-reader.ensures.rows ∙ c.in_ok-found.ensures.found c.if-not-found.false)
     ∙ bad_header _ _ (sym c.is_header_row.ensures ∙ c.if-not-is_header_row.true))
 
 pub returns-clause-ok : goal.returns-clause-ok
 returns-clause-ok c =
     let headed =
-    sym c.judged_part.ensures.same ∙ ap verdict_of_rows (sym c.rows_reader-reader.ensures.rows ∙ c.in_ok-found.ensures.found c.if-not-found.false)
+    sym c.judged_part.ensures.same
+    ∙ ap verdict_of_rows (sym c.rows_reader-reader.ensures.rows ∙ c.in_ok-found.ensures.found c.if-not-found.false)
     ∙ after_header _ _ (sym c.is_header_row.ensures ∙ c.if-not-is_header_row.false) in
     rw headed c.judge_rows.ensures.ok
 
 pub returns-clause-err : goal.returns-clause-err
 returns-clause-err c =
     let headed =
-    sym c.judged_part.ensures.same ∙ ap verdict_of_rows (sym c.rows_reader-reader.ensures.rows ∙ c.in_ok-found.ensures.found c.if-not-found.false)
+    sym c.judged_part.ensures.same
+    ∙ ap verdict_of_rows (sym c.rows_reader-reader.ensures.rows ∙ c.in_ok-found.ensures.found c.if-not-found.false)
     ∙ after_header _ _ (sym c.is_header_row.ensures ∙ c.if-not-is_header_row.false) in
     rw headed c.judge_rows.ensures.err
