@@ -96,6 +96,53 @@ fn page_files(rt: HostRuntime) {
     );
 }
 
+// What stands before more commas than are few, and the fault of the file.
+const BEFORE_COMMAS: &[(&[u8], RoundFault)] = &[
+    (b"", RoundFault::BadHeader),
+    (b"address,kind,message", RoundFault::BadHeader),
+    (b"address,kind,message\n", RoundFault::FieldCount(1)),
+    (
+        b"address,kind,message\n8,tone0,\n",
+        RoundFault::FieldCount(2),
+    ),
+    (
+        b"\xef\xbb\xbf\"address\",kind,message\r\n8,tone0,\r",
+        RoundFault::FieldCount(2),
+    ),
+    (
+        b"address,kind,message\n8,alpha,\"a\nb, \"\",,,\"\"\"\n",
+        RoundFault::FieldCount(2),
+    ),
+    (
+        b"address,kind,message\n8,alpha,\"a, \"\"",
+        RoundFault::TooLong(1),
+    ),
+    (
+        b"address,kind,message\n8,alpha,\"a\"b",
+        RoundFault::FieldCount(1),
+    ),
+    (
+        b"address,kind,message\n\"8,,,\n\",tone0,\n",
+        RoundFault::BadAddress(1),
+    ),
+];
+
+#[test]
+fn records_too_wide(rt: HostRuntime) {
+    let alloc = rt.alloc();
+    for (before, fault) in BEFORE_COMMAS {
+        let mut bytes = Vec::from_slice(alloc, before).expect(&rt, "memory");
+        bytes
+            .resize(before.len() + 100_001, b',')
+            .expect(&rt, "memory");
+        let read = read_round(
+            alloc,
+            &mut MemorySource::new(bytes.as_slice(), 8192, u64::MAX),
+        );
+        assert_eq!(rt; read.err(), Some(*fault), "{before:?}");
+    }
+}
+
 // A page file of one page and empty lines, so long.
 #[derive(Drop)]
 struct LongFile {

@@ -30,7 +30,7 @@ next_shorter cfg s fields field (c ∷ rest) p e =
     at_a_byte (is_end (step cfg s c).1) (fields_after (step cfg s c).1 fields field, (step cfg s c).0, rest) p _ c rest refl
     (next_shorter cfg (step cfg s c).0 (fields_after (step cfg s c).1 fields field) (field_after (step cfg s c).1 c field) rest p) e
 
-no_more : (cfg : Config) (n : ℕ) → records_from cfg n st.StartRecord [] ≡ []
+pub no_more : (cfg : Config) (n : ℕ) → records_from cfg n st.StartRecord [] ≡ []
 unfolding records_from next_record
 no_more cfg zero = refl
 no_more cfg (suc n) = refl
@@ -46,7 +46,7 @@ same_later cfg n m xs (Some p) less same h k = ap (λ rows. p.0 ∷ rows) (elim 
   | inr r ↦ rw (r.0, r.1) (no_more cfg n ∙ sym (no_more cfg m))
 ])
 
-enough : (cfg : Config) (n m : ℕ) (s : State) (xs : List ℕ) → length xs < n → length xs < m →
+pub enough : (cfg : Config) (n m : ℕ) (s : State) (xs : List ℕ) → length xs < n → length xs < m →
     records_from cfg n s xs ≡ records_from cfg m s xs
 unfolding records_from
 enough cfg zero m s xs h k = absurd (omega arith)
@@ -62,7 +62,7 @@ rows_after cfg n xs p less e = elim less [
   | inr r ↦ rw (r.0, r.1) (no_more cfg n ∙ sym (no_more cfg (length {A = ℕ} [] + 1)))
 ]
 
-one_record : (cfg : Config) (s : State) (xs : List ℕ) (o : Option Read) → next_record cfg s [] [] xs ≡ o →
+pub one_record : (cfg : Config) (s : State) (xs : List ℕ) (o : Option Read) → next_record cfg s [] [] xs ≡ o →
     records_from cfg (length xs + 1) s xs ≡ records_next (records_from cfg (length xs)) o
 unfolding records_from
 one_record cfg s xs o e = rw (add-one, e) refl

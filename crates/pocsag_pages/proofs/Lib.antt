@@ -7,3 +7,4 @@ pub mod PageLists
 pub mod Readings
 pub mod RecordPages
 pub mod Spelled
+pub mod WideRecords

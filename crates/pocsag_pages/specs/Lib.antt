@@ -8,3 +8,4 @@ pub mod Plain
 pub mod Reading
 pub mod Rows
 pub mod Walking
+pub mod WideRecords

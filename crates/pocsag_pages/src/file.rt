@@ -11,6 +11,7 @@ use crate::fault::{FieldFault, RecordFault, RoundFault};
 use crate::record::{is_header_row, page_of_row};
 use crate::round::{PAGE_LIMIT, Round};
 use crate::whole::read_whole;
+use crate::wide_record::judged_part;
 use csv::{ByteRecord, Reader};
 use pocsag_words::{INPUT_LIMIT, OutOfMemory, Source};
 use std::alloc::Global;
@@ -133,7 +134,7 @@ fn judge_file(alloc: Global, bytes: &[u8]) -> Result<Round, RoundFault>
     ensures err { IfErr result
         (λ e. (e ≡ RoundFault.OutOfMemory) ⊎ (verdict_of_rows (rows_of bytes.now) ≡ Err e)) }
 {
-    let mut reader = rows_reader(alloc, bytes);
+    let mut reader = rows_reader(alloc, judged_part(bytes));
     let mut row = ByteRecord::new(alloc);
     judge_all(alloc, &mut reader, &mut row)
 }

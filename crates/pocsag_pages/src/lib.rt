@@ -2,6 +2,7 @@
 //! Pages, rounds of pages and page files; and, in `specs/`, what a transmission says: readings,
 //! legal transmissions and their bytes (Recommendation ITU-R M.584-2, Annex 1).
 
+mod commas;
 mod csv_row;
 mod draft;
 mod fault;
@@ -15,6 +16,7 @@ mod round;
 mod rule;
 mod walking;
 mod whole;
+mod wide_record;
 
 pub use csv_row::only_row;
 pub use fault::{FieldFault, PageFault, RoundFault, WholeFault};
