@@ -9,7 +9,7 @@ use std::marker::Model;
 
 /// The codewords of whole batches, sixteen to a batch, at least one batch; synchronisation codewords
 /// are not among them.
-#[derive(Debug, Drop)]
+#[derive(Drop)]
 pub struct Batches {
     words: WordList,
 }

@@ -21,7 +21,7 @@ pub(crate) fn idle_word() -> Word
 }
 
 // A growing list of codewords.
-#[derive(Debug, Drop)]
+#[derive(Drop)]
 pub(crate) struct WordList {
     words: Vec<Word>,
 }

@@ -1,7 +1,7 @@
 -- The nodes of the free search: a node over its children, and a child that stands for its parent.
 use Rattle.std.proofs.Common.{◌≡◌, ℕ, ◌+◌, ◌^◌, ◌<◌, ◌≤◌, false, IsTrue, List, [], ◌∷◌, ◌++◌, take, get_or, length, refl, ap, ◌∙◌, arith}
 use Rattle.std.proofs.lemmas.List.{take_more}
-use Rattle.std.specs.Global.{Vec, Box}
+use Rattle.std.specs.Global.{Vec}
 use Rattle.pocsag_slots.specs.declared.class.Classes.{Classes}
 use Rattle.pocsag_slots.specs.declared.limit.Limits.{Limits}
 use Rattle.pocsag_slots.specs.declared.way.Way.{Way}
@@ -10,10 +10,10 @@ use Rattle.pocsag_slots.specs.Sums.{holds}
 use Rattle.pocsag_slots.specs.Tours.{AsksForLast}
 use Rattle.pocsag_slots.specs.Ways.{MayTake, class_certain, limits_below, limits_from, narrowed_limits, ways_across, ways_to_close}
 use Rattle.pocsag_tree.specs.declared.shape.Tree.{Tree}
-use Rattle.pocsag_tree.specs.declared.shape.Tree.TheViews.{Split, Cut, Close}
+use Rattle.pocsag_tree.specs.declared.shape.Tree.TheViews.{Cut, Close}
 use Rattle.pocsag_tree.specs.Bounds.{Bound, Bounds, split, none, more, closed_nodes, closed_nodes_in}
 use Rattle.pocsag_tree.specs.Views.{bound_of, bounds_of}
-use Rattle.pocsag_tree.proofs.Counts.{bound_of-cut, bound_of-close, bound_of-split}
+use Rattle.pocsag_tree.proofs.Counts.{bound_of-cut, bound_of-close}
 use Rattle.pocsag_check.specs.Accepting.{AcceptsWithin}
 use Rattle.pocsag_branch.specs.declared.task.Task.{Task}
 use Rattle.pocsag_branch.specs.FreeNode.{AreFreeNodes, IsFreeNode, IsUndecidedWay}
@@ -106,16 +106,12 @@ close_freed k q l made after ws children closed all a =
       within = rest.within;
     })
 
-pub split_freed : (k : Classes) (q : Task) (l : Limits) (made between after c m : ℕ) (under over : Limits) (s t : Tree)
-    (below above : Box Tree) →
-    below.value ≡ s → above.value ≡ t → IsSplitPoint k q.batches l c m → under ≡ limits_below l c m → over ≡ limits_from l c m →
+pub split_freed : (k : Classes) (q : Task) (l : Limits) (made between after c m : ℕ) (under over : Limits) (s t tree : Tree) →
+    bound_of tree ≡ split c m (bound_of s) (bound_of t) → IsSplitPoint k q.batches l c m →
+    under ≡ limits_below l c m → over ≡ limits_from l c m →
     IsFreeNode k q under (made + 1) between (bound_of s) → IsFreeNode k q over between after (bound_of t) →
-    IsFreeNode k q l made after (bound_of (Split c m below above))
-split_freed k q l made between after c m under over s t below above low_is high_is point low high first second =
-    let seen : bound_of (Split c m below above) ≡ split c m (bound_of s) (bound_of t) =
-    bound_of-split (Split c m below above) c m below above refl
-    ∙ ap (λ (x : Tree). split c m (bound_of x) (bound_of above.value)) low_is
-    ∙ ap (λ (x : Tree). split c m (bound_of s) (bound_of x)) high_is in
+    IsFreeNode k q l made after (bound_of tree)
+split_freed k q l made between after c m under over s t tree seen point low high first second =
     let lower : IsFreeNode k q (limits_below l c m) (made + 1) between (bound_of s) =
     rw low at first in
     let upper : IsFreeNode k q (limits_from l c m) between after (bound_of t) =

@@ -8,12 +8,12 @@ use Rattle.pocsag_slots.specs.declared.way.Way.{Way}
 use Rattle.pocsag_slots.specs.Sums.{holds}
 use Rattle.pocsag_slots.specs.Tours.{AsksForLast}
 use Rattle.pocsag_slots.specs.Ways.{class_certain, limits_below, limits_from, narrowed_limits, ways_across, ways_to_close}
-use Rattle.std.specs.Global.{Vec, Box}
+use Rattle.std.specs.Global.{Vec}
 use Rattle.pocsag_tree.specs.declared.shape.Tree.{Tree}
-use Rattle.pocsag_tree.specs.declared.shape.Tree.TheViews.{Split, Cut, Close}
+use Rattle.pocsag_tree.specs.declared.shape.Tree.TheViews.{Cut, Close}
 use Rattle.pocsag_tree.specs.Bounds.{Bound, Bounds, cut, close, split, none, more, deepest, depth_of}
 use Rattle.pocsag_tree.specs.Views.{bound_of, bounds_of}
-use Rattle.pocsag_tree.proofs.Counts.{bound_of-cut, bound_of-close, bound_of-split}
+use Rattle.pocsag_tree.proofs.Counts.{bound_of-cut, bound_of-close}
 use Rattle.pocsag_check.specs.Accepting.{Accepts, AcceptsEach}
 use Rattle.pocsag_branch.specs.declared.task.Task.{Task}
 use Rattle.pocsag_branch.specs.Examined.{AreExamined, AreRefuted, IsExamined, IsRefuted}
@@ -164,14 +164,10 @@ pub close_made : (k : Classes) (q : Task) (l : Limits) (made after : ℕ) (ws : 
 close_made k q l made after ws children closed unclosed all a =
     rw (bound_of-close (Close children) children refl) (close_examined k q l made after ws (bounds_of children.items) closed unclosed all a)
 
-pub split_made : (k : Classes) (q : Task) (l : Limits) (made between after c m : ℕ) (under over : Limits) (s t : Tree)
-    (below above : Box Tree) → below.value ≡ s → above.value ≡ t →
+pub split_made : (k : Classes) (q : Task) (l : Limits) (made between after c m : ℕ) (under over : Limits) (s t tree : Tree) →
+    bound_of tree ≡ split c m (bound_of s) (bound_of t) →
     IsSplitPoint k q.batches l c m → AdmitSplit k q.batches l c m → under ≡ limits_below l c m → over ≡ limits_from l c m →
     IsExamined k q under (made + 1) between (bound_of s) → IsExamined k q over between after (bound_of t) →
-    IsExamined k q l made after (bound_of (Split c m below above))
-split_made k q l made between after c m under over s t below above low_is high_is point parts low high first second =
-    let seen : bound_of (Split c m below above) ≡ split c m (bound_of s) (bound_of t) =
-    bound_of-split (Split c m below above) c m below above refl
-    ∙ ap (λ (x : Tree). split c m (bound_of x) (bound_of above.value)) low_is
-    ∙ ap (λ (x : Tree). split c m (bound_of s) (bound_of x)) high_is in
+    IsExamined k q l made after (bound_of tree)
+split_made k q l made between after c m under over s t tree seen point parts low high first second =
     rw seen (split_examined k q l made between after c m under over (bound_of s) (bound_of t) point parts low high first second)

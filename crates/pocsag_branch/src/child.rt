@@ -1,5 +1,7 @@
-ghost use Rattle.std.specs.Prelude.{◌≡◌, ◌<◌, All, IsTrue, IfSome, IfNone};
+ghost use Rattle.std.specs.Prelude.{◌≡◌, ◌<◌, All, IsTrue, IfOk, IfSome, IfNone};
 ghost use Rattle.pocsag_slots.specs.Ways.{class_certain, limits_below, limits_from, MayTake, narrowed_limits, ways_across, ways_to_close};
+ghost use Rattle.pocsag_tree.specs.Bounds.{split};
+ghost use Rattle.pocsag_tree.specs.Views.{bound_of};
 ghost use Rattle.pocsag_branch.specs.Shape.{NoneCertain};
 ghost use Rattle.pocsag_branch.specs.Undecided.{AreNodeLimits, Falls, IsSplitPoint, undecided};
 
@@ -9,6 +11,8 @@ use arrayvec::ArrayVec;
 use pocsag_slots::{
     CLASSES, Class, Limits, Way, below_split, closing_ways, from_split, is_certain, narrow, ways,
 };
+use pocsag_tree::Tree;
+use std::alloc::{AllocFailed, Global};
 
 // The limits of the child that takes the way.
 pub(crate) fn child_limits(node: &Node<'_>, way: Way) -> Limits
@@ -42,6 +46,26 @@ pub(crate) fn limits_over(node: &Node<'_>, class: Class, m: u16) -> Limits
         undecided node.now.classes.now node.now.task.batches node.now.limits }
 {
     from_split(&node.limits, class.number, u32::from(m))
+}
+
+// The tree of a split over those of its two children.
+pub(crate) fn split_tree(
+    alloc: Global,
+    class: Class,
+    m: u16,
+    below: Tree,
+    from: Tree,
+) -> Result<Tree, AllocFailed<Tree>>
+    ensures { IfOk result (λ tree. bound_of tree ≡ split class.number m (bound_of below) (bound_of from)) }
+{
+    let below = Box::new(alloc, below)?;
+    let from = Box::new(alloc, from)?;
+    Ok(Tree::Split {
+        class: class.number,
+        m,
+        below,
+        from,
+    })
 }
 
 // The ways out of the set, each of which settles an open question.

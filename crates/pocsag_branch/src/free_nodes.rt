@@ -8,7 +8,7 @@ ghost use Rattle.pocsag_branch.specs.FreeNode.{AreChildren, IsFreeNode, IsHalt};
 ghost use Rattle.pocsag_branch.specs.Undecided.{Falls, IsSplitPoint};
 
 use crate::boundaries::BoundarySet;
-use crate::child::{child_limits, limits_over, limits_under, ways_out, ways_to_end};
+use crate::child::{child_limits, limits_over, limits_under, split_tree, ways_out, ways_to_end};
 use crate::free_forms::free_form;
 use crate::halt::{Children, Halt};
 use crate::node::Node;
@@ -128,17 +128,8 @@ fn free_split(
     if stands_for(node, &from) {
         return Ok((from, after));
     }
-    let below = Box::new(alloc, below)?;
-    let from = Box::new(alloc, from)?;
-    Ok((
-        Tree::Split {
-            class: class.number,
-            m,
-            below,
-            from,
-        },
-        after,
-    ))
+    let tree = split_tree(alloc, class, m, below, from)?;
+    Ok((tree, after))
 }
 
 /// The trees of the children that take these ways, in order, or the first that is accepted for the node

@@ -30,16 +30,11 @@ fn tree_of_try(alloc: Global, classes: &Classes, task: Task) -> Result<Tree, Hal
         task,
         limits: all_limits(classes, task.batches),
     };
-    match task.end {
-        End::Open => {
-            let (tree, _) = free_node(alloc, &root, 0)?;
-            Ok(tree)
-        }
-        End::Closed | End::Idle => {
-            let (tree, _) = free_close(alloc, &root, 0)?;
-            Ok(tree)
-        }
-    }
+    let (tree, _) = match task.end {
+        End::Open => free_node(alloc, &root, 0),
+        End::Closed | End::Idle => free_close(alloc, &root, 0),
+    }?;
+    Ok(tree)
 }
 
 // The same task with another limit, for the first try or the second.

@@ -7,7 +7,7 @@ ghost use Rattle.pocsag_branch.specs.Shape.{AdmitApart, AdmitSplit, AdmitUnclose
 ghost use Rattle.pocsag_branch.specs.Undecided.{Falls, IsSplitPoint};
 
 use crate::boundaries::BoundarySet;
-use crate::child::{child_limits, limits_over, limits_under, ways_out, ways_to_end};
+use crate::child::{child_limits, limits_over, limits_under, split_tree, ways_out, ways_to_end};
 use crate::node::Node;
 use crate::promised_forms::promised_form;
 use crate::task::{Form, Stop};
@@ -110,17 +110,8 @@ fn split_node(
         limits: limits_over(node, class, m),
     };
     let (from, after) = promised_node(alloc, &over, between)?;
-    let below = Box::new(alloc, below)?;
-    let from = Box::new(alloc, from)?;
-    Ok((
-        Tree::Split {
-            class: class.number,
-            m,
-            below,
-            from,
-        },
-        after,
-    ))
+    let tree = split_tree(alloc, class, m, below, from)?;
+    Ok((tree, after))
 }
 
 #[cycle(promised_nodes)]

@@ -1,7 +1,7 @@
 ghost use Rattle.std.specs.Prelude.{◌<◌, IfErr, IfOk, IfSome, slice_index};
 ghost use Rattle.pocsag_slots.specs.Loads.{IsAdmitted, limits_of_all};
 ghost use Rattle.pocsag_tree.specs.Views.{bound_of};
-ghost use Rattle.pocsag_branch.specs.Examined.{IsStop, IsTreeOf};
+ghost use Rattle.pocsag_branch.specs.Examined.{IsExamined, IsStop, IsTreeOf};
 
 use crate::free_root::stop_at_tour;
 use crate::node::Node;
@@ -51,15 +51,23 @@ pub(crate) fn promised_tree(alloc: Global, classes: &Classes, task: Task) -> Res
         task,
         limits: all_limits(classes, task.batches),
     };
-    match choice_for_open_end(alloc, classes, task)? {
+    let met = choice_for_open_end(alloc, classes, task)?;
+    let (tree, _) = root_with(alloc, &root, met)?;
+    Ok(tree)
+}
+
+// The tree of the root: where a choice has a tour for the open end, of the form that stands for it there.
+fn root_with(alloc: Global, root: &Node<'_>, met: Option<Choice>) -> Result<(Tree, u32), Stop>
+    requires { IfSome met (λ choice. IsAdmitted root.now.classes.now root.now.limits (slice_index choice.early)) }
+    ensures node { IfOk result
+        (λ x. IsExamined root.now.classes.now root.now.task root.now.limits 0 x.1 (bound_of x.0)) }
+    ensures stop { IfErr result (IsStop root.now.classes.now root.now.task) }
+{
+    match met {
         Some(choice) => {
-            let form = form_for(alloc, &root, &choice)?;
-            let (tree, _) = node_of_form(alloc, &root, form, 0)?;
-            Ok(tree)
+            let form = form_for(alloc, root, &choice)?;
+            node_of_form(alloc, root, form, 0)
         }
-        None => {
-            let (tree, _) = promised_node(alloc, &root, 0)?;
-            Ok(tree)
-        }
+        None => promised_node(alloc, root, 0),
     }
 }

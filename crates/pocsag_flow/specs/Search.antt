@@ -1,5 +1,5 @@
 -- The search for a way that leads load from an overfull slot to one with room (this project's own).
-use Rattle.std.specs.Prelude.{◌≡◌, ℕ, ◌+◌, ◌*◌, ◌<◌, ◌≤◌, ◌==◌, ◌⊎◌, cond, true, false, length, slice_index}
+use Rattle.std.specs.Prelude.{◌≡◌, ℕ, ◌+◌, ◌*◌, ◌<◌, ◌≤◌, ◌==◌, ◌⊎◌, cond, true, false, List, length, slice_index}
 use Rattle.pocsag_slots.specs.declared.class.Classes.{Classes}
 use Rattle.pocsag_slots.specs.declared.limit.Limits.{Limits}
 use Rattle.pocsag_slots.specs.Loads.{AreInOrder, IsWithin, load}
@@ -7,7 +7,6 @@ use Rattle.pocsag_slots.specs.Numbering.{finish_of, start_of}
 use Rattle.pocsag_slots.specs.Sums.{holds}
 use Rattle.pocsag_flow.specs.declared.network.Network.{Network}
 use Rattle.pocsag_flow.specs.declared.network.Progress.{Progress}
-use Rattle.pocsag_flow.specs.declared.network.LoadedChoice.{LoadedChoice}
 
 -- The network holds the loads of the search's choice, which is within the limits.
 pub record IsNetworkOf (n : Network) (s : Progress) : Type 0 where
@@ -22,10 +21,10 @@ pub record MayPush (n : Network) (s : Progress) (most : ℕ) : Type 0 where
   pub some : 0 < most
 
 -- The choice is within the limits, and these are its loads.
-pub record IsLoaded (k : Classes) (l : Limits) (s : LoadedChoice) : Type 0 where
-  pub within : IsWithin l (slice_index s.early)
-  pub size : length s.early ≡ 136
-  pub loads : (slot : ℕ) → slot < 16 → slice_index s.loads slot ≡ load k (slice_index s.early) slot
+pub record IsLoaded (k : Classes) (l : Limits) (early counted : List ℕ) : Type 0 where
+  pub within : IsWithin l (slice_index early)
+  pub size : length early ≡ 136
+  pub loads : (slot : ℕ) → slot < 16 → slice_index counted slot ≡ load k (slice_index early) slot
 
 -- No run of the class that the limits let move leads load from the slot out of the set.
 pub record LeadsInto (l : Limits) (early : ℕ → ℕ) (set class slot : ℕ) : Type 0 where

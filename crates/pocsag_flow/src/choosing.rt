@@ -1,11 +1,11 @@
-ghost use Rattle.std.specs.Prelude.{◌≡◌, ◌≢◌, ℕ, ◌+◌, ◌*◌, ◌^◌, ◌<◌, ◌≤◌, IfErr, IfNone, IfOk, IfSome, length, slice_index};
+ghost use Rattle.std.specs.Prelude.{◌≡◌, ◌≢◌, ℕ, ◌+◌, ◌*◌, ◌^◌, ◌<◌, ◌≤◌, IfErr, IfNone, IfOk, IfSome, length, OnOk, slice_index};
 ghost use Rattle.pocsag_slots.specs.Loads.{AreInOrder, IsAdmitted, IsWithin, Overloads};
 ghost use Rattle.pocsag_tree.specs.Spelling.{IsSet};
 ghost use Rattle.pocsag_flow.specs.Choosing.{IsBelowLeast, overload, set_of};
 ghost use Rattle.pocsag_flow.specs.Search.{IsLoaded, same_slot};
 
 use crate::fault::ChooseFault;
-use crate::network::{LoadedChoice, Network, Progress};
+use crate::network::{Network, Progress};
 use crate::way::leave;
 use pocsag_slots::{
     CLASSES, Choice, Classes, Limits, SLOTS, class_loads_add_up, loads, with_member,
@@ -22,7 +22,7 @@ pub fn choose(classes: &Classes, limits: &Limits) -> Result<Choice, ChooseFault>
     ensures overloads { IfErr result (λ fault. Overloads classes.now limits.now (set_of fault)) }
     ensures least { IfErr result (λ fault. IsBelowLeast classes.now limits.now (set_of fault)) }
 {
-    choose_from(classes, limits, &Choice { early: limits.hi })
+    settled(classes, limits, &Choice { early: limits.hi })
 }
 
 /// The same. The given choice is a hint for speed: the nearer it is to one that is admitted, the sooner
@@ -39,15 +39,29 @@ pub fn choose_from(
     ensures least { IfErr result (λ fault. IsBelowLeast classes.now limits.now (set_of fault)) }
 {
     let choice = clamped(limits, start);
-    let mut loaded = LoadedChoice {
-        early: choice.early,
-        loads: loads(classes, &choice),
+    settled(classes, limits, &choice)
+}
+
+// The same of a choice that is within the limits.
+fn settled(classes: &Classes, limits: &Limits, within: &Choice) -> Result<Choice, ChooseFault>
+    requires ordered { AreInOrder classes.now limits.now }
+    requires within { IsWithin limits.now (slice_index within.now.early) }
+    ensures admitted { IfOk result (λ choice. IsAdmitted classes.now limits.now (slice_index choice.early)) }
+    ensures set { IfErr result (λ fault. IsSet (set_of fault)) }
+    ensures overloads { IfErr result (λ fault. Overloads classes.now limits.now (set_of fault)) }
+    ensures least { IfErr result (λ fault. IsBelowLeast classes.now limits.now (set_of fault)) }
+{
+    let mut counted = loads(classes, within);
+    let mut search = Progress {
+        early: within.early,
+        reached: 0,
+        end: 0,
     };
-    while let Some(slot) = overfull(&loaded.loads, limits) {
-        loaded = relieved(classes, limits, &loaded, slot)?;
+    while let Some(slot) = overfull(&counted, limits) {
+        relieve(classes, limits, &mut counted, &mut search, slot)?;
     }
     Ok(Choice {
-        early: loaded.early,
+        early: search.early,
     })
 }
 
@@ -80,45 +94,40 @@ fn overfull(counted: &[u32; 16], limits: &Limits) -> Option<u8>
     None
 }
 
-// A choice with less overload, some of the load of the slot moved to one with room; or the set of all
-// slots to which load can be moved from there.
-fn relieved(
+// Moves some of the load of the slot to one with room, which leaves less overload; or answers the set of all slots
+// to which load can be moved from there.
+fn relieve(
     classes: &Classes,
     limits: &Limits,
-    loaded: &LoadedChoice,
+    counted: &mut [u32; 16],
+    search: &mut Progress,
     slot: u8,
-) -> Result<LoadedChoice, ChooseFault>
+) -> Result<(), ChooseFault>
     requires ordered { AreInOrder classes.now limits.now }
-    requires loaded { IsLoaded classes.now limits.now loaded.now }
+    requires loaded { IsLoaded classes.now limits.now search.old.early counted.old }
     requires slot { slot < 16 }
-    requires above { slice_index limits.now.cap slot < slice_index loaded.now.loads slot }
-    ensures loaded { IfOk result (IsLoaded classes.now limits.now) }
-    ensures less { IfOk result
-        (λ after. overload classes.now limits.now (slice_index after.early)
-        < overload classes.now limits.now (slice_index loaded.now.early)) }
+    requires above { slice_index limits.now.cap slot < slice_index counted.old slot }
+    ensures loaded { OnOk result (IsLoaded classes.now limits.now search.new.early counted.new) }
+    ensures less { OnOk result (overload classes.now limits.now (slice_index search.new.early)
+        < overload classes.now limits.now (slice_index search.old.early)) }
     ensures set { IfErr result (λ fault. IsSet (set_of fault)) }
     ensures overloads { IfErr result (λ fault. Overloads classes.now limits.now (set_of fault)) }
 {
     class_loads_add_up();
-    let excess = loaded.loads[slot as usize] - limits.cap[slot as usize];
+    let excess = counted[slot as usize] - limits.cap[slot as usize];
     let network = Network {
         classes,
         limits,
-        loads: loaded.loads,
+        loads: *counted,
     };
-    let mut search = Progress {
-        early: loaded.early,
-        reached: with_member(0, slot),
-        end: slot,
-    };
-    let moved = leave(&network, &mut search, slot, excess);
+    search.reached = with_member(0, slot);
+    search.end = slot;
+    let moved = leave(&network, search, slot, excess);
     if moved == 0 {
         return Err(overload_of(search.reached));
     }
-    Ok(LoadedChoice {
-        early: search.early,
-        loads: shifted(loaded.loads, slot, search.end, moved),
-    })
+    *counted = shifted(network.loads, slot, search.end, moved);
+    Ok(())
 }
 
 // The loads where so much is taken from one slot and given to another.

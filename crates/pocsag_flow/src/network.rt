@@ -15,10 +15,3 @@ pub(crate) struct Progress {
     pub(crate) reached: u16,
     pub(crate) end: u8,
 }
-
-// A choice with the load of each slot.
-#[derive(Drop)]
-pub(crate) struct LoadedChoice {
-    pub(crate) early: [u32; 136],
-    pub(crate) loads: [u32; 16],
-}

@@ -1,6 +1,6 @@
 /// What a plan takes on the air at a rate. Its text is seven lines, each the name of a field and its
 /// number.
-#[derive(Clone, Copy, PartialEq, Eq, Debug)]
+#[derive(Clone, Copy, PartialEq, Eq)]
 pub struct Report {
     /// How many pages there are.
     pub pages: u32,

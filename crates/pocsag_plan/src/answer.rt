@@ -4,7 +4,7 @@ use pocsag_words::End;
 
 /// A plan of a round: how its pages are sent, and why fewer batches do not suffice. Within a `Bounded` the
 /// batches may be one more than the fewest, and the tree is for its bound.
-#[derive(Drop, Debug)]
+#[derive(Drop)]
 pub struct Plan {
     /// The end of the transmission that was asked for.
     pub end: End,

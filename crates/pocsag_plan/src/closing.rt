@@ -153,8 +153,7 @@ impl Book {
             (T.taken tx.old) (T.taken tx.new) (C.taken cert.old) (C.taken cert.new)) }
     {
         let effort = Effort::Always;
-        let bounded = self.bounded_stream(tx, cert, Search { limit, end, effort })?;
-        Ok(bounded)
+        self.bounded_stream(tx, cert, Search { limit, end, effort })
     }
 
     /// Plans the round of the pages and writes both as is asked: `plan_stream` with the bound of its plan,

@@ -7,7 +7,7 @@ use pocsag_pages::Page;
 use pocsag_words::OutOfMemory;
 
 /// An edit of an open round.
-#[derive(Drop, Debug)]
+#[derive(Drop)]
 pub enum Edit {
     Add(Page),
     /// The address whose page is taken out.

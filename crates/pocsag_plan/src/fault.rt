@@ -6,45 +6,90 @@ ghost use Rattle.pocsag_plan.specs.FaultChains.{stream_fault_of_plan, fault_of_s
 use pocsag_branch::{SearchFault, SearchLimit};
 use pocsag_pages::RoundFault;
 use pocsag_words::{OutOfMemory, WriteFault};
-use thiserror::Error;
+use std::error::Error;
+use std::fmt::{self, Display, Formatter};
 
 /// Why there is no plan.
-#[derive(Drop, Debug, Error)]
+#[derive(Drop)]
 pub enum PlanFault {
     /// The node limit is 0 or above 1,000,000.
-    #[error("the limit must be 1 to 1000000")]
     BadLimit,
-    #[error("{0}")]
     SearchLimit(SearchLimit),
-    #[error("out of memory")]
     OutOfMemory,
 }
 
+impl Display for PlanFault {
+    fn fmt<W: fmt::Write>(&self, f: &mut Formatter<W>) -> fmt::Result {
+        match self {
+            PlanFault::BadLimit => f.write_str("the limit must be 1 to 1000000"),
+            PlanFault::SearchLimit(stop) => stop.fmt(f),
+            PlanFault::OutOfMemory => f.write_str("out of memory"),
+        }
+    }
+}
+
+impl fmt::Debug for PlanFault {
+    fn fmt<W: fmt::Write>(&self, f: &mut Formatter<W>) -> fmt::Result {
+        Display::fmt(self, f)
+    }
+}
+
+impl Error for PlanFault {}
+
 /// Why a page file was not planned and written.
-#[derive(Drop, Debug, Error)]
+#[derive(Drop)]
 pub enum StreamFault {
     /// The node limit is 0 or above 1,000,000.
-    #[error("the limit must be 1 to 1000000")]
     BadLimit,
     /// The page file gives no round.
-    #[error("{0}")]
     Round(RoundFault),
-    #[error("{0}")]
     SearchLimit(SearchLimit),
-    #[error("out of memory")]
     OutOfMemory,
     /// The transmission was not taken whole: what was taken is a prefix of it.
-    #[error("cannot write")]
     Transmission(WriteFault),
     /// The transmission was taken whole, and the certificate was not: what was taken is a prefix of it.
-    #[error("cannot write")]
     Certificate(WriteFault),
 }
 
+impl Display for StreamFault {
+    fn fmt<W: fmt::Write>(&self, f: &mut Formatter<W>) -> fmt::Result {
+        match self {
+            StreamFault::BadLimit => f.write_str("the limit must be 1 to 1000000"),
+            StreamFault::Round(fault) => fault.fmt(f),
+            StreamFault::SearchLimit(stop) => stop.fmt(f),
+            StreamFault::OutOfMemory => f.write_str("out of memory"),
+            StreamFault::Transmission(_) | StreamFault::Certificate(_) => f.write_str(
+                "cannot write",
+            ),
+        }
+    }
+}
+
+impl fmt::Debug for StreamFault {
+    fn fmt<W: fmt::Write>(&self, f: &mut Formatter<W>) -> fmt::Result {
+        Display::fmt(self, f)
+    }
+}
+
+impl Error for StreamFault {}
+
 /// A rate that is none of 512, 1200 and 2400 bits a second.
-#[derive(Clone, Copy, PartialEq, Eq, Debug, Error)]
-#[error("the rate must be 512, 1200 or 2400")]
+#[derive(Clone, Copy, PartialEq, Eq)]
 pub struct BadRate;
+
+impl Display for BadRate {
+    fn fmt<W: fmt::Write>(&self, f: &mut Formatter<W>) -> fmt::Result {
+        f.write_str("the rate must be 512, 1200 or 2400")
+    }
+}
+
+impl fmt::Debug for BadRate {
+    fn fmt<W: fmt::Write>(&self, f: &mut Formatter<W>) -> fmt::Result {
+        Display::fmt(self, f)
+    }
+}
+
+impl Error for BadRate {}
 
 impl From<OutOfMemory> for PlanFault {
     ghost from_gives = { λ _ e. e ≡ planning.OutOfMemory };

@@ -49,8 +49,7 @@ pub fn plan_always(alloc: Global, round: &Round, limit: u32, end: End) -> Result
     ensures fault { IfErr result (ExplainsPlan Effort.Always end round.now limit) }
 {
     let effort = Effort::Always;
-    let bounded = bounded_plan(alloc, round, Search { limit, end, effort })?;
-    Ok(bounded)
+    bounded_plan(alloc, round, Search { limit, end, effort })
 }
 
 /// Plans the round as is asked: `plan` with its bound, which is its batches, or `plan_always`.

@@ -2,57 +2,120 @@ use crate::fault::{PlanFault, StreamFault};
 use pocsag_branch::SearchLimit;
 use pocsag_pages::{Page, PageFault, RoundFault};
 use pocsag_words::OutOfMemory;
-use thiserror::Error;
+use std::error::Error;
+use std::fmt::{self, Display, Formatter};
 
 /// Why a page is not added to an open round.
-#[derive(Clone, Copy, PartialEq, Eq, Debug, Error)]
+#[derive(Clone, Copy, PartialEq, Eq)]
 pub enum AddFault {
     /// The address is above 2,097,151.
-    #[error("bad address")]
     BadAddress,
     /// The address is one of the sixteen that would read as idle or as synchronisation.
-    #[error("reserved address")]
     ReservedAddress,
     /// The function is above 3, function 1 or 2 has a message, or the message has over 1,400 items or
     /// an item of more than 20 bits.
-    #[error("bad payload")]
     BadPayload,
     /// A page of the round has the address.
-    #[error("the address is already there")]
     DuplicateAddress,
     /// The round has 20,000 pages.
-    #[error("too many pages")]
     Full,
-    #[error("out of memory")]
     OutOfMemory,
 }
 
+impl AddFault {
+    fn text(self) -> &'static str {
+        match self {
+            AddFault::BadAddress => "bad address",
+            AddFault::ReservedAddress => "reserved address",
+            AddFault::BadPayload => "bad payload",
+            AddFault::DuplicateAddress => "the address is already there",
+            AddFault::Full => "too many pages",
+            AddFault::OutOfMemory => "out of memory",
+        }
+    }
+}
+
+impl Display for AddFault {
+    fn fmt<W: fmt::Write>(&self, f: &mut Formatter<W>) -> fmt::Result {
+        f.write_str(self.text())
+    }
+}
+
+impl fmt::Debug for AddFault {
+    fn fmt<W: fmt::Write>(&self, f: &mut Formatter<W>) -> fmt::Result {
+        Display::fmt(self, f)
+    }
+}
+
+impl Error for AddFault {}
+
 /// A page that was not added, and why.
-#[derive(Drop, Debug, Error)]
-#[error("{fault}")]
+#[derive(Drop)]
 pub struct Refused {
     pub fault: AddFault,
     pub page: Page,
 }
 
+impl Display for Refused {
+    fn fmt<W: fmt::Write>(&self, f: &mut Formatter<W>) -> fmt::Result {
+        self.fault.fmt(f)
+    }
+}
+
+impl fmt::Debug for Refused {
+    fn fmt<W: fmt::Write>(&self, f: &mut Formatter<W>) -> fmt::Result {
+        Display::fmt(self, f)
+    }
+}
+
+impl Error for Refused {}
+
 /// No page of the round has the address.
-#[derive(Clone, Copy, PartialEq, Eq, Debug, Error)]
-#[error("no such page")]
+#[derive(Clone, Copy, PartialEq, Eq)]
 pub struct NotThere;
 
+impl Display for NotThere {
+    fn fmt<W: fmt::Write>(&self, f: &mut Formatter<W>) -> fmt::Result {
+        f.write_str("no such page")
+    }
+}
+
+impl fmt::Debug for NotThere {
+    fn fmt<W: fmt::Write>(&self, f: &mut Formatter<W>) -> fmt::Result {
+        Display::fmt(self, f)
+    }
+}
+
+impl Error for NotThere {}
+
 /// Why there is no plan of an open round.
-#[derive(Drop, Debug, Error)]
+#[derive(Drop)]
 pub enum BookFault {
     /// The node limit is 0 or above 1,000,000.
-    #[error("the limit must be 1 to 1000000")]
     BadLimit,
-    #[error("there are no pages")]
     NoPages,
-    #[error("{0}")]
     SearchLimit(SearchLimit),
-    #[error("out of memory")]
     OutOfMemory,
 }
+
+impl Display for BookFault {
+    fn fmt<W: fmt::Write>(&self, f: &mut Formatter<W>) -> fmt::Result {
+        match self {
+            BookFault::BadLimit => f.write_str("the limit must be 1 to 1000000"),
+            BookFault::NoPages => f.write_str("there are no pages"),
+            BookFault::SearchLimit(stop) => stop.fmt(f),
+            BookFault::OutOfMemory => f.write_str("out of memory"),
+        }
+    }
+}
+
+impl fmt::Debug for BookFault {
+    fn fmt<W: fmt::Write>(&self, f: &mut Formatter<W>) -> fmt::Result {
+        Display::fmt(self, f)
+    }
+}
+
+impl Error for BookFault {}
 
 impl From<PageFault> for AddFault {
     ghost use Rattle.std.specs.Prelude.{◌≡◌};

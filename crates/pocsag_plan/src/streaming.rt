@@ -99,8 +99,7 @@ pub fn plan_stream_always<S: Source, T: Sink, C: Sink>(
     ensures read_succeeded { OnOk result (S.failures source.new ≡ S.failures source.old) }
 {
     let effort = Effort::Always;
-    let bounded = bounded_stream(alloc, source, tx, cert, Search { limit, end, effort })?;
-    Ok(bounded)
+    bounded_stream(alloc, source, tx, cert, Search { limit, end, effort })
 }
 
 /// Reads a page file up to its end, plans its round and writes both as is asked: `plan_stream` with the bound

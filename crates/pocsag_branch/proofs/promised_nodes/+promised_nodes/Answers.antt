@@ -27,7 +27,7 @@ pub split_node-returns-clause-node : goal.split_node-returns-clause-node
 split_node-returns-clause-node t c =
     split_made c.args.node.now.classes.now c.args.node.now.task c.args.node.now.limits c.args.made c.in_ok-below.between
     c.in_ok-from.after c.args.class.number c.args.m c.limits_under.result c.limits_over.result c.in_ok-below.below c.in_ok-from.from
-    c.in_ok-below-2.below c.in_ok-from-2.from c.in_ok-below-2.ensures.ok c.in_ok-from-2.ensures.ok
+    c.in_ok-tree.tree c.in_ok-tree.ensures
     c.requires.point c.requires.shape c.limits_under.ensures.value c.limits_over.ensures.value c.in_ok-below.ensures.node
     c.in_ok-from.ensures.node
 
