@@ -8,7 +8,7 @@ ghost use Rattle.pocsag_pages.specs.Listable.{IsListable};
 ghost use Rattle.pocsag_decode.specs.Listing.{header, hex_digit, hex_digits, kind_field, listing, message_field, record_of};
 
 use crate::fault::ListFault;
-use csv::{ByteRecord, Writer};
+use csv::Writer;
 use pocsag_pages::Page;
 use pocsag_text::{unpack_alpha, unpack_numeric};
 use pocsag_words::{OutOfMemory, Sink, write_all};
@@ -90,7 +90,6 @@ pub fn message_of(alloc: Global, function: u8, items: &[u32]) -> Result<Vec<u8>,
 
 // Writes one record.
 pub(crate) fn put_record(
-    alloc: Global,
     writer: &mut Writer<Vec<u8>>,
     address: &[u8],
     kind: &[u8],
@@ -99,8 +98,7 @@ pub(crate) fn put_record(
     requires { IsReady writer.old }
     ensures { PutsRow result writer.old writer.new (address.now ∷ kind.now ∷ message.now ∷ []) }
 {
-    let row = ByteRecord::from_fields(alloc, &[address, kind, message])?;
-    match writer.write_byte_record(&row) {
+    match writer.write_fields(&[address, kind, message]) {
         Ok(()) => Ok(()),
         Err(_) => Err(AllocError),
     }
@@ -117,7 +115,7 @@ fn put_page(alloc: Global, writer: &mut Writer<Vec<u8>>, page: &Page) -> Result<
         return Err(AllocError);
     };
     let kind = kind_of_page(page.function, items);
-    put_record(alloc, writer, address.as_bytes(), kind, message.as_slice())
+    put_record(writer, address.as_bytes(), kind, message.as_slice())
 }
 
 #[tactic(auto, unfolding(crate::specs::Listing::listing))]
@@ -126,7 +124,7 @@ fn listing_of(alloc: Global, pages: &[Page]) -> Result<Vec<u8>, AllocError>
     ensures { IfOk result (λ v. v.items ≡ listing pages.now) }
 {
     let mut writer = Writer::from_writer(Vec::new(alloc));
-    put_record(alloc, &mut writer, b"address", b"kind", b"message")?;
+    put_record(&mut writer, b"address", b"kind", b"message")?;
     for page in pages {
         put_page(alloc, &mut writer, page)?;
     }
