@@ -78,58 +78,35 @@ quiet_more a p w words s ps place inside holds nobody known = record {
       (turn_ended a p w words s None nobody.0 place inside holds nobody.1 known.open_page ps None (sym (ending_none nobody.0)) known.ended);
 }
 
-module _ (law : AreRepaired) (a : ℕ) (s : State) (words bytes : List ℕ) (ps : List Page) (first : 0 ≡ length words % 17)
-    (holds : s ≡ Listening None) (long : length bytes ≡ 68) (small : All (λ b. b < 256) bytes) where
-  abbrev pub at : ℕ
-  at = 4 + 8 * (a % 8)
-
-  abbrev pub before : List ℕ
-  before = words_of (take at bytes)
-
-  abbrev pub rest : List ℕ
-  rest = drop at bytes
-
-  abbrev pub behind : List ℕ
-  behind = words_of (drop 8 rest)
-
-  abbrev pub one : ℕ
-  one = from_be_bytes w32 (take 4 rest)
-
-  abbrev pub other : ℕ
-  other = from_be_bytes w32 (take 4 (drop 4 rest))
-
-  rest_long : length rest ≡ 68 - at
-  rest_long = length-drop at bytes ∙ ap (λ (n : ℕ). n - at) long
-
-  before_long : length before ≡ 1 + 2 * (a % 8)
-  before_long = let w = words_long (take at bytes) in let t = length-take at bytes in omega arith
-
-  behind_long : length behind ≡ 14 - 2 * (a % 8)
-  behind_long = let w = words_long (drop 8 rest) in let d = length-drop 8 rest in let r = rest_long in omega arith
-
-  parts : (((words ++ before) ++ one ∷ []) ++ other ∷ []) ++ behind ≡ words ++ words_of bytes
-  parts =
-      ap (λ (l : List ℕ). l ++ behind) (append_assoc (words ++ before) (one ∷ []) (other ∷ []))
-      ∙ ap (λ (l : List ℕ). ((words ++ before) ++ l) ++ behind) (sym (frame_words rest (let r = rest_long in omega arith)))
-      ∙ three_parts (1 + 2 * (a % 8)) at words bytes (take at bytes) rest (take 8 rest) (drop 8 rest) (omega arith) (omega arith)
-      (let r = rest_long in omega arith) refl refl refl refl
-
-  pub deaf_all : CallsNobody a one → CallsNobody a other → Known words a s ps → Known (words ++ words_of bytes) a s ps
-  deaf_all nobody nor known =
-      let b = before_long in
-      let c = behind_long in
-      let l1 = length-append words before in
-      let l2 = length-append (words ++ before) (one ∷ []) in
-      let l3 = length-append ((words ++ before) ++ one ∷ []) (other ∷ []) in
-      let fits1 = words_fit (take at bytes) (All-take (λ x. x < 256) at bytes small) in
-      let fits2 = words_fit (drop 8 rest) (All-drop (λ x. x < 256) 8 rest (All-drop (λ x. x < 256) at bytes small)) in
-      let k1 = pass_all law a 0 s words before ps fits1 (omega arith) holds (inl (omega arith)) known in
-      let k2 = quiet_more a (1 + 2 * (a % 8)) one (words ++ before) s ps (omega arith) (omega arith) holds nobody k1 in
-      let k3 = quiet_more a (2 + 2 * (a % 8)) other ((words ++ before) ++ one ∷ []) s ps (omega arith) (omega arith) holds nor k2 in
-      subst (λ (ws : List ℕ). Known ws a s ps) parts
-      (pass_all law a (3 + 2 * (a % 8)) s (((words ++ before) ++ one ∷ []) ++ other ∷ []) behind ps fits2 (omega arith) holds
-      (inr (omega arith, omega arith)) k3)
-
-  -- the second word of the frame, as it is found
-  pub other_at : from_be_bytes w32 (take 4 (drop (at + 4) bytes)) ≡ other
-  other_at = ap (λ (l : List ℕ). from_be_bytes w32 (take 4 l)) (sym (drop-drop 4 at bytes))
+pub deaf_all : AreRepaired → (a : ℕ) (s : State) (words bytes : List ℕ) (ps : List Page) → 0 ≡ length words % 17 → s ≡ Listening None
+    → length bytes ≡ 68 → All (λ b. b < 256) bytes
+    → CallsNobody a (from_be_bytes w32 (take 4 (drop (4 + 8 * (a % 8)) bytes)))
+    → CallsNobody a (from_be_bytes w32 (take 4 (drop (4 + 8 * (a % 8) + 4) bytes)))
+    → Known words a s ps → Known (words ++ words_of bytes) a s ps
+deaf_all law a s words bytes ps first holds long small nobody nor known =
+    let at : ℕ = 4 + 8 * (a % 8) in
+    let before : List ℕ = words_of (take at bytes) in
+    let rest : List ℕ = drop at bytes in
+    let behind : List ℕ = words_of (drop 8 rest) in
+    let one : ℕ = from_be_bytes w32 (take 4 rest) in
+    let other : ℕ = from_be_bytes w32 (take 4 (drop 4 rest)) in
+    let rest_long : length rest ≡ 68 - at = length-drop at bytes ∙ ap (λ (n : ℕ). n - at) long in
+    let before_long : length before ≡ 1 + 2 * (a % 8) = let w = words_long (take at bytes) in let t = length-take at bytes in omega arith in
+    let behind_long : length behind ≡ 14 - 2 * (a % 8) = let w = words_long (drop 8 rest) in let d = length-drop 8 rest in omega arith in
+    let parts : (((words ++ before) ++ one ∷ []) ++ other ∷ []) ++ behind ≡ words ++ words_of bytes =
+    ap (λ (l : List ℕ). l ++ behind) (append_assoc (words ++ before) (one ∷ []) (other ∷ []))
+    ∙ ap (λ (l : List ℕ). ((words ++ before) ++ l) ++ behind) (sym (frame_words rest (omega arith)))
+    ∙ three_parts (1 + 2 * (a % 8)) at words bytes (take at bytes) rest (take 8 rest) (drop 8 rest) (omega arith) (omega arith) (omega arith)
+    refl refl refl refl in
+    let l1 = length-append words before in
+    let l2 = length-append (words ++ before) (one ∷ []) in
+    let l3 = length-append ((words ++ before) ++ one ∷ []) (other ∷ []) in
+    let fits1 = words_fit (take at bytes) (All-take (λ x. x < 256) at bytes small) in
+    let fits2 = words_fit (drop 8 rest) (All-drop (λ x. x < 256) 8 rest (All-drop (λ x. x < 256) at bytes small)) in
+    let k1 = pass_all law a 0 s words before ps fits1 (omega arith) holds (inl (omega arith)) known in
+    let k2 = quiet_more a (1 + 2 * (a % 8)) one (words ++ before) s ps (omega arith) (omega arith) holds nobody k1 in
+    let second : CallsNobody a other = subst (λ (l : List ℕ). CallsNobody a (from_be_bytes w32 (take 4 l))) (sym (drop-drop 4 at bytes)) nor in
+    let k3 = quiet_more a (2 + 2 * (a % 8)) other ((words ++ before) ++ one ∷ []) s ps (omega arith) (omega arith) holds second k2 in
+    subst (λ (ws : List ℕ). Known ws a s ps) parts
+    (pass_all law a (3 + 2 * (a % 8)) s (((words ++ before) ++ one ∷ []) ++ other ∷ []) behind ps fits2 (omega arith) holds
+    (inr (omega arith, omega arith)) k3)

@@ -2,6 +2,7 @@
 use Rattle.pocsag_pager.proofs.Prelude.{◌≡◌, ◌≢◌, ℕ, ◌+◌, ◌/◌, ◌%◌, ◌^◌, Bool, true, false, cond, nat_eq, List, [], ◌∷◌, ◌++◌, length, refl, ap, arith, Option, Some, None, option_to_list, ne_eqb, Kind, Page, frame_at, is_ours, page_called, run_of, shown_from, ended_from, open_from, ending, next_open}
 use Rattle.std.proofs.Common.{not, nat_lt, ◌&&◌}
 use Rattle.pocsag_words.specs.declared.codeword.Kind.TheVariants.{Idle, Address, Message}
+use Rattle.pocsag_words.proofs.TruthValues.{and_false}
 use Rattle.pocsag_words.specs.Kinds.{idle_word, kind_of}
 use Rattle.pocsag_pager.specs.Standing.{is_run}
 
@@ -155,13 +156,9 @@ next_open_elsewhere a j (Some (Message bits)) n = refl
 
 -- ---- a word with other high bits
 
-none_and : (b : Bool) → (b && false) ≡ false
-none_and true = refl
-none_and false = refl
-
 not_ours : (a j high : ℕ) → high ≢ a / 8 → is_ours a j high ≡ false
 unfolding is_ours
-not_ours a j high n = rw (ne_eqb _ _ n) (none_and (nat_eq (frame_at j) (a % 8)))
+not_ours a j high n = rw (ne_eqb _ _ n) (and_false (nat_eq (frame_at j) (a % 8)))
 
 quiet_case : (a j d : ℕ) (idle low : Bool) → d / 4 ≢ a / 8
     → next_open a j None (Some (cond idle Idle (cond low (Address (d / 4) (d % 4)) (Message (d % 2 ^ 20))))) ≡ None

@@ -19,7 +19,7 @@ pub(crate) enum State {
 }
 
 // The word of the four bytes from an index on.
-fn word_at(bytes: &[u8], at: usize) -> u32
+fn word_from(bytes: &[u8], at: usize) -> u32
     requires { at + 4 ≤ length bytes.now }
     ensures { result ≡ from_be_bytes w32 (take 4 (drop at bytes.now)) }
 {
@@ -171,10 +171,10 @@ impl Pager {
         if !self.is_between_pages() {
             return false;
         }
-        if calls(self.address, word_at(batch, at)) {
+        if calls(self.address, word_from(batch, at)) {
             return false;
         }
-        !calls(self.address, word_at(batch, at + 4))
+        !calls(self.address, word_from(batch, at + 4))
     }
 
     // Passes over the next words, so many, unheard.
