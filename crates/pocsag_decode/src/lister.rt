@@ -205,7 +205,7 @@ fn list_batches<S: Sink>(lister: &mut Lister, bytes: &[u8], sink: &mut S) -> Res
 }
 
 /// Writes the listing of the pages that the bytes of a transmission read as, as `list` does, but as they are read: no more
-/// than one page is held, and records up to 65,536 bytes beside its own. After a fault a part was written. Of bytes that
+/// than one page is held, and records up to 1,048,576 bytes beside its own. After a fault a part was written. Of bytes that
 /// have a fault nothing is promised: `judge_bytes` finds it before.
 pub fn list_sent<S: Sink>(alloc: Global, bytes: &[u8], sink: &mut S) -> Result<(), ListFault>
     ensures whole { S.tells → OnOk result ((pages : List Page) → ReadsAs bytes.now pages →

@@ -16,8 +16,9 @@ use pocsag_words::{OutOfMemory, Sink, write_all};
 use std::alloc::{AllocError, Global};
 use std::mem;
 
-// The most bytes of records that wait before they are written, beside those of one page.
-const PIECE: usize = 65_536;
+// The most bytes of records that wait before they are written, beside those of one page: of a listing up to that length
+// want of memory writes nothing.
+const PIECE: usize = 1_048_576;
 
 // The most items whose room is kept.
 const KEPT_ITEMS: usize = 4_096;
