@@ -1,5 +1,7 @@
 pub mod Feeding
+pub mod Fine
 pub mod Judgements
+pub mod Listings
 pub mod OneFault
 pub mod Preambles
 pub mod PageRows

@@ -191,7 +191,7 @@ module _ (X : List ℕ) (h : IsWhole X) where
   }
 
 -- the pages at the end
-resumed_end : (n : ℕ) (o : Option OpenPage) → resumed n o [] ≡ closed o
+pub resumed_end : (n : ℕ) (o : Option OpenPage) → resumed n o [] ≡ closed o
 resumed_end n None = refl
 resumed_end n (Some p) =
     ap (λ (l : List ℕ). record { address = p.address; function = p.function; payload = l } ∷ []) (append-nil p.items.items)

@@ -1,7 +1,9 @@
 pub mod Carried
 pub mod Faults
 pub mod Growing
+pub mod Judging
 pub mod Lines
+pub mod Listers
 pub mod Listing
 pub mod PageFiles
 pub mod Places

@@ -13,9 +13,9 @@ use std::mem;
 // A page whose message may still grow.
 #[derive(Drop)]
 pub(crate) struct OpenPage {
-    address: u32,
-    function: u8,
-    items: Vec<u32>,
+    pub(crate) address: u32,
+    pub(crate) function: u8,
+    pub(crate) items: Vec<u32>,
 }
 
 // The pages of the codewords that were read.

@@ -7,7 +7,9 @@ mod carry;
 mod decoder;
 mod fault;
 mod growing;
+mod judging;
 mod laws;
+mod lister;
 mod listing;
 mod page_file;
 mod repaired;
@@ -16,11 +18,13 @@ mod state;
 mod whole;
 
 pub use fault::{DecodeFault, ListFault};
+pub use judging::judge_bytes;
 pub use laws::{
     a_fault_there_stays, faults_are_one, listed_fields_are_read_back, no_fault_is_a_reading,
     page_files_are_read_back, readings_have_no_fault, readings_of_bytes_are_one, repair_restores,
     repaired_pages_are_heard, standing_is_without_fault,
 };
+pub use lister::{list_sent, list_spent};
 pub use listing::{kind_of_page, list, message_of};
 pub use page_file::write_page_file;
 pub use repaired::Repaired;

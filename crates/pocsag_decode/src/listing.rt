@@ -1,18 +1,27 @@
 ghost use Rattle.std.specs.Prelude.{◌≡◌, ◌≢◌, ◌^◌, ◌<◌, ◌∷◌, ◌++◌, [], length, All, OnOk, IfOk};
 ghost use Rattle.std.specs.List.{flat_map};
 ghost use Rattle.std.specs.Fmt.{decimal};
+ghost use Rattle.csv.specs.Writing.{default_writer, row_text};
 ghost use Rattle.pocsag_words.specs.Devices.{TookPrefix};
-ghost use Rattle.pocsag_decode.specs.Lines.{IsReady, PutsRow};
+ghost use Rattle.pocsag_decode.specs.Lines.{IsReady, PutsRow, text_in};
 ghost use Rattle.pocsag_decode.specs.Faults.{TellsFailures};
 ghost use Rattle.pocsag_pages.specs.Listable.{IsListable};
 ghost use Rattle.pocsag_decode.specs.Listing.{header, hex_digit, hex_digits, kind_field, listing, message_field, record_of};
 
 use crate::fault::ListFault;
-use csv::{ByteRecord, Writer};
+use csv::Writer;
 use pocsag_pages::Page;
 use pocsag_text::{unpack_alpha, unpack_numeric};
 use pocsag_words::{OutOfMemory, Sink, write_all};
 use std::alloc::{AllocError, Global};
+use std::mem;
+
+// The most bytes of records that wait before they are written, beside those of one page: of a listing up to that length
+// want of memory writes nothing.
+const PIECE: usize = 1_048_576;
+
+// The most items whose room is kept.
+const KEPT_ITEMS: usize = 4_096;
 
 fn hex_digit(digit: u32) -> u8
     requires { digit < 16 }
@@ -90,7 +99,6 @@ pub fn message_of(alloc: Global, function: u8, items: &[u32]) -> Result<Vec<u8>,
 
 // Writes one record.
 pub(crate) fn put_record(
-    alloc: Global,
     writer: &mut Writer<Vec<u8>>,
     address: &[u8],
     kind: &[u8],
@@ -99,8 +107,7 @@ pub(crate) fn put_record(
     requires { IsReady writer.old }
     ensures { PutsRow result writer.old writer.new (address.now ∷ kind.now ∷ message.now ∷ []) }
 {
-    let row = ByteRecord::from_fields(alloc, &[address, kind, message])?;
-    match writer.write_byte_record(&row) {
+    match writer.write_fields(&[address, kind, message]) {
         Ok(()) => Ok(()),
         Err(_) => Err(AllocError),
     }
@@ -117,7 +124,96 @@ fn put_page(alloc: Global, writer: &mut Writer<Vec<u8>>, page: &Page) -> Result<
         return Err(AllocError);
     };
     let kind = kind_of_page(page.function, items);
-    put_record(alloc, writer, address.as_bytes(), kind, message.as_slice())
+    put_record(writer, address.as_bytes(), kind, message.as_slice())
+}
+
+// The list without its items, and its room where that is not much, so that a long message and its record do not stand
+// beside them.
+fn without_items(alloc: Global, mut items: Vec<u32>) -> Vec<u32>
+    ensures { result.items ≡ [] }
+{
+    if items.len() > KEPT_ITEMS {
+        return Vec::new(alloc);
+    }
+    items.clear();
+    items
+}
+
+// Writes the record of a page that is not needed any more, and gives the room of its items.
+pub(crate) fn put_spent(
+    alloc: Global,
+    writer: &mut Writer<Vec<u8>>,
+    page: Page,
+) -> Result<Vec<u32>, AllocError>
+    requires ready { IsReady writer.old }
+    requires listable { IsListable page }
+    ensures row { PutsRow result writer.old writer.new (record_of page) }
+    ensures empty { IfOk result (λ room. room.items ≡ []) }
+{
+    let Page {
+        address,
+        function,
+        payload,
+    } = page;
+    let items = payload.into_vec();
+    let kind = kind_of_page(function, items.as_slice());
+    let Ok(message) = message_of(alloc, function, items.as_slice()) else {
+        return Err(AllocError);
+    };
+    let room = without_items(alloc, items);
+    let address = format!(in alloc; "{}", address)?;
+    put_record(writer, address.as_bytes(), kind, message.as_slice())?;
+    Ok(room)
+}
+
+// A writer with the record of the names.
+pub(crate) fn begun(alloc: Global) -> Result<Writer<Vec<u8>>, AllocError>
+    ensures ready { IfOk result IsReady }
+    ensures text { IfOk result (λ w. text_in w ≡ row_text default_writer header) }
+{
+    let mut writer = Writer::from_writer(Vec::new(alloc));
+    put_record(&mut writer, b"address", b"kind", b"message")?;
+    Ok(writer)
+}
+
+// Writes the records so far out.
+pub(crate) fn pour<S: Sink>(
+    alloc: Global,
+    writer: &mut Writer<Vec<u8>>,
+    sink: &mut S,
+) -> Result<(), ListFault>
+    ensures ready { OnOk result (IsReady writer.new) }
+    ensures none { OnOk result (text_in writer.new ≡ []) }
+    ensures whole { S.tells → OnOk result (S.taken sink.new ≡ S.taken sink.old ++ text_in writer.old) }
+    ensures failures { TellsFailures result ListFault.WriteFault (S.failures sink.old) (S.failures sink.new) }
+{
+    let full = mem::replace(writer, Writer::from_writer(Vec::new(alloc)));
+    let mut records = match full.into_inner() {
+        Ok(records) => records,
+        Err(_) => return Err(ListFault::OutOfMemory),
+    };
+    write_all(sink, records.as_slice())?;
+    records.clear();
+    *writer = Writer::from_writer(records);
+    Ok(())
+}
+
+// The same, where they are many.
+pub(crate) fn pour_many<S: Sink>(
+    alloc: Global,
+    writer: &mut Writer<Vec<u8>>,
+    sink: &mut S,
+) -> Result<(), ListFault>
+    requires { IsReady writer.old }
+    ensures ready { OnOk result (IsReady writer.new) }
+    ensures told { S.tells → OnOk result
+        (S.taken sink.new ++ text_in writer.new ≡ S.taken sink.old ++ text_in writer.old) }
+    ensures failures { TellsFailures result ListFault.WriteFault (S.failures sink.old) (S.failures sink.new) }
+{
+    if writer.get_ref().len() < PIECE {
+        return Ok(());
+    }
+    pour(alloc, writer, sink)
 }
 
 #[tactic(auto, unfolding(crate::specs::Listing::listing))]
@@ -125,8 +221,7 @@ fn listing_of(alloc: Global, pages: &[Page]) -> Result<Vec<u8>, AllocError>
     requires { All IsListable pages.now }
     ensures { IfOk result (λ v. v.items ≡ listing pages.now) }
 {
-    let mut writer = Writer::from_writer(Vec::new(alloc));
-    put_record(alloc, &mut writer, b"address", b"kind", b"message")?;
+    let mut writer = begun(alloc)?;
     for page in pages {
         put_page(alloc, &mut writer, page)?;
     }

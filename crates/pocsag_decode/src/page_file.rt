@@ -52,7 +52,7 @@ fn put_page(alloc: Global, writer: &mut Writer<Vec<u8>>, page: &Page) -> Result<
         return Err(AllocError);
     };
     let kind = kind_of_page(page.function, items);
-    put_record(alloc, writer, address.as_bytes(), kind, message.as_slice())
+    put_record(writer, address.as_bytes(), kind, message.as_slice())
 }
 
 #[tactic(auto, unfolding(crate::specs::PageFiles::page_file))]
@@ -61,7 +61,7 @@ fn page_file_of(alloc: Global, pages: &[Page]) -> Result<Vec<u8>, AllocError>
     ensures { IfOk result (λ v. v.items ≡ page_file pages.now) }
 {
     let mut writer = Writer::from_writer(Vec::new(alloc));
-    put_record(alloc, &mut writer, b"address", b"kind", b"message")?;
+    put_record(&mut writer, b"address", b"kind", b"message")?;
     for page in pages {
         put_page(alloc, &mut writer, page)?;
     }

@@ -1,4 +1,5 @@
 pub mod Chosen
+pub mod Deaf
 pub mod Hearings
 pub mod Mending
 pub mod Places

@@ -1,7 +1,9 @@
 -- The receiver, one word at a time, against the list of places.
-use Rattle.pocsag_pager.proofs.Prelude.{◌≡◌, ◌≢◌, ℕ, ◌+◌, ◌/◌, ◌%◌, Bool, true, false, cond, nat_eq, List, [], ◌∷◌, ◌++◌, length, refl, ap, arith, Option, Some, None, option_to_list, ne_eqb, Kind, Page, frame_at, is_ours, page_called, run_of, shown_from, ended_from, open_from, ending, next_open}
-use Rattle.std.proofs.Common.{not, ◌&&◌}
+use Rattle.pocsag_pager.proofs.Prelude.{◌≡◌, ◌≢◌, ℕ, ◌+◌, ◌/◌, ◌%◌, ◌^◌, Bool, true, false, cond, nat_eq, List, [], ◌∷◌, ◌++◌, length, refl, ap, arith, Option, Some, None, option_to_list, ne_eqb, Kind, Page, frame_at, is_ours, page_called, run_of, shown_from, ended_from, open_from, ending, next_open}
+use Rattle.std.proofs.Common.{not, nat_lt, ◌&&◌}
 use Rattle.pocsag_words.specs.declared.codeword.Kind.TheVariants.{Idle, Address, Message}
+use Rattle.pocsag_words.proofs.TruthValues.{and_false}
+use Rattle.pocsag_words.specs.Kinds.{idle_word, kind_of}
 use Rattle.pocsag_pager.specs.Standing.{is_run}
 
 -- ---- a run of message codewords has no page of its own
@@ -151,6 +153,21 @@ next_open_elsewhere a j None n = refl
 next_open_elsewhere a j (Some Idle) n = refl
 next_open_elsewhere a j (Some (Address high function)) n = rw (is_ours_elsewhere a j high n) refl
 next_open_elsewhere a j (Some (Message bits)) n = refl
+
+-- ---- a word with other high bits
+
+not_ours : (a j high : ℕ) → high ≢ a / 8 → is_ours a j high ≡ false
+unfolding is_ours
+not_ours a j high n = rw (ne_eqb _ _ n) (and_false (nat_eq (frame_at j) (a % 8)))
+
+quiet_case : (a j d : ℕ) (idle low : Bool) → d / 4 ≢ a / 8
+    → next_open a j None (Some (cond idle Idle (cond low (Address (d / 4) (d % 4)) (Message (d % 2 ^ 20))))) ≡ None
+quiet_case a j d true low n = refl
+quiet_case a j d false true n = rw (not_ours a j (d / 4) n) refl
+quiet_case a j d false false n = refl
+
+pub quiet_kind : (a j w : ℕ) → w / 8192 ≢ a / 8 → next_open a j None (Some (kind_of w)) ≡ None
+quiet_kind a j w n = quiet_case a j (w / 2048) (nat_eq w idle_word) (nat_lt (w / 2048) (2 ^ 20)) (λ e. n (omega arith))
 
 pub ending_none : (m : Option Kind) → ending None m ≡ None
 ending_none None = refl

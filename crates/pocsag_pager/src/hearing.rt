@@ -87,7 +87,7 @@ fn hear_part(pager: &mut Pager, pages: &mut Vec<Page>, bytes: &[u8]) -> Result<(
 }
 
 // Hears a batch in three parts: what is before the address's frame, the frame, and what is after it.
-fn hear_batch(pager: &mut Pager, pages: &mut Vec<Page>, batch: &[u8]) -> Result<(), PagerFault>
+fn hear_parts(pager: &mut Pager, pages: &mut Vec<Page>, batch: &[u8]) -> Result<(), PagerFault>
     requires { length batch.now ≡ 68 }
     ensures heard { Hears result pager.old pager.new pages.old.items pages.new.items batch.now }
     ensures memory { WantsForPage result pager.old pages.old.items batch.now }
@@ -97,6 +97,19 @@ fn hear_batch(pager: &mut Pager, pages: &mut Vec<Page>, batch: &[u8]) -> Result<
     hear_part(pager, pages, before)?;
     hear_each(pager, pages, frame)?;
     hear_part(pager, pages, after)
+}
+
+// Hears a batch, or passes over it unheard if it changes nothing.
+#[inline(always)]
+fn hear_batch(pager: &mut Pager, pages: &mut Vec<Page>, batch: &[u8]) -> Result<(), PagerFault>
+    requires { length batch.now ≡ 68 }
+    ensures heard { Hears result pager.old pager.new pages.old.items pages.new.items batch.now }
+    ensures memory { WantsForPage result pager.old pages.old.items batch.now }
+{
+    if pager.is_deaf_to(batch) {
+        return Ok(());
+    }
+    hear_parts(pager, pages, batch)
 }
 
 // What a pager that has heard nothing shows of the words of these whole batches.

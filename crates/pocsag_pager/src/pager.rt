@@ -1,8 +1,9 @@
-ghost use Rattle.std.specs.Prelude.{◌<◌};
+ghost use Rattle.std.specs.Prelude.{◌≡◌, ◌+◌, ◌<◌, ◌≤◌, drop, length, take};
+ghost use Rattle.std.specs.Int.{from_be_bytes, w32};
 
 use crate::address::fault_of_address;
 use crate::fault::PagerFault;
-use crate::turn::{Change, change_at, heard_as, opens};
+use crate::turn::{Change, calls, change_at, heard_as, opens};
 use pocsag_pages::Page;
 use pocsag_words::{BATCH_WORDS, numbers_are_repaired};
 use std::alloc::Global;
@@ -15,6 +16,14 @@ pub(crate) enum State {
     Listening(Option<Page>),
     // It has run out of memory or has been ended.
     Failed,
+}
+
+// The word of the four bytes from an index on.
+fn word_from(bytes: &[u8], at: usize) -> u32
+    requires { at + 4 ≤ length bytes.now }
+    ensures { result ≡ from_be_bytes w32 (take 4 (drop at bytes.now)) }
+{
+    u32::from_be_bytes([bytes[at], bytes[at + 1], bytes[at + 2], bytes[at + 3]])
 }
 
 /// A pager of one address. It is given all words after a preamble in order, synchronisation words
@@ -33,6 +42,7 @@ impl Pager {
     ghost use Rattle.std.specs.Prelude.{◌≡◌, ◌⊎◌, ℕ, ◌^◌, ◌%◌, List, [], ◌∷◌, ◌++◌, length, All, None, IfOk, IfErr, OnOk, OnErr, IsOk, option_to_list};
     ghost use Rattle.std.specs.Bool.{OnTrue};
     ghost use Rattle.pocsag_pages.specs.declared.page.Page.{Page};
+    ghost use Rattle.pocsag_pages.specs.Bytes.{words_of};
     ghost use Rattle.pocsag_pager.specs.Faults.{address_fault};
     ghost use Rattle.pocsag_pager.specs.Shown.{AreShown};
     ghost use Rattle.pocsag_pager.specs.Standing.{Continues, HasHeard, HaveEnded, IsElsewhere, IsOver, Stands, pager_address};
@@ -144,6 +154,27 @@ impl Pager {
             return true;
         }
         frame + 2 <= first && first + count <= words
+    }
+
+    // Whether the words of the next batch change nothing: no page is open, and neither word of the address's frame is
+    // its address codeword once it is mended.
+    pub(crate) fn is_deaf_to(&self, batch: &[u8]) -> bool
+        requires { length batch.now ≡ 68 }
+        ensures { OnTrue result ((words : List ℕ) (ps : List Page) → HasHeard self.now words ps →
+            HasHeard self.now (words ++ words_of batch.now) ps) }
+    {
+        numbers_are_repaired();
+        let at = 4 + 8 * self.frame();
+        if self.place > 0 {
+            return false;
+        }
+        if !self.is_between_pages() {
+            return false;
+        }
+        if calls(self.address, word_from(batch, at)) {
+            return false;
+        }
+        !calls(self.address, word_from(batch, at + 4))
     }
 
     // Passes over the next words, so many, unheard.

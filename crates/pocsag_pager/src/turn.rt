@@ -1,4 +1,4 @@
-ghost use Rattle.std.specs.Prelude.{◌≡◌, ◌∷◌, [], ◌++◌, ◌<◌, ℕ, None, Some, IfOk, IsSome, OnErr};
+ghost use Rattle.std.specs.Prelude.{◌≡◌, ◌∷◌, [], ◌++◌, ◌<◌, ℕ, Option, None, Some, IfOk, IsSome, OnErr};
 ghost use Rattle.std.specs.Bool.{OnFalse};
 ghost use Rattle.pocsag_pager.specs.Shown.{is_ours};
 ghost use Rattle.pocsag_pager.specs.Turns.{IsHeardAs, ending, next_open};
@@ -6,6 +6,9 @@ ghost use Rattle.pocsag_pager.specs.Turns.{IsHeardAs, ending, next_open};
 use pocsag_pages::{Page, Payload};
 use pocsag_words::{Kind, repair};
 use std::alloc::{AllocError, Global};
+
+// The lowest of the 18 high bits of an address in an address codeword.
+const HIGH_UNIT: u32 = 8192;
 
 // What the word says once it is mended; `None` where no codeword is within two bits.
 pub(crate) fn heard_as(word: u32) -> Option<Kind>
@@ -34,6 +37,17 @@ pub(crate) fn opens(address: u32, slot: u32, heard: Option<Kind>) -> bool
     match heard {
         Some(Kind::Address { high, function: _ }) => is_called(address, slot, high),
         _ => false,
+    }
+}
+
+// Whether a word, once it is mended, has the high bits of the address as an address codeword has them.
+pub(crate) fn calls(address: u32, word: u32) -> bool
+    ensures { OnFalse result ((heard : Option Kind) × IsHeardAs word heard
+        × ((slot : ℕ) → next_open address slot None heard ≡ None)) }
+{
+    match repair(word) {
+        Some(mended) => mended.raw() / HIGH_UNIT == address / 8,
+        None => false,
     }
 }
 

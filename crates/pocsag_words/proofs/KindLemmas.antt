@@ -7,7 +7,7 @@ use Rattle.pocsag_words.specs.Columns.{combine, columns, check_of}
 use Rattle.pocsag_words.specs.Kinds.{idle_word, idle_bits, kind_of, address_kind}
 use Rattle.pocsag_words.proofs.BlockCode.{IsCodeword-encode, IsCodeword-from_low, check_of-lt, same_from_data}
 
-IsCodeword-idle : IsCodeword idle_word
+pub IsCodeword-idle : IsCodeword idle_word
 unfolding combine columns check_of
 IsCodeword-idle = IsCodeword-from_low idle_word (lit< tt) refl
 

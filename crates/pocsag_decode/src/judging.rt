@@ -1,0 +1,126 @@
+//! The first fault of a transmission.
+ghost use Rattle.std.specs.Prelude.{◌≡◌, List, ◌∷◌, [], ◌+◌, ◌-◌, ◌*◌, ◌/◌, ◌%◌, ◌^◌, ◌<◌, false, length, IfErr, MatchResult, OnOk};
+ghost use Rattle.pocsag_pages.specs.declared.page.Page.{Page};
+ghost use Rattle.pocsag_pages.specs.Bytes.{words_of};
+ghost use Rattle.pocsag_decode.specs.Faults.{HasFault, ReadsAs};
+ghost use Rattle.pocsag_decode.specs.Judging.{JudgesMore};
+ghost use Rattle.pocsag_decode.specs.Places.{AllMayStand, HasBadWord, index_at};
+
+use crate::fault::DecodeFault;
+use pocsag_pages::leading_len;
+use pocsag_words::{BATCH_BYTES, BATCH_WORDS, Kind, PREAMBLE_BYTES, SYNC_WORD, from_raw};
+
+// The words of a batch, its synchronisation codeword among them.
+const BATCH: u64 = BATCH_WORDS as u64;
+
+// The bytes of a batch of idle codewords.
+pub(crate) const IDLE_BATCH: [u8; 68] = [
+    0x7C, 0xD2, 0x15, 0xD8, 0x7A, 0x89, 0xC1, 0x97, 0x7A, 0x89, 0xC1, 0x97, 0x7A, 0x89, 0xC1, 0x97,
+    0x7A, 0x89, 0xC1, 0x97, 0x7A, 0x89, 0xC1, 0x97, 0x7A, 0x89, 0xC1, 0x97, 0x7A, 0x89, 0xC1, 0x97,
+    0x7A, 0x89, 0xC1, 0x97, 0x7A, 0x89, 0xC1, 0x97, 0x7A, 0x89, 0xC1, 0x97, 0x7A, 0x89, 0xC1, 0x97,
+    0x7A, 0x89, 0xC1, 0x97, 0x7A, 0x89, 0xC1, 0x97, 0x7A, 0x89, 0xC1, 0x97, 0x7A, 0x89, 0xC1, 0x97,
+    0x7A, 0x89, 0xC1, 0x97,
+];
+
+// The index of the codeword at a place.
+fn index_at(place: u64) -> u64
+    requires { 0 < place % 17 }
+    ensures { result ≡ index_at place }
+{
+    place - place / BATCH - 1
+}
+
+// Judges the word at the place of a codeword.
+fn judge_codeword(place: u64, may: bool, number: u32) -> Result<bool, DecodeFault>
+    requires { 0 < place % 17 }
+    ensures { JudgesMore result place may (number ∷ []) }
+{
+    let Some(word) = from_raw(number) else {
+        return Err(DecodeFault::BadWord(index_at(place)));
+    };
+    match word.kind() {
+        Kind::Idle => Ok(false),
+        Kind::Address {
+            high: _,
+            function: _,
+        } => Ok(true),
+        Kind::Message(_) if may => Ok(true),
+        Kind::Message(_) => Err(DecodeFault::Orphan(index_at(place))),
+    }
+}
+
+// Judges the word at a place, where a message codeword may follow or not.
+#[inline(always)]
+fn judge_word(place: u64, may: bool, word: u32) -> Result<bool, DecodeFault>
+    ensures { JudgesMore result place may (word ∷ []) }
+{
+    if place % BATCH > 0 {
+        return judge_codeword(place, may, word);
+    }
+    if word != SYNC_WORD {
+        return Err(DecodeFault::NoSync(place / BATCH));
+    }
+    Ok(may)
+}
+
+// Judges the whole words of the bytes, the first of them at this place.
+fn judge_words(place: u64, may: bool, bytes: &[u8]) -> Result<bool, DecodeFault>
+    requires { place + length bytes.now / 4 < 2 ^ 64 }
+    ensures { JudgesMore result place may (words_of bytes.now) }
+{
+    let mut place = place;
+    let mut may = may;
+    let (words, _) = bytes.as_chunks::<4>();
+    for word in words {
+        may = judge_word(place, may, u32::from_be_bytes(*word))?;
+        place += 1;
+    }
+    Ok(may)
+}
+
+// Judges the words of a batch.
+fn judge_batch(place: u64, may: bool, batch: &[u8]) -> Result<bool, DecodeFault>
+    requires long { length batch.now ≡ 68 }
+    requires first { place % 17 ≡ 0 }
+    requires small { place + 17 < 2 ^ 64 }
+    ensures { JudgesMore result place may (words_of batch.now) }
+{
+    if batch == IDLE_BATCH.as_slice() {
+        return Ok(false);
+    }
+    judge_words(place, may, batch)
+}
+
+// Judges all whole words after the preamble.
+fn judge_all(bytes: &[u8]) -> Result<(), DecodeFault>
+    ensures { MatchResult result (λ _. AllMayStand (words_of bytes.now)) (λ f. HasBadWord (words_of bytes.now) f) }
+{
+    let count = bytes.len() / BATCH_BYTES;
+    let mut may = false;
+    for i in 0..count {
+        let start = BATCH_BYTES * i;
+        may = judge_batch(BATCH * i as u64, may, &bytes[start..start + BATCH_BYTES])?;
+    }
+    judge_words(BATCH * count as u64, may, &bytes[BATCH_BYTES * count..])?;
+    Ok(())
+}
+
+/// The first fault of a transmission from left to right, where it has one. It takes no memory.
+pub fn judge_bytes(bytes: &[u8]) -> Result<(), DecodeFault>
+    ensures ok { OnOk result ((pages : List Page) × ReadsAs bytes.now pages) }
+    ensures err { IfErr result (HasFault bytes.now) }
+{
+    let count = leading_len(bytes);
+    let (_, rest) = bytes.split_at(count);
+    if count < PREAMBLE_BYTES {
+        return Err(DecodeFault::ShortPreamble);
+    }
+    if rest.is_empty() {
+        return Err(DecodeFault::NoBatch);
+    }
+    judge_all(rest)?;
+    if rest.len() % BATCH_BYTES != 0 {
+        return Err(DecodeFault::Truncated);
+    }
+    Ok(())
+}
