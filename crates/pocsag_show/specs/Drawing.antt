@@ -42,15 +42,15 @@ page_drawn low high pl =
 
 -- A row behind its pages: the number of its batch, counted from 1; the synchronisation codeword; and the hatching of its
 -- sixteen codewords, as idle ones are: a line of short dashes, as wide as the cells are high.
-unfoldable pub row_at : (y row : ℕ) → List ℕ
-row_at y row =
+unfoldable pub row_drawn_at : (y row : ℕ) → List ℕ
+row_drawn_at y row =
     codes "<text class='e' x='50' y='" ++ (decimal (y + 13) ++ (codes "'>" ++ (decimal (row + 1)
     ++ (codes "</text><rect class='s' x='60' y='" ++ (decimal y
     ++ (codes "' width='12' height='18'/><path class='h' d='M80 " ++ (decimal (y + 9) ++ (codes "h448'/>"
     ++ (10 ∷ [])))))))))
 
 unfoldable pub row_drawn : (low row : ℕ) → List ℕ
-row_drawn low row = row_at (row_top low row) row
+row_drawn low row = row_drawn_at (row_top low row) row
 
 -- A number over the rows.
 unfoldable pub axis_number : (x y number : ℕ) → List ℕ

@@ -2,7 +2,7 @@ ghost use Rattle.std.specs.Prelude.{◌≡◌, ℕ, ◌∷◌, ◌++◌, [], Lis
 ghost use Rattle.std.specs.Fmt.{decimal};
 ghost use Rattle.csv.specs.Writing.{row_text, default_writer};
 ghost use Rattle.pocsag_pages.specs.Listable.{IsListable};
-ghost use Rattle.pocsag_decode.specs.Lines.{IsReady, PutsRow};
+ghost use Rattle.pocsag_decode.specs.Lines.{IsReady, PutsRow, text_in};
 ghost use Rattle.pocsag_show.specs.Judged.{IsJudged};
 ghost use Rattle.pocsag_show.specs.Places.{place_header, place_record, place_rows};
 ghost use Rattle.pocsag_show.specs.Showing.{IsTextOf};
@@ -52,14 +52,20 @@ fn put_place(alloc: Global, writer: &mut Writer<Vec<u8>>, placed: &Placed) -> Re
     put_record(writer, &fields)
 }
 
-// The listing of the pages.
-fn rows_of(alloc: Global, pages: &[Placed]) -> Result<Vec<u8>, AllocError>
-    requires { All (λ pl. IsListable pl.page) pages.now }
-    ensures { IfOk result (λ v. v.items ≡ row_text default_writer place_header ++ place_rows pages.now) }
+// Writes the header and the record of each page.
+fn put_places(
+    alloc: Global,
+    writer: &mut Writer<Vec<u8>>,
+    pages: &[Placed],
+) -> Result<(), AllocError>
+    requires ready { IsReady writer.old }
+    requires listable { All (λ pl. IsListable pl.page) pages.now }
+    ensures ready { OnOk result (IsReady writer.new) }
+    ensures text { OnOk result (text_in writer.new
+        ≡ text_in writer.old ++ (row_text default_writer place_header ++ place_rows pages.now)) }
 {
-    let mut writer = Writer::from_writer(Vec::new(alloc));
     put_record(
-        &mut writer,
+        writer,
         &[
             b"batch",
             b"frame",
@@ -71,8 +77,18 @@ fn rows_of(alloc: Global, pages: &[Placed]) -> Result<Vec<u8>, AllocError>
         ],
     )?;
     for placed in pages {
-        put_place(alloc, &mut writer, placed)?;
+        put_place(alloc, writer, placed)?;
     }
+    Ok(())
+}
+
+// The listing of the pages.
+fn rows_of(alloc: Global, pages: &[Placed]) -> Result<Vec<u8>, AllocError>
+    requires { All (λ pl. IsListable pl.page) pages.now }
+    ensures { IfOk result (λ v. v.items ≡ row_text default_writer place_header ++ place_rows pages.now) }
+{
+    let mut writer = Writer::from_writer(Vec::new(alloc));
+    put_places(alloc, &mut writer, pages)?;
     match writer.into_inner() {
         Ok(text) => Ok(text),
         Err(_) => Err(AllocError),

@@ -8,7 +8,7 @@ use std::alloc::AllocError;
 pub(crate) const HUES: usize = 12;
 
 // The style sheet, for light and for dark.
-const STYLE: &[u8] = b"<style type='text/css'>\
+const STYLE_SHEET: &[u8] = b"<style type='text/css'>\
     .pocsag text{fill:#1b1d21;font:11px sans-serif}\
     .pocsag .t{font-size:15px}\
     .pocsag .m,.pocsag .l{text-anchor:middle}\
@@ -55,5 +55,5 @@ const STYLE: &[u8] = b"<style type='text/css'>\
 pub(crate) fn put_style(text: &mut Vec<u8>) -> Result<(), AllocError>
     ensures { OnOk result (text.new.items ≡ text.old.items ++ style) }
 {
-    put(text, STYLE)
+    put(text, STYLE_SHEET)
 }
