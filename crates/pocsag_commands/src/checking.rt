@@ -42,7 +42,7 @@ pub fn run_check<P: Source, C: Source, O: Sink>(
 }
 
 /// A certificate beside the round of a page file.
-#[derive(Clone, Copy, PartialEq, Eq, Debug)]
+#[derive(Clone, Copy)]
 pub struct Judged {
     /// The end that the certificate names.
     pub end: End,

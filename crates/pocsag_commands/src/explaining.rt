@@ -41,14 +41,46 @@ pub fn tell_explained<S: Sink>(
     ensures told { S.tells → OnOk result (AddsNotes (S.taken err.old) (S.taken err.new)) }
 {
     let mut notes = Notes::new(alloc);
-    match done {
-        Ok(0) if scene.names.pages.is_some() => note_line_feeds(alloc, scene, &mut notes)?,
-        Ok(1) if scene.names.cert.is_some() => note_not_shown(scene, &mut notes)?,
-        Ok(_) => {}
-        Err(fault) => explain(alloc, fault, scene, &mut notes)?,
-    }
-    note_repair(alloc, scene, &mut notes)?;
+    note_done(alloc, done, scene, &mut notes)?;
     tell_notes(alloc, err, notes.texts())
+}
+
+// Notes on a fault, or on what was done, and on the repair.
+fn note_done(
+    alloc: Global,
+    done: Result<u8, Fault>,
+    scene: &Scene<'_>,
+    notes: &mut Notes,
+) -> Result<(), OutOfMemory> {
+    match done {
+        Ok(0) if scene.names.pages.is_some() => note_line_feeds(alloc, scene, notes)?,
+        Ok(1) if scene.names.cert.is_some() => note_not_shown(scene, notes)?,
+        Ok(_) => {}
+        Err(fault) => explain(alloc, fault, scene, notes)?,
+    }
+    note_repair(alloc, scene, notes)
+}
+
+// What is told of one file, where a fault says no more.
+fn advice(fault: Fault, subject: Role) -> Option<(Role, &'static str)> {
+    match fault {
+        Fault::TooLarge | Fault::Round(RoundFault::TooLarge) => {
+            Some((subject, "at most 268435456 bytes are read"))
+        }
+        Fault::Round(RoundFault::NoPages) => {
+            Some((Role::PageFile, "no record follows the header"))
+        }
+        Fault::SearchLimit(..) => Some((
+            Role::PageFile,
+            "try --always, which refuses no round; or --limit N, up to 1000000",
+        )),
+        Fault::Certificate(CertificateFault::ReadFault) => None,
+        Fault::Certificate(_) => Some((
+            Role::Certificate,
+            "pocsag plan writes certificates; was this file changed or cut since?",
+        )),
+        _ => None,
+    }
 }
 
 // Notes on a fault: the file by its role and its name with the system's reason; the line of the page file, the
@@ -59,43 +91,38 @@ fn explain(
     scene: &Scene<'_>,
     notes: &mut Notes,
 ) -> Result<(), OutOfMemory> {
-    let names = scene.names;
+    if let Some((role, text)) = advice(fault, scene.subject) {
+        let place = scene.names.place(role);
+        return notes.add(format_args!("{place}: {text}"));
+    }
     match fault {
-        Fault::Device | Fault::Write => note_trouble(scene, notes),
-        Fault::Round(RoundFault::ReadFault) => note_trouble(scene, notes),
-        Fault::Certificate(CertificateFault::ReadFault) => note_trouble(scene, notes),
-        Fault::TooLarge | Fault::Round(RoundFault::TooLarge) => {
-            let place = names.place(scene.subject);
-            notes.add(format_args!("{place}: at most 268435456 bytes are read"))
-        }
+        Fault::Device
+        | Fault::Write
+        | Fault::Round(RoundFault::ReadFault)
+        | Fault::Certificate(CertificateFault::ReadFault) => note_trouble(scene, notes),
         Fault::Round(refused) => explain_round(alloc, refused, scene, notes),
-        Fault::Unexpected(..) => {
-            notes.add(names.place(Role::PageFile))?;
-            note_line_feeds(alloc, scene, notes)
-        }
-        Fault::EqualPaths => note_names(&names, notes),
-        Fault::SearchLimit(..) => {
-            let place = names.place(Role::PageFile);
-            notes.add(format_args!(
-                "{place}: try --always, which refuses no round; or --limit N, up to 1000000"
-            ))
-        }
+        Fault::Unexpected(..) => note_unexpected(alloc, scene, notes),
         Fault::Transmission(refused) => explain_transmission(refused, scene, notes),
         Fault::Pager(refused) => explain_pager(refused, scene, notes),
-        Fault::Certificate(_) => {
-            let place = names.place(Role::Certificate);
-            notes.add(format_args!(
-                "{place}: pocsag plan writes certificates; was this file changed or cut since?"
-            ))
-        }
-        Fault::NotThePages | Fault::NotTheEnd | Fault::NotTheBound => {
-            note_names(&names, notes)?;
-            notes.add("was one of them changed meanwhile? plan the round again")
-        }
-        Fault::OutOfMemory | Fault::BadLimit | Fault::BadRate | Fault::NoSuchRows { .. } => {
-            note_names(&names, notes)
-        }
+        Fault::NotThePages | Fault::NotTheEnd | Fault::NotTheBound => note_changed(scene, notes),
+        _ => note_names(&scene.names, notes),
     }
+}
+
+// A page file with another number of pages than was expected.
+fn note_unexpected(
+    alloc: Global,
+    scene: &Scene<'_>,
+    notes: &mut Notes,
+) -> Result<(), OutOfMemory> {
+    notes.add(scene.names.place(Role::PageFile))?;
+    note_line_feeds(alloc, scene, notes)
+}
+
+// Files that do not belong together.
+fn note_changed(scene: &Scene<'_>, notes: &mut Notes) -> Result<(), OutOfMemory> {
+    note_names(&scene.names, notes)?;
+    notes.add("was one of them changed meanwhile? plan the round again")
 }
 
 // A certificate that does not show its batches.
@@ -138,10 +165,6 @@ fn explain_round(
 ) -> Result<(), OutOfMemory> {
     match refused {
         RoundFault::BadHeader => note_header(scene, notes),
-        RoundFault::NoPages => {
-            let place = scene.names.place(Role::PageFile);
-            notes.add(format_args!("{place}: no record follows the header"))
-        }
         RoundFault::OutOfMemory => note_names(&scene.names, notes),
         refused => note_record(alloc, refused, scene, notes),
     }

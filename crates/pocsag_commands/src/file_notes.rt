@@ -19,10 +19,11 @@ struct Excerpt<'a> {
 
 impl Display for Excerpt<'_> {
     fn fmt<W: fmt::Write>(&self, f: &mut fmt::Formatter<W>) -> fmt::Result {
-        match self.bytes.get(..SHOWN) {
-            Some(front) => write!(f, "'{}...'", front.escape_ascii()),
-            None => write!(f, "'{}'", self.bytes.escape_ascii()),
-        }
+        let (front, rest) = match self.bytes.get(..SHOWN) {
+            Some(front) => (front, "..."),
+            None => (self.bytes, ""),
+        };
+        write!(f, "'{}{rest}'", front.escape_ascii())
     }
 }
 
@@ -101,6 +102,16 @@ pub fn note_header(scene: &Scene<'_>, notes: &mut Notes) -> Result<(), OutOfMemo
     notes.add(format_args!("{place} begins {begins}"))
 }
 
+// Comes to the record with this number, if there is one.
+fn come_to(records: &mut FileRecords<'_>, number: u32) -> Result<bool, OutOfMemory> {
+    for _ in 0..=number {
+        if !records.advance()? {
+            return Ok(false);
+        }
+    }
+    Ok(true)
+}
+
 /// Where the record of a fault stands, the field that is wrong, and whether a quote may be open in it.
 pub fn note_record(
     alloc: Global,
@@ -108,30 +119,61 @@ pub fn note_record(
     scene: &Scene<'_>,
     notes: &mut Notes,
 ) -> Result<(), OutOfMemory> {
+    let mut records = FileRecords::of(alloc, scene.file);
+    note_record_among(alloc, refused, scene, &mut records, notes)
+}
+
+fn note_record_among(
+    alloc: Global,
+    refused: RoundFault,
+    scene: &Scene<'_>,
+    records: &mut FileRecords<'_>,
+    notes: &mut Notes,
+) -> Result<(), OutOfMemory> {
     let Some(number) = record_number(refused) else {
         return Ok(());
     };
-    let mut records = FileRecords::of(alloc, scene.file);
-    for _ in 0..=number {
-        if !records.advance()? {
-            return Ok(());
-        }
+    if !come_to(records, number)? {
+        return Ok(());
     }
     let spot = Spot {
         place: scene.names.place(Role::PageFile),
         line: records.line(),
         number,
-        address: field(&records, 0),
+        address: field(records, 0),
     };
-    note_field(refused, spot, &records, notes)?;
+    note_field(refused, spot, records, notes)?;
     if let RoundFault::DuplicateAddress(_) = refused {
         note_earlier(alloc, spot, scene, notes)?;
     }
-    let held = held_line_feeds(&records);
-    if held > 0 {
-        notes.add(format_args!("quotes must be closed: record {number} holds {held} line feeds"))?;
+    note_open_quote(number, records, notes)
+}
+
+// That a quote may be open in the record.
+fn note_open_quote(
+    number: u32,
+    records: &FileRecords<'_>,
+    notes: &mut Notes,
+) -> Result<(), OutOfMemory> {
+    let held = held_line_feeds(records);
+    if held == 0 {
+        return Ok(());
     }
-    Ok(())
+    notes.add(format_args!("quotes must be closed: record {number} holds {held} line feeds"))
+}
+
+// What is wanted of a record, where its own fields say no more.
+fn what_is_wanted(refused: RoundFault) -> Option<&'static str> {
+    match refused {
+        RoundFault::BadAddress(_) => Some("one to seven digits are wanted, at most 2097151"),
+        RoundFault::ReservedAddress(_) => {
+            Some("2007664 to 2007671 and 2045056 to 2045063 are reserved")
+        }
+        RoundFault::TooManyPages(_) => {
+            Some("a round has at most 20000 pages; make two of this one")
+        }
+        _ => None,
+    }
 }
 
 // What is wrong with the record.
@@ -141,19 +183,35 @@ fn note_field(
     records: &FileRecords<'_>,
     notes: &mut Notes,
 ) -> Result<(), OutOfMemory> {
-    let (kind, message) = (excerpt_of(records, 1), excerpt_of(records, 2));
-    let fields = records.len();
-    let length = field(records, 2).len();
+    if let Some(wanted) = what_is_wanted(refused) {
+        return notes.add(format_args!("{spot}: {wanted}"));
+    }
     match refused {
-        RoundFault::FieldCount(_) => notes.add(format_args!(
-            "{spot}: {fields} fields, where address,kind,message are wanted; a message with a comma stands in quotes"
-        )),
-        RoundFault::BadAddress(_) => notes.add(format_args!(
-            "{spot}: one to seven digits are wanted, at most 2097151"
-        )),
-        RoundFault::ReservedAddress(_) => notes.add(format_args!(
-            "{spot}: 2007664 to 2007671 and 2045056 to 2045063 are reserved"
-        )),
+        RoundFault::FieldCount(_) => {
+            let fields = records.len();
+            notes.add(format_args!(
+                "{spot}: {fields} fields, where address,kind,message are wanted; a message with a comma stands in quotes"
+            ))
+        }
+        RoundFault::TooLong(_) => {
+            let length = field(records, 2).len();
+            notes.add(format_args!(
+                "{spot}: the message has {length} bytes, where 4000 are allowed"
+            ))
+        }
+        refused => note_kind(refused, spot, records, notes),
+    }
+}
+
+// What is wrong with the kind of the record or with its message.
+fn note_kind(
+    refused: RoundFault,
+    spot: Spot<'_>,
+    records: &FileRecords<'_>,
+    notes: &mut Notes,
+) -> Result<(), OutOfMemory> {
+    let (kind, message) = (excerpt_of(records, 1), excerpt_of(records, 2));
+    match refused {
         RoundFault::BadKind(_) => notes.add(format_args!(
             "{spot}: the kind is {kind}, not tone0, tone1, tone2, tone3, numeric or alpha"
         )),
@@ -164,17 +222,11 @@ fn note_field(
             "{spot}: the kind is {kind}; tone0 to tone3 have no message"
         )),
         RoundFault::BadCharacter(_, at) => {
-            let byte = field(records, 2).get(at).copied().unwrap_or(0);
+            let byte = message.bytes.get(at).copied().unwrap_or(0);
             notes.add(format_args!(
                 "{spot}: the message is {message}, its kind {kind}; the byte is {byte:#04x}"
             ))
         }
-        RoundFault::TooLong(_) => notes.add(format_args!(
-            "{spot}: the message has {length} bytes, where 4000 are allowed"
-        )),
-        RoundFault::TooManyPages(_) => notes.add(format_args!(
-            "{spot}: a round has at most 20000 pages; make two of this one"
-        )),
         _ => notes.add(spot),
     }
 }
@@ -187,16 +239,28 @@ fn note_earlier(
     notes: &mut Notes,
 ) -> Result<(), OutOfMemory> {
     let mut records = FileRecords::of(alloc, scene.file);
-    for number in 0..spot.number {
+    let Some(number) = come_to_address(&mut records, spot.address, spot.number)? else {
+        return Ok(());
+    };
+    let line = records.line();
+    notes.add(format_args!("line {line}, record {number}, has the address already"))
+}
+
+// Comes to the first record with this address before a record, and answers its number.
+fn come_to_address(
+    records: &mut FileRecords<'_>,
+    address: &[u8],
+    end: u32,
+) -> Result<Option<u32>, OutOfMemory> {
+    for number in 0..end {
         if !records.advance()? {
-            return Ok(());
+            return Ok(None);
         }
-        if number > 0 && significant(field(&records, 0)) == significant(spot.address) {
-            let line = records.line();
-            return notes.add(format_args!("line {line}, record {number}, has the address already"));
+        if number > 0 && significant(field(records, 0)) == significant(address) {
+            return Ok(Some(number));
         }
     }
-    Ok(())
+    Ok(None)
 }
 
 // The digits without zeros in front.
@@ -215,32 +279,69 @@ pub fn note_line_feeds(
     scene: &Scene<'_>,
     notes: &mut Notes,
 ) -> Result<(), OutOfMemory> {
-    let place = scene.names.place(Role::PageFile);
     let mut records = FileRecords::of(alloc, scene.file);
-    let mut more = 0u32;
+    note_line_feeds_among(scene, &mut records, notes)
+}
+
+fn note_line_feeds_among(
+    scene: &Scene<'_>,
+    records: &mut FileRecords<'_>,
+    notes: &mut Notes,
+) -> Result<(), OutOfMemory> {
+    let Some(number) = come_to_line_feeds(records)? else {
+        return Ok(());
+    };
+    let place = scene.names.place(Role::PageFile);
+    note_held(place, number, records, notes)?;
+    let more = count_line_feeds(records)?;
+    if more == 0 {
+        return Ok(());
+    }
+    notes.add(format_args!("{place}: so do {more} further messages"))
+}
+
+// That the message of the record holds line feeds.
+fn note_held(
+    place: NamedFile<'_>,
+    number: u32,
+    records: &FileRecords<'_>,
+    notes: &mut Notes,
+) -> Result<(), OutOfMemory> {
+    let held = line_feeds(field(records, 2));
+    let spot = Spot {
+        place,
+        line: records.line(),
+        number,
+        address: field(records, 0),
+    };
+    notes.add(format_args!(
+        "{spot}: the message holds {held} line feeds; if they are not meant, a quote is not closed"
+    ))
+}
+
+// Comes to the first record whose message holds line feeds, and answers its number.
+fn come_to_line_feeds(records: &mut FileRecords<'_>) -> Result<Option<u32>, OutOfMemory> {
     for number in 0..u32::MAX {
+        if !records.advance()? {
+            return Ok(None);
+        }
+        if line_feeds(field(records, 2)) > 0 {
+            return Ok(Some(number));
+        }
+    }
+    Ok(None)
+}
+
+// How many further messages hold line feeds.
+fn count_line_feeds(records: &mut FileRecords<'_>) -> Result<u32, OutOfMemory> {
+    let mut count = 0u32;
+    for _ in 0..u32::MAX {
         if !records.advance()? {
             break;
         }
-        let held = line_feeds(field(&records, 2));
-        if held > 0 {
-            if more == 0 {
-                let spot = Spot {
-                    place,
-                    line: records.line(),
-                    number,
-                    address: field(&records, 0),
-                };
-                notes.add(format_args!(
-                    "{spot}: the message holds {held} line feeds; if they are not meant, a quote is not closed"
-                ))?;
-            }
-            more = more.saturating_add(1);
+        if line_feeds(field(records, 2)) > 0 {
+            count = count.saturating_add(1);
         }
     }
-    if more > 1 {
-        let more = more - 1;
-        notes.add(format_args!("{place}: so do {more} further messages"))?;
-    }
-    Ok(())
+    Ok(count)
 }

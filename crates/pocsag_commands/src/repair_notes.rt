@@ -13,7 +13,7 @@ use std::fmt::{self, Display};
 const MARKED: u64 = 100;
 
 /// What is told of a repair.
-#[derive(Clone, Copy, PartialEq, Eq, Debug)]
+#[derive(Clone, Copy, PartialEq, Eq)]
 pub enum RepairNotes {
     /// Nothing was repaired.
     None,
@@ -31,16 +31,23 @@ struct Marks<'a> {
     after: &'a [u8],
 }
 
+// A word behind a frame's first one, or the synchronisation codeword, stands with no space before it.
+fn word_mark(is_corrected: bool, is_first_of_frame: bool) -> &'static str {
+    match (is_corrected, is_first_of_frame) {
+        (false, false) => ".",
+        (true, false) => "r",
+        (false, true) => " .",
+        (true, true) => " r",
+    }
+}
+
 impl Display for Marks<'_> {
     fn fmt<W: fmt::Write>(&self, f: &mut fmt::Formatter<W>) -> fmt::Result {
         let mut rest = self.after;
         let mut is_first_of_frame = false;
         for word in self.before.chunks(4) {
-            if is_first_of_frame {
-                f.write_str(" ")?;
-            }
             let (repaired, behind) = rest.split_at(rest.len().min(4));
-            f.write_str(if repaired == word { "." } else { "r" })?;
+            f.write_str(word_mark(repaired != word, is_first_of_frame))?;
             rest = behind;
             is_first_of_frame = !is_first_of_frame;
         }
@@ -53,13 +60,21 @@ pub fn note_repair(alloc: Global, scene: &Scene<'_>, notes: &mut Notes) -> Resul
     if scene.repair == RepairNotes::None || scene.file.is_empty() {
         return Ok(());
     }
-    let mut repaired = Vec::new(alloc);
-    repaired.extend_from_slice(scene.file)?;
-    let Repaired { words, bits } = repair_all(repaired.as_mut_slice());
+    let mut copy = Vec::from_slice(alloc, scene.file)?;
+    note_repaired(scene, copy.as_mut_slice(), notes)
+}
+
+// The same, by repairing a copy.
+fn note_repaired(
+    scene: &Scene<'_>,
+    copy: &mut [u8],
+    notes: &mut Notes,
+) -> Result<(), OutOfMemory> {
+    let Repaired { words, bits } = repair_all(copy);
     let place = scene.names.place(Role::Transmission);
     notes.add(format_args!("{place}: corrected bits {bits}, words {words}"))?;
     if scene.repair == RepairNotes::Marks {
-        return note_marks(scene.file, repaired.as_slice(), notes);
+        return note_marks(scene.file, copy, notes);
     }
     Ok(())
 }
@@ -73,17 +88,32 @@ fn note_marks(before: &[u8], after: &[u8], notes: &mut Notes) -> Result<(), OutO
         number = number.saturating_add(1);
         let (after, behind) = rest.split_at(rest.len().min(BATCH_BYTES));
         rest = behind;
-        if after == before {
-            continue;
+        if after != before {
+            note_batch(number, marked, Marks { before, after }, notes)?;
+            marked = marked.saturating_add(1);
         }
-        if marked < MARKED {
-            notes.add(format_args!("batch {number}: {}", Marks { before, after }))?;
-        }
-        marked = marked.saturating_add(1);
     }
-    if marked > MARKED {
-        let more = marked - MARKED;
-        notes.add(format_args!("words of {more} further batches"))?;
+    note_more(marked, notes)
+}
+
+// Which words of a batch were corrected, unless so many batches were marked that no more are.
+fn note_batch(
+    number: u64,
+    marked: u64,
+    marks: Marks<'_>,
+    notes: &mut Notes,
+) -> Result<(), OutOfMemory> {
+    if marked >= MARKED {
+        return Ok(());
     }
-    Ok(())
+    notes.add(format_args!("batch {number}: {marks}"))
+}
+
+// How many batches with words that were corrected are not marked.
+fn note_more(marked: u64, notes: &mut Notes) -> Result<(), OutOfMemory> {
+    if marked <= MARKED {
+        return Ok(());
+    }
+    let more = marked - MARKED;
+    notes.add(format_args!("words of {more} further batches"))
 }

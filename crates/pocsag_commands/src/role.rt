@@ -1,7 +1,7 @@
 use std::fmt::{self, Display};
 
 /// What a file or a stream is to a command.
-#[derive(Clone, Copy, PartialEq, Eq, Debug)]
+#[derive(Clone, Copy, PartialEq, Eq)]
 pub enum Role {
     PageFile,
     Transmission,
@@ -25,7 +25,7 @@ impl Display for Role {
 }
 
 /// The words by which the files of a command were named, each where the command has such a file.
-#[derive(Clone, Copy, PartialEq, Eq, Debug)]
+#[derive(Clone, Copy)]
 pub struct Names<'a> {
     pub pages: Option<&'a str>,
     pub tx: Option<&'a str>,
@@ -33,7 +33,7 @@ pub struct Names<'a> {
 }
 
 /// A file of a command, by its role and by the word that named it, if one did.
-#[derive(Clone, Copy, PartialEq, Eq, Debug)]
+#[derive(Clone, Copy)]
 pub struct NamedFile<'a> {
     pub role: Role,
     pub name: Option<&'a str>,

@@ -1,7 +1,10 @@
-ghost use Rattle.std.specs.Prelude.{◌≡◌, List, ℕ, All, Contains, map, IfOk, IsTrue, length, OnOk};
+ghost use Rattle.std.specs.Prelude.{◌≡◌, false, List, ℕ, All, Contains, map, IfOk, IsTrue, length, OnOk};
 ghost use Rattle.pocsag_words.specs.Kinds.{kind_of};
 ghost use Rattle.pocsag_pages.specs.Bytes.{Sent};
 ghost use Rattle.pocsag_pages.specs.Reading.{EndsAs, EndsIdle};
+ghost use Rattle.pocsag_tree.specs.Views.{bound_of};
+ghost use Rattle.pocsag_check.specs.Accepting.{IsAcceptedFor};
+ghost use Rattle.pocsag_plan.specs.Plans.{NoneHasFewer};
 ghost use Rattle.pocsag_commands.specs.Verifying.{AreAmong, IsDueBound, IsTransmissionOf, Verified};
 
 use crate::fault::Fault;
@@ -12,7 +15,7 @@ use pocsag_check::check;
 use pocsag_decode::decode;
 use pocsag_pages::{Page, Round, leading_len, read_round, read_whole};
 use pocsag_plan::{Effort, Search};
-use pocsag_tree::read_certificate;
+use pocsag_tree::{Certificate, read_certificate};
 use pocsag_words::{BATCH_BYTES, End, Sink, Source};
 use std::alloc::Global;
 
@@ -33,19 +36,38 @@ pub fn run_verify<P: Source + Drop, T: Source + Drop, C: Source + Drop, O: Sink>
 {
     let PlanFiles { pages, tx, cert } = files;
     let round = read_round(alloc, pages)?;
-    let bytes = read_whole(alloc, tx, TRANSMISSION_LIMIT)?;
-    let batches = read_back(alloc, bytes.as_slice(), &round, search.end)?;
+    let batches = read_sent(alloc, tx, &round, search.end)?;
     let certificate = read_certificate(alloc, cert)?;
-    if !is_end(certificate.end, search.end) {
-        return Err(Fault::NotTheBound);
-    }
-    if !is_due(certificate.batches as usize, batches, search.effort) {
-        return Err(Fault::NotTheBound);
-    }
-    if !check(&round, certificate.batches, &certificate.tree, search.end) {
+    if !shows_due(&round, &certificate, batches, search) {
         return Err(Fault::NotTheBound);
     }
     tell(out, "verified\n")
+}
+
+// Reads a transmission of the round's pages that ends as is asked for, and answers its batches.
+fn read_sent<T: Source>(
+    alloc: Global,
+    tx: &mut T,
+    round: &Round,
+    end: End,
+) -> Result<usize, Fault>
+    ensures { T.tells → IfOk result (λ batches. IsTransmissionOf end round.now batches (T.held tx.old)) }
+{
+    let bytes = read_whole(alloc, tx, TRANSMISSION_LIMIT)?;
+    read_back(alloc, bytes.as_slice(), round, end)
+}
+
+// Whether a certificate shows for the round and the end the bound that is due beside so many batches.
+fn shows_due(round: &Round, certificate: &Certificate, batches: usize, search: Search) -> bool
+    ensures end { IsTrue result → certificate.now.end ≡ search.end }
+    ensures due { IsTrue result → IsDueBound search.effort certificate.now.batches batches }
+    ensures accepted { IsTrue result →
+        IsAcceptedFor false search.end round.now certificate.now.batches (bound_of certificate.now.tree) }
+    ensures bound { IsTrue result → NoneHasFewer search.end round.now certificate.now.batches }
+{
+    is_end(certificate.end, search.end)
+        && is_due(certificate.batches as usize, batches, search.effort)
+        && check(round, certificate.batches, &certificate.tree, search.end)
 }
 
 // The batches of a transmission of the round's pages that ends as is asked for.

@@ -3,7 +3,7 @@ use std::alloc::Global;
 use std::cell::{Cell, RefCell};
 
 /// That the system refused a file or a stream.
-#[derive(Clone, Copy, PartialEq, Eq, Debug)]
+#[derive(Clone, Copy)]
 pub struct Trouble {
     /// What the file is to the command.
     pub role: Role,

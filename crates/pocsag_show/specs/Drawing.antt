@@ -10,9 +10,9 @@ use Rattle.pocsag_show.specs.declared.rows.Rows.{Rows}
 use Rattle.pocsag_show.specs.Escapes.{told}
 use Rattle.pocsag_show.specs.Grid.{idles_in}
 use Rattle.pocsag_show.specs.Legend.{end_row_of, first_row_of, is_drawn, key, legend, legend_lines}
-use Rattle.pocsag_show.specs.Marks.{group_end, hatching, head, opened, rectangle, synchronisation, tail}
+use Rattle.pocsag_show.specs.Marks.{group_end, head, opened, rectangle, tail}
 use Rattle.pocsag_show.specs.Measures.{cell_left, height, row_top}
-use Rattle.pocsag_show.specs.Picture.{batches_in, counts_part, idles_part, totals_line}
+use Rattle.pocsag_show.specs.Picture.{batches_in, counts_part, totals_line}
 use Rattle.pocsag_show.specs.Placed.{index_behind, placed_in}
 use Rattle.pocsag_show.specs.Rows.{end_row, first_row, rows_between}
 use Rattle.pocsag_show.specs.Style.{style}
@@ -40,15 +40,17 @@ unfoldable pub page_drawn : (low high : ℕ) → Placed → List ℕ
 page_drawn low high pl =
     if is_drawn low high pl then group low pl (first_row_of low pl) (end_row_of high pl) else []
 
--- The number of a batch, counted from 1, in a row with this upper side.
-unfoldable pub batch_number : (y row : ℕ) → List ℕ
-batch_number y row = codes "<text class='e' x='50' y='" ++ (decimal (y + 13) ++ (codes "'>" ++ (decimal (row + 1) ++ codes "</text>")))
+-- A row behind its pages: the number of its batch, counted from 1; the synchronisation codeword; and the hatching of its
+-- sixteen codewords, as idle ones are: a line of short dashes, as wide as the cells are high.
+unfoldable pub row_drawn_at : (y row : ℕ) → List ℕ
+row_drawn_at y row =
+    codes "<text class='e' x='50' y='" ++ (decimal (y + 13) ++ (codes "'>" ++ (decimal (row + 1)
+    ++ (codes "</text><rect class='s' x='60' y='" ++ (decimal y
+    ++ (codes "' width='12' height='18'/><path class='h' d='M80 " ++ (decimal (y + 9) ++ (codes "h448'/>"
+    ++ (10 ∷ [])))))))))
 
--- A row behind its pages: its batch, the synchronisation codeword, and the hatching of its sixteen codewords.
 unfoldable pub row_drawn : (low row : ℕ) → List ℕ
-row_drawn low row =
-    let y = row_top low row in
-    batch_number y row ++ (synchronisation 60 y ++ (hatching y 448 ++ (10 ∷ [])))
+row_drawn low row = row_drawn_at (row_top low row) row
 
 -- A number over the rows.
 unfoldable pub axis_number : (x y number : ℕ) → List ℕ
@@ -76,26 +78,16 @@ unfoldable pub frame_lines : ℕ → List ℕ
 frame_lines count =
     codes "<path class='f' d='" ++ (flat_map (frame_line (80 + 22 * count)) (range_with_len 0 9) ++ (codes "'/>" ++ (10 ∷ [])))
 
--- The heading: which batches are drawn.
-unfoldable pub heading : (low high batches : ℕ) → List ℕ
-heading low high batches =
-    codes "Batches " ++ (decimal (low + 1) ++ (codes " to " ++ (decimal high ++ (codes " of " ++ decimal batches))))
+unfoldable pub opening : (tall : ℕ) → List ℕ
+opening tall =
+    codes "<svg xmlns='http://www.w3.org/2000/svg' version='1.1' class='pocsag' role='img' width='540' height='"
+    ++ (decimal tall ++ (codes "' viewBox='0 0 540 " ++ (decimal tall ++ (codes "'>" ++ (10 ∷ [])))))
 
-unfoldable pub size : ℕ → List ℕ
-size tall = codes " width='540' height='" ++ (decimal tall ++ (codes "' viewBox='0 0 540 " ++ (decimal tall ++ codes "'")))
-
-unfoldable pub kind_of_drawing : List ℕ
-kind_of_drawing = codes "<svg xmlns='http://www.w3.org/2000/svg' version='1.1' class='pocsag' role='img'"
-
-unfoldable pub opening : ℕ → List ℕ
-opening tall = kind_of_drawing ++ (size tall ++ (codes ">" ++ (10 ∷ [])))
-
-unfoldable pub ground : ℕ → List ℕ
-ground tall = codes "<rect class='b' width='540' height='" ++ (decimal tall ++ (codes "'/>" ++ (10 ∷ [])))
-
--- What readers of screens tell: the heading, and the line of totals with what the drawing is.
+-- What readers of screens tell: which batches are drawn, and the line of totals with what the drawing is.
 unfoldable pub title : (low high batches : ℕ) → List ℕ
-title low high batches = codes "<title>" ++ (heading low high batches ++ (codes "</title>" ++ (10 ∷ [])))
+title low high batches =
+    codes "<title>Batches " ++ (decimal (low + 1) ++ (codes " to " ++ (decimal high ++ (codes " of "
+    ++ (decimal batches ++ (codes "</title>" ++ (10 ∷ [])))))))
 
 unfoldable pub explanation : List ℕ
 explanation =
@@ -105,11 +97,15 @@ explanation =
 unfoldable pub description : (batches codewords idles : ℕ) → List ℕ
 description batches codewords idles = codes "<desc>" ++ (totals_line batches codewords idles ++ (explanation ++ (codes "</desc>" ++ (10 ∷ []))))
 
--- The heading and the counts that are seen.
-unfoldable pub caption : (low high batches codewords idles : ℕ) → List ℕ
-caption low high batches codewords idles =
-    codes "<text class='t' x='12' y='22'>" ++ (heading low high batches ++ (codes "</text><text x='12' y='40'>"
-    ++ (counts_part batches codewords ++ (idles_part batches idles ++ (codes "</text>" ++ (10 ∷ []))))))
+-- The ground with the same heading on it, and the counts that are seen.
+unfoldable pub headed : (tall low high batches : ℕ) → List ℕ
+headed tall low high batches =
+    codes "<rect class='b' width='540' height='" ++ (decimal tall ++ (codes "'/>" ++ (10 ∷ codes "<text class='t' x='12' y='22'>Batches "
+    ++ (decimal (low + 1) ++ (codes " to " ++ (decimal high ++ (codes " of " ++ (decimal batches ++ codes "</text>"))))))))
+
+unfoldable pub counted : (batches codewords idles : ℕ) → List ℕ
+counted batches codewords idles =
+    codes "<text x='12' y='40'>" ++ (counts_part batches codewords idles ++ (codes "</text>" ++ (10 ∷ [])))
 
 -- What stands before the rows: what is told, and what is seen.
 unfoldable pub told_before : (low high batches codewords idles lines : ℕ) → List ℕ
@@ -118,7 +114,7 @@ told_before low high batches codewords idles lines =
 
 unfoldable pub seen_before : (low high batches codewords idles lines : ℕ) → List ℕ
 seen_before low high batches codewords idles lines =
-    style ++ (ground (height (high - low) lines) ++ (caption low high batches codewords idles ++ axes))
+    style ++ (headed (height (high - low) lines) low high batches ++ (counted batches codewords idles ++ axes))
 
 unfoldable pub front : (low high batches codewords idles lines : ℕ) → List ℕ
 front low high batches codewords idles lines =

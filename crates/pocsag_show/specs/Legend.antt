@@ -4,7 +4,7 @@ use Rattle.std.specs.List.{count_by, flat_map}
 use Rattle.std.specs.Fmt.{decimal}
 use Rattle.pocsag_decode.specs.Listing.{kind_field}
 use Rattle.pocsag_show.specs.declared.placed.Placed.{Placed}
-use Rattle.pocsag_show.specs.Marks.{group_end, hatching, head, opened, rectangle, synchronisation, text_at}
+use Rattle.pocsag_show.specs.Marks.{head, opened, rectangle}
 use Rattle.pocsag_show.specs.Placed.{index_behind}
 
 -- Of the rows from one up to before another the first in which a page has codewords, and the row behind the last.
@@ -32,24 +32,22 @@ place_in low high pls pl = count_by (λ other. is_drawn low high other && stands
 abbrev pub legend_lines : (low high : ℕ) → List Placed → ℕ
 legend_lines low high pls = if nat_le (drawn_in low high pls) 40 then (drawn_in low high pls + 2) / 3 else 0
 
--- A text that names what stands before it.
-unfoldable pub named : (x y : ℕ) → List ℕ → List ℕ
-named x y name = codes "<text class='n" ++ (text_at x y ++ (name ++ codes "</text>"))
-
--- What hatching and the narrow rectangles mean.
-unfoldable pub idle_key : ℕ → List ℕ
-idle_key y = hatching y 28 ++ named 114 y (codes "idle codeword")
-
-unfoldable pub synchronisation_key : ℕ → List ℕ
-synchronisation_key y = synchronisation 230 y ++ named 248 y (codes "synchronisation codeword")
-
--- Both, under so many rows.
+-- What hatching and the narrow rectangles mean, under so many rows.
 unfoldable pub key : ℕ → List ℕ
-key count = idle_key (86 + 22 * count) ++ (synchronisation_key (86 + 22 * count) ++ (10 ∷ []))
+key count =
+    let y = 86 + 22 * count in
+    codes "<path class='h' d='M80 " ++ (decimal (y + 9) ++ (codes "h28'/><text class='n' x='114' y='"
+    ++ (decimal (y + 13) ++ (codes "'>idle codeword</text><rect class='s' x='230' y='" ++ (decimal y
+    ++ (codes "' width='12' height='18'/><text class='n' x='248' y='" ++ (decimal (y + 13)
+    ++ (codes "'>synchronisation codeword</text>" ++ (10 ∷ [])))))))))
 
--- Its address and its kind.
-unfoldable pub names : Placed → List ℕ
-names pl = decimal pl.page.address ++ (codes " " ++ kind_field pl.page.function pl.page.payload)
+-- An address and a kind, at the end of a page's group.
+unfoldable pub address_named : (x y address : ℕ) → List ℕ
+address_named x y address =
+    codes "<text class='n' x='" ++ (decimal x ++ (codes "' y='" ++ (decimal (y + 13) ++ (codes "'>" ++ (decimal address ++ codes " ")))))
+
+unfoldable pub names : (x y address : ℕ) → List ℕ → List ℕ
+names x y address kind = address_named x y address ++ (kind ++ (codes "</text></g>" ++ (10 ∷ [])))
 
 -- The entry of a page at a place, the first line of the legend with this upper side: its hue, its label, its address
 -- and its kind.
@@ -57,7 +55,7 @@ unfoldable pub entry : (top place : ℕ) → Placed → List ℕ
 entry top place pl =
     let x = 80 + 150 * (place % 3) in
     let y = top + 22 * (place / 3) in
-    opened pl.number ++ (rectangle x y 28 ++ (head x y pl.number ++ (named (x + 34) y (names pl) ++ group_end)))
+    opened pl.number ++ (rectangle x y 28 ++ (head x y pl.number ++ names (x + 34) y pl.page.address (kind_field pl.page.function pl.page.payload)))
 
 unfoldable pub entry_of : (low high : ℕ) → List Placed → Placed → List ℕ
 entry_of low high pls pl =

@@ -19,23 +19,25 @@ batches_in ks = length ks / 16
 unfoldable pub share : (idles batches : ℕ) → ℕ
 share idles batches = (100 * idles + 8 * batches) / (16 * batches)
 
--- How long a transmission of so many batches lasts at a rate in bits a second.
-unfoldable pub airtime_part : (batches rate : ℕ) → List ℕ
-airtime_part batches rate = decimal (airtime (transmission_bits batches) rate) ++ (codes " ms at " ++ (decimal rate ++ codes " bit/s"))
+-- How many batches, codewords of pages and idle codewords there are, and the share of the idle ones.
+unfoldable pub counts_part : (batches codewords idles : ℕ) → List ℕ
+counts_part batches codewords idles =
+    codes "batches " ++ (decimal batches ++ (codes ", codewords " ++ (decimal codewords ++ (codes ", idles "
+    ++ (decimal idles ++ (codes " (" ++ (decimal (share idles batches) ++ codes "%)")))))))
 
--- The line of totals.
-unfoldable pub counts_part : (batches codewords : ℕ) → List ℕ
-counts_part batches codewords = codes "batches " ++ (decimal batches ++ (codes ", codewords " ++ decimal codewords))
-
-unfoldable pub idles_part : (batches idles : ℕ) → List ℕ
-idles_part batches idles = codes ", idles " ++ (decimal idles ++ (codes " (" ++ (decimal (share idles batches) ++ codes "%)")))
+-- How long a transmission of so many batches lasts at a rate in bits a second, and at the three rates.
+abbrev pub airtime_at : (batches rate : ℕ) → ℕ
+airtime_at batches rate = airtime (transmission_bits batches) rate
 
 unfoldable pub airtimes_part : ℕ → List ℕ
-airtimes_part batches = airtime_part batches 512 ++ (codes ", " ++ (airtime_part batches 1200 ++ (codes ", " ++ airtime_part batches 2400)))
+airtimes_part batches =
+    decimal (airtime_at batches 512) ++ (codes " ms at 512 bit/s, " ++ (decimal (airtime_at batches 1200)
+    ++ (codes " ms at 1200 bit/s, " ++ (decimal (airtime_at batches 2400) ++ codes " ms at 2400 bit/s"))))
 
+-- The line of totals.
 unfoldable pub totals_line : (batches codewords idles : ℕ) → List ℕ
 totals_line batches codewords idles =
-    counts_part batches codewords ++ (idles_part batches idles ++ (codes ", airtime " ++ (airtimes_part batches ++ (10 ∷ []))))
+    counts_part batches codewords idles ++ (codes ", airtime " ++ (airtimes_part batches ++ (10 ∷ [])))
 
 -- The frames from 0 to 7 by their numbers, two cells wide, each with a space before it.
 abbrev pub head_line : List ℕ

@@ -1,93 +1,74 @@
 ghost use Rattle.std.specs.Prelude.{◌≡◌, ◌-◌, ◌/◌, ◌≤◌, ◌<◌, ◌^◌, ◌++◌, All, IfOk, OnOk, length};
 ghost use Rattle.std.specs.List.{flat_map, range_with_len};
 ghost use Rattle.pocsag_pages.specs.Listable.{IsListable};
-ghost use Rattle.pocsag_show.specs.Drawing.{batch_number, drawing_text, frame_line, frame_lines, row_drawn, rows_and_pages};
+ghost use Rattle.pocsag_show.specs.Drawing.{drawing_text, frame_line, frame_lines, row_drawn, rows_and_pages};
 ghost use Rattle.pocsag_show.specs.Rows.{end_row, first_row, rows_between};
 
-use crate::front::{Counts, put_front};
+use crate::counts::Counts;
+use crate::front::put_front;
 use crate::judged::Judged;
 use crate::legend::{legend_lines, put_key, put_legend};
-use crate::marks::{put_hatching, put_synchronisation};
 use crate::paging::put_pages;
 use crate::picture::{CODEWORDS, FRAMES};
-use crate::pieces::put;
+use crate::pieces::{put, put_printed};
 use crate::placed::Placed;
 use crate::places::row_top;
 use crate::rows::Rows;
 use crate::window::Window;
 use std::alloc::{AllocError, Global};
 
-// Writes the number of a batch in a row with this upper side.
-#[tactic(auto, unfolding(crate::specs::Drawing::batch_number))]
-fn put_batch_number(
-    alloc: Global,
-    text: &mut Vec<u8>,
-    y: u128,
-    row: usize,
-) -> Result<(), AllocError>
-    requires { y < 2 ^ 127 }
-    ensures { OnOk result (text.new.items ≡ text.old.items ++ batch_number y row) }
-{
-    let base = y + 13;
-    let number = row as u128 + 1;
-    let part = format!(in alloc; "<text class='e' x='50' y='{base}'>{number}</text>")?;
-    put(text, part.as_bytes())
-}
-
 // Writes a row behind its pages.
-#[tactic(auto, unfolding(crate::specs::Drawing::row_drawn))]
-fn put_row(alloc: Global, text: &mut Vec<u8>, low: usize, row: usize) -> Result<(), AllocError>
+fn put_row(text: &mut Vec<u8>, low: usize, row: usize) -> Result<(), AllocError>
     ensures { OnOk result (text.new.items ≡ text.old.items ++ row_drawn low row) }
 {
+    let number = row as u128 + 1;
     let y = row_top(low, row);
-    put_batch_number(alloc, text, y, row)?;
-    put_synchronisation(alloc, text, 60, y)?;
-    put_hatching(alloc, text, y, 448)?;
-    put(text, b"\n")
+    let (middle, base) = (y + 9, y + 13);
+    put_printed(
+        text,
+        format_args!(
+            "<text class='e' x='50' y='{base}'>{number}</text>\
+            <rect class='s' x='60' y='{y}' width='12' height='18'/><path class='h' d='M80 {middle}h448'/>\n"
+        ),
+    )
 }
 
 // Writes the rows that are drawn.
-fn put_rows(alloc: Global, text: &mut Vec<u8>, window: Window) -> Result<(), AllocError>
+fn put_rows(text: &mut Vec<u8>, window: Window) -> Result<(), AllocError>
     ensures { OnOk result (text.new.items ≡ text.old.items
         ++ flat_map (row_drawn window.low) (rows_between window.low window.high)) }
 {
     for row in window.low..window.high {
-        put_row(alloc, text, window.low, row)?;
+        put_row(text, window.low, row)?;
     }
     Ok(())
 }
 
 #[tactic(auto, unfolding(crate::specs::Drawing::frame_line))]
-fn put_frame_line(
-    alloc: Global,
-    text: &mut Vec<u8>,
-    bottom: u128,
-    frame: usize,
-) -> Result<(), AllocError>
+fn put_frame_line(text: &mut Vec<u8>, bottom: u128, frame: usize) -> Result<(), AllocError>
     requires { frame < 9 }
     ensures { OnOk result (text.new.items ≡ text.old.items ++ frame_line bottom frame) }
 {
     let x = 80 + 56 * frame;
-    let part = format!(in alloc; "M{x} 78V{bottom}")?;
-    put(text, part.as_bytes())
+    put_printed(text, format_args!("M{x} 78V{bottom}"))
 }
 
-fn put_all_frame_lines(alloc: Global, text: &mut Vec<u8>, bottom: u128) -> Result<(), AllocError>
+fn put_all_frame_lines(text: &mut Vec<u8>, bottom: u128) -> Result<(), AllocError>
     ensures { OnOk result (text.new.items ≡ text.old.items ++ flat_map (frame_line bottom) (range_with_len 0 9)) }
 {
     for frame in 0..FRAMES + 1 {
-        put_frame_line(alloc, text, bottom, frame)?;
+        put_frame_line(text, bottom, frame)?;
     }
     Ok(())
 }
 
 // Writes a line at each side of a frame, over so many rows.
 #[tactic(auto, unfolding(crate::specs::Drawing::frame_lines))]
-fn put_frame_lines(alloc: Global, text: &mut Vec<u8>, count: usize) -> Result<(), AllocError>
+fn put_frame_lines(text: &mut Vec<u8>, count: usize) -> Result<(), AllocError>
     ensures { OnOk result (text.new.items ≡ text.old.items ++ frame_lines count) }
 {
     put(text, b"<path class='f' d='")?;
-    put_all_frame_lines(alloc, text, 80 + 22 * count as u128)?;
+    put_all_frame_lines(text, 80 + 22 * count as u128)?;
     put(text, b"'/>\n")
 }
 
@@ -103,9 +84,9 @@ fn put_rows_and_pages(
     requires listable { All (λ pl. IsListable pl.page) pages.now }
     ensures { OnOk result (text.new.items ≡ text.old.items ++ rows_and_pages window.low window.high pages.now) }
 {
-    put_rows(alloc, text, window)?;
+    put_rows(text, window)?;
     put_pages(alloc, text, window, pages)?;
-    put_frame_lines(alloc, text, window.count())
+    put_frame_lines(text, window.count())
 }
 
 // The drawing of pages in a transmission with these counts.
@@ -123,16 +104,10 @@ fn drawing_text(
         (λ v. v.items ≡ drawing_text window.low window.high counts.batches counts.codewords counts.idles pages.now) }
 {
     let mut text = Vec::new(alloc);
-    put_front(
-        alloc,
-        &mut text,
-        window,
-        counts,
-        legend_lines(window, pages),
-    )?;
+    put_front(&mut text, window, counts, legend_lines(window, pages))?;
     put_rows_and_pages(alloc, &mut text, window, pages)?;
-    put_key(alloc, &mut text, window.count())?;
-    put_legend(alloc, &mut text, window, pages)?;
+    put_key(&mut text, window.count())?;
+    put_legend(&mut text, window, pages)?;
     put(&mut text, b"</svg>\n")?;
     Ok(text)
 }

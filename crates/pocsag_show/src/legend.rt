@@ -1,15 +1,13 @@
-ghost use Rattle.std.specs.Prelude.{◌≡◌, ◌<◌, ◌≤◌, ◌^◌, ◌++◌, OnOk, IfOk, All, length};
+ghost use Rattle.std.specs.Prelude.{◌≡◌, ◌<◌, ◌≤◌, ◌^◌, ◌++◌, OnOk, All, length};
 ghost use Rattle.pocsag_pages.specs.Listable.{IsListable};
-ghost use Rattle.pocsag_show.specs.Legend.{drawn_in, entry, entry_of, idle_key, key, legend, legend_lines, named, names, place_in, stands_before, synchronisation_key};
+ghost use Rattle.pocsag_show.specs.Legend.{drawn_in, entry, entry_of, key, legend, legend_lines, names, place_in, stands_before};
 
-use crate::marks::{
-    put_hatching, put_head, put_opened, put_rectangle, put_synchronisation, put_text_at,
-};
-use crate::pieces::put;
+use crate::marks::{put_head, put_opened, put_rectangle};
+use crate::pieces::{put, put_printed};
 use crate::placed::Placed;
 use crate::window::Window;
 use pocsag_decode::kind_of_page;
-use std::alloc::{AllocError, Global};
+use std::alloc::AllocError;
 
 // A legend has at most so many pages.
 const MOST: usize = 40;
@@ -56,99 +54,62 @@ pub(crate) fn legend_lines(window: Window, pages: &[Placed]) -> usize
     if count <= MOST { (count + 2) / 3 } else { 0 }
 }
 
-// Writes a text that names what stands before it.
-#[tactic(auto, unfolding(crate::specs::Legend::named))]
-fn put_named(
-    alloc: Global,
-    text: &mut Vec<u8>,
-    x: u128,
-    y: u128,
-    name: &[u8],
-) -> Result<(), AllocError>
-    requires { y < 2 ^ 127 }
-    ensures { OnOk result (text.new.items ≡ text.old.items ++ named x y name.now) }
-{
-    put(text, b"<text class='n")?;
-    put_text_at(alloc, text, x, y)?;
-    put(text, name)?;
-    put(text, b"</text>")
-}
-
-// Writes what hatching means.
-#[tactic(auto, unfolding(crate::specs::Legend::idle_key))]
-fn put_idle_key(alloc: Global, text: &mut Vec<u8>, y: u128) -> Result<(), AllocError>
-    requires { y < 2 ^ 127 }
-    ensures { OnOk result (text.new.items ≡ text.old.items ++ idle_key y) }
-{
-    put_hatching(alloc, text, y, 28)?;
-    put_named(alloc, text, 114, y, b"idle codeword")
-}
-
-// Writes what narrow rectangles mean.
-#[tactic(auto, unfolding(crate::specs::Legend::synchronisation_key))]
-fn put_synchronisation_key(alloc: Global, text: &mut Vec<u8>, y: u128) -> Result<(), AllocError>
-    requires { y < 2 ^ 127 }
-    ensures { OnOk result (text.new.items ≡ text.old.items ++ synchronisation_key y) }
-{
-    put_synchronisation(alloc, text, 230, y)?;
-    put_named(alloc, text, 248, y, b"synchronisation codeword")
-}
-
 /// Writes what hatching and narrow rectangles mean, under so many rows.
 #[tactic(auto, unfolding(crate::specs::Legend::key))]
-pub(crate) fn put_key(alloc: Global, text: &mut Vec<u8>, count: usize) -> Result<(), AllocError>
+pub(crate) fn put_key(text: &mut Vec<u8>, count: usize) -> Result<(), AllocError>
     ensures { OnOk result (text.new.items ≡ text.old.items ++ key count) }
 {
     let y = 86 + 22 * count as u128;
-    put_idle_key(alloc, text, y)?;
-    put_synchronisation_key(alloc, text, y)?;
-    put(text, b"\n")
+    let (middle, base) = (y + 9, y + 13);
+    put_printed(
+        text,
+        format_args!(
+            "<path class='h' d='M80 {middle}h28'/><text class='n' x='114' y='{base}'>idle codeword</text>\
+            <rect class='s' x='230' y='{y}' width='12' height='18'/>\
+            <text class='n' x='248' y='{base}'>synchronisation codeword</text>\n"
+        ),
+    )
 }
 
-// The address and the kind of a page.
-#[tactic(auto, unfolding(crate::specs::Legend::names))]
-fn names_of(alloc: Global, placed: &Placed) -> Result<Vec<u8>, AllocError>
-    requires { IsListable placed.now.page }
-    ensures { IfOk result (λ v. v.items ≡ names placed.now) }
+// Writes an address and a kind, and ends the group of a page.
+fn put_names(
+    text: &mut Vec<u8>,
+    x: u128,
+    y: u128,
+    address: u32,
+    kind: &[u8],
+) -> Result<(), AllocError>
+    requires { y < 2 ^ 127 }
+    ensures { OnOk result (text.new.items ≡ text.old.items ++ names x y address kind.now) }
 {
-    let page = &placed.page;
-    let mut text = Vec::new(alloc);
-    let address = page.address;
-    let part = format!(in alloc; "{address} ")?;
-    put(&mut text, part.as_bytes())?;
-    put(
-        &mut text,
-        kind_of_page(page.function, page.payload.as_slice()),
+    let base = y + 13;
+    put_printed(
+        text,
+        format_args!("<text class='n' x='{x}' y='{base}'>{address} "),
     )?;
-    Ok(text)
+    put(text, kind)?;
+    put(text, b"</text></g>\n")
 }
 
 // Writes the entry of a page at a place of the legend, whose upper side is given.
 #[tactic(auto, unfolding(crate::specs::Legend::entry))]
-fn put_entry(
-    alloc: Global,
-    text: &mut Vec<u8>,
-    top: u128,
-    place: usize,
-    placed: &Placed,
-) -> Result<(), AllocError>
+fn put_entry(text: &mut Vec<u8>, top: u128, place: usize, placed: &Placed) -> Result<(), AllocError>
     requires top { top < 2 ^ 100 }
     requires listable { IsListable placed.now.page }
     ensures { OnOk result (text.new.items ≡ text.old.items ++ entry top place placed.now) }
 {
-    let names = names_of(alloc, placed)?;
+    let page = &placed.page;
     let x = 80 + 150 * (place % 3) as u128;
     let y = top + 22 * (place / 3) as u128;
-    put_opened(alloc, text, placed.number)?;
-    put_rectangle(alloc, text, x, y, 28)?;
-    put_head(alloc, text, x, y, placed.number)?;
-    put_named(alloc, text, x + 34, y, names.as_slice())?;
-    put(text, b"</g>\n")
+    put_opened(text, placed.number)?;
+    put_rectangle(text, x, y, 28)?;
+    put_head(text, x, y, placed.number)?;
+    let kind = kind_of_page(page.function, page.payload.as_slice());
+    put_names(text, x + 34, y, page.address, kind)
 }
 
 #[tactic(auto, unfolding(crate::specs::Legend::entry_of))]
 fn put_entry_of(
-    alloc: Global,
     text: &mut Vec<u8>,
     window: Window,
     pages: &[Placed],
@@ -161,13 +122,12 @@ fn put_entry_of(
         return Ok(());
     }
     let top = 112 + 22 * window.count() as u128;
-    put_entry(alloc, text, top, place_in(window, pages, placed), placed)
+    put_entry(text, top, place_in(window, pages, placed), placed)
 }
 
 /// Writes the legend of the pages that are drawn, where they are few.
 #[tactic(auto, unfolding(crate::specs::Legend::legend))]
 pub(crate) fn put_legend(
-    alloc: Global,
     text: &mut Vec<u8>,
     window: Window,
     pages: &[Placed],
@@ -179,7 +139,7 @@ pub(crate) fn put_legend(
         return Ok(());
     }
     for placed in pages {
-        put_entry_of(alloc, text, window, pages, placed)?;
+        put_entry_of(text, window, pages, placed)?;
     }
     Ok(())
 }

@@ -2,6 +2,7 @@
 //! What a transmission looks like: a text grid of its codewords with a letter for each page, a drawing,
 //! and a listing of where its pages stand.
 
+mod counts;
 mod drawing;
 mod fault;
 mod front;

@@ -2,7 +2,7 @@ ghost use Rattle.std.specs.Prelude.{◌≡◌, ℕ, ◌∷◌, ◌++◌, [], Lis
 ghost use Rattle.std.specs.Fmt.{decimal};
 ghost use Rattle.csv.specs.Writing.{row_text, default_writer};
 ghost use Rattle.pocsag_pages.specs.Listable.{IsListable};
-ghost use Rattle.pocsag_decode.specs.Lines.{IsReady, PutsRow};
+ghost use Rattle.pocsag_decode.specs.Lines.{IsReady, PutsRow, text_in};
 ghost use Rattle.pocsag_show.specs.Judged.{IsJudged};
 ghost use Rattle.pocsag_show.specs.Places.{place_header, place_record, place_rows};
 ghost use Rattle.pocsag_show.specs.Showing.{IsTextOf};
@@ -11,30 +11,20 @@ ghost use Rattle.pocsag_show.specs.Places.{place_listing};
 use crate::judged::Judged;
 use crate::picture::CODEWORDS;
 use crate::placed::Placed;
-use csv::{ByteRecord, Writer};
+use csv::Writer;
+use itoa::Buffer;
 use pocsag_decode::{kind_of_page, message_of};
 use std::alloc::{AllocError, Global};
 
 // Writes one record.
-fn put_record(
-    alloc: Global,
-    writer: &mut Writer<Vec<u8>>,
-    fields: &[&[u8]; 7],
-) -> Result<(), AllocError>
+fn put_record(writer: &mut Writer<Vec<u8>>, fields: &[&[u8]; 7]) -> Result<(), AllocError>
     requires { IsReady writer.old }
     ensures { PutsRow result writer.old writer.new (map (λ field. field.now) fields.now) }
 {
-    let row = ByteRecord::from_fields(alloc, fields)?;
-    match writer.write_byte_record(&row) {
+    match writer.write_fields(fields) {
         Ok(()) => Ok(()),
         Err(_) => Err(AllocError),
     }
-}
-
-fn decimal(alloc: Global, number: usize) -> Result<String, AllocError>
-    ensures { IfOk result (λ text. string_bytes text ≡ decimal number) }
-{
-    format!(in alloc; "{number}")
 }
 
 // Writes the record of a page.
@@ -43,38 +33,39 @@ fn put_place(alloc: Global, writer: &mut Writer<Vec<u8>>, placed: &Placed) -> Re
     requires listable { IsListable placed.now.page }
     ensures { PutsRow result writer.old writer.new (place_record placed.now) }
 {
-    let start = placed.start;
     let page = &placed.page;
     let items = page.payload.as_slice();
-    let batch = decimal(alloc, start / CODEWORDS + 1)?;
-    let frame = decimal(alloc, start % CODEWORDS / 2)?;
-    let slot = decimal(alloc, start % CODEWORDS)?;
-    let codewords = decimal(alloc, 1 + items.len())?;
-    let address = decimal(alloc, page.address as usize)?;
     let Ok(message) = message_of(alloc, page.function, items) else {
         return Err(AllocError);
     };
+    let (mut batch, mut frame, mut slot) = (Buffer::new(), Buffer::new(), Buffer::new());
+    let (mut codewords, mut address) = (Buffer::new(), Buffer::new());
     let fields = [
-        batch.as_bytes(),
-        frame.as_bytes(),
-        slot.as_bytes(),
-        codewords.as_bytes(),
-        address.as_bytes(),
+        batch.format(placed.start / CODEWORDS + 1).as_bytes(),
+        frame.format(placed.start % CODEWORDS / 2).as_bytes(),
+        slot.format(placed.start % CODEWORDS).as_bytes(),
+        codewords.format(1 + items.len()).as_bytes(),
+        address.format(page.address).as_bytes(),
         kind_of_page(page.function, items),
         message.as_slice(),
     ];
-    put_record(alloc, writer, &fields)
+    put_record(writer, &fields)
 }
 
-// The listing of the pages.
-fn rows_of(alloc: Global, pages: &[Placed]) -> Result<Vec<u8>, AllocError>
-    requires { All (λ pl. IsListable pl.page) pages.now }
-    ensures { IfOk result (λ v. v.items ≡ row_text default_writer place_header ++ place_rows pages.now) }
+// Writes the header and the record of each page.
+fn put_places(
+    alloc: Global,
+    writer: &mut Writer<Vec<u8>>,
+    pages: &[Placed],
+) -> Result<(), AllocError>
+    requires ready { IsReady writer.old }
+    requires listable { All (λ pl. IsListable pl.page) pages.now }
+    ensures ready { OnOk result (IsReady writer.new) }
+    ensures text { OnOk result (text_in writer.new
+        ≡ text_in writer.old ++ (row_text default_writer place_header ++ place_rows pages.now)) }
 {
-    let mut writer = Writer::from_writer(Vec::new(alloc));
     put_record(
-        alloc,
-        &mut writer,
+        writer,
         &[
             b"batch",
             b"frame",
@@ -86,8 +77,18 @@ fn rows_of(alloc: Global, pages: &[Placed]) -> Result<Vec<u8>, AllocError>
         ],
     )?;
     for placed in pages {
-        put_place(alloc, &mut writer, placed)?;
+        put_place(alloc, writer, placed)?;
     }
+    Ok(())
+}
+
+// The listing of the pages.
+fn rows_of(alloc: Global, pages: &[Placed]) -> Result<Vec<u8>, AllocError>
+    requires { All (λ pl. IsListable pl.page) pages.now }
+    ensures { IfOk result (λ v. v.items ≡ row_text default_writer place_header ++ place_rows pages.now) }
+{
+    let mut writer = Writer::from_writer(Vec::new(alloc));
+    put_places(alloc, &mut writer, pages)?;
     match writer.into_inner() {
         Ok(text) => Ok(text),
         Err(_) => Err(AllocError),

@@ -15,13 +15,7 @@ use std::alloc::{AllocError, Global};
 
 // Writes what is drawn of a page in a row.
 #[tactic(auto, unfolding(crate::specs::Drawing::piece))]
-fn put_piece(
-    alloc: Global,
-    text: &mut Vec<u8>,
-    low: usize,
-    placed: &Placed,
-    row: usize,
-) -> Result<(), AllocError>
+fn put_piece(text: &mut Vec<u8>, low: usize, placed: &Placed, row: usize) -> Result<(), AllocError>
     requires { row < 2 ^ 59 }
     ensures { OnOk result (text.new.items ≡ text.old.items ++ piece low placed.now row) }
 {
@@ -29,21 +23,16 @@ fn put_piece(
     let behind = placed.index_behind().min(16 * row as u128 + 16);
     let x = cell_left(from);
     let y = row_top(low, row);
-    put_rectangle(alloc, text, x, y, 28 * behind.saturating_sub(from as u128))?;
+    put_rectangle(text, x, y, 28 * behind.saturating_sub(from as u128))?;
     if 16 * row <= placed.start {
-        put_head(alloc, text, x, y, placed.number)
+        put_head(text, x, y, placed.number)
     } else {
-        put_tail(alloc, text, x, y, placed.number)
+        put_tail(text, x, y, placed.number)
     }
 }
 
 // Writes what is drawn of a page in the rows in which it has codewords.
-fn put_pieces(
-    alloc: Global,
-    text: &mut Vec<u8>,
-    window: Window,
-    placed: &Placed,
-) -> Result<(), AllocError>
+fn put_pieces(text: &mut Vec<u8>, window: Window, placed: &Placed) -> Result<(), AllocError>
     requires { window.high < 2 ^ 59 }
     ensures { OnOk result (text.new.items ≡ text.old.items
         ++ flat_map (piece window.low placed.now)
@@ -52,7 +41,7 @@ fn put_pieces(
     let first = placed.first_row(window);
     let end = placed.end_row(window);
     for row in first..end {
-        put_piece(alloc, text, window.low, placed, row)?;
+        put_piece(text, window.low, placed, row)?;
     }
     Ok(())
 }
@@ -81,9 +70,9 @@ fn put_group(
     ensures { OnOk result (text.new.items ≡ text.old.items
         ++ group window.low placed.now (first_row_of window.low placed.now) (end_row_of window.high placed.now)) }
 {
-    put_opened(alloc, text, placed.number)?;
+    put_opened(text, placed.number)?;
     put_title(alloc, text, placed)?;
-    put_pieces(alloc, text, window, placed)?;
+    put_pieces(text, window, placed)?;
     put(text, b"</g>\n")
 }
 

@@ -1,13 +1,15 @@
 ghost use Rattle.std.specs.Prelude.{◌≡◌, ℕ, ◌+◌, ◌*◌, ◌%◌, ◌<◌, ◌≤◌, ◌++◌, List, IfOk, OnOk, length, replicate, slice_index};
 ghost use Rattle.std.specs.List.{flat_map, range_with_len};
 ghost use Rattle.pocsag_words.specs.declared.codeword.Kind.{Kind};
-ghost use Rattle.pocsag_show.specs.Picture.{airtime_part, airtimes_part, batch_line, batch_lines, counts_part, frame_cells, idles_part, number_column, picture, share, totals_line};
+ghost use Rattle.pocsag_show.specs.Picture.{airtimes_part, batch_line, batch_lines, counts_part, frame_cells, number_column, picture, share, totals_line};
 ghost use Rattle.pocsag_show.specs.Taking.{IsGridOf};
 
+use crate::counts::Counts;
 use crate::grid::Grid;
-use crate::pieces::put;
+use crate::pieces::{put, put_printed};
 use crate::rows::Rows;
 use crate::window::Window;
+use itoa::Buffer;
 use pocsag_words::{airtime, transmission_bits};
 use std::alloc::{AllocError, Global};
 
@@ -34,86 +36,60 @@ fn put_spaces(text: &mut Vec<u8>, count: usize) -> Result<(), AllocError>
     text.resize(len, b' ')
 }
 
-// Writes how long so many batches last at a rate.
-#[tactic(auto, unfolding(crate::specs::Picture::airtime_part))]
-fn put_airtime(alloc: Global, text: &mut Vec<u8>, batches: u64, rate: u32) -> Result<(), AllocError>
-    requires { 0 < rate }
-    ensures { OnOk result (text.new.items ≡ text.old.items ++ airtime_part batches rate) }
-{
-    let airtime = airtime(transmission_bits(batches), rate);
-    let part = format!(in alloc; "{airtime} ms at {rate} bit/s")?;
-    put(text, part.as_bytes())
-}
-
-/// Writes how many batches and how many codewords of pages there are.
+/// Writes how many batches, codewords of pages and idle codewords there are, and the share of the idle ones.
 #[tactic(auto, unfolding(crate::specs::Picture::counts_part))]
-pub(crate) fn put_counts(
-    alloc: Global,
-    text: &mut Vec<u8>,
-    batches: u64,
-    codewords: u64,
-) -> Result<(), AllocError>
-    ensures { OnOk result (text.new.items ≡ text.old.items ++ counts_part batches codewords) }
+pub(crate) fn put_counts(text: &mut Vec<u8>, counts: Counts) -> Result<(), AllocError>
+    requires { 0 < counts.batches }
+    ensures { OnOk result (text.new.items ≡ text.old.items
+        ++ counts_part counts.batches counts.codewords counts.idles) }
 {
-    let part = format!(in alloc; "batches {batches}, codewords {codewords}")?;
-    put(text, part.as_bytes())
-}
-
-/// Writes how many idle codewords there are, and their share.
-#[tactic(auto, unfolding(crate::specs::Picture::idles_part))]
-pub(crate) fn put_idles(
-    alloc: Global,
-    text: &mut Vec<u8>,
-    batches: u64,
-    idles: u64,
-) -> Result<(), AllocError>
-    requires { 0 < batches }
-    ensures { OnOk result (text.new.items ≡ text.old.items ++ idles_part batches idles) }
-{
+    let Counts {
+        batches,
+        codewords,
+        idles,
+    } = counts;
     let percent = share(idles, batches);
-    let part = format!(in alloc; ", idles {idles} ({percent}%)")?;
-    put(text, part.as_bytes())
+    put_printed(
+        text,
+        format_args!("batches {batches}, codewords {codewords}, idles {idles} ({percent}%)"),
+    )
 }
 
 // Writes how long so many batches last at the three rates.
 #[tactic(auto, unfolding(crate::specs::Picture::airtimes_part))]
-fn put_airtimes(alloc: Global, text: &mut Vec<u8>, batches: u64) -> Result<(), AllocError>
+fn put_airtimes(text: &mut Vec<u8>, batches: u64) -> Result<(), AllocError>
     ensures { OnOk result (text.new.items ≡ text.old.items ++ airtimes_part batches) }
 {
-    put_airtime(alloc, text, batches, 512)?;
-    put(text, b", ")?;
-    put_airtime(alloc, text, batches, 1200)?;
-    put(text, b", ")?;
-    put_airtime(alloc, text, batches, 2400)
+    let bits = transmission_bits(batches);
+    let (slow, middle, fast) = (airtime(bits, 512), airtime(bits, 1200), airtime(bits, 2400));
+    put_printed(
+        text,
+        format_args!("{slow} ms at 512 bit/s, {middle} ms at 1200 bit/s, {fast} ms at 2400 bit/s"),
+    )
 }
 
 /// Writes the line of totals.
 #[tactic(auto, unfolding(crate::specs::Picture::totals_line))]
-pub(crate) fn put_totals(
-    alloc: Global,
-    text: &mut Vec<u8>,
-    batches: u64,
-    codewords: u64,
-    idles: u64,
-) -> Result<(), AllocError>
-    requires { 0 < batches }
-    ensures { OnOk result (text.new.items ≡ text.old.items ++ totals_line batches codewords idles) }
+pub(crate) fn put_totals(text: &mut Vec<u8>, counts: Counts) -> Result<(), AllocError>
+    requires { 0 < counts.batches }
+    ensures { OnOk result (text.new.items ≡ text.old.items
+        ++ totals_line counts.batches counts.codewords counts.idles) }
 {
-    put_counts(alloc, text, batches, codewords)?;
-    put_idles(alloc, text, batches, idles)?;
+    put_counts(text, counts)?;
     put(text, b", airtime ")?;
-    put_airtimes(alloc, text, batches)?;
+    put_airtimes(text, counts.batches)?;
     put(text, b"\n")
 }
 
 // Writes a number at the right of three columns, and spaces up to the fifth.
 #[tactic(auto, unfolding(crate::specs::Picture::number_column))]
-fn put_number(alloc: Global, text: &mut Vec<u8>, number: u64) -> Result<(), AllocError>
+fn put_number(text: &mut Vec<u8>, number: u64) -> Result<(), AllocError>
     ensures { OnOk result (text.new.items ≡ text.old.items ++ number_column number) }
 {
-    let digits = format!(in alloc; "{number}")?;
+    let mut buffer = Buffer::new();
+    let digits = buffer.format(number).as_bytes();
     put_spaces(text, 3usize.saturating_sub(digits.len()))?;
-    put(text, digits.as_bytes())?;
+    put(text, digits)?;
     put_spaces(text, 2usize.saturating_sub(digits.len().saturating_sub(3)))
 }
 
@@ -147,16 +123,11 @@ fn put_frames(text: &mut Vec<u8>, letters: &[u8], batch: usize) -> Result<(), Al
 
 // Writes the line of a batch.
 #[tactic(auto, unfolding(crate::specs::Picture::batch_line))]
-fn put_batch(
-    alloc: Global,
-    text: &mut Vec<u8>,
-    letters: &[u8],
-    batch: usize,
-) -> Result<(), AllocError>
+fn put_batch(text: &mut Vec<u8>, letters: &[u8], batch: usize) -> Result<(), AllocError>
     requires { 16 * batch + 16 ≤ length letters.now }
     ensures { OnOk result (text.new.items ≡ text.old.items ++ batch_line (slice_index letters.now) batch) }
 {
-    put_number(alloc, text, batch as u64 + 1)?;
+    put_number(text, batch as u64 + 1)?;
     put_frames(text, letters, batch)?;
     put(text, b"\n")
 }
@@ -164,7 +135,6 @@ fn put_batch(
 // Writes the lines of the batches from one up to before another.
 #[tactic(auto, unfolding(crate::specs::Picture::batch_lines))]
 fn put_batches(
-    alloc: Global,
     text: &mut Vec<u8>,
     letters: &[u8],
     low: usize,
@@ -174,7 +144,7 @@ fn put_batches(
     ensures { OnOk result (text.new.items ≡ text.old.items ++ batch_lines (slice_index letters.now) low high) }
 {
     for batch in low..high {
-        put_batch(alloc, text, letters, batch)?;
+        put_batch(text, letters, batch)?;
     }
     Ok(())
 }
@@ -188,10 +158,14 @@ pub(crate) fn picture_of(alloc: Global, rows: Rows, grid: &Grid) -> Result<Vec<u
     let letters = grid.letters.as_slice();
     let batches = letters.len() / CODEWORDS;
     let window = Window::new(rows, batches);
-    let codewords = letters.len() as u64 - grid.idles;
+    let counts = Counts {
+        batches: batches as u64,
+        codewords: letters.len() as u64 - grid.idles,
+        idles: grid.idles,
+    };
     let mut text = Vec::new(alloc);
-    put_totals(alloc, &mut text, batches as u64, codewords, grid.idles)?;
+    put_totals(&mut text, counts)?;
     put(&mut text, b"       0  1  2  3  4  5  6  7\n")?;
-    put_batches(alloc, &mut text, letters, window.low, window.high)?;
+    put_batches(&mut text, letters, window.low, window.high)?;
     Ok(text)
 }

@@ -3,7 +3,7 @@ ghost use Rattle.std.specs.Prelude.{◌≡◌, ◌-◌, ◌<◌, ◌≤◌, ◌^
 use std::fmt::{self, Display, Formatter};
 
 /// The rows that are wanted of a picture: batches, counted from 1.
-#[derive(Clone, Copy, PartialEq, Eq, Debug)]
+#[derive(Clone, Copy, PartialEq, Eq)]
 pub struct Rows {
     /// The first that is drawn.
     pub first: u64,
@@ -40,12 +40,11 @@ impl Rows {
 impl Display for Rows {
     fn fmt<W: fmt::Write>(&self, f: &mut Formatter<W>) -> fmt::Result {
         let Rows { first, last } = *self;
-        if first == last {
-            write!(f, "{first}")
-        } else if last == u64::MAX {
-            write!(f, "{first}-")
-        } else {
-            write!(f, "{first}-{last}")
+        Display::fmt(&first, f)?;
+        match last {
+            last if last == first => Ok(()),
+            u64::MAX => f.write_str("-"),
+            last => write!(f, "-{last}"),
         }
     }
 }

@@ -3,8 +3,9 @@ ghost use Rattle.std.specs.List.{flat_map};
 ghost use Rattle.pocsag_pages.specs.Listable.{IsListable};
 ghost use Rattle.pocsag_show.specs.Escapes.{escaped, told, told_message};
 
+use crate::marking::capital;
 use crate::marks::put_label;
-use crate::pieces::put;
+use crate::pieces::{put, put_printed};
 use crate::placed::Placed;
 use pocsag_decode::{kind_of_page, message_of};
 use pocsag_pages::Page;
@@ -12,7 +13,7 @@ use std::alloc::{AllocError, Global};
 
 // Writes a character of a message so that it stands for itself.
 #[tactic(auto, unfolding(crate::specs::Escapes::escaped))]
-fn put_escaped(alloc: Global, text: &mut Vec<u8>, byte: u8) -> Result<(), AllocError>
+fn put_escaped(text: &mut Vec<u8>, byte: u8) -> Result<(), AllocError>
     ensures { OnOk result (text.new.items ≡ text.old.items ++ escaped byte) }
 {
     if byte == b'&' {
@@ -23,8 +24,7 @@ fn put_escaped(alloc: Global, text: &mut Vec<u8>, byte: u8) -> Result<(), AllocE
         put(text, b"&gt;")
     } else if byte < 32 {
         let code = 9216 + u32::from(byte);
-        let part = format!(in alloc; "&#{code};")?;
-        put(text, part.as_bytes())
+        put_printed(text, format_args!("&#{code};"))
     } else if byte < 127 {
         put(text, &[byte])
     } else {
@@ -32,11 +32,11 @@ fn put_escaped(alloc: Global, text: &mut Vec<u8>, byte: u8) -> Result<(), AllocE
     }
 }
 
-fn put_all_escaped(alloc: Global, text: &mut Vec<u8>, message: &[u8]) -> Result<(), AllocError>
+fn put_all_escaped(text: &mut Vec<u8>, message: &[u8]) -> Result<(), AllocError>
     ensures { OnOk result (text.new.items ≡ text.old.items ++ flat_map escaped message.now) }
 {
     for byte in message {
-        put_escaped(alloc, text, *byte)?;
+        put_escaped(text, *byte)?;
     }
     Ok(())
 }
@@ -55,7 +55,7 @@ fn put_message(alloc: Global, text: &mut Vec<u8>, page: &Page) -> Result<(), All
     let Ok(message) = message_of(alloc, page.function, items) else {
         return Err(AllocError);
     };
-    put_all_escaped(alloc, text, message.as_slice())
+    put_all_escaped(text, message.as_slice())
 }
 
 /// Writes what is told of a page: its label, address, kind and message.
@@ -66,10 +66,8 @@ pub(crate) fn put_told(alloc: Global, text: &mut Vec<u8>, placed: &Placed) -> Re
 {
     let page = &placed.page;
     let address = page.address;
-    put_label(alloc, text, placed.number)?;
-    let part = format!(in alloc; ": address {address}")?;
-    put(text, part.as_bytes())?;
-    put(text, b", ")?;
+    put_label(text, capital(placed.number), placed.number)?;
+    put_printed(text, format_args!(": address {address}, "))?;
     put(text, kind_of_page(page.function, page.payload.as_slice()))?;
     put_message(alloc, text, page)
 }

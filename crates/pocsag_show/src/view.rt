@@ -1,7 +1,7 @@
 use crate::rows::Rows;
 
 /// How a transmission is shown.
-#[derive(Clone, Copy, PartialEq, Eq, Debug)]
+#[derive(Clone, Copy)]
 pub enum View {
     /// As text, with a letter for each codeword of these rows.
     Grid(Rows),

@@ -5,7 +5,7 @@ ghost use Rattle.pocsag_show.specs.Rows.{end_row, first_row};
 use crate::rows::Rows;
 
 /// The rows that are drawn, counted from 0: from one up to before another.
-#[derive(Clone, Copy, PartialEq, Eq, Debug)]
+#[derive(Clone, Copy)]
 pub(crate) struct Window {
     pub(crate) low: usize,
     pub(crate) high: usize,

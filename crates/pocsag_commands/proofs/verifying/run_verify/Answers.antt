@@ -1,9 +1,8 @@
-use Rattle.std.proofs.Common.{ℕ, List, subst, refl, ◌∙◌}
+use Rattle.std.proofs.Common.{ℕ, List, subst, refl}
 use Rattle.pocsag_words.specs.declared.ending.End.{End}
 use Rattle.pocsag_tree.specs.Spelling.{IsText}
 use Rattle.pocsag_tree.specs.Views.{bound_of}
 use Rattle.pocsag_commands.specs.Commands.{Checked}
-use Rattle.pocsag_commands.specs.Verifying.{IsTransmissionOf}
 use Rattle.pocsag_commands.proofs.Readback.{verified}
 use Rattle.pocsag_commands.proofs.verifying.run_verify.Goals as goal
 
@@ -13,16 +12,14 @@ returns g c = λ pages_tell tx_tells cert_tells.
     let file : List ℕ = g.P.Source.held c.args.files.now.pages in
     let shown_bytes : List ℕ = g.C.Source.held c.args.files.now.cert in
     let text = subst (λ (e : End). IsText e certificate.batches (bound_of certificate.tree) shown_bytes)
-    (c.if-not-is_end.ensures refl) (c.in_ok-certificate.ensures.found cert_tells) in
+    (c.if-not-shows_due.ensures.end refl) (c.in_ok-certificate.ensures.found cert_tells) in
     let shown : Checked file shown_bytes c.args.search.end certificate.batches = record {
       round = c.in_ok-round.round;
       read = c.in_ok-round.ensures.ok pages_tell;
       tree = bound_of certificate.tree;
       text = text;
-      accepted = c.if-not-check.ensures.accepted.0 refl;
-      bound = c.if-not-check.ensures.bound refl;
+      accepted = c.if-not-shows_due.ensures.accepted refl;
+      bound = c.if-not-shows_due.ensures.bound refl;
     } in
     verified file c.args.search (g.T.Source.held c.args.files.now.tx) shown_bytes certificate.batches shown c.in_ok-batches.batches
-    (subst (λ (v : List ℕ). IsTransmissionOf c.args.search.end c.in_ok-round.round c.in_ok-batches.batches v)
-    (c.as_slice.ensures.value ∙ c.in_ok-bytes.ensures.whole tx_tells) c.in_ok-batches.ensures)
-    (c.if-not-is_due.ensures refl) c.tell.result
+    (c.in_ok-batches.ensures tx_tells) (c.if-not-shows_due.ensures.due refl) c.tell.result
