@@ -1,5 +1,5 @@
 -- What `report --frames` told, and why it refuses.
-use Rattle.std.proofs.Common.{◌≡◌, ℕ, List, ◌++◌, Ok, Err, ap, subst, ◌∙◌, arith}
+use Rattle.std.proofs.Common.{◌≡◌, ℕ, List, ◌++◌, Ok, Err, subst, arith}
 use Rattle.std.specs.List.{flat_map}
 use Rattle.std.specs.Prelude.{OnOk, Result}
 use Rattle.pocsag_pages.specs.PageFile.{verdict}
@@ -29,10 +29,10 @@ why_unplanned file search rate R read planning.OutOfMemory said one = absurd (om
 
 pub told_frames : (file : List ℕ) (search : Search) (rate : ℕ) (R : List Page) (bounded : Bounded) (report : Report) (rooms held : List FrameRoom)
     (steps : List Step) → rooms ≡ held → steps ≡ bounded.plan.steps.items → verdict file ≡ Ok R → IsPlanFor search R bounded → IsReport bounded.plan rate report → AreByRoom R steps held →
-    (r : Result (Unit {0}) Fault) (out first second out' : List ℕ) → first ≡ out ++ report_text report →
-    second ≡ first ++ below_text bounded.plan.batches bounded.bound →
-    OnOk r (out' ≡ second ++ flat_map frame_text rooms) → OnOk r (ReportedFrames file search rate out out')
-told_frames file search rate R bounded report rooms held steps alike same read of is by (Ok u) out first second out' one two three = record {
+    (r : Result (Unit {0}) Fault) (out out' : List ℕ) →
+    OnOk r (out' ≡ out ++ report_text report ++ below_text bounded.plan.batches bounded.bound ++ flat_map frame_text rooms) →
+    OnOk r (ReportedFrames file search rate out out')
+told_frames file search rate R bounded report rooms held steps alike same read of is by (Ok u) out out' told = record {
   round = R;
   read = read;
   bounded = bounded;
@@ -41,7 +41,6 @@ told_frames file search rate R bounded report rooms held steps alike same read o
   report_of = is;
   rooms = rooms;
   rooms_of = rw alike (subst (λ (v : List Step). AreByRoom R v held) same by);
-  told = three ∙ ap (λ (v : List ℕ). v ++ flat_map frame_text rooms)
-      (two ∙ ap (λ (v : List ℕ). v ++ below_text bounded.plan.batches bounded.bound) one);
+  told = told;
 }
-told_frames file search rate R bounded report rooms held steps alike same read of is by (Err e) out first second out' one two three = tt
+told_frames file search rate R bounded report rooms held steps alike same read of is by (Err e) out out' told = tt

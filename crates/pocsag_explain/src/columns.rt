@@ -2,7 +2,7 @@
 
 use pocsag_findings::{Column, Fact, Finding};
 use pocsag_slots::{SLOTS, holds};
-use std::alloc::{AllocError, Global};
+use std::alloc::AllocError;
 
 // How many slots a batch has, as a number that slots are.
 const BATCH_SLOTS: u8 = SLOTS as u8;
@@ -41,32 +41,33 @@ impl Scale {
     }
 }
 
-/// The columns that were found of a node, with the slots or boundaries that it names marked.
-pub(crate) fn columns(
-    alloc: Global,
+// What stands under the columns: the ground, and what their numbers are.
+const AXIS: &str = "\
+<path class='x' d='M80 98h448'/>\n\
+<text class='e' x='74' y='112'>slot</text>\
+<text class='e' x='74' y='126'>at least</text>\
+<text class='e' x='74' y='140'>room</text>\n";
+
+/// Adds the columns that were found of a node, with the slots or boundaries that it names marked.
+pub(crate) fn push_columns(
+    text: &mut String,
     scale: Scale,
     finding: &Finding,
-) -> Result<String, AllocError> {
-    let mut text = String::new(alloc);
-    text.push_str("<path class='x' d='M80 98h448'/>\n")?;
-    text.push_str("<text class='e' x='74' y='112'>slot</text>")?;
-    text.push_str("<text class='e' x='74' y='126'>at least</text>")?;
-    text.push_str("<text class='e' x='74' y='140'>room</text>\n")?;
-    let marked = match finding.fact {
+) -> Result<(), AllocError> {
+    text.push_str(AXIS)?;
+    let named = match finding.fact {
         Fact::Overload { set, .. } => set,
         _ => 0,
     };
     for slot in 0..BATCH_SLOTS {
         if let Some(column) = finding.columns.get(usize::from(slot)) {
-            let drawn = drawn(alloc, scale, slot, *column, holds(marked, slot))?;
-            text.push_str(drawn.as_str())?;
+            push_column(text, scale, slot, *column, holds(named, slot))?;
         }
     }
-    if let Fact::Cut { set, .. } = finding.fact {
-        let lines = boundary_lines(alloc, set)?;
-        text.push_str(lines.as_str())?;
+    match finding.fact {
+        Fact::Cut { set, .. } => push_boundaries(text, set),
+        _ => Ok(()),
     }
-    Ok(text)
 }
 
 // The left side of a slot, which is the boundary of its number.
@@ -75,66 +76,67 @@ fn left(slot: u8) -> u64 {
 }
 
 // A column: its bar, the room in it, and its numbers.
-fn drawn(
-    alloc: Global,
+fn push_column(
+    text: &mut String,
     scale: Scale,
     slot: u8,
     column: Column,
     is_named: bool,
-) -> Result<String, AllocError> {
+) -> Result<(), AllocError> {
     let Column { least, room } = column;
     let words = if least == 1 { "codeword" } else { "codewords" };
-    let title = format!(in alloc; "slot {slot}: {least} {words} at the least, room for {room}")?;
-    let title = title.as_str();
-    let bar = bar(alloc, scale, slot, least, is_named)?;
-    let bar = bar.as_str();
-    let numbers = numbers(alloc, slot, column)?;
-    let numbers = numbers.as_str();
+    write!(
+        text,
+        "<g><title>slot {slot}: {least} {words} at the least, room for {room}</title>"
+    )?;
+    push_bar(text, scale, slot, least, is_named)?;
     let x = left(slot);
     let y = scale.top(u64::from(room));
-    format!(in alloc;
-        "<g><title>{title}</title>{bar}<path class='r' d='M{x} {y}h28'/>{numbers}</g>\n"
-    )
+    write!(text, "<path class='r' d='M{x} {y}h28'/>")?;
+    push_numbers(text, slot, column)
 }
 
 // The bar of a column, with a wedge over it where the slot is named.
-fn bar(
-    alloc: Global,
+fn push_bar(
+    text: &mut String,
     scale: Scale,
     slot: u8,
     least: u64,
     is_named: bool,
-) -> Result<String, AllocError> {
+) -> Result<(), AllocError> {
     let y = scale.top(least);
     let tall = GROUND.saturating_sub(y);
     let x = left(slot).saturating_add(4);
-    if is_named {
-        let wedge = x.saturating_add(5);
-        return format!(in alloc;
-            "<rect class='n' x='{x}' y='{y}' width='20' height='{tall}'/><path class='w' d='M{wedge} 4h10l-5 8z'/>"
+    if !is_named {
+        return write!(
+            text,
+            "<rect class='c' x='{x}' y='{y}' width='20' height='{tall}'/>"
         );
     }
-    format!(in alloc; "<rect class='c' x='{x}' y='{y}' width='20' height='{tall}'/>")
+    let wedge = x.saturating_add(5);
+    write!(
+        text,
+        "<rect class='n' x='{x}' y='{y}' width='20' height='{tall}'/><path class='w' d='M{wedge} 4h10l-5 8z'/>"
+    )
 }
 
-// The number of a slot, and below it those of its column.
-fn numbers(alloc: Global, slot: u8, column: Column) -> Result<String, AllocError> {
+// The number of a slot, and below it those of its column, which ends with them.
+fn push_numbers(text: &mut String, slot: u8, column: Column) -> Result<(), AllocError> {
     let Column { least, room } = column;
     let x = left(slot).saturating_add(WIDTH / 2);
-    format!(in alloc;
-        "<text class='m' x='{x}' y='112'>{slot}</text><text class='m' x='{x}' y='126'>{least}</text><text class='m' x='{x}' y='140'>{room}</text>"
+    write!(
+        text,
+        "<text class='m' x='{x}' y='112'>{slot}</text><text class='m' x='{x}' y='126'>{least}</text><text class='m' x='{x}' y='140'>{room}</text></g>\n"
     )
 }
 
 // A line at each boundary of the set.
-fn boundary_lines(alloc: Global, set: u16) -> Result<String, AllocError> {
-    let mut text = String::new(alloc);
+fn push_boundaries(text: &mut String, set: u16) -> Result<(), AllocError> {
     for boundary in 0..BATCH_SLOTS {
         if holds(set, boundary) {
             let x = left(boundary);
-            let line = format!(in alloc; "<path class='s' d='M{x} 6V102'/>\n")?;
-            text.push_str(line.as_str())?;
+            write!(text, "<path class='s' d='M{x} 6V102'/>\n")?;
         }
     }
-    Ok(text)
+    Ok(())
 }

@@ -1,6 +1,6 @@
 //! A certificate as a drawing: of the root and of each node right below it the sixteen slots as columns.
 
-use crate::columns::{Scale, columns};
+use crate::columns::{Scale, push_columns};
 use crate::numbering::Numbering;
 use crate::outline::{first_refused, node_line, summary};
 use crate::subject::Subject;
@@ -33,38 +33,37 @@ const STYLE: &str = "\
 .pocsag-why .x{stroke:#8a8f98}.pocsag-why .s{stroke:#ffb4a8}}\
 </style>\n";
 
-// What is drawn so far, and how tall it is.
+// What is drawn so far, the line of words that is not full yet, and how tall the drawing is.
 #[derive(Drop)]
 struct Sheet {
-    alloc: Global,
     text: String,
+    line: String,
     height: u64,
 }
 
 impl Sheet {
-    // Adds a line of words.
-    fn put_line(&mut self, words: &str) -> Result<(), AllocError> {
+    // Adds the line of words, and begins another.
+    fn end_line(&mut self) -> Result<(), AllocError> {
         let base = self.height.saturating_add(13);
-        let line = format!(in self.alloc; "<text x='12' y='{base}'>{words}</text>\n")?;
-        self.text.push_str(line.as_str())?;
+        let words = self.line.as_str();
+        write!(self.text, "<text x='12' y='{base}'>{words}</text>\n")?;
+        self.line.clear();
         self.height = self.height.saturating_add(LINE_HEIGHT);
         Ok(())
     }
 
     // Adds words in as many lines as they need.
     fn put_words(&mut self, words: &str) -> Result<(), AllocError> {
-        let mut line = String::new(self.alloc);
         for word in words.split(' ') {
-            if line.len().saturating_add(word.len()) >= LINE {
-                self.put_line(line.as_str())?;
-                line.clear();
+            if self.line.len().saturating_add(word.len()) >= LINE {
+                self.end_line()?;
             }
-            if line.len() > 0 {
-                line.push_str(" ")?;
+            if self.line.len() > 0 {
+                self.line.push_str(" ")?;
             }
-            line.push_str(word)?;
+            self.line.push_str(word)?;
         }
-        self.put_line(line.as_str())
+        self.end_line()
     }
 
     // Adds the line of a node, and its columns.
@@ -72,13 +71,37 @@ impl Sheet {
         self.text.push_str("<g class='d'>\n")?;
         self.put_words(line)?;
         let top = self.height;
-        let place = format!(in self.alloc; "<g transform='translate(0 {top})'>\n")?;
-        self.text.push_str(place.as_str())?;
-        let columns = columns(self.alloc, scale, finding)?;
-        self.text.push_str(columns.as_str())?;
+        write!(self.text, "<g transform='translate(0 {top})'>\n")?;
+        push_columns(&mut self.text, scale, finding)?;
         self.text.push_str("</g></g>\n")?;
         self.height = self.height.saturating_add(COLUMNS_HEIGHT);
         Ok(())
+    }
+
+    // Adds the nodes of which columns are found, one below the other, on one scale.
+    fn put_nodes(&mut self, alloc: Global, subject: &Subject<'_>) -> Result<(), AllocError> {
+        let scale = Scale::new(subject.findings);
+        let mut numbering = Numbering::new(alloc);
+        for finding in subject.findings {
+            numbering.step(finding.depth)?;
+            if finding.columns.len() > 0 {
+                let line = node_line(alloc, subject.refuted(), &numbering, finding)?;
+                self.put_node(line.as_str(), scale, finding)?;
+            }
+        }
+        Ok(())
+    }
+
+    // Adds all that stands on it.
+    fn fill(
+        &mut self,
+        alloc: Global,
+        heading: &str,
+        subject: &Subject<'_>,
+    ) -> Result<(), AllocError> {
+        self.put_words(heading)?;
+        self.put_nodes(alloc, subject)?;
+        self.put_words(KEY)
     }
 }
 
@@ -96,21 +119,11 @@ pub(crate) fn drawing(alloc: Global, subject: &Subject<'_>) -> Result<String, Al
     let heading = heading(alloc, subject)?;
     let heading = heading.as_str().trim_end();
     let mut sheet = Sheet {
-        alloc,
         text: String::new(alloc),
+        line: String::new(alloc),
         height: 8,
     };
-    sheet.put_words(heading)?;
-    let scale = Scale::new(subject.findings);
-    let mut numbering = Numbering::new(alloc);
-    for finding in subject.findings {
-        numbering.step(finding.depth)?;
-        if finding.columns.len() > 0 {
-            let line = node_line(alloc, subject.refuted(), &numbering, finding)?;
-            sheet.put_node(line.as_str(), scale, finding)?;
-        }
-    }
-    sheet.put_words(KEY)?;
+    sheet.fill(alloc, heading, subject)?;
     page(alloc, heading, &sheet)
 }
 
@@ -118,11 +131,10 @@ pub(crate) fn drawing(alloc: Global, subject: &Subject<'_>) -> Result<String, Al
 fn page(alloc: Global, heading: &str, sheet: &Sheet) -> Result<String, AllocError> {
     let tall = sheet.height.saturating_add(8);
     let body = sheet.text.as_str();
-    let front = format!(in alloc;
-        "<svg xmlns='http://www.w3.org/2000/svg' version='1.1' class='pocsag-why' role='img' width='540' height='{tall}'"
-    )?;
-    let front = front.as_str();
     format!(in alloc;
-        "{front} viewBox='0 0 540 {tall}'>\n<title>{heading}</title>\n<desc>{KEY}</desc>\n{STYLE}<rect class='b' width='540' height='{tall}'/>\n{body}</svg>\n"
+        "\
+<svg xmlns='http://www.w3.org/2000/svg' version='1.1' class='pocsag-why' role='img' width='540' height='{tall}' \
+viewBox='0 0 540 {tall}'>\n<title>{heading}</title>\n<desc>{KEY}</desc>\n{STYLE}\
+<rect class='b' width='540' height='{tall}'/>\n{body}</svg>\n"
     )
 }

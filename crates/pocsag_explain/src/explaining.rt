@@ -16,7 +16,7 @@ use pocsag_pages::{Round, read_round};
 use pocsag_slots::classes_of;
 use pocsag_tree::{Certificate, DEPTH_LIMIT, read_certificate};
 use pocsag_words::{OutOfMemory, Sink, Source, write_all};
-use std::alloc::Global;
+use std::alloc::{AllocError, Global};
 
 /// `explain PAGES CERT`: tells why fewer batches do not suffice for the page file, by its certificate, or which
 /// node of the certificate does not hold. Answers whether the certificate shows its number of batches.
@@ -98,13 +98,17 @@ fn explanation(
     };
     let found = findings(alloc, &classes, certificate, depth)?;
     let subject = Subject::new(round, certificate, is_shown, found.as_slice());
+    Ok(told(alloc, telling, &subject)?)
+}
+
+fn told(alloc: Global, telling: Telling, subject: &Subject<'_>) -> Result<String, AllocError> {
     match telling {
-        Telling::Lines(_) if is_shown => Ok(outline(alloc, &subject)?),
+        Telling::Lines(_) if subject.is_shown => outline(alloc, subject),
         Telling::Lines(_) => {
-            let refused = first_refused(alloc, &subject)?;
-            Ok(format!(in alloc; "not shown\n{refused}")?)
+            let refused = first_refused(alloc, subject)?;
+            format!(in alloc; "not shown\n{refused}")
         }
-        Telling::Facts(depth) => facts(alloc, &subject, depth),
-        Telling::Drawing => Ok(drawing(alloc, &subject)?),
+        Telling::Facts(depth) => facts(alloc, subject, depth),
+        Telling::Drawing => drawing(alloc, subject),
     }
 }

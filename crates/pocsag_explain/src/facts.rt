@@ -1,245 +1,263 @@
-//! A certificate as JSON.
+//! A certificate as JSON, whose texts are fixed words and the numbers of nodes: none of them needs an escape.
 
 use crate::numbering::Numbering;
+use crate::sentences::{Cut, Outlets};
 use crate::subject::Subject;
 use crate::wording::{is_bare, start_slot};
 use pocsag_findings::{Fact, Finding, Reached, Share};
 use pocsag_slots::{CLASSES, SLOTS, Way, frame, holds, rest};
-use pocsag_words::{End, OutOfMemory};
-use serde::Serialize;
+use pocsag_words::End;
 use std::alloc::{AllocError, Global};
-
-// The whole of it.
-#[derive(Drop, Serialize)]
-struct Explanation {
-    shown: bool,
-    end: &'static str,
-    batches: u32,
-    pages: u64,
-    codewords: u64,
-    room: u64,
-    nodes: u64,
-    // The number of the first node that does not hold, if there is one.
-    refused: Option<String>,
-    listed: Vec<ListedNode>,
-}
-
-#[derive(Drop, Serialize)]
-struct ListedNode {
-    node: String,
-    reached: Link,
-    holds: bool,
-    fact: Stated,
-}
-
-// How a node is reached from the one above it.
-#[derive(Drop, Serialize)]
-#[serde(tag = "by", rename_all = "snake_case")]
-enum Link {
-    Root,
-    FirstCase,
-    SecondCase,
-    Idle { slot: u8 },
-    Page { pages: Sort, slot: u8 },
-    Unreached,
-}
-
-// What a node states.
-#[derive(Drop, Serialize)]
-#[serde(tag = "kind", rename_all = "snake_case")]
-enum Stated {
-    Overload {
-        slots: Vec<u8>,
-        least: u64,
-        room: u64,
-        shares: Vec<Part>,
-    },
-    Split {
-        pages: Sort,
-        slot: u8,
-        m: u16,
-        fewest: u32,
-        most: u32,
-    },
-    Cut {
-        boundaries: Vec<u8>,
-        pages: Sort,
-        certain: bool,
-        ways: u64,
-        children: u64,
-    },
-    Close {
-        ways: u64,
-        children: u64,
-    },
-    Open,
-    Unjudged,
-}
-
-// The pages of a class; no frame and no length for one that there is not.
-#[derive(Drop, Serialize)]
-struct Sort {
-    frame: Option<u8>,
-    length_modulo_16: Option<u8>,
-    // Whether they are address codewords alone, in a class of their own.
-    alone: bool,
-}
-
-// What the pages of a class cover of an overload's slots at the least.
-#[derive(Drop, Serialize)]
-struct Part {
-    pages: Sort,
-    count: u32,
-    least: u64,
-}
+use std::fmt::{self, Display, Formatter};
 
 /// The explanation as one line of JSON, with the findings no deeper than so.
 pub(crate) fn facts(
     alloc: Global,
     subject: &Subject<'_>,
     depth: u32,
-) -> Result<String, OutOfMemory> {
-    let explanation = whole(alloc, subject, depth)?;
-    let Ok(mut text) = serde_json::to_string(alloc, &explanation) else {
-        return Err(OutOfMemory);
-    };
-    text.push_str("\n")?;
+) -> Result<String, AllocError> {
+    let mut text = heading(alloc, subject)?;
+    push_findings(alloc, &mut text, subject.findings, depth)?;
     Ok(text)
 }
 
-fn whole(alloc: Global, subject: &Subject<'_>, depth: u32) -> Result<Explanation, AllocError> {
-    let mut numbering = Numbering::new(alloc);
-    let mut refused = None;
-    let mut listed = Vec::new(alloc);
-    for finding in subject.findings {
-        numbering.step(finding.depth)?;
-        if !finding.holds && refused.is_none() {
-            refused = Some(numbering.name(alloc)?);
-        }
-        if finding.depth <= depth {
-            listed.push(node_of(alloc, &numbering, finding)?)?;
-        }
-    }
-    Ok(Explanation {
-        shown: subject.is_shown,
-        end: match subject.end {
-            End::Open => "open",
-            End::Closed => "closed",
-            End::Idle => "idle",
-        },
-        batches: subject.batches,
-        pages: subject.pages,
-        codewords: subject.codewords,
-        room: subject.room(),
-        nodes: subject.nodes,
-        refused,
-        listed,
-    })
+// The members of the whole, up to the number of the first node that does not hold.
+fn heading(alloc: Global, subject: &Subject<'_>) -> Result<String, AllocError> {
+    let Subject {
+        is_shown,
+        batches,
+        pages,
+        codewords,
+        nodes,
+        ..
+    } = *subject;
+    let end = match subject.end {
+        End::Open => "open",
+        End::Closed => "closed",
+        End::Idle => "idle",
+    };
+    let room = subject.room();
+    format!(in alloc;
+        r#"{{"shown":{is_shown},"end":"{end}","batches":{batches},"pages":{pages},"codewords":{codewords},"room":{room},"nodes":{nodes},"refused":"#
+    )
 }
 
-fn node_of(
+// Adds what comes after them.
+fn push_findings(
     alloc: Global,
+    text: &mut String,
+    findings: &[Finding],
+    depth: u32,
+) -> Result<(), AllocError> {
+    push_refused(alloc, text, findings)?;
+    text.push_str(",\"listed\":[")?;
+    push_nodes(alloc, text, findings, depth)?;
+    text.push_str("]}\n")
+}
+
+// Adds the number of the first node that does not hold, if there is one.
+fn push_refused(alloc: Global, text: &mut String, findings: &[Finding]) -> Result<(), AllocError> {
+    let mut numbering = Numbering::new(alloc);
+    for finding in findings {
+        numbering.step(finding.depth)?;
+        if !finding.holds {
+            return write!(text, "\"{numbering}\"");
+        }
+    }
+    text.push_str("null")
+}
+
+// Adds the nodes no deeper than so.
+fn push_nodes(
+    alloc: Global,
+    text: &mut String,
+    findings: &[Finding],
+    depth: u32,
+) -> Result<(), AllocError> {
+    let mut numbering = Numbering::new(alloc);
+    for finding in findings {
+        numbering.step(finding.depth)?;
+        if finding.depth <= depth {
+            push_node(text, &numbering, finding)?;
+        }
+    }
+    Ok(())
+}
+
+// Adds a node; the root, which stands at depth 1, is the first.
+fn push_node(
+    text: &mut String,
     numbering: &Numbering,
     finding: &Finding,
-) -> Result<ListedNode, AllocError> {
-    Ok(ListedNode {
-        node: numbering.name(alloc)?,
-        reached: link_of(finding.reached),
-        holds: finding.holds,
-        fact: statement_of(alloc, finding)?,
-    })
+) -> Result<(), AllocError> {
+    let comma = if finding.depth > 1 { "," } else { "" };
+    let reached = ReachedFacts(finding.reached);
+    let holds = finding.holds;
+    let fact = NodeFacts(finding);
+    write!(
+        text,
+        r#"{comma}{{"node":"{numbering}","reached":{reached},"holds":{holds},"fact":{fact}}}"#
+    )
 }
 
-fn link_of(reached: Reached) -> Link {
-    match reached {
-        Reached::Root => Link::Root,
-        Reached::Below => Link::FirstCase,
-        Reached::From => Link::SecondCase,
-        Reached::By(Way::IdleIn(slot)) => Link::Idle { slot },
-        Reached::By(Way::Early(class)) => page(class, true),
-        Reached::By(Way::Late(class)) => page(class, false),
-        Reached::Unreached => Link::Unreached,
+// How a node is reached from the one above it.
+#[derive(Clone, Copy)]
+struct ReachedFacts(Reached);
+
+impl Display for ReachedFacts {
+    fn fmt<W: fmt::Write>(&self, f: &mut Formatter<W>) -> fmt::Result {
+        match self.0 {
+            Reached::Root => f.write_str(r#"{"by":"root"}"#),
+            Reached::Below => f.write_str(r#"{"by":"first_case"}"#),
+            Reached::From => f.write_str(r#"{"by":"second_case"}"#),
+            Reached::By(Way::IdleIn(slot)) => write!(f, r#"{{"by":"idle","slot":{slot}}}"#),
+            Reached::By(Way::Early(class)) => write_page(f, class, true),
+            Reached::By(Way::Late(class)) => write_page(f, class, false),
+            Reached::Unreached => f.write_str(r#"{"by":"unreached"}"#),
+        }
     }
 }
 
-fn page(class: u8, early: bool) -> Link {
-    Link::Page {
-        pages: sort_of(class),
-        slot: start_slot(class, early),
+fn write_page<W: fmt::Write>(f: &mut Formatter<W>, class: u8, early: bool) -> fmt::Result {
+    let pages = ClassFacts(class);
+    let slot = start_slot(class, early);
+    write!(f, r#"{{"by":"page","pages":{pages},"slot":{slot}}}"#)
+}
+
+// What a node states.
+#[derive(Clone, Copy)]
+struct NodeFacts<'a>(&'a Finding);
+
+impl Display for NodeFacts<'_> {
+    fn fmt<W: fmt::Write>(&self, f: &mut Formatter<W>) -> fmt::Result {
+        match self.0.fact {
+            Fact::Overload { set, least, room } => {
+                write_overload(f, set, least, room, self.0.shares.as_slice())
+            }
+            Fact::Split { class, m, lo, hi } => write_split(f, class, m, lo, hi),
+            Fact::Cut {
+                set,
+                needed,
+                is_certain,
+                ways,
+                children,
+            } => {
+                let cut = Cut {
+                    set,
+                    needed,
+                    is_certain,
+                    outlets: Outlets { ways, children },
+                };
+                write_cut(f, cut)
+            }
+            Fact::Close { ways, children } => {
+                write!(
+                    f,
+                    r#"{{"kind":"close","ways":{ways},"children":{children}}}"#
+                )
+            }
+            Fact::Open => f.write_str(r#"{"kind":"open"}"#),
+            Fact::Unjudged => f.write_str(r#"{"kind":"unjudged"}"#),
+        }
     }
 }
 
-fn statement_of(alloc: Global, finding: &Finding) -> Result<Stated, AllocError> {
-    Ok(match finding.fact {
-        Fact::Overload { set, least, room } => Stated::Overload {
-            slots: members(alloc, set)?,
-            least,
-            room,
-            shares: parts(alloc, finding.shares.as_slice())?,
-        },
-        Fact::Split { class, m, lo, hi } => Stated::Split {
-            pages: sort_of(class),
-            slot: start_slot(class, true),
-            m,
-            fewest: lo,
-            most: hi,
-        },
-        Fact::Cut {
-            set,
-            needed,
-            is_certain,
-            ways,
-            children,
-        } => Stated::Cut {
-            boundaries: members(alloc, set)?,
-            pages: sort_of(needed),
-            certain: is_certain,
-            ways: ways as u64,
-            children: children as u64,
-        },
-        Fact::Close { ways, children } => Stated::Close {
-            ways: ways as u64,
-            children: children as u64,
-        },
-        Fact::Open => Stated::Open,
-        Fact::Unjudged => Stated::Unjudged,
-    })
+fn write_overload<W: fmt::Write>(
+    f: &mut Formatter<W>,
+    set: u16,
+    least: u64,
+    room: u64,
+    shares: &[Share],
+) -> fmt::Result {
+    let slots = SetFacts(set);
+    let shares = ShareFacts(shares);
+    write!(
+        f,
+        r#"{{"kind":"overload","slots":[{slots}],"least":{least},"room":{room},"shares":[{shares}]}}"#
+    )
 }
 
-fn parts(alloc: Global, shares: &[Share]) -> Result<Vec<Part>, AllocError> {
-    let mut parts = Vec::new(alloc);
-    for share in shares {
-        parts.push(Part {
-            pages: sort_of(share.class),
-            count: share.pages,
-            least: share.least,
-        })?;
-    }
-    Ok(parts)
+fn write_split<W: fmt::Write>(
+    f: &mut Formatter<W>,
+    class: u8,
+    m: u16,
+    lo: u32,
+    hi: u32,
+) -> fmt::Result {
+    let pages = ClassFacts(class);
+    let slot = start_slot(class, true);
+    write!(
+        f,
+        r#"{{"kind":"split","pages":{pages},"slot":{slot},"m":{m},"fewest":{lo},"most":{hi}}}"#
+    )
 }
 
-fn sort_of(class: u8) -> Sort {
-    if class as usize >= CLASSES {
-        return Sort {
-            frame: None,
-            length_modulo_16: None,
-            alone: false,
-        };
+fn write_cut<W: fmt::Write>(f: &mut Formatter<W>, cut: Cut) -> fmt::Result {
+    let boundaries = SetFacts(cut.set);
+    let pages = ClassFacts(cut.needed);
+    let certain = cut.is_certain;
+    let Outlets { ways, children } = cut.outlets;
+    write!(
+        f,
+        r#"{{"kind":"cut","boundaries":[{boundaries}],"pages":{pages},"certain":{certain},"ways":{ways},"children":{children}}}"#
+    )
+}
+
+// What the pages of each class cover of an overload's slots at the least.
+#[derive(Clone, Copy)]
+struct ShareFacts<'a>(&'a [Share]);
+
+impl Display for ShareFacts<'_> {
+    fn fmt<W: fmt::Write>(&self, f: &mut Formatter<W>) -> fmt::Result {
+        for (place, share) in self.0.iter().enumerate() {
+            let comma = if place > 0 { "," } else { "" };
+            let pages = ClassFacts(share.class);
+            let count = share.pages;
+            let least = share.least;
+            write!(
+                f,
+                r#"{comma}{{"pages":{pages},"count":{count},"least":{least}}}"#
+            )?;
+        }
+        Ok(())
     }
-    Sort {
-        frame: Some(frame(class)),
-        length_modulo_16: Some(rest(class)),
-        alone: is_bare(class),
+}
+
+// The pages of a class; no frame and no length for one that there is not. They are alone where they are address
+// codewords in a class of their own.
+#[derive(Clone, Copy)]
+struct ClassFacts(u8);
+
+impl Display for ClassFacts {
+    fn fmt<W: fmt::Write>(&self, f: &mut Formatter<W>) -> fmt::Result {
+        let class = self.0;
+        if usize::from(class) >= CLASSES {
+            return f.write_str(r#"{"frame":null,"length_modulo_16":null,"alone":false}"#);
+        }
+        let frame = frame(class);
+        let rest = rest(class);
+        let alone = is_bare(class);
+        write!(
+            f,
+            r#"{{"frame":{frame},"length_modulo_16":{rest},"alone":{alone}}}"#
+        )
     }
 }
 
 // The members of a set in order.
-fn members(alloc: Global, set: u16) -> Result<Vec<u8>, AllocError> {
-    let mut members = Vec::new(alloc);
-    for member in 0..SLOTS as u8 {
-        if holds(set, member) {
-            members.push(member)?;
+#[derive(Clone, Copy)]
+struct SetFacts(u16);
+
+impl Display for SetFacts {
+    fn fmt<W: fmt::Write>(&self, f: &mut Formatter<W>) -> fmt::Result {
+        let set = self.0;
+        for member in 0..SLOTS as u8 {
+            if holds(set, member) {
+                let is_first = set.trailing_zeros() == u32::from(member);
+                let comma = if is_first { "" } else { "," };
+                write!(f, "{comma}{member}")?;
+            }
         }
+        Ok(())
     }
-    Ok(members)
 }

@@ -1,4 +1,5 @@
 use std::alloc::{AllocError, Global};
+use std::fmt::{self, Display, Formatter};
 
 /// The number of a node: of the root 1, of its second child 1.2. It goes from node to node, each before its children.
 #[derive(Drop)]
@@ -22,15 +23,16 @@ impl Numbering {
         self.path.push(before.saturating_add(1))?;
         Ok(())
     }
+}
 
-    /// The number of the node that was reached.
-    pub(crate) fn name(&self, alloc: Global) -> Result<String, AllocError> {
-        let mut name = String::new(alloc);
-        for (place, number) in self.path.iter().enumerate() {
-            let dot = if place > 0 { "." } else { "" };
-            let part = format!(in alloc; "{dot}{number}")?;
-            name.push_str(part.as_str())?;
+/// The number of the node that was reached.
+impl Display for Numbering {
+    fn fmt<W: fmt::Write>(&self, f: &mut Formatter<W>) -> fmt::Result {
+        let mut dot = "";
+        for number in self.path.iter() {
+            write!(f, "{dot}{number}")?;
+            dot = ".";
         }
-        Ok(name)
+        Ok(())
     }
 }

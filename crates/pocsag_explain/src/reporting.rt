@@ -1,13 +1,15 @@
 ghost use Rattle.std.specs.Prelude.{◌≡◌, ◌++◌, IfErr, OnOk};
 ghost use Rattle.std.specs.List.{flat_map};
+ghost use Rattle.pocsag_plan.specs.Reports.{report_text};
 ghost use Rattle.pocsag_commands.specs.Faults.{status_after};
+ghost use Rattle.pocsag_commands.specs.Lines.{below_text};
 ghost use Rattle.pocsag_explain.specs.Frames.{frame_text};
 ghost use Rattle.pocsag_explain.specs.Reporting.{IsReportRefusedFor, ReportedFrames};
 
 use crate::frames::{FrameRoom, frames_of};
 use pocsag_commands::{Fault, tell, tell_below};
 use pocsag_pages::read_round;
-use pocsag_plan::{Search, bounded_plan, report};
+use pocsag_plan::{Bounded, Report, Search, bounded_plan, report};
 use pocsag_words::{Sink, Source};
 use std::alloc::Global;
 
@@ -28,9 +30,23 @@ pub fn run_frames<P: Source, O: Sink>(
     let bounded = bounded_plan(alloc, &round, search)?;
     let told = report(&bounded.plan, rate)?;
     let rooms = frames_of(alloc, &round, bounded.plan.steps.as_slice())?;
+    tell_report(told, &bounded, rooms.as_slice(), out)
+}
+
+// Tells a report, the bound where it is below the batches, and a line for each frame.
+fn tell_report<O: Sink>(
+    told: Report,
+    bounded: &Bounded,
+    rooms: &[FrameRoom],
+    out: &mut O,
+) -> Result<(), Fault>
+    ensures told { O.tells → OnOk result (O.taken out.new ≡ O.taken out.old ++ report_text told
+        ++ below_text bounded.now.plan.batches bounded.now.bound ++ flat_map frame_text rooms.now) }
+    ensures lost { IfErr result (λ e. e ≡ Fault.Write) }
+{
     tell(out, told)?;
     tell_below(bounded.plan.batches, bounded.bound, out)?;
-    tell_frames(rooms.as_slice(), out)
+    tell_frames(rooms, out)
 }
 
 // Tells a line for each frame.

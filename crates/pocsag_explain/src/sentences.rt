@@ -1,10 +1,11 @@
 //! What a finding says, as a sentence that a person can check by hand.
 
-use crate::wording::{are_frames, boundaries, counted, joined, kind, slots, start_slot};
+use crate::wording::{BoundaryWords, ClassWords, Counted, SlotWords, are_frames, start_slot};
 use pocsag_findings::{Fact, Finding, Reached, Share};
 use pocsag_slots::{CLASSES, Way, frame, holds, size};
 use pocsag_words::End;
 use std::alloc::{AllocError, Global};
+use std::fmt::{self, Display, Formatter};
 
 // How many shares are told one by one.
 const MOST_SHARES: usize = 8;
@@ -38,7 +39,7 @@ pub(crate) fn way_to(alloc: Global, reached: Reached) -> Result<String, AllocErr
 }
 
 fn with_page(alloc: Global, class: u8, early: bool) -> Result<String, AllocError> {
-    let kind = kind(alloc, class)?;
+    let kind = ClassWords(class);
     let slot = start_slot(class, early);
     format!(in alloc; "with a page of {kind} that starts in slot {slot}: ")
 }
@@ -60,24 +61,23 @@ pub(crate) fn statement(
             needed,
             ways,
             ..
-        } => {
-            let kind = kind(alloc, needed)?;
-            let set = boundaries(alloc, set)?;
-            let ways = counted(alloc, ways as u64, "way")?;
-            format!(in alloc; "a page of {kind} starts or ends outside {set}; {ways} out")
-        }
+        } => cut_words(alloc, set, needed, ways),
         Fact::Close { ways, .. } => closing_words(alloc, ways),
-        Fact::Open => format!(in alloc; "not examined"),
-        Fact::Unjudged => unjudged(alloc),
+        Fact::Open => not_examined(alloc),
+        Fact::Unjudged => not_judged(alloc),
     }
 }
 
-fn unjudged(alloc: Global) -> Result<String, AllocError> {
+fn not_examined(alloc: Global) -> Result<String, AllocError> {
+    format!(in alloc; "not examined")
+}
+
+fn not_judged(alloc: Global) -> Result<String, AllocError> {
     format!(in alloc; "not judged, since a node above it does not hold")
 }
 
 fn split_words(alloc: Global, class: u8, m: u16) -> Result<String, AllocError> {
-    let kind = kind(alloc, class)?;
+    let kind = ClassWords(class);
     let slot = start_slot(class, true);
     if m == 1 {
         return format!(in alloc; "no page of {kind} starts in slot {slot}, or at least 1 does");
@@ -85,14 +85,21 @@ fn split_words(alloc: Global, class: u8, m: u16) -> Result<String, AllocError> {
     format!(in alloc; "fewer than {m} pages of {kind} start in slot {slot}, or at least {m} do")
 }
 
+fn cut_words(alloc: Global, set: u16, needed: u8, ways: usize) -> Result<String, AllocError> {
+    let kind = ClassWords(needed);
+    let set = BoundaryWords(set);
+    let ways = Counted(ways as u64, "way");
+    format!(in alloc; "a page of {kind} starts or ends outside {set}; {ways} out")
+}
+
 fn closing_words(alloc: Global, ways: usize) -> Result<String, AllocError> {
-    if ways == 1 {
-        return format!(in alloc; "the last codeword is an idle in slot 15; 1 way");
-    }
-    let ways = counted(alloc, ways as u64, "way")?;
-    format!(in alloc;
-        "the last codeword is an idle in slot 15, or a page of frame 7 and length 1 there; {ways}"
-    )
+    let page = if ways == 1 {
+        ""
+    } else {
+        ", or a page of frame 7 and length 1 there"
+    };
+    let ways = Counted(ways as u64, "way");
+    format!(in alloc; "the last codeword is an idle in slot 15{page}; {ways}")
 }
 
 fn overload_words(
@@ -102,31 +109,44 @@ fn overload_words(
     shares: &[Share],
 ) -> Result<String, AllocError> {
     let Load { set, least, room } = load;
-    let place = slots(alloc, set)?;
     if are_starts(set, shares) {
-        let pages = counted(alloc, least, "page")?;
-        let verb = if least == 1 { "starts" } else { "start" };
-        let places = u64::from(refuted.batches).saturating_mul(u64::from(size(set)));
-        if room == places {
-            let batches = counted(alloc, u64::from(refuted.batches), "batch")?;
-            let have = if refuted.batches == 1 { "has" } else { "have" };
-            return format!(in alloc;
-                "{place}: {pages} {verb} there, {batches} {have} room for {room}"
-            );
-        }
-        return format!(in alloc; "{place}: {pages} {verb} there, room for {room}");
+        return start_words(alloc, refuted, load);
     }
-    let codewords = counted(alloc, least, "codeword")?;
+    let place = SlotWords(set);
+    let codewords = Counted(least, "codeword");
     if set == u16::MAX {
         return format!(in alloc; "{place}: {codewords}, room for {room}");
     }
-    let origins = origins(alloc, shares)?;
+    let origins = Origins(shares);
     format!(in alloc; "{place}: {codewords} at the least, room for {room}: {origins}")
+}
+
+// An overload of a frame by the pages that start there.
+fn start_words(alloc: Global, refuted: Refuted, load: Load) -> Result<String, AllocError> {
+    let Load { set, least, room } = load;
+    let place = SlotWords(set);
+    let pages = Counted(least, "page");
+    let verb = if least == 1 { "starts" } else { "start" };
+    let places = u64::from(refuted.batches).saturating_mul(u64::from(size(set)));
+    if room != places {
+        return format!(in alloc; "{place}: {pages} {verb} there, room for {room}");
+    }
+    let batches = Counted(u64::from(refuted.batches), "batch");
+    let have = if refuted.batches == 1 { "has" } else { "have" };
+    format!(in alloc; "{place}: {pages} {verb} there, {batches} {have} room for {room}")
 }
 
 // Whether the set is one frame, and each share is one codeword for each page that starts there.
 fn are_starts(set: u16, shares: &[Share]) -> bool {
-    size(set) == 2 && are_frames(set) && shares.iter().all(|share| is_start(set, *share))
+    if size(set) != 2 || !are_frames(set) {
+        return false;
+    }
+    for share in shares {
+        if !is_start(set, *share) {
+            return false;
+        }
+    }
+    true
 }
 
 fn is_start(set: u16, share: Share) -> bool {
@@ -136,29 +156,34 @@ fn is_start(set: u16, share: Share) -> bool {
 }
 
 // From which pages the codewords come.
-fn origins(alloc: Global, shares: &[Share]) -> Result<String, AllocError> {
-    let mut items = Vec::new(alloc);
-    for share in shares.iter().take(MOST_SHARES) {
-        let Share {
-            class,
-            pages,
-            least,
-        } = *share;
-        let kind = kind(alloc, class)?;
-        let pages = counted(alloc, u64::from(pages), "page")?;
-        items.push(format!(in alloc; "{least} from {pages} of {kind}")?)?;
+#[derive(Clone, Copy)]
+struct Origins<'a>(&'a [Share]);
+
+impl Display for Origins<'_> {
+    fn fmt<W: fmt::Write>(&self, f: &mut Formatter<W>) -> fmt::Result {
+        for (place, share) in self.0.iter().take(MOST_SHARES).enumerate() {
+            let link = if place > 0 { ", " } else { "" };
+            let least = share.least;
+            let pages = Counted(u64::from(share.pages), "page");
+            let kind = ClassWords(share.class);
+            write!(f, "{link}{least} from {pages} of {kind}")?;
+        }
+        write_others(f, self.0)
     }
+}
+
+// Adds those that are not told one by one.
+fn write_others<W: fmt::Write>(f: &mut Formatter<W>, shares: &[Share]) -> fmt::Result {
     let mut more: u64 = 0;
-    let mut classes: u64 = 0;
     for share in shares.iter().skip(MOST_SHARES) {
         more = more.saturating_add(share.least);
-        classes = classes.saturating_add(1);
     }
-    if classes > 0 {
-        let others = counted(alloc, classes, "other kind")?;
-        items.push(format!(in alloc; "{more} from pages of {others}")?)?;
+    let others = shares.len().saturating_sub(MOST_SHARES);
+    if others == 0 {
+        return Ok(());
     }
-    joined(alloc, items.as_slice(), ", ")
+    let others = Counted(others as u64, "other kind");
+    write!(f, ", {more} from pages of {others}")
 }
 
 /// Why the rule of a node does not hold.
@@ -168,19 +193,10 @@ pub(crate) fn refusal(
     finding: &Finding,
 ) -> Result<String, AllocError> {
     match finding.fact {
-        Fact::Overload { set: 0, .. } => format!(in alloc; "an overload of no slots"),
         Fact::Overload { set, least, room } => {
-            let place = slots(alloc, set)?;
-            let codewords = counted(alloc, least, "codeword")?;
-            format!(in alloc; "{place}: {codewords} at the least, room for {room}")
+            refused_overload(alloc, Load { set, least, room })
         }
-        Fact::Split { class, m, lo, hi } => {
-            let kind = kind(alloc, class)?;
-            let slot = start_slot(class, true);
-            format!(in alloc;
-                "{lo} to {hi} pages of {kind} may start in slot {slot}: no split at {m}"
-            )
-        }
+        Fact::Split { class, m, lo, hi } => refused_split(alloc, class, m, lo, hi),
         Fact::Cut {
             set,
             needed,
@@ -197,41 +213,57 @@ pub(crate) fn refusal(
             refused_cut(alloc, refuted, cut)
         }
         Fact::Close { ways, children } => refused_close(alloc, refuted, Outlets { ways, children }),
-        Fact::Open => format!(in alloc; "not examined"),
-        Fact::Unjudged => unjudged(alloc),
+        Fact::Open => not_examined(alloc),
+        Fact::Unjudged => not_judged(alloc),
     }
 }
 
-// How many ways there are, and how many nodes for them.
-#[derive(Clone, Copy)]
-struct Outlets {
-    ways: usize,
-    children: usize,
+fn refused_overload(alloc: Global, load: Load) -> Result<String, AllocError> {
+    let Load { set, least, room } = load;
+    if set == 0 {
+        return format!(in alloc; "an overload of no slots");
+    }
+    let place = SlotWords(set);
+    let codewords = Counted(least, "codeword");
+    format!(in alloc; "{place}: {codewords} at the least, room for {room}")
 }
 
-// What a cut states.
+fn refused_split(alloc: Global, class: u8, m: u16, lo: u32, hi: u32) -> Result<String, AllocError> {
+    let kind = ClassWords(class);
+    let slot = start_slot(class, true);
+    format!(in alloc; "{lo} to {hi} pages of {kind} may start in slot {slot}: no split at {m}")
+}
+
+/// How many ways there are, and how many nodes for them.
 #[derive(Clone, Copy)]
-struct Cut {
-    set: u16,
-    needed: u8,
-    is_certain: bool,
-    outlets: Outlets,
+pub(crate) struct Outlets {
+    pub(crate) ways: usize,
+    pub(crate) children: usize,
+}
+
+/// What a cut states.
+#[derive(Clone, Copy)]
+pub(crate) struct Cut {
+    pub(crate) set: u16,
+    pub(crate) needed: u8,
+    pub(crate) is_certain: bool,
+    pub(crate) outlets: Outlets,
 }
 
 fn refused_cut(alloc: Global, refuted: Refuted, cut: Cut) -> Result<String, AllocError> {
     if refuted.batches == 0 {
         return format!(in alloc; "a cut, where there are no batches");
     }
-    let set = boundaries(alloc, cut.set)?;
+    let set = BoundaryWords(cut.set);
     if !holds(cut.set, 0) {
         return format!(in alloc; "boundary 0 is not in the set of {set}");
     }
     if !cut.is_certain {
-        let kind = kind(alloc, cut.needed)?;
+        let kind = ClassWords(cut.needed);
         return format!(in alloc; "no page of {kind} has to start or end outside {set}");
     }
-    let ways = counted(alloc, cut.outlets.ways as u64, "way")?;
-    let nodes = counted(alloc, cut.outlets.children as u64, "node")?;
+    let ways = Counted(cut.outlets.ways as u64, "way");
+    let nodes = Counted(cut.outlets.children as u64, "node");
     format!(in alloc; "{ways} out of {set}, and {nodes} for them")
 }
 
@@ -244,7 +276,7 @@ fn refused_close(alloc: Global, refuted: Refuted, outlets: Outlets) -> Result<St
     if refuted.batches == 0 {
         return format!(in alloc; "{end}, where there are no batches");
     }
-    let ways = counted(alloc, outlets.ways as u64, "way")?;
-    let nodes = counted(alloc, outlets.children as u64, "node")?;
+    let ways = Counted(outlets.ways as u64, "way");
+    let nodes = Counted(outlets.children as u64, "node");
     format!(in alloc; "{ways} to close, and {nodes} for them")
 }

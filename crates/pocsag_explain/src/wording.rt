@@ -2,7 +2,7 @@
 ghost use Rattle.std.specs.Prelude.{◌<◌};
 
 use pocsag_slots::{CLASSES, SLOTS, frame, holds, rest, size, start, with_member};
-use std::alloc::{AllocError, Global};
+use std::fmt::{self, Display, Formatter};
 
 // How many slots a batch has, and how many frames of two.
 const BATCH_SLOTS: u8 = SLOTS as u8;
@@ -14,61 +14,62 @@ const FIRST_ALONE: usize = CLASSES - BATCH_FRAMES as usize;
 
 const ALL_SLOTS: u16 = u16::MAX;
 
-/// `1 page`, `2 pages`.
-pub(crate) fn counted(alloc: Global, number: u64, thing: &str) -> Result<String, AllocError> {
-    if number == 1 {
-        return format!(in alloc; "1 {thing}");
+// The first slot of each frame.
+const FIRST_SLOTS: u16 = 0x5555;
+
+/// A number of things: `1 page`, `2 pages`.
+#[derive(Clone, Copy)]
+pub(crate) struct Counted<'a>(pub(crate) u64, pub(crate) &'a str);
+
+impl Display for Counted<'_> {
+    fn fmt<W: fmt::Write>(&self, f: &mut Formatter<W>) -> fmt::Result {
+        let Counted(number, thing) = *self;
+        let ending = match number {
+            1 => "",
+            _ if thing.ends_with("ch") => "es",
+            _ => "s",
+        };
+        write!(f, "{number} {thing}{ending}")
     }
-    let ending = if thing.ends_with("ch") { "es" } else { "s" };
-    format!(in alloc; "{number} {thing}{ending}")
 }
 
 // The members of a set: `0, 4 to 7 and 15`.
-fn members(alloc: Global, set: u16) -> Result<String, AllocError> {
-    let mut items = Vec::new(alloc);
-    let mut begun = None;
-    for member in 0..BATCH_SLOTS {
-        if holds(set, member) {
-            let first = begun.unwrap_or(member);
-            begun = Some(first);
-            if member + 1 == BATCH_SLOTS || !holds(set, member + 1) {
-                push_span(alloc, &mut items, first, member)?;
-                begun = None;
+#[derive(Clone, Copy)]
+struct MemberWords(u16);
+
+impl Display for MemberWords {
+    fn fmt<W: fmt::Write>(&self, f: &mut Formatter<W>) -> fmt::Result {
+        let set = self.0;
+        for member in 0..BATCH_SLOTS {
+            if holds(set & !between(set), member) {
+                let link = link_before(set, member);
+                write!(f, "{link}{member}")?;
             }
         }
+        Ok(())
     }
-    joined(alloc, items.as_slice(), " and ")
 }
 
-// Adds the members from the first to the last.
-fn push_span(
-    alloc: Global,
-    items: &mut Vec<String>,
-    first: u8,
-    last: u8,
-) -> Result<(), AllocError> {
-    match last.saturating_sub(first) {
-        0 => items.push(format!(in alloc; "{first}")?)?,
-        1 => {
-            items.push(format!(in alloc; "{first}")?)?;
-            items.push(format!(in alloc; "{last}")?)?;
-        }
-        _ => items.push(format!(in alloc; "{first} to {last}")?)?,
-    }
-    Ok(())
+// The members that are not told, since those on both sides are.
+fn between(set: u16) -> u16 {
+    set & set << 1 & set >> 1
 }
 
-/// The items with commas between them, and the link before the last.
-pub(crate) fn joined(alloc: Global, items: &[String], link: &str) -> Result<String, AllocError> {
-    let mut text = String::new(alloc);
-    for (place, item) in items.iter().enumerate() {
-        if place > 0 {
-            let last = place == items.len() - 1;
-            text.push_str(if last { link } else { ", " })?;
-        }
-        text.push_str(item.as_str())?;
+// What stands before a member that is told.
+fn link_before(set: u16, member: u8) -> &'static str
+    requires { member < 16 }
+{
+    // Where a span of three or more ends, it is no item of its own.
+    let items = set & !between(set) & !(set << 1 & set << 2);
+    if !holds(items, member) {
+        " to "
+    } else if items.trailing_zeros() == u32::from(member) {
+        ""
+    } else if items >> member == 1 {
+        " and "
+    } else {
+        ", "
     }
-    Ok(text)
 }
 
 // The frames that have a slot in a set of slots, as a set.
@@ -84,46 +85,62 @@ fn frames_of(set: u16) -> u16 {
 
 /// Whether each frame that has a slot in the set has both.
 pub(crate) fn are_frames(set: u16) -> bool {
-    (0..BATCH_FRAMES).all(|frame| holds(set, 2 * frame) == holds(set, 2 * frame + 1))
+    (set ^ set >> 1) & FIRST_SLOTS == 0
 }
 
 /// A set of slots, in frames where they are whole ones: `frame 5 (slots 10 and 11)`.
-pub(crate) fn slots(alloc: Global, set: u16) -> Result<String, AllocError> {
-    if set == ALL_SLOTS {
-        return format!(in alloc; "all slots");
+#[derive(Clone, Copy)]
+pub(crate) struct SlotWords(pub(crate) u16);
+
+impl Display for SlotWords {
+    fn fmt<W: fmt::Write>(&self, f: &mut Formatter<W>) -> fmt::Result {
+        let set = self.0;
+        if set == ALL_SLOTS {
+            return f.write_str("all slots");
+        }
+        let slots = MemberWords(set);
+        if set == 0 || !are_frames(set) {
+            return write!(f, "slots {slots}");
+        }
+        let frames = frames_of(set);
+        let word = if size(frames) == 1 { "frame" } else { "frames" };
+        let frames = MemberWords(frames);
+        write!(f, "{word} {frames} (slots {slots})")
     }
-    let slots = members(alloc, set)?;
-    if set == 0 || !are_frames(set) {
-        return format!(in alloc; "slots {slots}");
-    }
-    let frames = frames_of(set);
-    let word = if size(frames) == 1 { "frame" } else { "frames" };
-    let frames = members(alloc, frames)?;
-    format!(in alloc; "{word} {frames} (slots {slots})")
 }
 
 /// A set of boundaries: `boundary 0`, `boundaries 0 to 3`.
-pub(crate) fn boundaries(alloc: Global, set: u16) -> Result<String, AllocError> {
-    let members = members(alloc, set)?;
-    let word = if size(set) == 1 {
-        "boundary"
-    } else {
-        "boundaries"
-    };
-    format!(in alloc; "{word} {members}")
+#[derive(Clone, Copy)]
+pub(crate) struct BoundaryWords(pub(crate) u16);
+
+impl Display for BoundaryWords {
+    fn fmt<W: fmt::Write>(&self, f: &mut Formatter<W>) -> fmt::Result {
+        let set = self.0;
+        let word = if size(set) == 1 {
+            "boundary"
+        } else {
+            "boundaries"
+        };
+        let members = MemberWords(set);
+        write!(f, "{word} {members}")
+    }
 }
 
 /// The pages of a class: `frame 5 and length 4 modulo 16`.
-pub(crate) fn kind(alloc: Global, class: u8) -> Result<String, AllocError> {
-    if class as usize >= CLASSES {
-        return format!(in alloc; "class {class}, which there is not");
+#[derive(Clone, Copy)]
+pub(crate) struct ClassWords(pub(crate) u8);
+
+impl Display for ClassWords {
+    fn fmt<W: fmt::Write>(&self, f: &mut Formatter<W>) -> fmt::Result {
+        let class = self.0;
+        if class as usize >= CLASSES {
+            return write!(f, "class {class}, which there is not");
+        }
+        let frame = frame(class);
+        let rest = rest(class);
+        let modulo = if is_bare(class) { "" } else { " modulo 16" };
+        write!(f, "frame {frame} and length {rest}{modulo}")
     }
-    let frame = frame(class);
-    if is_bare(class) {
-        return format!(in alloc; "frame {frame} and length 1");
-    }
-    let rest = rest(class);
-    format!(in alloc; "frame {frame} and length {rest} modulo 16")
 }
 
 /// Whether the pages of the class are address codewords alone, of which the closed end has classes of their own.

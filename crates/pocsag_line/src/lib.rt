@@ -1,8 +1,10 @@
 #![tactic(auto)]
 //! The command line of the program: its words, as `clap` reads them, and what they ask for.
 
+mod asking;
 mod order;
+mod texts;
 mod words;
 
+pub use asking::asked_of;
 pub use order::{Asked, Order, PlanOrder, STANDARD, SearchOrder, path_of};
-pub use words::asked_of;

@@ -1,6 +1,4 @@
-use Rattle.std.proofs.Common.{refl}
 use Rattle.std.proofs.lemmas.Result.{err_from_is_err_and}
-use Rattle.pocsag_plan.specs.Reports.{report_text}
 use Rattle.pocsag_commands.proofs.Refusing.{why_round}
 use Rattle.pocsag_explain.specs.Reporting.{round as of_round}
 use Rattle.pocsag_explain.proofs.ToldFrames.{told_frames, why_unplanned}
@@ -21,5 +19,4 @@ pub returns-clause-told : goal.returns-clause-told
 returns-clause-told g c = λ pages_tell out_tells.
     told_frames _ _ _ c.in_ok-round.round c.in_ok-bounded.bounded c.in_ok-told.told _ _ _ c.as_slice-2.ensures.value c.as_slice.ensures.value
     (c.in_ok-round.ensures.ok pages_tell) c.in_ok-bounded.ensures.plan c.in_ok-told.ensures.report c.in_ok-rooms.ensures
-    c.tell_frames.result _ _ _ _ (c.in_ok-tell.ensures.told out_tells (report_text c.in_ok-told.told) refl)
-    (c.in_ok-tell_below.ensures.told out_tells) (c.tell_frames.ensures.told out_tells)
+    c.tell_report.result _ _ (c.tell_report.ensures.told out_tells)
