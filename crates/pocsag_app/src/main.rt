@@ -39,12 +39,12 @@ fn run(rt: &HostRuntime) -> u8 {
     };
     match asked_of(alloc, words.as_slice()) {
         Ok(asked) => obey(rt, alloc, asked, &mut err),
-        Err(error) => refuse(rt, error, &mut err),
+        Err(error) => refuse(rt, &error, &mut err),
     }
 }
 
 // What clap refuses is a mistake in the words, its help is what was asked for.
-fn refuse<E: Sink>(rt: &HostRuntime, error: Error, err: &mut E) -> u8 {
+fn refuse<E: Sink>(rt: &HostRuntime, error: &Error, err: &mut E) -> u8 {
     if error.kind() == ErrorKind::OutOfMemory {
         return tell_fault(err, Fault::OutOfMemory);
     }

@@ -9,6 +9,7 @@ use pocsag_findings::Telling;
 use pocsag_line::{Asked, Order, STANDARD, SearchOrder};
 use pocsag_open::{Planner, run_open, run_open_pages};
 use pocsag_orders::{RoundFiles, open_kept, plan};
+use pocsag_show::View;
 use pocsag_words::{Sink, SliceSource, Source};
 use std::alloc::Global;
 use std::io::IsTerminal;
@@ -20,13 +21,7 @@ const AT_TERMINAL: &str =
 /// Opens the files of an order and runs its command on them; with `--verbose` it tells notes behind the fault.
 /// Answers the exit status.
 pub fn obey<E: Sink>(rt: &HostRuntime, alloc: Global, asked: Asked<'_>, err: &mut E) -> u8 {
-    let repair = repair_in(asked.order);
-    let kept = if repair == RepairNotes::None {
-        Role::PageFile
-    } else {
-        Role::Transmission
-    };
-    let watch = Watch::new(alloc, asked.verbose.then_some(kept));
+    let watch = Watch::new(alloc, asked.verbose.then_some(kept_in(asked.order)));
     let desk = Desk {
         rt,
         alloc,
@@ -38,65 +33,69 @@ pub fn obey<E: Sink>(rt: &HostRuntime, alloc: Global, asked: Asked<'_>, err: &mu
         Err(fault) => tell_fault(err, fault),
     };
     if asked.verbose {
-        let file = watch.take_file();
-        let scene = Scene {
-            names: names_in(asked.order),
-            subject: subject_of(asked.order),
-            trouble: watch.take_trouble(),
-            file: file.as_slice(),
-            repair,
-        };
-        let _ = tell_explained(alloc, done, &scene, err);
+        explain(desk, asked.order, done, err);
     }
     status
+}
+
+// What is kept of what a command reads, for the notes of `--verbose`.
+fn kept_in(order: Order<'_>) -> Role {
+    if repair_in(order) == RepairNotes::None {
+        Role::PageFile
+    } else {
+        Role::Transmission
+    }
+}
+
+// Tells the notes on what came of an order. That standard error fails changes nothing.
+fn explain<E: Sink>(desk: Desk<'_>, order: Order<'_>, done: Result<u8, Fault>, err: &mut E) {
+    let file = desk.watch.take_file();
+    let scene = Scene {
+        names: names_in(order),
+        subject: subject_of(order),
+        trouble: desk.watch.take_trouble(),
+        file: file.as_slice(),
+        repair: repair_in(order),
+    };
+    let _ = tell_explained(desk.alloc, done, &scene, err);
 }
 
 // The exit status, unless there is a fault.
 fn obeyed(desk: Desk<'_>, order: Order<'_>) -> Result<u8, Fault> {
     match order {
-        Order::Input => plan_input(desk)?,
-        Order::Plan(order) => return plan(desk, order),
-        Order::Check { pages, cert } => return check_paths(desk, pages, cert),
+        Order::Input => status_of(plan_input(desk)),
+        Order::Plan(order) => plan(desk, order),
+        Order::Check { pages, cert } => judge_paths(desk, None, pages, cert),
         Order::Explain {
             pages,
             cert,
             telling,
-        } => return explain_paths(desk, telling, pages, cert),
-        Order::Decode { tx, repair } => {
-            let mut tx = open_source(desk, Role::Transmission, tx)?;
-            run_decode(desk.alloc, repair, &mut tx, &mut desk.out())?;
-        }
-        Order::Hear { address, tx } => {
-            let mut tx = open_source(desk, Role::Transmission, tx)?;
-            run_hear(desk.alloc, address, &mut tx, &mut desk.out())?;
-        }
+        } => judge_paths(desk, Some(telling), pages, cert),
+        Order::Decode { tx, repair } => receive_path(desk, Receiving::Decode { repair }, tx),
+        Order::Hear { address, tx } => receive_path(desk, Receiving::Hear { address }, tx),
         Order::Show { tx, view, repair } => {
-            let mut tx = open_source(desk, Role::Transmission, tx)?;
-            run_show(desk.alloc, view, repair, &mut tx, &mut desk.out())?;
+            receive_path(desk, Receiving::Show { view, repair }, tx)
         }
         Order::Open {
             pages,
             journal,
             always,
             keep,
-        } => {
-            let places = RoundFiles {
+        } => open_round(
+            always,
+            &RoundFiles {
                 desk,
                 pages,
                 journal,
                 keep,
-            };
-            if let Some(path) = journal {
-                return open_kept(path, always, &places);
-            }
-            open_path(always, &places)?
-        }
+            },
+        ),
         Order::Report {
             pages,
             rate,
             search,
             frames,
-        } => report_path(
+        } => status_of(report_path(
             desk,
             Reporting {
                 rate,
@@ -104,8 +103,13 @@ fn obeyed(desk: Desk<'_>, order: Order<'_>) -> Result<u8, Fault> {
                 frames,
             },
             pages,
-        )?,
+        )),
     }
+}
+
+// The exit status of a command that has no other than 0, unless there is a fault.
+fn status_of(done: Result<(), Fault>) -> Result<u8, Fault> {
+    done?;
     Ok(0)
 }
 
@@ -118,21 +122,10 @@ fn plan_input(desk: Desk<'_>) -> Result<(), Fault> {
     run_input(desk.alloc, &mut input, &mut desk.out())
 }
 
-// Judges a certificate; the status is 1 where it does not show its batches.
-fn check_paths(desk: Desk<'_>, pages: Option<&str>, cert: Option<&str>) -> Result<u8, Fault> {
-    if pages.is_none() && cert.is_none() {
-        return Err(Fault::EqualPaths);
-    }
-    let mut pages = open_source(desk, Role::PageFile, pages)?;
-    let mut cert = open_buffered(desk, Role::Certificate, cert)?;
-    let is_shown = run_check(desk.alloc, &mut pages, &mut cert, &mut desk.out())?;
-    Ok(if is_shown { 0 } else { 1 })
-}
-
-// Explains a certificate; the status is 1 where it does not show its batches.
-fn explain_paths(
+// Judges a certificate, and explains it where it is asked how; the status is 1 where it does not show its batches.
+fn judge_paths(
     desk: Desk<'_>,
-    telling: Telling,
+    telling: Option<Telling>,
     pages: Option<&str>,
     cert: Option<&str>,
 ) -> Result<u8, Fault> {
@@ -140,9 +133,54 @@ fn explain_paths(
         return Err(Fault::EqualPaths);
     }
     let mut pages = open_source(desk, Role::PageFile, pages)?;
+    let is_shown = judge_path(desk, telling, &mut pages, cert)?;
+    Ok(u8::from(!is_shown))
+}
+
+// The same, where the page file is open: whether the certificate shows its batches.
+fn judge_path<P: Source>(
+    desk: Desk<'_>,
+    telling: Option<Telling>,
+    pages: &mut P,
+    cert: Option<&str>,
+) -> Result<bool, Fault> {
     let mut cert = open_buffered(desk, Role::Certificate, cert)?;
-    let is_shown = run_explain(desk.alloc, telling, &mut pages, &mut cert, &mut desk.out())?;
-    Ok(if is_shown { 0 } else { 1 })
+    let out = &mut desk.out();
+    match telling {
+        Some(telling) => run_explain(desk.alloc, telling, pages, &mut cert, out),
+        None => run_check(desk.alloc, pages, &mut cert, out),
+    }
+}
+
+// What is asked of a transmission.
+#[derive(Clone, Copy)]
+enum Receiving {
+    Decode { repair: bool },
+    Hear { address: u32 },
+    Show { view: View, repair: bool },
+}
+
+// Opens a transmission and reads what is asked of it.
+fn receive_path(desk: Desk<'_>, asked: Receiving, path: Option<&str>) -> Result<u8, Fault> {
+    let mut tx = open_source(desk, Role::Transmission, path)?;
+    status_of(receive(desk, asked, &mut tx))
+}
+
+fn receive<T: Source>(desk: Desk<'_>, asked: Receiving, tx: &mut T) -> Result<(), Fault> {
+    let out = &mut desk.out();
+    match asked {
+        Receiving::Decode { repair } => run_decode(desk.alloc, repair, tx, out),
+        Receiving::Hear { address } => run_hear(desk.alloc, address, tx, out),
+        Receiving::Show { view, repair } => run_show(desk.alloc, view, repair, tx, out),
+    }
+}
+
+// Keeps an open round, in its journal where it has one.
+fn open_round(always: bool, places: &RoundFiles<'_>) -> Result<u8, Fault> {
+    match places.journal {
+        Some(path) => open_kept(path, always, places),
+        None => status_of(open_path(always, places)),
+    }
 }
 
 // Keeps an open round, that of a page file where its path is given.

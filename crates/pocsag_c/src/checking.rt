@@ -10,7 +10,7 @@ use std::alloc::Global;
 
 /// What a check tells; all but the place is 0 where nothing was judged.
 #[repr(C)]
-#[derive(Clone, Copy, PartialEq, Eq, Debug)]
+#[derive(Clone, Copy)]
 pub struct CheckInfo {
     /// The end that the certificate names: 0 for the open one, 1 for the closed one, 2 for the idle one.
     pub end: u32,

@@ -18,7 +18,7 @@ use std::alloc::Global;
 
 /// What a plan tells; all but the place is 0 where there is none.
 #[repr(C)]
-#[derive(Clone, Copy, PartialEq, Eq, Debug)]
+#[derive(Clone, Copy)]
 pub struct PlanInfo {
     /// How many pages the round has.
     pub pages: u32,

@@ -9,7 +9,7 @@ use pocsag_tree::CertificateFault;
 
 /// Where a fault stands, and what a search knew; each number is 0 where it says nothing.
 #[repr(C)]
-#[derive(Clone, Copy, PartialEq, Eq, Debug)]
+#[derive(Clone, Copy)]
 pub struct Place {
     /// The record of the page file, counted from 1, the header not counted.
     pub record_number: u32,

@@ -12,7 +12,7 @@ use std::alloc::Global;
 
 /// What a plan takes on the air; all but the place is 0 where there is none.
 #[repr(C)]
-#[derive(Clone, Copy, PartialEq, Eq, Debug)]
+#[derive(Clone, Copy)]
 pub struct ReportInfo {
     /// How many pages the round has.
     pub pages: u32,

@@ -60,21 +60,36 @@ fn open_output(desk: Desk<'_>, role: Role, word: &str) -> Result<Output<File>, F
 }
 
 // Empties a regular file; nothing else holds what was written before.
-fn emptied<'a>(
-    desk: Desk<'a>,
-    role: Role,
-    output: Output<File>,
-) -> Result<WriterSink<'a, Output<File>>, Fault> {
-    match &output {
-        Output::File(file) => {
-            let metadata = desk.opened(role, file.metadata())?;
-            if metadata.is_file() {
-                desk.opened(role, file.set_len(0))?;
-            }
-        }
-        Output::Standard(_) => {}
+fn empty(desk: Desk<'_>, role: Role, output: &Output<File>) -> Result<(), Fault> {
+    match output {
+        Output::File(file) => empty_file(desk, role, file),
+        Output::Standard(_) => Ok(()),
     }
-    Ok(WriterSink::new(output, role, desk.watch))
+}
+
+fn empty_file(desk: Desk<'_>, role: Role, file: &File) -> Result<(), Fault> {
+    let metadata = desk.opened(role, file.metadata())?;
+    if metadata.is_file() {
+        return desk.opened(role, file.set_len(0));
+    }
+    Ok(())
+}
+
+// Opens or makes the file of the certificate, once that of the transmission is there.
+fn open_second(
+    desk: Desk<'_>,
+    pages: Option<&str>,
+    tx: &str,
+    cert: &str,
+) -> Result<Output<File>, Fault> {
+    // A path that named no file before may be another spelling of the one that was made.
+    refuse_one_file(desk.rt, pages, tx, cert)?;
+    open_output(desk, Role::Certificate, cert)
+}
+
+fn empty_both(desk: Desk<'_>, tx: &Output<File>, cert: &Output<File>) -> Result<(), Fault> {
+    empty(desk, Role::Transmission, tx)?;
+    empty(desk, Role::Certificate, cert)
 }
 
 /// Opens or makes the two files that a command writes, and empties them once both could be opened. Where two
@@ -88,12 +103,11 @@ pub fn make_outputs<'a>(
 ) -> Result<Outputs<WriterSink<'a, Output<File>>>, Fault> {
     refuse_one_file(desk.rt, pages, tx, cert)?;
     let opened_tx = open_output(desk, Role::Transmission, tx)?;
-    // A path that named no file before may be another spelling of the one that was made.
-    refuse_one_file(desk.rt, pages, tx, cert)?;
-    let opened_cert = open_output(desk, Role::Certificate, cert)?;
+    let opened_cert = open_second(desk, pages, tx, cert)?;
+    empty_both(desk, &opened_tx, &opened_cert)?;
     Ok(Outputs {
-        tx: emptied(desk, Role::Transmission, opened_tx)?,
-        cert: emptied(desk, Role::Certificate, opened_cert)?,
+        tx: WriterSink::new(opened_tx, Role::Transmission, desk.watch),
+        cert: WriterSink::new(opened_cert, Role::Certificate, desk.watch),
     })
 }
 
@@ -104,9 +118,17 @@ pub fn refuse_one_file<R: Files>(
     tx: &str,
     cert: &str,
 ) -> Result<(), Fault> {
-    let [pages, tx, cert] = [pages, path_of(tx), path_of(cert)].map(|path| Named::at(rt, path?));
-    if name_one_file(pages, tx, cert) {
+    let pages = named_at(rt, pages);
+    let tx = named_at(rt, path_of(tx));
+    if name_one_file(pages, tx, named_at(rt, path_of(cert))) {
         return Err(Fault::EqualPaths);
     }
     Ok(())
+}
+
+fn named_at<R: Files>(rt: &R, path: Option<&str>) -> Option<Named> {
+    match path {
+        Some(path) => Named::at(rt, path),
+        None => None,
+    }
 }

@@ -18,12 +18,16 @@ impl<'a> Beside<'a> {
         let beside = Beside::of(desk, role, place)?;
         // What a process of the same number left when it was ended.
         beside.remove(desk);
-        let file = desk.opened(role, File::create_new(desk.rt, beside.path()))?;
-        match fs::metadata(desk.rt, place) {
-            Ok(old) => desk.opened(role, file.set_permissions(old.permissions()))?,
-            Err(_) => {}
-        }
+        beside.create(desk)?;
         Ok(beside)
+    }
+
+    fn create(&self, desk: Desk<'_>) -> Result<(), Fault> {
+        let file = desk.opened(self.role, File::create_new(desk.rt, self.path()))?;
+        match fs::metadata(desk.rt, self.place) {
+            Ok(old) => desk.opened(self.role, file.set_permissions(old.permissions())),
+            Err(_) => Ok(()),
+        }
     }
 
     /// That which this process makes beside the place.

@@ -3,47 +3,55 @@ use pocsag_line::{PlanOrder, path_of};
 use pocsag_words::Sink;
 use std::fs::{self, Metadata};
 use std::io;
-use thiserror::Error;
 
 /// An option of `plan` with files that do not serve it.
-#[derive(Clone, Copy, PartialEq, Eq, Debug, Error)]
+#[derive(Clone, Copy)]
 pub enum Misuse {
-    #[error("--verify reads PAGES, TX and CERT again, so that each must be a regular file")]
     Verify,
-    #[error("--keep renames what it wrote to TX and CERT, so that each must be a regular file, or not there")]
     Keep,
+}
+
+impl Misuse {
+    fn text(self) -> &'static str {
+        match self {
+            Misuse::Verify => {
+                "--verify reads PAGES, TX and CERT again, so that each must be a regular file"
+            }
+            Misuse::Keep => {
+                "--keep renames what it wrote to TX and CERT, so that each must be a regular file, or not there"
+            }
+        }
+    }
 }
 
 /// The first option of the order that its files do not serve. It reads nothing of them.
 pub fn misused(rt: &HostRuntime, order: PlanOrder<'_>) -> Option<Misuse> {
-    let PlanOrder {
-        pages,
-        tx,
-        cert,
-        ..
-    } = order;
-    let outputs = [path_of(tx), path_of(cert)];
-    if order.verify {
-        for path in [pages, outputs[0], outputs[1]] {
-            let Some(path) = path else {
-                return Some(Misuse::Verify);
-            };
-            if is_other(fs::metadata(rt, path)) {
-                return Some(Misuse::Verify);
-            }
-        }
+    let (tx, cert) = (path_of(order.tx), path_of(order.cert));
+    if order.verify
+        && !(is_regular(rt, order.pages) && is_regular(rt, tx) && is_regular(rt, cert))
+    {
+        return Some(Misuse::Verify);
     }
-    if order.keep {
-        for path in outputs {
-            let Some(path) = path else {
-                return Some(Misuse::Keep);
-            };
-            if !is_regular_or_none(rt, path) {
-                return Some(Misuse::Keep);
-            }
-        }
+    if order.keep && !(may_be_replaced(rt, tx) && may_be_replaced(rt, cert)) {
+        return Some(Misuse::Keep);
     }
     None
+}
+
+// Whether there is a path, and at it a regular file, or what is told when it is opened.
+fn is_regular(rt: &HostRuntime, path: Option<&str>) -> bool {
+    match path {
+        Some(path) => !is_other(fs::metadata(rt, path)),
+        None => false,
+    }
+}
+
+// Whether there is a path, and what stands there may be replaced by renaming.
+fn may_be_replaced(rt: &HostRuntime, path: Option<&str>) -> bool {
+    match path {
+        Some(path) => is_regular_or_none(rt, path),
+        None => false,
+    }
 }
 
 /// Whether what stands at a path may be replaced by renaming: a regular file and no link to one, or nothing.
@@ -62,9 +70,10 @@ fn is_other(found: io::Result<Metadata>) -> bool {
 
 /// Tells a mistake in the words on standard error, and answers its status.
 pub fn tell_misuse<E: Sink>(err: &mut E, misuse: Misuse) -> u8 {
+    let text = misuse.text();
     let _ = tell(
         err,
-        format_args!("error: {misuse}\n\nFor more information, try 'pocsag plan --help'.\n"),
+        format_args!("error: {text}\n\nFor more information, try 'pocsag plan --help'.\n"),
     );
     2
 }

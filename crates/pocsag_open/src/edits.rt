@@ -14,7 +14,7 @@ use std::alloc::Global;
 use std::str;
 
 /// What a line of an open round asks for.
-#[derive(Clone, Copy, PartialEq, Eq, Debug)]
+#[derive(Clone, Copy)]
 pub enum Line<'a> {
     /// `add,ADDRESS,KIND,MESSAGE`: three fields as in a page file.
     Add {

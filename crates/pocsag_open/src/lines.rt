@@ -13,7 +13,7 @@ pub const LINE_LIMIT: usize = 65_536;
 const PIECE: usize = 4_096;
 
 /// What came of the next line.
-#[derive(Clone, Copy, PartialEq, Eq, Debug)]
+#[derive(Clone, Copy, PartialEq, Eq)]
 pub enum Found {
     /// It is kept, without its line feed.
     Kept,

@@ -7,7 +7,7 @@ ghost use Rattle.pocsag_open.specs.Spelling.{without_return};
 const MARK: &[u8] = b"\xef\xbb\xbf";
 
 /// Where a line of CSV stands after some of its bytes.
-#[derive(Clone, Copy, PartialEq, Eq, Debug)]
+#[derive(Clone, Copy)]
 pub enum Quoting {
     /// Before the first byte of a field.
     Start,

@@ -8,7 +8,7 @@ use std::error::Error;
 use std::fmt::{self, Display, Formatter};
 
 /// Why an edit is refused. The round is as it was.
-#[derive(Clone, Copy, PartialEq, Eq, Debug)]
+#[derive(Clone, Copy)]
 pub enum Refusal {
     Unknown,
     /// A quote of the line's last field is not closed.
@@ -42,6 +42,12 @@ impl Display for Refusal {
             Refusal::Add(fault) => fault.fmt(f),
             Refusal::Undone(fault) => fault.fmt(f),
         }
+    }
+}
+
+impl fmt::Debug for Refusal {
+    fn fmt<W: fmt::Write>(&self, f: &mut Formatter<W>) -> fmt::Result {
+        Display::fmt(self, f)
     }
 }
 

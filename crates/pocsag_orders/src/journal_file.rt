@@ -14,8 +14,8 @@ const ROLE: Role = Role::Lines;
 /// is met on its own desk.
 #[derive(Drop)]
 pub struct JournalFile<'a> {
-    desk: Desk<'a>,
-    path: &'a str,
+    pub desk: Desk<'a>,
+    pub path: &'a str,
     file: File,
     calls: u64,
     failures: u64,

@@ -6,9 +6,11 @@ use pocsag_commands::{
 use pocsag_files::{Desk, Named, is_regular_or_none, open_source};
 use pocsag_journal::{Journal, JournalFault, Replayed};
 use pocsag_line::STANDARD;
-use pocsag_open::{OpenRound, Planner, run_open_kept};
+use pocsag_open::{Keeper, OpenRound, Planner, run_open_kept};
 use pocsag_pages::read_round;
 use pocsag_plan::Book;
+use pocsag_words::Source;
+use std::alloc::Global;
 use std::fmt::Display;
 use std::io;
 
@@ -17,28 +19,52 @@ pub fn open_kept(path: &str, always: bool, places: &RoundFiles<'_>) -> Result<u8
     if path == STANDARD || is_first_file(path, places) {
         return Err(Fault::EqualPaths);
     }
-    if !is_regular_or_none(places.desk.rt, path) {
-        let status = tell_fault(&mut places.desk.err(), Fault::Device);
-        note(
-            places,
-            format_args!("journal {path}: a regular file is wanted, and no link to one"),
-        );
-        return Ok(status);
+    if is_regular_or_none(places.desk.rt, path) {
+        open_watched(path, always, places)
+    } else {
+        Ok(refuse_kind(places, path))
     }
-    // What the system refuses of the journal is met apart from what it refuses of the other files.
+}
+
+// Tells that the journal would be no regular file, and answers the status.
+fn refuse_kind(places: &RoundFiles<'_>, path: &str) -> u8 {
+    let status = tell_fault(&mut places.desk.err(), Fault::Device);
+    note(
+        places,
+        format_args!("journal {path}: a regular file is wanted, and no link to one"),
+    );
+    status
+}
+
+// The same, of a regular file or none. What the system refuses of the journal is met apart from what it refuses of the
+// other files.
+fn open_watched(path: &str, always: bool, places: &RoundFiles<'_>) -> Result<u8, Fault> {
     let met = Watch::new(places.desk.alloc, None);
     let desk = Desk {
         watch: &met,
         ..places.desk
     };
     let done = open_on(desk, path, always, places);
-    match (done, met.take_trouble()) {
-        (Err(fault), Some(trouble)) => {
-            let status = tell_fault(&mut desk.err(), fault);
+    match met.take_trouble() {
+        Some(trouble) => tell_trouble(places, path, done, trouble),
+        None => done,
+    }
+}
+
+// Tells the fault of a round of whose journal the system refused something, and answers the status.
+fn tell_trouble(
+    places: &RoundFiles<'_>,
+    path: &str,
+    done: Result<u8, Fault>,
+    trouble: Trouble,
+) -> Result<u8, Fault> {
+    match done {
+        Ok(status) => Ok(status),
+        Err(fault) => {
+            let status = tell_fault(&mut places.desk.err(), fault);
             note_refused(places, path, trouble);
             Ok(status)
         }
-        (done, _) => done,
     }
 }
 
@@ -56,29 +82,54 @@ fn open_on(desk: Desk<'_>, path: &str, always: bool, places: &RoundFiles<'_>) ->
     let Some(file) = JournalFile::hold(desk, path)? else {
         return Ok(refuse(places, path, "another program holds the journal"));
     };
-    let replayed = match file.read() {
-        Ok(replayed) => replayed,
-        Err(fault) => return tell_journal(places, path, fault),
-    };
-    let Replayed { book, edits, torn } = replayed;
-    let book = match places.pages {
-        Some(_) if edits > 0 => {
+    match file.read() {
+        Ok(replayed) if replayed.edits > 0 && places.pages.is_some() => {
             let why = "the journal holds edits, so the round cannot begin with PAGES";
-            return Ok(refuse(places, path, why));
+            Ok(refuse(places, path, why))
         }
-        Some(pages) => book_of_file(places.desk, pages)?,
-        None => book,
-    };
-    let keeper = match Journal::write_anew(desk.alloc, file, &book) {
-        Ok(keeper) => keeper,
-        Err(fault) => return tell_journal(places, path, fault),
-    };
-    tell_start(desk, torn, edits, book.len());
-    let mut input = ReaderSource::new(desk.rt.stdin(), Role::Lines, places.desk.watch);
+        Ok(replayed) => begin(file, replayed, always, places),
+        Err(fault) => tell_journal(places, path, fault),
+    }
+}
+
+// Writes the journal anew, tells what the round begins with, and answers the lines.
+fn begin(
+    file: JournalFile<'_>,
+    replayed: Replayed,
+    always: bool,
+    places: &RoundFiles<'_>,
+) -> Result<u8, Fault> {
+    let (desk, path) = (file.desk, file.path);
+    let Replayed { book, edits, torn } = first_round(places, replayed)?;
+    match Journal::write_anew(desk.alloc, file, &book) {
+        Ok(keeper) => {
+            tell_start(desk, torn, edits, book.len());
+            answer_lines(always, places, &mut OpenRound { book, keeper })
+        }
+        Err(fault) => tell_journal(places, path, fault),
+    }
+}
+
+// What the round begins with: the pages of PAGES, where it is given, or what the journal stands for.
+fn first_round(places: &RoundFiles<'_>, replayed: Replayed) -> Result<Replayed, Fault> {
+    match places.pages {
+        Some(pages) => Ok(Replayed {
+            book: book_of_file(places.desk, pages)?,
+            ..replayed
+        }),
+        None => Ok(replayed),
+    }
+}
+
+fn answer_lines<K: Keeper + Drop>(
+    always: bool,
+    places: &RoundFiles<'_>,
+    round: &mut OpenRound<K>,
+) -> Result<u8, Fault> {
+    let desk = places.desk;
+    let mut input = ReaderSource::new(desk.rt.stdin(), Role::Lines, desk.watch);
     let planner = &Planner { places, always };
-    let mut round = OpenRound { book, keeper };
-    let out = &mut places.desk.out();
-    run_open_kept(desk.alloc, planner, &mut round, &mut input, out)?;
+    run_open_kept(desk.alloc, planner, round, &mut input, &mut desk.out())?;
     Ok(0)
 }
 
@@ -103,8 +154,12 @@ fn book_of_file(desk: Desk<'_>, path: &str) -> Result<Book, Fault> {
         return Err(Fault::EqualPaths);
     }
     let mut pages = open_source(desk, Role::PageFile, Some(path))?;
-    let round = read_round(desk.alloc, &mut pages)?;
-    Ok(Book::of_round(desk.alloc, &round)?)
+    book_of(desk.alloc, &mut pages)
+}
+
+fn book_of<F: Source>(alloc: Global, pages: &mut F) -> Result<Book, Fault> {
+    let round = read_round(alloc, pages)?;
+    Ok(Book::of_round(alloc, &round)?)
 }
 
 // Tells why the journal does not serve, and answers the status.

@@ -18,17 +18,23 @@ pub fn plan(desk: Desk<'_>, order: PlanOrder<'_>) -> Result<u8, Fault>
 {
     refuse_equal(order.pages, order.tx, order.cert)?;
     match misused(desk.rt, order) {
-        Some(misuse) => return Ok(tell_misuse(&mut desk.err(), misuse)),
-        None => {}
+        Some(misuse) => Ok(tell_misuse(&mut desk.err(), misuse)),
+        None => {
+            plan_paths(desk, order)?;
+            Ok(0)
+        }
     }
+}
+
+// Plans, where the files serve the options.
+fn plan_paths(desk: Desk<'_>, order: PlanOrder<'_>) -> Result<(), Fault> {
     if order.tx == STANDARD || order.cert == STANDARD {
-        plan_files(desk, order, &mut desk.err())?;
+        plan_files(desk, order, &mut desk.err())
     } else if order.keep {
-        plan_beside(desk, order, &mut desk.out())?;
+        plan_beside(desk, order, &mut desk.out())
     } else {
-        plan_files(desk, order, &mut desk.out())?;
+        plan_files(desk, order, &mut desk.out())
     }
-    Ok(0)
 }
 
 // Plans, and reads back what was planned where that is asked for.
@@ -62,7 +68,7 @@ fn write_round<P: Source + Drop, O: Sink>(
 
 fn read_back<O: Sink>(desk: Desk<'_>, order: PlanOrder<'_>, out: &mut O) -> Result<(), Fault> {
     // What is kept of the page file is what is read of it now.
-    let _before = desk.watch.take_file();
+    let _ = desk.watch.take_file();
     let mut files = PlanFiles {
         pages: open_source(desk, Role::PageFile, order.pages)?,
         tx: open_source(desk, Role::Transmission, Some(order.tx))?,
