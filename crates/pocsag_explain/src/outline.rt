@@ -81,7 +81,7 @@ pub(crate) fn node_line(
     format!(in alloc; "node {numbering}: {way}{said}")
 }
 
-/// The first finding that does not hold, and why: `node 1.2: slots 15: 1 codeword at the least, room for 1`.
+/// The first finding that does not hold, and why: `node 1.2: slot 15: 1 codeword at the least, room for 1`.
 pub(crate) fn first_refused(alloc: Global, subject: &Subject<'_>) -> Result<String, AllocError> {
     let mut numbering = Numbering::new(alloc);
     for finding in subject.findings {

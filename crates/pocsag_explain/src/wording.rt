@@ -100,7 +100,8 @@ impl Display for SlotWords {
         }
         let slots = MemberWords(set);
         if set == 0 || !are_frames(set) {
-            return write!(f, "slots {slots}");
+            let word = if size(set) == 1 { "slot" } else { "slots" };
+            return write!(f, "{word} {slots}");
         }
         let frames = frames_of(set);
         let word = if size(frames) == 1 { "frame" } else { "frames" };

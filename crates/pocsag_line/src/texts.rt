@@ -104,7 +104,7 @@ more than is shown to be needed";
 
 pub(crate) const EXPECT_HELP: &str = "\
 How many pages the round must have; with another number
-it is refused, and TX and CERT stay as they are";
+it is refused, and nothing is written";
 
 pub(crate) const KEEP_HELP: &str = "\
 Keeps what stands at TX and CERT until both are written whole,
