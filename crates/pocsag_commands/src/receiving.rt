@@ -12,7 +12,8 @@ ghost use Rattle.pocsag_commands.specs.Refusals.{IsHearingRefused, IsTransmissio
 
 use crate::fault::Fault;
 use pocsag_decode::{
-    decode, list, readings_have_no_fault, readings_of_bytes_are_one, repair_all, repair_restores,
+    judge_bytes, list_sent, list_spent, readings_have_no_fault, readings_of_bytes_are_one,
+    repair_all, repair_restores,
 };
 use pocsag_pager::hear_all;
 use pocsag_pages::read_whole;
@@ -70,8 +71,8 @@ pub fn list_decoded<O: Sink>(alloc: Global, bytes: &[u8], out: &mut O) -> Result
     ensures explained { IfErr result (ExplainsDecoding bytes.now) }
     ensures refused { status_after result ≡ 1 → out.new ≡ out.old }
 {
-    let pages = decode(alloc, bytes)?;
-    list(alloc, pages.as_slice(), out)?;
+    judge_bytes(bytes)?;
+    list_sent(alloc, bytes, out)?;
     Ok(())
 }
 
@@ -104,6 +105,6 @@ pub fn list_heard<O: Sink>(
     ensures refused { status_after result ≡ 1 → out.new ≡ out.old }
 {
     let pages = hear_all(alloc, bytes, address)?;
-    list(alloc, pages.as_slice(), out)?;
+    list_spent(alloc, pages, out)?;
     Ok(())
 }
