@@ -1,6 +1,5 @@
-ghost use Rattle.std.specs.Prelude.{◌≡◌, ℕ, ◌^◌, ◌<◌, ◌≤◌, ◌⊎◌, length, map, position, All, IfOk, IfErr, IsOk};
-ghost use Rattle.std.specs.List.{flat_map};
-ghost use Rattle.pocsag_text.specs.Bits.{low_first, alpha_width, numeric_width, AreItems};
+ghost use Rattle.std.specs.Prelude.{◌≡◌, ℕ, ◌^◌, ◌<◌, ◌≤◌, ◌⊎◌, [], length, position, All, IfOk, IfErr, IsOk, OnOk};
+ghost use Rattle.pocsag_text.specs.Bits.{AreItems};
 ghost use Rattle.pocsag_text.specs.Characters as numeric;
 ghost use Rattle.pocsag_text.specs.Text.{numeric_payload, alpha_payload, numeric_bits, alpha_bits, twenties, is_bad_byte, text_fault, character_limit, item_limit, fault_of};
 
@@ -106,22 +105,22 @@ fn numeric_items(alloc: Global, text: &[u8]) -> Result<Vec<u32>, OutOfMemory>
     ensures items { IfOk result (λ v. v.items ≡ twenties (numeric_bits text.now)) }
     ensures small { IfOk result (λ v. AreItems v.items) }
 {
-    let mut packer = numeric_packer(alloc, text)?;
-    let fill = (ITEM_DIGITS - text.len() % ITEM_DIGITS) % ITEM_DIGITS;
-    packer.push_times(NUMERIC_WIDTH, SPACE_CODE, fill)?;
+    let mut packer = Packer::with_room(alloc, text.len().div_ceil(ITEM_DIGITS))?;
+    push_numeric(&mut packer, text)?;
     Ok(packer.into_items())
 }
 
-/// The bits of the characters of a numeric text.
-fn numeric_packer(alloc: Global, text: &[u8]) -> Result<Packer, OutOfMemory>
-    requires { length text.now ≤ character_limit }
-    ensures { IfOk result (λ p. p ≡ flat_map (low_first numeric_width) (map numeric.code_or_space text.now)) }
+/// Puts the bits of a numeric text into a packer that has none.
+fn push_numeric(packer: &mut Packer, text: &[u8]) -> Result<(), OutOfMemory>
+    requires few { length text.now ≤ character_limit }
+    requires empty { packer.old ≡ [] }
+    ensures { OnOk result (packer.new ≡ numeric_bits text.now) }
 {
-    let mut packer = Packer::with_room(alloc, text.len().div_ceil(ITEM_DIGITS))?;
     for byte in text {
         packer.push(NUMERIC_WIDTH, code_or_space(*byte))?;
     }
-    Ok(packer)
+    let fill = (ITEM_DIGITS - text.len() % ITEM_DIGITS) % ITEM_DIGITS;
+    packer.push_times(NUMERIC_WIDTH, SPACE_CODE, fill)
 }
 
 /// The items of an alphanumeric text.
@@ -131,21 +130,21 @@ fn alpha_items(alloc: Global, text: &[u8]) -> Result<Vec<u32>, OutOfMemory>
     ensures items { IfOk result (λ v. v.items ≡ twenties (alpha_bits text.now)) }
     ensures small { IfOk result (λ v. AreItems v.items) }
 {
-    let mut packer = alpha_packer(alloc, text)?;
-    let fill = (ITEM_BITS - ALPHA_BITS * text.len() % ITEM_BITS) % ITEM_BITS;
-    packer.push_times(1, 0, fill)?;
+    let mut packer = Packer::with_room(alloc, (ALPHA_BITS * text.len()).div_ceil(ITEM_BITS))?;
+    push_alpha(&mut packer, text)?;
     Ok(packer.into_items())
 }
 
-/// The bits of the characters of an alphanumeric text.
-fn alpha_packer(alloc: Global, text: &[u8]) -> Result<Packer, OutOfMemory>
+/// Puts the bits of an alphanumeric text into a packer that has none.
+fn push_alpha(packer: &mut Packer, text: &[u8]) -> Result<(), OutOfMemory>
     requires few { length text.now ≤ character_limit }
     requires small { All (λ byte. byte < 128) text.now }
-    ensures { IfOk result (λ p. p ≡ flat_map (low_first alpha_width) text.now) }
+    requires empty { packer.old ≡ [] }
+    ensures { OnOk result (packer.new ≡ alpha_bits text.now) }
 {
-    let mut packer = Packer::with_room(alloc, (ALPHA_BITS * text.len()).div_ceil(ITEM_BITS))?;
     for byte in text {
         packer.push(ALPHA_WIDTH, *byte)?;
     }
-    Ok(packer)
+    let fill = (ITEM_BITS - ALPHA_BITS * text.len() % ITEM_BITS) % ITEM_BITS;
+    packer.push_times(1, 0, fill)
 }
