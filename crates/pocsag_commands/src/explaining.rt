@@ -110,11 +110,7 @@ fn explain(
 }
 
 // A page file with another number of pages than was expected.
-fn note_unexpected(
-    alloc: Global,
-    scene: &Scene<'_>,
-    notes: &mut Notes,
-) -> Result<(), OutOfMemory> {
+fn note_unexpected(alloc: Global, scene: &Scene<'_>, notes: &mut Notes) -> Result<(), OutOfMemory> {
     notes.add(scene.names.place(Role::PageFile))?;
     note_line_feeds(alloc, scene, notes)
 }

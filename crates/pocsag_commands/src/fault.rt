@@ -95,7 +95,10 @@ impl Display for Fault {
             Fault::Pager(refused) => Display::fmt(refused, f),
             Fault::Certificate(refused) => Display::fmt(refused, f),
             Fault::SearchLimit(least, found) => {
-                write!(f, "search limit reached: at least {least} batches, {found} would do")
+                write!(
+                    f,
+                    "search limit reached: at least {least} batches, {found} would do"
+                )
             }
             Fault::Unexpected(found, expected) => {
                 write!(f, "pages {found}, where {expected} were expected")

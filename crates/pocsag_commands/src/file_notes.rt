@@ -102,14 +102,39 @@ pub fn note_header(scene: &Scene<'_>, notes: &mut Notes) -> Result<(), OutOfMemo
     notes.add(format_args!("{place} begins {begins}"))
 }
 
-// Comes to the record with this number, if there is one.
-fn come_to(records: &mut FileRecords<'_>, number: u32) -> Result<bool, OutOfMemory> {
-    for _ in 0..=number {
+// Which record is looked for.
+#[derive(Clone, Copy)]
+enum Sought<'a> {
+    // The one with this number.
+    Number(u32),
+    // One with this address.
+    Address(&'a [u8]),
+    // One whose message holds line feeds.
+    LineFeeds,
+}
+
+// Whether the record that was come to is looked for.
+fn is_sought(records: &FileRecords<'_>, number: u32, sought: Sought<'_>) -> bool {
+    match sought {
+        Sought::Number(wanted) => number == wanted,
+        Sought::Address(address) => {
+            number > 0 && significant(field(records, 0)) == significant(address)
+        }
+        Sought::LineFeeds => line_feeds(field(records, 2)) > 0,
+    }
+}
+
+// Comes to the next record that is looked for, and answers how many records were passed before it.
+fn come_to(records: &mut FileRecords<'_>, sought: Sought<'_>) -> Result<Option<u32>, OutOfMemory> {
+    for number in 0..u32::MAX {
         if !records.advance()? {
-            return Ok(false);
+            return Ok(None);
+        }
+        if is_sought(records, number, sought) {
+            return Ok(Some(number));
         }
     }
-    Ok(true)
+    Ok(None)
 }
 
 /// Where the record of a fault stands, the field that is wrong, and whether a quote may be open in it.
@@ -133,7 +158,7 @@ fn note_record_among(
     let Some(number) = record_number(refused) else {
         return Ok(());
     };
-    if !come_to(records, number)? {
+    if come_to(records, Sought::Number(number))?.is_none() {
         return Ok(());
     }
     let spot = Spot {
@@ -203,6 +228,15 @@ fn note_field(
     }
 }
 
+// What is said of a kind that is wrong in itself.
+fn told_of_kind(refused: RoundFault) -> Option<&'static str> {
+    match refused {
+        RoundFault::BadKind(_) => Some(", not tone0, tone1, tone2, tone3, numeric or alpha"),
+        RoundFault::EmptyMessage(_) => Some("; tone0 to tone3 have no message"),
+        _ => None,
+    }
+}
+
 // What is wrong with the kind of the record or with its message.
 fn note_kind(
     refused: RoundFault,
@@ -210,16 +244,14 @@ fn note_kind(
     records: &FileRecords<'_>,
     notes: &mut Notes,
 ) -> Result<(), OutOfMemory> {
-    let (kind, message) = (excerpt_of(records, 1), excerpt_of(records, 2));
+    let kind = excerpt_of(records, 1);
+    if let Some(told) = told_of_kind(refused) {
+        return notes.add(format_args!("{spot}: the kind is {kind}{told}"));
+    }
+    let message = excerpt_of(records, 2);
     match refused {
-        RoundFault::BadKind(_) => notes.add(format_args!(
-            "{spot}: the kind is {kind}, not tone0, tone1, tone2, tone3, numeric or alpha"
-        )),
         RoundFault::MessageForTone(_) => notes.add(format_args!(
             "{spot}: the message is {message}, and the kind is {kind}"
-        )),
-        RoundFault::EmptyMessage(_) => notes.add(format_args!(
-            "{spot}: the kind is {kind}; tone0 to tone3 have no message"
         )),
         RoundFault::BadCharacter(_, at) => {
             let byte = message.bytes.get(at).copied().unwrap_or(0);
@@ -239,28 +271,22 @@ fn note_earlier(
     notes: &mut Notes,
 ) -> Result<(), OutOfMemory> {
     let mut records = FileRecords::of(alloc, scene.file);
-    let Some(number) = come_to_address(&mut records, spot.address, spot.number)? else {
-        return Ok(());
-    };
-    let line = records.line();
-    notes.add(format_args!("line {line}, record {number}, has the address already"))
+    note_earlier_among(&mut records, spot.number, spot.address, notes)
 }
 
-// Comes to the first record with this address before a record, and answers its number.
-fn come_to_address(
+fn note_earlier_among(
     records: &mut FileRecords<'_>,
+    number: u32,
     address: &[u8],
-    end: u32,
-) -> Result<Option<u32>, OutOfMemory> {
-    for number in 0..end {
-        if !records.advance()? {
-            return Ok(None);
+    notes: &mut Notes,
+) -> Result<(), OutOfMemory> {
+    match come_to(records, Sought::Address(address))? {
+        Some(earlier) if earlier < number => {
+            let line = records.line();
+            notes.add(format_args!("line {line}, record {earlier}, has the address already"))
         }
-        if number > 0 && significant(field(records, 0)) == significant(address) {
-            return Ok(Some(number));
-        }
+        _ => Ok(()),
     }
-    Ok(None)
 }
 
 // The digits without zeros in front.
@@ -288,7 +314,7 @@ fn note_line_feeds_among(
     records: &mut FileRecords<'_>,
     notes: &mut Notes,
 ) -> Result<(), OutOfMemory> {
-    let Some(number) = come_to_line_feeds(records)? else {
+    let Some(number) = come_to(records, Sought::LineFeeds)? else {
         return Ok(());
     };
     let place = scene.names.place(Role::PageFile);
@@ -319,29 +345,14 @@ fn note_held(
     ))
 }
 
-// Comes to the first record whose message holds line feeds, and answers its number.
-fn come_to_line_feeds(records: &mut FileRecords<'_>) -> Result<Option<u32>, OutOfMemory> {
-    for number in 0..u32::MAX {
-        if !records.advance()? {
-            return Ok(None);
-        }
-        if line_feeds(field(records, 2)) > 0 {
-            return Ok(Some(number));
-        }
-    }
-    Ok(None)
-}
-
 // How many further messages hold line feeds.
 fn count_line_feeds(records: &mut FileRecords<'_>) -> Result<u32, OutOfMemory> {
     let mut count = 0u32;
     for _ in 0..u32::MAX {
-        if !records.advance()? {
+        if come_to(records, Sought::LineFeeds)?.is_none() {
             break;
         }
-        if line_feeds(field(records, 2)) > 0 {
-            count = count.saturating_add(1);
-        }
+        count = count.saturating_add(1);
     }
     Ok(count)
 }

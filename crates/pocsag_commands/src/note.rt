@@ -60,11 +60,10 @@ fn plain_text(alloc: Global, text: &str) -> Result<Vec<u8>, AllocError>
 fn append_note(alloc: Global, lines: &mut Vec<u8>, text: &str) -> Result<(), AllocError>
     ensures { OnOk result (lines.new.items ≡ lines.old.items ++ note_text text.now) }
 {
-    let text = plain_text(alloc, text)?;
     lines.extend_from_slice(b"pocsag: ")?;
+    let text = plain_text(alloc, text)?;
     lines.extend_from_slice(text.as_slice())?;
-    lines.push(b'\n')?;
-    Ok(())
+    lines.extend_from_slice(b"\n")
 }
 
 /// Tells notes, by a single write where the sink takes it: each is a line that begins `pocsag: `.

@@ -65,11 +65,7 @@ pub fn note_repair(alloc: Global, scene: &Scene<'_>, notes: &mut Notes) -> Resul
 }
 
 // The same, by repairing a copy.
-fn note_repaired(
-    scene: &Scene<'_>,
-    copy: &mut [u8],
-    notes: &mut Notes,
-) -> Result<(), OutOfMemory> {
+fn note_repaired(scene: &Scene<'_>, copy: &mut [u8], notes: &mut Notes) -> Result<(), OutOfMemory> {
     let Repaired { words, bits } = repair_all(copy);
     let place = scene.names.place(Role::Transmission);
     notes.add(format_args!("{place}: corrected bits {bits}, words {words}"))?;

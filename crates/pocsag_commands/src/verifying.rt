@@ -45,12 +45,7 @@ pub fn run_verify<P: Source + Drop, T: Source + Drop, C: Source + Drop, O: Sink>
 }
 
 // Reads a transmission of the round's pages that ends as is asked for, and answers its batches.
-fn read_sent<T: Source>(
-    alloc: Global,
-    tx: &mut T,
-    round: &Round,
-    end: End,
-) -> Result<usize, Fault>
+fn read_sent<T: Source>(alloc: Global, tx: &mut T, round: &Round, end: End) -> Result<usize, Fault>
     ensures { T.tells → IfOk result (λ batches. IsTransmissionOf end round.now batches (T.held tx.old)) }
 {
     let bytes = read_whole(alloc, tx, TRANSMISSION_LIMIT)?;
