@@ -33,7 +33,7 @@ pub fn obey<E: Sink>(rt: &HostRuntime, alloc: Global, asked: Asked<'_>, err: &mu
         Err(fault) => tell_fault(err, fault),
     };
     if asked.verbose {
-        explain(desk, asked.order, done, err);
+        tell_scene(desk, asked.order, done, err);
     }
     status
 }
@@ -48,7 +48,7 @@ fn kept_in(order: Order<'_>) -> Role {
 }
 
 // Tells the notes on what came of an order. That standard error fails changes nothing.
-fn explain<E: Sink>(desk: Desk<'_>, order: Order<'_>, done: Result<u8, Fault>, err: &mut E) {
+fn tell_scene<E: Sink>(desk: Desk<'_>, order: Order<'_>, done: Result<u8, Fault>, err: &mut E) {
     let file = desk.watch.take_file();
     let scene = Scene {
         names: names_in(order),

@@ -1,6 +1,7 @@
 -- What the fields of a record ask for.
 use Rattle.std.proofs.Common.{◌≡◌, ◌≢◌, inl, inr, ℕ, zero, suc, ◌<◌, Bool, true, false, cond, List, [], ◌∷◌, length, refl, sym, ap, ◌∙◌, arith, codes}
-use Rattle.std.specs.Prelude.{Some, None, not}
+use Rattle.std.specs.Prelude.{Some, None}
+use Rattle.std.proofs.lemmas.Bool.{false_from_ne_true}
 use Rattle.std.proofs.lemmas.Slice.Eq.{bytes_eq-Decides}
 use Rattle.pocsag_words.specs.declared.ending.End.{End}
 use Rattle.pocsag_open.specs.Replies.{AsksNeither, AsksPlan, IsPlanEnd, end_word}
@@ -15,13 +16,51 @@ has_field [] i h e = absurd (omega arith)
 has_field (f ∷ row) zero h e = cc
 has_field (f ∷ row) (suc i) h e = has_field row i (omega arith) e
 
-pub negated : (b : Bool) → not b ≡ true → b ≡ false
-negated true e = cc e
-negated false e = refl
+pub is_word : (word name : List ℕ) → bytes_eq word name ≡ true → word ≡ name
+is_word word name t = (bytes_eq-Decides word name).0 t
 
-pub unnegated : (b : Bool) → not b ≡ false → b ≡ true
-unnegated true e = refl
-unnegated false e = cc e
+-- a word that is not the name
+pub differs : (word name : List ℕ) → word ≢ name → bytes_eq word name ≡ false
+differs word name d = false_from_ne_true (bytes_eq word name) (λ t. d (is_word word name t))
+
+pub not_clear : (row : Row) → length row ≡ 1 → Some (codes "clear") ≢ field_at row 0 → None ≡ asked_of row
+unfolding asked_of field_at
+not_clear [] n d = absurd (omega arith)
+not_clear (w ∷ []) n d = rw (differs w (codes "clear") (λ e. d (ap Some (sym e)))) refl
+not_clear (w ∷ a ∷ row) n d = absurd (omega arith)
+
+pub not_cancel : (row : Row) → length row ≡ 2 → Some (codes "cancel") ≢ field_at row 0 → None ≡ asked_of row
+unfolding asked_of field_at
+not_cancel [] n d = absurd (omega arith)
+not_cancel (w ∷ []) n d = absurd (omega arith)
+not_cancel (w ∷ a ∷ []) n d = rw (differs w (codes "cancel") (λ e. d (ap Some (sym e)))) refl
+not_cancel (w ∷ a ∷ b ∷ row) n d = absurd (omega arith)
+
+pub not_add : (row : Row) → length row ≡ 4 → Some (codes "add") ≢ field_at row 0 → None ≡ asked_of row
+unfolding asked_of field_at
+not_add [] n d = absurd (omega arith)
+not_add (w ∷ []) n d = absurd (omega arith)
+not_add (w ∷ f ∷ []) n d = absurd (omega arith)
+not_add (w ∷ f ∷ g ∷ []) n d = absurd (omega arith)
+not_add (w ∷ f ∷ g ∷ h ∷ []) n d = rw (differs w (codes "add") (λ e. d (ap Some (sym e)))) refl
+not_add (w ∷ f ∷ g ∷ h ∷ i ∷ row) n d = absurd (omega arith)
+
+-- a record of one field that is not `list` asks neither for the list nor for a journal
+pub not_list : (row : Row) → length row ≡ 1 → Some (codes "list") ≢ field_at row 0 → AsksNeither row
+unfolding field_at
+not_list row n d =
+    (λ h. d (ap (λ (r : Row). field_at r 0) (sym h)), λ h. absurd (let k : length row ≡ 2 = ap length h in omega (arith, k, n)))
+
+-- nor does one of two fields that is not the first of a journal
+pub not_journal : (row : Row) → length row ≡ 2 → Some (codes "pocsag journal") ≢ field_at row 0 → AsksNeither row
+unfolding field_at
+not_journal row n d =
+    (λ h. absurd (let k : length row ≡ 1 = ap length h in omega (arith, k, n)), λ h. d (ap (λ (r : Row). field_at r 0) (sym h)))
+
+pub not_version : (row : Row) → length row ≡ 2 → Some (codes "1") ≢ field_at row 1 → AsksNeither row
+unfolding field_at
+not_version row n d =
+    (λ h. absurd (let k : length row ≡ 1 = ap length h in omega (arith, k, n)), λ h. d (ap (λ (r : Row). field_at r 1) (sym h)))
 
 pub bare_asks : (row : Row) (word : List ℕ) → length row ≡ 1 → Some word ≡ field_at row 0 → (b : Bool) → bytes_eq word (codes "clear") ≡ b →
     cond b (Some clear) None ≡ asked_of row
@@ -41,14 +80,6 @@ cancel_asks (w ∷ a ∷ []) word n e t address h =
     rw (sym same, t, other) refl
 cancel_asks (w ∷ a ∷ b ∷ row) word n e t address h = absurd (omega arith)
 
-pub no_cancel : (row : Row) (word : List ℕ) → length row ≡ 2 → Some word ≡ field_at row 0 → bytes_eq word (codes "cancel") ≡ false →
-    None ≡ asked_of row
-unfolding asked_of field_at
-no_cancel [] word n e t = absurd (omega arith)
-no_cancel (w ∷ []) word n e t = absurd (omega arith)
-no_cancel (w ∷ a ∷ []) word n e t = let same : word ≡ w = cc e in rw (sym same, t) refl
-no_cancel (w ∷ a ∷ b ∷ row) word n e t = absurd (omega arith)
-
 pub add_asks : (row : Row) (word : List ℕ) → length row ≡ 4 → Some word ≡ field_at row 0 → bytes_eq word (codes "add") ≡ true →
     (a k m : List ℕ) → Some a ≡ field_at row 1 → Some k ≡ field_at row 2 → Some m ≡ field_at row 3 → Some (add a k m) ≡ asked_of row
 unfolding asked_of field_at
@@ -63,19 +94,6 @@ add_asks (w ∷ f ∷ g ∷ h ∷ []) word n e t a k m x y z =
     let third : m ≡ h = cc z in
     rw (sym same, t, first, second, third) refl
 add_asks (w ∷ f ∷ g ∷ h ∷ i ∷ row) word n e t a k m x y z = absurd (omega arith)
-
-pub no_add : (row : Row) (word : List ℕ) → length row ≡ 4 → Some word ≡ field_at row 0 → bytes_eq word (codes "add") ≡ false →
-    None ≡ asked_of row
-unfolding asked_of field_at
-no_add [] word n e t = absurd (omega arith)
-no_add (w ∷ []) word n e t = absurd (omega arith)
-no_add (w ∷ f ∷ []) word n e t = absurd (omega arith)
-no_add (w ∷ f ∷ g ∷ []) word n e t = absurd (omega arith)
-no_add (w ∷ f ∷ g ∷ h ∷ []) word n e t = let same : word ≡ w = cc e in rw (sym same, t) refl
-no_add (w ∷ f ∷ g ∷ h ∷ i ∷ row) word n e t = absurd (omega arith)
-
-pub is_word : (word name : List ℕ) → bytes_eq word name ≡ true → word ≡ name
-is_word word name t = (bytes_eq-Decides word name).0 t
 
 pub is_other : (word name : List ℕ) → bytes_eq word name ≡ false → word ≢ name
 is_other word name t e = cc (t, (bytes_eq-Decides word name).1 e)
@@ -109,12 +127,6 @@ pub neither_of_two : (row : Row) (word : List ℕ) → length row ≡ 2 → Some
 unfolding field_at
 neither_of_two [] word n e d = absurd (omega arith)
 neither_of_two (w ∷ row) word n e d = (λ h. absurd (let k : length (w ∷ row) ≡ 1 = ap length h in omega arith), λ h. d (cc (e, h)))
-
-pub neither_second : (row : Row) (word : List ℕ) → length row ≡ 2 → Some word ≡ field_at row 1 → word ≢ codes "1" → AsksNeither row
-unfolding field_at
-neither_second [] word n e d = absurd (omega arith)
-neither_second (w ∷ []) word n e d = absurd (omega arith)
-neither_second (w ∷ a ∷ row) word n e d = (λ h. absurd (let k : length (w ∷ a ∷ row) ≡ 1 = ap length h in omega arith), λ h. d (cc (e, h)))
 
 -- nor the record of a plan
 pub neither_of_plan : (end : End) (row : Row) → IsPlanEnd end row → AsksNeither row

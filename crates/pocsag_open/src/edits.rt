@@ -1,6 +1,6 @@
-ghost use Rattle.std.specs.Prelude.{◌≡◌, length, IfErr, IfOk, None};
-ghost use Rattle.csv.specs.Records.{fields_of};
-ghost use Rattle.pocsag_open.specs.Replies.{IsAskedBy, IsAskedIn, IsPlanEnd};
+ghost use Rattle.std.specs.Prelude.{◌≡◌, ◌↔◌, length, IfErr, IfOk, IfSome, IsTrue, None, Some};
+ghost use Rattle.csv.specs.Records.{field_at, fields_of};
+ghost use Rattle.pocsag_open.specs.Replies.{IsAskedBy, IsAskedIn, IsPlanEnd, end_word};
 ghost use Rattle.pocsag_open.specs.Runs.{asked_by_line, asked_in, asked_of};
 ghost use Rattle.pocsag_open.specs.Spelling.{IsRowText, IsUnread, record_text};
 
@@ -81,17 +81,26 @@ pub fn line_of(row: &ByteRecord) -> Line<'_>
     }
 }
 
+// Whether the field of this index is the word.
+fn is_at(row: &ByteRecord, index: usize, word: &[u8]) -> bool
+    ensures { IsTrue result ↔ (Some word.now ≡ field_at (fields_of row.now) index) }
+{
+    match row.get(index) {
+        Some(field) => field == word,
+        None => false,
+    }
+}
+
 #[tactic(auto, unfolding(crate::specs::Runs::asked_of))]
 fn bare_line(row: &ByteRecord) -> Option<Line<'_>>
     requires { length (fields_of row.now) ≡ 1 }
     ensures edit { asked_in result ≡ asked_of (fields_of row.now) }
     ensures asks { IsAskedIn result (fields_of row.now) }
 {
-    let word = row.get(0)?;
-    if word == b"clear".as_slice() {
+    if is_at(row, 0, b"clear") {
         return Some(Line::Clear);
     }
-    if word == b"list".as_slice() {
+    if is_at(row, 0, b"list") {
         return Some(Line::List);
     }
     None
@@ -103,7 +112,7 @@ fn cancel_line(row: &ByteRecord) -> Option<Line<'_>>
     ensures edit { asked_in result ≡ asked_of (fields_of row.now) }
     ensures asks { IsAskedIn result (fields_of row.now) }
 {
-    if row.get(0)? != b"cancel".as_slice() {
+    if !is_at(row, 0, b"cancel") {
         return journal_line(row);
     }
     Some(Line::Cancel {
@@ -117,13 +126,10 @@ fn journal_line(row: &ByteRecord) -> Option<Line<'_>>
     ensures edit { asked_in result ≡ None }
     ensures asks { IsAskedIn result (fields_of row.now) }
 {
-    if row.get(0)? != b"pocsag journal".as_slice() {
-        return None;
+    if is_at(row, 0, b"pocsag journal") && is_at(row, 1, b"1") {
+        return Some(Line::Journal);
     }
-    if row.get(1)? != b"1".as_slice() {
-        return None;
-    }
-    Some(Line::Journal)
+    None
 }
 
 // A plan for the end, which the fourth field names, or none where it is open.
@@ -132,14 +138,19 @@ fn plan_line(row: &ByteRecord, end: End) -> Option<Line<'_>>
     ensures edit { asked_in result ≡ None }
     ensures asks { IsAskedIn result (fields_of row.now) }
 {
-    if row.get(0)? != b"plan".as_slice() {
+    if !is_at(row, 0, b"plan") {
         return None;
     }
     Some(Line::Plan {
-        tx: str::from_utf8(row.get(1)?).ok()?,
-        cert: str::from_utf8(row.get(2)?).ok()?,
+        tx: text_at(row, 1)?,
+        cert: text_at(row, 2)?,
         end,
     })
+}
+
+// The field of this index, where it is a text.
+fn text_at(row: &ByteRecord, index: usize) -> Option<&str> {
+    str::from_utf8(row.get(index)?).ok()
 }
 
 // The lines of four fields: a page, and a plan that names its end.
@@ -149,21 +160,30 @@ fn long_line(row: &ByteRecord) -> Option<Line<'_>>
     ensures edit { asked_in result ≡ asked_of (fields_of row.now) }
     ensures asks { IsAskedIn result (fields_of row.now) }
 {
-    if row.get(0)? == b"add".as_slice() {
+    if is_at(row, 0, b"add") {
         return Some(Line::Add {
             address: row.get(1)?,
             kind: row.get(2)?,
             message: row.get(3)?,
         });
     }
-    if row.get(3)? == b"open".as_slice() {
-        return plan_line(row, End::Open);
+    match end_at(row) {
+        Some(end) => plan_line(row, end),
+        None => None,
     }
-    if row.get(3)? == b"closed".as_slice() {
-        return plan_line(row, End::Closed);
+}
+
+// The end that the fourth field names.
+fn end_at(row: &ByteRecord) -> Option<End>
+    ensures { IfSome result (λ end. Some (end_word end) ≡ field_at (fields_of row.now) 3) }
+{
+    if is_at(row, 3, b"open") {
+        Some(End::Open)
+    } else if is_at(row, 3, b"closed") {
+        Some(End::Closed)
+    } else if is_at(row, 3, b"idle") {
+        Some(End::Idle)
+    } else {
+        None
     }
-    if row.get(3)? == b"idle".as_slice() {
-        return plan_line(row, End::Idle);
-    }
-    None
 }

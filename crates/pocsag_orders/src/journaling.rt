@@ -154,10 +154,10 @@ fn book_of_file(desk: Desk<'_>, path: &str) -> Result<Book, Fault> {
         return Err(Fault::EqualPaths);
     }
     let mut pages = open_source(desk, Role::PageFile, Some(path))?;
-    book_of(desk.alloc, &mut pages)
+    read_book(desk.alloc, &mut pages)
 }
 
-fn book_of<F: Source>(alloc: Global, pages: &mut F) -> Result<Book, Fault> {
+fn read_book<F: Source>(alloc: Global, pages: &mut F) -> Result<Book, Fault> {
     let round = read_round(alloc, pages)?;
     Ok(Book::of_round(alloc, &round)?)
 }

@@ -1,29 +1,18 @@
-use Rattle.std.proofs.Common.{◌≡◌, codes, sym, ◌∙◌, arith}
+use Rattle.std.proofs.Common.{codes}
 use Rattle.csv.specs.Records.{fields_of}
-use Rattle.pocsag_open.proofs.Fields.{has_field, is_other, is_word, negated, neither_of_two, neither_second, pair, unnegated}
+use Rattle.pocsag_open.proofs.Fields.{not_journal, not_version, pair}
+use Rattle.pocsag_open.proofs.edits.journal_line.Goals.{else-is_at-via-then-is_at+else-is_at-2, else-is_at-via-else-is_at}
 use Rattle.pocsag_open.proofs.edits.journal_line.Goals as goal
 
-pub returns-in_err-get-clause-asks : goal.returns-in_err-get-clause-asks
-returns-in_err-get-clause-asks c = absurd (has_field (fields_of c.args.row.now) 0 (omega arith) c.in_err-get.ensures.value)
-
-pub returns-then-ne-clause-asks : goal.returns-then-ne-clause-asks
-returns-then-ne-clause-asks c =
-    neither_of_two (fields_of c.args.row.now) _ c.requires c.in_ok-get.ensures.value
-    (is_other _ _ (rw c.as_slice.ensures at (negated _ (sym c.ne.ensures ∙ c.if-ne.true))))
-
-pub returns-in_err-get-2-clause-asks : goal.returns-in_err-get-2-clause-asks
-returns-in_err-get-2-clause-asks c = absurd (has_field (fields_of c.args.row.now) 1 (omega arith) c.in_err-get-2.ensures.value)
-
-pub returns-then-ne-2-clause-asks : goal.returns-then-ne-2-clause-asks
-returns-then-ne-2-clause-asks c =
-    neither_second (fields_of c.args.row.now) _ c.requires c.in_ok-get-2.ensures.value
-    (is_other _ _ (rw c.as_slice-2.ensures at (negated _ (sym c.ne-2.ensures ∙ c.if-ne-2.true))))
+pub returns-then-is_at-2-clause-asks : goal.returns-then-is_at-2-clause-asks
+returns-then-is_at-2-clause-asks c =
+    pair (fields_of c.args.row.now) (codes "pocsag journal") (codes "1") c.requires
+    (c.is_at.ensures.0 c.if-is_at.true) (c.is_at-then-is_at.ensures.0 c.if-is_at-2.true)
 
 pub returns-clause-asks : goal.returns-clause-asks
-returns-clause-asks c =
-    let heading : c.in_ok-get.field-0.now ≡ codes "pocsag journal" =
-    is_word _ _ (rw c.as_slice.ensures at (unnegated _ (sym c.ne.ensures ∙ c.if-ne.false))) in
-    let version : c.in_ok-get-2.field-0.now ≡ codes "1" =
-    is_word _ _ (rw c.as_slice-2.ensures at (unnegated _ (sym c.ne-2.ensures ∙ c.if-ne-2.false))) in
-    let both = pair (fields_of c.args.row.now) _ _ c.requires c.in_ok-get.ensures.value c.in_ok-get-2.ensures.value in
-    rw (heading, version) at both
+returns-clause-asks c = elim c.else-is_at.branch [
+  | else-is_at-via-then-is_at+else-is_at-2 w ↦
+      not_version (fields_of c.args.row.now) c.requires (λ e. cc (w.if-is_at-2.false, w.is_at-then-is_at.ensures.1 e))
+  | else-is_at-via-else-is_at w ↦
+      not_journal (fields_of c.args.row.now) c.requires (λ e. cc (w.if-is_at.false, c.is_at.ensures.1 e))
+]
