@@ -22,7 +22,7 @@ pub fn choose(classes: &Classes, limits: &Limits) -> Result<Choice, ChooseFault>
     ensures overloads { IfErr result (λ fault. Overloads classes.now limits.now (set_of fault)) }
     ensures least { IfErr result (λ fault. IsBelowLeast classes.now limits.now (set_of fault)) }
 {
-    settled(classes, limits, &Choice { early: limits.hi })
+    choose_within(classes, limits, &Choice { early: limits.hi })
 }
 
 /// The same. The given choice is a hint for speed: the nearer it is to one that is admitted, the sooner
@@ -39,11 +39,11 @@ pub fn choose_from(
     ensures least { IfErr result (λ fault. IsBelowLeast classes.now limits.now (set_of fault)) }
 {
     let choice = clamped(limits, start);
-    settled(classes, limits, &choice)
+    choose_within(classes, limits, &choice)
 }
 
 // The same of a choice that is within the limits.
-fn settled(classes: &Classes, limits: &Limits, within: &Choice) -> Result<Choice, ChooseFault>
+fn choose_within(classes: &Classes, limits: &Limits, within: &Choice) -> Result<Choice, ChooseFault>
     requires ordered { AreInOrder classes.now limits.now }
     requires within { IsWithin limits.now (slice_index within.now.early) }
     ensures admitted { IfOk result (λ choice. IsAdmitted classes.now limits.now (slice_index choice.early)) }

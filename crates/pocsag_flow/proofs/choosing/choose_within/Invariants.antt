@@ -1,7 +1,7 @@
 use Rattle.std.proofs.Common.{slice_index}
 use Rattle.pocsag_flow.specs.Choosing.{overload}
 use Rattle.pocsag_flow.specs.Search.{IsLoaded}
-use Rattle.pocsag_flow.proofs.choosing.settled.Given as goal
+use Rattle.pocsag_flow.proofs.choosing.choose_within.Given as goal
 
 abbrev pub invariant-loop-slot : goal.invariant-loop-slot
 invariant-loop-slot l = IsLoaded l.classes l.limits l.search.early l.counted
