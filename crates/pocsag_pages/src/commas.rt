@@ -1,4 +1,4 @@
-ghost use Rattle.std.specs.Prelude.{◌≡◌, ◌==◌, ◌≤◌, IsTrue, count_by, length};
+ghost use Rattle.std.specs.Prelude.{◌≡◌, ◌==◌, ◌≤◌, ◌↔◌, IsTrue, count_by, length};
 ghost use Rattle.pocsag_pages.specs.WideRecords.{HasFewCommas};
 
 // The most commas of a file of any length that are few. A file of 20,000 pages has 40,002 outside its messages.
@@ -38,7 +38,7 @@ fn file_commas(bytes: &[u8]) -> usize
 
 // Whether the ends of a file's fields take little memory, even if one record has them all.
 pub(crate) fn has_few_commas(bytes: &[u8]) -> bool
-    ensures { IsTrue result → HasFewCommas bytes.now }
+    ensures { IsTrue result ↔ HasFewCommas bytes.now }
 {
     file_commas(bytes) <= FEW_COMMAS.max(bytes.len() / BYTES_PER_COMMA)
 }
