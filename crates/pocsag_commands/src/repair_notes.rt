@@ -31,7 +31,7 @@ struct Marks<'a> {
     after: &'a [u8],
 }
 
-// A word behind a frame's first one, or the synchronisation codeword, stands with no space before it.
+// How a word is marked, with a space before the first of a frame.
 fn word_mark(is_corrected: bool, is_first_of_frame: bool) -> &'static str {
     match (is_corrected, is_first_of_frame) {
         (false, false) => ".",
