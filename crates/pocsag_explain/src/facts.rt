@@ -150,12 +150,7 @@ impl Display for NodeFacts<'_> {
                 };
                 write_cut(f, cut)
             }
-            Fact::Close { ways, children } => {
-                write!(
-                    f,
-                    r#"{{"kind":"close","ways":{ways},"children":{children}}}"#
-                )
-            }
+            Fact::Close { ways, children } => write_close(f, Outlets { ways, children }),
             Fact::Open => f.write_str(r#"{"kind":"open"}"#),
             Fact::Unjudged => f.write_str(r#"{"kind":"unjudged"}"#),
         }
@@ -200,6 +195,14 @@ fn write_cut<W: fmt::Write>(f: &mut Formatter<W>, cut: Cut) -> fmt::Result {
     write!(
         f,
         r#"{{"kind":"cut","boundaries":[{boundaries}],"pages":{pages},"certain":{certain},"ways":{ways},"children":{children}}}"#
+    )
+}
+
+fn write_close<W: fmt::Write>(f: &mut Formatter<W>, outlets: Outlets) -> fmt::Result {
+    let Outlets { ways, children } = outlets;
+    write!(
+        f,
+        r#"{{"kind":"close","ways":{ways},"children":{children}}}"#
     )
 }
 

@@ -161,28 +161,28 @@ struct Origins<'a>(&'a [Share]);
 
 impl Display for Origins<'_> {
     fn fmt<W: fmt::Write>(&self, f: &mut Formatter<W>) -> fmt::Result {
-        for (place, share) in self.0.iter().take(MOST_SHARES).enumerate() {
+        let (told, others) = self.0.split_at(self.0.len().min(MOST_SHARES));
+        for (place, share) in told.iter().enumerate() {
             let link = if place > 0 { ", " } else { "" };
             let least = share.least;
             let pages = Counted(u64::from(share.pages), "page");
             let kind = ClassWords(share.class);
             write!(f, "{link}{least} from {pages} of {kind}")?;
         }
-        write_others(f, self.0)
+        write_others(f, others)
     }
 }
 
 // Adds those that are not told one by one.
 fn write_others<W: fmt::Write>(f: &mut Formatter<W>, shares: &[Share]) -> fmt::Result {
-    let mut more: u64 = 0;
-    for share in shares.iter().skip(MOST_SHARES) {
-        more = more.saturating_add(share.least);
-    }
-    let others = shares.len().saturating_sub(MOST_SHARES);
-    if others == 0 {
+    if shares.is_empty() {
         return Ok(());
     }
-    let others = Counted(others as u64, "other kind");
+    let mut more: u64 = 0;
+    for share in shares {
+        more = more.saturating_add(share.least);
+    }
+    let others = Counted(shares.len() as u64, "other kind");
     write!(f, ", {more} from pages of {others}")
 }
 
