@@ -92,7 +92,7 @@ fn judge_batch(place: u64, may: bool, batch: &[u8]) -> Result<bool, DecodeFault>
 }
 
 // Judges all whole words after the preamble.
-fn judge_all(bytes: &[u8]) -> Result<(), DecodeFault>
+fn judge_batches(bytes: &[u8]) -> Result<(), DecodeFault>
     ensures { MatchResult result (λ _. AllMayStand (words_of bytes.now)) (λ f. HasBadWord (words_of bytes.now) f) }
 {
     let count = bytes.len() / BATCH_BYTES;
@@ -118,7 +118,7 @@ pub fn judge_bytes(bytes: &[u8]) -> Result<(), DecodeFault>
     if rest.is_empty() {
         return Err(DecodeFault::NoBatch);
     }
-    judge_all(rest)?;
+    judge_batches(rest)?;
     if rest.len() % BATCH_BYTES != 0 {
         return Err(DecodeFault::Truncated);
     }

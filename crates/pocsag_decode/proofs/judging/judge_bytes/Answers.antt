@@ -35,22 +35,22 @@ returns-then-is_empty-clause-err c =
     let is = behind c.args.bytes.now c.split_at.result.1.now c.leading_len-count.result c.split_at.ensures.back value in
     inr (HasFaultOfEnd.no_batch long (sym is ∙ is_nil c.split_at.result.1.now c.if-is_empty.ensures))
 
-pub returns-in_err-judge_all-clause-err : goal.returns-in_err-judge_all-clause-err
-returns-in_err-judge_all-clause-err c =
+pub returns-in_err-judge_batches-clause-err : goal.returns-in_err-judge_batches-clause-err
+returns-in_err-judge_batches-clause-err c =
     let value = c.leading_len-count.ensures.value in
     let long : 72 ≤ leading c.args.bytes.now = omega arith in
     let is = behind c.args.bytes.now c.split_at.result.1.now c.leading_len-count.result c.split_at.ensures.back value in
     let p = err_from_is_err_and c.from_residual.result c.from_residual.ensures.1 in
-    let f = c.in_err-judge_all.field-0.0 in
+    let f = c.in_err-judge_batches.field-0.0 in
     rw (p.1, p.2)
-    (inl (HasFaultThere.bad long (subst (λ (l : List ℕ). HasBadWord (words_of l) f) is c.in_err-judge_all.ensures)))
+    (inl (HasFaultThere.bad long (subst (λ (l : List ℕ). HasBadWord (words_of l) f) is c.in_err-judge_batches.ensures)))
 
 pub returns-then-rest-ne0-clause-err : goal.returns-then-rest-ne0-clause-err
 returns-then-rest-ne0-clause-err c =
     let value = c.leading_len-count.ensures.value in
     let long : 72 ≤ leading c.args.bytes.now = omega arith in
     let is = behind c.args.bytes.now c.split_at.result.1.now c.leading_len-count.result c.split_at.ensures.back value in
-    inr (HasFaultOfEnd.cut long (subst (λ (l : List ℕ). AllMayStand (words_of l)) is c.in_ok-judge_all.ensures)
+    inr (HasFaultOfEnd.cut long (subst (λ (l : List ℕ). AllMayStand (words_of l)) is c.in_ok-judge_batches.ensures)
     (λ e. c.if-rest-ne0.true (ap (λ (l : List ℕ). length l % 68) is ∙ e)))
 
 pub returns-clause-ok : goal.returns-clause-ok
@@ -62,7 +62,7 @@ returns-clause-ok c =
       small = All-from_get_or (λ b. b < 256) bytes 0 (λ i h. omega (arith, (c.type_inv.bytes i).fits));
       long = omega arith;
       some = subst (λ (l : List ℕ). 0 < length l) is (some_left c.split_at.result.1.now c.if-is_empty.ensures);
-      good = subst (λ (l : List ℕ). AllMayStand (words_of l)) is c.in_ok-judge_all.ensures;
+      good = subst (λ (l : List ℕ). AllMayStand (words_of l)) is c.in_ok-judge_batches.ensures;
       batches = sym (ap (λ (l : List ℕ). length l % 68) is) ∙ c.if-rest-ne0.false;
     } in
     (pages_from 0 (map kind_of (codewords_in bytes)), whole_reads bytes whole _ refl)

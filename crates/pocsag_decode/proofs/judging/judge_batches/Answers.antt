@@ -4,7 +4,7 @@ use Rattle.std.proofs.lemmas.Result.{err_from_is_err_and}
 use Rattle.pocsag_pages.specs.Bytes.{words_of}
 use Rattle.pocsag_decode.specs.Judging.{AreFine, JudgesMore}
 use Rattle.pocsag_decode.proofs.Fine.{last_judged, next_judged, none_fine}
-use Rattle.pocsag_decode.proofs.judging.judge_all.Goals as goal
+use Rattle.pocsag_decode.proofs.judging.judge_batches.Goals as goal
 
 pub loop-i-init : goal.loop-i-init
 loop-i-init c = none_fine
