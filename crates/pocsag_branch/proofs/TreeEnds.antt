@@ -17,8 +17,8 @@ use Rattle.pocsag_slots.specs.Ways.{limits_below, limits_from, narrowed_limits, 
 use Rattle.pocsag_slots.proofs.Fewest.{fewest}
 use Rattle.pocsag_slots.proofs.LimitLemmas.{all_ordered}
 use Rattle.pocsag_slots.proofs.SumLemmas.{sum_below-most}
-use Rattle.pocsag_tree.specs.Bounds.{Bound, Bounds, overload, split, cut, close, unexamined, none, more, closed_nodes, closed_nodes_in}
-use Rattle.pocsag_tree.specs.Views.{bound_of, bound_step}
+use Rattle.pocsag_tree.specs.BoundTrees.{BoundTree, BoundTrees, overload, split, cut, close, unexamined, none, more, closed_nodes, closed_nodes_in}
+use Rattle.pocsag_tree.specs.Views.{bound_tree_of, bound_step}
 use Rattle.pocsag_tree.specs.declared.shape.Tree.TheVariants.{Overload, rolls-Overload}
 use Rattle.pocsag_tree.specs.declared.shape.Tree.TheOpen as layer
 use Rattle.pocsag_tree.specs.declared.shape.Tree.TheFolds.{fold-roll-Tree}
@@ -66,7 +66,7 @@ all_node_limits k batches =
 
 -- a tree without `Open` is accepted as it is
 mutual
-  sealed : (t : Bound) (k : Classes) (end : End) (b : ℕ) (l : Limits) → has_open t ≡ false → Accepts true k end b l t →
+  sealed : (t : BoundTree) (k : Classes) (end : End) (b : ℕ) (l : Limits) → has_open t ≡ false → Accepts true k end b l t →
       Accepts false k end b l t
   sealed (overload set) k end b l whole a = a
   sealed (split c m s t) k end b l whole a =
@@ -76,7 +76,7 @@ mutual
   sealed (close ts) k end b l whole a = (a.0, a.1, each_sealed ts (ways_to_close k end l) k end b l whole a.2)
   sealed unexamined k end b l whole a = absurd (cc)
 
-  each_sealed : (ts : Bounds) (ws : List Way) (k : Classes) (end : End) (b : ℕ) (l : Limits) → have_open ts ≡ false →
+  each_sealed : (ts : BoundTrees) (ws : List Way) (k : Classes) (end : End) (b : ℕ) (l : Limits) → have_open ts ≡ false →
       AcceptsEach true k end b l ws ts → AcceptsEach false k end b l ws ts
   each_sealed none [] k end b l whole a = tt
   each_sealed none (w ∷ ws) k end b l whole a = absurd a
@@ -125,7 +125,7 @@ closed_in-open (suc n) = closed_in-open n
 mutual
   unfolding some_open
 
-  marks_open : (t : Bound) → some_open (opens t) ≡ has_open t
+  marks_open : (t : BoundTree) → some_open (opens t) ≡ has_open t
   marks_open (overload set) = refl
   marks_open (split c m s t) = some_open-append (opens s) (opens t) ∙ ap (λ (x : Bool). x || some_open (opens t)) (marks_open s)
       ∙ ap (λ (x : Bool). has_open s || x) (marks_open t)
@@ -133,7 +133,7 @@ mutual
   marks_open (close ts) = marks_open_in ts
   marks_open unexamined = refl
 
-  marks_open_in : (ts : Bounds) → some_open (opens_in ts) ≡ have_open ts
+  marks_open_in : (ts : BoundTrees) → some_open (opens_in ts) ≡ have_open ts
   marks_open_in none = refl
   marks_open_in (more t ts) = some_open-append (opens t) (opens_in ts) ∙ ap (λ (x : Bool). x || some_open (opens_in ts)) (marks_open t)
       ∙ ap (λ (x : Bool). has_open t || x) (marks_open_in ts)
@@ -141,14 +141,14 @@ mutual
 mutual
   unfolding closed_in
 
-  marks_closed : (t : Bound) → closed_in (opens t) ≡ closed_nodes t
+  marks_closed : (t : BoundTree) → closed_in (opens t) ≡ closed_nodes t
   marks_closed (overload set) = refl
   marks_closed (split c m s t) = omega (arith, closed_in-append (opens s) (opens t), marks_closed s, marks_closed t)
   marks_closed (cut set c ts) = omega (arith, marks_closed_in ts)
   marks_closed (close ts) = omega (arith, marks_closed_in ts)
   marks_closed unexamined = refl
 
-  marks_closed_in : (ts : Bounds) → closed_in (opens_in ts) ≡ closed_nodes_in ts
+  marks_closed_in : (ts : BoundTrees) → closed_in (opens_in ts) ≡ closed_nodes_in ts
   marks_closed_in none = refl
   marks_closed_in (more t ts) = omega (arith, closed_in-append (opens t) (opens_in ts), marks_closed t, marks_closed_in ts)
 
@@ -161,7 +161,7 @@ some_is_suc : (n : ℕ) → 0 < n → (m : ℕ) × (n ≡ suc m)
 some_is_suc zero h = absurd (omega arith)
 some_is_suc (suc m) h = (m, refl)
 
-pub none_unseen : (t : Bound) (closed unseen : ℕ) → opens t ≡ replicate closed false ++ replicate unseen true → has_open t ≡ false →
+pub none_unseen : (t : BoundTree) (closed unseen : ℕ) → opens t ≡ replicate closed false ++ replicate unseen true → has_open t ≡ false →
     unseen ≡ 0
 none_unseen t closed unseen layout whole =
     elim (cases_eq unseen 0) [
@@ -174,7 +174,7 @@ none_unseen t closed unseen layout whole =
           absurd (cc)
     ]
 
-pub some_unseen : (t : Bound) (closed unseen : ℕ) → opens t ≡ replicate closed false ++ replicate unseen true → has_open t ≡ true →
+pub some_unseen : (t : BoundTree) (closed unseen : ℕ) → opens t ≡ replicate closed false ++ replicate unseen true → has_open t ≡ true →
     0 < unseen
 some_unseen t closed unseen layout open_somewhere =
     elim (cases_eq unseen 0) [
@@ -187,14 +187,14 @@ some_unseen t closed unseen layout open_somewhere =
           absurd (cc)
     ]
 
-pub closed_is : (t : Bound) (closed unseen : ℕ) → opens t ≡ replicate closed false ++ replicate unseen true → closed_nodes t ≡ closed
+pub closed_is : (t : BoundTree) (closed unseen : ℕ) → opens t ≡ replicate closed false ++ replicate unseen true → closed_nodes t ≡ closed
 closed_is t closed unseen layout =
     sym (marks_closed t) ∙ ap closed_in layout
     ∙ (closed_in-append (replicate closed false) (replicate unseen true)
     ∙ omega (arith, closed_in-closed closed, closed_in-open unseen))
 
 -- a tree that refutes the root is accepted for one batch more
-pub refuted_accepted : (u : Bool) (k : Classes) (end : End) (b : ℕ) (t : Bound) → IsRefuted u k end b (limits_of_all k b) t →
+pub refuted_accepted : (u : Bool) (k : Classes) (end : End) (b : ℕ) (t : BoundTree) → IsRefuted u k end b (limits_of_all k b) t →
     IsAccepted u k end (b + 1) t
 refuted_accepted u k end b t h =
     let one : b ≡ b + 1 - 1 = omega arith in
@@ -204,7 +204,7 @@ refuted_accepted u k end b t h =
       root = rw one at h.accepted;
     }
 
-pub tree_whole : (k : Classes) (q : Task) (t : Bound) → IsTreeOf k q t → has_open t ≡ false → IsAccepted false k q.end (q.batches + 1) t
+pub tree_whole : (k : Classes) (q : Task) (t : BoundTree) → IsTreeOf k q t → has_open t ≡ false → IsAccepted false k q.end (q.batches + 1) t
 tree_whole k q t of whole =
     refuted_accepted false k q.end q.batches t
     (record {
@@ -212,17 +212,17 @@ tree_whole k q t of whole =
       deep = of.examined.refuted.deep;
     })
 
-pub tree_open : (k : Classes) (q : Task) (t : Bound) → IsTreeOf k q t → IsAccepted true k q.end (q.batches + 1) t
+pub tree_open : (k : Classes) (q : Task) (t : BoundTree) → IsTreeOf k q t → IsAccepted true k q.end (q.batches + 1) t
 tree_open k q t of = refuted_accepted true k q.end q.batches t of.examined.refuted
 
 pub set_refutes : (k : Classes) (end : End) (b set : ℕ) → RefusesOneLess k b set → IsAccepted false k end b (overload set)
 set_refutes k end b set refuses =
     record { some = refuses.some; shallow = omega arith; root = (refuses.slots, refuses.over) }
 
-pub bound_of-overload : (set : ℕ) → bound_of (Overload set) ≡ overload set
-bound_of-overload set = ap bound_of (sym (rolls-Overload set)) ∙ fold-roll-Tree Bound bound_step (layer.Overload set)
+pub bound_tree_of-overload : (set : ℕ) → bound_tree_of (Overload set) ≡ overload set
+bound_tree_of-overload set = ap bound_tree_of (sym (rolls-Overload set)) ∙ fold-roll-Tree BoundTree bound_step (layer.Overload set)
 
-pub tree_bound : (k : Classes) (end : End) (batches : ℕ) (t : Bound) → IsAccepted false k end batches t → IsBound k end batches
+pub tree_bound : (k : Classes) (end : End) (batches : ℕ) (t : BoundTree) → IsAccepted false k end batches t → IsBound k end batches
 tree_bound k end batches t accepted R U n apart counted legal =
     bounded k end R (map kind_of U) batches n t apart counted accepted.root legal.1
 
@@ -258,16 +258,16 @@ pub has_room : (k : Classes) (choice : ℕ → ℕ) (b : ℕ) → IsAdmitted k (
 has_room k choice b admitted slot h = omega (arith, admitted.capped slot h, get_or-replicate 16 slot b 0 h)
 
 -- the one node that refutes one batch less
-pub record IsLeastTree (k : Classes) (end : End) (b limit : ℕ) (t : Bound) : Type 0 where
+pub record IsLeastTree (k : Classes) (end : End) (b limit : ℕ) (t : BoundTree) : Type 0 where
   pub accepted : IsAccepted false k end b t
   pub examined : opens t ≡ replicate (closed_nodes t) false
   pub few : closed_nodes t ≤ limit
   pub one : IsOneOverload k b t
 
 pub least_tree : (k : Classes) (end : End) (b limit set : ℕ) → 1 ≤ limit → RefusesOneLess k b set →
-    IsLeastTree k end b limit (bound_of (Overload set))
+    IsLeastTree k end b limit (bound_tree_of (Overload set))
 least_tree k end b limit set some refuses =
-    rw (bound_of-overload set)
+    rw (bound_tree_of-overload set)
     (record {
       accepted = set_refutes k end b set refuses;
       examined = refl;
@@ -275,7 +275,7 @@ least_tree k end b limit set some refuses =
       one = record { set = set; refuses = refuses; one_node = refl };
     })
 
-pub free_whole : (k : Classes) (q : Task) (t : Bound) → IsFreeTree k q t → IsAccepted false k q.end (q.batches + 1) t
+pub free_whole : (k : Classes) (q : Task) (t : BoundTree) → IsFreeTree k q t → IsAccepted false k q.end (q.batches + 1) t
 free_whole k q t of = refuted_accepted false k q.end q.batches t of.refuted
 
 -- the choice of a tour is admitted

@@ -7,7 +7,7 @@ use Rattle.pocsag_slots.specs.declared.way.Way.{Way}
 use Rattle.pocsag_slots.specs.Loads.{IsChoice, Overloads, limits_of_all}
 use Rattle.pocsag_slots.specs.Tours.{AsksForLast, IsTour}
 use Rattle.pocsag_slots.specs.Ways.{class_certain, ways_across, ways_to_close}
-use Rattle.pocsag_tree.specs.Bounds.{Bound, Bounds, depth_of, deepest}
+use Rattle.pocsag_tree.specs.BoundTrees.{BoundTree, BoundTrees, depth_of, deepest}
 use Rattle.pocsag_tree.specs.Spelling.{IsSet}
 use Rattle.pocsag_check.specs.Accepting.{Accepts, AcceptsEach}
 use Rattle.pocsag_tour.specs.Reached.{IsApart, IsUnclosed}
@@ -59,12 +59,12 @@ StandsAs k q l (Split c m) = AdmitSplit k q.batches l c.number m
 StandsAs k q l Close = AdmitUnclosed k q.end q.batches l
 
 -- The tree is accepted for the node, and no deeper than its limits leave questions open.
-pub record IsRefuted (takes_open : Bool) (k : Classes) (end : End) (batches : ℕ) (l : Limits) (t : Bound) : Type 0 where
+pub record IsRefuted (takes_open : Bool) (k : Classes) (end : End) (batches : ℕ) (l : Limits) (t : BoundTree) : Type 0 where
   pub accepted : Accepts takes_open k end batches l t
   pub deep : depth_of t ≤ 1 + undecided k batches l
 
 -- The same of its children.
-pub record AreRefuted (takes_open : Bool) (k : Classes) (end : End) (batches : ℕ) (l : Limits) (ws : List Way) (ts : Bounds) : Type 0 where
+pub record AreRefuted (takes_open : Bool) (k : Classes) (end : End) (batches : ℕ) (l : Limits) (ws : List Way) (ts : BoundTrees) : Type 0 where
   pub accepted : AcceptsEach takes_open k end batches l ws ts
   pub deep : deepest ts ≤ undecided k batches l
 
@@ -78,18 +78,18 @@ pub record Fills (limit made after : ℕ) (marks : List Bool) : Type 0 where
   pub whole : 0 < unseen → after ≡ limit
 
 -- What is owed for a node, where so many were made before it and so many after it.
-pub record IsExamined (k : Classes) (q : Task) (l : Limits) (made after : ℕ) (t : Bound) : Type 0 where
+pub record IsExamined (k : Classes) (q : Task) (l : Limits) (made after : ℕ) (t : BoundTree) : Type 0 where
   pub refuted : IsRefuted true k q.end q.batches l t
   pub shaped : IsShaped k q.end q.batches l t
   pub fills : Fills q.limit made after (opens t)
 
 -- The same for its children.
-pub record AreExamined (k : Classes) (q : Task) (l : Limits) (made after : ℕ) (ws : List Way) (ts : Bounds) : Type 0 where
+pub record AreExamined (k : Classes) (q : Task) (l : Limits) (made after : ℕ) (ws : List Way) (ts : BoundTrees) : Type 0 where
   pub refuted : AreRefuted true k q.end q.batches l ws ts
   pub shaped : AreShaped k q.end q.batches l ws ts
   pub fills : Fills q.limit made after (opens_in ts)
 
 -- The whole tree of a search from the limits of all choices.
-pub record IsTreeOf (k : Classes) (q : Task) (t : Bound) : Type 0 where
+pub record IsTreeOf (k : Classes) (q : Task) (t : BoundTree) : Type 0 where
   pub after : ℕ
   pub examined : IsExamined k q (limits_of_all k q.batches) 0 after t

@@ -7,8 +7,8 @@ use Rattle.pocsag_pages.specs.Reading.{AreApart, IsLegalList}
 use Rattle.pocsag_slots.specs.declared.class.Classes.{Classes}
 use Rattle.pocsag_slots.specs.Loads.{AreClassesOf, IsChoice, IsLeast, limits_of_all}
 use Rattle.pocsag_slots.specs.Tours.{IsTour}
-use Rattle.pocsag_tree.specs.Bounds.{Bound, closed_nodes}
-use Rattle.pocsag_tree.specs.Views.{bound_of}
+use Rattle.pocsag_tree.specs.BoundTrees.{BoundTree, closed_nodes}
+use Rattle.pocsag_tree.specs.Views.{bound_tree_of}
 use Rattle.pocsag_check.specs.Accepting.{IsAccepted}
 use Rattle.pocsag_branch.specs.declared.answer.Found.{Found}
 use Rattle.pocsag_branch.specs.declared.fault.SearchFault.{SearchFault}
@@ -48,16 +48,16 @@ pub record IsFound (k : Classes) (end : End) (limit : ℕ) (found : Found) : Typ
   pub choice : IsChoice k (slice_index found.choice.early)
   pub tour : IsTour k end (slice_index found.choice.early) found.batches found.steps.items
   -- the checker accepts the tree, which is at most 300 deep, so no transmission has fewer batches;
-  pub accepted : IsAccepted false k end found.batches (bound_of found.tree)
+  pub accepted : IsAccepted false k end found.batches (bound_tree_of found.tree)
   pub bound : IsBound k end found.batches
   -- the tree has no `Open`, at most so many nodes, and the promised shape: where the batches are the least,
   -- it is one `Overload`.
-  pub examined : opens (bound_of found.tree) ≡ replicate (closed_nodes (bound_of found.tree)) false
-  pub few : closed_nodes (bound_of found.tree) ≤ limit
-  pub shaped : IsSearchTree k end least found.batches (bound_of found.tree)
+  pub examined : opens (bound_tree_of found.tree) ≡ replicate (closed_nodes (bound_tree_of found.tree)) false
+  pub few : closed_nodes (bound_tree_of found.tree) ≤ limit
+  pub shaped : IsSearchTree k end least found.batches (bound_tree_of found.tree)
 
 -- *Search limit*: what `SearchLimit` says.
-pub record IsLimit (k : Classes) (end : End) (limit least found : ℕ) (tree : Bound) : Type 0 where
+pub record IsLimit (k : Classes) (end : End) (limit least found : ℕ) (tree : BoundTree) : Type 0 where
   -- `least` is the least that some choice of starts needs, which bounds each transmission;
   pub is_least : IsLeast k least
   pub bound : IsBound k end least
@@ -75,5 +75,5 @@ pub record IsLimit (k : Classes) (end : End) (limit least found : ℕ) (tree : B
 
 -- What each fault of `search` says.
 abbrev pub IsSearchFault : Classes → End → ℕ → SearchFault → Type 0
-IsSearchFault k end limit (SearchLimit stop) = IsLimit k end limit stop.least stop.found (bound_of stop.tree)
+IsSearchFault k end limit (SearchLimit stop) = IsLimit k end limit stop.least stop.found (bound_tree_of stop.tree)
 IsSearchFault k end limit OutOfMemory = Unit {0}

@@ -5,8 +5,8 @@ use Rattle.pocsag_slots.specs.declared.limit.Limits.{Limits}
 use Rattle.pocsag_slots.specs.declared.way.Way.{Way}
 use Rattle.pocsag_slots.specs.declared.way.Way.TheVariants.{IdleIn, Early, Late}
 use Rattle.pocsag_slots.specs.Loads.{limits_of_all}
-use Rattle.pocsag_tree.specs.Bounds.{Bound, Bounds, closed_nodes, closed_nodes_in}
-use Rattle.pocsag_tree.specs.Views.{bound_of, bounds_of}
+use Rattle.pocsag_tree.specs.BoundTrees.{BoundTree, BoundTrees, closed_nodes, closed_nodes_in}
+use Rattle.pocsag_tree.specs.Views.{bound_tree_of, bounds_of}
 use Rattle.pocsag_branch.specs.declared.task.Task.{Task}
 use Rattle.pocsag_branch.specs.declared.halt.Halt.{Halt}
 use Rattle.pocsag_branch.specs.declared.halt.Halt.TheVariants.{Met, Limit, OutOfMemory}
@@ -28,13 +28,13 @@ IsUndecidedWay k batches l (Late c) = slice_index k.count c ≤ slice_index l.hi
 
 -- What is owed for a node, where so many were examined before it and so many after it: the limit is not
 -- exceeded, and no node of the tree was left out of the count.
-pub record IsFreeNode (k : Classes) (q : Task) (l : Limits) (examined after : ℕ) (t : Bound) : Type 0 where
+pub record IsFreeNode (k : Classes) (q : Task) (l : Limits) (examined after : ℕ) (t : BoundTree) : Type 0 where
   pub refuted : IsRefuted false k q.end q.batches l t
   pub few : examined + closed_nodes t ≤ after
   pub within : after ≤ q.limit
 
 -- The same for its children.
-pub record AreFreeNodes (k : Classes) (q : Task) (l : Limits) (examined after : ℕ) (ws : List Way) (ts : Bounds) : Type 0 where
+pub record AreFreeNodes (k : Classes) (q : Task) (l : Limits) (examined after : ℕ) (ws : List Way) (ts : BoundTrees) : Type 0 where
   pub refuted : AreRefuted false k q.end q.batches l ws ts
   pub few : examined + closed_nodes_in ts ≤ after
   pub within : after ≤ q.limit
@@ -44,9 +44,9 @@ abbrev pub AreChildren : Classes → Task → Limits → ℕ → ℕ → List Wa
 AreChildren k q l examined after ws (Whole children) =
     AreFreeNodes k q l examined after ws (bounds_of children.items)
 AreChildren k q l examined after ws (Kept tree) =
-    IsFreeNode k q l examined after (bound_of tree)
+    IsFreeNode k q l examined after (bound_tree_of tree)
 
 -- The tree of a free search from the limits of all choices.
-pub record IsFreeTree (k : Classes) (q : Task) (t : Bound) : Type 0 where
+pub record IsFreeTree (k : Classes) (q : Task) (t : BoundTree) : Type 0 where
   pub refuted : IsRefuted false k q.end q.batches (limits_of_all k q.batches) t
   pub few : closed_nodes t ≤ q.limit

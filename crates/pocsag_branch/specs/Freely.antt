@@ -4,8 +4,8 @@ use Rattle.pocsag_words.specs.declared.ending.End.{End}
 use Rattle.pocsag_slots.specs.declared.class.Classes.{Classes}
 use Rattle.pocsag_slots.specs.Loads.{IsChoice, IsLeast}
 use Rattle.pocsag_slots.specs.Tours.{IsTour}
-use Rattle.pocsag_tree.specs.Bounds.{closed_nodes, overload}
-use Rattle.pocsag_tree.specs.Views.{bound_of}
+use Rattle.pocsag_tree.specs.BoundTrees.{closed_nodes, overload}
+use Rattle.pocsag_tree.specs.Views.{bound_tree_of}
 use Rattle.pocsag_check.specs.Accepting.{IsAccepted}
 use Rattle.pocsag_branch.specs.declared.answer.Found.{Found}
 use Rattle.pocsag_branch.specs.declared.within_one.Near.{Near}
@@ -24,10 +24,10 @@ pub record IsFoundFreely (k : Classes) (end : End) (limit : ℕ) (found : Found)
   pub tour : IsTour k end (slice_index found.choice.early) found.batches found.steps.items
   -- the checker accepts the tree, which has no `Open` then and is at most 300 deep, so no transmission has
   -- fewer batches;
-  pub accepted : IsAccepted false k end found.batches (bound_of found.tree)
+  pub accepted : IsAccepted false k end found.batches (bound_tree_of found.tree)
   pub bound : IsBound k end found.batches
   -- it has at most so many nodes.
-  pub few : closed_nodes (bound_of found.tree) ≤ limit
+  pub few : closed_nodes (bound_tree_of found.tree) ≤ limit
 
 -- *Within one*.
 pub record IsNearlyFewest (k : Classes) (end : End) (near : Near) : Type 0 where
@@ -35,9 +35,9 @@ pub record IsNearlyFewest (k : Classes) (end : End) (near : Near) : Type 0 where
   -- each transmission;
   pub is_least : IsLeast k near.least
   pub bound : IsBound k end near.least
-  pub accepted : IsAccepted false k end near.least (bound_of near.tree)
+  pub accepted : IsAccepted false k end near.least (bound_tree_of near.tree)
   pub set : ℕ
-  pub one_node : bound_of near.tree ≡ overload set
+  pub one_node : bound_tree_of near.tree ≡ overload set
   -- the steps are a tour of the choice for the end with one batch more.
   pub choice : IsChoice k (slice_index near.choice.early)
   pub tour : IsTour k end (slice_index near.choice.early) (near.least + 1) near.steps.items

@@ -2,7 +2,7 @@
 -- so many batches are asked for.
 use Rattle.std.specs.Prelude.{◌≡◌, ℕ, ◌+◌, ◌-◌, ◌<◌, true, false, List, [], ◌∷◌, slice_index}
 use Rattle.pocsag_words.specs.declared.ending.End.{End}
-use Rattle.pocsag_tree.specs.Bounds.{Bound, Bounds, overload, split, cut, close, unexamined, none, more}
+use Rattle.pocsag_tree.specs.BoundTrees.{BoundTree, BoundTrees, overload, split, cut, close, unexamined, none, more}
 use Rattle.pocsag_slots.specs.declared.class.Classes.{Classes}
 use Rattle.pocsag_slots.specs.declared.limit.Limits.{Limits}
 use Rattle.pocsag_slots.specs.declared.way.Way.{Way}
@@ -45,7 +45,7 @@ pub record AdmitUnclosed (k : Classes) (end : End) (batches : ℕ) (l : Limits) 
 
 abbrev mutual
   -- Each `Cut`, `Split` and `Close` of the tree stands under limits that admit such a choice.
-  pub IsShaped : Classes → End → ℕ → Limits → Bound → Type 0
+  pub IsShaped : Classes → End → ℕ → Limits → BoundTree → Type 0
   IsShaped k end batches l (overload set) = Unit {0}
   IsShaped k end batches l (split c m below above) =
       AdmitSplit k batches l c m × IsShaped k end batches (limits_below l c m) below
@@ -57,7 +57,7 @@ abbrev mutual
   IsShaped k end batches l unexamined = Unit {0}
 
   -- Each way has its child, in order, of that shape under the limits that the way leaves.
-  pub AreShaped : Classes → End → ℕ → Limits → List Way → Bounds → Type 0
+  pub AreShaped : Classes → End → ℕ → Limits → List Way → BoundTrees → Type 0
   AreShaped k end batches l [] none = Unit {0}
   AreShaped k end batches l [] (more t ts) = ⊥
   AreShaped k end batches l (w ∷ ws) none = ⊥
@@ -71,14 +71,14 @@ pub record RefusesOneLess (k : Classes) (batches set : ℕ) : Type 0 where
   pub over : Overloads k (limits_of_all k (batches - 1)) set
 
 -- The tree is one `Overload`, of a set that refuses one batch less.
-pub record IsOneOverload (k : Classes) (batches : ℕ) (tree : Bound) : Type 0 where
+pub record IsOneOverload (k : Classes) (batches : ℕ) (tree : BoundTree) : Type 0 where
   pub set : ℕ
   pub refuses : RefusesOneLess k batches set
   pub one_node : tree ≡ overload set
 
 -- A tree of the search for the end, where some choice of starts needs `least` batches at least, and so many are
 -- answered.
-pub data IsSearchTree (k : Classes) (end : End) (least batches : ℕ) (tree : Bound) : Type 0 where
+pub data IsSearchTree (k : Classes) (end : End) (least batches : ℕ) (tree : BoundTree) : Type 0 where
   -- Where the least is answered, the tree is one `Overload`, of a set that refuses one batch less;
   at_least : batches ≡ least → IsOneOverload k least tree → IsSearchTree k end least batches tree
   -- and where one batch more is, each node stands where the shape allows it, under the limits of the least.

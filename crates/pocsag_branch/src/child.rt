@@ -1,7 +1,7 @@
 ghost use Rattle.std.specs.Prelude.{◌≡◌, ◌<◌, All, IsTrue, IfOk, IfSome, IfNone};
 ghost use Rattle.pocsag_slots.specs.Ways.{class_certain, limits_below, limits_from, MayTake, narrowed_limits, ways_across, ways_to_close};
-ghost use Rattle.pocsag_tree.specs.Bounds.{split};
-ghost use Rattle.pocsag_tree.specs.Views.{bound_of};
+ghost use Rattle.pocsag_tree.specs.BoundTrees.{split};
+ghost use Rattle.pocsag_tree.specs.Views.{bound_tree_of};
 ghost use Rattle.pocsag_branch.specs.Shape.{NoneCertain};
 ghost use Rattle.pocsag_branch.specs.Undecided.{AreNodeLimits, Falls, IsSplitPoint, undecided};
 
@@ -56,7 +56,8 @@ pub(crate) fn split_tree(
     below: Tree,
     from: Tree,
 ) -> Result<Tree, AllocFailed<Tree>>
-    ensures { IfOk result (λ tree. bound_of tree ≡ split class.number m (bound_of below) (bound_of from)) }
+    ensures { IfOk result
+        (λ tree. bound_tree_of tree ≡ split class.number m (bound_tree_of below) (bound_tree_of from)) }
 {
     let below = Box::new(alloc, below)?;
     let from = Box::new(alloc, from)?;

@@ -1,7 +1,7 @@
 ghost use Rattle.std.specs.Prelude.{false, ◌+◌, ◌<◌, ◌≤◌, ◌↔◌, ◌^◌, All, IsTrue, IfErr, IfOk};
 ghost use Rattle.pocsag_slots.specs.Tours.{AsksForLast};
 ghost use Rattle.pocsag_slots.specs.Ways.{class_certain, MayTake, ways_across, ways_to_close};
-ghost use Rattle.pocsag_tree.specs.Views.{bound_of};
+ghost use Rattle.pocsag_tree.specs.Views.{bound_tree_of};
 ghost use Rattle.pocsag_tree.specs.Limits.{greatest_depth};
 ghost use Rattle.pocsag_check.specs.Accepting.{AcceptsWithin};
 ghost use Rattle.pocsag_branch.specs.FreeNode.{AreChildren, IsFreeNode, IsHalt};
@@ -22,7 +22,7 @@ use std::alloc::Global;
 fn stands_for(node: &Node<'_>, tree: &Tree) -> bool
     ensures { IsTrue result ↔
         AcceptsWithin false node.now.classes.now node.now.task.end node.now.task.batches node.now.limits
-        greatest_depth (bound_of tree.now) }
+        greatest_depth (bound_tree_of tree.now) }
 {
     let Task { end, batches, .. } = node.task;
     accepts(node.classes, &node.limits, batches, tree, end)
@@ -33,7 +33,7 @@ fn stands_for(node: &Node<'_>, tree: &Tree) -> bool
 pub(crate) fn free_node(alloc: Global, node: &Node<'_>, examined: u32) -> Result<(Tree, u32), Halt>
     requires { examined ≤ node.now.task.limit }
     ensures node { IfOk result
-        (λ x. IsFreeNode node.now.classes.now node.now.task node.now.limits examined x.1 (bound_of x.0)) }
+        (λ x. IsFreeNode node.now.classes.now node.now.task node.now.limits examined x.1 (bound_tree_of x.0)) }
     ensures halt { IfErr result (IsHalt node.now.classes.now node.now.task) }
 {
     if examined >= node.task.limit {
@@ -60,7 +60,7 @@ fn free_cut(
     requires fall { All (Falls node.now.classes.now node.now.task.batches node.now.limits)
         (ways_across node.now.classes.now node.now.limits set.members) }
     ensures node { IfOk result
-        (λ x. IsFreeNode node.now.classes.now node.now.task node.now.limits examined x.1 (bound_of x.0)) }
+        (λ x. IsFreeNode node.now.classes.now node.now.task node.now.limits examined x.1 (bound_tree_of x.0)) }
     ensures halt { IfErr result (IsHalt node.now.classes.now node.now.task) }
 {
     let out = ways_out(node, set);
@@ -85,7 +85,7 @@ pub(crate) fn free_close(alloc: Global, node: &Node<'_>, examined: u32) -> Resul
     requires fall { All (Falls node.now.classes.now node.now.task.batches node.now.limits)
         (ways_to_close node.now.classes.now node.now.task.end node.now.limits) }
     ensures node { IfOk result
-        (λ x. IsFreeNode node.now.classes.now node.now.task node.now.limits examined x.1 (bound_of x.0)) }
+        (λ x. IsFreeNode node.now.classes.now node.now.task node.now.limits examined x.1 (bound_tree_of x.0)) }
     ensures halt { IfErr result (IsHalt node.now.classes.now node.now.task) }
 {
     let out = ways_to_end(node);
@@ -107,7 +107,7 @@ fn free_split(
     requires examined { examined < node.now.task.limit }
     requires point { IsSplitPoint node.now.classes.now node.now.task.batches node.now.limits class.number m }
     ensures node { IfOk result
-        (λ x. IsFreeNode node.now.classes.now node.now.task node.now.limits examined x.1 (bound_of x.0)) }
+        (λ x. IsFreeNode node.now.classes.now node.now.task node.now.limits examined x.1 (bound_tree_of x.0)) }
     ensures halt { IfErr result (IsHalt node.now.classes.now node.now.task) }
 {
     let under = Node {

@@ -1,5 +1,5 @@
 ghost use Rattle.std.specs.Prelude.{◌≡◌, ◌<◌, IfErr, IfOk};
-ghost use Rattle.pocsag_tree.specs.Views.{bound_of};
+ghost use Rattle.pocsag_tree.specs.Views.{bound_tree_of};
 ghost use Rattle.pocsag_branch.specs.Examined.{IsStop};
 ghost use Rattle.pocsag_branch.specs.Found.{IsNodeLimit};
 ghost use Rattle.pocsag_branch.specs.FreeNode.{IsFreeTree, IsHalt};
@@ -22,7 +22,7 @@ const FUEL: u32 = 20_000;
 // One try of the free search from the limits of all choices. Where the end asks for something of the last codeword,
 // it begins with the ways to close: below them an open tour can always be closed.
 fn tree_of_try(alloc: Global, classes: &Classes, task: Task) -> Result<Tree, Halt>
-    ensures tree { IfOk result (λ tree. IsFreeTree classes.now task (bound_of tree)) }
+    ensures tree { IfOk result (λ tree. IsFreeTree classes.now task (bound_tree_of tree)) }
     ensures halt { IfErr result (IsHalt classes.now task) }
 {
     let root = Node {
@@ -54,7 +54,7 @@ fn task_within(task: Task, limit: u32, second: bool) -> Task
 
 // The tree of the free search. Where the first try stops at its limit, a second one has the rest.
 pub(crate) fn free_tree(alloc: Global, classes: &Classes, task: Task) -> Result<Tree, Halt>
-    ensures tree { IfOk result (λ tree. IsFreeTree classes.now task (bound_of tree)) }
+    ensures tree { IfOk result (λ tree. IsFreeTree classes.now task (bound_tree_of tree)) }
     ensures halt { IfErr result (IsHalt classes.now task) }
 {
     let short = task.limit.min(FIRST_TRY);

@@ -1,6 +1,6 @@
 ghost use Rattle.std.specs.Prelude.{◌≡◌, ◌≤◌, IfErr, IfOk, slice_index};
 ghost use Rattle.pocsag_slots.specs.Loads.{IsAdmitted, IsLeast, limits_of_all};
-ghost use Rattle.pocsag_tree.specs.Views.{bound_of};
+ghost use Rattle.pocsag_tree.specs.Views.{bound_tree_of};
 ghost use Rattle.pocsag_branch.specs.Examined.{greatest_least};
 ghost use Rattle.pocsag_branch.specs.Found.{HasPage, IsNodeLimit};
 ghost use Rattle.pocsag_branch.specs.FreeNode.{IsFreeTree};
@@ -67,7 +67,7 @@ fn found_one_more(
     requires small { task.batches ≤ greatest_least }
     requires admitted { IsAdmitted classes.now (limits_of_all classes.now task.batches)
         (slice_index choice.now.early) }
-    requires tree { IsFreeTree classes.now task (bound_of tree) }
+    requires tree { IsFreeTree classes.now task (bound_tree_of tree) }
     ensures found { IfOk result (IsFoundFreely classes.now task.end task.limit) }
     ensures fault { IfErr result (λ fault. fault ≡ FreeFault.OutOfMemory) }
 {

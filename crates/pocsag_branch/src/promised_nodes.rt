@@ -1,7 +1,7 @@
 ghost use Rattle.std.specs.Prelude.{◌+◌, ◌<◌, ◌≤◌, ◌^◌, All, IsTrue, IfErr, IfOk};
 ghost use Rattle.pocsag_slots.specs.Tours.{AsksForLast};
 ghost use Rattle.pocsag_slots.specs.Ways.{class_certain, MayTake, ways_across, ways_to_close};
-ghost use Rattle.pocsag_tree.specs.Views.{bound_of, bounds_of};
+ghost use Rattle.pocsag_tree.specs.Views.{bound_tree_of, bounds_of};
 ghost use Rattle.pocsag_branch.specs.Examined.{AreExamined, IsExamined, IsForm, IsStop, StandsAs};
 ghost use Rattle.pocsag_branch.specs.Shape.{AdmitApart, AdmitSplit, AdmitUnclosed};
 ghost use Rattle.pocsag_branch.specs.Undecided.{Falls, IsSplitPoint};
@@ -21,7 +21,7 @@ use std::alloc::Global;
 pub(crate) fn promised_node(alloc: Global, node: &Node<'_>, made: u32) -> Result<(Tree, u32), Stop>
     requires { made ≤ node.now.task.limit }
     ensures node { IfOk result
-        (λ x. IsExamined node.now.classes.now node.now.task node.now.limits made x.1 (bound_of x.0)) }
+        (λ x. IsExamined node.now.classes.now node.now.task node.now.limits made x.1 (bound_tree_of x.0)) }
     ensures stop { IfErr result (IsStop node.now.classes.now node.now.task) }
 {
     if made >= node.task.limit {
@@ -43,7 +43,7 @@ pub(crate) fn node_of_form(
     requires form { IsForm node.now.classes.now node.now.task node.now.limits form }
     requires shape { StandsAs node.now.classes.now node.now.task node.now.limits form }
     ensures node { IfOk result
-        (λ x. IsExamined node.now.classes.now node.now.task node.now.limits made x.1 (bound_of x.0)) }
+        (λ x. IsExamined node.now.classes.now node.now.task node.now.limits made x.1 (bound_tree_of x.0)) }
     ensures stop { IfErr result (IsStop node.now.classes.now node.now.task) }
 {
     match form {
@@ -68,7 +68,7 @@ fn cut_node(
         (ways_across node.now.classes.now node.now.limits set.members) }
     requires shape { AdmitApart node.now.classes.now node.now.task.batches node.now.limits set.members }
     ensures node { IfOk result
-        (λ x. IsExamined node.now.classes.now node.now.task node.now.limits made x.1 (bound_of x.0)) }
+        (λ x. IsExamined node.now.classes.now node.now.task node.now.limits made x.1 (bound_tree_of x.0)) }
     ensures stop { IfErr result (IsStop node.now.classes.now node.now.task) }
 {
     let out = ways_out(node, set);
@@ -95,7 +95,7 @@ fn split_node(
     requires point { IsSplitPoint node.now.classes.now node.now.task.batches node.now.limits class.number m }
     requires shape { AdmitSplit node.now.classes.now node.now.task.batches node.now.limits class.number m }
     ensures node { IfOk result
-        (λ x. IsExamined node.now.classes.now node.now.task node.now.limits made x.1 (bound_of x.0)) }
+        (λ x. IsExamined node.now.classes.now node.now.task node.now.limits made x.1 (bound_tree_of x.0)) }
     ensures stop { IfErr result (IsStop node.now.classes.now node.now.task) }
 {
     let under = Node {
@@ -122,7 +122,7 @@ fn close_node(alloc: Global, node: &Node<'_>, made: u32) -> Result<(Tree, u32), 
         (ways_to_close node.now.classes.now node.now.task.end node.now.limits) }
     requires shape { AdmitUnclosed node.now.classes.now node.now.task.end node.now.task.batches node.now.limits }
     ensures node { IfOk result
-        (λ x. IsExamined node.now.classes.now node.now.task node.now.limits made x.1 (bound_of x.0)) }
+        (λ x. IsExamined node.now.classes.now node.now.task node.now.limits made x.1 (bound_tree_of x.0)) }
     ensures stop { IfErr result (IsStop node.now.classes.now node.now.task) }
 {
     let out = ways_to_end(node);

@@ -1,6 +1,6 @@
 ghost use Rattle.std.specs.Prelude.{◌<◌, IfErr, IfOk, IfSome, slice_index};
 ghost use Rattle.pocsag_slots.specs.Loads.{IsAdmitted, limits_of_all};
-ghost use Rattle.pocsag_tree.specs.Views.{bound_of};
+ghost use Rattle.pocsag_tree.specs.Views.{bound_tree_of};
 ghost use Rattle.pocsag_branch.specs.Examined.{IsExamined, IsStop, IsTreeOf};
 
 use crate::free_root::stop_at_tour;
@@ -42,7 +42,7 @@ fn choice_for_open_end(alloc: Global, classes: &Classes, task: Task) -> Result<O
 // The tree of the search from the limits of all choices, where the free search meets no tour. Where it meets
 // one for the open end alone, the root is to be closed at once.
 pub(crate) fn promised_tree(alloc: Global, classes: &Classes, task: Task) -> Result<Tree, Stop>
-    ensures tree { IfOk result (λ tree. IsTreeOf classes.now task (bound_of tree)) }
+    ensures tree { IfOk result (λ tree. IsTreeOf classes.now task (bound_tree_of tree)) }
     ensures stop { IfErr result (IsStop classes.now task) }
 {
     stop_at_tour(alloc, classes, task)?;
@@ -60,7 +60,7 @@ pub(crate) fn promised_tree(alloc: Global, classes: &Classes, task: Task) -> Res
 fn root_with(alloc: Global, root: &Node<'_>, met: Option<Choice>) -> Result<(Tree, u32), Stop>
     requires { IfSome met (λ choice. IsAdmitted root.now.classes.now root.now.limits (slice_index choice.early)) }
     ensures node { IfOk result
-        (λ x. IsExamined root.now.classes.now root.now.task root.now.limits 0 x.1 (bound_of x.0)) }
+        (λ x. IsExamined root.now.classes.now root.now.task root.now.limits 0 x.1 (bound_tree_of x.0)) }
     ensures stop { IfErr result (IsStop root.now.classes.now root.now.task) }
 {
     match met {

@@ -1,6 +1,6 @@
 ghost use Rattle.std.specs.Prelude.{◌+◌, ◌≤◌, IfErr, IfOk, slice_index};
 ghost use Rattle.pocsag_slots.specs.Loads.{IsAdmitted, IsLeast, limits_of_all};
-ghost use Rattle.pocsag_tree.specs.Views.{bound_of};
+ghost use Rattle.pocsag_tree.specs.Views.{bound_tree_of};
 ghost use Rattle.pocsag_branch.specs.Examined.{greatest_least, IsTreeOf};
 ghost use Rattle.pocsag_branch.specs.Found.{HasPage, IsFound, IsNodeLimit, IsSearchFault};
 
@@ -64,7 +64,7 @@ fn found_or_limit(
     requires small { task.batches ≤ greatest_least }
     requires admitted { IsAdmitted classes.now (limits_of_all classes.now task.batches)
         (slice_index choice.now.early) }
-    requires tree { IsTreeOf classes.now task (bound_of tree) }
+    requires tree { IsTreeOf classes.now task (bound_tree_of tree) }
     ensures found { IfOk result (IsFound classes.now task.end task.limit) }
     ensures fault { IfErr result (IsSearchFault classes.now task.end task.limit) }
 {

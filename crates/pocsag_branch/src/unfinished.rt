@@ -1,5 +1,5 @@
 ghost use Rattle.std.specs.Prelude.{◌≡◌};
-ghost use Rattle.pocsag_tree.specs.Views.{bound_of, bounds_of};
+ghost use Rattle.pocsag_tree.specs.Views.{bound_tree_of, bounds_of};
 ghost use Rattle.pocsag_branch.specs.Marks.{has_open, have_open};
 
 use pocsag_tree::Tree;
@@ -7,7 +7,7 @@ use pocsag_tree::Tree;
 // Whether some node of the tree is `Open`.
 #[cycle(unfinished)]
 pub(crate) fn is_unfinished(tree: &Tree) -> bool
-    ensures { result ≡ has_open (bound_of tree.now) }
+    ensures { result ≡ has_open (bound_tree_of tree.now) }
 {
     match tree {
         Tree::Overload(_) => false,

@@ -5,7 +5,7 @@ use Rattle.pocsag_words.specs.declared.ending.End.{End}
 use Rattle.pocsag_pages.specs.declared.page.Page.{Page}
 use Rattle.pocsag_pages.specs.PageFile.{verdict}
 use Rattle.pocsag_pages.specs.Reading.{page_length}
-use Rattle.pocsag_tree.specs.Bounds.{Bound}
+use Rattle.pocsag_tree.specs.BoundTrees.{BoundTree}
 use Rattle.pocsag_batch.specs.FileOrder.{IsFileOrder}
 use Rattle.pocsag_plan.specs.BoundedHeadline.{BoundedHeadline}
 use Rattle.pocsag_plan.specs.Headline.{Headline}
@@ -21,14 +21,14 @@ use Rattle.pocsag_c.specs.declared.planning.PlanInfo.{PlanInfo}
 pub record IsHeadline (file : List ℕ) (number : ℕ) (info : PlanInfo) (sent certificate : List ℕ) : Type 0 where
   pub end : End
   pub same_end : number ≡ number_of_end end
-  pub tree : Bound
+  pub tree : BoundTree
   pub headline : Headline file end info.batches tree sent certificate
 
 -- The same with the bound that is told.
 pub record IsHeadlineWithBound (file : List ℕ) (number : ℕ) (info : PlanInfo) (sent certificate : List ℕ) : Type 0 where
   pub end : End
   pub same_end : number ≡ number_of_end end
-  pub tree : Bound
+  pub tree : BoundTree
   pub headline : BoundedHeadline file end info.batches info.bound tree sent certificate
 
 -- A transmission and a certificate of which this is said stand in both buffers, with their lengths told.

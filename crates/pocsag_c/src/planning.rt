@@ -1,5 +1,5 @@
 ghost use Rattle.std.specs.Prelude.{◌≡◌, ◌≢◌, ◌<◌, ◌⊎◌, ◌↔◌, IfErr, IfOk, MatchOption, length};
-ghost use Rattle.pocsag_tree.specs.Views.{bound_of};
+ghost use Rattle.pocsag_tree.specs.Views.{bound_tree_of};
 ghost use Rattle.pocsag_plan.specs.BoundedHeadline.{BoundedHeadline};
 ghost use Rattle.pocsag_plan.specs.Headline.{Headline};
 ghost use Rattle.pocsag_plan.specs.Plans.{IsPlanFor};
@@ -46,10 +46,10 @@ struct Written {
 fn write_asked(alloc: Global, pages: &[u8], search: Search) -> Result<Written, StreamFault>
     ensures bounded { IfOk result (λ w.
         BoundedHeadline pages.now search.end w.bounded.plan.batches w.bounded.bound
-        (bound_of w.bounded.plan.tree) w.sent.items w.certificate.items) }
+        (bound_tree_of w.bounded.plan.tree) w.sent.items w.certificate.items) }
     ensures headline { IfOk result (λ w. w.bounded.bound ≡ w.bounded.plan.batches →
         Headline pages.now search.end w.bounded.plan.batches
-        (bound_of w.bounded.plan.tree) w.sent.items w.certificate.items) }
+        (bound_tree_of w.bounded.plan.tree) w.sent.items w.certificate.items) }
     ensures plan { IfOk result (λ w. IsOfRound pages.now (λ round. IsPlanFor search round w.bounded)) }
     ensures explained { IfErr result (ExplainsStream search.effort pages.now search.end search.limit) }
 {

@@ -1,5 +1,5 @@
 -- An accepted tree bounds every transmission.
-use Rattle.pocsag_check.proofs.Prelude.{◌≡◌, ℕ, zero, suc, ◌+◌, ◌-◌, ◌%◌, ◌<◌, ◌≤◌, ◌==◌, Bool, true, false, List, [], ◌∷◌, ◌++◌, length, map, refl, sym, ap, subst, ◌∙◌, arith, slice_index, inl, inr, length-append, cases_lt, End, Page, Bound, Classes, Limits, Step, runs, AreClassesOf, IsAdmitted, load, limits_of_all, finish_of, IsTour, LastAs, LastIsIdle, LastIsWhole, Leads, idles, Accepts}
+use Rattle.pocsag_check.proofs.Prelude.{◌≡◌, ℕ, zero, suc, ◌+◌, ◌-◌, ◌%◌, ◌<◌, ◌≤◌, ◌==◌, Bool, true, false, List, [], ◌∷◌, ◌++◌, length, map, refl, sym, ap, subst, ◌∙◌, arith, slice_index, inl, inr, length-append, cases_lt, End, Page, BoundTree, Classes, Limits, Step, runs, AreClassesOf, IsAdmitted, load, limits_of_all, finish_of, IsTour, LastAs, LastIsIdle, LastIsWhole, Leads, idles, Accepts}
 use Rattle.std.proofs.Common.{◌*◌, replicate}
 use Rattle.std.proofs.lemmas.List.{append-nil, get_or-replicate, length-map}
 use Rattle.pocsag_words.specs.declared.codeword.Kind.{Kind}
@@ -63,7 +63,7 @@ busy_or_idle end {i = i} (past_page {high = high} {function = function} {ws = ws
     ap (λ (m : ℕ). covered (i + 1) m slot) all ∙ covered_split (i + 1) (length items) (length rest) slot h in
     omega arith
 
-pub none_fits : (k : Classes) (end : End) (R : List Page) (T : List Kind) (b : ℕ) (l : Limits) (t : Bound) → AreApart R →
+pub none_fits : (k : Classes) (end : End) (R : List Page) (T : List Kind) (b : ℕ) (l : Limits) (t : BoundTree) → AreApart R →
     AreClassesOf k end R →
     Accepts false k end b l t → Fits T end R b l → ⊥
 none_fits k end R T b l t apart classes accepted fits =
@@ -169,7 +169,7 @@ admitted_all k end choice b steps tour = record {
   capped = λ slot h. subst (λ (n : ℕ). load k choice slot ≤ n) (sym (get_or-replicate 16 slot b 0 h)) (omega (arith, tour.idle slot h));
 }
 
-pub bounded : (k : Classes) (end : End) (R : List Page) (T : List Kind) (batches n : ℕ) (t : Bound) → AreApart R → AreClassesOf k end R →
+pub bounded : (k : Classes) (end : End) (R : List Page) (T : List Kind) (batches n : ℕ) (t : BoundTree) → AreApart R → AreClassesOf k end R →
     AcceptsRoot false k end batches t → IsLegalFor end T n R → batches ≤ n
 bounded k end R T batches n t apart classes accepted legal =
     elim (cases_lt n batches) [

@@ -13,8 +13,8 @@ pub use Rattle.pocsag_slots.specs.declared.class.Classes.{Classes}
 pub use Rattle.pocsag_slots.specs.declared.limit.Limits.{Limits}
 pub use Rattle.pocsag_slots.specs.declared.step.Step.{Step}
 pub use Rattle.pocsag_slots.specs.declared.way.Way.{Way}
-pub use Rattle.pocsag_tree.specs.Bounds.{Bound, Bounds, children_count, close, cut, more, none, overload, split, unexamined}
-pub use Rattle.pocsag_tree.specs.Views.{bound_of}
+pub use Rattle.pocsag_tree.specs.BoundTrees.{BoundTree, BoundTrees, children_count, close, cut, more, none, overload, split, unexamined}
+pub use Rattle.pocsag_tree.specs.Views.{bound_tree_of}
 pub use Rattle.pocsag_words.specs.declared.ending.End.{End}
 pub use Rattle.std.proofs.Common.{Bool, IsTrue, List, [], ap, arith, cond, false, get_or, inl, inr, length, length-append, map, min, nat_lt, not, refl, slice_index, subst, suc, sym, true, zero, ℕ, ◌%◌, ◌&&◌, ◌++◌, ◌+◌, ◌-◌, ◌<◌, ◌==◌, ◌||◌, ◌∙◌, ◌∷◌, ◌≡◌, ◌≤◌, ◌⊎◌}
 pub use Rattle.std.proofs.lemmas.Bool.{cases_eq, cases_lt}

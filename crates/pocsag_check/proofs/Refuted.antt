@@ -1,5 +1,5 @@
 -- No tour of an admitted choice meets an accepted node.
-use Rattle.pocsag_check.proofs.Prelude.{◌≡◌, ℕ, ◌+◌, ◌%◌, ◌<◌, ◌&&◌, ◌||◌, Bool, true, false, cond, IsTrue, List, [], ◌∷◌, refl, arith, slice_index, ◌⊎◌, inl, inr, nat_lt, cases_lt, nat_tests, End, Bound, Bounds, overload, split, cut, close, unexamined, none, more, Classes, Limits, Step, Way, runs, IsAdmitted, finish_of, AsksForLast, IsTour, LastIsWhole, Leads, idles, run_touches, class_certain, ways_across, ways_to_close, narrowed_limits, limits_below, limits_from, Accepts, AcceptsEach}
+use Rattle.pocsag_check.proofs.Prelude.{◌≡◌, ℕ, ◌+◌, ◌%◌, ◌<◌, ◌&&◌, ◌||◌, Bool, true, false, cond, IsTrue, List, [], ◌∷◌, refl, arith, slice_index, ◌⊎◌, inl, inr, nat_lt, cases_lt, nat_tests, End, BoundTree, BoundTrees, overload, split, cut, close, unexamined, none, more, Classes, Limits, Step, Way, runs, IsAdmitted, finish_of, AsksForLast, IsTour, LastIsWhole, Leads, idles, run_touches, class_certain, ways_across, ways_to_close, narrowed_limits, limits_below, limits_from, Accepts, AcceptsEach}
 use Rattle.pocsag_words.specs.declared.ending.End.TheVariants as ends
 use Rattle.pocsag_slots.specs.declared.step.Step.TheVariants.{Idle as Stay, Run}
 use Rattle.pocsag_slots.specs.declared.way.Way.TheVariants.{IdleIn, Late}
@@ -75,7 +75,7 @@ closing_way k ends.Idle l choice b steps asks tour a =
     inl (omega arith, omega (arith, idles_last 0 steps (omega arith) tour.leads tour.last, tour.idle 15 (omega arith)))
 
 mutual
-  pub refuted : (t : Bound) (k : Classes) (end : End) (l : Limits) (choice : ℕ → ℕ) (b : ℕ) (steps : List Step) →
+  pub refuted : (t : BoundTree) (k : Classes) (end : End) (l : Limits) (choice : ℕ → ℕ) (b : ℕ) (steps : List Step) →
       IsTour k end choice b steps → IsAdmitted k l choice → Accepts false k end b l t → ⊥
   refuted (overload set) k end l choice b steps tour a accepted = not_overloaded k l choice set a accepted.1
   refuted (split c m below above) k end l choice b steps tour a accepted =
@@ -94,7 +94,7 @@ mutual
       (closing_way k end l choice b steps accepted.0 tour a)
   refuted unexamined k end l choice b steps tour a accepted = absurd (cc accepted)
 
-  pub each_refuted : (ts : Bounds) (ws : List Way) (k : Classes) (end : End) (l : Limits) (choice : ℕ → ℕ) (b : ℕ) (steps : List Step) →
+  pub each_refuted : (ts : BoundTrees) (ws : List Way) (k : Classes) (end : End) (l : Limits) (choice : ℕ → ℕ) (b : ℕ) (steps : List Step) →
       IsTour k end choice b steps → IsAdmitted k l choice → AcceptsEach false k end b l ws ts → AnyTaken k choice b ws → ⊥
   each_refuted none [] k end l choice b steps tour a accepted taken = absurd taken
   each_refuted none (w ∷ ws) k end l choice b steps tour a accepted taken = absurd accepted

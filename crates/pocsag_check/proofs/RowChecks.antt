@@ -1,5 +1,5 @@
 -- The loop over the children of a node.
-use Rattle.pocsag_check.proofs.Prelude.{◌≡◌, ℕ, zero, suc, ◌+◌, ◌<◌, ◌≤◌, Bool, List, [], ◌∷◌, length, get_or, refl, sym, ap, ◌∙◌, arith, End, Bounds, none, more, children_count, bound_of, Classes, Limits, Way, narrowed_limits, AcceptsEach, AcceptsWithin}
+use Rattle.pocsag_check.proofs.Prelude.{◌≡◌, ℕ, zero, suc, ◌+◌, ◌<◌, ◌≤◌, Bool, List, [], ◌∷◌, length, get_or, refl, sym, ap, ◌∙◌, arith, End, BoundTrees, none, more, children_count, bound_tree_of, Classes, Limits, Way, narrowed_limits, AcceptsEach, AcceptsWithin}
 use Rattle.std.proofs.Common.{drop, add-one}
 use Rattle.std.proofs.Math.Seq.{drop-cons}
 use Rattle.std.proofs.lemmas.List.{drop_all}
@@ -8,7 +8,7 @@ use Rattle.pocsag_tree.specs.Views.{bounds_of}
 use Rattle.pocsag_check.specs.Accepting.{AcceptsEachWithin}
 use Rattle.pocsag_tree.proofs.Counts.{count_of_bounds}
 
-pub row_long : (u : Bool) (k : Classes) (end : End) (b : ℕ) (l : Limits) (ws : List Way) (ts : Bounds) → AcceptsEach u k end b l ws ts →
+pub row_long : (u : Bool) (k : Classes) (end : End) (b : ℕ) (l : Limits) (ws : List Way) (ts : BoundTrees) → AcceptsEach u k end b l ws ts →
     length ws ≡ children_count ts
 row_long u k end b l [] none a = refl
 row_long u k end b l [] (more t ts) a = absurd a
@@ -31,19 +31,19 @@ drop_way ws i w h is =
     first ∙ ap (λ (v : Way). v ∷ drop (i + 1) ws) (sym is)
 
 drop_tree : (ts : List Tree) (i : ℕ) (t : Tree) → i < length ts → t ≡ get_or ts i t →
-    bounds_of (drop i ts) ≡ more (bound_of t) (bounds_of (drop (i + 1) ts))
+    bounds_of (drop i ts) ≡ more (bound_tree_of t) (bounds_of (drop (i + 1) ts))
 drop_tree ts i t h is = grind (arith, drop-cons)
 
 pub one_first : (u : Bool) (k : Classes) (end : End) (b : ℕ) (l : Limits) (depth : ℕ) (ws : List Way) (ts : List Tree) (i : ℕ) (w : Way)
     (t : Tree) → i < length ws → i < length ts → w ≡ get_or ws i w → t ≡ get_or ts i t →
     AcceptsEachWithin u k end b l depth (drop i ws) (bounds_of (drop i ts)) →
-    AcceptsWithin u k end b (narrowed_limits k l w b) depth (bound_of t)
+    AcceptsWithin u k end b (narrowed_limits k l w b) depth (bound_tree_of t)
     × AcceptsEachWithin u k end b l depth (drop (i + 1) ws) (bounds_of (drop (i + 1) ts))
 one_first u k end b l depth ws ts i w t h g w_is t_is a = grind (arith, drop_way, drop_tree)
 
 pub one_more : (u : Bool) (k : Classes) (end : End) (b : ℕ) (l : Limits) (depth : ℕ) (ws : List Way) (ts : List Tree) (i : ℕ) (w : Way)
     (t : Tree) → i < length ws → i < length ts → w ≡ get_or ws i w → t ≡ get_or ts i t →
-    AcceptsWithin u k end b (narrowed_limits k l w b) depth (bound_of t) →
+    AcceptsWithin u k end b (narrowed_limits k l w b) depth (bound_tree_of t) →
     AcceptsEachWithin u k end b l depth (drop (i + 1) ws) (bounds_of (drop (i + 1) ts)) →
     AcceptsEachWithin u k end b l depth (drop i ws) (bounds_of (drop i ts))
 one_more u k end b l depth ws ts i w t h g w_is t_is first rest = grind (arith, drop_way, drop_tree)

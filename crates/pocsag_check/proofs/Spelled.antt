@@ -1,9 +1,9 @@
 -- An accepted tree can be written: each of its fields is in the range of versions PCB2 and PCB4.
-use Rattle.pocsag_check.proofs.Prelude.{◌≡◌, ℕ, ◌-◌, ◌<◌, ◌≤◌, Bool, false, List, [], ◌∷◌, length, nat_lt, refl, ap, arith, min, slice_index, End, Bound, Bounds, overload, split, cut, close, unexamined, none, more, children_count, Classes, Limits, Way, limits_of_all, AsksForLast, limits_below, limits_from, narrowed_limits, ways_across, ways_to_close, Accepts, AcceptsEach, IsAccepted}
+use Rattle.pocsag_check.proofs.Prelude.{◌≡◌, ℕ, ◌-◌, ◌<◌, ◌≤◌, Bool, false, List, [], ◌∷◌, length, nat_lt, refl, ap, arith, min, slice_index, End, BoundTree, BoundTrees, overload, split, cut, close, unexamined, none, more, children_count, Classes, Limits, Way, limits_of_all, AsksForLast, limits_below, limits_from, narrowed_limits, ways_across, ways_to_close, Accepts, AcceptsEach, IsAccepted}
 use Rattle.std.proofs.Common.{◌^◌}
 use Rattle.pocsag_words.specs.declared.ending.End.TheVariants as ends
 use Rattle.pocsag_tree.specs.Limits.{most_nodes, second_ranges}
-use Rattle.pocsag_tree.specs.Bounds.{all_nodes, all_nodes_in, closed_nodes, closed_nodes_in}
+use Rattle.pocsag_tree.specs.BoundTrees.{all_nodes, all_nodes_in, closed_nodes, closed_nodes_in}
 use Rattle.pocsag_tree.specs.Spelling.{AreInRange, HasText, IsInRange}
 use Rattle.pocsag_slots.specs.declared.way.Way.TheVariants.{IdleIn, Early, Late}
 use Rattle.pocsag_slots.proofs.LoadLemmas.{count_few}
@@ -54,7 +54,7 @@ some_ending k ends.Closed l asks = omega arith
 some_ending k ends.Idle l asks = omega arith
 
 mutual
-  in_range : (t : Bound) (u : Bool) (k : Classes) (end : End) (b : ℕ) (l : Limits) → AreCounted k l → Accepts u k end b l t →
+  in_range : (t : BoundTree) (u : Bool) (k : Classes) (end : End) (b : ℕ) (l : Limits) → AreCounted k l → Accepts u k end b l t →
       IsInRange second_ranges t
   in_range (overload set) u k end b l of a = a.0
   in_range (split c m below above) u k end b l of a = (
@@ -81,14 +81,14 @@ mutual
       )
   in_range unexamined u k end b l of a = tt
 
-  each_in_range : (ts : Bounds) (u : Bool) (k : Classes) (end : End) (b : ℕ) (l : Limits) (ws : List Way) → AreCounted k l →
+  each_in_range : (ts : BoundTrees) (u : Bool) (k : Classes) (end : End) (b : ℕ) (l : Limits) (ws : List Way) → AreCounted k l →
       AcceptsEach u k end b l ws ts → AreInRange second_ranges ts
   each_in_range none u k end b l ws of a = tt
   each_in_range (more t ts) u k end b l [] of a = absurd a
   each_in_range (more t ts) u k end b l (w ∷ ws) of a =
       (in_range t u k end b (narrowed_limits k l w b) (way_counted k l w b of) a.0, each_in_range ts u k end b l ws of a.1)
 
-pub accepted_text : (u : Bool) (k : Classes) (end : End) (batches : ℕ) (t : Bound) → IsAccepted u k end batches t → batches < 2 ^ 32 →
+pub accepted_text : (u : Bool) (k : Classes) (end : End) (batches : ℕ) (t : BoundTree) → IsAccepted u k end batches t → batches < 2 ^ 32 →
     all_nodes t ≤ most_nodes → HasText second_ranges batches t
 accepted_text u k end batches t accepted small few = record {
   some_batch = accepted.some;
@@ -99,7 +99,7 @@ accepted_text u k end batches t accepted small few = record {
 }
 
 mutual
-  all_closed : (t : Bound) (k : Classes) (end : End) (b : ℕ) (l : Limits) → Accepts false k end b l t → all_nodes t ≡ closed_nodes t
+  all_closed : (t : BoundTree) (k : Classes) (end : End) (b : ℕ) (l : Limits) → Accepts false k end b l t → all_nodes t ≡ closed_nodes t
   all_closed (overload set) k end b l a = refl
   all_closed (split c m below above) k end b l a =
       omega (arith, all_closed below k end b (limits_below l c m) a.3, all_closed above k end b (limits_from l c m) a.4)
@@ -107,12 +107,12 @@ mutual
   all_closed (close children) k end b l a = omega (arith, each_closed children k end b l (ways_to_close k end l) a.2)
   all_closed unexamined k end b l a = absurd (cc a)
 
-  each_closed : (ts : Bounds) (k : Classes) (end : End) (b : ℕ) (l : Limits) (ws : List Way) → AcceptsEach false k end b l ws ts →
+  each_closed : (ts : BoundTrees) (k : Classes) (end : End) (b : ℕ) (l : Limits) (ws : List Way) → AcceptsEach false k end b l ws ts →
       all_nodes_in ts ≡ closed_nodes_in ts
   each_closed none k end b l ws a = refl
   each_closed (more t ts) k end b l [] a = absurd a
   each_closed (more t ts) k end b l (w ∷ ws) a =
       omega (arith, all_closed t k end b (narrowed_limits k l w b) a.0, each_closed ts k end b l ws a.1)
 
-pub accepted_closed : (k : Classes) (end : End) (batches : ℕ) (t : Bound) → IsAccepted false k end batches t → all_nodes t ≡ closed_nodes t
+pub accepted_closed : (k : Classes) (end : End) (batches : ℕ) (t : BoundTree) → IsAccepted false k end batches t → all_nodes t ≡ closed_nodes t
 accepted_closed k end batches t accepted = all_closed t k end (batches - 1) (limits_of_all k (batches - 1)) accepted.root

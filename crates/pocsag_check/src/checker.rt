@@ -3,7 +3,7 @@ ghost use Rattle.pocsag_slots.specs.Loads.{AreInOrder};
 ghost use Rattle.pocsag_slots.specs.Sums.{holds};
 ghost use Rattle.pocsag_slots.specs.Tours.{AsksForLast};
 ghost use Rattle.pocsag_slots.specs.Ways.{class_certain, MayTake};
-ghost use Rattle.pocsag_tree.specs.Views.{bound_of, bounds_of};
+ghost use Rattle.pocsag_tree.specs.Views.{bound_tree_of, bounds_of};
 ghost use Rattle.pocsag_check.specs.Accepting.{AcceptsEachWithin, AcceptsWithin};
 
 use pocsag_slots::{
@@ -60,7 +60,7 @@ fn closes(claim: &Claim) -> bool
 pub(crate) fn check_node(claim: &Claim, limits: &Limits, tree: &Tree, depth: u32) -> bool
     requires { AreInOrder claim.now.classes.now limits.now }
     ensures { IsTrue result ↔ AcceptsWithin claim.now.takes_open claim.now.classes.now claim.now.end claim.now.batches
-        limits.now depth (bound_of tree.now) }
+        limits.now depth (bound_tree_of tree.now) }
 {
     if depth == 0 {
         return false;

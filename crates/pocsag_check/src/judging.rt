@@ -2,7 +2,7 @@ ghost use Rattle.std.specs.Prelude.{◌↔◌, ℕ, ◌≤◌, List, IsTrue, fal
 ghost use Rattle.pocsag_pages.specs.Reading.{IsLegalList};
 ghost use Rattle.pocsag_slots.specs.Loads.{AreInOrder};
 ghost use Rattle.pocsag_tree.specs.Limits.{greatest_depth};
-ghost use Rattle.pocsag_tree.specs.Views.{bound_of};
+ghost use Rattle.pocsag_tree.specs.Views.{bound_tree_of};
 ghost use Rattle.pocsag_check.specs.Accepting.{AcceptsWithin, IsAcceptedFor};
 
 use crate::checker::{Claim, check_node};
@@ -17,7 +17,7 @@ use pocsag_words::End;
 pub fn accepts(classes: &Classes, limits: &Limits, batches: u32, tree: &Tree, end: End) -> bool
     requires { AreInOrder classes.now limits.now }
     ensures { IsTrue result ↔
-        AcceptsWithin false classes.now end batches limits.now greatest_depth (bound_of tree.now) }
+        AcceptsWithin false classes.now end batches limits.now greatest_depth (bound_tree_of tree.now) }
 {
     let claim = Claim {
         classes,
@@ -29,7 +29,7 @@ pub fn accepts(classes: &Classes, limits: &Limits, batches: u32, tree: &Tree, en
 }
 
 fn check_tree(round: &Round, batches: u32, tree: &Tree, end: End, takes_open: bool) -> bool
-    ensures { IsTrue result ↔ IsAcceptedFor takes_open end round.now batches (bound_of tree.now) }
+    ensures { IsTrue result ↔ IsAcceptedFor takes_open end round.now batches (bound_tree_of tree.now) }
 {
     if batches == 0 {
         return false;
@@ -49,7 +49,7 @@ fn check_tree(round: &Round, batches: u32, tree: &Tree, end: End, takes_open: bo
 /// It counts the classes of the round itself, takes any tree from anywhere, answers no for 0 batches
 /// and for a tree deeper than 300, and looks at nothing below depth 301.
 pub fn check(round: &Round, batches: u32, tree: &Tree, end: End) -> bool
-    ensures accepted { IsTrue result ↔ IsAcceptedFor false end round.now batches (bound_of tree.now) }
+    ensures accepted { IsTrue result ↔ IsAcceptedFor false end round.now batches (bound_tree_of tree.now) }
 
     // A yes is a bound over all lists of codewords.
     ensures bound { IsTrue result → (T : List ℕ) (n : ℕ) → IsLegalList end T n round.now → batches ≤ n }
@@ -60,7 +60,7 @@ pub fn check(round: &Round, batches: u32, tree: &Tree, end: End) -> bool
 
 /// The same, where a node that was not examined is accepted in any place.
 pub fn check_open(round: &Round, batches: u32, tree: &Tree, end: End) -> bool
-    ensures { IsTrue result ↔ IsAcceptedFor true end round.now batches (bound_of tree.now) }
+    ensures { IsTrue result ↔ IsAcceptedFor true end round.now batches (bound_tree_of tree.now) }
 {
     check_tree(round, batches, tree, end, true)
 }

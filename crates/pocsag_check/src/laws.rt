@@ -4,7 +4,7 @@ ghost use Rattle.pocsag_words.specs.declared.ending.End.{End};
 ghost use Rattle.pocsag_pages.specs.declared.page.Page.{Page};
 ghost use Rattle.pocsag_pages.specs.Reading.{AreApart, IsLegalFor};
 ghost use Rattle.pocsag_tree.specs.Limits.{most_nodes, second_ranges};
-ghost use Rattle.pocsag_tree.specs.Bounds.{all_nodes, Bound, closed_nodes};
+ghost use Rattle.pocsag_tree.specs.BoundTrees.{all_nodes, BoundTree, closed_nodes};
 ghost use Rattle.pocsag_tree.specs.Spelling.{HasText};
 ghost use Rattle.pocsag_slots.specs.declared.class.Classes.{Classes};
 ghost use Rattle.pocsag_slots.specs.declared.limit.Limits.{Limits};
@@ -14,22 +14,22 @@ ghost use Rattle.pocsag_check.specs.Fitting.{Fits};
 
 /// The limits of an accepted node are met by no transmission.
 pub fn accepted_nodes_refute()
-    ensures { (k : Classes) (end : End) (R : List Page) (T : List Kind) (b : ℕ) (l : Limits) (t : Bound) →
+    ensures { (k : Classes) (end : End) (R : List Page) (T : List Kind) (b : ℕ) (l : Limits) (t : BoundTree) →
         AreApart R → AreClassesOf k end R → Accepts false k end b l t → Fits T end R b l → ⊥ }
 {}
 
 /// Where a tree is accepted for so many batches, each legal transmission has at least as many.
 pub fn accepted_trees_bound()
-    ensures { (k : Classes) (end : End) (R : List Page) (T : List Kind) (batches n : ℕ) (t : Bound) →
+    ensures { (k : Classes) (end : End) (R : List Page) (T : List Kind) (batches n : ℕ) (t : BoundTree) →
         AreApart R → AreClassesOf k end R → AcceptsRoot false k end batches t → IsLegalFor end T n R → batches ≤ n }
 {}
 
 /// An accepted tree can be written, where its nodes are few enough; and where no node that was not examined
 /// is accepted, it has none.
 pub fn accepted_trees_have_texts()
-    ensures text { (takes_open : Bool) (k : Classes) (end : End) (batches : ℕ) (t : Bound) →
+    ensures text { (takes_open : Bool) (k : Classes) (end : End) (batches : ℕ) (t : BoundTree) →
         IsAccepted takes_open k end batches t → batches < 2 ^ 32 → all_nodes t ≤ most_nodes →
         HasText second_ranges batches t }
-    ensures closed { (k : Classes) (end : End) (batches : ℕ) (t : Bound) →
+    ensures closed { (k : Classes) (end : End) (batches : ℕ) (t : BoundTree) →
         IsAccepted false k end batches t → all_nodes t ≡ closed_nodes t }
 {}

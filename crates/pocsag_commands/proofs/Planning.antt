@@ -4,7 +4,7 @@ use Rattle.std.specs.Prelude.{OnOk, Result}
 use Rattle.pocsag_words.specs.declared.ending.End.{End}
 use Rattle.pocsag_pages.specs.PageFile.{verdict}
 use Rattle.pocsag_pages.specs.declared.page.Page.{Page}
-use Rattle.pocsag_tree.specs.Views.{bound_of}
+use Rattle.pocsag_tree.specs.Views.{bound_tree_of}
 use Rattle.pocsag_plan.specs.declared.answer.Plan.{Plan}
 use Rattle.pocsag_plan.specs.declared.bounded.Bounded.{Bounded}
 use Rattle.pocsag_plan.specs.declared.fault.StreamFault.{StreamFault}
@@ -26,7 +26,7 @@ pub why_refused : (file : List ℕ) (search : Search) (e : StreamFault) → Expl
     → status_of (fault_of_stream e) ≡ 1 → IsPlanRefused file search
 why_refused file search streaming.BadLimit said one = limit said
 why_refused file search (streaming.Round f) said one = of_round f (why_round file f said.1 one)
-why_refused file search (streaming.SearchLimit stop) said one = stopped said.0 stop.least stop.found (bound_of stop.tree) said.2
+why_refused file search (streaming.SearchLimit stop) said one = stopped said.0 stop.least stop.found (bound_tree_of stop.tree) said.2
 why_refused file search streaming.OutOfMemory said one = absurd (omega arith)
 why_refused file search (streaming.Transmission f) said one = absurd (omega arith)
 why_refused file search (streaming.Certificate f) said one = absurd (omega arith)
@@ -48,12 +48,12 @@ told_plan file end plan of (Err e) out out' told = tt
 
 module _ (file : List ℕ) (search : Search) (tx tx' cert cert' : List ℕ) (bounded : Bounded)
     (of : IsOfRound file (λ round. IsPlanFor search round bounded))
-    (writes : WritesBounded file search.end bounded.plan.batches bounded.bound (bound_of bounded.plan.tree) tx tx' cert cert') where
+    (writes : WritesBounded file search.end bounded.plan.batches bounded.bound (bound_tree_of bounded.plan.tree) tx tx' cert cert') where
   pub planned : Planned file search tx tx' cert cert'
   planned = record {
     batches = bounded.plan.batches;
     bound = bounded.bound;
-    tree = bound_of bounded.plan.tree;
+    tree = bound_tree_of bounded.plan.tree;
     writes = writes;
     headline = λ same. tight_stream _ _ _ _ _ _ _ _ _ same writes;
     fewest = of.holds.fewest;
@@ -74,7 +74,7 @@ module _ (file : List ℕ) (search : Search) (tx tx' cert cert' : List ℕ) (bou
       let pages : bounded.plan.pages ≡ length writes.headline.round = of.holds.plan_of.pages ∙ ap length same in
       record {
         planned = planned;
-        shaped = λ fewest. subst (λ (ps : List Page). IsSearchTreeFor search.end ps bounded.plan.batches (bound_of bounded.plan.tree)) same
+        shaped = λ fewest. subst (λ (ps : List Page). IsSearchTreeFor search.end ps bounded.plan.batches (bound_tree_of bounded.plan.tree)) same
             (of.holds.shaped fewest);
         told = told ∙ ap (λ (n : ℕ). out ++ plan_text n bounded.plan.batches ++ below_text bounded.plan.batches bounded.bound) pages;
       }

@@ -7,7 +7,7 @@ use Rattle.pocsag_pages.specs.declared.fault.RoundFault.TheVariants as round
 use Rattle.pocsag_pages.specs.declared.page.Page.{Page}
 use Rattle.pocsag_tree.specs.Answers.{IsFault}
 use Rattle.pocsag_tree.specs.Parts.{HasFirst}
-use Rattle.pocsag_tree.specs.Views.{bound_of}
+use Rattle.pocsag_tree.specs.Views.{bound_tree_of}
 use Rattle.pocsag_tree.specs.declared.refusals.CertificateFault.{CertificateFault}
 use Rattle.pocsag_tree.specs.declared.refusals.CertificateFault.TheVariants as certificate
 use Rattle.pocsag_decode.specs.Faults.{HasFault, IsFaultless}
@@ -45,7 +45,7 @@ pub why_unplanned : (file : List ℕ) (R : List Page) → verdict file ≡ Ok R 
     ExplainsPlan search.effort search.end R search.limit e → status_of (fault_of_plan e) ≡ 1 → IsPlanRefused file search
 why_unplanned file R read search planning.BadLimit said one = limit said
 why_unplanned file R read search (planning.SearchLimit stop) said one =
-    stopped said.0 stop.least stop.found (bound_of stop.tree) (record { round = R; read = read; holds = said.2 })
+    stopped said.0 stop.least stop.found (bound_tree_of stop.tree) (record { round = R; read = read; holds = said.2 })
 why_unplanned file R read search planning.OutOfMemory said one = absurd (omega arith)
 
 pub why_certificate : (e : CertificateFault) (bytes : List ℕ) → IsFault e bytes → status_of (fault.Certificate e) ≡ 1 → HasFirst e bytes

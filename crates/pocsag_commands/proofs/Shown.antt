@@ -3,14 +3,14 @@ use Rattle.std.proofs.Common.{◌≡◌, ℕ, List, ◌++◌, false, Ok}
 use Rattle.pocsag_words.specs.declared.ending.End.{End}
 use Rattle.pocsag_pages.specs.declared.page.Page.{Page}
 use Rattle.pocsag_pages.specs.PageFile.{verdict}
-use Rattle.pocsag_tree.specs.Bounds.{Bound}
+use Rattle.pocsag_tree.specs.BoundTrees.{BoundTree}
 use Rattle.pocsag_tree.specs.Spelling.{IsText}
 use Rattle.pocsag_check.specs.Accepting.{IsAcceptedFor}
 use Rattle.pocsag_plan.specs.Plans.{NoneHasFewer}
 use Rattle.pocsag_commands.specs.Commands.{Checked, CheckedAndTold}
 use Rattle.pocsag_commands.specs.Lines.{bound_text}
 
-pub checked : (file certificate : List ℕ) (end : End) (batches : ℕ) (R : List Page) (tree : Bound) → verdict file ≡ Ok R →
+pub checked : (file certificate : List ℕ) (end : End) (batches : ℕ) (R : List Page) (tree : BoundTree) → verdict file ≡ Ok R →
     IsText end batches tree certificate → IsAcceptedFor false end R batches tree → NoneHasFewer end R batches →
     Checked file certificate end batches
 checked file certificate end batches R tree read text accepted bound = record {

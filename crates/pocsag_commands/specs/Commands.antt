@@ -5,7 +5,7 @@ use Rattle.pocsag_pages.specs.declared.fault.RoundFault.{RoundFault}
 use Rattle.pocsag_pages.specs.declared.page.Page.{Page}
 use Rattle.pocsag_pages.specs.Bytes.{after_preamble, words_of}
 use Rattle.pocsag_pages.specs.PageFile.{verdict}
-use Rattle.pocsag_tree.specs.Bounds.{Bound}
+use Rattle.pocsag_tree.specs.BoundTrees.{BoundTree}
 use Rattle.pocsag_tree.specs.Spelling.{IsText}
 use Rattle.pocsag_check.specs.Accepting.{IsAcceptedFor}
 use Rattle.pocsag_branch.specs.Found.{IsNodeLimit}
@@ -34,7 +34,7 @@ pub record ToldPlan (file : List ℕ) (end : End) (out_before out_after : List �
 pub record Planned (file : List ℕ) (search : Search) (tx_before tx_after cert_before cert_after : List ℕ) : Type 0 where
   pub batches : ℕ
   pub bound : ℕ
-  pub tree : Bound
+  pub tree : BoundTree
   pub writes : WritesBounded file search.end batches bound tree tx_before tx_after cert_before cert_after
   pub headline : bound ≡ batches → Writes file search.end batches tree tx_before tx_after cert_before cert_after
   pub fewest : search.effort ≡ Fewest → bound ≡ batches
@@ -62,7 +62,7 @@ pub data LeavesOutputs (file : List ℕ) (search : Search) (tx_before tx_after c
 pub data IsPlanRefused (file : List ℕ) (search : Search) : Type 0 where
   limit : ¬ IsNodeLimit search.limit → IsPlanRefused file search
   round : (f : RoundFault) → verdict file ≡ Err f → IsPlanRefused file search
-  stopped : MayStop search.effort → (least found : ℕ) (tree : Bound) → IsStoppedAt file search.end search.limit least found tree
+  stopped : MayStop search.effort → (least found : ℕ) (tree : BoundTree) → IsStoppedAt file search.end search.limit least found tree
       → IsPlanRefused file search
 
 -- `check`: the page file is that of a round, and the certificate is a text of an end, a number of batches
@@ -71,7 +71,7 @@ pub data IsPlanRefused (file : List ℕ) (search : Search) : Type 0 where
 pub record Checked (file certificate : List ℕ) (end : End) (batches : ℕ) : Type 0 where
   pub round : List Page
   pub read : verdict file ≡ Ok round
-  pub tree : Bound
+  pub tree : BoundTree
   pub text : IsText end batches tree certificate
   pub accepted : IsAcceptedFor false end round batches tree
   pub bound : NoneHasFewer end round batches

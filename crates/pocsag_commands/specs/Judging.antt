@@ -5,7 +5,7 @@ use Rattle.pocsag_pages.specs.declared.fault.RoundFault.TheVariants as round
 use Rattle.pocsag_pages.specs.declared.page.Page.{Page}
 use Rattle.pocsag_pages.specs.PageFile.{verdict}
 use Rattle.pocsag_tree.specs.Answers.{IsFault}
-use Rattle.pocsag_tree.specs.Bounds.{Bound}
+use Rattle.pocsag_tree.specs.BoundTrees.{BoundTree}
 use Rattle.pocsag_tree.specs.Spelling.{IsText}
 use Rattle.pocsag_check.specs.Accepting.{IsAcceptedFor}
 use Rattle.pocsag_commands.specs.declared.fault.Fault.{Fault}
@@ -16,7 +16,7 @@ use Rattle.pocsag_commands.specs.declared.fault.Fault.TheVariants as fault
 pub record IsNotShown (file text : List ℕ) (end : End) (batches : ℕ) : Type 0 where
   pub round : List Page
   pub read : verdict file ≡ Ok round
-  pub tree : Bound
+  pub tree : BoundTree
   pub spelled : IsText end batches tree text
   pub refused : ¬ IsAcceptedFor false end round batches tree
 

@@ -2,7 +2,7 @@
 use Rattle.std.specs.Prelude.{◌≡◌, ◌⊎◌, ℕ, List, Err}
 use Rattle.pocsag_pages.specs.declared.fault.RoundFault.TheVariants as round
 use Rattle.pocsag_pages.specs.PageFile.{verdict}
-use Rattle.pocsag_tree.specs.Bounds.{Bound}
+use Rattle.pocsag_tree.specs.BoundTrees.{BoundTree}
 use Rattle.pocsag_branch.specs.Found.{IsNodeLimit}
 use Rattle.pocsag_plan.specs.Plans.{IsPlanFor, MayStop}
 use Rattle.pocsag_plan.specs.Reports.{IsRate, IsReport}
@@ -25,7 +25,7 @@ abbrev pub ExplainsReporting : (file : List ℕ) → Search → (rate : ℕ) →
 ExplainsReporting file search rate (fault.Round f) = (f ≡ round.OutOfMemory) ⊎ (f ≡ round.ReadFault) ⊎ (verdict file ≡ Err f)
 ExplainsReporting file search rate fault.BadLimit = ¬ IsNodeLimit search.limit
 ExplainsReporting file search rate (fault.SearchLimit least found) =
-    MayStop search.effort × ((tree : Bound) × IsStoppedAt file search.end search.limit least found tree)
+    MayStop search.effort × ((tree : BoundTree) × IsStoppedAt file search.end search.limit least found tree)
 ExplainsReporting file search rate fault.BadRate = ¬ IsRate rate
 ExplainsReporting file search rate fault.OutOfMemory = Unit {0}
 ExplainsReporting file search rate _ = ⊥

@@ -2,7 +2,7 @@ ghost use Rattle.std.specs.Prelude.{◌≡◌, false, List, ℕ, All, Contains, 
 ghost use Rattle.pocsag_words.specs.Kinds.{kind_of};
 ghost use Rattle.pocsag_pages.specs.Bytes.{Sent};
 ghost use Rattle.pocsag_pages.specs.Reading.{EndsAs, EndsIdle};
-ghost use Rattle.pocsag_tree.specs.Views.{bound_of};
+ghost use Rattle.pocsag_tree.specs.Views.{bound_tree_of};
 ghost use Rattle.pocsag_check.specs.Accepting.{IsAcceptedFor};
 ghost use Rattle.pocsag_plan.specs.Plans.{NoneHasFewer};
 ghost use Rattle.pocsag_commands.specs.Verifying.{AreAmong, IsDueBound, IsTransmissionOf, Verified};
@@ -57,7 +57,7 @@ fn shows_due(round: &Round, certificate: &Certificate, batches: usize, search: S
     ensures end { IsTrue result → certificate.now.end ≡ search.end }
     ensures due { IsTrue result → IsDueBound search.effort certificate.now.batches batches }
     ensures accepted { IsTrue result →
-        IsAcceptedFor false search.end round.now certificate.now.batches (bound_of certificate.now.tree) }
+        IsAcceptedFor false search.end round.now certificate.now.batches (bound_tree_of certificate.now.tree) }
     ensures bound { IsTrue result → NoneHasFewer search.end round.now certificate.now.batches }
 {
     is_end(certificate.end, search.end)

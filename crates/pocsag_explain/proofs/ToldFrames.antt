@@ -5,7 +5,7 @@ use Rattle.std.specs.Prelude.{OnOk, Result}
 use Rattle.pocsag_pages.specs.PageFile.{verdict}
 use Rattle.pocsag_pages.specs.declared.page.Page.{Page}
 use Rattle.pocsag_slots.specs.declared.step.Step.{Step}
-use Rattle.pocsag_tree.specs.Views.{bound_of}
+use Rattle.pocsag_tree.specs.Views.{bound_tree_of}
 use Rattle.pocsag_plan.specs.declared.airtime.Report.{Report}
 use Rattle.pocsag_plan.specs.declared.bounded.Bounded.{Bounded}
 use Rattle.pocsag_plan.specs.declared.fault.PlanFault.{PlanFault}
@@ -24,7 +24,7 @@ pub why_unplanned : (file : List ℕ) (search : Search) (rate : ℕ) (R : List P
     → ExplainsPlan search.effort search.end R search.limit e → status_of (fault_of_plan e) ≡ 1 → IsReportRefusedFor file search rate
 why_unplanned file search rate R read planning.BadLimit said one = limit said
 why_unplanned file search rate R read (planning.SearchLimit stop) said one =
-    stopped said.0 stop.least stop.found (bound_of stop.tree) (record { round = R; read = read; holds = said.2 })
+    stopped said.0 stop.least stop.found (bound_tree_of stop.tree) (record { round = R; read = read; holds = said.2 })
 why_unplanned file search rate R read planning.OutOfMemory said one = absurd (omega arith)
 
 pub told_frames : (file : List ℕ) (search : Search) (rate : ℕ) (R : List Page) (bounded : Bounded) (report : Report) (rooms held : List FrameRoom)

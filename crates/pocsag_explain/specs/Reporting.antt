@@ -4,7 +4,7 @@ use Rattle.std.specs.List.{flat_map}
 use Rattle.pocsag_pages.specs.PageFile.{verdict}
 use Rattle.pocsag_pages.specs.declared.fault.RoundFault.{RoundFault}
 use Rattle.pocsag_pages.specs.declared.page.Page.{Page}
-use Rattle.pocsag_tree.specs.Bounds.{Bound}
+use Rattle.pocsag_tree.specs.BoundTrees.{BoundTree}
 use Rattle.pocsag_branch.specs.Found.{IsNodeLimit}
 use Rattle.pocsag_plan.specs.declared.airtime.Report.{Report}
 use Rattle.pocsag_plan.specs.declared.bounded.Bounded.{Bounded}
@@ -33,6 +33,6 @@ pub record ReportedFrames (file : List ℕ) (search : Search) (rate : ℕ) (out_
 pub data IsReportRefusedFor (file : List ℕ) (search : Search) (rate : ℕ) : Type 0 where
   limit : ¬ IsNodeLimit search.limit → IsReportRefusedFor file search rate
   round : (f : RoundFault) → verdict file ≡ Err f → IsReportRefusedFor file search rate
-  stopped : MayStop search.effort → (least found : ℕ) (tree : Bound)
+  stopped : MayStop search.effort → (least found : ℕ) (tree : BoundTree)
       → IsStoppedAt file search.end search.limit least found tree → IsReportRefusedFor file search rate
   rate : ¬ IsRate rate → IsReportRefusedFor file search rate

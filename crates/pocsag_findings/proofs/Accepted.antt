@@ -1,5 +1,5 @@
 -- A tree of which all that is found holds is accepted.
-use Rattle.pocsag_findings.proofs.Prelude.{◌≡◌, ℕ, ◌+◌, ◌<◌, ◌≤◌, ◌∷◌, [], List, Bool, cond, refl, sym, ◌∙◌, arith, nat_lt, true, false, length, Classes, End, Limits, Reached, Stated, Way, Bound, Bounds, overload, split, cut, close, unexamined, none, more, children_count}
+use Rattle.pocsag_findings.proofs.Prelude.{◌≡◌, ℕ, ◌+◌, ◌<◌, ◌≤◌, ◌∷◌, [], List, Bool, cond, refl, sym, ◌∙◌, arith, nat_lt, true, false, length, Classes, End, Limits, Reached, Stated, Way, BoundTree, BoundTrees, overload, split, cut, close, unexamined, none, more, children_count}
 use Rattle.std.specs.List.{AllByRecursion}
 use Rattle.std.proofs.lemmas.Bool.{and_parts}
 use Rattle.std.proofs.lemmas.Bool.Decides.{nat_tests}
@@ -8,7 +8,7 @@ use Rattle.pocsag_slots.specs.Loads.{AreInOrder, Overloads}
 use Rattle.pocsag_slots.specs.Sums.{holds}
 use Rattle.pocsag_slots.specs.Tours.{AsksForLast}
 use Rattle.pocsag_slots.specs.Ways.{MayTake, class_certain, ways_across, ways_to_close, limits_below, limits_from, narrowed_limits}
-use Rattle.pocsag_tree.specs.Bounds.{depth_of, deepest}
+use Rattle.pocsag_tree.specs.BoundTrees.{depth_of, deepest}
 use Rattle.pocsag_tree.specs.Spelling.{IsSet}
 use Rattle.pocsag_check.specs.Accepting.{Accepts, AcceptsEach}
 use Rattle.pocsag_findings.specs.declared.finding.Reached.TheVariants.{Below, From, By}
@@ -33,7 +33,7 @@ record IsCutAt (k : Classes) (l : Limits) (set c : ℕ) : Type 0 where
   certain : class_certain k l set c ≡ true
   small : set < 65536
 
-cut_at : (k : Classes) (end : End) (b : ℕ) (l : Limits) (set c : ℕ) (children : Bounds) →
+cut_at : (k : Classes) (end : End) (b : ℕ) (l : Limits) (set c : ℕ) (children : BoundTrees) →
     fact_holds end b (fact_of k end l (cut set c children)) ≡ true → IsCutAt k l set c
 cut_at k end b l set c children h = record {
   class = grind (arith, nat_tests);
@@ -42,7 +42,7 @@ cut_at k end b l set c children h = record {
   small = grind (arith, nat_tests);
 }
 
-asking_end : (k : Classes) (end : End) (b : ℕ) (l : Limits) (children : Bounds) →
+asking_end : (k : Classes) (end : End) (b : ℕ) (l : Limits) (children : BoundTrees) →
     fact_holds end b (fact_of k end l (close children)) ≡ true → AsksForLast end
 asking_end k ends.Open b l children h = absurd (cc h)
 asking_end k ends.Closed b l children h = tt
@@ -55,7 +55,7 @@ parts false held first below unjudged l e h = absurd (cc l)
 parts true true first below unjudged l e h = (refl, (and_parts first.holds (all below) h).1)
 parts true false first below unjudged l e h = absurd (cc (sym e ∙ (and_parts first.holds (all unjudged) h).0))
 
-within_parts : (k : Classes) (end : End) (b depth : ℕ) (l : Limits) (above : ℕ) (how : Reached) (t : Bound) → above < depth →
+within_parts : (k : Classes) (end : End) (b depth : ℕ) (l : Limits) (above : ℕ) (how : Reached) (t : BoundTree) → above < depth →
     all (findings_within k end b depth l above how t) ≡ true →
     (fact_holds end b (fact_of k end l t) ≡ true) × (all (findings_below k end b depth l (above + 1) t) ≡ true)
 within_parts k end b depth l above how t h a =
@@ -64,7 +64,7 @@ within_parts k end b depth l above how t h a =
     (unjudged_below depth (above + 1) t) listed refl a
 
 mutual
-  pub accepts : (t : Bound) (k : Classes) (end : End) (b depth : ℕ) (l : Limits) (above : ℕ) (how : Reached) → AreInOrder k l →
+  pub accepts : (t : BoundTree) (k : Classes) (end : End) (b depth : ℕ) (l : Limits) (above : ℕ) (how : Reached) → AreInOrder k l →
       above + depth_of t ≤ depth → all (findings_within k end b depth l above how t) ≡ true → Accepts false k end b l t
   accepts (overload set) k end b depth l above how o deep a =
       held_overload k end b l set o (within_parts k end b depth l above how (overload set) (omega arith) a).0
@@ -100,7 +100,7 @@ mutual
   accepts unexamined k end b depth l above how o deep a =
       absurd (cc (within_parts k end b depth l above how unexamined (omega arith) a).0)
 
-  accepts_each : (ts : Bounds) (k : Classes) (end : End) (b depth : ℕ) (l : Limits) (above : ℕ) (ws : List Way) → AreInOrder k l →
+  accepts_each : (ts : BoundTrees) (k : Classes) (end : End) (b depth : ℕ) (l : Limits) (above : ℕ) (ws : List Way) → AreInOrder k l →
       AllByRecursion (MayTake k l) ws → length ws ≡ children_count ts → above + deepest ts ≤ depth →
       all (findings_by k end b depth l above ws ts) ≡ true → AcceptsEach false k end b l ws ts
   accepts_each none k end b depth l above [] o may long deep a = tt

@@ -1,5 +1,5 @@
 -- All that is found of a tree holds exactly where the tree is accepted.
-use Rattle.pocsag_findings.proofs.Prelude.{◌≡◌, ℕ, ◌+◌, ◌<◌, ◌≤◌, ◌++◌, ◌∷◌, [], List, Bool, cond, refl, sym, ◌∙◌, arith, nat_lt, true, false, length, Classes, End, Limits, Reached, Stated, Way, Bound, Bounds, overload, split, cut, close, unexamined, none, more, children_count}
+use Rattle.pocsag_findings.proofs.Prelude.{◌≡◌, ℕ, ◌+◌, ◌<◌, ◌≤◌, ◌++◌, ◌∷◌, [], List, Bool, cond, refl, sym, ◌∙◌, arith, nat_lt, true, false, length, Classes, End, Limits, Reached, Stated, Way, BoundTree, BoundTrees, overload, split, cut, close, unexamined, none, more, children_count}
 use Rattle.std.specs.List.{AllByRecursion, list_all}
 use Rattle.std.proofs.lemmas.Bool.{and_parts}
 use Rattle.std.proofs.lemmas.Bool.Decides.{nat_tests}
@@ -31,7 +31,7 @@ asked ends.Closed asks = refl
 asked ends.Idle asks = refl
 
 -- the rule of an accepted node holds
-accepted_fact : (t : Bound) (k : Classes) (end : End) (b : ℕ) (l : Limits) → AreInOrder k l → Accepts false k end b l t →
+accepted_fact : (t : BoundTree) (k : Classes) (end : End) (b : ℕ) (l : Limits) → AreInOrder k l → Accepts false k end b l t →
     fact_holds end b (fact_of k end l t) ≡ true
 accepted_fact (overload set) k end b l o a =
     let more_than : room_of l set < least_of_set k l set = (overload_fact k l set o).1 a.1 in
@@ -70,14 +70,14 @@ both xs ys h g = rw (list_all-append (λ (f : Stated). f.holds) xs ys, h, g) ref
 pub each : (xs ys : List Stated) → all (xs ++ ys) ≡ true → (all xs ≡ true) × (all ys ≡ true)
 each xs ys h = and_parts (all xs) (all ys) (sym (list_all-append (λ (f : Stated). f.holds) xs ys) ∙ h)
 
-with_all : (k : Classes) (end : End) (b depth : ℕ) (l : Limits) (above : ℕ) (how : Reached) (t : Bound) (below : List Stated) →
+with_all : (k : Classes) (end : End) (b depth : ℕ) (l : Limits) (above : ℕ) (how : Reached) (t : BoundTree) (below : List Stated) →
     AreInOrder k l → Accepts false k end b l t → all below ≡ true → all (findings_with k end b depth l above how t below) ≡ true
 with_all k end b depth l above how t below o a rest =
     with_listed (nat_lt above depth) (fact_holds end b (fact_of k end l t)) _ below _ (accepted_fact t k end b l o a)
     (accepted_fact t k end b l o a) rest
 
 mutual
-  pub all_below : (t : Bound) (k : Classes) (end : End) (b depth : ℕ) (l : Limits) (above : ℕ) → AreInOrder k l →
+  pub all_below : (t : BoundTree) (k : Classes) (end : End) (b depth : ℕ) (l : Limits) (above : ℕ) → AreInOrder k l →
       Accepts false k end b l t → all (findings_below k end b depth l above t) ≡ true
   all_below (overload set) k end b depth l above o a = refl
   all_below (split c m below from) k end b depth l above o a =
@@ -97,7 +97,7 @@ mutual
       all_by children k end b depth l above (ways_to_close k end l) o (closing_allowed k end l) a.2
   all_below unexamined k end b depth l above o a = refl
 
-  all_by : (ts : Bounds) (k : Classes) (end : End) (b depth : ℕ) (l : Limits) (above : ℕ) (ws : List Way) → AreInOrder k l →
+  all_by : (ts : BoundTrees) (k : Classes) (end : End) (b depth : ℕ) (l : Limits) (above : ℕ) (ws : List Way) → AreInOrder k l →
       AllByRecursion (MayTake k l) ws → AcceptsEach false k end b l ws ts → all (findings_by k end b depth l above ws ts) ≡ true
   all_by none k end b depth l above [] o may a = refl
   all_by none k end b depth l above (w ∷ ws) o may a = refl
@@ -110,7 +110,7 @@ mutual
       (all_below t k end b depth (narrowed_limits k l w b) (above + 1) next a.0))
       (all_by ts k end b depth l above ws o may.1 a.1)
 
-pub all_within : (t : Bound) (k : Classes) (end : End) (b depth : ℕ) (l : Limits) (above : ℕ) (how : Reached) → AreInOrder k l →
+pub all_within : (t : BoundTree) (k : Classes) (end : End) (b depth : ℕ) (l : Limits) (above : ℕ) (how : Reached) → AreInOrder k l →
     Accepts false k end b l t → all (findings_within k end b depth l above how t) ≡ true
 all_within t k end b depth l above how o a =
     with_all k end b depth l above how t (findings_below k end b depth l (above + 1) t) o a

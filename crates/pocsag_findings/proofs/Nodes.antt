@@ -1,5 +1,5 @@
 -- The findings of a node, put behind those before it.
-use Rattle.pocsag_findings.proofs.Prelude.{◌≡◌, ℕ, ◌+◌, ◌<◌, ◌≤◌, ◌++◌, ◌∷◌, [], List, Bool, sym, ◌∙◌, arith, nat_lt, true, length, slice_index, Classes, End, Limits, Reached, Stated, Fact, Share, Bound, Bounds, split, cut, close, children_count}
+use Rattle.pocsag_findings.proofs.Prelude.{◌≡◌, ℕ, ◌+◌, ◌<◌, ◌≤◌, ◌++◌, ◌∷◌, [], List, Bool, sym, ◌∙◌, arith, nat_lt, true, length, slice_index, Classes, End, Limits, Reached, Stated, Fact, Share, BoundTree, BoundTrees, split, cut, close, children_count}
 use Rattle.std.proofs.Common.{append_assoc}
 use Rattle.std.proofs.lemmas.Bool.Decides.{nat_tests}
 use Rattle.pocsag_slots.specs.Ways.{ways_across, ways_to_close}
@@ -7,7 +7,7 @@ use Rattle.pocsag_findings.specs.Rules.{columns_at, fact_holds, fact_of, shares_
 use Rattle.pocsag_findings.specs.Findings.{findings_below, findings_within}
 
 -- a node whose rule holds, where those below it are found behind it
-pub held_node : (k : Classes) (end : End) (b depth : ℕ) (l : Limits) (above : ℕ) (how : Reached) (t : Bound) (fact : Fact)
+pub held_node : (k : Classes) (end : End) (b depth : ℕ) (l : Limits) (above : ℕ) (how : Reached) (t : BoundTree) (fact : Fact)
     (shares : List Share) (below old mid new : List Stated) → above < depth → fact ≡ fact_of k end l t → shares ≡ shares_at k l t →
     fact_holds end b fact ≡ true →
     mid ≡ old ++ record {
@@ -26,22 +26,22 @@ held_node k end b depth l above how t fact shares below old mid new h is stated 
     rw (all, first, is, stated, rest, listed, holds) (simp append_assoc)
 
 -- what a rule that holds says
-pub held_split : (k : Classes) (end : End) (b : ℕ) (l : Limits) (c m : ℕ) (below from : Bound) →
+pub held_split : (k : Classes) (end : End) (b : ℕ) (l : Limits) (c m : ℕ) (below from : BoundTree) →
     fact_holds end b (fact_of k end l (split c m below from)) ≡ true → (c < 136) × (slice_index l.lo c < m) × (m ≤ slice_index l.hi c)
 held_split k end b l c m below from h = grind (arith, nat_tests)
 
 -- the same of a node that states so
-pub split_says : (k : Classes) (end : End) (b : ℕ) (l : Limits) (c m : ℕ) (below from t : Bound) (fact : Fact) (holds : Bool) →
+pub split_says : (k : Classes) (end : End) (b : ℕ) (l : Limits) (c m : ℕ) (below from t : BoundTree) (fact : Fact) (holds : Bool) →
     fact ≡ fact_of k end l t → t ≡ split c m below from → holds ≡ fact_holds end b fact → holds ≡ true →
     (c < 136) × (slice_index l.lo c < m) × (m ≤ slice_index l.hi c)
 split_says k end b l c m below from t fact holds is node met held =
     held_split k end b l c m below from (rw (is, node) at (sym met ∙ held))
 
-pub held_cut : (k : Classes) (end : End) (b : ℕ) (l : Limits) (set c : ℕ) (children : Bounds) →
+pub held_cut : (k : Classes) (end : End) (b : ℕ) (l : Limits) (set c : ℕ) (children : BoundTrees) →
     fact_holds end b (fact_of k end l (cut set c children)) ≡ true → (0 < b) × (length (ways_across k l set) ≡ children_count children)
 held_cut k end b l set c children h = grind (arith, nat_tests)
 
-pub held_close : (k : Classes) (end : End) (b : ℕ) (l : Limits) (children : Bounds) →
+pub held_close : (k : Classes) (end : End) (b : ℕ) (l : Limits) (children : BoundTrees) →
     fact_holds end b (fact_of k end l (close children)) ≡ true → (0 < b) × (length (ways_to_close k end l) ≡ children_count children)
 held_close k end b l children h = grind (arith, nat_tests)
 

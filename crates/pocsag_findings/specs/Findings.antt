@@ -7,7 +7,7 @@ use Rattle.pocsag_slots.specs.declared.limit.Limits.{Limits}
 use Rattle.pocsag_slots.specs.declared.way.Way.{Way}
 use Rattle.pocsag_slots.specs.Loads.{limits_of_all}
 use Rattle.pocsag_slots.specs.Ways.{ways_across, ways_to_close, narrowed_limits, limits_below, limits_from}
-use Rattle.pocsag_tree.specs.Bounds.{Bound, Bounds, overload, split, cut, close, unexamined, none, more}
+use Rattle.pocsag_tree.specs.BoundTrees.{BoundTree, BoundTrees, overload, split, cut, close, unexamined, none, more}
 use Rattle.pocsag_findings.specs.declared.finding.Fact.TheVariants.{Unjudged}
 use Rattle.pocsag_findings.specs.declared.finding.Reached.{Reached}
 use Rattle.pocsag_findings.specs.declared.finding.Reached.TheVariants.{Root, Below, From, By, Unreached}
@@ -15,7 +15,7 @@ use Rattle.pocsag_findings.specs.Rules.{fact_of, fact_holds, columns_at, shares_
 use Rattle.pocsag_findings.specs.Views.{Stated}
 
 -- What is found of one node: so many nodes stand above it, and it is reached so.
-abbrev pub finding_of : Classes → End → ℕ → Limits → ℕ → Reached → Bound → Stated
+abbrev pub finding_of : Classes → End → ℕ → Limits → ℕ → Reached → BoundTree → Stated
 finding_of k end b l above reached t = record {
   depth = above + 1;
   reached = reached;
@@ -43,7 +43,7 @@ where_listed depth above first rest = cond (nat_lt above depth) (first ∷ rest)
 abbrev mutual
   -- The findings of the nodes below one that cannot be judged, or whose rule does not hold, each node before its
   -- children; so many nodes stand above the children.
-  pub unjudged_below : ℕ → ℕ → Bound → List Stated
+  pub unjudged_below : ℕ → ℕ → BoundTree → List Stated
   unjudged_below depth above (overload set) = []
   unjudged_below depth above (split c m below from) =
       where_listed depth above (unjudged_finding above) (unjudged_below depth (above + 1) below)
@@ -52,17 +52,17 @@ abbrev mutual
   unjudged_below depth above (close children) = each_unjudged depth above children
   unjudged_below depth above unexamined = []
 
-  pub each_unjudged : ℕ → ℕ → Bounds → List Stated
+  pub each_unjudged : ℕ → ℕ → BoundTrees → List Stated
   each_unjudged depth above none = []
   each_unjudged depth above (more t ts) =
       where_listed depth above (unjudged_finding above) (unjudged_below depth (above + 1) t) ++ each_unjudged depth above ts
 
 -- The findings of a node that cannot be judged, and of those below it.
-abbrev pub unjudged_within : ℕ → ℕ → Bound → List Stated
+abbrev pub unjudged_within : ℕ → ℕ → BoundTree → List Stated
 unjudged_within depth above t = where_listed depth above (unjudged_finding above) (unjudged_below depth (above + 1) t)
 
 -- The findings of a node, and of those below it: these ones where its rule holds, and else that they cannot be judged.
-abbrev pub findings_with : Classes → End → ℕ → ℕ → Limits → ℕ → Reached → Bound → List Stated → List Stated
+abbrev pub findings_with : Classes → End → ℕ → ℕ → Limits → ℕ → Reached → BoundTree → List Stated → List Stated
 findings_with k end b depth l above reached t below =
     where_listed depth above (finding_of k end b l above reached t)
     (cond (fact_holds end b (fact_of k end l t)) below (unjudged_below depth (above + 1) t))
@@ -70,7 +70,7 @@ findings_with k end b depth l above reached t below =
 abbrev mutual
   -- The findings of the nodes below one whose rule holds under its limits for b batches, no deeper than so: each
   -- child stands under the limits that lead to it, and before its own children.
-  pub findings_below : Classes → End → ℕ → ℕ → Limits → ℕ → Bound → List Stated
+  pub findings_below : Classes → End → ℕ → ℕ → Limits → ℕ → BoundTree → List Stated
   findings_below k end b depth l above (overload set) = []
   findings_below k end b depth l above (split c m below from) =
       findings_with k end b depth (limits_below l c m) above Below below
@@ -82,7 +82,7 @@ abbrev mutual
   findings_below k end b depth l above unexamined = []
 
   -- The findings of the children of a node, one for each way, in order, under the limits that the way leaves.
-  pub findings_by : Classes → End → ℕ → ℕ → Limits → ℕ → List Way → Bounds → List Stated
+  pub findings_by : Classes → End → ℕ → ℕ → Limits → ℕ → List Way → BoundTrees → List Stated
   findings_by k end b depth l above [] none = []
   findings_by k end b depth l above [] (more t ts) = []
   findings_by k end b depth l above (w ∷ ws) none = []
@@ -92,12 +92,12 @@ abbrev mutual
       ++ findings_by k end b depth l above ws ts
 
 -- The findings of a node and of those below it, under its limits.
-abbrev pub findings_within : Classes → End → ℕ → ℕ → Limits → ℕ → Reached → Bound → List Stated
+abbrev pub findings_within : Classes → End → ℕ → ℕ → Limits → ℕ → Reached → BoundTree → List Stated
 findings_within k end b depth l above reached t =
     findings_with k end b depth l above reached t (findings_below k end b depth l (above + 1) t)
 
 -- *Findings* of a tree that is taken to show that fewer than so many batches do not suffice.
-abbrev pub findings_of : Classes → End → ℕ → ℕ → Bound → List Stated
+abbrev pub findings_of : Classes → End → ℕ → ℕ → BoundTree → List Stated
 findings_of k end batches depth t =
     findings_within k end (batches - 1) depth (limits_of_all k (batches - 1)) 0 Root t
 

@@ -9,7 +9,7 @@ use Rattle.pocsag_slots.specs.Loads.{least_of_class}
 use Rattle.pocsag_slots.specs.Numbering.{class_count, slot_count}
 use Rattle.pocsag_slots.specs.Sums.{holds, joined_below, sum_below, sum_over}
 use Rattle.pocsag_slots.specs.Ways.{class_certain, ways_across, ways_to_close}
-use Rattle.pocsag_tree.specs.Bounds.{Bound, overload, split, cut, close, unexamined, children_count}
+use Rattle.pocsag_tree.specs.BoundTrees.{BoundTree, overload, split, cut, close, unexamined, children_count}
 use Rattle.pocsag_tree.specs.Limits.{greatest_set}
 use Rattle.pocsag_findings.specs.declared.finding.Column.{Column}
 use Rattle.pocsag_findings.specs.declared.finding.Fact.{Fact}
@@ -35,7 +35,7 @@ abbrev pub shares_of : Classes → Limits → ℕ → List Share
 shares_of k l set = joined_below class_count (share_of k l set)
 
 -- What a node states under its limits, for an end.
-abbrev pub fact_of : Classes → End → Limits → Bound → Fact
+abbrev pub fact_of : Classes → End → Limits → BoundTree → Fact
 fact_of k end l (overload set) = Overload set (least_of_set k l set) (room_of l set)
 fact_of k end l (split c m below above) = Split c m (slice_index l.lo c) (slice_index l.hi c)
 fact_of k end l (cut set c children) =
@@ -44,7 +44,7 @@ fact_of k end l (close children) = Close (length (ways_to_close k end l)) (child
 fact_of k end l unexamined = Open
 
 -- The shares that a node states: those of an overload, and else none.
-abbrev pub shares_at : Classes → Limits → Bound → List Share
+abbrev pub shares_at : Classes → Limits → BoundTree → List Share
 shares_at k l (overload set) = shares_of k l set
 shares_at k l (split c m below above) = []
 shares_at k l (cut set c children) = []

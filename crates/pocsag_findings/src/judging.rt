@@ -2,7 +2,7 @@ ghost use Rattle.std.specs.Prelude.{◌≡◌, ◌&&◌, ◌<◌, nat_lt, IfOk, 
 ghost use Rattle.pocsag_slots.specs.Loads.{AreInOrder};
 ghost use Rattle.pocsag_slots.specs.Numbering.{class_count};
 ghost use Rattle.pocsag_slots.specs.Ways.{class_certain};
-ghost use Rattle.pocsag_tree.specs.Views.{bound_of};
+ghost use Rattle.pocsag_tree.specs.Views.{bound_tree_of};
 ghost use Rattle.pocsag_findings.specs.declared.finding.Fact.TheVariants.{Split};
 ghost use Rattle.pocsag_findings.specs.Rules.{column_of, columns_at, columns_of, fact_holds, fact_of, least_of_set, shares_at, shares_of};
 
@@ -111,7 +111,7 @@ pub(crate) fn columns_at(
 // What the node states under the limits.
 pub(crate) fn fact_of(inquiry: &Inquiry, limits: &Limits, tree: &Tree) -> Fact
     requires { AreInOrder inquiry.now.classes.now limits.now }
-    ensures { result ≡ fact_of inquiry.now.classes.now inquiry.now.end limits.now (bound_of tree.now) }
+    ensures { result ≡ fact_of inquiry.now.classes.now inquiry.now.end limits.now (bound_tree_of tree.now) }
 {
     match tree {
         Tree::Overload(set) => Fact::Overload {
@@ -166,7 +166,8 @@ pub(crate) fn shares_at(
     tree: &Tree,
 ) -> Result<Vec<Share>, OutOfMemory>
     requires { AreInOrder inquiry.now.classes.now limits.now }
-    ensures { IfOk result (λ found. found.items ≡ shares_at inquiry.now.classes.now limits.now (bound_of tree.now)) }
+    ensures { IfOk result
+        (λ found. found.items ≡ shares_at inquiry.now.classes.now limits.now (bound_tree_of tree.now)) }
 {
     match tree {
         Tree::Overload(set) => shares_of(inquiry, limits, *set),

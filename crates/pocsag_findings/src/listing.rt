@@ -1,7 +1,7 @@
 ghost use Rattle.std.specs.Prelude.{◌≡◌, ◌+◌, ◌<◌, ◌∷◌, ◌++◌, [], All, IfOk, OnOk, length};
 ghost use Rattle.pocsag_slots.specs.Loads.{AreInOrder};
 ghost use Rattle.pocsag_slots.specs.Ways.{MayTake};
-ghost use Rattle.pocsag_tree.specs.Views.{bound_of, bounds_of};
+ghost use Rattle.pocsag_tree.specs.Views.{bound_tree_of, bounds_of};
 ghost use Rattle.pocsag_findings.specs.Findings.{each_unjudged, findings_by, findings_of, findings_within, unjudged_below, unjudged_within};
 ghost use Rattle.pocsag_findings.specs.Rules.{columns_at, fact_holds};
 ghost use Rattle.pocsag_findings.specs.Views.{all_stated};
@@ -57,7 +57,7 @@ fn put_unjudged(
     found: &mut Vec<Finding>,
 ) -> Result<(), OutOfMemory>
     ensures { OnOk result (all_stated found.new.items ≡ all_stated found.old.items
-        ++ unjudged_within inquiry.now.depth above (bound_of tree.now)) }
+        ++ unjudged_within inquiry.now.depth above (bound_tree_of tree.now)) }
 {
     if above >= inquiry.depth {
         return Ok(());
@@ -82,7 +82,7 @@ fn put_below_unjudged(
     found: &mut Vec<Finding>,
 ) -> Result<(), OutOfMemory>
     ensures { OnOk result (all_stated found.new.items ≡ all_stated found.old.items
-        ++ unjudged_below inquiry.now.depth above (bound_of tree.now)) }
+        ++ unjudged_below inquiry.now.depth above (bound_tree_of tree.now)) }
 {
     match tree {
         Tree::Overload(_) | Tree::Open => Ok(()),
@@ -122,7 +122,7 @@ fn put_node(
     requires { AreInOrder inquiry.now.classes.now place.now.limits }
     ensures { OnOk result (all_stated found.new.items ≡ all_stated found.old.items
         ++ findings_within inquiry.now.classes.now inquiry.now.end inquiry.now.batches inquiry.now.depth
-        place.now.limits place.now.above place.now.reached (bound_of tree.now)) }
+        place.now.limits place.now.above place.now.reached (bound_tree_of tree.now)) }
 {
     if place.above >= inquiry.depth {
         return Ok(());
@@ -196,7 +196,8 @@ pub fn findings(
     depth: u32,
 ) -> Result<Vec<Finding>, OutOfMemory>
     ensures { IfOk result (λ found. all_stated found.items ≡
-        findings_of classes.now certificate.now.end certificate.now.batches depth (bound_of certificate.now.tree)) }
+        findings_of classes.now certificate.now.end certificate.now.batches depth
+        (bound_tree_of certificate.now.tree)) }
 {
     let batches = certificate.batches.saturating_sub(1);
     let inquiry = Inquiry {

@@ -6,8 +6,8 @@ use Rattle.std.specs.Prelude.{◌==◌}
 use Rattle.std.specs.List.{list_any}
 use Rattle.csv.specs.Machine.{line_feed}
 use Rattle.pocsag_open.specs.Lines.{HasNoLineFeed, IsByteKept, IsSeen}
-use Rattle.pocsag_open.specs.declared.lines.Found.{Found}
-use Rattle.pocsag_open.specs.declared.lines.Found.TheVariants as found
+use Rattle.pocsag_open.specs.declared.lines.LineRead.{LineRead}
+use Rattle.pocsag_open.specs.declared.lines.LineRead.TheVariants as found
 
 other_byte : (b : ℕ) → (b == line_feed) ≡ false → b ≢ line_feed
 other_byte b n e = let t : (b == line_feed) ≡ true = rw e refl in cc (sym t ∙ n)
@@ -26,7 +26,7 @@ some_more : (seen : List ℕ) (b : ℕ) → seen ++ b ∷ [] ≢ []
 some_more [] b e = cc e
 some_more (s ∷ seen) b e = cc e
 
-pub seen_more : (f g : Found) (seen kept after : List ℕ) (b : ℕ) → IsSeen f seen kept → IsByteKept g b kept after → IsSeen g (seen ++ b ∷ []) after
+pub seen_more : (f g : LineRead) (seen kept after : List ℕ) (b : ℕ) → IsSeen f seen kept → IsByteKept g b kept after → IsSeen g (seen ++ b ∷ []) after
 seen_more found.End found.Kept seen kept after b h k =
     let same : kept ≡ seen = h.1 ∙ sym h.0 in
     let longer = length_push seen b in

@@ -3,7 +3,7 @@ use Rattle.std.specs.Prelude.{◌≡◌, ℕ, if◌then◌else◌, nat_lt, false
 use Rattle.std.specs.Fmt.{decimal}
 use Rattle.pocsag_words.specs.declared.ending.End.{End}
 use Rattle.pocsag_pages.specs.declared.page.Page.{Page}
-use Rattle.pocsag_tree.specs.Views.{bound_of}
+use Rattle.pocsag_tree.specs.Views.{bound_tree_of}
 use Rattle.pocsag_plan.specs.declared.answer.Plan.{Plan}
 use Rattle.pocsag_plan.specs.Headline.{RoundHeadline}
 use Rattle.pocsag_plan.specs.Plans.{IsBounded}
@@ -32,4 +32,4 @@ pub record IsPlanTold (end : End) (pages : List Page) (always : Bool) (batches b
 -- these batches and this bound.
 pub record IsPlanSent (end : End) (pages : List Page) (batches bound : ℕ) (tx_before tx_after cert_before cert_after : List ℕ) : Type 0 where
   pub plan : Plan
-  pub writes : WritesAllOf (RoundHeadline pages end batches bound (bound_of plan.tree)) tx_before tx_after cert_before cert_after
+  pub writes : WritesAllOf (RoundHeadline pages end batches bound (bound_tree_of plan.tree)) tx_before tx_after cert_before cert_after

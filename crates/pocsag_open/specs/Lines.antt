@@ -2,8 +2,8 @@
 use Rattle.std.specs.Prelude.{◌≡◌, ◌≢◌, ◌⊎◌, ℕ, ◌<◌, ◌≤◌, List, [], ◌∷◌, ◌++◌, length, drop, take, Option, Some, None}
 use Rattle.std.specs.List.{AllByRecursion}
 use Rattle.csv.specs.Machine.{line_feed}
-use Rattle.pocsag_open.specs.declared.lines.Found.{Found}
-use Rattle.pocsag_open.specs.declared.lines.Found.TheVariants as found
+use Rattle.pocsag_open.specs.declared.lines.LineRead.{LineRead}
+use Rattle.pocsag_open.specs.declared.lines.LineRead.TheVariants as found
 
 -- The most bytes of a line that is kept, its line feed not counted.
 abbrev pub line_limit : ℕ
@@ -29,7 +29,7 @@ abbrev pub between_places : (piece : List ℕ) (start end : ℕ) → List ℕ
 between_places piece start end = drop start (take end piece)
 
 -- What came of the next line: it is kept, or it has too many bytes, and what is left begins behind it; or nothing is left.
-abbrev pub IsLineFound : Found → (pending kept rest : List ℕ) → Type 0
+abbrev pub IsLineFound : LineRead → (pending kept rest : List ℕ) → Type 0
 IsLineFound found.Kept pending kept rest = IsFirstLine pending kept rest × (length kept ≤ line_limit)
 IsLineFound found.TooLong pending kept rest = (line : List ℕ) × IsFirstLine pending line rest × (line_limit < length line)
 IsLineFound found.End pending kept rest = pending ≡ []
@@ -40,13 +40,13 @@ IsNextByte None pending rest = (pending ≡ []) × (rest ≡ [])
 IsNextByte (Some byte) pending rest = pending ≡ byte ∷ rest
 
 -- One byte more of a line: it is kept behind the others, or there are as many as may be.
-abbrev pub IsByteKept : Found → ℕ → (before after : List ℕ) → Type 0
+abbrev pub IsByteKept : LineRead → ℕ → (before after : List ℕ) → Type 0
 IsByteKept found.Kept byte before after = (length before < line_limit) × (after ≡ before ++ byte ∷ [])
 IsByteKept found.TooLong byte before after = (line_limit ≤ length before) × (after ≡ before)
 IsByteKept found.End byte before after = ⊥
 
 -- How much of a line was seen, none of it a line feed, and what is kept of it.
-abbrev pub IsSeen : Found → (seen kept : List ℕ) → Type 0
+abbrev pub IsSeen : LineRead → (seen kept : List ℕ) → Type 0
 IsSeen found.End seen kept = (seen ≡ []) × (kept ≡ [])
 IsSeen found.Kept seen kept = (seen ≢ []) × (kept ≡ seen) × (length seen ≤ line_limit)
 IsSeen found.TooLong seen kept = (line_limit ≤ length kept) × (line_limit < length seen)

@@ -14,7 +14,7 @@ const PIECE: usize = 4_096;
 
 /// What came of the next line.
 #[derive(Clone, Copy, PartialEq, Eq)]
-pub enum Found {
+pub enum LineRead {
     /// It is kept, without its line feed.
     Kept,
     /// It is longer than the limit, and is passed over.
@@ -88,7 +88,7 @@ impl Lines {
 
     /// Reads the next line of the source. The last line may lack its line feed. A line of more bytes than a count
     /// holds is taken for a fault of the source.
-    pub fn read_line<S: Source>(&mut self, source: &mut S) -> Result<Found, Fault>
+    pub fn read_line<S: Source>(&mut self, source: &mut S) -> Result<LineRead, Fault>
         ensures found { S.tells → IfOk result (λ found. IsLineFound found
             (between_places self.old.piece self.old.start self.old.end ++ S.held source.old)
             self.new.line.items (between_places self.new.piece self.new.start self.new.end ++ S.held source.new)) }
@@ -97,15 +97,15 @@ impl Lines {
         ensures lost { IfErr result (λ e. status_of e ≡ 3) }
     {
         self.line.clear();
-        let mut found = Found::End;
+        let mut found = LineRead::End;
         for _ in 0..u64::MAX {
             let Ok(next) = self.next_byte(source) else {
                 return Err(Fault::Device);
             };
             match next {
                 None => return Ok(found),
-                Some(b'\n') if found == Found::TooLong => return Ok(Found::TooLong),
-                Some(b'\n') => return Ok(Found::Kept),
+                Some(b'\n') if found == LineRead::TooLong => return Ok(LineRead::TooLong),
+                Some(b'\n') => return Ok(LineRead::Kept),
                 Some(byte) => found = self.keep(byte)?,
             }
         }
@@ -113,7 +113,7 @@ impl Lines {
     }
 
     // Keeps one byte more of a line, unless the line is as long as may be.
-    fn keep(&mut self, byte: u8) -> Result<Found, Fault>
+    fn keep(&mut self, byte: u8) -> Result<LineRead, Fault>
         ensures kept { IfOk result (λ found. IsByteKept found byte self.old.line.items self.new.line.items) }
         ensures short { length self.old.line.items ≤ line_limit → length self.new.line.items ≤ line_limit }
         ensures ahead { between_places self.new.piece self.new.start self.new.end ≡
@@ -121,9 +121,9 @@ impl Lines {
         ensures lost { IfErr result (λ e. e ≡ Fault.OutOfMemory) }
     {
         if self.line.len() >= LINE_LIMIT {
-            return Ok(Found::TooLong);
+            return Ok(LineRead::TooLong);
         }
         self.line.push(byte)?;
-        Ok(Found::Kept)
+        Ok(LineRead::Kept)
     }
 }

@@ -10,7 +10,7 @@ ghost use Rattle.pocsag_open.specs.Replies.{IsLineReply, IsSession, TookMore};
 use crate::answering::{OpenRound, answer_edit, refuse, tell_pages};
 use crate::edits::{Line, line_of, record_of};
 use crate::keeper::{Keeper, NoKeeper};
-use crate::lines::{Found, Lines};
+use crate::lines::{LineRead, Lines};
 use crate::outputs::Places;
 use crate::refusal::Refusal;
 use crate::settling::settled;
@@ -121,9 +121,9 @@ pub fn run_open_kept<P: Places, K: Keeper + Drop, I: Source, O: Sink>(
     let mut lines = Lines::new(alloc)?;
     for _ in 0..u64::MAX {
         match lines.read_line(input)? {
-            Found::End => return Ok(()),
-            Found::TooLong => refuse(Refusal::Unknown, out)?,
-            Found::Kept => answer(alloc, planner, round, lines.line(), out)?,
+            LineRead::End => return Ok(()),
+            LineRead::TooLong => refuse(Refusal::Unknown, out)?,
+            LineRead::Kept => answer(alloc, planner, round, lines.line(), out)?,
         }
         round.keeper.settle(alloc, &round.book)?;
     }

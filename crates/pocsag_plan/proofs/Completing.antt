@@ -9,8 +9,8 @@ use Rattle.pocsag_slots.specs.declared.class.Classes.{Classes}
 use Rattle.pocsag_slots.specs.Loads.{AreClassesOf, IsChoice, IsLeast}
 use Rattle.pocsag_slots.specs.Tours.{IsTourFor}
 use Rattle.pocsag_slots.proofs.LoadLemmas.{load_few}
-use Rattle.pocsag_tree.specs.Bounds.{all_nodes, closed_nodes}
-use Rattle.pocsag_tree.specs.Views.{bound_of}
+use Rattle.pocsag_tree.specs.BoundTrees.{all_nodes, closed_nodes}
+use Rattle.pocsag_tree.specs.Views.{bound_tree_of}
 use Rattle.pocsag_branch.specs.declared.answer.Found.{Found}
 use Rattle.pocsag_branch.specs.declared.within_one.Near.{Near}
 use Rattle.pocsag_branch.specs.declared.within_one.FreeFault.{FreeFault}
@@ -56,10 +56,10 @@ module _ (k : Classes) (end : End) (limit bound : ℕ) (found : Found) (is : IsW
       }
 
   -- no node is `Open`, so all nodes are at most the limit
-  pub nodes_few : IsNodeLimit limit → all_nodes (bound_of found.tree) ≡ closed_nodes (bound_of found.tree)
-      → all_nodes (bound_of found.tree) ≤ 1000000
+  pub nodes_few : IsNodeLimit limit → all_nodes (bound_tree_of found.tree) ≡ closed_nodes (bound_tree_of found.tree)
+      → all_nodes (bound_tree_of found.tree) ≤ 1000000
   nodes_few within same =
-      let few : closed_nodes (bound_of found.tree) ≤ limit = is.few in let most : limit ≤ 1000000 = within.few in omega arith
+      let few : closed_nodes (bound_tree_of found.tree) ≤ limit = is.few in let most : limit ≤ 1000000 = within.few in omega arith
 
 -- the codewords of the tour are as many as the batches hold
 pub found_room : (end : End) (R : List Page) (found : Found) → IsRound R → (U : List ℕ) → IsLegalList end U found.batches R →

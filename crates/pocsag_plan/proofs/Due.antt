@@ -5,8 +5,8 @@ use Rattle.pocsag_words.specs.declared.ending.End.{End}
 use Rattle.pocsag_pages.specs.declared.page.Page.{Page}
 use Rattle.pocsag_pages.specs.Bytes.{bytes_of}
 use Rattle.pocsag_tree.specs.Spelling.{written_text}
-use Rattle.pocsag_tree.specs.Bounds.{Bound}
-use Rattle.pocsag_tree.specs.Views.{bound_of}
+use Rattle.pocsag_tree.specs.BoundTrees.{BoundTree}
+use Rattle.pocsag_tree.specs.Views.{bound_tree_of}
 use Rattle.pocsag_slots.specs.declared.step.Step.{Step}
 use Rattle.pocsag_slots.proofs.Fewest.{laid_list_legal}
 use Rattle.pocsag_batch.specs.Placing.{HavePlaces, laid_by}
@@ -25,7 +25,7 @@ use Rattle.pocsag_plan.specs.Streams.{HasHeadline, HeadlineOf, Writes, WritesAll
 module _ (R : List Page) (bounded : Bounded) (is : IsBounded bounded.plan.end R bounded.plan bounded.bound) where
   pub due : (steps : List Step) (order : List ℕ) (said : List Kind) (U : List ℕ) →
       steps ≡ bounded.plan.steps.items → order ≡ bounded.plan.order.items → said ≡ laid_by R order steps → Say said U →
-      HeadlineOf R bounded (bytes_of U) (written_text bounded.plan.end bounded.bound (bound_of bounded.plan.tree))
+      HeadlineOf R bounded (bytes_of U) (written_text bounded.plan.end bounded.bound (bound_tree_of bounded.plan.tree))
   due steps order said U these places lays say =
       let plan = bounded.plan in
       let view : laid_by R order steps ≡ laid_by R plan.order.items plan.steps.items =
@@ -90,7 +90,7 @@ tight file end batches tree sent certificate = (
   }),
 )
 
-pub tight_stream : (file : List ℕ) (end : End) (batches bound : ℕ) (tree : Bound) (tx tx' cert cert' : List ℕ) → bound ≡ batches →
+pub tight_stream : (file : List ℕ) (end : End) (batches bound : ℕ) (tree : BoundTree) (tx tx' cert cert' : List ℕ) → bound ≡ batches →
     WritesBounded file end batches bound tree tx tx' cert cert' → Writes file end batches tree tx tx' cert cert'
 tight_stream file end batches bound tree tx tx' cert cert' same is =
     all_as _ _ (λ sent certificate h. (tight file end batches tree sent certificate).0
@@ -106,9 +106,9 @@ tight_plan search R bounded fewest is = record {
 module _ (search : Search) (R : List Page) (bounded : Bounded) (is : IsPlanFor search R bounded) where
   -- what is sent for the plan is the headline of the round for the end that is asked for, with the bound
   pub asked_headline : (sent certificate : List ℕ) → HeadlineOf R bounded sent certificate →
-      RoundHeadline R search.end bounded.plan.batches bounded.bound (bound_of bounded.plan.tree) sent certificate
+      RoundHeadline R search.end bounded.plan.batches bounded.bound (bound_tree_of bounded.plan.tree) sent certificate
   asked_headline sent certificate h =
-      subst (λ (end : End). RoundHeadline R end bounded.plan.batches bounded.bound (bound_of bounded.plan.tree) sent certificate)
+      subst (λ (end : End). RoundHeadline R end bounded.plan.batches bounded.bound (bound_tree_of bounded.plan.tree) sent certificate)
       is.plan_of.asked h
 
   pub has_headline : (sent certificate : List ℕ) → HeadlineOf R bounded sent certificate →
@@ -116,7 +116,7 @@ module _ (search : Search) (R : List Page) (bounded : Bounded) (is : IsPlanFor s
   has_headline sent certificate h = record {
     batches = bounded.plan.batches;
     bound = bounded.bound;
-    tree = bound_of bounded.plan.tree;
+    tree = bound_tree_of bounded.plan.tree;
     headline = asked_headline sent certificate h;
     at_least = is.plan_of.at_least;
     within_one = is.plan_of.within_one;

@@ -3,7 +3,7 @@ use Rattle.std.specs.Prelude.{◌≡◌, ℕ, List, []}
 use Rattle.pocsag_words.specs.declared.ending.End.{End}
 use Rattle.pocsag_pages.specs.declared.page.Page.{Page}
 use Rattle.pocsag_pages.specs.Pages.{IsRound}
-use Rattle.pocsag_tree.specs.Views.{bound_of}
+use Rattle.pocsag_tree.specs.Views.{bound_tree_of}
 use Rattle.pocsag_branch.specs.Found.{IsNodeLimit}
 use Rattle.pocsag_plan.specs.declared.fault.PlanFault.{PlanFault}
 use Rattle.pocsag_plan.specs.declared.fault.PlanFault.TheVariants as planning
@@ -33,7 +33,7 @@ abbrev pub ExplainsBook : Effort → End → List Page → ℕ → BookFault →
 ExplainsBook effort end R limit fault.BadLimit = ¬ IsNodeLimit limit
 ExplainsBook effort end R limit fault.NoPages = IsNodeLimit limit × (R ≡ [])
 ExplainsBook effort end R limit (fault.SearchLimit stop) =
-    MayStop effort × IsNodeLimit limit × IsRound R × IsStopped end R limit stop.least stop.found (bound_of stop.tree)
+    MayStop effort × IsNodeLimit limit × IsRound R × IsStopped end R limit stop.least stop.found (bound_tree_of stop.tree)
 ExplainsBook effort end R limit fault.OutOfMemory = IsNodeLimit limit × IsRound R
 
 -- When each fault of a stream of a book comes, and what it says.
@@ -41,7 +41,7 @@ abbrev pub ExplainsBookStream : Effort → End → List Page → ℕ → StreamF
 ExplainsBookStream effort end R limit streaming.BadLimit = ¬ IsNodeLimit limit
 ExplainsBookStream effort end R limit (streaming.Round f) = IsNodeLimit limit × (R ≡ []) × (f ≡ round.NoPages)
 ExplainsBookStream effort end R limit (streaming.SearchLimit stop) =
-    MayStop effort × IsNodeLimit limit × IsRound R × IsStopped end R limit stop.least stop.found (bound_of stop.tree)
+    MayStop effort × IsNodeLimit limit × IsRound R × IsStopped end R limit stop.least stop.found (bound_tree_of stop.tree)
 ExplainsBookStream effort end R limit streaming.OutOfMemory = IsNodeLimit limit × IsRound R
 ExplainsBookStream effort end R limit (streaming.Transmission f) = IsNodeLimit limit × IsRound R
 ExplainsBookStream effort end R limit (streaming.Certificate f) = IsNodeLimit limit × IsRound R

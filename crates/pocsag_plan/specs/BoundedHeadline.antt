@@ -4,10 +4,10 @@ use Rattle.std.specs.Prelude.{◌≡◌, ◌↔◌, ℕ, ◌+◌, ◌≤◌, Lis
 use Rattle.pocsag_words.specs.declared.ending.End.{End}
 use Rattle.pocsag_pages.specs.declared.page.Page.{Page}
 use Rattle.pocsag_pages.specs.PageFile.{verdict}
-use Rattle.pocsag_tree.specs.Bounds.{Bound}
+use Rattle.pocsag_tree.specs.BoundTrees.{BoundTree}
 use Rattle.pocsag_plan.specs.Headline.{Headline, RoundHeadline}
 
-pub record BoundedHeadline (file : List ℕ) (end : End) (batches bound : ℕ) (tree : Bound) (sent certificate : List ℕ) : Type 0 where
+pub record BoundedHeadline (file : List ℕ) (end : End) (batches bound : ℕ) (tree : BoundTree) (sent certificate : List ℕ) : Type 0 where
   -- The page file is that of a round;
   pub round : List Page
   pub read : verdict file ≡ Ok round
@@ -20,5 +20,5 @@ pub record BoundedHeadline (file : List ℕ) (end : End) (batches bound : ℕ) (
 -- Where the bound is the number of batches, it is the headline.
 abbrev pub IsHeadlineWhereTight : Type 0
 IsHeadlineWhereTight =
-    (file : List ℕ) (end : End) (batches : ℕ) (tree : Bound) (sent certificate : List ℕ) →
+    (file : List ℕ) (end : End) (batches : ℕ) (tree : BoundTree) (sent certificate : List ℕ) →
     BoundedHeadline file end batches batches tree sent certificate ↔ Headline file end batches tree sent certificate

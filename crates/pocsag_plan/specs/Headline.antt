@@ -5,12 +5,12 @@ use Rattle.pocsag_pages.specs.declared.page.Page.{Page}
 use Rattle.pocsag_pages.specs.Bytes.{bytes_of}
 use Rattle.pocsag_pages.specs.PageFile.{verdict}
 use Rattle.pocsag_pages.specs.Reading.{IsLegalList}
-use Rattle.pocsag_tree.specs.Bounds.{Bound}
+use Rattle.pocsag_tree.specs.BoundTrees.{BoundTree}
 use Rattle.pocsag_tree.specs.Spelling.{IsWrittenText}
 use Rattle.pocsag_check.specs.Accepting.{IsAcceptedFor}
 
 -- For a round and an end, with a bound.
-pub record RoundHeadline (round : List Page) (end : End) (batches bound : ℕ) (tree : Bound) (sent certificate : List ℕ) : Type 0 where
+pub record RoundHeadline (round : List Page) (end : End) (batches bound : ℕ) (tree : BoundTree) (sent certificate : List ℕ) : Type 0 where
   -- What was sent is the transmission of codewords that are legal for the round and the end, in so many
   -- batches;
   pub codewords : List ℕ
@@ -24,7 +24,7 @@ pub record RoundHeadline (round : List Page) (end : End) (batches bound : ℕ) (
   pub accepted : IsAcceptedFor false end round bound tree
 
 -- For a page file and an end.
-pub record Headline (file : List ℕ) (end : End) (batches : ℕ) (tree : Bound) (sent certificate : List ℕ) : Type 0 where
+pub record Headline (file : List ℕ) (end : End) (batches : ℕ) (tree : BoundTree) (sent certificate : List ℕ) : Type 0 where
   -- The page file is that of a round;
   pub round : List Page
   pub read : verdict file ≡ Ok round

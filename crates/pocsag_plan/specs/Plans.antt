@@ -7,10 +7,10 @@ use Rattle.pocsag_pages.specs.Reading.{IsLegalList, page_length}
 use Rattle.pocsag_slots.specs.declared.class.Classes.{Classes}
 use Rattle.pocsag_slots.specs.Loads.{AreClassesOf, IsAdmitted, IsLeast, limits_of_all}
 use Rattle.pocsag_slots.specs.Tours.{IsTour}
-use Rattle.pocsag_tree.specs.Bounds.{Bound, closed_nodes}
+use Rattle.pocsag_tree.specs.BoundTrees.{BoundTree, closed_nodes}
 use Rattle.pocsag_tree.specs.Limits.{second_ranges}
 use Rattle.pocsag_tree.specs.Spelling.{HasText}
-use Rattle.pocsag_tree.specs.Views.{bound_of}
+use Rattle.pocsag_tree.specs.Views.{bound_tree_of}
 use Rattle.pocsag_check.specs.Accepting.{IsAcceptedFor}
 use Rattle.pocsag_branch.specs.Found.{IsNodeLimit}
 use Rattle.pocsag_branch.specs.Marks.{opens}
@@ -58,11 +58,11 @@ pub record IsBounded (end : End) (R : List Page) (plan : Plan) (bound : ℕ) : T
   pub at_least : bound ≤ plan.batches
   pub within_one : plan.batches ≤ bound + 1
   -- The checker accepts the tree for the bound, and there is a text of it.
-  pub accepted : IsAcceptedFor false end R bound (bound_of plan.tree)
-  pub text : HasText second_ranges bound (bound_of plan.tree)
+  pub accepted : IsAcceptedFor false end R bound (bound_tree_of plan.tree)
+  pub text : HasText second_ranges bound (bound_tree_of plan.tree)
 
 -- The tree is one of the search for the classes of the round, where so many batches are answered.
-pub record IsSearchTreeFor (end : End) (R : List Page) (batches : ℕ) (tree : Bound) : Type 0 where
+pub record IsSearchTreeFor (end : End) (R : List Page) (batches : ℕ) (tree : BoundTree) : Type 0 where
   pub table : Classes
   pub classes : AreClassesOf table end R
   pub least : ℕ
@@ -74,20 +74,20 @@ pub record IsPlan (end : End) (R : List Page) (plan : Plan) : Type 0 where
   -- Its bound is its batches, so they are the fewest;
   pub bounded : IsBounded end R plan plan.batches
   -- and its tree has the promised shape.
-  pub shaped : IsSearchTreeFor end R plan.batches (bound_of plan.tree)
+  pub shaped : IsSearchTreeFor end R plan.batches (bound_tree_of plan.tree)
 
 -- The plan that is owed for what is asked of a planner.
 pub record IsPlanFor (search : Search) (R : List Page) (bounded : Bounded) : Type 0 where
   -- It has a bound, and its tree has no more nodes than may be examined;
   pub plan_of : IsBounded search.end R bounded.plan bounded.bound
-  pub small : closed_nodes (bound_of bounded.plan.tree) ≤ search.limit
+  pub small : closed_nodes (bound_tree_of bounded.plan.tree) ≤ search.limit
   -- and where only the fewest batches are an answer, the bound is the batches, and the tree has the promised
   -- shape.
   pub fewest : search.effort ≡ Fewest → bounded.bound ≡ bounded.plan.batches
-  pub shaped : search.effort ≡ Fewest → IsSearchTreeFor search.end R bounded.plan.batches (bound_of bounded.plan.tree)
+  pub shaped : search.effort ≡ Fewest → IsSearchTreeFor search.end R bounded.plan.batches (bound_tree_of bounded.plan.tree)
 
 -- What the search knew of the round when it had made as many nodes as it may.
-pub record IsStopped (end : End) (R : List Page) (limit least found : ℕ) (tree : Bound) : Type 0 where
+pub record IsStopped (end : End) (R : List Page) (limit least found : ℕ) (tree : BoundTree) : Type 0 where
   pub table : Classes
   pub classes : AreClassesOf table end R
   -- `least` is the least that some choice of starts needs, which bounds each transmission;
@@ -115,5 +115,5 @@ MayStop Always = ⊥
 abbrev pub ExplainsPlan : Effort → End → List Page → ℕ → PlanFault → Type 0
 ExplainsPlan effort end R limit fault.BadLimit = ¬ IsNodeLimit limit
 ExplainsPlan effort end R limit (fault.SearchLimit stop) =
-    MayStop effort × IsNodeLimit limit × IsStopped end R limit stop.least stop.found (bound_of stop.tree)
+    MayStop effort × IsNodeLimit limit × IsStopped end R limit stop.least stop.found (bound_tree_of stop.tree)
 ExplainsPlan effort end R limit fault.OutOfMemory = IsNodeLimit limit

@@ -5,8 +5,8 @@ use Rattle.pocsag_words.specs.declared.ending.End.{End}
 use Rattle.pocsag_pages.specs.PageFile.{verdict}
 use Rattle.pocsag_pages.specs.declared.fault.RoundFault.TheVariants as round
 use Rattle.pocsag_pages.specs.declared.page.Page.{Page}
-use Rattle.pocsag_tree.specs.Bounds.{Bound}
-use Rattle.pocsag_tree.specs.Views.{bound_of}
+use Rattle.pocsag_tree.specs.BoundTrees.{BoundTree}
+use Rattle.pocsag_tree.specs.Views.{bound_tree_of}
 use Rattle.pocsag_branch.specs.Found.{IsNodeLimit}
 use Rattle.pocsag_plan.specs.declared.answer.Plan.{Plan}
 use Rattle.pocsag_plan.specs.declared.bounded.Bounded.{Bounded}
@@ -32,7 +32,7 @@ abbrev pub IsBoundedOf : List ℕ → End → Bounded → Type 0
 IsBoundedOf file end bounded = IsOfRound file (λ round. IsBounded end round bounded.plan bounded.bound)
 
 -- The search stopped at the round of the page file.
-abbrev pub IsStoppedAt : List ℕ → End → ℕ → (least found : ℕ) → Bound → Type 0
+abbrev pub IsStoppedAt : List ℕ → End → ℕ → (least found : ℕ) → BoundTree → Type 0
 IsStoppedAt file end limit least found tree = IsOfRound file (λ round. IsStopped end round limit least found tree)
 
 -- What both writers took more is a transmission and a certificate of which it holds.
@@ -61,14 +61,14 @@ pub record WritesCertificatePartOf (Holds : List ℕ → List ℕ → Type 0) (t
 -- What the headline says of a plan of the round with its bound.
 abbrev pub HeadlineOf : List Page → Bounded → (sent certificate : List ℕ) → Type 0
 HeadlineOf round bounded =
-    RoundHeadline round bounded.plan.end bounded.plan.batches bounded.bound (bound_of bounded.plan.tree)
+    RoundHeadline round bounded.plan.end bounded.plan.batches bounded.bound (bound_tree_of bounded.plan.tree)
 
 -- With some number of batches, some tree, and a bound that the batches are, or exceed by one, the headline of
 -- the round holds; where only the fewest batches are an answer, they are the bound.
 pub record HasHeadline (effort : Effort) (round : List Page) (end : End) (sent certificate : List ℕ) : Type 0 where
   pub batches : ℕ
   pub bound : ℕ
-  pub tree : Bound
+  pub tree : BoundTree
   pub headline : RoundHeadline round end batches bound tree sent certificate
   pub at_least : bound ≤ batches
   pub within_one : batches ≤ bound + 1
@@ -76,10 +76,10 @@ pub record HasHeadline (effort : Effort) (round : List Page) (end : End) (sent c
 
 -- What both writers took more is the transmission and the certificate of the headline of a page file, or of the
 -- headline with a bound.
-abbrev pub Writes : List ℕ → End → ℕ → Bound → List ℕ → List ℕ → List ℕ → List ℕ → Type 0
+abbrev pub Writes : List ℕ → End → ℕ → BoundTree → List ℕ → List ℕ → List ℕ → List ℕ → Type 0
 Writes file end batches tree = WritesAllOf (Headline file end batches tree)
 
-abbrev pub WritesBounded : List ℕ → End → ℕ → ℕ → Bound → List ℕ → List ℕ → List ℕ → List ℕ → Type 0
+abbrev pub WritesBounded : List ℕ → End → ℕ → ℕ → BoundTree → List ℕ → List ℕ → List ℕ → List ℕ → Type 0
 WritesBounded file end batches bound tree = WritesAllOf (BoundedHeadline file end batches bound tree)
 
 -- What was taken more is a prefix of the transmission of such a headline.
@@ -98,7 +98,7 @@ ExplainsStream effort file end limit fault.BadLimit = ¬ IsNodeLimit limit
 ExplainsStream effort file end limit (fault.Round f) =
     IsNodeLimit limit × ((f ≡ round.OutOfMemory) ⊎ (f ≡ round.ReadFault) ⊎ (verdict file ≡ Err f))
 ExplainsStream effort file end limit (fault.SearchLimit stop) =
-    MayStop effort × IsNodeLimit limit × IsStoppedAt file end limit stop.least stop.found (bound_of stop.tree)
+    MayStop effort × IsNodeLimit limit × IsStoppedAt file end limit stop.least stop.found (bound_tree_of stop.tree)
 ExplainsStream effort file end limit fault.OutOfMemory = IsNodeLimit limit × IsOk (verdict file)
 ExplainsStream effort file end limit (fault.Transmission f) = IsNodeLimit limit × IsOk (verdict file)
 ExplainsStream effort file end limit (fault.Certificate f) = IsNodeLimit limit × IsOk (verdict file)

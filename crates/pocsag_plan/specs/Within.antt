@@ -5,8 +5,8 @@ use Rattle.pocsag_pages.specs.declared.page.Page.{Page}
 use Rattle.pocsag_slots.specs.declared.class.Classes.{Classes}
 use Rattle.pocsag_slots.specs.Loads.{AreClassesOf, IsChoice, IsLeast}
 use Rattle.pocsag_slots.specs.Tours.{IsTour}
-use Rattle.pocsag_tree.specs.Bounds.{closed_nodes}
-use Rattle.pocsag_tree.specs.Views.{bound_of}
+use Rattle.pocsag_tree.specs.BoundTrees.{closed_nodes}
+use Rattle.pocsag_tree.specs.Views.{bound_tree_of}
 use Rattle.pocsag_check.specs.Accepting.{IsAccepted}
 use Rattle.pocsag_branch.specs.declared.answer.Found.{Found}
 use Rattle.pocsag_branch.specs.Found.{IsBound}
@@ -22,8 +22,8 @@ pub record IsWithinOne (k : Classes) (end : End) (limit bound : ℕ) (found : Fo
   pub bounded : IsBound k end bound
   pub at_least : bound ≤ found.batches
   pub within_one : found.batches ≤ bound + 1
-  pub accepted : IsAccepted false k end bound (bound_of found.tree)
-  pub few : closed_nodes (bound_of found.tree) ≤ limit
+  pub accepted : IsAccepted false k end bound (bound_tree_of found.tree)
+  pub few : closed_nodes (bound_tree_of found.tree) ≤ limit
 
 -- The same for a round of these classes.
 pub record IsWithinOneOf (end : End) (R : List Page) (limit bound : ℕ) (found : Found) : Type 0 where

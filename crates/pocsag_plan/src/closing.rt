@@ -1,8 +1,8 @@
 //! The round that an open round is sent as.
 ghost use Rattle.std.specs.Prelude.{◌≡◌, ◌<◌, ◌≤◌, ◌↔◌, [], length, IfErr, IfOk, IsErrOf, OnOk};
 ghost use Rattle.pocsag_pages.specs.Pages.{IsRound};
-ghost use Rattle.pocsag_tree.specs.Bounds.{closed_nodes};
-ghost use Rattle.pocsag_tree.specs.Views.{bound_of};
+ghost use Rattle.pocsag_tree.specs.BoundTrees.{closed_nodes};
+ghost use Rattle.pocsag_tree.specs.Views.{bound_tree_of};
 ghost use Rattle.pocsag_branch.specs.Found.{IsNodeLimit};
 ghost use Rattle.pocsag_plan.specs.BookPlans.{ExplainsBook, ExplainsBookStream};
 ghost use Rattle.pocsag_plan.specs.Headline.{RoundHeadline};
@@ -60,7 +60,7 @@ impl Book {
     pub fn plan(&self, limit: u32, end: End) -> Result<Plan, BookFault>
         ensures round { OnOk result (IsRound self.now) }
         ensures plan { IfOk result (IsPlan end self.now) }
-        ensures small { IfOk result (λ plan. closed_nodes (bound_of plan.tree) ≤ limit) }
+        ensures small { IfOk result (λ plan. closed_nodes (bound_tree_of plan.tree) ≤ limit) }
         ensures bad_limit { IsErrOf result BookFault.BadLimit ↔ (¬ IsNodeLimit limit) }
         ensures no_pages { IsErrOf result BookFault.NoPages ↔ (IsNodeLimit limit × (self.now ≡ [])) }
         ensures fault { IfErr result (ExplainsBook Effort.Fewest end self.now limit) }
@@ -78,7 +78,7 @@ impl Book {
         // Where the bound is the batches, they are the fewest.
         ensures fewest { IfOk result (λ bounded. bounded.bound ≡ bounded.plan.batches →
             NoneHasFewer end self.now bounded.plan.batches) }
-        ensures small { IfOk result (λ bounded. closed_nodes (bound_of bounded.plan.tree) ≤ limit) }
+        ensures small { IfOk result (λ bounded. closed_nodes (bound_tree_of bounded.plan.tree) ≤ limit) }
         ensures bad_limit { IsErrOf result BookFault.BadLimit ↔ (¬ IsNodeLimit limit) }
         ensures no_pages { IsErrOf result BookFault.NoPages ↔ (IsNodeLimit limit × (self.now ≡ [])) }
         ensures fault { IfErr result (ExplainsBook Effort.Always end self.now limit) }
@@ -100,10 +100,10 @@ impl Book {
     ) -> Result<Plan, StreamFault>
         // The headline of these pages.
         ensures headline { T.tells → C.tells → IfOk result (λ plan.
-            WritesAllOf (RoundHeadline self.now end plan.batches plan.batches (bound_of plan.tree))
+            WritesAllOf (RoundHeadline self.now end plan.batches plan.batches (bound_tree_of plan.tree))
             (T.taken tx.old) (T.taken tx.new) (C.taken cert.old) (C.taken cert.new)) }
         ensures plan { IfOk result (IsPlan end self.now) }
-        ensures small { IfOk result (λ plan. closed_nodes (bound_of plan.tree) ≤ limit) }
+        ensures small { IfOk result (λ plan. closed_nodes (bound_tree_of plan.tree) ≤ limit) }
 
         // When each fault comes, and what it leaves.
         ensures explained { IfErr result (ExplainsBookStream Effort.Fewest end self.now limit) }
@@ -132,14 +132,15 @@ impl Book {
     ) -> Result<Bounded, StreamFault>
         // The headline of these pages with the bound; the batches are the bound, or one more, by `plan`.
         ensures headline { T.tells → C.tells → IfOk result (λ bounded.
-            WritesAllOf (RoundHeadline self.now end bounded.plan.batches bounded.bound (bound_of bounded.plan.tree))
+            WritesAllOf
+            (RoundHeadline self.now end bounded.plan.batches bounded.bound (bound_tree_of bounded.plan.tree))
             (T.taken tx.old) (T.taken tx.new) (C.taken cert.old) (C.taken cert.new)) }
         ensures fewest { T.tells → C.tells → IfOk result (λ bounded. bounded.bound ≡ bounded.plan.batches →
             WritesAllOf
-            (RoundHeadline self.now end bounded.plan.batches bounded.plan.batches (bound_of bounded.plan.tree))
+            (RoundHeadline self.now end bounded.plan.batches bounded.plan.batches (bound_tree_of bounded.plan.tree))
             (T.taken tx.old) (T.taken tx.new) (C.taken cert.old) (C.taken cert.new)) }
         ensures plan { IfOk result (λ bounded. IsBounded end self.now bounded.plan bounded.bound) }
-        ensures small { IfOk result (λ bounded. closed_nodes (bound_of bounded.plan.tree) ≤ limit) }
+        ensures small { IfOk result (λ bounded. closed_nodes (bound_tree_of bounded.plan.tree) ≤ limit) }
 
         // When each fault comes, and what it leaves.
         ensures explained { IfErr result (ExplainsBookStream Effort.Always end self.now limit) }
@@ -165,7 +166,7 @@ impl Book {
         search: Search,
     ) -> Result<Bounded, StreamFault>
         ensures headline { T.tells → C.tells → IfOk result (λ bounded. WritesAllOf
-            (RoundHeadline self.now search.end bounded.plan.batches bounded.bound (bound_of bounded.plan.tree))
+            (RoundHeadline self.now search.end bounded.plan.batches bounded.bound (bound_tree_of bounded.plan.tree))
             (T.taken tx.old) (T.taken tx.new) (C.taken cert.old) (C.taken cert.new)) }
         ensures plan { IfOk result (IsPlanFor search self.now) }
 

@@ -1,8 +1,8 @@
 ghost use Rattle.std.specs.Prelude.{◌≡◌, ◌≤◌, ◌↔◌, IfErr, IfOk, IsErrOf, IsTrue, sum_by};
 ghost use Rattle.pocsag_pages.specs.Reading.{page_length};
 ghost use Rattle.pocsag_slots.specs.Loads.{AreClassesOf};
-ghost use Rattle.pocsag_tree.specs.Bounds.{closed_nodes};
-ghost use Rattle.pocsag_tree.specs.Views.{bound_of};
+ghost use Rattle.pocsag_tree.specs.BoundTrees.{closed_nodes};
+ghost use Rattle.pocsag_tree.specs.Views.{bound_tree_of};
 ghost use Rattle.pocsag_branch.specs.Found.{HasPage, IsNodeLimit};
 ghost use Rattle.pocsag_plan.specs.Plans.{ExplainsPlan, IsBounded, IsPlan, IsPlanFor, NoneHasFewer};
 ghost use Rattle.pocsag_plan.specs.Within.{IsWithinOne, IsWithinOneOf};
@@ -27,7 +27,7 @@ const NODE_LIMIT: u32 = 1_000_000;
 /// decide it.
 pub fn plan(alloc: Global, round: &Round, limit: u32, end: End) -> Result<Plan, PlanFault>
     ensures plan { IfOk result (IsPlan end round.now) }
-    ensures small { IfOk result (λ plan. closed_nodes (bound_of plan.tree) ≤ limit) }
+    ensures small { IfOk result (λ plan. closed_nodes (bound_tree_of plan.tree) ≤ limit) }
     ensures bad_limit { IsErrOf result PlanFault.BadLimit ↔ (¬ IsNodeLimit limit) }
     ensures fault { IfErr result (ExplainsPlan Effort.Fewest end round.now limit) }
 {
@@ -44,7 +44,7 @@ pub fn plan_always(alloc: Global, round: &Round, limit: u32, end: End) -> Result
     // Where the bound is the batches, they are the fewest.
     ensures fewest { IfOk result (λ bounded. bounded.bound ≡ bounded.plan.batches →
         NoneHasFewer end round.now bounded.plan.batches) }
-    ensures small { IfOk result (λ bounded. closed_nodes (bound_of bounded.plan.tree) ≤ limit) }
+    ensures small { IfOk result (λ bounded. closed_nodes (bound_tree_of bounded.plan.tree) ≤ limit) }
     ensures bad_limit { IsErrOf result PlanFault.BadLimit ↔ (¬ IsNodeLimit limit) }
     ensures fault { IfErr result (ExplainsPlan Effort.Always end round.now limit) }
 {

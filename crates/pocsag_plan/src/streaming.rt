@@ -1,8 +1,8 @@
 ghost use Rattle.std.specs.Prelude.{◌≡◌, ◌≤◌, ◌↔◌, IfErr, IfOk, IsErrOf, OnOk};
 ghost use Rattle.pocsag_words.specs.Devices.{HasFailed};
 ghost use Rattle.pocsag_pages.specs.declared.fault.RoundFault.TheVariants as round_fault;
-ghost use Rattle.pocsag_tree.specs.Bounds.{closed_nodes};
-ghost use Rattle.pocsag_tree.specs.Views.{bound_of};
+ghost use Rattle.pocsag_tree.specs.BoundTrees.{closed_nodes};
+ghost use Rattle.pocsag_tree.specs.Views.{bound_tree_of};
 ghost use Rattle.pocsag_branch.specs.Found.{IsNodeLimit};
 ghost use Rattle.pocsag_plan.specs.Plans.{IsBounded, IsPlanFor};
 ghost use Rattle.pocsag_plan.specs.Streams.{ExplainsStream, fault_in, HeadlineOf, IsBoundedOf, IsCertificate, IsOfRound, IsPlanOf, IsSearchLimit, IsTransmission, IsUnsent, Writes, WritesAllOf, WritesBounded, WritesCertificatePart, WritesCertificatePartOf, WritesInTurn, WritesPart, WritesPartOf};
@@ -33,10 +33,10 @@ pub fn plan_stream<S: Source, T: Sink, C: Sink>(
 ) -> Result<Plan, StreamFault>
     // The headline.
     ensures headline { S.tells → T.tells → C.tells → IfOk result (λ plan.
-        Writes (S.held source.old) end plan.batches (bound_of plan.tree)
+        Writes (S.held source.old) end plan.batches (bound_tree_of plan.tree)
         (T.taken tx.old) (T.taken tx.new) (C.taken cert.old) (C.taken cert.new)) }
     ensures plan { S.tells → IfOk result (IsPlanOf (S.held source.old) end) }
-    ensures small { IfOk result (λ plan. closed_nodes (bound_of plan.tree) ≤ limit) }
+    ensures small { IfOk result (λ plan. closed_nodes (bound_tree_of plan.tree) ≤ limit) }
 
     // When each fault comes, and what it leaves.
     ensures explained { S.tells → IfErr result (ExplainsStream Effort.Fewest (S.held source.old) end limit) }
@@ -73,13 +73,13 @@ pub fn plan_stream_always<S: Source, T: Sink, C: Sink>(
 ) -> Result<Bounded, StreamFault>
     // The headline with a bound; and where the bound is the batches, the headline.
     ensures headline { S.tells → T.tells → C.tells → IfOk result (λ bounded.
-        WritesBounded (S.held source.old) end bounded.plan.batches bounded.bound (bound_of bounded.plan.tree)
+        WritesBounded (S.held source.old) end bounded.plan.batches bounded.bound (bound_tree_of bounded.plan.tree)
         (T.taken tx.old) (T.taken tx.new) (C.taken cert.old) (C.taken cert.new)) }
     ensures fewest { S.tells → T.tells → C.tells → IfOk result (λ bounded. bounded.bound ≡ bounded.plan.batches →
-        Writes (S.held source.old) end bounded.plan.batches (bound_of bounded.plan.tree)
+        Writes (S.held source.old) end bounded.plan.batches (bound_tree_of bounded.plan.tree)
         (T.taken tx.old) (T.taken tx.new) (C.taken cert.old) (C.taken cert.new)) }
     ensures plan { S.tells → IfOk result (IsBoundedOf (S.held source.old) end) }
-    ensures small { IfOk result (λ bounded. closed_nodes (bound_of bounded.plan.tree) ≤ limit) }
+    ensures small { IfOk result (λ bounded. closed_nodes (bound_tree_of bounded.plan.tree) ≤ limit) }
 
     // When each fault comes, and what it leaves.
     ensures explained { S.tells → IfErr result (ExplainsStream Effort.Always (S.held source.old) end limit) }
@@ -112,11 +112,12 @@ pub fn bounded_stream<S: Source, T: Sink, C: Sink>(
     search: Search,
 ) -> Result<Bounded, StreamFault>
     ensures headline { S.tells → T.tells → C.tells → IfOk result (λ bounded.
-        WritesBounded (S.held source.old) search.end bounded.plan.batches bounded.bound (bound_of bounded.plan.tree)
+        WritesBounded (S.held source.old) search.end bounded.plan.batches bounded.bound
+        (bound_tree_of bounded.plan.tree)
         (T.taken tx.old) (T.taken tx.new) (C.taken cert.old) (C.taken cert.new)) }
     ensures plan { S.tells →
         IfOk result (λ bounded. IsOfRound (S.held source.old) (λ round. IsPlanFor search round bounded)) }
-    ensures small { IfOk result (λ bounded. closed_nodes (bound_of bounded.plan.tree) ≤ search.limit) }
+    ensures small { IfOk result (λ bounded. closed_nodes (bound_tree_of bounded.plan.tree) ≤ search.limit) }
 
     // When each fault comes, and what it leaves.
     ensures explained { S.tells →

@@ -1,5 +1,5 @@
 -- Where reading nodes leads.
-use Rattle.pocsag_tree.proofs.Prelude.{◌≡◌, ℕ, zero, suc, ◌+◌, ◌<◌, ◌≤◌, Bool, true, false, cond, eqb, ltb, List, ◌∷◌, ◌++◌, replicate, None, Result, Ok, Err, refl, arith, w8, w16, cond_both, ltb-true, lt-ltb, le-ltb, Ranges, greatest_depth, most_nodes, CertificateFault, Bound, Part, field, children, early_fault, early, ◌>>=◌, Read, Reader, byte_at, row_at, overload_at, split_at, cut_at, close_at, body_at, tagged_at, node_at}
+use Rattle.pocsag_tree.proofs.Prelude.{◌≡◌, ℕ, zero, suc, ◌+◌, ◌<◌, ◌≤◌, Bool, true, false, cond, eqb, ltb, List, ◌∷◌, ◌++◌, replicate, None, Result, Ok, Err, refl, arith, w8, w16, cond_both, ltb-true, lt-ltb, le-ltb, Ranges, greatest_depth, most_nodes, CertificateFault, BoundTree, Part, field, children, early_fault, early, ◌>>=◌, Read, Reader, byte_at, row_at, overload_at, split_at, cut_at, close_at, body_at, tagged_at, node_at}
 use Rattle.pocsag_tree.specs.declared.refusals.CertificateFault.TheVariants as fault
 use Rattle.pocsag_tree.specs.Parts.{node, asked_by}
 use Rattle.pocsag_tree.proofs.Leading.{Leads, along, then_leads, right_part, wrong_part, short_part, ReadsNumber, one_byte, small_leads, large_leads, few_leads, many_leads, at, past}
@@ -63,7 +63,7 @@ body_leads : (r : Ranges) (depth : ℕ) (child : Reader) → NodeLeads r depth c
     → Leads (at (asked_by r depth tag ++ parts) nodes bytes) (past parts) (body_at r child tag nodes bytes)
 unfolding body_at
 body_leads r depth child leads tag parts nodes bytes =
-    let P : List Part → Result (Read Bound) CertificateFault → Type 0 =
+    let P : List Part → Result (Read BoundTree) CertificateFault → Type 0 =
     λ asked read. Leads (at (asked ++ parts) nodes bytes) (past parts) read in
     same_way (eqb tag 0) _ _ _ _ P (overload_leads parts nodes bytes)
     (same_way (eqb tag 1) _ _ _ _ P (split_leads r depth child leads parts nodes bytes)

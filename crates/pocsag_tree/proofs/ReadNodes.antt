@@ -1,5 +1,5 @@
 -- A node that is read so is spelled so.
-use Rattle.pocsag_tree.proofs.Prelude.{◌≡◌, ℕ, zero, suc, ◌+◌, ◌<◌, ◌≤◌, inl, inr, eqb, ltb, List, ◌∷◌, ◌++◌, Ok, refl, sym, ap, ◌∙◌, append_assoc, arith, w16, to_be_bytes, ltb-true, eqb-true, Ranges, most_nodes, Bound, Bounds, split, cut, close, unexamined, none, children_count, all_nodes, all_nodes_in, depth_of, deepest, IsInRange, AreInRange, row, Read, Reader, byte_at, small_at, large_at, row_at, overload_at, split_at, cut_at, close_at, body_at, tagged_at, node_at}
+use Rattle.pocsag_tree.proofs.Prelude.{◌≡◌, ℕ, zero, suc, ◌+◌, ◌<◌, ◌≤◌, inl, inr, eqb, ltb, List, ◌∷◌, ◌++◌, Ok, refl, sym, ap, ◌∙◌, append_assoc, arith, w16, to_be_bytes, ltb-true, eqb-true, Ranges, most_nodes, BoundTree, BoundTrees, split, cut, close, unexamined, none, children_count, all_nodes, all_nodes_in, depth_of, deepest, IsInRange, AreInRange, row, Read, Reader, byte_at, small_at, large_at, row_at, overload_at, split_at, cut_at, close_at, body_at, tagged_at, node_at}
 use Rattle.std.proofs.lemmas.Bool.{ltb-false, eqb-false}
 use Rattle.pocsag_tree.specs.declared.refusals.CertificateFault.TheVariants as fault
 use Rattle.pocsag_tree.specs.Spelling.{node}
@@ -8,14 +8,14 @@ use Rattle.pocsag_tree.proofs.Fields.{guard_other, guard_then}
 use Rattle.pocsag_tree.proofs.SpelledNodes.{IsVersion, tag_of, behind, node-behind}
 
 -- what a reader of nodes took from the bytes
-pub record Takes (r : Ranges) (d made : ℕ) (bytes : List ℕ) (x : Read Bound) : Type 0 where
+pub record Takes (r : Ranges) (d made : ℕ) (bytes : List ℕ) (x : Read BoundTree) : Type 0 where
   pub parts : bytes ≡ node x.0 ++ x.2
   pub in_range : IsInRange r x.0
   pub deep : depth_of x.0 ≤ d
   pub counted : x.1 ≡ made + all_nodes x.0
   pub few : x.1 ≤ most_nodes
 
-pub record TakesRow (r : Ranges) (d made n : ℕ) (bytes : List ℕ) (x : Read Bounds) : Type 0 where
+pub record TakesRow (r : Ranges) (d made n : ℕ) (bytes : List ℕ) (x : Read BoundTrees) : Type 0 where
   pub parts : bytes ≡ row x.0 ++ x.2
   pub in_range : AreInRange r x.0
   pub deep : deepest x.0 ≤ d
@@ -24,12 +24,12 @@ pub record TakesRow (r : Ranges) (d made n : ℕ) (bytes : List ℕ) (x : Read B
   pub count : children_count x.0 ≡ n
 
 abbrev pub TakesAll : Ranges → ℕ → Reader → Type 0
-TakesAll r d child = (made : ℕ) (bytes : List ℕ) (x : Read Bound) → child made bytes ≡ Ok x → Takes r d made bytes x
+TakesAll r d child = (made : ℕ) (bytes : List ℕ) (x : Read BoundTree) → child made bytes ≡ Ok x → Takes r d made bytes x
 
 four_left : (n : ℕ) → (n ≡ 0 → ⊥) → (n ≡ 1 → ⊥) → (n ≡ 2 → ⊥) → (n ≡ 3 → ⊥) → n ≤ 4 → n ≡ 4
 four_left n a b c d le = omega arith
 
-row_takes : (r : Ranges) (d : ℕ) (child : Reader) → TakesAll r d child → (n made : ℕ) (bytes : List ℕ) (x : Read Bounds) → made ≤ most_nodes
+row_takes : (r : Ranges) (d : ℕ) (child : Reader) → TakesAll r d child → (n made : ℕ) (bytes : List ℕ) (x : Read BoundTrees) → made ≤ most_nodes
     → row_at child n made bytes ≡ Ok x → TakesRow r d made n bytes x
 unfolding row_at
 row_takes r d child takes zero made bytes x few e =
@@ -51,7 +51,7 @@ row_takes r d child takes (suc n) made bytes x few e =
     })
 
 -- a node from behind its tag
-record TakesBody (r : Ranges) (d made tag : ℕ) (bytes : List ℕ) (x : Read Bound) : Type 0 where
+record TakesBody (r : Ranges) (d made tag : ℕ) (bytes : List ℕ) (x : Read BoundTree) : Type 0 where
   parts : bytes ≡ behind x.0 ++ x.2
   same_tag : tag_of x.0 ≡ tag
   in_range : IsInRange r x.0
@@ -59,7 +59,7 @@ record TakesBody (r : Ranges) (d made tag : ℕ) (bytes : List ℕ) (x : Read Bo
   counted : x.1 + 1 ≡ made + all_nodes x.0
   few : x.1 ≤ most_nodes
 
-overload_takes : (r : Ranges) (d made : ℕ) (bytes : List ℕ) (x : Read Bound) → made ≤ most_nodes → overload_at made bytes ≡ Ok x
+overload_takes : (r : Ranges) (d made : ℕ) (bytes : List ℕ) (x : Read BoundTree) → made ≤ most_nodes → overload_at made bytes ≡ Ok x
     → TakesBody r d made 0 bytes x
 unfolding overload_at
 overload_takes r d made bytes x few e =
@@ -68,7 +68,7 @@ overload_takes r d made bytes x few e =
     rw (← ok_is _ x a.2)
     (record { parts = p.0; same_tag = refl; in_range = (p.2.least, p.1); deep = omega arith; counted = refl; few = few })
 
-split_takes : (r : Ranges) (d : ℕ) (child : Reader) → TakesAll r d child → (made : ℕ) (bytes : List ℕ) (x : Read Bound)
+split_takes : (r : Ranges) (d : ℕ) (child : Reader) → TakesAll r d child → (made : ℕ) (bytes : List ℕ) (x : Read BoundTree)
     → split_at r child made bytes ≡ Ok x → TakesBody r d made 1 bytes x
 unfolding split_at
 split_takes r d child takes made bytes x e =
@@ -98,7 +98,7 @@ split_takes r d child takes made bytes x e =
       few = t.few;
     })
 
-cut_takes : (r : Ranges) (d : ℕ) (child : Reader) → TakesAll r d child → (made : ℕ) (bytes : List ℕ) (x : Read Bound) → made ≤ most_nodes
+cut_takes : (r : Ranges) (d : ℕ) (child : Reader) → TakesAll r d child → (made : ℕ) (bytes : List ℕ) (x : Read BoundTree) → made ≤ most_nodes
     → cut_at r child made bytes ≡ Ok x → TakesBody r d made 2 bytes x
 unfolding cut_at
 cut_takes r d child takes made bytes x few e =
@@ -128,7 +128,7 @@ cut_takes r d child takes made bytes x few e =
       few = t.few;
     })
 
-close_takes : (r : Ranges) (d : ℕ) (child : Reader) → TakesAll r d child → (made : ℕ) (bytes : List ℕ) (x : Read Bound) → 4 ≤ r.tag
+close_takes : (r : Ranges) (d : ℕ) (child : Reader) → TakesAll r d child → (made : ℕ) (bytes : List ℕ) (x : Read BoundTree) → 4 ≤ r.tag
     → made ≤ most_nodes → close_at child made bytes ≡ Ok x → TakesBody r d made 4 bytes x
 unfolding close_at
 close_takes r d child takes made bytes x four few e =
@@ -150,13 +150,13 @@ close_takes r d child takes made bytes x four few e =
       few = t.few;
     })
 
-open_takes : (r : Ranges) (d made : ℕ) (bytes : List ℕ) (x : Read Bound) → made ≤ most_nodes → done (unexamined, made, bytes) ≡ Ok x
+open_takes : (r : Ranges) (d made : ℕ) (bytes : List ℕ) (x : Read BoundTree) → made ≤ most_nodes → done (unexamined, made, bytes) ≡ Ok x
     → TakesBody r d made 3 bytes x
 open_takes r d made bytes x few e =
     rw (← ok_is _ x e)
     (record { parts = refl; same_tag = refl; in_range = tt; deep = omega arith; counted = refl; few = few })
 
-body_takes : (r : Ranges) (d : ℕ) (child : Reader) → TakesAll r d child → IsVersion r → (tag made : ℕ) (bytes : List ℕ) (x : Read Bound)
+body_takes : (r : Ranges) (d : ℕ) (child : Reader) → TakesAll r d child → IsVersion r → (tag made : ℕ) (bytes : List ℕ) (x : Read BoundTree)
     → tag ≤ r.tag → made ≤ most_nodes → body_at r child tag made bytes ≡ Ok x → TakesBody r d made tag bytes x
 unfolding body_at
 body_takes r d child takes v tag made bytes x le few e =
@@ -177,7 +177,7 @@ body_takes r d child takes v tag made bytes x le few e =
       ]
     ]
 
-tagged_takes : (r : Ranges) (d : ℕ) (child : Reader) → TakesAll r d child → IsVersion r → (made : ℕ) (bytes : List ℕ) (x : Read Bound)
+tagged_takes : (r : Ranges) (d : ℕ) (child : Reader) → TakesAll r d child → IsVersion r → (made : ℕ) (bytes : List ℕ) (x : Read BoundTree)
     → made < most_nodes → tagged_at r child made bytes ≡ Ok x → Takes r (suc d) made bytes x
 unfolding tagged_at
 tagged_takes r d child takes v made bytes x lt e =

@@ -1,5 +1,5 @@
 -- What reading the whole of the bytes says of the answer.
-use Rattle.pocsag_tree.proofs.Prelude.{◌≡◌, ℕ, ◌⊎◌, inl, inr, List, [], ◌∷◌, ◌++◌, Some, None, Result, Ok, Err, refl, sym, ap, subst, ◌∙◌, End, CertificateFault, Bound, bound_of, IsText, Fails, end_at, certificate_at, all_of}
+use Rattle.pocsag_tree.proofs.Prelude.{◌≡◌, ℕ, ◌⊎◌, inl, inr, List, [], ◌∷◌, ◌++◌, Some, None, Result, Ok, Err, refl, sym, ap, subst, ◌∙◌, End, CertificateFault, BoundTree, bound_tree_of, IsText, Fails, end_at, certificate_at, all_of}
 use Rattle.std.specs.Prelude.{IfOk, IfErr}
 use Rattle.std.proofs.lemmas.List.{append-nil}
 use Rattle.pocsag_tree.specs.declared.shape.Certificate.{Certificate}
@@ -18,7 +18,7 @@ end_takes [] x e = refl
 end_takes (b ∷ bytes) x e = absurd cc
 
 -- what is read whole is a text
-pub all_takes : (bytes : List ℕ) (x : End × ℕ × Bound) → all_of bytes ≡ Ok x → IsText x.0 x.1 x.2 bytes
+pub all_takes : (bytes : List ℕ) (x : End × ℕ × BoundTree) → all_of bytes ≡ Ok x → IsText x.0 x.1 x.2 bytes
 unfolding all_of
 all_takes bytes x e =
     let a = bind_ok (certificate_at bytes) _ x e in
@@ -29,7 +29,7 @@ all_takes bytes x e =
     (subst (λ y. IsText a.0.0 a.0.1 a.0.2 y) all t.1)
 
 -- a text is read whole
-pub all_again : (end : End) (batches : ℕ) (tree : Bound) (bytes : List ℕ) → IsText end batches tree bytes
+pub all_again : (end : End) (batches : ℕ) (tree : BoundTree) (bytes : List ℕ) → IsText end batches tree bytes
     → all_of bytes ≡ Ok (end, batches, tree)
 unfolding all_of end_at
 all_again end batches tree bytes is =
@@ -52,25 +52,25 @@ fails_is fault.TooDeep read h = inr (h, λ no. cc)
 fails_is fault.TooMany read h = inr (h, λ no. cc)
 
 -- a fault behind a certificate is the fault of the whole
-pub all_ends : (e : CertificateFault) (bytes rest : List ℕ) (end : End) (batches : ℕ) (tree : Bound)
+pub all_ends : (e : CertificateFault) (bytes rest : List ℕ) (end : End) (batches : ℕ) (tree : BoundTree)
     → certificate_at bytes ≡ Ok (end, batches, tree, rest) → Fails e ⊥ (end_at rest) → Fails e ⊥ (all_of bytes)
 unfolding all_of
 all_ends e bytes rest end batches tree read h = fails_along e ⊥ (end_at rest) (all_of bytes) (λ f is. rw (read, is) refl) h
 
 -- reading, as the functions of the code say it
 abbrev pub IsGiven : Result Certificate CertificateFault → List ℕ → Type 0
-IsGiven r bytes = Gives (λ c. (c.end, c.batches, bound_of c.tree)) ⊥ r (all_of bytes)
+IsGiven r bytes = Gives (λ c. (c.end, c.batches, bound_tree_of c.tree)) ⊥ r (all_of bytes)
 
 pub is_found : (r : Result Certificate CertificateFault) (bytes : List ℕ) → IsGiven r bytes
-    → IfOk r (λ c. IsText c.end c.batches (bound_of c.tree) bytes)
-is_found (Ok c) bytes given = all_takes bytes (c.end, c.batches, bound_of c.tree) given
+    → IfOk r (λ c. IsText c.end c.batches (bound_tree_of c.tree) bytes)
+is_found (Ok c) bytes given = all_takes bytes (c.end, c.batches, bound_tree_of c.tree) given
 is_found (Err e) bytes given = tt
 
-pub is_only : (r : Result Certificate CertificateFault) (bytes : List ℕ) → IsGiven r bytes → (end : End) (batches : ℕ) (tree : Bound)
+pub is_only : (r : Result Certificate CertificateFault) (bytes : List ℕ) → IsGiven r bytes → (end : End) (batches : ℕ) (tree : BoundTree)
     → IsText end batches tree bytes → AnswersTriple r end batches tree
 is_only (Ok c) bytes given end batches tree is =
-    let read : End × ℕ × Bound = (c.end, c.batches, bound_of c.tree) in
-    let meant : End × ℕ × Bound = (end, batches, tree) in
+    let read : End × ℕ × BoundTree = (c.end, c.batches, bound_tree_of c.tree) in
+    let meant : End × ℕ × BoundTree = (end, batches, tree) in
     let same : read ≡ meant = ok_is read meant (sym given ∙ all_again end batches tree bytes is) in
     record { same_end = ap (λ x. x.0) same; same_batches = ap (λ x. x.1) same; same_tree = ap (λ x. x.2) same }
 is_only (Err e) bytes given end batches tree is =
@@ -79,7 +79,7 @@ is_only (Err e) bytes given end batches tree is =
       | inr h ↦ absurd (let no = sym (all_again end batches tree bytes is) ∙ h.0 in cc)
     ]
 
-verdict_at : (bytes : List ℕ) (s : Result (End × ℕ × Bound) CertificateFault) → all_of bytes ≡ s → HasVerdict bytes s
+verdict_at : (bytes : List ℕ) (s : Result (End × ℕ × BoundTree) CertificateFault) → all_of bytes ≡ s → HasVerdict bytes s
 verdict_at bytes s e = rw (← e) (all_verdict bytes)
 
 pub is_fault : (r : Result Certificate CertificateFault) (bytes : List ℕ) → IsGiven r bytes → IfErr r (λ e. IsFault e bytes)
@@ -93,7 +93,7 @@ is_fault (Err e) bytes given =
 pub is_first : (r : Result Certificate CertificateFault) (bytes : List ℕ) → IsGiven r bytes → (f : CertificateFault) → HasFirst f bytes
     → AnswersFault r f
 is_first (Ok c) bytes given f first =
-    absurd (let no = one_verdict first None (verdict_at bytes (Ok (c.end, c.batches, bound_of c.tree)) given) in cc)
+    absurd (let no = one_verdict first None (verdict_at bytes (Ok (c.end, c.batches, bound_tree_of c.tree)) given) in cc)
 is_first (Err e) bytes given f first =
     elim (fails_is e (all_of bytes) given) [
       | inl h ↦ inl h
@@ -105,7 +105,7 @@ pub is_wanting : (bytes : List ℕ) → IsWanting (certificate_at bytes) → Has
 unfolding all_of end_at
 is_wanting bytes h = of_read bytes (certificate_at bytes) refl h
   where
-    of_read : (bytes : List ℕ) (r : Result (End × ℕ × Bound × List ℕ) CertificateFault) → certificate_at bytes ≡ r → IsWanting r
+    of_read : (bytes : List ℕ) (r : Result (End × ℕ × BoundTree × List ℕ) CertificateFault) → certificate_at bytes ≡ r → IsWanting r
         → HasNoFault bytes
     of_read bytes (Ok x) is h =
         let read : all_of bytes ≡ Ok (x.0, x.1, x.2) = rw (is, h) refl in
@@ -121,21 +121,21 @@ is_short bytes is = verdict_at bytes (Err fault.Truncated) (rw is refl) (λ no. 
 
 -- ---- laws
 
-pub texts_same : (bytes : List ℕ) (end other_end : End) (batches other_batches : ℕ) (tree other_tree : Bound)
+pub texts_same : (bytes : List ℕ) (end other_end : End) (batches other_batches : ℕ) (tree other_tree : BoundTree)
     → IsText end batches tree bytes → IsText other_end other_batches other_tree bytes
     → (end ≡ other_end) × (batches ≡ other_batches) × (tree ≡ other_tree)
 texts_same bytes end other_end batches other_batches tree other_tree one two =
-    let first : End × ℕ × Bound = (end, batches, tree) in
-    let second : End × ℕ × Bound = (other_end, other_batches, other_tree) in
+    let first : End × ℕ × BoundTree = (end, batches, tree) in
+    let second : End × ℕ × BoundTree = (other_end, other_batches, other_tree) in
     let same : first ≡ second = ok_is first second
     (sym (all_again end batches tree bytes one) ∙ all_again other_end other_batches other_tree bytes two) in
     (ap (λ x. x.0) same, ap (λ x. x.1) same, ap (λ x. x.2) same)
 
-pub nothing_more : (bytes more : List ℕ) (end other_end : End) (batches other_batches : ℕ) (tree other_tree : Bound)
+pub nothing_more : (bytes more : List ℕ) (end other_end : End) (batches other_batches : ℕ) (tree other_tree : BoundTree)
     → IsText end batches tree bytes → IsText other_end other_batches other_tree (bytes ++ more) → more ≡ []
 nothing_more bytes more end other_end batches other_batches tree other_tree one two =
-    let first : End × ℕ × Bound × List ℕ = (end, batches, tree, more) in
-    let second : End × ℕ × Bound × List ℕ = (other_end, other_batches, other_tree, []) in
+    let first : End × ℕ × BoundTree × List ℕ = (end, batches, tree, more) in
+    let second : End × ℕ × BoundTree × List ℕ = (other_end, other_batches, other_tree, []) in
     let whole : certificate_at (bytes ++ more) ≡ Ok second = ap certificate_at (sym (append-nil (bytes ++ more)))
     ∙ certificate_again other_end other_batches other_tree (bytes ++ more) [] two in
     let same : first ≡ second = ok_is first second (sym (certificate_again end batches tree bytes more one) ∙ whole) in
@@ -144,7 +144,7 @@ nothing_more bytes more end other_end batches other_batches tree other_tree one 
 pub same_fault : (bytes : List ℕ) (f g : CertificateFault) → HasFirst f bytes → HasFirst g bytes → f ≡ g
 same_fault bytes f g one two = let same = one_verdict one (Some g) two in cc
 
-pub no_fault : (bytes : List ℕ) (end : End) (batches : ℕ) (tree : Bound) (f : CertificateFault) → IsText end batches tree bytes
+pub no_fault : (bytes : List ℕ) (end : End) (batches : ℕ) (tree : BoundTree) (f : CertificateFault) → IsText end batches tree bytes
     → HasFirst f bytes → ⊥
 no_fault bytes end batches tree f is first = let no =
     one_verdict first None (verdict_at bytes (Ok (end, batches, tree)) (all_again end batches tree bytes is)) in cc

@@ -1,32 +1,32 @@
 -- Reading one child after the other, as a loop does.
-use Rattle.pocsag_tree.proofs.Prelude.{◌≡◌, ℕ, suc, ◌-◌, ◌+◌, ◌≤◌, ◌<◌, max, List, [], ◌∷◌, ◌++◌, map, Result, Ok, Err, refl, sym, ap, ◌∙◌, arith, CertificateFault, Tree, Bound, Bounds, none, more, all_nodes, all_nodes_in, depth_of, deepest, bound_of, bounds_of, ◌>>=◌, Fails, Read, Reader, row_at}
+use Rattle.pocsag_tree.proofs.Prelude.{◌≡◌, ℕ, suc, ◌-◌, ◌+◌, ◌≤◌, ◌<◌, max, List, [], ◌∷◌, ◌++◌, map, Result, Ok, Err, refl, sym, ap, ◌∙◌, arith, CertificateFault, Tree, BoundTree, BoundTrees, none, more, all_nodes, all_nodes_in, depth_of, deepest, bound_tree_of, bounds_of, ◌>>=◌, Fails, Read, Reader, row_at}
 use Rattle.pocsag_tree.specs.declared.refusals.CertificateFault.TheVariants as fault
 use Rattle.pocsag_tree.specs.Views.{bounds_from}
 
 -- the trees, and then the row
-abbrev pub before : List Bound → Bounds → Bounds
+abbrev pub before : List BoundTree → BoundTrees → BoundTrees
 before [] ts = ts
 before (t ∷ us) ts = more t (before us ts)
 
 -- what was read before, and what is still read
-abbrev pub with_front : List Bound → Result (Read Bounds) CertificateFault → Result (Read Bounds) CertificateFault
+abbrev pub with_front : List BoundTree → Result (Read BoundTrees) CertificateFault → Result (Read BoundTrees) CertificateFault
 with_front front read = read >>= λ x. Ok (before front x.0, x.1, x.2)
 
-before-push : (front : List Bound) (t : Bound) (ts : Bounds) → before (front ++ t ∷ []) ts ≡ before front (more t ts)
+before-push : (front : List BoundTree) (t : BoundTree) (ts : BoundTrees) → before (front ++ t ∷ []) ts ≡ before front (more t ts)
 before-push [] t ts = refl
 before-push (u ∷ us) t ts = ap (λ x. more u x) (before-push us t ts)
 
-before-none : (front : List Bound) → before front none ≡ bounds_from front
+before-none : (front : List BoundTree) → before front none ≡ bounds_from front
 before-none [] = refl
 before-none (u ∷ us) = ap (λ x. more u x) (before-none us)
 
-regroup : (front : List Bound) (t : Bound) (read : Result (Read Bounds) CertificateFault)
+regroup : (front : List BoundTree) (t : BoundTree) (read : Result (Read BoundTrees) CertificateFault)
     → with_front front (read >>= λ x. Ok (more t x.0, x.1, x.2)) ≡ with_front (front ++ t ∷ []) read
 regroup front t (Ok x) = ap (λ ts. Ok (ts, x.1, x.2)) (sym (before-push front t x.0))
 regroup front t (Err f) = refl
 
-pub row_goes_on : (child : Reader) (front : List Bound) (count i made : ℕ) (bytes : List ℕ) (t : Bound) (after : ℕ) (rest : List ℕ)
-    (total : Result (Read Bounds) CertificateFault)
+pub row_goes_on : (child : Reader) (front : List BoundTree) (count i made : ℕ) (bytes : List ℕ) (t : BoundTree) (after : ℕ) (rest : List ℕ)
+    (total : Result (Read BoundTrees) CertificateFault)
     → i < count → child made bytes ≡ Ok (t, after, rest)
     → with_front front (row_at child (count - i) made bytes) ≡ total
     → with_front (front ++ t ∷ []) (row_at child (count - (i + 1)) after rest) ≡ total
@@ -38,8 +38,8 @@ row_goes_on child front count i made bytes t after rest total lt h so_far =
     sym one ∙ so_far
 
 -- a fault of a child is the fault of the row
-row_fails : (e : CertificateFault) (child : Reader) (front : List Bound) (count i made : ℕ) (bytes : List ℕ)
-    (total : Result (Read Bounds) CertificateFault)
+row_fails : (e : CertificateFault) (child : Reader) (front : List BoundTree) (count i made : ℕ) (bytes : List ℕ)
+    (total : Result (Read BoundTrees) CertificateFault)
     → i < count → child made bytes ≡ Err e
     → with_front front (row_at child (count - i) made bytes) ≡ total → total ≡ Err e
 unfolding row_at
@@ -62,14 +62,14 @@ fails_along fault.BadField stopped r s along h = along fault.BadField h
 fails_along fault.TooDeep stopped r s along h = along fault.TooDeep h
 fails_along fault.TooMany stopped r s along h = along fault.TooMany h
 
-pub row_ends : (e : CertificateFault) (stopped : Type 0) (child : Reader) (front : List Bound) (count i made : ℕ) (bytes : List ℕ)
-    (total : Result (Read Bounds) CertificateFault)
+pub row_ends : (e : CertificateFault) (stopped : Type 0) (child : Reader) (front : List BoundTree) (count i made : ℕ) (bytes : List ℕ)
+    (total : Result (Read BoundTrees) CertificateFault)
     → i < count → Fails e stopped (child made bytes)
     → with_front front (row_at child (count - i) made bytes) ≡ total → Fails e stopped total
 row_ends e stopped child front count i made bytes total lt h so_far =
     fails_along e stopped (child made bytes) total (λ f is. row_fails f child front count i made bytes total lt is so_far) h
 
-pub row_is_done : (child : Reader) (front : List Bound) (count i made : ℕ) (bytes : List ℕ) (total : Result (Read Bounds) CertificateFault)
+pub row_is_done : (child : Reader) (front : List BoundTree) (count i made : ℕ) (bytes : List ℕ) (total : Result (Read BoundTrees) CertificateFault)
     → count ≤ i → with_front front (row_at child (count - i) made bytes) ≡ total → total ≡ Ok (bounds_from front, made, bytes)
 unfolding row_at
 row_is_done child front count i made bytes total le so_far =
@@ -80,21 +80,21 @@ row_is_done child front count i made bytes total le so_far =
 
 -- before the first child
 pub row_starts : (child : Reader) (items : List Tree) (count made : ℕ) (bytes : List ℕ) → items ≡ []
-    → with_front (map bound_of items) (row_at child (count - 0) made bytes) ≡ row_at child count made bytes
+    → with_front (map bound_tree_of items) (row_at child (count - 0) made bytes) ≡ row_at child count made bytes
 row_starts child items count made bytes is =
     let k : count - 0 ≡ count = omega arith in
     rw (is, k) (none_before (row_at child count made bytes))
   where
-    none_before : (read : Result (Read Bounds) CertificateFault) → with_front [] read ≡ read
+    none_before : (read : Result (Read BoundTrees) CertificateFault) → with_front [] read ≡ read
     none_before (Ok x) = refl
     none_before (Err f) = refl
 
 -- counts of a row with one tree more
 pub nodes-push : (ts : List Tree) (t : Tree)
-    → all_nodes_in (bounds_of (ts ++ t ∷ [])) ≡ all_nodes_in (bounds_of ts) + all_nodes (bound_of t)
+    → all_nodes_in (bounds_of (ts ++ t ∷ [])) ≡ all_nodes_in (bounds_of ts) + all_nodes (bound_tree_of t)
 nodes-push [] t = omega arith
 nodes-push (u ∷ us) t = omega (arith, nodes-push us t)
 
-pub deepest-push : (ts : List Tree) (t : Tree) → deepest (bounds_of (ts ++ t ∷ [])) ≡ max (deepest (bounds_of ts)) (depth_of (bound_of t))
+pub deepest-push : (ts : List Tree) (t : Tree) → deepest (bounds_of (ts ++ t ∷ [])) ≡ max (deepest (bounds_of ts)) (depth_of (bound_tree_of t))
 deepest-push [] t = omega arith
 deepest-push (u ∷ us) t = omega (arith, deepest-push us t)

@@ -1,7 +1,7 @@
 -- A node that is spelled so is read so.
-use Rattle.pocsag_tree.proofs.Prelude.{◌≡◌, ℕ, zero, suc, ◌+◌, ◌^◌, ◌<◌, ◌≤◌, false, ltb, List, [], ◌∷◌, ◌++◌, Result, Ok, refl, ap, ◌∙◌, append_assoc, add-one, arith, lit<, w16, to_be_bytes, lt-ltb, le-ltb, Ranges, first_ranges, second_ranges, most_nodes, CertificateFault, Bound, Bounds, split, cut, close, unexamined, none, more, children_count, all_nodes, all_nodes_in, depth_of, deepest, IsInRange, AreInRange, row, Read, Reader, small_at, large_at, row_at, overload_at, split_at, cut_at, close_at, body_at, tagged_at, node_at}
+use Rattle.pocsag_tree.proofs.Prelude.{◌≡◌, ℕ, zero, suc, ◌+◌, ◌^◌, ◌<◌, ◌≤◌, false, ltb, List, [], ◌∷◌, ◌++◌, Result, Ok, refl, ap, ◌∙◌, append_assoc, add-one, arith, lit<, w16, to_be_bytes, lt-ltb, le-ltb, Ranges, first_ranges, second_ranges, most_nodes, CertificateFault, BoundTree, BoundTrees, split, cut, close, unexamined, none, more, children_count, all_nodes, all_nodes_in, depth_of, deepest, IsInRange, AreInRange, row, Read, Reader, small_at, large_at, row_at, overload_at, split_at, cut_at, close_at, body_at, tagged_at, node_at}
 use Rattle.std.proofs.Common.{lit≤}
-use Rattle.pocsag_tree.specs.Bounds.{overload}
+use Rattle.pocsag_tree.specs.BoundTrees.{overload}
 use Rattle.pocsag_tree.specs.Spelling.{node}
 use Rattle.pocsag_tree.proofs.Fields.{byte_again, small_again, large_again}
 
@@ -20,7 +20,7 @@ pub second_ranges-is : IsVersion second_ranges
 second_ranges-is = record { class = lit< tt; m = lit< tt; children = lit< tt; least_tag = lit≤ tt; most_tag = lit≤ tt }
 
 -- the tag of a node
-abbrev pub tag_of : Bound → ℕ
+abbrev pub tag_of : BoundTree → ℕ
 tag_of (overload set) = 0
 tag_of (split class m below above) = 1
 tag_of (cut set needed children) = 2
@@ -28,28 +28,28 @@ tag_of unexamined = 3
 tag_of (close children) = 4
 
 -- a node from behind its tag
-abbrev pub behind : Bound → List ℕ
+abbrev pub behind : BoundTree → List ℕ
 behind (overload set) = to_be_bytes w16 set
 behind (split class m below above) = class ∷ to_be_bytes w16 m ++ (node below ++ node above)
 behind (cut set needed children) = to_be_bytes w16 set ++ (needed ∷ to_be_bytes w16 (children_count children) ++ row children)
 behind unexamined = []
 behind (close children) = children_count children ∷ row children
 
-pub node-behind : (t : Bound) → node t ≡ tag_of t ∷ behind t
+pub node-behind : (t : BoundTree) → node t ≡ tag_of t ∷ behind t
 node-behind (overload set) = refl
 node-behind (split class m below above) = refl
 node-behind (cut set needed children) = refl
 node-behind unexamined = refl
 node-behind (close children) = refl
 
-pub tag-most : (r : Ranges) (t : Bound) → IsVersion r → IsInRange r t → tag_of t ≤ r.tag
+pub tag-most : (r : Ranges) (t : BoundTree) → IsVersion r → IsInRange r t → tag_of t ≤ r.tag
 tag-most r (overload set) v in_range = omega arith
 tag-most r (split class m below above) v in_range = omega (arith, v.least_tag)
 tag-most r (cut set needed children) v in_range = omega (arith, v.least_tag)
 tag-most r unexamined v in_range = omega (arith, v.least_tag)
 tag-most r (close children) v in_range = in_range.0
 
-pub tag-small : (t : Bound) → tag_of t < 256
+pub tag-small : (t : BoundTree) → tag_of t < 256
 tag-small (overload set) = lit< tt
 tag-small (split class m below above) = lit< tt
 tag-small (cut set needed children) = lit< tt
@@ -57,7 +57,7 @@ tag-small unexamined = lit< tt
 tag-small (close children) = lit< tt
 
 -- a node that is tagged, with its children read by child
-tagged_again : (r : Ranges) (child : Reader) (t : Bound) (made nodes : ℕ) (rest : List ℕ) → IsVersion r → IsInRange r t
+tagged_again : (r : Ranges) (child : Reader) (t : BoundTree) (made nodes : ℕ) (rest : List ℕ) → IsVersion r → IsInRange r t
     → body_at r child (tag_of t) (made + 1) (behind t ++ rest) ≡ Ok (t, nodes, rest)
     → tagged_at r child made (node t ++ rest) ≡ Ok (t, nodes, rest)
 unfolding tagged_at
@@ -66,7 +66,7 @@ tagged_again r child t made nodes rest v in_range body =
     let text : node t ++ rest ≡ tag_of t ∷ behind t ++ rest = ap (λ x. x ++ rest) (node-behind t) in
     ap (tagged_at r child made) text ∙ rw (byte_again (tag_of t) (behind t ++ rest) (tag-small t), tag) body
 
-node_step : (r : Ranges) (d made : ℕ) (bytes : List ℕ) (x : Result (Read Bound) CertificateFault) → made < most_nodes
+node_step : (r : Ranges) (d made : ℕ) (bytes : List ℕ) (x : Result (Read BoundTree) CertificateFault) → made < most_nodes
     → tagged_at r (node_at r d) made bytes ≡ x → node_at r (suc d) made bytes ≡ x
 unfolding node_at
 node_step r d made bytes x lt e = rw (lt-ltb made most_nodes lt) e
@@ -76,7 +76,7 @@ overload_again : (r : Ranges) (child : Reader) (set made : ℕ) (rest : List ℕ
 unfolding body_at overload_at
 overload_again r child set made rest some lt = rw (large_again 1 65535 set rest some (omega arith) lt) refl
 
-split_again : (r : Ranges) (child : Reader) (class m : ℕ) (below above : Bound) (made first second : ℕ) (rest : List ℕ) → IsVersion r
+split_again : (r : Ranges) (child : Reader) (class m : ℕ) (below above : BoundTree) (made first second : ℕ) (rest : List ℕ) → IsVersion r
     → class ≤ r.class → 1 ≤ m → m ≤ r.m
     → child made (node below ++ (node above ++ rest)) ≡ Ok (below, first, node above ++ rest)
     → child first (node above ++ rest) ≡ Ok (above, second, rest)
@@ -92,7 +92,7 @@ split_again r child class m below above made first second rest v c some most p q
     large_again 1 r.m m (node below ++ (node above ++ rest)) some most (omega (arith, v.m)) in
     ap (split_at r child made) text ∙ rw (a, b, p, q) refl
 
-cut_again : (r : Ranges) (child : Reader) (set needed : ℕ) (children : Bounds) (made nodes : ℕ) (rest : List ℕ) → IsVersion r
+cut_again : (r : Ranges) (child : Reader) (set needed : ℕ) (children : BoundTrees) (made nodes : ℕ) (rest : List ℕ) → IsVersion r
     → IsInRange r (cut set needed children)
     → row_at child (children_count children) made (row children ++ rest) ≡ Ok (children, nodes, rest)
     → body_at r child 2 made (behind (cut set needed children) ++ rest) ≡ Ok (cut set needed children, nodes, rest)
@@ -107,7 +107,7 @@ cut_again r child set needed children made nodes rest v in_range p =
     large_again 2 r.children (children_count children) (row children ++ rest) in_range.2 in_range.3 (omega (arith, v.children, in_range.3)) in
     rw (a, b, c, p) refl
 
-close_again : (r : Ranges) (child : Reader) (children : Bounds) (made nodes : ℕ) (rest : List ℕ) → IsInRange r (close children)
+close_again : (r : Ranges) (child : Reader) (children : BoundTrees) (made nodes : ℕ) (rest : List ℕ) → IsInRange r (close children)
     → row_at child (children_count children) made (row children ++ rest) ≡ Ok (children, nodes, rest)
     → body_at r child 4 made (behind (close children) ++ rest) ≡ Ok (close children, nodes, rest)
 unfolding body_at close_at
@@ -124,7 +124,7 @@ row_none : (child : Reader) (made : ℕ) (rest : List ℕ) → row_at child 0 ma
 unfolding row_at
 row_none child made rest = refl
 
-row_more : (child : Reader) (t : Bound) (ts : Bounds) (made first nodes : ℕ) (rest : List ℕ)
+row_more : (child : Reader) (t : BoundTree) (ts : BoundTrees) (made first nodes : ℕ) (rest : List ℕ)
     → child made (node t ++ (row ts ++ rest)) ≡ Ok (t, first, row ts ++ rest)
     → row_at child (children_count ts) first (row ts ++ rest) ≡ Ok (ts, nodes, rest)
     → row_at child (children_count ts + 1) made (row (more t ts) ++ rest) ≡ Ok (more t ts, nodes, rest)
@@ -133,7 +133,7 @@ row_more child t ts made first nodes rest p q =
     ap (row_at child (children_count ts + 1) made) (append_assoc (node t) (row ts) rest) ∙ rw (add-one, p, q) refl
 
 mutual
-  pub node_again : (r : Ranges) (t : Bound) (d made nodes : ℕ) (rest : List ℕ) → IsVersion r → IsInRange r t → depth_of t ≤ d
+  pub node_again : (r : Ranges) (t : BoundTree) (d made nodes : ℕ) (rest : List ℕ) → IsVersion r → IsInRange r t → depth_of t ≤ d
       → nodes ≤ most_nodes → nodes ≡ made + all_nodes t → node_at r d made (node t ++ rest) ≡ Ok (t, nodes, rest)
   node_again r (overload set) zero made nodes rest v in_range deep few is = absurd (omega arith)
   node_again r (overload set) (suc d) made nodes rest v in_range deep few is =
@@ -167,7 +167,7 @@ mutual
       (node_step _ _ _ _ _ (omega arith)
       (tagged_again _ _ _ _ _ _ v in_range (open_again _ _ _ _)))
 
-  row_again : (r : Ranges) (ts : Bounds) (d made nodes : ℕ) (rest : List ℕ) → IsVersion r → AreInRange r ts → deepest ts ≤ d
+  row_again : (r : Ranges) (ts : BoundTrees) (d made nodes : ℕ) (rest : List ℕ) → IsVersion r → AreInRange r ts → deepest ts ≤ d
       → nodes ≤ most_nodes → nodes ≡ made + all_nodes_in ts
       → row_at (node_at r d) (children_count ts) made (row ts ++ rest) ≡ Ok (ts, nodes, rest)
   row_again r none d made nodes rest v in_range deep few is =

@@ -1,5 +1,5 @@
 -- The two laws of *Certificate text*: what is read is spelled so, and what is spelled so is read.
-use Rattle.pocsag_tree.proofs.Prelude.{◌≡◌, ℕ, zero, suc, ◌<◌, ◌≤◌, ◌⊎◌, inl, inr, eqb, List, [], ◌∷◌, ◌++◌, Ok, refl, sym, ap, ◌∙◌, append_assoc, arith, lit<, w32, to_be_bytes, eqb-true, End, Ranges, first_ranges, second_ranges, greatest_depth, Bound, all_nodes, IsText, ◌>>=◌, Read, byte_at, small_at, node_at, mark_at, end_of, version_at, batches_at, certificate_at}
+use Rattle.pocsag_tree.proofs.Prelude.{◌≡◌, ℕ, zero, suc, ◌<◌, ◌≤◌, ◌⊎◌, inl, inr, eqb, List, [], ◌∷◌, ◌++◌, Ok, refl, sym, ap, ◌∙◌, append_assoc, arith, lit<, w32, to_be_bytes, eqb-true, End, Ranges, first_ranges, second_ranges, greatest_depth, BoundTree, all_nodes, IsText, ◌>>=◌, Read, byte_at, small_at, node_at, mark_at, end_of, version_at, batches_at, certificate_at}
 use Rattle.std.proofs.lemmas.Bool.{eq-eqb}
 use Rattle.pocsag_words.specs.declared.ending.End.TheVariants as ends
 use Rattle.pocsag_tree.specs.declared.refusals.CertificateFault.TheVariants as fault
@@ -9,7 +9,7 @@ use Rattle.pocsag_tree.proofs.SpelledNodes.{IsVersion, first_ranges-is, second_r
 use Rattle.pocsag_tree.proofs.ReadNodes.{node_takes}
 
 -- what a certificate that was read, with the bytes after it, says of the bytes
-abbrev pub IsTextThen : End → ℕ → Bound → List ℕ → List ℕ → Type 0
+abbrev pub IsTextThen : End → ℕ → BoundTree → List ℕ → List ℕ → Type 0
 IsTextThen end batches tree bytes rest = (text : List ℕ) × IsText end batches tree text × (bytes ≡ text ++ rest)
 
 mark_takes : (wanted : ℕ) (bytes rest : List ℕ) → mark_at wanted bytes ≡ Ok rest → bytes ≡ wanted ∷ rest
@@ -71,17 +71,17 @@ written_again ends.Closed rest = refl
 written_again ends.Idle rest = refl
 
 -- the text that is written, and what comes after it, by its fields
-written_parts : (end : End) (batches : ℕ) (tree : Bound) (rest : List ℕ) → written_text end batches tree ++ rest
+written_parts : (end : End) (batches : ℕ) (tree : BoundTree) (rest : List ℕ) → written_text end batches tree ++ rest
     ≡ 0x50 ∷ 0x43 ∷ 0x42 ∷ (version_bytes end ++ (to_be_bytes w32 batches ++ (node tree ++ rest)))
 written_parts end batches tree rest = append_assoc (written_head end batches) (node tree) rest
     ∙ ap (λ y. 0x50 ∷ 0x43 ∷ 0x42 ∷ y) (append_assoc (version_bytes end) (to_be_bytes w32 batches) (node tree ++ rest))
 
 -- a certificate behind its version
-record TakesRest (r : Ranges) (bytes : List ℕ) (batches : ℕ) (tree : Bound) (rest : List ℕ) : Type 0 where
+record TakesRest (r : Ranges) (bytes : List ℕ) (batches : ℕ) (tree : BoundTree) (rest : List ℕ) : Type 0 where
   has_text : HasText r batches tree
   parts : bytes ≡ to_be_bytes w32 batches ++ (node tree ++ rest)
 
-rest_takes : (r : Ranges) → IsVersion r → (bytes : List ℕ) (batches : ℕ × List ℕ) (tree : Read Bound) → batches_at bytes ≡ Ok batches
+rest_takes : (r : Ranges) → IsVersion r → (bytes : List ℕ) (batches : ℕ × List ℕ) (tree : Read BoundTree) → batches_at bytes ≡ Ok batches
     → node_at r greatest_depth 0 batches.1 ≡ Ok tree → TakesRest r bytes batches.0 tree.0 tree.2
 rest_takes r v bytes batches tree p q =
     let four = batches_takes bytes batches p in
@@ -97,7 +97,7 @@ rest_takes r v bytes batches tree p q =
       parts = four.0.parts ∙ ap (λ y. to_be_bytes w32 batches.0 ++ y) t.parts;
     }
 
-pub certificate_takes : (bytes : List ℕ) (x : End × ℕ × Bound × List ℕ) → certificate_at bytes ≡ Ok x → IsTextThen x.0 x.1 x.2 bytes x.3
+pub certificate_takes : (bytes : List ℕ) (x : End × ℕ × BoundTree × List ℕ) → certificate_at bytes ≡ Ok x → IsTextThen x.0 x.1 x.2 bytes x.3
 unfolding certificate_at
 certificate_takes bytes x e =
     let a = bind_ok (mark_at 0x50 bytes) _ x e in
@@ -130,7 +130,7 @@ certificate_takes bytes x e =
     ])
 
 -- a certificate behind its version
-rest_again : (r : Ranges) (end : End) (batches : ℕ) (tree : Bound) (bytes rest : List ℕ) → IsVersion r → HasText r batches tree
+rest_again : (r : Ranges) (end : End) (batches : ℕ) (tree : BoundTree) (bytes rest : List ℕ) → IsVersion r → HasText r batches tree
     → version_at bytes ≡ Ok (r, end, to_be_bytes w32 batches ++ (node tree ++ rest))
     → certificate_at (0x50 ∷ 0x43 ∷ 0x42 ∷ bytes) ≡ Ok (end, batches, tree, rest)
 unfolding certificate_at
@@ -142,7 +142,7 @@ rest_again r end batches tree bytes rest v has version =
     let f = node_again r tree greatest_depth 0 (all_nodes tree) rest v has.in_range has.depth has.nodes (omega arith) in
     rw (a, b, c, version, d, f) refl
 
-pub certificate_again : (end : End) (batches : ℕ) (tree : Bound) (text rest : List ℕ) → IsText end batches tree text
+pub certificate_again : (end : End) (batches : ℕ) (tree : BoundTree) (text rest : List ℕ) → IsText end batches tree text
     → certificate_at (text ++ rest) ≡ Ok (end, batches, tree, rest)
 certificate_again end batches tree text rest (inl is) =
     ap certificate_at (ap (λ t. t ++ rest) is.text ∙ written_parts end batches tree rest) ∙ rest_again second_ranges end batches tree

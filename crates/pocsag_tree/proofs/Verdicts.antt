@@ -1,5 +1,5 @@
 -- The fault that reading meets is the first of the bytes from left to right, and there is only one.
-use Rattle.pocsag_tree.proofs.Prelude.{◌≡◌, ℕ, ◌-◌, ◌^◌, true, cond, eqb, leb, List, [], ◌∷◌, Option, Some, None, Result, Ok, Err, refl, sym, ◌∙◌, arith, w8, w32, cond_both, le-leb, and_from, End, Ranges, first_ranges, second_ranges, greatest_depth, CertificateFault, Bound, Part, field, Meets, early, short, wrong, right, ◌>>=◌, byte_at, small_at, mark_at, end_of, version_at, long_number_at, batches_at, end_at, certificate_at, all_of}
+use Rattle.pocsag_tree.proofs.Prelude.{◌≡◌, ℕ, ◌-◌, ◌^◌, true, cond, eqb, leb, List, [], ◌∷◌, Option, Some, None, Result, Ok, Err, refl, sym, ◌∙◌, arith, w8, w32, cond_both, le-leb, and_from, End, Ranges, first_ranges, second_ranges, greatest_depth, CertificateFault, BoundTree, Part, field, Meets, early, short, wrong, right, ◌>>=◌, byte_at, small_at, mark_at, end_of, version_at, long_number_at, batches_at, end_at, certificate_at, all_of}
 use Rattle.std.proofs.lemmas.Bool.{and_left}
 use Rattle.pocsag_words.specs.declared.ending.End.TheVariants as ends
 use Rattle.pocsag_tree.specs.declared.refusals.CertificateFault.TheVariants as fault
@@ -111,7 +111,7 @@ any_nodes other trailing = trailing
 certificate_leads : (bytes : List ℕ) → Leads (at certificate 0 bytes) (λ x. at [] 0 x.3) (certificate_at bytes)
 unfolding certificate_at
 certificate_leads bytes =
-    let last : End × ℕ × Bound × List ℕ → Place = λ x. at [] 0 x.3 in
+    let last : End × ℕ × BoundTree × List ℕ → Place = λ x. at [] 0 x.3 in
     then_leads _ _ _ _ _ (mark_leads 0x50 (mark 0x43 ∷ mark 0x42 ∷ version ∷ []) bytes)
     (λ a is. then_leads _ _ _ _ _ (mark_leads 0x43 (mark 0x42 ∷ version ∷ []) a)
     (λ b is. then_leads _ _ _ _ _ (mark_leads 0x42 (version ∷ []) b)

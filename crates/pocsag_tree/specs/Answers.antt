@@ -4,8 +4,8 @@ use Rattle.pocsag_words.specs.declared.ending.End.{End}
 use Rattle.pocsag_tree.specs.declared.shape.Certificate.{Certificate}
 use Rattle.pocsag_tree.specs.declared.refusals.CertificateFault.{CertificateFault}
 use Rattle.pocsag_tree.specs.declared.refusals.CertificateFault.TheVariants as fault
-use Rattle.pocsag_tree.specs.Bounds.{Bound}
-use Rattle.pocsag_tree.specs.Views.{bound_of}
+use Rattle.pocsag_tree.specs.BoundTrees.{BoundTree}
+use Rattle.pocsag_tree.specs.Views.{bound_tree_of}
 use Rattle.pocsag_tree.specs.Parts.{Meets, certificate, HasFirst}
 
 -- The reader failed, or a growth was refused: no fault of the bytes.
@@ -15,13 +15,13 @@ IsRefusal fault.OutOfMemory = Unit {0}
 IsRefusal _ = ⊥
 
 -- The certificate is of this end, number of batches and tree.
-pub record Says (c : Certificate) (end : End) (batches : ℕ) (tree : Bound) : Type 0 where
+pub record Says (c : Certificate) (end : End) (batches : ℕ) (tree : BoundTree) : Type 0 where
   pub same_end : c.end ≡ end
   pub same_batches : c.batches ≡ batches
-  pub same_tree : bound_of c.tree ≡ tree
+  pub same_tree : bound_tree_of c.tree ≡ tree
 
 -- The answer is the certificate of this triple, unless reader or memory refused.
-abbrev pub AnswersTriple : Result Certificate CertificateFault → End → ℕ → Bound → Type 0
+abbrev pub AnswersTriple : Result Certificate CertificateFault → End → ℕ → BoundTree → Type 0
 AnswersTriple (Ok c) end batches tree = Says c end batches tree
 AnswersTriple (Err e) end batches tree = IsRefusal e
 

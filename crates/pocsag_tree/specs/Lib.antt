@@ -1,5 +1,5 @@
 pub mod Answers
-pub mod Bounds
+pub mod BoundTrees
 pub mod Limits
 pub mod Parts
 pub mod Reading

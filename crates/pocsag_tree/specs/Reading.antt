@@ -8,9 +8,9 @@ use Rattle.pocsag_tree.specs.declared.limits.Ranges.{Ranges}
 use Rattle.pocsag_tree.specs.Limits.{first_ranges, second_ranges, greatest_depth, greatest_set, most_nodes}
 use Rattle.pocsag_tree.specs.declared.refusals.CertificateFault.{CertificateFault}
 use Rattle.pocsag_tree.specs.declared.refusals.CertificateFault.TheVariants as fault
-use Rattle.pocsag_tree.specs.Bounds.{Bound, Bounds, overload, split, cut, close, unexamined, none, more, all_nodes, all_nodes_in, depth_of, deepest}
+use Rattle.pocsag_tree.specs.BoundTrees.{BoundTree, BoundTrees, overload, split, cut, close, unexamined, none, more, all_nodes, all_nodes_in, depth_of, deepest}
 use Rattle.pocsag_tree.specs.declared.shape.Tree.{Tree}
-use Rattle.pocsag_tree.specs.Views.{bound_of}
+use Rattle.pocsag_tree.specs.Views.{bound_tree_of}
 
 infixl 10 ◌>>=◌
 abbrev pub ◌>>=◌ : {A B : Type 0} → Result A CertificateFault → (A → Result B CertificateFault) → Result B CertificateFault
@@ -74,13 +74,13 @@ number_then n rest = (n, rest)
 abbrev pub Read : Type 0 → Type 0
 Read A = A × ℕ × List ℕ
 
-abbrev pub node_then : Tree × ℕ → List ℕ → Read Bound
-node_then x rest = (bound_of x.0, x.1, rest)
+abbrev pub node_then : Tree × ℕ → List ℕ → Read BoundTree
+node_then x rest = (bound_tree_of x.0, x.1, rest)
 
 abbrev pub Reader : Type 0
-Reader = ℕ → List ℕ → Result (Read Bound) CertificateFault
+Reader = ℕ → List ℕ → Result (Read BoundTree) CertificateFault
 
-unfoldable pub row_at : Reader → ℕ → ℕ → List ℕ → Result (Read Bounds) CertificateFault
+unfoldable pub row_at : Reader → ℕ → ℕ → List ℕ → Result (Read BoundTrees) CertificateFault
 row_at child zero made bytes = Ok (none, made, bytes)
 row_at child (suc n) made bytes = do
   first ← child made bytes
@@ -165,25 +165,25 @@ end_at [] = Ok tt
 end_at (b ∷ bytes) = Err fault.Trailing
 
 -- A node that was read: how deep it may be, how many nodes were made before it and with it, and that these are not too many.
-pub record IsNodeRead (depth made : ℕ) (tree : Bound) (reached : ℕ) : Type 0 where
+pub record IsNodeRead (depth made : ℕ) (tree : BoundTree) (reached : ℕ) : Type 0 where
   pub deep : depth_of tree ≤ depth
   pub counted : made + all_nodes tree ≡ reached
   pub few : reached ≤ most_nodes
 
 -- The same of a node that is among those made before, where its children have this depth.
-pub record IsBodyRead (depth made : ℕ) (tree : Bound) (reached : ℕ) : Type 0 where
+pub record IsBodyRead (depth made : ℕ) (tree : BoundTree) (reached : ℕ) : Type 0 where
   pub deep : depth_of tree ≤ depth + 1
   pub counted : made + all_nodes tree ≡ reached + 1
   pub few : reached ≤ most_nodes
 
 -- The same of several nodes.
-pub record IsRowRead (depth made : ℕ) (trees : Bounds) (reached : ℕ) : Type 0 where
+pub record IsRowRead (depth made : ℕ) (trees : BoundTrees) (reached : ℕ) : Type 0 where
   pub deep : deepest trees ≤ depth
   pub counted : made + all_nodes_in trees ≡ reached
   pub few : reached ≤ most_nodes
 
 -- A certificate, and the bytes after it.
-unfoldable pub certificate_at : List ℕ → Result (End × ℕ × Bound × List ℕ) CertificateFault
+unfoldable pub certificate_at : List ℕ → Result (End × ℕ × BoundTree × List ℕ) CertificateFault
 certificate_at bytes = do
   a ← mark_at 0x50 bytes
   b ← mark_at 0x43 a
@@ -194,7 +194,7 @@ certificate_at bytes = do
   Ok (version.1, batches.0, tree.0, tree.2)
 
 -- A certificate, and nothing after it.
-unfoldable pub all_of : List ℕ → Result (End × ℕ × Bound) CertificateFault
+unfoldable pub all_of : List ℕ → Result (End × ℕ × BoundTree) CertificateFault
 all_of bytes = do
   whole ← certificate_at bytes
   finished ← end_at whole.3
@@ -207,6 +207,6 @@ IsEarly depth made fault.TooMany = (1 ≤ depth) × (most_nodes ≤ made)
 IsEarly depth made _ = ⊥
 
 -- The bytes end where one is wanted, or with a certificate.
-abbrev pub IsWanting : Result (End × ℕ × Bound × List ℕ) CertificateFault → Type 0
+abbrev pub IsWanting : Result (End × ℕ × BoundTree × List ℕ) CertificateFault → Type 0
 IsWanting (Ok x) = x.3 ≡ []
 IsWanting (Err e) = e ≡ fault.Truncated

@@ -6,7 +6,7 @@ use Rattle.pocsag_words.specs.declared.ending.End.{End}
 use Rattle.pocsag_words.specs.declared.ending.End.TheVariants as ends
 use Rattle.pocsag_tree.specs.declared.limits.Ranges.{Ranges}
 use Rattle.pocsag_tree.specs.Limits.{first_ranges, second_ranges, greatest_depth, most_nodes}
-use Rattle.pocsag_tree.specs.Bounds.{Bound, Bounds, overload, split, cut, close, unexamined, none, more, children_count, all_nodes, depth_of}
+use Rattle.pocsag_tree.specs.BoundTrees.{BoundTree, BoundTrees, overload, split, cut, close, unexamined, none, more, children_count, all_nodes, depth_of}
 
 -- A set of 16 members that is not empty.
 abbrev pub IsSet : ℕ → Type 0
@@ -14,7 +14,7 @@ IsSet set = (1 ≤ set) × (set < 2 ^ 16)
 
 abbrev mutual
   -- Each field of the tree is in the range that the version gives it.
-  pub IsInRange : Ranges → Bound → Type 0
+  pub IsInRange : Ranges → BoundTree → Type 0
   IsInRange r (overload set) = IsSet set
   IsInRange r (split class m below above) = (class ≤ r.class) × (1 ≤ m) × (m ≤ r.m) × IsInRange r below × IsInRange r above
   IsInRange r (cut set needed children) = IsSet set × (needed ≤ r.class) × (2 ≤ children_count children)
@@ -22,13 +22,13 @@ abbrev mutual
   IsInRange r (close children) = (4 ≤ r.tag) × (1 ≤ children_count children) × (children_count children ≤ 2) × AreInRange r children
   IsInRange r unexamined = Unit {0}
 
-  pub AreInRange : Ranges → Bounds → Type 0
+  pub AreInRange : Ranges → BoundTrees → Type 0
   AreInRange r none = Unit {0}
   AreInRange r (more t ts) = IsInRange r t × AreInRange r ts
 
 -- What has a text in a version: every number is in its range, and the tree is neither too deep nor
 -- too large.
-pub record HasText (r : Ranges) (batches : ℕ) (tree : Bound) : Type 0 where
+pub record HasText (r : Ranges) (batches : ℕ) (tree : BoundTree) : Type 0 where
   pub some_batch : 1 ≤ batches
   pub four_bytes : batches < 2 ^ 32
   pub in_range : IsInRange r tree
@@ -47,14 +47,14 @@ close_head children = 4 ∷ children ∷ []
 
 abbrev mutual
   -- The bytes of a tree: each node's tag and fields, and then its children in order.
-  pub node : Bound → List ℕ
+  pub node : BoundTree → List ℕ
   node (overload set) = 0 ∷ to_be_bytes w16 set
   node (split class m below above) = split_head class m ++ (node below ++ node above)
   node (cut set needed children) = cut_head set needed (children_count children) ++ row children
   node unexamined = 3 ∷ []
   node (close children) = close_head (children_count children) ++ row children
 
-  pub row : Bounds → List ℕ
+  pub row : BoundTrees → List ℕ
   row none = []
   row (more t ts) = node t ++ row ts
 
@@ -69,27 +69,27 @@ version_bytes ends.Idle = 0x34 ∷ []
 abbrev pub written_head : End → ℕ → List ℕ
 written_head end batches = 0x50 ∷ 0x43 ∷ 0x42 ∷ (version_bytes end ++ to_be_bytes w32 batches)
 
-abbrev pub written_text : End → ℕ → Bound → List ℕ
+abbrev pub written_text : End → ℕ → BoundTree → List ℕ
 written_text end batches tree = written_head end batches ++ node tree
 
 -- The text in version PCB1, for the open end alone: the mark and 31, the batches, and the tree.
 abbrev pub first_head : ℕ → List ℕ
 first_head batches = 0x50 ∷ 0x43 ∷ 0x42 ∷ 0x31 ∷ to_be_bytes w32 batches
 
-abbrev pub first_text : ℕ → Bound → List ℕ
+abbrev pub first_text : ℕ → BoundTree → List ℕ
 first_text batches tree = first_head batches ++ node tree
 
 -- The bytes are the text in PCB2 or in PCB4, as the end is, of something that has one.
-pub record IsWrittenText (end : End) (batches : ℕ) (tree : Bound) (bytes : List ℕ) : Type 0 where
+pub record IsWrittenText (end : End) (batches : ℕ) (tree : BoundTree) (bytes : List ℕ) : Type 0 where
   pub has_text : HasText second_ranges batches tree
   pub text : bytes ≡ written_text end batches tree
 
 -- The bytes are the text in PCB1 of something that has one.
-pub record IsFirstText (end : End) (batches : ℕ) (tree : Bound) (bytes : List ℕ) : Type 0 where
+pub record IsFirstText (end : End) (batches : ℕ) (tree : BoundTree) (bytes : List ℕ) : Type 0 where
   pub open_end : end ≡ ends.Open
   pub has_text : HasText first_ranges batches tree
   pub text : bytes ≡ first_text batches tree
 
 -- The bytes are a certificate text of this end, number of batches and tree, in one of the versions.
-abbrev pub IsText : End → ℕ → Bound → List ℕ → Type 0
+abbrev pub IsText : End → ℕ → BoundTree → List ℕ → Type 0
 IsText end batches tree bytes = IsWrittenText end batches tree bytes ⊎ IsFirstText end batches tree bytes

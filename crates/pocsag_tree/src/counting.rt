@@ -1,6 +1,6 @@
 ghost use Rattle.std.specs.Prelude.{◌≡◌, min};
-ghost use Rattle.pocsag_tree.specs.Bounds.{closed_nodes, closed_nodes_in, depth_of, deepest, greatest_count};
-ghost use Rattle.pocsag_tree.specs.Views.{bound_of, bounds_of};
+ghost use Rattle.pocsag_tree.specs.BoundTrees.{closed_nodes, closed_nodes_in, depth_of, deepest, greatest_count};
+ghost use Rattle.pocsag_tree.specs.Views.{bound_tree_of, bounds_of};
 
 use crate::shape::Tree;
 
@@ -9,7 +9,7 @@ use crate::shape::Tree;
 /// It goes as deep on the stack as the tree does.
 #[cycle(nodes)]
 pub fn nodes(tree: &Tree) -> u64
-    ensures { result ≡ min (closed_nodes (bound_of tree.now)) greatest_count }
+    ensures { result ≡ min (closed_nodes (bound_tree_of tree.now)) greatest_count }
 {
     match tree {
         Tree::Overload(_) => 1,
@@ -38,7 +38,7 @@ fn nodes_in(trees: &[Tree]) -> u64
 /// It goes as deep on the stack as the tree does.
 #[cycle(depth)]
 pub fn depth(tree: &Tree) -> u64
-    ensures { result ≡ min (depth_of (bound_of tree.now)) greatest_count }
+    ensures { result ≡ min (depth_of (bound_tree_of tree.now)) greatest_count }
 {
     match tree {
         Tree::Overload(_) => 1,

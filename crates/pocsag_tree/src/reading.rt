@@ -2,8 +2,8 @@ ghost use Rattle.std.specs.Prelude.{◌≡◌, ℕ, ◌+◌, ◌<◌, ◌≤◌,
 ghost use Rattle.pocsag_words.specs.declared.ending.End.{End};
 ghost use Rattle.pocsag_words.specs.Devices.{HasFailed};
 ghost use Rattle.pocsag_tree.specs.Limits.{greatest_depth, most_nodes};
-ghost use Rattle.pocsag_tree.specs.Bounds.{Bound, all_nodes, depth_of};
-ghost use Rattle.pocsag_tree.specs.Views.{bound_of, bounds_of};
+ghost use Rattle.pocsag_tree.specs.BoundTrees.{BoundTree, all_nodes, depth_of};
+ghost use Rattle.pocsag_tree.specs.Views.{bound_tree_of, bounds_of};
 ghost use Rattle.pocsag_tree.specs.Spelling.{IsText};
 ghost use Rattle.pocsag_tree.specs.Parts.{HasFirst};
 ghost use Rattle.pocsag_tree.specs.Answers.{AnswersTriple, AnswersFault, IsFault, HasNoFault, given_before};
@@ -197,7 +197,7 @@ fn node<S: Source>(
     source: &mut S,
 ) -> Result<(Tree, u32), CertificateFault>
     requires { made ≤ most_nodes }
-    ensures counts { IfOk result (λ x. IsNodeRead depth made (bound_of x.0) x.1) }
+    ensures counts { IfOk result (λ x. IsNodeRead depth made (bound_tree_of x.0) x.1) }
     ensures failures { S.failures source.new ≡ failed_after result (S.failures source.old) }
     ensures reads { S.tells → ReadsBy (node_at builder.ranges depth made) node_then result
         (S.held source.old) (S.held source.new) }
@@ -215,7 +215,7 @@ fn tagged<S: Source>(
     source: &mut S,
 ) -> Result<(Tree, u32), CertificateFault>
     requires { made < most_nodes }
-    ensures counts { IfOk result (λ x. IsNodeRead (depth + 1) made (bound_of x.0) x.1) }
+    ensures counts { IfOk result (λ x. IsNodeRead (depth + 1) made (bound_tree_of x.0) x.1) }
     ensures failures { S.failures source.new ≡ failed_after result (S.failures source.old) }
     ensures reads { S.tells → ReadsBy (tagged_at builder.ranges (node_at builder.ranges depth) made) node_then result
         (S.held source.old) (S.held source.new) }
@@ -237,7 +237,7 @@ fn body<S: Source>(
     source: &mut S,
 ) -> Result<(Tree, u32), CertificateFault>
     requires { made ≤ most_nodes }
-    ensures counts { IfOk result (λ x. IsBodyRead depth made (bound_of x.0) x.1) }
+    ensures counts { IfOk result (λ x. IsBodyRead depth made (bound_tree_of x.0) x.1) }
     ensures failures { S.failures source.new ≡ failed_after result (S.failures source.old) }
     ensures reads { S.tells → ReadsBy (body_at builder.ranges (node_at builder.ranges depth) tag made) node_then result
         (S.held source.old) (S.held source.new) }
@@ -254,7 +254,7 @@ fn body<S: Source>(
 #[tactic(auto, unfolding(crate::specs::Reading::overload_at))]
 fn overload<S: Source>(made: u32, source: &mut S) -> Result<(Tree, u32), CertificateFault>
     requires { made ≤ most_nodes }
-    ensures counts { IfOk result (λ x. IsBodyRead 0 made (bound_of x.0) x.1) }
+    ensures counts { IfOk result (λ x. IsBodyRead 0 made (bound_tree_of x.0) x.1) }
     ensures failures { S.failures source.new ≡ failed_after result (S.failures source.old) }
     ensures reads { S.tells → ReadsBy (overload_at made) node_then result
         (S.held source.old) (S.held source.new) }
@@ -281,7 +281,7 @@ fn split<S: Source>(
     source: &mut S,
 ) -> Result<(Tree, u32), CertificateFault>
     requires { made ≤ most_nodes }
-    ensures counts { IfOk result (λ x. IsBodyRead depth made (bound_of x.0) x.1) }
+    ensures counts { IfOk result (λ x. IsBodyRead depth made (bound_tree_of x.0) x.1) }
     ensures failures { S.failures source.new ≡ failed_after result (S.failures source.old) }
     ensures reads { S.tells → ReadsBy (split_at builder.ranges (node_at builder.ranges depth) made) node_then result
         (S.held source.old) (S.held source.new) }
@@ -314,7 +314,7 @@ fn cut<S: Source>(
     source: &mut S,
 ) -> Result<(Tree, u32), CertificateFault>
     requires { made ≤ most_nodes }
-    ensures counts { IfOk result (λ x. IsBodyRead depth made (bound_of x.0) x.1) }
+    ensures counts { IfOk result (λ x. IsBodyRead depth made (bound_tree_of x.0) x.1) }
     ensures failures { S.failures source.new ≡ failed_after result (S.failures source.old) }
     ensures reads { S.tells → ReadsBy (cut_at builder.ranges (node_at builder.ranges depth) made) node_then result
         (S.held source.old) (S.held source.new) }
@@ -342,7 +342,7 @@ fn close<S: Source>(
     source: &mut S,
 ) -> Result<(Tree, u32), CertificateFault>
     requires { made ≤ most_nodes }
-    ensures counts { IfOk result (λ x. IsBodyRead depth made (bound_of x.0) x.1) }
+    ensures counts { IfOk result (λ x. IsBodyRead depth made (bound_tree_of x.0) x.1) }
     ensures failures { S.failures source.new ≡ failed_after result (S.failures source.old) }
     ensures reads { S.tells → ReadsBy (close_at (node_at builder.ranges depth) made) node_then result
         (S.held source.old) (S.held source.new) }
@@ -383,10 +383,10 @@ fn row<S: Source>(
 // A certificate, whatever comes after it.
 #[tactic(auto, unfolding(crate::specs::Reading::certificate_at))]
 fn certificate<S: Source>(alloc: Global, source: &mut S) -> Result<Certificate, CertificateFault>
-    ensures deep { IfOk result (λ c. depth_of (bound_of c.tree) ≤ greatest_depth) }
-    ensures few { IfOk result (λ c. all_nodes (bound_of c.tree) ≤ most_nodes) }
+    ensures deep { IfOk result (λ c. depth_of (bound_tree_of c.tree) ≤ greatest_depth) }
+    ensures few { IfOk result (λ c. all_nodes (bound_tree_of c.tree) ≤ most_nodes) }
     ensures failures { S.failures source.new ≡ failed_after result (S.failures source.old) }
-    ensures reads { S.tells → ReadsBy certificate_at (λ c rest. (c.end, c.batches, bound_of c.tree, rest)) result
+    ensures reads { S.tells → ReadsBy certificate_at (λ c rest. (c.end, c.batches, bound_tree_of c.tree, rest)) result
         (S.held source.old) (S.held source.new) }
 {
     mark(0x50, source)?;
@@ -401,10 +401,10 @@ fn certificate<S: Source>(alloc: Global, source: &mut S) -> Result<Certificate, 
 // A certificate, and then the end.
 #[tactic(auto, using(crate::proofs::Fronts::but_last_none), unfolding(crate::specs::Reading::all_of))]
 fn all<S: Source>(alloc: Global, source: &mut S) -> Result<Certificate, CertificateFault>
-    ensures deep { IfOk result (λ c. depth_of (bound_of c.tree) ≤ greatest_depth) }
-    ensures few { IfOk result (λ c. all_nodes (bound_of c.tree) ≤ most_nodes) }
+    ensures deep { IfOk result (λ c. depth_of (bound_tree_of c.tree) ≤ greatest_depth) }
+    ensures few { IfOk result (λ c. all_nodes (bound_tree_of c.tree) ≤ most_nodes) }
     ensures failures { S.failures source.new ≡ failed_after result (S.failures source.old) }
-    ensures bytes { S.tells → Gives (λ c. (c.end, c.batches, bound_of c.tree)) ⊥ result
+    ensures bytes { S.tells → Gives (λ c. (c.end, c.batches, bound_tree_of c.tree)) ⊥ result
         (all_of (S.held source.old)) }
     ensures wanting { S.tells → IsErrOf result CertificateFault.ReadFault
         → IsWanting (certificate_at (but_last (length (S.held source.new)) (S.held source.old))) }
@@ -428,8 +428,8 @@ pub fn read_certificate<S: Source>(
 ) -> Result<Certificate, CertificateFault>
     // What is read is what all the bytes are a text of, and what they are a text of is read.
     ensures found { S.tells → IfOk result (λ c.
-        IsText c.end c.batches (bound_of c.tree) (S.held reader.old)) }
-    ensures only { S.tells → (end : End) (batches : ℕ) (tree : Bound)
+        IsText c.end c.batches (bound_tree_of c.tree) (S.held reader.old)) }
+    ensures only { S.tells → (end : End) (batches : ℕ) (tree : BoundTree)
         → IsText end batches tree (S.held reader.old) → AnswersTriple result end batches tree }
     // A fault is the first of the bytes, and the first of the bytes is answered.
     ensures fault { S.tells → IfErr result (λ e. IsFault e (S.held reader.old)) }
@@ -442,8 +442,8 @@ pub fn read_certificate<S: Source>(
     ensures room { S.tells → IsErrOf result CertificateFault.OutOfMemory
         → HasFirst fault.Truncated (given_before (S.held reader.old) (S.held reader.new)) }
     // What is read is small enough to be read again, also where the reader tells nothing.
-    ensures deep { IfOk result (λ c. depth_of (bound_of c.tree) ≤ greatest_depth) }
-    ensures few { IfOk result (λ c. all_nodes (bound_of c.tree) ≤ most_nodes) }
+    ensures deep { IfOk result (λ c. depth_of (bound_tree_of c.tree) ≤ greatest_depth) }
+    ensures few { IfOk result (λ c. all_nodes (bound_tree_of c.tree) ≤ most_nodes) }
     // The reader failed in this call exactly where that is answered.
     ensures succeeded { ¬ IsErrOf result CertificateFault.ReadFault
         → S.failures reader.new ≡ S.failures reader.old }

@@ -1,8 +1,8 @@
 ghost use Rattle.std.specs.Prelude.{◌≡◌, ℕ, ◌+◌, ◌<◌, ◌≤◌, ◌↔◌, length, IsTrue, IsSome, IfSome, IsErrOf};
 ghost use Rattle.pocsag_words.specs.Devices.{CountsFailures, Delivers, HasFailed};
 ghost use Rattle.pocsag_tree.specs.Limits.{most_nodes, second_ranges};
-ghost use Rattle.pocsag_tree.specs.Bounds.{all_nodes, all_nodes_in, depth_of, deepest, children_count};
-ghost use Rattle.pocsag_tree.specs.Views.{bound_of, bounds_of};
+ghost use Rattle.pocsag_tree.specs.BoundTrees.{all_nodes, all_nodes_in, depth_of, deepest, children_count};
+ghost use Rattle.pocsag_tree.specs.Views.{bound_tree_of, bounds_of};
 ghost use Rattle.pocsag_tree.specs.Spelling.{IsInRange, AreInRange, HasText, IsSet, split_head, cut_head, close_head, node, row, written_head, written_text};
 
 use crate::limits::{DEPTH_LIMIT, NODE_LIMIT, SECOND_VERSION};
@@ -37,10 +37,10 @@ fn is_close_count(children: usize) -> bool
 #[cycle(measured)]
 fn measured(tree: &Tree, depth: u32, nodes: u32) -> Option<u32>
     requires { nodes ≤ most_nodes }
-    ensures fits { IsSome result ↔ (IsInRange second_ranges (bound_of tree.now)
-        × (depth_of (bound_of tree.now) ≤ depth)
-        × (nodes + all_nodes (bound_of tree.now) ≤ most_nodes)) }
-    ensures count { IfSome result (λ n. n ≡ nodes + all_nodes (bound_of tree.now)) }
+    ensures fits { IsSome result ↔ (IsInRange second_ranges (bound_tree_of tree.now)
+        × (depth_of (bound_tree_of tree.now) ≤ depth)
+        × (nodes + all_nodes (bound_tree_of tree.now) ≤ most_nodes)) }
+    ensures count { IfSome result (λ n. n ≡ nodes + all_nodes (bound_tree_of tree.now)) }
 {
     if depth == 0 {
         return None;
@@ -55,10 +55,10 @@ fn measured(tree: &Tree, depth: u32, nodes: u32) -> Option<u32>
 #[cycle(measured)]
 fn measured_node(tree: &Tree, depth: u32, nodes: u32) -> Option<u32>
     requires { nodes ≤ most_nodes }
-    ensures fits { IsSome result ↔ (IsInRange second_ranges (bound_of tree.now)
-        × (depth_of (bound_of tree.now) ≤ depth + 1)
-        × (nodes + all_nodes (bound_of tree.now) ≤ most_nodes + 1)) }
-    ensures count { IfSome result (λ n. n + 1 ≡ nodes + all_nodes (bound_of tree.now)) }
+    ensures fits { IsSome result ↔ (IsInRange second_ranges (bound_tree_of tree.now)
+        × (depth_of (bound_tree_of tree.now) ≤ depth + 1)
+        × (nodes + all_nodes (bound_tree_of tree.now) ≤ most_nodes + 1)) }
+    ensures count { IfSome result (λ n. n + 1 ≡ nodes + all_nodes (bound_tree_of tree.now)) }
 {
     match tree {
         Tree::Overload(set) => {
@@ -184,9 +184,9 @@ fn write_head<S: Sink>(end: End, batches: u32, writer: &mut S) -> Result<(), Dev
 // Writes the text of a tree: the node, and then all below it.
 #[cycle(written)]
 fn write_node<S: Sink>(tree: &Tree, writer: &mut S) -> Result<(), DeviceFault>
-    requires { IsInRange second_ranges (bound_of tree.now) }
+    requires { IsInRange second_ranges (bound_tree_of tree.now) }
     ensures delivers { S.tells → Delivers result (S.taken writer.old) (S.taken writer.new)
-        (node (bound_of tree.now)) }
+        (node (bound_tree_of tree.now)) }
     ensures failures { CountsFailures result (S.failures writer.old) (S.failures writer.new) }
 {
     match tree {
@@ -241,9 +241,9 @@ pub fn write_text<S: Sink>(
     tree: &Tree,
     writer: &mut S,
 ) -> Result<(), DeviceFault>
-    requires { HasText second_ranges batches (bound_of tree.now) }
+    requires { HasText second_ranges batches (bound_tree_of tree.now) }
     ensures delivers { S.tells → Delivers result (S.taken writer.old) (S.taken writer.new)
-        (written_text end batches (bound_of tree.now)) }
+        (written_text end batches (bound_tree_of tree.now)) }
     ensures failures { CountsFailures result (S.failures writer.old) (S.failures writer.new) }
 {
     write_head(end, batches, writer)?;
@@ -251,7 +251,7 @@ pub fn write_text<S: Sink>(
 }
 
 fn has_text(batches: u32, tree: &Tree) -> bool
-    ensures { IsTrue result ↔ HasText second_ranges batches (bound_of tree.now) }
+    ensures { IsTrue result ↔ HasText second_ranges batches (bound_tree_of tree.now) }
 {
     if batches == 0 {
         return false;
@@ -274,13 +274,13 @@ pub fn write_certificate<S: Sink>(
 ) -> Result<(), TreeWriteFault>
     // Exactly what has no text is refused, and nothing is written then.
     ensures bad { IsErrOf result TreeWriteFault.BadTree
-        → ¬ HasText second_ranges batches (bound_of tree.now) }
+        → ¬ HasText second_ranges batches (bound_tree_of tree.now) }
     ensures good { ¬ IsErrOf result TreeWriteFault.BadTree
-        → HasText second_ranges batches (bound_of tree.now) }
+        → HasText second_ranges batches (bound_tree_of tree.now) }
     ensures untouched { IsErrOf result TreeWriteFault.BadTree → writer.new ≡ writer.old }
     // The text is written whole, or a prefix of it where the writer failed.
     ensures delivers { S.tells → Delivers result (S.taken writer.old) (S.taken writer.new)
-        (written_text end batches (bound_of tree.now)) }
+        (written_text end batches (bound_tree_of tree.now)) }
     ensures succeeded { ¬ IsErrOf result TreeWriteFault.WriteFault
         → S.failures writer.new ≡ S.failures writer.old }
     ensures failed { IsErrOf result TreeWriteFault.WriteFault

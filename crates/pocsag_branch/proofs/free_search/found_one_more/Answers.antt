@@ -1,12 +1,12 @@
 use Rattle.std.proofs.Common.{◌+◌, refl, inr}
-use Rattle.pocsag_tree.specs.Views.{bound_of}
+use Rattle.pocsag_tree.specs.Views.{bound_tree_of}
 use Rattle.pocsag_branch.proofs.TreeEnds.{free_whole, tree_bound}
 use Rattle.pocsag_branch.proofs.free_search.found_one_more.Goals as goal
 
 pub returns-clause-found : goal.returns-clause-found
 returns-clause-found c =
     let k = c.args.classes.now in
-    let tree = bound_of c.args.tree in
+    let tree = bound_tree_of c.args.tree in
     let accepted = free_whole k c.args.task tree c.requires.tree in
     record {
       least = c.args.task.batches;

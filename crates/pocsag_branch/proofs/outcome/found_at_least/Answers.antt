@@ -1,6 +1,6 @@
 use Rattle.std.proofs.Common.{refl, inl}
 use Rattle.pocsag_tree.specs.declared.shape.Tree.TheVariants.{Overload}
-use Rattle.pocsag_tree.specs.Views.{bound_of}
+use Rattle.pocsag_tree.specs.Views.{bound_tree_of}
 use Rattle.pocsag_branch.specs.Shape.{at_least}
 use Rattle.pocsag_branch.proofs.TreeEnds.{least_tree, tree_bound}
 use Rattle.pocsag_branch.proofs.outcome.found_at_least.Goals as goal
@@ -16,7 +16,7 @@ returns c =
       choice = c.requires.answer.choice;
       tour = c.requires.answer.tour;
       accepted = tree.accepted;
-      bound = tree_bound c.args.classes.now c.args.task.end c.args.task.batches (bound_of (Overload c.args.set)) tree.accepted;
+      bound = tree_bound c.args.classes.now c.args.task.end c.args.task.batches (bound_tree_of (Overload c.args.set)) tree.accepted;
       examined = tree.examined;
       few = tree.few;
       shaped = at_least refl tree.one;

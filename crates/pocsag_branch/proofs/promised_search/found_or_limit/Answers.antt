@@ -1,6 +1,6 @@
 use Rattle.std.proofs.Common.{◌≡◌, ◌+◌, ap, refl, sym, ◌∙◌, arith, inr, slice_index, replicate, false, true, ◌++◌}
 use Rattle.std.proofs.lemmas.List.{append-nil}
-use Rattle.pocsag_tree.specs.Views.{bound_of}
+use Rattle.pocsag_tree.specs.Views.{bound_tree_of}
 use Rattle.pocsag_branch.specs.Shape.{one_more}
 use Rattle.pocsag_branch.proofs.TreeEnds.{closed_is, has_room, least_bound, none_unseen, some_unseen, tree_bound, tree_open, tree_whole}
 use Rattle.pocsag_branch.proofs.promised_search.found_or_limit.Goals as goal
@@ -8,7 +8,7 @@ use Rattle.pocsag_branch.proofs.promised_search.found_or_limit.Goals as goal
 pub returns-then-is_unfinished-clause-fault : goal.returns-then-is_unfinished-clause-fault
 returns-then-is_unfinished-clause-fault c =
     let k = c.args.classes.now in
-    let tree = bound_of c.args.tree in
+    let tree = bound_tree_of c.args.tree in
     let fills = c.requires.tree.examined.fills in
     let some = some_unseen tree fills.closed fills.unseen fills.layout (sym c.if-is_unfinished.ensures) in
     let full : fills.closed ≡ c.args.task.limit = omega (arith, fills.spent, fills.whole some) in
@@ -35,7 +35,7 @@ returns-then-is_unfinished-clause-fault c =
 pub returns-clause-found : goal.returns-clause-found
 returns-clause-found c =
     let k = c.args.classes.now in
-    let tree = bound_of c.args.tree in
+    let tree = bound_tree_of c.args.tree in
     let fills = c.requires.tree.examined.fills in
     let none = none_unseen tree fills.closed fills.unseen fills.layout (sym c.is_unfinished.ensures ∙ c.if-is_unfinished.false) in
     let closed = closed_is tree fills.closed fills.unseen fills.layout in

@@ -1,4 +1,4 @@
-use Rattle.pocsag_check.proofs.Prelude.{◌≡◌, ◌<◌, refl, arith, length, get_or, IsTrue, Way, narrowed_limits, bound_of, AcceptsWithin}
+use Rattle.pocsag_check.proofs.Prelude.{◌≡◌, ◌<◌, refl, arith, length, get_or, IsTrue, Way, narrowed_limits, bound_tree_of, AcceptsWithin}
 use Rattle.pocsag_slots.specs.declared.way.Way.TheVariants.{IdleIn}
 use Rattle.pocsag_check.proofs.RowChecks.{as_long, one_first, one_more, none_left, way_at}
 use Rattle.pocsag_check.proofs.checker.+checking.Goals as goal
@@ -33,10 +33,10 @@ check_each-loop-place-preserved t c =
     let w : Way = get_or c.args.ways.now i (IdleIn 0) in
     let some : i < length c.args.ways.now = omega arith in
     let yes : AcceptsWithin c.args.claim.now.takes_open c.args.claim.now.classes.now c.args.claim.now.end c.args.claim.now.batches
-    c.narrow-narrowed.result c.args.depth (bound_of c.index-children-place.result) =
+    c.narrow-narrowed.result c.args.depth (bound_tree_of c.index-children-place.result) =
     c.check_node.ensures.0 (cc) in
     let here : AcceptsWithin c.args.claim.now.takes_open c.args.claim.now.classes.now c.args.claim.now.end c.args.claim.now.batches
-    (narrowed_limits c.args.claim.now.classes.now c.args.limits.now w c.args.claim.now.batches) c.args.depth (bound_of c.index-children-place.result) =
+    (narrowed_limits c.args.claim.now.classes.now c.args.limits.now w c.args.claim.now.batches) c.args.depth (bound_tree_of c.index-children-place.result) =
     rw c.narrow-narrowed.ensures.value at yes in
     record {
       rest = λ a. (one_first c.args.claim.now.takes_open c.args.claim.now.classes.now c.args.claim.now.end c.args.claim.now.batches c.args.limits.now

@@ -1,4 +1,4 @@
-use Rattle.pocsag_check.proofs.Prelude.{◌-◌, subst, sym, arith, Classes, Limits, bound_of, AcceptsWithin, IsAccepted}
+use Rattle.pocsag_check.proofs.Prelude.{◌-◌, subst, sym, arith, Classes, Limits, bound_tree_of, AcceptsWithin, IsAccepted}
 use Rattle.pocsag_check.proofs.Tables.{one_table}
 use Rattle.pocsag_check.proofs.judging.check_tree.Goals as goal
 
@@ -18,9 +18,9 @@ returns c =
           },
       λ a.
           let same = one_table a.table k c.args.end c.args.round.now a.counted c.classes_of-classes.ensures.counted in
-          let accepted : IsAccepted c.args.takes_open k c.args.end c.args.batches (bound_of c.args.tree.now) =
-          subst (λ (j : Classes). IsAccepted c.args.takes_open j c.args.end c.args.batches (bound_of c.args.tree.now)) same a.accepted in
+          let accepted : IsAccepted c.args.takes_open k c.args.end c.args.batches (bound_tree_of c.args.tree.now) =
+          subst (λ (j : Classes). IsAccepted c.args.takes_open j c.args.end c.args.batches (bound_tree_of c.args.tree.now)) same a.accepted in
           c.check_node.ensures.1
-          (subst (λ (l : Limits). AcceptsWithin c.args.takes_open k c.args.end (c.args.batches - 1) l 300 (bound_of c.args.tree.now))
+          (subst (λ (l : Limits). AcceptsWithin c.args.takes_open k c.args.end (c.args.batches - 1) l 300 (bound_tree_of c.args.tree.now))
           (sym c.all_limits-limits.ensures.value) (accepted.shallow, accepted.root)),
     )

@@ -1,6 +1,6 @@
-use Rattle.pocsag_findings.proofs.Prelude.{◌≡◌, ℕ, ◌+◌, ◌++◌, List, Classes, End, Limits, Stated, arith, refl, sym, ap, ◌∙◌, true, length, bound_of-cut, bound_of-close, bound_of-split, count_of_bounds}
+use Rattle.pocsag_findings.proofs.Prelude.{◌≡◌, ℕ, ◌+◌, ◌++◌, List, Classes, End, Limits, Stated, arith, refl, sym, ap, ◌∙◌, true, length, bound_tree_of-cut, bound_tree_of-close, bound_tree_of-split, count_of_bounds}
 use Rattle.std.proofs.lemmas.Result.{on_ok_weaker}
-use Rattle.pocsag_tree.specs.Views.{bound_of}
+use Rattle.pocsag_tree.specs.Views.{bound_tree_of}
 use Rattle.pocsag_slots.specs.Ways.{limits_below, limits_from}
 use Rattle.pocsag_findings.specs.declared.finding.Reached.TheVariants.{Below, From}
 use Rattle.pocsag_findings.specs.Findings.{findings_within}
@@ -12,52 +12,52 @@ use Rattle.pocsag_findings.proofs.listing.+listing.Goals as goal
 pub put_node-below_split-low-requires-clause-class : goal.put_node-below_split-low-requires-clause-class
 put_node-below_split-low-requires-clause-class t c =
     (split_says c.args.inquiry.now.classes.now c.args.inquiry.now.end c.args.inquiry.now.batches c.args.place.now.limits _ _
-    (bound_of c.in-Split.below.value) (bound_of c.in-Split.from.value) _ _ _ c.fact_of-fact.ensures
-    (bound_of-split c.args.tree.now c.in-Split.class c.in-Split.m c.in-Split.below c.in-Split.from c.in-Split.is)
+    (bound_tree_of c.in-Split.below.value) (bound_tree_of c.in-Split.from.value) _ _ _ c.fact_of-fact.ensures
+    (bound_tree_of-split c.args.tree.now c.in-Split.class c.in-Split.m c.in-Split.below c.in-Split.from c.in-Split.is)
     c.in_ok-put_fact.ensures.holds c.if-not-branch.false).0
 
 pub put_node-below_split-low-requires-clause-above : goal.put_node-below_split-low-requires-clause-above
 put_node-below_split-low-requires-clause-above t c =
     rw c.from.ensures
     ((split_says c.args.inquiry.now.classes.now c.args.inquiry.now.end c.args.inquiry.now.batches c.args.place.now.limits _ _
-    (bound_of c.in-Split.below.value) (bound_of c.in-Split.from.value) _ _ _ c.fact_of-fact.ensures
-    (bound_of-split c.args.tree.now c.in-Split.class c.in-Split.m c.in-Split.below c.in-Split.from c.in-Split.is)
+    (bound_tree_of c.in-Split.below.value) (bound_tree_of c.in-Split.from.value) _ _ _ c.fact_of-fact.ensures
+    (bound_tree_of-split c.args.tree.now c.in-Split.class c.in-Split.m c.in-Split.below c.in-Split.from c.in-Split.is)
     c.in_ok-put_fact.ensures.holds c.if-not-branch.false).1)
 
 pub put_node-below_split-low-requires-clause-within : goal.put_node-below_split-low-requires-clause-within
 put_node-below_split-low-requires-clause-within t c =
     rw c.from.ensures
     ((split_says c.args.inquiry.now.classes.now c.args.inquiry.now.end c.args.inquiry.now.batches c.args.place.now.limits _ _
-    (bound_of c.in-Split.below.value) (bound_of c.in-Split.from.value) _ _ _ c.fact_of-fact.ensures
-    (bound_of-split c.args.tree.now c.in-Split.class c.in-Split.m c.in-Split.below c.in-Split.from c.in-Split.is)
+    (bound_tree_of c.in-Split.below.value) (bound_tree_of c.in-Split.from.value) _ _ _ c.fact_of-fact.ensures
+    (bound_tree_of-split c.args.tree.now c.in-Split.class c.in-Split.m c.in-Split.below c.in-Split.from c.in-Split.is)
     c.in_ok-put_fact.ensures.holds c.if-not-branch.false).2)
 
 pub put_node-from_split-high-requires-clause-class : goal.put_node-from_split-high-requires-clause-class
 put_node-from_split-high-requires-clause-class t c =
     (split_says c.args.inquiry.now.classes.now c.args.inquiry.now.end c.args.inquiry.now.batches c.args.place.now.limits _ _
-    (bound_of c.in-Split.below.value) (bound_of c.in-Split.from.value) _ _ _ c.fact_of-fact.ensures
-    (bound_of-split c.args.tree.now c.in-Split.class c.in-Split.m c.in-Split.below c.in-Split.from c.in-Split.is)
+    (bound_tree_of c.in-Split.below.value) (bound_tree_of c.in-Split.from.value) _ _ _ c.fact_of-fact.ensures
+    (bound_tree_of-split c.args.tree.now c.in-Split.class c.in-Split.m c.in-Split.below c.in-Split.from c.in-Split.is)
     c.in_ok-put_fact.ensures.holds c.if-not-branch.false).0
 
 pub put_node-from_split-high-requires-clause-above : goal.put_node-from_split-high-requires-clause-above
 put_node-from_split-high-requires-clause-above t c =
     rw c.from-in-Split.ensures
     ((split_says c.args.inquiry.now.classes.now c.args.inquiry.now.end c.args.inquiry.now.batches c.args.place.now.limits _ _
-    (bound_of c.in-Split.below.value) (bound_of c.in-Split.from.value) _ _ _ c.fact_of-fact.ensures
-    (bound_of-split c.args.tree.now c.in-Split.class c.in-Split.m c.in-Split.below c.in-Split.from c.in-Split.is)
+    (bound_tree_of c.in-Split.below.value) (bound_tree_of c.in-Split.from.value) _ _ _ c.fact_of-fact.ensures
+    (bound_tree_of-split c.args.tree.now c.in-Split.class c.in-Split.m c.in-Split.below c.in-Split.from c.in-Split.is)
     c.in_ok-put_fact.ensures.holds c.if-not-branch.false).1)
 
 pub put_node-from_split-high-requires-clause-within : goal.put_node-from_split-high-requires-clause-within
 put_node-from_split-high-requires-clause-within t c =
     rw c.from-in-Split.ensures
     ((split_says c.args.inquiry.now.classes.now c.args.inquiry.now.end c.args.inquiry.now.batches c.args.place.now.limits _ _
-    (bound_of c.in-Split.below.value) (bound_of c.in-Split.from.value) _ _ _ c.fact_of-fact.ensures
-    (bound_of-split c.args.tree.now c.in-Split.class c.in-Split.m c.in-Split.below c.in-Split.from c.in-Split.is)
+    (bound_tree_of c.in-Split.below.value) (bound_tree_of c.in-Split.from.value) _ _ _ c.fact_of-fact.ensures
+    (bound_tree_of-split c.args.tree.now c.in-Split.class c.in-Split.m c.in-Split.below c.in-Split.from c.in-Split.is)
     c.in_ok-put_fact.ensures.holds c.if-not-branch.false).2)
 
 pub put_node-put_each-requires : goal.put_node-put_each-requires
 put_node-put_each-requires t c =
-    let is = bound_of-cut c.args.tree.now c.in-Cut.set c.in-Cut.needed c.in-Cut.children c.in-Cut.is in
+    let is = bound_tree_of-cut c.args.tree.now c.in-Cut.set c.in-Cut.needed c.in-Cut.children c.in-Cut.is in
     let held : fact_holds c.args.inquiry.now.end c.args.inquiry.now.batches c.fact_of-fact.result ≡ true =
     sym c.in_ok-put_fact.ensures.holds ∙ c.if-not-branch.false in
     let says = held_cut c.args.inquiry.now.classes.now c.args.inquiry.now.end c.args.inquiry.now.batches c.args.place.now.limits _ _ _
@@ -81,7 +81,7 @@ put_node-put_each-requires t c =
 
 pub put_node-put_each-requires-in-Close : goal.put_node-put_each-requires-in-Close
 put_node-put_each-requires-in-Close t c =
-    let is = bound_of-close c.args.tree.now c.in-Close.children c.in-Close.is in
+    let is = bound_tree_of-close c.args.tree.now c.in-Close.children c.in-Close.is in
     let held : fact_holds c.args.inquiry.now.end c.args.inquiry.now.batches c.fact_of-fact.result ≡ true =
     sym c.in_ok-put_fact.ensures.holds ∙ c.if-not-branch.false in
     let says = held_close c.args.inquiry.now.classes.now c.args.inquiry.now.end c.args.inquiry.now.batches c.args.place.now.limits _
@@ -105,24 +105,24 @@ put_node-put_each-requires-in-Close t c =
 
 pub put_node-returns-in-Cut : goal.put_node-returns-in-Cut
 put_node-returns-in-Cut t c =
-    let is = bound_of-cut c.args.tree.now c.in-Cut.set c.in-Cut.needed c.in-Cut.children c.in-Cut.is in
+    let is = bound_tree_of-cut c.args.tree.now c.in-Cut.set c.in-Cut.needed c.in-Cut.children c.in-Cut.is in
     let held : fact_holds c.args.inquiry.now.end c.args.inquiry.now.batches c.fact_of-fact.result ≡ true =
     sym c.in_ok-put_fact.ensures.holds ∙ c.if-not-branch.false in
     on_ok_weaker c.put_each.result
     (λ all. held_node c.args.inquiry.now.classes.now c.args.inquiry.now.end c.args.inquiry.now.batches c.args.inquiry.now.depth
-    c.args.place.now.limits c.args.place.now.above c.args.place.now.reached (bound_of c.args.tree.now) _ _ _ _ _ _ (omega arith)
+    c.args.place.now.limits c.args.place.now.above c.args.place.now.reached (bound_tree_of c.args.tree.now) _ _ _ _ _ _ (omega arith)
     c.fact_of-fact.ensures c.in_ok-shares.ensures held c.in_ok-put_fact.ensures.put all
     (rw (is, c.as_slice.ensures.value, c.ways-out.ensures.items, c.deref-in-Cut.ensures.value) refl))
     c.put_each.ensures
 
 pub put_node-returns-in-Close : goal.put_node-returns-in-Close
 put_node-returns-in-Close t c =
-    let is = bound_of-close c.args.tree.now c.in-Close.children c.in-Close.is in
+    let is = bound_tree_of-close c.args.tree.now c.in-Close.children c.in-Close.is in
     let held : fact_holds c.args.inquiry.now.end c.args.inquiry.now.batches c.fact_of-fact.result ≡ true =
     sym c.in_ok-put_fact.ensures.holds ∙ c.if-not-branch.false in
     on_ok_weaker c.put_each-in-Close.result
     (λ all. held_node c.args.inquiry.now.classes.now c.args.inquiry.now.end c.args.inquiry.now.batches c.args.inquiry.now.depth
-    c.args.place.now.limits c.args.place.now.above c.args.place.now.reached (bound_of c.args.tree.now) _ _ _ _ _ _ (omega arith)
+    c.args.place.now.limits c.args.place.now.above c.args.place.now.reached (bound_tree_of c.args.tree.now) _ _ _ _ _ _ (omega arith)
     c.fact_of-fact.ensures c.in_ok-shares.ensures held c.in_ok-put_fact.ensures.put all
     (rw (is, c.as_slice-in-Close.ensures.value, c.closing_ways-out.ensures.items, c.deref-in-Close.ensures.value) refl))
     c.put_each-in-Close.ensures
@@ -135,19 +135,19 @@ put_node-returns-in_ok-put_node-in-Split t c =
     let depth : ℕ = c.args.inquiry.now.depth in
     let l : Limits = c.args.place.now.limits in
     let above : ℕ = c.args.place.now.above in
-    let is = bound_of-split c.args.tree.now c.in-Split.class c.in-Split.m c.in-Split.below c.in-Split.from c.in-Split.is in
+    let is = bound_tree_of-split c.args.tree.now c.in-Split.class c.in-Split.m c.in-Split.below c.in-Split.from c.in-Split.is in
     let held : fact_holds end b c.fact_of-fact.result ≡ true = sym c.in_ok-put_fact.ensures.holds ∙ c.if-not-branch.false in
     let low : List Stated =
-    findings_within k end b depth (limits_below l c.in-Split.class c.in-Split.m) (above + 1) Below (bound_of c.in-Split.below.value) in
+    findings_within k end b depth (limits_below l c.in-Split.class c.in-Split.m) (above + 1) Below (bound_tree_of c.in-Split.below.value) in
     let high : List Stated =
-    findings_within k end b depth (limits_from l c.in-Split.class c.in-Split.m) (above + 1) From (bound_of c.in-Split.from.value) in
+    findings_within k end b depth (limits_from l c.in-Split.class c.in-Split.m) (above + 1) From (bound_tree_of c.in-Split.from.value) in
     let first : all_stated c.put_node.new.found.items ≡ all_stated c.put_fact.new.found.items ++ low =
     rw (c.child.ensures, c.deref.ensures, c.below_split-low.ensures.value, c.from.ensures) at c.in_ok-put_node-in-Split.ensures in
     on_ok_weaker c.put_node-in-Split.result
     (λ all.
     let second : all_stated c.put_node-in-Split.new.found.items ≡ all_stated c.put_node.new.found.items ++ high =
     rw (c.child-in-Split.ensures, c.deref-in-Split.ensures, c.from_split-high.ensures.value, c.from-in-Split.ensures) at all in
-    held_node k end b depth l above c.args.place.now.reached (bound_of c.args.tree.now) _ _ (low ++ high) _ _ _ (omega arith)
+    held_node k end b depth l above c.args.place.now.reached (bound_tree_of c.args.tree.now) _ _ (low ++ high) _ _ _ (omega arith)
     c.fact_of-fact.ensures c.in_ok-shares.ensures held c.in_ok-put_fact.ensures.put (two_more _ low high _ _ first second)
     (rw is refl))
     c.put_node-in-Split.ensures

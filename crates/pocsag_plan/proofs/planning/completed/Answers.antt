@@ -2,7 +2,7 @@ use Rattle.std.proofs.Common.{ℕ, ◌*◌, ◌≤◌, false, List, length, refl
 use Rattle.pocsag_pages.proofs.GoodPages.{apart_pages}
 use Rattle.pocsag_slots.specs.declared.step.Step.{Step}
 use Rattle.pocsag_slots.specs.Tours.{IsTourFor}
-use Rattle.pocsag_tree.specs.Views.{bound_of}
+use Rattle.pocsag_tree.specs.Views.{bound_tree_of}
 use Rattle.pocsag_batch.specs.Placing.{IsOrder}
 use Rattle.pocsag_check.proofs.Bounding.{admitted_all}
 use Rattle.pocsag_plan.proofs.Completing.{found_room, most, nodes_few, some_batch, tour_for}
@@ -30,7 +30,7 @@ returns-clause-plan c =
     (some_batch k end limit bound found is) c.pages.ensures.round counted is.tour in
     let room = found_room end R found c.pages.ensures.round sent.0 sent.2 in
     let few = nodes_few k end limit bound found is c.requires.limited
-    (c.accepted_trees_have_texts.ensures.closed k end bound (bound_of found.tree) is.accepted) in
+    (c.accepted_trees_have_texts.ensures.closed k end bound (bound_tree_of found.tree) is.accepted) in
     record {
       asked = refl;
       pages = ap length c.pages.ensures.pages;
@@ -49,5 +49,5 @@ returns-clause-plan c =
       at_least = at_least;
       within_one = is.within_one;
       accepted = record { table = k; counted = counted; accepted = is.accepted };
-      text = c.accepted_trees_have_texts.ensures.text false k end bound (bound_of found.tree) is.accepted (omega arith) few;
+      text = c.accepted_trees_have_texts.ensures.text false k end bound (bound_tree_of found.tree) is.accepted (omega arith) few;
     }

@@ -1,5 +1,5 @@
 use Rattle.pocsag_tree.proofs.Prelude.{◌≡◌, ◌+◌, ◌≤◌, drop, min, greatest_count, bounds_of}
-use Rattle.pocsag_tree.specs.Bounds.{closed_nodes_in}
+use Rattle.pocsag_tree.specs.BoundTrees.{closed_nodes_in}
 use Rattle.pocsag_tree.proofs.counting.+nodes.Given as goal
 
 -- the sum so far and the nodes of the trees that are left are the nodes of all the trees

@@ -1,4 +1,4 @@
-use Rattle.pocsag_tree.proofs.Prelude.{◌≡◌, ◌∷◌, [], ◌++◌, ◌≤◌, ℕ, List, length, map, refl, arith, err_from_is_err_and, all_nodes_in, deepest, bound_of, bounds_of, but_last, node_at}
+use Rattle.pocsag_tree.proofs.Prelude.{◌≡◌, ◌∷◌, [], ◌++◌, ◌≤◌, ℕ, List, length, map, refl, arith, err_from_is_err_and, all_nodes_in, deepest, bound_tree_of, bounds_of, but_last, node_at}
 use Rattle.std.proofs.Common.{rules}
 use Rattle.std.proofs.lemmas.List.{map_push}
 use Rattle.pocsag_tree.specs.declared.refusals.CertificateFault.TheVariants as fault
@@ -28,7 +28,7 @@ row-returns-in_err-child-clause-reads g t c = λ tells.
       shrinks = omega (arith, child.shrinks, c.loop.invariant.shrinks tells);
       bytes = λ k le.
           let longer : k ≤ length (g.S.Source.held c.loop.source) = omega (arith, le, child.shrinks) in
-          rw (p.1, p.2) (row_ends c.in_err-child.field-0.0 _ _ (map bound_of c.loop.children.items) c.args.count c.loop.counter
+          rw (p.1, p.2) (row_ends c.in_err-child.field-0.0 _ _ (map bound_tree_of c.loop.children.items) c.args.count c.loop.counter
           c.loop.reached _ _ c.loop-test.true (child.bytes k le) (c.loop.invariant.bytes tells k longer));
     }
 
@@ -53,7 +53,7 @@ row-loop-preserved g t c =
     let so_far = c.loop.invariant.counts in
     let more = c.in_ok-child.ensures.counts in
     let items = c.push_reserved.ensures.items in
-    let seen : map bound_of c.push_reserved.new.self.items ≡ map bound_of c.loop.children.items ++ bound_of child ∷ [] =
+    let seen : map bound_tree_of c.push_reserved.new.self.items ≡ map bound_tree_of c.loop.children.items ++ bound_tree_of child ∷ [] =
     rw items (map_push _ c.loop.children.items child) in
     let counted : all_nodes_in (bounds_of c.push_reserved.new.self.items) ≡ all_nodes_in (bounds_of (c.loop.children.items ++ child ∷ [])) =
     rw items in
@@ -71,14 +71,14 @@ row-loop-preserved g t c =
       bytes = λ tells k le.
           let read = c.in_ok-child.ensures.reads tells in
           let longer : k ≤ length (g.S.Source.held c.loop.source) = omega (arith, le, read.shrinks) in
-          rw seen (row_goes_on _ (map bound_of c.loop.children.items) c.args.count c.loop.counter c.loop.reached _ (bound_of child)
+          rw seen (row_goes_on _ (map bound_tree_of c.loop.children.items) c.args.count c.loop.counter c.loop.reached _ (bound_tree_of child)
           c.in_ok-child.after _ _ c.loop-test.true (read.bytes k le) (c.loop.invariant.bytes tells k longer));
     }
 
 pub row-returns-clause-reads : goal.row-returns-clause-reads
 row-returns-clause-reads g t c = λ tells. record {
   shrinks = c.loop.invariant.shrinks tells;
-  bytes = λ k le. row_is_done _ (map bound_of c.loop.children.items) c.args.count c.loop.counter c.loop.reached _ _ c.loop-test.false
+  bytes = λ k le. row_is_done _ (map bound_tree_of c.loop.children.items) c.args.count c.loop.counter c.loop.reached _ _ c.loop-test.false
       (c.loop.invariant.bytes tells k le);
 }
 

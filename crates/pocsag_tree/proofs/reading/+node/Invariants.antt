@@ -1,4 +1,4 @@
-use Rattle.pocsag_tree.proofs.Prelude.{◌≡◌, ◌+◌, ◌-◌, ◌*◌, ◌≤◌, ℕ, length, map, bound_of, bounds_of, but_last, row_at, node_at}
+use Rattle.pocsag_tree.proofs.Prelude.{◌≡◌, ◌+◌, ◌-◌, ◌*◌, ◌≤◌, ℕ, length, map, bound_tree_of, bounds_of, but_last, row_at, node_at}
 use Rattle.std.proofs.Common.{vec_len, vec_capacity}
 use Rattle.pocsag_tree.specs.Reading.{IsRowRead}
 use Rattle.pocsag_tree.proofs.Rows.{with_front}
@@ -34,7 +34,7 @@ invariant-row-loop g l = record {
   failures : g.S.Source.failures l.source ≡ g.S.Source.failures l.fn.source;
   shrinks : g.S.Source.tells → length (g.S.Source.held l.source) ≤ length (g.S.Source.held l.fn.source);
   bytes : g.S.Source.tells → (k : ℕ) → k ≤ length (g.S.Source.held l.source) →
-      with_front (map bound_of l.children.items)
+      with_front (map bound_tree_of l.children.items)
       (row_at (node_at l.builder.ranges l.depth) (l.count - l.counter) l.reached (but_last k (g.S.Source.held l.source)))
       ≡ row_at (node_at l.builder.ranges l.depth) l.count l.made (but_last k (g.S.Source.held l.fn.source));
 }

@@ -1,5 +1,5 @@
 use Rattle.pocsag_tree.proofs.Prelude.{refl, arith, drop, second_ranges, cut, close, bounds_of, IsInRange, row}
-use Rattle.pocsag_tree.proofs.Counts.{count_of_bounds, bound_of-cut, bound_of-close, split_text, cut_text, close_text, row-drop}
+use Rattle.pocsag_tree.proofs.Counts.{count_of_bounds, bound_tree_of-cut, bound_tree_of-close, split_text, cut_text, close_text, row-drop}
 use Rattle.pocsag_tree.proofs.Taken.{took_first, took_then, took_left, delivers_then, stopped}
 use Rattle.pocsag_tree.proofs.writing.+written.Goals as goal
 
@@ -31,7 +31,7 @@ write_node-returns-in_ok-write_node-in-Split-clause-delivers g t c = λ tells.
 
 pub write_node-write_cut_head-requires : goal.write_node-write_cut_head-requires
 write_node-write_cut_head-requires g t c =
-    let is = bound_of-cut c.args.tree.now c.in-Cut.set c.in-Cut.needed c.in-Cut.children c.in-Cut.is in
+    let is = bound_tree_of-cut c.args.tree.now c.in-Cut.set c.in-Cut.needed c.in-Cut.children c.in-Cut.is in
     let in_range : IsInRange second_ranges (cut c.in-Cut.set c.in-Cut.needed (bounds_of c.in-Cut.children.items)) = rw is at c.requires in
     omega (arith, in_range.3, count_of_bounds c.in-Cut.children.items, c.in-Cut.children.ok.0, c.len.ensures)
 
@@ -53,7 +53,7 @@ write_node-returns-in_ok-write_cut_head-in-Cut-clause-delivers g t c = λ tells.
 
 pub write_node-write_close_head-requires : goal.write_node-write_close_head-requires
 write_node-write_close_head-requires g t c =
-    let is = bound_of-close c.args.tree.now c.in-Close.children c.in-Close.is in
+    let is = bound_tree_of-close c.args.tree.now c.in-Close.children c.in-Close.is in
     let in_range : IsInRange second_ranges (close (bounds_of c.in-Close.children.items)) = rw is at c.requires in
     omega (arith, in_range.2, count_of_bounds c.in-Close.children.items, c.in-Close.children.ok.0, c.len-in-Close.ensures)
 
