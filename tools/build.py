@@ -166,7 +166,7 @@ def build_program(crates):
     held = lock_file()
     if os.access(BINARY, os.X_OK) and read_built()[1] == total:
         return
-    say("proving and building once: some 16 minutes on four processors, 2 GB of memory for each of them, 6 GB of disk")
+    say("proving and building once: 15 to 30 minutes on four processors, 2 GB of memory for each of them, 6 GB of disk")
     run([proof(wanted, crate) for crate in wanted.values()], wanted)
     if not os.access(BINARY, os.X_OK):
         raise Refused(f"'rt run' left no program in {BINARY.parent.relative_to(TOP)}")
