@@ -73,7 +73,7 @@ impl Error for DecodeFault {}
 pub enum ListFault {
     /// The writer did not take the listing whole; what it took is a prefix of it.
     WriteFault,
-    /// Nothing was written.
+    /// A growth was refused. `list` wrote nothing; what is listed as it is read may have been written in part.
     OutOfMemory,
 }
 
