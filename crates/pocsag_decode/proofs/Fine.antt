@@ -3,7 +3,7 @@ use Rattle.std.proofs.Common.{◌≡◌, ◌≢◌, ℕ, zero, suc, ◌+◌, ◌
 use Rattle.std.specs.Prelude.{Result, Ok, Err, MatchResult}
 use Rattle.std.specs.Int.{from_be_bytes, w32}
 use Rattle.std.proofs.lemmas.Bool.{true≢false}
-use Rattle.std.proofs.lemmas.List.{append-nil, length-append, length-drop, length-map, length-take, length-take-le, length_push, map-append, take-append-drop}
+use Rattle.std.proofs.lemmas.List.{append-nil, length-append, length-drop, length-map, length-take, length-take-le, length_push, map-append, take-append-drop, take_more}
 use Rattle.pocsag_words.specs.Codeword.{IsCodeword}
 use Rattle.pocsag_words.specs.Kinds.{idle_word, kind_of}
 use Rattle.pocsag_words.proofs.KindLemmas.{IsCodeword-idle}
@@ -102,6 +102,27 @@ module _ (place at i : ℕ) (may now : Bool) (chunks : List (List ℕ)) (w : ℕ
       subst (JudgesMore next place may) (sym (one_more_word chunks i w within is))
       (fine_then place at may now (map number (take i chunks)) (w ∷ []) next
       (let l = length-map (take i chunks) number in let t = length-take-le i chunks (omega arith) in omega arith) so_far step)
+
+-- the same of words that stand in a list
+module _ (place at i : ℕ) (may now : Bool) (ws : List ℕ) (w : ℕ) (next : Result Bool DecodeFault) (here : at ≡ place + i)
+    (within : i < length ws) (is : w ≡ get_or ws i 0) (so_far : JudgesMore (Ok now) place may (take i ws))
+    (step : JudgesMore next at now (w ∷ [])) where
+  pub one_judged : JudgesMore next place may (take (i + 1) ws)
+  one_judged =
+      subst (JudgesMore next place may) (ap (λ (v : ℕ). take i ws ++ v ∷ []) is ∙ sym (take_more ws i 0 within))
+      (fine_then place at may now (take i ws) (w ∷ []) next (let t = length-take-le i ws (omega arith) in omega arith) so_far step)
+
+pub bad_within : (place i : ℕ) (may : Bool) (ws : List ℕ) (e : DecodeFault) → JudgesMore (Err e) place may (take i ws)
+    → JudgesMore (Err e) place may ws
+bad_within place i may ws e f =
+    subst (JudgesMore (Err e) place may) (take-append-drop i ws) (bad_then place may (take i ws) (drop i ws) e f)
+
+-- a synchronisation codeword and what follows it
+pub fine_after_sync : (place : ℕ) (may : Bool) (w : ℕ) (ws all : List ℕ) (next : Result Bool DecodeFault) → place % 17 ≡ 0
+    → w ≡ sync_word → all ≡ w ∷ ws → JudgesMore next (place + 1) may ws → JudgesMore next place may all
+fine_after_sync place may w ws all next s e is f =
+    subst (JudgesMore next place may) (sym is)
+    (fine_then place (place + 1) may may (w ∷ []) ws next refl (fine_sync place may w s e) f)
 
 pub bad_among : (place i : ℕ) (may : Bool) (chunks : List (List ℕ)) (e : DecodeFault) → JudgesMore (Err e) place may (map number (take i chunks))
     → JudgesMore (Err e) place may (map number chunks)

@@ -1,5 +1,6 @@
 //! The first fault of a transmission.
-ghost use Rattle.std.specs.Prelude.{◌≡◌, List, ◌∷◌, [], ◌+◌, ◌-◌, ◌*◌, ◌/◌, ◌%◌, ◌^◌, ◌<◌, false, length, IfErr, MatchResult, OnOk};
+ghost use Rattle.std.specs.Prelude.{◌≡◌, List, ◌∷◌, [], ◌+◌, ◌-◌, ◌*◌, ◌/◌, ◌%◌, ◌^◌, ◌<◌, ◌≤◌, All, IsTrue, false, length, IfErr, MatchResult, OnOk};
+ghost use Rattle.pocsag_words.specs.Codeword.{IsCodeword};
 ghost use Rattle.pocsag_pages.specs.declared.page.Page.{Page};
 ghost use Rattle.pocsag_pages.specs.Bytes.{words_of};
 ghost use Rattle.pocsag_decode.specs.Faults.{HasFault, ReadsAs};
@@ -7,11 +8,19 @@ ghost use Rattle.pocsag_decode.specs.Judging.{JudgesMore};
 ghost use Rattle.pocsag_decode.specs.Places.{AllMayStand, HasBadWord, index_at};
 
 use crate::fault::DecodeFault;
+use crate::lister::kind_of_number;
 use pocsag_pages::leading_len;
-use pocsag_words::{BATCH_BYTES, BATCH_WORDS, Kind, PREAMBLE_BYTES, SYNC_WORD, from_raw};
+use pocsag_words::{
+    BATCH_BYTES, BATCH_WORDS, Kind, PREAMBLE_BYTES, SYNC_WORD, check_all, from_raw,
+};
 
 // The words of a batch, its synchronisation codeword among them.
 const BATCH: u64 = BATCH_WORDS as u64;
+
+const WORDS: usize = BATCH_WORDS as usize;
+
+// The codewords of a batch.
+const CODEWORDS: usize = 16;
 
 // The bytes of a batch of idle codewords.
 pub(crate) const IDLE_BATCH: [u8; 68] = [
@@ -30,15 +39,14 @@ fn index_at(place: u64) -> u64
     place - place / BATCH - 1
 }
 
-// Judges the word at the place of a codeword.
-fn judge_codeword(place: u64, may: bool, number: u32) -> Result<bool, DecodeFault>
-    requires { 0 < place % 17 }
-    ensures { JudgesMore result place may (number ∷ []) }
+// Judges a codeword at its place by what it says.
+#[inline(always)]
+fn judge_kind(place: u64, may: bool, codeword: u32) -> Result<bool, DecodeFault>
+    requires other { 0 < place % 17 }
+    requires codeword { IsCodeword codeword }
+    ensures { JudgesMore result place may (codeword ∷ []) }
 {
-    let Some(word) = from_raw(number) else {
-        return Err(DecodeFault::BadWord(index_at(place)));
-    };
-    match word.kind() {
+    match kind_of_number(codeword) {
         Kind::Idle => Ok(false),
         Kind::Address {
             high: _,
@@ -47,6 +55,17 @@ fn judge_codeword(place: u64, may: bool, number: u32) -> Result<bool, DecodeFaul
         Kind::Message(_) if may => Ok(true),
         Kind::Message(_) => Err(DecodeFault::Orphan(index_at(place))),
     }
+}
+
+// Judges the word at the place of a codeword.
+fn judge_codeword(place: u64, may: bool, number: u32) -> Result<bool, DecodeFault>
+    requires { 0 < place % 17 }
+    ensures { JudgesMore result place may (number ∷ []) }
+{
+    let Some(_) = from_raw(number) else {
+        return Err(DecodeFault::BadWord(index_at(place)));
+    };
+    judge_kind(place, may, number)
 }
 
 // Judges the word at a place, where a message codeword may follow or not.
@@ -78,7 +97,53 @@ fn judge_words(place: u64, may: bool, bytes: &[u8]) -> Result<bool, DecodeFault>
     Ok(may)
 }
 
-// Judges the words of a batch.
+// The words of a batch.
+#[inline(always)]
+fn words_in(batch: &[u8]) -> [u32; WORDS]
+    requires { length batch.now ≡ 68 }
+    ensures { result ≡ words_of batch.now }
+{
+    let (words, _) = batch.as_chunks::<4>();
+    let mut numbers = [0; WORDS];
+    for i in 0..WORDS {
+        numbers[i] = u32::from_be_bytes(words[i]);
+    }
+    numbers
+}
+
+// Whether all of these numbers, as many as the codewords of a batch, are codewords.
+fn are_codewords(numbers: &[u32]) -> bool
+    requires { length numbers.now ≡ 16 }
+    ensures { IsTrue result → All IsCodeword numbers.now }
+{
+    let mut flags = [false; CODEWORDS];
+    check_all(numbers, &mut flags);
+    for i in 0..CODEWORDS {
+        if !flags[i] {
+            return false;
+        }
+    }
+    true
+}
+
+// Judges codewords of one batch by what they say, the first of them at this place.
+fn judge_kinds(place: u64, may: bool, codewords: &[u32]) -> Result<bool, DecodeFault>
+    requires codewords { All IsCodeword codewords.now }
+    requires first { place % 17 ≡ 1 }
+    requires few { length codewords.now ≤ 16 }
+    requires small { place + 16 < 2 ^ 64 }
+    ensures { JudgesMore result place may codewords.now }
+{
+    let mut place = place;
+    let mut may = may;
+    for codeword in codewords {
+        may = judge_kind(place, may, *codeword)?;
+        place += 1;
+    }
+    Ok(may)
+}
+
+// Judges the words of a batch: where all codewords are such, each by what it says alone.
 fn judge_batch(place: u64, may: bool, batch: &[u8]) -> Result<bool, DecodeFault>
     requires long { length batch.now ≡ 68 }
     requires first { place % 17 ≡ 0 }
@@ -88,7 +153,12 @@ fn judge_batch(place: u64, may: bool, batch: &[u8]) -> Result<bool, DecodeFault>
     if batch == IDLE_BATCH.as_slice() {
         return Ok(false);
     }
-    judge_words(place, may, batch)
+    let words = words_in(batch);
+    let codewords = &words[1..];
+    if words[0] != SYNC_WORD || !are_codewords(codewords) {
+        return judge_words(place, may, batch);
+    }
+    judge_kinds(place + 1, may, codewords)
 }
 
 // Judges all whole words after the preamble.

@@ -32,7 +32,8 @@ const MESSAGE_DATA: u32 = 0x10_0000;
 const IDLE_NUMBER: u32 = 0x7A89_C197;
 
 // What a number says as a codeword.
-fn kind_of_number(number: u32) -> Kind
+#[inline(always)]
+pub(crate) fn kind_of_number(number: u32) -> Kind
     ensures kind { result ≡ kind_of number }
     ensures ranges { IsInRange result }
 {

@@ -1,31 +1,5 @@
-use Rattle.std.proofs.Common.{◌∙◌, ap, sym}
-use Rattle.std.proofs.lemmas.Bool.{true≢false}
-use Rattle.pocsag_words.specs.Kinds.{kind_of}
-use Rattle.pocsag_words.specs.declared.codeword.Kind.TheVariants.{Idle, Address, Message}
-use Rattle.pocsag_decode.specs.Places.{is_message}
-use Rattle.pocsag_decode.proofs.Fine.{fine_kind, no_page, not_codeword}
+use Rattle.pocsag_decode.proofs.Fine.{not_codeword}
 use Rattle.pocsag_decode.proofs.judging.judge_codeword.Goals as goal
 
 pub returns-in_default : goal.returns-in_default
 returns-in_default c = λ ws h. rw c.index_at.ensures (not_codeword c.args.place c.args.may c.args.number c.requires c.in_default.ensures ws h)
-
-pub returns-in-Idle : goal.returns-in-Idle
-returns-in-Idle c =
-    fine_kind c.args.place c.args.may c.args.number c.requires c.in-Some.ensures.0 Idle
-    (c.in-Idle.ensures.kind ∙ ap kind_of c.in-Some.ensures.1) (λ m. absurd (true≢false (sym m)))
-
-pub returns-in-Address : goal.returns-in-Address
-returns-in-Address c =
-    fine_kind c.args.place c.args.may c.args.number c.requires c.in-Some.ensures.0 (Address c.in-Address.high c.in-Address.function)
-    (c.in-Address.ensures.kind ∙ ap kind_of c.in-Some.ensures.1) (λ m. absurd (true≢false (sym m)))
-
-pub returns-in-Message : goal.returns-in-Message
-returns-in-Message c =
-    fine_kind c.args.place c.args.may c.args.number c.requires c.in-Some.ensures.0 (Message c.in-Message.field-0)
-    (c.in-Message.ensures.kind ∙ ap kind_of c.in-Some.ensures.1) (λ m. c.if-may.true)
-
-pub returns-in-Message-2 : goal.returns-in-Message-2
-returns-in-Message-2 c = λ ws h.
-    rw c.index_at-in-Message-2.ensures
-    (no_page c.args.place c.args.may c.args.number c.requires c.in-Some.ensures.0
-    (sym (ap is_message (c.in-Message.ensures.kind ∙ ap kind_of c.in-Some.ensures.1))) c.if-may.false ws h)
