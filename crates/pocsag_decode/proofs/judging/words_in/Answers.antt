@@ -1,4 +1,4 @@
-use Rattle.std.proofs.Common.{◌≡◌, ◌/◌, length, map, take, refl, sym, ap, ◌∙◌, arith}
+use Rattle.std.proofs.Common.{◌≡◌, ◌/◌, length, map, refl, sym, ap, ◌∙◌, arith}
 use Rattle.std.specs.Int.{from_be_bytes, w32}
 use Rattle.std.proofs.lemmas.List.{take_all}
 use Rattle.pocsag_pager.proofs.WholeWords.{chunk_words}
