@@ -10,6 +10,7 @@ import tempfile
 import time
 
 MEMORY = 2_000_000_000  # what a proof of a crate takes, in bytes
+MOST = 4  # the most jobs of a task: more gain nothing, since a proof loads and ends with one
 
 
 @dataclasses.dataclass
@@ -77,6 +78,11 @@ class Lanes:
         found = [task for task in left if all(it in self.done or it not in self.tasks for it in task.waits)]
         return sorted(found, key=lambda task: -self.behind[task.name])
 
+    def least(self, task):
+        """The jobs that a task gets even where fewer lanes are idle: all it can use where nothing that is left has a longer chain."""
+        longest = max(self.behind[name] for name in self.tasks if name not in self.done)
+        return MOST if self.behind[task.name] == longest else task.least
+
     def begin(self, task, jobs):
         log = tempfile.TemporaryFile("w+", errors="replace")
         how = {"cwd": task.folder, "stdin": subprocess.DEVNULL, "stdout": log, "stderr": subprocess.STDOUT}
@@ -93,7 +99,7 @@ class Lanes:
             if idle <= 0 or len(self.running) >= self.room:
                 return
             shared = -(-idle // (len(ready) - at))
-            self.begin(task, max(min(task.least, self.lanes), min(4, shared)))
+            self.begin(task, max(min(self.least(task), self.lanes), min(MOST, shared)))
 
     def end_some(self):
         """Takes out the tasks that have ended; gives the name and the text of one that failed."""

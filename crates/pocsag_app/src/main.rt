@@ -7,8 +7,9 @@ mod obeying;
 use crate::obeying::obey;
 use clap::Error;
 use clap::error::ErrorKind;
-use pocsag_commands::{Fault, Role, Watch, WriterSink, tell_fault};
+use pocsag_faults::{Fault, tell_fault};
 use pocsag_line::asked_of;
+use pocsag_notes::{Role, Watch, WriterSink};
 use pocsag_words::Sink;
 use std::alloc::Global;
 use std::env;
@@ -39,12 +40,12 @@ fn run(rt: &HostRuntime) -> u8 {
     };
     match asked_of(alloc, words.as_slice()) {
         Ok(asked) => obey(rt, alloc, asked, &mut err),
-        Err(error) => refuse(rt, &error, &mut err),
+        Err(error) => tell_clap_error(rt, &error, &mut err),
     }
 }
 
 // What clap refuses is a mistake in the words, its help is what was asked for.
-fn refuse<E: Sink>(rt: &HostRuntime, error: &Error, err: &mut E) -> u8 {
+fn tell_clap_error<E: Sink>(rt: &HostRuntime, error: &Error, err: &mut E) -> u8 {
     if error.kind() == ErrorKind::OutOfMemory {
         return tell_fault(err, Fault::OutOfMemory);
     }

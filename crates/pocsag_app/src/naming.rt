@@ -1,5 +1,5 @@
-use pocsag_commands::{Names, RepairNotes, Role};
 use pocsag_line::{Order, STANDARD};
+use pocsag_notes::{Names, RepairNotes, Role};
 
 /// The words for the files of a command.
 pub fn names_in(order: Order<'_>) -> Names<'_> {

@@ -1,14 +1,15 @@
 use crate::naming::{names_in, repair_in, subject_of};
 use pocsag_commands::{
-    Fault, ReaderSource, RepairNotes, Role, Scene, Watch, expected_file, run_check, run_decode,
-    run_hear, run_input, run_report, run_show, tell, tell_explained, tell_fault,
+    expected_file, run_check, run_decode, run_hear, run_input, run_report, run_show,
 };
 use pocsag_explain::{run_explain, run_frames};
+use pocsag_faults::{Fault, tell, tell_fault};
 use pocsag_files::{Desk, open_buffered, open_source};
 use pocsag_findings::Telling;
 use pocsag_line::{Asked, Order, STANDARD, SearchOrder};
+use pocsag_notes::{ReaderSource, RepairNotes, Role, Scene, Watch, tell_explained};
 use pocsag_open::{Planner, run_open, run_open_pages};
-use pocsag_orders::{RoundFiles, open_kept, plan};
+use pocsag_orders::{RoundFiles, open_kept, write_plan};
 use pocsag_show::View;
 use pocsag_words::{Sink, SliceSource, Source};
 use std::alloc::Global;
@@ -64,7 +65,7 @@ fn tell_scene<E: Sink>(desk: Desk<'_>, order: Order<'_>, done: Result<u8, Fault>
 fn obeyed(desk: Desk<'_>, order: Order<'_>) -> Result<u8, Fault> {
     match order {
         Order::Input => status_of(plan_input(desk)),
-        Order::Plan(order) => plan(desk, order),
+        Order::Plan(order) => write_plan(desk, order),
         Order::Check { pages, cert } => judge_paths(desk, None, pages, cert),
         Order::Explain {
             pages,

@@ -4,7 +4,7 @@ use Rattle.pocsag_words.specs.declared.ending.End.{End}
 use Rattle.pocsag_words.specs.declared.ending.End.TheVariants as ends
 use Rattle.pocsag_commands.specs.Commands.{Checked}
 use Rattle.pocsag_commands.specs.Judging.{IsNotShown}
-use Rattle.pocsag_commands.specs.declared.fault.Fault.{Fault}
+use Rattle.pocsag_faults.specs.declared.fault.Fault.{Fault}
 use Rattle.pocsag_c.specs.declared.checking.CheckInfo.{CheckInfo}
 use Rattle.pocsag_c.specs.declared.refusal.Place.{Place}
 use Rattle.pocsag_c.specs.Statuses.{refusal_of}

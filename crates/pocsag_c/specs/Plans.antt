@@ -12,8 +12,8 @@ use Rattle.pocsag_plan.specs.Headline.{Headline}
 use Rattle.pocsag_plan.specs.Streams.{ExplainsStream}
 use Rattle.pocsag_plan.specs.declared.fault.StreamFault.{StreamFault}
 use Rattle.pocsag_plan.specs.declared.search.Effort.{Effort}
-use Rattle.pocsag_commands.specs.declared.fault.Fault.{Fault}
-use Rattle.pocsag_commands.specs.Faults.{fault_of_stream}
+use Rattle.pocsag_faults.specs.declared.fault.Fault.{Fault}
+use Rattle.pocsag_faults.specs.Faults.{fault_of_stream}
 use Rattle.pocsag_c.specs.Answers.{IsDelivered, number_of_end}
 use Rattle.pocsag_c.specs.declared.planning.PlanInfo.{PlanInfo}
 

@@ -3,8 +3,8 @@ use Rattle.std.specs.Prelude.{◌≡◌, ℕ, List}
 use Rattle.pocsag_plan.specs.declared.search.Search.{Search}
 use Rattle.pocsag_commands.specs.Reporting.{ExplainsReporting, IsReportOf}
 use Rattle.pocsag_commands.specs.declared.commands.BoundedReport.{BoundedReport}
-use Rattle.pocsag_commands.specs.declared.fault.Fault.{Fault}
-use Rattle.pocsag_commands.specs.declared.fault.Fault.TheVariants as fault
+use Rattle.pocsag_faults.specs.declared.fault.Fault.{Fault}
+use Rattle.pocsag_faults.specs.declared.fault.Fault.TheVariants as fault
 use Rattle.pocsag_c.specs.Answers.{number_of_end}
 use Rattle.pocsag_c.specs.declared.reporting.ReportInfo.{ReportInfo}
 

@@ -8,26 +8,26 @@ use Rattle.pocsag_decode.specs.declared.fault.DecodeFault.{DecodeFault}
 use Rattle.pocsag_decode.specs.declared.fault.DecodeFault.TheVariants as decoding
 use Rattle.pocsag_pager.specs.declared.fault.PagerFault.{PagerFault}
 use Rattle.pocsag_pager.specs.declared.fault.PagerFault.TheVariants as hearing
-use Rattle.pocsag_commands.specs.declared.fault.Fault.{Fault}
-use Rattle.pocsag_commands.specs.declared.fault.Fault.TheVariants as fault
-use Rattle.pocsag_c.specs.declared.refusal.Refusal.{Refusal}
+use Rattle.pocsag_faults.specs.declared.fault.Fault.{Fault}
+use Rattle.pocsag_faults.specs.declared.fault.Fault.TheVariants as fault
+use Rattle.pocsag_c.specs.declared.refusal.StatusAt.{StatusAt}
 
 -- The number of the interface.
 abbrev pub interface_version : ℕ
 interface_version = 3
 
 -- A refusal that has no place; one for a record of the page file; and one for a batch or a codeword.
-abbrev pub plain_refusal : (status : ℕ) → Refusal
+abbrev pub plain_refusal : (status : ℕ) → StatusAt
 plain_refusal status = record { status = status; place = record { record_number = 0; least = 0; found = 0; at = 0 } }
 
-abbrev pub record_refusal : (status number : ℕ) → Refusal
+abbrev pub record_refusal : (status number : ℕ) → StatusAt
 record_refusal status number = record { status = status; place = record { record_number = number; least = 0; found = 0; at = 0 } }
 
-abbrev pub index_refusal : (status index : ℕ) → Refusal
+abbrev pub index_refusal : (status index : ℕ) → StatusAt
 index_refusal status index = record { status = status; place = record { record_number = 0; least = 0; found = 0; at = index } }
 
 -- From 16 on: the faults of a page file.
-abbrev pub round_refusal : RoundFault → Refusal
+abbrev pub round_refusal : RoundFault → StatusAt
 round_refusal round.ReadFault = plain_refusal 16
 round_refusal round.TooLarge = plain_refusal 17
 round_refusal round.BadHeader = plain_refusal 18
@@ -46,7 +46,7 @@ round_refusal round.NoPages = plain_refusal 30
 round_refusal round.OutOfMemory = plain_refusal 3
 
 -- From 32 on: the faults of a certificate.
-abbrev pub certificate_refusal : CertificateFault → Refusal
+abbrev pub certificate_refusal : CertificateFault → StatusAt
 certificate_refusal certificate.NotCertificate = plain_refusal 32
 certificate_refusal certificate.Version = plain_refusal 33
 certificate_refusal certificate.Truncated = plain_refusal 34
@@ -59,7 +59,7 @@ certificate_refusal certificate.ReadFault = plain_refusal 40
 certificate_refusal certificate.OutOfMemory = plain_refusal 3
 
 -- From 48 on: the faults of a transmission.
-abbrev pub transmission_refusal : DecodeFault → Refusal
+abbrev pub transmission_refusal : DecodeFault → StatusAt
 transmission_refusal decoding.ShortPreamble = plain_refusal 48
 transmission_refusal (decoding.NoSync batch) = index_refusal 49 batch
 transmission_refusal (decoding.BadWord index) = index_refusal 50 index
@@ -71,7 +71,7 @@ transmission_refusal decoding.OutOfMemory = plain_refusal 3
 transmission_refusal decoding.Failed = plain_refusal 55
 
 -- The faults of what a pager is given: those of its address from 64 on.
-abbrev pub pager_refusal : PagerFault → Refusal
+abbrev pub pager_refusal : PagerFault → StatusAt
 pager_refusal hearing.BadAddress = plain_refusal 64
 pager_refusal hearing.ReservedAddress = plain_refusal 65
 pager_refusal hearing.ShortPreamble = plain_refusal 48
@@ -82,7 +82,7 @@ pager_refusal hearing.Failed = plain_refusal 66
 
 -- The status and the place of a fault. A text is written to memory, so a fault of writing is want of memory. What
 -- comes of files alone is 15.
-abbrev pub refusal_of : Fault → Refusal
+abbrev pub refusal_of : Fault → StatusAt
 refusal_of fault.OutOfMemory = plain_refusal 3
 refusal_of fault.Write = plain_refusal 3
 refusal_of fault.BadRate = plain_refusal 4

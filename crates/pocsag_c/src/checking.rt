@@ -4,7 +4,8 @@ ghost use Rattle.pocsag_commands.specs.Judging.{ExplainsJudging, IsNotShown};
 ghost use Rattle.pocsag_c.specs.Answers.{IsNotAccepted, TellsFault, IsShown, number_of_end};
 
 use crate::refusal::{NOWHERE, Place, refusal_of};
-use pocsag_commands::{Fault, Judged, judge_certificate};
+use pocsag_commands::{CheckVerdict, judge_certificate};
+use pocsag_faults::Fault;
 use pocsag_words::{End, SliceSource};
 use std::alloc::Global;
 
@@ -32,7 +33,7 @@ fn end_number(end: End) -> u32
 }
 
 // What is told of a certificate that was judged.
-pub(crate) fn info_of_judged(judged: Judged) -> CheckInfo
+pub(crate) fn info_of_judged(judged: CheckVerdict) -> CheckInfo
     ensures end { result.end ≡ number_of_end judged.end }
     ensures batches { result.batches ≡ judged.batches }
 {
@@ -50,7 +51,7 @@ pub(crate) const NOT_JUDGED: CheckInfo = CheckInfo {
     place: NOWHERE,
 };
 
-fn judged(alloc: Global, pages: &[u8], cert: &[u8]) -> Result<Judged, Fault>
+fn judged(alloc: Global, pages: &[u8], cert: &[u8]) -> Result<CheckVerdict, Fault>
     ensures shown { IfOk result (λ judged. IsTrue judged.is_shown →
         Checked pages.now cert.now judged.end judged.batches) }
     ensures not_shown { IfOk result (λ judged. IsFalse judged.is_shown →

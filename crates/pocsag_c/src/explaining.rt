@@ -8,8 +8,8 @@ ghost use Rattle.pocsag_c.specs.Explaining.{IsJudgedAs, IsNoForm, IsTextGiven, I
 use crate::checking::{CheckInfo, NOT_JUDGED, info_of_judged};
 use crate::handing::hand_out;
 use crate::refusal::refusal_of;
-use pocsag_commands::Fault;
 use pocsag_explain::{Explained, explain_certificate};
+use pocsag_faults::Fault;
 use pocsag_findings::Telling;
 use pocsag_words::SliceSource;
 use std::alloc::Global;

@@ -9,7 +9,7 @@ ghost use Rattle.pocsag_c.specs.Plans.{ExplainsPlanning, HasNoRoomForBoth, IsCou
 
 use crate::handing::put;
 use crate::refusal::{NOWHERE, Place, refusal_of};
-use pocsag_commands::Fault;
+use pocsag_faults::Fault;
 use pocsag_plan::{
     Bounded, Effort, Search, StreamFault, bounded_stream, tight_headlines_are_headlines,
 };

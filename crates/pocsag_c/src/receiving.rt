@@ -7,7 +7,8 @@ ghost use Rattle.pocsag_c.specs.Statuses.{refusal_of};
 
 use crate::handing::hand_out;
 use crate::refusal::{NOWHERE, Place, refusal_of};
-use pocsag_commands::{Fault, list_decoded, list_heard};
+use pocsag_commands::{list_decoded, list_heard};
+use pocsag_faults::Fault;
 use pocsag_words::GrowingSink;
 use std::alloc::Global;
 

@@ -1,8 +1,8 @@
 ghost use Rattle.std.specs.Prelude.{◌≡◌};
 ghost use Rattle.pocsag_c.specs.Statuses.{IsRefusing, certificate_refusal, index_refusal, pager_refusal, plain_refusal, record_refusal, refusal_of, round_refusal, transmission_refusal};
 
-use pocsag_commands::Fault;
 use pocsag_decode::DecodeFault;
+use pocsag_faults::Fault;
 use pocsag_pager::PagerFault;
 use pocsag_pages::RoundFault;
 use pocsag_tree::CertificateFault;
@@ -23,7 +23,7 @@ pub struct Place {
 
 // A status, and the place that belongs to it.
 #[derive(Clone, Copy)]
-pub(crate) struct Refusal {
+pub(crate) struct StatusAt {
     pub(crate) status: u32,
     pub(crate) place: Place,
 }
@@ -36,20 +36,20 @@ pub(crate) const NOWHERE: Place = Place {
 };
 
 // A refusal that has no place.
-fn plain(status: u32) -> Refusal
+fn plain(status: u32) -> StatusAt
     ensures { result ≡ plain_refusal status }
 {
-    Refusal {
+    StatusAt {
         status,
         place: NOWHERE,
     }
 }
 
 // A refusal for a record of the page file.
-fn of_record(status: u32, record_number: u32) -> Refusal
+fn of_record(status: u32, record_number: u32) -> StatusAt
     ensures { result ≡ record_refusal status record_number }
 {
-    Refusal {
+    StatusAt {
         status,
         place: Place {
             record_number,
@@ -59,16 +59,16 @@ fn of_record(status: u32, record_number: u32) -> Refusal
 }
 
 // A refusal for a batch or a codeword.
-fn of_index(status: u32, at: u64) -> Refusal
+fn of_index(status: u32, at: u64) -> StatusAt
     ensures { result ≡ index_refusal status at }
 {
-    Refusal {
+    StatusAt {
         status,
         place: Place { at, ..NOWHERE },
     }
 }
 
-fn refused_round(fault: RoundFault) -> Refusal
+fn refused_round(fault: RoundFault) -> StatusAt
     ensures { result ≡ round_refusal fault }
 {
     match fault {
@@ -81,7 +81,7 @@ fn refused_round(fault: RoundFault) -> Refusal
         RoundFault::BadKind(record) => of_record(22, record),
         RoundFault::MessageForTone(record) => of_record(23, record),
         RoundFault::EmptyMessage(record) => of_record(24, record),
-        RoundFault::BadCharacter(record, at) => Refusal {
+        RoundFault::BadCharacter(record, at) => StatusAt {
             status: 25,
             place: Place {
                 record_number: record,
@@ -98,7 +98,7 @@ fn refused_round(fault: RoundFault) -> Refusal
     }
 }
 
-fn refused_certificate(fault: CertificateFault) -> Refusal
+fn refused_certificate(fault: CertificateFault) -> StatusAt
     ensures { result ≡ certificate_refusal fault }
 {
     plain(match fault {
@@ -115,7 +115,7 @@ fn refused_certificate(fault: CertificateFault) -> Refusal
     })
 }
 
-fn refused_transmission(fault: DecodeFault) -> Refusal
+fn refused_transmission(fault: DecodeFault) -> StatusAt
     ensures { result ≡ transmission_refusal fault }
 {
     match fault {
@@ -131,7 +131,7 @@ fn refused_transmission(fault: DecodeFault) -> Refusal
     }
 }
 
-fn refused_hearing(fault: PagerFault) -> Refusal
+fn refused_hearing(fault: PagerFault) -> StatusAt
     ensures { result ≡ pager_refusal fault }
 {
     plain(match fault {
@@ -146,7 +146,7 @@ fn refused_hearing(fault: PagerFault) -> Refusal
 }
 
 // The status of a fault, with its place.
-pub(crate) fn refusal_of(fault: Fault) -> Refusal
+pub(crate) fn refusal_of(fault: Fault) -> StatusAt
     ensures value { result ≡ refusal_of fault }
     ensures refusing { IsRefusing result.status }
 {
@@ -154,7 +154,7 @@ pub(crate) fn refusal_of(fault: Fault) -> Refusal
         Fault::OutOfMemory | Fault::Write => plain(3),
         Fault::BadRate => plain(4),
         Fault::BadLimit => plain(5),
-        Fault::SearchLimit(least, found) => Refusal {
+        Fault::SearchLimit(least, found) => StatusAt {
             status: 6,
             place: Place {
                 least,

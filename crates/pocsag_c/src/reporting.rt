@@ -5,7 +5,8 @@ ghost use Rattle.pocsag_c.specs.Reporting.{ExplainsReport, IsSearchStopped, Tell
 
 use crate::planning::{effort_of, end_of};
 use crate::refusal::{NOWHERE, Place, refusal_of};
-use pocsag_commands::{BoundedReport, Fault, report_file};
+use pocsag_commands::{BoundedReport, report_file};
+use pocsag_faults::Fault;
 use pocsag_plan::{Effort, Search};
 use pocsag_words::SliceSource;
 use std::alloc::Global;

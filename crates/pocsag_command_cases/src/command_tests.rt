@@ -1,9 +1,10 @@
 //! The commands over memory: what each tells, what it leaves, and its exit status.
 
 use pocsag_commands::{
-    DEFAULT_LIMIT, Fault, Names, PlanFiles, RepairNotes, Role, Scene, Trouble, run_check,
-    run_decode, run_hear, run_input, run_plan, run_report, run_verify, tell_explained, tell_fault,
+    run_check, run_decode, run_hear, run_input, run_plan, run_report, run_verify,
 };
+use pocsag_faults::{DEFAULT_LIMIT, Fault, PlanFiles, tell_fault};
+use pocsag_notes::{Names, RepairNotes, Role, Scene, Trouble, tell_explained};
 use pocsag_pages::RoundFault;
 use pocsag_plan::{Effort, Search};
 use pocsag_words::{End, MemorySink, MemorySource};

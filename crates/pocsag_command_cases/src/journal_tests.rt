@@ -1,7 +1,7 @@
 //! Journals on disks in memory: what they hold once an edit is answered, whichever call fails, and what reading them
 //! gives.
 
-use pocsag_commands::{Fault, Outputs};
+use pocsag_faults::{Fault, Outputs};
 use pocsag_journal::{
     Journal, JournalFault, MemoryDisk, Replayed, first_line, read_journal, text_of_pages,
 };

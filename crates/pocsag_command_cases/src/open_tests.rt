@@ -1,6 +1,6 @@
 //! Open rounds over memory: what answers each line, and the exit status.
 
-use pocsag_commands::{Fault, Outputs, tell_fault};
+use pocsag_faults::{Fault, Outputs, tell_fault};
 use pocsag_open::{LINE_LIMIT, Places, Planner, run_open, run_open_pages};
 use pocsag_words::{MemorySink, MemorySource};
 use std::alloc::Global;

@@ -13,11 +13,11 @@ use Rattle.pocsag_plan.specs.declared.search.Search.{Search}
 use Rattle.pocsag_plan.specs.Plans.{IsPlanFor, IsSearchTreeFor}
 use Rattle.pocsag_plan.specs.Streams.{ExplainsStream, IsOfRound, IsPlanOf, WritesBounded}
 use Rattle.pocsag_plan.proofs.Due.{tight_stream}
-use Rattle.pocsag_commands.specs.declared.fault.Fault.{Fault}
-use Rattle.pocsag_commands.specs.declared.fault.Fault.TheVariants as fault
+use Rattle.pocsag_faults.specs.declared.fault.Fault.{Fault}
+use Rattle.pocsag_faults.specs.declared.fault.Fault.TheVariants as fault
 use Rattle.pocsag_commands.specs.Commands.{IsPlanRefused, limit, round as of_round, stopped, Planned, PlannedAndTold, ToldPlan}
-use Rattle.pocsag_commands.specs.Faults.{fault_of_stream, status_of}
-use Rattle.pocsag_commands.specs.Lines.{below_text, plan_text}
+use Rattle.pocsag_faults.specs.Faults.{fault_of_stream, status_of}
+use Rattle.pocsag_faults.specs.Lines.{below_text, plan_text}
 use Rattle.pocsag_commands.specs.Refusals.{IsReportRefused}
 use Rattle.pocsag_commands.specs.Reporting.{ExplainsReporting}
 use Rattle.pocsag_commands.proofs.Refusing.{why_round}

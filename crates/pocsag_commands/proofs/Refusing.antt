@@ -24,14 +24,14 @@ use Rattle.pocsag_plan.specs.Plans.{ExplainsPlan}
 use Rattle.pocsag_plan.specs.declared.fault.PlanFault.{PlanFault}
 use Rattle.pocsag_plan.specs.declared.fault.PlanFault.TheVariants as planning
 use Rattle.pocsag_commands.specs.Commands.{IsPlanRefused, limit, stopped}
-use Rattle.pocsag_commands.specs.Faults.{fault_of_plan, status_after, status_of}
+use Rattle.pocsag_faults.specs.Faults.{fault_of_plan, fault_of_show, status_after, status_of}
 use Rattle.pocsag_commands.specs.Judging.{ExplainsJudging}
 use Rattle.pocsag_commands.specs.Listing.{ExplainsDecoding, ExplainsHearing}
 use Rattle.pocsag_commands.specs.Refusals.{IsCheckFaulty, IsHearingRefused, IsShowRefused, IsTransmissionRefused}
 use Rattle.pocsag_commands.specs.Repairing.{AreReadOf}
-use Rattle.pocsag_commands.specs.Showing.{WhyNotShown, fault_of_show, faulty, rows}
-use Rattle.pocsag_commands.specs.declared.fault.Fault.{Fault}
-use Rattle.pocsag_commands.specs.declared.fault.Fault.TheVariants as fault
+use Rattle.pocsag_commands.specs.Showing.{WhyNotShown, faulty, rows}
+use Rattle.pocsag_faults.specs.declared.fault.Fault.{Fault}
+use Rattle.pocsag_faults.specs.declared.fault.Fault.TheVariants as fault
 
 pub why_round : (file : List ℕ) (f : RoundFault) → (f ≡ round.OutOfMemory) ⊎ (f ≡ round.ReadFault) ⊎ (verdict file ≡ Err f) →
     status_of (fault.Round f) ≡ 1 → verdict file ≡ Err f

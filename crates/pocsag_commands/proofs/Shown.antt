@@ -8,7 +8,7 @@ use Rattle.pocsag_tree.specs.Spelling.{IsText}
 use Rattle.pocsag_check.specs.Accepting.{IsAcceptedFor}
 use Rattle.pocsag_plan.specs.Plans.{NoneHasFewer}
 use Rattle.pocsag_commands.specs.Commands.{Checked, CheckedAndTold}
-use Rattle.pocsag_commands.specs.Lines.{bound_text}
+use Rattle.pocsag_faults.specs.Lines.{bound_text}
 
 pub checked : (file certificate : List ℕ) (end : End) (batches : ℕ) (R : List Page) (tree : BoundTree) → verdict file ≡ Ok R →
     IsText end batches tree certificate → IsAcceptedFor false end R batches tree → NoneHasFewer end R batches →

@@ -19,7 +19,7 @@ use Rattle.pocsag_plan.specs.declared.search.Search.{Search}
 use Rattle.pocsag_plan.specs.Plans.{IsSearchTreeFor, MayStop, NoneHasFewer}
 use Rattle.pocsag_plan.specs.Reports.{report_text}
 use Rattle.pocsag_plan.specs.Streams.{IsPlanOf, IsStoppedAt, Writes, WritesBounded, WritesCertificatePart, WritesPart}
-use Rattle.pocsag_commands.specs.Lines.{below_text, bound_text, plan_text}
+use Rattle.pocsag_faults.specs.Lines.{below_text, bound_text, plan_text}
 use Rattle.pocsag_commands.specs.Reporting.{IsReportOf}
 use Rattle.pocsag_commands.specs.declared.commands.BoundedReport.{BoundedReport}
 

@@ -8,8 +8,8 @@ use Rattle.pocsag_tree.specs.Answers.{IsFault}
 use Rattle.pocsag_tree.specs.BoundTrees.{BoundTree}
 use Rattle.pocsag_tree.specs.Spelling.{IsText}
 use Rattle.pocsag_check.specs.Accepting.{IsAcceptedFor}
-use Rattle.pocsag_commands.specs.declared.fault.Fault.{Fault}
-use Rattle.pocsag_commands.specs.declared.fault.Fault.TheVariants as fault
+use Rattle.pocsag_faults.specs.declared.fault.Fault.{Fault}
+use Rattle.pocsag_faults.specs.declared.fault.Fault.TheVariants as fault
 
 -- The page file is that of a round, and the certificate is a text of an end, a number of batches and a tree that the
 -- checker does not accept for them.

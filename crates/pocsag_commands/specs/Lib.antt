@@ -1,10 +1,7 @@
 pub mod Commands
 pub mod Expecting
-pub mod Faults
 pub mod Judging
-pub mod Lines
 pub mod Listing
-pub mod Notes
 pub mod Refusals
 pub mod Repairing
 pub mod Reporting

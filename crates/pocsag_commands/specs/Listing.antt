@@ -4,8 +4,8 @@ use Rattle.pocsag_decode.specs.Faults.{HasFault}
 use Rattle.pocsag_decode.specs.declared.fault.DecodeFault.TheVariants as decoding
 use Rattle.pocsag_pager.specs.Faults.{hearing_fault}
 use Rattle.pocsag_pager.specs.declared.fault.PagerFault.TheVariants as hearing
-use Rattle.pocsag_commands.specs.declared.fault.Fault.{Fault}
-use Rattle.pocsag_commands.specs.declared.fault.Fault.TheVariants as fault
+use Rattle.pocsag_faults.specs.declared.fault.Fault.{Fault}
+use Rattle.pocsag_faults.specs.declared.fault.Fault.TheVariants as fault
 
 -- Memory or the writer refused, or the bytes have this fault.
 abbrev pub ExplainsDecoding : (bytes : List ℕ) → Fault → Type 0

@@ -10,8 +10,8 @@ use Rattle.pocsag_plan.specs.Streams.{IsOfRound, IsStoppedAt}
 use Rattle.pocsag_plan.specs.declared.bounded.Bounded.{Bounded}
 use Rattle.pocsag_plan.specs.declared.search.Search.{Search}
 use Rattle.pocsag_commands.specs.declared.commands.BoundedReport.{BoundedReport}
-use Rattle.pocsag_commands.specs.declared.fault.Fault.{Fault}
-use Rattle.pocsag_commands.specs.declared.fault.Fault.TheVariants as fault
+use Rattle.pocsag_faults.specs.declared.fault.Fault.{Fault}
+use Rattle.pocsag_faults.specs.declared.fault.Fault.TheVariants as fault
 
 -- The report at a rate of the plan that is owed for what is asked of the page file's round, with its bound.
 pub record IsReportOf (file : List ℕ) (search : Search) (rate : ℕ) (answered : BoundedReport) : Type 0 where

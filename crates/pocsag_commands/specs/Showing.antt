@@ -1,4 +1,4 @@
--- `show`: what it leaves of standard output where its exit status is 0, and its faults.
+-- `show`: what it leaves of standard output where its exit status is 0, and why bytes are not shown.
 use Rattle.std.specs.Prelude.{◌≡◌, ℕ, ◌<◌, ◌≤◌, List, Some, IfSome}
 use Rattle.pocsag_pages.specs.declared.page.Page.{Page}
 use Rattle.pocsag_decode.specs.Faults.{HasFault, ReadsAs}
@@ -8,13 +8,9 @@ use Rattle.pocsag_show.specs.Picture.{grid_text}
 use Rattle.pocsag_show.specs.Places.{place_listing}
 use Rattle.pocsag_show.specs.Showing.{Shows}
 use Rattle.pocsag_show.specs.Views.{rows_wanted}
-use Rattle.pocsag_show.specs.declared.fault.ShowFault.{ShowFault}
-use Rattle.pocsag_show.specs.declared.fault.ShowFault.TheVariants as showing
 use Rattle.pocsag_show.specs.declared.rows.Rows.{Rows}
 use Rattle.pocsag_show.specs.declared.view.View.{View}
 use Rattle.pocsag_show.specs.declared.view.View.TheVariants.{Grid, Places, Drawing}
-use Rattle.pocsag_commands.specs.declared.fault.Fault.{Fault}
-use Rattle.pocsag_commands.specs.declared.fault.Fault.TheVariants as fault
 
 -- The grid of the rows that are asked for, the listing of the places or the drawing of these rows was told.
 abbrev pub Viewed : View → (bytes out_before out_after : List ℕ) → Type 0
@@ -44,8 +40,3 @@ pub record IsBehindLast (view : View) (bytes : List ℕ) : Type 0 where
 pub data WhyNotShown (view : View) (bytes : List ℕ) : Type 0 where
   faulty : (f : DecodeFault) → HasFault bytes f → WhyNotShown view bytes
   rows : IsBehindLast view bytes → WhyNotShown view bytes
-
-abbrev pub fault_of_show : ShowFault → Fault
-fault_of_show (showing.Transmission f) = fault.Transmission f
-fault_of_show showing.WriteFault = fault.Write
-fault_of_show showing.OutOfMemory = fault.OutOfMemory

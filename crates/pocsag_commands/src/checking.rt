@@ -2,15 +2,14 @@ ghost use Rattle.std.specs.Prelude.{◌≡◌, IfErr, IfOk, IsErrOf, IsFalse, Is
 ghost use Rattle.pocsag_words.specs.Devices.{HasFailed};
 ghost use Rattle.pocsag_pages.specs.declared.fault.RoundFault.TheVariants as round_fault;
 ghost use Rattle.pocsag_tree.specs.declared.refusals.CertificateFault.TheVariants as tree_fault;
-ghost use Rattle.pocsag_commands.specs.declared.fault.Fault.TheVariants as fault;
+ghost use Rattle.pocsag_faults.specs.declared.fault.Fault.TheVariants as fault;
 ghost use Rattle.pocsag_commands.specs.Commands.{Checked, CheckedAndTold};
-ghost use Rattle.pocsag_commands.specs.Faults.{status_of};
+ghost use Rattle.pocsag_faults.specs.Faults.{status_of};
 ghost use Rattle.pocsag_commands.specs.Judging.{ExplainsJudging, IsNotShown};
 ghost use Rattle.pocsag_commands.specs.Refusals.{IsCheckFaulty, NotShownAndTold};
 
-use crate::fault::Fault;
-use crate::telling::{tell, tell_bound};
 use pocsag_check::check;
+use pocsag_faults::{Fault, tell, tell_bound};
 use pocsag_pages::read_round;
 use pocsag_tree::read_certificate;
 use pocsag_words::{End, Sink, Source};
@@ -43,7 +42,7 @@ pub fn run_check<P: Source, C: Source, O: Sink>(
 
 /// A certificate beside the round of a page file.
 #[derive(Clone, Copy)]
-pub struct Judged {
+pub struct CheckVerdict {
     /// The end that the certificate names.
     pub end: End,
     /// The number of batches that it names.
@@ -58,7 +57,7 @@ pub fn judge_certificate<P: Source, C: Source>(
     alloc: Global,
     pages: &mut P,
     cert: &mut C,
-) -> Result<Judged, Fault>
+) -> Result<CheckVerdict, Fault>
     ensures shown { P.tells → C.tells → IfOk result (λ judged. IsTrue judged.is_shown →
         Checked (P.held pages.old) (C.held cert.old) judged.end judged.batches) }
     ensures not_shown { P.tells → C.tells → IfOk result (λ judged. IsFalse judged.is_shown →
@@ -76,7 +75,7 @@ pub fn judge_certificate<P: Source, C: Source>(
     let batches = certificate.batches;
     let end = certificate.end;
     let is_shown = check(&round, batches, &certificate.tree, end);
-    Ok(Judged {
+    Ok(CheckVerdict {
         end,
         batches,
         is_shown,

@@ -1,21 +1,16 @@
 ghost use Rattle.std.specs.Prelude.{◌≡◌, ◌++◌, IfErr, IfOk, OnOk};
 ghost use Rattle.pocsag_words.specs.declared.ending.End.TheVariants.{Open as open_end};
 ghost use Rattle.pocsag_commands.specs.Commands.{IsPlanRefused, LeavesOutputs, Planned, PlannedAndTold, Reported, ToldPlan};
-ghost use Rattle.pocsag_commands.specs.Faults.{status_after};
-ghost use Rattle.pocsag_commands.specs.Lines.{below_text, plan_text};
+ghost use Rattle.pocsag_faults.specs.Faults.{status_after};
+ghost use Rattle.pocsag_faults.specs.Lines.{below_text, plan_text};
 ghost use Rattle.pocsag_commands.specs.Refusals.{IsReportRefused, default_search};
 ghost use Rattle.pocsag_commands.specs.Reporting.{ExplainsReporting, IsReportOf};
 
-use crate::fault::Fault;
-use crate::plan_files::PlanFiles;
-use crate::telling::{tell, tell_below, tell_plan};
+use pocsag_faults::{DEFAULT_LIMIT, Fault, PlanFiles, tell, tell_below, tell_plan};
 use pocsag_pages::read_round;
 use pocsag_plan::{Bounded, Effort, Report, Search, bounded_plan, bounded_stream, plan, report};
 use pocsag_words::{End, Sink, Source};
 use std::alloc::Global;
-
-/// The node limit where none is asked for.
-pub const DEFAULT_LIMIT: u32 = 100_000;
 
 /// With no words: plans a page file with the default limit and the open end, and tells its pages and
 /// batches.

@@ -1,8 +1,8 @@
 ghost use Rattle.std.specs.Prelude.{◌≡◌, ◌≢◌, ℕ, IfErr, IfOk, OnOk};
 ghost use Rattle.pocsag_commands.specs.Expecting.{HoldsPages};
-ghost use Rattle.pocsag_commands.specs.declared.fault.Fault.TheVariants as fault;
+ghost use Rattle.pocsag_faults.specs.declared.fault.Fault.TheVariants as fault;
 
-use crate::fault::Fault;
+use pocsag_faults::Fault;
 use pocsag_pages::{FILE_LIMIT, read_round, read_whole};
 use pocsag_words::{SliceSource, Source};
 use std::alloc::Global;

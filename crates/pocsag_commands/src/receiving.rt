@@ -5,16 +5,16 @@ ghost use Rattle.pocsag_decode.specs.Faults.{ReadsAs};
 ghost use Rattle.pocsag_decode.specs.Listing.{listing};
 ghost use Rattle.pocsag_pager.specs.Damage.{IsDamaged};
 ghost use Rattle.pocsag_commands.specs.Commands.{Decoded, HeardAndListed};
-ghost use Rattle.pocsag_commands.specs.Faults.{status_after, status_of};
+ghost use Rattle.pocsag_faults.specs.Faults.{status_after, status_of};
 ghost use Rattle.pocsag_commands.specs.Listing.{ExplainsDecoding, ExplainsHearing};
 ghost use Rattle.pocsag_commands.specs.Repairing.{AreReadOf, IsSoOfRead};
 ghost use Rattle.pocsag_commands.specs.Refusals.{IsHearingRefused, IsTransmissionRefused};
 
-use crate::fault::Fault;
 use pocsag_decode::{
     judge_bytes, list_sent, list_spent, readings_have_no_fault, readings_of_bytes_are_one,
     repair_all, repair_restores,
 };
+use pocsag_faults::Fault;
 use pocsag_pager::hear_all;
 use pocsag_pages::read_whole;
 use pocsag_words::{INPUT_LIMIT, Sink, Source};

@@ -1,32 +1,18 @@
 ghost use Rattle.std.specs.Prelude.{◌≡◌, ℕ, List, true, IfErr, OnOk};
 ghost use Rattle.pocsag_pages.specs.Bytes.{Sent};
 ghost use Rattle.pocsag_pager.specs.Damage.{IsDamaged};
-ghost use Rattle.pocsag_commands.specs.Faults.{status_after, status_of};
+ghost use Rattle.pocsag_faults.specs.Faults.{status_after, status_of};
 ghost use Rattle.pocsag_commands.specs.Refusals.{IsShowRefused};
 ghost use Rattle.pocsag_commands.specs.Repairing.{IsSoOfRead};
 ghost use Rattle.pocsag_commands.specs.Showing.{HasRows, Viewed, WhyNotShown};
 
-use crate::fault::Fault;
 use crate::receiving::read_transmission;
 use crate::verifying::batches_of;
 use pocsag_decode::{decode, repair_restores};
-use pocsag_show::{ShowFault, View, show_list, show_svg, show_text};
+use pocsag_faults::Fault;
+use pocsag_show::{View, show_list, show_svg, show_text};
 use pocsag_words::{Sink, Source};
 use std::alloc::Global;
-
-impl From<ShowFault> for Fault {
-    ghost use Rattle.pocsag_commands.specs.Showing.{fault_of_show};
-
-    ghost from_gives = { λ refused e. e ≡ fault_of_show refused };
-
-    fn from(refused: ShowFault) -> Fault {
-        match refused {
-            ShowFault::Transmission(refused) => Fault::Transmission(refused),
-            ShowFault::WriteFault => Fault::Write,
-            ShowFault::OutOfMemory => Fault::OutOfMemory,
-        }
-    }
-}
 
 /// `show TX`: shows a transmission, with repair as it is once each of its words is repaired. Rows of which it has none
 /// are refused.

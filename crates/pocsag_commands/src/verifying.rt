@@ -7,12 +7,10 @@ ghost use Rattle.pocsag_check.specs.Accepting.{IsAcceptedFor};
 ghost use Rattle.pocsag_plan.specs.Plans.{NoneHasFewer};
 ghost use Rattle.pocsag_commands.specs.Verifying.{AreAmong, IsDueBound, IsTransmissionOf, Verified};
 
-use crate::fault::Fault;
-use crate::plan_files::PlanFiles;
 use crate::receiving::TRANSMISSION_LIMIT;
-use crate::telling::tell;
 use pocsag_check::check;
 use pocsag_decode::decode;
+use pocsag_faults::{Fault, PlanFiles, tell};
 use pocsag_pages::{Page, Round, leading_len, read_round, read_whole};
 use pocsag_plan::{Effort, Search};
 use pocsag_tree::{Certificate, read_certificate};

@@ -13,9 +13,9 @@ use Rattle.pocsag_plan.specs.declared.fault.PlanFault.TheVariants as planning
 use Rattle.pocsag_plan.specs.declared.search.Search.{Search}
 use Rattle.pocsag_plan.specs.Plans.{ExplainsPlan, IsPlanFor}
 use Rattle.pocsag_plan.specs.Reports.{IsReport, report_text}
-use Rattle.pocsag_commands.specs.declared.fault.Fault.{Fault}
-use Rattle.pocsag_commands.specs.Faults.{fault_of_plan, status_of}
-use Rattle.pocsag_commands.specs.Lines.{below_text}
+use Rattle.pocsag_faults.specs.declared.fault.Fault.{Fault}
+use Rattle.pocsag_faults.specs.Faults.{fault_of_plan, status_of}
+use Rattle.pocsag_faults.specs.Lines.{below_text}
 use Rattle.pocsag_explain.specs.declared.frames.FrameRoom.{FrameRoom}
 use Rattle.pocsag_explain.specs.Frames.{AreByRoom, frame_text}
 use Rattle.pocsag_explain.specs.Reporting.{IsReportRefusedFor, ReportedFrames, limit, stopped}

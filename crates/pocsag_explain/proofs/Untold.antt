@@ -1,9 +1,9 @@
 -- Why `explain` refuses, by the reason for which nothing is told.
 use Rattle.std.proofs.Common.{◌≡◌, ℕ, List, arith}
-use Rattle.pocsag_commands.specs.Faults.{status_of}
+use Rattle.pocsag_faults.specs.Faults.{status_of}
 use Rattle.pocsag_commands.specs.Refusals.{IsCheckFaulty}
-use Rattle.pocsag_commands.specs.declared.fault.Fault.{Fault}
-use Rattle.pocsag_commands.specs.declared.fault.Fault.TheVariants as fault
+use Rattle.pocsag_faults.specs.declared.fault.Fault.{Fault}
+use Rattle.pocsag_faults.specs.declared.fault.Fault.TheVariants as fault
 use Rattle.pocsag_commands.proofs.Refusing.{why_judged}
 use Rattle.pocsag_explain.specs.Explaining.{ExplainsUntold}
 

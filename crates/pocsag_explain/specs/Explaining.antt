@@ -3,8 +3,8 @@ use Rattle.std.specs.Prelude.{ℕ, List}
 use Rattle.pocsag_words.specs.declared.ending.End.{End}
 use Rattle.pocsag_commands.specs.Commands.{Checked}
 use Rattle.pocsag_commands.specs.Judging.{ExplainsJudging, IsNotShown}
-use Rattle.pocsag_commands.specs.declared.fault.Fault.{Fault}
-use Rattle.pocsag_commands.specs.declared.fault.Fault.TheVariants as fault
+use Rattle.pocsag_faults.specs.declared.fault.Fault.{Fault}
+use Rattle.pocsag_faults.specs.declared.fault.Fault.TheVariants as fault
 
 -- The certificate shows its number of batches, with its end, for the round of the page file.
 pub record ShowsItsBatches (file certificate : List ℕ) : Type 0 where

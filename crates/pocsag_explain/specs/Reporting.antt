@@ -12,7 +12,7 @@ use Rattle.pocsag_plan.specs.declared.search.Search.{Search}
 use Rattle.pocsag_plan.specs.Plans.{IsPlanFor, MayStop}
 use Rattle.pocsag_plan.specs.Reports.{IsRate, IsReport, report_text}
 use Rattle.pocsag_plan.specs.Streams.{IsStoppedAt}
-use Rattle.pocsag_commands.specs.Lines.{below_text}
+use Rattle.pocsag_faults.specs.Lines.{below_text}
 use Rattle.pocsag_explain.specs.declared.frames.FrameRoom.{FrameRoom}
 use Rattle.pocsag_explain.specs.Frames.{AreByRoom, frame_text}
 

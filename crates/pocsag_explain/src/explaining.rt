@@ -1,6 +1,6 @@
 ghost use Rattle.std.specs.Prelude.{◌≡◌, IfErr, IfOk, IsFalse, IsTrue};
 ghost use Rattle.pocsag_commands.specs.Commands.{Checked};
-ghost use Rattle.pocsag_commands.specs.Faults.{status_of};
+ghost use Rattle.pocsag_faults.specs.Faults.{status_of};
 ghost use Rattle.pocsag_commands.specs.Judging.{IsNotShown};
 ghost use Rattle.pocsag_commands.specs.Refusals.{IsCheckFaulty};
 ghost use Rattle.pocsag_explain.specs.Explaining.{DoesNotShow, ExplainsUntold, ShowsItsBatches};
@@ -10,7 +10,8 @@ use crate::facts::facts;
 use crate::outline::{first_refused, outline};
 use crate::subject::Subject;
 use pocsag_check::check;
-use pocsag_commands::{Fault, Judged};
+use pocsag_commands::CheckVerdict;
+use pocsag_faults::Fault;
 use pocsag_findings::{Telling, findings};
 use pocsag_pages::{Round, read_round};
 use pocsag_slots::classes_of;
@@ -46,7 +47,7 @@ pub fn run_explain<P: Source, C: Source, O: Sink>(
 #[derive(Drop)]
 pub struct Explained {
     /// What it names, and the verdict.
-    pub judged: Judged,
+    pub judged: CheckVerdict,
     /// What is told of it.
     pub text: String,
 }
@@ -72,7 +73,7 @@ pub fn explain_certificate<P: Source, C: Source>(
     let is_shown = check(&round, batches, &certificate.tree, end);
     let text = explanation(alloc, telling, &round, &certificate, is_shown)?;
     Ok(Explained {
-        judged: Judged {
+        judged: CheckVerdict {
             end,
             batches,
             is_shown,

@@ -1,13 +1,13 @@
 ghost use Rattle.std.specs.Prelude.{◌≡◌, ◌++◌, IfErr, OnOk};
 ghost use Rattle.std.specs.List.{flat_map};
 ghost use Rattle.pocsag_plan.specs.Reports.{report_text};
-ghost use Rattle.pocsag_commands.specs.Faults.{status_after};
-ghost use Rattle.pocsag_commands.specs.Lines.{below_text};
+ghost use Rattle.pocsag_faults.specs.Faults.{status_after};
+ghost use Rattle.pocsag_faults.specs.Lines.{below_text};
 ghost use Rattle.pocsag_explain.specs.Frames.{frame_text};
 ghost use Rattle.pocsag_explain.specs.Reporting.{IsReportRefusedFor, ReportedFrames};
 
 use crate::frames::{FrameRoom, frames_of};
-use pocsag_commands::{Fault, tell, tell_below};
+use pocsag_faults::{Fault, tell, tell_below};
 use pocsag_pages::read_round;
 use pocsag_plan::{Bounded, Report, Search, bounded_plan, report};
 use pocsag_words::{Sink, Source};

@@ -1,4 +1,5 @@
-use pocsag_commands::{Fault, Names, RepairNotes, Role, Scene, Watch, WriterSink, tell_explained};
+use pocsag_faults::Fault;
+use pocsag_notes::{Names, RepairNotes, Role, Scene, Watch, WriterSink, tell_explained};
 use std::alloc::Global;
 use std::io::{self, ErrorKind, Stderr, Stdout};
 

@@ -1,8 +1,9 @@
 use crate::desk::Desk;
 use crate::paths::{Named, name_one_file};
 use crate::streams::{Input, Output};
-use pocsag_commands::{Fault, Outputs, ReaderSource, Role, WriterSink};
+use pocsag_faults::{Fault, Outputs};
 use pocsag_line::path_of;
+use pocsag_notes::{ReaderSource, Role, WriterSink};
 use std::fs::{self, File, OpenFile, OpenOptions};
 use std::io::BufReader;
 use std::rt::Files;

@@ -1,5 +1,6 @@
 use crate::desk::Desk;
-use pocsag_commands::{Fault, Role};
+use pocsag_faults::Fault;
+use pocsag_notes::Role;
 use std::fs::{self, File, OpenFile};
 use std::process;
 

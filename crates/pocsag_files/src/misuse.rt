@@ -1,4 +1,4 @@
-use pocsag_commands::tell;
+use pocsag_faults::tell;
 use pocsag_line::{PlanOrder, path_of};
 use pocsag_words::Sink;
 use std::fs::{self, Metadata};

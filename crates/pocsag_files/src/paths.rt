@@ -1,8 +1,8 @@
 ghost use Rattle.std.specs.Prelude.{◌↔◌, ◌⊎◌, ◌<◌, IsErrOf, IsTrue, length, map};
-ghost use Rattle.pocsag_commands.specs.declared.fault.Fault.TheVariants.{EqualPaths};
+ghost use Rattle.pocsag_faults.specs.declared.fault.Fault.TheVariants.{EqualPaths};
 ghost use Rattle.pocsag_files.specs.Paths.{AreOne, HasEqual, IsNamedBefore, paths_of};
 
-use pocsag_commands::Fault;
+use pocsag_faults::Fault;
 use std::fs::{self, Metadata};
 use std::os::unix::fs::MetadataExt;
 use std::rt::Files;

@@ -10,7 +10,7 @@ use crate::lines::is_one_line;
 use crate::reading::JOURNAL_LIMIT;
 use crate::text::row_line;
 use csv::ByteRecord;
-use pocsag_commands::Fault;
+use pocsag_faults::Fault;
 use pocsag_open::Keeper;
 use pocsag_plan::Book;
 use pocsag_words::write_all;

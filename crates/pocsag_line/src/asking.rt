@@ -15,7 +15,7 @@ use pocsag_show::{Rows, View};
 use pocsag_words::End;
 use std::alloc::Global;
 
-fn end_of(found: &ArgMatches<'_>) -> Option<End> {
+fn wanted_end(found: &ArgMatches<'_>) -> Option<End> {
     if found.get_flag(IDLE_LAST) {
         return Some(End::Idle);
     }
@@ -36,7 +36,7 @@ fn search_of(found: &ArgMatches<'_>) -> Option<SearchOrder> {
         expect: found.get_one::<u32>(EXPECT),
         search: Search {
             limit: found.get_one::<u32>(LIMIT)?,
-            end: end_of(found)?,
+            end: wanted_end(found)?,
             effort,
         },
     })
@@ -94,7 +94,7 @@ fn hear_order<'a>(found: &ArgMatches<'a>) -> Option<Order<'a>> {
 }
 
 // The rows that a word names: A-B, A- or A.
-fn rows_of(word: &str) -> Option<Rows> {
+fn named_rows(word: &str) -> Option<Rows> {
     let (first, last) = word.split_once('-').unwrap_or((word, word));
     let last = if last.is_empty() {
         u64::MAX
@@ -115,7 +115,7 @@ fn number_of(word: &str) -> Option<u64> {
 // The rows that are asked for, all where none are named; nothing where a word names none.
 fn wanted_rows(found: &ArgMatches<'_>) -> Option<Rows> {
     match found.get_str(ROWS) {
-        Some(word) => rows_of(word),
+        Some(word) => named_rows(word),
         None => Some(Rows::all()),
     }
 }

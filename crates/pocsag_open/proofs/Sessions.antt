@@ -4,7 +4,7 @@ use Rattle.std.specs.Prelude.{Option, None}
 use Rattle.pocsag_words.specs.declared.ending.End.{End}
 use Rattle.pocsag_pages.specs.PageFile.{Row}
 use Rattle.pocsag_pages.specs.declared.page.Page.{Page}
-use Rattle.pocsag_commands.specs.declared.fault.Fault.TheVariants as fault
+use Rattle.pocsag_faults.specs.declared.fault.Fault.TheVariants as fault
 use Rattle.pocsag_open.specs.Lines.{AreLines, IsFirstLine}
 use Rattle.pocsag_open.specs.Replies.{AreReplies, AsksNeither, AsksPlan, IsAskedBy, IsEditReply, IsLineReply, IsRefusalDue, IsReply, IsSession, TookMore, edited, list_record, refused}
 use Rattle.pocsag_open.specs.Runs.{Asked, IsDone, IsEdit, asked_of}

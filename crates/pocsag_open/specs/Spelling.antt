@@ -1,7 +1,7 @@
 -- How a record of CSV may stand in a line: as the product writes it, quoting apart (this project's own).
 use Rattle.std.specs.Prelude.{◌≡◌, ◌⊎◌, ℕ, ◌-◌, ◌==◌, if◌then◌else◌, List, [], ◌∷◌, ◌++◌, length, take, false, Option, Some, None, Bool, slice_get}
 use Rattle.csv.specs.Reading.{strip_bom}
-use Rattle.pocsag_commands.specs.declared.fault.Fault.TheVariants as fault
+use Rattle.pocsag_faults.specs.declared.fault.Fault.TheVariants as fault
 use Rattle.pocsag_open.specs.declared.refusal.Refusal.{Refusal}
 use Rattle.pocsag_open.specs.declared.refusal.Refusal.TheVariants as refusal
 use Rattle.csv.specs.Writing.{comma, default_writer, needs_quotes, quote_mark, quoted}

@@ -1,6 +1,6 @@
 ghost use Rattle.std.specs.Prelude.{◌≡◌, ◌++◌, length, IfErr, OnErr, OnOk};
 ghost use Rattle.csv.specs.Records.{fields_of};
-ghost use Rattle.pocsag_commands.specs.Faults.{status_of};
+ghost use Rattle.pocsag_faults.specs.Faults.{status_of};
 ghost use Rattle.pocsag_open.specs.Answers.{pages_answer};
 ghost use Rattle.pocsag_open.specs.Keeping.{IsAnswered, IsLost};
 ghost use Rattle.pocsag_open.specs.Replies.{IsEditReply, IsRefusalTold, TookMore};
@@ -10,7 +10,7 @@ use crate::keeper::Keeper;
 use crate::refusal::Refusal;
 use arrayvec::ArrayString;
 use csv::ByteRecord;
-use pocsag_commands::{Fault, tell};
+use pocsag_faults::{Fault, tell};
 use pocsag_plan::Book;
 use pocsag_words::Sink;
 use std::alloc::Global;

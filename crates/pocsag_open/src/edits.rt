@@ -7,7 +7,7 @@ ghost use Rattle.pocsag_open.specs.Spelling.{IsRowText, IsUnread, record_text};
 use crate::quoting::{Quoting, quoting_of, without_mark, without_return};
 use crate::refusal::Refusal;
 use csv::ByteRecord;
-use pocsag_commands::Fault;
+use pocsag_faults::Fault;
 use pocsag_pages::only_row;
 use pocsag_words::End;
 use std::alloc::Global;

@@ -3,11 +3,11 @@ ghost use Rattle.csv.specs.Records.{fields_of};
 ghost use Rattle.csv.specs.Writing.{default_writer, row_text};
 ghost use Rattle.pocsag_pages.specs.declared.page.Page.{Page};
 ghost use Rattle.pocsag_words.specs.Devices.{TookPrefix};
-ghost use Rattle.pocsag_commands.specs.Faults.{status_of};
+ghost use Rattle.pocsag_faults.specs.Faults.{status_of};
 ghost use Rattle.pocsag_open.specs.Runs.{IsEdit};
 
 use csv::ByteRecord;
-use pocsag_commands::Fault;
+use pocsag_faults::Fault;
 use pocsag_plan::Book;
 use std::alloc::Global;
 

@@ -1,8 +1,8 @@
 ghost use Rattle.std.specs.Prelude.{◌≡◌, ◌≤◌, [], ◌++◌, length, IfErr, IfOk, OnOk};
-ghost use Rattle.pocsag_commands.specs.Faults.{status_of};
+ghost use Rattle.pocsag_faults.specs.Faults.{status_of};
 ghost use Rattle.pocsag_open.specs.Lines.{IsByteKept, IsLineFound, IsNextByte, between_places, line_limit};
 
-use pocsag_commands::Fault;
+use pocsag_faults::Fault;
 use pocsag_words::{DeviceFault, Source};
 use std::alloc::Global;
 

@@ -2,7 +2,7 @@ ghost use Rattle.std.specs.Prelude.{◌≡◌, ◌≤◌, List, [], ◌++◌, le
 ghost use Rattle.pocsag_pages.specs.PageFile.{verdict};
 ghost use Rattle.pocsag_pages.specs.declared.fault.RoundFault.{RoundFault};
 ghost use Rattle.pocsag_pages.specs.declared.page.Page.{Page};
-ghost use Rattle.pocsag_commands.specs.Faults.{status_of};
+ghost use Rattle.pocsag_faults.specs.Faults.{status_of};
 ghost use Rattle.pocsag_open.specs.Answers.{IsPlanSent, IsPlanTold, plan_answer};
 ghost use Rattle.pocsag_open.specs.Lines.{line_limit};
 ghost use Rattle.pocsag_open.specs.Replies.{IsLineReply, IsSession, TookMore};
@@ -14,8 +14,8 @@ use crate::lines::{LineRead, Lines};
 use crate::outputs::Places;
 use crate::refusal::Refusal;
 use crate::settling::settled;
-use pocsag_commands::{DEFAULT_LIMIT, Fault, Outputs, tell};
 use pocsag_decode::{ListFault, write_page_file};
+use pocsag_faults::{DEFAULT_LIMIT, Fault, Outputs, tell};
 use pocsag_pages::read_round;
 use pocsag_plan::{Book, Effort, Search};
 use pocsag_words::{End, Sink, Source};

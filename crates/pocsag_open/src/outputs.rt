@@ -1,4 +1,4 @@
-use pocsag_commands::{Fault, Outputs};
+use pocsag_faults::{Fault, Outputs};
 use pocsag_words::Sink;
 
 /// What makes the outputs of the plans of an open round, as files of a folder are.

@@ -1,7 +1,7 @@
 ghost use Rattle.std.specs.Prelude.{◌≡◌};
 ghost use Rattle.pocsag_open.specs.declared.refusal.Refusal.TheVariants as refusal;
 
-use pocsag_commands::Fault;
+use pocsag_faults::Fault;
 use pocsag_pages::FieldFault;
 use pocsag_plan::{AddFault, NotThere, Refused};
 use std::error::Error;

@@ -1,8 +1,8 @@
 ghost use Rattle.std.specs.Prelude.{◌≡◌, Err, IfOk, Ok};
-ghost use Rattle.pocsag_commands.specs.declared.fault.Fault.{Fault};
+ghost use Rattle.pocsag_faults.specs.declared.fault.Fault.{Fault};
 
 use crate::outputs::Places;
-use pocsag_commands::Fault;
+use pocsag_faults::Fault;
 
 /// What came of a plan, once its outputs are where they belong.
 pub fn settled<P: Places, X: Drop>(

@@ -1,8 +1,9 @@
 ghost use Rattle.std.specs.Prelude.{[]};
 
-use pocsag_commands::{Fault, ReaderSource, Role};
+use pocsag_faults::Fault;
 use pocsag_files::{Beside, Desk, Named};
 use pocsag_journal::{Disk, JournalFault, Replayed, read_journal};
+use pocsag_notes::{ReaderSource, Role};
 use pocsag_words::{DeviceFault, Sink};
 use std::fs::{File, OpenFile, OpenOptions, TryLockError};
 use std::io::Write;

@@ -1,11 +1,10 @@
 use crate::journal_file::JournalFile;
 use crate::round_files::RoundFiles;
-use pocsag_commands::{
-    Fault, Notes, ReaderSource, Role, Trouble, Watch, tell, tell_fault, tell_notes,
-};
+use pocsag_faults::{Fault, tell, tell_fault};
 use pocsag_files::{Desk, Named, is_regular_or_none, open_source};
 use pocsag_journal::{Journal, JournalFault, Replayed};
 use pocsag_line::STANDARD;
+use pocsag_notes::{Notes, ReaderSource, Role, Trouble, Watch, tell_notes};
 use pocsag_open::{Keeper, OpenRound, Planner, run_open_kept};
 use pocsag_pages::read_round;
 use pocsag_plan::Book;
@@ -80,12 +79,12 @@ fn is_first_file(path: &str, places: &RoundFiles<'_>) -> bool {
 // The same, over the desk on which the system's refusals of the journal are met.
 fn open_on(desk: Desk<'_>, path: &str, always: bool, places: &RoundFiles<'_>) -> Result<u8, Fault> {
     let Some(file) = JournalFile::hold(desk, path)? else {
-        return Ok(refuse(places, path, "another program holds the journal"));
+        return Ok(refuse_journal(places, path, "another program holds the journal"));
     };
     match file.read() {
         Ok(replayed) if replayed.edits > 0 && places.pages.is_some() => {
             let why = "the journal holds edits, so the round cannot begin with PAGES";
-            Ok(refuse(places, path, why))
+            Ok(refuse_journal(places, path, why))
         }
         Ok(replayed) => begin(file, replayed, always, places),
         Err(fault) => tell_journal(places, path, fault),
@@ -163,7 +162,7 @@ fn read_book<F: Source>(alloc: Global, pages: &mut F) -> Result<Book, Fault> {
 }
 
 // Tells why the journal does not serve, and answers the status.
-fn refuse<D: Display + Drop>(places: &RoundFiles<'_>, path: &str, why: D) -> u8 {
+fn refuse_journal<D: Display + Drop>(places: &RoundFiles<'_>, path: &str, why: D) -> u8 {
     let _ = tell(&mut places.desk.err(), format_args!("pocsag: {why}\n"));
     note(places, format_args!("journal {path}: it stays as it is"));
     1
@@ -173,7 +172,7 @@ fn refuse<D: Display + Drop>(places: &RoundFiles<'_>, path: &str, why: D) -> u8 
 fn tell_journal(places: &RoundFiles<'_>, path: &str, fault: JournalFault) -> Result<u8, Fault> {
     match fault {
         JournalFault::BadLine(_) | JournalFault::NoLine(_) | JournalFault::TooLarge => {
-            Ok(refuse(places, path, fault))
+            Ok(refuse_journal(places, path, fault))
         }
         JournalFault::ReadFault => Err(Fault::Device),
         JournalFault::WriteFault => Err(Fault::Write),

@@ -7,5 +7,5 @@ mod planning;
 mod round_files;
 
 pub use journaling::open_kept;
-pub use planning::plan;
+pub use planning::write_plan;
 pub use round_files::RoundFiles;

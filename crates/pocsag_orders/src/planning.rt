@@ -1,18 +1,20 @@
 ghost use Rattle.std.specs.Prelude.{IsErrOf, map};
-ghost use Rattle.pocsag_commands.specs.declared.fault.Fault.TheVariants.{EqualPaths};
+ghost use Rattle.pocsag_faults.specs.declared.fault.Fault.TheVariants.{EqualPaths};
 ghost use Rattle.pocsag_files.specs.Paths.{HasEqual, paths_of};
 
-use pocsag_commands::{Fault, Outputs, PlanFiles, Role, expected_file, run_plan, run_verify};
+use pocsag_commands::{expected_file, run_plan, run_verify};
+use pocsag_faults::{Fault, Outputs, PlanFiles};
 use pocsag_files::{
     Beside, Desk, make_outputs, misused, open_buffered, open_source, put_both, refuse_equal,
     refuse_one_file, tell_misuse,
 };
 use pocsag_line::{PlanOrder, STANDARD};
+use pocsag_notes::Role;
 use pocsag_words::{Sink, SliceSource, Source};
 
 /// `plan`: plans from file to files, or from and to the standard streams. Where standard output takes one of
 /// the files, the lines go to standard error. Answers the exit status.
-pub fn plan(desk: Desk<'_>, order: PlanOrder<'_>) -> Result<u8, Fault>
+pub fn write_plan(desk: Desk<'_>, order: PlanOrder<'_>) -> Result<u8, Fault>
     ensures { HasEqual (map (λ path. path.now) (paths_of order.entry.pages order.entry.tx order.entry.cert)) →
         IsErrOf result EqualPaths }
 {

@@ -1,8 +1,9 @@
-use pocsag_commands::{Fault, Outputs, Role, WriterSink};
+use pocsag_faults::{Fault, Outputs};
 use pocsag_files::{
     Beside, Desk, Output, is_regular_or_none, make_outputs, put_both, refuse_equal, refuse_one_file,
 };
 use pocsag_line::STANDARD;
+use pocsag_notes::{Role, WriterSink};
 use pocsag_open::Places;
 use std::fs::File;
 

@@ -8,14 +8,14 @@ use pocsag_words::Kind;
 use std::alloc::{AllocError, Global};
 
 /// The capital letter of a page with this number.
-pub(crate) fn capital(number: usize) -> u8
+pub(crate) fn capital_letter(number: usize) -> u8
     ensures { result ≡ capital number }
 {
     b'A' + (number % LETTERS) as u8
 }
 
 /// Its small letter.
-pub(crate) fn small(number: usize) -> u8
+pub(crate) fn small_letter(number: usize) -> u8
     ensures { result ≡ small number }
 {
     b'a' + (number % LETTERS) as u8
@@ -34,8 +34,8 @@ fn letter_after(numbers: &[usize], pages: usize, kind: Kind) -> u8
 {
     match kind {
         Kind::Idle => b'.',
-        Kind::Address { .. } => capital(entry_at(numbers, pages)),
-        Kind::Message(_) => small(entry_at(numbers, pages.saturating_sub(1))),
+        Kind::Address { .. } => capital_letter(entry_at(numbers, pages)),
+        Kind::Message(_) => small_letter(entry_at(numbers, pages.saturating_sub(1))),
     }
 }
 

@@ -3,7 +3,7 @@ ghost use Rattle.pocsag_show.specs.Marks.{head, opened, rectangle, tail};
 ghost use Rattle.pocsag_show.specs.Numbers.{turn};
 
 use crate::grid::LETTERS;
-use crate::marking::{capital, small};
+use crate::marking::{capital_letter, small_letter};
 use crate::pieces::{put, put_printed};
 use crate::style::HUES;
 use std::alloc::AllocError;
@@ -61,7 +61,7 @@ pub(crate) fn put_head(
             "<rect class='k' x='{x}' y='{y}' width='24' height='18'/><text class='l' x='{middle}' y='{base}'>"
         ),
     )?;
-    put_label(text, capital(number), number)?;
+    put_label(text, capital_letter(number), number)?;
     put(text, b"</text>")
 }
 
@@ -82,7 +82,7 @@ pub(crate) fn put_tail(
         text,
         format_args!("<text class='m' x='{middle}' y='{base}'>"),
     )?;
-    put_label(text, small(number), number)?;
+    put_label(text, small_letter(number), number)?;
     put(text, b"</text>")
 }
 

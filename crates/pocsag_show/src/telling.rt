@@ -3,7 +3,7 @@ ghost use Rattle.std.specs.List.{flat_map};
 ghost use Rattle.pocsag_pages.specs.Listable.{IsListable};
 ghost use Rattle.pocsag_show.specs.Escapes.{escaped, told, told_message};
 
-use crate::marking::capital;
+use crate::marking::capital_letter;
 use crate::marks::put_label;
 use crate::pieces::{put, put_printed};
 use crate::placed::Placed;
@@ -66,7 +66,7 @@ pub(crate) fn put_told(alloc: Global, text: &mut Vec<u8>, placed: &Placed) -> Re
 {
     let page = &placed.page;
     let address = page.address;
-    put_label(text, capital(placed.number), placed.number)?;
+    put_label(text, capital_letter(placed.number), placed.number)?;
     put_printed(text, format_args!(": address {address}, "))?;
     put(text, kind_of_page(page.function, page.payload.as_slice()))?;
     put_message(alloc, text, page)

@@ -1,5 +1,5 @@
 use Rattle.std.proofs.Common.{ap, refl}
-use Rattle.pocsag_c.specs.declared.refusal.Refusal.{Refusal}
+use Rattle.pocsag_c.specs.declared.refusal.StatusAt.{StatusAt}
 use Rattle.pocsag_c.proofs.reporting.pocsag_report.Goals as goal
 
 pub returns-in-Err-clause-fault : goal.returns-in-Err-clause-fault
@@ -10,6 +10,6 @@ returns-in-Err-clause-fault c = λ some other. record {
     asked = record { same_end = c.in-Some.ensures; same_limit = refl };
     why = c.in-Err.ensures.explained;
   };
-  same_status = ap (λ (r : Refusal). r.status) c.refusal_of-refusal.ensures.value;
-  same_place = ap (λ (r : Refusal). r.place) c.refusal_of-refusal.ensures.value;
+  same_status = ap (λ (r : StatusAt). r.status) c.refusal_of-refusal.ensures.value;
+  same_place = ap (λ (r : StatusAt). r.place) c.refusal_of-refusal.ensures.value;
 }

@@ -1,7 +1,7 @@
 use Rattle.std.proofs.Common.{sym, arith}
 use Rattle.std.proofs.lemmas.Result.{err_from_is_err_and}
 use Rattle.pocsag_commands.specs.Showing.{WhyNotShown}
-use Rattle.pocsag_commands.specs.declared.fault.Fault.TheVariants as fault
+use Rattle.pocsag_faults.specs.declared.fault.Fault.TheVariants as fault
 use Rattle.pocsag_commands.proofs.Refusing.{why_decoded}
 use Rattle.pocsag_commands.proofs.showing.refuse_rows.Goals as goal
 

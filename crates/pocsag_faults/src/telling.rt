@@ -1,6 +1,6 @@
 ghost use Rattle.std.specs.Prelude.{◌≡◌, ℕ, List, ◌++◌, IfErr, OnOk, Some};
-ghost use Rattle.pocsag_commands.specs.Faults.{IsFailure, status_of};
-ghost use Rattle.pocsag_commands.specs.Lines.{below_text, bound_text, plan_text};
+ghost use Rattle.pocsag_faults.specs.Faults.{IsFailure, status_of};
+ghost use Rattle.pocsag_faults.specs.Lines.{below_text, bound_text, plan_text};
 
 use crate::fault::Fault;
 use arrayvec::ArrayString;

@@ -1,9 +1,9 @@
 ghost use Rattle.std.specs.Prelude.{◌≡◌, ◌++◌, IfOk, OnOk, map};
 ghost use Rattle.std.specs.List.{flat_map};
 ghost use Rattle.std.specs.String.{string_bytes};
-ghost use Rattle.pocsag_commands.specs.Notes.{note_text, plain};
+ghost use Rattle.pocsag_notes.specs.Notes.{note_text, plain};
 
-use crate::fault::Fault;
+use pocsag_faults::Fault;
 use pocsag_words::{OutOfMemory, Sink, write_all};
 use std::alloc::{AllocError, Global};
 use std::fmt::Display;

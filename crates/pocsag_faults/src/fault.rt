@@ -1,11 +1,11 @@
 ghost use Rattle.std.specs.Prelude.{◌≡◌};
-ghost use Rattle.pocsag_commands.specs.declared.fault.Fault.TheVariants as fault;
+ghost use Rattle.pocsag_faults.specs.declared.fault.Fault.TheVariants as fault;
 
 use pocsag_decode::{DecodeFault, ListFault};
 use pocsag_pager::PagerFault;
 use pocsag_pages::{RoundFault, WholeFault};
 use pocsag_plan::{BadRate, PlanFault, StreamFault};
-use pocsag_show::Rows;
+use pocsag_show::{Rows, ShowFault};
 use pocsag_tree::CertificateFault;
 use pocsag_words::OutOfMemory;
 use std::alloc::{AllocError, AllocFailed};
@@ -45,7 +45,7 @@ pub enum Fault {
 }
 
 impl Fault {
-    ghost use Rattle.pocsag_commands.specs.Faults.{IsFailure, status_of};
+    ghost use Rattle.pocsag_faults.specs.Faults.{IsFailure, status_of};
 
     /// The exit status: 1 for what was refused, 3 for a device or memory.
     pub fn status(self) -> u8
@@ -177,7 +177,7 @@ impl From<BadRate> for Fault {
 }
 
 impl From<WholeFault> for Fault {
-    ghost use Rattle.pocsag_commands.specs.Faults.{fault_of_whole};
+    ghost use Rattle.pocsag_faults.specs.Faults.{fault_of_whole};
 
     ghost from_gives = { λ refused e. e ≡ fault_of_whole refused };
 
@@ -191,7 +191,7 @@ impl From<WholeFault> for Fault {
 }
 
 impl From<ListFault> for Fault {
-    ghost use Rattle.pocsag_commands.specs.Faults.{fault_of_list};
+    ghost use Rattle.pocsag_faults.specs.Faults.{fault_of_list};
 
     ghost from_gives = { λ refused e. e ≡ fault_of_list refused };
 
@@ -199,6 +199,20 @@ impl From<ListFault> for Fault {
         match refused {
             ListFault::WriteFault => Fault::Write,
             ListFault::OutOfMemory => Fault::OutOfMemory,
+        }
+    }
+}
+
+impl From<ShowFault> for Fault {
+    ghost use Rattle.pocsag_faults.specs.Faults.{fault_of_show};
+
+    ghost from_gives = { λ refused e. e ≡ fault_of_show refused };
+
+    fn from(refused: ShowFault) -> Fault {
+        match refused {
+            ShowFault::Transmission(refused) => Fault::Transmission(refused),
+            ShowFault::WriteFault => Fault::Write,
+            ShowFault::OutOfMemory => Fault::OutOfMemory,
         }
     }
 }
@@ -212,7 +226,7 @@ impl From<CertificateFault> for Fault {
 }
 
 impl From<PlanFault> for Fault {
-    ghost use Rattle.pocsag_commands.specs.Faults.{fault_of_plan};
+    ghost use Rattle.pocsag_faults.specs.Faults.{fault_of_plan};
 
     ghost from_gives = { λ refused e. e ≡ fault_of_plan refused };
 
@@ -226,7 +240,7 @@ impl From<PlanFault> for Fault {
 }
 
 impl From<StreamFault> for Fault {
-    ghost use Rattle.pocsag_commands.specs.Faults.{fault_of_stream};
+    ghost use Rattle.pocsag_faults.specs.Faults.{fault_of_stream};
 
     ghost from_gives = { λ refused e. e ≡ fault_of_stream refused };
 

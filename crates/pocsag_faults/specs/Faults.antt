@@ -12,8 +12,10 @@ use Rattle.pocsag_plan.specs.declared.fault.PlanFault.{PlanFault}
 use Rattle.pocsag_plan.specs.declared.fault.PlanFault.TheVariants as planning
 use Rattle.pocsag_plan.specs.declared.fault.StreamFault.{StreamFault}
 use Rattle.pocsag_plan.specs.declared.fault.StreamFault.TheVariants as streaming
-use Rattle.pocsag_commands.specs.declared.fault.Fault.{Fault}
-use Rattle.pocsag_commands.specs.declared.fault.Fault.TheVariants as fault
+use Rattle.pocsag_show.specs.declared.fault.ShowFault.{ShowFault}
+use Rattle.pocsag_show.specs.declared.fault.ShowFault.TheVariants as showing
+use Rattle.pocsag_faults.specs.declared.fault.Fault.{Fault}
+use Rattle.pocsag_faults.specs.declared.fault.Fault.TheVariants as fault
 
 -- The exit status of a fault: 3 for a device or memory, 1 for what was refused.
 abbrev pub status_of : Fault → ℕ
@@ -58,3 +60,8 @@ fault_of_stream (streaming.SearchLimit stop) = fault.SearchLimit stop.least stop
 fault_of_stream streaming.OutOfMemory = fault.OutOfMemory
 fault_of_stream (streaming.Transmission f) = fault.Write
 fault_of_stream (streaming.Certificate f) = fault.Write
+
+abbrev pub fault_of_show : ShowFault → Fault
+fault_of_show (showing.Transmission f) = fault.Transmission f
+fault_of_show showing.WriteFault = fault.Write
+fault_of_show showing.OutOfMemory = fault.OutOfMemory

@@ -1,13 +1,13 @@
 ghost use Rattle.std.specs.Prelude.{OnOk};
-ghost use Rattle.pocsag_commands.specs.Notes.{AddsNotes};
+ghost use Rattle.pocsag_notes.specs.Notes.{AddsNotes};
 
-use crate::fault::Fault;
 use crate::file_notes::{note_header, note_line_feeds, note_record};
 use crate::note::{Notes, tell_notes};
 use crate::repair_notes::{RepairNotes, note_repair};
 use crate::role::{Names, Role};
 use crate::watch::Trouble;
 use pocsag_decode::DecodeFault;
+use pocsag_faults::Fault;
 use pocsag_pager::PagerFault;
 use pocsag_pages::RoundFault;
 use pocsag_tree::CertificateFault;

@@ -1,5 +1,8 @@
 use pocsag_words::Sink;
 
+/// The node limit of a plan where none is asked for.
+pub const DEFAULT_LIMIT: u32 = 100_000;
+
 /// The files of a plan: `plan` reads the first and writes the other two, and `--verify` reads all three.
 #[derive(Drop)]
 pub struct PlanFiles<P: Drop, T: Drop, C: Drop> {
