@@ -20,7 +20,7 @@ const BATCH: u64 = BATCH_WORDS as u64;
 const WORDS: usize = BATCH_WORDS as usize;
 
 // The codewords of a batch.
-const CODEWORDS: usize = 16;
+const BATCH_CODEWORDS: usize = 16;
 
 // The bytes of a batch of idle codewords.
 pub(crate) const IDLE_BATCH: [u8; 68] = [
@@ -116,9 +116,9 @@ fn are_codewords(numbers: &[u32]) -> bool
     requires { length numbers.now ≡ 16 }
     ensures { IsTrue result → All IsCodeword numbers.now }
 {
-    let mut flags = [false; CODEWORDS];
+    let mut flags = [false; BATCH_CODEWORDS];
     check_all(numbers, &mut flags);
-    for i in 0..CODEWORDS {
+    for i in 0..BATCH_CODEWORDS {
         if !flags[i] {
             return false;
         }
