@@ -1,4 +1,4 @@
-ghost use Rattle.std.specs.Prelude.{◌≡◌, ◌≤◌, [], ◌∷◌, ◌++◌, length, false, IfOk};
+ghost use Rattle.std.specs.Prelude.{◌≡◌, ◌≤◌, [], ◌∷◌, ◌++◌, length, false, true, None, Ok, IfOk, IfSome};
 ghost use Rattle.pocsag_pages.specs.Pages.{page_limit, has_address, page_fault_of};
 ghost use Rattle.pocsag_pages.specs.PageList.{unless_empty};
 
@@ -46,19 +46,23 @@ impl Draft {
         self.seen.contains(&address)
     }
 
-    // The pages with one more.
-    pub(crate) fn with(self, page: Page) -> Result<Draft, OutOfMemory>
+    // The pages with one more, or nothing where one of them has its address.
+    pub(crate) fn with(self, page: Page) -> Result<Option<Draft>, OutOfMemory>
         requires good { page_fault_of page ≡ None }
-        requires another { has_address self page.address ≡ false }
-        ensures { IfOk result (λ d. d ≡ self ++ page ∷ []) }
+        ensures another { IfOk result (λ found. IfSome found (λ _. has_address self page.address ≡ false)) }
+        ensures longer { IfOk result (λ found. IfSome found (λ d. d ≡ self ++ page ∷ [])) }
+        ensures again { result ≡ Ok None → has_address self page.address ≡ true }
     {
         let Draft {
             mut pages,
             mut seen,
         } = self;
-        seen.insert(page.address)?;
+        let added = seen.insert(page.address)?;
+        if !added {
+            return Ok(None);
+        }
         pages.push(page)?;
-        Ok(Draft { pages, seen })
+        Ok(Some(Draft { pages, seen }))
     }
 
     // The round of the pages, of which there must be one at least.

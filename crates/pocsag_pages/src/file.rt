@@ -69,14 +69,16 @@ fn with_row(
     ensures memory { result ≡ Err (RecordFault.Field FieldFault.OutOfMemory) → IsOk (page_of (fields_of row.now)) }
 {
     let page = page_of_row(alloc, row)?;
-    if draft.has(page.address) {
-        return Err(RecordFault::DuplicateAddress);
-    }
     if earlier as usize >= PAGE_LIMIT {
-        return Err(RecordFault::TooManyPages);
+        return Err(if draft.has(page.address) {
+            RecordFault::DuplicateAddress
+        } else {
+            RecordFault::TooManyPages
+        });
     }
     match draft.with(page) {
-        Ok(longer) => Ok(longer),
+        Ok(Some(longer)) => Ok(longer),
+        Ok(None) => Err(RecordFault::DuplicateAddress),
         Err(OutOfMemory) => Err(RecordFault::Field(FieldFault::OutOfMemory)),
     }
 }
