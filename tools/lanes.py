@@ -78,16 +78,17 @@ class Lanes:
         found = [task for task in left if all(it in self.done or it not in self.tasks for it in task.waits)]
         return sorted(found, key=lambda task: -self.behind[task.name])
 
-    def least(self, task):
-        """The jobs that a task gets even where fewer lanes are idle: all it can use where nothing that is left has a longer chain."""
-        longest = max(self.behind[name] for name in self.tasks if name not in self.done)
-        return MOST if self.behind[task.name] == longest else task.least
+    def is_waited_for(self, task):
+        """Whether nothing that is left has a longer chain, so that all ends the sooner the more jobs it has."""
+        return self.behind[task.name] == max(self.behind[name] for name in self.tasks if name not in self.done)
 
-    def begin(self, task, jobs):
+    def begin(self, task, lanes):
+        """Begins a task on so many lanes; with as many jobs, or with all it can use where it is waited for."""
+        jobs = max(lanes, min(MOST, self.lanes)) if self.is_waited_for(task) else lanes
         log = tempfile.TemporaryFile("w+", errors="replace")
         how = {"cwd": task.folder, "stdin": subprocess.DEVNULL, "stdout": log, "stderr": subprocess.STDOUT}
         process = subprocess.Popen(task.words(jobs), start_new_session=True, preexec_fn=end_with_parent, **how)
-        self.running[task.name] = (process, log, jobs, time.monotonic())
+        self.running[task.name] = (process, log, lanes, time.monotonic())
         number = len(self.done) + len(self.running)
         self.say(f"{minutes(time.monotonic() - self.start)} {task.begins} ({number} of {len(self.tasks)})")
 
@@ -95,11 +96,11 @@ class Lanes:
         """Begins what is ready, as long as a lane is idle and there is memory for one more; the idle lanes are shared out."""
         ready = self.ready()
         for at, task in enumerate(ready):
-            idle = self.lanes - sum(jobs for _, _, jobs, _ in self.running.values())
+            idle = self.lanes - sum(lanes for _, _, lanes, _ in self.running.values())
             if idle <= 0 or len(self.running) >= self.room:
                 return
             shared = -(-idle // (len(ready) - at))
-            self.begin(task, max(min(self.least(task), self.lanes), min(MOST, shared)))
+            self.begin(task, max(min(task.least, self.lanes), min(MOST, shared)))
 
     def end_some(self):
         """Takes out the tasks that have ended; gives the name and the text of one that failed."""

@@ -154,13 +154,14 @@ def right_change(texts, taken):
     listed = [(path, it) for path in sorted(texts) if path.startswith("src/")
               for it in functions_of(path, texts[path], homes)]
     names = {it.name.rpartition("::")[2] for _, it in listed}
-    for path, function in listed:
+    # first of those with a contract, whose body begins on a line of its own
+    for skipped, (path, function) in [(skipped, it) for skipped in (0, 1) for it in listed]:
         lines = texts[path].split("\n")[function.first:function.last + 1]
         opens = ([place for place, line in enumerate(lines) if line.strip() == "{"]
                  or [place for place, line in enumerate(lines) if line.endswith(") {") or re.search(r"-> .* \{$", line)])
         if not opens or function.unit in taken or function.name.startswith("tests::"):
             continue
-        body = "\n".join(lines[opens[0]:])
+        body = "\n".join(lines[opens[0] + skipped:])
         if any(f"{name}(" in body for name in names):
             continue
         old = "\n".join(lines[:opens[0] + 1])
