@@ -165,6 +165,8 @@ def right_change(texts, taken):
         if any(f"{name}(" in body for name in names):
             continue
         old = "\n".join(lines[:opens[0] + 1])
+        if texts[path].count(old) > 1:
+            continue
         edit = Edit("a change that is right", "")
         edit.pairs = [(path, old, old + "\n    let _right = 0_u8;")]
         edit.functions, edit.is_right = [function], True
