@@ -1,5 +1,5 @@
 -- The search for a way that leads load from an overfull slot to one with room (this project's own).
-use Rattle.std.specs.Prelude.{◌≡◌, ℕ, ◌+◌, ◌*◌, ◌<◌, ◌≤◌, ◌==◌, ◌⊎◌, cond, true, false, List, length, slice_index}
+use Rattle.std.specs.Prelude.{◌≡◌, ◌≢◌, ℕ, ◌+◌, ◌*◌, ◌<◌, ◌≤◌, ◌==◌, ◌⊎◌, cond, true, false, List, length, slice_index}
 use Rattle.pocsag_slots.specs.declared.class.Classes.{Classes}
 use Rattle.pocsag_slots.specs.declared.limit.Limits.{Limits}
 use Rattle.pocsag_slots.specs.Loads.{AreInOrder, IsWithin, load}
@@ -25,6 +25,14 @@ pub record IsLoaded (k : Classes) (l : Limits) (early counted : List ℕ) : Type
   pub within : IsWithin l (slice_index early)
   pub size : length early ≡ 136
   pub loads : (slot : ℕ) → slot < 16 → slice_index counted slot ≡ load k (slice_index early) slot
+
+-- The early runs of the class start or end at the slot, or do neither.
+abbrev pub IsAt : ℕ → ℕ → Type 0
+IsAt class slot = (start_of class true ≡ slot) ⊎ (finish_of class true ≡ slot)
+
+pub record IsApart (class slot : ℕ) : Type 0 where
+  pub start : start_of class true ≢ slot
+  pub finish : finish_of class true ≢ slot
 
 -- No run of the class that the limits let move leads load from the slot out of the set.
 pub record LeadsInto (l : Limits) (early : ℕ → ℕ) (set class slot : ℕ) : Type 0 where

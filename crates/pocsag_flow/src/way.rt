@@ -1,10 +1,42 @@
-ghost use Rattle.std.specs.Prelude.{◌≡◌, ◌<◌, false, true, slice_index};
+ghost use Rattle.std.specs.Prelude.{◌≡◌, ℕ, ◌<◌, ◌≤◌, false, true, slice_index};
 ghost use Rattle.pocsag_slots.specs.Numbering.{finish_of, start_of};
 ghost use Rattle.pocsag_slots.specs.Sums.{holds};
-ghost use Rattle.pocsag_flow.specs.Search.{StaysInside, LeadsInto, MayPush, Pushes};
+ghost use Rattle.pocsag_flow.specs.Search.{IsApart, IsAt, LeadsInto, MayPush, Pushes, StaysInside};
 
 use crate::network::{Network, Progress};
-use pocsag_slots::{CLASSES, Class, finish, holds, start, with_member};
+use pocsag_slots::{CLASSES, Class, finish, frame, holds, rest, start, with_member};
+
+// The classes by number, and the first of the last eight, which are those of an address codeword alone: one for each frame.
+const CLASS_COUNT: u8 = CLASSES as u8;
+
+const FIRST_BARE: u8 = CLASS_COUNT - 8;
+
+// How many rests a length has, so many classes a frame has before those.
+const RESTS: u8 = 16;
+
+// The class after one that has an end at the slot, of those that have one there too; 136 after the last.
+fn next_at(slot: u8, class: u8) -> u8
+    requires slot { slot < 16 }
+    requires class { class < 136 }
+    requires at { IsAt class slot }
+    ensures later { class < result }
+    ensures most { result ≤ 136 }
+    ensures at { result < 136 → IsAt result slot }
+    ensures none { (between : ℕ) → class < between → between < result → IsApart between slot }
+{
+    if class >= FIRST_BARE {
+        return CLASS_COUNT;
+    }
+    if start(class, true) == slot && rest(class) + 1 < RESTS {
+        return class + 1;
+    }
+    let frame = frame(class) + 1;
+    if frame == 8 {
+        FIRST_BARE + slot / 2
+    } else {
+        RESTS * frame + (slot + RESTS - 2 * frame) % RESTS
+    }
+}
 
 // Moves up to `most` into the slot, which is not reached yet, and on where it has no room.
 #[cycle(push)]
@@ -40,11 +72,14 @@ pub(crate) fn leave(network: &Network, search: &mut Progress, slot: u8, most: u3
     if straight > 0 {
         return straight;
     }
-    for number in 0..CLASSES as u8 {
+    // the first class with an end at the slot: of frame 0, with the slot for its rest
+    let mut number = slot;
+    while number < CLASS_COUNT {
         let moved = switch(network, search, Class { number }, slot, most);
         if moved > 0 {
             return moved;
         }
+        number = next_at(slot, number);
     }
     0
 }
@@ -53,14 +88,18 @@ pub(crate) fn leave(network: &Network, search: &mut Progress, slot: u8, most: u3
 #[cycle(push)]
 fn leave_straight(network: &Network, search: &mut Progress, slot: u8, most: u32) -> u32
     requires may { MayPush network.now search.old most }
+    requires slot { slot < 16 }
     requires reached { holds search.old.reached slot ≡ true }
     ensures pushes { Pushes network.now search.old search.new slot most result }
 {
-    for number in 0..CLASSES as u8 {
+    // the first class with an end at the slot: of frame 0, with the slot for its rest
+    let mut number = slot;
+    while number < CLASS_COUNT {
         let moved = switch_straight(network, search, Class { number }, slot, most);
         if moved > 0 {
             return moved;
         }
+        number = next_at(slot, number);
     }
     0
 }

@@ -1,6 +1,7 @@
--- How many runs start at a boundary, and how many end there.
+-- How many runs start at a boundary, how many end there, and how many times they cover slot 0.
 use Rattle.std.specs.Prelude.{◌≡◌, ℕ, ◌+◌, ◌-◌, ◌<◌, ◌==◌, true, false, cond, List, slice_index}
 use Rattle.pocsag_slots.specs.declared.class.Classes.{Classes}
+use Rattle.pocsag_slots.specs.Loads.{class_load}
 use Rattle.pocsag_slots.specs.Numbering.{slot_count, start_of, finish_of}
 use Rattle.pocsag_slots.specs.Sums.{sum_below}
 
@@ -19,3 +20,7 @@ CountStarts k choice n starts = (p : ℕ) → p < slot_count → slice_index sta
 
 abbrev pub CountEnds : Classes → (ℕ → ℕ) → ℕ → List ℕ → Type 0
 CountEnds k choice n ends = (p : ℕ) → p < slot_count → slice_index ends p ≡ sum_below n (ends_at k choice p)
+
+-- The runs of the first n classes cover slot 0 so many times.
+abbrev pub LoadFirst : Classes → (ℕ → ℕ) → ℕ → ℕ → Type 0
+LoadFirst k choice n first = first ≡ sum_below n (λ c. class_load k 0 c (choice c))

@@ -25,7 +25,7 @@ fn times_covered(first: u8, codewords: u8, slot: u8) -> u32
 
 // How often the runs of the class cover the slot, where so many of them start early.
 #[tactic(auto, unfolding(crate::specs::Loads::class_load))]
-fn class_load(classes: &Classes, class: Class, early: u32, slot: u8) -> u32
+pub(crate) fn class_load(classes: &Classes, class: Class, early: u32, slot: u8) -> u32
     requires early { early ≤ slice_index classes.now.count class.number }
     requires slot { slot < 16 }
     ensures value { result ≡ class_load classes.now slot class.number early }
@@ -40,24 +40,6 @@ fn class_load(classes: &Classes, class: Class, early: u32, slot: u8) -> u32
     classes.turns[class.number as usize] + by_early + by_late
 }
 
-fn slot_load(classes: &Classes, choice: &Choice, slot: u8) -> u32
-    requires choice { IsChoice classes.now (early_of choice.now) }
-    requires slot { slot < 16 }
-    ensures value { result ≡ load classes.now (early_of choice.now) slot }
-    ensures bound { result ≤ load_limit }
-{
-    let mut total = 0;
-    for number in 0..CLASS_COUNT {
-        total += class_load(
-            classes,
-            Class { number },
-            choice.early[number as usize],
-            slot,
-        );
-    }
-    total
-}
-
 /// The load of each slot under the choice: how many times the runs cover it, which is at most 88 times
 /// for each of 20,000 pages.
 pub fn loads(classes: &Classes, choice: &Choice) -> [u32; SLOTS]
@@ -68,7 +50,7 @@ pub fn loads(classes: &Classes, choice: &Choice) -> [u32; SLOTS]
     ensures bound { (slot : ℕ) → slot < 16 → slice_index result slot ≤ load_limit }
 {
     let edges = edges_of(classes, choice);
-    let mut load = slot_load(classes, choice, 0);
+    let mut load = edges.first;
     let mut found = [load; SLOTS];
     for slot in 1..SLOTS {
         load = load + edges.starts[slot] - edges.ends[slot];

@@ -19,7 +19,7 @@ pub fn unpack_numeric(alloc: Global, items: &[u32]) -> Result<Vec<u8>, OutOfMemo
     ensures allowed { IfOk result (λ v. All (λ c. IsSome (numeric.code_of c)) v.items) }
 {
     let codes = codes_of::<NUMERIC_WIDTH>(alloc, items)?;
-    let mut text = characters_of(alloc, &codes)?;
+    let mut text = characters_of(codes);
     let len = trimmed_len(&text, b' ');
     text.truncate(len);
     Ok(text)
@@ -56,12 +56,15 @@ fn codes_of<const W: u32>(alloc: Global, items: &[u32]) -> Result<Vec<u8>, OutOf
     Ok(unpacker.into_codes())
 }
 
-/// The numeric characters of the codes.
-fn characters_of(alloc: Global, codes: &[u8]) -> Result<Vec<u8>, OutOfMemory>
-    requires { All (λ code. code < 16) codes.now }
-    ensures { IfOk result (λ v. v.items ≡ map numeric.character_of codes.now) }
+/// The numeric characters of the codes, in their room.
+fn characters_of(mut codes: Vec<u8>) -> Vec<u8>
+    requires { All (λ code. code < 16) codes.items }
+    ensures { result.items ≡ map numeric.character_of codes.items }
 {
-    Ok(codes.iter().map(|code| character_of(*code)).collect(alloc)?)
+    for code in codes.iter_mut() {
+        *code = character_of(*code);
+    }
+    codes
 }
 
 /// The length of a text without what is unwanted at its end.

@@ -1,5 +1,5 @@
-use Rattle.std.proofs.Common.{◌+◌, ◌-◌, ◌*◌}
-use Rattle.pocsag_flow.specs.Search.{Leaves}
+use Rattle.std.proofs.Common.{◌+◌, ◌-◌, ◌*◌, ◌<◌, ◌≤◌}
+use Rattle.pocsag_flow.specs.Search.{IsAt, Leaves}
 use Rattle.pocsag_flow.proofs.way.+push.Given as goal
 
 abbrev pub decreases-enter : goal.decreases-enter
@@ -24,7 +24,21 @@ abbrev pub decreases-leave : goal.decreases-leave
 decreases-leave l = 6 * (65536 - l.search.now.reached) + 5
 
 abbrev pub invariant-leave_straight-loop-number : goal.invariant-leave_straight-loop-number
-invariant-leave_straight-loop-number l = Leaves l.network l.fn.search l.search l.slot 0
+invariant-leave_straight-loop-number l = record {
+  tried : Leaves l.network l.fn.search l.search l.slot 0;
+  most : l.number ≤ 136;
+  at : l.number < 136 → IsAt l.number l.slot;
+}
+
+abbrev pub decreases-leave_straight-loop-number : goal.decreases-leave_straight-loop-number
+decreases-leave_straight-loop-number l = 136 - l.number
 
 abbrev pub invariant-leave-loop-number : goal.invariant-leave-loop-number
-invariant-leave-loop-number l = Leaves l.network l.fn.search l.search l.slot l.number
+invariant-leave-loop-number l = record {
+  tried : Leaves l.network l.fn.search l.search l.slot l.number;
+  most : l.number ≤ 136;
+  at : l.number < 136 → IsAt l.number l.slot;
+}
+
+abbrev pub decreases-leave-loop-number : goal.decreases-leave-loop-number
+decreases-leave-loop-number l = 136 - l.number

@@ -1,6 +1,7 @@
-use Rattle.pocsag_slots.proofs.Prelude.{◌≤◌, ◌-◌, ◌==◌, cond, ℕ, refl, slice_index, arith, ends_at, starts_at}
+use Rattle.pocsag_slots.proofs.Prelude.{◌≤◌, ◌+◌, ◌-◌, ◌==◌, cond, ℕ, refl, slice_index, arith, ends_at, starts_at}
 use Rattle.pocsag_slots.proofs.Edging.{class_added, class_skipped, ends_few, none_end, none_start, part_few, starts_few}
-use Rattle.pocsag_slots.proofs.LoadLemmas.{count_few}
+use Rattle.pocsag_slots.proofs.LoadLemmas.{count_few, load_none, loads_few}
+use Rattle.pocsag_slots.proofs.SumLemmas.{summed}
 use Rattle.pocsag_slots.proofs.edge.add_class.Goals as goal
 
 part : (a b x : ℕ) → cond (a == b) x 0 ≤ x
@@ -81,3 +82,20 @@ returns-clause-ends c p h =
     (slice_index c.add_to-4.new.sums p)
     c.finish.result c.finish-2.result _ _ p (choice n) (slice_index k.count n - choice n)
     (c.requires.ends p h) (c.add_to-3.ensures p h) (c.add_to-4.ensures p h) c.finish.ensures.value c.finish-2.ensures.value refl
+
+pub returns-then-classes-class-eq0-clause-first : goal.returns-then-classes-class-eq0-clause-first
+returns-then-classes-class-eq0-clause-first c =
+    class_skipped _ c.args.class.number _ c.requires.first
+    (load_none c.args.classes.now 0 c.args.class.number _ (omega arith) c.args.class.known
+    (c.requires.chosen c.args.class.number c.args.class.known) (omega arith))
+
+pub overflow_add-edges : goal.overflow_add-edges
+overflow_add-edges c =
+    let more = summed _ c.args.class.number _ _ c.requires.first c.class_load.ensures.value in
+    let few =
+    loads_few c.args.classes.now (slice_index c.args.choice.now.early) 0 (c.args.class.number + 1) (omega arith)
+    (omega (arith, c.args.class.known)) c.requires.chosen in
+    omega (arith, more, few)
+
+pub returns-clause-first : goal.returns-clause-first
+returns-clause-first c = summed _ c.args.class.number _ _ c.requires.first c.class_load.ensures.value
