@@ -1,5 +1,5 @@
 //! The first fault of a transmission.
-ghost use Rattle.std.specs.Prelude.{◌≡◌, List, ◌∷◌, [], ◌+◌, ◌-◌, ◌*◌, ◌/◌, ◌%◌, ◌^◌, ◌<◌, ◌≤◌, All, IsTrue, false, length, IfErr, MatchResult, OnOk};
+ghost use Rattle.std.specs.Prelude.{◌≡◌, List, ◌∷◌, [], ◌+◌, ◌-◌, ◌*◌, ◌/◌, ◌%◌, ◌^◌, ◌<◌, ◌≤◌, ◌↔◌, All, IsTrue, false, length, IfErr, MatchResult, OnOk};
 ghost use Rattle.pocsag_words.specs.Codeword.{IsCodeword};
 ghost use Rattle.pocsag_pages.specs.declared.page.Page.{Page};
 ghost use Rattle.pocsag_pages.specs.Bytes.{words_of};
@@ -114,7 +114,7 @@ fn words_in(batch: &[u8]) -> [u32; WORDS]
 // Whether all of these numbers, as many as the codewords of a batch, are codewords.
 fn are_codewords(numbers: &[u32]) -> bool
     requires { length numbers.now ≡ 16 }
-    ensures { IsTrue result → All IsCodeword numbers.now }
+    ensures { IsTrue result ↔ All IsCodeword numbers.now }
 {
     let mut flags = [false; BATCH_CODEWORDS];
     check_all(numbers, &mut flags);

@@ -1,5 +1,5 @@
 -- The classes whose early runs have an end at a slot, one after the other.
-use Rattle.std.proofs.Common.{◌≡◌, ◌≢◌, ℕ, ◌+◌, ◌-◌, ◌*◌, ◌/◌, ◌%◌, ◌<◌, ◌≤◌, true, ◌∙◌, arith, inl, inr, slice_index}
+use Rattle.std.proofs.Common.{◌≡◌, ◌≢◌, ℕ, ◌+◌, ◌-◌, ◌*◌, ◌/◌, ◌%◌, ◌<◌, ◌≤◌, true, false, refl, sym, ◌∙◌, arith, inl, inr, slice_index}
 use Rattle.std.proofs.lemmas.Bool.{cases_lt}
 use Rattle.std.proofs.lemmas.Bool.Decides.{nat_tests}
 use Rattle.pocsag_slots.specs.declared.limit.Limits.{Limits}
@@ -9,13 +9,21 @@ use Rattle.pocsag_flow.specs.declared.network.Progress.{Progress}
 use Rattle.pocsag_flow.specs.Search.{IsApart, IsAt, LeadsInto, Leaves}
 
 -- where the classes before the bare ones start and end, and the bare ones
-start_full : (c : ℕ) → c < 128 → start_of c true ≡ 2 * (c / 16)
+pub start_full : (c : ℕ) → c < 128 → start_of c true ≡ 2 * (c / 16)
 unfolding start_of class_frame
 start_full c h = grind (arith, nat_tests)
 
 finish_full : (c : ℕ) → c < 128 → finish_of c true ≡ (2 * (c / 16) + c % 16) % 16
 unfolding finish_of start_of class_frame class_rest
 finish_full c h = grind (arith, nat_tests)
+
+pub frame_full : (c : ℕ) → c < 128 → class_frame c ≡ c / 16
+unfolding class_frame
+frame_full c h = grind (arith, nat_tests)
+
+pub rest_full : (c : ℕ) → c < 128 → class_rest c ≡ c % 16
+unfolding class_rest
+rest_full c h = grind (arith, nat_tests)
 
 start_bare : (c : ℕ) → 128 ≤ c → start_of c true ≡ 2 * (c - 128)
 unfolding start_of class_frame
@@ -52,11 +60,8 @@ at_full c slot h is other = elim is [
 ]
 
 -- in the frame of the slot all classes, and in each other one the class of one rest
-pub at_own : (c slot : ℕ) → c < 128 → start_of c true ≡ slot → class_rest c + 1 < 16 → IsAt (c + 1) slot
-unfolding class_rest
-at_own c slot h start rest =
-    let few : c % 16 < 15 = grind (arith, nat_tests) in
-    inl (omega (arith, start_full c h, start_full (c + 1) (omega arith)))
+pub at_own : (c slot : ℕ) → c < 128 → start_of c true ≡ slot → c % 16 < 15 → IsAt (c + 1) slot
+at_own c slot h start rest = inl (omega (arith, start_full c h, start_full (c + 1) (omega arith)))
 
 pub at_other : (f slot : ℕ) → f < 8 → slot < 16 → IsAt (16 * f + (slot + 16 - 2 * f) % 16) slot
 at_other f slot h few =
@@ -131,6 +136,15 @@ left_apart n before now slot class next l none = record {
         | inl low ↦ l.leads tried low
         | inr high ↦ nowhere n.limits.now (slice_index before.early) now.reached tried slot (none tried (omega arith) h)
       ];
+}
+
+pub left_none : (n : Network) (before : Progress) (slot : ℕ) → Leaves n before before slot 0
+left_none n before slot = record {
+  same = refl;
+  grows = record { each = λ s held. held };
+  more = omega arith;
+  stuck = record { each = λ s low held new. let none : true ≡ false = sym held ∙ new in cc };
+  leads = λ tried h. absurd (omega arith);
 }
 
 pub left_before : (n : Network) (before now : Progress) (slot : ℕ) → slot < 16 → Leaves n before now slot 0 → Leaves n before now slot slot

@@ -14,6 +14,9 @@ returns-then-eq c =
     ap words_of ((bytes_eq-Decides _ _).0 (sym c.if-eq.ensures) ∙ c.as_slice.ensures) in
     subst (JudgesMore (Ok false) c.args.place c.args.may) (sym same) (fine_idles c.args.place c.args.may c.requires.first)
 
+pub judge_kinds-requires-clause-codewords : goal.judge_kinds-requires-clause-codewords
+judge_kinds-requires-clause-codewords c = c.are_codewords.ensures.0 c.if-not-are_codewords.false
+
 pub returns : goal.returns
 returns c =
     let batch = c.args.batch.now in
