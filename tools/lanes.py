@@ -24,7 +24,6 @@ class Task:
     words: object  # of the number of jobs that it may use
     begins: str
     ends: str
-    least: int = 1  # the jobs that it gets even where fewer lanes are idle, since it would else be the last for long
 
 
 def processors():
@@ -100,7 +99,7 @@ class Lanes:
             if idle <= 0 or len(self.running) >= self.room:
                 return
             shared = -(-idle // (len(ready) - at))
-            self.begin(task, max(min(task.least, self.lanes), min(MOST, shared)))
+            self.begin(task, min(MOST, shared))
 
     def end_some(self):
         """Takes out the tasks that have ended; gives the name and the text of one that failed."""

@@ -27,10 +27,10 @@ pub record IsLoaded (k : Classes) (l : Limits) (early counted : List ℕ) : Type
   pub loads : (slot : ℕ) → slot < 16 → slice_index counted slot ≡ load k (slice_index early) slot
 
 -- The early runs of the class start or end at the slot, or do neither.
-abbrev pub IsAt : ℕ → ℕ → Type 0
-IsAt class slot = (start_of class true ≡ slot) ⊎ (finish_of class true ≡ slot)
+abbrev pub HasEndAt : ℕ → ℕ → Type 0
+HasEndAt class slot = (start_of class true ≡ slot) ⊎ (finish_of class true ≡ slot)
 
-pub record IsApart (class slot : ℕ) : Type 0 where
+pub record EndsElsewhere (class slot : ℕ) : Type 0 where
   pub start : start_of class true ≢ slot
   pub finish : finish_of class true ≢ slot
 

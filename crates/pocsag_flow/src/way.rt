@@ -1,7 +1,7 @@
 ghost use Rattle.std.specs.Prelude.{◌≡◌, ℕ, ◌<◌, ◌≤◌, false, true, slice_index};
 ghost use Rattle.pocsag_slots.specs.Numbering.{finish_of, start_of};
 ghost use Rattle.pocsag_slots.specs.Sums.{holds};
-ghost use Rattle.pocsag_flow.specs.Search.{IsApart, IsAt, LeadsInto, MayPush, Pushes, StaysInside};
+ghost use Rattle.pocsag_flow.specs.Search.{EndsElsewhere, HasEndAt, LeadsInto, MayPush, Pushes, StaysInside};
 
 use crate::network::{Network, Progress};
 use pocsag_slots::{CLASSES, Class, finish, frame, holds, rest, start, with_member};
@@ -18,11 +18,11 @@ const RESTS: u8 = 16;
 fn next_at(slot: u8, class: u8) -> u8
     requires slot { slot < 16 }
     requires class { class < 136 }
-    requires at { IsAt class slot }
+    requires at { HasEndAt class slot }
     ensures later { class < result }
     ensures most { result ≤ 136 }
-    ensures at { result < 136 → IsAt result slot }
-    ensures none { (between : ℕ) → class < between → between < result → IsApart between slot }
+    ensures at { result < 136 → HasEndAt result slot }
+    ensures none { (between : ℕ) → class < between → between < result → EndsElsewhere between slot }
 {
     if class >= FIRST_BARE {
         return CLASS_COUNT;

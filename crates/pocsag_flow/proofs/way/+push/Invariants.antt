@@ -1,5 +1,5 @@
 use Rattle.std.proofs.Common.{◌+◌, ◌-◌, ◌*◌, ◌<◌, ◌≤◌}
-use Rattle.pocsag_flow.specs.Search.{IsAt, Leaves}
+use Rattle.pocsag_flow.specs.Search.{HasEndAt, Leaves}
 use Rattle.pocsag_flow.proofs.way.+push.Given as goal
 
 abbrev pub decreases-enter : goal.decreases-enter
@@ -27,7 +27,7 @@ abbrev pub invariant-leave_straight-loop-number : goal.invariant-leave_straight-
 invariant-leave_straight-loop-number l = record {
   tried : Leaves l.network l.fn.search l.search l.slot 0;
   most : l.number ≤ 136;
-  at : l.number < 136 → IsAt l.number l.slot;
+  at : l.number < 136 → HasEndAt l.number l.slot;
 }
 
 abbrev pub decreases-leave_straight-loop-number : goal.decreases-leave_straight-loop-number
@@ -37,7 +37,7 @@ abbrev pub invariant-leave-loop-number : goal.invariant-leave-loop-number
 invariant-leave-loop-number l = record {
   tried : Leaves l.network l.fn.search l.search l.slot l.number;
   most : l.number ≤ 136;
-  at : l.number < 136 → IsAt l.number l.slot;
+  at : l.number < 136 → HasEndAt l.number l.slot;
 }
 
 abbrev pub decreases-leave-loop-number : goal.decreases-leave-loop-number
