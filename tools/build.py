@@ -31,7 +31,7 @@ STATE = TOP / "out"  # never committed
 BUILT = STATE / "built"  # what the program was built from
 LOCK = STATE / "lock"
 BINARY = TOP / "crates" / workspace.PROGRAM / "out" / workspace.PROGRAM
-TEST_SECONDS = 900  # for each test, on a busy machine
+TEST_SECONDS = 3_600  # for each test: compiled with checks one of the greatest sizes takes minutes
 BESIDE = [sys.executable, str(TOP / "tools/rt_beside.py")]
 
 
