@@ -119,10 +119,11 @@ impl Checker {
 
     fn each(&self, limits: &Limits, ways: &[Way], children: &[Tree], depth: u32) -> bool {
         ways.len() == children.len()
-            && ways.iter().zip(children).all(|(way, child)| self.node(&self.narrow(limits, *way), child, depth))
+            && ways.iter().zip(children).all(|(way, child)| self.node(&mut self.narrow(limits, *way), child, depth))
     }
 
-    fn node(&self, limits: &Limits, tree: &Tree, depth: u32) -> bool {
+    /// Whether the node is accepted. The limits are narrowed in place, and are put back behind each child of a `Split`.
+    fn node(&self, limits: &mut Limits, tree: &Tree, depth: u32) -> bool {
         if depth == 0 {
             return false;
         }
@@ -133,14 +134,18 @@ impl Checker {
                 if class >= 136 || m <= limits.lo[class] || m > limits.hi[class] {
                     return false;
                 }
-                let mut low = *limits;
-                low.hi[class] = m - 1;
-                if !self.node(&low, below, depth - 1) {
+                let most = limits.hi[class];
+                limits.hi[class] = m - 1;
+                let below_accepted = self.node(limits, below, depth - 1);
+                limits.hi[class] = most;
+                if !below_accepted {
                     return false;
                 }
-                let mut high = *limits;
-                high.lo[class] = m;
-                self.node(&high, from, depth - 1)
+                let least = limits.lo[class];
+                limits.lo[class] = m;
+                let from_accepted = self.node(limits, from, depth - 1);
+                limits.lo[class] = least;
+                from_accepted
             }
             Tree::Cut { set, needed, children } => {
                 let needed = usize::from(*needed);
@@ -213,8 +218,8 @@ fn check(pages: &[u8], certificate: &[u8]) -> bool {
         checker.count[class] += 1;
         checker.turns[class] += length as u32 / 16;
     }
-    let limits = Limits { lo: [0; 136], hi: checker.count, cap: [checker.batches; 16] };
-    checker.node(&limits, &tree, 300)
+    let mut limits = Limits { lo: [0; 136], hi: checker.count, cap: [checker.batches; 16] };
+    checker.node(&mut limits, &tree, 300)
 }
 
 /// Times the check of 999,999 nodes for 20,000 tones.

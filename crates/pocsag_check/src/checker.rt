@@ -1,14 +1,13 @@
-ghost use Rattle.std.specs.Prelude.{◌↔◌, ◌<◌, ◌≤◌, All, IsTrue, slice_index};
+ghost use Rattle.std.specs.Prelude.{◌≡◌, ◌↔◌, ◌<◌, ◌≤◌, All, IsTrue, slice_index};
 ghost use Rattle.pocsag_slots.specs.Loads.{AreInOrder};
 ghost use Rattle.pocsag_slots.specs.Sums.{holds};
 ghost use Rattle.pocsag_slots.specs.Tours.{AsksForLast};
-ghost use Rattle.pocsag_slots.specs.Ways.{class_certain, MayTake};
+ghost use Rattle.pocsag_slots.specs.Ways.{class_certain, limits_below, limits_from, MayTake, ways_across};
 ghost use Rattle.pocsag_tree.specs.Views.{bound_tree_of, bounds_of};
 ghost use Rattle.pocsag_check.specs.Accepting.{AcceptsEachWithin, AcceptsWithin};
 
 use pocsag_slots::{
-    CLASSES, Classes, Limits, Way, below_split, closing_ways, from_split, holds, is_certain,
-    narrow, overloads, ways,
+    CLASSES, Classes, Limits, Way, closing_ways, holds, is_certain, narrow, overloads, ways,
 };
 use pocsag_tree::Tree;
 use pocsag_words::End;
@@ -21,6 +20,13 @@ pub(crate) struct Claim<'a> {
     pub(crate) end: End,
     pub(crate) batches: u32,
     pub(crate) takes_open: bool,
+}
+
+// Where a class is split: fewer than m of its pages start early, or at least m do.
+#[derive(Clone, Copy)]
+struct Halving {
+    class: u8,
+    m: u32,
 }
 
 // Whether the class can be split at m.
@@ -55,12 +61,15 @@ fn closes(claim: &Claim) -> bool
     }
 }
 
-/// Whether the node is accepted under the limits, at most this deep. It looks at nothing deeper.
+/// Whether the node is accepted under the limits, at most this deep. It looks at nothing deeper. The
+/// limits are narrowed in place, and are put back behind each child.
 #[cycle(checking)]
-pub(crate) fn check_node(claim: &Claim, limits: &Limits, tree: &Tree, depth: u32) -> bool
-    requires { AreInOrder claim.now.classes.now limits.now }
-    ensures { IsTrue result ↔ AcceptsWithin claim.now.takes_open claim.now.classes.now claim.now.end claim.now.batches
-        limits.now depth (bound_tree_of tree.now) }
+pub(crate) fn check_node(claim: &Claim, limits: &mut Limits, tree: &Tree, depth: u32) -> bool
+    requires { AreInOrder claim.now.classes.now limits.old }
+    ensures accepted { IsTrue result ↔
+        AcceptsWithin claim.now.takes_open claim.now.classes.now claim.now.end claim.now.batches
+        limits.old depth (bound_tree_of tree.now) }
+    ensures same_limits { limits.new ≡ limits.old }
 {
     if depth == 0 {
         return false;
@@ -76,20 +85,20 @@ pub(crate) fn check_node(claim: &Claim, limits: &Limits, tree: &Tree, depth: u32
             if !splits(limits, *class, *m) {
                 return false;
             }
-            let low = below_split(limits, *class, u32::from(*m));
-            let high = from_split(limits, *class, u32::from(*m));
-            check_node(claim, &low, below, depth - 1) && check_node(claim, &high, from, depth - 1)
+            let at = Halving {
+                class: *class,
+                m: u32::from(*m),
+            };
+            check_below(claim, limits, at, below, depth - 1)
+                && check_from(claim, limits, at, from, depth - 1)
         }
         Tree::Cut {
             set,
             needed,
             children,
         } => {
-            if !cuts(claim, limits, *set, *needed) {
-                return false;
-            }
-            let out = ways(claim.classes, limits, *set, claim.batches);
-            check_each(claim, limits, out.as_slice(), children, depth - 1)
+            cuts(claim, limits, *set, *needed)
+                && check_cut(claim, limits, *set, children, depth - 1)
         }
         Tree::Close { children } => {
             if !closes(claim) {
@@ -100,6 +109,58 @@ pub(crate) fn check_node(claim: &Claim, limits: &Limits, tree: &Tree, depth: u32
         }
         Tree::Open => claim.takes_open,
     }
+}
+
+// Whether the node is accepted under the limits where fewer than m pages of the class start early.
+#[cycle(checking)]
+fn check_below(claim: &Claim, limits: &mut Limits, at: Halving, tree: &Tree, depth: u32) -> bool
+    requires ordered { AreInOrder claim.now.classes.now limits.old }
+    requires class { at.class < 136 }
+    requires above { slice_index limits.old.lo at.class < at.m }
+    requires within { at.m ≤ slice_index limits.old.hi at.class }
+    ensures accepted { IsTrue result ↔
+        AcceptsWithin claim.now.takes_open claim.now.classes.now claim.now.end claim.now.batches
+        (limits_below limits.old at.class at.m) depth (bound_tree_of tree.now) }
+    ensures same_limits { limits.new ≡ limits.old }
+{
+    let most = limits.hi[at.class as usize];
+    limits.hi[at.class as usize] = at.m - 1;
+    let accepted = check_node(claim, limits, tree, depth);
+    limits.hi[at.class as usize] = most;
+    accepted
+}
+
+// Whether the node is accepted under the limits where at least m pages of the class start early.
+#[cycle(checking)]
+fn check_from(claim: &Claim, limits: &mut Limits, at: Halving, tree: &Tree, depth: u32) -> bool
+    requires ordered { AreInOrder claim.now.classes.now limits.old }
+    requires class { at.class < 136 }
+    requires above { slice_index limits.old.lo at.class < at.m }
+    requires within { at.m ≤ slice_index limits.old.hi at.class }
+    ensures accepted { IsTrue result ↔
+        AcceptsWithin claim.now.takes_open claim.now.classes.now claim.now.end claim.now.batches
+        (limits_from limits.old at.class at.m) depth (bound_tree_of tree.now) }
+    ensures same_limits { limits.new ≡ limits.old }
+{
+    let least = limits.lo[at.class as usize];
+    limits.lo[at.class as usize] = at.m;
+    let accepted = check_node(claim, limits, tree, depth);
+    limits.lo[at.class as usize] = least;
+    accepted
+}
+
+// Whether each way out of the set has its node accepted. The room for the ways is cleared in here: at
+// the start of `check_node` it would be cleared for each node.
+#[cycle(checking)]
+fn check_cut(claim: &Claim, limits: &Limits, set: u16, children: &[Tree], depth: u32) -> bool
+    requires ordered { AreInOrder claim.now.classes.now limits.now }
+    requires batches { 0 < claim.now.batches }
+    ensures { IsTrue result ↔
+        AcceptsEachWithin claim.now.takes_open claim.now.classes.now claim.now.end claim.now.batches
+        limits.now depth (ways_across claim.now.classes.now limits.now set) (bounds_of children.now) }
+{
+    let out = ways(claim.classes, limits, set, claim.batches);
+    check_each(claim, limits, out.as_slice(), children, depth)
 }
 
 #[cycle(checking)]
@@ -115,8 +176,8 @@ fn check_each(claim: &Claim, limits: &Limits, ways: &[Way], children: &[Tree], d
         return false;
     }
     for (place, child) in children.iter().enumerate() {
-        let narrowed = narrow(claim.classes, limits, ways[place], claim.batches);
-        if !check_node(claim, &narrowed, child, depth) {
+        let mut narrowed = narrow(claim.classes, limits, ways[place], claim.batches);
+        if !check_node(claim, &mut narrowed, child, depth) {
             return false;
         }
     }

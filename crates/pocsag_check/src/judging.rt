@@ -25,7 +25,8 @@ pub fn accepts(classes: &Classes, limits: &Limits, batches: u32, tree: &Tree, en
         batches,
         takes_open: false,
     };
-    check_node(&claim, limits, tree, DEPTH_LIMIT)
+    let mut narrowed = *limits;
+    check_node(&claim, &mut narrowed, tree, DEPTH_LIMIT)
 }
 
 fn check_tree(round: &Round, batches: u32, tree: &Tree, end: End, takes_open: bool) -> bool
@@ -35,14 +36,14 @@ fn check_tree(round: &Round, batches: u32, tree: &Tree, end: End, takes_open: bo
         return false;
     }
     let classes = classes_of(round, end);
-    let limits = all_limits(&classes, batches - 1);
+    let mut limits = all_limits(&classes, batches - 1);
     let claim = Claim {
         classes: &classes,
         end,
         batches: batches - 1,
         takes_open,
     };
-    check_node(&claim, &limits, tree, DEPTH_LIMIT)
+    check_node(&claim, &mut limits, tree, DEPTH_LIMIT)
 }
 
 /// Whether the tree shows that fewer than so many batches do not suffice for the round and the end.

@@ -578,7 +578,7 @@ fn notes_are_told(rt: HostRuntime) -> Result<(), Fail> {
         code: Some(2),
     });
     let swallowed = b"address,kind,message\n8,alpha,\"one\n9,tone0,\n";
-    let cases: [NoteCase; 6] = [
+    let cases: [NoteCase; 7] = [
         (Ok(0), LONE_TONE, ""),
         (Ok(2), LONE_TONE, ""),
         (
@@ -592,6 +592,13 @@ fn notes_are_told(rt: HostRuntime) -> Result<(), Fail> {
             BAD_FILE,
             "pocsag: page file p?.csv, line 2, record 1, address '7': the message is '12a', \
              its kind 'numeric'; the byte is 0x61\n",
+        ),
+        (
+            Err(Fault::Round(RoundFault::FieldCount(2))),
+            b"address,kind,message\n8,tone0,\n\n9,alpha,\"a\nb\",c,\"\n\nd\",\n16,tone0\n",
+            "pocsag: page file p?.csv, line 4, record 2, address '9': 6 fields, where address,kind,message are wanted; \
+             a message with a comma stands in quotes\n\
+             pocsag: quotes must be closed: record 2 holds 3 line feeds\n",
         ),
         (
             Err(Fault::Device),

@@ -1,7 +1,7 @@
 //! What help says.
 
 // The product, and the toolchain that proved it: the line of `rt version`.
-pub(crate) const VERSION: &str = "0.1.0, proved by rattle-kit-13b logic dac8208d650f15bf";
+pub(crate) const VERSION: &str = "0.1.0, proved by rattle-kit-13f logic dac8208d650f15bf";
 
 pub(crate) const ABOUT: &str = "\
 Plans POCSAG transmissions with the fewest batches, and proves that fewer do not suffice.

@@ -4,7 +4,7 @@ use pocsag_batch::{FirstFault, first_stream};
 use pocsag_pages::{
     FieldFault, FileRecords, PageFault, Payload, Round, RoundFault, WholeFault,
     is_reserved_address, leading_len, line_feeds, only_row, page_fault, page_of_fields, read_round,
-    read_whole,
+    read_whole, wide_record_size,
 };
 use pocsag_rounds::given::{PageRow, page, page_file, pages, tones};
 use pocsag_rounds::{THREE_PAGES_TIGHT, ones};
@@ -383,6 +383,16 @@ const WALKS: &[(&[u8], &[(usize, usize, &[u8])])] = &[
             (2, 1, b"never\nclosed\n"),
         ],
     ),
+    // The walk ends with the first record of more than three fields, of which the rest is not kept.
+    (
+        b"address,kind,message\n\n8,alpha,one,two\n,,,,\n9,tone0,\n",
+        &[(1, 3, b"message"), (3, 4, b"")],
+    ),
+    (
+        b"address,kind,message\r\n8,alpha,\"one,\n\",\"two\n",
+        &[(1, 3, b"message"), (2, 4, b"")],
+    ),
+    (b"\xEF\xBB\xBF,,,", &[(1, 4, b"")]),
 ];
 
 #[test]
@@ -402,16 +412,78 @@ fn records_of_a_file(rt: HostRuntime) {
     assert_eq!(rt; line_feeds(b"\r\na\n\n"), 3);
 }
 
+// A page file, and how many fields its first record of more than three has, and how many line feeds they hold.
+const WIDE_SIZES: &[(&[u8], (usize, usize))] = &[
+    (b"", (0, 0)),
+    (b"a,b,c\nd,\"e,\n\",f\n\n", (0, 0)),
+    (b"a,b,c,", (4, 0)),
+    (b"a,b,c,\r\n\nd,e,f,g,h\n", (4, 0)),
+    (b"\xEF\xBB\xBF\"a,\n,\",b,c,\"d\n\"\"\n\"\n", (4, 3)),
+    (b"\"a\n\",b\n\n,,,,\"c\n,\n\"\"", (5, 2)),
+    (b"\xEF\xBB\"\xBF,a\",,", (4, 0)),
+];
+
+#[test]
+fn sizes_of_wide_records(rt: HostRuntime) {
+    for (file, due) in WIDE_SIZES {
+        assert_eq!(rt; wide_record_size(file), *due);
+    }
+}
+
 // Bytes, and the fields of their record where they hold one and no more.
 const LONE_ROWS: &[(&[u8], Option<&[&[u8]]>)] = &[
+    // Lines with nothing on them are no records, wherever they stand.
     (b"", None),
+    (b"\r", None),
     (b"\r\n", None),
+    (b"\n\n\r\r\n", None),
     (b"list", Some(&[b"list"])),
-    (b"a,,\"b, \"\"c\"\"\"\r\n", Some(&[b"a", b"", b"b, \"c\""])),
-    (b"\xef\xbb\xbfa,b", Some(&[b"a", b"b"])),
+    (b"list\r", Some(&[b"list"])),
+    (b"list\n", Some(&[b"list"])),
+    (b"\r\n\n\ra,b\n\n\r\r\n", Some(&[b"a", b"b"])),
+    (b" \n", Some(&[b" "])),
+    // Two records.
     (b"a\nb", None),
     (b"a\rb", None),
+    (b"a\r\nb", None),
+    (b"a\n\n\r b\n", None),
+    (b"a\n,", None),
+    (b"a\n\"", None),
+    // Empty fields.
+    (b",", Some(&[b"", b""])),
+    (b"a,", Some(&[b"a", b""])),
+    (b"a,\r\n", Some(&[b"a", b""])),
+    (b",a", Some(&[b"", b"a"])),
+    (b",,\n", Some(&[b"", b"", b""])),
+    (b"\"\"", Some(&[b""])),
+    (b"\"\",\"\"", Some(&[b"", b""])),
+    // Quotes around a field.
+    (b"a,,\"b, \"\"c\"\"\"\r\n", Some(&[b"a", b"", b"b, \"c\""])),
     (b"\"a\nb\"", Some(&[b"a\nb"])),
+    (b"\"a\r\n\r\n,b\",c", Some(&[b"a\r\n\r\n,b", b"c"])),
+    (b"\"\"\"\"", Some(&[b"\""])),
+    (b"\"\"\"a\"\"\"\"b\"", Some(&[b"\"a\"\"b"])),
+    // Quotes that do not begin a field are bytes of it.
+    (b"a\"b", Some(&[b"a\"b"])),
+    (b"a\"\"b,\"c\"", Some(&[b"a\"\"b", b"c"])),
+    (b" \"a\"", Some(&[b" \"a\""])),
+    (b"a\",b\"\n", Some(&[b"a\"", b"b\""])),
+    // Bytes behind a closing quote join the field.
+    (b"\"a\"b", Some(&[b"ab"])),
+    (b"\"a\" ,b", Some(&[b"a ", b"b"])),
+    (b"\"a,\"b\"c\",d\n", Some(&[b"a,b\"c\"", b"d"])),
+    // A quote that none closes holds all that is left.
+    (b"\"", Some(&[b""])),
+    (b"a,\"b,c\n", Some(&[b"a", b"b,c\n"])),
+    (b"\"a\"\"", Some(&[b"a\""])),
+    // One byte order mark, at the start alone.
+    (b"\xef\xbb\xbf", None),
+    (b"\xef\xbb\xbf\r\n", None),
+    (b"\xef\xbb\xbfa,b", Some(&[b"a", b"b"])),
+    (b"\xef\xbb\xbf\"a,b\"", Some(&[b"a,b"])),
+    (b"\xef\xbb\xbf\xef\xbb\xbf", Some(&[b"\xef\xbb\xbf"])),
+    (b"\n\xef\xbb\xbfa", Some(&[b"\xef\xbb\xbfa"])),
+    (b"\xef\xbb", Some(&[b"\xef\xbb"])),
 ];
 
 #[test]
@@ -425,5 +497,31 @@ fn lone_rows(rt: HostRuntime) {
                 assert_eq!(rt; row.get(i), Some(*field), "{bytes:?}");
             }
         }
+    }
+}
+
+// What stands before and behind so many times one byte, and how often the byte is in the first field.
+const LONG_ROWS: &[(&[u8], u8, usize, &[u8], usize)] = &[
+    (b"", b'x', 70_000, b",last", 70_000),
+    (b"\"", b',', 70_000, b"\",last\r\n", 70_000),
+    (b"\"", b'"', 140_000, b"\",last\n", 70_000),
+];
+
+#[test]
+fn long_rows(rt: HostRuntime) {
+    let alloc = rt.alloc();
+    for (before, byte, count, behind, field_count) in LONG_ROWS {
+        let mut bytes = Vec::from_slice(alloc, before).expect(&rt, "memory");
+        bytes
+            .resize(before.len() + count, *byte)
+            .expect(&rt, "memory");
+        bytes.extend_from_slice(behind).expect(&rt, "memory");
+        let row = only_row(alloc, bytes.as_slice())
+            .expect(&rt, "memory")
+            .expect(&rt, "a record");
+        let field = vec![in alloc; *byte; *field_count].expect(&rt, "memory");
+        assert_eq!(rt; row.len(), 2);
+        assert_eq!(rt; row.get(0), Some(field.as_slice()));
+        assert_eq!(rt; row.get(1), Some(b"last".as_slice()));
     }
 }

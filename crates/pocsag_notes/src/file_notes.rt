@@ -3,7 +3,7 @@
 use crate::explaining::Scene;
 use crate::note::Notes;
 use crate::role::{NamedFile, Role};
-use pocsag_pages::{FileRecords, RoundFault, line_feeds};
+use pocsag_pages::{FileRecords, RoundFault, line_feeds, wide_record_size};
 use pocsag_words::OutOfMemory;
 use std::alloc::Global;
 use std::fmt::{self, Display};
@@ -65,13 +65,17 @@ fn excerpt_of<'r>(records: &'r FileRecords<'_>, place: usize) -> Excerpt<'r> {
     }
 }
 
-// How many line feeds the fields of the record hold.
-fn held_line_feeds(records: &FileRecords<'_>) -> usize {
+// How many fields the record has in the file, and how many line feeds they hold.
+fn record_size(records: &FileRecords<'_>, file: &[u8]) -> (usize, usize) {
+    let fields = records.len();
+    if fields > 3 {
+        return wide_record_size(file);
+    }
     let mut held = 0usize;
-    for place in 0..records.len() {
+    for place in 0..fields {
         held = held.saturating_add(line_feeds(field(records, place)));
     }
-    held
+    (fields, held)
 }
 
 // The number of the record that a fault names.
@@ -167,20 +171,16 @@ fn note_record_among(
         number,
         address: field(records, 0),
     };
-    note_field(refused, spot, records, notes)?;
+    let (fields, held) = record_size(records, scene.file);
+    note_field(refused, spot, fields, records, notes)?;
     if let RoundFault::DuplicateAddress(_) = refused {
         note_earlier(alloc, spot, scene, notes)?;
     }
-    note_open_quote(number, records, notes)
+    note_open_quote(number, held, notes)
 }
 
-// That a quote may be open in the record.
-fn note_open_quote(
-    number: u32,
-    records: &FileRecords<'_>,
-    notes: &mut Notes,
-) -> Result<(), OutOfMemory> {
-    let held = held_line_feeds(records);
+// That a quote may be open in the record, whose fields hold so many line feeds.
+fn note_open_quote(number: u32, held: usize, notes: &mut Notes) -> Result<(), OutOfMemory> {
     if held == 0 {
         return Ok(());
     }
@@ -201,10 +201,11 @@ fn what_is_wanted(refused: RoundFault) -> Option<&'static str> {
     }
 }
 
-// What is wrong with the record.
+// What is wrong with the record, which has so many fields.
 fn note_field(
     refused: RoundFault,
     spot: Spot<'_>,
+    fields: usize,
     records: &FileRecords<'_>,
     notes: &mut Notes,
 ) -> Result<(), OutOfMemory> {
@@ -212,12 +213,9 @@ fn note_field(
         return notes.add(format_args!("{spot}: {wanted}"));
     }
     match refused {
-        RoundFault::FieldCount(_) => {
-            let fields = records.len();
-            notes.add(format_args!(
-                "{spot}: {fields} fields, where address,kind,message are wanted; a message with a comma stands in quotes"
-            ))
-        }
+        RoundFault::FieldCount(_) => notes.add(format_args!(
+            "{spot}: {fields} fields, where address,kind,message are wanted; a message with a comma stands in quotes"
+        )),
         RoundFault::TooLong(_) => {
             let length = field(records, 2).len();
             notes.add(format_args!(

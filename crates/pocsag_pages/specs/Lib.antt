@@ -1,4 +1,5 @@
 pub mod Bytes
+pub mod CsvStates
 pub mod Drafts
 pub mod Listable
 pub mod PageFile

@@ -1,40 +1,34 @@
 -- Records of more fields than a page has, and what of a page file is read for its verdict.
-use Rattle.std.specs.Prelude.{◌≤◌, ◌/◌, ◌+◌, ◌==◌, ℕ, List, count_by, length, max}
+use Rattle.std.specs.Prelude.{◌≤◌, ◌/◌, ◌+◌, ◌==◌, ℕ, List, [], ◌∷◌, ◌++◌, count_by, if◌then◌else◌, length, max, nat_lt, take}
+use Rattle.std.specs.List.{sum_by}
 use Rattle.csv.specs.declared.parser.Action.{Action}
 use Rattle.csv.specs.declared.parser.Action.TheVariants as act
-use Rattle.csv.specs.declared.parser.State.{State}
-use Rattle.csv.specs.declared.parser.State.TheVariants as st
-use Rattle.pocsag_pages.specs.declared.wide_record.CsvState.{CsvState}
-use Rattle.pocsag_pages.specs.declared.wide_record.CsvState.TheVariants as csv_state
-use Rattle.pocsag_pages.specs.declared.wide_record.Ends.{Ends}
-use Rattle.pocsag_pages.specs.declared.wide_record.Ends.TheVariants as ends
 use Rattle.pocsag_pages.specs.PageFile.{Row}
 
--- A state as that of csv's machine. In the default dialect there is no escape and no comment.
-abbrev pub state_of : CsvState → State
-state_of csv_state.RecordStart = st.StartRecord
-state_of csv_state.FieldStart = st.StartField
-state_of csv_state.Bare = st.InField
-state_of csv_state.Quoted = st.InQuoted
-state_of csv_state.AfterQuote = st.AfterQuote
-state_of csv_state.AfterReturn = st.AfterCr
-
--- What an action of csv's machine ends.
-abbrev pub ends_of : Action → Ends
-ends_of act.Skip = ends.Nothing
-ends_of act.Copy = ends.Nothing
-ends_of act.EndField = ends.Field
-ends_of act.EndRecord = ends.Record
-
--- So many commas of the record at hand stand between fields, after a byte that ends this.
-abbrev pub commas_after : ℕ → Ends → ℕ
-commas_after commas ends.Nothing = commas
-commas_after commas ends.Field = commas + 1
-commas_after commas ends.Record = 0
+-- So many commas of the record at hand stand between fields, after a byte at which csv does this.
+abbrev pub commas_after : ℕ → Action → ℕ
+commas_after commas act.Skip = commas
+commas_after commas act.Copy = commas
+commas_after commas act.EndField = commas + 1
+commas_after commas act.EndRecord = 0
 
 -- A record of at most one field more than a page has.
 abbrev pub IsNarrow : Row → Type 0
 IsNarrow row = length row ≤ 4
+
+-- The records up to the first of more than three fields, of which these three are left and an empty one.
+unfoldable pub up_to_wide : List Row → List Row
+up_to_wide [] = []
+up_to_wide (r ∷ rows) = if nat_lt 3 (length r) then (take 3 r ++ [] ∷ []) ∷ [] else r ∷ up_to_wide rows
+
+-- The first record of more than three fields, or no fields where there is none.
+unfoldable pub first_wide : List Row → Row
+first_wide [] = []
+first_wide (r ∷ rows) = if nat_lt 3 (length r) then r else first_wide rows
+
+-- How many line feeds the fields of a record hold.
+abbrev pub line_feeds_of : Row → ℕ
+line_feeds_of row = sum_by (count_by (λ byte. byte == 10)) row
 
 -- The fields of all records together are few beside the bytes of the file, or few at all.
 abbrev pub HasFewCommas : List ℕ → Type 0

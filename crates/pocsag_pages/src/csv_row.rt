@@ -1,7 +1,6 @@
-ghost use Rattle.std.specs.Prelude.{◌≡◌, ◌∷◌, [], None, Some, true, false, IfOk, option_map};
+ghost use Rattle.std.specs.Prelude.{◌≡◌, ◌∷◌, [], true, false, IfOk};
 ghost use Rattle.csv.specs.Reading.{default_config, error_kind, records, stops_reader, strip_bom};
 ghost use Rattle.csv.specs.Records.{fields_of};
-ghost use Rattle.pocsag_pages.specs.PageFile.{only_row, rows_of};
 ghost use Rattle.pocsag_pages.specs.Rows.{StandsAt, rows_left};
 
 use csv::{ByteRecord, Error, ErrorKind, Reader, ReaderBuilder};
@@ -44,33 +43,4 @@ pub(crate) fn next_row(
         Ok(found) => Ok(found),
         Err(error) => Err(no_memory(error)),
     }
-}
-
-// Reads the next record into `row`, and says whether there was one and no more.
-fn next_is_only(
-    alloc: Global,
-    reader: &mut Reader<&[u8]>,
-    row: &mut ByteRecord,
-) -> Result<bool, OutOfMemory>
-    requires { StandsAt reader.old }
-    ensures only { IfOk result
-        (λ is_only. is_only ≡ true → only_row (rows_left reader.old) ≡ Some (fields_of row.new)) }
-    ensures other { IfOk result (λ is_only. is_only ≡ false → only_row (rows_left reader.old) ≡ None) }
-{
-    if !next_row(reader, row)? {
-        return Ok(false);
-    }
-    let mut rest = ByteRecord::new(alloc);
-    let more = next_row(reader, &mut rest)?;
-    Ok(!more)
-}
-
-/// The record of bytes that hold one record of CSV and no more, as a page file's records are read.
-pub fn only_row(alloc: Global, bytes: &[u8]) -> Result<Option<ByteRecord>, OutOfMemory>
-    ensures { IfOk result (λ row. option_map fields_of row ≡ only_row (rows_of bytes.now)) }
-{
-    let mut reader = rows_reader(alloc, bytes);
-    let mut row = ByteRecord::new(alloc);
-    let is_only = next_is_only(alloc, &mut reader, &mut row)?;
-    Ok(if is_only { Some(row) } else { None })
 }

@@ -4,10 +4,12 @@
 
 mod commas;
 mod csv_row;
+mod csv_state;
 mod draft;
 mod fault;
 mod file;
 mod laws;
+mod line_record;
 mod list;
 mod page;
 mod preamble;
@@ -18,10 +20,10 @@ mod walking;
 mod whole;
 mod wide_record;
 
-pub use csv_row::only_row;
 pub use fault::{FieldFault, PageFault, RoundFault, WholeFault};
 pub use file::{FILE_LIMIT, read_round};
 pub use laws::{readings_are_one, readings_are_plain, rounds_are_apart, rounds_are_good};
+pub use line_record::only_row;
 pub use page::{LAST_ADDRESS, Page, Payload};
 pub use pocsag_words::{BATCH_BITS, PREAMBLE_BITS, SYNC_WORD};
 pub use preamble::leading_len;
@@ -30,3 +32,4 @@ pub use round::{PAGE_LIMIT, Round};
 pub use rule::{ITEM_LIMIT, is_reserved_address, page_fault};
 pub use walking::{FileRecords, line_feeds};
 pub use whole::read_whole;
+pub use wide_record::wide_record_size;

@@ -1,15 +1,18 @@
 ghost use Rattle.std.specs.Prelude.{◌≡◌, ◌==◌, ◌∷◌, ◌≤◌, [], length, count_by, true, false, IfOk, option_map};
 ghost use Rattle.csv.specs.Records.{field_at};
 ghost use Rattle.pocsag_pages.specs.PageFile.{rows_of};
+ghost use Rattle.pocsag_pages.specs.WideRecords.{up_to_wide};
 
 use crate::csv_row::{next_row, rows_reader};
+use crate::wide_record::narrow_part;
 use csv::{ByteRecord, Reader};
 use pocsag_words::OutOfMemory;
 use std::alloc::Global;
 use std::marker::Model;
 
 /// The records of a page file one by one, the header first, each with the line on which it begins: for whoever
-/// has to find in the file what a fault names.
+/// has to find in the file what a fault names. The first of more than three fields is the last, since it is a fault
+/// itself: the first three are read of it and an empty one, for each field more would take memory.
 #[derive(Drop)]
 pub struct FileRecords<'a> {
     file: &'a [u8],
@@ -35,13 +38,13 @@ impl<'a> Model for FileRecords<'a> {
 }
 
 impl<'a> FileRecords<'a> {
-    /// All records of the bytes are ahead.
+    /// The records of the bytes are ahead, up to the first of more than three fields.
     pub fn of(alloc: Global, file: &'a [u8]) -> FileRecords<'a>
-        ensures { result.ahead ≡ rows_of file.now }
+        ensures { result.ahead ≡ up_to_wide (rows_of file.now) }
     {
         FileRecords {
             file,
-            reader: rows_reader(alloc, file),
+            reader: rows_reader(alloc, narrow_part(file)),
             row: ByteRecord::new(alloc),
             is_over: false,
             place: 0,
@@ -85,7 +88,7 @@ impl<'a> FileRecords<'a> {
         self.line
     }
 
-    /// How many fields the record has.
+    /// How many fields were read of the record: of one of more than three, four.
     pub fn len(&self) -> usize
         ensures { result ≡ length self.now.row }
     {

@@ -1,4 +1,5 @@
 use Rattle.pocsag_check.proofs.Prelude.{◌≡◌, ◌<◌, refl, arith, length, get_or, IsTrue, Way, narrowed_limits, bound_tree_of, AcceptsWithin}
+use Rattle.std.proofs.lemmas.List.{set-get_or, set-set}
 use Rattle.pocsag_slots.specs.declared.way.Way.TheVariants.{IdleIn}
 use Rattle.pocsag_check.proofs.RowChecks.{as_long, one_first, one_more, none_left, way_at}
 use Rattle.pocsag_check.proofs.checker.+checking.Goals as goal
@@ -21,7 +22,7 @@ check_each-returns-then-not-check_node t c =
           c.args.limits.now c.args.depth c.args.ways.now c.args.children.now i w c.index-children-place.result some c.loop-place-test.true
           (way_at c.args.ways.now i (IdleIn 0) some)
           c.index-children-place.is (c.loop-place.invariant.rest a) in
-          let yes : IsTrue c.check_node.result = c.check_node.ensures.1
+          let yes : IsTrue c.check_node.result = c.check_node.ensures.accepted.1
           (rw c.narrow-narrowed.ensures.value parts.0) in
           let no = c.if-not-check_node.true in
           absurd (cc yes),
@@ -34,7 +35,7 @@ check_each-loop-place-preserved t c =
     let some : i < length c.args.ways.now = omega arith in
     let yes : AcceptsWithin c.args.claim.now.takes_open c.args.claim.now.classes.now c.args.claim.now.end c.args.claim.now.batches
     c.narrow-narrowed.result c.args.depth (bound_tree_of c.index-children-place.result) =
-    c.check_node.ensures.0 (cc) in
+    c.check_node.ensures.accepted.0 (cc) in
     let here : AcceptsWithin c.args.claim.now.takes_open c.args.claim.now.classes.now c.args.claim.now.end c.args.claim.now.batches
     (narrowed_limits c.args.claim.now.classes.now c.args.limits.now w c.args.claim.now.batches) c.args.depth (bound_tree_of c.index-children-place.result) =
     rw c.narrow-narrowed.ensures.value at yes in
@@ -58,3 +59,9 @@ check_each-returns t c =
           c.args.depth c.args.ways.now c.args.children.now c.loop-place.place (omega arith) (omega arith)),
       λ a. refl,
     )
+
+pub check_below-returns-clause-same_limits : goal.check_below-returns-clause-same_limits
+check_below-returns-clause-same_limits t c = rw (c.check_node-accepted.ensures.same_limits, set-set, set-get_or) refl
+
+pub check_from-returns-clause-same_limits : goal.check_from-returns-clause-same_limits
+check_from-returns-clause-same_limits t c = rw (c.check_node-accepted.ensures.same_limits, set-set, set-get_or) refl

@@ -6,7 +6,7 @@ pub returns : goal.returns
 returns c =
     let k : Classes = c.classes_of-classes.result in (
       λ yes.
-          let both = c.check_node.ensures.0 yes in
+          let both = c.check_node.ensures.accepted.0 yes in
           record {
             table = k;
             counted = c.classes_of-classes.ensures.counted;
@@ -20,7 +20,7 @@ returns c =
           let same = one_table a.table k c.args.end c.args.round.now a.counted c.classes_of-classes.ensures.counted in
           let accepted : IsAccepted c.args.takes_open k c.args.end c.args.batches (bound_tree_of c.args.tree.now) =
           subst (λ (j : Classes). IsAccepted c.args.takes_open j c.args.end c.args.batches (bound_tree_of c.args.tree.now)) same a.accepted in
-          c.check_node.ensures.1
+          c.check_node.ensures.accepted.1
           (subst (λ (l : Limits). AcceptsWithin c.args.takes_open k c.args.end (c.args.batches - 1) l 300 (bound_tree_of c.args.tree.now))
           (sym c.all_limits-limits.ensures.value) (accepted.shallow, accepted.root)),
     )

@@ -1,6 +1,6 @@
 use Rattle.std.proofs.Common.{◌≡◌, ◌+◌, ◌-◌, ◌<◌, ◌≤◌, drop, length}
 use Rattle.csv.specs.declared.parser.State.TheVariants as st
-use Rattle.pocsag_pages.specs.WideRecords.{state_of}
+use Rattle.pocsag_pages.specs.CsvStates.{state_of}
 use Rattle.pocsag_pages.proofs.WideRecords.{read_length}
 use Rattle.pocsag_pages.proofs.wide_record.judged_len.Given as goal
 

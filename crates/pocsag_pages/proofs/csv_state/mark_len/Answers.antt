@@ -1,8 +1,8 @@
 use Rattle.std.proofs.Common.{ℕ, List, [], ◌∷◌, drop, take, sym, ap, ◌∙◌, true≢false, zero-add}
 use Rattle.std.proofs.lemmas.Bool.Decides.{Decides-eqb}
 use Rattle.std.proofs.lemmas.Slice.Eq.{starts_is}
-use Rattle.pocsag_pages.proofs.WideRecords.{HasMark, marked, marked_part, unmarked, unmarked_part}
-use Rattle.pocsag_pages.proofs.wide_record.mark_len.Goals as goal
+use Rattle.pocsag_pages.proofs.CsvSteps.{HasMark, marked, marked_part, unmarked, unmarked_part}
+use Rattle.pocsag_pages.proofs.csv_state.mark_len.Goals as goal
 
 abbrev mark : List ℕ
 mark = 239 ∷ 187 ∷ 191 ∷ []
