@@ -1,5 +1,5 @@
 -- How csv's machine steps through a text of the default dialect.
-use Rattle.std.proofs.Common.{◌≡◌, ℕ, zero, suc, ◌+◌, ◌<◌, ◌≤◌, ◌==◌, ◌&&◌, ◌||◌, Bool, true, false, List, [], ◌∷◌, ◌++◌, get_or, length, unwrap_or, take, take-append-drop, drop, refl, sym, ap, ◌∙◌, arith}
+use Rattle.std.proofs.Common.{◌≡◌, ℕ, zero, suc, ◌<◌, ◌≤◌, ◌==◌, ◌&&◌, ◌||◌, Bool, true, false, List, [], ◌∷◌, get_or, length, unwrap_or, take, refl, arith}
 use Rattle.std.specs.Prelude.{Option, Some, None, if◌then◌else◌}
 use Rattle.std.proofs.lemmas.Bool.{and_parts, eqb-true, false_from_ne_true, or_parts}
 use Rattle.memchr.specs.Find.{IsFirstByte, is_byte, is_byte3}
@@ -195,16 +195,6 @@ unmarked (p ∷ []) not = refl
 unmarked (p ∷ q ∷ []) not = refl
 unmarked (p ∷ q ∷ r ∷ ys) not = unmarked_by (is_bom p q r) p q r ys refl not
 
-pub unmarked_part : (xs : List ℕ) (n : ℕ) → (HasMark xs → ⊥) → strip_bom (take n xs) ≡ take n xs
-unmarked_part xs n not =
-    unmarked (take n xs) (λ m. not (m.0 ++ drop n xs, sym (take-append-drop n xs) ∙ ap (λ part. part ++ drop n xs) m.1))
-
 pub marked : (xs ys : List ℕ) → xs ≡ 239 ∷ 187 ∷ 191 ∷ ys → strip_bom xs ≡ ys
 unfolding strip_bom
 marked xs ys e = rw e refl
-
-pub marked_part : (xs ys : List ℕ) (n : ℕ) → xs ≡ 239 ∷ 187 ∷ 191 ∷ ys → strip_bom (take (3 + n) xs) ≡ take n ys
-unfolding strip_bom
-marked_part xs ys n e =
-    let three : 3 + n ≡ suc (suc (suc n)) = omega arith in
-    rw (three, e) refl

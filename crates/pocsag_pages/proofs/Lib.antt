@@ -1,5 +1,6 @@
 pub mod CsvRecords
 pub mod CsvSteps
+pub mod FieldEnds
 pub mod GoodPages
 pub mod Growing
 pub mod Judging

@@ -1,10 +1,9 @@
--- A text up to the comma behind the third field of a record has the records of the whole text up to that one.
-use Rattle.std.proofs.Common.{◌≡◌, ℕ, zero, suc, ◌+◌, ◌<◌, ◌≤◌, ◌==◌, Bool, true, false, List, [], ◌∷◌, ◌++◌, All, get_or, length, length-take, length-take-le, drop-drop, take, take-append-drop, drop, refl, sym, ap, ◌∙◌, arith, add-one}
-use Rattle.std.specs.Prelude.{Some, None, Err, if◌then◌else◌, nat_lt}
-use Rattle.std.proofs.lemmas.Bool.{eqb-true, eqb-false, eq-eqb, le-ltb, lt-ltb, ltb-false, ltb-true, ne_eqb}
-use Rattle.std.proofs.lemmas.List.{drop_all, drop_more, length-append, take-append-le, take_all}
-use Rattle.std.proofs.lemmas.List.Elements.{All-nil, All-cons}
-use Rattle.csv.specs.Machine.{Runs, next_record, ends_at_end, is_end, step, fields_after, field_after}
+-- Records of more than three fields: that only they are cut, and that the verdict stays.
+use Rattle.std.proofs.Common.{◌≡◌, ℕ, ◌+◌, ◌<◌, ◌≤◌, Bool, true, false, List, [], ◌∷◌, ◌++◌, length, length-take-le, take, drop, refl, sym, ap, ◌∙◌, arith}
+use Rattle.std.specs.Prelude.{Some, Err, if◌then◌else◌, nat_lt}
+use Rattle.std.proofs.lemmas.Bool.{le-ltb, lt-ltb, ltb-true}
+use Rattle.std.proofs.lemmas.List.{drop_all, length-append, take-append-le, take_all}
+use Rattle.csv.specs.Machine.{next_record, is_end, step, fields_after, field_after}
 use Rattle.csv.specs.Reading.{default_config, records, records_from, records_next}
 use Rattle.csv.specs.declared.parser.Action.{Action}
 use Rattle.csv.specs.declared.parser.Action.TheVariants as act
@@ -14,17 +13,11 @@ use Rattle.pocsag_pages.specs.declared.page.Page.{Page}
 use Rattle.pocsag_pages.specs.declared.fault.RecordFault.TheVariants as wrong
 use Rattle.pocsag_pages.specs.declared.fault.RoundFault.TheVariants as fault
 use Rattle.pocsag_pages.specs.PageFile.{Row, fault_after, is_header, page_of, pages_of, verdict_of_rows}
-use Rattle.pocsag_pages.specs.WideRecords.{IsNarrow, commas_after, up_to_wide}
-use Rattle.pocsag_pages.proofs.CsvRecords.{enough, no_more, one_record}
-use Rattle.pocsag_pages.proofs.CsvSteps.{IsInside, StaysInside, StartsField, starts_field, stays_inside}
+use Rattle.pocsag_pages.specs.Rows.{rows_from}
+use Rattle.pocsag_pages.specs.WideRecords.{up_to_wide}
+use Rattle.pocsag_pages.proofs.CsvRecords.{no_more}
+use Rattle.pocsag_pages.proofs.CsvSteps.{IsInside, StaysInside, stays_inside}
 use Rattle.pocsag_pages.proofs.Judging.{grown, or_later, judged}
-
--- how much of a text is read, from a state in which so many commas of the record at hand stand between fields
-unfoldable pub read_length : State → ℕ → List ℕ → ℕ
-read_length s k [] = 0
-read_length s k (c ∷ rest) =
-    if commas_after k (step default_config s c).1 == 3 then 1
-    else suc (read_length (step default_config s c).0 (commas_after k (step default_config s c).1) rest)
 
 -- the records of a text, of which the first has these fields and this part of one so far
 abbrev pub rows_on : ℕ → State → List (List ℕ) → List ℕ → List ℕ → List Row
@@ -99,96 +92,13 @@ kept_narrow : (r : Row) (rows : List Row) → length r ≤ 3 → up_to_wide (r �
 unfolding up_to_wide
 kept_narrow r rows h = rw (le-ltb 3 (length r) h) refl
 
-few_more : (fields : List (List ℕ)) (field : List ℕ) (k : ℕ) → k ≡ length fields → length (fields ++ field ∷ []) ≡ k + 1
-few_more fields field k e = omega (arith, length-append fields (field ∷ []))
+-- a record of at most three fields, with those behind it, and none
+pub narrow_row : (rows later : List Row) (r : Row) → rows ≡ r ∷ later → length r ≤ 3 → up_to_wide rows ≡ r ∷ up_to_wide later
+narrow_row rows later r e h = rw e (kept_narrow r later h)
 
--- at the end of the text
-cut_end : (b : Bool) (n : ℕ) (fields : List (List ℕ)) (field : List ℕ) → length fields < 3 →
-    records_next (records_from default_config n) (if b then Some (fields ++ field ∷ [], st.StartRecord, []) else None)
-    ≡ up_to_wide
-    (records_next (records_from default_config n) (if b then Some (fields ++ field ∷ [], st.StartRecord, []) else None))
+pub no_row : (rows : List Row) → rows ≡ [] → up_to_wide rows ≡ []
 unfolding up_to_wide
-cut_end true n fields field h =
-    let few : length (fields ++ field ∷ []) ≡ length fields + 1 = few_more fields field (length fields) refl in
-    rw (no_more default_config n) (sym (kept_narrow (fields ++ field ∷ []) [] (omega arith)))
-cut_end false n fields field h = refl
-
--- a step of the walk: the rest goes on so
-abbrev GoesOn : State → List ℕ → Type 0
-GoesOn s rest =
-    (m j : ℕ) (fs : List (List ℕ)) (f : List ℕ) → length rest ≤ m → j ≡ length fs → j < 3 →
-    rows_on m s fs f (take (read_length s j rest) rest) ≡ up_to_wide (rows_on m s fs f rest)
-
-at_comma : (b : Bool) (n k : ℕ) (s : State) (fields : List (List ℕ)) (field rest : List ℕ) → (k + 1 == 3) ≡ b →
-    k ≡ length fields → k < 3 → length rest < n → s ≡ st.StartField → GoesOn s rest →
-    rows_on n s (fields ++ field ∷ []) [] (take (if b then 0 else read_length s (k + 1) rest) rest)
-    ≡ up_to_wide (rows_on n s (fields ++ field ∷ []) [] rest)
-unfolding next_record
-at_comma true n k s fields field rest last e h less here later =
-    let third : k + 1 ≡ 3 = eqb-true (k + 1) 3 last in
-    let longer : length (fields ++ field ∷ []) ≡ k + 1 = few_more fields field k e in
-    let inside : IsInside st.StartField = tt in
-    let three : List (List ℕ) = fields ++ field ∷ [] in
-    rw (here, no_more default_config n)
-    (cut_wide _ three
-    (wide n st.StartField three three [] rest inside (omega arith) (take_all 3 three (omega arith))))
-at_comma false n k s fields field rest last e h less here later =
-    let more : k + 1 ≡ 3 → ⊥ = eqb-false (k + 1) 3 last in
-    later n (k + 1) (fields ++ field ∷ []) [] (omega arith) (sym (few_more fields field k e)) (omega (arith, more))
-
-at_record_end : (n : ℕ) (s : State) (fields : List (List ℕ)) (field rest : List ℕ) → length fields < 3 → length rest < n →
-    GoesOn s rest → (fields ++ field ∷ []) ∷ records_from default_config n s (take (read_length s 0 rest) rest)
-    ≡ up_to_wide ((fields ++ field ∷ []) ∷ records_from default_config n s rest)
-unfolding records_from
-at_record_end zero s fields field rest h less later = absurd (omega arith)
-at_record_end (suc n) s fields field rest h less later =
-    let few : length (fields ++ field ∷ []) ≡ length fields + 1 = few_more fields field (length fields) refl in
-    ap (λ rows. (fields ++ field ∷ []) ∷ rows) (later n 0 [] [] (omega arith) refl (omega arith))
-    ∙ sym (kept_narrow (fields ++ field ∷ []) _ (omega arith))
-
-cut_at : (n k : ℕ) (s : State) (a : Action) (fields : List (List ℕ)) (field : List ℕ) (c : ℕ) (rest : List ℕ) →
-    k ≡ length fields → k < 3 → length rest < n → StartsField (s, a) → GoesOn s rest → rows_at n s a fields field c
-    (take (if commas_after k a == 3 then 0 else read_length s (commas_after k a) rest) rest)
-    ≡ up_to_wide (rows_at n s a fields field c rest)
-cut_at n k s act.Skip fields field c rest e h less starts later =
-    let more : (k == 3) ≡ false = ne_eqb k 3 (λ q. absurd (omega (arith, q))) in
-    rw more (later n k fields field (omega arith) e h)
-cut_at n k s act.Copy fields field c rest e h less starts later =
-    let more : (k == 3) ≡ false = ne_eqb k 3 (λ q. absurd (omega (arith, q))) in
-    rw more (later n k fields (field ++ c ∷ []) (omega arith) e h)
-cut_at n k s act.EndField fields field c rest e h less starts later =
-    at_comma (k + 1 == 3) n k s fields field rest refl e h less (starts refl) later
-cut_at n k s act.EndRecord fields field c rest e h less starts later =
-    at_record_end n s fields field rest (omega arith) less later
-
-take_either : (b : Bool) (w c : ℕ) (rest : List ℕ) →
-    take (if b then 1 else suc w) (c ∷ rest) ≡ c ∷ take (if b then 0 else w) rest
-take_either true w c rest = refl
-take_either false w c rest = refl
-
-cut : (n k : ℕ) (s : State) (fields : List (List ℕ)) (field xs : List ℕ) → length xs ≤ n → k ≡ length fields → k < 3 →
-    rows_on n s fields field (take (read_length s k xs) xs) ≡ up_to_wide (rows_on n s fields field xs)
-unfolding read_length next_record
-cut n k s fields field [] h e l = cut_end (ends_at_end s) n fields field (omega arith)
-cut n k s fields field (c ∷ rest) h e l =
-    let t : State = (step default_config s c).0 in
-    let a : Action = (step default_config s c).1 in
-    rw (take_either (commas_after k a == 3) (read_length t (commas_after k a) rest) c rest)
-    (cut_at n k t a fields field c rest e l (omega arith) (starts_field s c)
-    (λ m j fs f i d v. cut m j t fs f rest i d v))
-
-pub cut_records : (text : List ℕ) (n : ℕ) → read_length st.StartRecord 0 text ≡ n →
-    records default_config (take n text) ≡ up_to_wide (records default_config text)
-unfolding records_from
-cut_records text n e =
-    let part : List ℕ = take (read_length st.StartRecord 0 text) text in
-    let shorter : length part ≤ length text = omega (arith, length-take {A = ℕ}) in
-    rw (
-      ← e,
-      enough default_config (length part + 1) (length text + 1) st.StartRecord part (omega arith) (omega arith),
-      one_record default_config st.StartRecord text _ refl,
-      add-one,
-    ) (cut (length text) 0 st.StartRecord [] [] text (omega arith) refl (omega arith))
+no_row rows e = rw e refl
 
 -- records up to a wide one have the verdict of all
 wide_page : (r : Row) → 3 < length r → page_of r ≡ Err wrong.FieldCount
@@ -241,64 +151,12 @@ unfolding up_to_wide
 same_verdict [] = refl
 same_verdict (r ∷ rows) = verdict_by (nat_lt 3 (length r)) r rows refl
 
-narrow_by : (b : Bool) (r : Row) (rows : List Row) → nat_lt 3 (length r) ≡ b → All IsNarrow rows →
-    All IsNarrow (if b then (take 3 r ++ [] ∷ []) ∷ [] else r ∷ rows)
-narrow_by true r rows e h =
-    let four = cut_length r (ltb-true 3 (length r) e) in
-    All-cons IsNarrow (take 3 r ++ [] ∷ []) [] (omega (arith, four)) (All-nil IsNarrow)
-narrow_by false r rows e h =
-    let few : length r ≤ 3 = ltb-false 3 (length r) e in
-    All-cons IsNarrow r rows (omega arith) h
-
-pub all_narrow : (rows : List Row) → All IsNarrow (up_to_wide rows)
-unfolding up_to_wide
-all_narrow [] = All-nil IsNarrow
-all_narrow (r ∷ rows) = narrow_by (nat_lt 3 (length r)) r (up_to_wide rows) refl (all_narrow rows)
-
--- the steps of a walk that has come to place i
-module _ (text : List ℕ) (i k : ℕ) (s : State) where
-  pub read_stop : i < length text → read_length st.StartRecord 0 text ≡ i + read_length s k (drop i text) →
-      commas_after k (step default_config s (get_or text i 0)).1 ≡ 3 → read_length st.StartRecord 0 text ≡ i + 1
-  unfolding read_length
-  read_stop h e three =
-      let last = eq-eqb (commas_after k (step default_config s (get_or text i 0)).1) 3 three in
-      e ∙ rw (drop_more text i 0 h, last) refl
-
-  pub read_on : (t : State) (j : ℕ) → i < length text →
-      read_length st.StartRecord 0 text ≡ i + read_length s k (drop i text) →
-      t ≡ (step default_config s (get_or text i 0)).0 →
-      j ≡ commas_after k (step default_config s (get_or text i 0)).1 → (j ≡ 3 → ⊥) →
-      read_length st.StartRecord 0 text ≡ i + 1 + read_length t j (drop (i + 1) text)
-  unfolding read_length
-  read_on t j h e here more not =
-      let on = ne_eqb (commas_after k (step default_config s (get_or text i 0)).1) 3 (λ q. not (more ∙ q)) in
-      e ∙ rw (drop_more text i 0 h, on, ← more, ← here) (omega arith)
-
-  pub read_whole : length text ≤ i → read_length st.StartRecord 0 text ≡ i + read_length s k (drop i text) →
-      read_length st.StartRecord 0 text ≡ i
-  unfolding read_length
-  read_whole h e = e ∙ rw (drop_all i text h) (omega arith)
-
--- bytes that only join the field at hand
-join_read : (s : State) (k : ℕ) (run tail : List ℕ) → k < 3 → Runs default_config s run →
-    read_length s k (run ++ tail) ≡ length run + read_length s k tail
-unfolding read_length Runs
-join_read s k [] tail few h = omega arith
-join_read s k (c ∷ run) tail few h =
-    let on : (k == 3) ≡ false = ne_eqb k 3 (λ e. absurd (omega (arith, e))) in
-    rw (h.0, on, join_read s k run tail few h.1) (omega arith)
-
-pub read_past : (text : List ℕ) (i n k : ℕ) (s : State) → k < 3 → n ≤ length (drop i text) →
-    Runs default_config s (take n (drop i text)) → read_length st.StartRecord 0 text ≡ i + read_length s k (drop i text) →
-    read_length st.StartRecord 0 text ≡ i + n + read_length s k (drop (i + n) text)
-read_past text i n k s few within joins e =
-    let parts : take n (drop i text) ++ drop n (drop i text) ≡ drop i text = take-append-drop n (drop i text) in
-    let past = join_read s k (take n (drop i text)) (drop n (drop i text)) few joins in
-    let size : length (take n (drop i text)) ≡ n = length-take-le n (drop i text) within in
-    e ∙ rw (← (ap (read_length s k) parts), past, size, drop-drop n i text) (omega arith)
-
-pub few_after : (k : ℕ) (a : Action) → k < 3 → (commas_after k a ≡ 3 → ⊥) → commas_after k a < 3
-few_after k act.Skip h not = h
-few_after k act.Copy h not = h
-few_after k act.EndField h not = omega (arith, not)
-few_after k act.EndRecord h not = omega arith
+-- of all records whose first goes on behind three fields these are left, and an empty one; nothing is behind a whole text
+pub wide_row : (text rest : List ℕ) (s : State) (fields longer : Row) → IsInside s → length fields ≡ 3 →
+    records default_config text ≡ rows_from s fields rest → longer ≡ fields ++ [] ∷ [] →
+    up_to_wide (records default_config text) ≡ longer ∷ up_to_wide (records default_config (drop (length text) text))
+wide_row text rest s fields longer h l e f =
+    let all : take 3 fields ≡ fields = take_all 3 fields (omega arith) in
+    let none : drop (length text) text ≡ [] = drop_all (length text) text (omega arith) in
+    rw (none, no_row (records default_config []) (no_more default_config 1), f)
+    (ap up_to_wide e ∙ sym (cut_wide _ fields (wide (length rest) s fields fields [] rest h (omega arith) all)))

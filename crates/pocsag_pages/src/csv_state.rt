@@ -1,4 +1,4 @@
-ghost use Rattle.std.specs.Prelude.{◌≡◌, ◌+◌, ◌≤◌, ℕ, drop, length, take};
+ghost use Rattle.std.specs.Prelude.{◌≡◌, ◌≤◌, drop, length, take};
 ghost use Rattle.csv.specs.Machine.{Runs, in_field, step};
 ghost use Rattle.csv.specs.Reading.{default_config, strip_bom};
 ghost use Rattle.pocsag_pages.specs.CsvStates.{action_of, state_of};
@@ -74,7 +74,6 @@ pub(crate) fn joined_len(state: CsvState, rest: &[u8]) -> usize
 pub(crate) fn mark_len(bytes: &[u8]) -> usize
     ensures within { result ≤ length bytes.now }
     ensures rest { drop result bytes.now ≡ strip_bom bytes.now }
-    ensures kept { (count : ℕ) → strip_bom (take (result + count) bytes.now) ≡ take count (strip_bom bytes.now) }
 {
     if bytes.starts_with(b"\xEF\xBB\xBF") {
         3

@@ -2,17 +2,15 @@ ghost use Rattle.std.specs.Prelude.{◌≡◌, ◌+◌, ◌≤◌, ◌⊎◌, �
 ghost use Rattle.csv.specs.Records.{fields_of};
 ghost use Rattle.pocsag_words.specs.Devices.{HasFailed};
 ghost use Rattle.pocsag_pages.specs.Pages.{page_limit};
-ghost use Rattle.pocsag_pages.specs.Rows.{StandsAt, rows_left};
 ghost use Rattle.pocsag_pages.specs.PageFile.{fault_after, numbered, numbered_field, page_of, pages_of, round_of_rows, rows_of, verdict, verdict_of_rows};
 
-use crate::csv_row::{next_row, rows_reader};
 use crate::draft::Draft;
 use crate::fault::{FieldFault, RecordFault, RoundFault};
 use crate::record::{is_header_row, page_of_row};
 use crate::round::{PAGE_LIMIT, Round};
+use crate::row_reader::RowReader;
 use crate::whole::read_whole;
-use crate::wide_record::judged_part;
-use csv::{ByteRecord, Reader};
+use csv::ByteRecord;
 use pocsag_words::{INPUT_LIMIT, OutOfMemory, Source};
 use std::alloc::Global;
 
@@ -86,18 +84,17 @@ fn with_row(
 // The round of the records that the reader has left; `row` is where they are read into.
 fn judge_rows(
     alloc: Global,
-    reader: &mut Reader<&[u8]>,
+    reader: &mut RowReader<'_>,
     row: &mut ByteRecord,
 ) -> Result<Round, RoundFault>
-    requires { StandsAt reader.old }
-    ensures ok { IfOk result (λ r. round_of_rows (rows_left reader.old) ≡ Ok r) }
+    ensures ok { IfOk result (λ r. round_of_rows reader.old ≡ Ok r) }
     ensures err { IfErr result
-        (λ e. (e ≡ RoundFault.OutOfMemory) ⊎ (round_of_rows (rows_left reader.old) ≡ Err e)) }
+        (λ e. (e ≡ RoundFault.OutOfMemory) ⊎ (round_of_rows reader.old ≡ Err e)) }
 {
     let mut draft = Draft::new(alloc);
     let mut earlier = 0;
     loop {
-        let found = next_row(reader, row)?;
+        let found = reader.read(row)?;
         if !found {
             return draft.into_round();
         }
@@ -112,15 +109,14 @@ fn judge_rows(
 // The round of all the records of the reader, the header first; `row` is where they are read into.
 fn judge_all(
     alloc: Global,
-    reader: &mut Reader<&[u8]>,
+    reader: &mut RowReader<'_>,
     row: &mut ByteRecord,
 ) -> Result<Round, RoundFault>
-    requires { StandsAt reader.old }
-    ensures ok { IfOk result (λ r. verdict_of_rows (rows_left reader.old) ≡ Ok r) }
+    ensures ok { IfOk result (λ r. verdict_of_rows reader.old ≡ Ok r) }
     ensures err { IfErr result
-        (λ e. (e ≡ RoundFault.OutOfMemory) ⊎ (verdict_of_rows (rows_left reader.old) ≡ Err e)) }
+        (λ e. (e ≡ RoundFault.OutOfMemory) ⊎ (verdict_of_rows reader.old ≡ Err e)) }
 {
-    let found = next_row(reader, row)?;
+    let found = reader.read(row)?;
     if !found {
         return Err(RoundFault::BadHeader);
     }
@@ -131,12 +127,13 @@ fn judge_all(
 }
 
 // The round of the bytes of a page file that is not too large.
+#[tactic(auto, using(crate::proofs::WideRecords::same_verdict))]
 fn judge_file(alloc: Global, bytes: &[u8]) -> Result<Round, RoundFault>
     ensures ok { IfOk result (λ r. verdict_of_rows (rows_of bytes.now) ≡ Ok r) }
     ensures err { IfErr result
         (λ e. (e ≡ RoundFault.OutOfMemory) ⊎ (verdict_of_rows (rows_of bytes.now) ≡ Err e)) }
 {
-    let mut reader = rows_reader(alloc, judged_part(bytes));
+    let mut reader = RowReader::of(alloc, bytes);
     let mut row = ByteRecord::new(alloc);
     judge_all(alloc, &mut reader, &mut row)
 }

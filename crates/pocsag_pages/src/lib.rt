@@ -2,8 +2,7 @@
 //! Pages, rounds of pages and page files; and, in `specs/`, what a transmission says: readings,
 //! legal transmissions and their bytes (Recommendation ITU-R M.584-2, Annex 1).
 
-mod commas;
-mod csv_row;
+mod csv_field;
 mod csv_state;
 mod draft;
 mod fault;
@@ -15,6 +14,7 @@ mod page;
 mod preamble;
 mod record;
 mod round;
+mod row_reader;
 mod rule;
 mod walking;
 mod whole;

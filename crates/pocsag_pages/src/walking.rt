@@ -3,9 +3,8 @@ ghost use Rattle.csv.specs.Records.{field_at};
 ghost use Rattle.pocsag_pages.specs.PageFile.{rows_of};
 ghost use Rattle.pocsag_pages.specs.WideRecords.{up_to_wide};
 
-use crate::csv_row::{next_row, rows_reader};
-use crate::wide_record::narrow_part;
-use csv::{ByteRecord, Reader};
+use crate::row_reader::RowReader;
+use csv::ByteRecord;
 use pocsag_words::OutOfMemory;
 use std::alloc::Global;
 use std::marker::Model;
@@ -16,25 +15,20 @@ use std::marker::Model;
 #[derive(Drop)]
 pub struct FileRecords<'a> {
     file: &'a [u8],
-    reader: Reader<&'a [u8]>,
+    reader: RowReader<'a>,
     row: ByteRecord,
-    is_over: bool,
     // Where the row begins in the file, and its line.
     place: usize,
     line: usize,
 }
 
 impl<'a> Model for FileRecords<'a> {
-    ghost use Rattle.std.specs.Prelude.{◌≡◌, false};
     ghost use Rattle.csv.specs.Records.{fields_of};
-    ghost use Rattle.pocsag_pages.specs.Rows.{StandsAt};
-    ghost use Rattle.pocsag_pages.specs.Walking.{RecordWalk, rows_ahead};
+    ghost use Rattle.pocsag_pages.specs.Walking.{RecordWalk};
 
     ghost Value = { RecordWalk };
 
-    ghost view = { λ r. record { row = fields_of r.row; ahead = rows_ahead r.is_over r.reader } };
-
-    ghost invariant = { λ r. r.is_over ≡ false → StandsAt r.reader };
+    ghost view = { λ r. record { row = fields_of r.row; ahead = r.reader } };
 }
 
 impl<'a> FileRecords<'a> {
@@ -44,9 +38,8 @@ impl<'a> FileRecords<'a> {
     {
         FileRecords {
             file,
-            reader: rows_reader(alloc, narrow_part(file)),
+            reader: RowReader::of(alloc, file),
             row: ByteRecord::new(alloc),
-            is_over: false,
             place: 0,
             line: 1,
         }
@@ -57,30 +50,15 @@ impl<'a> FileRecords<'a> {
         ensures found { IfOk result (λ found. found ≡ true → self.old.ahead ≡ self.new.row ∷ self.new.ahead) }
         ensures none { IfOk result (λ found. found ≡ false → self.old.ahead ≡ []) }
     {
-        if self.is_over {
+        let place = self.reader.next_place();
+        if !self.reader.read(&mut self.row)? {
             return Ok(false);
         }
-        self.is_over = true;
-        if !next_row(&mut self.reader, &mut self.row)? {
-            return Ok(false);
-        }
-        self.is_over = false;
-        self.locate();
-        Ok(true)
-    }
-
-    // Finds where the record begins, which no empty line does.
-    fn locate(&mut self)
-        ensures same { (self.new.row ≡ self.old.row) × (self.new.ahead ≡ self.old.ahead) }
-    {
-        let Some(position) = self.row.position() else {
-            return;
-        };
-        let place = beginning(self.file, (position.byte as usize).min(self.file.len()));
         if let Some(passed) = self.file.get(self.place..place) {
             self.line = self.line.saturating_add(line_feeds(passed));
             self.place = place;
         }
+        Ok(true)
     }
 
     /// The line of the file on which the record begins, from 1.
@@ -108,18 +86,4 @@ pub fn line_feeds(bytes: &[u8]) -> usize
     ensures { result ≡ count_by (λ byte. byte == 10) bytes.now }
 {
     bytes.iter().filter(|byte| **byte == b'\n').count()
-}
-
-// The first place from there on whose byte ends no line, or the end.
-fn beginning(file: &[u8], from: usize) -> usize
-    requires { from ≤ length file.now }
-    ensures within { result ≤ length file.now }
-    ensures behind { from ≤ result }
-{
-    for place in from..file.len() {
-        if !matches!(file[place], b'\r' | b'\n') {
-            return place;
-        }
-    }
-    file.len()
 }

@@ -5,7 +5,6 @@ use Rattle.pocsag_pages.proofs.file.judge_rows.Goals as goal
 
 pub loop-draft-init : goal.loop-draft-init
 loop-draft-init c = rw c.new-draft.ensures (record {
-  stands = c.requires;
   even = refl;
   few = omega arith;
   rest = judged _;
@@ -41,7 +40,6 @@ pub loop-draft-preserved : goal.loop-draft-preserved
 loop-draft-preserved c =
     let judged_fine = c.in-Ok.ensures in
     record {
-      stands = c.in_ok-found.ensures.stands c.if-not-found.false;
       even = omega (arith, judged_fine.one);
       few = judged_fine.few;
       rest =

@@ -1,6 +1,5 @@
 use Rattle.std.proofs.Common.{◌≡◌, ◌-◌, ◌≤◌, length}
 use Rattle.pocsag_pages.specs.Pages.{page_limit}
-use Rattle.pocsag_pages.specs.Rows.{StandsAt, rows_left}
 use Rattle.pocsag_pages.specs.PageFile.{round_of_rows}
 use Rattle.pocsag_pages.proofs.Judging.{grown}
 use Rattle.pocsag_pages.proofs.file.judge_rows.Given as goal
@@ -8,10 +7,9 @@ use Rattle.pocsag_pages.proofs.file.judge_rows.Given as goal
 -- the round is that of the pages so far and of the records that are left
 abbrev pub invariant-loop-draft : goal.invariant-loop-draft
 invariant-loop-draft l = record {
-  stands : StandsAt l.reader;
   even : length l.draft ≡ l.earlier;
   few : l.earlier ≤ page_limit;
-  rest : round_of_rows (rows_left l.fn.reader) ≡ grown l.draft l.earlier (rows_left l.reader);
+  rest : round_of_rows l.fn.reader ≡ grown l.draft l.earlier l.reader;
 }
 
 abbrev pub decreases-loop-draft : goal.decreases-loop-draft
