@@ -39,8 +39,8 @@ pub(crate) fn next_field(
     kept: &mut Vec<u8>,
 ) -> Result<Option<FieldEnd>, OutOfMemory>
     requires { partial_of row.old ≡ [] }
-    ensures rows { IfOk result
-        (λ end. rows_from (state_of state) (fields_of row.old) text.now ≡ rows_behind (fields_of row.new) text.now end) }
+    ensures rows { IfOk result (λ end.
+        rows_from (state_of state) (fields_of row.old) text.now ≡ rows_behind (fields_of row.new) text.now end) }
     ensures one { IfOk result (λ end. IsSome end → length (fields_of row.new) ≡ length (fields_of row.old) + 1) }
     ensures partial { IfOk result (λ end. IsSome end → partial_of row.new ≡ []) }
     ensures within { IfOk result (λ end. EndsWithin text.now end) }
