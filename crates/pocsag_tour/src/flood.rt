@@ -30,7 +30,8 @@ fn used_arcs(counts: &[u32; 288]) -> ArrayVec<usize, 288>
 // The first of these arcs that enters the set.
 fn entering(used: &[usize], set: u16) -> Option<usize>
     requires { (k : ℕ) → k < length used.now → slice_index used.now k < 288 }
-    ensures found { IfSome result (λ a. IsAmong a used.now × (holds set (arc_from a) ≡ false) × (holds set (arc_to a) ≡ true)) }
+    ensures found { IfSome result
+        (λ a. IsAmong a used.now × (holds set (arc_from a) ≡ false) × (holds set (arc_to a) ≡ true)) }
     ensures none { IfNone result ((k : ℕ) → k < length used.now →
         holds set (arc_to (slice_index used.now k)) ≡ true → holds set (arc_from (slice_index used.now k)) ≡ true) }
 {
