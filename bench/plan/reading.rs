@@ -89,17 +89,20 @@ fn pack(width: u32, count: usize, codes: impl Iterator<Item = u8>) -> Vec<u32> {
     items
 }
 
-fn numeric_code(byte: u8) -> Option<u8> {
-    match byte {
-        b'0'..=b'9' => Some(byte - b'0'),
-        b'*' => Some(10),
-        b'U' => Some(11),
-        b' ' => Some(12),
-        b'-' => Some(13),
-        b']' => Some(14),
-        b'[' => Some(15),
-        _ => None,
+const fn numeric_codes() -> [u8; 256] {
+    let (characters, mut table, mut code) = (b"0123456789*U -][", [16; 256], 0);
+    while code < 16 {
+        table[characters[code] as usize] = code as u8;
+        code += 1;
     }
+    table
+}
+
+static NUMERIC_CODES: [u8; 256] = numeric_codes();
+
+fn numeric_code(byte: u8) -> Option<u8> {
+    let code = NUMERIC_CODES[usize::from(byte)];
+    (code < 16).then_some(code)
 }
 
 fn payload(kind: &[u8], text: &[u8]) -> (u32, Vec<u32>) {

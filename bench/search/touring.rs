@@ -100,20 +100,18 @@ fn arcs_of(classes: &Classes, choice: &Choice, batches: u32) -> Arcs {
 
 /// For each boundary an arc that leads it nearer to the root; the walk takes it last.
 fn exits_to(arcs: &Arcs, root: usize) -> [usize; SLOTS] {
+    let used: Vec<(usize, usize)> = (0..SLOTS)
+        .flat_map(|boundary| (0..KINDS).map(move |kind| (boundary, kind)))
+        .filter(|(boundary, kind)| arcs.left[*boundary][*kind] > 0)
+        .collect();
     let mut exits = [KINDS; SLOTS];
     let mut set: u16 = 1 << root;
-    while let Some((boundary, kind)) = entering(arcs, set) {
+    let enters = |set: u16, (boundary, kind): (usize, usize)| set >> boundary & 1 == 0 && set >> arcs.to[boundary][kind] & 1 == 1;
+    while let Some((boundary, kind)) = used.iter().copied().find(|arc| enters(set, *arc)) {
         exits[boundary] = kind;
         set |= 1 << boundary;
     }
     exits
-}
-
-fn entering(arcs: &Arcs, set: u16) -> Option<(usize, usize)> {
-    (0..SLOTS)
-        .filter(|boundary| set >> boundary & 1 == 0)
-        .flat_map(|boundary| (0..KINDS).map(move |kind| (boundary, kind)))
-        .find(|(boundary, kind)| arcs.left[*boundary][*kind] > 0 && set >> arcs.to[*boundary][*kind] & 1 == 1)
 }
 
 /// A way from boundary 0 to the root over all arcs.

@@ -1,8 +1,9 @@
 -- The codes of the numeric characters.
-use Rattle.std.proofs.Common.{◌≡◌, ◌≢◌, ℕ, ◌+◌, ◌<◌, Option, Some, None, unwrap_or, is_none, Bool, eqb, true, false, ◌⊎◌, ⊎_elim, lit<, refl, sym, ap, arith}
+use Rattle.std.proofs.Common.{◌≡◌, ◌≢◌, ℕ, ◌+◌, ◌<◌, ◌≤◌, slice_index, Option, Some, None, unwrap_or, is_none, Bool, eqb, true, false, ◌⊎◌, ⊎_elim, lit<, refl, sym, ap, arith}
 use Rattle.std.proofs.lemmas.Bool.{eqb-true, ne_eqb}
 use Rattle.std.proofs.lemmas.List.Quantifiers.{position-Some}
 use Rattle.pocsag_text.proofs.Below.{all_below, passes}
+use Rattle.pocsag_text.specs.declared.character.TheConstants.{CODES}
 use Rattle.pocsag_text.specs.Characters.{numeric_characters, code_of, code_or_space, character_of, is_bad_digit}
 
 -- whether there is this code
@@ -14,15 +15,6 @@ is_code-true : (o : Option ℕ) (code : ℕ) → is_code o code ≡ true → o �
 unfolding is_code
 is_code-true (Some k) code h = ap Some (eqb-true k code h)
 is_code-true None code h = cc
-
--- the code of a digit
-digits_pass : all_below 10 (λ d. is_code (code_of (48 + d)) d) ≡ true
-unfolding all_below is_code numeric_characters
-digits_pass = refl
-
-pub code_of-digit : (d : ℕ) → d < 10 → code_of (48 + d) ≡ Some d
-code_of-digit d h =
-    is_code-true (code_of (48 + d)) d (passes 10 (λ k. is_code (code_of (48 + k)) k) digits_pass d h)
 
 -- the code of a code's character
 characters_pass : all_below 16 (λ k. is_code (code_of (character_of k)) k) ≡ true
@@ -40,31 +32,29 @@ character_of-code_of b k h =
     let p = position-Some (λ c. eqb c b) numeric_characters k 0 h in
     (p.0, eqb-true (character_of k) b p.1)
 
--- whether a byte is no numeric character
-pub code_of-none : (b : ℕ) → (b < 48) ⊎ (57 < b) → b ≢ 42 → b ≢ 85 → b ≢ 32 → b ≢ 45 → b ≢ 93 → b ≢ 91 → code_of b ≡ None
-unfolding numeric_characters
-code_of-none b range n42 n85 n32 n45 n93 n91 =
-    let out : (d : ℕ) → d < 10 → eqb (48 + d) b ≡ false =
-    λ d h. ne_eqb (48 + d) b (⊎_elim (λ low e. omega arith) (λ high e. omega arith) range) in
-    let s : (n : ℕ) → b ≢ n → eqb n b ≡ false = λ n h. ne_eqb n b (λ e. h (sym e)) in
-    simp (
-      out 0 (lit< tt),
-      out 1 (lit< tt),
-      out 2 (lit< tt),
-      out 3 (lit< tt),
-      out 4 (lit< tt),
-      out 5 (lit< tt),
-      out 6 (lit< tt),
-      out 7 (lit< tt),
-      out 8 (lit< tt),
-      out 9 (lit< tt),
-      s 42 n42,
-      s 85 n85,
-      s 32 n32,
-      s 45 n45,
-      s 93 n93,
-      s 91 n91,
-    )
+-- the code of each byte, as it stands in the table
+table_passes : all_below 256 (λ b. eqb (slice_index CODES b) (unwrap_or (code_of b) 16)) ≡ true
+unfolding all_below numeric_characters
+table_passes = refl
+
+pub in_table : (b : ℕ) → b < 256 → slice_index CODES b ≡ unwrap_or (code_of b) 16
+in_table b h = eqb-true _ _ (passes 256 (λ c. eqb (slice_index CODES c) (unwrap_or (code_of c) 16)) table_passes b h)
+
+there_by : (o : Option ℕ) (code : ℕ) → code ≡ unwrap_or o 16 → code < 16 → Some code ≡ o
+there_by None code e h = absurd (omega (arith, e))
+there_by (Some k) code e h = ap Some e
+
+missing_by : (b : ℕ) (o : Option ℕ) (code : ℕ) → code_of b ≡ o → code ≡ unwrap_or o 16 → 16 ≤ code → None ≡ o
+missing_by b None code is e h = refl
+missing_by b (Some k) code is e h =
+    let low = character_of-code_of b k is in
+    absurd (omega (arith, e, low.0))
+
+pub code_there : (b code : ℕ) → code ≡ unwrap_or (code_of b) 16 → code < 16 → Some code ≡ code_of b
+code_there b code e h = there_by (code_of b) code e h
+
+pub code_missing : (b code : ℕ) → code ≡ unwrap_or (code_of b) 16 → 16 ≤ code → None ≡ code_of b
+code_missing b code e h = missing_by b (code_of b) code refl e h
 
 unwrapped : (o : Option ℕ) → ((k : ℕ) → o ≡ Some k → k < 16) → unwrap_or o 12 < 16
 unwrapped None h = lit< tt

@@ -11,6 +11,24 @@ pub const ALPHA_WIDTH: u32 = 7;
 /// The numeric characters, each at the place of its code.
 const NUMERIC_CHARACTERS: [u8; 16] = *b"0123456789*U -][";
 
+/// What stands in the place of a code for a byte that is no numeric character.
+const NO_CODE: u8 = 16;
+
+/// The code of each byte.
+const CODES: [u8; 256] = [
+    16, 16, 16, 16, 16, 16, 16, 16, 16, 16, 16, 16, 16, 16, 16, 16, 16, 16, 16, 16, 16, 16, 16, 16,
+    16, 16, 16, 16, 16, 16, 16, 16, 12, 16, 16, 16, 16, 16, 16, 16, 16, 16, 10, 16, 16, 13, 16, 16,
+    0, 1, 2, 3, 4, 5, 6, 7, 8, 9, 16, 16, 16, 16, 16, 16, 16, 16, 16, 16, 16, 16, 16, 16, 16, 16,
+    16, 16, 16, 16, 16, 16, 16, 16, 16, 16, 16, 11, 16, 16, 16, 16, 16, 15, 16, 14, 16, 16, 16, 16,
+    16, 16, 16, 16, 16, 16, 16, 16, 16, 16, 16, 16, 16, 16, 16, 16, 16, 16, 16, 16, 16, 16, 16, 16,
+    16, 16, 16, 16, 16, 16, 16, 16, 16, 16, 16, 16, 16, 16, 16, 16, 16, 16, 16, 16, 16, 16, 16, 16,
+    16, 16, 16, 16, 16, 16, 16, 16, 16, 16, 16, 16, 16, 16, 16, 16, 16, 16, 16, 16, 16, 16, 16, 16,
+    16, 16, 16, 16, 16, 16, 16, 16, 16, 16, 16, 16, 16, 16, 16, 16, 16, 16, 16, 16, 16, 16, 16, 16,
+    16, 16, 16, 16, 16, 16, 16, 16, 16, 16, 16, 16, 16, 16, 16, 16, 16, 16, 16, 16, 16, 16, 16, 16,
+    16, 16, 16, 16, 16, 16, 16, 16, 16, 16, 16, 16, 16, 16, 16, 16, 16, 16, 16, 16, 16, 16, 16, 16,
+    16, 16, 16, 16, 16, 16, 16, 16, 16, 16, 16, 16, 16, 16,
+];
+
 /// Each byte with its bits in reversed order.
 const REVERSED: [u8; 256] = [
     0x00, 0x80, 0x40, 0xC0, 0x20, 0xA0, 0x60, 0xE0, 0x10, 0x90, 0x50, 0xD0, 0x30, 0xB0, 0x70, 0xF0,
@@ -35,20 +53,11 @@ const REVERSED: [u8; 256] = [
 pub const SPACE_CODE: u8 = 12;
 
 /// The code of a byte, if it is a numeric character.
-#[tactic(auto, unfolding(crate::specs::Characters::numeric_characters))]
 pub fn code_of(byte: u8) -> Option<u8>
     ensures { result ≡ numeric.code_of byte }
 {
-    match byte {
-        b'0'..=b'9' => Some(byte - b'0'),
-        b'*' => Some(10),
-        b'U' => Some(11),
-        b' ' => Some(12),
-        b'-' => Some(13),
-        b']' => Some(14),
-        b'[' => Some(15),
-        _ => None,
-    }
+    let code = CODES[byte as usize];
+    if code < NO_CODE { Some(code) } else { None }
 }
 
 /// The code of a byte, which is that of the space where it is no numeric character.

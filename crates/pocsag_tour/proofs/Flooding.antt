@@ -1,5 +1,8 @@
 -- What floods keep: each member is visited, and the last exits lead home.
-use Rattle.pocsag_tour.proofs.Prelude.{◌≡◌, ◌≢◌, ℕ, ◌<◌, true, false, List, length, slice_index, slice_set, get_or-set_same, get_or-set_other, refl, sym, subst, ◌∙◌, inl, inr, cases_eq, holds, arc_from, arc_to, IsEntering, IsExit, Home, at_root, by_exit, LeadHome}
+use Rattle.pocsag_tour.proofs.Prelude.{◌≡◌, ◌≢◌, ℕ, ◌<◌, true, false, List, length, slice_index, slice_set, get_or-set_same, get_or-set_other, refl, sym, subst, ◌∙◌, inl, inr, cases_eq, holds, arc_from, arc_to, IsEntering, IsExit, Home, at_root, by_exit, LeadHome, ◌+◌, ◌++◌, ◌∷◌, [], ◌⊎◌, arith}
+use Rattle.std.proofs.Math.Seq.{get_or-append_seam}
+use Rattle.std.proofs.lemmas.List.{get_or_append_left, length-append}
+use Rattle.pocsag_tour.specs.Moves.{AreUsed, IsAmong}
 use Rattle.pocsag_tour.proofs.Geometry.{to_below}
 
 -- the set of one member
@@ -83,3 +86,60 @@ homes_written counts exits root set grown a at from here homes enters held other
     (λ q ne. get_or-set_other exits at q a 0 (λ e. ne (e ∙ from)))
     (subst (λ (i : ℕ). holds grown i ≡ true) from held)
     (λ q ne. others q (λ e. ne (e ∙ from)))
+
+-- the arcs of which there are some, found one after the other
+pub used_first : (counts : ℕ → ℕ) → AreUsed counts 0 []
+used_first counts = record {
+  known = λ k h. absurd (omega (arith, h));
+  some = λ k h. absurd (omega (arith, h));
+  all = λ a h. absurd (omega (arith, h));
+}
+
+pub used_passed : (counts : ℕ → ℕ) (n : ℕ) (arcs : List ℕ) → AreUsed counts n arcs → (0 < counts n → ⊥) → AreUsed counts (n + 1) arcs
+used_passed counts n arcs used not = record {
+  known = λ k h. let low = used.known k h in omega (arith, low);
+  some = used.some;
+  all = λ a h have. elim (cases_eq a n) [
+    | inl here ↦ absurd (not (rw here at have))
+    | inr other ↦ used.all a (omega (arith, other)) have
+  ];
+}
+
+pub used_found : (counts : ℕ → ℕ) (n : ℕ) (arcs : List ℕ) → AreUsed counts n arcs → 0 < counts n →
+    AreUsed counts (n + 1) (arcs ++ n ∷ [])
+used_found counts n arcs used have =
+    let longer : length (arcs ++ n ∷ []) ≡ length arcs + 1 = omega (arith, length-append arcs (n ∷ [])) in
+    let last : slice_index (arcs ++ n ∷ []) (length arcs) ≡ n = get_or-append_seam arcs n [] 0 in
+    let kept : (k : ℕ) → k < length arcs → slice_index (arcs ++ n ∷ []) k ≡ slice_index arcs k =
+    λ k h. get_or_append_left arcs (n ∷ []) 0 k h in
+    let place : (k : ℕ) → k < length (arcs ++ n ∷ []) → (k < length arcs) ⊎ (k ≡ length arcs) = λ k h.
+    elim (cases_eq k (length arcs)) [
+      | inl e ↦ inr e
+      | inr other ↦ inl (omega (arith, h, longer, other))
+    ] in
+    record {
+      known = λ k h. elim (place k h) [
+        | inl low ↦ let below = used.known k low in rw (kept k low) (omega (arith, below))
+        | inr e ↦ rw (e, last) (omega arith)
+      ];
+      some = λ k h. elim (place k h) [
+        | inl low ↦ rw (kept k low) (used.some k low)
+        | inr e ↦ rw (e, last) have
+      ];
+      all = λ a h some. elim (cases_eq a n) [
+        | inl here ↦ (length arcs, omega (arith, longer), last ∙ sym here)
+        | inr other ↦
+            let found = used.all a (omega (arith, h, other)) some in
+            (found.0, omega (arith, longer, found.1), kept found.0 found.1 ∙ found.2)
+      ];
+    }
+
+-- what enters a set, by these arcs
+pub enters_by : (counts : ℕ → ℕ) (arcs : List ℕ) (set a : ℕ) → AreUsed counts 288 arcs → IsAmong a arcs →
+    holds set (arc_from a) ≡ false → holds set (arc_to a) ≡ true → IsEntering counts set a
+enters_by counts arcs set a used at from to = record {
+  known = rw at.2 at (used.known at.0 at.1);
+  there = rw at.2 at (used.some at.0 at.1);
+  from = from;
+  to = to;
+}

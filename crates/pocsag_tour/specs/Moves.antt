@@ -1,6 +1,6 @@
 -- The arcs by number, this project's own: the early runs of the 136 classes, then their late runs, then
 -- the idles of the 16 slots. Counts are functions from these numbers.
-use Rattle.std.specs.Prelude.{◌≡◌, ◌≢◌, ℕ, ◌+◌, ◌-◌, ◌*◌, ◌/◌, ◌%◌, ◌<◌, ◌≤◌, ◌==◌, nat_lt, Bool, true, false, cond, List, slice_index}
+use Rattle.std.specs.Prelude.{◌≡◌, ◌≢◌, ℕ, ◌+◌, ◌-◌, ◌*◌, ◌/◌, ◌%◌, ◌<◌, ◌≤◌, ◌==◌, nat_lt, Bool, true, false, cond, List, length, slice_index}
 use Rattle.pocsag_words.specs.declared.ending.End.{End}
 use Rattle.pocsag_words.specs.declared.ending.End.TheVariants as ends
 use Rattle.pocsag_slots.specs.declared.class.Classes.{Classes}
@@ -79,6 +79,16 @@ NoneEnters counts set = (a : ℕ) → a < all_arcs → 0 < counts a → holds se
 -- Each run of the choice starts in the set.
 abbrev pub RunsStart : (ℕ → ℕ) → ℕ → Type 0
 RunsStart counts set = (a : ℕ) → a < first_idle → 0 < counts a → holds set (arc_from a) ≡ true
+
+-- An arc is one of these.
+abbrev pub IsAmong : ℕ → List ℕ → Type 0
+IsAmong a arcs = (k : ℕ) × (k < length arcs) × (slice_index arcs k ≡ a)
+
+-- Of the arcs before this number these are all of which there are some.
+pub record AreUsed (counts : ℕ → ℕ) (limit : ℕ) (arcs : List ℕ) : Type 0 where
+  pub known : (k : ℕ) → k < length arcs → slice_index arcs k < limit
+  pub some : (k : ℕ) → k < length arcs → 0 < counts (slice_index arcs k)
+  pub all : (a : ℕ) → a < limit → 0 < counts a → IsAmong a arcs
 
 -- An arc that enters the set.
 pub record IsEntering (counts : ℕ → ℕ) (set a : ℕ) : Type 0 where

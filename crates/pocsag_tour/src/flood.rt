@@ -1,8 +1,9 @@
-ghost use Rattle.std.specs.Prelude.{◌≡◌, ℕ, ◌<◌, ◌&&◌, not, true, length, slice_index, IfSome, IfNone};
+ghost use Rattle.std.specs.Prelude.{◌≡◌, ℕ, ◌<◌, ◌&&◌, not, false, true, length, slice_index, IfSome, IfNone};
 ghost use Rattle.pocsag_slots.specs.Sums.{holds};
-ghost use Rattle.pocsag_tour.specs.Moves.{arc_from, arc_to, IsEntering, LeadHome, NoneEnters};
+ghost use Rattle.pocsag_tour.specs.Moves.{AreUsed, arc_from, arc_to, IsAmong, LeadHome, NoneEnters};
 
 use crate::arc::{ARCS, begins, ends};
+use arrayvec::ArrayVec;
 use pocsag_slots::{holds, with_member};
 
 // Whether the arc leads from a boundary outside the set to one in it.
@@ -13,16 +14,30 @@ fn leads_in(set: u16, arc: usize) -> bool
     holds(set, ends(arc)) && !holds(set, begins(arc))
 }
 
-// An arc that enters the set.
-fn entering(counts: &[u32; 288], set: u16) -> Option<usize>
-    ensures found { IfSome result (IsEntering (slice_index counts.now) set) }
-    ensures none { IfNone result (NoneEnters (slice_index counts.now) set) }
+// The arcs of which there are some.
+fn used_arcs(counts: &[u32; 288]) -> ArrayVec<usize, 288>
+    ensures { AreUsed (slice_index counts.now) 288 result.items }
 {
+    let mut used = ArrayVec::new();
     for arc in 0..ARCS {
         if counts[arc] > 0 {
-            if leads_in(set, arc) {
-                return Some(arc);
-            }
+            used.push(arc);
+        }
+    }
+    used
+}
+
+// The first of these arcs that enters the set.
+fn entering(used: &[usize], set: u16) -> Option<usize>
+    requires { (k : ℕ) → k < length used.now → slice_index used.now k < 288 }
+    ensures found { IfSome result
+        (λ a. IsAmong a used.now × (holds set (arc_from a) ≡ false) × (holds set (arc_to a) ≡ true)) }
+    ensures none { IfNone result ((k : ℕ) → k < length used.now →
+        holds set (arc_to (slice_index used.now k)) ≡ true → holds set (arc_from (slice_index used.now k)) ≡ true) }
+{
+    for arc in used {
+        if leads_in(set, *arc) {
+            return Some(*arc);
         }
     }
     None
@@ -44,10 +59,11 @@ pub fn exits_to(counts: &[u32; 288], root: u8) -> Exits
     ensures known { (q : ℕ) → q < 16 → slice_index result.arcs q < 288 }
     ensures homes { LeadHome (slice_index counts.now) (slice_index result.arcs) root result.set }
 {
+    let used = used_arcs(counts);
     let mut set = with_member(0, root);
     let mut arcs = [0; 16];
     loop {
-        match entering(counts, set) {
+        match entering(used.as_slice(), set) {
             Some(arc) => {
                 let from = begins(arc);
                 arcs[from as usize] = arc;

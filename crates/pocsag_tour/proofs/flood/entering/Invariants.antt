@@ -2,4 +2,5 @@ use Rattle.pocsag_tour.proofs.Prelude.{◌≡◌, ℕ, ◌<◌, true, slice_inde
 use Rattle.pocsag_tour.proofs.flood.entering.Given as goal
 
 abbrev pub invariant-loop-arc : goal.invariant-loop-arc
-invariant-loop-arc l = (a : ℕ) → a < l.arc → 0 < slice_index l.counts a → holds l.set (arc_to a) ≡ true → holds l.set (arc_from a) ≡ true
+invariant-loop-arc l =
+    (k : ℕ) → k < l.arc-index → holds l.set (arc_to (slice_index l.used k)) ≡ true → holds l.set (arc_from (slice_index l.used k)) ≡ true

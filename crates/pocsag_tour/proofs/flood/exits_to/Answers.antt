@@ -1,5 +1,5 @@
 use Rattle.pocsag_tour.proofs.Prelude.{ℕ, ◌<◌, arith, ◌∙◌, length, length-set, refl, slice_index, [], ◌∷◌}
-use Rattle.pocsag_tour.proofs.Flooding.{exits_low, grown_keeps, homes_start, homes_written}
+use Rattle.pocsag_tour.proofs.Flooding.{enters_by, exits_low, grown_keeps, homes_start, homes_written}
 use Rattle.pocsag_tour.proofs.flood.exits_to.Goals as goal
 
 zeros_low : (q : ℕ) → slice_index (0 ∷ 0 ∷ 0 ∷ 0 ∷ 0 ∷ 0 ∷ 0 ∷ 0 ∷ 0 ∷ 0 ∷ 0 ∷ 0 ∷ 0 ∷ 0 ∷ 0 ∷ 0 ∷ []) q < 288
@@ -16,13 +16,16 @@ loop-arc-init c = record {
 pub loop-arc-preserved : goal.loop-arc-preserved
 loop-arc-preserved c =
     let here : c.begins-from.result < length c.loop-arc.arcs = omega (arith, c.loop-arc.invariant.long, c.begins-from.ensures.below) in
+    let found = rw c.as_slice.ensures.value at c.in-Some.ensures.found in
+    let enters =
+    enters_by (slice_index c.args.counts.now) c.used_arcs-used.result.items c.loop-arc.set c.in-Some.arc c.used_arcs-used.ensures found.0 found.1 found.2 in
     record {
       root = grown_keeps c.loop-arc.set c.with_member-set-in-Some.result c.begins-from.result c.args.root
           c.with_member-set-in-Some.ensures.held c.with_member-set-in-Some.ensures.others c.loop-arc.invariant.root;
       long = length-set c.loop-arc.arcs c.begins-from.result c.in-Some.arc ∙ c.loop-arc.invariant.long;
-      known = exits_low c.loop-arc.arcs c.begins-from.result c.in-Some.arc c.loop-arc.invariant.known here c.in-Some.ensures.found.known;
+      known = exits_low c.loop-arc.arcs c.begins-from.result c.in-Some.arc c.loop-arc.invariant.known here enters.known;
       homes = homes_written (slice_index c.args.counts.now) c.loop-arc.arcs c.args.root c.loop-arc.set c.with_member-set-in-Some.result
           c.in-Some.arc c.begins-from.result
-          c.begins-from.ensures.value here c.loop-arc.invariant.homes c.in-Some.ensures.found
+          c.begins-from.ensures.value here c.loop-arc.invariant.homes enters
           c.with_member-set-in-Some.ensures.held c.with_member-set-in-Some.ensures.others;
     }
