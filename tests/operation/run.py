@@ -142,6 +142,11 @@ def try_kills(tally, folder):
     kill_often(tally, folder / "kills of open", keep_open, b"plan,tx.bin,cert.bin\n", KILLS // 4)
 
 
+def heed_interrupts():
+    """Has a process end on SIGINT, also where a shell started all of this in the background, which has it ignored."""
+    signal.signal(signal.SIGINT, signal.SIG_DFL)
+
+
 def kill_often(tally, room, words, lines, kills):
     """Ends the command at random moments, its page file now this one and now that one."""
     room.mkdir()
@@ -156,7 +161,8 @@ def kill_often(tally, room, words, lines, kills):
     for number in range(kills):
         before, due = stand(room), dues[number % 2]
         (room / "pages.csv").write_bytes(files[number % 2])
-        process = subprocess.Popen(words, cwd=room, stdin=subprocess.PIPE, stdout=subprocess.DEVNULL, stderr=subprocess.DEVNULL)
+        how = {"cwd": room, "stdin": subprocess.PIPE, "stdout": subprocess.DEVNULL, "stderr": subprocess.DEVNULL}
+        process = subprocess.Popen(words, preexec_fn=heed_interrupts, **how)
         process.stdin.write(lines)
         process.stdin.flush()
         time.sleep(chance.uniform(0, 1.3 * whole))

@@ -31,7 +31,7 @@ RENAMED = [("let mut len = text.len();", "let mut left = text.len();"), ("while 
            ("len -= 1;", "left -= 1;")]
 PLANTED = {
     "a-body-that-is-right": ("src/pack.rt", [("count > CHARACTER_LIMIT", "CHARACTER_LIMIT < count")]),
-    "a-body-that-does-not-compile": ("src/character.rt", [("b'U' => Some(11),", "b'U' => Some(eleven),")]),
+    "a-body-that-does-not-compile": ("src/character.rt", [("CODES[byte as usize]", "CODES[letter as usize]")]),
     "a-body-that-its-proof-does-not-fit": ("src/unpack.rt", RENAMED),
 }
 WANTED = {
