@@ -1,6 +1,6 @@
 -- The codes of the numeric characters.
-use Rattle.std.proofs.Common.{◌≡◌, ◌≢◌, ℕ, ◌+◌, ◌<◌, ◌≤◌, slice_index, Option, Some, None, unwrap_or, is_none, Bool, eqb, true, false, ◌⊎◌, ⊎_elim, lit<, refl, sym, ap, arith}
-use Rattle.std.proofs.lemmas.Bool.{eqb-true, ne_eqb}
+use Rattle.std.proofs.Common.{◌≡◌, ◌≢◌, ℕ, ◌<◌, ◌≤◌, slice_index, Option, Some, None, unwrap_or, is_none, Bool, eqb, true, false, lit<, refl, ap, arith}
+use Rattle.std.proofs.lemmas.Bool.{eqb-true}
 use Rattle.std.proofs.lemmas.List.Quantifiers.{position-Some}
 use Rattle.pocsag_text.proofs.Below.{all_below, passes}
 use Rattle.pocsag_text.specs.declared.character.TheConstants.{CODES}
