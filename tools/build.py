@@ -125,7 +125,7 @@ def proof(crates, crate):
     else:
         words = rt(crate, "lib")
     begins, ends = f"proving {crate.name}", f"{crate.name} proved"
-    return lanes.Task(crate.name, crate.uses, weight, crate.folder, words, begins, ends)
+    return lanes.Task(crate.name, crate.uses, weight, workspace.most_jobs(crate), crate.folder, words, begins, ends)
 
 
 def tests(crates, crate):
@@ -133,7 +133,8 @@ def tests(crates, crate):
     weight = workspace.weight(crates, crate.name)
     begins, ends = f"running the tests of {crate.name}", f"the tests of {crate.name} passed"
     words = [*BESIDE, "try", "--test", "--seconds", str(TEST_SECONDS)]
-    return lanes.Task(f"{crate.name} tests", (*crate.uses, crate.name), weight, crate.folder, lambda _jobs: words, begins, ends)
+    waits = (*crate.uses, crate.name)
+    return lanes.Task(f"{crate.name} tests", waits, weight, 1, crate.folder, lambda _jobs: words, begins, ends)
 
 
 def run(tasks, crates):

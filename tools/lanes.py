@@ -10,16 +10,17 @@ import tempfile
 import time
 
 MEMORY = 2_000_000_000  # what a proof of a crate takes, in bytes
-MOST = 4  # the most jobs of a task: more gain nothing, since a proof loads and ends with one
 
 
 @dataclasses.dataclass
 class Task:
-    """A command in a folder, the names of the tasks that it waits for, and how long it takes beside others."""
+    """A command in a folder, the names of the tasks that it waits for, how long it takes beside others, and how many jobs
+    it can use."""
 
     name: str
     waits: tuple
     weight: int
+    most: int
     folder: object
     words: object  # of the number of jobs that it may use
     begins: str
@@ -59,8 +60,9 @@ class Lanes:
         self.tasks = {task.name: task for task in tasks}
         self.say = say
         self.room = max(1, free_memory() // MEMORY)  # for so many tasks
-        # A proof loads and ends with one job, which is a third of its time: so many more jobs keep the processors busy.
-        self.lanes = lanes or min(processors() * 3 // 2, self.room)
+        # Where it is said how many lanes there are, other work goes on beside these tasks, which then get a job each.
+        self.is_beside = bool(lanes)
+        self.lanes = lanes or min(processors(), self.room)
         self.done, self.running = set(), {}
         self.start = time.monotonic()
         self.behind = {}
@@ -83,7 +85,7 @@ class Lanes:
 
     def begin(self, task, lanes):
         """Begins a task on so many lanes; with as many jobs, or with all it can use where it is waited for."""
-        jobs = max(lanes, min(MOST, self.lanes)) if self.is_waited_for(task) else lanes
+        jobs = task.most if self.is_waited_for(task) and not self.is_beside else lanes
         log = tempfile.TemporaryFile("w+", errors="replace")
         how = {"cwd": task.folder, "stdin": subprocess.DEVNULL, "stdout": log, "stderr": subprocess.STDOUT}
         process = subprocess.Popen(task.words(jobs), start_new_session=True, preexec_fn=end_with_parent, **how)
@@ -98,8 +100,8 @@ class Lanes:
             idle = self.lanes - sum(lanes for _, _, lanes, _ in self.running.values())
             if idle <= 0 or len(self.running) >= self.room:
                 return
-            shared = -(-idle // (len(ready) - at))
-            self.begin(task, min(MOST, shared))
+            shared = 1 if self.is_beside else max(1, idle // (len(ready) - at))
+            self.begin(task, min(task.most, shared))
 
     def end_some(self):
         """Takes out the tasks that have ended; gives the name and the text of one that failed."""

@@ -90,3 +90,10 @@ def above(crates, name):
 def weight(crates, name):
     """How long a crate's proof takes beside others': each function costs some seconds, and more where more stands below."""
     return crates[name].functions() * (len(below(crates, name)) + 5)
+
+
+def most_jobs(crate):
+    """How many jobs a crate's proof can use. Each job loads what stands below anew, some rounds over: of a crate of some
+    fifty functions three take a sixth more of the processors' time than one and end in half of it, four take half as much
+    more and end no sooner; a crate of twenty ends no sooner with any."""
+    return max(1, min(3, crate.functions() // 15))

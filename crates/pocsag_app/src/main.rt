@@ -1,8 +1,13 @@
 #![tactic(auto)]
-//! The program `pocsag`: reads its words, opens its files, and calls the command.
+//! The program `pocsag`: reads its words, opens its files, and calls the command. What writes more than one file stands here
+//! too: a plan, and the plans and the journal of an open round.
 
+mod journal_file;
+mod journaling;
 mod naming;
 mod obeying;
+mod planning;
+mod round_files;
 
 use crate::obeying::obey;
 use clap::Error;

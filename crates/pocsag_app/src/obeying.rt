@@ -1,4 +1,7 @@
+use crate::journaling::open_kept;
 use crate::naming::{names_in, repair_in, subject_of};
+use crate::planning::write_plan;
+use crate::round_files::RoundFiles;
 use pocsag_commands::{
     expected_file, run_check, run_decode, run_hear, run_input, run_report, run_show,
 };
@@ -9,7 +12,6 @@ use pocsag_findings::Telling;
 use pocsag_line::{Asked, Order, STANDARD, SearchOrder};
 use pocsag_notes::{ReaderSource, RepairNotes, Role, Scene, Watch, tell_explained};
 use pocsag_open::{Planner, run_open, run_open_pages};
-use pocsag_orders::{RoundFiles, open_kept, write_plan};
 use pocsag_show::View;
 use pocsag_words::{Sink, SliceSource, Source};
 use std::alloc::Global;

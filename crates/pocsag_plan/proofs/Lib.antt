@@ -7,3 +7,4 @@ pub mod Explaining
 pub mod Refusing
 pub mod Rooms
 pub mod Tallying
+pub mod Unwritten

@@ -1,7 +1,14 @@
-use Rattle.std.proofs.Common.{arith}
+use Rattle.std.proofs.Common.{ℕ, ◌+◌, ◌≤◌, ◌∙◌, arith}
 use Rattle.pocsag_slots.specs.declared.way.Way.TheVariants.{IdleIn}
-use Rattle.pocsag_branch.proofs.FreeNodes.{free_row_goes_on}
+use Rattle.pocsag_tree.specs.Views.{bound_tree_of}
+use Rattle.pocsag_branch.proofs.FreeNodes.{close_freed, cut_freed, freed_before, free_row_goes_on, kept, kept_in_row, split_freed}
 use Rattle.pocsag_branch.proofs.free_nodes.+free_nodes.Goals as goal
+
+same : (n : ℕ) → n ≤ n
+same n = omega arith
+
+before : (a n b : ℕ) → a + n ≤ b → a ≤ b
+before a n b h = omega arith
 
 pub free_children-loop-way-preserved : goal.free_children-loop-way-preserved
 free_children-loop-way-preserved t c =
@@ -20,3 +27,51 @@ free_split-overflow_add-examined t c = omega (arith, c.requires.examined, c.args
 
 pub free_close-overflow_add-examined : goal.free_close-overflow_add-examined
 free_close-overflow_add-examined t c = omega (arith, c.requires.examined, c.args.node.now.task.limited.few)
+
+pub free_children-returns-then-stands_for-clause-node : goal.free_children-returns-then-stands_for-clause-node
+free_children-returns-then-stands_for-clause-node t c =
+    kept_in_row c.args.node.now.classes.now c.args.node.now.task c.args.node.now.limits c.child_limits.result c.args.examined c.loop-way.after c.in_ok-child.next _ _ _
+    (bound_tree_of c.in_ok-child.child) c.loop-way.invariant c.in_ok-child.ensures.node c.child_limits.ensures.falls
+    (c.stands_for.ensures.0 c.if-stands_for.true)
+
+pub free_cut-returns-in-Whole-clause-node : goal.free_cut-returns-in-Whole-clause-node
+free_cut-returns-in-Whole-clause-node t c =
+    cut_freed c.args.node.now.classes.now c.args.node.now.task c.args.node.now.limits c.args.examined c.in_ok-children.after
+    c.args.set.members c.args.needed.number c.deref.result.now c.in-Whole.children c.args.needed.known c.args.set.zero c.requires.certain
+    (omega arith) (c.deref.ensures.0 ∙ c.ways_out-out.ensures.items) (rw c.in-Whole.is at c.in_ok-children.ensures.node)
+
+pub free_cut-returns-in-Kept-clause-node : goal.free_cut-returns-in-Kept-clause-node
+free_cut-returns-in-Kept-clause-node t c =
+    freed_before c.args.node.now.classes.now c.args.node.now.task c.args.node.now.limits c.args.examined c.in_ok-children.after (bound_tree_of c.in-Kept.tree)
+    (rw c.in-Kept.is at c.in_ok-children.ensures.node)
+
+pub free_close-returns-in-Whole-clause-node : goal.free_close-returns-in-Whole-clause-node
+free_close-returns-in-Whole-clause-node t c =
+    close_freed c.args.node.now.classes.now c.args.node.now.task c.args.node.now.limits c.args.examined c.in_ok-children.after
+    c.deref.result.now c.in-Whole.children c.requires.asks
+    (c.deref.ensures.0 ∙ c.ways_to_end-out.ensures.items) (rw c.in-Whole.is at c.in_ok-children.ensures.node)
+
+pub free_close-returns-in-Kept-clause-node : goal.free_close-returns-in-Kept-clause-node
+free_close-returns-in-Kept-clause-node t c =
+    freed_before c.args.node.now.classes.now c.args.node.now.task c.args.node.now.limits c.args.examined c.in_ok-children.after (bound_tree_of c.in-Kept.tree)
+    (rw c.in-Kept.is at c.in_ok-children.ensures.node)
+
+pub free_split-returns-then-stands_for-clause-node : goal.free_split-returns-then-stands_for-clause-node
+free_split-returns-then-stands_for-clause-node t c =
+    freed_before c.args.node.now.classes.now c.args.node.now.task c.args.node.now.limits c.args.examined c.in_ok-below.between (bound_tree_of c.in_ok-below.below)
+    (kept c.args.node.now.classes.now c.args.node.now.task c.args.node.now.limits c.limits_under.result (c.args.examined + 1) (c.args.examined + 1) c.in_ok-below.between _ (bound_tree_of c.in_ok-below.below)
+    (same (c.args.examined + 1)) c.in_ok-below.ensures.node c.limits_under.ensures.falls (c.stands_for.ensures.0 c.if-stands_for.true))
+
+pub free_split-returns-then-stands_for-2-clause-node : goal.free_split-returns-then-stands_for-2-clause-node
+free_split-returns-then-stands_for-2-clause-node t c =
+    freed_before c.args.node.now.classes.now c.args.node.now.task c.args.node.now.limits c.args.examined c.in_ok-from.after (bound_tree_of c.in_ok-from.from)
+    (kept c.args.node.now.classes.now c.args.node.now.task c.args.node.now.limits c.limits_over.result (c.args.examined + 1) c.in_ok-below.between c.in_ok-from.after _ (bound_tree_of c.in_ok-from.from)
+    (before _ _ _ c.in_ok-below.ensures.node.few) c.in_ok-from.ensures.node c.limits_over.ensures.falls (c.stands_for-2.ensures.0 c.if-stands_for-2.true))
+
+pub free_split-returns-clause-node : goal.free_split-returns-clause-node
+free_split-returns-clause-node t c =
+    split_freed c.args.node.now.classes.now c.args.node.now.task c.args.node.now.limits c.args.examined c.in_ok-below.between
+    c.in_ok-from.after c.args.class.number c.args.m c.limits_under.result c.limits_over.result c.in_ok-below.below c.in_ok-from.from
+    c.in_ok-tree.tree c.in_ok-tree.ensures
+    c.requires.point c.limits_under.ensures.value c.limits_over.ensures.value c.in_ok-below.ensures.node
+    c.in_ok-from.ensures.node

@@ -3,7 +3,7 @@ use Rattle.std.specs.Prelude.{◌⊎◌}
 use Rattle.pocsag_words.specs.declared.ending.End.{End}
 use Rattle.pocsag_words.specs.declared.ending.End.TheVariants as ends
 use Rattle.pocsag_slots.specs.Tours.{AsksForLast}
-use Rattle.pocsag_branch.proofs.TreeEnds.{root_closing}
+use Rattle.pocsag_branch.proofs.TreeEnds.{all_node_limits, root_closing}
 use Rattle.pocsag_branch.proofs.free_root.tree_of_try.Goals as goal
 
 closed_or_idle : (end : End) → (end ≡ ends.Closed) ⊎ (end ≡ ends.Idle) → AsksForLast end
@@ -18,3 +18,7 @@ free_close-requires-clause-asks c = closed_or_idle c.args.task.end c.in-Closed.i
 pub free_close-requires-clause-fall : goal.free_close-requires-clause-fall
 free_close-requires-clause-fall c =
     rw c.all_limits.ensures.value (root_closing c.args.classes.now c.args.task.end c.args.task.batches c.args.task.some)
+
+pub invariant_of-root : goal.invariant_of-root
+invariant_of-root c =
+    record { within = rw c.all_limits.ensures.value (all_node_limits c.args.classes.now c.args.task.batches) }
