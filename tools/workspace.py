@@ -95,5 +95,5 @@ def weight(crates, name):
 def most_jobs(crate):
     """How many jobs a crate's proof can use. Each job loads what stands below anew, some rounds over: of a crate of some
     fifty functions three take a sixth more of the processors' time than one and end in half of it, four take half as much
-    more and end no sooner; a crate of twenty ends no sooner with any."""
+    more and end no sooner; of one of twenty two end a tenth to a fifth sooner, for a quarter to two fifths more."""
     return max(1, min(3, crate.functions() // 15))

@@ -63,8 +63,8 @@ def main(words):
     for kind, (seconds, size) in sorted(kinds.items(), key=lambda it: -it[1][0]):
         print(f"| {kind} | {seconds:.1f} | {size:.1f} |")
     print("\n| Function | Seconds | of which |\n|---|---|---|")
-    for of, spent in sorted(owners.items(), key=lambda it: -it[1].total())[:rows]:
-        print(f"| `{of}` | {spent.total():.1f} | {', '.join(f'{kind} {it:.1f}' for kind, it in spent.most_common(3))} |")
+    for of, spent in sorted(owners.items(), key=lambda it: -sum(it[1].values()))[:rows]:
+        print(f"| `{of}` | {sum(spent.values()):.1f} | {', '.join(f'{kind} {it:.1f}' for kind, it in spent.most_common(3))} |")
 
 
 if __name__ == "__main__":
