@@ -88,8 +88,9 @@ def above(crates, name):
 
 
 def weight(crates, name):
-    """How long a crate's proof takes beside others': each function costs some seconds, and more where more stands below."""
-    return crates[name].functions() * (len(below(crates, name)) + 5)
+    """About how many processor seconds a crate's proof takes: some two for each function, and three for each crate that
+    it loads."""
+    return 2 * crates[name].functions() + 3 * len(below(crates, name))
 
 
 def most_jobs(crate):

@@ -1,10 +1,10 @@
 use crate::journal_file::JournalFile;
 use crate::round_files::RoundFiles;
 use pocsag_faults::{Fault, tell, tell_fault};
-use pocsag_files::{Desk, Named, is_regular_or_none, open_source};
+use pocsag_files::{Desk, Named, is_regular_or_none, open_source, tell_notes};
 use pocsag_journal::{Journal, JournalFault, Replayed};
 use pocsag_line::STANDARD;
-use pocsag_notes::{Notes, ReaderSource, Role, Trouble, Watch, tell_notes};
+use pocsag_notes::{Notes, ReaderSource, Role, Trouble, Watch};
 use pocsag_open::{Keeper, OpenRound, Planner, run_open_kept};
 use pocsag_pages::read_round;
 use pocsag_plan::Book;

@@ -7,12 +7,11 @@ use pocsag_commands::{
 };
 use pocsag_explain::{run_explain, run_frames};
 use pocsag_faults::{Fault, tell, tell_fault};
-use pocsag_files::{Desk, open_buffered, open_source};
-use pocsag_findings::Telling;
+use pocsag_files::{Desk, open_buffered, open_source, tell_explained};
 use pocsag_line::{Asked, Order, STANDARD, SearchOrder};
-use pocsag_notes::{ReaderSource, RepairNotes, Role, Scene, Watch, tell_explained};
+use pocsag_notes::{ReaderSource, RepairNotes, Role, Scene, Watch};
 use pocsag_open::{Planner, run_open, run_open_pages};
-use pocsag_show::View;
+use pocsag_options::{Telling, View};
 use pocsag_words::{Sink, SliceSource, Source};
 use std::alloc::Global;
 use std::io::IsTerminal;

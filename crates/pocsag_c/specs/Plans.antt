@@ -11,7 +11,7 @@ use Rattle.pocsag_plan.specs.BoundedHeadline.{BoundedHeadline}
 use Rattle.pocsag_plan.specs.Headline.{Headline}
 use Rattle.pocsag_plan.specs.Streams.{ExplainsStream}
 use Rattle.pocsag_plan.specs.declared.fault.StreamFault.{StreamFault}
-use Rattle.pocsag_plan.specs.declared.search.Effort.{Effort}
+use Rattle.pocsag_options.specs.declared.search.Effort.{Effort}
 use Rattle.pocsag_faults.specs.declared.fault.Fault.{Fault}
 use Rattle.pocsag_faults.specs.Faults.{fault_of_stream}
 use Rattle.pocsag_c.specs.Answers.{IsDelivered, number_of_end}

@@ -1,6 +1,6 @@
 -- What `pocsag_report` owes.
 use Rattle.std.specs.Prelude.{◌≡◌, ℕ, List}
-use Rattle.pocsag_plan.specs.declared.search.Search.{Search}
+use Rattle.pocsag_options.specs.declared.search.Search.{Search}
 use Rattle.pocsag_commands.specs.Reporting.{ExplainsReporting, IsReportOf}
 use Rattle.pocsag_commands.specs.declared.commands.BoundedReport.{BoundedReport}
 use Rattle.pocsag_faults.specs.declared.fault.Fault.{Fault}

@@ -10,7 +10,7 @@ use crate::handing::hand_out;
 use crate::refusal::refusal_of;
 use pocsag_explain::{Explained, explain_certificate};
 use pocsag_faults::Fault;
-use pocsag_findings::Telling;
+use pocsag_options::Telling;
 use pocsag_words::SliceSource;
 use std::alloc::Global;
 

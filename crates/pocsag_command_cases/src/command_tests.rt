@@ -4,7 +4,8 @@ use pocsag_commands::{
     run_check, run_decode, run_hear, run_input, run_plan, run_report, run_verify,
 };
 use pocsag_faults::{DEFAULT_LIMIT, Fault, PlanFiles, tell_fault};
-use pocsag_notes::{Names, RepairNotes, Role, Scene, Trouble, tell_explained};
+use pocsag_files::tell_explained;
+use pocsag_notes::{Names, RepairNotes, Role, Scene, Trouble};
 use pocsag_pages::RoundFault;
 use pocsag_plan::{Effort, Search};
 use pocsag_words::{End, MemorySink, MemorySource};

@@ -9,7 +9,7 @@ use Rattle.pocsag_plan.specs.declared.answer.Plan.{Plan}
 use Rattle.pocsag_plan.specs.declared.bounded.Bounded.{Bounded}
 use Rattle.pocsag_plan.specs.declared.fault.StreamFault.{StreamFault}
 use Rattle.pocsag_plan.specs.declared.fault.StreamFault.TheVariants as streaming
-use Rattle.pocsag_plan.specs.declared.search.Search.{Search}
+use Rattle.pocsag_options.specs.declared.search.Search.{Search}
 use Rattle.pocsag_plan.specs.Plans.{IsPlanFor, IsSearchTreeFor}
 use Rattle.pocsag_plan.specs.Streams.{ExplainsStream, IsOfRound, IsPlanOf, WritesBounded}
 use Rattle.pocsag_plan.proofs.Due.{tight_stream}

@@ -9,7 +9,7 @@ use Rattle.pocsag_pages.specs.Reading.{EndsAs, IsBatchList}
 use Rattle.pocsag_words.specs.Kinds.{kind_of}
 use Rattle.pocsag_words.specs.declared.ending.End.{End}
 use Rattle.pocsag_decode.specs.Faults.{ReadsAs}
-use Rattle.pocsag_plan.specs.declared.search.Search.{Search}
+use Rattle.pocsag_options.specs.declared.search.Search.{Search}
 use Rattle.pocsag_faults.specs.declared.fault.Fault.{Fault}
 use Rattle.pocsag_commands.specs.Commands.{Checked}
 use Rattle.pocsag_commands.specs.Verifying.{AreAmong, IsDueBound, IsTransmissionOf, Verified}

@@ -17,9 +17,9 @@ use Rattle.pocsag_pager.specs.Faults.{hearing_fault}
 use Rattle.pocsag_pager.specs.declared.fault.PagerFault.{PagerFault}
 use Rattle.pocsag_show.specs.Showing.{Explains}
 use Rattle.pocsag_show.specs.declared.fault.ShowFault.{ShowFault}
-use Rattle.pocsag_show.specs.declared.view.View.{View}
+use Rattle.pocsag_options.specs.declared.view.View.{View}
 use Rattle.pocsag_show.specs.declared.fault.ShowFault.TheVariants as showing
-use Rattle.pocsag_plan.specs.declared.search.Search.{Search}
+use Rattle.pocsag_options.specs.declared.search.Search.{Search}
 use Rattle.pocsag_plan.specs.Plans.{ExplainsPlan}
 use Rattle.pocsag_plan.specs.declared.fault.PlanFault.{PlanFault}
 use Rattle.pocsag_plan.specs.declared.fault.PlanFault.TheVariants as planning

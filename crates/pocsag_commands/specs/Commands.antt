@@ -14,8 +14,8 @@ use Rattle.pocsag_decode.specs.Listing.{listing}
 use Rattle.pocsag_pager.specs.Faults.{hearing_fault}
 use Rattle.pocsag_pager.specs.Shown.{AreShown}
 use Rattle.pocsag_plan.specs.declared.answer.Plan.{Plan}
-use Rattle.pocsag_plan.specs.declared.search.Effort.TheVariants.{Fewest}
-use Rattle.pocsag_plan.specs.declared.search.Search.{Search}
+use Rattle.pocsag_options.specs.declared.search.Effort.TheVariants.{Fewest}
+use Rattle.pocsag_options.specs.declared.search.Search.{Search}
 use Rattle.pocsag_plan.specs.Plans.{IsSearchTreeFor, MayStop, NoneHasFewer}
 use Rattle.pocsag_plan.specs.Reports.{report_text}
 use Rattle.pocsag_plan.specs.Streams.{IsPlanOf, IsStoppedAt, Writes, WritesBounded, WritesCertificatePart, WritesPart}

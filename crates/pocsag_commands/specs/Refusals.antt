@@ -12,13 +12,13 @@ use Rattle.pocsag_decode.specs.declared.fault.DecodeFault.{DecodeFault}
 use Rattle.pocsag_pager.specs.Faults.{hearing_fault}
 use Rattle.pocsag_pager.specs.declared.fault.PagerFault.{PagerFault}
 use Rattle.pocsag_plan.specs.Reports.{IsRate}
-use Rattle.pocsag_plan.specs.declared.search.Effort.TheVariants.{Fewest}
-use Rattle.pocsag_plan.specs.declared.search.Search.{Search}
+use Rattle.pocsag_options.specs.declared.search.Effort.TheVariants.{Fewest}
+use Rattle.pocsag_options.specs.declared.search.Search.{Search}
 use Rattle.pocsag_commands.specs.Commands.{IsPlanRefused}
 use Rattle.pocsag_commands.specs.Judging.{IsNotShown}
 use Rattle.pocsag_commands.specs.Repairing.{IsSoOfRead}
 use Rattle.pocsag_commands.specs.Showing.{IsBehindLast}
-use Rattle.pocsag_show.specs.declared.view.View.{View}
+use Rattle.pocsag_options.specs.declared.view.View.{View}
 
 -- The node limit where none is asked for.
 abbrev pub default_limit : ℕ

@@ -8,7 +8,7 @@ use Rattle.pocsag_plan.specs.Plans.{IsPlanFor, MayStop}
 use Rattle.pocsag_plan.specs.Reports.{IsRate, IsReport}
 use Rattle.pocsag_plan.specs.Streams.{IsOfRound, IsStoppedAt}
 use Rattle.pocsag_plan.specs.declared.bounded.Bounded.{Bounded}
-use Rattle.pocsag_plan.specs.declared.search.Search.{Search}
+use Rattle.pocsag_options.specs.declared.search.Search.{Search}
 use Rattle.pocsag_commands.specs.declared.commands.BoundedReport.{BoundedReport}
 use Rattle.pocsag_faults.specs.declared.fault.Fault.{Fault}
 use Rattle.pocsag_faults.specs.declared.fault.Fault.TheVariants as fault

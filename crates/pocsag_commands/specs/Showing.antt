@@ -7,10 +7,10 @@ use Rattle.pocsag_show.specs.Drawing.{drawing}
 use Rattle.pocsag_show.specs.Picture.{grid_text}
 use Rattle.pocsag_show.specs.Places.{place_listing}
 use Rattle.pocsag_show.specs.Showing.{Shows}
-use Rattle.pocsag_show.specs.Views.{rows_wanted}
-use Rattle.pocsag_show.specs.declared.rows.Rows.{Rows}
-use Rattle.pocsag_show.specs.declared.view.View.{View}
-use Rattle.pocsag_show.specs.declared.view.View.TheVariants.{Grid, Places, Drawing}
+use Rattle.pocsag_options.specs.Views.{rows_wanted}
+use Rattle.pocsag_options.specs.declared.rows.Rows.{Rows}
+use Rattle.pocsag_options.specs.declared.view.View.{View}
+use Rattle.pocsag_options.specs.declared.view.View.TheVariants.{Grid, Places, Drawing}
 
 -- The grid of the rows that are asked for, the listing of the places or the drawing of these rows was told.
 abbrev pub Viewed : View → (bytes out_before out_after : List ℕ) → Type 0

@@ -4,9 +4,9 @@ use Rattle.pocsag_words.specs.declared.ending.End.{End}
 use Rattle.pocsag_pages.specs.declared.page.Page.{Page}
 use Rattle.pocsag_pages.specs.Bytes.{Sent}
 use Rattle.pocsag_pages.specs.Reading.{IsLegalList}
-use Rattle.pocsag_plan.specs.declared.search.Effort.{Effort}
-use Rattle.pocsag_plan.specs.declared.search.Effort.TheVariants.{Fewest, Always}
-use Rattle.pocsag_plan.specs.declared.search.Search.{Search}
+use Rattle.pocsag_options.specs.declared.search.Effort.{Effort}
+use Rattle.pocsag_options.specs.declared.search.Effort.TheVariants.{Fewest, Always}
+use Rattle.pocsag_options.specs.declared.search.Search.{Search}
 use Rattle.pocsag_commands.specs.Commands.{Checked}
 
 -- The pages are as many as the others, and each is among these.

@@ -12,7 +12,7 @@ mod verifying;
 pub use checking::{CheckVerdict, judge_certificate, run_check};
 pub use commands::{BoundedReport, report_file, run_input, run_plan, run_report};
 pub use expecting::expected_file;
-pub use pocsag_show::{Rows, View};
+pub use pocsag_options::{Rows, View};
 pub use receiving::{TRANSMISSION_LIMIT, list_decoded, list_heard, run_decode, run_hear};
 pub use showing::run_show;
 pub use verifying::run_verify;

@@ -10,7 +10,8 @@ use crate::receiving::read_transmission;
 use crate::verifying::batches_of;
 use pocsag_decode::{decode, repair_restores};
 use pocsag_faults::Fault;
-use pocsag_show::{View, show_list, show_svg, show_text};
+use pocsag_options::View;
+use pocsag_show::{show_list, show_svg, show_text};
 use pocsag_words::{Sink, Source};
 use std::alloc::Global;
 

@@ -8,7 +8,7 @@ use Rattle.pocsag_tree.specs.BoundTrees.{BoundTree}
 use Rattle.pocsag_branch.specs.Found.{IsNodeLimit}
 use Rattle.pocsag_plan.specs.declared.airtime.Report.{Report}
 use Rattle.pocsag_plan.specs.declared.bounded.Bounded.{Bounded}
-use Rattle.pocsag_plan.specs.declared.search.Search.{Search}
+use Rattle.pocsag_options.specs.declared.search.Search.{Search}
 use Rattle.pocsag_plan.specs.Plans.{IsPlanFor, MayStop}
 use Rattle.pocsag_plan.specs.Reports.{IsRate, IsReport, report_text}
 use Rattle.pocsag_plan.specs.Streams.{IsStoppedAt}

@@ -5,19 +5,15 @@ ghost use Rattle.pocsag_commands.specs.Judging.{IsNotShown};
 ghost use Rattle.pocsag_commands.specs.Refusals.{IsCheckFaulty};
 ghost use Rattle.pocsag_explain.specs.Explaining.{DoesNotShow, ExplainsUntold, ShowsItsBatches};
 
-use crate::drawing::drawing;
-use crate::facts::facts;
-use crate::outline::{first_refused, outline};
-use crate::subject::Subject;
 use pocsag_check::check;
 use pocsag_commands::CheckVerdict;
 use pocsag_faults::Fault;
-use pocsag_findings::{Telling, findings};
-use pocsag_pages::{Round, read_round};
-use pocsag_slots::classes_of;
-use pocsag_tree::{Certificate, DEPTH_LIMIT, read_certificate};
-use pocsag_words::{OutOfMemory, Sink, Source, write_all};
-use std::alloc::{AllocError, Global};
+use pocsag_options::Telling;
+use pocsag_pages::read_round;
+use pocsag_tree::read_certificate;
+use pocsag_wording::explanation;
+use pocsag_words::{Sink, Source, write_all};
+use std::alloc::Global;
 
 /// `explain PAGES CERT`: tells why fewer batches do not suffice for the page file, by its certificate, or which
 /// node of the certificate does not hold. Answers whether the certificate shows its number of batches.
@@ -80,36 +76,4 @@ pub fn explain_certificate<P: Source, C: Source>(
         },
         text,
     })
-}
-
-// What is told of a certificate that the checker accepts or not. The first node that does not hold may stand at any
-// depth.
-fn explanation(
-    alloc: Global,
-    telling: Telling,
-    round: &Round,
-    certificate: &Certificate,
-    is_shown: bool,
-) -> Result<String, OutOfMemory> {
-    let classes = classes_of(round, certificate.end);
-    let depth = if is_shown {
-        telling.depth()
-    } else {
-        DEPTH_LIMIT
-    };
-    let found = findings(alloc, &classes, certificate, depth)?;
-    let subject = Subject::new(round, certificate, is_shown, found.as_slice());
-    Ok(told(alloc, telling, &subject)?)
-}
-
-fn told(alloc: Global, telling: Telling, subject: &Subject<'_>) -> Result<String, AllocError> {
-    match telling {
-        Telling::Lines(_) if subject.is_shown => outline(alloc, subject),
-        Telling::Lines(_) => {
-            let refused = first_refused(alloc, subject)?;
-            format!(in alloc; "not shown\n{refused}")
-        }
-        Telling::Facts(depth) => facts(alloc, subject, depth),
-        Telling::Drawing => drawing(alloc, subject),
-    }
 }

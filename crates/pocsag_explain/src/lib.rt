@@ -1,17 +1,9 @@
 #![tactic(auto)]
 //! What a person asks of a plan and of a certificate: which frames have room, and why fewer batches do not suffice.
 
-mod columns;
-mod drawing;
 mod explaining;
-mod facts;
 mod frames;
-mod numbering;
-mod outline;
 mod reporting;
-mod sentences;
-mod subject;
-mod wording;
 
 pub use explaining::{Explained, explain_certificate, run_explain};
 pub use frames::{FrameRoom, frames_of};

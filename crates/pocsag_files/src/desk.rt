@@ -1,5 +1,6 @@
+use crate::explaining::tell_explained;
 use pocsag_faults::Fault;
-use pocsag_notes::{Names, RepairNotes, Role, Scene, Watch, WriterSink, tell_explained};
+use pocsag_notes::{Names, RepairNotes, Role, Scene, Watch, WriterSink};
 use std::alloc::Global;
 use std::io::{self, ErrorKind, Stderr, Stdout};
 

@@ -7,9 +7,7 @@ mod inquiry;
 mod judging;
 mod laws;
 mod listing;
-mod telling;
 
 pub use finding::{Column, Fact, Finding, Reached, Share};
 pub use laws::{accepted_trees_hold, trees_that_hold_are_accepted};
 pub use listing::findings;
-pub use telling::Telling;

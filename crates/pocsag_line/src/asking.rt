@@ -9,9 +9,7 @@ use crate::words::{
 };
 use clap::error::ErrorKind;
 use clap::{ArgMatches, Command, Error};
-use pocsag_findings::Telling;
-use pocsag_plan::{Effort, Search};
-use pocsag_show::{Rows, View};
+use pocsag_options::{Effort, Rows, Search, Telling, View};
 use pocsag_words::End;
 use std::alloc::Global;
 

@@ -1,6 +1,4 @@
-use pocsag_findings::Telling;
-use pocsag_plan::Search;
-use pocsag_show::View;
+use pocsag_options::{Search, Telling, View};
 
 /// The word that names no path: standard input or standard output.
 pub const STANDARD: &str = "-";

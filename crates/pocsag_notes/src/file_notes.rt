@@ -1,8 +1,8 @@
 //! Notes on the records of a page file.
 
-use crate::explaining::Scene;
 use crate::note::Notes;
 use crate::role::{NamedFile, Role};
+use crate::scene::Scene;
 use pocsag_pages::{FileRecords, RoundFault, line_feeds, wide_record_size};
 use pocsag_words::OutOfMemory;
 use std::alloc::Global;

@@ -1,18 +1,19 @@
 #![tactic(auto)]
-//! What a person is told with `--verbose`: which file the system refused and why, the line of a record, the field that
-//! is wrong, what a repair mended, and what to do; and the devices that notice it.
+//! What is seen of the files of a command, for a person who asks with `--verbose`: the line of a record, the field that is
+//! wrong, what a repair mended; and the devices that notice which file the system refused.
 
 mod devices;
-mod explaining;
 mod file_notes;
 mod note;
 mod repair_notes;
 mod role;
+mod scene;
 mod watch;
 
 pub use devices::{ReaderSource, WriterSink};
-pub use explaining::{Scene, tell_explained};
-pub use note::{Notes, tell_notes};
-pub use repair_notes::RepairNotes;
+pub use file_notes::{note_header, note_line_feeds, note_record};
+pub use note::{Notes, note_lines};
+pub use repair_notes::{RepairNotes, note_repair};
 pub use role::{NamedFile, Names, Role};
+pub use scene::Scene;
 pub use watch::{Trouble, Watch};

@@ -3,8 +3,7 @@ ghost use Rattle.std.specs.List.{flat_map};
 ghost use Rattle.std.specs.String.{string_bytes};
 ghost use Rattle.pocsag_notes.specs.Notes.{note_text, plain};
 
-use pocsag_faults::Fault;
-use pocsag_words::{OutOfMemory, Sink, write_all};
+use pocsag_words::OutOfMemory;
 use std::alloc::{AllocError, Global};
 use std::fmt::Display;
 
@@ -66,17 +65,13 @@ fn append_note(alloc: Global, lines: &mut Vec<u8>, text: &str) -> Result<(), All
     lines.extend_from_slice(b"\n")
 }
 
-/// Tells notes, by a single write where the sink takes it: each is a line that begins `pocsag: `.
-pub fn tell_notes<S: Sink>(alloc: Global, err: &mut S, notes: &[String]) -> Result<(), Fault>
-    ensures told { S.tells → OnOk result
-        (S.taken err.new ≡ S.taken err.old ++ flat_map note_text (map string_bytes notes.now)) }
+/// The lines of notes, each of which begins `pocsag: `.
+pub fn note_lines(alloc: Global, notes: &[String]) -> Result<Vec<u8>, OutOfMemory>
+    ensures lines { IfOk result (λ lines. lines.items ≡ flat_map note_text (map string_bytes notes.now)) }
 {
     let mut lines = Vec::new(alloc);
     for note in notes {
         append_note(alloc, &mut lines, note.as_str())?;
     }
-    match write_all(err, lines.as_slice()) {
-        Ok(()) => Ok(()),
-        Err(_) => Err(Fault::Write),
-    }
+    Ok(lines)
 }

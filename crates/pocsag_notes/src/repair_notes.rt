@@ -1,8 +1,8 @@
 //! Notes on what `--repair` corrected.
 
-use crate::explaining::Scene;
 use crate::note::Notes;
 use crate::role::Role;
+use crate::scene::Scene;
 use pocsag_decode::{Repaired, repair_all};
 use pocsag_pages::leading_len;
 use pocsag_words::{BATCH_BYTES, OutOfMemory};

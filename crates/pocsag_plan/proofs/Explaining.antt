@@ -11,7 +11,7 @@ use Rattle.pocsag_branch.specs.declared.fault.SearchFault.TheVariants as searchi
 use Rattle.pocsag_branch.specs.Found.{IsNodeLimit, IsSearchFault}
 use Rattle.pocsag_plan.specs.FaultChains.{fault_of_search}
 use Rattle.pocsag_plan.specs.Plans.{ExplainsPlan}
-use Rattle.pocsag_plan.specs.declared.search.Effort.TheVariants.{Fewest}
+use Rattle.pocsag_options.specs.declared.search.Effort.TheVariants.{Fewest}
 use Rattle.std.proofs.Common.{ℕ}
 
 pub explained : (k : Classes) (end : End) (R : List Page) (limit : ℕ) (fault : SearchFault) → IsRound R → AreClassesOf k end R

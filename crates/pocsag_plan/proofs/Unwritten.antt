@@ -11,7 +11,7 @@ use Rattle.pocsag_plan.specs.declared.fault.StreamFault.{StreamFault}
 use Rattle.pocsag_plan.specs.declared.fault.StreamFault.TheVariants as streaming
 use Rattle.pocsag_plan.specs.declared.refusal.BookFault.{BookFault}
 use Rattle.pocsag_plan.specs.declared.refusal.BookFault.TheVariants as book
-use Rattle.pocsag_plan.specs.declared.search.Effort.{Effort}
+use Rattle.pocsag_options.specs.declared.search.Effort.{Effort}
 use Rattle.pocsag_plan.specs.Plans.{IsBounded}
 use Rattle.pocsag_plan.specs.Streams.{IsBeforeWriting, IsCertificate, IsTransmission, IsUnsent, WritesCertificatePartOf, WritesInTurn, WritesPartOf}
 

@@ -12,7 +12,7 @@ use Rattle.pocsag_plan.specs.declared.fault.StreamFault.{StreamFault}
 use Rattle.pocsag_plan.specs.declared.fault.StreamFault.TheVariants as streaming
 use Rattle.pocsag_plan.specs.declared.refusal.BookFault.{BookFault}
 use Rattle.pocsag_plan.specs.declared.refusal.BookFault.TheVariants as fault
-use Rattle.pocsag_plan.specs.declared.search.Effort.{Effort}
+use Rattle.pocsag_options.specs.declared.search.Effort.{Effort}
 use Rattle.pocsag_plan.specs.Plans.{IsStopped, MayStop}
 
 -- A fault of `plan` keeps its name and what it carries.

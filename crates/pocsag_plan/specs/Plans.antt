@@ -21,9 +21,9 @@ use Rattle.pocsag_plan.specs.declared.answer.Plan.{Plan}
 use Rattle.pocsag_plan.specs.declared.bounded.Bounded.{Bounded}
 use Rattle.pocsag_plan.specs.declared.fault.PlanFault.{PlanFault}
 use Rattle.pocsag_plan.specs.declared.fault.PlanFault.TheVariants as fault
-use Rattle.pocsag_plan.specs.declared.search.Effort.{Effort}
-use Rattle.pocsag_plan.specs.declared.search.Effort.TheVariants.{Fewest, Always}
-use Rattle.pocsag_plan.specs.declared.search.Search.{Search}
+use Rattle.pocsag_options.specs.declared.search.Effort.{Effort}
+use Rattle.pocsag_options.specs.declared.search.Effort.TheVariants.{Fewest, Always}
+use Rattle.pocsag_options.specs.declared.search.Search.{Search}
 
 -- Each list of codewords that is legal for the round and the end has at least so many batches.
 abbrev pub NoneHasFewer : End → List Page → ℕ → Type 0

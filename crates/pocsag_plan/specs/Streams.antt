@@ -12,8 +12,8 @@ use Rattle.pocsag_plan.specs.declared.answer.Plan.{Plan}
 use Rattle.pocsag_plan.specs.declared.bounded.Bounded.{Bounded}
 use Rattle.pocsag_plan.specs.declared.fault.StreamFault.{StreamFault}
 use Rattle.pocsag_plan.specs.declared.fault.StreamFault.TheVariants as fault
-use Rattle.pocsag_plan.specs.declared.search.Effort.{Effort}
-use Rattle.pocsag_plan.specs.declared.search.Effort.TheVariants.{Fewest}
+use Rattle.pocsag_options.specs.declared.search.Effort.{Effort}
+use Rattle.pocsag_options.specs.declared.search.Effort.TheVariants.{Fewest}
 use Rattle.pocsag_plan.specs.BoundedHeadline.{BoundedHeadline}
 use Rattle.pocsag_plan.specs.Headline.{Headline, RoundHeadline}
 use Rattle.pocsag_plan.specs.Plans.{IsBounded, IsPlan, IsStopped, MayStop}

@@ -13,7 +13,6 @@ mod laws;
 mod planning;
 mod refusal;
 mod reporting;
-mod search;
 mod streaming;
 mod tally;
 
@@ -25,7 +24,7 @@ pub use edit::Edit;
 pub use fault::{BadRate, PlanFault, StreamFault};
 pub use laws::tight_headlines_are_headlines;
 pub use planning::{bounded_plan, plan, plan_always};
+pub use pocsag_options::{Effort, Search};
 pub use refusal::{AddFault, BookFault, NotThere, Refused};
 pub use reporting::report;
-pub use search::{Effort, Search};
 pub use streaming::{bounded_stream, plan_stream, plan_stream_always, send};

@@ -13,4 +13,3 @@ pub mod Rows
 pub mod Showing
 pub mod Style
 pub mod Taking
-pub mod Views

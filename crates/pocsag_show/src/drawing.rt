@@ -13,8 +13,8 @@ use crate::picture::{CODEWORDS, FRAMES};
 use crate::pieces::{put, put_printed};
 use crate::placed::Placed;
 use crate::places::row_top;
-use crate::rows::Rows;
 use crate::window::Window;
+use pocsag_options::Rows;
 use std::alloc::{AllocError, Global};
 
 // Writes a row behind its pages.

@@ -21,14 +21,11 @@ mod placed;
 mod places;
 mod placing;
 mod reading;
-mod rows;
 mod showing;
 mod style;
 mod telling;
-mod view;
 mod window;
 
 pub use fault::ShowFault;
-pub use rows::Rows;
+pub use pocsag_options::Rows;
 pub use showing::{show_list, show_svg, show_text};
-pub use view::View;

@@ -11,7 +11,7 @@ use crate::fault::ShowFault;
 use crate::judging::judge;
 use crate::listing::listing_of;
 use crate::picture::picture_of;
-use crate::rows::Rows;
+use pocsag_options::Rows;
 use pocsag_words::{Sink, write_all};
 use std::alloc::Global;
 

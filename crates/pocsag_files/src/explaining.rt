@@ -1,34 +1,31 @@
-ghost use Rattle.std.specs.Prelude.{OnOk};
-ghost use Rattle.pocsag_notes.specs.Notes.{AddsNotes};
+ghost use Rattle.std.specs.Prelude.{◌≡◌, ◌++◌, OnOk, map};
+ghost use Rattle.std.specs.List.{flat_map};
+ghost use Rattle.std.specs.String.{string_bytes};
+ghost use Rattle.pocsag_notes.specs.Notes.{AddsNotes, note_text};
 
-use crate::file_notes::{note_header, note_line_feeds, note_record};
-use crate::note::{Notes, tell_notes};
-use crate::repair_notes::{RepairNotes, note_repair};
-use crate::role::{Names, Role};
-use crate::watch::Trouble;
 use pocsag_decode::DecodeFault;
 use pocsag_faults::Fault;
+use pocsag_notes::{
+    Names, Notes, Role, Scene, Trouble, note_header, note_line_feeds, note_lines, note_record,
+    note_repair,
+};
 use pocsag_pager::PagerFault;
 use pocsag_pages::RoundFault;
 use pocsag_tree::CertificateFault;
-use pocsag_words::{OutOfMemory, Sink};
+use pocsag_words::{OutOfMemory, Sink, write_all};
 use std::alloc::Global;
 use std::io;
 
-/// What the notes on a command are made from.
-#[derive(Clone, Copy)]
-pub struct Scene<'a> {
-    /// The words for its files.
-    pub names: Names<'a>,
-    /// What it reads first.
-    pub subject: Role,
-    /// Where the system refused a file or a stream last.
-    pub trouble: Option<Trouble>,
-    /// The bytes of the file that is kept for notes, as far as they were read: of a transmission that is repaired, or of
-    /// the page file.
-    pub file: &'a [u8],
-    /// What is told of its repair.
-    pub repair: RepairNotes,
+/// Tells notes, by a single write where the sink takes it: each is a line that begins `pocsag: `.
+pub fn tell_notes<S: Sink>(alloc: Global, err: &mut S, notes: &[String]) -> Result<(), Fault>
+    ensures told { S.tells → OnOk result
+        (S.taken err.new ≡ S.taken err.old ++ flat_map note_text (map string_bytes notes.now)) }
+{
+    let lines = note_lines(alloc, notes)?;
+    match write_all(err, lines.as_slice()) {
+        Ok(()) => Ok(()),
+        Err(_) => Err(Fault::Write),
+    }
 }
 
 /// Tells notes on a command that is over: on its fault, or on what it did.

@@ -13,7 +13,7 @@ pub enum View {
 
 impl View {
     ghost use Rattle.std.specs.Prelude.{◌≡◌};
-    ghost use Rattle.pocsag_show.specs.Views.{rows_wanted};
+    ghost use Rattle.pocsag_options.specs.Views.{rows_wanted};
 
     /// The rows that are asked for, if some are.
     pub fn rows(self) -> Option<Rows>
