@@ -6,4 +6,4 @@ use Rattle.pocsag_notes.proofs.note.note_lines.Given as goal
 
 -- the lines are those of the notes so far
 abbrev pub invariant-loop-note : goal.invariant-loop-note
-invariant-loop-note g l = l.lines.items ≡ flat_map note_text (map string_bytes (take l.note-index l.notes))
+invariant-loop-note l = l.lines.items ≡ flat_map note_text (map string_bytes (take l.note-index l.notes))
