@@ -3,9 +3,9 @@ use crate::naming::{names_in, repair_in, subject_of};
 use crate::planning::write_plan;
 use crate::round_files::RoundFiles;
 use pocsag_commands::{
-    expected_file, run_check, run_decode, run_hear, run_input, run_report, run_show,
+    expected_file, run_check, run_decode, run_explain, run_frames, run_hear, run_input, run_report,
+    run_show,
 };
-use pocsag_explain::{run_explain, run_frames};
 use pocsag_faults::{Fault, tell, tell_fault};
 use pocsag_files::{Desk, open_buffered, open_source, tell_explained};
 use pocsag_line::{Asked, Order, STANDARD, SearchOrder};

@@ -1,14 +1,14 @@
 ghost use Rattle.std.specs.Prelude.{◌≡◌, ◌≢◌, ◌↔◌, ◌⊎◌, IfErr, IfOk, IsFalse, IsTrue, None, Some};
 ghost use Rattle.pocsag_commands.specs.Commands.{Checked};
 ghost use Rattle.pocsag_commands.specs.Judging.{IsNotShown};
-ghost use Rattle.pocsag_explain.specs.Explaining.{ExplainsUntold};
+ghost use Rattle.pocsag_commands.specs.Explaining.{ExplainsUntold};
 ghost use Rattle.pocsag_c.specs.Answers.{IsNotAccepted, IsShown, TellsFault};
 ghost use Rattle.pocsag_c.specs.Explaining.{IsJudgedAs, IsNoForm, IsTextGiven, IsTextTooLong, IsUntold};
 
 use crate::checking::{CheckInfo, NOT_JUDGED, info_of_judged};
 use crate::handing::hand_out;
 use crate::refusal::refusal_of;
-use pocsag_explain::{Explained, explain_certificate};
+use pocsag_commands::{Explained, explain_certificate};
 use pocsag_faults::Fault;
 use pocsag_options::Telling;
 use pocsag_words::SliceSource;

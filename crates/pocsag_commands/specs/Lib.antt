@@ -1,5 +1,8 @@
 pub mod Commands
 pub mod Expecting
+pub mod Explaining
+pub mod Frames
+pub mod FramesTold
 pub mod Judging
 pub mod Listing
 pub mod Refusals

@@ -1,3 +1,0 @@
-pub mod Explaining
-pub mod Frames
-pub mod Reporting
