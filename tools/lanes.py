@@ -84,8 +84,8 @@ class Lanes:
         return self.behind[task.name] == max(self.behind[name] for name in self.tasks if name not in self.done)
 
     def begin(self, task, lanes):
-        """Begins a task on so many lanes; with as many jobs, or with all it can use where it is waited for."""
-        jobs = task.most if self.is_waited_for(task) and not self.is_beside else lanes
+        """Begins a task on so many lanes; with as many jobs, or with two where it is waited for and can use them."""
+        jobs = max(lanes, min(2, task.most)) if self.is_waited_for(task) and not self.is_beside else lanes
         log = tempfile.TemporaryFile("w+", errors="replace")
         how = {"cwd": task.folder, "stdin": subprocess.DEVNULL, "stdout": log, "stderr": subprocess.STDOUT}
         process = subprocess.Popen(task.words(jobs), start_new_session=True, preexec_fn=end_with_parent, **how)
@@ -94,14 +94,16 @@ class Lanes:
         self.say(f"{minutes(time.monotonic() - self.start)} {task.begins} ({number} of {len(self.tasks)})")
 
     def begin_all(self):
-        """Begins what is ready, as long as a lane is idle and there is memory for one more; the idle lanes are shared out."""
+        """Begins what is ready, as long as a lane is idle and there is memory for one more; the idle lanes are shared out,
+        and what is waited for gets all but one for each of the others."""
         ready = self.ready()
         for at, task in enumerate(ready):
             idle = self.lanes - sum(lanes for _, _, lanes, _ in self.running.values())
             if idle <= 0 or len(self.running) >= self.room:
                 return
-            shared = 1 if self.is_beside else max(1, idle // (len(ready) - at))
-            self.begin(task, min(task.most, shared))
+            others = len(ready) - at - 1
+            shared = max(1, idle - others if self.is_waited_for(task) else idle // (others + 1))
+            self.begin(task, 1 if self.is_beside else min(task.most, shared))
 
     def end_some(self):
         """Takes out the tasks that have ended; gives the name and the text of one that failed."""

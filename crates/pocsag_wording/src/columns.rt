@@ -1,11 +1,9 @@
 //! The sixteen slots of a node as columns.
 
+use crate::wording::BATCH_SLOTS;
 use pocsag_findings::{Column, Fact, Finding};
-use pocsag_slots::{SLOTS, holds};
+use pocsag_slots::holds;
 use std::alloc::AllocError;
-
-// How many slots a batch has, as a number that slots are.
-const BATCH_SLOTS: u8 = SLOTS as u8;
 
 // The line on which the bars stand, the height of the highest, and the left side of the first column.
 const GROUND: u64 = 98;

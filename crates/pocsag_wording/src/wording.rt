@@ -4,9 +4,10 @@ ghost use Rattle.std.specs.Prelude.{◌<◌};
 use pocsag_slots::{CLASSES, SLOTS, frame, holds, rest, size, start, with_member};
 use std::fmt::{self, Display, Formatter};
 
-// How many slots a batch has, and how many frames of two.
-const BATCH_SLOTS: u8 = SLOTS as u8;
+/// How many slots a batch has, as a number of the kind that a slot is.
+pub(crate) const BATCH_SLOTS: u8 = SLOTS as u8;
 
+// How many frames of two slots.
 const BATCH_FRAMES: u8 = BATCH_SLOTS / 2;
 
 // The first class of address codewords alone, which the closed end has, one to a frame.
@@ -73,7 +74,7 @@ fn link_before(set: u16, member: u8) -> &'static str
 }
 
 // The frames that have a slot in a set of slots, as a set.
-fn frames_of(set: u16) -> u16 {
+fn frame_set(set: u16) -> u16 {
     let mut frames = 0;
     for frame in 0..BATCH_FRAMES {
         if holds(set, 2 * frame) || holds(set, 2 * frame + 1) {
@@ -103,7 +104,7 @@ impl Display for SlotWords {
             let word = if size(set) == 1 { "slot" } else { "slots" };
             return write!(f, "{word} {slots}");
         }
-        let frames = frames_of(set);
+        let frames = frame_set(set);
         let word = if size(frames) == 1 { "frame" } else { "frames" };
         let frames = MemberWords(frames);
         write!(f, "{word} {frames} (slots {slots})")
