@@ -219,13 +219,7 @@ fn sizes(rt: HostRuntime) {
     );
     let fault = Round::from_pages(alloc, tones(alloc, 20_001).expect(&rt, "an answer")).err();
     assert_eq!(rt; fault, Some(RoundFault::TooManyPages(20_001)));
-    assert_eq!(rt;
-        read_round(alloc, &mut long_file(268_435_456))
-            .expect(&rt, "an answer")
-            .pages()
-            .len(),
-        1
-    );
+    // A file of 268,435,456 bytes is read by the built program (tests/program/edges.py): with checks it takes minutes.
     let fault = read_round(alloc, &mut long_file(268_435_457)).err();
     assert_eq!(rt; fault, Some(RoundFault::TooLarge));
     let mut tx = MemorySink::<140>::new(64, 1000);
