@@ -1,65 +1,16 @@
 #![tactic(auto)]
-//! The program `pocsag`: reads its words, opens its files, and calls the command. What writes more than one file stands here
-//! too: a plan, and the plans and the journal of an open round.
+//! The program `pocsag`, which keeps the open rounds that its words ask for: the files of their plans, and their journals. All
+//! else that they ask for stands below.
 
 mod journal_file;
 mod journaling;
-mod naming;
-mod obeying;
-mod planning;
+mod opening;
 mod round_files;
 
-use crate::obeying::obey;
-use clap::Error;
-use clap::error::ErrorKind;
-use pocsag_faults::{Fault, tell_fault};
-use pocsag_line::asked_of;
-use pocsag_notes::{Role, Watch, WriterSink};
-use pocsag_words::Sink;
-use std::alloc::Global;
-use std::env;
-use std::io::ErrorKind as IoErrorKind;
+use crate::opening::FileOpener;
+use pocsag_orders::run;
 use std::process::ExitCode;
 
 fn main(rt: HostRuntime) -> ExitCode {
-    ExitCode::from(run(&rt))
-}
-
-// The words of the command line, the program's own name first.
-fn words_of(rt: &HostRuntime, alloc: Global) -> Result<Vec<String>, Fault> {
-    let args = match env::args(rt) {
-        Ok(args) => args,
-        Err(error) if error.kind() == IoErrorKind::OutOfMemory => return Err(Fault::OutOfMemory),
-        Err(_) => return Err(Fault::Device),
-    };
-    Ok(args.collect(alloc)?)
-}
-
-fn run(rt: &HostRuntime) -> u8 {
-    let alloc = rt.alloc();
-    let unheard = Watch::new(alloc, None);
-    let mut err = WriterSink::new(rt.stderr(), Role::Output, &unheard);
-    let words = match words_of(rt, alloc) {
-        Ok(words) => words,
-        Err(fault) => return tell_fault(&mut err, fault),
-    };
-    match asked_of(alloc, words.as_slice()) {
-        Ok(asked) => obey(rt, alloc, asked, &mut err),
-        Err(error) => tell_clap_error(rt, &error, &mut err),
-    }
-}
-
-// What clap refuses is a mistake in the words, its help is what was asked for.
-fn tell_clap_error<E: Sink>(rt: &HostRuntime, error: &Error, err: &mut E) -> u8 {
-    if error.kind() == ErrorKind::OutOfMemory {
-        return tell_fault(err, Fault::OutOfMemory);
-    }
-    let printed = error.print(rt);
-    if error.use_stderr() {
-        return 2;
-    }
-    match printed {
-        Ok(()) => 0,
-        Err(_) => tell_fault(err, Fault::Write),
-    }
+    ExitCode::from(run(&rt, &FileOpener))
 }

@@ -1,6 +1,6 @@
 //! What the words that `clap` found ask for.
 
-use crate::order::{Asked, Order, PlanOrder, SearchOrder, path_of};
+use crate::order::{Asked, OpenOrder, Order, PlanOrder, SearchOrder, path_of};
 use crate::texts::BAD_ROWS;
 use crate::words::{
     ADDRESS, ALWAYS, CERT, CHECK, CLOSED, DECODE, DEPTH, EACH_FRAME, END, EXPECT, EXPLAIN, HEAR,
@@ -138,12 +138,12 @@ fn show_order<'a>(found: &ArgMatches<'a>) -> Option<Order<'a>> {
 }
 
 fn open_order<'a>(found: &ArgMatches<'a>) -> Order<'a> {
-    Order::Open {
+    Order::Open(OpenOrder {
         pages: found.get_str(PAGES),
         journal: found.get_str(JOURNAL),
         always: found.get_flag(ALWAYS),
         keep: found.get_flag(KEEP),
-    }
+    })
 }
 
 fn report_order<'a>(found: &ArgMatches<'a>) -> Option<Order<'a>> {

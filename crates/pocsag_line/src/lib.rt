@@ -7,4 +7,4 @@ mod texts;
 mod words;
 
 pub use asking::asked_of;
-pub use order::{Asked, Order, PlanOrder, STANDARD, SearchOrder, path_of};
+pub use order::{Asked, OpenOrder, Order, PlanOrder, STANDARD, SearchOrder, path_of};

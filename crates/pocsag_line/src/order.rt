@@ -49,14 +49,8 @@ pub enum Order<'a> {
         view: View,
         repair: bool,
     },
-    /// `open`, or `open PAGES`: an open round, the path of the page file that it begins with, that of its journal,
-    /// whether each plan of it is answered, and whether old files are kept until the new ones are whole.
-    Open {
-        pages: Option<&'a str>,
-        journal: Option<&'a str>,
-        always: bool,
-        keep: bool,
-    },
+    /// `open`, or `open PAGES`.
+    Open(OpenOrder<'a>),
     /// `report PAGES`: the path of the page file, the rate, how the plan is searched, and whether its frames are told.
     Report {
         pages: Option<&'a str>,
@@ -78,6 +72,19 @@ pub struct PlanOrder<'a> {
     /// Whether the files are read back.
     pub verify: bool,
     /// Whether what stands there before is kept until both files are whole.
+    pub keep: bool,
+}
+
+/// What `open` is asked for.
+#[derive(Clone, Copy)]
+pub struct OpenOrder<'a> {
+    /// The path of the page file that the round begins with, if there is one.
+    pub pages: Option<&'a str>,
+    /// The path of the journal, if there is one.
+    pub journal: Option<&'a str>,
+    /// Whether each plan of the round is answered.
+    pub always: bool,
+    /// Whether what stands there before is kept until both files of a plan are whole.
     pub keep: bool,
 }
 

@@ -1,7 +1,6 @@
-use crate::journaling::open_kept;
 use crate::naming::{names_in, repair_in, subject_of};
+use crate::opener::Opener;
 use crate::planning::write_plan;
-use crate::round_files::RoundFiles;
 use pocsag_commands::{
     expected_file, run_check, run_decode, run_explain, run_frames, run_hear, run_input, run_report,
     run_show,
@@ -10,10 +9,8 @@ use pocsag_faults::{Fault, tell, tell_fault};
 use pocsag_files::{Desk, open_buffered, open_source, tell_explained};
 use pocsag_line::{Asked, Order, STANDARD, SearchOrder};
 use pocsag_notes::{ReaderSource, RepairNotes, Role, Scene, Watch};
-use pocsag_open::{Planner, run_open, run_open_pages};
 use pocsag_options::{Telling, View};
 use pocsag_words::{Sink, SliceSource, Source};
-use std::alloc::Global;
 use std::io::IsTerminal;
 
 // What a person is told who gave no words.
@@ -22,14 +19,15 @@ const AT_TERMINAL: &str =
 
 /// Opens the files of an order and runs its command on them; with `--verbose` it tells notes behind the fault.
 /// Answers the exit status.
-pub fn obey<E: Sink>(rt: &HostRuntime, alloc: Global, asked: Asked<'_>, err: &mut E) -> u8 {
+pub fn obey<O: Opener, E: Sink>(rt: &HostRuntime, opener: &O, asked: Asked<'_>, err: &mut E) -> u8 {
+    let alloc = rt.alloc();
     let watch = Watch::new(alloc, asked.verbose.then_some(kept_in(asked.order)));
     let desk = Desk {
         rt,
         alloc,
         watch: &watch,
     };
-    let done = obeyed(desk, asked.order);
+    let done = obeyed(desk, opener, asked.order);
     let status = match done {
         Ok(status) => status,
         Err(fault) => tell_fault(err, fault),
@@ -63,7 +61,7 @@ fn tell_scene<E: Sink>(desk: Desk<'_>, order: Order<'_>, done: Result<u8, Fault>
 }
 
 // The exit status, unless there is a fault.
-fn obeyed(desk: Desk<'_>, order: Order<'_>) -> Result<u8, Fault> {
+fn obeyed<O: Opener>(desk: Desk<'_>, opener: &O, order: Order<'_>) -> Result<u8, Fault> {
     match order {
         Order::Input => status_of(plan_input(desk)),
         Order::Plan(order) => write_plan(desk, order),
@@ -78,20 +76,7 @@ fn obeyed(desk: Desk<'_>, order: Order<'_>) -> Result<u8, Fault> {
         Order::Show { tx, view, repair } => {
             receive_path(desk, Receiving::Show { view, repair }, tx)
         }
-        Order::Open {
-            pages,
-            journal,
-            always,
-            keep,
-        } => open_round(
-            always,
-            &RoundFiles {
-                desk,
-                pages,
-                journal,
-                keep,
-            },
-        ),
+        Order::Open(order) => opener.open(desk, order),
         Order::Report {
             pages,
             rate,
@@ -175,30 +160,6 @@ fn receive<T: Source>(desk: Desk<'_>, asked: Receiving, tx: &mut T) -> Result<()
         Receiving::Hear { address } => run_hear(desk.alloc, address, tx, out),
         Receiving::Show { view, repair } => run_show(desk.alloc, view, repair, tx, out),
     }
-}
-
-// Keeps an open round, in its journal where it has one.
-fn open_round(always: bool, places: &RoundFiles<'_>) -> Result<u8, Fault> {
-    match places.journal {
-        Some(path) => open_kept(path, always, places),
-        None => status_of(open_path(always, places)),
-    }
-}
-
-// Keeps an open round, that of a page file where its path is given.
-fn open_path(always: bool, places: &RoundFiles<'_>) -> Result<(), Fault> {
-    let desk = places.desk;
-    let mut input = ReaderSource::new(desk.rt.stdin(), Role::Lines, desk.watch);
-    let planner = &Planner { places, always };
-    let Some(path) = places.pages else {
-        return run_open(desk.alloc, planner, &mut input, &mut desk.out());
-    };
-    if path == STANDARD {
-        // Standard input holds the lines.
-        return Err(Fault::EqualPaths);
-    }
-    let mut pages = open_source(desk, Role::PageFile, Some(path))?;
-    run_open_pages(desk.alloc, planner, &mut pages, &mut input, &mut desk.out())
 }
 
 // What a report is asked for: a rate, how the plan is searched, and whether its frames are told.

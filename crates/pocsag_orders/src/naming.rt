@@ -20,7 +20,7 @@ pub fn names_in(order: Order<'_>) -> Names<'_> {
             tx: Some(word_of(tx)),
             cert: None,
         },
-        Order::Open { pages, .. } => of_pages(pages),
+        Order::Open(order) => of_pages(order.pages),
         Order::Report { pages, .. } => of_pages(Some(word_of(pages))),
     }
 }
