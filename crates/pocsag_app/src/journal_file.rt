@@ -16,7 +16,7 @@ const ROLE: Role = Role::Lines;
 #[derive(Drop)]
 pub struct JournalFile<'a> {
     pub desk: Desk<'a>,
-    pub path: &'a str,
+    path: &'a str,
     file: File,
     calls: u64,
     failures: u64,

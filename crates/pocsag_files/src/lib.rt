@@ -5,6 +5,7 @@
 mod desk;
 mod explaining;
 mod files;
+mod journal_notes;
 mod keeping;
 mod misuse;
 mod paths;
@@ -13,6 +14,7 @@ mod streams;
 pub use desk::Desk;
 pub use explaining::{tell_explained, tell_notes};
 pub use files::{make_outputs, open_buffered, open_source, refuse_one_file};
+pub use journal_notes::JournalNotes;
 pub use keeping::{Beside, put_both};
 pub use misuse::{Misuse, is_regular_or_none, misused, tell_misuse};
 pub use paths::{Named, refuse_equal};
