@@ -7,7 +7,7 @@ use Rattle.pocsag_words.specs.declared.ending.End.TheVariants as ends
 use Rattle.pocsag_pages.specs.PageFile.{Row}
 use Rattle.pocsag_pages.specs.declared.page.Page.{Page}
 use Rattle.pocsag_pages.specs.declared.fault.FieldFault.TheVariants as field
-use Rattle.pocsag_plan.specs.declared.refusal.AddFault.TheVariants as adding
+use Rattle.pocsag_plan_faults.specs.declared.refusal.AddFault.TheVariants as adding
 use Rattle.pocsag_decode.specs.PageFiles.{page_file}
 use Rattle.pocsag_faults.specs.declared.fault.Fault.TheVariants as fault
 use Rattle.pocsag_open.specs.Answers.{IsPlanTold, pages_answer, plan_answer}

@@ -1,5 +1,5 @@
 ghost use Rattle.std.specs.Prelude.{◌≡◌};
-ghost use Rattle.pocsag_branch.specs.declared.fault.SearchFault.TheVariants.{OutOfMemory};
+ghost use Rattle.pocsag_plan_faults.specs.declared.search.SearchFault.TheVariants.{OutOfMemory};
 
 use pocsag_tree::Tree;
 use std::alloc::AllocError;

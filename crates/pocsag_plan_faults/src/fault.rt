@@ -1,9 +1,9 @@
 ghost use Rattle.std.specs.Prelude.{◌≡◌};
-ghost use Rattle.pocsag_plan.specs.declared.fault.PlanFault.TheVariants as planning;
-ghost use Rattle.pocsag_plan.specs.declared.fault.StreamFault.TheVariants as streaming;
-ghost use Rattle.pocsag_plan.specs.FaultChains.{stream_fault_of_plan, fault_of_search};
+ghost use Rattle.pocsag_plan_faults.specs.declared.fault.PlanFault.TheVariants as planning;
+ghost use Rattle.pocsag_plan_faults.specs.declared.fault.StreamFault.TheVariants as streaming;
+ghost use Rattle.pocsag_plan_faults.specs.FaultChains.{stream_fault_of_plan, fault_of_search};
 
-use pocsag_branch::{SearchFault, SearchLimit};
+use crate::search::{SearchFault, SearchLimit};
 use pocsag_pages::RoundFault;
 use pocsag_words::{OutOfMemory, WriteFault};
 use std::error::Error;

@@ -1,5 +1,5 @@
 use crate::fault::{PlanFault, StreamFault};
-use pocsag_branch::SearchLimit;
+use crate::search::SearchLimit;
 use pocsag_pages::{Page, PageFault, RoundFault};
 use pocsag_words::OutOfMemory;
 use std::error::Error;
@@ -119,7 +119,7 @@ impl Error for BookFault {}
 
 impl From<PageFault> for AddFault {
     ghost use Rattle.std.specs.Prelude.{◌≡◌};
-    ghost use Rattle.pocsag_plan.specs.OpenRound.{fault_of_rule};
+    ghost use Rattle.pocsag_plan_faults.specs.FaultChains.{fault_of_rule};
 
     ghost from_gives = { λ rule fault. fault ≡ fault_of_rule rule };
 
@@ -134,7 +134,7 @@ impl From<PageFault> for AddFault {
 
 impl From<OutOfMemory> for BookFault {
     ghost use Rattle.std.specs.Prelude.{◌≡◌};
-    ghost use Rattle.pocsag_plan.specs.declared.refusal.BookFault.TheVariants as book;
+    ghost use Rattle.pocsag_plan_faults.specs.declared.refusal.BookFault.TheVariants as book;
 
     ghost from_gives = { λ _ fault. fault ≡ book.OutOfMemory };
 
@@ -145,7 +145,7 @@ impl From<OutOfMemory> for BookFault {
 
 impl From<PlanFault> for BookFault {
     ghost use Rattle.std.specs.Prelude.{◌≡◌};
-    ghost use Rattle.pocsag_plan.specs.BookPlans.{book_fault_of};
+    ghost use Rattle.pocsag_plan_faults.specs.FaultChains.{book_fault_of};
 
     ghost from_gives = { λ fault its. its ≡ book_fault_of fault };
 
@@ -160,7 +160,7 @@ impl From<PlanFault> for BookFault {
 
 impl From<BookFault> for StreamFault {
     ghost use Rattle.std.specs.Prelude.{◌≡◌};
-    ghost use Rattle.pocsag_plan.specs.BookPlans.{stream_fault_of};
+    ghost use Rattle.pocsag_plan_faults.specs.FaultChains.{stream_fault_of};
 
     ghost from_gives = { λ fault its. its ≡ stream_fault_of fault };
 
