@@ -6,7 +6,6 @@ mod answer;
 mod boundaries;
 mod child;
 mod climb;
-mod fault;
 mod free_forms;
 mod free_nodes;
 mod free_root;
@@ -26,7 +25,7 @@ mod unfinished;
 mod within_one;
 
 pub use answer::Found;
-pub use fault::{SearchFault, SearchLimit};
 pub use free_search::{near, search_freely};
+pub use pocsag_plan_faults::{SearchFault, SearchLimit};
 pub use promised_search::search;
 pub use within_one::{FreeFault, Near};

@@ -5,12 +5,12 @@ ghost use Rattle.pocsag_branch.specs.Examined.{greatest_least, IsTreeOf};
 ghost use Rattle.pocsag_branch.specs.Found.{HasPage, IsFound, IsNodeLimit, IsSearchFault};
 
 use crate::answer::Found;
-use crate::fault::{SearchFault, SearchLimit};
 use crate::least::least_of;
 use crate::outcome::{found_at_least, tour_of_one_more};
 use crate::promised_root::promised_tree;
 use crate::task::{Stop, Task};
 use crate::unfinished::is_unfinished;
+use pocsag_plan_faults::{SearchFault, SearchLimit};
 use pocsag_slots::{Choice, Classes, tours_have_codewords};
 use pocsag_tour::spare_batches_have_tours;
 use pocsag_tree::Tree;

@@ -10,7 +10,7 @@ use Rattle.pocsag_batch.specs.FileOrder.{IsFileOrder}
 use Rattle.pocsag_plan.specs.BoundedHeadline.{BoundedHeadline}
 use Rattle.pocsag_plan.specs.Headline.{Headline}
 use Rattle.pocsag_plan.specs.Streams.{ExplainsStream}
-use Rattle.pocsag_plan.specs.declared.fault.StreamFault.{StreamFault}
+use Rattle.pocsag_plan_faults.specs.declared.fault.StreamFault.{StreamFault}
 use Rattle.pocsag_options.specs.declared.search.Effort.{Effort}
 use Rattle.pocsag_faults.specs.declared.fault.Fault.{Fault}
 use Rattle.pocsag_faults.specs.Faults.{fault_of_stream}

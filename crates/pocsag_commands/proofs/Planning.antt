@@ -7,8 +7,8 @@ use Rattle.pocsag_pages.specs.declared.page.Page.{Page}
 use Rattle.pocsag_tree.specs.Views.{bound_tree_of}
 use Rattle.pocsag_plan.specs.declared.answer.Plan.{Plan}
 use Rattle.pocsag_plan.specs.declared.bounded.Bounded.{Bounded}
-use Rattle.pocsag_plan.specs.declared.fault.StreamFault.{StreamFault}
-use Rattle.pocsag_plan.specs.declared.fault.StreamFault.TheVariants as streaming
+use Rattle.pocsag_plan_faults.specs.declared.fault.StreamFault.{StreamFault}
+use Rattle.pocsag_plan_faults.specs.declared.fault.StreamFault.TheVariants as streaming
 use Rattle.pocsag_options.specs.declared.search.Search.{Search}
 use Rattle.pocsag_plan.specs.Plans.{IsPlanFor, IsSearchTreeFor}
 use Rattle.pocsag_plan.specs.Streams.{ExplainsStream, IsOfRound, IsPlanOf, WritesBounded}

@@ -21,8 +21,8 @@ use Rattle.pocsag_options.specs.declared.view.View.{View}
 use Rattle.pocsag_show.specs.declared.fault.ShowFault.TheVariants as showing
 use Rattle.pocsag_options.specs.declared.search.Search.{Search}
 use Rattle.pocsag_plan.specs.Plans.{ExplainsPlan}
-use Rattle.pocsag_plan.specs.declared.fault.PlanFault.{PlanFault}
-use Rattle.pocsag_plan.specs.declared.fault.PlanFault.TheVariants as planning
+use Rattle.pocsag_plan_faults.specs.declared.fault.PlanFault.{PlanFault}
+use Rattle.pocsag_plan_faults.specs.declared.fault.PlanFault.TheVariants as planning
 use Rattle.pocsag_commands.specs.Commands.{IsPlanRefused, limit, stopped}
 use Rattle.pocsag_faults.specs.Faults.{fault_of_plan, fault_of_show, status_after, status_of}
 use Rattle.pocsag_commands.specs.Judging.{ExplainsJudging}

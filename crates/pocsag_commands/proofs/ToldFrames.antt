@@ -8,8 +8,8 @@ use Rattle.pocsag_slots.specs.declared.step.Step.{Step}
 use Rattle.pocsag_tree.specs.Views.{bound_tree_of}
 use Rattle.pocsag_plan.specs.declared.airtime.Report.{Report}
 use Rattle.pocsag_plan.specs.declared.bounded.Bounded.{Bounded}
-use Rattle.pocsag_plan.specs.declared.fault.PlanFault.{PlanFault}
-use Rattle.pocsag_plan.specs.declared.fault.PlanFault.TheVariants as planning
+use Rattle.pocsag_plan_faults.specs.declared.fault.PlanFault.{PlanFault}
+use Rattle.pocsag_plan_faults.specs.declared.fault.PlanFault.TheVariants as planning
 use Rattle.pocsag_options.specs.declared.search.Search.{Search}
 use Rattle.pocsag_plan.specs.Plans.{ExplainsPlan, IsPlanFor}
 use Rattle.pocsag_plan.specs.Reports.{IsReport, report_text}

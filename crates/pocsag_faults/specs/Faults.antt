@@ -8,10 +8,10 @@ use Rattle.pocsag_decode.specs.declared.fault.DecodeFault.TheVariants as decodin
 use Rattle.pocsag_decode.specs.declared.fault.ListFault.{ListFault}
 use Rattle.pocsag_decode.specs.declared.fault.ListFault.TheVariants as listing
 use Rattle.pocsag_pager.specs.declared.fault.PagerFault.TheVariants as hearing
-use Rattle.pocsag_plan.specs.declared.fault.PlanFault.{PlanFault}
-use Rattle.pocsag_plan.specs.declared.fault.PlanFault.TheVariants as planning
-use Rattle.pocsag_plan.specs.declared.fault.StreamFault.{StreamFault}
-use Rattle.pocsag_plan.specs.declared.fault.StreamFault.TheVariants as streaming
+use Rattle.pocsag_plan_faults.specs.declared.fault.PlanFault.{PlanFault}
+use Rattle.pocsag_plan_faults.specs.declared.fault.PlanFault.TheVariants as planning
+use Rattle.pocsag_plan_faults.specs.declared.fault.StreamFault.{StreamFault}
+use Rattle.pocsag_plan_faults.specs.declared.fault.StreamFault.TheVariants as streaming
 use Rattle.pocsag_show.specs.declared.fault.ShowFault.{ShowFault}
 use Rattle.pocsag_show.specs.declared.fault.ShowFault.TheVariants as showing
 use Rattle.pocsag_faults.specs.declared.fault.Fault.{Fault}

@@ -4,7 +4,7 @@ ghost use Rattle.pocsag_faults.specs.declared.fault.Fault.TheVariants as fault;
 use pocsag_decode::{DecodeFault, ListFault};
 use pocsag_pager::PagerFault;
 use pocsag_pages::{RoundFault, WholeFault};
-use pocsag_plan::{BadRate, PlanFault, StreamFault};
+use pocsag_plan_faults::{BadRate, PlanFault, StreamFault};
 use pocsag_show::{Rows, ShowFault};
 use pocsag_tree::CertificateFault;
 use pocsag_words::OutOfMemory;

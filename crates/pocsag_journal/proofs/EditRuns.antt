@@ -4,7 +4,7 @@ use Rattle.std.specs.Prelude.{Option, Some, None, Result, Ok}
 use Rattle.pocsag_pages.specs.PageFile.{Row}
 use Rattle.pocsag_pages.specs.declared.page.Page.{Page}
 use Rattle.pocsag_plan.specs.OpenRound.{without}
-use Rattle.pocsag_open.specs.Runs.{Asked, IsDone, IsEdit, IsRun, add, asked_of, cancel, clear}
+use Rattle.pocsag_edits.specs.Runs.{Asked, IsDone, IsEdit, IsRun, add, asked_of, cancel, clear}
 
 ok_is : {A E : Type 0} (r : Result A E) (a b : A) → r ≡ Ok a → r ≡ Ok b → a ≡ b
 ok_is r a b d e = cc (sym d ∙ e)

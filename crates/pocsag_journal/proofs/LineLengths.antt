@@ -17,7 +17,7 @@ use Rattle.pocsag_pages.specs.Pages.{is_reserved}
 use Rattle.pocsag_pages.specs.declared.fault.FieldFault.{FieldFault}
 use Rattle.pocsag_pages.specs.declared.fault.FieldFault.TheVariants as field
 use Rattle.pocsag_pages.specs.declared.page.Page.{Page}
-use Rattle.pocsag_open.specs.Runs.{Asked, IsDone, IsEdit, add, asked_of, cancel, clear}
+use Rattle.pocsag_edits.specs.Runs.{Asked, IsDone, IsEdit, add, asked_of, cancel, clear}
 use Rattle.pocsag_journal.specs.Growth.{kept_line_limit}
 
 -- the fields of an edit

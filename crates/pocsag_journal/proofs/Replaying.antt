@@ -13,16 +13,16 @@ use Rattle.csv.specs.declared.parser.State.TheVariants as st
 use Rattle.csv.proofs.RoundTrip.{read-write}
 use Rattle.pocsag_pages.specs.PageFile.{Row, only_row, rows_of}
 use Rattle.pocsag_pages.specs.declared.page.Page.{Page}
-use Rattle.pocsag_open.specs.Runs.{Asked, IsDone, IsEdit, IsRefusedFor, IsRun, asked_of, wants_memory}
-use Rattle.pocsag_open.specs.declared.refusal.Refusal.{Refusal}
-use Rattle.pocsag_open.specs.Lines.{HasNoLineFeed}
-use Rattle.pocsag_open.specs.Runs.{first_record}
-use Rattle.pocsag_open.proofs.Fields.{is_word}
+use Rattle.pocsag_edits.specs.Runs.{Asked, IsDone, IsEdit, IsRefusedFor, IsRun, asked_of, wants_memory}
+use Rattle.pocsag_edits.specs.declared.refusal.Refusal.{Refusal}
+use Rattle.pocsag_edits.specs.Spelling.{HasNoLineFeed}
+use Rattle.pocsag_edits.specs.Runs.{first_record}
+use Rattle.pocsag_edits.proofs.Fields.{is_word}
+use Rattle.pocsag_edits.proofs.RowTexts.{none_left}
 use Rattle.pocsag_journal.specs.Journals.{IsBadLine, IsLine, IsWholeLine, MakesLine, Replays, first, journal_text, later, rows_text}
 use Rattle.pocsag_journal.proofs.EditRuns.{run_on}
 use Rattle.pocsag_journal.proofs.Prefixes.{all_more, journal_more}
 use Rattle.pocsag_journal.proofs.TextLines.{back_is}
-use Rattle.pocsag_open.proofs.RowTexts.{none_left}
 
 -- the record of a line, if it has one and no more
 abbrev pub first_of : List ℕ → Option Row

@@ -7,9 +7,9 @@ use Rattle.std.proofs.lemmas.Option.{same_Some}
 use Rattle.csv.specs.Writing.{default_writer, row_text}
 use Rattle.pocsag_pages.specs.PageFile.{Row}
 use Rattle.pocsag_pages.specs.declared.page.Page.{Page}
-use Rattle.pocsag_open.specs.Edited.{IsAdded}
-use Rattle.pocsag_open.specs.Runs.{IsEdit, IsRun, asked_of}
-use Rattle.pocsag_open.specs.Runs.{first_record}
+use Rattle.pocsag_edits.specs.Edited.{IsAdded}
+use Rattle.pocsag_edits.specs.Runs.{IsEdit, IsRun, asked_of}
+use Rattle.pocsag_edits.specs.Runs.{first_record}
 use Rattle.pocsag_journal.specs.Journals.{AddsLine, IsAdd, IsWholeLine, ListsPages, StandsFor, rows_text}
 use Rattle.pocsag_journal.proofs.EditRuns.{run_on}
 use Rattle.pocsag_journal.proofs.Prefixes.{all_more, journal_more}

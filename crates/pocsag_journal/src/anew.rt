@@ -8,7 +8,7 @@ use crate::lines::is_one_line;
 use crate::text::{first_line, row_line};
 use csv::ByteRecord;
 use pocsag_decode::{kind_of_page, message_of};
-use pocsag_open::edit_row;
+use pocsag_edits::edit_row;
 use pocsag_pages::Page;
 use pocsag_plan::Book;
 use pocsag_words::OutOfMemory;

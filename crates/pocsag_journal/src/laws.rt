@@ -3,7 +3,7 @@ ghost use Rattle.std.specs.List.{AllByRecursion};
 ghost use Rattle.csv.specs.Writing.{default_writer, row_text};
 ghost use Rattle.pocsag_pages.specs.PageFile.{Row};
 ghost use Rattle.pocsag_pages.specs.declared.page.Page.{Page};
-ghost use Rattle.pocsag_open.specs.Runs.{IsEdit, IsRun};
+ghost use Rattle.pocsag_edits.specs.Runs.{IsEdit, IsRun};
 ghost use Rattle.pocsag_journal.specs.Growth.{kept_line_limit};
 ghost use Rattle.pocsag_journal.specs.Journals.{IsBadLine, IsLine, IsRead, ReadsFirst, journal_text};
 

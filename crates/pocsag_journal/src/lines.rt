@@ -1,5 +1,5 @@
 ghost use Rattle.std.specs.Prelude.{◌≡◌, ◌++◌, IfNone, IfSome, IsTrue};
-ghost use Rattle.pocsag_open.specs.Lines.{HasNoLineFeed};
+ghost use Rattle.pocsag_edits.specs.Spelling.{HasNoLineFeed};
 ghost use Rattle.pocsag_journal.specs.Journals.{IsWholeLine};
 
 use memchr::memchr;

@@ -1,14 +1,14 @@
 ghost use Rattle.std.specs.Prelude.{◌≡◌, ◌≤◌, ◌⊎◌, ℕ, List, [], length, IfErr, IfOk, MatchResult, OnOk};
 ghost use Rattle.pocsag_pages.specs.PageFile.{Row};
 ghost use Rattle.pocsag_pages.specs.declared.page.Page.{Page};
-ghost use Rattle.pocsag_open.specs.Runs.{IsRun};
+ghost use Rattle.pocsag_edits.specs.Runs.{IsRun};
 ghost use Rattle.pocsag_journal.specs.Faults.{IsTold, IsToldOf};
 ghost use Rattle.pocsag_journal.specs.Journals.{IsRead, MakesLine, Replays, ReplaysAs, journal_limit};
 
 use crate::fault::JournalFault;
 use crate::lines::split_line;
 use crate::text::{first_line, row_line};
-use pocsag_open::edit_row;
+use pocsag_edits::edit_row;
 use pocsag_pages::{only_row, read_whole};
 use pocsag_plan::Book;
 use pocsag_words::{OutOfMemory, Source};

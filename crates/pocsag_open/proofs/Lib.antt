@@ -1,7 +1,3 @@
-pub mod Fields
-pub mod Quotes
-pub mod Refusals
-pub mod RowTexts
 pub mod SeenLines
 pub mod Sessions
 pub mod Telling

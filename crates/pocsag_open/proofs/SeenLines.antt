@@ -1,22 +1,11 @@
 -- What was seen of a line, byte by byte.
-use Rattle.std.proofs.Common.{◌≡◌, ◌≢◌, ℕ, true, false, List, [], ◌∷◌, ◌++◌, length, refl, sym, ap, ◌∙◌, arith, append_assoc}
+use Rattle.std.proofs.Common.{◌≡◌, ◌≢◌, ℕ, List, [], ◌∷◌, ◌++◌, length, sym, ap, ◌∙◌, arith, append_assoc}
 use Rattle.std.proofs.lemmas.List.{length_push}
-use Rattle.std.proofs.lemmas.Bool.{or_parts}
-use Rattle.std.specs.Prelude.{◌==◌}
-use Rattle.std.specs.List.{list_any}
 use Rattle.csv.specs.Machine.{line_feed}
-use Rattle.pocsag_open.specs.Lines.{HasNoLineFeed, IsByteKept, IsSeen}
+use Rattle.pocsag_edits.specs.Spelling.{HasNoLineFeed}
+use Rattle.pocsag_open.specs.Lines.{IsByteKept, IsSeen}
 use Rattle.pocsag_open.specs.declared.lines.LineRead.{LineRead}
 use Rattle.pocsag_open.specs.declared.lines.LineRead.TheVariants as found
-
-other_byte : (b : ℕ) → (b == line_feed) ≡ false → b ≢ line_feed
-other_byte b n e = let t : (b == line_feed) ≡ true = rw e refl in cc (sym t ∙ n)
-
-pub none_found : (bytes : List ℕ) → list_any (λ b. b == line_feed) bytes ≡ false → HasNoLineFeed bytes
-none_found [] e = tt
-none_found (b ∷ bytes) e =
-    let h = or_parts (b == line_feed) (list_any (λ c. c == line_feed) bytes) e in
-    (other_byte b h.0, none_found bytes h.1)
 
 pub no_feed_more : (seen : List ℕ) (b : ℕ) → HasNoLineFeed seen → b ≢ line_feed → HasNoLineFeed (seen ++ b ∷ [])
 no_feed_more [] b h n = (n, tt)

@@ -5,13 +5,14 @@ use Rattle.pocsag_words.specs.declared.ending.End.{End}
 use Rattle.pocsag_pages.specs.PageFile.{Row}
 use Rattle.pocsag_pages.specs.declared.page.Page.{Page}
 use Rattle.pocsag_faults.specs.declared.fault.Fault.TheVariants as fault
+use Rattle.pocsag_edits.specs.Asks.{AsksNeither, AsksPlan, IsAskedBy, list_record}
+use Rattle.pocsag_edits.specs.Runs.{Asked, IsDone, IsEdit, asked_of}
+use Rattle.pocsag_edits.specs.declared.edits.Line.{Line}
+use Rattle.pocsag_edits.specs.declared.edits.Line.TheVariants as line
+use Rattle.pocsag_edits.specs.declared.refusal.Refusal.{Refusal}
+use Rattle.pocsag_edits.specs.declared.refusal.Refusal.TheVariants as refusal
 use Rattle.pocsag_open.specs.Lines.{AreLines, IsFirstLine}
-use Rattle.pocsag_open.specs.Replies.{AreReplies, AsksNeither, AsksPlan, IsAskedBy, IsEditReply, IsLineReply, IsRefusalDue, IsReply, IsSession, TookMore, edited, list_record, refused}
-use Rattle.pocsag_open.specs.Runs.{Asked, IsDone, IsEdit, asked_of}
-use Rattle.pocsag_open.specs.declared.edits.Line.{Line}
-use Rattle.pocsag_open.specs.declared.edits.Line.TheVariants as line
-use Rattle.pocsag_open.specs.declared.refusal.Refusal.{Refusal}
-use Rattle.pocsag_open.specs.declared.refusal.Refusal.TheVariants as refusal
+use Rattle.pocsag_open.specs.Replies.{AreReplies, IsEditReply, IsLineReply, IsRefusalDue, IsReply, IsSession, TookMore, edited, refused}
 
 -- one line more, and its reply
 pub one_reply : (always : Bool) (pending line rest input : List ℕ) (before now between : List Page) (start out next : List ℕ) →

@@ -3,8 +3,8 @@ use Rattle.std.specs.Prelude.{◌≡◌, ◌⊎◌, ℕ, List, ◌++◌, length}
 use Rattle.csv.specs.Writing.{default_writer, row_text}
 use Rattle.pocsag_pages.specs.PageFile.{Row}
 use Rattle.pocsag_pages.specs.declared.page.Page.{Page}
+use Rattle.pocsag_edits.specs.Runs.{IsEdit}
 use Rattle.pocsag_open.specs.Answers.{pages_answer}
-use Rattle.pocsag_open.specs.Runs.{IsEdit}
 
 -- The edit of the record was accepted, and it is kept: the text of its record was taken, no more, and all that was taken
 -- no crash takes away.

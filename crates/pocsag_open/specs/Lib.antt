@@ -1,9 +1,5 @@
 pub mod Ahead
 pub mod Answers
-pub mod Edited
 pub mod Keeping
 pub mod Lines
-pub mod Quotes
 pub mod Replies
-pub mod Runs
-pub mod Spelling

@@ -1,17 +1,13 @@
 -- The lines of bytes (this project's own).
 use Rattle.std.specs.Prelude.{◌≡◌, ◌≢◌, ◌⊎◌, ℕ, ◌<◌, ◌≤◌, List, [], ◌∷◌, ◌++◌, length, drop, take, Option, Some, None}
-use Rattle.std.specs.List.{AllByRecursion}
 use Rattle.csv.specs.Machine.{line_feed}
+use Rattle.pocsag_edits.specs.Spelling.{HasNoLineFeed}
 use Rattle.pocsag_open.specs.declared.lines.LineRead.{LineRead}
 use Rattle.pocsag_open.specs.declared.lines.LineRead.TheVariants as found
 
 -- The most bytes of a line that is kept, its line feed not counted.
 abbrev pub line_limit : ℕ
 line_limit = 65536
-
--- No byte is a line feed.
-abbrev pub HasNoLineFeed : List ℕ → Type 0
-HasNoLineFeed bytes = AllByRecursion (λ b. b ≢ line_feed) bytes
 
 -- The first line of bytes is what stands before their first line feed, and the rest is what stands behind it. Where there
 -- is none, all the bytes are the line, unless there are no bytes, and nothing is left.

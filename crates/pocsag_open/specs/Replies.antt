@@ -1,69 +1,19 @@
 -- What an open round replies to its lines (this project's own).
-use Rattle.std.specs.Prelude.{◌≡◌, ◌≢◌, ◌⊎◌, ℕ, ◌<◌, ◌≤◌, Bool, List, [], ◌∷◌, ◌++◌, length, codes, IfSome, Option, Some, None}
+use Rattle.std.specs.Prelude.{◌≡◌, ◌≢◌, ◌⊎◌, ℕ, ◌<◌, ◌≤◌, Bool, List, [], ◌∷◌, ◌++◌, length, codes, IfSome}
 use Rattle.csv.specs.Machine.{line_feed}
-use Rattle.csv.specs.Records.{field_at}
 use Rattle.pocsag_words.specs.declared.ending.End.{End}
-use Rattle.pocsag_words.specs.declared.ending.End.TheVariants as ends
 use Rattle.pocsag_pages.specs.PageFile.{Row}
 use Rattle.pocsag_pages.specs.declared.page.Page.{Page}
-use Rattle.pocsag_pages.specs.declared.fault.FieldFault.TheVariants as field
-use Rattle.pocsag_plan.specs.declared.refusal.AddFault.TheVariants as adding
 use Rattle.pocsag_decode.specs.PageFiles.{page_file}
 use Rattle.pocsag_faults.specs.declared.fault.Fault.TheVariants as fault
+use Rattle.pocsag_edits.specs.Asks.{AsksPlan, list_record}
+use Rattle.pocsag_edits.specs.Edited.{own_words}
+use Rattle.pocsag_edits.specs.Runs.{IsEdit, IsReasonFor, IsRefusedFor, first_record}
+use Rattle.pocsag_edits.specs.Spelling.{HasNoLineFeed, IsRowText, IsUnread, record_text}
+use Rattle.pocsag_edits.specs.declared.refusal.Refusal.{Refusal}
+use Rattle.pocsag_edits.specs.declared.refusal.Refusal.TheVariants as refusal
 use Rattle.pocsag_open.specs.Answers.{IsPlanTold, pages_answer, plan_answer}
-use Rattle.pocsag_open.specs.Lines.{AreLines, HasNoLineFeed, line_limit}
-use Rattle.pocsag_open.specs.Runs.{IsEdit, IsReasonFor, IsRefusedFor, first_record}
-use Rattle.pocsag_open.specs.Spelling.{IsRowText, IsUnread, record_text}
-use Rattle.pocsag_open.specs.declared.edits.Line.{Line}
-use Rattle.pocsag_open.specs.declared.edits.Line.TheVariants as line
-use Rattle.pocsag_open.specs.declared.refusal.Refusal.{Refusal}
-use Rattle.pocsag_open.specs.declared.refusal.Refusal.TheVariants as refusal
-
--- The record of the line that asks for the list.
-abbrev pub list_record : Row
-list_record = codes "list" ∷ []
-
--- The word by which a line names an end.
-abbrev pub end_word : End → List ℕ
-end_word ends.Open = codes "open"
-end_word ends.Closed = codes "closed"
-end_word ends.Idle = codes "idle"
-
--- The record asks for a plan for the end: `plan,TX,CERT` and the word of the end, or without a word for the open end.
-abbrev pub AsksPlan : End → Row → Type 0
-AsksPlan end row = (tx cert : List ℕ) ×
-    ((row ≡ codes "plan" ∷ tx ∷ cert ∷ end_word end ∷ []) ⊎ ((end ≡ ends.Open) × (row ≡ codes "plan" ∷ tx ∷ cert ∷ [])))
-
--- So many fields has the record of a plan for the end, and the fourth is the word of the end.
-abbrev pub IsPlanEnd : End → Row → Type 0
-IsPlanEnd end row =
-    ((length row ≡ 3) × (end ≡ ends.Open)) ⊎ ((length row ≡ 4) × (Some (end_word end) ≡ field_at row 3))
-
--- The record asks neither for the list nor for what the first line of a journal asks for.
-abbrev pub AsksNeither : Row → Type 0
-AsksNeither row = (row ≢ list_record) × (row ≢ first_record)
-
--- What a line that edits nothing asks for by its record.
-abbrev pub IsAskedBy : Line → Row → Type 0
-IsAskedBy line.List row = row ≡ list_record
-IsAskedBy line.Journal row = row ≡ first_record
-IsAskedBy (line.Plan tx cert end) row = AsksPlan end row
-IsAskedBy _ row = AsksNeither row
-
-abbrev pub IsAskedIn : Option Line → Row → Type 0
-IsAskedIn None row = AsksNeither row
-IsAskedIn (Some asking) row = IsAskedBy asking row
-
--- The words of a refusal, but for those of a fault.
-abbrev pub own_words : Refusal → Option (List ℕ)
-own_words refusal.Unknown = Some (codes "unknown edit")
-own_words refusal.InQuotes = Some (codes "the line ends inside quotes")
-own_words refusal.StrayQuote = Some (codes "a quote is out of place")
-own_words (refusal.Cancel absent) = Some (codes "no such page")
-own_words (refusal.Field field.OutOfMemory) = Some (codes "out of memory")
-own_words (refusal.Add adding.OutOfMemory) = Some (codes "out of memory")
-own_words (refusal.Undone fault.OutOfMemory) = Some (codes "out of memory")
-own_words _ = None
+use Rattle.pocsag_open.specs.Lines.{AreLines, line_limit}
 
 -- The line that tells a refusal: `refused: ` and its words, which hold no line feed.
 pub record IsRefusalTold (why : Refusal) (told : List ℕ) : Type 0 where

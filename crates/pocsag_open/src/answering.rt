@@ -5,11 +5,9 @@ ghost use Rattle.pocsag_open.specs.Answers.{pages_answer};
 ghost use Rattle.pocsag_open.specs.Keeping.{IsAnswered, IsLost};
 ghost use Rattle.pocsag_open.specs.Replies.{IsEditReply, IsRefusalTold, TookMore};
 
-use crate::editing::edit_row;
-use crate::keeper::Keeper;
-use crate::refusal::Refusal;
 use arrayvec::ArrayString;
 use csv::ByteRecord;
+use pocsag_edits::{Keeper, Refusal, edit_row};
 use pocsag_faults::{Fault, tell};
 use pocsag_plan::Book;
 use pocsag_words::Sink;

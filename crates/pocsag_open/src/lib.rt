@@ -3,20 +3,13 @@
 //! knows no file: who calls it hands in what makes the two outputs of a plan.
 
 mod answering;
-mod editing;
-mod edits;
-mod keeper;
 mod lines;
 mod opening;
 mod outputs;
-mod quoting;
-mod refusal;
 mod settling;
 
 pub use answering::{OpenRound, answer_edit};
-pub use editing::edit_row;
-pub use keeper::{Keeper, NoKeeper};
 pub use lines::LINE_LIMIT;
 pub use opening::{Planner, run_open, run_open_kept, run_open_pages};
 pub use outputs::Places;
-pub use refusal::Refusal;
+pub use pocsag_edits::{Keeper, NoKeeper, Refusal, edit_row};

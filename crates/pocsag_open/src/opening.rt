@@ -8,13 +8,11 @@ ghost use Rattle.pocsag_open.specs.Lines.{line_limit};
 ghost use Rattle.pocsag_open.specs.Replies.{IsLineReply, IsSession, TookMore};
 
 use crate::answering::{OpenRound, answer_edit, refuse, tell_pages};
-use crate::edits::{Line, line_of, record_of};
-use crate::keeper::{Keeper, NoKeeper};
 use crate::lines::{LineRead, Lines};
 use crate::outputs::Places;
-use crate::refusal::Refusal;
 use crate::settling::settled;
 use pocsag_decode::{ListFault, write_page_file};
+use pocsag_edits::{Keeper, Line, NoKeeper, Refusal, line_of, record_of};
 use pocsag_faults::{DEFAULT_LIMIT, Fault, Outputs, tell};
 use pocsag_pages::read_round;
 use pocsag_plan::{Book, Effort, Search};

@@ -6,10 +6,10 @@ use Rattle.pocsag_pages.specs.Pages.{IsRound}
 use Rattle.pocsag_pages.proofs.GoodPages.{apart_pages}
 use Rattle.pocsag_slots.specs.declared.class.Classes.{Classes}
 use Rattle.pocsag_slots.specs.Loads.{AreClassesOf}
-use Rattle.pocsag_branch.specs.declared.fault.SearchFault.{SearchFault}
-use Rattle.pocsag_branch.specs.declared.fault.SearchFault.TheVariants as searching
+use Rattle.pocsag_plan_faults.specs.declared.search.SearchFault.{SearchFault}
+use Rattle.pocsag_plan_faults.specs.declared.search.SearchFault.TheVariants as searching
 use Rattle.pocsag_branch.specs.Found.{IsNodeLimit, IsSearchFault}
-use Rattle.pocsag_plan.specs.FaultChains.{fault_of_search}
+use Rattle.pocsag_plan_faults.specs.FaultChains.{fault_of_search}
 use Rattle.pocsag_plan.specs.Plans.{ExplainsPlan}
 use Rattle.pocsag_options.specs.declared.search.Effort.TheVariants.{Fewest}
 use Rattle.std.proofs.Common.{ℕ}

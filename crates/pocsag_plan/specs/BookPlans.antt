@@ -5,28 +5,13 @@ use Rattle.pocsag_pages.specs.declared.page.Page.{Page}
 use Rattle.pocsag_pages.specs.Pages.{IsRound}
 use Rattle.pocsag_tree.specs.Views.{bound_tree_of}
 use Rattle.pocsag_branch.specs.Found.{IsNodeLimit}
-use Rattle.pocsag_plan.specs.declared.fault.PlanFault.{PlanFault}
-use Rattle.pocsag_plan.specs.declared.fault.PlanFault.TheVariants as planning
 use Rattle.pocsag_pages.specs.declared.fault.RoundFault.TheVariants as round
-use Rattle.pocsag_plan.specs.declared.fault.StreamFault.{StreamFault}
-use Rattle.pocsag_plan.specs.declared.fault.StreamFault.TheVariants as streaming
-use Rattle.pocsag_plan.specs.declared.refusal.BookFault.{BookFault}
-use Rattle.pocsag_plan.specs.declared.refusal.BookFault.TheVariants as fault
+use Rattle.pocsag_plan_faults.specs.declared.fault.StreamFault.{StreamFault}
+use Rattle.pocsag_plan_faults.specs.declared.fault.StreamFault.TheVariants as streaming
+use Rattle.pocsag_plan_faults.specs.declared.refusal.BookFault.{BookFault}
+use Rattle.pocsag_plan_faults.specs.declared.refusal.BookFault.TheVariants as fault
 use Rattle.pocsag_options.specs.declared.search.Effort.{Effort}
 use Rattle.pocsag_plan.specs.Plans.{IsStopped, MayStop}
-
--- A fault of `plan` keeps its name and what it carries.
-abbrev pub book_fault_of : PlanFault → BookFault
-book_fault_of planning.BadLimit = fault.BadLimit
-book_fault_of (planning.SearchLimit stop) = fault.SearchLimit stop
-book_fault_of planning.OutOfMemory = fault.OutOfMemory
-
--- The same fault of a stream: of no pages it is that of a round.
-abbrev pub stream_fault_of : BookFault → StreamFault
-stream_fault_of fault.BadLimit = streaming.BadLimit
-stream_fault_of fault.NoPages = streaming.Round round.NoPages
-stream_fault_of (fault.SearchLimit stop) = streaming.SearchLimit stop
-stream_fault_of fault.OutOfMemory = streaming.OutOfMemory
 
 -- When each fault comes, and what it says. Memory is wanted only for a round and a limit that may be.
 abbrev pub ExplainsBook : Effort → End → List Page → ℕ → BookFault → Type 0

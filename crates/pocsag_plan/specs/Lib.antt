@@ -1,4 +1,3 @@
-pub mod FaultChains
 pub mod Headline
 pub mod Plans
 pub mod Reports

@@ -3,16 +3,10 @@
 use Rattle.std.specs.Prelude.{ℕ, List, length, filter, not, nat_eq, nat_le, Option, Some, None, if◌then◌else◌}
 use Rattle.pocsag_pages.specs.declared.page.Page.{Page}
 use Rattle.pocsag_pages.specs.declared.fault.PageFault.{PageFault}
-use Rattle.pocsag_pages.specs.declared.fault.PageFault.TheVariants as rule
 use Rattle.pocsag_pages.specs.Pages.{page_limit, page_fault_of, has_address}
-use Rattle.pocsag_plan.specs.declared.refusal.AddFault.{AddFault}
-use Rattle.pocsag_plan.specs.declared.refusal.AddFault.TheVariants as fault
-
--- A rule that the page breaks keeps its name.
-abbrev pub fault_of_rule : PageFault → AddFault
-fault_of_rule rule.BadAddress = fault.BadAddress
-fault_of_rule rule.ReservedAddress = fault.ReservedAddress
-fault_of_rule rule.BadPayload = fault.BadPayload
+use Rattle.pocsag_plan_faults.specs.declared.refusal.AddFault.{AddFault}
+use Rattle.pocsag_plan_faults.specs.declared.refusal.AddFault.TheVariants as fault
+use Rattle.pocsag_plan_faults.specs.FaultChains.{fault_of_rule}
 
 -- After the rules of a page alone: the address, then the number of pages.
 abbrev pub fault_beside : List Page → Page → Option PageFault → Option AddFault

@@ -19,8 +19,8 @@ use Rattle.pocsag_batch.specs.FileOrder.{IsFileOrder}
 use Rattle.pocsag_batch.specs.Placing.{IsOrder}
 use Rattle.pocsag_plan.specs.declared.answer.Plan.{Plan}
 use Rattle.pocsag_plan.specs.declared.bounded.Bounded.{Bounded}
-use Rattle.pocsag_plan.specs.declared.fault.PlanFault.{PlanFault}
-use Rattle.pocsag_plan.specs.declared.fault.PlanFault.TheVariants as fault
+use Rattle.pocsag_plan_faults.specs.declared.fault.PlanFault.{PlanFault}
+use Rattle.pocsag_plan_faults.specs.declared.fault.PlanFault.TheVariants as fault
 use Rattle.pocsag_options.specs.declared.search.Effort.{Effort}
 use Rattle.pocsag_options.specs.declared.search.Effort.TheVariants.{Fewest, Always}
 use Rattle.pocsag_options.specs.declared.search.Search.{Search}

@@ -12,12 +12,11 @@ ghost use Rattle.pocsag_plan.specs.Streams.{fault_in, HasHeadline, IsCertificate
 use crate::answer::Plan;
 use crate::book::Book;
 use crate::bounded::Bounded;
-use crate::fault::StreamFault;
 use crate::planning::{counted_plan, is_node_limit};
-use crate::refusal::BookFault;
 use crate::streaming::send;
 use pocsag_options::{Effort, Search};
 use pocsag_pages::Round;
+use pocsag_plan_faults::{BookFault, StreamFault};
 use pocsag_words::{End, OutOfMemory, Sink};
 use std::alloc::Global;
 

@@ -8,10 +8,8 @@ mod book;
 mod bounded;
 mod closing;
 mod edit;
-mod fault;
 mod laws;
 mod planning;
-mod refusal;
 mod reporting;
 mod streaming;
 mod tally;
@@ -21,10 +19,11 @@ pub use answer::Plan;
 pub use book::Book;
 pub use bounded::Bounded;
 pub use edit::Edit;
-pub use fault::{BadRate, PlanFault, StreamFault};
 pub use laws::tight_headlines_are_headlines;
 pub use planning::{bounded_plan, plan, plan_always};
 pub use pocsag_options::{Effort, Search};
-pub use refusal::{AddFault, BookFault, NotThere, Refused};
+pub use pocsag_plan_faults::{
+    AddFault, BadRate, BookFault, NotThere, PlanFault, Refused, StreamFault,
+};
 pub use reporting::report;
 pub use streaming::{bounded_stream, plan_stream, plan_stream_always, send};

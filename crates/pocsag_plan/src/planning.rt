@@ -9,12 +9,12 @@ ghost use Rattle.pocsag_plan.specs.Within.{IsWithinOne, IsWithinOneOf};
 
 use crate::answer::Plan;
 use crate::bounded::Bounded;
-use crate::fault::PlanFault;
 use pocsag_batch::{in_order_batches, order_of};
 use pocsag_branch::{Found, FreeFault, search_freely};
 use pocsag_check::accepted_trees_have_texts;
 use pocsag_options::{Effort, Search};
 use pocsag_pages::Round;
+use pocsag_plan_faults::PlanFault;
 use pocsag_slots::{Classes, classes_of, tours_have_codewords};
 use pocsag_words::{End, OutOfMemory};
 use std::alloc::Global;

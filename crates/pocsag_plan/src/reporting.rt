@@ -4,7 +4,7 @@ ghost use Rattle.pocsag_plan.specs.Reports.{IsRate, IsReport, first_lines, last_
 
 use crate::airtime::Report;
 use crate::answer::Plan;
-use crate::fault::BadRate;
+use pocsag_plan_faults::BadRate;
 use pocsag_words::{airtime, transmission_bits};
 use std::fmt::{self, Display, Formatter};
 

@@ -6,15 +6,15 @@ ghost use Rattle.pocsag_tree.specs.Views.{bound_tree_of};
 ghost use Rattle.pocsag_branch.specs.Found.{IsNodeLimit};
 ghost use Rattle.pocsag_plan.specs.Plans.{IsBounded, IsPlanFor};
 ghost use Rattle.pocsag_plan.specs.Streams.{ExplainsStream, fault_in, HeadlineOf, IsBoundedOf, IsCertificate, IsOfRound, IsPlanOf, IsSearchLimit, IsTransmission, IsUnsent, Writes, WritesAllOf, WritesBounded, WritesCertificatePart, WritesCertificatePartOf, WritesInTurn, WritesPart, WritesPartOf};
-ghost use Rattle.pocsag_plan.specs.declared.fault.StreamFault.TheVariants as fault;
+ghost use Rattle.pocsag_plan_faults.specs.declared.fault.StreamFault.TheVariants as fault;
 
 use crate::answer::Plan;
 use crate::bounded::Bounded;
-use crate::fault::StreamFault;
 use crate::planning::{bounded_plan, is_node_limit};
 use pocsag_batch::{Slots, write_slots};
 use pocsag_options::{Effort, Search};
 use pocsag_pages::{Round, read_round};
+use pocsag_plan_faults::StreamFault;
 use pocsag_tree::write_text;
 use pocsag_words::{End, Sink, Source, WriteFault};
 use std::alloc::Global;

@@ -2,9 +2,9 @@ use Rattle.std.proofs.Common.{◌≡◌, ℕ, List, [], ◌∷◌, ◌++◌, ap,
 use Rattle.std.specs.Prelude.{codes}
 use Rattle.std.proofs.lemmas.Fmt.{contents_after_writes}
 use Rattle.arrayvec.specs.declared.array_string.ArrayString.{ArrayString}
-use Rattle.pocsag_open.specs.Lines.{HasNoLineFeed}
-use Rattle.pocsag_open.specs.Replies.{own_words}
-use Rattle.pocsag_open.proofs.SeenLines.{none_found}
+use Rattle.pocsag_edits.specs.Edited.{own_words}
+use Rattle.pocsag_edits.specs.Spelling.{HasNoLineFeed}
+use Rattle.pocsag_edits.proofs.LineFeeds.{none_found}
 use Rattle.pocsag_open.proofs.Telling.{if_some, on_ok}
 use Rattle.pocsag_open.proofs.answering.refuse.Goals as goal
 

@@ -1,0 +1,5 @@
+pub mod Fields
+pub mod LineFeeds
+pub mod Quotes
+pub mod Refusals
+pub mod RowTexts

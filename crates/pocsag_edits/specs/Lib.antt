@@ -1,0 +1,5 @@
+pub mod Asks
+pub mod Edited
+pub mod Quotes
+pub mod Runs
+pub mod Spelling

@@ -1,0 +1,189 @@
+ghost use Rattle.std.specs.Prelude.{◌≡◌, ◌↔◌, length, IfErr, IfOk, IfSome, IsTrue, None, Some};
+ghost use Rattle.csv.specs.Records.{field_at, fields_of};
+ghost use Rattle.pocsag_edits.specs.Asks.{IsAskedBy, IsAskedIn, IsPlanEnd, end_word};
+ghost use Rattle.pocsag_edits.specs.Runs.{asked_by_line, asked_in, asked_of};
+ghost use Rattle.pocsag_edits.specs.Spelling.{IsRowText, IsUnread, record_text};
+
+use crate::quoting::{Quoting, quoting_of, without_mark, without_return};
+use crate::refusal::Refusal;
+use csv::ByteRecord;
+use pocsag_faults::Fault;
+use pocsag_pages::only_row;
+use pocsag_words::End;
+use std::alloc::Global;
+use std::str;
+
+/// What a line of an open round asks for.
+#[derive(Clone, Copy)]
+pub enum Line<'a> {
+    /// `add,ADDRESS,KIND,MESSAGE`: three fields as in a page file.
+    Add {
+        address: &'a [u8],
+        kind: &'a [u8],
+        message: &'a [u8],
+    },
+    /// `cancel,ADDRESS`.
+    Cancel {
+        address: &'a [u8],
+    },
+    /// `list`.
+    List,
+    /// `plan,TX,CERT`, and the end where it is named.
+    Plan {
+        tx: &'a str,
+        cert: &'a str,
+        end: End,
+    },
+    /// `clear`.
+    Clear,
+    /// `pocsag journal,1`: the first line of a journal, which asks for nothing.
+    Journal,
+    /// Anything else.
+    Unknown,
+}
+
+/// The record of a line, a carriage return at its end passed over.
+pub fn record_of(alloc: Global, line: &[u8]) -> Result<ByteRecord, Refusal>
+    // The line is what the product would write for the record, or differs from it in quoting alone.
+    ensures spelled { IfOk result (λ row. IsRowText (fields_of row) (record_text line.now)) }
+    ensures refused { IfErr result (IsUnread (record_text line.now)) }
+{
+    let bare = without_return(line);
+    match quoting_of(without_mark(bare)) {
+        Quoting::Open => return Err(Refusal::InQuotes),
+        Quoting::Broken => return Err(Refusal::StrayQuote),
+        Quoting::Ended => return Err(Refusal::Unknown),
+        Quoting::Start | Quoting::Bare | Quoting::Closed => {}
+    }
+    match only_row(alloc, bare) {
+        Ok(Some(row)) => Ok(row),
+        Ok(None) => Err(Refusal::Unknown),
+        Err(_) => Err(Refusal::Undone(Fault::OutOfMemory)),
+    }
+}
+
+/// What the record asks for.
+#[tactic(auto, unfolding(crate::specs::Runs::asked_of))]
+pub fn line_of(row: &ByteRecord) -> Line<'_>
+    ensures edit { asked_by_line result ≡ asked_of (fields_of row.now) }
+    ensures asks { IsAskedBy result (fields_of row.now) }
+{
+    let asked = match row.len() {
+        1 => bare_line(row),
+        2 => cancel_line(row),
+        3 => plan_line(row, End::Open),
+        4 => long_line(row),
+        _ => None,
+    };
+    match asked {
+        Some(line) => line,
+        None => Line::Unknown,
+    }
+}
+
+// Whether the field of this index is the word.
+fn is_at(row: &ByteRecord, index: usize, word: &[u8]) -> bool
+    ensures { IsTrue result ↔ (Some word.now ≡ field_at (fields_of row.now) index) }
+{
+    match row.get(index) {
+        Some(field) => field == word,
+        None => false,
+    }
+}
+
+#[tactic(auto, unfolding(crate::specs::Runs::asked_of))]
+fn bare_line(row: &ByteRecord) -> Option<Line<'_>>
+    requires { length (fields_of row.now) ≡ 1 }
+    ensures edit { asked_in result ≡ asked_of (fields_of row.now) }
+    ensures asks { IsAskedIn result (fields_of row.now) }
+{
+    if is_at(row, 0, b"clear") {
+        return Some(Line::Clear);
+    }
+    if is_at(row, 0, b"list") {
+        return Some(Line::List);
+    }
+    None
+}
+
+#[tactic(auto, unfolding(crate::specs::Runs::asked_of))]
+fn cancel_line(row: &ByteRecord) -> Option<Line<'_>>
+    requires { length (fields_of row.now) ≡ 2 }
+    ensures edit { asked_in result ≡ asked_of (fields_of row.now) }
+    ensures asks { IsAskedIn result (fields_of row.now) }
+{
+    if !is_at(row, 0, b"cancel") {
+        return journal_line(row);
+    }
+    Some(Line::Cancel {
+        address: row.get(1)?,
+    })
+}
+
+// The first line of a journal, and its version.
+fn journal_line(row: &ByteRecord) -> Option<Line<'_>>
+    requires { length (fields_of row.now) ≡ 2 }
+    ensures edit { asked_in result ≡ None }
+    ensures asks { IsAskedIn result (fields_of row.now) }
+{
+    if is_at(row, 0, b"pocsag journal") && is_at(row, 1, b"1") {
+        return Some(Line::Journal);
+    }
+    None
+}
+
+// A plan for the end, which the fourth field names, or none where it is open.
+fn plan_line(row: &ByteRecord, end: End) -> Option<Line<'_>>
+    requires { IsPlanEnd end (fields_of row.now) }
+    ensures edit { asked_in result ≡ None }
+    ensures asks { IsAskedIn result (fields_of row.now) }
+{
+    if !is_at(row, 0, b"plan") {
+        return None;
+    }
+    Some(Line::Plan {
+        tx: text_at(row, 1)?,
+        cert: text_at(row, 2)?,
+        end,
+    })
+}
+
+// The field of this index, where it is a text.
+fn text_at(row: &ByteRecord, index: usize) -> Option<&str> {
+    str::from_utf8(row.get(index)?).ok()
+}
+
+// The lines of four fields: a page, and a plan that names its end.
+#[tactic(auto, unfolding(crate::specs::Runs::asked_of))]
+fn long_line(row: &ByteRecord) -> Option<Line<'_>>
+    requires { length (fields_of row.now) ≡ 4 }
+    ensures edit { asked_in result ≡ asked_of (fields_of row.now) }
+    ensures asks { IsAskedIn result (fields_of row.now) }
+{
+    if is_at(row, 0, b"add") {
+        return Some(Line::Add {
+            address: row.get(1)?,
+            kind: row.get(2)?,
+            message: row.get(3)?,
+        });
+    }
+    match end_at(row) {
+        Some(end) => plan_line(row, end),
+        None => None,
+    }
+}
+
+// The end that the fourth field names.
+fn end_at(row: &ByteRecord) -> Option<End>
+    ensures { IfSome result (λ end. Some (end_word end) ≡ field_at (fields_of row.now) 3) }
+{
+    if is_at(row, 3, b"open") {
+        Some(End::Open)
+    } else if is_at(row, 3, b"closed") {
+        Some(End::Closed)
+    } else if is_at(row, 3, b"idle") {
+        Some(End::Idle)
+    } else {
+        None
+    }
+}

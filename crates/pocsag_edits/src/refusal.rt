@@ -1,0 +1,92 @@
+ghost use Rattle.std.specs.Prelude.{◌≡◌};
+ghost use Rattle.pocsag_edits.specs.declared.refusal.Refusal.TheVariants as refusal;
+
+use pocsag_faults::Fault;
+use pocsag_pages::FieldFault;
+use pocsag_plan::{AddFault, NotThere, Refused};
+use std::error::Error;
+use std::fmt::{self, Display, Formatter};
+
+/// Why an edit is refused. The round is as it was.
+#[derive(Clone, Copy)]
+pub enum Refusal {
+    Unknown,
+    /// A quote of the line's last field is not closed.
+    InQuotes,
+    /// A quote stands inside a field that is not in quotes, or something that is no comma behind a field's quotes.
+    StrayQuote,
+    /// The fields spell no page.
+    Field(FieldFault),
+    /// The page may not follow the others.
+    Add(AddFault),
+    Cancel(NotThere),
+    /// What was asked could not be done.
+    Undone(Fault),
+}
+
+impl Display for Refusal {
+    ghost use Rattle.pocsag_edits.specs.Edited.{own_words};
+
+    ghost output = { own_words };
+
+    fn fmt<W: fmt::Write>(&self, f: &mut Formatter<W>) -> fmt::Result {
+        match self {
+            Refusal::Unknown => f.write_str("unknown edit"),
+            Refusal::InQuotes => f.write_str("the line ends inside quotes"),
+            Refusal::StrayQuote => f.write_str("a quote is out of place"),
+            Refusal::Cancel(NotThere) => f.write_str("no such page"),
+            Refusal::Field(FieldFault::OutOfMemory)
+            | Refusal::Add(AddFault::OutOfMemory)
+            | Refusal::Undone(Fault::OutOfMemory) => f.write_str("out of memory"),
+            Refusal::Field(fault) => fault.fmt(f),
+            Refusal::Add(fault) => fault.fmt(f),
+            Refusal::Undone(fault) => fault.fmt(f),
+        }
+    }
+}
+
+impl fmt::Debug for Refusal {
+    fn fmt<W: fmt::Write>(&self, f: &mut Formatter<W>) -> fmt::Result {
+        Display::fmt(self, f)
+    }
+}
+
+impl Error for Refusal {}
+
+impl Refusal {
+    ghost use Rattle.pocsag_edits.specs.Runs.{wants_memory};
+
+    /// Whether an edit was refused for want of memory.
+    pub fn wants_memory(self) -> bool
+        ensures { result ≡ wants_memory self }
+    {
+        matches!(
+            self,
+            Refusal::Field(FieldFault::OutOfMemory) | Refusal::Add(AddFault::OutOfMemory)
+        )
+    }
+}
+
+impl From<FieldFault> for Refusal {
+    ghost from_gives = { λ fault e. e ≡ refusal.Field fault };
+
+    fn from(fault: FieldFault) -> Refusal {
+        Refusal::Field(fault)
+    }
+}
+
+impl From<Refused> for Refusal {
+    ghost from_gives = { λ refused e. e ≡ refusal.Add refused.fault };
+
+    fn from(refused: Refused) -> Refusal {
+        Refusal::Add(refused.fault)
+    }
+}
+
+impl From<NotThere> for Refusal {
+    ghost from_gives = { λ not_there e. e ≡ refusal.Cancel not_there };
+
+    fn from(not_there: NotThere) -> Refusal {
+        Refusal::Cancel(not_there)
+    }
+}
