@@ -5,8 +5,8 @@ import re
 
 from source import all_functions, function_at, functions_of, homes_of, reached, with_one_clause
 
-
 UNOFFERED = "\npub unoffered : Unoffered\nunoffered = Unoffered\n"  # fits nothing
+MOST = 24  # edits of a round: with their number grows what a check of them holds in memory
 
 
 class Unfit(Exception):
@@ -20,6 +20,7 @@ class Edit:
     def __init__(self, name, text):
         self.name, self.pairs, self.function, self.clause = name, [], None, None
         self.functions, self.is_alone, self.is_right = [], False, False
+        self.added, self.whole = {}, self  # the files that it adds by their paths, and the edit as its file has it
         path = old = None
         for line in text.split("\n"):
             word, _, rest = line.partition(":")
@@ -47,7 +48,7 @@ class Edit:
             places.append((path, line, texts[path]))
         if not places:
             raise Unfit("it has no 'file:', 'old:' and 'new:'")
-        return texts, places
+        return texts | self.added, places
 
     def look(self, texts):
         """Finds the functions that the edit changes, and whether it has to be tried with no other beside it."""
@@ -61,7 +62,6 @@ class Edit:
         self.functions = list(found.values())
         if self.function and self.function not in [it.name for it in self.functions]:
             self.is_alone = True
-
 
     def names(self):
         """The functions that have to be checked, or none where those are that rest on what is changed."""
@@ -89,9 +89,10 @@ def unoffered(texts, edits):
     """The planted texts in which the proof file of each function that must be refused has a line that fits nothing:
     the prover then prints its open goals without looking for what to write for them, which costs as much again."""
     texts, functions = dict(texts), {name: it for name, (_, it) in all_functions(texts).items()}
-    for name in {name for edit in edits if not edit.is_right for name in edit.names()}:
-        folder = f"proofs/{name.replace('::', '/')}"
-        if name in functions and functions[name].unit == name and f"{folder}/Proof.antt" not in texts:
+    named = {name for edit in edits if not edit.is_right for name in edit.names()}
+    for unit in {functions[name].unit for name in named & functions.keys()}:
+        folder = f"proofs/{unit.replace('::', '/')}"
+        if f"{folder}/Proof.antt" not in texts:
             texts[f"{folder}/Answers.antt"] = texts.get(f"{folder}/Answers.antt", "") + UNOFFERED
     return texts
 
@@ -106,6 +107,8 @@ class Round:
         """Plants the edit if it fits, and says whether it did."""
         units = {it.unit for it in edit.functions}
         if self.is_full or edit.is_alone and self.edits or units & self.units:
+            return False
+        if len(self.edits) >= MOST and not edit.is_right:
             return False
         try:
             self.texts = edit.planted(self.texts)[0]

@@ -8,7 +8,7 @@ In a copy of the repository's lowest two crates, wrong bodies of pocsag_text are
 and in rounds, and must be refused both ways. Among them stand a body that is right, one that does not
 compile and one that only no longer fits its proof file, which the rounds must report by name. That a body which
 spoils a check without naming a line is found by halving is shown with a prover that is played, and on small texts which
-contracts are narrowed to the clause that is to be refused.
+contracts are narrowed to the clause that is to be refused, and what is copied of an edit.
 The last line is 'N passed, M failed'.
 """
 
@@ -20,6 +20,7 @@ import sys
 
 sys.dont_write_bytecode = True
 sys.path[:0] = [str(pathlib.Path(__file__).resolve().parent), str(pathlib.Path(__file__).resolve().parents[1])]
+from beside import beside, with_own_names
 from edits import Edit, clauses_of, narrowed
 from prover import PARTS, Planted, Said, link_or_copy, rt_check
 from run import TOP, crates_of, try_crate, tried
@@ -206,5 +207,78 @@ def test_narrowing(tally, _):
     tally.check("the clauses of the page", clauses_of(page, "low") == {"a body": "small"}, clauses_of(page, "low"))
 
 
+COPIED = {
+    "src/lib.rt": """/// The greatest.
+pub const MOST: u8 = 4;
+
+fn bare(a: u8) -> u8 {
+    a
+}
+
+/// At most the greatest.
+fn few<T: Drop>(a: u8, _t: T) -> bool
+    ensures { IsTrue result ↔ (a ≤ 4) }
+{
+    bare(a) <= MOST
+}
+
+fn far(a: u8) -> bool
+    ensures { IsTrue result ↔ (a ≤ 4) }
+{
+    few::<u8>(a, 0)
+}
+
+impl Other for u8 {
+    fn other(&self) -> u8
+        ensures { result ≡ self.now }
+    {
+        *self
+    }
+}
+""",
+    "src/high.rt": """fn above(a: u8) -> bool
+    ensures { IsTrue result ↔ (4 < a) }
+{
+    MOST < a
+}
+""",
+    "proofs/few/Answers.antt": """use Rattle.small.proofs.few.Goals as goal
+""",
+}
+
+
+def copied_of(text):
+    """The texts in which the edit of this text stands in copies, or None where it can only be tried in its place."""
+    edit = Edit("edit", text)
+    edit.look(COPIED)
+    it = beside(edit, COPIED, 7)
+    return it and it.planted(COPIED)[0]
+
+
+def test_copies(tally, _):
+    """A wrong body stands in a copy beside what it was, with the proof files; what cannot be copied is left in its place."""
+    texts = copied_of("file: src/lib.rt\nold: bare(a) <= MOST\nnew: bare(a) < MOST")
+    code = texts["src/lib.rt"]
+    tally.check("what it was stays", COPIED["src/lib.rt"].partition("fn far")[0].rstrip() in code, code)
+    tally.check("a copy", "/// At most the greatest.\nfn few_wrong_7<T: Drop>(a: u8, _t: T) -> bool\n    ensures" in code, code)
+    tally.check("its body", code.count("bare(a) < MOST") == 1 and code.index("few_wrong_7") < code.index("a) < MOST"), code)
+    proofs = texts.get("proofs/few_wrong_7/Answers.antt")
+    tally.check("its proofs", proofs == "use Rattle.small.proofs.few_wrong_7.Goals as goal\n", proofs)
+    code = copied_of("file: src/lib.rt\nfunction: few\nold: MOST: u8 = 4\nnew: MOST: u8 = 5")["src/lib.rt"]
+    for part in ("pub const MOST: u8 = 4;", "pub const MOST_WRONG_7: u8 = 5;", "bare(a) <= MOST\n", "bare(a) <= MOST_WRONG_7\n"):
+        tally.check(f"a constant: {part}", code.count(part) == 1, code)
+    code = copied_of("file: src/lib.rt\nfunction: few\nold: fn bare(a: u8) -> u8 {\nnew: fn bare(a: u8) -> u8 { let a = 1;")["src/lib.rt"]
+    for part in ("fn bare_wrong_7(a: u8) -> u8 { let a = 1;", "bare(a) <= MOST\n", "bare_wrong_7(a) <= MOST\n"):
+        tally.check(f"a function that another calls: {part}", code.count(part) == 1, code)
+    code = copied_of("file: src/lib.rt\nfunction: high::above\nold: MOST: u8 = 4\nnew: MOST: u8 = 5")["src/high.rt"]
+    tally.check("a constant of another file", "    crate::MOST_WRONG_7 < a\n" in code, code)
+    for text in ["file: src/lib.rt\nold: *self\nnew: 0", "file: src/lib.rt\nold: MOST: u8 = 4\nnew: MOST: u8 = 5",
+                 "file: src/lib.rt\nfunction: far\nold: MOST: u8 = 4\nnew: MOST: u8 = 5",
+                 "file: src/lib.rt\nfunction: few\nold: impl Other\nnew: impl More"]:
+        tally.check(f"in its place: {text}", copied_of(text) is None, copied_of(text))
+    told = with_own_names("refused in few_wrong_7: src/lib.rt:9: MOST_WRONG_12 (`returns`)")
+    tally.check("own names", told == "refused in few: src/lib.rt:9: MOST (`returns`)", told)
+
+
 if __name__ == "__main__":
-    sys.exit(run_parts(test_narrowing, test_halving, test_both_ways))
+    sys.exit(run_parts(test_narrowing, test_copies, test_halving, test_both_ways))

@@ -7,6 +7,7 @@ CLAUSE = re.compile(r" *ensures (\w+) \{")
 HEAD = re.compile(r"( *)(?:pub(?:\([^)]*\))? )?(?:const |unsafe |extern \"C\" )*fn (\w+)")
 TYPE = re.compile(r"^(?:pub(?:\([^)]*\))? )?(?:struct|enum) (\w+)", re.MULTILINE)
 CALLED = re.compile(r"(\w+)(?=\s*(?:\(|::<))|(?<=::)(\w+)|(?<=[(,])\s*(\w+)(?=\s*[,)])")
+CONSTANT = re.compile(r"(?:pub(?:\([^)]*\))? )?const (\w+): ")
 CYCLE = re.compile(r"#\[cycle\((\w+)\)\]")
 
 
@@ -20,6 +21,7 @@ class Function(typing.NamedTuple):
     last: int
     is_shown: bool  # has a contract, so that no other function's proof looks into its body
     is_called_unnamed: bool  # a trait's method, or one that calls itself: its contract serves more than named calls
+    is_exported: bool  # to C, by its name
 
 
 def module_of(path):
@@ -92,8 +94,28 @@ def functions_of(path, text, homes):
         unit = "::".join(filter(None, (module, "+" + cycle[1]))) if cycle else name
         is_shown = of_trait or "ensures" in "\n".join(lines[number:last])
         calls_itself = cycle or head[2] in called_in("\n".join(lines[number + 1:last]))
-        found.append(Function(name, unit, first, last, is_shown, bool(of_trait or calls_itself)))
+        is_exported = 'extern "C"' in line
+        found.append(Function(name, unit, first, last, is_shown, bool(of_trait or calls_itself), is_exported))
     return found
+
+
+class Constant(typing.NamedTuple):
+    """A constant that a source file declares outside its functions and types: its name by its module, and its first and
+    last line, from 0."""
+
+    name: str
+    first: int
+    last: int
+
+
+def constants_of(path, text):
+    """The constants of a file of the crate in the order of their places."""
+    module, lines = module_of(path), text.split("\n")
+    for number, line in enumerate(lines):
+        head = CONSTANT.match(line)
+        if head:
+            last = next(it for it in range(number, len(lines)) if lines[it].endswith(";"))
+            yield Constant("::".join(filter(None, (module, head[1]))), start_of(lines, number), last)
 
 
 def function_at(functions, line):
