@@ -96,5 +96,6 @@ def weight(crates, name):
 def most_jobs(crate):
     """How many jobs a crate's proof can use. Each job loads what stands below anew, some rounds over: of a crate of some
     fifty functions three take a sixth more of the processors' time than one and end in half of it, four take half as much
-    more and end no sooner; of one of twenty two end a tenth to a fifth sooner, for a quarter to two fifths more."""
-    return max(1, min(3, crate.functions() // 15))
+    more and end no sooner; of one of twenty two end a tenth to a fifth sooner, for a quarter to two fifths more. A program
+    gets two at least: it is proved when nothing else is left."""
+    return max(2 if crate.is_program else 1, min(3, crate.functions() // 14))
