@@ -6,7 +6,8 @@ import re
 from source import all_functions, function_at, functions_of, homes_of, reached, with_one_clause
 
 UNOFFERED = "\npub unoffered : Unoffered\nunoffered = Unoffered\n"  # fits nothing
-MOST = 24  # edits of a round: with their number grows what a check of them holds in memory
+FEW = 6  # edits of a round that is not worth what each check costs before it comes to its functions
+MOST = 32  # edits of a round with copies: with their number grows what a check of them holds in memory
 
 
 class Unfit(Exception):
@@ -20,7 +21,7 @@ class Edit:
     def __init__(self, name, text):
         self.name, self.pairs, self.function, self.clause = name, [], None, None
         self.functions, self.is_alone, self.is_right = [], False, False
-        self.added, self.whole = {}, self  # the files that it adds by their paths, and the edit as its file has it
+        self.added, self.whole = {}, self  # what it adds to files, by their paths, and the edit as its own file has it
         path = old = None
         for line in text.split("\n"):
             word, _, rest = line.partition(":")
@@ -46,9 +47,9 @@ class Edit:
             line = texts[path].partition(old)[0].count("\n")
             texts[path] = texts[path].replace(old, new)
             places.append((path, line, texts[path]))
-        if not places:
+        if not places and not self.added:
             raise Unfit("it has no 'file:', 'old:' and 'new:'")
-        return texts | self.added, places
+        return texts | {path: texts.get(path, "") + text for path, text in self.added.items()}, places
 
     def look(self, texts):
         """Finds the functions that the edit changes, and whether it has to be tried with no other beside it."""
@@ -62,6 +63,10 @@ class Edit:
         self.functions = list(found.values())
         if self.function and self.function not in [it.name for it in self.functions]:
             self.is_alone = True
+
+    @property
+    def is_copied(self):
+        return self.whole is not self
 
     def names(self):
         """The functions that have to be checked, or none where those are that rest on what is changed."""
@@ -108,7 +113,7 @@ class Round:
         units = {it.unit for it in edit.functions}
         if self.is_full or edit.is_alone and self.edits or units & self.units:
             return False
-        if len(self.edits) >= MOST and not edit.is_right:
+        if len(self.edits) >= MOST and edit.is_copied:
             return False
         try:
             self.texts = edit.planted(self.texts)[0]

@@ -9,15 +9,15 @@
 A wrong body is a file `.edit` in crates/CRATE/must-fail or tests/wrong_bodies/CRATE: a line `file: src/x.rt`, then
 pairs of lines `old: TEXT` and `new: TEXT`, where each old text stands once in the file. The function that must be
 refused is the one around the text; a line `function: MODULE::NAME` (as the prover prints it, less the crate) names
-another. The verdict on a function rests on its own body and on the contracts of what it calls, so a check tries many
-wrong bodies: a round, over a copy of the crate, with what the crate's own proof left. A wrong body stands in it beside
-the right one, in a copy of its function with the same contract and proof files under a name of its own, and so does a
-constant that is changed, which the copy then uses (`beside.py`). What cannot be copied (a trait's method, a function
-that calls itself or is called from C) is changed in its place, at most one in each function. A wrong body counts as
-refused where a goal of its own function stays open, and not because a proof file no longer fits. What is not refused in
-its round is tried alone and in its place. What others may see, and no named function is refused for, has a round of its
-own. Once for each crate a round holds a change that is right, which must be proved, and at the end the unchanged copy
-must be proved.
+another. The verdict on a function rests on its own body and on the contracts of what it calls, so a check tries as many
+wrong bodies as there are functions to plant them in: a round, over a copy of the crate, with what the crate's own proof
+left. What would be a round of few edits is put into another: such a wrong body stands beside the right one, in a copy of
+its function with the same contract and proof files under a name of its own, and so does a constant that is changed,
+which the copy then uses (`beside.py`). A trait's method, and a function that calls itself or is called from C, cannot be
+copied. A wrong body counts as refused where a goal of its own function stays open, and not because a proof file no
+longer fits. What is not refused in its round is tried alone and in its place. What others may see, and no named function
+is refused for, has a round of its own. Once for each crate a round holds a change that is right, which must be proved,
+and at the end the unchanged copy must be proved.
 
 Crates are tried side by side, as many as RT_JOBS or the processors allow, with 2 GB for each.
 The last line is 'N passed, M failed'; the status is 0 where M is 0.
@@ -37,8 +37,8 @@ import typing
 sys.dont_write_bytecode = True
 HERE = pathlib.Path(__file__).resolve().parent
 sys.path[:0] = [str(HERE), str(HERE.parent)]
-from beside import beside, with_own_names
-from edits import Edit, Unfit, clauses_of, narrowed, read_edits, right_change, rounds_of, unoffered
+from beside import gathered, with_own_names
+from edits import Edit, Unfit, clauses_of, narrowed, read_edits, right_change, unoffered
 from prover import PARTS, Room, rt_check
 from tally import TOP, Tally
 
@@ -168,7 +168,7 @@ def planned(crate):
     """The crate's texts, the rounds of its edits (lists), and by name why an edit cannot be planted."""
     texts = crate.texts()
     good, bad = read_edits(crate.folders, texts, clauses_of(PAGE.read_text() if PAGE.is_file() else "", crate.name))
-    rounds = rounds_of([beside(edit, texts, number) or edit for number, edit in enumerate(good, 1)], texts)
+    rounds = gathered(good, texts)
     for it in rounds:
         right = None if it.is_full else right_change(texts, it.units)
         if right and it.take(right):

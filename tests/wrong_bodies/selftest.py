@@ -24,6 +24,7 @@ from beside import beside, with_own_names
 from edits import Edit, clauses_of, narrowed
 from prover import PARTS, Planted, Said, link_or_copy, rt_check
 from run import TOP, crates_of, try_crate, tried
+from source import functions_of, homes_of
 from tally import run_parts
 
 CRATE = "pocsag_text"
@@ -235,6 +236,24 @@ impl Other for u8 {
         *self
     }
 }
+
+/// A box.
+pub struct Kept<T> {
+    inside: T,
+}
+
+impl<T: Drop> Kept<T> {
+    ghost use Rattle.small.specs.Boxes.{
+        IsKept,
+    };
+
+    /// What is inside.
+    pub fn inside(&self) -> &T
+        ensures { IsKept result }
+    {
+        &self.inside
+    }
+}
 """,
     "src/high.rt": """fn above(a: u8) -> bool
     ensures { IsTrue result ↔ (4 < a) }
@@ -259,11 +278,35 @@ def test_copies(tally, _):
     """A wrong body stands in a copy beside what it was, with the proof files; what cannot be copied is left in its place."""
     texts = copied_of("file: src/lib.rt\nold: bare(a) <= MOST\nnew: bare(a) < MOST")
     code = texts["src/lib.rt"]
-    tally.check("what it was stays", COPIED["src/lib.rt"].partition("fn far")[0].rstrip() in code, code)
-    tally.check("a copy", "/// At most the greatest.\nfn few_wrong_7<T: Drop>(a: u8, _t: T) -> bool\n    ensures" in code, code)
-    tally.check("its body", code.count("bare(a) < MOST") == 1 and code.index("few_wrong_7") < code.index("a) < MOST"), code)
+    tally.check("what it was stays", code.startswith(COPIED["src/lib.rt"]), code)
+    wanted = """
+/// At most the greatest.
+fn few_wrong_7<T: Drop>(a: u8, _t: T) -> bool
+    ensures { IsTrue result ↔ (a ≤ 4) }
+{
+    bare(a) < MOST
+}
+"""
+    tally.check("a copy", code.removeprefix(COPIED["src/lib.rt"]) == wanted, code)
     proofs = texts.get("proofs/few_wrong_7/Answers.antt")
     tally.check("its proofs", proofs == "use Rattle.small.proofs.few_wrong_7.Goals as goal\n", proofs)
+    wanted = """
+impl<T: Drop> Kept<T> {
+    ghost use Rattle.small.specs.Boxes.{
+        IsKept,
+    };
+    /// What is inside.
+    pub fn inside_wrong_7(&self) -> &T
+        ensures { IsKept result }
+    {
+        &self.outside
+    }
+}
+"""
+    code = copied_of("file: src/lib.rt\nold: &self.inside\nnew: &self.outside")["src/lib.rt"]
+    tally.check("a method", code.removeprefix(COPIED["src/lib.rt"]) == wanted, code)
+    named = [it.name for it in functions_of("src/lib.rt", code, homes_of(COPIED))]
+    tally.check("its name", "Kept::inside_wrong_7" in named, named)
     code = copied_of("file: src/lib.rt\nfunction: few\nold: MOST: u8 = 4\nnew: MOST: u8 = 5")["src/lib.rt"]
     for part in ("pub const MOST: u8 = 4;", "pub const MOST_WRONG_7: u8 = 5;", "bare(a) <= MOST\n", "bare(a) <= MOST_WRONG_7\n"):
         tally.check(f"a constant: {part}", code.count(part) == 1, code)
