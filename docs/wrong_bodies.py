@@ -19,7 +19,7 @@ HEAD = """# Wrong bodies
 
 Each edit puts a wrong body in the place of a right one, and the prover refuses the function with it: so the
 contract that is named does say what it seems to say. `tests/wrong_bodies/run.py` tries all of them, and so does
-`./test`: many in one check, each in a copy of its function, which is judged by its own goals. Those of
+`./test`: many in one check, each in its own function or in a copy of that, which is judged by its own goals. Those of
 each kind that a planner, checker or receiver can go wrong by stand in `crates/NAME/must-fail/`, where `rt ci` tries them one by
 one; the others in `tests/wrong_bodies/NAME/`. The second column names the function, as the prover does, and the
 goal of it that stays open: a clause of its contract (`returns` where it has one clause without a name, with the
