@@ -1,11 +1,13 @@
--- The records of a text, by the first that csv reads.
-use Rattle.std.proofs.Common.{◌≡◌, ℕ, zero, suc, ◌+◌, ◌<◌, ◌≤◌, Bool, true, false, ◌⊎◌, inl, inr, cond, List, [], ◌∷◌, ◌++◌, length, refl, sym, ap, ◌∙◌, arith, add-one}
-use Rattle.std.specs.Prelude.{Option, Some, None}
+-- Reading one record of csv, by the records that are left.
+use Rattle.std.proofs.Common.{◌≡◌, ℕ, zero, suc, ◌+◌, ◌<◌, Bool, true, false, ◌⊎◌, inl, inr, cond, List, [], ◌∷◌, ◌++◌, length, refl, sym, ap, ◌∙◌, arith, add-one}
+use Rattle.std.specs.Prelude.{Option, Some, None, IsSome}
 use Rattle.csv.specs.Machine.{Read, next_record, ends_at_end, is_end, step, fields_after, field_after}
-use Rattle.csv.specs.Reading.{default_config, records_from, records_next}
+use Rattle.csv.specs.Reading.{default_config, records_from, records_next, pending_of, source_of, ReadsNext, NextIs}
+use Rattle.csv.specs.declared.reader.Reader.{Reader}
 use Rattle.csv.specs.declared.parser.Config.{Config}
 use Rattle.csv.specs.declared.parser.State.{State}
 use Rattle.csv.specs.declared.parser.State.TheVariants as st
+use Rattle.pocsag_pages.specs.Rows.{rows_known}
 
 -- what is left after a record is shorter, or is the end
 abbrev LeavesLess : List ℕ → Read → Type 0
@@ -44,7 +46,7 @@ same_later cfg n m xs (Some p) less same h k = ap (λ rows. p.0 ∷ rows) (elim 
   | inr r ↦ rw (r.0, r.1) (no_more cfg n ∙ sym (no_more cfg m))
 ])
 
-pub enough : (cfg : Config) (n m : ℕ) (s : State) (xs : List ℕ) → length xs < n → length xs < m →
+enough : (cfg : Config) (n m : ℕ) (s : State) (xs : List ℕ) → length xs < n → length xs < m →
     records_from cfg n s xs ≡ records_from cfg m s xs
 unfolding records_from
 enough cfg zero m s xs h k = absurd (omega arith)
@@ -52,17 +54,57 @@ enough cfg (suc n) zero s xs h k = absurd (omega arith)
 enough cfg (suc n) (suc m) s xs h k =
     same_later cfg n m xs (next_record cfg s [] [] xs) (λ p e. next_shorter cfg s [] [] xs p e) (λ t ys i j. enough cfg n m t ys i j) h k
 
+-- what a read says of the records that are left
+rows_after : (cfg : Config) (n : ℕ) (xs : List ℕ) (p : Read) → LeavesLess xs p → n ≡ length xs →
+    records_from cfg n p.1 p.2 ≡ records_from cfg (length p.2 + 1) p.1 p.2
+rows_after cfg n xs p less e = elim less [
+  | inl l ↦ enough cfg n (length p.2 + 1) p.1 p.2 (omega arith) (omega arith)
+  | inr r ↦ rw (r.0, r.1) (no_more cfg n ∙ sym (no_more cfg (length {A = ℕ} [] + 1)))
+]
+
 -- the first record and those behind it
 pub one_record : (cfg : Config) (s : State) (xs : List ℕ) (o : Option Read) → next_record cfg s [] [] xs ≡ o →
     records_from cfg (length xs + 1) s xs ≡ records_next (records_from cfg (length xs)) o
 unfolding records_from
 one_record cfg s xs o e = rw (add-one, e) refl
 
--- the same records, whatever bound is large enough
-pub any_bound : (n m : ℕ) (s : State) (fields : List (List ℕ)) (field xs : List ℕ) → length xs ≤ n → length xs ≤ m →
-    records_next (records_from default_config n) (next_record default_config s fields field xs)
-    ≡ records_next (records_from default_config m) (next_record default_config s fields field xs)
-any_bound n m s fields field xs h k =
-    same_later default_config n m xs (next_record default_config s fields field xs)
-    (λ p e. next_shorter default_config s fields field xs p e) (λ t ys i j. enough default_config n m t ys i j)
-    (omega arith) (omega arith)
+found_next : (s t : State) (xs ys : List ℕ) (fields : List (List ℕ)) (o : Option Read) → next_record default_config s [] [] xs ≡ o →
+    NextIs o true fields t ys → records_from default_config (length xs + 1) s xs
+    ≡ fields ∷ records_from default_config (length ys + 1) t ys
+found_next s t xs ys fields None e h = absurd (cc)
+found_next s t xs ys fields (Some p) e h =
+    rw (h.1, h.2, h.3)
+    (one_record default_config s xs (Some p) e
+    ∙ ap (λ rows. p.0 ∷ rows) (rows_after default_config (length xs) xs p (next_shorter default_config s [] [] xs p e) refl))
+
+none_next : (s t : State) (xs ys : List ℕ) (fields : List (List ℕ)) (o : Option Read) → next_record default_config s [] [] xs ≡ o →
+    NextIs o false fields t ys → records_from default_config (length xs + 1) s xs ≡ []
+none_next s t xs ys fields None e h = one_record default_config s xs None e
+none_next s t xs ys fields (Some p) e h = absurd (cc (h.0))
+
+-- a record that was read is the first of those that were left
+pub rows_read : (s t : State) (before after : Option (List ℕ)) (fields : List (List ℕ)) → IsSome before →
+    ReadsNext default_config s before after true fields t → rows_known s before ≡ fields ∷ rows_known t after
+unfolding rows_known
+rows_read s t None after fields k h = absurd (cc)
+rows_read s t (Some xs) None fields k h = absurd h
+rows_read s t (Some xs) (Some ys) fields k h = found_next s t xs ys fields _ refl h
+
+-- where no record was read, none was left
+pub rows_over : (s t : State) (before after : Option (List ℕ)) (fields : List (List ℕ)) → IsSome before →
+    ReadsNext default_config s before after false fields t → rows_known s before ≡ []
+unfolding rows_known
+rows_over s t None after fields k h = absurd (cc)
+rows_over s t (Some xs) None fields k h = absurd h
+rows_over s t (Some xs) (Some ys) fields k h = none_next s t xs ys fields _ refl h
+
+pub still_known : (s t : State) (before after : Option (List ℕ)) (found : Bool) (fields : List (List ℕ)) → IsSome before →
+    ReadsNext default_config s before after found fields t → IsSome after
+still_known s t None after found fields k h = absurd (cc)
+still_known s t (Some xs) None found fields k h = absurd h
+still_known s t (Some xs) (Some ys) found fields k h = refl
+
+-- the bytes that are left once the start of the text was looked at
+pub unread_is : {R : Type 0} (rem : R → Option (List ℕ)) (reader : Reader R) → reader.bom_checked ≡ true →
+    source_of rem reader ≡ pending_of (rem reader.rdr) reader
+unread_is rem reader e = rw e refl

@@ -1,14 +1,12 @@
 pub mod CsvRecords
 pub mod CsvSteps
-pub mod FieldEnds
+pub mod Fronts
 pub mod GoodPages
 pub mod Growing
 pub mod Judging
 pub mod Lengths
-pub mod LineRecords
 pub mod PageLists
 pub mod Readings
 pub mod RecordPages
 pub mod Spelled
 pub mod WideRecords
-pub mod WideSizes

@@ -13,9 +13,7 @@ use Rattle.pocsag_pages.specs.declared.page.Page.{Page}
 use Rattle.pocsag_pages.specs.declared.fault.RecordFault.TheVariants as wrong
 use Rattle.pocsag_pages.specs.declared.fault.RoundFault.TheVariants as fault
 use Rattle.pocsag_pages.specs.PageFile.{Row, fault_after, is_header, page_of, pages_of, verdict_of_rows}
-use Rattle.pocsag_pages.specs.Rows.{rows_from}
 use Rattle.pocsag_pages.specs.WideRecords.{up_to_wide}
-use Rattle.pocsag_pages.proofs.CsvRecords.{no_more}
 use Rattle.pocsag_pages.proofs.CsvSteps.{IsInside, StaysInside, stays_inside}
 use Rattle.pocsag_pages.proofs.Judging.{grown, or_later, judged}
 
@@ -37,7 +35,7 @@ unfolding next_record
 on_byte n s fields field c rest = refl
 
 -- the first record is wide, and its first three fields are these
-abbrev StartsWide : List (List ℕ) → List Row → Type 0
+abbrev pub StartsWide : List (List ℕ) → List Row → Type 0
 StartsWide three [] = ⊥
 StartsWide three (r ∷ rows) = (4 ≤ length r) × (take 3 r ≡ three)
 
@@ -74,7 +72,7 @@ wide_at n s act.EndField fields three field c rest stays w e later =
 wide_at n s act.EndRecord fields three field c rest stays w e later =
     (one_more fields field 3 w, still_three fields three field w e)
 
-wide : (n : ℕ) (s : State) (fields three : List (List ℕ)) (field xs : List ℕ) → IsInside s → 3 ≤ length fields →
+pub wide : (n : ℕ) (s : State) (fields three : List (List ℕ)) (field xs : List ℕ) → IsInside s → 3 ≤ length fields →
     take 3 fields ≡ three → StartsWide three (rows_on n s fields field xs)
 wide n s fields three field [] h w e = wide_end n s fields three field h w e
 wide n s fields three field (c ∷ rest) h w e =
@@ -83,7 +81,7 @@ wide n s fields three field (c ∷ rest) h w e =
     (λ fs f i v g. wide n (step default_config s c).0 fs three f rest i v g))
 
 -- a wide record is cut and the last, and one that is not is kept
-cut_wide : (rows : List Row) (three : Row) → StartsWide three rows → (three ++ [] ∷ []) ∷ [] ≡ up_to_wide rows
+pub cut_wide : (rows : List Row) (three : Row) → StartsWide three rows → (three ++ [] ∷ []) ∷ [] ≡ up_to_wide rows
 unfolding up_to_wide
 cut_wide [] three w = absurd w
 cut_wide (r ∷ rows) three w = rw (lt-ltb 3 (length r) w.0, w.1) refl
@@ -150,13 +148,3 @@ pub same_verdict : (rows : List Row) → verdict_of_rows (up_to_wide rows) ≡ v
 unfolding up_to_wide
 same_verdict [] = refl
 same_verdict (r ∷ rows) = verdict_by (nat_lt 3 (length r)) r rows refl
-
--- of all records whose first goes on behind three fields these are left, and an empty one; nothing is behind a whole text
-pub wide_row : (text rest : List ℕ) (s : State) (fields longer : Row) → IsInside s → length fields ≡ 3 →
-    records default_config text ≡ rows_from s fields rest → longer ≡ fields ++ [] ∷ [] →
-    up_to_wide (records default_config text) ≡ longer ∷ up_to_wide (records default_config (drop (length text) text))
-wide_row text rest s fields longer h l e f =
-    let all : take 3 fields ≡ fields = take_all 3 fields (omega arith) in
-    let none : drop (length text) text ≡ [] = drop_all (length text) text (omega arith) in
-    rw (none, no_row (records default_config []) (no_more default_config 1), f)
-    (ap up_to_wide e ∙ sym (cut_wide _ fields (wide (length rest) s fields fields [] rest h (omega arith) all)))

@@ -1,5 +1,4 @@
 pub mod Bytes
-pub mod CsvStates
 pub mod Drafts
 pub mod Listable
 pub mod PageFile

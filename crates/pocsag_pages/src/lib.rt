@@ -2,13 +2,12 @@
 //! Pages, rounds of pages and page files; and, in `specs/`, what a transmission says: readings,
 //! legal transmissions and their bytes (Recommendation ITU-R M.584-2, Annex 1).
 
-mod csv_field;
-mod csv_state;
+mod csv_row;
 mod draft;
 mod fault;
 mod file;
+mod front;
 mod laws;
-mod line_record;
 mod list;
 mod page;
 mod preamble;
@@ -18,18 +17,17 @@ mod row_reader;
 mod rule;
 mod walking;
 mod whole;
-mod wide_record;
 
+pub use csv_row::only_row;
 pub use fault::{FieldFault, PageFault, RoundFault, WholeFault};
 pub use file::{FILE_LIMIT, read_round};
 pub use laws::{readings_are_one, readings_are_plain, rounds_are_apart, rounds_are_good};
-pub use line_record::only_row;
 pub use page::{LAST_ADDRESS, Page, Payload};
 pub use pocsag_words::{BATCH_BITS, PREAMBLE_BITS, SYNC_WORD};
 pub use preamble::leading_len;
 pub use record::{page_of_fields, parse_address};
 pub use round::{PAGE_LIMIT, Round};
+pub use row_reader::RecordSize;
 pub use rule::{ITEM_LIMIT, is_reserved_address, page_fault};
 pub use walking::{FileRecords, line_feeds};
 pub use whole::read_whole;
-pub use wide_record::wide_record_size;

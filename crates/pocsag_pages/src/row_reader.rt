@@ -1,99 +1,92 @@
-ghost use Rattle.std.specs.Prelude.{◌≡◌, ◌∷◌, ◌≤◌, [], true, false, IfOk, IfSome, drop, length};
-ghost use Rattle.csv.specs.Reading.{default_config, records};
+ghost use Rattle.std.specs.Prelude.{◌≡◌, ◌∷◌, [], true, false, IfOk};
 ghost use Rattle.csv.specs.Records.{fields_of};
 ghost use Rattle.pocsag_pages.specs.PageFile.{rows_of};
-ghost use Rattle.pocsag_pages.specs.WideRecords.{rows_after, up_to_wide};
+ghost use Rattle.pocsag_pages.specs.WideRecords.{up_to_wide};
 
-use crate::csv_field::{FieldEnd, next_field};
-use crate::csv_state::{CsvState, mark_len};
-use csv::ByteRecord;
+use crate::csv_row::{next_row, rows_reader};
+use crate::front::{PAGE_FIELDS, judged_front};
+use crate::walking::line_feeds;
+use csv::{ByteRecord, Reader};
 use pocsag_words::OutOfMemory;
 use std::alloc::Global;
 use std::marker::Model;
 
-// How many fields the record of a page has.
-const PAGE_FIELDS: usize = 3;
-
-// Reads the first record of a text into `row`, of a wider one than a page's its first fields and an empty one, and says
-// how many bytes of the text are read then: with a wider one all.
-fn read_row(
-    text: &[u8],
-    row: &mut ByteRecord,
-    kept: &mut Vec<u8>,
-) -> Result<Option<usize>, OutOfMemory>
-    ensures rows { IfOk result
-        (λ len. up_to_wide (records default_config text.now) ≡ rows_after (fields_of row.new) text.now len) }
-    ensures within { IfOk result (λ len. IfSome len (λ n. n ≤ length text.now)) }
-{
-    row.clear();
-    let mut state = CsvState::RecordStart;
-    let mut place = 0;
-    while row.len() < PAGE_FIELDS {
-        match next_field(&text[place..], state, row, kept)? {
-            Some(FieldEnd::Comma(len)) => {
-                state = CsvState::FieldStart;
-                place += len;
-            }
-            Some(FieldEnd::Record(len)) => return Ok(Some(place + len)),
-            None => return Ok(None),
-        }
-    }
-    row.push_field(&[])?;
-    Ok(Some(text.len()))
+/// How much was read of a record.
+#[derive(Clone, Copy)]
+pub struct RecordSize {
+    pub fields: usize,
+    /// How many line feeds the fields hold.
+    pub line_feeds: usize,
+    /// Only a front of the file was read: the record may have more.
+    pub is_front: bool,
 }
 
 // The records of a page file that are not read yet, up to the first of more than three fields.
 #[derive(Drop)]
 pub(crate) struct RowReader<'a> {
-    file: &'a [u8],
-    // Where the records that are left begin, with the empty lines before them.
-    place: usize,
-    // Of the field at hand what no longer stands in one piece.
-    kept: Vec<u8>,
+    reader: Reader<&'a [u8]>,
+    is_over: bool,
+    // Only a front of the file is read.
+    is_front: bool,
+    wide_size: Option<RecordSize>,
 }
 
 impl<'a> Model for RowReader<'a> {
-    ghost use Rattle.std.specs.Prelude.{List, ◌≤◌, drop, length};
-    ghost use Rattle.csv.specs.Reading.{default_config, records};
+    ghost use Rattle.std.specs.Prelude.{List, ◌≡◌, false};
     ghost use Rattle.pocsag_pages.specs.PageFile.{Row};
+    ghost use Rattle.pocsag_pages.specs.Rows.{StandsAt, rows_ahead};
     ghost use Rattle.pocsag_pages.specs.WideRecords.{up_to_wide};
 
     ghost Value = { List Row };
 
-    ghost view = { λ r. up_to_wide (records default_config (drop r.place r.file.now)) };
+    ghost view = { λ r. up_to_wide (rows_ahead r.is_over r.reader) };
 
-    ghost invariant = { λ r. r.place ≤ length r.file.now };
+    ghost invariant = { λ r. r.is_over ≡ false → StandsAt r.reader };
 }
 
 impl<'a> RowReader<'a> {
     pub(crate) fn of(alloc: Global, file: &'a [u8]) -> RowReader<'a>
         ensures { result ≡ up_to_wide (rows_of file.now) }
     {
+        let front = judged_front(alloc, file);
         RowReader {
-            file,
-            place: mark_len(file),
-            kept: Vec::new(alloc),
+            reader: rows_reader(alloc, front),
+            is_over: false,
+            is_front: front.len() < file.len(),
+            wide_size: None,
         }
     }
 
-    // Reads the next record into `row`, and says whether there was one.
+    // Reads the next record into `row`, of a wider one than a page's its first fields and an empty one, and says whether
+    // there was one.
     pub(crate) fn read(&mut self, row: &mut ByteRecord) -> Result<bool, OutOfMemory>
         ensures found { IfOk result (λ found. found ≡ true → self.old ≡ fields_of row.new ∷ self.new) }
         ensures none { IfOk result (λ found. found ≡ false → self.old ≡ []) }
     {
-        match read_row(&self.file[self.place..], row, &mut self.kept)? {
-            Some(len) => {
-                self.place += len;
-                Ok(true)
-            }
-            None => Ok(false),
+        if self.is_over {
+            return Ok(false);
         }
+        self.is_over = true;
+        let found = next_row(&mut self.reader, row)?;
+        if !found {
+            return Ok(false);
+        }
+        if row.len() > PAGE_FIELDS {
+            self.wide_size = Some(RecordSize {
+                fields: row.len(),
+                line_feeds: line_feeds(row.as_slice()),
+                is_front: self.is_front,
+            });
+            row.truncate(PAGE_FIELDS);
+            row.push_field(&[])?;
+            return Ok(true);
+        }
+        self.is_over = false;
+        Ok(true)
     }
 
-    // Where the next record begins in the file: at the first byte that ends no line.
-    pub(crate) fn next_place(&self) -> usize {
-        let rest = &self.file[self.place..];
-        let passed = rest.iter().position(|byte| !matches!(byte, b'\r' | b'\n'));
-        self.place + passed.unwrap_or(rest.len())
+    // What was read of a record of more than three fields, once it was come to.
+    pub(crate) fn wide_size(&self) -> Option<RecordSize> {
+        self.wide_size
     }
 }

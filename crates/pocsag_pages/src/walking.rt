@@ -3,7 +3,7 @@ ghost use Rattle.csv.specs.Records.{field_at};
 ghost use Rattle.pocsag_pages.specs.PageFile.{rows_of};
 ghost use Rattle.pocsag_pages.specs.WideRecords.{up_to_wide};
 
-use crate::row_reader::RowReader;
+use crate::row_reader::{RowReader, RecordSize};
 use csv::ByteRecord;
 use pocsag_words::OutOfMemory;
 use std::alloc::Global;
@@ -11,15 +11,12 @@ use std::marker::Model;
 
 /// The records of a page file one by one, the header first, each with the line on which it begins: for whoever
 /// has to find in the file what a fault names. The first of more than three fields is the last, since it is a fault
-/// itself: the first three are read of it and an empty one, for each field more would take memory.
+/// itself: the first three are left of it and an empty one.
 #[derive(Drop)]
 pub struct FileRecords<'a> {
     file: &'a [u8],
     reader: RowReader<'a>,
     row: ByteRecord,
-    // Where the row begins in the file, and its line.
-    place: usize,
-    line: usize,
 }
 
 impl<'a> Model for FileRecords<'a> {
@@ -40,8 +37,6 @@ impl<'a> FileRecords<'a> {
             file,
             reader: RowReader::of(alloc, file),
             row: ByteRecord::new(alloc),
-            place: 0,
-            line: 1,
         }
     }
 
@@ -50,23 +45,22 @@ impl<'a> FileRecords<'a> {
         ensures found { IfOk result (λ found. found ≡ true → self.old.ahead ≡ self.new.row ∷ self.new.ahead) }
         ensures none { IfOk result (λ found. found ≡ false → self.old.ahead ≡ []) }
     {
-        let place = self.reader.next_place();
-        if !self.reader.read(&mut self.row)? {
-            return Ok(false);
-        }
-        if let Some(passed) = self.file.get(self.place..place) {
-            self.line = self.line.saturating_add(line_feeds(passed));
-            self.place = place;
-        }
-        Ok(true)
+        self.reader.read(&mut self.row)
     }
 
-    /// The line of the file on which the record begins, from 1.
+    /// The line of the file on which the record begins, from 1, as the reader of `csv` tells it. No empty line
+    /// begins a record.
     pub fn line(&self) -> usize {
-        self.line
+        let Some(position) = self.row.position() else {
+            return 1;
+        };
+        let rest = self.file.get(position.byte() as usize..).unwrap_or(b"");
+        let begins = rest.iter().position(|byte| !matches!(byte, b'\r' | b'\n'));
+        let passed = line_feeds(&rest[..begins.unwrap_or(rest.len())]);
+        passed.saturating_add(position.line() as usize)
     }
 
-    /// How many fields were read of the record: of one of more than three, four.
+    /// How many fields were kept of the record: of one of more than three, four.
     pub fn len(&self) -> usize
         ensures { result ≡ length self.now.row }
     {
@@ -78,6 +72,11 @@ impl<'a> FileRecords<'a> {
         ensures { option_map (λ field. field.now) result ≡ field_at self.now.row place }
     {
         self.row.get(place)
+    }
+
+    /// What was read of a record of more than three fields, once it was come to.
+    pub fn wide_size(&self) -> Option<RecordSize> {
+        self.reader.wide_size()
     }
 }
 

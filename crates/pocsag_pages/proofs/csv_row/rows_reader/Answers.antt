@@ -1,0 +1,7 @@
+use Rattle.std.proofs.Common.{refl}
+use Rattle.pocsag_pages.specs.Rows.{rows_known}
+use Rattle.pocsag_pages.proofs.csv_row.rows_reader.Goals as goal
+
+pub returns-clause-rows : goal.returns-clause-rows
+unfolding rows_known
+returns-clause-rows c = rw (c.from_reader.ensures.state, c.from_reader.ensures.source) refl
