@@ -3,7 +3,7 @@
 use crate::note::Notes;
 use crate::role::{NamedFile, Role};
 use crate::scene::Scene;
-use pocsag_pages::{FileRecords, RoundFault, line_feeds, wide_record_size};
+use pocsag_pages::{FileRecords, RecordSize, RoundFault, line_feeds};
 use pocsag_words::OutOfMemory;
 use std::alloc::Global;
 use std::fmt::{self, Display};
@@ -65,17 +65,25 @@ fn excerpt_of<'r>(records: &'r FileRecords<'_>, place: usize) -> Excerpt<'r> {
     }
 }
 
-// How many fields the record has in the file, and how many line feeds they hold.
-fn record_size(records: &FileRecords<'_>, file: &[u8]) -> (usize, usize) {
-    let fields = records.len();
-    if fields > 3 {
-        return wide_record_size(file);
+fn record_size(records: &FileRecords<'_>) -> RecordSize {
+    if let Some(size) = records.wide_size() {
+        return size;
     }
+    let fields = records.len();
     let mut held = 0usize;
     for place in 0..fields {
         held = held.saturating_add(line_feeds(field(records, place)));
     }
-    (fields, held)
+    RecordSize {
+        fields,
+        line_feeds: held,
+        is_front: false,
+    }
+}
+
+// What stands before the counts of a record: of a long file only a front was read.
+fn least(size: RecordSize) -> &'static str {
+    if size.is_front { "at least " } else { "" }
 }
 
 // The number of the record that a fault names.
@@ -171,20 +179,22 @@ fn note_record_among(
         number,
         address: field(records, 0),
     };
-    let (fields, held) = record_size(records, scene.file);
-    note_field(refused, spot, fields, records, notes)?;
+    let size = record_size(records);
+    note_field(refused, spot, size, records, notes)?;
     if let RoundFault::DuplicateAddress(_) = refused {
         note_earlier(alloc, spot, scene, notes)?;
     }
-    note_open_quote(number, held, notes)
+    note_open_quote(number, size, notes)
 }
 
-// That a quote may be open in the record, whose fields hold so many line feeds.
-fn note_open_quote(number: u32, held: usize, notes: &mut Notes) -> Result<(), OutOfMemory> {
+// That a quote may be open in the record, where its fields hold line feeds.
+fn note_open_quote(number: u32, size: RecordSize, notes: &mut Notes) -> Result<(), OutOfMemory> {
+    let held = size.line_feeds;
     if held == 0 {
         return Ok(());
     }
-    notes.add(format_args!("quotes must be closed: record {number} holds {held} line feeds"))
+    let least = least(size);
+    notes.add(format_args!("quotes must be closed: record {number} holds {least}{held} line feeds"))
 }
 
 // What is wanted of a record, where its own fields say no more.
@@ -201,11 +211,11 @@ fn what_is_wanted(refused: RoundFault) -> Option<&'static str> {
     }
 }
 
-// What is wrong with the record, which has so many fields.
+// What is wrong with the record of this size.
 fn note_field(
     refused: RoundFault,
     spot: Spot<'_>,
-    fields: usize,
+    size: RecordSize,
     records: &FileRecords<'_>,
     notes: &mut Notes,
 ) -> Result<(), OutOfMemory> {
@@ -213,9 +223,12 @@ fn note_field(
         return notes.add(format_args!("{spot}: {wanted}"));
     }
     match refused {
-        RoundFault::FieldCount(_) => notes.add(format_args!(
-            "{spot}: {fields} fields, where address,kind,message are wanted; a message with a comma stands in quotes"
-        )),
+        RoundFault::FieldCount(_) => {
+            let (least, fields) = (least(size), size.fields);
+            notes.add(format_args!(
+                "{spot}: {least}{fields} fields, where address,kind,message are wanted; a message with a comma stands in quotes"
+            ))
+        }
         RoundFault::TooLong(_) => {
             let length = field(records, 2).len();
             notes.add(format_args!(

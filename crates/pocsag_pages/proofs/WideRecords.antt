@@ -148,3 +148,9 @@ pub same_verdict : (rows : List Row) → verdict_of_rows (up_to_wide rows) ≡ v
 unfolding up_to_wide
 same_verdict [] = refl
 same_verdict (r ∷ rows) = verdict_by (nat_lt 3 (length r)) r rows refl
+
+-- a record of more than three fields, cut
+pub wide_row : (rows later : List Row) (r longer : Row) → rows ≡ r ∷ later → 3 < length r → longer ≡ take 3 r ++ [] ∷ [] →
+    up_to_wide rows ≡ longer ∷ up_to_wide []
+unfolding up_to_wide
+wide_row rows later r longer e h f = rw (e, lt-ltb 3 (length r) h, f) refl
