@@ -4,7 +4,7 @@ use pocsag_batch::{FirstFault, first_stream};
 use pocsag_pages::{
     FieldFault, FileRecords, PageFault, Payload, Round, RoundFault, WholeFault,
     is_reserved_address, leading_len, line_feeds, only_row, page_fault, page_of_fields, read_round,
-    read_whole, wide_record_size,
+    read_whole,
 };
 use pocsag_rounds::given::{PageRow, page, page_file, pages, tones};
 use pocsag_rounds::{THREE_PAGES_TIGHT, ones};
@@ -407,20 +407,54 @@ fn records_of_a_file(rt: HostRuntime) {
 }
 
 // A page file, and how many fields its first record of more than three has, and how many line feeds they hold.
-const WIDE_SIZES: &[(&[u8], (usize, usize))] = &[
-    (b"", (0, 0)),
-    (b"a,b,c\nd,\"e,\n\",f\n\n", (0, 0)),
-    (b"a,b,c,", (4, 0)),
-    (b"a,b,c,\r\n\nd,e,f,g,h\n", (4, 0)),
-    (b"\xEF\xBB\xBF\"a,\n,\",b,c,\"d\n\"\"\n\"\n", (4, 3)),
-    (b"\"a\n\",b\n\n,,,,\"c\n,\n\"\"", (5, 2)),
-    (b"\xEF\xBB\"\xBF,a\",,", (4, 0)),
+const WIDE_SIZES: &[(&[u8], Option<(usize, usize)>)] = &[
+    (b"", None),
+    (b"a,b,c\nd,\"e,\n\",f\n\n", None),
+    (b"a,b,c,", Some((4, 0))),
+    (b"a,b,c,\r\n\nd,e,f,g,h\n", Some((4, 0))),
+    (b"\xEF\xBB\xBF\"a,\n,\",b,c,\"d\n\"\"\n\"\n", Some((4, 3))),
+    (b"\"a\n\",b\n\n,,,,\"c\n,\n\"\"", Some((5, 2))),
+    (b"\xEF\xBB\"\xBF,a\",,", Some((4, 0))),
 ];
 
 #[test]
 fn sizes_of_wide_records(rt: HostRuntime) {
     for (file, due) in WIDE_SIZES {
-        assert_eq!(rt; wide_record_size(file), *due);
+        let mut records = FileRecords::of(rt.alloc(), file);
+        while records.advance() == Ok(true) {}
+        let size = records.wide_size();
+        assert_eq!(rt; size.map(|it| (it.fields, it.line_feeds)), *due);
+        assert!(rt; !size.is_some_and(|it| it.is_front));
+    }
+}
+
+// What stands behind the header, before and behind so many commas, how many fields of the record are read, and whether of a
+// front of 4,194,304 bytes.
+const LONG_FILES: &[(&[u8], usize, &[u8], (usize, bool))] = &[
+    (b"8,tone0,", 5_000_000, b"\n8,tone0,\n", (4_194_278, true)),
+    (b"8,alpha,\"", 5_000_000, b"\",\n8,tone0,\n", (4, false)),
+    (b"", 4_194_283, b"", (4_194_284, false)),
+];
+
+#[test]
+fn records_of_a_long_file(rt: HostRuntime) {
+    let alloc = rt.alloc();
+    for (before, count, behind, due) in LONG_FILES {
+        let mut file = Vec::from_slice(alloc, b"address,kind,message\n").expect(&rt, "memory");
+        file.extend_from_slice(before).expect(&rt, "memory");
+        let len = file.len() + count;
+        file.resize(len, b',').expect(&rt, "memory");
+        file.extend_from_slice(behind).expect(&rt, "memory");
+        let mut records = FileRecords::of(alloc, file.as_slice());
+        assert_eq!(rt; records.advance(), Ok(true));
+        assert_eq!(rt; records.advance(), Ok(true));
+        assert_eq!(rt; records.wide_size().map(|it| (it.fields, it.is_front)), Some(*due));
+        assert_eq!(rt; records.line(), 2);
+        assert_eq!(rt; records.advance(), Ok(false));
+        let mut source = MemorySource::new(file.as_slice(), 65_536, u64::MAX);
+        let fault = read_round(alloc, &mut source).err().expect(&rt, "a fault");
+        let text = format!(in alloc; "{fault}").expect(&rt, "memory");
+        assert_eq!(rt; text.as_str(), "record 1: three fields are wanted");
     }
 }
 

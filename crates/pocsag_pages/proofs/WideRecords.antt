@@ -1,10 +1,10 @@
 -- Records of more than three fields: that only they are cut, and that the verdict stays.
-use Rattle.std.proofs.Common.{◌≡◌, ℕ, ◌+◌, ◌<◌, ◌≤◌, Bool, true, false, List, [], ◌∷◌, ◌++◌, length, length-take-le, take, drop, refl, sym, ap, ◌∙◌, arith}
+use Rattle.std.proofs.Common.{◌≡◌, ℕ, ◌+◌, ◌<◌, ◌≤◌, Bool, true, false, List, [], ◌∷◌, ◌++◌, length, length-take-le, take, refl, sym, ap, ◌∙◌, arith}
 use Rattle.std.specs.Prelude.{Some, Err, if◌then◌else◌, nat_lt}
 use Rattle.std.proofs.lemmas.Bool.{le-ltb, lt-ltb, ltb-true}
-use Rattle.std.proofs.lemmas.List.{drop_all, length-append, take-append-le, take_all}
+use Rattle.std.proofs.lemmas.List.{length-append, take-append-le}
 use Rattle.csv.specs.Machine.{next_record, is_end, step, fields_after, field_after}
-use Rattle.csv.specs.Reading.{default_config, records, records_from, records_next}
+use Rattle.csv.specs.Reading.{default_config, records_from, records_next}
 use Rattle.csv.specs.declared.parser.Action.{Action}
 use Rattle.csv.specs.declared.parser.Action.TheVariants as act
 use Rattle.csv.specs.declared.parser.State.{State}

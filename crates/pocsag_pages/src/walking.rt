@@ -3,7 +3,7 @@ ghost use Rattle.csv.specs.Records.{field_at};
 ghost use Rattle.pocsag_pages.specs.PageFile.{rows_of};
 ghost use Rattle.pocsag_pages.specs.WideRecords.{up_to_wide};
 
-use crate::row_reader::{RowReader, RecordSize};
+use crate::row_reader::{RecordSize, RowReader};
 use csv::ByteRecord;
 use pocsag_words::OutOfMemory;
 use std::alloc::Global;

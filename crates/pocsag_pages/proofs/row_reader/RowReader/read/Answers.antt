@@ -1,4 +1,4 @@
-use Rattle.std.proofs.Common.{◌≡◌, ◌<◌, ◌∙◌, length, sym, ap, arith}
+use Rattle.std.proofs.Common.{◌<◌, ◌∙◌, length, sym, ap, arith}
 use Rattle.csv.proofs.RecordFacts.{cut-length}
 use Rattle.csv.specs.Records.{fields_of}
 use Rattle.pocsag_pages.specs.Rows.{rows_ahead}
