@@ -141,6 +141,17 @@ def check_lengths(tally):
         tally.check(f"clauses of {crate} {file.name}", not there, f"end behind column {LAST_COLUMN} at the lines {there}")
 
 
+def check_reader(tally):
+    """Wants `csv::Reader` to read what `pocsag_pages` reads, and code to use each library that was chosen for the product."""
+    texts = [(crate, file.read_text()) for crate, file in sources()]
+    of_pages = "".join(text for crate, text in texts if crate == "pocsag_pages")
+    reads = re.search(r"^use csv::\{[^}]*\bReader\b", of_pages, re.MULTILINE) and ".read_byte_record(" in of_pages
+    tally.check("reader of pocsag_pages", reads, "no `csv::Reader` reads records there")
+    for library in ("arrayvec", "clap", "csv", "indexmap", "thiserror"):
+        used = any(re.search(rf"^use {library}::", text, re.MULTILINE) for _, text in texts)
+        tally.check(f"library {library}", used, "no code uses it")
+
+
 def in_clause(lines, place):
     """Whether the line belongs to a clause: one begins there or above, and the body has not begun since."""
     while place >= 0 and not re.match(r"\s*\{\}?;?$", lines[place]):
@@ -206,6 +217,7 @@ def main():
     check_items(tally)
     check_lengths(tally)
     places = check_page(tally)
+    check_reader(tally)
     for (crate, module, word), cited in sorted(wanted_words().items()):
         told = "the row names another file" if word in places else "no row in docs/DEFINITIONS.md"
         has_row = (crate, module) in places.get(word, ())
