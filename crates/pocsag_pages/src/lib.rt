@@ -20,7 +20,7 @@ mod walking;
 mod whole;
 mod wide_record;
 
-pub use fault::{FieldFault, PageFault, RoundFault, WholeFault};
+pub use fault::{FieldFault, PageFault, RecordFault, RoundFault, WholeFault};
 pub use file::{FILE_LIMIT, read_round};
 pub use laws::{readings_are_one, readings_are_plain, rounds_are_apart, rounds_are_good};
 pub use line_record::only_row;
