@@ -1,8 +1,9 @@
 #!/usr/bin/env python3
 """Lists each word of specs/ that a public clause cites, and wants a row of docs/DEFINITIONS.md for it that names its
 file; and wants each word of specs/ to have one meaning: no name is given in two modules. Of the code it wants that no
-two crates give a name to two things, a module aside, but for the names of twice.txt, which tells of each why; and that
-each line of a clause ends at column 120 (break_lines.py breaks longer ones).
+two crates give a name to two things, a module aside, but for the names of twice.txt, which tells of each why; that
+each line of a clause ends at column 120 (break_lines.py breaks longer ones); that `thiserror` derives each fault; and
+that a crate uses the libraries that crates.txt gives it.
 
 A clause is public where it stands on a function that its crate passes on, on a method of a type that it
 passes on, on a method of a public trait, or on a command of the program. The last line is
@@ -24,6 +25,8 @@ CITED = re.compile(r"[A-Za-z_][\w']*(?:-\w+)*(?:\.[A-Za-z_][\w']*(?:-\w+)*)*")
 IGNORED_CRATES = {f"pocsag_{of}" for of in ("command_cases", "low_cases", "plan_cases", "rounds", "search_cases", "trial")}
 ITEM = re.compile(r"^(?:pub(?:\([^)]*\))? )?(?:const )?(?:unsafe )?(?:extern \"C\" )?(?:fn|struct|enum|trait|const|static|type) (\w+)")
 LAST_COLUMN = 120
+FAULT = re.compile(r"((?:^#\[[^\n]*\]\n)*)^pub(?:\([^)]*\))? (?:enum|struct) (\w*Fault)\b", re.MULTILINE)
+LIBRARIES = {"arrayvec", "clap", "csv", "indexmap", "thiserror"}
 
 
 def passed_on(root):
@@ -132,6 +135,27 @@ def check_items(tally):
             print(f"{name} of twice.txt is given once: its line may go")
 
 
+def check_faults(tally):
+    """Wants `thiserror` to derive each type whose name ends in `Fault`, and none of them to be told by hand."""
+    for crate, file in sources():
+        text = file.read_text()
+        for attributes, name in FAULT.findall(text):
+            derived = set(re.findall(r"\w+", "".join(re.findall(r"derive\(([^)]*)\)", attributes))))
+            by_hand = re.search(rf"impl (?:[\w:]+::)?(?:Display|Debug|Error) for {name}\b", text)
+            is_derived = {"Debug", "Error"} <= derived and "use thiserror::Error;" in text
+            tally.check(f"derived text of {crate} {name}", is_derived and not by_hand, f"derives {sorted(derived)}")
+
+
+def check_libraries(tally):
+    """Wants each crate that crates.txt gives one of the libraries to use it."""
+    for line in (TOP / "crates.txt").read_text().split("\n"):
+        crate, _, needed = line.partition(":")
+        for library in LIBRARIES & set(needed.split()):
+            crate = crate.split()[0]
+            used = any(re.search(rf"\b{library}::", file.read_text()) for file in (TOP / "crates" / crate / "src").rglob("*.rt"))
+            tally.check(f"{library} in {crate}", used, "stands in crates.txt alone")
+
+
 def check_lengths(tally):
     """Wants each line of a clause to end at the last column."""
     for crate, file in sources():
@@ -216,6 +240,8 @@ def main():
     check_meanings(tally)
     check_items(tally)
     check_lengths(tally)
+    check_faults(tally)
+    check_libraries(tally)
     places = check_page(tally)
     check_reader(tally)
     for (crate, module, word), cited in sorted(wanted_words().items()):

@@ -10,36 +10,20 @@ use crate::writing::write;
 use pocsag_pages::{RoundFault, read_round};
 use pocsag_words::{OutOfMemory, Sink, Source, WriteFault};
 use std::alloc::Global;
-use std::error::Error;
-use std::fmt::{self, Display, Formatter};
+use thiserror::Error;
 
 /// Why a page file was not written in file order.
-#[derive(Clone, Copy, PartialEq, Eq)]
+#[derive(Clone, Copy, PartialEq, Eq, Debug, Error)]
 pub enum FirstFault {
     /// The page file gives no round.
+    #[error(transparent)]
     Round(RoundFault),
+    #[error("out of memory")]
     OutOfMemory,
     /// The transmission was not taken whole; what was taken is a prefix of it.
+    #[error("cannot write")]
     WriteFault,
 }
-
-impl Display for FirstFault {
-    fn fmt<W: fmt::Write>(&self, f: &mut Formatter<W>) -> fmt::Result {
-        match self {
-            FirstFault::Round(fault) => fault.fmt(f),
-            FirstFault::OutOfMemory => f.write_str("out of memory"),
-            FirstFault::WriteFault => f.write_str("cannot write"),
-        }
-    }
-}
-
-impl fmt::Debug for FirstFault {
-    fn fmt<W: fmt::Write>(&self, f: &mut Formatter<W>) -> fmt::Result {
-        Display::fmt(self, f)
-    }
-}
-
-impl Error for FirstFault {}
 
 impl From<RoundFault> for FirstFault {
     ghost from_gives = { λ f e. e ≡ fault.Round f };

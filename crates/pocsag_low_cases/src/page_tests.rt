@@ -2,7 +2,7 @@
 
 use pocsag_batch::{FirstFault, first_stream};
 use pocsag_pages::{
-    FieldFault, FileRecords, PageFault, Payload, Round, RoundFault, WholeFault,
+    FieldFault, FileRecords, PageFault, Payload, RecordFault, Round, RoundFault, WholeFault,
     is_reserved_address, leading_len, line_feeds, only_row, page_fault, page_of_fields, read_round,
     read_whole,
 };
@@ -26,29 +26,61 @@ const FILES: &[(&[u8], usize, Result<&[PageRow], RoundFault>)] = &[
     (b"0,numeric,12  \n", 0, Ok(&[(0, 0, &[0x84333])])),
     (b"0,numeric,12\n", 0, Ok(&[(0, 0, &[0x84333])])),
     (b"2007663,tone0,\n", 0, Ok(&[(2_007_663, 0, &[])])),
-    (b"2007664,tone0,\n", 0, Err(RoundFault::ReservedAddress(1))),
+    (
+        b"2007664,tone0,\n",
+        0,
+        Err(RoundFault::Record(1, RecordFault::Field(FieldFault::ReservedAddress))),
+    ),
     (
         b"8,tone0,\n0000008,tone1,\n",
         0,
-        Err(RoundFault::DuplicateAddress(2)),
+        Err(RoundFault::Record(2, RecordFault::DuplicateAddress)),
     ),
     (
         b"8,tone0,\n16,tone0,\n8,tone1,\n",
         0,
-        Err(RoundFault::DuplicateAddress(3)),
+        Err(RoundFault::Record(3, RecordFault::DuplicateAddress)),
     ),
     (b"", 0, Err(RoundFault::NoPages)),
-    (b"7,tone0\n", 0, Err(RoundFault::FieldCount(1))),
-    (b"2097152,tone0,\n", 0, Err(RoundFault::BadAddress(1))),
-    (b"7,Tone0,\n", 0, Err(RoundFault::BadKind(1))),
-    (b"7,tone1,x\n", 0, Err(RoundFault::MessageForTone(1))),
-    (b"7,alpha,\n", 0, Err(RoundFault::EmptyMessage(1))),
-    (b"7,numeric,12a\n", 0, Err(RoundFault::BadCharacter(1, 2))),
-    (b"7,numeric,", 4_001, Err(RoundFault::TooLong(1))),
+    (
+        b"7,tone0\n",
+        0,
+        Err(RoundFault::Record(1, RecordFault::FieldCount)),
+    ),
+    (
+        b"2097152,tone0,\n",
+        0,
+        Err(RoundFault::Record(1, RecordFault::Field(FieldFault::BadAddress))),
+    ),
+    (
+        b"7,Tone0,\n",
+        0,
+        Err(RoundFault::Record(1, RecordFault::Field(FieldFault::BadKind))),
+    ),
+    (
+        b"7,tone1,x\n",
+        0,
+        Err(RoundFault::Record(1, RecordFault::Field(FieldFault::MessageForTone))),
+    ),
+    (
+        b"7,alpha,\n",
+        0,
+        Err(RoundFault::Record(1, RecordFault::Field(FieldFault::EmptyMessage))),
+    ),
+    (
+        b"7,numeric,12a\n",
+        0,
+        Err(RoundFault::Record(1, RecordFault::Field(FieldFault::BadCharacter(2)))),
+    ),
+    (
+        b"7,numeric,",
+        4_001,
+        Err(RoundFault::Record(1, RecordFault::Field(FieldFault::TooLong))),
+    ),
     (
         b"\n8,tone0,\n\r\n\n9,tone9,\n",
         0,
-        Err(RoundFault::BadKind(2)),
+        Err(RoundFault::Record(2, RecordFault::Field(FieldFault::BadKind))),
     ),
 ];
 
@@ -100,30 +132,33 @@ fn page_files(rt: HostRuntime) {
 const BEFORE_COMMAS: &[(&[u8], RoundFault)] = &[
     (b"", RoundFault::BadHeader),
     (b"address,kind,message", RoundFault::BadHeader),
-    (b"address,kind,message\n", RoundFault::FieldCount(1)),
+    (
+        b"address,kind,message\n",
+        RoundFault::Record(1, RecordFault::FieldCount),
+    ),
     (
         b"address,kind,message\n8,tone0,\n",
-        RoundFault::FieldCount(2),
+        RoundFault::Record(2, RecordFault::FieldCount),
     ),
     (
         b"\xef\xbb\xbf\"address\",kind,message\r\n8,tone0,\r",
-        RoundFault::FieldCount(2),
+        RoundFault::Record(2, RecordFault::FieldCount),
     ),
     (
         b"address,kind,message\n8,alpha,\"a\nb, \"\",,,\"\"\"\n",
-        RoundFault::FieldCount(2),
+        RoundFault::Record(2, RecordFault::FieldCount),
     ),
     (
         b"address,kind,message\n8,alpha,\"a, \"\"",
-        RoundFault::TooLong(1),
+        RoundFault::Record(1, RecordFault::Field(FieldFault::TooLong)),
     ),
     (
         b"address,kind,message\n8,alpha,\"a\"b",
-        RoundFault::FieldCount(1),
+        RoundFault::Record(1, RecordFault::FieldCount),
     ),
     (
         b"address,kind,message\n\"8,,,\n\",tone0,\n",
-        RoundFault::BadAddress(1),
+        RoundFault::Record(1, RecordFault::Field(FieldFault::BadAddress)),
     ),
 ];
 
@@ -208,7 +243,10 @@ fn sizes(rt: HostRuntime) {
         .extend_from_slice(b"20000,tone0,\n".as_slice())
         .expect(&rt, "an answer");
     let read = read_round(alloc, &mut MemorySource::new(bytes.as_slice(), 7, u64::MAX));
-    assert_eq!(rt; read.err(), Some(RoundFault::TooManyPages(20_001)));
+    assert_eq!(rt;
+        read.err(),
+        Some(RoundFault::Record(20_001, RecordFault::TooManyPages))
+    );
     let round = Round::from_pages(alloc, tones(alloc, 20_000).expect(&rt, "an answer")).expect(
         &rt,
         "an answer",
@@ -218,7 +256,10 @@ fn sizes(rt: HostRuntime) {
         tones(alloc, 20_000).expect(&rt, "an answer").as_slice()
     );
     let fault = Round::from_pages(alloc, tones(alloc, 20_001).expect(&rt, "an answer")).err();
-    assert_eq!(rt; fault, Some(RoundFault::TooManyPages(20_001)));
+    assert_eq!(rt;
+        fault,
+        Some(RoundFault::Record(20_001, RecordFault::TooManyPages))
+    );
     // A file of 268,435,456 bytes is read by the built program (tests/program/edges.py): with checks it takes minutes.
     let fault = read_round(alloc, &mut long_file(268_435_457)).err();
     assert_eq!(rt; fault, Some(RoundFault::TooLarge));
@@ -338,7 +379,10 @@ fn rounds_of_pages(rt: HostRuntime) {
         .push(page(alloc, 0, 1, &[]).expect(&rt, "an answer"))
         .expect(&rt, "an answer");
     let fault = Round::from_pages(alloc, twice).err();
-    assert_eq!(rt; fault, Some(RoundFault::DuplicateAddress(4)));
+    assert_eq!(rt;
+        fault,
+        Some(RoundFault::Record(4, RecordFault::DuplicateAddress))
+    );
     let fault = Round::from_pages(alloc, Vec::new(alloc)).err();
     assert_eq!(rt; fault, Some(RoundFault::NoPages));
     let tone = page(alloc, 8, 0, &[]).expect(&rt, "an answer");

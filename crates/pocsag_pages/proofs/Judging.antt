@@ -13,7 +13,7 @@ use Rattle.pocsag_pages.specs.declared.fault.WholeFault.TheVariants as whole
 use Rattle.pocsag_pages.specs.declared.fault.RoundFault.{RoundFault}
 use Rattle.pocsag_pages.specs.declared.fault.RoundFault.TheVariants as fault
 use Rattle.pocsag_pages.specs.PageList.{unless_empty}
-use Rattle.pocsag_pages.specs.PageFile.{Row, fault_after, fault_of_row, first_fault, is_header, numbered, numbered_field, page_of, pages_of, pages_unless, round_fault_of, round_of_rows, rows_of, verdict, verdict_of_rows, with_page}
+use Rattle.pocsag_pages.specs.PageFile.{Row, fault_after, fault_of_row, first_fault, is_header, numbered, page_of, pages_of, pages_unless, round_fault_of, round_of_rows, rows_of, verdict, verdict_of_rows, with_page}
 use Rattle.pocsag_words.specs.Frame.{input_limit}
 use Rattle.pocsag_words.proofs.TruthValues.{is_above, not_above}
 
@@ -97,21 +97,17 @@ said_err x (Ok v) e = tt
 said_err x (Err f) e = inr e
 
 -- no record is answered by a failed read
-not_numbered_field : (n : ℕ) (e : FieldFault) → numbered_field n e ≡ fault.ReadFault → ⊥
-unfolding numbered_field
-not_numbered_field n field.BadAddress h = cc
-not_numbered_field n field.ReservedAddress h = cc
-not_numbered_field n field.BadKind h = cc
-not_numbered_field n field.MessageForTone h = cc
-not_numbered_field n field.EmptyMessage h = cc
-not_numbered_field n (field.BadCharacter place) h = cc
-not_numbered_field n field.TooLong h = cc
-not_numbered_field n field.OutOfMemory h = cc
-
 not_numbered : (n : ℕ) (e : RecordFault) → numbered n e ≡ fault.ReadFault → ⊥
-unfolding numbered
 not_numbered n wrong.FieldCount h = cc
-not_numbered n (wrong.Field e) h = not_numbered_field n e h
+not_numbered n (wrong.Field field.BadAddress) h = cc
+not_numbered n (wrong.Field field.ReservedAddress) h = cc
+not_numbered n (wrong.Field field.BadKind) h = cc
+not_numbered n (wrong.Field field.MessageForTone) h = cc
+not_numbered n (wrong.Field field.EmptyMessage) h = cc
+not_numbered n (wrong.Field (field.BadCharacter place)) h = cc
+not_numbered n (wrong.Field field.TooLong) h = cc
+not_numbered n (wrong.Field field.OutOfMemory) h = cc
+not_numbered n (wrong.Page e) h = cc
 not_numbered n wrong.DuplicateAddress h = cc
 not_numbered n wrong.TooManyPages h = cc
 

@@ -4,11 +4,11 @@ use Rattle.std.specs.Prelude.{Some, None}
 use Rattle.std.proofs.lemmas.List.{take_more, drop_more, length-take}
 use Rattle.pocsag_pages.specs.declared.page.Page.{Page}
 use Rattle.pocsag_pages.specs.declared.fault.PageFault.{PageFault}
-use Rattle.pocsag_pages.specs.declared.fault.PageFault.TheVariants as page_fault
+use Rattle.pocsag_pages.specs.declared.fault.RecordFault.TheVariants as wrong
 use Rattle.pocsag_pages.specs.declared.fault.RoundFault.{RoundFault}
 use Rattle.pocsag_pages.specs.declared.fault.RoundFault.TheVariants as fault
 use Rattle.pocsag_pages.specs.Pages.{AreGood, has_address, page_fault_of}
-use Rattle.pocsag_pages.specs.PageList.{fault_of_next, first_page_fault, numbered_page}
+use Rattle.pocsag_pages.specs.PageList.{fault_of_next, first_page_fault}
 use Rattle.pocsag_pages.proofs.GoodPages.{few_pages}
 use Rattle.pocsag_pages.specs.Reading.{AreApart}
 
@@ -21,13 +21,6 @@ module _ (before rest : List Page) (p : Page) where
   pub fault_later : fault_of_next before p ≡ None → first_page_fault before (p ∷ rest) ≡ first_page_fault (before ++ p ∷ []) rest
   unfolding first_page_fault
   fault_later e = rw e refl
-
--- a page that breaks a rule lacks no memory
-pub no_memory : (n : ℕ) (f : PageFault) → numbered_page n f ≡ fault.OutOfMemory → ⊥
-unfolding numbered_page
-no_memory n page_fault.BadAddress e = cc
-no_memory n page_fault.ReservedAddress e = cc
-no_memory n page_fault.BadPayload e = cc
 
 -- the page p at the place i of a list
 module _ (ps : List Page) (i : ℕ) (p : Page) (within : i < length ps) (here : p ≡ get_or ps i p) where
@@ -43,13 +36,13 @@ module _ (ps : List Page) (i : ℕ) (p : Page) (within : i < length ps) (here : 
   pub few : AreGood (take i ps) → i ≤ 2 ^ 21
   few good = omega (arith, few_pages (take i ps) good, so_far)
 
-  pub broken : (f : PageFault) → page_fault_of p ≡ Some f → fault_of_next (take i ps) p ≡ Some (numbered_page (i + 1) f)
+  pub broken : (f : PageFault) → page_fault_of p ≡ Some f → fault_of_next (take i ps) p ≡ Some (fault.Record (i + 1) (wrong.Page f))
   unfolding fault_of_next
   broken f e = rw (e, so_far) refl
 
   pub again :
       page_fault_of p ≡ None → has_address (take i ps) p.address ≡ true →
-      fault_of_next (take i ps) p ≡ Some (fault.DuplicateAddress (i + 1))
+      fault_of_next (take i ps) p ≡ Some (fault.Record (i + 1) wrong.DuplicateAddress)
   unfolding fault_of_next
   again e h = rw (e, so_far, h) refl
 

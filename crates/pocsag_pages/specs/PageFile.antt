@@ -147,22 +147,10 @@ fault_after count earlier (Ok p) =
 unfoldable pub fault_of_row : (before : List Row) → Row → Option RecordFault
 fault_of_row before r = fault_after (length before) (pages_of before) (page_of r)
 
--- A fault of three fields with their record's number, and so any fault of a record.
-unfoldable pub numbered_field : ℕ → FieldFault → RoundFault
-numbered_field n field.BadAddress = fault.BadAddress n
-numbered_field n field.ReservedAddress = fault.ReservedAddress n
-numbered_field n field.BadKind = fault.BadKind n
-numbered_field n field.MessageForTone = fault.MessageForTone n
-numbered_field n field.EmptyMessage = fault.EmptyMessage n
-numbered_field n (field.BadCharacter place) = fault.BadCharacter n place
-numbered_field n field.TooLong = fault.TooLong n
-numbered_field n field.OutOfMemory = fault.OutOfMemory
-
-unfoldable pub numbered : ℕ → RecordFault → RoundFault
-numbered n wrong.FieldCount = fault.FieldCount n
-numbered n (wrong.Field e) = numbered_field n e
-numbered n wrong.DuplicateAddress = fault.DuplicateAddress n
-numbered n wrong.TooManyPages = fault.TooManyPages n
+-- The fault of the record of this number. Want of memory, which is told of a packing alone, names no record.
+abbrev pub numbered : ℕ → RecordFault → RoundFault
+numbered n (wrong.Field field.OutOfMemory) = fault.OutOfMemory
+numbered n e = fault.Record n e
 
 abbrev pub numbered_if : ℕ → Option RecordFault → Option RoundFault
 numbered_if n None = None

@@ -2,22 +2,16 @@
 use Rattle.std.specs.Prelude.{◌≡◌, ℕ, ◌+◌, List, [], ◌∷◌, ◌++◌, length, nat_lt, if◌then◌else◌, Option, Some, None, Result, Ok, Err}
 use Rattle.pocsag_pages.specs.declared.page.Page.{Page}
 use Rattle.pocsag_pages.specs.declared.fault.PageFault.{PageFault}
-use Rattle.pocsag_pages.specs.declared.fault.PageFault.TheVariants as page_fault
+use Rattle.pocsag_pages.specs.declared.fault.RecordFault.TheVariants as wrong
 use Rattle.pocsag_pages.specs.declared.fault.RoundFault.{RoundFault}
 use Rattle.pocsag_pages.specs.declared.fault.RoundFault.TheVariants as fault
 use Rattle.pocsag_pages.specs.Pages.{page_limit, has_address, page_fault_of}
 
--- The fault of the page of this number that breaks a rule.
-unfoldable pub numbered_page : ℕ → PageFault → RoundFault
-numbered_page n page_fault.BadAddress = fault.BadAddress n
-numbered_page n page_fault.ReservedAddress = fault.ReservedAddress n
-numbered_page n page_fault.BadPayload = fault.BadPayload n
-
 -- The fault of the page of this number, which follows these, by the first rule that it breaks, if
 -- it breaks one.
 abbrev pub fault_at : ℕ → List Page → Page → Option PageFault → Option RoundFault
-fault_at n before p (Some broken_rule) = Some (numbered_page n broken_rule)
-fault_at n before p None = if has_address before p.address then Some (fault.DuplicateAddress n) else None
+fault_at n before p (Some broken_rule) = Some (fault.Record n (wrong.Page broken_rule))
+fault_at n before p None = if has_address before p.address then Some (fault.Record n wrong.DuplicateAddress) else None
 
 -- The fault of a page after others.
 unfoldable pub fault_of_next : List Page → Page → Option RoundFault
@@ -47,7 +41,7 @@ unless_empty (p ∷ ps) = Ok (p ∷ ps)
 -- its length after its last page, and a page file at its record 20,001.
 abbrev pub unless_fault : Option RoundFault → List Page → Result (List Page) RoundFault
 unless_fault (Some f) ps = Err f
-unless_fault None ps = if nat_lt page_limit (length ps) then Err (fault.TooManyPages (page_limit + 1)) else unless_empty ps
+unless_fault None ps = if nat_lt page_limit (length ps) then Err (fault.Record (page_limit + 1) wrong.TooManyPages) else unless_empty ps
 
 -- The round of a list of pages, or the list's first fault.
 unfoldable pub round_of_pages : List Page → Result (List Page) RoundFault

@@ -2,7 +2,7 @@ ghost use Rattle.std.specs.Prelude.{◌≡◌, ◌+◌, ◌≤◌, ◌⊎◌, �
 ghost use Rattle.csv.specs.Records.{fields_of};
 ghost use Rattle.pocsag_words.specs.Devices.{HasFailed};
 ghost use Rattle.pocsag_pages.specs.Pages.{page_limit};
-ghost use Rattle.pocsag_pages.specs.PageFile.{fault_after, numbered, numbered_field, page_of, pages_of, round_of_rows, rows_of, verdict, verdict_of_rows};
+ghost use Rattle.pocsag_pages.specs.PageFile.{fault_after, page_of, pages_of, round_of_rows, rows_of, verdict, verdict_of_rows};
 
 use crate::draft::Draft;
 use crate::fault::{FieldFault, RecordFault, RoundFault};
@@ -16,37 +16,6 @@ use std::alloc::Global;
 
 /// The greatest number of bytes of a page file.
 pub const FILE_LIMIT: usize = INPUT_LIMIT;
-
-// A fault of a record's three fields with the record's number.
-#[tactic(auto, unfolding(crate::specs::PageFile::numbered_field))]
-fn numbered_field(number: u32, fault: FieldFault) -> RoundFault
-    ensures { result ≡ numbered_field number fault }
-{
-    match fault {
-        FieldFault::BadAddress => RoundFault::BadAddress(number),
-        FieldFault::ReservedAddress => RoundFault::ReservedAddress(number),
-        FieldFault::BadKind => RoundFault::BadKind(number),
-        FieldFault::MessageForTone => RoundFault::MessageForTone(number),
-        FieldFault::EmptyMessage => RoundFault::EmptyMessage(number),
-        FieldFault::BadCharacter(place) => RoundFault::BadCharacter(number, place),
-        FieldFault::TooLong => RoundFault::TooLong(number),
-        FieldFault::OutOfMemory => RoundFault::OutOfMemory,
-    }
-}
-
-impl RecordFault {
-    #[tactic(auto, unfolding(crate::specs::PageFile::numbered))]
-    fn numbered(self, number: u32) -> RoundFault
-        ensures { result ≡ numbered number self }
-    {
-        match self {
-            RecordFault::FieldCount => RoundFault::FieldCount(number),
-            RecordFault::Field(fault) => numbered_field(number, fault),
-            RecordFault::DuplicateAddress => RoundFault::DuplicateAddress(number),
-            RecordFault::TooManyPages => RoundFault::TooManyPages(number),
-        }
-    }
-}
 
 // The pages so far, one for each of the earlier records, and that of one record more.
 fn with_row(

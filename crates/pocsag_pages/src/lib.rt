@@ -19,7 +19,7 @@ mod walking;
 mod whole;
 
 pub use csv_row::only_row;
-pub use fault::{FieldFault, PageFault, RoundFault, WholeFault};
+pub use fault::{FieldFault, PageFault, RecordFault, RoundFault, WholeFault};
 pub use file::{FILE_LIMIT, read_round};
 pub use laws::{readings_are_one, readings_are_plain, rounds_are_apart, rounds_are_good};
 pub use page::{LAST_ADDRESS, Page, Payload};

@@ -1,24 +1,13 @@
 ghost use Rattle.std.specs.Prelude.{◌≡◌, ◌+◌, ◌⊎◌, [], ◌^◌, ◌<◌, None, Some, IfOk, IfErr, OnOk};
 ghost use Rattle.pocsag_pages.specs.Pages.{AreGood};
-ghost use Rattle.pocsag_pages.specs.PageList.{BeginsWithGood, first_page_fault, numbered_page, round_of_pages};
+ghost use Rattle.pocsag_pages.specs.PageList.{BeginsWithGood, first_page_fault, round_of_pages};
 
-use crate::fault::{PageFault, RoundFault};
+use crate::fault::{RecordFault, RoundFault};
 use crate::page::Page;
 use crate::round::{PAGE_LIMIT, Round};
 use crate::rule::page_fault;
 use std::alloc::Global;
 use std::collections::BTreeSet;
-
-#[tactic(auto, unfolding(crate::specs::PageList::numbered_page))]
-fn numbered(number: u32, fault: PageFault) -> RoundFault
-    ensures { result ≡ numbered_page number fault }
-{
-    match fault {
-        PageFault::BadAddress => RoundFault::BadAddress(number),
-        PageFault::ReservedAddress => RoundFault::ReservedAddress(number),
-        PageFault::BadPayload => RoundFault::BadPayload(number),
-    }
-}
 
 // Judges page by page, up to the first that has a fault.
 fn judge_pages(alloc: Global, pages: &[Page]) -> Result<(), RoundFault>
@@ -31,11 +20,11 @@ fn judge_pages(alloc: Global, pages: &[Page]) -> Result<(), RoundFault>
     for (index, page) in pages.iter().enumerate() {
         let number = index as u32 + 1;
         if let Some(fault) = page_fault(page) {
-            return Err(numbered(number, fault));
+            return Err(RoundFault::Record(number, RecordFault::Page(fault)));
         }
         let added = seen.insert(page.address)?;
         if !added {
-            return Err(RoundFault::DuplicateAddress(number));
+            return Err(RoundFault::Record(number, RecordFault::DuplicateAddress));
         }
     }
     Ok(())
@@ -55,7 +44,7 @@ impl Round {
     {
         judge_pages(alloc, pages.as_slice())?;
         if pages.len() > PAGE_LIMIT {
-            return Err(RoundFault::TooManyPages(PAGE_LIMIT as u32 + 1));
+            return Err(RoundFault::Record(PAGE_LIMIT as u32 + 1, RecordFault::TooManyPages));
         }
         if pages.is_empty() {
             return Err(RoundFault::NoPages);

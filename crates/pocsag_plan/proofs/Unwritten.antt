@@ -8,6 +8,7 @@ use Rattle.pocsag_branch.specs.Found.{IsNodeLimit}
 use Rattle.pocsag_plan.specs.BookPlans.{ExplainsBook, ExplainsBookStream}
 use Rattle.pocsag_plan_faults.specs.FaultChains.{stream_fault_of}
 use Rattle.pocsag_plan.specs.declared.answer.Plan.{Plan}
+use Rattle.pocsag_plan_faults.specs.declared.fault.PlanFault.TheVariants as planning
 use Rattle.pocsag_plan_faults.specs.declared.fault.StreamFault.{StreamFault}
 use Rattle.pocsag_plan_faults.specs.declared.fault.StreamFault.TheVariants as streaming
 use Rattle.pocsag_plan_faults.specs.declared.refusal.BookFault.{BookFault}
@@ -18,18 +19,14 @@ use Rattle.pocsag_plan.specs.Streams.{IsBeforeWriting, IsCertificate, IsTransmis
 
 -- a fault before the first write is of neither writer
 no_transmission : (e : StreamFault) → IsBeforeWriting e → IsTransmission e → ⊥
-no_transmission streaming.BadLimit b h = h
+no_transmission (streaming.Plan f) b h = h
 no_transmission (streaming.Round f) b h = h
-no_transmission (streaming.SearchLimit stop) b h = h
-no_transmission streaming.OutOfMemory b h = h
 no_transmission (streaming.Transmission f) b h = b
 no_transmission (streaming.Certificate f) b h = h
 
 no_certificate : (e : StreamFault) → IsBeforeWriting e → IsCertificate e → ⊥
-no_certificate streaming.BadLimit b h = h
+no_certificate (streaming.Plan f) b h = h
 no_certificate (streaming.Round f) b h = h
-no_certificate (streaming.SearchLimit stop) b h = h
-no_certificate streaming.OutOfMemory b h = h
 no_certificate (streaming.Transmission f) b h = h
 no_certificate (streaming.Certificate f) b h = b
 
@@ -54,25 +51,23 @@ unwritten failures certificate_failures tx cert e before = record {
 
 -- a fault of a book's plan comes before the first write
 pub before : (e : BookFault) → IsBeforeWriting (stream_fault_of e)
-before book.BadLimit = tt
 before book.NoPages = tt
-before (book.SearchLimit stop) = tt
-before book.OutOfMemory = tt
+before (book.Plan f) = tt
 
 -- and says the same of a stream
 pub stream_explained : (effort : Effort) (end : End) (R : List Page) (limit : ℕ) (e : BookFault) → ExplainsBook effort end R limit e →
     ExplainsBookStream effort end R limit (stream_fault_of e)
-stream_explained effort end R limit book.BadLimit h = h
+stream_explained effort end R limit (book.Plan planning.BadLimit) h = h
 stream_explained effort end R limit book.NoPages h = (h.0, h.1, refl)
-stream_explained effort end R limit (book.SearchLimit stop) h = h
-stream_explained effort end R limit book.OutOfMemory h = h
+stream_explained effort end R limit (book.Plan (planning.SearchLimit stop)) h = h
+stream_explained effort end R limit (book.Plan planning.OutOfMemory) h = h
 
-pub same_bad_limit : {A B : Type 0} (N : Type 0) (e : BookFault) → (IsErrOf {T = A} (Err e) book.BadLimit ↔ (¬ N)) →
-    IsErrOf {T = B} (Err (stream_fault_of e)) streaming.BadLimit ↔ (¬ N)
-same_bad_limit N book.BadLimit h = (λ _. h.0 refl, λ _. refl)
+pub same_bad_limit : {A B : Type 0} (N : Type 0) (e : BookFault) → (IsErrOf {T = A} (Err e) (book.Plan planning.BadLimit) ↔ (¬ N)) →
+    IsErrOf {T = B} (Err (stream_fault_of e)) (streaming.Plan planning.BadLimit) ↔ (¬ N)
+same_bad_limit N (book.Plan planning.BadLimit) h = (λ _. h.0 refl, λ _. refl)
 same_bad_limit N book.NoPages h = (λ b. absurd (cc), λ no. absurd (cc (h.1 no)))
-same_bad_limit N (book.SearchLimit stop) h = (λ b. absurd (cc), λ no. absurd (cc (h.1 no)))
-same_bad_limit N book.OutOfMemory h = (λ b. absurd (cc), λ no. absurd (cc (h.1 no)))
+same_bad_limit N (book.Plan (planning.SearchLimit stop)) h = (λ b. absurd (cc), λ no. absurd (cc (h.1 no)))
+same_bad_limit N (book.Plan planning.OutOfMemory) h = (λ b. absurd (cc), λ no. absurd (cc (h.1 no)))
 
 -- a limit that is not refused may be asked for
 pub limited : (limit : ℕ) → ((IsNodeLimit limit → ⊥) → ⊥) → IsNodeLimit limit
@@ -85,20 +80,16 @@ pub ok_bad_limit : {A E : Type 0} (x : A) (e : E) (N : Type 0) → N → IsErrOf
 ok_bad_limit x e N is = (λ b. absurd (cc), λ no. absurd (no is))
 
 -- a fault of a writer is none of the limit's
-pub unsent_bad_limit : {B : Type 0} (N : Type 0) (e : StreamFault) → IsUnsent e → N → IsErrOf {T = B} (Err e) streaming.BadLimit ↔ (¬ N)
-unsent_bad_limit N streaming.BadLimit u is = absurd u
+pub unsent_bad_limit : {B : Type 0} (N : Type 0) (e : StreamFault) → IsUnsent e → N → IsErrOf {T = B} (Err e) (streaming.Plan planning.BadLimit) ↔ (¬ N)
+unsent_bad_limit N (streaming.Plan f) u is = absurd u
 unsent_bad_limit N (streaming.Round f) u is = absurd u
-unsent_bad_limit N (streaming.SearchLimit stop) u is = absurd u
-unsent_bad_limit N streaming.OutOfMemory u is = absurd u
 unsent_bad_limit N (streaming.Transmission f) u is = (λ b. absurd (cc), λ no. absurd (no is))
 unsent_bad_limit N (streaming.Certificate f) u is = (λ b. absurd (cc), λ no. absurd (no is))
 
 pub unsent_explained : (effort : Effort) (end : End) (R : List Page) (limit : ℕ) (e : StreamFault) → IsUnsent e → IsNodeLimit limit → IsRound R →
     ExplainsBookStream effort end R limit e
-unsent_explained effort end R limit streaming.BadLimit u within round = absurd u
+unsent_explained effort end R limit (streaming.Plan f) u within round = absurd u
 unsent_explained effort end R limit (streaming.Round f) u within round = absurd u
-unsent_explained effort end R limit (streaming.SearchLimit stop) u within round = absurd u
-unsent_explained effort end R limit streaming.OutOfMemory u within round = absurd u
 unsent_explained effort end R limit (streaming.Transmission f) u within round = (within, round)
 unsent_explained effort end R limit (streaming.Certificate f) u within round = (within, round)
 

@@ -6,6 +6,7 @@ use Rattle.pocsag_pages.specs.Pages.{IsRound}
 use Rattle.pocsag_tree.specs.Views.{bound_tree_of}
 use Rattle.pocsag_branch.specs.Found.{IsNodeLimit}
 use Rattle.pocsag_pages.specs.declared.fault.RoundFault.TheVariants as round
+use Rattle.pocsag_plan_faults.specs.declared.fault.PlanFault.TheVariants as planning
 use Rattle.pocsag_plan_faults.specs.declared.fault.StreamFault.{StreamFault}
 use Rattle.pocsag_plan_faults.specs.declared.fault.StreamFault.TheVariants as streaming
 use Rattle.pocsag_plan_faults.specs.declared.refusal.BookFault.{BookFault}
@@ -15,18 +16,18 @@ use Rattle.pocsag_plan.specs.Plans.{IsStopped, MayStop}
 
 -- When each fault comes, and what it says. Memory is wanted only for a round and a limit that may be.
 abbrev pub ExplainsBook : Effort → End → List Page → ℕ → BookFault → Type 0
-ExplainsBook effort end R limit fault.BadLimit = ¬ IsNodeLimit limit
+ExplainsBook effort end R limit (fault.Plan planning.BadLimit) = ¬ IsNodeLimit limit
 ExplainsBook effort end R limit fault.NoPages = IsNodeLimit limit × (R ≡ [])
-ExplainsBook effort end R limit (fault.SearchLimit stop) =
+ExplainsBook effort end R limit (fault.Plan (planning.SearchLimit stop)) =
     MayStop effort × IsNodeLimit limit × IsRound R × IsStopped end R limit stop.least stop.found (bound_tree_of stop.tree)
-ExplainsBook effort end R limit fault.OutOfMemory = IsNodeLimit limit × IsRound R
+ExplainsBook effort end R limit (fault.Plan planning.OutOfMemory) = IsNodeLimit limit × IsRound R
 
 -- When each fault of a stream of a book comes, and what it says.
 abbrev pub ExplainsBookStream : Effort → End → List Page → ℕ → StreamFault → Type 0
-ExplainsBookStream effort end R limit streaming.BadLimit = ¬ IsNodeLimit limit
+ExplainsBookStream effort end R limit (streaming.Plan planning.BadLimit) = ¬ IsNodeLimit limit
 ExplainsBookStream effort end R limit (streaming.Round f) = IsNodeLimit limit × (R ≡ []) × (f ≡ round.NoPages)
-ExplainsBookStream effort end R limit (streaming.SearchLimit stop) =
+ExplainsBookStream effort end R limit (streaming.Plan (planning.SearchLimit stop)) =
     MayStop effort × IsNodeLimit limit × IsRound R × IsStopped end R limit stop.least stop.found (bound_tree_of stop.tree)
-ExplainsBookStream effort end R limit streaming.OutOfMemory = IsNodeLimit limit × IsRound R
+ExplainsBookStream effort end R limit (streaming.Plan planning.OutOfMemory) = IsNodeLimit limit × IsRound R
 ExplainsBookStream effort end R limit (streaming.Transmission f) = IsNodeLimit limit × IsRound R
 ExplainsBookStream effort end R limit (streaming.Certificate f) = IsNodeLimit limit × IsRound R

@@ -6,11 +6,10 @@ use Rattle.pocsag_pages.specs.declared.fault.PageFault.{PageFault}
 use Rattle.pocsag_pages.specs.Pages.{page_limit, page_fault_of, has_address}
 use Rattle.pocsag_plan_faults.specs.declared.refusal.AddFault.{AddFault}
 use Rattle.pocsag_plan_faults.specs.declared.refusal.AddFault.TheVariants as fault
-use Rattle.pocsag_plan_faults.specs.FaultChains.{fault_of_rule}
 
 -- After the rules of a page alone: the address, then the number of pages.
 abbrev pub fault_beside : List Page → Page → Option PageFault → Option AddFault
-fault_beside ps p (Some broken) = Some (fault_of_rule broken)
+fault_beside ps p (Some broken) = Some (fault.Page broken)
 fault_beside ps p None =
     if has_address ps p.address then Some fault.DuplicateAddress
     else if nat_le page_limit (length ps) then Some fault.Full else None

@@ -10,6 +10,7 @@ use Rattle.pocsag_tree.specs.Views.{bound_tree_of}
 use Rattle.pocsag_branch.specs.Found.{IsNodeLimit}
 use Rattle.pocsag_plan.specs.declared.answer.Plan.{Plan}
 use Rattle.pocsag_plan.specs.declared.bounded.Bounded.{Bounded}
+use Rattle.pocsag_plan_faults.specs.declared.fault.PlanFault.TheVariants as planning
 use Rattle.pocsag_plan_faults.specs.declared.fault.StreamFault.{StreamFault}
 use Rattle.pocsag_plan_faults.specs.declared.fault.StreamFault.TheVariants as fault
 use Rattle.pocsag_options.specs.declared.search.Effort.{Effort}
@@ -94,56 +95,48 @@ WritesCertificatePart effort file end tx_before tx_after cert_before cert_after 
 
 -- When each fault of a stream comes, and what it says.
 abbrev pub ExplainsStream : Effort → List ℕ → End → ℕ → StreamFault → Type 0
-ExplainsStream effort file end limit fault.BadLimit = ¬ IsNodeLimit limit
+ExplainsStream effort file end limit (fault.Plan planning.BadLimit) = ¬ IsNodeLimit limit
 ExplainsStream effort file end limit (fault.Round f) =
     IsNodeLimit limit × ((f ≡ round.OutOfMemory) ⊎ (f ≡ round.ReadFault) ⊎ (verdict file ≡ Err f))
-ExplainsStream effort file end limit (fault.SearchLimit stop) =
+ExplainsStream effort file end limit (fault.Plan (planning.SearchLimit stop)) =
     MayStop effort × IsNodeLimit limit × IsStoppedAt file end limit stop.least stop.found (bound_tree_of stop.tree)
-ExplainsStream effort file end limit fault.OutOfMemory = IsNodeLimit limit × IsOk (verdict file)
+ExplainsStream effort file end limit (fault.Plan planning.OutOfMemory) = IsNodeLimit limit × IsOk (verdict file)
 ExplainsStream effort file end limit (fault.Transmission f) = IsNodeLimit limit × IsOk (verdict file)
 ExplainsStream effort file end limit (fault.Certificate f) = IsNodeLimit limit × IsOk (verdict file)
 
 -- The fault of a search that stopped at its limit.
 abbrev pub IsSearchLimit : StreamFault → Type 0
-IsSearchLimit fault.BadLimit = ⊥
+IsSearchLimit (fault.Plan planning.BadLimit) = ⊥
+IsSearchLimit (fault.Plan (planning.SearchLimit stop)) = Unit {0}
+IsSearchLimit (fault.Plan planning.OutOfMemory) = ⊥
 IsSearchLimit (fault.Round f) = ⊥
-IsSearchLimit (fault.SearchLimit stop) = Unit {0}
-IsSearchLimit fault.OutOfMemory = ⊥
 IsSearchLimit (fault.Transmission f) = ⊥
 IsSearchLimit (fault.Certificate f) = ⊥
 
 -- A fault that comes before the first write.
 abbrev pub IsBeforeWriting : StreamFault → Type 0
-IsBeforeWriting fault.BadLimit = Unit {0}
+IsBeforeWriting (fault.Plan f) = Unit {0}
 IsBeforeWriting (fault.Round f) = Unit {0}
-IsBeforeWriting (fault.SearchLimit stop) = Unit {0}
-IsBeforeWriting fault.OutOfMemory = Unit {0}
 IsBeforeWriting (fault.Transmission f) = ⊥
 IsBeforeWriting (fault.Certificate f) = ⊥
 
 -- A fault of the writer of the transmission, or of that of the certificate.
 abbrev pub IsTransmission : StreamFault → Type 0
-IsTransmission fault.BadLimit = ⊥
+IsTransmission (fault.Plan f) = ⊥
 IsTransmission (fault.Round f) = ⊥
-IsTransmission (fault.SearchLimit stop) = ⊥
-IsTransmission fault.OutOfMemory = ⊥
 IsTransmission (fault.Transmission f) = Unit {0}
 IsTransmission (fault.Certificate f) = ⊥
 
 abbrev pub IsCertificate : StreamFault → Type 0
-IsCertificate fault.BadLimit = ⊥
+IsCertificate (fault.Plan f) = ⊥
 IsCertificate (fault.Round f) = ⊥
-IsCertificate (fault.SearchLimit stop) = ⊥
-IsCertificate fault.OutOfMemory = ⊥
 IsCertificate (fault.Transmission f) = ⊥
 IsCertificate (fault.Certificate f) = Unit {0}
 
 -- A fault of one of the two writers.
 abbrev pub IsUnsent : StreamFault → Type 0
-IsUnsent fault.BadLimit = ⊥
+IsUnsent (fault.Plan f) = ⊥
 IsUnsent (fault.Round f) = ⊥
-IsUnsent (fault.SearchLimit stop) = ⊥
-IsUnsent fault.OutOfMemory = ⊥
 IsUnsent (fault.Transmission f) = Unit {0}
 IsUnsent (fault.Certificate f) = Unit {0}
 

@@ -110,7 +110,7 @@ impl Book {
         ensures { result ≡ add_fault self.now page.now }
     {
         match page_fault(page) {
-            Some(broken) => return Some(AddFault::from(broken)),
+            Some(broken) => return Some(AddFault::Page(broken)),
             None => {}
         }
         if self.pages.contains_key(&page.address) {

@@ -16,7 +16,7 @@ use crate::planning::{counted_plan, is_node_limit};
 use crate::streaming::send;
 use pocsag_options::{Effort, Search};
 use pocsag_pages::Round;
-use pocsag_plan_faults::{BookFault, StreamFault};
+use pocsag_plan_faults::{BookFault, PlanFault, StreamFault};
 use pocsag_words::{End, OutOfMemory, Sink};
 use std::alloc::Global;
 
@@ -38,12 +38,12 @@ impl Book {
     fn planned(&self, search: Search) -> Result<(Round, Bounded), BookFault>
         ensures round { IfOk result (λ both. (both.0 ≡ self.now) × IsRound self.now) }
         ensures plan { IfOk result (λ both. IsPlanFor search self.now both.1) }
-        ensures bad_limit { IsErrOf result BookFault.BadLimit ↔ (¬ IsNodeLimit search.limit) }
+        ensures bad_limit { IsErrOf result (BookFault.Plan PlanFault.BadLimit) ↔ (¬ IsNodeLimit search.limit) }
         ensures no_pages { IsErrOf result BookFault.NoPages ↔ (IsNodeLimit search.limit × (self.now ≡ [])) }
         ensures fault { IfErr result (ExplainsBook search.effort search.end self.now search.limit) }
     {
         if !is_node_limit(search.limit) {
-            return Err(BookFault::BadLimit);
+            return Err(BookFault::Plan(PlanFault::BadLimit));
         }
         if self.is_empty() {
             return Err(BookFault::NoPages);
@@ -60,7 +60,7 @@ impl Book {
         ensures round { OnOk result (IsRound self.now) }
         ensures plan { IfOk result (IsPlan end self.now) }
         ensures small { IfOk result (λ plan. closed_nodes (bound_tree_of plan.tree) ≤ limit) }
-        ensures bad_limit { IsErrOf result BookFault.BadLimit ↔ (¬ IsNodeLimit limit) }
+        ensures bad_limit { IsErrOf result (BookFault.Plan PlanFault.BadLimit) ↔ (¬ IsNodeLimit limit) }
         ensures no_pages { IsErrOf result BookFault.NoPages ↔ (IsNodeLimit limit × (self.now ≡ [])) }
         ensures fault { IfErr result (ExplainsBook Effort.Fewest end self.now limit) }
     {
@@ -78,7 +78,7 @@ impl Book {
         ensures fewest { IfOk result (λ bounded. bounded.bound ≡ bounded.plan.batches →
             NoneHasFewer end self.now bounded.plan.batches) }
         ensures small { IfOk result (λ bounded. closed_nodes (bound_tree_of bounded.plan.tree) ≤ limit) }
-        ensures bad_limit { IsErrOf result BookFault.BadLimit ↔ (¬ IsNodeLimit limit) }
+        ensures bad_limit { IsErrOf result (BookFault.Plan PlanFault.BadLimit) ↔ (¬ IsNodeLimit limit) }
         ensures no_pages { IsErrOf result BookFault.NoPages ↔ (IsNodeLimit limit × (self.now ≡ [])) }
         ensures fault { IfErr result (ExplainsBook Effort.Always end self.now limit) }
     {
@@ -106,7 +106,7 @@ impl Book {
 
         // When each fault comes, and what it leaves.
         ensures explained { IfErr result (ExplainsBookStream Effort.Fewest end self.now limit) }
-        ensures bad_limit { IsErrOf result StreamFault.BadLimit ↔ (¬ IsNodeLimit limit) }
+        ensures bad_limit { IsErrOf result (StreamFault.Plan PlanFault.BadLimit) ↔ (¬ IsNodeLimit limit) }
         ensures writers { WritesInTurn T.failures C.failures tx.old tx.new cert.old cert.new (fault_in result) }
         ensures part { T.tells → IfErr result (λ e. IsTransmission e →
             WritesPartOf (HasHeadline Effort.Fewest self.now end) (T.taken tx.old) (T.taken tx.new)) }
@@ -144,7 +144,7 @@ impl Book {
         // When each fault comes, and what it leaves.
         ensures explained { IfErr result (ExplainsBookStream Effort.Always end self.now limit) }
         ensures answered { IfErr result (λ e. ¬ IsSearchLimit e) }
-        ensures bad_limit { IsErrOf result StreamFault.BadLimit ↔ (¬ IsNodeLimit limit) }
+        ensures bad_limit { IsErrOf result (StreamFault.Plan PlanFault.BadLimit) ↔ (¬ IsNodeLimit limit) }
         ensures writers { WritesInTurn T.failures C.failures tx.old tx.new cert.old cert.new (fault_in result) }
         ensures part { T.tells → IfErr result (λ e. IsTransmission e →
             WritesPartOf (HasHeadline Effort.Always self.now end) (T.taken tx.old) (T.taken tx.new)) }
@@ -171,7 +171,7 @@ impl Book {
 
         // When each fault comes, and what it leaves.
         ensures explained { IfErr result (ExplainsBookStream search.effort search.end self.now search.limit) }
-        ensures bad_limit { IsErrOf result StreamFault.BadLimit ↔ (¬ IsNodeLimit search.limit) }
+        ensures bad_limit { IsErrOf result (StreamFault.Plan PlanFault.BadLimit) ↔ (¬ IsNodeLimit search.limit) }
         ensures writers { WritesInTurn T.failures C.failures tx.old tx.new cert.old cert.new (fault_in result) }
         ensures part { T.tells → IfErr result (λ e. IsTransmission e →
             WritesPartOf (HasHeadline search.effort self.now search.end) (T.taken tx.old) (T.taken tx.new)) }

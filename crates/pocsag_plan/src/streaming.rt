@@ -14,7 +14,7 @@ use crate::planning::{bounded_plan, is_node_limit};
 use pocsag_batch::{Slots, write_slots};
 use pocsag_options::{Effort, Search};
 use pocsag_pages::{Round, read_round};
-use pocsag_plan_faults::StreamFault;
+use pocsag_plan_faults::{PlanFault, StreamFault};
 use pocsag_tree::write_text;
 use pocsag_words::{End, Sink, Source, WriteFault};
 use std::alloc::Global;
@@ -40,8 +40,8 @@ pub fn plan_stream<S: Source, T: Sink, C: Sink>(
 
     // When each fault comes, and what it leaves.
     ensures explained { S.tells → IfErr result (ExplainsStream Effort.Fewest (S.held source.old) end limit) }
-    ensures bad_limit { IsErrOf result StreamFault.BadLimit ↔ (¬ IsNodeLimit limit) }
-    ensures unread { IsErrOf result StreamFault.BadLimit → source.new ≡ source.old }
+    ensures bad_limit { IsErrOf result (StreamFault.Plan PlanFault.BadLimit) ↔ (¬ IsNodeLimit limit) }
+    ensures unread { IsErrOf result (StreamFault.Plan PlanFault.BadLimit) → source.new ≡ source.old }
     ensures writers { WritesInTurn T.failures C.failures tx.old tx.new cert.old cert.new (fault_in result) }
     ensures part { S.tells → T.tells → IfErr result (λ e. IsTransmission e →
         WritesPart Effort.Fewest (S.held source.old) end (T.taken tx.old) (T.taken tx.new)) }
@@ -84,8 +84,8 @@ pub fn plan_stream_always<S: Source, T: Sink, C: Sink>(
     // When each fault comes, and what it leaves.
     ensures explained { S.tells → IfErr result (ExplainsStream Effort.Always (S.held source.old) end limit) }
     ensures answered { IfErr result (λ e. ¬ IsSearchLimit e) }
-    ensures bad_limit { IsErrOf result StreamFault.BadLimit ↔ (¬ IsNodeLimit limit) }
-    ensures unread { IsErrOf result StreamFault.BadLimit → source.new ≡ source.old }
+    ensures bad_limit { IsErrOf result (StreamFault.Plan PlanFault.BadLimit) ↔ (¬ IsNodeLimit limit) }
+    ensures unread { IsErrOf result (StreamFault.Plan PlanFault.BadLimit) → source.new ≡ source.old }
     ensures writers { WritesInTurn T.failures C.failures tx.old tx.new cert.old cert.new (fault_in result) }
     ensures part { S.tells → T.tells → IfErr result (λ e. IsTransmission e →
         WritesPart Effort.Always (S.held source.old) end (T.taken tx.old) (T.taken tx.new)) }
@@ -123,8 +123,8 @@ pub fn bounded_stream<S: Source, T: Sink, C: Sink>(
     ensures explained { S.tells →
         IfErr result (ExplainsStream search.effort (S.held source.old) search.end search.limit) }
     ensures answered { search.effort ≡ Effort.Always → IfErr result (λ e. ¬ IsSearchLimit e) }
-    ensures bad_limit { IsErrOf result StreamFault.BadLimit ↔ (¬ IsNodeLimit search.limit) }
-    ensures unread { IsErrOf result StreamFault.BadLimit → source.new ≡ source.old }
+    ensures bad_limit { IsErrOf result (StreamFault.Plan PlanFault.BadLimit) ↔ (¬ IsNodeLimit search.limit) }
+    ensures unread { IsErrOf result (StreamFault.Plan PlanFault.BadLimit) → source.new ≡ source.old }
     ensures writers { WritesInTurn T.failures C.failures tx.old tx.new cert.old cert.new (fault_in result) }
     ensures part { S.tells → T.tells → IfErr result (λ e. IsTransmission e →
         WritesPart search.effort (S.held source.old) search.end (T.taken tx.old) (T.taken tx.new)) }
@@ -138,7 +138,7 @@ pub fn bounded_stream<S: Source, T: Sink, C: Sink>(
     ensures read_succeeded { OnOk result (S.failures source.new ≡ S.failures source.old) }
 {
     if !is_node_limit(search.limit) {
-        return Err(StreamFault::BadLimit);
+        return Err(StreamFault::Plan(PlanFault::BadLimit));
     }
     let round = read_round(alloc, source)?;
     let bounded = bounded_plan(alloc, &round, search)?;

@@ -1,7 +1,7 @@
 //! Open rounds.
 
-use pocsag_pages::{Page, Payload};
-use pocsag_plan::{AddFault, Book, BookFault, Bounded, Edit, NotThere};
+use pocsag_pages::{Page, PageFault, Payload};
+use pocsag_plan::{AddFault, Book, BookFault, Bounded, Edit, NotThere, PlanFault};
 use pocsag_rounds::given::{IDLE, LONE_TONE, PageRow, SECOND, Sent, transmission};
 use pocsag_rounds::round_of;
 use pocsag_words::{End, MemorySink};
@@ -26,9 +26,18 @@ const ADDED: &[&[(PageRow, Option<AddFault>)]] = &[
         ((8, 0, &[]), Some(AddFault::DuplicateAddress)),
     ],
     &[
-        ((2_097_152, 0, &[]), Some(AddFault::BadAddress)),
-        ((2_007_664, 0, &[]), Some(AddFault::ReservedAddress)),
-        ((8, 1, &[0x84c2a]), Some(AddFault::BadPayload)),
+        (
+            (2_097_152, 0, &[]),
+            Some(AddFault::Page(PageFault::BadAddress)),
+        ),
+        (
+            (2_007_664, 0, &[]),
+            Some(AddFault::Page(PageFault::ReservedAddress)),
+        ),
+        (
+            (8, 1, &[0x84c2a]),
+            Some(AddFault::Page(PageFault::BadPayload)),
+        ),
     ],
 ];
 
@@ -177,8 +186,18 @@ fn loops_apart_within_one_batch(rt: HostRuntime) {
     );
     let empty = Book::new(alloc);
     assert!(rt; matches!(empty.plan_always(1, End::Open), Err(BookFault::NoPages)));
-    assert!(rt; matches!(empty.plan_always(0, End::Open), Err(BookFault::BadLimit)));
-    assert!(rt; matches!(empty.plan(0, End::Open), Err(BookFault::BadLimit)));
+    assert!(rt;
+        matches!(
+            empty.plan_always(0, End::Open),
+            Err(BookFault::Plan(PlanFault::BadLimit))
+        )
+    );
+    assert!(rt;
+        matches!(
+            empty.plan(0, End::Open),
+            Err(BookFault::Plan(PlanFault::BadLimit))
+        )
+    );
 }
 
 #[test]

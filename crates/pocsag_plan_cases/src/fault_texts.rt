@@ -4,7 +4,7 @@ use pocsag_batch::FirstFault;
 use pocsag_branch::{FreeFault, SearchFault, SearchLimit};
 use pocsag_decode::{DecodeFault, ListFault};
 use pocsag_pager::PagerFault;
-use pocsag_pages::{FieldFault, PageFault, RoundFault, WholeFault};
+use pocsag_pages::{FieldFault, PageFault, RecordFault, RoundFault, WholeFault};
 use pocsag_plan::{AddFault, BadRate, BookFault, NotThere, PlanFault, StreamFault};
 use pocsag_show::ShowFault;
 use pocsag_text::TextFault;
@@ -86,34 +86,49 @@ fn pages_and_rounds(rt: HostRuntime) {
                 "the header must be address,kind,message",
             ),
             (
-                RoundFault::FieldCount(9),
+                RoundFault::Record(9, RecordFault::FieldCount),
                 "record 9: three fields are wanted",
             ),
-            (RoundFault::BadAddress(9), "record 9: bad address"),
-            (RoundFault::ReservedAddress(9), "record 9: reserved address"),
-            (RoundFault::BadKind(9), "record 9: unknown kind"),
             (
-                RoundFault::MessageForTone(9),
+                RoundFault::Record(9, RecordFault::Field(FieldFault::BadAddress)),
+                "record 9: bad address",
+            ),
+            (
+                RoundFault::Record(9, RecordFault::Field(FieldFault::ReservedAddress)),
+                "record 9: reserved address",
+            ),
+            (
+                RoundFault::Record(9, RecordFault::Field(FieldFault::BadKind)),
+                "record 9: unknown kind",
+            ),
+            (
+                RoundFault::Record(9, RecordFault::Field(FieldFault::MessageForTone)),
                 "record 9: a tone page has no message",
             ),
             (
-                RoundFault::EmptyMessage(9),
+                RoundFault::Record(9, RecordFault::Field(FieldFault::EmptyMessage)),
                 "record 9: the message is empty",
             ),
             (
-                RoundFault::BadCharacter(9, 7),
+                RoundFault::Record(9, RecordFault::Field(FieldFault::BadCharacter(7))),
                 "record 9: bad character at 7",
             ),
-            (RoundFault::TooLong(9), "record 9: the message is too long"),
             (
-                RoundFault::DuplicateAddress(9),
+                RoundFault::Record(9, RecordFault::Field(FieldFault::TooLong)),
+                "record 9: the message is too long",
+            ),
+            (
+                RoundFault::Record(9, RecordFault::DuplicateAddress),
                 "record 9: the address is already there",
             ),
             (
-                RoundFault::TooManyPages(20_001),
+                RoundFault::Record(20_001, RecordFault::TooManyPages),
                 "record 20001: too many pages",
             ),
-            (RoundFault::BadPayload(9), "record 9: bad payload"),
+            (
+                RoundFault::Record(9, RecordFault::Page(PageFault::BadPayload)),
+                "record 9: bad payload",
+            ),
             (RoundFault::NoPages, "there are no pages"),
             (RoundFault::OutOfMemory, NO_MEMORY),
         ],
@@ -241,7 +256,7 @@ fn plans_and_edits(rt: HostRuntime) {
         alloc,
         &[
             (
-                FirstFault::Round(RoundFault::BadKind(9)),
+                FirstFault::Round(RoundFault::Record(9, RecordFault::Field(FieldFault::BadKind))),
                 "record 9: unknown kind",
             ),
             (FirstFault::OutOfMemory, NO_MEMORY),
@@ -261,13 +276,16 @@ fn plans_and_edits(rt: HostRuntime) {
         &rt,
         alloc,
         &[
-            (StreamFault::BadLimit, BAD_LIMIT),
+            (StreamFault::Plan(PlanFault::BadLimit), BAD_LIMIT),
             (
-                StreamFault::Round(RoundFault::BadKind(9)),
+                StreamFault::Round(RoundFault::Record(9, RecordFault::Field(FieldFault::BadKind))),
                 "record 9: unknown kind",
             ),
-            (StreamFault::SearchLimit(stopped()), LIMIT_REACHED),
-            (StreamFault::OutOfMemory, NO_MEMORY),
+            (
+                StreamFault::Plan(PlanFault::SearchLimit(stopped())),
+                LIMIT_REACHED,
+            ),
+            (StreamFault::Plan(PlanFault::OutOfMemory), NO_MEMORY),
             (StreamFault::Transmission(WriteFault), NO_WRITE),
             (StreamFault::Certificate(WriteFault), NO_WRITE),
         ],
@@ -276,9 +294,12 @@ fn plans_and_edits(rt: HostRuntime) {
         &rt,
         alloc,
         &[
-            (AddFault::BadAddress, "bad address"),
-            (AddFault::ReservedAddress, "reserved address"),
-            (AddFault::BadPayload, "bad payload"),
+            (AddFault::Page(PageFault::BadAddress), "bad address"),
+            (
+                AddFault::Page(PageFault::ReservedAddress),
+                "reserved address",
+            ),
+            (AddFault::Page(PageFault::BadPayload), "bad payload"),
             (AddFault::DuplicateAddress, "the address is already there"),
             (AddFault::Full, "too many pages"),
             (AddFault::OutOfMemory, NO_MEMORY),
@@ -288,10 +309,13 @@ fn plans_and_edits(rt: HostRuntime) {
         &rt,
         alloc,
         &[
-            (BookFault::BadLimit, BAD_LIMIT),
+            (BookFault::Plan(PlanFault::BadLimit), BAD_LIMIT),
             (BookFault::NoPages, "there are no pages"),
-            (BookFault::SearchLimit(stopped()), LIMIT_REACHED),
-            (BookFault::OutOfMemory, NO_MEMORY),
+            (
+                BookFault::Plan(PlanFault::SearchLimit(stopped())),
+                LIMIT_REACHED,
+            ),
+            (BookFault::Plan(PlanFault::OutOfMemory), NO_MEMORY),
         ],
     );
     expect_texts(

@@ -306,7 +306,7 @@ fn failing_streams(rt: HostRuntime) {
         )
         .expect(&rt, "an answer");
         match told.answer {
-            Err(StreamFault::BadLimit) => assert_eq!(rt; limit, 0),
+            Err(StreamFault::Plan(PlanFault::BadLimit)) => assert_eq!(rt; limit, 0),
             Err(StreamFault::Round(RoundFault::ReadFault)) => assert_eq!(rt; limit, 100_000),
             _ => assert!(rt; false, "{limit} {read}"),
         }

@@ -1,95 +1,46 @@
 ghost use Rattle.std.specs.Prelude.{◌≡◌};
 ghost use Rattle.pocsag_plan_faults.specs.declared.fault.PlanFault.TheVariants as planning;
 ghost use Rattle.pocsag_plan_faults.specs.declared.fault.StreamFault.TheVariants as streaming;
-ghost use Rattle.pocsag_plan_faults.specs.FaultChains.{stream_fault_of_plan, fault_of_search};
+ghost use Rattle.pocsag_plan_faults.specs.FaultChains.{fault_of_search};
 
 use crate::search::{SearchFault, SearchLimit};
 use pocsag_pages::RoundFault;
 use pocsag_words::{OutOfMemory, WriteFault};
-use std::error::Error;
-use std::fmt::{self, Display, Formatter};
+use thiserror::Error;
 
 /// Why there is no plan.
-#[derive(Drop)]
+#[derive(Debug, Drop, Error)]
 pub enum PlanFault {
     /// The node limit is 0 or above 1,000,000.
+    #[error("the limit must be 1 to 1000000")]
     BadLimit,
+    #[error(transparent)]
     SearchLimit(SearchLimit),
+    #[error("out of memory")]
     OutOfMemory,
 }
-
-impl Display for PlanFault {
-    fn fmt<W: fmt::Write>(&self, f: &mut Formatter<W>) -> fmt::Result {
-        match self {
-            PlanFault::BadLimit => f.write_str("the limit must be 1 to 1000000"),
-            PlanFault::SearchLimit(stop) => stop.fmt(f),
-            PlanFault::OutOfMemory => f.write_str("out of memory"),
-        }
-    }
-}
-
-impl fmt::Debug for PlanFault {
-    fn fmt<W: fmt::Write>(&self, f: &mut Formatter<W>) -> fmt::Result {
-        Display::fmt(self, f)
-    }
-}
-
-impl Error for PlanFault {}
 
 /// Why a page file was not planned and written.
-#[derive(Drop)]
+#[derive(Debug, Drop, Error)]
 pub enum StreamFault {
-    /// The node limit is 0 or above 1,000,000.
-    BadLimit,
+    /// The round has no plan.
+    #[error(transparent)]
+    Plan(PlanFault),
     /// The page file gives no round.
+    #[error(transparent)]
     Round(RoundFault),
-    SearchLimit(SearchLimit),
-    OutOfMemory,
     /// The transmission was not taken whole: what was taken is a prefix of it.
+    #[error(transparent)]
     Transmission(WriteFault),
     /// The transmission was taken whole, and the certificate was not: what was taken is a prefix of it.
+    #[error(transparent)]
     Certificate(WriteFault),
 }
 
-impl Display for StreamFault {
-    fn fmt<W: fmt::Write>(&self, f: &mut Formatter<W>) -> fmt::Result {
-        match self {
-            StreamFault::BadLimit => f.write_str("the limit must be 1 to 1000000"),
-            StreamFault::Round(fault) => fault.fmt(f),
-            StreamFault::SearchLimit(stop) => stop.fmt(f),
-            StreamFault::OutOfMemory => f.write_str("out of memory"),
-            StreamFault::Transmission(_) | StreamFault::Certificate(_) => f.write_str(
-                "cannot write",
-            ),
-        }
-    }
-}
-
-impl fmt::Debug for StreamFault {
-    fn fmt<W: fmt::Write>(&self, f: &mut Formatter<W>) -> fmt::Result {
-        Display::fmt(self, f)
-    }
-}
-
-impl Error for StreamFault {}
-
 /// A rate that is none of 512, 1200 and 2400 bits a second.
-#[derive(Clone, Copy, PartialEq, Eq)]
+#[derive(Clone, Copy, PartialEq, Eq, Debug, Error)]
+#[error("the rate must be 512, 1200 or 2400")]
 pub struct BadRate;
-
-impl Display for BadRate {
-    fn fmt<W: fmt::Write>(&self, f: &mut Formatter<W>) -> fmt::Result {
-        f.write_str("the rate must be 512, 1200 or 2400")
-    }
-}
-
-impl fmt::Debug for BadRate {
-    fn fmt<W: fmt::Write>(&self, f: &mut Formatter<W>) -> fmt::Result {
-        Display::fmt(self, f)
-    }
-}
-
-impl Error for BadRate {}
 
 impl From<OutOfMemory> for PlanFault {
     ghost from_gives = { λ _ e. e ≡ planning.OutOfMemory };
@@ -118,22 +69,10 @@ impl From<RoundFault> for StreamFault {
     }
 }
 
-impl From<OutOfMemory> for StreamFault {
-    ghost from_gives = { λ _ e. e ≡ streaming.OutOfMemory };
-
-    fn from(_fault: OutOfMemory) -> StreamFault {
-        StreamFault::OutOfMemory
-    }
-}
-
 impl From<PlanFault> for StreamFault {
-    ghost from_gives = { λ fault e. e ≡ stream_fault_of_plan fault };
+    ghost from_gives = { λ fault e. e ≡ streaming.Plan fault };
 
     fn from(fault: PlanFault) -> StreamFault {
-        match fault {
-            PlanFault::BadLimit => StreamFault::BadLimit,
-            PlanFault::SearchLimit(limit) => StreamFault::SearchLimit(limit),
-            PlanFault::OutOfMemory => StreamFault::OutOfMemory,
-        }
+        StreamFault::Plan(fault)
     }
 }

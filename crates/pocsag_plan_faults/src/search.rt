@@ -3,11 +3,11 @@ ghost use Rattle.pocsag_plan_faults.specs.declared.search.SearchFault.TheVariant
 
 use pocsag_tree::Tree;
 use std::alloc::AllocError;
-use std::error::Error;
-use std::fmt::{self, Display, Formatter};
+use thiserror::Error;
 
 /// So many nodes did not decide between `least` batches and `found`, one more.
-#[derive(Drop)]
+#[derive(Debug, Drop, Error)]
+#[error("search limit reached: at least {least} batches, {found} would do")]
 pub struct SearchLimit {
     pub least: u32,
     pub found: u32,
@@ -15,47 +15,14 @@ pub struct SearchLimit {
     pub tree: Tree,
 }
 
-impl Display for SearchLimit {
-    fn fmt<W: fmt::Write>(&self, f: &mut Formatter<W>) -> fmt::Result {
-        let SearchLimit { least, found, .. } = self;
-        write!(
-            f,
-            "search limit reached: at least {least} batches, {found} would do"
-        )
-    }
-}
-
-impl fmt::Debug for SearchLimit {
-    fn fmt<W: fmt::Write>(&self, f: &mut Formatter<W>) -> fmt::Result {
-        Display::fmt(self, f)
-    }
-}
-
-impl Error for SearchLimit {}
-
 /// Why the search gave no answer.
-#[derive(Drop)]
+#[derive(Debug, Drop, Error)]
 pub enum SearchFault {
+    #[error(transparent)]
     SearchLimit(SearchLimit),
+    #[error("out of memory")]
     OutOfMemory,
 }
-
-impl Display for SearchFault {
-    fn fmt<W: fmt::Write>(&self, f: &mut Formatter<W>) -> fmt::Result {
-        match self {
-            SearchFault::SearchLimit(stop) => stop.fmt(f),
-            SearchFault::OutOfMemory => f.write_str("out of memory"),
-        }
-    }
-}
-
-impl fmt::Debug for SearchFault {
-    fn fmt<W: fmt::Write>(&self, f: &mut Formatter<W>) -> fmt::Result {
-        Display::fmt(self, f)
-    }
-}
-
-impl Error for SearchFault {}
 
 impl From<AllocError> for SearchFault {
     ghost from_gives = { λ _ fault. fault ≡ OutOfMemory };

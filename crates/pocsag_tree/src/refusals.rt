@@ -4,95 +4,53 @@ ghost use Rattle.pocsag_tree.specs.declared.refusals.TreeWriteFault.TheVariants 
 
 use pocsag_words::DeviceFault;
 use std::alloc::{AllocError, AllocFailed};
-use std::error::Error;
-use std::fmt::{self, Display, Formatter};
+use thiserror::Error;
 
 /// Why a certificate was not read: the first fault from left to right.
-#[derive(Clone, Copy, PartialEq, Eq)]
+#[derive(Clone, Copy, PartialEq, Eq, Debug, Error)]
 pub enum CertificateFault {
     /// One of the first three bytes is not that of a certificate.
+    #[error("not a certificate")]
     NotCertificate,
     /// The fourth byte is that of no version.
+    #[error("unknown certificate version")]
     Version,
     /// The end came where a byte was wanted.
+    #[error("the certificate is cut short")]
     Truncated,
     /// A byte stands after the root node.
+    #[error("bytes after the certificate")]
     Trailing,
     /// A node's tag is that of no node of this version.
+    #[error("the certificate is malformed")]
     BadTag,
     /// A field is outside its range.
+    #[error("the certificate is malformed")]
     BadField,
     /// A node stands at depth 301.
+    #[error("the certificate is too deep")]
     TooDeep,
     /// A node would be number 1,000,001.
+    #[error("the certificate has too many nodes")]
     TooMany,
     /// The reader failed.
+    #[error("cannot read or open a file")]
     ReadFault,
     /// A growth was refused.
+    #[error("out of memory")]
     OutOfMemory,
 }
 
-impl CertificateFault {
-    fn text(self) -> &'static str {
-        match self {
-            CertificateFault::NotCertificate => "not a certificate",
-            CertificateFault::Version => "unknown certificate version",
-            CertificateFault::Truncated => "the certificate is cut short",
-            CertificateFault::Trailing => "bytes after the certificate",
-            CertificateFault::BadTag | CertificateFault::BadField => "the certificate is malformed",
-            CertificateFault::TooDeep => "the certificate is too deep",
-            CertificateFault::TooMany => "the certificate has too many nodes",
-            CertificateFault::ReadFault => "cannot read or open a file",
-            CertificateFault::OutOfMemory => "out of memory",
-        }
-    }
-}
-
-impl Display for CertificateFault {
-    fn fmt<W: fmt::Write>(&self, f: &mut Formatter<W>) -> fmt::Result {
-        f.write_str(self.text())
-    }
-}
-
-impl fmt::Debug for CertificateFault {
-    fn fmt<W: fmt::Write>(&self, f: &mut Formatter<W>) -> fmt::Result {
-        Display::fmt(self, f)
-    }
-}
-
-impl Error for CertificateFault {}
-
 /// Why a certificate was not written.
-#[derive(Clone, Copy, PartialEq, Eq)]
+#[derive(Clone, Copy, PartialEq, Eq, Debug, Error)]
 pub enum TreeWriteFault {
     /// The tree, or the number of batches, has no certificate.
+    #[error("the tree has no certificate")]
     BadTree,
     /// The writer failed.
+    #[error("cannot write")]
     WriteFault,
 }
-
-impl TreeWriteFault {
-    fn text(self) -> &'static str {
-        match self {
-            TreeWriteFault::BadTree => "the tree has no certificate",
-            TreeWriteFault::WriteFault => "cannot write",
-        }
-    }
-}
-
-impl Display for TreeWriteFault {
-    fn fmt<W: fmt::Write>(&self, f: &mut Formatter<W>) -> fmt::Result {
-        f.write_str(self.text())
-    }
-}
-
-impl fmt::Debug for TreeWriteFault {
-    fn fmt<W: fmt::Write>(&self, f: &mut Formatter<W>) -> fmt::Result {
-        Display::fmt(self, f)
-    }
-}
-
-impl Error for TreeWriteFault {}
 
 impl From<AllocError> for CertificateFault {
     ghost from_gives = { λ _ e. e ≡ read.OutOfMemory };

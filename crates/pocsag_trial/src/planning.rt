@@ -304,7 +304,7 @@ fn tones(alloc: Global, addresses: &[u32]) -> Result<Book, OutOfMemory> {
 pub fn put_book_plan(book: &Book, end: End, line: &mut Line) -> Result<(), OutOfMemory> {
     match book.plan(LIMIT, end) {
         Ok(plan) => put_counts(&plan, line),
-        Err(BookFault::OutOfMemory) => return Err(OutOfMemory),
+        Err(BookFault::Plan(PlanFault::OutOfMemory)) => return Err(OutOfMemory),
         Err(fault) => line.put(fault),
     }
     Ok(())
@@ -343,7 +343,7 @@ fn show_kept_always(alloc: Global, line: &mut Line) -> Result<(), OutOfMemory> {
     let book = tones(alloc, &[5, 13, 21])?;
     match book.plan_always(LIMIT, End::Closed) {
         Ok(bounded) => put_bounded(&bounded, line),
-        Err(BookFault::OutOfMemory) => return Err(OutOfMemory),
+        Err(BookFault::Plan(PlanFault::OutOfMemory)) => return Err(OutOfMemory),
         Err(fault) => line.put(fault),
     }
     Ok(())

@@ -1,8 +1,11 @@
 ghost use Rattle.std.specs.Prelude.{◌≡◌, ℕ, ◌<◌, ◌≤◌, List, [], ◌++◌, length, take, IfOk, OnOk, OnErr};
 ghost use Rattle.pocsag_words.specs.Devices.{CallsPerByte, CountsFailures, Delivers, one_more};
 
+use thiserror::Error;
+
 /// A device failed in a call; the call moved no byte.
-#[derive(Clone, Copy, PartialEq, Eq, Debug)]
+#[derive(Clone, Copy, PartialEq, Eq, Debug, Error)]
+#[error("a device failed")]
 pub struct DeviceFault;
 
 /// A reader. `read` fills the front of the buffer and answers how many bytes it put there, which

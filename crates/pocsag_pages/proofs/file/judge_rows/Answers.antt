@@ -1,5 +1,4 @@
 use Rattle.std.proofs.Common.{◌∙◌, inl, inr, refl, arith}
-use Rattle.pocsag_pages.specs.PageFile.{numbered, numbered_field}
 use Rattle.pocsag_pages.proofs.Judging.{judged, grown_end, grown_fault, grown_on, said_ok, said_err}
 use Rattle.pocsag_pages.proofs.file.judge_rows.Goals as goal
 
@@ -25,7 +24,6 @@ returns-then-not-found-clause-err c =
     rw c.into_round.ensures (said_err _ _ over)
 
 pub returns-in-Err-clause-err : goal.returns-in-Err-clause-err
-unfolding numbered numbered_field
 returns-in-Err-clause-err c =
     elim c.in-Err.ensures.err [
       | inl e ↦ inl (c.numbered.ensures ∙ rw e refl)

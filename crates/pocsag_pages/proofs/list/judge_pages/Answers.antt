@@ -4,7 +4,7 @@ use Rattle.std.proofs.lemmas.List.{drop_all}
 use Rattle.pocsag_pages.specs.Pages.{page_fault_of}
 use Rattle.pocsag_pages.specs.PageList.{first_page_fault}
 use Rattle.pocsag_pages.proofs.Growing.{draft_none, draft_push, was_new, was_there}
-use Rattle.pocsag_pages.proofs.PageLists.{fault_here, fault_later, taken, left, few, broken, again, fine, no_memory}
+use Rattle.pocsag_pages.proofs.PageLists.{fault_here, fault_later, taken, left, few, broken, again, fine}
 use Rattle.pocsag_pages.proofs.list.judge_pages.Goals as goal
 
 pub loop-index-init : goal.loop-index-init
@@ -34,11 +34,7 @@ returns-in-Some-clause-err c =
     let within = c.loop-index-test.true in
     let here = c.index-pages-index.is in
     let f = broken ps i p within here c.in-Some.fault (sym c.in-Some.ensures) in
-    inr (c.loop-index.invariant.rest ∙ rw (left ps i p within here, c.numbered.ensures) (fault_here (take i ps) _ p _ f))
-
-pub returns-in-Some-clause-memory : goal.returns-in-Some-clause-memory
-returns-in-Some-clause-memory c = λ e.
-    absurd (no_memory _ c.in-Some.fault (sym c.numbered.ensures ∙ cc))
+    inr (c.loop-index.invariant.rest ∙ rw (left ps i p within here) (fault_here (take i ps) _ p _ f))
 
 pub returns-then-not-added-clause-err : goal.returns-then-not-added-clause-err
 returns-then-not-added-clause-err c =
