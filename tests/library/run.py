@@ -306,11 +306,11 @@ def deep_certificates():
             tree = leaf
             for level in range(299, 0, -1):
                 if kind == "splits":
-                    tree = trees.SPLIT, 0, 16, level, (held, tree)
+                    tree = trees.SPLIT, 0, 17, level, (held, tree)
                 elif kind == "late splits":
-                    tree = trees.SPLIT, 0, 16, 401 - level, (tree, held)
+                    tree = trees.SPLIT, 0, 17, 401 - level, (tree, held)
                 elif kind == "cuts":
-                    tree = trees.CUT, 1, 16, 0, (held, tree)
+                    tree = trees.CUT, 1, 17, 0, (held, tree)
                 else:
                     tree = trees.CLOSE, 0, 0, 0, (tree,)
             yield kind, leaf is held, pages, trees.certificate(trees.IDLE_END if kind == "closes" else 0, 12, tree)
