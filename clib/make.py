@@ -1,15 +1,16 @@
 #!/usr/bin/env python3
 """Makes the C library from the proved crate pocsag_c.
 
-    clib/make.py FOLDER [PREFIX]    puts libpocsag.a, libpocsag.so.1, libpocsag.so, pocsag.h and pocsag.pc into FOLDER;
-                                    PREFIX (/usr/local where none is given) stands in pocsag.pc
+    clib/make.py FOLDER    puts libpocsag.a, libpocsag.so.1, libpocsag.so, pocsag.h, pocsag.py and pocsag.pc into FOLDER
 
-It needs `rt`, by which the crate is proved and built with what it stands on, where that is not done yet, `cc` and `ar`.
+It needs `rt`, by which the crate is proved and built with what it stands on, where that is not done yet, `cc`, `ld`,
+`objcopy` and `ar`.
 Exit status: 0 done, 1 not done, 2 usage.
 """
 
 import os
 import pathlib
+import re
 import shutil
 import subprocess
 import sys
@@ -37,12 +38,27 @@ def memory_calls():
 
 
 def join(archive, parts):
-    """One archive of all the parts' objects."""
-    script = "".join([f"CREATE {archive}\n", *(f"ADDLIB {part}\n" for part in parts), "SAVE\nEND\n"])
-    run("ar", "-M", input=script, text=True)
+    """One archive of all the parts' objects, as one object that shows the calls alone."""
+    joined = archive.with_suffix(".o")
+    run("ld", "-r", "-o", joined, "--whole-archive", *parts)
+    run("objcopy", "--wildcard", "--keep-global-symbol=pocsag_*", joined)
+    run("ar", "rcs", archive, joined)
 
 
-def make(folder, prefix):
+def version():
+    """The number of the interface, as the header has it."""
+    return re.search(r"#define POCSAG_VERSION (\d+)u", (HERE / "pocsag.h").read_text())[1]
+
+
+def package_file(prefix, libdir, includedir):
+    """The file by which pkg-config finds the library, with paths relative to its own."""
+    text = (HERE / "pocsag.pc.in").read_text()
+    for name, value in (("PREFIX", prefix), ("LIBDIR", libdir), ("INCLUDEDIR", includedir), ("VERSION", version())):
+        text = text.replace(f"@{name}@", value)
+    return text
+
+
+def make(folder):
     folder.mkdir(parents=True, exist_ok=True)
     with tempfile.TemporaryDirectory() as room:
         joined = pathlib.Path(room) / "libpocsag.a"
@@ -50,23 +66,22 @@ def make(folder, prefix):
         shared = pathlib.Path(room) / SONAME
         run("cc", "-shared", "-o", shared, f"-Wl,-soname,{SONAME}", f"-Wl,--version-script={HERE / 'pocsag.map'}",
             "-Wl,--whole-archive", joined, "-Wl,--no-whole-archive", "-Wl,--no-undefined", "-Wl,-z,relro,-z,now", "-lc")
-        for file in (joined, shared):
+        for file in (joined, shared, HERE / "pocsag.h", HERE / "pocsag.py"):
             shutil.copy(file, folder / file.name)
     link = folder / "libpocsag.so"
     link.unlink(missing_ok=True)
     link.symlink_to(SONAME)
-    shutil.copy(HERE / "pocsag.h", folder / "pocsag.h")
-    (folder / "pocsag.pc").write_text((HERE / "pocsag.pc.in").read_text().replace("@PREFIX@", prefix))
+    (folder / "pocsag.pc").write_text(package_file("${pcfiledir}", "${prefix}", "${prefix}"))
 
 
 def main(words):
-    if len(words) not in (1, 2) or words[0].startswith("-"):
+    if len(words) != 1 or words[0].startswith("-"):
         print(__doc__, file=sys.stderr)
         return 2
     built = subprocess.run([sys.executable, TOP / "tools/build.py", CRATE.name])
     if built.returncode or not MADE.is_file():
         return 1
-    make(pathlib.Path(words[0]), *words[1:] or ["/usr/local"])
+    make(pathlib.Path(words[0]))
     return 0
 
 

@@ -6,9 +6,15 @@
  *           is written. The caller owns all of it; the library keeps no pointer after it returns.
  * Lengths.  In bytes. Where a text goes into a buffer, its length is told through `..._len`. Where the buffer is too
  *           small, the length that is wanted is told all the same and nothing is written, so the first call may give a
- *           buffer of 0 bytes. Behind a text the buffer is as it was.
+ *           buffer of 0 bytes. Behind a text the buffer is as it was. pocsag_plan_bound gives sizes that always
+ *           suffice for a plan, so that its search need not be made twice.
+ * Numbers.  A limit, end, rate, form or address that is none of those allowed is a fault; `always` may be any number.
+ * Order.    A call answers the first fault in this order. pocsag_plan: end, limit, page file, search, size of `tx`, size
+ *           of `cert`. pocsag_report: end, page file, limit, search, rate. pocsag_check: page file, certificate.
+ *           pocsag_explain: form, page file, certificate, size of `text`. pocsag_decode: transmission, size of
+ *           `listing`; pocsag_hear: before them the address. Where memory is wanting, that may come first.
  * Memory.   A call takes memory with malloc and realloc, and has freed all of it when it returns. Where it is
- *           refused, the status is POCSAG_OUT_OF_MEMORY and no buffer was written.
+ *           refused, the status is POCSAG_OUT_OF_MEMORY and no buffer was written. @MEMORY@
  * Stack.    Give each thread that calls 2 MiB: a hostile certificate makes a check as deep as 300 nodes.
  * Threads.  The library keeps no state: any number of threads may call at one time, with buffers of their own. No
  *           call from a signal handler, nor in a child of fork where the parent had several threads.
@@ -21,6 +27,13 @@
 
 #ifdef __cplusplus
 extern "C" {
+#endif
+
+/* What a call promises the compiler: no pointer is null, and the status is looked at. */
+#if defined(__GNUC__)
+#define POCSAG_CALL __attribute__((nonnull, warn_unused_result))
+#else
+#define POCSAG_CALL
 #endif
 
 /* The number of this interface, which pocsag_version answers. */
@@ -38,7 +51,8 @@ extern "C" {
 /* How deep the nodes are that the program tells where no depth is given; the root alone has depth 1. */
 #define POCSAG_DEFAULT_DEPTH 3u
 
-/* The node limit that the program takes where none is given, and the greatest one. */
+/* The node limit that the program takes where none is given, and the greatest one. A search for one batch less first
+ * looks at up to 20,000 nodes for an order of the pages, which the limit does not count. */
 #define POCSAG_DEFAULT_LIMIT 100000u
 #define POCSAG_GREATEST_LIMIT 1000000u
 
@@ -134,41 +148,106 @@ uint32_t pocsag_version(void);
 /* Plans the page file `pages` and puts the transmission into `tx` and the certificate into `cert`. `limit` is the
  * most nodes of the search, 1 to 1,000,000. Where `always` is not 0, no round is refused: the batches may be one more
  * than the bound. OK: both stand there. TX_TOO_SMALL, CERT_TOO_SMALL: both lengths are told. Else: both are 0. */
-uint32_t pocsag_plan(const uint8_t *pages, size_t pages_len,
-                     uint8_t *tx, size_t tx_size, size_t *tx_len,
-                     uint8_t *cert, size_t cert_size, size_t *cert_len,
-                     uint32_t limit, uint32_t end, uint32_t always,
-                     struct pocsag_plan_info *info);
+POCSAG_CALL uint32_t pocsag_plan(const uint8_t *pages, size_t pages_len,
+                                 uint8_t *tx, size_t tx_size, size_t *tx_len,
+                                 uint8_t *cert, size_t cert_size, size_t *cert_len,
+                                 uint32_t limit, uint32_t end, uint32_t always,
+                                 struct pocsag_plan_info *info);
 
 /* Whether the certificate shows its number of batches for the page file: OK or NOT_SHOWN. */
-uint32_t pocsag_check(const uint8_t *pages, size_t pages_len,
-                      const uint8_t *cert, size_t cert_len,
-                      struct pocsag_check_info *info);
+POCSAG_CALL uint32_t pocsag_check(const uint8_t *pages, size_t pages_len,
+                                  const uint8_t *cert, size_t cert_len,
+                                  struct pocsag_check_info *info);
 
 /* Judges the certificate for the page file as pocsag_check does, OK or NOT_SHOWN, and puts into `text` why fewer batches
  * do not suffice, by the nodes no deeper than `depth`, or which node does not hold. `form` is POCSAG_IN_WORDS or
  * POCSAG_AS_JSON. TEXT_TOO_SMALL: the length and `info` are told. Else: the length is 0. */
-uint32_t pocsag_explain(const uint8_t *pages, size_t pages_len,
-                        const uint8_t *cert, size_t cert_len,
-                        uint32_t form, uint32_t depth,
-                        uint8_t *text, size_t text_size, size_t *text_len,
-                        struct pocsag_check_info *info);
+POCSAG_CALL uint32_t pocsag_explain(const uint8_t *pages, size_t pages_len,
+                                    const uint8_t *cert, size_t cert_len,
+                                    uint32_t form, uint32_t depth,
+                                    uint8_t *text, size_t text_size, size_t *text_len,
+                                    struct pocsag_check_info *info);
 
 /* Puts the listing of the pages of a transmission into `listing`. */
-uint32_t pocsag_decode(const uint8_t *tx, size_t tx_len,
-                       uint8_t *listing, size_t listing_size, size_t *listing_len,
-                       struct pocsag_place *place);
+POCSAG_CALL uint32_t pocsag_decode(const uint8_t *tx, size_t tx_len,
+                                   uint8_t *listing, size_t listing_size, size_t *listing_len,
+                                   struct pocsag_place *place);
 
 /* Puts the listing of what the pager of the address shows of a transmission into `listing`. */
-uint32_t pocsag_hear(uint32_t address, const uint8_t *tx, size_t tx_len,
-                     uint8_t *listing, size_t listing_size, size_t *listing_len,
-                     struct pocsag_place *place);
+POCSAG_CALL uint32_t pocsag_hear(uint32_t address, const uint8_t *tx, size_t tx_len,
+                                 uint8_t *listing, size_t listing_size, size_t *listing_len,
+                                 struct pocsag_place *place);
 
 /* Plans the page file as pocsag_plan does, and tells what the plan takes on the air at a rate of 512, 1200 or 2400 bits
  * a second. */
-uint32_t pocsag_report(const uint8_t *pages, size_t pages_len,
-                       uint32_t rate, uint32_t limit, uint32_t end, uint32_t always,
-                       struct pocsag_report_info *info);
+POCSAG_CALL uint32_t pocsag_report(const uint8_t *pages, size_t pages_len,
+                                   uint32_t rate, uint32_t limit, uint32_t end, uint32_t always,
+                                   struct pocsag_report_info *info);
+
+/* What a status says, in the words of the program; the place says where. It is never null. */
+static inline const char *pocsag_status_text(uint32_t status)
+{
+    switch (status) {
+    case POCSAG_OK: return "done";
+    case POCSAG_NOT_SHOWN: return "not shown";
+    case POCSAG_BAD_END: return "the end must be 0, 1 or 2";
+    case POCSAG_OUT_OF_MEMORY: return "out of memory";
+    case POCSAG_BAD_RATE: return "the rate must be 512, 1200 or 2400";
+    case POCSAG_BAD_LIMIT: return "the limit must be 1 to 1000000";
+    case POCSAG_SEARCH_LIMIT: return "search limit reached";
+    case POCSAG_TX_TOO_SMALL: return "the buffer of the transmission is too small";
+    case POCSAG_CERT_TOO_SMALL: return "the buffer of the certificate is too small";
+    case POCSAG_LISTING_TOO_SMALL: return "the buffer of the listing is too small";
+    case POCSAG_TEXT_TOO_SMALL: return "the buffer of the text is too small";
+    case POCSAG_BAD_FORM: return "the form must be 0 or 1";
+    case POCSAG_PAGES_TOO_LARGE: return "the file is too large";
+    case POCSAG_BAD_HEADER: return "the header must be address,kind,message";
+    case POCSAG_FIELD_COUNT: return "three fields are wanted";
+    case POCSAG_BAD_ADDRESS: return "bad address";
+    case POCSAG_RESERVED_ADDRESS: return "reserved address";
+    case POCSAG_BAD_KIND: return "unknown kind";
+    case POCSAG_MESSAGE_FOR_TONE: return "a tone page has no message";
+    case POCSAG_EMPTY_MESSAGE: return "the message is empty";
+    case POCSAG_BAD_CHARACTER: return "bad character";
+    case POCSAG_TOO_LONG: return "the message is too long";
+    case POCSAG_DUPLICATE_ADDRESS: return "the address is already there";
+    case POCSAG_TOO_MANY_PAGES: return "too many pages";
+    case POCSAG_BAD_PAYLOAD: return "bad payload";
+    case POCSAG_NO_PAGES: return "there are no pages";
+    case POCSAG_NOT_CERTIFICATE: return "not a certificate";
+    case POCSAG_CERT_VERSION: return "unknown certificate version";
+    case POCSAG_CERT_TRUNCATED: return "the certificate is cut short";
+    case POCSAG_CERT_TRAILING: return "bytes after the certificate";
+    case POCSAG_CERT_BAD_TAG: return "the certificate is malformed";
+    case POCSAG_CERT_BAD_FIELD: return "the certificate is malformed";
+    case POCSAG_CERT_TOO_DEEP: return "the certificate is too deep";
+    case POCSAG_CERT_TOO_MANY: return "the certificate has too many nodes";
+    case POCSAG_SHORT_PREAMBLE: return "the preamble is too short";
+    case POCSAG_NO_SYNC: return "no synchronisation codeword";
+    case POCSAG_BAD_WORD: return "not a codeword";
+    case POCSAG_ORPHAN: return "a message without an address";
+    case POCSAG_TRUNCATED: return "the transmission is cut short";
+    case POCSAG_NO_BATCH: return "the transmission has no batch";
+    case POCSAG_PAGER_BAD_ADDRESS: return "bad address";
+    case POCSAG_PAGER_RESERVED_ADDRESS: return "reserved address";
+    default: return "unknown status";
+    }
+}
+
+/* Sizes of `tx` and `cert` that suffice for the plan of any page file of so many bytes with this node limit.
+ * A record has 9 bytes or more, the last one 8, behind a header of 21; there are at most 20,000 pages. A page takes at
+ * most 7 codewords for 20 bytes of its record, and in file order waits at most 14 codewords for its frame. The fewest
+ * batches are no more than these, one codeword for the end, and one batch where no round is refused. A transmission has
+ * 72 bytes and 68 a batch. A certificate has 9 bytes; a node has at most 6 bytes with two children or more, 2 with one,
+ * and 3 with none, so that n nodes have at most (9n - 3) / 2; and its nodes are within the limit. */
+static inline void pocsag_plan_bound(size_t pages_len, uint32_t limit, size_t *tx_size, size_t *cert_size)
+{
+    uint64_t most = pages_len < 268435456u ? pages_len : 268435456u, records = most > 20 ? most - 20 : 0;
+    uint64_t pages = records / 9 < 20000 ? records / 9 : 20000;
+    uint64_t nodes = limit < 1 ? 1 : limit < POCSAG_GREATEST_LIMIT ? limit : POCSAG_GREATEST_LIMIT;
+    *tx_size = (size_t)(72 + 68 * ((records * 7 / 20 + 14 * pages) / 16 + 2));
+    *cert_size = (size_t)(9 + (9 * nodes - 3) / 2);
+}
 
 #ifdef __cplusplus
 }

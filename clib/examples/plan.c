@@ -4,16 +4,29 @@
 
 #include "pocsag.h"
 
+/* All the bytes of a file, or NULL. */
 static uint8_t *read_file(const char *name, size_t *len)
 {
     FILE *file = fopen(name, "rb");
-    if (file == NULL)
-        return NULL;
-    uint8_t *bytes = malloc(1 << 20);
-    if (bytes != NULL)
-        *len = fread(bytes, 1, 1 << 20, file);
-    fclose(file);
-    return bytes;
+    uint8_t *bytes = NULL;
+    size_t room = 0;
+    *len = 0;
+    while (file != NULL && !feof(file) && !ferror(file)) {
+        if (*len == room) {
+            uint8_t *more = realloc(bytes, room = 2 * room + 4096);
+            if (more == NULL)
+                break;
+            bytes = more;
+        }
+        *len += fread(bytes + *len, 1, room - *len, file);
+    }
+    int is_whole = file != NULL && feof(file) && !ferror(file);
+    if (file != NULL)
+        fclose(file);
+    if (is_whole)
+        return bytes;
+    free(bytes);
+    return NULL;
 }
 
 int main(int argc, char **argv)
@@ -25,21 +38,17 @@ int main(int argc, char **argv)
     if (pages == NULL || pocsag_version() != POCSAG_VERSION)
         return 2;
 
-    /* How long the two texts are, and then the texts. */
-    uint8_t none;
-    uint32_t status = pocsag_plan(pages, pages_len, &none, 0, &tx_len, &none, 0, &cert_len,
-                                  POCSAG_DEFAULT_LIMIT, POCSAG_END_OPEN, 0, &info);
-    if (status != POCSAG_TX_TOO_SMALL) {
-        printf("status %u, record %u\n", status, info.place.record_number);
-        return 1;
-    }
-    uint8_t *tx = malloc(tx_len), *cert = malloc(cert_len);
+    size_t tx_size, cert_size;
+    pocsag_plan_bound(pages_len, POCSAG_DEFAULT_LIMIT, &tx_size, &cert_size);
+    uint8_t *tx = malloc(tx_size), *cert = malloc(cert_size);
     if (tx == NULL || cert == NULL)
         return 3;
-    status = pocsag_plan(pages, pages_len, tx, tx_len, &tx_len, cert, cert_len, &cert_len,
-                         POCSAG_DEFAULT_LIMIT, POCSAG_END_OPEN, 0, &info);
-    if (status != POCSAG_OK)
+    uint32_t status = pocsag_plan(pages, pages_len, tx, tx_size, &tx_len, cert, cert_size, &cert_len,
+                                  POCSAG_DEFAULT_LIMIT, POCSAG_END_OPEN, 0, &info);
+    if (status != POCSAG_OK) {
+        printf("%s, record %u\n", pocsag_status_text(status), info.place.record_number);
         return 1;
+    }
     printf("pages %u\nbatches %u\ntransmission %zu bytes, certificate %zu bytes\n",
            info.pages, info.batches, tx_len, cert_len);
 

@@ -4,6 +4,7 @@
 The completions are compared with the help of the program. The last line is 'N passed, M failed'.
 """
 
+import os
 import pathlib
 import re
 import shutil
@@ -16,7 +17,12 @@ sys.path.insert(0, str(pathlib.Path(__file__).resolve().parents[1]))
 from tally import PROGRAM, TOP, Tally, as_nobody
 
 PLACES = ["bin/pocsag", "share/man/man1/pocsag.1", "share/bash-completion/completions/pocsag"]
-LIBRARY = ["lib/libpocsag.a", "lib/libpocsag.so.1", "lib/pkgconfig/pocsag.pc", "include/pocsag.h", "lib/libpocsag.so"]
+# The Python that runs `install` has the module in its own folder.
+PYTHON = shutil.which("python3")
+WORDS = [PYTHON, "-c", "import sys; print(*sys.version_info[:2], sep='.')"]
+MODULE = f"lib/python{subprocess.run(WORDS, capture_output=True, text=True).stdout.strip()}/site-packages/pocsag.py"
+PACKAGE = "lib/pkgconfig/pocsag.pc"
+LIBRARY = ["lib/libpocsag.a", "lib/libpocsag.so.1", "include/pocsag.h", MODULE, PACKAGE, "lib/libpocsag.so"]
 COMMANDS = ["plan", "check", "explain", "decode", "hear", "show", "open", "report"]
 # Options with a value, and what is offered for it.
 VALUES = {"--end": {"open", "closed"}, "--rate": {"512", "1200", "2400"}, "--limit": set(), "--expect": set()}
@@ -72,7 +78,58 @@ def try_library(tally, folder):
     environment = {"PATH": "/usr/bin:/bin", "LD_LIBRARY_PATH": str(prefix / "lib")}
     ran = subprocess.run([str(folder / "plan"), str(TOP / "examples/round.csv")], capture_output=True, text=True, env=environment)
     tally.check("and runs", ran.returncode == 0 and ran.stdout.startswith("pages 6\nbatches 2\n"), ran)
-    tally.check("its folder stands in the package's file", f"prefix={prefix}\n" in (prefix / "lib/pkgconfig/pocsag.pc").read_text())
+    try_moved(tally, folder)
+
+
+def python(folder, prefix, path):
+    """What Python prints of a plan by the installed module, as a user with no rights here."""
+    script = "import pocsag; plan = pocsag.Pocsag().plan(bytearray(open('room/round.csv', 'rb').read())); print(plan.batches)"
+    environment = {"PATH": "/usr/bin:/bin", "PYTHONPATH": str(prefix / path), "PYTHONDONTWRITEBYTECODE": "1"}
+    return subprocess.run([*as_nobody(folder), python_of_system(), "-c", script], capture_output=True, text=True, cwd=folder, env=environment)
+
+
+def python_of_system():
+    """A Python that anybody may run."""
+    return "/usr/bin/python3" if pathlib.Path("/usr/bin/python3").exists() else PYTHON
+
+
+def try_moved(tally, folder):
+    """What is installed still finds itself where its folder is moved as a whole."""
+    prefix, moved = folder / "prefix", folder / "moved"
+    tally.check("Python plans by the installed module", python(folder, prefix, pathlib.Path(MODULE).parent).stdout == "2\n", python(folder, prefix, pathlib.Path(MODULE).parent))
+    shutil.copytree(prefix, moved, symlinks=True)
+    ran = python(folder, moved, pathlib.Path(MODULE).parent)
+    tally.check("and so from another folder", ran.stdout == "2\n", ran)
+    text = (moved / PACKAGE).read_text()
+    version = re.search(r"#define POCSAG_VERSION (\d+)u", (moved / "include/pocsag.h").read_text())[1]
+    tally.check("the package has the number of the interface", f"Version: {version}\n" in text, text)
+    tally.check("and no folder of this machine", "prefix=${pcfiledir}/../..\n" in text and str(prefix) not in text, text)
+    if shutil.which("pkg-config"):
+        environment = {"PATH": "/usr/bin:/bin", "PKG_CONFIG_PATH": str((moved / PACKAGE).parent)}
+        told = subprocess.run(["pkg-config", "--cflags", "--libs", "pocsag"], capture_output=True, text=True, env=environment)
+        folders = [pathlib.Path(word[2:]).resolve() for word in told.stdout.split()[:2]]
+        tally.check("pkg-config finds the moved folder", folders == [moved / "include", moved / "lib"], told)
+    shutil.rmtree(moved)
+
+
+def try_loader(tally, folder):
+    """The loader is told of a library where that may be, and else the line that is needed is printed."""
+    told = folder / "told"
+    fake = folder / "commands"
+    fake.mkdir()
+    (fake / "ldconfig").write_text(f"#!/bin/sh\necho \"$@\" >> '{told}'\n")
+    (fake / "ldconfig").chmod(0o755)
+    prefix = folder / "prefix"
+    environment = {**os.environ, "PATH": f"{fake}:{os.environ['PATH']}"}
+    ran = subprocess.run([str(TOP / "install"), str(prefix)], capture_output=True, text=True, env=environment, timeout=600)
+    lines = [f"export {name}={prefix / path}" for name, path in (("LD_LIBRARY_PATH", "lib"), ("PYTHONPATH", pathlib.Path(MODULE).parent), ("PKG_CONFIG_PATH", "lib/pkgconfig"))]
+    tally.check("the lines that are needed are printed", ran.returncode == 0 and all(line in ran.stderr for line in lines), ran.stderr)
+    tally.check("the loader's list of another folder is left", "\n\n" not in f"\n{told.read_text()}" if told.exists() else True, told)
+    script = "import importlib.machinery as m, pathlib, sys; i = m.SourceFileLoader('i', sys.argv[1]).load_module(); [i.list_for_loader(pathlib.Path(p)) for p in sys.argv[2:]]"
+    told.unlink(missing_ok=True)
+    ran = subprocess.run([PYTHON, "-W", "ignore", "-c", script, str(TOP / "install"), "/usr/local", str(prefix)], capture_output=True, text=True, env=environment)
+    calls = told.read_text().split("\n") if told.exists() else [""]
+    tally.check("and the loader is asked once below /usr/local by root alone", ran.returncode == 0 and len(calls) - 1 == (os.geteuid() == 0), (ran, calls))
 
 
 def try_again(tally, folder):
@@ -142,7 +199,7 @@ def try_completions(tally, _folder):
 def main():
     tally = Tally()
     with tempfile.TemporaryDirectory() as name:
-        for part in (try_installed, try_library, try_again, try_refused, try_completions):
+        for part in (try_installed, try_library, try_loader, try_again, try_refused, try_completions):
             part(tally, pathlib.Path(name).resolve())
     return tally.end()
 

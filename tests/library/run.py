@@ -20,9 +20,10 @@ import sys
 sys.dont_write_bytecode = True
 HERE = pathlib.Path(__file__).resolve().parent
 TOP = HERE.parents[1]
-sys.path[:0] = [str(HERE.parent), str(TOP / "clib"), str(TOP / "clib/examples")]
+sys.path[:0] = [str(HERE.parent), str(TOP / "clib"), str(HERE.parent / "certificates")]
 import make
 import pocsag
+import trees
 from tally import ENDS, PROGRAM, run_parts
 
 EXAMPLES = TOP / "clib/examples"
@@ -214,6 +215,150 @@ def try_faults(tally, library):
     tally.check("a form that is none", type(fault) is pocsag.BadForm, fault)
 
 
+def raises(kind, call, *words, **named):
+    try:
+        call(*words, **named)
+    except kind:
+        return True
+    return False
+
+
+def try_numbers(tally, library):
+    """Numbers that C does not take are told, none is taken for another; and what else holds bytes is read."""
+    call, sample = library.pocsag, ROUND.read_bytes()
+    plan = call.plan(sample)
+    for number in (2**32 + 8, 2**64 + 8, -(2**32) + 8, -1):
+        fault = attempt(call.hear, number, plan.transmission)
+        tally.check(f"the pager {number}", type(fault) is pocsag.PagerBadAddress, fault)
+    for name, wanted, words, given in (
+        ("limit", pocsag.BadLimit, (call.plan, sample), dict(limit=2**32 + 1)),
+        ("end", pocsag.BadEnd, (call.plan, sample), dict(end=2**32)),
+        ("limit of a report", pocsag.BadLimit, (call.report, sample, 1200), dict(limit=-1)),
+        ("rate", pocsag.BadRate, (call.report, sample, 2**32 + 512), {}),
+        ("form", pocsag.BadForm, (call.explain, sample, plan.certificate), dict(form=2**32)),
+    ):
+        fault = attempt(*words, **given)
+        tally.check(f"no {name} is taken for another", type(fault) is wanted, fault)
+    tally.check("a depth below 0", raises(ValueError, call.explain, sample, plan.certificate, depth=-1))
+    tally.check("a size below 0", raises(ValueError, call.plan, sample, sizes=(-1, 9)))
+    tally.check("any number is for always", call.plan(sample, always=2**32).batches == plan.batches)
+    tally.check("no number at all", raises(TypeError, call.plan, sample, limit="9") and raises(TypeError, call.hear, 1.5, b""))
+    for kind in (bytearray, memoryview, lambda data: memoryview(data)[:]):
+        alike = call.plan(kind(sample)) == plan and call.check(kind(sample), kind(plan.certificate)).is_shown
+        alike = alike and call.decode(kind(plan.transmission)) == call.decode(plan.transmission)
+        tally.check("other bytes are read alike", alike, kind)
+    tally.check("no bytes", raises(TypeError, call.plan, sample.decode()) and raises(TypeError, call.decode, 5))
+    fault = attempt(call.plan, b"address,kind,message\n8,numeric,12x4\n")
+    tally.check("a fault tells record and place", str(fault) == "record 1: bad character at 2", str(fault))
+
+
+def try_header(tally, folder, room):
+    """What stands in the header alone: the texts of statuses, sizes that suffice, and what a compiler warns of."""
+    sized = room / "sized"
+    built = run("cc", "-std=c11", "-Wall", "-Wextra", "-Werror", HERE / "header.c", f"-I{folder}", "-o", sized)
+    tally.check("the header's own functions are compiled", built.returncode == 0, built.stderr)
+    told = run(sized, "texts").stdout.decode().splitlines()
+    wanted = {number: re.sub(r"^(record|batch|codeword) \{\w+\}: | at \{at\}$|: at least .*$", "", text) for number, text in SAID.items()}
+    texts = dict(line.split(" ", 1) for line in told)
+    wrong = [(number, text) for number, text in wanted.items() if texts.get(str(number)) != text]
+    tally.check("a status has the program's text", not wrong and len(texts) == 100, wrong)
+    unknown = {number for number, text in texts.items() if text == "unknown status"}
+    tally.check("each status of a fault has one", not {str(number) for number in pocsag.NAMES} & unknown, unknown)
+    for name, line, flag in (("a status that is dropped", "pocsag_decode(b, 1, b, 1, &n, &p);", "unused-result"),
+                             ("a null pointer", "return (int)pocsag_decode(NULL, 0, b, 1, &n, &p);", "nonnull")):
+        (room / "warned.c").write_text(f'#include "pocsag.h"\nint main(void) {{ uint8_t b[1] = {{0}}; size_t n; struct pocsag_place p; {line} return 0; }}\n')
+        built = run("cc", "-Wall", f"-Werror={flag}", "-c", room / "warned.c", f"-I{folder}", "-o", room / "warned.o")
+        tally.check(f"the compiler warns of {name}", built.returncode and flag.encode() in built.stderr, built.stderr)
+
+
+def crowded_files():
+    """Page files whose plans are long for their bytes."""
+    frame = [8 * number for number in range(1, 20_001)]
+    lines = [f"{address},tone{number % 4}," for number, address in enumerate(frame)]
+    yield from (lines[:count] for count in (1, 2, 3, 100, 2_500, 20_000))
+    yield from ([f"{address},alpha,{'a' * length}" for address in frame[:count]] for length in (1, 3, 6, 57, 4_000) for count in (1, 40))
+    yield from ([f"{address},numeric,{'1' * length}" for address in frame[:count]] for length in (1, 6, 4_000) for count in (1, 40))
+    yield [f"{address},tone0," for address in range(1, 8)]
+
+
+def try_bound(tally, library, room):
+    """No plan is longer than the header says of so many bytes, nor has its certificate more than the limit allows."""
+    wrong, number = [], 0
+    for lines in crowded_files():
+        for ending in ("", "\n"):
+            data = ("\n".join(["address,kind,message", *lines]) + ending).encode()
+            for end in WORDS:
+                sizes = [int(word) for word in run(room / "sized", len(data), 1_000).stdout.split()]
+                plan = attempt(library.pocsag.plan, data, limit=1_000, end=end, always=True, sizes=sizes)
+                number += 1
+                fits = isinstance(plan, pocsag.Plan) and len(plan.transmission) <= sizes[0] and len(plan.certificate) <= sizes[1]
+                in_order = isinstance(plan, pocsag.Plan) and 72 + 68 * (plan.in_order + 2) <= sizes[0]
+                wrong += [(len(data), lines[0][:20], sizes)] * (not (fits and in_order))
+    tally.check(f"{number} plans fit where the header says so", not wrong, wrong[:4])
+
+
+def deep_certificates():
+    """Certificates of 300 levels for a round of many tones, by the kind of the nodes: accepted ones, and others."""
+    pages = "".join(["address,kind,message\n", *(f"{8 * number + 1},tone0,\n" for number in range(1, 401))]).encode()
+    held, loose = trees.overload(0b1100), trees.overload(1)
+    for kind in ("splits", "cuts", "closes", "late splits"):
+        for leaf in (held, loose):
+            tree = leaf
+            for level in range(299, 0, -1):
+                if kind == "splits":
+                    tree = trees.SPLIT, 0, 17, level, (held, tree)
+                elif kind == "late splits":
+                    tree = trees.SPLIT, 0, 17, 401 - level, (tree, held)
+                elif kind == "cuts":
+                    tree = trees.CUT, 1, 17, 0, (held, tree)
+                else:
+                    tree = trees.CLOSE, 0, 0, 0, (tree,)
+            yield kind, leaf is held, pages, trees.certificate(trees.IDLE_END if kind == "closes" else 0, 12, tree)
+
+
+def try_stack(tally, folder, room):
+    """Each call does with the stack that the header names, also for certificates as deep as there are."""
+    text = (folder / "pocsag.h").read_text()
+    named = {name: int(size) for name, size in re.findall(r"#define POCSAG_(\w+)_STACK (\d+)u", text)}
+    built = run("cc", "-std=c11", "-O1", "-Wall", "-Wextra", HERE / "stack.c", folder / "libpocsag.a", f"-I{folder}", "-pthread", "-o", room / "stack")
+    tally.check("the calls on a stack of their own are built", built.returncode == 0 and len(named) == 4, (built.stderr, named))
+    used = dict.fromkeys(named, 0)
+    pages, cert = room / "deep.csv", room / "deep.cert"
+
+    def on_stack(call, size, wanted, what):
+        ran = run(room / "stack", call, named[size], pages, cert)
+        told = ran.stdout.split()
+        tally.check(f"{call} of {what} within {named[size]} bytes of stack", len(told) == 2 and int(told[0]) in wanted, (ran.returncode, told))
+        used[size] = max(used[size], int(told[1]) if len(told) == 2 else 0)
+
+    for kind, is_held, data, certificate in deep_certificates():
+        pages.write_bytes(data)
+        cert.write_bytes(certificate)
+        what = f"{'accepted' if is_held else 'refused'} {kind}"
+        on_stack("check", "CHECK", {int(not is_held)}, what)
+        on_stack("words", "EXPLAIN", {int(not is_held)}, what)
+        on_stack("json", "EXPLAIN", {int(not is_held)}, what)
+        told = run("bash", "-c", 'ulimit -s 2048; exec "$@"', "bash", PROGRAM, "explain", pages, cert)
+        tally.check(f"the program explains {what} with 2 MiB of stack", told.returncode == int(not is_held), (told.returncode, told.stderr))
+    for name, data in (("a sample", ROUND.read_bytes()), ("many tones", data)):
+        pages.write_bytes(data)
+        cert.write_bytes(pocsag.Pocsag(str(folder / make.SONAME)).plan(data).transmission)
+        on_stack("plan", "PLAN", {0}, name)
+        on_stack("report", "PLAN", {0}, name)
+        on_stack("decode", "LISTING", {0}, name)
+        on_stack("hear", "LISTING", {0}, name)
+    print("stack used:", used)
+
+
+def try_large(tally, room):
+    """The example in C reads to the end: 20,000 pages in more than a mebibyte."""
+    lines = [f"{8 + number},alpha,{number:060}" for number in range(20_000)]
+    file = room / "large.csv"
+    file.write_text("\n".join(["address,kind,message", *lines, ""]))
+    ran = run(room / "plan", file)
+    tally.check("the example in C reads a large file whole", ran.stdout.startswith(b"pages 20000\n"), ran.stdout)
+
+
 def try_reports(tally, library):
     """The seven numbers of the sample round, as the program prints them."""
     names = pocsag.Report._fields[:-1]
@@ -249,24 +394,30 @@ def try_symbols(tally, folder):
     told = run("nm", "-D", "--defined-only", folder / make.SONAME).stdout.decode().split("\n")
     names = {line.split()[2].split("@")[0] for line in told if len(line.split()) == 3 and line.split()[1] == "T"}
     tally.check("the calls alone are seen", names == CALLS, names ^ CALLS)
+    told = run("nm", "--defined-only", "--extern-only", folder / "libpocsag.a").stdout.decode().split("\n")
+    names = {line.split()[2] for line in told if len(line.split()) == 3}
+    tally.check("and so in the archive", names == CALLS, names ^ CALLS)
     told = run("readelf", "-d", folder / make.SONAME).stdout
     tally.check("it has its name", make.SONAME.encode() in told and b"TEXTREL" not in told, told)
 
 
 def try_examples(tally, folder, room):
     wanted = re.search(r"```\n(pages 6\n.*?)```", (TOP / "docs/LIBRARY.md").read_text(), re.DOTALL)[1].encode()
-    beside = {**os.environ, "LD_LIBRARY_PATH": str(folder), "PYTHONDONTWRITEBYTECODE": "1"}
+    beside = {**os.environ, "LD_LIBRARY_PATH": str(folder), "PYTHONPATH": str(folder), "PYTHONDONTWRITEBYTECODE": "1"}
     flags = ["-std=c11", "-Wall", "-Wextra", "-Werror", f"-I{folder}"]
     built = run("cc", *flags, EXAMPLES / "plan.c", folder / "libpocsag.a", "-o", room / "plan")
     tally.check("the example in C, with the archive", run(room / "plan", ROUND).stdout == wanted, built.stderr)
     built = run("cc", *flags, EXAMPLES / "plan.c", f"-L{folder}", "-lpocsag", "-o", room / "plan_shared")
     ran = run(room / "plan_shared", ROUND, env=beside)
     tally.check("the example in C, with the shared library", ran.stdout == wanted, (built.stderr, ran))
-    ran = run(sys.executable, EXAMPLES / "plan.py", folder / make.SONAME, ROUND, env=beside)
+    ran = run(sys.executable, EXAMPLES / "plan.py", ROUND, env={**beside, "LD_LIBRARY_PATH": ""})
     tally.check("the example in Python", ran.stdout == wanted, ran)
+    try_large(tally, room)
     if shutil.which("c++"):
-        (room / "plan.cc").write_text('#include "pocsag.h"\nint main() { return pocsag_version() == POCSAG_VERSION ? 0 : 1; }\n')
-        built = run("c++", "-Wall", "-Werror", f"-I{folder}", room / "plan.cc", folder / "libpocsag.a", "-o", room / "plan_cc")
+        lines = ['#include "pocsag.h"', "int main() {", "size_t tx, cert;", "pocsag_plan_bound(0, 1, &tx, &cert);"]
+        lines += ["return pocsag_version() == POCSAG_VERSION && tx == 208 && cert == 12 && *pocsag_status_text(0) == 'd' ? 0 : 1;", "}", ""]
+        (room / "plan.cc").write_text("\n".join(lines))
+        built = run("c++", "-Wall", "-Wextra", "-Werror", f"-I{folder}", room / "plan.cc", folder / "libpocsag.a", "-o", room / "plan_cc")
         tally.check("the header in C++", built.returncode == 0 and run(room / "plan_cc").returncode == 0, built.stderr)
     if shutil.which("rustc"):
         built = run("rustc", "--edition", "2021", EXAMPLES / "plan.rs", "-L", folder, "-l", "dylib=pocsag", "-o", room / "plan_rs")
@@ -285,8 +436,8 @@ def try_page(tally, folder, room):
     ran = run(room / "first") if built.returncode == 0 else built
     tally.check("the first plan in C", ran.stdout == b"status 0, 1 batches, 140 bytes\n", ran)
     (room / "first.py").write_text(blocks["python"].replace("FOLDER", str(folder)))
-    ran = run(sys.executable, room / "first.py", env={**os.environ, "PYTHONPATH": str(EXAMPLES), "PYTHONDONTWRITEBYTECODE": "1"})
-    tally.check("the first plan in Python", ran.stdout == b"1 140\naddress,kind,message\n8,tone0,\n\nBadKind 1\n", ran)
+    ran = run(sys.executable, room / "first.py", env={**os.environ, "PYTHONPATH": str(folder), "PYTHONDONTWRITEBYTECODE": "1"})
+    tally.check("the first plan in Python", ran.stdout == b"1 140\naddress,kind,message\n8,tone0,\n\nrecord 1: unknown kind\n", ran)
 
 
 def ways_to_try():
@@ -357,7 +508,7 @@ def try_other_compiler(tally, room, library):
         tally.check("the other compiler makes a library", is_other, built.stdout[-2000:])
         if not is_other:
             return
-        make.make(folder, "/usr/local")
+        make.make(folder)
     finally:
         shutil.copy2(kept, make.MADE)
     try_symbols(tally, folder)
@@ -368,10 +519,14 @@ def try_other_compiler(tally, room, library):
 
 def try_library(tally, room):
     folder = room / "library"
-    make.make(folder, "/usr/local")
+    make.make(folder)
     library = Library(folder, room)
     try_symbols(tally, folder)
     try_faults(tally, library)
+    try_numbers(tally, library)
+    try_header(tally, folder, room)
+    try_bound(tally, library, room)
+    try_stack(tally, folder, room)
     try_reports(tally, library)
     try_explanations(tally, library)
     try_examples(tally, folder, room)

@@ -4,6 +4,7 @@ ghost use Rattle.pocsag_commands.specs.Judging.{ExplainsJudging, IsNotShown};
 ghost use Rattle.pocsag_c.specs.Answers.{IsNotAccepted, TellsFault, IsShown, number_of_end};
 
 use crate::refusal::{NOWHERE, Place, refusal_of};
+use crate::source::page_source;
 use pocsag_commands::{CheckVerdict, judge_certificate};
 use pocsag_faults::Fault;
 use pocsag_words::{End, SliceSource};
@@ -58,7 +59,7 @@ fn judged(alloc: Global, pages: &[u8], cert: &[u8]) -> Result<CheckVerdict, Faul
         IsNotShown pages.now cert.now judged.end judged.batches) }
     ensures explained { IfErr result (ExplainsJudging pages.now cert.now) }
 {
-    let mut pages = SliceSource::new(pages);
+    let mut pages = page_source(pages)?;
     let mut cert = SliceSource::new(cert);
     judge_certificate(alloc, &mut pages, &mut cert)
 }

@@ -8,6 +8,7 @@ ghost use Rattle.pocsag_c.specs.Explaining.{IsJudgedAs, IsNoForm, IsTextGiven, I
 use crate::checking::{CheckInfo, NOT_JUDGED, info_of_judged};
 use crate::handing::hand_out;
 use crate::refusal::refusal_of;
+use crate::source::page_source;
 use pocsag_commands::{Explained, explain_certificate};
 use pocsag_faults::Fault;
 use pocsag_options::Telling;
@@ -34,7 +35,7 @@ fn explained(alloc: Global, telling: Telling, pages: &[u8], cert: &[u8]) -> Resu
         IsNotShown pages.now cert.now explained.judged.end explained.judged.batches) }
     ensures why { IfErr result (ExplainsUntold pages.now cert.now) }
 {
-    let mut pages = SliceSource::new(pages);
+    let mut pages = page_source(pages)?;
     let mut cert = SliceSource::new(cert);
     explain_certificate(alloc, telling, &mut pages, &mut cert)
 }

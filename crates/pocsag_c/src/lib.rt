@@ -13,6 +13,7 @@ mod planning;
 mod receiving;
 mod refusal;
 mod reporting;
+mod source;
 
 pub use checking::{CheckInfo, pocsag_check};
 pub use explaining::pocsag_explain;

@@ -9,11 +9,12 @@ ghost use Rattle.pocsag_c.specs.Plans.{ExplainsPlanning, HasNoRoomForBoth, IsCou
 
 use crate::handing::put;
 use crate::refusal::{NOWHERE, Place, refusal_of};
+use crate::source::page_source;
 use pocsag_faults::Fault;
 use pocsag_plan::{
     Bounded, Effort, Search, StreamFault, bounded_stream, tight_headlines_are_headlines,
 };
-use pocsag_words::{End, GrowingSink, SliceSource};
+use pocsag_words::{End, GrowingSink};
 use std::alloc::Global;
 
 /// What a plan tells; all but the place is 0 where there is none.
@@ -33,6 +34,9 @@ pub struct PlanInfo {
     /// Where the fault stands, and what the search knew at its limit.
     pub place: Place,
 }
+
+// The greatest node limit, which is judged before the page file.
+const GREATEST_LIMIT: u32 = 1_000_000;
 
 // A plan with the bytes that were written of it.
 #[derive(Drop)]
@@ -54,7 +58,10 @@ fn write_asked(alloc: Global, pages: &[u8], search: Search) -> Result<Written, S
     ensures explained { IfErr result (ExplainsStream search.effort pages.now search.end search.limit) }
 {
     tight_headlines_are_headlines();
-    let mut source = SliceSource::new(pages);
+    if search.limit == 0 || search.limit > GREATEST_LIMIT {
+        return Err(StreamFault::BadLimit);
+    }
+    let mut source = page_source(pages)?;
     let mut sent = GrowingSink::new(alloc);
     let mut certificate = GrowingSink::new(alloc);
     let bounded = bounded_stream(alloc, &mut source, &mut sent, &mut certificate, search)?;

@@ -5,10 +5,10 @@ ghost use Rattle.pocsag_c.specs.Reporting.{ExplainsReport, IsSearchStopped, Tell
 
 use crate::planning::{effort_of, end_of};
 use crate::refusal::{NOWHERE, Place, refusal_of};
+use crate::source::page_source;
 use pocsag_commands::{BoundedReport, report_file};
 use pocsag_faults::Fault;
 use pocsag_plan::{Effort, Search};
-use pocsag_words::SliceSource;
 use std::alloc::Global;
 
 /// What a plan takes on the air; all but the place is 0 where there is none.
@@ -42,7 +42,7 @@ fn reported(alloc: Global, pages: &[u8], rate: u32, search: Search) -> Result<Bo
     ensures explained { IfErr result (ExplainsReporting pages.now search rate) }
     ensures answered { search.effort ≡ Effort.Always → IfErr result (λ e. ¬ IsSearchStopped e) }
 {
-    let mut source = SliceSource::new(pages);
+    let mut source = page_source(pages)?;
     report_file(alloc, rate, search, &mut source)
 }
 

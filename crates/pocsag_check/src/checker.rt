@@ -2,12 +2,12 @@ ghost use Rattle.std.specs.Prelude.{◌≡◌, ◌↔◌, ◌<◌, ◌≤◌, Al
 ghost use Rattle.pocsag_slots.specs.Loads.{AreInOrder};
 ghost use Rattle.pocsag_slots.specs.Sums.{holds};
 ghost use Rattle.pocsag_slots.specs.Tours.{AsksForLast};
-ghost use Rattle.pocsag_slots.specs.Ways.{class_certain, limits_below, limits_from, MayTake, ways_across};
+ghost use Rattle.pocsag_slots.specs.Ways.{class_certain, limits_below, limits_from, MayTake, narrowed_limits, ways_across};
 ghost use Rattle.pocsag_tree.specs.Views.{bound_tree_of, bounds_of};
 ghost use Rattle.pocsag_check.specs.Accepting.{AcceptsEachWithin, AcceptsWithin};
 
 use pocsag_slots::{
-    CLASSES, Classes, Limits, Way, closing_ways, holds, is_certain, narrow, overloads, ways,
+    CLASSES, Classes, Limits, Way, closing_ways, holds, is_certain, overloads, ways,
 };
 use pocsag_tree::Tree;
 use pocsag_words::End;
@@ -62,7 +62,7 @@ fn closes(claim: &Claim) -> bool
 }
 
 /// Whether the node is accepted under the limits, at most this deep. It looks at nothing deeper. The
-/// limits are narrowed in place, and are put back behind each child.
+/// limits are narrowed in place and put back behind each child, so that a level takes little of the stack.
 #[cycle(checking)]
 pub(crate) fn check_node(claim: &Claim, limits: &mut Limits, tree: &Tree, depth: u32) -> bool
     requires { AreInOrder claim.now.classes.now limits.old }
@@ -152,34 +152,77 @@ fn check_from(claim: &Claim, limits: &mut Limits, at: Halving, tree: &Tree, dept
 // Whether each way out of the set has its node accepted. The room for the ways is cleared in here: at
 // the start of `check_node` it would be cleared for each node.
 #[cycle(checking)]
-fn check_cut(claim: &Claim, limits: &Limits, set: u16, children: &[Tree], depth: u32) -> bool
-    requires ordered { AreInOrder claim.now.classes.now limits.now }
+fn check_cut(claim: &Claim, limits: &mut Limits, set: u16, children: &[Tree], depth: u32) -> bool
+    requires ordered { AreInOrder claim.now.classes.now limits.old }
     requires batches { 0 < claim.now.batches }
-    ensures { IsTrue result ↔
+    ensures accepted { IsTrue result ↔
         AcceptsEachWithin claim.now.takes_open claim.now.classes.now claim.now.end claim.now.batches
-        limits.now depth (ways_across claim.now.classes.now limits.now set) (bounds_of children.now) }
+        limits.old depth (ways_across claim.now.classes.now limits.old set) (bounds_of children.now) }
+    ensures same_limits { limits.new ≡ limits.old }
 {
     let out = ways(claim.classes, limits, set, claim.batches);
     check_each(claim, limits, out.as_slice(), children, depth)
 }
 
 #[cycle(checking)]
-fn check_each(claim: &Claim, limits: &Limits, ways: &[Way], children: &[Tree], depth: u32) -> bool
-    requires ordered { AreInOrder claim.now.classes.now limits.now }
+fn check_each(
+    claim: &Claim,
+    limits: &mut Limits,
+    ways: &[Way],
+    children: &[Tree],
+    depth: u32,
+) -> bool
+    requires ordered { AreInOrder claim.now.classes.now limits.old }
     requires batches { 0 < claim.now.batches }
-    requires allowed { All (MayTake claim.now.classes.now limits.now) ways.now }
-    ensures { IsTrue result ↔
+    requires allowed { All (MayTake claim.now.classes.now limits.old) ways.now }
+    ensures accepted { IsTrue result ↔
         AcceptsEachWithin claim.now.takes_open claim.now.classes.now claim.now.end claim.now.batches
-        limits.now depth ways.now (bounds_of children.now) }
+        limits.old depth ways.now (bounds_of children.now) }
+    ensures same_limits { limits.new ≡ limits.old }
 {
     if ways.len() != children.len() {
         return false;
     }
     for (place, child) in children.iter().enumerate() {
-        let mut narrowed = narrow(claim.classes, limits, ways[place], claim.batches);
-        if !check_node(claim, &mut narrowed, child, depth) {
+        if !check_way(claim, limits, ways[place], child, depth) {
             return false;
         }
     }
     true
+}
+
+// Whether the node is accepted under the limits that the way leaves, as `narrow` has them.
+#[cycle(checking)]
+fn check_way(claim: &Claim, limits: &mut Limits, way: Way, tree: &Tree, depth: u32) -> bool
+    requires ordered { AreInOrder claim.now.classes.now limits.old }
+    requires batches { 0 < claim.now.batches }
+    requires way { MayTake claim.now.classes.now limits.old way }
+    ensures accepted { IsTrue result ↔
+        AcceptsWithin claim.now.takes_open claim.now.classes.now claim.now.end claim.now.batches
+        (narrowed_limits claim.now.classes.now limits.old way claim.now.batches) depth (bound_tree_of tree.now) }
+    ensures same_limits { limits.new ≡ limits.old }
+{
+    match way {
+        Way::IdleIn(slot) => {
+            let most = limits.cap[slot as usize];
+            limits.cap[slot as usize] = most.min(claim.batches - 1);
+            let accepted = check_node(claim, limits, tree, depth);
+            limits.cap[slot as usize] = most;
+            accepted
+        }
+        Way::Early(class) => {
+            let least = limits.lo[class as usize];
+            limits.lo[class as usize] = least.max(1);
+            let accepted = check_node(claim, limits, tree, depth);
+            limits.lo[class as usize] = least;
+            accepted
+        }
+        Way::Late(class) => {
+            let most = limits.hi[class as usize];
+            limits.hi[class as usize] = most.min(claim.classes.count[class as usize] - 1);
+            let accepted = check_node(claim, limits, tree, depth);
+            limits.hi[class as usize] = most;
+            accepted
+        }
+    }
 }

@@ -1,9 +1,12 @@
-ghost use Rattle.std.specs.Prelude.{◌≡◌, ◌+◌, ◌^◌, ◌<◌};
+ghost use Rattle.std.specs.Prelude.{◌≡◌, ◌+◌, ◌^◌, ◌<◌, ◌≤◌, IfOk, slice_index};
 ghost use Rattle.pocsag_slots.specs.declared.limit.Limits.{Limits};
+ghost use Rattle.pocsag_slots.specs.Loads.{AreInOrder};
+ghost use Rattle.pocsag_slots.specs.Ways.{limits_below, limits_from, MayTake, narrowed_limits};
+ghost use Rattle.pocsag_findings.specs.declared.finding.Reached.TheVariants.{Below, By, From};
 
 use crate::finding::Reached;
-use pocsag_slots::{Classes, Limits};
-use pocsag_words::End;
+use pocsag_slots::{Classes, Limits, Way, below_split, from_split, narrow};
+use pocsag_words::{End, OutOfMemory};
 use std::alloc::Global;
 
 // What the nodes are judged for, and how deep they are listed: the batches are one fewer than the certificate's.
@@ -24,16 +27,64 @@ pub(crate) struct Position {
     pub(crate) reached: Reached,
 }
 
+// Where the children of a node stand. Each position is made on the heap by a call of its own, so that a level of a
+// deep certificate takes little of the stack.
 impl Position {
-    // Where a child of the node stands.
-    pub(crate) fn child(&self, limits: Limits, reached: Reached) -> Position
-        requires { self.now.above + 1 < 2 ^ 32 }
-        ensures { result ≡ record { limits = limits; above = self.now.above + 1; reached = reached } }
+    // Below a split, where fewer than m pages of the class start early.
+    #[inline(never)]
+    pub(crate) fn child_below(&self, alloc: Global, class: u8, m: u32) -> Result<Box<Position>, OutOfMemory>
+        requires deep { self.now.above + 1 < 2 ^ 32 }
+        requires class { class < 136 }
+        requires above { slice_index self.now.limits.lo class < m }
+        requires within { m ≤ slice_index self.now.limits.hi class }
+        ensures { IfOk result (λ child. child.value ≡
+            record { limits = limits_below self.now.limits class m; above = self.now.above + 1; reached = Below }) }
     {
-        Position {
-            limits,
+        let position = Position {
+            limits: below_split(&self.limits, class, m),
             above: self.above + 1,
-            reached,
-        }
+            reached: Reached::Below,
+        };
+        Ok(Box::new(alloc, position)?)
+    }
+
+    // Below a split, where at least m pages of the class start early.
+    #[inline(never)]
+    pub(crate) fn child_from(&self, alloc: Global, class: u8, m: u32) -> Result<Box<Position>, OutOfMemory>
+        requires deep { self.now.above + 1 < 2 ^ 32 }
+        requires class { class < 136 }
+        requires above { slice_index self.now.limits.lo class < m }
+        requires within { m ≤ slice_index self.now.limits.hi class }
+        ensures { IfOk result (λ child. child.value ≡
+            record { limits = limits_from self.now.limits class m; above = self.now.above + 1; reached = From }) }
+    {
+        let position = Position {
+            limits: from_split(&self.limits, class, m),
+            above: self.above + 1,
+            reached: Reached::From,
+        };
+        Ok(Box::new(alloc, position)?)
+    }
+
+    // By a way out of a cut, or a way to close.
+    #[inline(never)]
+    pub(crate) fn child_by(&self, inquiry: &Inquiry, way: Way) -> Result<Box<Position>, OutOfMemory>
+        requires deep { self.now.above + 1 < 2 ^ 32 }
+        requires batches { 0 < inquiry.now.batches }
+        requires ordered { AreInOrder inquiry.now.classes.now self.now.limits }
+        requires way { MayTake inquiry.now.classes.now self.now.limits way }
+        ensures child { IfOk result (λ child. child.value ≡ record {
+            limits = narrowed_limits inquiry.now.classes.now self.now.limits way inquiry.now.batches;
+            above = self.now.above + 1;
+            reached = By way;
+          }) }
+        ensures ordered { IfOk result (λ child. AreInOrder inquiry.now.classes.now child.value.limits) }
+    {
+        let position = Position {
+            limits: narrow(inquiry.classes, &self.limits, way, inquiry.batches),
+            above: self.above + 1,
+            reached: Reached::By(way),
+        };
+        Ok(Box::new(inquiry.alloc, position)?)
     }
 }

@@ -108,7 +108,8 @@ pub(crate) fn columns_at(
     }
 }
 
-// What the node states under the limits.
+// What the node states under the limits. Its room for the ways is not part of a level of `put_node`.
+#[inline(never)]
 pub(crate) fn fact_of(inquiry: &Inquiry, limits: &Limits, tree: &Tree) -> Fact
     requires { AreInOrder inquiry.now.classes.now limits.now }
     ensures { result ≡ fact_of inquiry.now.classes.now inquiry.now.end limits.now (bound_tree_of tree.now) }
@@ -160,6 +161,7 @@ fn shares_of(inquiry: &Inquiry, limits: &Limits, set: u16) -> Result<Vec<Share>,
 }
 
 // The shares that the node states.
+#[inline(never)]
 pub(crate) fn shares_at(
     inquiry: &Inquiry,
     limits: &Limits,

@@ -9,12 +9,13 @@ ghost use Rattle.pocsag_findings.specs.Views.{all_stated};
 use crate::finding::{Fact, Finding, Reached, Share};
 use crate::inquiry::{Inquiry, Position};
 use crate::judging::{columns_at, fact_of, is_met, shares_at};
-use pocsag_slots::{Classes, Way, all_limits, below_split, closing_ways, from_split, narrow, ways};
+use pocsag_slots::{Classes, Way, all_limits, closing_ways, ways};
 use pocsag_tree::{Certificate, Tree};
 use pocsag_words::OutOfMemory;
 use std::alloc::Global;
 
 // Puts what a node states behind the findings, and answers whether its rule holds.
+#[inline(never)]
 fn put_fact(
     inquiry: &Inquiry,
     place: &Position,
@@ -140,10 +141,10 @@ fn put_node(
             below,
             from,
         } => {
-            let low = below_split(&place.limits, *class, u32::from(*m));
-            put_node(inquiry, &place.child(low, Reached::Below), below, found)?;
-            let high = from_split(&place.limits, *class, u32::from(*m));
-            put_node(inquiry, &place.child(high, Reached::From), from, found)
+            let low = place.child_below(inquiry.alloc, *class, u32::from(*m))?;
+            put_node(inquiry, &low, below, found)?;
+            let high = place.child_from(inquiry.alloc, *class, u32::from(*m))?;
+            put_node(inquiry, &high, from, found)
         }
         Tree::Cut { set, children, .. } => {
             let out = ways(inquiry.classes, &place.limits, *set, inquiry.batches);
@@ -175,14 +176,8 @@ fn put_each(
         place.now.limits (place.now.above + 1) ways.now (bounds_of children.now)) }
 {
     for (index, child) in children.iter().enumerate() {
-        let way = ways[index];
-        let narrowed = narrow(inquiry.classes, &place.limits, way, inquiry.batches);
-        put_node(
-            inquiry,
-            &place.child(narrowed, Reached::By(way)),
-            child,
-            found,
-        )?;
+        let narrowed = place.child_by(inquiry, ways[index])?;
+        put_node(inquiry, &narrowed, child, found)?;
     }
     Ok(())
 }

@@ -9,51 +9,57 @@ use Rattle.pocsag_findings.specs.Rules.{fact_holds}
 use Rattle.pocsag_findings.proofs.Nodes.{held_close, held_cut, held_node, split_says, two_more}
 use Rattle.pocsag_findings.proofs.listing.+listing.Goals as goal
 
-pub put_node-below_split-low-requires-clause-class : goal.put_node-below_split-low-requires-clause-class
-put_node-below_split-low-requires-clause-class t c =
+pub put_node-child_below-requires-clause-class : goal.put_node-child_below-requires-clause-class
+put_node-child_below-requires-clause-class t c =
     (split_says c.args.inquiry.now.classes.now c.args.inquiry.now.end c.args.inquiry.now.batches c.args.place.now.limits _ _
     (bound_tree_of c.in-Split.below.value) (bound_tree_of c.in-Split.from.value) _ _ _ c.fact_of-fact.ensures
     (bound_tree_of-split c.args.tree.now c.in-Split.class c.in-Split.m c.in-Split.below c.in-Split.from c.in-Split.is)
     c.in_ok-put_fact.ensures.holds c.if-not-branch.false).0
 
-pub put_node-below_split-low-requires-clause-above : goal.put_node-below_split-low-requires-clause-above
-put_node-below_split-low-requires-clause-above t c =
+pub put_node-child_below-requires-clause-above : goal.put_node-child_below-requires-clause-above
+put_node-child_below-requires-clause-above t c =
     rw c.from.ensures
     ((split_says c.args.inquiry.now.classes.now c.args.inquiry.now.end c.args.inquiry.now.batches c.args.place.now.limits _ _
     (bound_tree_of c.in-Split.below.value) (bound_tree_of c.in-Split.from.value) _ _ _ c.fact_of-fact.ensures
     (bound_tree_of-split c.args.tree.now c.in-Split.class c.in-Split.m c.in-Split.below c.in-Split.from c.in-Split.is)
     c.in_ok-put_fact.ensures.holds c.if-not-branch.false).1)
 
-pub put_node-below_split-low-requires-clause-within : goal.put_node-below_split-low-requires-clause-within
-put_node-below_split-low-requires-clause-within t c =
+pub put_node-child_below-requires-clause-within : goal.put_node-child_below-requires-clause-within
+put_node-child_below-requires-clause-within t c =
     rw c.from.ensures
     ((split_says c.args.inquiry.now.classes.now c.args.inquiry.now.end c.args.inquiry.now.batches c.args.place.now.limits _ _
     (bound_tree_of c.in-Split.below.value) (bound_tree_of c.in-Split.from.value) _ _ _ c.fact_of-fact.ensures
     (bound_tree_of-split c.args.tree.now c.in-Split.class c.in-Split.m c.in-Split.below c.in-Split.from c.in-Split.is)
     c.in_ok-put_fact.ensures.holds c.if-not-branch.false).2)
 
-pub put_node-from_split-high-requires-clause-class : goal.put_node-from_split-high-requires-clause-class
-put_node-from_split-high-requires-clause-class t c =
+pub put_node-child_from-requires-clause-class : goal.put_node-child_from-requires-clause-class
+put_node-child_from-requires-clause-class t c =
     (split_says c.args.inquiry.now.classes.now c.args.inquiry.now.end c.args.inquiry.now.batches c.args.place.now.limits _ _
     (bound_tree_of c.in-Split.below.value) (bound_tree_of c.in-Split.from.value) _ _ _ c.fact_of-fact.ensures
     (bound_tree_of-split c.args.tree.now c.in-Split.class c.in-Split.m c.in-Split.below c.in-Split.from c.in-Split.is)
     c.in_ok-put_fact.ensures.holds c.if-not-branch.false).0
 
-pub put_node-from_split-high-requires-clause-above : goal.put_node-from_split-high-requires-clause-above
-put_node-from_split-high-requires-clause-above t c =
+pub put_node-child_from-requires-clause-above : goal.put_node-child_from-requires-clause-above
+put_node-child_from-requires-clause-above t c =
     rw c.from-in-Split.ensures
     ((split_says c.args.inquiry.now.classes.now c.args.inquiry.now.end c.args.inquiry.now.batches c.args.place.now.limits _ _
     (bound_tree_of c.in-Split.below.value) (bound_tree_of c.in-Split.from.value) _ _ _ c.fact_of-fact.ensures
     (bound_tree_of-split c.args.tree.now c.in-Split.class c.in-Split.m c.in-Split.below c.in-Split.from c.in-Split.is)
     c.in_ok-put_fact.ensures.holds c.if-not-branch.false).1)
 
-pub put_node-from_split-high-requires-clause-within : goal.put_node-from_split-high-requires-clause-within
-put_node-from_split-high-requires-clause-within t c =
+pub put_node-child_from-requires-clause-within : goal.put_node-child_from-requires-clause-within
+put_node-child_from-requires-clause-within t c =
     rw c.from-in-Split.ensures
     ((split_says c.args.inquiry.now.classes.now c.args.inquiry.now.end c.args.inquiry.now.batches c.args.place.now.limits _ _
     (bound_tree_of c.in-Split.below.value) (bound_tree_of c.in-Split.from.value) _ _ _ c.fact_of-fact.ensures
     (bound_tree_of-split c.args.tree.now c.in-Split.class c.in-Split.m c.in-Split.below c.in-Split.from c.in-Split.is)
     c.in_ok-put_fact.ensures.holds c.if-not-branch.false).2)
+
+pub put_node-put_node-requires : goal.put_node-put_node-requires
+put_node-put_node-requires t c = (omega (arith, c.decreases), c.names)
+
+pub put_node-put_node-requires-in-Split : goal.put_node-put_node-requires-in-Split
+put_node-put_node-requires-in-Split t c = (omega (arith, c.decreases), c.names)
 
 pub put_node-put_each-requires : goal.put_node-put_each-requires
 put_node-put_each-requires t c =
@@ -127,8 +133,8 @@ put_node-returns-in-Close t c =
     (rw (is, c.as_slice-in-Close.ensures.value, c.closing_ways-out.ensures.items, c.deref-in-Close.ensures.value) refl))
     c.put_each-in-Close.ensures
 
-pub put_node-returns-in_ok-put_node-in-Split : goal.put_node-returns-in_ok-put_node-in-Split
-put_node-returns-in_ok-put_node-in-Split t c =
+pub put_node-returns-in_ok-high-in-Split : goal.put_node-returns-in_ok-high-in-Split
+put_node-returns-in_ok-high-in-Split t c =
     let k : Classes = c.args.inquiry.now.classes.now in
     let end : End = c.args.inquiry.now.end in
     let b : ℕ = c.args.inquiry.now.batches in

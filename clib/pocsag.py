@@ -1,0 +1,209 @@
+"""The C library of pocsag for Python, by ctypes alone.
+
+    from pocsag import Pocsag
+    plan = Pocsag().plan(open("round.csv", "rb").read())
+    plan.batches, plan.transmission, plan.certificate
+
+Bytes are `bytes`, `bytearray` or `memoryview`. Each fault is an exception of its own, named as in pocsag.h: `BadAddress`
+for POCSAG_BAD_ADDRESS. Its text is that of the program, with the record and the place; a number outside of what C takes
+is told as the library tells one outside of what it allows.
+"""
+
+import ctypes
+import operator
+import pathlib
+from collections import namedtuple
+
+
+class Place(ctypes.Structure):
+    _fields_ = [("record_number", ctypes.c_uint32), ("least", ctypes.c_uint32), ("found", ctypes.c_uint32), ("at", ctypes.c_uint64)]
+
+
+class PlanInfo(ctypes.Structure):
+    _fields_ = [*((name, ctypes.c_uint32) for name in ("pages", "codewords", "in_order", "batches", "bound")), ("place", Place)]
+
+
+class CheckInfo(ctypes.Structure):
+    _fields_ = [("end", ctypes.c_uint32), ("batches", ctypes.c_uint32), ("place", Place)]
+
+
+class ReportInfo(ctypes.Structure):
+    _fields_ = [
+        *((name, ctypes.c_uint32) for name in ("pages", "codewords", "in_order", "batches", "bound")),
+        *((name, ctypes.c_uint64) for name in ("idles", "bits", "airtime_ms")),
+        ("place", Place),
+    ]
+
+
+class Fault(Exception):
+    """Why a call did nothing: its status, and where the fault stands."""
+
+    text = "status {status}"
+
+    def __init__(self, status, place):
+        self.status = status
+        self.record_number, self.least, self.found, self.at = place.record_number, place.least, place.found, place.at
+        super().__init__(self.text.format(**vars(self)))
+
+
+# The name and the text of each status.
+NAMES = {
+    2: ("BadEnd", "the end must be 0, 1 or 2"),
+    3: ("OutOfMemory", "out of memory"),
+    4: ("BadRate", "the rate must be 512, 1200 or 2400"),
+    5: ("BadLimit", "the limit must be 1 to 1000000"),
+    6: ("SearchLimit", "search limit reached: at least {least} batches, {found} would do"),
+    11: ("BadForm", "the form must be 0 or 1"),
+    17: ("PagesTooLarge", "the file is too large"),
+    18: ("BadHeader", "the header must be address,kind,message"),
+    19: ("FieldCount", "record {record_number}: three fields are wanted"),
+    20: ("BadAddress", "record {record_number}: bad address"),
+    21: ("ReservedAddress", "record {record_number}: reserved address"),
+    22: ("BadKind", "record {record_number}: unknown kind"),
+    23: ("MessageForTone", "record {record_number}: a tone page has no message"),
+    24: ("EmptyMessage", "record {record_number}: the message is empty"),
+    25: ("BadCharacter", "record {record_number}: bad character at {at}"),
+    26: ("TooLong", "record {record_number}: the message is too long"),
+    27: ("DuplicateAddress", "record {record_number}: the address is already there"),
+    28: ("TooManyPages", "record {record_number}: too many pages"),
+    29: ("BadPayload", "record {record_number}: bad payload"),
+    30: ("NoPages", "there are no pages"),
+    32: ("NotCertificate", "not a certificate"),
+    33: ("CertVersion", "unknown certificate version"),
+    34: ("CertTruncated", "the certificate is cut short"),
+    35: ("CertTrailing", "bytes after the certificate"),
+    36: ("CertBadTag", "the certificate is malformed"),
+    37: ("CertBadField", "the certificate is malformed"),
+    38: ("CertTooDeep", "the certificate is too deep"),
+    39: ("CertTooMany", "the certificate has too many nodes"),
+    48: ("ShortPreamble", "the preamble is too short"),
+    49: ("NoSync", "batch {at}: no synchronisation codeword"),
+    50: ("BadWord", "codeword {at}: not a codeword"),
+    51: ("Orphan", "codeword {at}: a message without an address"),
+    52: ("Truncated", "the transmission is cut short"),
+    53: ("NoBatch", "the transmission has no batch"),
+    64: ("PagerBadAddress", "bad address"),
+    65: ("PagerReservedAddress", "reserved address"),
+}
+FAULTS = {status: type(name, (Fault,), {"text": text}) for status, (name, text) in NAMES.items()}
+globals().update({fault.__name__: fault for fault in FAULTS.values()})
+
+Plan = namedtuple("Plan", "transmission certificate pages codewords in_order batches bound")
+Report = namedtuple("Report", "pages codewords in_order batches idles bits airtime_ms bound")
+Shown = namedtuple("Shown", "is_shown end batches")
+Explanation = namedtuple("Explanation", "is_shown end batches text")
+LIBRARY = "libpocsag.so.1"
+OPEN, CLOSED, IDLE = 0, 1, 2
+IN_WORDS, AS_JSON = 0, 1
+
+
+GREATEST = 2**32 - 1
+
+
+def raised(status, place):
+    return FAULTS.get(status, Fault)(status, place)
+
+
+def number_in(value, status):
+    """A number that C takes; the fault of the status where it does not."""
+    value = operator.index(value)
+    if not 0 <= value <= GREATEST:
+        raise raised(status, Place())
+    return ctypes.c_uint32(value)
+
+
+def small_number(value, name):
+    """A number that C takes, of which the library allows each."""
+    value = operator.index(value)
+    if not 0 <= value <= GREATEST:
+        raise ValueError(f"{name} must be 0 to {GREATEST}, not {value}")
+    return value
+
+
+def buffer_of(size):
+    """A buffer of so many bytes, which is never null, and its length."""
+    size = small_number(size, "a size")
+    return (ctypes.c_uint8 * max(size, 1))(), ctypes.c_size_t(size)
+
+
+def bytes_in(data):
+    """The pointer and the length of bytes that are read."""
+    data = data if type(data) is bytes else bytes(memoryview(data))
+    return ctypes.c_char_p(data), ctypes.c_size_t(len(data))
+
+
+def default_library():
+    """The library that is installed with this module, or else the system's."""
+    beside = [folder / LIBRARY for folder in [*pathlib.Path(__file__).resolve().parents][:3]]
+    return next((str(path) for path in beside if path.is_file()), LIBRARY)
+
+
+class Pocsag:
+    """The calls of the library, by its path; where none is given, the one that is installed."""
+
+    def __init__(self, library=None):
+        self.library = ctypes.CDLL(str(library or default_library()))
+
+    def version(self):
+        return self.library.pocsag_version()
+
+    def plan(self, pages, limit=100_000, end=OPEN, always=False, sizes=(65_536, 65_536)):
+        """The plan of a page file. It is asked for once more where one of the sizes does not do."""
+        info, tx_len, cert_len = PlanInfo(), ctypes.c_size_t(), ctypes.c_size_t()
+        (tx, tx_size), (cert, cert_size) = map(buffer_of, sizes)
+        status = self.library.pocsag_plan(
+            *bytes_in(pages), tx, tx_size, ctypes.byref(tx_len), cert, cert_size, ctypes.byref(cert_len),
+            number_in(limit, 5), number_in(end, 2), ctypes.c_uint32(bool(always)), ctypes.byref(info),
+        )  # fmt: skip
+        if status in (7, 8):
+            return self.plan(pages, limit, end, always, (tx_len.value, cert_len.value))
+        if status:
+            raise raised(status, info.place)
+        return Plan(bytes(tx)[: tx_len.value], bytes(cert)[: cert_len.value], info.pages, info.codewords, info.in_order, info.batches, info.bound)
+
+    def report(self, pages, rate, limit=100_000, end=OPEN, always=False):
+        """What the plan of a page file takes on the air at a rate."""
+        info = ReportInfo()
+        words = number_in(rate, 4), number_in(limit, 5), number_in(end, 2), ctypes.c_uint32(bool(always))
+        status = self.library.pocsag_report(*bytes_in(pages), *words, ctypes.byref(info))
+        if status:
+            raise raised(status, info.place)
+        return Report(*(getattr(info, name) for name in Report._fields))
+
+    def check(self, pages, certificate):
+        """Whether the certificate shows its number of batches for the page file."""
+        info = CheckInfo()
+        status = self.library.pocsag_check(*bytes_in(pages), *bytes_in(certificate), ctypes.byref(info))
+        if status > 1:
+            raise raised(status, info.place)
+        return Shown(status == 0, info.end, info.batches)
+
+    def explain(self, pages, certificate, form=IN_WORDS, depth=3, size=65_536):
+        """Why fewer batches than the certificate's do not suffice for the page file, or which node does not hold."""
+        info, length, text = CheckInfo(), ctypes.c_size_t(), buffer_of(size)
+        status = self.library.pocsag_explain(
+            *bytes_in(pages), *bytes_in(certificate), number_in(form, 11), ctypes.c_uint32(small_number(depth, "the depth")),
+            *text, ctypes.byref(length), ctypes.byref(info),
+        )  # fmt: skip
+        if status == 10:
+            return self.explain(pages, certificate, form, depth, length.value)
+        if status > 1:
+            raise raised(status, info.place)
+        return Explanation(status == 0, info.end, info.batches, bytes(text[0])[: length.value])
+
+    def decode(self, transmission):
+        """The listing of a transmission."""
+        return self._listing(lambda *rest: self.library.pocsag_decode(*bytes_in(transmission), *rest))
+
+    def hear(self, address, transmission):
+        """The listing of what the pager of the address shows of a transmission."""
+        return self._listing(lambda *rest: self.library.pocsag_hear(number_in(address, 64), *bytes_in(transmission), *rest))
+
+    def _listing(self, call, size=65_536):
+        place, length, text = Place(), ctypes.c_size_t(), buffer_of(size)
+        status = call(*text, ctypes.byref(length), ctypes.byref(place))
+        if status == 9:
+            return self._listing(call, length.value)
+        if status:
+            raise raised(status, place)
+        return bytes(text[0])[: length.value]

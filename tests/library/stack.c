@@ -1,0 +1,92 @@
+/* One call on a thread whose stack has just so many bytes, with a guard page below it:
+ *
+ *     stack CALL BYTES PAGES CERT
+ *
+ * CALL is plan, report, check, words, json, decode or hear; the last two read CERT as a transmission. It prints the status
+ * of the call and how many bytes of the stack were written, the thread's own part included. */
+#define _GNU_SOURCE
+#include <pthread.h>
+#include <stdio.h>
+#include <stdlib.h>
+#include <string.h>
+#include <sys/mman.h>
+#include <unistd.h>
+
+#include "pocsag.h"
+
+#define LARGE (1 << 24)
+
+struct file {
+    uint8_t *bytes;
+    size_t len;
+};
+
+static struct file pages, other;
+static const char *call;
+static uint8_t *first, *second;
+
+static struct file read_file(const char *name)
+{
+    struct file file = {malloc(LARGE), 0};
+    FILE *opened = fopen(name, "rb");
+    if (opened == NULL || file.bytes == NULL)
+        exit(2);
+    file.len = fread(file.bytes, 1, LARGE, opened);
+    fclose(opened);
+    return file;
+}
+
+static void *run(void *status)
+{
+    static struct pocsag_plan_info plan;
+    static struct pocsag_report_info report;
+    static struct pocsag_check_info check;
+    static struct pocsag_place place;
+    static size_t len, other_len;
+    uint32_t *told = status;
+    if (strcmp(call, "plan") == 0)
+        *told = pocsag_plan(pages.bytes, pages.len, first, LARGE, &len, second, LARGE, &other_len, POCSAG_DEFAULT_LIMIT,
+                            POCSAG_END_CLOSED, 1, &plan);
+    else if (strcmp(call, "report") == 0)
+        *told = pocsag_report(pages.bytes, pages.len, 1200, POCSAG_DEFAULT_LIMIT, POCSAG_END_CLOSED, 1, &report);
+    else if (strcmp(call, "check") == 0)
+        *told = pocsag_check(pages.bytes, pages.len, other.bytes, other.len, &check);
+    else if (strcmp(call, "decode") == 0)
+        *told = pocsag_decode(other.bytes, other.len, first, LARGE, &len, &place);
+    else if (strcmp(call, "hear") == 0)
+        *told = pocsag_hear(8, other.bytes, other.len, first, LARGE, &len, &place);
+    else
+        *told = pocsag_explain(pages.bytes, pages.len, other.bytes, other.len,
+                               strcmp(call, "json") == 0 ? POCSAG_AS_JSON : POCSAG_IN_WORDS, 300, first, LARGE, &len,
+                               &check);
+    return NULL;
+}
+
+int main(int argc, char **argv)
+{
+    if (argc != 5)
+        return 2;
+    call = argv[1];
+    pages = read_file(argv[3]);
+    other = read_file(argv[4]);
+    first = malloc(LARGE);
+    second = malloc(LARGE);
+    size_t page = (size_t)sysconf(_SC_PAGESIZE), bytes = (strtoul(argv[2], NULL, 10) + page - 1) / page * page;
+    uint8_t *low = mmap(NULL, page + bytes, PROT_READ | PROT_WRITE, MAP_PRIVATE | MAP_ANONYMOUS, -1, 0);
+    if (first == NULL || second == NULL || low == MAP_FAILED || mprotect(low, page, PROT_NONE) != 0)
+        return 2;
+    uint8_t *stack = low + page;
+    memset(stack, 0x5a, bytes);
+    pthread_attr_t room;
+    pthread_t thread;
+    uint32_t status = 0;
+    pthread_attr_init(&room);
+    if (pthread_attr_setstack(&room, stack, bytes) != 0 || pthread_create(&thread, &room, run, &status) != 0)
+        return 2;
+    pthread_join(thread, NULL);
+    size_t untouched = 0;
+    while (untouched < bytes && stack[untouched] == 0x5a)
+        untouched++;
+    printf("%u %zu\n", status, bytes - untouched);
+    return 0;
+}
