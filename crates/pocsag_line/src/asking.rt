@@ -3,9 +3,9 @@
 use crate::order::{Asked, OpenOrder, Order, PlanOrder, SearchOrder, path_of};
 use crate::texts::{BAD_ROWS, EARLY_STRICT};
 use crate::words::{
-    ADDRESS, ALWAYS, CERT, CHECK, CLOSED, DECODE, DEPTH, EACH_FRAME, END, EXPECT, EXPLAIN, HEAR, IDLE,
-    IDLE_LAST, JOURNAL, JSON, KEEP, LIMIT, LIST, OPEN, PAGES, PLAN, RATE, REPAIR, REPORT, ROUND,
-    ROWS, SHOW, STRICT, SVG, TX, VERBOSE, VERIFY, program,
+    ADDRESS, ALWAYS, CERT, CHECK, CLOSED, DECODE, DEPTH, EACH_FRAME, END, EXPECT, EXPLAIN, HEAR,
+    IDLE, IDLE_LAST, JOURNAL, JSON, KEEP, LIMIT, LIST, OPEN, PAGES, PLAN, RATE, REPAIR, REPORT,
+    ROUND, ROWS, SHOW, STRICT, SVG, TX, VERBOSE, VERIFY, program, show_command,
 };
 use clap::error::ErrorKind;
 use clap::{ArgMatches, Command, Error};
@@ -193,10 +193,11 @@ fn order_from<'a>(name: &str, found: &ArgMatches<'a>) -> Option<Order<'a>> {
 pub fn asked_of<'a>(alloc: Global, words: &'a [String]) -> Result<Asked<'a>, Error> {
     let mut program = program(alloc)?;
     let matches = program.try_get_matches_from_mut(words)?;
-    asked_or_refused(&mut program, &matches)
+    asked_or_refused(alloc, &mut program, &matches)
 }
 
 fn asked_or_refused<'a>(
+    alloc: Global,
     program: &mut Command<'a>,
     matches: &ArgMatches<'a>,
 ) -> Result<Asked<'a>, Error> {
@@ -207,7 +208,9 @@ fn asked_or_refused<'a>(
         return Err(program.error(ErrorKind::ArgumentConflict, EARLY_STRICT)?);
     }
     match matches.subcommand() {
-        Some((SHOW, found)) if wanted_rows(found).is_none() => Err(rows_error(program)?),
+        Some((SHOW, found)) if wanted_rows(found).is_none() => {
+            Err(show_command(alloc)?.error(ErrorKind::ValueValidation, BAD_ROWS)?)
+        }
         _ => Err(program.error(ErrorKind::MissingRequiredArgument, "a word is missing")?),
     }
 }

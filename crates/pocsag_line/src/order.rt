@@ -19,7 +19,9 @@ pub struct Asked<'a> {
 #[derive(Clone, Copy)]
 pub enum Order<'a> {
     /// No words: a page file from standard input, and whether its quotes are judged.
-    Input { strict: bool },
+    Input {
+        strict: bool,
+    },
     /// `plan PAGES TX CERT`.
     Plan(PlanOrder<'a>),
     /// `check PAGES CERT`: the paths of the page file and of the certificate.

@@ -4,6 +4,7 @@ use crate::note::Notes;
 use crate::role::{NamedFile, Role};
 use crate::scene::Scene;
 use pocsag_pages::{FileRecords, RoundFault, line_feeds, wide_record_size};
+use pocsag_quotes::quote_fault;
 use pocsag_words::OutOfMemory;
 use std::alloc::Global;
 use std::fmt::{self, Display};
@@ -11,19 +12,32 @@ use std::fmt::{self, Display};
 // How many bytes of a field are shown.
 const SHOWN: usize = 40;
 
-// The front of some bytes, all of them as visible characters.
+// The front of some bytes, all of them as visible characters, or the part of them that ends with a byte.
 #[derive(Clone, Copy)]
 struct Excerpt<'a> {
     bytes: &'a [u8],
+    // The place of a byte that has to be shown.
+    at: usize,
+}
+
+impl<'a> Excerpt<'a> {
+    fn of(bytes: &'a [u8]) -> Excerpt<'a> {
+        Excerpt { bytes, at: 0 }
+    }
 }
 
 impl Display for Excerpt<'_> {
     fn fmt<W: fmt::Write>(&self, f: &mut fmt::Formatter<W>) -> fmt::Result {
-        let (front, rest) = match self.bytes.get(..SHOWN) {
-            Some(front) => (front, "..."),
-            None => (self.bytes, ""),
+        let first = self.at.saturating_add(1).saturating_sub(SHOWN);
+        let (before, bytes) = match self.bytes.get(first..) {
+            Some(bytes) if first > 0 => ("...", bytes),
+            _ => ("", self.bytes),
         };
-        write!(f, "'{}{rest}'", front.escape_ascii())
+        let (shown, behind) = match bytes.get(..SHOWN) {
+            Some(shown) => (shown, "..."),
+            None => (bytes, ""),
+        };
+        write!(f, "'{before}{}{behind}'", shown.escape_ascii())
     }
 }
 
@@ -44,9 +58,7 @@ impl Display for Spot<'_> {
             number,
             ..
         } = *self;
-        let address = Excerpt {
-            bytes: self.address,
-        };
+        let address = Excerpt::of(self.address);
         write!(
             f,
             "{place}, line {line}, record {number}, address {address}"
@@ -60,22 +72,16 @@ fn field<'r>(records: &'r FileRecords<'_>, place: usize) -> &'r [u8] {
 }
 
 fn excerpt_of<'r>(records: &'r FileRecords<'_>, place: usize) -> Excerpt<'r> {
-    Excerpt {
-        bytes: field(records, place),
-    }
+    Excerpt::of(field(records, place))
 }
 
-// How many fields the record has in the file, and how many line feeds they hold.
-fn record_size(records: &FileRecords<'_>, file: &[u8]) -> (usize, usize) {
+// How many fields the record has in the file.
+fn field_count(records: &FileRecords<'_>, file: &[u8]) -> usize {
     let fields = records.len();
     if fields > 3 {
-        return wide_record_size(file);
+        return wide_record_size(file).0;
     }
-    let mut held = 0usize;
-    for place in 0..fields {
-        held = held.saturating_add(line_feeds(field(records, place)));
-    }
-    (fields, held)
+    fields
 }
 
 // The number of the record that a fault names.
@@ -99,10 +105,11 @@ fn record_number(refused: RoundFault) -> Option<u32> {
 /// What the first line of a page file is, in place of the header.
 pub fn note_header(scene: &Scene<'_>, notes: &mut Notes) -> Result<(), OutOfMemory> {
     let place = scene.names.place(Role::PageFile);
+    if scene.file.is_empty() {
+        return notes.add(format_args!("{place} is empty"));
+    }
     let line = scene.file.split(|byte| *byte == b'\n').next();
-    let begins = Excerpt {
-        bytes: line.unwrap_or(b""),
-    };
+    let begins = Excerpt::of(line.unwrap_or(b""));
     notes.add(format_args!("{place} begins {begins}"))
 }
 
@@ -171,20 +178,30 @@ fn note_record_among(
         number,
         address: field(records, 0),
     };
-    let (fields, held) = record_size(records, scene.file);
+    let fields = field_count(records, scene.file);
     note_field(refused, spot, fields, records, notes)?;
     if let RoundFault::DuplicateAddress(_) = refused {
         note_earlier(alloc, spot, scene, notes)?;
     }
-    note_open_quote(number, held, notes)
+    note_quote(scene, Some(number), notes)?;
+    Ok(())
 }
 
-// That a quote may be open in the record, whose fields hold so many line feeds.
-fn note_open_quote(number: u32, held: usize, notes: &mut Notes) -> Result<(), OutOfMemory> {
-    if held == 0 {
-        return Ok(());
+// The first misplaced quote of the file, if it stands no further than in a record. Says whether there is one.
+fn note_quote(
+    scene: &Scene<'_>,
+    last: Option<u32>,
+    notes: &mut Notes,
+) -> Result<bool, OutOfMemory> {
+    let Some(quote) = quote_fault(scene.file) else {
+        return Ok(false);
+    };
+    if last.is_some_and(|last| quote.record() > last as usize) {
+        return Ok(false);
     }
-    notes.add(format_args!("quotes must be closed: record {number} holds {held} line feeds"))
+    let place = scene.names.place(Role::PageFile);
+    notes.add(format_args!("{place}: {quote}"))?;
+    Ok(true)
 }
 
 // What is wanted of a record, where its own fields say no more.
@@ -201,6 +218,15 @@ fn what_is_wanted(refused: RoundFault) -> Option<&'static str> {
     }
 }
 
+// How so many fields are told, and what to do where they are not three.
+fn advice_on_fields(fields: usize) -> (&'static str, &'static str) {
+    match fields {
+        1 => ("", "commas stand between them"),
+        2 => ("s", "a page without a message ends with a comma"),
+        _ => ("s", "a message with a comma stands in quotes"),
+    }
+}
+
 // What is wrong with the record, which has so many fields.
 fn note_field(
     refused: RoundFault,
@@ -213,9 +239,12 @@ fn note_field(
         return notes.add(format_args!("{spot}: {wanted}"));
     }
     match refused {
-        RoundFault::FieldCount(_) => notes.add(format_args!(
-            "{spot}: {fields} fields, where address,kind,message are wanted; a message with a comma stands in quotes"
-        )),
+        RoundFault::FieldCount(_) => {
+            let (plural, advice) = advice_on_fields(fields);
+            notes.add(format_args!(
+                "{spot}: {fields} field{plural}, where address,kind,message are wanted; {advice}"
+            ))
+        }
         RoundFault::TooLong(_) => {
             let length = field(records, 2).len();
             notes.add(format_args!(
@@ -232,6 +261,15 @@ fn told_of_kind(refused: RoundFault) -> Option<&'static str> {
         RoundFault::BadKind(_) => Some(", not tone0, tone1, tone2, tone3, numeric or alpha"),
         RoundFault::EmptyMessage(_) => Some("; tone0 to tone3 have no message"),
         _ => None,
+    }
+}
+
+// Which characters a message of a kind may have.
+fn allowed_characters(kind: &[u8]) -> &'static str {
+    if kind == b"numeric".as_slice() {
+        "numeric has 0123456789*U -]["
+    } else {
+        "alpha has the codes 1 to 127"
     }
 }
 
@@ -253,8 +291,10 @@ fn note_kind(
         )),
         RoundFault::BadCharacter(_, at) => {
             let byte = message.bytes.get(at).copied().unwrap_or(0);
+            let message = Excerpt { at, ..message };
+            let allowed = allowed_characters(kind.bytes);
             notes.add(format_args!(
-                "{spot}: the message is {message}, its kind {kind}; the byte is {byte:#04x}"
+                "{spot}: the message is {message}, its kind {kind}; the byte at {at}, counted from 0, is {byte:#04x}; {allowed}"
             ))
         }
         _ => notes.add(spot),
@@ -297,12 +337,16 @@ fn significant(digits: &[u8]) -> &[u8] {
     b""
 }
 
-/// Where the first message with a line feed stands, and how many more there are.
+/// The first misplaced quote; where there is none, where the first message with a line feed stands, and how many more there
+/// are.
 pub fn note_line_feeds(
     alloc: Global,
     scene: &Scene<'_>,
     notes: &mut Notes,
 ) -> Result<(), OutOfMemory> {
+    if note_quote(scene, None, notes)? {
+        return Ok(());
+    }
     let mut records = FileRecords::of(alloc, scene.file);
     note_line_feeds_among(scene, &mut records, notes)
 }

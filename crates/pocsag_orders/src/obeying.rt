@@ -114,7 +114,11 @@ fn plan_input(desk: Desk<'_>, strict: bool) -> Result<(), Fault> {
         return run_input(desk.alloc, &mut input, &mut desk.out());
     }
     let file = strict_file(desk.alloc, &mut input)?;
-    run_input(desk.alloc, &mut SliceSource::new(file.as_slice()), &mut desk.out())
+    run_input(
+        desk.alloc,
+        &mut SliceSource::new(file.as_slice()),
+        &mut desk.out(),
+    )
 }
 
 // Judges a certificate, and explains it where it is asked how; the status is 1 where it does not show its batches.

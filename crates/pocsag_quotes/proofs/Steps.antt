@@ -1,5 +1,5 @@
 -- One byte of a walk over quotes.
-use Rattle.std.proofs.Common.{◌≡◌, ℕ, ◌+◌, ◌<◌, ◌==◌, cond, List, [], ◌∷◌, get_or, length, drop, refl, sym, ap, ◌∙◌}
+use Rattle.std.proofs.Common.{◌≡◌, ℕ, ◌+◌, ◌<◌, ◌≤◌, ◌==◌, Bool, true, false, cond, List, [], ◌∷◌, get_or, length, drop, refl, sym, ap, ◌∙◌, arith}
 use Rattle.std.specs.Prelude.{Option, Some, None}
 use Rattle.std.specs.Option.{option_or}
 use Rattle.std.proofs.lemmas.List.{at_drop_more}
@@ -33,3 +33,8 @@ module _ (part : Part) (n line opened : ℕ) (text : List ℕ) (k : ℕ) (low : 
 pub at_end : (part : Part) (n line opened : ℕ) → misplaced_from part n line opened [] ≡ unclosed part n opened
 unfolding misplaced_from
 at_end part n line opened = refl
+
+-- a count stays within a place, one step on
+pub few : (is_more : Bool) (count k : ℕ) → count ≤ k → cond is_more (count + 1) count ≤ k + 1
+few true count k within = omega (arith, within)
+few false count k within = omega (arith, within)

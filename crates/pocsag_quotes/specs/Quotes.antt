@@ -69,3 +69,9 @@ after_mark bytes = if pointwise nat_eq (take 3 bytes) (239 ∷ 187 ∷ 191 ∷ [
 -- The first quote of a page file that is misplaced; the header is record 0, and lines count from 1.
 abbrev pub first_misplaced : List ℕ → Option QuoteFault
 first_misplaced file = misplaced_from RecordStart 0 1 1 (after_mark file)
+
+-- The record of a misplaced quote.
+abbrev pub quote_record : QuoteFault → ℕ
+quote_record (Unclosed n line) = n
+quote_record (Inside n line) = n
+quote_record (Followed n line) = n

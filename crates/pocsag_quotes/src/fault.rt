@@ -1,3 +1,6 @@
+ghost use Rattle.std.specs.Prelude.{◌≡◌};
+ghost use Rattle.pocsag_quotes.specs.Quotes.{quote_record};
+
 use thiserror::Error;
 
 /// A quote that does not stand as CSV has it: its record, of which the header is number 0, and its line, from 1.
@@ -12,4 +15,17 @@ pub enum QuoteFault {
     /// More of its field follows the quote that closes it.
     #[error("record {number}: text follows the closing quote in line {line}")]
     Followed { number: usize, line: usize },
+}
+
+impl QuoteFault {
+    /// The number of the record.
+    pub fn record(self) -> usize
+        ensures { result ≡ quote_record self }
+    {
+        match self {
+            QuoteFault::Unclosed { number, .. }
+            | QuoteFault::Inside { number, .. }
+            | QuoteFault::Followed { number, .. } => number,
+        }
+    }
 }

@@ -1,5 +1,5 @@
 ghost use Rattle.std.specs.Prelude.{◌≡◌};
-ghost use Rattle.pocsag_quotes.specs.Quotes.{misplaced, opened_after, part_after, part_behind, record_ends};
+ghost use Rattle.pocsag_quotes.specs.Quotes.{misplaced, opened_after, part_after, part_behind, record_ends, unclosed};
 
 use crate::fault::QuoteFault;
 
@@ -74,6 +74,17 @@ pub(crate) fn misplaced(part: Part, byte: u8, number: usize, line: usize) -> Opt
         Part::AfterQuote if byte != b'"' && matches!(part_behind(byte), Part::Bare) => {
             Some(QuoteFault::Followed { number, line })
         }
+        _ => None,
+    }
+}
+
+// The fault at the end of a file, if a quote of the line is open there.
+#[tactic(auto, unfolding(crate::specs::Quotes::unclosed))]
+pub(crate) fn unclosed(part: Part, number: usize, line: usize) -> Option<QuoteFault>
+    ensures { result ≡ unclosed part number line }
+{
+    match part {
+        Part::Quoted => Some(QuoteFault::Unclosed { number, line }),
         _ => None,
     }
 }

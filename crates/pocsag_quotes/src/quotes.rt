@@ -2,7 +2,7 @@ ghost use Rattle.std.specs.Prelude.{◌≡◌, ◌+◌, ◌<◌, ◌^◌, if◌t
 ghost use Rattle.pocsag_quotes.specs.Quotes.{after_mark, first_misplaced};
 
 use crate::fault::QuoteFault;
-use crate::part::{Part, misplaced, opened_after, part_after, record_ends};
+use crate::part::{Part, misplaced, opened_after, part_after, record_ends, unclosed};
 
 /// The first quote of a page file that does not stand as CSV has it: one inside a field that begins without a quote, one
 /// that closes a field of which more follows, or one that is open at the end of the file.
@@ -21,13 +21,7 @@ pub fn quote_fault(file: &[u8]) -> Option<QuoteFault>
         line = one_more_if(*byte == b'\n', line);
         part = part_after(part, *byte);
     }
-    match part {
-        Part::Quoted => Some(QuoteFault::Unclosed {
-            number,
-            line: opened,
-        }),
-        _ => None,
-    }
+    unclosed(part, number, opened)
 }
 
 // The bytes behind a byte order mark, if there is one.

@@ -4,7 +4,7 @@ use Rattle.pocsag_quotes.proofs.quotes.quote_fault.Given as goal
 
 abbrev pub invariant-loop-byte : goal.invariant-loop-byte
 invariant-loop-byte l = record {
-  walk : misplaced_from l.part l.number l.line l.opened (drop l.byte-index l.text.now) ≡ first_misplaced l.file.now;
+  walk : misplaced_from l.part l.number l.line l.opened (drop l.byte-index l.text) ≡ first_misplaced l.file;
   few_records : l.number ≤ l.byte-index;
   few_lines : l.line ≤ l.byte-index + 1;
 }
