@@ -15,7 +15,10 @@ pub(crate) fn remove_left_over(rt: &HostRuntime, place: &str) {
         return;
     };
     let name = name_of(place);
-    for entry in entries.flatten() {
+    for entry in entries {
+        let Ok(entry) = entry else {
+            continue;
+        };
         if is_left_over(rt, name, entry.file_name()) {
             let _ = fs::remove_file(rt, entry.path());
         }
