@@ -203,10 +203,14 @@ def try_closed_pipe(tally, folder):
     room.mkdir()
     (room / "pages.csv").write_bytes(HEADER + b"".join(b"%d,numeric,12345\n" % k for k in range(20000)))
     run(["plan", "pages.csv", "tx.bin", "cert.bin", "--always"], room)
-    for words in ("decode tx.bin", "decode tx.bin --verbose", "show tx.bin", "show tx.bin --svg", "show tx.bin --list", "decode tx.bin --repair"):
-        done = shell(f"(pocsag {words}; echo $? > status) | head -c 1 > /dev/null", room)
-        holds = done.stderr == b"" and (room / "status").read_bytes() == b"3\n"
-        tally.check(f"{words} | head", holds, (done, (room / "status").read_bytes()))
+    for words in ("decode tx.bin", "decode tx.bin --verbose", "show tx.bin", "show tx.bin --svg", "show tx.bin --list", "decode tx.bin --repair",
+                  "hear 8 tx.bin", "check pages.csv cert.bin", "explain pages.csv cert.bin", "report pages.csv --rate 512", "--help", "open"):
+        ours, theirs = os.pipe()
+        os.close(ours)
+        done = subprocess.run([str(PROGRAM), *words.split()], cwd=room, stdin=subprocess.DEVNULL if words != "open" else (room / "pages.csv").open("rb"),
+                              stdout=theirs, stderr=subprocess.PIPE, timeout=60)
+        os.close(theirs)
+        tally.check(f"{words} and nobody reads", (done.returncode, done.stderr) == (3, b""), done)
     done = shell("pocsag plan pages.csv /dev/full cert.bin --always", room)
     tally.check("a full device is told", (done.returncode, done.stderr) == (3, CANNOT_WRITE), done)
 

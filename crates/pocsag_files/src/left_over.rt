@@ -38,7 +38,11 @@ fn process_of(name: &str, file: &str) -> Option<u32> {
     let rest = file.strip_prefix(name)?.strip_prefix('.')?;
     for ending in ENDINGS {
         if let Some(number) = rest.strip_suffix(ending) {
-            return number.parse::<u32>().ok();
+            return if number.starts_with('+') {
+                None
+            } else {
+                number.parse::<u32>().ok()
+            };
         }
     }
     None

@@ -55,6 +55,7 @@ fn tell_clap_error<E: Sink>(rt: &HostRuntime, error: &Error, err: &mut E) -> u8 
     }
     match printed {
         Ok(()) => 0,
+        Err(error) if error.kind() == IoErrorKind::BrokenPipe => Fault::Write.status(),
         Err(_) => tell_fault(err, Fault::Write),
     }
 }
