@@ -12,9 +12,9 @@ use std::rt::Files;
 const IS_FOLDER: i32 = 21;
 
 // What stands behind standard output, and behind standard error.
-const OUTPUT: &str = "/proc/self/fd/1";
+const OUTPUT_STREAM: &str = "/proc/self/fd/1";
 
-const ERRORS: &str = "/proc/self/fd/2";
+const ERROR_STREAM: &str = "/proc/self/fd/2";
 
 // Opens a file to read it; a folder is none.
 fn open_file(desk: Desk<'_>, role: Role, path: &str) -> Result<File, Fault> {
@@ -126,8 +126,8 @@ pub fn refuse_shared(
     cert: &str,
 ) -> Result<(), Fault> {
     refuse_one_file(rt, pages, tx, cert)?;
-    let output = Named::behind(rt, OUTPUT);
-    let errors = Named::behind(rt, ERRORS);
+    let output = Named::behind(rt, OUTPUT_STREAM);
+    let errors = Named::behind(rt, ERROR_STREAM);
     for path in [pages, path_of(tx), path_of(cert)] {
         let named = named_at(rt, path);
         if are_one(named, output) || are_one(named, errors) {

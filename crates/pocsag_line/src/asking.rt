@@ -4,8 +4,8 @@ use crate::order::{Asked, OpenOrder, Order, PlanOrder, SearchOrder, path_of};
 use crate::texts::{BAD_ROWS, EARLY_STRICT};
 use crate::words::{
     ADDRESS, ALWAYS, CERT, CHECK, CLOSED, DECODE, DEPTH, EACH_FRAME, END, EXPECT, EXPLAIN, HEAR,
-    IDLE, IDLE_LAST, JOURNAL, JSON, KEEP, LIMIT, LIST, OPEN, PAGES, PLAN, RATE, REPAIR, REPORT,
-    ROUND, ROWS, SHOW, STRICT, SVG, TX, VERBOSE, VERIFY, program, show_command,
+    IDLE_LAST, IDLE_NAME, JOURNAL, JSON, KEEP, LIMIT, LIST, OPEN, PAGES, PLAN, RATE, REPAIR,
+    REPORT, ROUND, ROWS, SHOW, STRICT, SVG, TX, VERBOSE, VERIFY, program, show_command,
 };
 use clap::error::ErrorKind;
 use clap::{ArgMatches, Command, Error};
@@ -20,7 +20,7 @@ fn wanted_end(found: &ArgMatches<'_>) -> Option<End> {
     match found.get_str(END)? {
         OPEN => Some(End::Open),
         CLOSED => Some(End::Closed),
-        IDLE => Some(End::Idle),
+        IDLE_NAME => Some(End::Idle),
         _ => None,
     }
 }

@@ -79,9 +79,9 @@ pub(crate) const OPEN: &str = "open";
 
 pub(crate) const CLOSED: &str = "closed";
 
-pub(crate) const IDLE: &str = "idle";
+pub(crate) const IDLE_NAME: &str = "idle";
 
-const ENDS: &[&str] = &[OPEN, CLOSED, IDLE];
+const ENDS: &[&str] = &[OPEN, CLOSED, IDLE_NAME];
 
 // How a word is given.
 #[derive(Clone, Copy)]
