@@ -3,14 +3,17 @@ _pocsag() {
     local word=${COMP_WORDS[COMP_CWORD]} before=${COMP_WORDS[COMP_CWORD - 1]} command=pocsag
     case $before in
     --end)
-        mapfile -t COMPREPLY < <(compgen -W "open closed" -- "$word")
+        compopt +o default 2>/dev/null # no file names where no value fits
+        mapfile -t COMPREPLY < <(compgen -W "open closed idle" -- "$word")
         return
         ;;
     --rate)
+        compopt +o default 2>/dev/null
         mapfile -t COMPREPLY < <(compgen -W "512 1200 2400" -- "$word")
         return
         ;;
     --limit | --expect | --rows | --depth)
+        compopt +o default 2>/dev/null
         COMPREPLY=()
         return
         ;;
@@ -19,15 +22,15 @@ _pocsag() {
         command=${COMP_WORDS[1]}
     fi
     local -A options=(
-        [pocsag]='--verbose --help --version -h -V'
-        [plan]='--limit --end --idle-last --expect --always --verify --keep --verbose --help -h'
+        [pocsag]='--strict --verbose --help --version -h -V'
+        [plan]='--limit --end --idle-last --expect --strict --always --verify --keep --verbose --help -h'
         [check]='--verbose --help -h'
         [explain]='--depth --json --svg --verbose --help -h'
         [decode]='--repair --verbose --help -h'
         [hear]='--verbose --help -h'
         [show]='--svg --list --rows --repair --verbose --help -h'
         [open]='--journal --always --keep --verbose --help -h'
-        [report]='--rate --limit --end --idle-last --expect --always --frames --verbose --help -h'
+        [report]='--rate --limit --end --idle-last --expect --strict --always --frames --verbose --help -h'
         [help]=''
     )
     local commands='plan check explain decode hear show open report help'

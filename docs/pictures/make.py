@@ -71,10 +71,22 @@ def spiral(start, end):
     return "M" + "L".join(point(at / 16, 80 + 40 * at / 16) for at in points)
 
 
+def told_page(start, count, address):
+    words = "1 codeword" if count == 1 else f"{count} codewords"
+    return f"address {address}, from boundary {start % 16} to boundary {(start + count) % 16}, {words}"
+
+
+def legend_line(number, band, text):
+    """What a band of the tour is, below it."""
+    y = 490 + 20 * number
+    return f'<path {band} d="M80 {y}h28"/><text class="n" x="116" y="{y + 4}">{text}</text>'
+
+
 def tour(found, total):
-    """The tour of a transmission on the sixteen boundaries of slots."""
+    """The tour of a transmission on the sixteen boundaries of slots, and below it what each band is."""
+    height = 500 + 20 * len(found)
     lines = [
-        '<svg xmlns="http://www.w3.org/2000/svg" version="1.1" width="480" height="480" viewBox="0 0 480 480"'
+        f'<svg xmlns="http://www.w3.org/2000/svg" version="1.1" width="480" height="{height}" viewBox="0 0 480 {height}"'
         ' role="img" aria-labelledby="title desc">',
         '<title id="title">The tour of the sample round</title>',
         f'<desc id="desc">Sixteen boundaries stand around. The tour begins at boundary 0, goes round once for each of'
@@ -83,6 +95,7 @@ def tour(found, total):
         '<style type="text/css">',
         "svg{background:#fff;font-family:sans-serif;font-size:11px}",
         "text{fill:#222;text-anchor:middle}",
+        ".n{text-anchor:start}",
         ".b{stroke:#ccc}",
         ".i{fill:none;stroke:#ddd;stroke-width:14}",
         ".p{fill:none;stroke-width:14}",
@@ -94,18 +107,19 @@ def tour(found, total):
         x, y = point(boundary / 16, 220).split()
         lines.append(f'<path class="b" d="M{inner}L{outer}"/><text x="{x}" y="{float(y) + 4:.1f}">{boundary}</text>')
     at = 0
+    legend = []
     for number, (start, count, address) in enumerate(found):
         if at < start:
             lines.append(f'<path class="i" d="{spiral(at, start)}"/>')
         at = start + count
-        hue = 137 * (number % 26) % 360
-        lines.append(
-            f'<path class="p" style="stroke:hsl({hue},60%,55%)" d="{spiral(start, at)}"><title>address {address},'
-            f" from boundary {start % 16} to boundary {at % 16}, {count} codewords</title></path>"
-        )
+        band = f'class="p" style="stroke:hsl({137 * (number % 26) % 360},60%,55%)"'
+        told = told_page(start, count, address)
+        lines.append(f'<path {band} d="{spiral(start, at)}"><title>{told}</title></path>')
+        legend.append(legend_line(number, band, told))
     if at < total:
         lines.append(f'<path class="i" d="{spiral(at, total)}"/>')
-    return "\n".join([*lines, "</svg>", ""]).encode()
+    legend.append(legend_line(len(found), 'class="i"', "idle codewords"))
+    return "\n".join([*lines, *legend, "</svg>", ""]).encode()
 
 
 def pictures():

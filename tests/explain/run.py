@@ -64,8 +64,8 @@ CUT_APART = cut([0], 48, overload(0), overload(15))
 SHOWN = [
     ("the worked case", APART, certificate(OPEN, 3, CUT_APART), [], [
         SUM_APART, ROOT_APART,
-        f"  node 1.1: with an idle in slot 0: slot 0: 2 codewords at the least, room for 1: {EACH_LOOP}",
-        f"  node 1.2: with an idle in slot 15: slot 15: 2 codewords at the least, room for 1: {EACH_LOOP}",
+        f"  node 1.1, with an idle in slot 0: slot 0: 2 codewords at the least, room for 1; {EACH_LOOP}",
+        f"  node 1.2, with an idle in slot 15: slot 15: 2 codewords at the least, room for 1; {EACH_LOOP}",
     ]),
     ("its root alone", APART, certificate(OPEN, 3, CUT_APART), ["--depth", "1"], [SUM_APART, ROOT_APART, ".. 2 nodes below"]),
     ("its sum alone", APART, certificate(OPEN, 3, CUT_APART), ["--depth", "0"], [SUM_APART, ".. 3 nodes below"]),
@@ -77,9 +77,9 @@ SHOWN = [
     ("two cases", TONES, certificate(OPEN, 2, split(81, 1, overload(11), overload(10, 11))), [], [
         SUM_TONES,
         "node 1: no page of frame 5 and length 1 modulo 16 starts in slot 10, or at least 1 does",
-        "  node 1.1: in the first case: slot 11: 3 codewords at the least, room for 1: "
+        "  node 1.1, in the first case: slot 11: 3 codewords at the least, room for 1; "
         "3 from 3 pages of frame 5 and length 1 modulo 16",
-        f"  node 1.2: in the second case: {STARTS}",
+        f"  node 1.2, in the second case: {STARTS}",
     ]),
     ("two cases at 2", TONES, certificate(OPEN, 2, split(81, 2, overload(11), overload(10))), ["--depth=1"], [
         SUM_TONES,
@@ -94,7 +94,7 @@ SHOWN = [
     ("a closed end", LOOP, certificate(CLOSED, 2, close(overload(15))), [], [
         "at least 2 batches, closed end: 1 page, 16 codewords, room for 16 in 1 batch, yet",
         "node 1: the last codeword is an idle in slot 15; 1 way",
-        "  node 1.1: with an idle in slot 15: slot 15: 1 codeword at the least, room for 0: "
+        "  node 1.1, with an idle in slot 15: slot 15: 1 codeword at the least, room for 0; "
         "1 from 1 page of frame 0 and length 0 modulo 16",
     ]),
     ("a closed end with tones", TONES, certificate(CLOSED, 2, overload(10, 11)), [], [
@@ -103,7 +103,7 @@ SHOWN = [
     ("an idle end", LOOP, certificate(IDLE, 2, close(overload(15))), [], [
         "at least 2 batches, idle end: 1 page, 16 codewords, room for 16 in 1 batch, yet",
         "node 1: the last codeword is an idle in slot 15; 1 way",
-        "  node 1.1: with an idle in slot 15: slot 15: 1 codeword at the least, room for 0: "
+        "  node 1.1, with an idle in slot 15: slot 15: 1 codeword at the least, room for 0; "
         "1 from 1 page of frame 0 and length 0 modulo 16",
     ]),
     ("an idle end with tones", TONES, certificate(IDLE, 2, overload(10, 11)), [], [
@@ -201,9 +201,9 @@ TONES_LATE = [0] * 11 + [3] + [0] * 4
 DRAWN = [
     ("the worked case", APART, certificate(OPEN, 3, CUT_APART), 0, SUM_APART, [
         (ROOT_APART, IN_EACH, TWO_PLACES, [], [0]),
-        (f"node 1.1: with an idle in slot 0: slot 0: 2 codewords at the least, room for 1: {EACH_LOOP}",
+        (f"node 1.1, with an idle in slot 0: slot 0: 2 codewords at the least, room for 1; {EACH_LOOP}",
          IN_EACH, [1] + [2] * 15, [0], []),
-        (f"node 1.2: with an idle in slot 15: slot 15: 2 codewords at the least, room for 1: {EACH_LOOP}",
+        (f"node 1.2, with an idle in slot 15: slot 15: 2 codewords at the least, room for 1; {EACH_LOOP}",
          IN_EACH, [2] * 15 + [1], [15], []),
     ]),
     ("a full frame", TONES, certificate(OPEN, 2, overload(10, 11)), 0, SUM_TONES, [
@@ -211,9 +211,9 @@ DRAWN = [
     ]),
     ("two cases", TONES, certificate(OPEN, 2, split(81, 1, overload(11), overload(10, 11))), 0, SUM_TONES, [
         ("node 1: no page of frame 5 and length 1 modulo 16 starts in slot 10, or at least 1 does", NO_TONE, ONE_PLACE, [], []),
-        ("node 1.1: in the first case: slot 11: 3 codewords at the least, room for 1: "
+        ("node 1.1, in the first case: slot 11: 3 codewords at the least, room for 1; "
          "3 from 3 pages of frame 5 and length 1 modulo 16", TONES_LATE, ONE_PLACE, [11], []),
-        (f"node 1.2: in the second case: {STARTS}", [0] * 10 + [1] + [0] * 5, ONE_PLACE, [10, 11], []),
+        (f"node 1.2, in the second case: {STARTS}", [0] * 10 + [1] + [0] * 5, ONE_PLACE, [10, 11], []),
     ]),
     ("no batches", TONES, certificate(OPEN, 1, overload(10, 11)), 0,
      "at least 1 batch, open end: 3 pages, 3 codewords, room for 0 in 0 batches", [
@@ -222,15 +222,15 @@ DRAWN = [
     ("a closed end", LOOP, certificate(CLOSED, 2, close(overload(15))), 0,
      "at least 2 batches, closed end: 1 page, 16 codewords, room for 16 in 1 batch, yet", [
         ("node 1: the last codeword is an idle in slot 15; 1 way", [1] * 16, ONE_PLACE, [], []),
-        ("node 1.1: with an idle in slot 15: slot 15: 1 codeword at the least, room for 0: "
+        ("node 1.1, with an idle in slot 15: slot 15: 1 codeword at the least, room for 0; "
          "1 from 1 page of frame 0 and length 0 modulo 16", [1] * 16, [1] * 15 + [0], [15], []),
     ]),
     ("a refused node", APART, certificate(OPEN, 3, cut([0], 48, overload(0), overload(0))), 1,
      "not shown: node 1.2: slot 0: 2 codewords at the least, room for 2", [
         (ROOT_APART, IN_EACH, TWO_PLACES, [], [0]),
-        (f"node 1.1: with an idle in slot 0: slot 0: 2 codewords at the least, room for 1: {EACH_LOOP}",
+        (f"node 1.1, with an idle in slot 0: slot 0: 2 codewords at the least, room for 1; {EACH_LOOP}",
          IN_EACH, [1] + [2] * 15, [0], []),
-        ("node 1.2: with an idle in slot 15: slot 0: 2 codewords at the least, room for 2", IN_EACH, [2] * 15 + [1], [0], []),
+        ("node 1.2, with an idle in slot 15: slot 0: 2 codewords at the least, room for 2", IN_EACH, [2] * 15 + [1], [0], []),
     ]),
     ("a refused root", APART, certificate(OPEN, 3, cut([0, 1], 48, overload(0), overload(15), overload(1))), 1,
      "not shown: node 1: 2 ways out of boundaries 0 and 1, and 3 nodes for them", [
@@ -240,9 +240,9 @@ DRAWN = [
      certificate(OPEN, 2, split(81, 1, overload(11), split(81, 2, overload(9), overload(10)))), 1,
      "not shown: node 1.2.1: slot 9: 0 codewords at the least, room for 1", [
         ("node 1: no page of frame 5 and length 1 modulo 16 starts in slot 10, or at least 1 does", NO_TONE, ONE_PLACE, [], []),
-        ("node 1.1: in the first case: slot 11: 3 codewords at the least, room for 1: "
+        ("node 1.1, in the first case: slot 11: 3 codewords at the least, room for 1; "
          "3 from 3 pages of frame 5 and length 1 modulo 16", TONES_LATE, ONE_PLACE, [11], []),
-        ("node 1.2: in the second case: fewer than 2 pages of frame 5 and length 1 modulo 16 start in slot 10, or at least 2 do",
+        ("node 1.2, in the second case: fewer than 2 pages of frame 5 and length 1 modulo 16 start in slot 10, or at least 2 do",
          [0] * 10 + [1] + [0] * 5, ONE_PLACE, [], []),
     ]),
 ]

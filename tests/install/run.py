@@ -25,7 +25,7 @@ PACKAGE = "lib/pkgconfig/pocsag.pc"
 LIBRARY = ["lib/libpocsag.a", "lib/libpocsag.so.1", "include/pocsag.h", MODULE, PACKAGE, "lib/libpocsag.so"]
 COMMANDS = ["plan", "check", "explain", "decode", "hear", "show", "open", "report"]
 # Options with a value, and what is offered for it.
-VALUES = {"--end": {"open", "closed"}, "--rate": {"512", "1200", "2400"}, "--limit": set(), "--expect": set()}
+VALUES = {"--end": {"open", "closed", "idle"}, "--rate": {"512", "1200", "2400"}, "--limit": set(), "--expect": set()}
 
 
 def install(*words):
@@ -157,6 +157,9 @@ def try_refused(tally, folder):
     tally.check("two folders are usage", status == 2 and "PREFIX" in err, (status, out, err))
     status, out, err = install("--wrong")
     tally.check("an unknown option is usage", status == 2 and not out, (status, out, err))
+    for words in ([""], ["--program", ""], ["--uninstall", ""]):
+        status, out, err = install(*words)
+        tally.check(f"no folder is usage: {words}", status == 2 and "PREFIX" in err and not out, (status, out, err))
     status, out, err = install("--help")
     tally.check("help", status == 0 and "PREFIX" in out and not err, (status, out, err))
     (folder / "file").write_text("")
@@ -170,6 +173,13 @@ def completed(*words):
     script = '. "$1"; shift; COMP_WORDS=("$@"); COMP_CWORD=$(($# - 1)); _pocsag; printf "%s\\n" "${COMPREPLY[@]}"'
     ran = subprocess.run(["bash", "-c", script, "bash", str(TOP / "completions/pocsag.bash"), "pocsag", *words], capture_output=True, text=True)
     return set(ran.stdout.split()), ran.stderr
+
+
+def leaves_files_out(option):
+    """Whether bash is told to offer no file names behind the option."""
+    script = '. "$1"; compopt() { echo "compopt $*"; }; COMP_WORDS=(pocsag plan "$2" x); COMP_CWORD=3; _pocsag'
+    ran = subprocess.run(["bash", "-c", script, "bash", str(TOP / "completions/pocsag.bash"), option], capture_output=True, text=True)
+    return ran.stdout == "compopt +o default\n"
 
 
 def help_options(*words):
@@ -193,6 +203,9 @@ def try_completions(tally, _folder):
         tally.check(f"files after {command}", completed(command, "") == (set(), ""), completed(command, ""))
     for option, values in VALUES.items():
         tally.check(f"the values of {option}", completed("plan", option, "") == (values, ""), completed("plan", option, ""))
+    for option in ("--end", "--rate", "--limit", "--expect", "--rows", "--depth"):
+        tally.check(f"no file names after {option}", leaves_files_out(option))
+    tally.check("file names after --journal", not leaves_files_out("--journal"))
     tally.check("a value begun", completed("plan", "--end", "c")[0] == {"closed"})
 
 

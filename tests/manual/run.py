@@ -93,6 +93,9 @@ def compare(tally, text):
         values = [value for word, value in own.items() if value]
         tally.check(f"the words of {name}", sorted(tail) == sorted(positional + values), (tail, positional, values))
     tally.check("the manual's options", tagged == asked, (tagged, asked))
+    for words in ([], *([name] for name in sorted(told - {"help"}))):
+        wide = [line for line in help_of(*words).splitlines() if len(line) > 80]
+        tally.check(f"help within 80 columns: {words}", not wide, wide)
 
 
 def main():

@@ -1,6 +1,7 @@
 use pocsag_faults::{Fault, Outputs};
 use pocsag_files::{
-    Beside, Desk, Output, is_regular_or_none, make_outputs, put_both, refuse_equal, refuse_one_file,
+    Beside, Desk, Output, is_regular_or_none, make_outputs, put_both, refuse_equal,
+    refuse_one_file, refuse_shared,
 };
 use pocsag_line::STANDARD;
 use pocsag_notes::{Role, WriterSink};
@@ -30,7 +31,7 @@ impl<'a> RoundFiles<'a> {
         if !is_regular_or_none(self.desk.rt, tx) || !is_regular_or_none(self.desk.rt, cert) {
             return Err(Fault::Device);
         }
-        refuse_one_file(self.desk.rt, self.pages, tx, cert)?;
+        refuse_shared(self.desk.rt, self.pages, tx, cert)?;
         let tx = Beside::make(self.desk, Role::Transmission, tx)?;
         let made = self.make_second(&tx, cert);
         if made.is_err() {

@@ -585,21 +585,19 @@ fn notes_are_told(rt: HostRuntime) -> Result<(), Fail> {
         (
             Ok(0),
             swallowed,
-            "pocsag: page file p?.csv, line 2, record 1, address '8': the message holds 2 line feeds; \
-             if they are not meant, a quote is not closed\n",
+            "pocsag: page file p?.csv: record 1: the quote in line 2 is not closed\n",
         ),
         (
             Err(Fault::Round(RoundFault::BadCharacter(1, 2))),
             BAD_FILE,
             "pocsag: page file p?.csv, line 2, record 1, address '7': the message is '12a', \
-             its kind 'numeric'; the byte is 0x61\n",
+             its kind 'numeric'; the byte at 2, counted from 0, is 0x61; numeric has 0123456789*U -][\n",
         ),
         (
             Err(Fault::Round(RoundFault::FieldCount(2))),
             b"address,kind,message\n8,tone0,\n\n9,alpha,\"a\nb\",c,\"\n\nd\",\n16,tone0\n",
             "pocsag: page file p?.csv, line 4, record 2, address '9': 6 fields, where address,kind,message are wanted; \
-             a message with a comma stands in quotes\n\
-             pocsag: quotes must be closed: record 2 holds 3 line feeds\n",
+             a message with a comma stands in quotes\n",
         ),
         (
             Err(Fault::Device),
@@ -609,7 +607,8 @@ fn notes_are_told(rt: HostRuntime) -> Result<(), Fail> {
         (
             Err(Fault::EqualPaths),
             b"",
-            "pocsag: page file p?.csv\npocsag: certificate c\n",
+            "pocsag: page file p?.csv\npocsag: certificate c\n\
+             pocsag: '-' is standard input, which only one of the two can be\n",
         ),
     ];
     for (done, file, due) in cases {

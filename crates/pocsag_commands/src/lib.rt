@@ -10,6 +10,7 @@ mod frames;
 mod receiving;
 mod reporting;
 mod showing;
+mod strict;
 mod verifying;
 
 pub use checking::{CheckVerdict, judge_certificate, run_check};
@@ -21,4 +22,5 @@ pub use pocsag_options::{Rows, View};
 pub use receiving::{TRANSMISSION_LIMIT, list_decoded, list_heard, run_decode, run_hear};
 pub use reporting::run_frames;
 pub use showing::run_show;
+pub use strict::{refuse_bad_limit, strict_file};
 pub use verifying::run_verify;

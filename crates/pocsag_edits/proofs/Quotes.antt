@@ -8,7 +8,7 @@ use Rattle.csv.specs.Reading.{is_bom, strip_bom}
 use Rattle.csv.specs.Writing.{default_writer, escaped, needs_byte, needs_quotes}
 use Rattle.pocsag_edits.specs.declared.quoting.Quoting.{Quoting}
 use Rattle.pocsag_edits.specs.declared.quoting.Quoting.TheVariants as at
-use Rattle.pocsag_edits.specs.Quotes.{MayEnd, misplaced, quoting_after, quoting_from}
+use Rattle.pocsag_edits.specs.Quotes.{MayEnd, unquoted_after, quoting_after, quoting_from}
 use Rattle.pocsag_edits.specs.Spelling.{IsRowText}
 use Rattle.pocsag_edits.specs.Spelling.IsFieldText.{bare, between_quotes}
 use Rattle.pocsag_edits.specs.Spelling.IsRowText.{last, before}
@@ -114,8 +114,8 @@ unfolding quoting_from
 never_ended [] m = m
 never_ended (b ∷ xs) m = never_ended xs m
 
-never_misplaced : (b : ℕ) (xs : List ℕ) → MayEnd (quoting_from (misplaced b) xs) → ⊥
-never_misplaced b xs m = elim (cases_Bool (b == 34)) [
+never_unquoted : (b : ℕ) (xs : List ℕ) → MayEnd (quoting_from (unquoted_after b) xs) → ⊥
+never_unquoted b xs m = elim (cases_Bool (b == 34)) [
   | inl quote ↦ never_broken xs (rw quote at m)
   | inr other ↦ never_ended xs (rw other at m)
 ]
@@ -145,7 +145,7 @@ text_at at.Bare held (b ∷ xs) h m = elim (cases_Bool (b == 44)) [
       let rest = text_at at.Start [] xs tt (rw comma at m) in
       rw (eqb-true b 44 comma) (held ∷ rest.0, before (bare h) rest.1)
   | inr inside ↦ elim (cases_Bool (needs_byte default_writer b)) [
-    | inl bad ↦ absurd (never_misplaced b xs (rw (bad, inside) at m))
+    | inl bad ↦ absurd (never_unquoted b xs (rw (bad, inside) at m))
     | inr plain ↦
         subst IsText (append_assoc held (b ∷ []) xs)
         (text_at at.Bare (held ++ b ∷ []) xs (plain_more held b h plain) (rw (plain, inside) at m))

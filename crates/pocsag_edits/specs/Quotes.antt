@@ -5,12 +5,12 @@ use Rattle.pocsag_edits.specs.declared.quoting.Quoting.{Quoting}
 use Rattle.pocsag_edits.specs.declared.quoting.Quoting.TheVariants as at
 
 -- After a byte that calls for quotes, where there are none: a quote that is out of place, or the end of the record.
-abbrev pub misplaced : ℕ → Quoting
-misplaced b = if b == quote_mark then at.Broken else at.Ended
+abbrev pub unquoted_after : ℕ → Quoting
+unquoted_after b = if b == quote_mark then at.Broken else at.Ended
 
 -- After a byte of a field without quotes.
 abbrev pub bare_after : ℕ → Quoting
-bare_after b = if b == comma then at.Start else if needs_byte default_writer b then misplaced b else at.Bare
+bare_after b = if b == comma then at.Start else if needs_byte default_writer b then unquoted_after b else at.Bare
 
 -- After one byte more.
 abbrev pub quoting_after : Quoting → ℕ → Quoting

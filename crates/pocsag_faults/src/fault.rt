@@ -5,6 +5,7 @@ use pocsag_decode::{DecodeFault, ListFault};
 use pocsag_pager::PagerFault;
 use pocsag_pages::{RoundFault, WholeFault};
 use pocsag_plan_faults::{BadRate, PlanFault, StreamFault};
+use pocsag_quotes::QuoteFault;
 use pocsag_show::{Rows, ShowFault};
 use pocsag_tree::CertificateFault;
 use pocsag_words::OutOfMemory;
@@ -42,6 +43,8 @@ pub enum Fault {
     Unexpected(u32, u32),
     /// The transmission has so many batches, and the first row that `show` is asked for is behind them.
     NoSuchRows { rows: Rows, batches: u64 },
+    /// A quote of the page file is misplaced, where `--strict` is given.
+    Quotes(QuoteFault),
 }
 
 impl Fault {
@@ -104,8 +107,13 @@ impl Display for Fault {
                 write!(f, "pages {found}, where {expected} were expected")
             }
             Fault::NoSuchRows { rows, batches } => {
-                write!(f, "rows {rows}: the transmission has {batches} batches")
+                let plural = if *batches == 1 { "" } else { "es" };
+                write!(
+                    f,
+                    "rows {rows}: the transmission has {batches} batch{plural}"
+                )
             }
+            Fault::Quotes(refused) => Display::fmt(refused, f),
             _ => Ok(()),
         }
     }

@@ -42,7 +42,7 @@ pub fn tell_explained<S: Sink>(
     tell_notes(alloc, err, notes.texts())
 }
 
-// Notes on a fault, or on what was done, and on the repair.
+// Notes on a fault, or on what was done; on a repair where nothing was refused.
 fn note_done(
     alloc: Global,
     done: Result<u8, Fault>,
@@ -50,12 +50,11 @@ fn note_done(
     notes: &mut Notes,
 ) -> Result<(), OutOfMemory> {
     match done {
-        Ok(0) if scene.names.pages.is_some() => note_line_feeds(alloc, scene, notes)?,
-        Ok(1) if scene.names.cert.is_some() => note_not_shown(scene, notes)?,
-        Ok(_) => {}
-        Err(fault) => explain(alloc, fault, scene, notes)?,
+        Ok(0) if scene.names.pages.is_some() => note_line_feeds(alloc, scene, notes),
+        Ok(1) if scene.names.cert.is_some() => note_not_shown(scene, notes),
+        Ok(_) => note_repair(alloc, scene, notes),
+        Err(fault) => explain(alloc, fault, scene, notes),
     }
-    note_repair(alloc, scene, notes)
 }
 
 // What is told of one file, where a fault says no more.
@@ -67,6 +66,10 @@ fn advice(fault: Fault, subject: Role) -> Option<(Role, &'static str)> {
         Fault::Round(RoundFault::NoPages) => {
             Some((Role::PageFile, "no record follows the header"))
         }
+        Fault::Quotes(_) => Some((
+            Role::PageFile,
+            "a field with a comma, a quote or a line feed stands in quotes, and a quote in it is written twice",
+        )),
         Fault::SearchLimit(..) => Some((
             Role::PageFile,
             "try --always, which refuses no round; or --limit N, up to 1000000",
@@ -98,12 +101,27 @@ fn explain(
         | Fault::Round(RoundFault::ReadFault)
         | Fault::Certificate(CertificateFault::ReadFault) => note_trouble(scene, notes),
         Fault::Round(refused) => explain_round(alloc, refused, scene, notes),
+        Fault::EqualPaths => note_equal(&scene.names, notes),
         Fault::Unexpected(..) => note_unexpected(alloc, scene, notes),
         Fault::Transmission(refused) => explain_transmission(refused, scene, notes),
         Fault::Pager(refused) => explain_pager(refused, scene, notes),
         Fault::NotThePages | Fault::NotTheEnd | Fault::NotTheBound => note_changed(scene, notes),
         _ => note_names(&scene.names, notes),
     }
+}
+
+// Words that name one file.
+fn note_equal(names: &Names<'_>, notes: &mut Notes) -> Result<(), OutOfMemory> {
+    note_names(names, notes)?;
+    notes.add(match (names.tx, names.cert) {
+        (Some(_), _) => {
+            "each must be a file of its own, and none that behind standard output or standard error; '-' in place of TX or of CERT writes to standard output"
+        }
+        (None, Some(_)) => "'-' is standard input, which only one of the two can be",
+        (None, None) => {
+            "the lines of open come from standard input, so PAGES and FILE must be two other files"
+        }
+    })
 }
 
 // A page file with another number of pages than was expected.

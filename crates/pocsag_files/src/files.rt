@@ -1,8 +1,8 @@
 use crate::desk::Desk;
-use crate::paths::{Named, name_one_file};
+use crate::paths::{Named, are_one, name_one_file};
 use crate::streams::{Input, Output};
 use pocsag_faults::{Fault, Outputs};
-use pocsag_line::path_of;
+use pocsag_line::{STANDARD, path_of};
 use pocsag_notes::{ReaderSource, Role, WriterSink};
 use std::fs::{self, File, OpenFile, OpenOptions};
 use std::io::BufReader;
@@ -10,6 +10,11 @@ use std::rt::Files;
 
 // The system's number for a folder where a file is wanted.
 const IS_FOLDER: i32 = 21;
+
+// What stands behind standard output, and behind standard error.
+const OUTPUT_STREAM: &str = "/proc/self/fd/1";
+
+const ERROR_STREAM: &str = "/proc/self/fd/2";
 
 // Opens a file to read it; a folder is none.
 fn open_file(desk: Desk<'_>, role: Role, path: &str) -> Result<File, Fault> {
@@ -102,7 +107,7 @@ pub fn make_outputs<'a>(
     tx: &str,
     cert: &str,
 ) -> Result<Outputs<WriterSink<'a, Output<File>>>, Fault> {
-    refuse_one_file(desk.rt, pages, tx, cert)?;
+    refuse_shared(desk.rt, pages, tx, cert)?;
     let opened_tx = open_output(desk, Role::Transmission, tx)?;
     let opened_cert = open_second(desk, pages, tx, cert)?;
     empty_both(desk, &opened_tx, &opened_cert)?;
@@ -110,6 +115,30 @@ pub fn make_outputs<'a>(
         tx: WriterSink::new(opened_tx, Role::Transmission, desk.watch),
         cert: WriterSink::new(opened_cert, Role::Certificate, desk.watch),
     })
+}
+
+/// Refuses words of which two name one file, whatever their spelling, or one names what stands behind a stream that
+/// takes the lines.
+pub fn refuse_shared(
+    rt: &HostRuntime,
+    pages: Option<&str>,
+    tx: &str,
+    cert: &str,
+) -> Result<(), Fault> {
+    refuse_one_file(rt, pages, tx, cert)?;
+    let output = Named::behind(rt, OUTPUT_STREAM);
+    let errors = Named::behind(rt, ERROR_STREAM);
+    for path in [pages, path_of(tx), path_of(cert)] {
+        let named = named_at(rt, path);
+        if are_one(named, output) || are_one(named, errors) {
+            return Err(Fault::EqualPaths);
+        }
+    }
+    // Where standard output takes a file, standard error takes the lines.
+    if (tx == STANDARD || cert == STANDARD) && are_one(output, errors) {
+        return Err(Fault::EqualPaths);
+    }
+    Ok(())
 }
 
 /// Refuses words of which two name one file, whatever their spelling.

@@ -7,13 +7,14 @@ mod explaining;
 mod files;
 mod journal_notes;
 mod keeping;
+mod left_over;
 mod misuse;
 mod paths;
 mod streams;
 
 pub use desk::Desk;
 pub use explaining::{tell_explained, tell_notes};
-pub use files::{make_outputs, open_buffered, open_source, refuse_one_file};
+pub use files::{make_outputs, open_buffered, open_source, refuse_one_file, refuse_shared};
 pub use journal_notes::JournalNotes;
 pub use keeping::{Beside, put_both};
 pub use misuse::{Misuse, is_regular_or_none, misused, tell_misuse};

@@ -4,7 +4,7 @@ ghost use Rattle.pocsag_files.specs.Paths.{AreOne, HasEqual, IsNamedBefore, path
 
 use pocsag_faults::Fault;
 use std::fs::{self, Metadata};
-use std::os::unix::fs::MetadataExt;
+use std::os::unix::fs::{FileTypeExt, MetadataExt};
 use std::rt::Files;
 
 // Whether one of the paths before the place is equal to that at the place.
@@ -70,6 +70,14 @@ impl Named {
             Err(_) => None,
         }
     }
+
+    /// The file that the path of a stream names. A character device, as a terminal, is left out: it keeps nothing.
+    pub fn behind<R: Files>(rt: &R, path: &str) -> Option<Named> {
+        match fs::metadata(rt, path) {
+            Ok(metadata) if !metadata.file_type().is_char_device() => Some(Named::of(&metadata)),
+            _ => None,
+        }
+    }
 }
 
 /// Whether two of the files that the paths of a plan name are one.
@@ -79,7 +87,7 @@ pub fn name_one_file(pages: Option<Named>, tx: Option<Named>, cert: Option<Named
     are_one(pages, tx) || are_one(pages, cert) || are_one(tx, cert)
 }
 
-fn are_one(one: Option<Named>, other: Option<Named>) -> bool
+pub(crate) fn are_one(one: Option<Named>, other: Option<Named>) -> bool
     ensures { IsTrue result ↔ AreOne one other }
 {
     match (one, other) {

@@ -1,11 +1,11 @@
 //! What the words that `clap` found ask for.
 
 use crate::order::{Asked, OpenOrder, Order, PlanOrder, SearchOrder, path_of};
-use crate::texts::BAD_ROWS;
+use crate::texts::{BAD_ROWS, EARLY_STRICT};
 use crate::words::{
     ADDRESS, ALWAYS, CERT, CHECK, CLOSED, DECODE, DEPTH, EACH_FRAME, END, EXPECT, EXPLAIN, HEAR,
-    IDLE_LAST, JOURNAL, JSON, KEEP, LIMIT, LIST, OPEN, PAGES, PLAN, RATE, REPAIR, REPORT, ROUND,
-    ROWS, SHOW, SVG, TX, VERBOSE, VERIFY, program,
+    IDLE_LAST, IDLE_NAME, JOURNAL, JSON, KEEP, LIMIT, LIST, OPEN, PAGES, PLAN, RATE, REPAIR,
+    REPORT, ROUND, ROWS, SHOW, STRICT, SVG, TX, VERBOSE, VERIFY, program, show_command,
 };
 use clap::error::ErrorKind;
 use clap::{ArgMatches, Command, Error};
@@ -20,6 +20,7 @@ fn wanted_end(found: &ArgMatches<'_>) -> Option<End> {
     match found.get_str(END)? {
         OPEN => Some(End::Open),
         CLOSED => Some(End::Closed),
+        IDLE_NAME => Some(End::Idle),
         _ => None,
     }
 }
@@ -32,6 +33,7 @@ fn search_of(found: &ArgMatches<'_>) -> Option<SearchOrder> {
     };
     Some(SearchOrder {
         expect: found.get_one::<u32>(EXPECT),
+        strict: found.get_flag(STRICT),
         search: Search {
             limit: found.get_one::<u32>(LIMIT)?,
             end: wanted_end(found)?,
@@ -157,12 +159,16 @@ fn report_order<'a>(found: &ArgMatches<'a>) -> Option<Order<'a>> {
 
 // What was found asks for; nothing where a word is not there, which clap has seen to.
 fn asked_from<'a>(matches: &ArgMatches<'a>) -> Option<Asked<'a>> {
+    let is_strict = matches.get_flag(STRICT);
     let Some((name, found)) = matches.subcommand() else {
         return Some(Asked {
-            order: Order::Input,
+            order: Order::Input { strict: is_strict },
             verbose: matches.get_flag(VERBOSE),
         });
     };
+    if is_strict {
+        return None;
+    }
     Some(Asked {
         order: order_from(name, found)?,
         verbose: found.get_flag(VERBOSE),
@@ -187,21 +193,24 @@ fn order_from<'a>(name: &str, found: &ArgMatches<'a>) -> Option<Order<'a>> {
 pub fn asked_of<'a>(alloc: Global, words: &'a [String]) -> Result<Asked<'a>, Error> {
     let mut program = program(alloc)?;
     let matches = program.try_get_matches_from_mut(words)?;
-    asked_or_refused(&mut program, &matches)
+    asked_or_refused(alloc, &mut program, &matches)
 }
 
 fn asked_or_refused<'a>(
+    alloc: Global,
     program: &mut Command<'a>,
     matches: &ArgMatches<'a>,
 ) -> Result<Asked<'a>, Error> {
     if let Some(asked) = asked_from(matches) {
         return Ok(asked);
     }
-    let (kind, text) = match matches.subcommand() {
+    if matches.get_flag(STRICT) {
+        return Err(program.error(ErrorKind::ArgumentConflict, EARLY_STRICT)?);
+    }
+    match matches.subcommand() {
         Some((SHOW, found)) if wanted_rows(found).is_none() => {
-            (ErrorKind::ValueValidation, BAD_ROWS)
+            Err(show_command(alloc)?.error(ErrorKind::ValueValidation, BAD_ROWS)?)
         }
-        _ => (ErrorKind::MissingRequiredArgument, "a word is missing"),
-    };
-    Err(program.error(kind, text)?)
+        _ => Err(program.error(ErrorKind::MissingRequiredArgument, "a word is missing")?),
+    }
 }

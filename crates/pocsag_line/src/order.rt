@@ -18,8 +18,10 @@ pub struct Asked<'a> {
 /// A command and its words. Where a command reads standard input in place of a file, there is no path.
 #[derive(Clone, Copy)]
 pub enum Order<'a> {
-    /// No words: a page file from standard input.
-    Input,
+    /// No words: a page file from standard input, and whether its quotes are judged.
+    Input {
+        strict: bool,
+    },
     /// `plan PAGES TX CERT`.
     Plan(PlanOrder<'a>),
     /// `check PAGES CERT`: the paths of the page file and of the certificate.
@@ -92,5 +94,7 @@ pub struct OpenOrder<'a> {
 #[derive(Clone, Copy)]
 pub struct SearchOrder {
     pub expect: Option<u32>,
+    /// Whether a misplaced quote refuses the page file.
+    pub strict: bool,
     pub search: Search,
 }

@@ -5,8 +5,8 @@ use crate::texts::{
     EXPECT_HELP, EXPLAIN_ABOUT, EXPLAIN_MANUAL, FIRST_PAGES_HELP, FRAMES_HELP, HEAR_ABOUT,
     IDLE_LAST_HELP, JOURNAL_HELP, JSON_HELP, KEEP_HELP, LIMIT_HELP, LIST_HELP, MANUAL, OPEN_MANUAL,
     PAGES_HELP, PICTURE_HELP, PLAN_ABOUT, PLAN_MANUAL, RATE_HELP, REPAIR_HELP, REPORT_ABOUT,
-    ROUND_ABOUT, ROWS_HELP, SHOW_ABOUT, SHOW_MANUAL, SVG_HELP, TX_HELP, VERBOSE_HELP, VERIFY_HELP,
-    VERSION,
+    ROUND_ABOUT, ROWS_HELP, SHOW_ABOUT, SHOW_MANUAL, STRICT_HELP, SVG_HELP, TX_HELP, VERBOSE_HELP,
+    VERIFY_HELP, VERSION,
 };
 use clap::{Arg, ArgAction, Command, value_parser};
 use std::alloc::{AllocError, Global};
@@ -51,6 +51,8 @@ pub(crate) const VERIFY: &str = "verify";
 
 pub(crate) const EXPECT: &str = "expect";
 
+pub(crate) const STRICT: &str = "strict";
+
 pub(crate) const KEEP: &str = "keep";
 
 pub(crate) const JOURNAL: &str = "journal";
@@ -77,7 +79,9 @@ pub(crate) const OPEN: &str = "open";
 
 pub(crate) const CLOSED: &str = "closed";
 
-const ENDS: &[&str] = &[OPEN, CLOSED];
+pub(crate) const IDLE_NAME: &str = "idle";
+
+const ENDS: &[&str] = &[OPEN, CLOSED, IDLE_NAME];
 
 // How a word is given.
 #[derive(Clone, Copy)]
@@ -202,6 +206,12 @@ const EXPECT_OPTION: LineWord = LineWord {
     ..FLAG
 };
 
+const STRICT_FLAG: LineWord = LineWord {
+    id: STRICT,
+    help: STRICT_HELP,
+    ..FLAG
+};
+
 const DEPTH_OPTION: LineWord = LineWord {
     id: DEPTH,
     help: DEPTH_HELP,
@@ -300,7 +310,14 @@ const POCSAG: Shape = Shape {
     name: PROGRAM,
     about: ABOUT,
     manual: Some(MANUAL),
-    words: &[VERBOSE_FLAG],
+    words: &[STRICT_FLAG, VERBOSE_FLAG],
+};
+
+const SHOW_SHAPE: Shape = Shape {
+    name: SHOW,
+    about: SHOW_ABOUT,
+    manual: Some(SHOW_MANUAL),
+    words: &[TX_PLACE, SVG_FLAG, ROWS_OPTION, LIST_FLAG, REPAIR_FLAG],
 };
 
 const COMMANDS: &[Shape] = &[
@@ -316,6 +333,7 @@ const COMMANDS: &[Shape] = &[
             END_OPTION,
             IDLE_LAST_FLAG,
             EXPECT_OPTION,
+            STRICT_FLAG,
             ALWAYS_FLAG,
             VERIFY_FLAG,
             KEEP_FLAG,
@@ -351,12 +369,7 @@ const COMMANDS: &[Shape] = &[
         manual: None,
         words: &[ADDRESS_PLACE, TX_PLACE],
     },
-    Shape {
-        name: SHOW,
-        about: SHOW_ABOUT,
-        manual: Some(SHOW_MANUAL),
-        words: &[TX_PLACE, SVG_FLAG, ROWS_OPTION, LIST_FLAG, REPAIR_FLAG],
-    },
+    SHOW_SHAPE,
     Shape {
         name: ROUND,
         about: ROUND_ABOUT,
@@ -374,6 +387,7 @@ const COMMANDS: &[Shape] = &[
             END_OPTION,
             IDLE_LAST_FLAG,
             EXPECT_OPTION,
+            STRICT_FLAG,
             ALWAYS_FLAG,
             EACH_FRAME_FLAG,
         ],
@@ -429,4 +443,9 @@ fn with_commands<'a>(alloc: Global, mut program: Command<'a>) -> Result<Command<
 pub(crate) fn program<'a>(alloc: Global) -> Result<Command<'a>, AllocError> {
     let program = command(alloc, &POCSAG)?.version(VERSION).bin_name(PROGRAM)?;
     with_commands(alloc, program)
+}
+
+/// What `clap` is told of `show`, for errors that it does not find itself.
+pub(crate) fn show_command<'a>(alloc: Global) -> Result<Command<'a>, AllocError> {
+    command(alloc, &SHOW_SHAPE)?.bin_name("pocsag show")
 }

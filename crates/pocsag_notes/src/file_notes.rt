@@ -3,7 +3,8 @@
 use crate::note::Notes;
 use crate::role::{NamedFile, Role};
 use crate::scene::Scene;
-use pocsag_pages::{FileRecords, RecordSize, RoundFault, line_feeds};
+use pocsag_pages::{FieldCount, FileRecords, RoundFault, line_feeds};
+use pocsag_quotes::quote_fault;
 use pocsag_words::OutOfMemory;
 use std::alloc::Global;
 use std::fmt::{self, Display};
@@ -11,19 +12,32 @@ use std::fmt::{self, Display};
 // How many bytes of a field are shown.
 const SHOWN: usize = 40;
 
-// The front of some bytes, all of them as visible characters.
+// The front of some bytes, all of them as visible characters, or the part of them that ends with a byte.
 #[derive(Clone, Copy)]
 struct Excerpt<'a> {
     bytes: &'a [u8],
+    // The place of a byte that has to be shown.
+    at: usize,
+}
+
+impl<'a> Excerpt<'a> {
+    fn of(bytes: &'a [u8]) -> Excerpt<'a> {
+        Excerpt { bytes, at: 0 }
+    }
 }
 
 impl Display for Excerpt<'_> {
     fn fmt<W: fmt::Write>(&self, f: &mut fmt::Formatter<W>) -> fmt::Result {
-        let (front, rest) = match self.bytes.get(..SHOWN) {
-            Some(front) => (front, "..."),
-            None => (self.bytes, ""),
+        let first = self.at.saturating_add(1).saturating_sub(SHOWN);
+        let (before, bytes) = match self.bytes.get(first..) {
+            Some(bytes) if first > 0 => ("...", bytes),
+            _ => ("", self.bytes),
         };
-        write!(f, "'{}{rest}'", front.escape_ascii())
+        let (shown, behind) = match bytes.get(..SHOWN) {
+            Some(shown) => (shown, "..."),
+            None => (bytes, ""),
+        };
+        write!(f, "'{before}{}{behind}'", shown.escape_ascii())
     }
 }
 
@@ -44,9 +58,7 @@ impl Display for Spot<'_> {
             number,
             ..
         } = *self;
-        let address = Excerpt {
-            bytes: self.address,
-        };
+        let address = Excerpt::of(self.address);
         write!(
             f,
             "{place}, line {line}, record {number}, address {address}"
@@ -60,30 +72,15 @@ fn field<'r>(records: &'r FileRecords<'_>, place: usize) -> &'r [u8] {
 }
 
 fn excerpt_of<'r>(records: &'r FileRecords<'_>, place: usize) -> Excerpt<'r> {
-    Excerpt {
-        bytes: field(records, place),
-    }
+    Excerpt::of(field(records, place))
 }
 
-fn record_size(records: &FileRecords<'_>) -> RecordSize {
-    if let Some(size) = records.wide_size() {
-        return size;
-    }
-    let fields = records.len();
-    let mut held = 0usize;
-    for place in 0..fields {
-        held = held.saturating_add(line_feeds(field(records, place)));
-    }
-    RecordSize {
-        fields,
-        line_feeds: held,
+// How many fields the record has in what was read of the file.
+fn field_count(records: &FileRecords<'_>) -> FieldCount {
+    records.wide_count().unwrap_or(FieldCount {
+        fields: records.len(),
         is_front: false,
-    }
-}
-
-// What stands before the counts of a record: of a long file only a front was read.
-fn least(size: RecordSize) -> &'static str {
-    if size.is_front { "at least " } else { "" }
+    })
 }
 
 // The number of the record that a fault names.
@@ -107,10 +104,11 @@ fn record_number(refused: RoundFault) -> Option<u32> {
 /// What the first line of a page file is, in place of the header.
 pub fn note_header(scene: &Scene<'_>, notes: &mut Notes) -> Result<(), OutOfMemory> {
     let place = scene.names.place(Role::PageFile);
+    if scene.file.is_empty() {
+        return notes.add(format_args!("{place} is empty"));
+    }
     let line = scene.file.split(|byte| *byte == b'\n').next();
-    let begins = Excerpt {
-        bytes: line.unwrap_or(b""),
-    };
+    let begins = Excerpt::of(line.unwrap_or(b""));
     notes.add(format_args!("{place} begins {begins}"))
 }
 
@@ -179,22 +177,30 @@ fn note_record_among(
         number,
         address: field(records, 0),
     };
-    let size = record_size(records);
-    note_field(refused, spot, size, records, notes)?;
+    let count = field_count(records);
+    note_field(refused, spot, count, records, notes)?;
     if let RoundFault::DuplicateAddress(_) = refused {
         note_earlier(alloc, spot, scene, notes)?;
     }
-    note_open_quote(number, size, notes)
+    note_quote(scene, Some(number), notes)?;
+    Ok(())
 }
 
-// That a quote may be open in the record, where its fields hold line feeds.
-fn note_open_quote(number: u32, size: RecordSize, notes: &mut Notes) -> Result<(), OutOfMemory> {
-    let held = size.line_feeds;
-    if held == 0 {
-        return Ok(());
+// The first misplaced quote of the file, if it stands no further than in a record. Says whether there is one.
+fn note_quote(
+    scene: &Scene<'_>,
+    last: Option<u32>,
+    notes: &mut Notes,
+) -> Result<bool, OutOfMemory> {
+    let Some(quote) = quote_fault(scene.file) else {
+        return Ok(false);
+    };
+    if last.is_some_and(|last| quote.record() > last as usize) {
+        return Ok(false);
     }
-    let least = least(size);
-    notes.add(format_args!("quotes must be closed: record {number} holds {least}{held} line feeds"))
+    let place = scene.names.place(Role::PageFile);
+    notes.add(format_args!("{place}: {quote}"))?;
+    Ok(true)
 }
 
 // What is wanted of a record, where its own fields say no more.
@@ -211,11 +217,20 @@ fn what_is_wanted(refused: RoundFault) -> Option<&'static str> {
     }
 }
 
-// What is wrong with the record of this size.
+// How so many fields are told, and what to do where they are not three.
+fn advice_on_fields(fields: usize) -> (&'static str, &'static str) {
+    match fields {
+        1 => ("", "commas stand between them"),
+        2 => ("s", "a page without a message ends with a comma"),
+        _ => ("s", "a message with a comma stands in quotes"),
+    }
+}
+
+// What is wrong with the record, which has so many fields.
 fn note_field(
     refused: RoundFault,
     spot: Spot<'_>,
-    size: RecordSize,
+    count: FieldCount,
     records: &FileRecords<'_>,
     notes: &mut Notes,
 ) -> Result<(), OutOfMemory> {
@@ -224,9 +239,11 @@ fn note_field(
     }
     match refused {
         RoundFault::FieldCount(_) => {
-            let (least, fields) = (least(size), size.fields);
+            let (plural, advice) = advice_on_fields(count.fields);
+            let FieldCount { fields, is_front } = count;
+            let least = if is_front { "at least " } else { "" };
             notes.add(format_args!(
-                "{spot}: {least}{fields} fields, where address,kind,message are wanted; a message with a comma stands in quotes"
+                "{spot}: {least}{fields} field{plural}, where address,kind,message are wanted; {advice}"
             ))
         }
         RoundFault::TooLong(_) => {
@@ -248,6 +265,15 @@ fn told_of_kind(refused: RoundFault) -> Option<&'static str> {
     }
 }
 
+// Which characters a message of a kind may have.
+fn allowed_characters(kind: &[u8]) -> &'static str {
+    if kind == b"numeric".as_slice() {
+        "numeric has 0123456789*U -]["
+    } else {
+        "alpha has the codes 1 to 127"
+    }
+}
+
 // What is wrong with the kind of the record or with its message.
 fn note_kind(
     refused: RoundFault,
@@ -266,8 +292,10 @@ fn note_kind(
         )),
         RoundFault::BadCharacter(_, at) => {
             let byte = message.bytes.get(at).copied().unwrap_or(0);
+            let message = Excerpt { at, ..message };
+            let allowed = allowed_characters(kind.bytes);
             notes.add(format_args!(
-                "{spot}: the message is {message}, its kind {kind}; the byte is {byte:#04x}"
+                "{spot}: the message is {message}, its kind {kind}; the byte at {at}, counted from 0, is {byte:#04x}; {allowed}"
             ))
         }
         _ => notes.add(spot),
@@ -310,12 +338,16 @@ fn significant(digits: &[u8]) -> &[u8] {
     b""
 }
 
-/// Where the first message with a line feed stands, and how many more there are.
+/// The first misplaced quote; where there is none, where the first message with a line feed stands, and how many more there
+/// are.
 pub fn note_line_feeds(
     alloc: Global,
     scene: &Scene<'_>,
     notes: &mut Notes,
 ) -> Result<(), OutOfMemory> {
+    if note_quote(scene, None, notes)? {
+        return Ok(());
+    }
     let mut records = FileRecords::of(alloc, scene.file);
     note_line_feeds_among(scene, &mut records, notes)
 }

@@ -2,6 +2,9 @@ use crate::role::Role;
 use std::alloc::Global;
 use std::cell::{Cell, RefCell};
 
+// The system's number for a pipe that nobody reads any more.
+const BROKEN_PIPE: i32 = 32;
+
 /// That the system refused a file or a stream.
 #[derive(Clone, Copy)]
 pub struct Trouble {
@@ -41,6 +44,14 @@ impl Watch {
     /// Where the system refused one last, which is forgotten.
     pub fn take_trouble(&self) -> Option<Trouble> {
         self.trouble.replace(None)
+    }
+
+    /// Whether what the system refused last is a write to standard output that nobody reads any more.
+    pub fn met_closed_output(&self) -> bool {
+        match self.trouble.get() {
+            Some(trouble) => trouble.role == Role::Output && trouble.code == Some(BROKEN_PIPE),
+            None => false,
+        }
     }
 
     /// Whether notes are asked for.

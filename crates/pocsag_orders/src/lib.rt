@@ -2,6 +2,7 @@
 //! The orders of the command line: its words are read, and the command that they ask for is run over the files that they name.
 //! What keeps an open round is handed in.
 
+mod judged_file;
 mod naming;
 mod obeying;
 mod opener;

@@ -4,7 +4,7 @@ use pocsag_notes::{Names, RepairNotes, Role};
 /// The words for the files of a command.
 pub fn names_in(order: Order<'_>) -> Names<'_> {
     match order {
-        Order::Input => of_pages(Some(STANDARD)),
+        Order::Input { .. } => of_pages(Some(STANDARD)),
         Order::Plan(order) => Names {
             pages: Some(word_of(order.pages)),
             tx: Some(order.tx),

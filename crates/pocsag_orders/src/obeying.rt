@@ -1,9 +1,10 @@
+use crate::judged_file::judged_file;
 use crate::naming::{names_in, repair_in, subject_of};
 use crate::opener::Opener;
 use crate::planning::write_plan;
 use pocsag_commands::{
-    expected_file, run_check, run_decode, run_explain, run_frames, run_hear, run_input, run_report,
-    run_show,
+    refuse_bad_limit, run_check, run_decode, run_explain, run_frames, run_hear, run_input,
+    run_report, run_show, strict_file,
 };
 use pocsag_faults::{Fault, tell, tell_fault};
 use pocsag_files::{Desk, open_buffered, open_source, tell_explained};
@@ -28,6 +29,9 @@ pub fn obey<O: Opener, E: Sink>(rt: &HostRuntime, opener: &O, asked: Asked<'_>, 
         watch: &watch,
     };
     let done = obeyed(desk, opener, asked.order);
+    if done.is_err() && watch.met_closed_output() {
+        return Fault::Write.status();
+    }
     let status = match done {
         Ok(status) => status,
         Err(fault) => tell_fault(err, fault),
@@ -63,7 +67,7 @@ fn tell_scene<E: Sink>(desk: Desk<'_>, order: Order<'_>, done: Result<u8, Fault>
 // The exit status, unless there is a fault.
 fn obeyed<O: Opener>(desk: Desk<'_>, opener: &O, order: Order<'_>) -> Result<u8, Fault> {
     match order {
-        Order::Input => status_of(plan_input(desk)),
+        Order::Input { strict } => status_of(plan_input(desk, strict)),
         Order::Plan(order) => write_plan(desk, order),
         Order::Check { pages, cert } => judge_paths(desk, None, pages, cert),
         Order::Explain {
@@ -101,12 +105,20 @@ fn status_of(done: Result<(), Fault>) -> Result<u8, Fault> {
 }
 
 // Plans the page file of standard input.
-fn plan_input(desk: Desk<'_>) -> Result<(), Fault> {
+fn plan_input(desk: Desk<'_>, strict: bool) -> Result<(), Fault> {
     if desk.rt.stdin().is_terminal() {
         let _ = tell(&mut desk.err(), AT_TERMINAL);
     }
     let mut input = ReaderSource::new(desk.rt.stdin(), Role::PageFile, desk.watch);
-    run_input(desk.alloc, &mut input, &mut desk.out())
+    if !strict {
+        return run_input(desk.alloc, &mut input, &mut desk.out());
+    }
+    let file = strict_file(desk.alloc, &mut input)?;
+    run_input(
+        desk.alloc,
+        &mut SliceSource::new(file.as_slice()),
+        &mut desk.out(),
+    )
 }
 
 // Judges a certificate, and explains it where it is asked how; the status is 1 where it does not show its batches.
@@ -172,12 +184,12 @@ struct Reporting {
 
 // Reports on the plan of a page file.
 fn report_path(desk: Desk<'_>, asked: Reporting, path: Option<&str>) -> Result<(), Fault> {
+    refuse_bad_limit(asked.search.search)?;
     let mut pages = open_source(desk, Role::PageFile, path)?;
-    let Some(expected) = asked.search.expect else {
-        return report_round(desk, asked, &mut pages);
-    };
-    let file = expected_file(desk.alloc, expected, &mut pages)?;
-    report_round(desk, asked, &mut SliceSource::new(file.as_slice()))
+    match judged_file(desk.alloc, asked.search, &mut pages)? {
+        Some(file) => report_round(desk, asked, &mut SliceSource::new(file.as_slice())),
+        None => report_round(desk, asked, &mut pages),
+    }
 }
 
 fn report_round<P: Source>(desk: Desk<'_>, asked: Reporting, pages: &mut P) -> Result<(), Fault> {

@@ -2,15 +2,19 @@ ghost use Rattle.std.specs.Prelude.{IsErrOf, map};
 ghost use Rattle.pocsag_faults.specs.declared.fault.Fault.TheVariants.{EqualPaths};
 ghost use Rattle.pocsag_files.specs.Paths.{HasEqual, paths_of};
 
-use pocsag_commands::{expected_file, run_plan, run_verify};
+use crate::judged_file::judged_file;
+use pocsag_commands::{refuse_bad_limit, run_plan, run_verify};
 use pocsag_faults::{Fault, Outputs, PlanFiles};
 use pocsag_files::{
     Beside, Desk, make_outputs, misused, open_buffered, open_source, put_both, refuse_equal,
-    refuse_one_file, tell_misuse,
+    refuse_shared, tell_misuse,
 };
 use pocsag_line::{PlanOrder, STANDARD};
 use pocsag_notes::Role;
-use pocsag_words::{Sink, SliceSource, Source};
+use pocsag_words::{MemorySink, Sink, SliceSource, Source, write_all};
+
+// More than the lines of a plan have, which are three and `verified`.
+const LINES: usize = 200;
 
 /// `plan`: plans from file to files, or from and to the standard streams. Where standard output takes one of
 /// the files, the lines go to standard error. Answers the exit status.
@@ -19,6 +23,7 @@ pub fn write_plan(desk: Desk<'_>, order: PlanOrder<'_>) -> Result<u8, Fault>
         IsErrOf result EqualPaths }
 {
     refuse_equal(order.pages, order.tx, order.cert)?;
+    refuse_bad_limit(order.search.search)?;
     match misused(desk.rt, order) {
         Some(misuse) => Ok(tell_misuse(&mut desk.err(), misuse)),
         None => {
@@ -50,11 +55,10 @@ fn plan_files<O: Sink>(desk: Desk<'_>, order: PlanOrder<'_>, out: &mut O) -> Res
 
 fn write_files<O: Sink>(desk: Desk<'_>, order: PlanOrder<'_>, out: &mut O) -> Result<(), Fault> {
     let mut pages = open_source(desk, Role::PageFile, order.pages)?;
-    let Some(expected) = order.search.expect else {
-        return write_round(desk, order, pages, out);
-    };
-    let file = expected_file(desk.alloc, expected, &mut pages)?;
-    write_round(desk, order, SliceSource::new(file.as_slice()), out)
+    match judged_file(desk.alloc, order.search, &mut pages)? {
+        Some(file) => write_round(desk, order, SliceSource::new(file.as_slice()), out),
+        None => write_round(desk, order, pages, out),
+    }
 }
 
 fn write_round<P: Source + Drop, O: Sink>(
@@ -79,9 +83,9 @@ fn read_back<O: Sink>(desk: Desk<'_>, order: PlanOrder<'_>, out: &mut O) -> Resu
     run_verify(desk.alloc, order.search.search, &mut files, out)
 }
 
-// `--keep`: plans beside the places of the files, and puts both there once they are whole.
+// `--keep`: plans beside the places of the files, puts both there once they are whole, and then tells the lines.
 fn plan_beside<O: Sink>(desk: Desk<'_>, order: PlanOrder<'_>, out: &mut O) -> Result<(), Fault> {
-    refuse_one_file(desk.rt, order.pages, order.tx, order.cert)?;
+    refuse_shared(desk.rt, order.pages, order.tx, order.cert)?;
     let tx = Beside::make(desk, Role::Transmission, order.tx)?;
     let done = plan_beside_two(desk, order, &tx, out);
     tx.remove(desk);
@@ -101,10 +105,15 @@ fn plan_beside_two<O: Sink>(
         cert: cert.path(),
         ..order
     };
-    let done = match plan_files(desk, beside, out) {
+    let mut lines = MemorySink::<LINES>::new(LINES, LINES as u64);
+    let done = match plan_files(desk, beside, &mut lines) {
         Ok(()) => put_both(desk, tx, &cert),
         refused => refused,
     };
     cert.remove(desk);
-    done
+    done?;
+    match write_all(out, lines.bytes()) {
+        Ok(()) => Ok(()),
+        Err(_) => Err(Fault::Write),
+    }
 }

@@ -2,7 +2,7 @@ use crate::obeying::obey;
 use crate::opener::Opener;
 use clap::Error;
 use clap::error::ErrorKind;
-use pocsag_faults::{Fault, tell_fault};
+use pocsag_faults::{Fault, tell, tell_fault};
 use pocsag_line::asked_of;
 use pocsag_notes::{Role, Watch, WriterSink};
 use pocsag_words::Sink;
@@ -27,12 +27,21 @@ pub fn run<O: Opener>(rt: &HostRuntime, opener: &O) -> u8 {
     let mut err = WriterSink::new(rt.stderr(), Role::Output, &unheard);
     let words = match words_of(rt, alloc) {
         Ok(words) => words,
-        Err(fault) => return tell_fault(&mut err, fault),
+        Err(fault) => return tell_unread(&mut err, fault),
     };
     match asked_of(alloc, words.as_slice()) {
         Ok(asked) => obey(rt, opener, asked, &mut err),
         Err(error) => tell_clap_error(rt, &error, &mut err),
     }
+}
+
+// That the words themselves could not be read. Whether notes are asked for is not known then.
+fn tell_unread<E: Sink>(err: &mut E, fault: Fault) -> u8 {
+    let status = tell_fault(err, fault);
+    if let Fault::Device = fault {
+        let _ = tell(err, "pocsag: a word of the call is no UTF-8 text\n");
+    }
+    status
 }
 
 // What clap refuses is a mistake in the words, its help is what was asked for.
@@ -46,6 +55,7 @@ fn tell_clap_error<E: Sink>(rt: &HostRuntime, error: &Error, err: &mut E) -> u8 
     }
     match printed {
         Ok(()) => 0,
+        Err(error) if error.kind() == IoErrorKind::BrokenPipe => Fault::Write.status(),
         Err(_) => tell_fault(err, Fault::Write),
     }
 }

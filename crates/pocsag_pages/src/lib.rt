@@ -27,7 +27,7 @@ pub use pocsag_words::{BATCH_BITS, PREAMBLE_BITS, SYNC_WORD};
 pub use preamble::leading_len;
 pub use record::{page_of_fields, parse_address};
 pub use round::{PAGE_LIMIT, Round};
-pub use row_reader::RecordSize;
+pub use row_reader::FieldCount;
 pub use rule::{ITEM_LIMIT, is_reserved_address, page_fault};
 pub use walking::{FileRecords, line_feeds};
 pub use whole::read_whole;

@@ -5,18 +5,15 @@ ghost use Rattle.pocsag_pages.specs.WideRecords.{up_to_wide};
 
 use crate::csv_row::{next_row, rows_reader};
 use crate::front::{PAGE_FIELDS, judged_front};
-use crate::walking::line_feeds;
 use csv::{ByteRecord, Reader};
 use pocsag_words::OutOfMemory;
 use std::alloc::Global;
 use std::marker::Model;
 
-/// How much was read of a record.
+/// How many fields were read of a record.
 #[derive(Clone, Copy)]
-pub struct RecordSize {
+pub struct FieldCount {
     pub fields: usize,
-    /// How many line feeds the fields hold.
-    pub line_feeds: usize,
     /// Only a front of the file was read: the record may have more.
     pub is_front: bool,
 }
@@ -28,7 +25,7 @@ pub(crate) struct RowReader<'a> {
     is_over: bool,
     // Only a front of the file is read.
     is_front: bool,
-    wide_size: Option<RecordSize>,
+    wide_count: Option<FieldCount>,
 }
 
 impl<'a> Model for RowReader<'a> {
@@ -53,7 +50,7 @@ impl<'a> RowReader<'a> {
             reader: rows_reader(alloc, front),
             is_over: false,
             is_front: front.len() < file.len(),
-            wide_size: None,
+            wide_count: None,
         }
     }
 
@@ -72,9 +69,8 @@ impl<'a> RowReader<'a> {
             return Ok(false);
         }
         if row.len() > PAGE_FIELDS {
-            self.wide_size = Some(RecordSize {
+            self.wide_count = Some(FieldCount {
                 fields: row.len(),
-                line_feeds: line_feeds(row.as_slice()),
                 is_front: self.is_front,
             });
             row.truncate(PAGE_FIELDS);
@@ -85,8 +81,8 @@ impl<'a> RowReader<'a> {
         Ok(true)
     }
 
-    // What was read of a record of more than three fields, once it was come to.
-    pub(crate) fn wide_size(&self) -> Option<RecordSize> {
-        self.wide_size
+    // The fields of the first record of more than three, once it was read.
+    pub(crate) fn wide_count(&self) -> Option<FieldCount> {
+        self.wide_count
     }
 }

@@ -3,7 +3,7 @@ ghost use Rattle.csv.specs.Records.{field_at};
 ghost use Rattle.pocsag_pages.specs.PageFile.{rows_of};
 ghost use Rattle.pocsag_pages.specs.WideRecords.{up_to_wide};
 
-use crate::row_reader::{RecordSize, RowReader};
+use crate::row_reader::{FieldCount, RowReader};
 use csv::ByteRecord;
 use pocsag_words::OutOfMemory;
 use std::alloc::Global;
@@ -74,9 +74,9 @@ impl<'a> FileRecords<'a> {
         self.row.get(place)
     }
 
-    /// What was read of a record of more than three fields, once it was come to.
-    pub fn wide_size(&self) -> Option<RecordSize> {
-        self.reader.wide_size()
+    /// The fields of the first record of more than three, once it was read.
+    pub fn wide_count(&self) -> Option<FieldCount> {
+        self.reader.wide_count()
     }
 }
 

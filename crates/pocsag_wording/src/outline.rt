@@ -78,7 +78,7 @@ pub(crate) fn node_line(
     } else {
         refusal(alloc, refuted, finding)?
     };
-    format!(in alloc; "node {numbering}: {way}{said}")
+    format!(in alloc; "node {numbering}{way}: {said}")
 }
 
 /// The first finding that does not hold, and why: `node 1.2: slot 15: 1 codeword at the least, room for 1`.

@@ -26,13 +26,13 @@ struct Load {
     room: u64,
 }
 
-/// How a node is reached, before what it says; nothing of the root.
+/// How a node is reached, behind its number; nothing of the root.
 pub(crate) fn way_to(alloc: Global, reached: Reached) -> Result<String, AllocError> {
     match reached {
         Reached::Root | Reached::Unreached => Ok(String::new(alloc)),
-        Reached::Below => format!(in alloc; "in the first case: "),
-        Reached::From => format!(in alloc; "in the second case: "),
-        Reached::By(Way::IdleIn(slot)) => format!(in alloc; "with an idle in slot {slot}: "),
+        Reached::Below => format!(in alloc; ", in the first case"),
+        Reached::From => format!(in alloc; ", in the second case"),
+        Reached::By(Way::IdleIn(slot)) => format!(in alloc; ", with an idle in slot {slot}"),
         Reached::By(Way::Early(class)) => with_page(alloc, class, true),
         Reached::By(Way::Late(class)) => with_page(alloc, class, false),
     }
@@ -41,7 +41,7 @@ pub(crate) fn way_to(alloc: Global, reached: Reached) -> Result<String, AllocErr
 fn with_page(alloc: Global, class: u8, early: bool) -> Result<String, AllocError> {
     let kind = ClassWords(class);
     let slot = start_slot(class, early);
-    format!(in alloc; "with a page of {kind} that starts in slot {slot}: ")
+    format!(in alloc; ", with a page of {kind} that starts in slot {slot}")
 }
 
 /// What a node says whose rule holds.
@@ -118,7 +118,7 @@ fn overload_words(
         return format!(in alloc; "{place}: {codewords}, room for {room}");
     }
     let origins = Origins(shares);
-    format!(in alloc; "{place}: {codewords} at the least, room for {room}: {origins}")
+    format!(in alloc; "{place}: {codewords} at the least, room for {room}; {origins}")
 }
 
 // An overload of a frame by the pages that start there.
