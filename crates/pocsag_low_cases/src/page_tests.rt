@@ -450,25 +450,25 @@ fn records_of_a_file(rt: HostRuntime) {
     assert_eq!(rt; line_feeds(b"\r\na\n\n"), 3);
 }
 
-// A page file, and how many fields its first record of more than three has, and how many line feeds they hold.
-const WIDE_SIZES: &[(&[u8], Option<(usize, usize)>)] = &[
+// A page file, and how many fields its first record of more than three has.
+const WIDE_COUNTS: &[(&[u8], Option<usize>)] = &[
     (b"", None),
     (b"a,b,c\nd,\"e,\n\",f\n\n", None),
-    (b"a,b,c,", Some((4, 0))),
-    (b"a,b,c,\r\n\nd,e,f,g,h\n", Some((4, 0))),
-    (b"\xEF\xBB\xBF\"a,\n,\",b,c,\"d\n\"\"\n\"\n", Some((4, 3))),
-    (b"\"a\n\",b\n\n,,,,\"c\n,\n\"\"", Some((5, 2))),
-    (b"\xEF\xBB\"\xBF,a\",,", Some((4, 0))),
+    (b"a,b,c,", Some(4)),
+    (b"a,b,c,\r\n\nd,e,f,g,h\n", Some(4)),
+    (b"\xEF\xBB\xBF\"a,\n,\",b,c,\"d\n\"\"\n\"\n", Some(4)),
+    (b"\"a\n\",b\n\n,,,,\"c\n,\n\"\"", Some(5)),
+    (b"\xEF\xBB\"\xBF,a\",,", Some(4)),
 ];
 
 #[test]
-fn sizes_of_wide_records(rt: HostRuntime) {
-    for (file, due) in WIDE_SIZES {
+fn fields_of_wide_records(rt: HostRuntime) {
+    for (file, due) in WIDE_COUNTS {
         let mut records = FileRecords::of(rt.alloc(), file);
         while records.advance() == Ok(true) {}
-        let size = records.wide_size();
-        assert_eq!(rt; size.map(|it| (it.fields, it.line_feeds)), *due);
-        assert!(rt; !size.is_some_and(|it| it.is_front));
+        let count = records.wide_count();
+        assert_eq!(rt; count.map(|it| it.fields), *due);
+        assert!(rt; !count.is_some_and(|it| it.is_front));
     }
 }
 
@@ -492,7 +492,7 @@ fn records_of_a_long_file(rt: HostRuntime) {
         let mut records = FileRecords::of(alloc, file.as_slice());
         assert_eq!(rt; records.advance(), Ok(true));
         assert_eq!(rt; records.advance(), Ok(true));
-        assert_eq!(rt; records.wide_size().map(|it| (it.fields, it.is_front)), Some(*due));
+        assert_eq!(rt; records.wide_count().map(|it| (it.fields, it.is_front)), Some(*due));
         assert_eq!(rt; records.line(), 2);
         assert_eq!(rt; records.advance(), Ok(false));
         let mut source = MemorySource::new(file.as_slice(), 65_536, u64::MAX);
