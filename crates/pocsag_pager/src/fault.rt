@@ -2,54 +2,32 @@ ghost use Rattle.std.specs.Prelude.{◌≡◌};
 ghost use Rattle.pocsag_pager.specs.declared.fault.PagerFault.TheVariants as fault;
 
 use std::alloc::AllocError;
-use std::error::Error;
-use std::fmt::{self, Display, Formatter};
+use thiserror::Error;
 
 /// Why a pager shows no pages.
-#[derive(Clone, Copy, PartialEq, Eq)]
+#[derive(Clone, Copy, PartialEq, Eq, Debug, Error)]
 pub enum PagerFault {
     /// The address is above 2,097,151.
+    #[error("bad address")]
     BadAddress,
     /// The address is one of the sixteen that would read as idle or as synchronisation.
+    #[error("reserved address")]
     ReservedAddress,
     /// Fewer than 72 bytes AA stand first.
+    #[error("the preamble is too short")]
     ShortPreamble,
     /// Nothing follows the preamble.
+    #[error("the transmission has no batch")]
     NoBatch,
     /// What follows the preamble is not whole batches of 68 bytes.
+    #[error("the transmission is cut short")]
     Truncated,
+    #[error("out of memory")]
     OutOfMemory,
     /// The pager has run out of memory or has been ended before.
+    #[error("the pager hears no more")]
     Failed,
 }
-
-impl PagerFault {
-    fn text(self) -> &'static str {
-        match self {
-            PagerFault::BadAddress => "bad address",
-            PagerFault::ReservedAddress => "reserved address",
-            PagerFault::ShortPreamble => "the preamble is too short",
-            PagerFault::NoBatch => "the transmission has no batch",
-            PagerFault::Truncated => "the transmission is cut short",
-            PagerFault::OutOfMemory => "out of memory",
-            PagerFault::Failed => "the pager hears no more",
-        }
-    }
-}
-
-impl Display for PagerFault {
-    fn fmt<W: fmt::Write>(&self, f: &mut Formatter<W>) -> fmt::Result {
-        f.write_str(self.text())
-    }
-}
-
-impl fmt::Debug for PagerFault {
-    fn fmt<W: fmt::Write>(&self, f: &mut Formatter<W>) -> fmt::Result {
-        Display::fmt(self, f)
-    }
-}
-
-impl Error for PagerFault {}
 
 impl From<AllocError> for PagerFault {
     ghost from_gives = { λ _ e. e ≡ fault.OutOfMemory };

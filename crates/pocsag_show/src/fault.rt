@@ -4,38 +4,21 @@ ghost use Rattle.pocsag_show.specs.declared.fault.ShowFault.TheVariants as fault
 use pocsag_decode::DecodeFault;
 use pocsag_words::DeviceFault;
 use std::alloc::AllocError;
-use std::error::Error;
-use std::fmt::{self, Debug, Display};
+use thiserror::Error;
 
 /// Why a transmission was not shown.
-#[derive(Clone, Copy, PartialEq, Eq)]
+#[derive(Clone, Copy, PartialEq, Eq, Debug, Error)]
 pub enum ShowFault {
     /// The bytes are no transmission that reads as pages. Nothing was written.
+    #[error(transparent)]
     Transmission(DecodeFault),
     /// The writer did not take the text whole; what it took is a prefix of it.
+    #[error("cannot write")]
     WriteFault,
     /// Nothing was written.
+    #[error("out of memory")]
     OutOfMemory,
 }
-
-impl Display for ShowFault {
-    fn fmt<W: fmt::Write>(&self, f: &mut fmt::Formatter<W>) -> fmt::Result {
-        match self {
-            ShowFault::Transmission(refused) => Display::fmt(refused, f),
-            ShowFault::WriteFault => f.write_str("cannot write"),
-            ShowFault::OutOfMemory => f.write_str("out of memory"),
-        }
-    }
-}
-
-// As it is told.
-impl Debug for ShowFault {
-    fn fmt<W: fmt::Write>(&self, f: &mut fmt::Formatter<W>) -> fmt::Result {
-        Display::fmt(self, f)
-    }
-}
-
-impl Error for ShowFault {}
 
 impl From<AllocError> for ShowFault {
     ghost from_gives = { λ _ e. e ≡ fault.OutOfMemory };
