@@ -14,8 +14,10 @@
  *           pocsag_explain: form, page file, certificate, size of `text`. pocsag_decode: transmission, size of
  *           `listing`; pocsag_hear: before them the address. Where memory is wanting, that may come first.
  * Memory.   A call takes memory with malloc and realloc, and has freed all of it when it returns. Where it is
- *           refused, the status is POCSAG_OUT_OF_MEMORY and no buffer was written. @MEMORY@
- * Stack.    Give each thread that calls 2 MiB: a hostile certificate makes a check as deep as 300 nodes.
+ *           refused, the status is POCSAG_OUT_OF_MEMORY and no buffer was written. As measured it takes at most 16 bytes
+ *           for each byte of a page file or a transmission, 40 for each node of a certificate or a search, and 180 for
+ *           each node that is explained.
+ * Stack.    A call takes at most as many bytes of stack as POCSAG_CHECK_STACK and so on say, whatever it is given.
  * Threads.  The library keeps no state: any number of threads may call at one time, with buffers of their own. No
  *           call from a signal handler, nor in a child of fork where the parent had several threads.
  */
@@ -55,6 +57,13 @@ extern "C" {
  * looks at up to 20,000 nodes for an order of the pages, which the limit does not count. */
 #define POCSAG_DEFAULT_LIMIT 100000u
 #define POCSAG_GREATEST_LIMIT 1000000u
+
+/* The bytes of stack that a thread needs to call, its own part included: 64 KiB, and for each of the 300 levels that a
+ * certificate or a search has at most @@. */
+#define POCSAG_CHECK_STACK 1310720u
+#define POCSAG_EXPLAIN_STACK 3145728u
+#define POCSAG_PLAN_STACK 2097152u
+#define POCSAG_LISTING_STACK 131072u
 
 /* Statuses. */
 #define POCSAG_OK 0u

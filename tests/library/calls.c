@@ -233,6 +233,32 @@ static void try_buffers(const struct texts *whole)
         wrong("a check of bytes that end before a guard page", 0);
 }
 
+/* A page file of one byte too many is refused by its length: no memory is taken. */
+static void try_too_large(const struct texts *whole)
+{
+    size_t size = 268435457;
+    uint8_t *large = mmap(NULL, size, PROT_READ, MAP_PRIVATE | MAP_ANONYMOUS | MAP_NORESERVE, -1, 0), none[1];
+    static struct texts t;
+    struct pocsag_check_info check;
+    struct pocsag_report_info report;
+    size_t told;
+    if (large == MAP_FAILED)
+        wrong("no memory for the test", (long)size);
+    live = taken = 0;
+    if (pocsag_check(large, size, whole->cert, whole->cert_len, &check) != POCSAG_PAGES_TOO_LARGE ||
+        pocsag_explain(large, size, whole->cert, whole->cert_len, 0, 3, none, 0, &told, &check) != POCSAG_PAGES_TOO_LARGE ||
+        pocsag_report(large, size, 1200, 100000, end, always, &report) != POCSAG_PAGES_TOO_LARGE ||
+        pocsag_plan(large, size, t.tx, LARGE, &t.tx_len, t.cert, LARGE, &t.cert_len, 100000, end, always, &t.info) !=
+            POCSAG_PAGES_TOO_LARGE)
+        wrong("a page file that is too large", 0);
+    if (pocsag_plan(large, size, t.tx, LARGE, &t.tx_len, t.cert, LARGE, &t.cert_len, 0, end, always, &t.info) !=
+        POCSAG_BAD_LIMIT)
+        wrong("no limit is told before the page file is judged", 0);
+    if (taken != 0)
+        wrong("memory is taken for a page file that is too large", taken);
+    munmap(large, size);
+}
+
 static void *one_thread(void *given)
 {
     const struct texts *whole = given;
@@ -265,6 +291,7 @@ int main(int argc, char **argv)
         wrong("there is no plan", 0);
     long number = try_refusals(&whole);
     try_buffers(&whole);
+    try_too_large(&whole);
     pthread_t threads[8];
     pthread_attr_t room;
     pthread_attr_init(&room);

@@ -15,7 +15,6 @@ use pocsag_tree::Tree;
 use std::alloc::{AllocFailed, Global};
 
 // The limits of the child that takes the way.
-#[inline(never)]
 pub(crate) fn child_limits(node: &Node<'_>, way: Way) -> Limits
     requires way { MayTake node.now.classes.now node.now.limits way }
     requires falls { Falls node.now.classes.now node.now.task.batches node.now.limits way }
@@ -28,7 +27,6 @@ pub(crate) fn child_limits(node: &Node<'_>, way: Way) -> Limits
 }
 
 // The limits of the lower child of a split.
-#[inline(never)]
 pub(crate) fn limits_under(node: &Node<'_>, class: Class, m: u16) -> Limits
     requires { IsSplitPoint node.now.classes.now node.now.task.batches node.now.limits class.number m }
     ensures value { result ≡ limits_below node.now.limits class.number m }
@@ -40,7 +38,6 @@ pub(crate) fn limits_under(node: &Node<'_>, class: Class, m: u16) -> Limits
 }
 
 // The limits of the upper child of a split.
-#[inline(never)]
 pub(crate) fn limits_over(node: &Node<'_>, class: Class, m: u16) -> Limits
     requires { IsSplitPoint node.now.classes.now node.now.task.batches node.now.limits class.number m }
     ensures value { result ≡ limits_from node.now.limits class.number m }
@@ -52,7 +49,6 @@ pub(crate) fn limits_over(node: &Node<'_>, class: Class, m: u16) -> Limits
 }
 
 // The tree of a split over those of its two children.
-#[inline(never)]
 pub(crate) fn split_tree(
     alloc: Global,
     class: Class,
@@ -74,7 +70,6 @@ pub(crate) fn split_tree(
 }
 
 // The ways out of the set, each of which settles an open question.
-#[inline(never)]
 pub(crate) fn ways_out(node: &Node<'_>, set: BoundarySet) -> ArrayVec<Way, 288>
     requires { All (Falls node.now.classes.now node.now.task.batches node.now.limits)
         (ways_across node.now.classes.now node.now.limits set.members) }

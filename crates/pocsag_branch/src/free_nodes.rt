@@ -19,7 +19,6 @@ use pocsag_tree::Tree;
 use std::alloc::Global;
 
 // Whether the tree of a child is accepted for the node itself.
-#[inline(never)]
 fn stands_for(node: &Node<'_>, tree: &Tree) -> bool
     ensures { IsTrue result ↔
         AcceptsWithin false node.now.classes.now node.now.task.end node.now.task.batches node.now.limits
@@ -48,7 +47,6 @@ pub(crate) fn free_node(alloc: Global, node: &Node<'_>, examined: u32) -> Result
     }
 }
 
-#[inline(never)]
 #[cycle(free_nodes)]
 fn free_cut(
     alloc: Global,
@@ -98,7 +96,6 @@ pub(crate) fn free_close(alloc: Global, node: &Node<'_>, examined: u32) -> Resul
     }
 }
 
-#[inline(never)]
 #[cycle(free_nodes)]
 fn free_split(
     alloc: Global,
@@ -137,7 +134,6 @@ fn free_split(
 
 /// The trees of the children that take these ways, in order, or the first that is accepted for the node
 /// itself.
-#[inline(never)]
 #[cycle(free_nodes)]
 fn free_children(
     alloc: Global,

@@ -54,7 +54,6 @@ pub(crate) fn node_of_form(
     }
 }
 
-#[inline(never)]
 #[cycle(promised_nodes)]
 fn cut_node(
     alloc: Global,
@@ -84,7 +83,6 @@ fn cut_node(
     ))
 }
 
-#[inline(never)]
 #[cycle(promised_nodes)]
 fn split_node(
     alloc: Global,
@@ -133,7 +131,6 @@ fn close_node(alloc: Global, node: &Node<'_>, made: u32) -> Result<(Tree, u32), 
 }
 
 /// The trees of the children that take these ways, in order.
-#[inline(never)]
 #[cycle(promised_nodes)]
 fn child_nodes(
     alloc: Global,

@@ -32,38 +32,52 @@ pub(crate) struct Position {
 impl Position {
     // Below a split, where fewer than m pages of the class start early.
     #[inline(never)]
-    pub(crate) fn child_below(&self, alloc: Global, class: u8, m: u32) -> Result<Box<Position>, OutOfMemory>
+    pub(crate) fn child_below(
+        &self,
+        inquiry: &Inquiry,
+        class: u8,
+        m: u32,
+    ) -> Result<Box<Position>, OutOfMemory>
         requires deep { self.now.above + 1 < 2 ^ 32 }
+        requires ordered { AreInOrder inquiry.now.classes.now self.now.limits }
         requires class { class < 136 }
         requires above { slice_index self.now.limits.lo class < m }
         requires within { m ≤ slice_index self.now.limits.hi class }
-        ensures { IfOk result (λ child. child.value ≡
+        ensures child { IfOk result (λ child. child.value ≡
             record { limits = limits_below self.now.limits class m; above = self.now.above + 1; reached = Below }) }
+        ensures ordered { IfOk result (λ child. AreInOrder inquiry.now.classes.now child.value.limits) }
     {
         let position = Position {
             limits: below_split(&self.limits, class, m),
             above: self.above + 1,
             reached: Reached::Below,
         };
-        Ok(Box::new(alloc, position)?)
+        Ok(Box::new(inquiry.alloc, position)?)
     }
 
     // Below a split, where at least m pages of the class start early.
     #[inline(never)]
-    pub(crate) fn child_from(&self, alloc: Global, class: u8, m: u32) -> Result<Box<Position>, OutOfMemory>
+    pub(crate) fn child_from(
+        &self,
+        inquiry: &Inquiry,
+        class: u8,
+        m: u32,
+    ) -> Result<Box<Position>, OutOfMemory>
         requires deep { self.now.above + 1 < 2 ^ 32 }
+        requires ordered { AreInOrder inquiry.now.classes.now self.now.limits }
         requires class { class < 136 }
         requires above { slice_index self.now.limits.lo class < m }
         requires within { m ≤ slice_index self.now.limits.hi class }
-        ensures { IfOk result (λ child. child.value ≡
+        ensures child { IfOk result (λ child. child.value ≡
             record { limits = limits_from self.now.limits class m; above = self.now.above + 1; reached = From }) }
+        ensures ordered { IfOk result (λ child. AreInOrder inquiry.now.classes.now child.value.limits) }
     {
         let position = Position {
             limits: from_split(&self.limits, class, m),
             above: self.above + 1,
             reached: Reached::From,
         };
-        Ok(Box::new(alloc, position)?)
+        Ok(Box::new(inquiry.alloc, position)?)
     }
 
     // By a way out of a cut, or a way to close.
@@ -74,10 +88,10 @@ impl Position {
         requires ordered { AreInOrder inquiry.now.classes.now self.now.limits }
         requires way { MayTake inquiry.now.classes.now self.now.limits way }
         ensures child { IfOk result (λ child. child.value ≡ record {
-            limits = narrowed_limits inquiry.now.classes.now self.now.limits way inquiry.now.batches;
-            above = self.now.above + 1;
-            reached = By way;
-          }) }
+          limits = narrowed_limits inquiry.now.classes.now self.now.limits way inquiry.now.batches;
+          above = self.now.above + 1;
+          reached = By way;
+        }) }
         ensures ordered { IfOk result (λ child. AreInOrder inquiry.now.classes.now child.value.limits) }
     {
         let position = Position {

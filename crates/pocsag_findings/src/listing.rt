@@ -141,9 +141,9 @@ fn put_node(
             below,
             from,
         } => {
-            let low = place.child_below(inquiry.alloc, *class, u32::from(*m))?;
+            let low = place.child_below(inquiry, *class, u32::from(*m))?;
             put_node(inquiry, &low, below, found)?;
-            let high = place.child_from(inquiry.alloc, *class, u32::from(*m))?;
+            let high = place.child_from(inquiry, *class, u32::from(*m))?;
             put_node(inquiry, &high, from, found)
         }
         Tree::Cut { set, children, .. } => {

@@ -55,12 +55,6 @@ put_node-child_from-requires-clause-within t c =
     (bound_tree_of-split c.args.tree.now c.in-Split.class c.in-Split.m c.in-Split.below c.in-Split.from c.in-Split.is)
     c.in_ok-put_fact.ensures.holds c.if-not-branch.false).2)
 
-pub put_node-put_node-requires : goal.put_node-put_node-requires
-put_node-put_node-requires t c = (omega (arith, c.decreases), c.names)
-
-pub put_node-put_node-requires-in-Split : goal.put_node-put_node-requires-in-Split
-put_node-put_node-requires-in-Split t c = (omega (arith, c.decreases), c.names)
-
 pub put_node-put_each-requires : goal.put_node-put_each-requires
 put_node-put_each-requires t c =
     let is = bound_tree_of-cut c.args.tree.now c.in-Cut.set c.in-Cut.needed c.in-Cut.children c.in-Cut.is in
@@ -148,11 +142,11 @@ put_node-returns-in_ok-high-in-Split t c =
     let high : List Stated =
     findings_within k end b depth (limits_from l c.in-Split.class c.in-Split.m) (above + 1) From (bound_tree_of c.in-Split.from.value) in
     let first : all_stated c.put_node.new.found.items ≡ all_stated c.put_fact.new.found.items ++ low =
-    rw (c.child.ensures, c.deref.ensures, c.below_split-low.ensures.value, c.from.ensures) at c.in_ok-put_node-in-Split.ensures in
+    cc in
     on_ok_weaker c.put_node-in-Split.result
     (λ all.
     let second : all_stated c.put_node-in-Split.new.found.items ≡ all_stated c.put_node.new.found.items ++ high =
-    rw (c.child-in-Split.ensures, c.deref-in-Split.ensures, c.from_split-high.ensures.value, c.from-in-Split.ensures) at all in
+    cc all in
     held_node k end b depth l above c.args.place.now.reached (bound_tree_of c.args.tree.now) _ _ (low ++ high) _ _ _ (omega arith)
     c.fact_of-fact.ensures c.in_ok-shares.ensures held c.in_ok-put_fact.ensures.put (two_more _ low high _ _ first second)
     (rw is refl))
