@@ -54,10 +54,8 @@ fault_of_plan (planning.SearchLimit stop) = fault.SearchLimit stop.least stop.fo
 fault_of_plan planning.OutOfMemory = fault.OutOfMemory
 
 abbrev pub fault_of_stream : StreamFault → Fault
-fault_of_stream streaming.BadLimit = fault.BadLimit
+fault_of_stream (streaming.Plan f) = fault_of_plan f
 fault_of_stream (streaming.Round f) = fault.Round f
-fault_of_stream (streaming.SearchLimit stop) = fault.SearchLimit stop.least stop.found
-fault_of_stream streaming.OutOfMemory = fault.OutOfMemory
 fault_of_stream (streaming.Transmission f) = fault.Write
 fault_of_stream (streaming.Certificate f) = fault.Write
 

@@ -10,41 +10,63 @@ use pocsag_show::{Rows, ShowFault};
 use pocsag_tree::CertificateFault;
 use pocsag_words::OutOfMemory;
 use std::alloc::{AllocError, AllocFailed};
-use std::error::Error;
-use std::fmt::{self, Debug, Display};
+use thiserror::Error;
 
 /// Why a command did not do what it was asked.
-#[derive(Clone, Copy, PartialEq, Eq)]
+#[derive(Clone, Copy, PartialEq, Eq, Debug, Error)]
 pub enum Fault {
+    #[error("the same file is named twice")]
     EqualPaths,
+    #[error("cannot read or open a file")]
     Device,
+    #[error("cannot write")]
     Write,
+    #[error("out of memory")]
     OutOfMemory,
+    #[error("the file is too large")]
     TooLarge,
+    #[error(transparent)]
     Round(RoundFault),
+    #[error("the limit must be 1 to 1000000")]
     BadLimit,
     /// The search stopped: at least so many batches are needed, and one more would do.
+    #[error("search limit reached: at least {0} batches, {1} would do")]
     SearchLimit(u32, u32),
+    #[error("the rate must be 512, 1200 or 2400")]
     BadRate,
     /// The bytes are no transmission that reads as pages.
+    #[error(transparent)]
     Transmission(DecodeFault),
     /// The pager shows nothing of these bytes.
+    #[error(transparent)]
     Pager(PagerFault),
     /// The bytes are no certificate.
+    #[error(transparent)]
     Certificate(CertificateFault),
     /// What was read back from the transmission's file is not what was planned.
+    #[error("the transmission does not hold the pages of the page file")]
     NotThePages,
     /// The same: a message goes on to the end of the transmission, where the closed end was asked for, or its last
     /// codeword is no idle one, where the idle end was.
+    #[error("the transmission does not end as was asked for")]
     NotTheEnd,
     /// What was read back from the certificate's file is not what was planned.
+    #[error("the certificate does not show the batches of the transmission")]
     NotTheBound,
     /// The round has so many pages, where `--expect` names another number.
+    #[error("pages {0}, where {1} were expected")]
     Unexpected(u32, u32),
     /// The transmission has so many batches, and the first row that `show` is asked for is behind them.
+    #[error("rows {rows}: the transmission has {batches} batch{}", batch_ending(.batches))]
     NoSuchRows { rows: Rows, batches: u64 },
     /// A quote of the page file is misplaced, where `--strict` is given.
+    #[error(transparent)]
     Quotes(QuoteFault),
+}
+
+// The ending of so many batches: `1 batch`, `2 batches`.
+fn batch_ending(batches: &u64) -> &'static str {
+    if *batches == 1 { "" } else { "es" }
 }
 
 impl Fault {
@@ -65,68 +87,6 @@ impl Fault {
         }
     }
 }
-
-impl Fault {
-    // The text of a fault that names no more than itself.
-    fn text(self) -> Option<&'static str> {
-        match self {
-            Fault::EqualPaths => Some("the same file is named twice"),
-            Fault::Device => Some("cannot read or open a file"),
-            Fault::Write => Some("cannot write"),
-            Fault::OutOfMemory => Some("out of memory"),
-            Fault::TooLarge => Some("the file is too large"),
-            Fault::BadLimit => Some("the limit must be 1 to 1000000"),
-            Fault::BadRate => Some("the rate must be 512, 1200 or 2400"),
-            Fault::NotThePages => Some("the transmission does not hold the pages of the page file"),
-            Fault::NotTheEnd => Some("the transmission does not end as was asked for"),
-            Fault::NotTheBound => {
-                Some("the certificate does not show the batches of the transmission")
-            }
-            _ => None,
-        }
-    }
-}
-
-impl Display for Fault {
-    fn fmt<W: fmt::Write>(&self, f: &mut fmt::Formatter<W>) -> fmt::Result {
-        if let Some(text) = self.text() {
-            return f.write_str(text);
-        }
-        match self {
-            Fault::Round(refused) => Display::fmt(refused, f),
-            Fault::Transmission(refused) => Display::fmt(refused, f),
-            Fault::Pager(refused) => Display::fmt(refused, f),
-            Fault::Certificate(refused) => Display::fmt(refused, f),
-            Fault::SearchLimit(least, found) => {
-                write!(
-                    f,
-                    "search limit reached: at least {least} batches, {found} would do"
-                )
-            }
-            Fault::Unexpected(found, expected) => {
-                write!(f, "pages {found}, where {expected} were expected")
-            }
-            Fault::NoSuchRows { rows, batches } => {
-                let plural = if *batches == 1 { "" } else { "es" };
-                write!(
-                    f,
-                    "rows {rows}: the transmission has {batches} batch{plural}"
-                )
-            }
-            Fault::Quotes(refused) => Display::fmt(refused, f),
-            _ => Ok(()),
-        }
-    }
-}
-
-// As it is told.
-impl Debug for Fault {
-    fn fmt<W: fmt::Write>(&self, f: &mut fmt::Formatter<W>) -> fmt::Result {
-        Display::fmt(self, f)
-    }
-}
-
-impl Error for Fault {}
 
 impl From<OutOfMemory> for Fault {
     ghost from_gives = { λ _ e. e ≡ fault.OutOfMemory };
@@ -254,10 +214,8 @@ impl From<StreamFault> for Fault {
 
     fn from(refused: StreamFault) -> Fault {
         match refused {
-            StreamFault::BadLimit => Fault::BadLimit,
+            StreamFault::Plan(refused) => Fault::from(refused),
             StreamFault::Round(refused) => Fault::Round(refused),
-            StreamFault::SearchLimit(limit) => Fault::SearchLimit(limit.least, limit.found),
-            StreamFault::OutOfMemory => Fault::OutOfMemory,
             StreamFault::Transmission(_) | StreamFault::Certificate(_) => Fault::Write,
         }
     }

@@ -3,7 +3,7 @@
 use crate::note::Notes;
 use crate::role::{NamedFile, Role};
 use crate::scene::Scene;
-use pocsag_pages::{FieldCount, FileRecords, RoundFault, line_feeds};
+use pocsag_pages::{FieldCount, FieldFault, FileRecords, RecordFault, RoundFault, line_feeds};
 use pocsag_quotes::quote_fault;
 use pocsag_words::OutOfMemory;
 use std::alloc::Global;
@@ -83,24 +83,6 @@ fn field_count(records: &FileRecords<'_>) -> FieldCount {
     })
 }
 
-// The number of the record that a fault names.
-fn record_number(refused: RoundFault) -> Option<u32> {
-    match refused {
-        RoundFault::FieldCount(number)
-        | RoundFault::BadAddress(number)
-        | RoundFault::ReservedAddress(number)
-        | RoundFault::BadKind(number)
-        | RoundFault::MessageForTone(number)
-        | RoundFault::EmptyMessage(number)
-        | RoundFault::BadCharacter(number, _)
-        | RoundFault::TooLong(number)
-        | RoundFault::DuplicateAddress(number)
-        | RoundFault::TooManyPages(number)
-        | RoundFault::BadPayload(number) => Some(number),
-        _ => None,
-    }
-}
-
 /// What the first line of a page file is, in place of the header.
 pub fn note_header(scene: &Scene<'_>, notes: &mut Notes) -> Result<(), OutOfMemory> {
     let place = scene.names.place(Role::PageFile);
@@ -165,7 +147,7 @@ fn note_record_among(
     records: &mut FileRecords<'_>,
     notes: &mut Notes,
 ) -> Result<(), OutOfMemory> {
-    let Some(number) = record_number(refused) else {
+    let RoundFault::Record(number, refused) = refused else {
         return Ok(());
     };
     if come_to(records, Sought::Number(number))?.is_none() {
@@ -179,7 +161,7 @@ fn note_record_among(
     };
     let count = field_count(records);
     note_field(refused, spot, count, records, notes)?;
-    if let RoundFault::DuplicateAddress(_) = refused {
+    if let RecordFault::DuplicateAddress = refused {
         note_earlier(alloc, spot, scene, notes)?;
     }
     note_quote(scene, Some(number), notes)?;
@@ -204,13 +186,15 @@ fn note_quote(
 }
 
 // What is wanted of a record, where its own fields say no more.
-fn what_is_wanted(refused: RoundFault) -> Option<&'static str> {
+fn what_is_wanted(refused: RecordFault) -> Option<&'static str> {
     match refused {
-        RoundFault::BadAddress(_) => Some("one to seven digits are wanted, at most 2097151"),
-        RoundFault::ReservedAddress(_) => {
+        RecordFault::Field(FieldFault::BadAddress) => Some(
+            "one to seven digits are wanted, at most 2097151",
+        ),
+        RecordFault::Field(FieldFault::ReservedAddress) => {
             Some("2007664 to 2007671 and 2045056 to 2045063 are reserved")
         }
-        RoundFault::TooManyPages(_) => {
+        RecordFault::TooManyPages => {
             Some("a round has at most 20000 pages; make two of this one")
         }
         _ => None,
@@ -228,7 +212,7 @@ fn advice_on_fields(fields: usize) -> (&'static str, &'static str) {
 
 // What is wrong with the record, which has so many fields.
 fn note_field(
-    refused: RoundFault,
+    refused: RecordFault,
     spot: Spot<'_>,
     count: FieldCount,
     records: &FileRecords<'_>,
@@ -238,7 +222,7 @@ fn note_field(
         return notes.add(format_args!("{spot}: {wanted}"));
     }
     match refused {
-        RoundFault::FieldCount(_) => {
+        RecordFault::FieldCount => {
             let (plural, advice) = advice_on_fields(count.fields);
             let FieldCount { fields, is_front } = count;
             let least = if is_front { "at least " } else { "" };
@@ -246,7 +230,7 @@ fn note_field(
                 "{spot}: {least}{fields} field{plural}, where address,kind,message are wanted; {advice}"
             ))
         }
-        RoundFault::TooLong(_) => {
+        RecordFault::Field(FieldFault::TooLong) => {
             let length = field(records, 2).len();
             notes.add(format_args!(
                 "{spot}: the message has {length} bytes, where 4000 are allowed"
@@ -257,10 +241,12 @@ fn note_field(
 }
 
 // What is said of a kind that is wrong in itself.
-fn told_of_kind(refused: RoundFault) -> Option<&'static str> {
+fn told_of_kind(refused: RecordFault) -> Option<&'static str> {
     match refused {
-        RoundFault::BadKind(_) => Some(", not tone0, tone1, tone2, tone3, numeric or alpha"),
-        RoundFault::EmptyMessage(_) => Some("; tone0 to tone3 have no message"),
+        RecordFault::Field(FieldFault::BadKind) => Some(
+            ", not tone0, tone1, tone2, tone3, numeric or alpha",
+        ),
+        RecordFault::Field(FieldFault::EmptyMessage) => Some("; tone0 to tone3 have no message"),
         _ => None,
     }
 }
@@ -276,7 +262,7 @@ fn allowed_characters(kind: &[u8]) -> &'static str {
 
 // What is wrong with the kind of the record or with its message.
 fn note_kind(
-    refused: RoundFault,
+    refused: RecordFault,
     spot: Spot<'_>,
     records: &FileRecords<'_>,
     notes: &mut Notes,
@@ -287,10 +273,10 @@ fn note_kind(
     }
     let message = excerpt_of(records, 2);
     match refused {
-        RoundFault::MessageForTone(_) => notes.add(format_args!(
+        RecordFault::Field(FieldFault::MessageForTone) => notes.add(format_args!(
             "{spot}: the message is {message}, and the kind is {kind}"
         )),
-        RoundFault::BadCharacter(_, at) => {
+        RecordFault::Field(FieldFault::BadCharacter(at)) => {
             let byte = message.bytes.get(at).copied().unwrap_or(0);
             let message = Excerpt { at, ..message };
             let allowed = allowed_characters(kind.bytes);

@@ -3,7 +3,7 @@ ghost use Rattle.std.specs.Prelude.{◌≡◌, ◌-◌, ◌<◌, ◌≤◌, ◌^
 use std::fmt::{self, Display, Formatter};
 
 /// The rows that are wanted of a picture: batches, counted from 1.
-#[derive(Clone, Copy, PartialEq, Eq)]
+#[derive(Clone, Copy, PartialEq, Eq, Debug)]
 pub struct Rows {
     /// The first that is drawn.
     pub first: u64,
