@@ -448,7 +448,10 @@ fn records_of_a_long_file(rt: HostRuntime) {
         let mut records = FileRecords::of(alloc, file.as_slice());
         assert_eq!(rt; records.advance(), Ok(true));
         assert_eq!(rt; records.advance(), Ok(true));
-        assert_eq!(rt; records.wide_size().map(|it| (it.fields, it.is_front)), Some(*due));
+        assert_eq!(rt;
+            records.wide_size().map(|it| (it.fields, it.is_front)),
+            Some(*due)
+        );
         assert_eq!(rt; records.line(), 2);
         assert_eq!(rt; records.advance(), Ok(false));
         let mut source = MemorySource::new(file.as_slice(), 65_536, u64::MAX);
@@ -464,7 +467,8 @@ fn pages_beyond_a_front(rt: HostRuntime) {
     let mut file = Vec::from_slice(alloc, b"address,kind,message\n").expect(&rt, "memory");
     for number in 0..1_100 {
         let begins = format!(in alloc; "{},alpha,\"", 8 * number).expect(&rt, "memory");
-        file.extend_from_slice(begins.as_bytes()).expect(&rt, "memory");
+        file.extend_from_slice(begins.as_bytes())
+            .expect(&rt, "memory");
         let len = file.len() + 4_000;
         file.resize(len, b',').expect(&rt, "memory");
         file.extend_from_slice(b"\"\n").expect(&rt, "memory");
