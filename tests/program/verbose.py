@@ -27,9 +27,13 @@ PAGE_FILES = [
     (HEADER + b"\n8,tone0\n", "record 1: three fields are wanted", ["page file p.csv, line 3, record 1, address '8': 2 fields, " + WANTED + "a page without a message ends with a comma"]),
     (HEADER + b"8\n", "record 1: three fields are wanted", ["page file p.csv, line 2, record 1, address '8': 1 field, " + WANTED + "commas stand between them"]),
     (HEADER + b"8,tone0,\n9,alpha,Pump 4, hall B\n", "record 2: three fields are wanted", ["page file p.csv, line 3, record 2, address '9': 4 fields, " + COMMAS]),
-    # Many commas: csv is handed no more than the third of the record, whose size is counted all the same.
+    # Many commas: three fields of the record are kept, and its size is told all the same; of a long file a front is read.
     (HEADER + b"8,tone0,\n\n9,alpha," + b"," * 200000 + b"\n16,tone0,\n", "record 2: three fields are wanted",
      ["page file p.csv, line 4, record 2, address '9': 200003 fields, " + COMMAS]),
+    (HEADER + b"8,tone0,\n\n9,alpha," + b"," * 5_000_000 + b"\n16,tone0,\n", "record 2: three fields are wanted",
+     ["page file p.csv, line 4, record 2, address '9': at least 4194268 fields, " + COMMAS]),
+    (HEADER + b'8,alpha,"' + b"x" * 5_000_000 + b'"\n9,tone0\n', "record 1: the message is too long",
+     ["page file p.csv, line 2, record 1, address '8': the message has 5000000 bytes, where 4000 are allowed"]),
     (HEADER + b'8,alpha,"Pump 4,\n' + b"," * 200000 + b'",hall\r\n', "record 1: three fields are wanted",
      ["page file p.csv, line 2, record 1, address '8': 4 fields, " + COMMAS]),
     (HEADER + b'8,alpha,Pump 4,"hall B\n' + b"9,tone0,,,\n" * 50000, "record 1: three fields are wanted",

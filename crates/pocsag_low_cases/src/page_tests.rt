@@ -492,7 +492,10 @@ fn records_of_a_long_file(rt: HostRuntime) {
         let mut records = FileRecords::of(alloc, file.as_slice());
         assert_eq!(rt; records.advance(), Ok(true));
         assert_eq!(rt; records.advance(), Ok(true));
-        assert_eq!(rt; records.wide_count().map(|it| (it.fields, it.is_front)), Some(*due));
+        assert_eq!(rt;
+            records.wide_count().map(|it| (it.fields, it.is_front)),
+            Some(*due)
+        );
         assert_eq!(rt; records.line(), 2);
         assert_eq!(rt; records.advance(), Ok(false));
         let mut source = MemorySource::new(file.as_slice(), 65_536, u64::MAX);
@@ -500,6 +503,24 @@ fn records_of_a_long_file(rt: HostRuntime) {
         let text = format!(in alloc; "{fault}").expect(&rt, "memory");
         assert_eq!(rt; text.as_str(), "record 1: three fields are wanted");
     }
+}
+
+#[test]
+fn pages_beyond_a_front(rt: HostRuntime) {
+    let alloc = rt.alloc();
+    let mut file = Vec::from_slice(alloc, b"address,kind,message\n").expect(&rt, "memory");
+    for number in 0..1_100 {
+        let begins = format!(in alloc; "{},alpha,\"", 8 * number).expect(&rt, "memory");
+        file.extend_from_slice(begins.as_bytes())
+            .expect(&rt, "memory");
+        let len = file.len() + 4_000;
+        file.resize(len, b',').expect(&rt, "memory");
+        file.extend_from_slice(b"\"\n").expect(&rt, "memory");
+    }
+    let mut source = MemorySource::new(file.as_slice(), 65_536, u64::MAX);
+    let round = read_round(alloc, &mut source).expect(&rt, "a round");
+    assert_eq!(rt; round.pages().len(), 1_100);
+    assert_eq!(rt; round.pages()[1_099].address, 8_792);
 }
 
 // Bytes, and the fields of their record where they hold one and no more.
