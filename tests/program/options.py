@@ -212,7 +212,7 @@ def try_foreign_options(tally, folder):
         done = run(words, folder)
         holds = done.returncode == 2 and done.stdout == b"" and done.stderr.startswith(b"error: ")
         tally.check(f"usage {words}", holds, done)
-        if "--rows" in words and words[0] == "show":
+        if words[:3] == ["show", "t", "--rows"] and words[-1] in ("0", "7-3"):
             tally.check(f"the usage of show: {words}", b"\nUsage: pocsag show " in done.stderr, done)
 
 
