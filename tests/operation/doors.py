@@ -84,6 +84,11 @@ def try_streams(tally, folder):
     done = shell("printf 'add,8,tone0,\\nplan,/dev/stdout,c\\nplan,o.bin,c\\n' | pocsag open > o.bin", room)
     told = (room / "o.bin").read_bytes()
     tally.check("a line plan", told == b"ok 1\n" + 2 * b"refused: the same file is named twice\n" and "c" not in names(room), (done, told))
+    for closed in ("<&- >&-", ">&-", "<&- >&- 2>&-"):
+        (room / "t").write_bytes(OLD[0])
+        done = shell(f"pocsag plan pages.csv t c2 {closed}", room)
+        tally.check(f"closed: {closed}", done.returncode in (1, 3) and (room / "t").read_bytes() == OLD[0], (done, (room / "t").read_bytes()))
+        (room / "t").unlink()
     for line in ("plan pages.csv /dev/null c > /dev/null 2>&1", "plan pages.csv - c > o.bin", "plan pages.csv t c > lines", "plan - t c < pages.csv"):
         done = shell(f"pocsag {line}", room)
         tally.check(f"taken: {line}", done.returncode == 0, done)

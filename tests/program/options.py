@@ -11,7 +11,7 @@ sys.dont_write_bytecode = True
 from tally import PROGRAM, TOP
 
 HEADER = b"address,kind,message\n"
-ENDS = ([], ["--end", "open"], ["--end", "closed"], ["--end=closed"], ["--idle-last"])
+ENDS = ([], ["--end", "open"], ["--end", "closed"], ["--end=closed"], ["--idle-last"], ["--end", "idle"])
 LIMITS = ([], ["--limit", "100000"], ["--limit=1000000"], ["--limit", "1"])
 RATES = ("512", "1200", "2400")
 USAGE = [
@@ -32,8 +32,8 @@ USAGE = [
     ["plan", "p", "t", "c", "--limit", "5", "--limit", "6"], ["plan", "p", "t", "c", "--limit", "-1"],
     ["plan", "p", "t", "c", "--idle-last", "--end", "open"], ["plan", "p", "t", "c", "--end", "closed", "--idle-last"],
     ["plan", "p", "t", "c", "--idle-last", "--idle-last"], ["plan", "p", "t", "c", "--idle-last=yes"],
-    ["plan", "p", "t", "c", "--end", "idle"], ["report", "p", "--rate", "512", "--end", "closed", "--idle-last"],
-    ["report", "p", "--rate", "512", "--end=idle"], ["check", "p", "c", "--idle-last"], ["explain", "p", "c", "--idle-last"],
+    ["plan", "p", "t", "c", "--end", "idle-last"], ["report", "p", "--rate", "512", "--end", "closed", "--idle-last"],
+    ["report", "p", "--rate", "512", "--end=Idle"], ["check", "p", "c", "--strict"], ["open", "--strict"], ["check", "p", "c", "--idle-last"], ["explain", "p", "c", "--idle-last"],
     ["open", "--idle-last"], ["show", "t", "--idle-last"], ["--idle-last"],
 ]
 
@@ -75,7 +75,7 @@ ROUNDS = [
 
 def end_in(words):
     """The end that the words ask for."""
-    return "idle" if "--idle-last" in words else "closed" if any("closed" in word for word in words) else "open"
+    return "idle" if "--idle-last" in words or "idle" in words else "closed" if any("closed" in word for word in words) else "open"
 
 
 class Due:
@@ -212,6 +212,8 @@ def try_foreign_options(tally, folder):
         done = run(words, folder)
         holds = done.returncode == 2 and done.stdout == b"" and done.stderr.startswith(b"error: ")
         tally.check(f"usage {words}", holds, done)
+        if words[:3] == ["show", "t", "--rows"] and words[-1] in ("0", "7-3"):
+            tally.check(f"the usage of show: {words}", b"\nUsage: pocsag show " in done.stderr, done)
 
 
 def try_bad_numbers(tally, folder):

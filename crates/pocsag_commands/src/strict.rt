@@ -1,4 +1,4 @@
-ghost use Rattle.std.specs.Prelude.{◌≡◌, ◌↔◌, ¬◌, IfErr, IfOk, IsErrOf, None, OnOk, Some};
+ghost use Rattle.std.specs.Prelude.{◌≡◌, ◌↔◌, IfErr, IfOk, IsErrOf, None, OnOk, Some};
 ghost use Rattle.pocsag_branch.specs.Found.{IsNodeLimit};
 ghost use Rattle.pocsag_faults.specs.declared.fault.Fault.TheVariants as fault;
 ghost use Rattle.pocsag_quotes.specs.Quotes.{first_misplaced};

@@ -88,8 +88,9 @@ fn open_second(
     tx: &str,
     cert: &str,
 ) -> Result<Output<File>, Fault> {
-    // A path that named no file before may be another spelling of the one that was made.
-    refuse_one_file(desk.rt, pages, tx, cert)?;
+    // A path that named no file before may be another spelling of the one that was made; and where a standard stream was
+    // closed, a file that was opened stands behind it.
+    refuse_shared(desk.rt, pages, tx, cert)?;
     open_output(desk, Role::Certificate, cert)
 }
 
