@@ -1,0 +1,79 @@
+"""Changed transmissions, each made from one that carries its round in the fewest batches."""
+
+import struct
+
+SYNC, IDLE = 0x7CD215D8, 0x7A89C197
+PREAMBLE = b"\xaa" * 72
+
+
+def codewords(sent):
+    """The codewords of a transmission as the product writes it."""
+    words = [it for (it,) in struct.iter_unpack(">I", sent[len(PREAMBLE):])]
+    return [word for place, word in enumerate(words) if place % 17]
+
+
+def sent_from(words):
+    batches = (words[at:at + 16] for at in range(0, len(words), 16))
+    return PREAMBLE + b"".join(struct.pack(">17I", SYNC, *batch) for batch in batches)
+
+
+def pages_in(words):
+    """Each page as its first index and the index behind it."""
+    begins = [at for at, word in enumerate(words) if word != IDLE and word < 1 << 31]
+    ends = [next((at for at in range(begin + 1, len(words)) if words[at] < 1 << 31), len(words)) for begin in begins]
+    return list(zip(begins, ends))
+
+
+def two_pages_exchanged(source, sent):
+    """Two pages of one length in different frames, exchanged; none where there are no such pages."""
+    words = codewords(sent)
+    found = pages_in(words)
+    choices = [
+        (a, b) for a in found for b in found
+        if a < b and a[1] - a[0] == b[1] - b[0] and a[0] % 16 // 2 != b[0] % 16 // 2
+        and words[a[0]] != words[b[0]]
+    ]
+    if not choices:
+        return None
+    (a, after_a), (b, after_b) = source.choice(choices)
+    return sent_from(words[:a] + words[b:after_b] + words[after_a:b] + words[a:after_a] + words[after_b:])
+
+
+def one_batch_more(source, sent):
+    return sent + struct.pack(">17I", SYNC, *[IDLE] * 16)
+
+
+def a_page_lost(source, sent):
+    """Idles in place of a page."""
+    words = codewords(sent)
+    begin, end = source.choice(pages_in(words))
+    return sent_from(words[:begin] + [IDLE] * (end - begin) + words[end:])
+
+
+def a_bit_wrong(source, sent):
+    place = source.randrange(len(PREAMBLE), len(sent))
+    return sent[:place] + bytes([sent[place] ^ 1 << source.randrange(8)]) + sent[place + 1:]
+
+
+def a_short_preamble(source, sent):
+    return sent[1:]
+
+
+def a_byte_less(source, sent):
+    return sent[:-1]
+
+
+CHANGES = {
+    "two pages exchanged": two_pages_exchanged,
+    "one batch more": one_batch_more,
+    "a page lost": a_page_lost,
+    "a bit wrong": a_bit_wrong,
+    "a preamble of 71 bytes": a_short_preamble,
+    "a byte less": a_byte_less,
+}
+
+
+def one_of(source, sent):
+    """One change and the bytes that it makes, if it can be made."""
+    what = source.choice([*CHANGES, "two pages exchanged", "two pages exchanged"])
+    return what, CHANGES[what](source, sent)

@@ -1,0 +1,214 @@
+#!/usr/bin/env python3
+"""Builds the checker of rocq/ and runs it: the vectors, plans of the product and changed ones, page files and certificates
+of every sort, a plan in Coq's kernel, and wrong rules, which no longer prove.
+
+Where Coq is not installed it says so and passes. The last line is 'N passed, M failed'.
+"""
+
+import csv
+import pathlib
+import random
+import re
+import shutil
+import subprocess
+import sys
+
+sys.dont_write_bytecode = True
+HERE = pathlib.Path(__file__).resolve().parent
+sys.path[:0] = [str(HERE), str(HERE.parent), str(HERE.parent / "certificates")]
+import changed
+import wrong_rules
+from checker import CLOSED_END, IDLE_END, OPEN_END
+from pairs import of_bytes, of_files, of_trees
+from rounds import HEADER, message_of, page_file, small_pages
+from tally import ENDS, PROGRAM, TOP, Tally, run_parts
+
+PLANS = 500
+PAIRS = 1_000
+TOLD = {"open": "", "closed": " with a closed end", "idle": " with an idle last"}
+NUMBERS = {"open": OPEN_END, "closed": CLOSED_END, "idle": IDLE_END}
+ILLEGAL = "pocsag-verify: not a legal transmission of the round\n"
+MODULES = "Codewords Readings PageFiles PageFileProofs Trees Soundness Certificates Transmissions Checks".split()
+NEEDED = ("coqc", "coqchk", "ocamlfind")
+
+
+def run(*words, folder=None):
+    done = subprocess.run([str(it) for it in words], cwd=folder, capture_output=True, text=True, timeout=300)
+    return done.returncode, done.stdout, done.stderr
+
+
+class Copy:
+    """A copy of rocq/ that is built."""
+
+    def __init__(self, folder):
+        self.folder = folder / "rocq"
+        sources = [it for it in (TOP / "rocq").iterdir() if it.suffix in (".v", ".ml", ".md") or it.name in ("build", "kernel")]
+        self.folder.mkdir()
+        for it in sources:
+            shutil.copy(it, self.folder)
+        self.program = self.folder / "pocsag-verify"
+
+    def verify(self, folder, *names):
+        return run(self.program, *names, folder=folder)
+
+
+def build(tally, copy):
+    """Coq takes every file, and the program is built."""
+    status, _, told = run(copy.folder / "build")
+    tally.check("build", status == 0 and copy.program.exists(), told)
+    return status == 0
+
+
+def try_theorems(tally, copy, folder):
+    """Both theorems stand on no axiom, and Coq's second checker takes every file."""
+    names = ("check_right", "fewest")
+    asked = "".join(f"Print Assumptions {name}.\n" for name in names)
+    (folder / "asked.v").write_text("From Pocsag Require Import Checks.\n" + asked)
+    status, told, error = run("coqc", "-q", "-Q", copy.folder, "Pocsag", folder / "asked.v")
+    tally.check("no axiom", (status, told.count("Closed under the global context")) == (0, len(names)), told + error)
+    ours = [word for it in MODULES for word in ("-norec", f"Pocsag.{it}")]
+    status, told, error = run("coqchk", "-silent", "-o", "-Q", copy.folder, "Pocsag", *ours)
+    summary = told + error
+    tally.check("coqchk", status == 0 and "Axioms:" in summary and "Pocsag" not in summary, summary)
+    text = "".join((copy.folder / f"{it}.v").read_text() for it in MODULES)
+    words = re.findall(r"\b(?:Admitted|admit|Axiom|Parameter|Conjecture)\b", text)
+    tally.check("nothing taken without a proof", not words, words)
+
+
+def due_of(row):
+    """Status, output and errors for a row of the vectors; errors are told in words of the checker's own."""
+    refused = "pocsag-verify: not a "
+    if row["line"].startswith("pocsag: "):
+        return 1, "", refused + ("certificate\n" if "certificate" in row["line"] else "page file\n")
+    told, batches = row["line"] + "\n", re.findall(r"at least (\d+)", row["line"])
+    if not row["tx"] or not batches:
+        return int(row["status"]), told, ""
+    if row["sent"] == "yes":
+        return 0, f"{told}batches {batches[0]}\n", ""
+    return 1, told, ILLEGAL
+
+
+def try_vectors(tally, copy, folder):
+    """Each row of the vectors whose files stand in the repository."""
+    vectors = TOP / "vectors"
+    for row in csv.DictReader((vectors / "table.csv").open()):
+        names = [row[it] for it in ("pages", "tx", "cert") if row[it]]
+        if not all((vectors / it).exists() for it in names):
+            continue
+        status, told, error = copy.verify(vectors, *names)
+        if row["name"] == "sent-one-batch-more":  # legal, and not the fewest
+            told, error = told.replace("batches 2\n", ""), ILLEGAL
+        tally.check(f"vector {row['name']}", (status, told, error) == due_of(row), (status, told, error))
+
+
+def try_plans(tally, copy, folder):
+    """Plans of the product are shown; changed ones are not."""
+    source, judged, refused = random.Random(22), 0, {}
+    while judged < PLANS:
+        end = source.choice(list(ENDS))
+        pages = page_file(source, small_pages(source, NUMBERS[end]))
+        (folder / "pages.csv").write_bytes(pages)
+        status, told, _ = run(PROGRAM, "plan", "pages.csv", "tx.bin", "cert.bin", *ENDS[end], folder=folder)
+        if status:
+            continue
+        judged += 1
+        batches = int(told.split()[-1])
+        shown = f"at least {batches} batches{TOLD[end]}\n"
+        found = copy.verify(folder, "pages.csv", "tx.bin", "cert.bin")
+        tally.check("plan", found == (0, f"{shown}batches {batches}\n", ""), f"{end} {pages}: {found}")
+        tally.check("bound", copy.verify(folder, "pages.csv", "cert.bin") == (0, shown, ""), f"{end} {pages}")
+        sent = (folder / "tx.bin").read_bytes()
+        what, other = changed.one_of(source, sent)
+        if other is None:
+            continue
+        (folder / "other.bin").write_bytes(other)
+        found = copy.verify(folder, "pages.csv", "other.bin", "cert.bin")
+        more = (1, f"{shown}batches {batches + 1}\n", "")
+        is_legal = what == "one batch more"
+        due = more if is_legal else (1, shown, ILLEGAL)
+        tally.check(what, found == due, f"{end} {pages} {other.hex()}: {found}")
+        refused[what] = refused.get(what, 0) + 1
+    tally.check("each change was tried", min(refused.get(it, 0) for it in changed.CHANGES) >= 10, refused)
+
+
+def verdict_of(done):
+    """What a checker said of a page file and a certificate."""
+    status, told, error = done
+    if (status == 0) != told.startswith("at least ") or (told and error):
+        return f"status {status}: {told} {error}"
+    if told:
+        return told
+    return "no certificate" if re.search("certificate", error) else "refused"
+
+
+def try_pairs(tally, copy, folder):
+    """Page files and certificates of every sort: the answer of the product's `check`."""
+    source = random.Random(23)
+    found = [*of_trees(source), *of_files(source), *of_bytes()]
+    for what, pages, text in source.sample(found, PAIRS):
+        (folder / "pages.csv").write_bytes(pages)
+        (folder / "cert.bin").write_bytes(text)
+        ours = verdict_of(run(PROGRAM, "check", "pages.csv", "cert.bin", folder=folder))
+        theirs = verdict_of(copy.verify(folder, "pages.csv", "cert.bin"))
+        tally.check(what, ours == theirs, f"{pages[:200]} {text[:200].hex()}: {ours} / {theirs}")
+
+
+def try_large(tally, copy, folder):
+    """20,000 mixed pages and their transmission, in one gigabyte of memory and with the usual stack."""
+    source = random.Random(24)
+    addresses = source.sample(range(2007664), 20000)
+    records = (b"%d,%s,%s\n" % (it, *message_of(source, source.randrange(16))) for it in addresses)
+    (folder / "pages.csv").write_bytes(HEADER + b"".join(records))
+    _, told, _ = run(PROGRAM, "plan", "pages.csv", "tx.bin", "cert.bin", folder=folder)
+    fewest = told.splitlines()[-1]
+    limited = ("sh", "-c", 'ulimit -v 1048576; exec "$@"', "sh", copy.program)
+    done = run(*limited, "pages.csv", "tx.bin", "cert.bin", folder=folder)
+    tally.check("20,000 pages", done[0] == 0 and fewest in done[1] and not done[2], (told, done))
+
+
+def try_words(tally, copy, folder):
+    """Words of the call that are none, and files that are not there."""
+    tally.check("no words", copy.verify(folder)[0] == 2)
+    tally.check("no file", copy.verify(folder, "none.csv", "none.cert")[0] == 3)
+
+
+def try_kernel(tally, copy, folder):
+    """Coq's kernel alone finds a plan right, and one batch more wrong."""
+    (folder / "pages.csv").write_bytes((TOP / "examples/loops-apart.csv").read_bytes())
+    planned = run(PROGRAM, "plan", "pages.csv", "tx.bin", "cert.bin", folder=folder)
+    sent = (folder / "tx.bin").read_bytes()
+    (folder / "other.bin").write_bytes(changed.one_batch_more(None, sent))
+    for name, due in ("tx.bin", 0), ("other.bin", 1):
+        status, text, error = run(copy.folder / "kernel", "pages.csv", name, "cert.bin", folder=folder)
+        (folder / "plan.v").write_text(text)
+        done = run("coqc", "-q", "-Q", copy.folder, "Pocsag", "plan.v", folder=folder)
+        told = "Closed under the global context" in done[1] if due == 0 else "Unable to unify" in done[2] or "Error" in done[2]
+        tally.check(f"kernel {name}", planned[0] == status == 0 and done[0] == due and told, (planned, error, done))
+
+
+def try_all(tally, folder):
+    copy = Copy(folder)
+    if not build(tally, copy):
+        return
+    try_theorems(tally, copy, folder)
+    try_words(tally, copy, folder)
+    try_vectors(tally, copy, folder)
+    try_large(tally, copy, folder)
+    try_plans(tally, copy, folder)
+    try_pairs(tally, copy, folder)
+    try_kernel(tally, copy, folder)
+    wrong_rules.try_rules(tally, copy.folder, folder)
+
+
+def main():
+    missing = [it for it in NEEDED if not shutil.which(it)]
+    if not missing:
+        return run_parts(try_all)
+    print(f"skipped: not installed: {' '.join(missing)} (on Debian: apt-get install coq ocaml-findlib)")
+    tally = Tally()
+    tally.check("skipped", True)
+    return tally.end()
+
+
+if __name__ == "__main__":
+    sys.exit(main())
