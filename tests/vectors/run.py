@@ -1,0 +1,94 @@
+#!/usr/bin/env python3
+"""Runs `check`, `explain` and `decode` of the compiled program, and the second checker, over the vectors of vectors/.
+
+What is due stands in vectors/table.csv, worked out by hand. The files are those that vectors/make.py spells. The last line
+is 'N passed, M failed'.
+"""
+
+import csv
+import io
+import subprocess
+import sys
+
+sys.dont_write_bytecode = True
+from pathlib import Path
+
+TOP = Path(__file__).resolve().parents[2]
+VECTORS = TOP / "vectors"
+sys.path[:0] = [str(TOP / "tests"), str(TOP / "tests/certificates"), str(VECTORS)]
+import checker
+import make
+from tally import PROGRAM, run_parts
+
+IDLE = bytes.fromhex("7A89C197")
+FAULT = "pocsag: "
+TOLD = ("refused", "no certificate")  # the answers of the second checker where the product tells a fault
+
+
+def rows():
+    with open(VECTORS / "table.csv", newline="") as table:
+        return list(csv.DictReader(table))
+
+
+def run(folder, *words):
+    """The status of the program, and its output or the fault that it tells."""
+    done = subprocess.run([str(PROGRAM), *words], cwd=folder, capture_output=True, timeout=300)
+    return done.returncode, (done.stdout or done.stderr).decode("latin-1").removesuffix("\n")
+
+
+def try_files(tally, folder):
+    """The files of the repository are those that make.py spells, all of them are in use, and no row comes twice."""
+    make.write(folder, make.small())
+    make.write(folder, make.large())
+    spelled = {name for name, _ in make.small()}
+    for name in sorted(spelled):
+        path = VECTORS / name
+        tally.check(f"{name} as it is spelled", path.exists() and path.read_bytes() == (folder / name).read_bytes())
+    table = rows()
+    used = {row[column] for row in table for column in ("pages", "tx", "cert") if row[column]}
+    made = {str(path.relative_to(folder)) for path in folder.rglob("*") if path.is_file()}
+    here = {f"{part}/{path.name}" for part in ("pages", "certs", "sent") for path in (VECTORS / part).iterdir()}
+    tally.check("each file is in use", used == made and here == spelled, (used ^ made, here ^ spelled))
+    tally.check("each name stands once", len({row["name"] for row in table}) == len(table))
+
+
+def try_verdicts(tally, folder):
+    """Both checkers and `explain` over each row."""
+    for row in rows():
+        due = int(row["status"]), row["line"]
+        told = run(folder, "check", row["pages"], row["cert"])
+        tally.check(f"check: {row['name']}", told == due, told)
+        status, text = run(folder, "explain", "--depth", "0", row["pages"], row["cert"])
+        as_due = text == due[1] if due[1].startswith(FAULT) else text.split("\n")[0].startswith("at least" if due[0] == 0 else "not shown")
+        tally.check(f"explain: {row['name']}", status == due[0] and as_due, (status, text))
+        answer = checker.verdict((folder / row["pages"]).read_bytes(), (folder / row["cert"]).read_bytes())
+        agrees = answer in TOLD if due[1].startswith(FAULT) else answer == due[1]
+        tally.check(f"second checker: {row['name']}", agrees, answer)
+
+
+def pages_of(text):
+    """The pages of a page file or a listing, in any order. Numeric messages are filled with spaces as they are sent."""
+    records = list(csv.reader(io.StringIO(text, newline="")))[1:]
+    return sorted((int(address), kind, message.rstrip(" ") if kind == "numeric" else message) for address, kind, message in records)
+
+
+def is_sent(folder, row, listing):
+    """Whether a transmission that can be read is legal for the round and the certificate's end, in its batches."""
+    end, batches, _ = checker.parse((folder / row["cert"]).read_bytes())
+    sent = (folder / row["tx"]).read_bytes()
+    words = sent.lstrip(b"\xaa")
+    ends = {checker.OPEN_END: True, checker.CLOSED_END: words[-4] < 0x80, checker.IDLE_END: words[-4:] == IDLE}
+    same = pages_of(listing) == pages_of((folder / row["pages"]).read_text("latin-1"))
+    return same and len(words) == 68 * batches and ends[end]
+
+
+def try_transmissions(tally, folder):
+    """What `decode` tells of each transmission, and the pages that it lists beside those of the page file."""
+    for row in (row for row in rows() if row["tx"]):
+        status, text = run(folder, "decode", row["tx"])
+        told = ("yes" if is_sent(folder, row, text) else "no") if status == 0 else text
+        tally.check(f"decode: {row['name']}", told == row["sent"], (status, told))
+
+
+if __name__ == "__main__":
+    sys.exit(run_parts(try_files, try_verdicts, try_transmissions))
