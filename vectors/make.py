@@ -37,6 +37,7 @@ PAGE_FILES = {
     "tight": HEADER + b"0,numeric," + ones(25) + b"\n3,numeric," + ones(45) + b"\n11,numeric," + ones(75) + b"\n",
     "both-ways": HEADER + b"0,numeric," + ones(65) + b"\n7,tone0,\n15,numeric," + ones(10) + b"\n1,numeric," + ones(65) + b"\n",
     "tone-and-14": HEADER + b"7,tone0,\n1,numeric," + ones(65) + b"\n",
+    "two-tones-and-14": HEADER + b"7,tone0,\n15,tone0,\n0,numeric," + ones(65) + b"\n",
     "long-last": HEADER + b"7,numeric," + ones(241) + b"\n",
     # Lengths.
     "numeric-5": HEADER + b"0,numeric,12345\n",
@@ -106,6 +107,7 @@ PAGE_FILES = {
     "kind-tone4": HEADER + b"8,tone4,\n",
     "kind-data1": HEADER + b"8,data1,\n",
     "tone-with-message": HEADER + b"8,tone1,1\n",
+    "tone2-with-message": HEADER + b"8,tone2,1\n",
     "numeric-empty": HEADER + b"8,numeric,\n",
     "alpha-empty": HEADER + b"8,alpha,\n",
     "numeric-all": HEADER + b"8,numeric,0123456789*U -][\n",
@@ -178,6 +180,10 @@ CERTIFICATES = {
     "cut-of-1": f"{OPEN_HEAD} 00000001 {LOOPS_CUT}",
     "cut-of-4": f"{OPEN_HEAD} 00000004 02 0001 30 0002 {LOOPS_CUT} {LOOPS_CUT}",
     "cut-in-cut": f"{OPEN_HEAD} 00000003 02 0001 30 0002 {LOOPS_CUT} 00 8000",
+    "cut-of-4-deeper": f"{OPEN_HEAD} 00000004 02 0001 30 0002"
+    f" 02 0001 30 0002 00 0001 {LOOPS_CUT} 02 0001 30 0002 {LOOPS_CUT} 00 8000",
+    "cut-first-open": f"{OPEN_HEAD} 00000003 02 0001 30 0002 03 00 8000",
+    "cut-last-open": f"{OPEN_HEAD} 00000003 02 0001 30 0002 00 0001 03",
     "cut-another-slot": f"{OPEN_HEAD} 00000003 02 0001 30 0002 00 0001 00 4000",
     "cut-without-0": f"{OPEN_HEAD} 00000003 02 0040 00 0002 00 0020 00 0040",
     "cut-class-0": f"{OPEN_HEAD} 00000003 02 0001 00 0002 00 0001 00 8000",
@@ -210,6 +216,8 @@ CERTIFICATES = {
     "close-long": f"{CLOSED_HEAD} 00000005 04 01 00 8000",
     "close-all-early": f"{CLOSED_HEAD} 00000002 01 87 0001 04 02 00 8000 00 8000 04 01 00 8000",
     "close-two-all-early": f"{CLOSED_HEAD} 00000002 01 87 0001 04 02 00 8000 00 8000 04 02 00 8000 00 8000",
+    "close-in-close-idle": f"{IDLE_HEAD} 00000003 04 01 04 01 00 8000",
+    "close-in-close-late": f"{CLOSED_HEAD} 00000002 04 02 00 FFFF 04 02 00 FFFF 00 8000",
     "close-last-tone": f"{IDLE_HEAD} 00000002 04 01 00 C000",
     # Bytes: the head.
     "mark-first-byte": "51434232 00 00000001 00 0003",
@@ -217,6 +225,7 @@ CERTIFICATES = {
     "mark-third-byte": "50434132 00 00000001 00 0003",
     "version-0": "50434230 00000001 00 0003",
     "version-3": "50434233 00000001 00 0003",
+    "version-3-with-end": "50434233 00 00000001 00 0003",
     "version-5": "50434235 00000001 00 0003",
     "end-2": "50434232 02 00000001 00 0003",
     "end-in-4": "50434234 02 00000001 00 0003",

@@ -1,6 +1,9 @@
 """Pairs of a page file and a certificate on which the two checkers have to agree, and each wrong checker of
 wrong.py errs somewhere. They are made without the program, and are the same at each run."""
 
+import csv
+import pathlib
+
 import checker
 import wrong
 from checker import CLOSE, CLOSED_END, CUT, IDLE_END, OPEN_END, OVERLOAD, SPLIT
@@ -14,6 +17,7 @@ TRIES_OF_WRONG_RULES = 16
 FOUND_OF_WRONG_RULES = 3
 ODD_FILES = 500
 LONE_TONE = HEADER + b"8,tone0,\n"
+VECTORS = pathlib.Path(__file__).resolve().parents[2] / "vectors"
 ENDS = (OPEN_END, CLOSED_END, IDLE_END)
 VERSIONS = ((OPEN_END, False), (OPEN_END, True), (IDLE_END, False))  # an end with it, and whether it is the first
 THREE_OVERLOADED = certificate(OPEN_END, 1, overload(0x0003))
@@ -148,6 +152,15 @@ def of_bytes():
     yield from (("no page file", data, text) for data in (b"", HEADER) for text in (b"", b"PCB2", THREE_OVERLOADED))
 
 
+def of_vectors():
+    """The published vectors, but for those that are too large for the repository."""
+    with open(VECTORS / "table.csv", newline="") as table:
+        for row in csv.DictReader(table):
+            pages, text = VECTORS / row["pages"], VECTORS / row["cert"]
+            if pages.exists() and text.exists():
+                yield f"vector {row['name']}", pages.read_bytes(), text.read_bytes()
+
+
 def large():
     """Pairs that take long: many pages, many nodes."""
     yield from (("many pages", data, THREE_OVERLOADED) for data in large_files())
@@ -158,4 +171,4 @@ def pairs(source):
     """All pairs, each with what it is, in an order in which every sort comes soon."""
     made = [*of_trees(source), *of_wrong_rules(source), *of_files(source), *of_bytes()]
     source.shuffle(made)
-    return [*made, *large()]
+    return [*of_vectors(), *made, *large()]

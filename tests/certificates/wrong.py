@@ -21,6 +21,16 @@ LATE_WAYS = """if late and lo[c] < count[c]:
 
 OF_FILES = [
     ("a byte order mark is a part of the first field", r'3 if data.startswith(b"\xef\xbb\xbf") else 0', "0"),
+    (
+        "EF BB and any byte are a byte order mark",
+        r'3 if data.startswith(b"\xef\xbb\xbf") else 0',
+        r'3 if data.startswith(b"\xef\xbb") else 0',
+    ),
+    (
+        "EF BB alone is a byte order mark",
+        r'3 if data.startswith(b"\xef\xbb\xbf") else 0',
+        r'3 if data.startswith(b"\xef\xbb\xbf") else 2 if data.startswith(b"\xef\xbb") else 0',
+    ),
     ("an empty line is a record", r'if not fields and data[at:at + 1] in (b"\n", b"\r"):', "if False:"),
     (
         "an empty line of a carriage return is a record",
@@ -66,6 +76,11 @@ OF_FILES = [
     ("2045063 is not reserved", "<= 2045063", "<= 2045062"),
     ("2045064 is reserved", "<= 2045063", "<= 2045064"),
     ("an address may come twice", "address not in lengths and", ""),
+    (
+        "an address may come again, but not at once",
+        "need(address not in lengths and",
+        "need(address != next(reversed(lengths), None) and",
+    ),
     ("20,001 pages", "len(lengths) < 20000", "len(lengths) < 20001"),
     ("19,999 pages", "len(lengths) < 20000", "len(lengths) < 19999"),
     ("a round may be empty", "need(lengths)", "pass"),
@@ -73,6 +88,7 @@ OF_FILES = [
     ("a numeric message may have 4,001 bytes", r"\]\[]{1,4000}", r"\]\[]{1,4001}"),
     ("a numeric message has 3,999 bytes at most", r"\]\[]{1,4000}", r"\]\[]{1,3999}"),
     ("a numeric message may hold u", "0-9*U", "0-9*Uu"),
+    ("space to ] is a range", r"[0-9*U \-\]\[]", r"[0-9*U -\]\[]"),
     ("a numeric message holds no [", r"\]\[]{1,4000}", r"\]]{1,4000}"),
     ("an alphanumeric message may be empty", r"\x7f]{1,4000}", r"\x7f]{0,4000}"),
     ("an alphanumeric message may have 4,001 bytes", r"\x7f]{1,4000}", r"\x7f]{1,4001}"),
@@ -124,6 +140,8 @@ OF_BYTES = [
     ("the low byte first", '"big")', '"little")'),
     ("B may be 0", "batches = number(4, 1,", "batches = number(4, 0,"),
     ("B has two bytes", "batches = number(4, 1,", "batches = number(2, 0,"),
+    ("the high byte of B is passed over", 'batches = number(4, 1, 2 ** 32 - 1)', 'batches = number(4, 1, 2 ** 32 - 1) % 2 ** 24'),
+    ("the high half of B is passed over", 'batches = number(4, 1, 2 ** 32 - 1)', 'batches = number(4, 1, 2 ** 32 - 1) % 2 ** 16'),
     ("depth 301", "len(wanted) <= 300", "len(wanted) <= 301"),
     ("depth 299", "len(wanted) <= 300", "len(wanted) <= 299"),
     ("1,000,001 nodes", "nodes <= 1000000", "nodes <= 1000001"),
