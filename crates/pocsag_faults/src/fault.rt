@@ -18,6 +18,10 @@ pub enum Fault {
     EqualPaths,
     Device,
     Write,
+    /// The system refuses a new file the owner, group and mode of the old one.
+    Owner,
+    /// The file that is held does not stand at its path as it was left.
+    NotHeld,
     OutOfMemory,
     TooLarge,
     Round(RoundFault),
@@ -53,7 +57,7 @@ impl Fault {
         ensures failure { IsFailure result }
     {
         match self {
-            Fault::Device | Fault::Write | Fault::OutOfMemory => 3,
+            Fault::Device | Fault::Write | Fault::Owner | Fault::NotHeld | Fault::OutOfMemory => 3,
             Fault::Round(RoundFault::ReadFault | RoundFault::OutOfMemory) => 3,
             Fault::Transmission(DecodeFault::OutOfMemory) => 3,
             Fault::Pager(PagerFault::OutOfMemory) => 3,
@@ -70,6 +74,10 @@ impl Fault {
             Fault::EqualPaths => Some("the same file is named twice"),
             Fault::Device => Some("cannot read or open a file"),
             Fault::Write => Some("cannot write"),
+            Fault::Owner => {
+                Some("the new file cannot be given the owner, group and mode of the old one")
+            }
+            Fault::NotHeld => Some("the journal was moved, deleted or changed by another program"),
             Fault::OutOfMemory => Some("out of memory"),
             Fault::TooLarge => Some("the file is too large"),
             Fault::BadLimit => Some("the limit must be 1 to 1000000"),

@@ -1,8 +1,13 @@
 use crate::desk::Desk;
+use crate::ownership::take_ownership;
 use pocsag_faults::Fault;
 use pocsag_notes::Role;
-use std::fs::{self, File, OpenFile};
+use std::fs::{self, OpenFile, OpenOptions};
+use std::os::unix::fs::OpenOptionsExt;
 use std::process;
+
+// The mode that lets the owner alone read and write.
+const OWNER_ALONE: u32 = 0o600;
 
 /// A file that is written beside its place, and stands there once it is whole. What stands there before is
 /// whole until then.
@@ -14,19 +19,30 @@ pub struct Beside<'a> {
 }
 
 impl<'a> Beside<'a> {
-    /// Makes an empty file beside the place, with the rights of the file that stands there, if there is one.
+    /// Makes an empty file beside the place, with the owner, group and mode of the file that stands there, if there is one.
     pub fn make(desk: Desk<'_>, role: Role, place: &'a str) -> Result<Beside<'a>, Fault> {
         let beside = Beside::of(desk, role, place)?;
         // What a process of the same number left when it was ended.
         beside.remove(desk);
-        beside.create(desk)?;
+        let created = beside.create(desk);
+        if created.is_err() {
+            beside.remove(desk);
+        }
+        created?;
         Ok(beside)
     }
 
     fn create(&self, desk: Desk<'_>) -> Result<(), Fault> {
-        let file = desk.opened(self.role, File::create_new(desk.rt, self.path()))?;
-        match fs::metadata(desk.rt, self.place) {
-            Ok(old) => desk.opened(self.role, file.set_permissions(old.permissions())),
+        let old = fs::metadata(desk.rt, self.place);
+        let mut options = OpenOptions::new();
+        options.write(true).create_new(true);
+        if old.is_ok() {
+            // Nobody else opens it before it has the mode of the old file.
+            options.mode(OWNER_ALONE);
+        }
+        let file = desk.opened(self.role, options.open(desk.rt, self.path()))?;
+        match old {
+            Ok(old) => take_ownership(desk, self.role, &file, &old),
             Err(_) => Ok(()),
         }
     }
