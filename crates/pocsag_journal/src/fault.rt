@@ -14,6 +14,10 @@ pub enum JournalFault {
     WriteFault,
     /// It has more than 1,073,741,824 bytes.
     TooLarge,
+    /// It does not begin as a journal does.
+    NotJournal,
+    /// It begins as a journal does, but for the version.
+    OtherVersion,
     /// The line of this number, from 1, is no line of a journal.
     BadLine(usize),
     /// The page of this number, from 1, has a message with a line feed, or one that no text spells.
@@ -27,6 +31,8 @@ impl Display for JournalFault {
             JournalFault::ReadFault => "cannot read the journal",
             JournalFault::WriteFault => "cannot write the journal",
             JournalFault::TooLarge => "the journal is too large",
+            JournalFault::NotJournal => "not a journal",
+            JournalFault::OtherVersion => "a journal of another version",
             JournalFault::BadLine(line) => {
                 return write!(
                     f,
