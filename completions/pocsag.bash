@@ -29,7 +29,7 @@ _pocsag() {
         [decode]='--repair --verbose --help -h'
         [hear]='--verbose --help -h'
         [show]='--svg --list --rows --repair --verbose --help -h'
-        [open]='--journal --always --keep --verbose --help -h'
+        [open]='--journal --read-only --always --keep --verbose --help -h'
         [report]='--rate --limit --end --idle-last --expect --strict --always --frames --verbose --help -h'
         [help]=''
     )

@@ -1,6 +1,6 @@
 #!/usr/bin/env python3
-"""Keeps an open round in a journal through kills, cuts, refused calls, a full disk and a full file system, and reads
-what `--verbose` tells of it.
+"""Keeps an open round in a journal through kills, cuts, refused calls, a full disk, a full file system, and others who move
+it or write to it; lists it without holding it; and reads what `--verbose` tells of it.
 
 Each start must list what the edits that were answered `ok` leave, or these and one more. It takes the binary that the
 gate left in crates/pocsag_app/out. The last line is 'N passed, M failed'.
@@ -222,9 +222,225 @@ def try_bad_lines(tally, folder):
             text = b"".join(good[:number] + [line] + good[number + 1 :])
             path.write_bytes(text)
             found = run(place, [b"list"])
-            due = b"pocsag: journal line %d: no edit that the pages before it accept\n" % (number + 1)
-            tally.check(f"bad line {number + 1} {line}", found == (b"", due, 1), found)
+            due = b"journal line %d: no edit that the pages before it accept" % (number + 1)
+            if number == 0:
+                due = b"a journal of another version" if line.startswith(b"pocsag journal,") else b"not a journal"
+            tally.check(f"bad line {number + 1} {line}", found == (b"", b"pocsag: %s\n" % due, 1), found)
             tally.check(f"bad line {number + 1} {line}: the file", path.read_bytes() == text)
+
+
+NO_JOURNAL = b"not a journal"
+OTHER_VERSION = b"a journal of another version"
+# As a certificate begins, without a line feed.
+CERTIFICATE = b"PCB2\x00\x00\x00\x00\x01\x00\x00"
+OTHERS = [
+    (b"hello world", NO_JOURNAL),
+    (b"hello\nworld\n", NO_JOURNAL),
+    (CERTIFICATE, NO_JOURNAL),
+    (b"\x00", NO_JOURNAL),
+    (b"x" * 8_000_000, NO_JOURNAL),
+    (b"pocsag journal;1", NO_JOURNAL),
+    (b"pocsag journals", NO_JOURNAL),
+    (b"Pocsag", NO_JOURNAL),
+    (b"\n", NO_JOURNAL),
+    (b"pocsag journal,2", OTHER_VERSION),
+    (b"pocsag journal,12", OTHER_VERSION),
+    (b"pocsag journal,2\n", OTHER_VERSION),
+    (b"pocsag journal,2\nadd,8,tone0,\n", OTHER_VERSION),
+]
+
+
+def try_others(tally, folder):
+    """A file that is no journal, or one of another version, is refused and stays as it is, with a line feed and without."""
+    place = folder / "others"
+    place.mkdir()
+    path = place / "round.journal"
+    for text, due in OTHERS:
+        for words in ([], ["--read-only"]):
+            path.write_bytes(text)
+            stood = path.stat()
+            found = run(place, [b"list"], *words)
+            tally.check(f"another file {text[:20]} {words}", found == (b"", b"pocsag: %s\n" % due, 1), found)
+            stands = path.stat()
+            same = (stands.st_ino, stands.st_mtime_ns) == (stood.st_ino, stood.st_mtime_ns) and path.read_bytes() == text
+            tally.check(f"another file {text[:20]} {words}: it stays", same and os.listdir(place) == ["round.journal"], os.listdir(place))
+
+
+MOVED = b"the journal was moved, deleted or changed by another program"
+
+
+def move(path):
+    path.rename(path.with_name("moved"))
+
+
+def move_and_replace(path):
+    path.rename(path.with_name("moved"))
+    path.write_bytes(FIRST_LINE)
+
+
+def append(path):
+    with path.open("ab") as file:
+        file.write(b"add,80,tone0,\n")
+
+
+HARMS = [
+    move,
+    move_and_replace,
+    append,
+    lambda path: path.unlink(),
+    lambda path: os.truncate(path, 0),
+    lambda path: os.truncate(path, len(FIRST_LINE) + 3),
+    lambda path: path.write_bytes(b""),
+]
+
+
+def try_harms(tally, folder):
+    """A journal that another program moves, deletes, cuts or writes to while it is held gives no `ok` any more, and what
+    stands there stays as it was left. It is opened to append."""
+    for number, harm in enumerate(HARMS):
+        for more, notes in (([], []), (["--verbose"], ["journal round.journal: what stands there now stays as it is"])):
+            place = folder / f"harm{number}{len(more)}"
+            place.mkdir()
+            path = place / "round.journal"
+            process = start(place, *more)
+            process.stdin.write(b"add,8,tone0,\n")
+            process.stdin.flush()
+            tally.check(f"harm {number}: before", process.stdout.readline() == b"ok 1\n")
+            harm(path)
+            left = {other.name: other.read_bytes() for other in place.iterdir()}
+            out, err = process.communicate(b"add,16,tone0,\nadd,24,tone0,\n", timeout=60)
+            due = b"pocsag: 0 edits read, 0 pages\n" + told(MOVED.decode(), notes)
+            tally.check(f"harm {number} {more}", (out, err, process.returncode) == (b"", due, 3), (out, err, process.returncode))
+            stands = {other.name: other.read_bytes() for other in place.iterdir()}
+            tally.check(f"harm {number} {more}: the files", stands == left, (stands, left))
+    place = folder / "append"
+    place.mkdir()
+    process = start(place)
+    process.stderr.readline()
+    flags = [open_flags(process.pid, name) for name in os.listdir(f"/proc/{process.pid}/fd") if leads_to(process.pid, name, place)]
+    process.kill()
+    process.wait()
+    tally.check("opened to append", flags and all(flag & os.O_APPEND for flag in flags), flags)
+
+
+def leads_to(process, name, place):
+    return os.readlink(f"/proc/{process}/fd/{name}") == str(place / "round.journal")
+
+
+def open_flags(process, name):
+    lines = pathlib.Path(f"/proc/{process}/fdinfo/{name}").read_text().splitlines()
+    return next(int(line.split()[1], 8) for line in lines if line.startswith("flags:"))
+
+
+NOBODY = 65534
+OWNER = "the new file cannot be given the owner, group and mode of the old one"
+
+
+def rights(path):
+    found = path.stat()
+    return found.st_uid, found.st_gid, found.st_mode & 0o7777
+
+
+def run_as(user, folder, lines, *words):
+    command = [*user, str(PROGRAM), "open", "--journal", "round.journal", *words]
+    done = subprocess.run(command, input=b"".join(line + b"\n" for line in lines), capture_output=True, cwd=folder, timeout=60)
+    return done.stdout, done.stderr, done.returncode
+
+
+def try_rights(tally, folder):
+    """A journal that is written anew keeps its owner, group and mode; where the system refuses that, it stays as it is."""
+    folder.chmod(0o755)
+    place = folder / "rights"
+    place.mkdir()
+    path = place / "round.journal"
+    for mode in (0o600, 0o640, 0o666):
+        path.write_bytes(FIRST_LINE + b"add,8,tone0,\nadd,16,tone0,\ncancel,8\n")
+        path.chmod(mode)
+        owner = rights(path)[:2]
+        found, err = listed(place)
+        tally.check(f"rights {mode:o}", found == HEADER + b"16,tone0,\n" and rights(path) == (*owner, mode), (found, err, rights(path)))
+    user = as_nobody(place)
+    if not user:
+        print("left out: journals of another user, since we are not the superuser")
+        return
+    for mode in (0o600, 0o640, 0o664):
+        path.write_bytes(FIRST_LINE + b"add,8,tone0,\nadd,16,tone0,\ncancel,8\n")
+        os.chown(path, NOBODY, NOBODY)
+        path.chmod(mode)
+        number = path.stat().st_ino
+        found, err = listed(place)
+        holds = found == HEADER + b"16,tone0,\n" and rights(path) == (NOBODY, NOBODY, mode) and path.stat().st_ino != number
+        tally.check(f"rights of another user {mode:o}", holds, (found, err, rights(path)))
+        place.chmod(0o777)
+        found = run_as(user, place, [b"add,24,tone0,"])
+        tally.check(f"rights of another user {mode:o}: the user goes on", found[0::2] == (b"ok 2\n", 0), found)
+        place.chmod(0o755)
+    path.unlink()
+    path.write_bytes(FIRST_LINE + b"add,8,tone0,\n")
+    path.chmod(0o666)
+    place.chmod(0o777)
+    stood, number = rights(path), path.stat().st_ino
+    for more, notes in (([], []), (["--verbose"], [f"journal round.journal: {os.strerror(1)} (os error 1)"])):
+        found = run_as(user, place, [b"list"], *more)
+        tally.check(f"rights that are refused {more}", found == (b"", told(OWNER, notes), 3), found)
+        holds = (rights(path), path.stat().st_ino) == (stood, number) and path.read_bytes() == FIRST_LINE + b"add,8,tone0,\n"
+        tally.check(f"rights that are refused {more}: it stays", holds and os.listdir(place) == ["round.journal"], os.listdir(place))
+
+
+def try_read_only(tally, folder):
+    """`--read-only` lists a journal that another program holds, one with a torn line, and one that may only be read; it
+    changes nothing, and reads no line."""
+    folder.chmod(0o755)
+    place = folder / "read-only"
+    place.mkdir()
+    path = place / "round.journal"
+    process = start(place)
+    for number, line in enumerate((b"add,8,alpha,Ward 3", b"add,16,tone0,")):
+        process.stdin.write(line + b"\n")
+        process.stdin.flush()
+        tally.check(f"read only: {line}", process.stdout.readline() == b"ok %d\n" % (number + 1))
+    found = run(place, [b"clear"], "--read-only")
+    due = (HEADER + b"8,alpha,Ward 3\n16,tone0,\n", b"pocsag: 2 edits read, 2 pages\n", 0)
+    tally.check("read only: a journal that is held", found == due, found)
+    process.stdin.write(b"cancel,8\n")
+    process.stdin.flush()
+    tally.check("read only: the other goes on", process.stdout.readline() == b"ok 1\n")
+    process.kill()
+    process.wait()
+    with path.open("ab") as file:
+        file.write(b"add,24,al")
+    stood = path.stat()
+    due = (HEADER + b"16,tone0,\n", b"pocsag: a torn line of 9 bytes is passed over\npocsag: 3 edits read, 1 pages\n", 0)
+    users = [[]]
+    user = as_nobody(place)
+    if user:
+        path.chmod(0o444)
+        stood = path.stat()
+        users.append(user)
+    for words in users:
+        found = run_as(words, place, [], "--read-only")
+        stands = path.stat()
+        same = (stands.st_ino, stands.st_mtime_ns, stands.st_size) == (stood.st_ino, stood.st_mtime_ns, stood.st_size)
+        tally.check(f"read only: a torn line {words[:1]}", found == due and same, found)
+    planned = subprocess.run(
+        f"{PROGRAM} open --journal round.journal --read-only 2>/dev/null | {PROGRAM}", shell=True, capture_output=True, cwd=place, timeout=60
+    )
+    tally.check("read only: as a page file", planned.stdout == b"pages 1\nbatches 1\n", planned)
+    path.write_bytes(FIRST_LINE + b"add,8,tone0,\nlist\n")
+    found = run(place, [], "--read-only")
+    tally.check("read only: a bad line", found == (b"", told(BAD % 3, []), 1), found)
+    path.unlink()
+    for more, notes in (([], []), (["--verbose"], [f"journal round.journal: {NO_FILE}"])):
+        found = run(place, [], "--read-only", *more)
+        tally.check(f"read only: no file {more}", found == (b"", told(CANNOT, notes), 3) and not os.listdir(place), found)
+    for words in (["open", "--read-only"], *(["open", "--journal", "j", "--read-only", word] for word in ("pages.csv", "--always", "--keep"))):
+        done = subprocess.run([str(PROGRAM), *words], input=b"", capture_output=True, cwd=place, timeout=60)
+        tally.check(f"read only: {words}", (done.stdout, done.returncode) == (b"", 2) and not os.listdir(place), done)
+    full = os.open("/dev/full", os.O_WRONLY)
+    path.write_bytes(FIRST_LINE)
+    done = subprocess.run([str(PROGRAM), "open", "--journal", "round.journal", "--read-only"], stdout=full, stderr=subprocess.PIPE, cwd=place, timeout=60)
+    os.close(full)
+    tally.check("read only: a full output", (done.stderr, done.returncode) == (b"pocsag: cannot write\n", 3), done)
 
 
 def try_use(tally, folder):
@@ -342,6 +558,7 @@ def fill_and_keep(tally, room):
     fill(room, 0)
     done = subprocess.run([str(PROGRAM), "open", "--journal", "new.journal"], input=lines[0] + b"\n", capture_output=True, cwd=room, timeout=60)
     tally.check("no room at the start", (done.stdout, done.stderr, done.returncode) == (b"", b"pocsag: cannot write\n", 3), done)
+    tally.check("no room at the start: no file is left", not list(room.glob("new.journal*")), os.listdir(room))
 
 
 NO_FILE, IS_FOLDER, NO_RIGHT, TOO_LARGE = (f"{os.strerror(code)} (os error {code})" for code in (2, 21, 13, 27))
@@ -366,7 +583,8 @@ REFUSED = [
     (["none.csv", "--journal", "new"], 3, CANNOT, [f"page file none.csv: {NO_FILE}"]),
     (["pages.csv", "--journal", "held"], 1, BEGUN, ["journal held: it stays as it is"]),
     (["--journal", "bad"], 1, BAD % 3, ["journal bad: it stays as it is"]),
-    (["--journal", "other"], 1, BAD % 1, ["journal other: it stays as it is"]),
+    (["--journal", "other"], 1, "not a journal", ["journal other: it stays as it is"]),
+    (["--journal", "later"], 1, "a journal of another version", ["journal later: it stays as it is"]),
     (["feed.csv", "--journal", "new"], 1, "page 1: no line of a journal holds its message", ["journal new: it stays as it is"]),
 ]
 
@@ -383,6 +601,7 @@ def try_verbose(tally, folder):
     (place / "held").write_bytes(FIRST_LINE + b"add,8,tone0,\n")
     (place / "bad").write_bytes(FIRST_LINE + b"add,8,tone0,\nlist\n")
     (place / "other").write_bytes(b"other\n")
+    (place / "later").write_bytes(b"pocsag journal,2")
     (place / "link").symlink_to("held")
     os.mkfifo(place / "fifo")
     (place / "pages.csv").write_bytes(HEADER + b"8,tone0,\n")
@@ -393,7 +612,7 @@ def try_verbose(tally, folder):
             done = subprocess.run([str(PROGRAM), "open", *words, *more], input=b"list\n", capture_output=True, cwd=place, timeout=60)
             holds = (done.stdout, done.stderr, done.returncode) == (b"", due, status)
             tally.check(f"told of {words} {more}", holds, (done, due))
-        (place / "new").unlink(missing_ok=True)
+            tally.check(f"told of {words} {more}: no new file", not (place / "new").exists())
     stands = {path.name: path.read_bytes() for path in place.iterdir() if path.is_file()}
     tally.check("told of each: the files stay", stands == stood, stands.keys())
 
@@ -470,7 +689,7 @@ def try_growth(tally, folder):
 
 
 def main():
-    return run_parts(try_first_use, try_kills, try_cuts, try_bad_lines, try_use, try_full_disk, try_full_system, try_verbose, try_verbose_later, try_many, try_growth)
+    return run_parts(try_first_use, try_kills, try_cuts, try_bad_lines, try_others, try_harms, try_rights, try_read_only, try_use, try_full_disk, try_full_system, try_verbose, try_verbose_later, try_many, try_growth)
 
 
 if __name__ == "__main__":

@@ -5,19 +5,33 @@ use pocsag_files::{Beside, Desk, Named};
 use pocsag_journal::{Disk, JournalFault, Replayed, read_journal};
 use pocsag_notes::{ReaderSource, Role};
 use pocsag_words::{DeviceFault, Sink};
-use std::fs::{File, OpenFile, OpenOptions, TryLockError};
-use std::io::Write;
+use std::cell::Cell;
+use std::fs::{self, File, OpenFile, OpenOptions, TryLockError};
+use std::io::{self, Write};
 
 // What is met of the journal is told by its name, and not by its role.
-const ROLE: Role = Role::Lines;
+pub(crate) const ROLE: Role = Role::Lines;
 
-/// The file of a journal, which this program alone holds. Nothing is known of its bytes. What the system refuses of it
-/// is met on its own desk.
+/// Where a journal stands.
+#[derive(Clone, Copy)]
+pub struct JournalPlace<'a> {
+    /// What the system refuses of the journal is met on this desk alone.
+    pub desk: Desk<'a>,
+    pub path: &'a str,
+    /// Why the journal could not be written, where that is known better than by the system's reason.
+    pub why: &'a Cell<Option<Fault>>,
+}
+
+/// The file of a journal, which this program alone holds. Nothing is known of its bytes.
 #[derive(Drop)]
 pub struct JournalFile<'a> {
-    pub desk: Desk<'a>,
-    path: &'a str,
+    pub place: JournalPlace<'a>,
+    /// Whether there was no file at the path before.
+    pub is_new: bool,
     file: File,
+    named: Named,
+    // How many bytes the file has, by what was found first and written since.
+    len: u64,
     calls: u64,
     failures: u64,
 }
@@ -25,9 +39,11 @@ pub struct JournalFile<'a> {
 impl<'a> JournalFile<'a> {
     /// Opens or makes the file and locks it, unless another program holds it. The lock goes with the file, so what
     /// stands at the path must still be the file that is locked.
-    pub fn hold(desk: Desk<'a>, path: &'a str) -> Result<Option<JournalFile<'a>>, Fault> {
+    pub fn hold(place: JournalPlace<'a>) -> Result<Option<JournalFile<'a>>, Fault> {
+        let JournalPlace { desk, path, .. } = place;
+        let is_new = Named::at(desk.rt, path).is_none();
         let mut options = OpenOptions::new();
-        options.read(true).write(true).create(true);
+        options.read(true).append(true).create(true);
         let file = desk.opened(ROLE, options.open(desk.rt, path))?;
         match file.try_lock() {
             Ok(()) => {}
@@ -35,43 +51,80 @@ impl<'a> JournalFile<'a> {
             Err(TryLockError::Error(error)) => return desk.opened(ROLE, Err(error)),
         }
         let metadata = desk.opened(ROLE, file.metadata())?;
-        if Named::at(desk.rt, path) != Some(Named::of(&metadata)) {
+        let named = Named::of(&metadata);
+        if Named::at(desk.rt, path) != Some(named) {
             return Ok(None);
         }
         Ok(Some(JournalFile {
-            desk,
-            path,
+            place,
+            is_new,
             file,
+            named,
+            len: metadata.len(),
             calls: 0,
             failures: 0,
         }))
     }
 
+    /// Another handle of the file, which keeps its lock.
+    pub fn handle(&self) -> Result<File, Fault> {
+        self.place.desk.opened(ROLE, self.file.try_clone())
+    }
+
     /// What the file holds.
     pub fn read(&self) -> Result<Replayed, JournalFault> {
-        match self.desk.opened(ROLE, self.file.try_clone()) {
-            Ok(file) => {
-                let mut source = ReaderSource::new(file, ROLE, self.desk.watch);
-                read_journal(self.desk.alloc, &mut source)
-            }
-            Err(_) => Err(JournalFault::ReadFault),
+        let Ok(file) = self.handle() else {
+            return Err(JournalFault::ReadFault);
+        };
+        let desk = self.place.desk;
+        let mut source = ReaderSource::new(file, ROLE, desk.watch);
+        read_journal(desk.alloc, &mut source)
+    }
+
+    // That what stands at the path is the file that is held, with the bytes that it should have: another program may
+    // have moved it, deleted it or written to it.
+    fn stands(&self) -> Result<(), Fault> {
+        let JournalPlace { desk, path, .. } = self.place;
+        match fs::metadata(desk.rt, path) {
+            Ok(found) if Named::of(&found) == self.named && found.len() == self.len => Ok(()),
+            _ => Err(Fault::NotHeld),
         }
+    }
+
+    // That the system took nothing of a write.
+    fn refused(&self, error: Option<io::Error>) -> Fault {
+        let code = error.and_then(|error| error.raw_os_error());
+        self.place.desk.watch.meet(ROLE, code);
+        Fault::Write
+    }
+
+    // Brings what was written to the disk.
+    fn synchronise(&self) -> Result<(), Fault> {
+        self.place.desk.written(ROLE, self.file.sync_data())?;
+        self.stands()
+    }
+
+    // The fault as a disk tells it.
+    fn failed(&self, fault: Fault) -> DeviceFault {
+        self.place.why.set(Some(fault));
+        DeviceFault
     }
 
     // Puts a file of the text at the path, and answers it, locked.
     fn put(&self, text: &[u8]) -> Result<File, Fault> {
-        let beside = Beside::make(self.desk, ROLE, self.path)?;
+        let JournalPlace { desk, path, .. } = self.place;
+        let beside = Beside::make(desk, ROLE, path)?;
         let done = self.put_beside(&beside, text);
         if done.is_err() {
-            beside.remove(self.desk);
+            beside.remove(desk);
         }
         done
     }
 
     fn put_beside(&self, beside: &Beside<'_>, text: &[u8]) -> Result<File, Fault> {
         let mut options = OpenOptions::new();
-        options.write(true);
-        let desk = self.desk;
+        options.append(true);
+        let desk = self.place.desk;
         let mut file = desk.opened(ROLE, options.open(desk.rt, beside.path()))?;
         match file.try_lock() {
             Ok(()) => {}
@@ -80,8 +133,18 @@ impl<'a> JournalFile<'a> {
         }
         desk.written(ROLE, file.write_all(text))?;
         beside.sync(desk)?;
+        self.stands()?;
         beside.put(desk)?;
         Ok(file)
+    }
+
+    // Holds the file that stands in the place of the one that was held, with so many bytes.
+    fn hold_next(&mut self, file: File, len: usize) -> Result<(), Fault> {
+        let metadata = self.place.desk.opened(ROLE, file.metadata())?;
+        self.file = file;
+        self.named = Named::of(&metadata);
+        self.len = len as u64;
+        Ok(())
     }
 }
 
@@ -96,14 +159,18 @@ impl Sink for JournalFile<'_> {
 
     fn write(&mut self, piece: &[u8]) -> Result<usize, DeviceFault> {
         self.calls = self.calls.saturating_add(1);
-        let code = match self.file.write(piece) {
-            Ok(count) if count > 0 || piece.is_empty() => return Ok(count),
-            Ok(_) => None,
-            Err(error) => error.raw_os_error(),
+        let fault = match self.stands() {
+            Ok(()) => match self.file.write(piece) {
+                Ok(count) if count > 0 || piece.is_empty() => {
+                    self.len = self.len.saturating_add(count as u64);
+                    return Ok(count);
+                }
+                refused => self.refused(refused.err()),
+            },
+            Err(fault) => fault,
         };
-        self.desk.watch.meet(ROLE, code);
         self.failures = self.failures.saturating_add(1);
-        Err(DeviceFault)
+        Err(self.failed(fault))
     }
 }
 
@@ -111,19 +178,20 @@ impl Disk for JournalFile<'_> {
     ghost safe = { λ _. [] };
 
     fn sync(&mut self) -> Result<(), DeviceFault> {
-        match self.desk.written(ROLE, self.file.sync_data()) {
+        match self.synchronise() {
             Ok(()) => Ok(()),
-            Err(_) => Err(DeviceFault),
+            Err(fault) => Err(self.failed(fault)),
         }
     }
 
     fn replace(&mut self, text: &[u8]) -> Result<(), DeviceFault> {
-        match self.put(text) {
-            Ok(file) => {
-                self.file = file;
-                Ok(())
-            }
-            Err(_) => Err(DeviceFault),
+        let done = match self.put(text) {
+            Ok(file) => self.hold_next(file, text.len()),
+            Err(fault) => Err(fault),
+        };
+        match done {
+            Ok(()) => Ok(()),
+            Err(fault) => Err(self.failed(fault)),
         }
     }
 }

@@ -1,25 +1,28 @@
-use crate::journal_file::JournalFile;
+use crate::journal_file::{JournalFile, JournalPlace, ROLE};
 use crate::round_files::RoundFiles;
 use pocsag_faults::{Fault, tell};
 use pocsag_files::{Desk, JournalNotes, Named, is_regular_or_none, open_source};
-use pocsag_journal::{Journal, JournalFault, Replayed};
-use pocsag_line::STANDARD;
+use pocsag_journal::{Journal, JournalFault, Replayed, list_journal};
+use pocsag_line::{OpenOrder, STANDARD};
 use pocsag_notes::{ReaderSource, Role, Watch};
 use pocsag_open::{Keeper, OpenRound, Planner, run_open_kept};
 use pocsag_pages::read_round;
 use pocsag_plan::Book;
 use pocsag_words::Source;
 use std::alloc::Global;
+use std::cell::Cell;
+use std::fs::{self, File};
 
-/// `open --journal`: keeps an open round whose edits are in the file of a journal before they are answered.
-pub fn open_kept(path: &str, always: bool, places: &RoundFiles<'_>) -> Result<u8, Fault> {
+/// `open --journal`: keeps an open round whose edits are in the file of a journal before they are answered, or lists the
+/// pages of a journal.
+pub fn open_kept(path: &str, order: OpenOrder<'_>, places: &RoundFiles<'_>) -> Result<u8, Fault> {
     if path == STANDARD || is_first_file(path, places) {
         return Err(Fault::EqualPaths);
     }
     let desk = places.desk;
     let notes = JournalNotes { desk, path };
     if is_regular_or_none(desk.rt, path) {
-        open_watched(notes, always, places)
+        open_watched(notes, order, places)
     } else {
         Ok(notes.refuse_kind())
     }
@@ -29,17 +32,30 @@ pub fn open_kept(path: &str, always: bool, places: &RoundFiles<'_>) -> Result<u8
 // other files.
 fn open_watched(
     notes: JournalNotes<'_>,
-    always: bool,
+    order: OpenOrder<'_>,
     places: &RoundFiles<'_>,
 ) -> Result<u8, Fault> {
     let met = Watch::new(places.desk.alloc, None);
-    let desk = Desk {
-        watch: &met,
-        ..places.desk
+    let why = Cell::new(None);
+    let place = JournalPlace {
+        desk: Desk {
+            watch: &met,
+            ..places.desk
+        },
+        path: notes.path,
+        why: &why,
     };
-    let done = open_on(desk, notes, always, places);
-    match (done, met.take_trouble()) {
-        (Err(fault), Some(trouble)) => Ok(notes.explain(fault, trouble)),
+    let done = if order.read_only {
+        list_on(place, notes)
+    } else {
+        open_on(place, notes, order.always, places)
+    };
+    match (done, why.get(), met.take_trouble()) {
+        (Err(Fault::Write), Some(Fault::NotHeld), _) => Ok(notes.explain_not_held()),
+        (Err(Fault::Write), Some(Fault::Owner), Some(trouble)) => {
+            Ok(notes.explain(Fault::Owner, trouble))
+        }
+        (Err(fault), _, Some(trouble)) => Ok(notes.explain(fault, trouble)),
         _ => done,
     }
 }
@@ -53,14 +69,27 @@ fn is_first_file(path: &str, places: &RoundFiles<'_>) -> bool {
     pages == path || named.is_some() && named == Named::at(places.desk.rt, pages)
 }
 
-// The same, over the desk on which the system's refusals of the journal are met.
+// `--read-only`: lists the pages of the journal, which is neither held nor changed.
+fn list_on(place: JournalPlace<'_>, notes: JournalNotes<'_>) -> Result<u8, Fault> {
+    let desk = place.desk;
+    let mut source = open_source(desk, ROLE, Some(place.path))?;
+    match list_journal(desk.alloc, &mut source, &mut notes.desk.out()) {
+        Ok(Replayed { book, edits, torn }) => {
+            tell_read(desk, torn, "passed over", edits, book.len());
+            Ok(0)
+        }
+        Err(fault) => tell_journal(notes, fault),
+    }
+}
+
+// Keeps a round, where no other program holds the journal.
 fn open_on(
-    desk: Desk<'_>,
+    place: JournalPlace<'_>,
     notes: JournalNotes<'_>,
     always: bool,
     places: &RoundFiles<'_>,
 ) -> Result<u8, Fault> {
-    let Some(file) = JournalFile::hold(desk, notes.path)? else {
+    let Some(file) = JournalFile::hold(place)? else {
         return Ok(notes.refuse("another program holds the journal"));
     };
     match file.read() {
@@ -72,7 +101,8 @@ fn open_on(
     }
 }
 
-// Writes the journal anew, tells what the round begins with, and answers the lines.
+// Keeps a round that begins with what the journal stands for. Where there is none, the file that was made for it is taken
+// away, while it is still locked.
 fn begin(
     file: JournalFile<'_>,
     notes: JournalNotes<'_>,
@@ -80,14 +110,33 @@ fn begin(
     always: bool,
     places: &RoundFiles<'_>,
 ) -> Result<u8, Fault> {
-    let desk = file.desk;
-    let Replayed { book, edits, torn } = first_round(places, replayed)?;
-    match Journal::write_anew(desk.alloc, file, &book) {
-        Ok(keeper) => {
-            tell_start(desk, torn, edits, book.len());
-            answer_lines(always, places, &mut OpenRound { book, keeper })
+    let (place, is_new, lock) = (file.place, file.is_new, file.handle()?);
+    let refused = match first_round(places, replayed) {
+        Ok(Replayed { book, edits, torn }) => {
+            match Journal::write_anew(place.desk.alloc, file, &book) {
+                Ok(keeper) => {
+                    tell_read(place.desk, torn, "cut off", edits, book.len());
+                    return answer_lines(always, places, &mut OpenRound { book, keeper });
+                }
+                Err(fault) => tell_journal(notes, fault),
+            }
         }
-        Err(fault) => tell_journal(notes, fault),
+        Err(fault) => Err(fault),
+    };
+    if is_new {
+        remove_made(place, &lock);
+    }
+    refused
+}
+
+// Takes the file away that is locked, if it still stands at the path. That it cannot be taken away changes nothing.
+fn remove_made(place: JournalPlace<'_>, lock: &File) {
+    let rt = place.desk.rt;
+    let Ok(metadata) = lock.metadata() else {
+        return;
+    };
+    if Named::at(rt, place.path) == Some(Named::of(&metadata)) {
+        let _ = fs::remove_file(rt, place.path);
     }
 }
 
@@ -114,13 +163,13 @@ fn answer_lines<K: Keeper + Drop>(
     Ok(0)
 }
 
-// Tells what the round begins with. That standard error fails changes nothing.
-fn tell_start(desk: Desk<'_>, torn: usize, edits: usize, pages: usize) {
+// Tells what was read of a journal, and what became of a torn line. That standard error fails changes nothing.
+fn tell_read(desk: Desk<'_>, torn: usize, fate: &str, edits: usize, pages: usize) {
     let mut err = desk.err();
     if torn > 0 {
         let _ = tell(
             &mut err,
-            format_args!("pocsag: a torn line of {torn} bytes is cut off\n"),
+            format_args!("pocsag: a torn line of {torn} bytes is {fate}\n"),
         );
     }
     let _ = tell(
@@ -146,9 +195,11 @@ fn read_book<F: Source>(alloc: Global, pages: &mut F) -> Result<Book, Fault> {
 // Tells why there is no journal, and answers the status.
 fn tell_journal(notes: JournalNotes<'_>, fault: JournalFault) -> Result<u8, Fault> {
     match fault {
-        JournalFault::BadLine(_) | JournalFault::NoLine(_) | JournalFault::TooLarge => {
-            Ok(notes.refuse(fault))
-        }
+        JournalFault::NotJournal
+        | JournalFault::OtherVersion
+        | JournalFault::BadLine(_)
+        | JournalFault::NoLine(_)
+        | JournalFault::TooLarge => Ok(notes.refuse(fault)),
         JournalFault::ReadFault => Err(Fault::Device),
         JournalFault::WriteFault => Err(Fault::Write),
         JournalFault::OutOfMemory => Err(Fault::OutOfMemory),

@@ -19,7 +19,7 @@ impl Opener for FileOpener {
             keep: order.keep,
         };
         match order.journal {
-            Some(path) => open_kept(path, order.always, places),
+            Some(path) => open_kept(path, order, places),
             None => {
                 open_path(order.always, places)?;
                 Ok(0)

@@ -200,11 +200,16 @@ fn journals_are_read(rt: HostRuntime) -> Result<(), Fail> {
             Err(JournalFault::ReadFault)
         );
     }
-    let others: [(&[u8], Result<(usize, usize, usize), JournalFault>); 4] = [
+    let others: [(&[u8], Result<(usize, usize, usize), JournalFault>); 9] = [
         (b"", Ok((0, 0, 0))),
         (b"pocsag journal", Ok((0, 0, 14))),
-        (b"pocsag journal,2\n", Err(JournalFault::BadLine(1))),
-        (b"add,8,tone0,\n", Err(JournalFault::BadLine(1))),
+        (b"pocsag journal,1", Ok((0, 0, 16))),
+        (b"pocsag journal,2\n", Err(JournalFault::OtherVersion)),
+        (b"pocsag journal,2", Err(JournalFault::OtherVersion)),
+        (b"pocsag journal,12", Err(JournalFault::OtherVersion)),
+        (b"hello world", Err(JournalFault::NotJournal)),
+        (b"pocsag journals", Err(JournalFault::NotJournal)),
+        (b"add,8,tone0,\n", Err(JournalFault::NotJournal)),
     ];
     for (bytes, due) in others {
         let mut source = MemorySource::new(bytes, 7, u64::MAX);

@@ -21,6 +21,8 @@ use Rattle.pocsag_faults.specs.declared.fault.Fault.TheVariants as fault
 abbrev pub status_of : Fault → ℕ
 status_of fault.Device = 3
 status_of fault.Write = 3
+status_of fault.Owner = 3
+status_of fault.NotHeld = 3
 status_of fault.OutOfMemory = 3
 status_of (fault.Round round.ReadFault) = 3
 status_of (fault.Round round.OutOfMemory) = 3

@@ -21,6 +21,12 @@ pub enum Fault {
     Device,
     #[error("cannot write")]
     Write,
+    /// The system refuses a new file the owner, group and mode of the old one.
+    #[error("the new file cannot be given the owner, group and mode of the old one")]
+    Owner,
+    /// The file that is held does not stand at its path as it was left.
+    #[error("the journal was moved, deleted or changed by another program")]
+    NotHeld,
     #[error("out of memory")]
     OutOfMemory,
     #[error("the file is too large")]
@@ -78,7 +84,7 @@ impl Fault {
         ensures failure { IsFailure result }
     {
         match self {
-            Fault::Device | Fault::Write | Fault::OutOfMemory => 3,
+            Fault::Device | Fault::Write | Fault::Owner | Fault::NotHeld | Fault::OutOfMemory => 3,
             Fault::Round(RoundFault::ReadFault | RoundFault::OutOfMemory) => 3,
             Fault::Transmission(DecodeFault::OutOfMemory) => 3,
             Fault::Pager(PagerFault::OutOfMemory) => 3,

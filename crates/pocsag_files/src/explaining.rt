@@ -98,6 +98,7 @@ fn explain(
     match fault {
         Fault::Device
         | Fault::Write
+        | Fault::Owner
         | Fault::Round(RoundFault::ReadFault)
         | Fault::Certificate(CertificateFault::ReadFault) => note_trouble(scene, notes),
         Fault::Round(refused) => explain_round(alloc, refused, scene, notes),

@@ -38,6 +38,13 @@ impl JournalNotes<'_> {
         status
     }
 
+    /// Tells that what stands at the path is no longer the journal as it was held. Answers the status.
+    pub fn explain_not_held(&self) -> u8 {
+        let status = tell_fault(&mut self.desk.err(), Fault::NotHeld);
+        self.note("what stands there now stays as it is");
+        status
+    }
+
     // Tells a note, where notes are asked for.
     fn note<D: Display + Drop>(&self, text: D) {
         let JournalNotes { desk, path } = *self;

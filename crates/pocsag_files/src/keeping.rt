@@ -1,14 +1,18 @@
 use crate::desk::Desk;
 use crate::left_over::remove_left_over;
+use crate::ownership::take_ownership;
 use pocsag_faults::Fault;
 use pocsag_notes::Role;
-use std::fs::{self, File, Metadata, OpenFile};
+use std::fs::{self, File, OpenFile, OpenOptions};
 use std::io::{self, ErrorKind};
-use std::os::unix::fs::{MetadataExt, fchown};
+use std::os::unix::fs::OpenOptionsExt;
 use std::process;
 
 // The system's number for a folder where a file is wanted.
 const IS_FOLDER: i32 = 21;
+
+// The mode that lets the owner alone read and write.
+const OWNER_ALONE: u32 = 0o600;
 
 /// A file that is written beside its place, and stands there once it is whole. What stands there before is
 /// whole until then.
@@ -20,18 +24,18 @@ pub struct Beside<'a> {
 }
 
 impl<'a> Beside<'a> {
-    /// Makes an empty file beside the place. It has the owner, the group and the rights of the file that stands there,
-    /// if there is one. It removes what processes that are gone left beside the place.
+    /// Makes an empty file beside the place, with the owner, group and mode of the file that stands there, if there is one.
+    /// It removes what processes that are gone left beside the place.
     pub fn make(desk: Desk<'_>, role: Role, place: &'a str) -> Result<Beside<'a>, Fault> {
         let beside = Beside::of(desk, role, place)?;
         remove_left_over(desk.rt, place);
         // What a process of the same number left when it was ended.
         beside.remove(desk);
-        let made = beside.create(desk);
-        if made.is_err() {
+        let created = beside.create(desk);
+        if created.is_err() {
             beside.remove(desk);
         }
-        made?;
+        created?;
         Ok(beside)
     }
 
@@ -43,8 +47,11 @@ impl<'a> Beside<'a> {
         if old.is_dir() {
             return desk.written(self.role, Err(io::Error::from_raw_os_error(IS_FOLDER)));
         }
-        let file = desk.opened(self.role, File::create_new(desk.rt, self.path()))?;
-        desk.written(self.role, take_after(&file, &old))
+        // Nobody else opens it before it has the mode of the old file.
+        let mut options = OpenOptions::new();
+        options.write(true).create_new(true).mode(OWNER_ALONE);
+        let file = desk.opened(self.role, options.open(desk.rt, self.path()))?;
+        take_ownership(desk, self.role, &file, &old)
     }
 
     /// That which this process makes beside the place.
@@ -115,15 +122,6 @@ impl<'a> Beside<'a> {
     pub fn remove(&self, desk: Desk<'_>) {
         let _ = fs::remove_file(desk.rt, self.path());
     }
-}
-
-// Gives a new file the owner, the group and the rights of an old one.
-fn take_after(file: &File, old: &Metadata) -> io::Result<()> {
-    let own = file.metadata()?;
-    if own.uid() != old.uid() || own.gid() != old.gid() {
-        fchown(file, Some(old.uid()), Some(old.gid()))?;
-    }
-    file.set_permissions(old.permissions())
 }
 
 // Gives a file a second name, or where the file system has none a copy.

@@ -9,6 +9,7 @@ mod journal_notes;
 mod keeping;
 mod left_over;
 mod misuse;
+mod ownership;
 mod paths;
 mod streams;
 
@@ -18,5 +19,6 @@ pub use files::{make_outputs, open_buffered, open_source, refuse_one_file, refus
 pub use journal_notes::JournalNotes;
 pub use keeping::{Beside, put_both};
 pub use misuse::{Misuse, is_regular_or_none, misused, tell_misuse};
+pub use ownership::take_ownership;
 pub use paths::{Named, refuse_equal};
 pub use streams::{Input, Output};

@@ -1,3 +1,4 @@
+mod Beginnings
 pub mod Counting
 pub mod EditRuns
 pub mod LineLengths

@@ -39,7 +39,7 @@ front (x ∷ xs) ws (b ∷ body) n m e =
     let same : b ≡ x = cc e in
     (subst (λ (c : ℕ). c ≢ line_feed) same n.0, front xs ws body n.1 m (cc e))
 
-short : (xs ws line : List ℕ) → IsWholeLine line → ws ≢ [] → line ≡ xs ++ ws → HasNoLineFeed xs
+pub short : (xs ws line : List ℕ) → IsWholeLine line → ws ≢ [] → line ≡ xs ++ ws → HasNoLineFeed xs
 short xs ws line whole m e = front xs ws whole.body whole.one m (sym e ∙ whole.parts)
 
 -- the first records of a prefix
@@ -107,7 +107,7 @@ prefix_read rows each bytes rest e = elim (cut bytes rest (row_text default_writ
         torn = bytes;
         parts = refl;
         read = record {
-          parts = inr (refl, refl);
+          parts = inr (refl, refl, (h.0, h.2, sym h.1));
           each = tt;
           end = short bytes h.0 (row_text default_writer first_record) first_line h.2 h.1;
         };

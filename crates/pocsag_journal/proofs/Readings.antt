@@ -8,7 +8,7 @@ use Rattle.pocsag_pages.specs.declared.page.Page.{Page}
 use Rattle.pocsag_edits.specs.Runs.{IsEdit, IsRun}
 use Rattle.pocsag_edits.specs.Spelling.{HasNoLineFeed}
 use Rattle.pocsag_edits.specs.Runs.{first_record}
-use Rattle.pocsag_journal.specs.Journals.{IsBadLine, IsLine, IsRead, IsWholeLine, first, later, journal_text, rows_text}
+use Rattle.pocsag_journal.specs.Journals.{IsBadLine, IsBegun, IsLine, IsRead, IsWholeLine, journal_text, rows_text}
 use Rattle.pocsag_journal.proofs.EditRuns.{run_once, run_parts}
 use Rattle.pocsag_journal.proofs.TextLines.{Left, align, first_line, no_whole_line, same_line}
 
@@ -64,21 +64,23 @@ next_record_of line rest torn (row ∷ more) whole e n each =
     (e ∙ append_assoc (row_text default_writer row) (rows_text more) torn) in
     (row, more, refl, sym h.0)
 
+-- what is read begins as a journal
+pub begun : (bytes : List ℕ) (rows : List Row) (torn : List ℕ) → IsRead bytes rows torn → IsBegun bytes
+begun bytes rows torn read = elim read.parts [
+  | inl whole ↦ inl (rows_text rows ++ torn, whole ∙ append_assoc (row_text default_writer first_record) (rows_text rows) torn)
+  | inr none ↦ inr none.2
+]
+
 -- a bad line is in no journal of a run
 pub no_bad_line : (bytes : List ℕ) (n : ℕ) → IsBadLine bytes n → (rows : List Row) (torn : List ℕ) (pages : List Page) →
     IsRead bytes rows torn → IsRun rows [] pages → ⊥
 unfolding IsRun
-no_bad_line bytes n (first line rest whole e other) rows torn pages read run = elim read.parts [
-  | inl text ↦
-      other (same_line line (row_text default_writer first_record) rest (rows_text rows ++ torn) whole first_line
-      (sym e ∙ text ∙ append_assoc (row_text default_writer first_record) (rows_text rows) torn)).0
-  | inr none ↦ no_whole_line line rest torn whole read.end (sym e ∙ none.1)
-]
-no_bad_line bytes n (later done here line rest each before whole e bad) rows torn pages read run =
-    let more = read_on bytes done rows (line ++ rest) torn each (e ∙ append_assoc (journal_text done) line rest) read in
-    let next = next_record_of line rest torn more.left whole more.text read.end more.each in
+no_bad_line bytes n b rows torn pages read run =
+    let done = b.rows in
+    let more = read_on bytes done rows (b.line ++ b.rest) torn b.each (b.parts ∙ append_assoc (journal_text done) b.line b.rest) read in
+    let next = next_record_of b.line b.rest torn more.left b.whole more.text read.end more.each in
     let all : IsRun (done ++ more.left) [] pages = subst (λ (l : List Row). IsRun l [] pages) more.parts run in
     let parts = run_parts done more.left [] pages all in
-    let here_is = run_once done [] parts.0 here parts.1 before in
+    let here_is = run_once done [] parts.0 b.pages parts.1 b.run in
     let on : IsRun (next.0 ∷ next.1) parts.0 pages = subst (λ (l : List Row). IsRun l parts.0 pages) next.2 parts.2 in
-    bad next.0 on.0 next.3 (subst (λ (p : List Page). IsEdit next.0 p on.0) here_is on.1)
+    b.bad next.0 on.0 next.3 (subst (λ (p : List Page). IsEdit next.0 p on.0) here_is on.1)

@@ -19,10 +19,10 @@ use Rattle.pocsag_edits.specs.Spelling.{HasNoLineFeed}
 use Rattle.pocsag_edits.specs.Runs.{first_record}
 use Rattle.pocsag_edits.proofs.Fields.{is_word}
 use Rattle.pocsag_edits.proofs.RowTexts.{none_left}
-use Rattle.pocsag_journal.specs.Journals.{IsBadLine, IsLine, IsWholeLine, MakesLine, Replays, first, journal_text, later, rows_text}
+use Rattle.pocsag_journal.specs.Journals.{IsBadLine, IsFirstCut, IsLine, IsWholeLine, MakesLine, Replays, journal_text, rows_text}
 use Rattle.pocsag_journal.proofs.EditRuns.{run_on}
-use Rattle.pocsag_journal.proofs.Prefixes.{all_more, journal_more}
-use Rattle.pocsag_journal.proofs.TextLines.{back_is}
+use Rattle.pocsag_journal.proofs.Prefixes.{all_more, journal_more, short}
+use Rattle.pocsag_journal.proofs.TextLines.{back_is, first_line}
 
 -- the record of a line, if it has one and no more
 abbrev pub first_of : List ℕ → Option Row
@@ -108,35 +108,32 @@ pub record Made (bytes rest : List ℕ) (edits : ℕ) (pages : List Page) : Type
   pub as_many : edits ≡ length rows
   pub few : edits + length rest ≤ length bytes
 
-pub nothing_read : (bytes : List ℕ) (pages : List Page) → pages ≡ [] → HasNoLineFeed bytes → Replays bytes 0 (length bytes) pages
+pub nothing_read : (bytes : List ℕ) (pages : List Page) → pages ≡ [] → IsFirstCut bytes → Replays bytes 0 (length bytes) pages
 unfolding IsRun
 nothing_read bytes pages e n = record {
   rows = [];
   rest = bytes;
-  read = record { parts = inr (refl, refl); each = tt; end = n };
+  read = record {
+    parts = inr (refl, refl, n);
+    each = tt;
+    end = short bytes n.0 (row_text default_writer first_record) first_line n.1 (sym n.2);
+  };
   run = e;
   as_many = refl;
   cut = refl;
 }
 
-pub first_bad : (bytes line rest : List ℕ) → bytes ≡ line ++ rest → IsWholeLine line →
-    bytes_eq line (row_text default_writer first_record) ≡ false → IsBadLine bytes 1
-first_bad bytes line rest e whole n = first line rest whole e (λ same.
-    let yes : bytes_eq line (row_text default_writer first_record) ≡ true = rw same (same_bytes (row_text default_writer first_record)) in
-    cc (sym yes ∙ n))
-
-pub made_first : (bytes line rest : List ℕ) (pages : List Page) → bytes ≡ line ++ rest →
-    bytes_eq line (row_text default_writer first_record) ≡ true → pages ≡ [] → Made bytes rest 0 pages
+pub made_first : (bytes rest : List ℕ) (pages : List Page) → bytes ≡ row_text default_writer first_record ++ rest → pages ≡ [] →
+    Made bytes rest 0 pages
 unfolding IsRun rows_text
-made_first bytes line rest pages e t p =
-    let same = is_word line (row_text default_writer first_record) t in
+made_first bytes rest pages e p =
     record {
       rows = [];
-      text = e ∙ ap (λ (l : List ℕ). l ++ rest) (same ∙ sym (append-nil (row_text default_writer first_record)));
+      text = e ∙ ap (λ (l : List ℕ). l ++ rest) (sym (append-nil (row_text default_writer first_record)));
       each = tt;
       run = p;
       as_many = refl;
-      few = rw (e, length-append line rest) (omega arith);
+      few = rw (e, length-append (row_text default_writer first_record) rest) (omega arith);
     }
 
 some_bytes : (line : List ℕ) → IsWholeLine line → 1 ≤ length line
@@ -179,6 +176,15 @@ made_end bytes rest edits pages made n = record {
 pub made_bad : (bytes rest line behind : List ℕ) (edits : ℕ) (before after : List Page) → Made bytes rest edits before → rest ≡ line ++ behind →
     IsWholeLine line → MakesLine false line before after → IsBadLine bytes (edits + 2)
 made_bad bytes rest line behind edits before after made e whole m =
-    subst (λ (n : ℕ). IsBadLine bytes (n + 2)) (sym made.as_many)
-    (later made.rows before line behind made.each made.run whole
-    (made.text ∙ ap (λ (t : List ℕ). journal_text made.rows ++ t) e ∙ sym (append_assoc (journal_text made.rows) line behind)) m)
+    record {
+      rows = made.rows;
+      pages = before;
+      line = line;
+      rest = behind;
+      each = made.each;
+      run = made.run;
+      whole = whole;
+      parts = made.text ∙ ap (λ (t : List ℕ). journal_text made.rows ++ t) e ∙ sym (append_assoc (journal_text made.rows) line behind);
+      bad = m;
+      place = ap (λ (n : ℕ). n + 2) made.as_many;
+    }

@@ -4,21 +4,26 @@ use Rattle.pocsag_pages.specs.declared.fault.WholeFault.{WholeFault}
 use Rattle.pocsag_pages.specs.declared.fault.WholeFault.TheVariants as whole
 use Rattle.pocsag_journal.specs.declared.fault.JournalFault.{JournalFault}
 use Rattle.pocsag_journal.specs.declared.fault.JournalFault.TheVariants as fault
-use Rattle.pocsag_journal.specs.Journals.{IsBadLine}
+use Rattle.pocsag_journal.specs.Journals.{IsBadLine, IsBegun, NamesFormat}
 
 abbrev pub fault_of_reading : WholeFault → JournalFault
 fault_of_reading whole.ReadFault = fault.ReadFault
 fault_of_reading whole.TooLarge = fault.TooLarge
 fault_of_reading whole.OutOfMemory = fault.OutOfMemory
 
--- What is told of bytes that are no journal: the line that is none of one. Memory may be wanting.
+-- What is told of bytes that are no journal: that they do not begin as one, or only as one of another version, or the line
+-- that is none of one. Memory may be wanting.
 abbrev pub IsTold : List ℕ → JournalFault → Type 0
+IsTold bytes fault.NotJournal = ¬ IsBegun bytes × ¬ NamesFormat bytes
+IsTold bytes fault.OtherVersion = ¬ IsBegun bytes × NamesFormat bytes
 IsTold bytes (fault.BadLine n) = IsBadLine bytes n
 IsTold bytes fault.OutOfMemory = Unit {0}
 IsTold bytes _ = ⊥
 
 -- What is told of bytes that are a journal: the source or memory fails, or it is too large.
 abbrev pub IsToldOf : JournalFault → Type 0
+IsToldOf fault.NotJournal = ⊥
+IsToldOf fault.OtherVersion = ⊥
 IsToldOf (fault.BadLine n) = ⊥
 IsToldOf (fault.NoLine n) = ⊥
 IsToldOf fault.WriteFault = ⊥

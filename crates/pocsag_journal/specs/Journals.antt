@@ -32,10 +32,22 @@ pub record IsLine (row : Row) : Type 0 where
   pub some : row ≢ []
   pub line : IsWholeLine (row_text default_writer row)
 
+-- The bytes are a part of the first line: it goes on behind them.
+abbrev pub IsFirstCut : List ℕ → Type 0
+IsFirstCut bytes = (rest : List ℕ) × (rest ≢ []) × (bytes ++ rest ≡ row_text default_writer first_record)
+
+-- The bytes begin with the first line, or are a part of it.
+abbrev pub IsBegun : List ℕ → Type 0
+IsBegun bytes = ((rest : List ℕ) × (bytes ≡ row_text default_writer first_record ++ rest)) ⊎ IsFirstCut bytes
+
+-- The bytes begin as the first line of each version does.
+abbrev pub NamesFormat : List ℕ → Type 0
+NamesFormat bytes = (rest : List ℕ) × (bytes ≡ codes "pocsag journal," ++ rest)
+
 -- *Reading*: the bytes are the journal text of these records, each one line, and a torn end without a line feed. Where
--- the first line itself is torn, there are no records.
+-- they are only a part of the first line, there are no records, and all of it is the torn end.
 pub record IsRead (bytes : List ℕ) (rows : List Row) (torn : List ℕ) : Type 0 where
-  pub parts : (bytes ≡ journal_text rows ++ torn) ⊎ ((rows ≡ []) × (bytes ≡ torn))
+  pub parts : (bytes ≡ journal_text rows ++ torn) ⊎ ((rows ≡ []) × (bytes ≡ torn) × IsFirstCut bytes)
   pub each : AllByRecursion IsLine rows
   pub end : HasNoLineFeed torn
 
@@ -49,17 +61,19 @@ pub record Replays (bytes : List ℕ) (edits torn : ℕ) (pages : List Page) : T
   pub as_many : edits ≡ length rows
   pub cut : torn ≡ length rest
 
--- The line of this number, from 1, is whole, and it is not what stands there in a journal: the text of the first record,
--- or that of an edit that the pages before it accept.
-pub data IsBadLine (bytes : List ℕ) : ℕ → Type 0 where
-  first :
-      (line rest : List ℕ) → IsWholeLine line → bytes ≡ line ++ rest → line ≢ row_text default_writer first_record →
-      IsBadLine bytes 1
-  later :
-      (rows : List Row) (pages : List Page) (line rest : List ℕ) → AllByRecursion IsLine rows → IsRun rows [] pages →
-      IsWholeLine line → bytes ≡ journal_text rows ++ line ++ rest →
-      ((row : Row) (after : List Page) → row_text default_writer row ≡ line → ¬ IsEdit row pages after) →
-      IsBadLine bytes (length rows + 2)
+-- The line of this number, from 1, stands behind the first and behind edits, each accepted in its turn. It is whole, and it is
+-- the text of no edit that the pages before it accept.
+pub record IsBadLine (bytes : List ℕ) (number : ℕ) : Type 0 where
+  pub rows : List Row
+  pub pages : List Page
+  pub line : List ℕ
+  pub rest : List ℕ
+  pub each : AllByRecursion IsLine rows
+  pub run : IsRun rows [] pages
+  pub whole : IsWholeLine line
+  pub parts : bytes ≡ journal_text rows ++ line ++ rest
+  pub bad : (row : Row) (after : List Page) → row_text default_writer row ≡ line → ¬ IsEdit row pages after
+  pub place : number ≡ length rows + 2
 
 -- The line is made: it is the text of an edit that these pages accept and that leaves those. Otherwise it is that of none.
 abbrev pub MakesLine : Bool → (line : List ℕ) → (before after : List Page) → Type 0

@@ -16,6 +16,12 @@ pub enum JournalFault {
     /// It has more than 1,073,741,824 bytes.
     #[error("the journal is too large")]
     TooLarge,
+    /// It does not begin as a journal does.
+    #[error("not a journal")]
+    NotJournal,
+    /// It begins as a journal does, but for the version.
+    #[error("a journal of another version")]
+    OtherVersion,
     /// The line of this number, from 1, is no line of a journal.
     #[error("journal line {0}: no edit that the pages before it accept")]
     BadLine(usize),

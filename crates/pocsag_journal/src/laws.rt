@@ -5,12 +5,14 @@ ghost use Rattle.pocsag_pages.specs.PageFile.{Row};
 ghost use Rattle.pocsag_pages.specs.declared.page.Page.{Page};
 ghost use Rattle.pocsag_edits.specs.Runs.{IsEdit, IsRun};
 ghost use Rattle.pocsag_journal.specs.Growth.{kept_line_limit};
-ghost use Rattle.pocsag_journal.specs.Journals.{IsBadLine, IsLine, IsRead, ReadsFirst, journal_text};
+ghost use Rattle.pocsag_journal.specs.Journals.{IsBadLine, IsBegun, IsLine, IsRead, ReadsFirst, journal_text};
 
-/// Bytes read as one list of records at most, with one torn end; and where these are a run, no line is bad.
+/// Bytes read as one list of records at most, with one torn end, and only where they begin with the first line or are a part of
+/// it; and where the records are a run, no line is bad.
 pub fn journals_read_as_one()
     ensures one { (bytes : List ℕ) (rows others : List Row) (torn rest : List ℕ) →
         IsRead bytes rows torn → IsRead bytes others rest → (others ≡ rows) × (rest ≡ torn) }
+    ensures begun { (bytes : List ℕ) (rows : List Row) (torn : List ℕ) → IsRead bytes rows torn → IsBegun bytes }
     ensures good { (bytes : List ℕ) (rows : List Row) (torn : List ℕ) (pages : List Page) (line : ℕ) →
         IsRead bytes rows torn → IsRun rows [] pages → ¬ IsBadLine bytes line }
     ensures list { (rows : List Row) (before after other : List Page) →

@@ -1,9 +1,10 @@
-ghost use Rattle.std.specs.Prelude.{◌≡◌, ◌≤◌, ◌⊎◌, ℕ, List, [], length, IfErr, IfOk, MatchResult, OnOk};
+ghost use Rattle.std.specs.Prelude.{◌≡◌, ◌≤◌, ◌⊎◌, ◌++◌, ℕ, List, [], length, IfErr, IfNone, IfOk, IfSome, MatchResult, OnOk};
+ghost use Rattle.csv.specs.Writing.{default_writer, row_text};
 ghost use Rattle.pocsag_pages.specs.PageFile.{Row};
 ghost use Rattle.pocsag_pages.specs.declared.page.Page.{Page};
-ghost use Rattle.pocsag_edits.specs.Runs.{IsRun};
+ghost use Rattle.pocsag_edits.specs.Runs.{IsRun, first_record};
 ghost use Rattle.pocsag_journal.specs.Faults.{IsTold, IsToldOf};
-ghost use Rattle.pocsag_journal.specs.Journals.{IsRead, MakesLine, Replays, ReplaysAs, journal_limit};
+ghost use Rattle.pocsag_journal.specs.Journals.{IsFirstCut, IsRead, MakesLine, Replays, ReplaysAs, journal_limit};
 
 use crate::fault::JournalFault;
 use crate::lines::split_line;
@@ -17,6 +18,9 @@ use std::alloc::Global;
 /// The greatest number of bytes of a journal that is read.
 pub const JOURNAL_LIMIT: usize = 1_073_741_824;
 
+// How a journal of each version begins.
+const FORMAT: &[u8] = b"pocsag journal,";
+
 /// What a journal stands for.
 #[derive(Drop)]
 pub struct Replayed {
@@ -28,8 +32,8 @@ pub struct Replayed {
     pub torn: usize,
 }
 
-/// Reads the journal that a source holds up to its end. A torn end is passed over; a line before it that is none of a
-/// journal is told by its number.
+/// Reads the journal that a source holds up to its end. A torn end is passed over, also one in the first line; bytes that
+/// begin otherwise than a journal are told as none, and a line behind the first that is none of a journal by its number.
 pub fn read_journal<S: Source>(alloc: Global, source: &mut S) -> Result<Replayed, JournalFault>
     ensures read { S.tells → IfOk result
         (λ replayed. Replays (S.held source.old) replayed.edits replayed.torn replayed.book) }
@@ -46,6 +50,26 @@ pub fn read_journal<S: Source>(alloc: Global, source: &mut S) -> Result<Replayed
     replay(alloc, bytes.as_slice())
 }
 
+// What stands behind the first line; nothing where the bytes are only a part of that.
+fn behind_first(bytes: &[u8]) -> Result<Option<&[u8]>, JournalFault>
+    ensures whole { IfOk result (λ found.
+        IfSome found (λ rest. bytes.now ≡ row_text default_writer first_record ++ rest.now)) }
+    ensures torn { IfOk result (λ found. IfNone found (IsFirstCut bytes.now)) }
+    ensures told { IfErr result (λ e. IsTold bytes.now e) }
+{
+    let first = first_line();
+    if let Some(rest) = bytes.strip_prefix(first) {
+        return Ok(Some(rest));
+    }
+    if first.starts_with(bytes) {
+        return Ok(None);
+    }
+    if bytes.starts_with(FORMAT) {
+        return Err(JournalFault::OtherVersion);
+    }
+    Err(JournalFault::NotJournal)
+}
+
 // Makes the edits of the lines, one after another.
 fn replay(alloc: Global, bytes: &[u8]) -> Result<Replayed, JournalFault>
     requires { length bytes.now ≤ journal_limit }
@@ -54,8 +78,9 @@ fn replay(alloc: Global, bytes: &[u8]) -> Result<Replayed, JournalFault>
 {
     let mut book = Book::new(alloc);
     let mut edits = 0;
-    let first = match split_line(bytes) {
-        Some(parts) => parts,
+    let behind = behind_first(bytes)?;
+    let mut rest = match behind {
+        Some(rest) => rest,
         None => {
             return Ok(Replayed {
                 book,
@@ -64,11 +89,6 @@ fn replay(alloc: Global, bytes: &[u8]) -> Result<Replayed, JournalFault>
             });
         }
     };
-    let same = first.0 == first_line();
-    if !same {
-        return Err(JournalFault::BadLine(1));
-    }
-    let mut rest = first.1;
     loop {
         let next = match split_line(rest) {
             Some(parts) => parts,

@@ -4,8 +4,8 @@ use crate::order::{Asked, OpenOrder, Order, PlanOrder, SearchOrder, path_of};
 use crate::texts::{BAD_ROWS, EARLY_STRICT};
 use crate::words::{
     ADDRESS, ALWAYS, CERT, CHECK, CLOSED, DECODE, DEPTH, EACH_FRAME, END, EXPECT, EXPLAIN, HEAR,
-    IDLE_LAST, IDLE_NAME, JOURNAL, JSON, KEEP, LIMIT, LIST, OPEN, PAGES, PLAN, RATE, REPAIR,
-    REPORT, ROUND, ROWS, SHOW, STRICT, SVG, TX, VERBOSE, VERIFY, program, show_command,
+    IDLE_LAST, IDLE_NAME, JOURNAL, JSON, KEEP, LIMIT, LIST, OPEN, PAGES, PLAN, RATE, READ_ONLY,
+    REPAIR, REPORT, ROUND, ROWS, SHOW, STRICT, SVG, TX, VERBOSE, VERIFY, program, show_command,
 };
 use clap::error::ErrorKind;
 use clap::{ArgMatches, Command, Error};
@@ -143,6 +143,7 @@ fn open_order<'a>(found: &ArgMatches<'a>) -> Order<'a> {
     Order::Open(OpenOrder {
         pages: found.get_str(PAGES),
         journal: found.get_str(JOURNAL),
+        read_only: found.get_flag(READ_ONLY),
         always: found.get_flag(ALWAYS),
         keep: found.get_flag(KEEP),
     })

@@ -84,6 +84,8 @@ pub struct OpenOrder<'a> {
     pub pages: Option<&'a str>,
     /// The path of the journal, if there is one.
     pub journal: Option<&'a str>,
+    /// Whether the journal is only listed.
+    pub read_only: bool,
     /// Whether each plan of the round is answered.
     pub always: bool,
     /// Whether what stands there before is kept until both files of a plan are whole.

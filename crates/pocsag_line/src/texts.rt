@@ -132,6 +132,10 @@ pub(crate) const JOURNAL_HELP: &str = "\
 Keeps each edit in FILE before it is answered, and
 begins with the edits that FILE holds";
 
+pub(crate) const READ_ONLY_HELP: &str = "\
+Lists the pages of the journal as a page file, and
+ends; FILE is neither locked nor changed";
+
 pub(crate) const VERBOSE_HELP: &str = "\
 Tells more on standard error: which file and why, the
 line of a record, the wrong field, and what to do";

@@ -4,9 +4,9 @@ use crate::texts::{
     ABOUT, ADDRESS_HELP, ALWAYS_HELP, CERT_HELP, CHECK_ABOUT, DECODE_ABOUT, DEPTH_HELP, END_HELP,
     EXPECT_HELP, EXPLAIN_ABOUT, EXPLAIN_MANUAL, FIRST_PAGES_HELP, FRAMES_HELP, HEAR_ABOUT,
     IDLE_LAST_HELP, JOURNAL_HELP, JSON_HELP, KEEP_HELP, LIMIT_HELP, LIST_HELP, MANUAL, OPEN_MANUAL,
-    PAGES_HELP, PICTURE_HELP, PLAN_ABOUT, PLAN_MANUAL, RATE_HELP, REPAIR_HELP, REPORT_ABOUT,
-    ROUND_ABOUT, ROWS_HELP, SHOW_ABOUT, SHOW_MANUAL, STRICT_HELP, SVG_HELP, TX_HELP, VERBOSE_HELP,
-    VERIFY_HELP, VERSION,
+    PAGES_HELP, PICTURE_HELP, PLAN_ABOUT, PLAN_MANUAL, RATE_HELP, READ_ONLY_HELP, REPAIR_HELP,
+    REPORT_ABOUT, ROUND_ABOUT, ROWS_HELP, SHOW_ABOUT, SHOW_MANUAL, STRICT_HELP, SVG_HELP, TX_HELP,
+    VERBOSE_HELP, VERIFY_HELP, VERSION,
 };
 use clap::{Arg, ArgAction, Command, value_parser};
 use std::alloc::{AllocError, Global};
@@ -56,6 +56,8 @@ pub(crate) const STRICT: &str = "strict";
 pub(crate) const KEEP: &str = "keep";
 
 pub(crate) const JOURNAL: &str = "journal";
+
+pub(crate) const READ_ONLY: &str = "read-only";
 
 pub(crate) const ALWAYS: &str = "always";
 
@@ -112,7 +114,8 @@ struct LineWord {
     // Whether it has to be given, and whether it may also stand behind the name of any command.
     is_required: bool,
     is_global: bool,
-    // The options that may not stand beside it.
+    // The options that must stand beside it, and those that may not.
+    needs: &'static [&'static str],
     excludes: &'static [&'static str],
 }
 
@@ -133,6 +136,7 @@ const PLACE: LineWord = LineWord {
     content: Content::Text,
     is_required: true,
     is_global: false,
+    needs: &[],
     excludes: &[],
 };
 
@@ -232,6 +236,14 @@ const JOURNAL_OPTION: LineWord = LineWord {
     id: JOURNAL,
     help: JOURNAL_HELP,
     given: Given::Option("FILE", &[]),
+    ..FLAG
+};
+
+const READ_ONLY_FLAG: LineWord = LineWord {
+    id: READ_ONLY,
+    help: READ_ONLY_HELP,
+    needs: &[JOURNAL],
+    excludes: &[PAGES, ALWAYS, KEEP],
     ..FLAG
 };
 
@@ -374,7 +386,13 @@ const COMMANDS: &[Shape] = &[
         name: ROUND,
         about: ROUND_ABOUT,
         manual: Some(OPEN_MANUAL),
-        words: &[FIRST_PAGES_PLACE, JOURNAL_OPTION, ALWAYS_FLAG, KEEP_FLAG],
+        words: &[
+            FIRST_PAGES_PLACE,
+            JOURNAL_OPTION,
+            READ_ONLY_FLAG,
+            ALWAYS_FLAG,
+            KEEP_FLAG,
+        ],
     },
     Shape {
         name: REPORT,
@@ -399,6 +417,7 @@ fn argument<'a>(alloc: Global, word: &LineWord) -> Result<Arg<'a>, AllocError> {
         .help(word.help)
         .required(word.is_required)
         .global(word.is_global)
+        .requires_all(word.needs)?
         .conflicts_with_all(word.excludes)
 }
 

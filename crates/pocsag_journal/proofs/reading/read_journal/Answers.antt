@@ -1,4 +1,4 @@
-use Rattle.std.proofs.Common.{◌≡◌, ℕ, List, [], ap, ◌∙◌, subst, sym, length}
+use Rattle.std.proofs.Common.{◌≡◌, ◌⊎◌, inr, ℕ, List, [], ap, ◌∙◌, subst, sym, length}
 use Rattle.std.specs.Prelude.{IfErr, IfOk, MatchResult, Result, Ok, Err}
 use Rattle.pocsag_pages.specs.PageFile.{Row}
 use Rattle.pocsag_pages.specs.declared.page.Page.{Page}
@@ -9,7 +9,7 @@ use Rattle.pocsag_journal.specs.declared.fault.JournalFault.{JournalFault}
 use Rattle.pocsag_journal.specs.declared.fault.JournalFault.TheVariants as fault
 use Rattle.pocsag_journal.specs.declared.reading.Replayed.{Replayed}
 use Rattle.pocsag_journal.proofs.EditRuns.{run_once}
-use Rattle.pocsag_journal.proofs.Readings.{no_bad_line, one_reading}
+use Rattle.pocsag_journal.proofs.Readings.{begun, no_bad_line, one_reading}
 use Rattle.pocsag_journal.proofs.reading.read_journal.Goals as goal
 
 -- whatever edits the bytes are the text of: these were read
@@ -23,6 +23,10 @@ these bytes held e (Ok x) read told rows torn pages is run =
       read.as_many ∙ ap length one.0,
       read.cut ∙ ap length one.1,
     )
+these bytes held e (Err fault.NotJournal) read told rows torn pages is run =
+    told.0 (begun bytes rows torn (subst (λ (b : List ℕ). IsRead b rows torn) (sym e) is))
+these bytes held e (Err fault.OtherVersion) read told rows torn pages is run =
+    told.0 (begun bytes rows torn (subst (λ (b : List ℕ). IsRead b rows torn) (sym e) is))
 these bytes held e (Err (fault.BadLine n)) read told rows torn pages is run =
     no_bad_line bytes n told rows torn pages (subst (λ (b : List ℕ). IsRead b rows torn) (sym e) is) run
 these bytes held e (Err (fault.NoLine n)) read told rows torn pages is run = told
@@ -30,6 +34,17 @@ these bytes held e (Err fault.WriteFault) read told rows torn pages is run = tol
 these bytes held e (Err fault.ReadFault) read told rows torn pages is run = tt
 these bytes held e (Err fault.TooLarge) read told rows torn pages is run = tt
 these bytes held e (Err fault.OutOfMemory) read told rows torn pages is run = tt
+
+-- what is told of the bytes that were read is told of those that were held
+told_of : (bytes held : List ℕ) → bytes ≡ held → (r : Result Replayed JournalFault) → IfErr r (IsTold bytes) →
+    IfErr r (λ e. (e ≡ fault.ReadFault) ⊎ (e ≡ fault.TooLarge) ⊎ IsTold held e)
+told_of bytes held e (Ok x) told = tt
+told_of bytes held e (Err f) told = inr (inr (subst (λ (b : List ℕ). IsTold b f) e told))
+
+pub returns-clause-told : goal.returns-clause-told
+returns-clause-told g c = λ tells.
+    told_of c.as_slice.result.now (g.S.Source.held c.args.source.now) (c.as_slice.ensures.value ∙ c.in_ok-bytes.ensures.whole tells)
+    c.replay.result c.replay.ensures.told
 
 pub returns-clause-replay : goal.returns-clause-replay
 returns-clause-replay g c = λ tells rows torn pages is run.

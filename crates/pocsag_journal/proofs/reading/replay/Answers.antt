@@ -1,20 +1,14 @@
-use Rattle.std.proofs.Common.{Bool, arith, sym, subst, ◌∙◌}
+use Rattle.std.proofs.Common.{Bool, arith, subst}
 use Rattle.pocsag_journal.specs.Journals.{MakesLine}
-use Rattle.pocsag_journal.proofs.Replaying.{first_bad, made_bad, made_end, made_first, made_on, nothing_read, shorter}
+use Rattle.pocsag_journal.proofs.Replaying.{made_bad, made_end, made_first, made_on, nothing_read, shorter}
 use Rattle.pocsag_journal.proofs.reading.replay.Goals as goal
 
 pub returns-in-None-clause-read : goal.returns-in-None-clause-read
-returns-in-None-clause-read c = nothing_read c.args.bytes.now c.new-book.result c.new-book.ensures c.in-None.ensures.none
-
-pub returns-then-not-same-clause-told : goal.returns-then-not-same-clause-told
-returns-then-not-same-clause-told c =
-    first_bad c.args.bytes.now c.in-Some.parts.0.now c.in-Some.parts.1.now c.in-Some.ensures.parts c.in-Some.ensures.line
-    (rw c.first_line.ensures at (sym c.eq-same.ensures ∙ c.if-not-same.true))
+returns-in-None-clause-read c = nothing_read c.args.bytes.now c.new-book.result c.new-book.ensures (rw c.in-None.is at c.in_ok-behind.ensures.torn)
 
 pub loop-parts-init : goal.loop-parts-init
 loop-parts-init c =
-    made_first c.args.bytes.now c.in-Some.parts.0.now c.in-Some.parts.1.now c.new-book.result c.in-Some.ensures.parts
-    (rw c.first_line.ensures at (sym c.eq-same.ensures ∙ c.if-not-same.false)) c.new-book.ensures
+    made_first c.args.bytes.now c.in-Some.rest.now c.new-book.result (rw c.in-Some.is at c.in_ok-behind.ensures.whole) c.new-book.ensures
 
 pub returns-in-None-split_line-clause-read : goal.returns-in-None-split_line-clause-read
 returns-in-None-split_line-clause-read c =
