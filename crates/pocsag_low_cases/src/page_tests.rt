@@ -261,6 +261,11 @@ fn sizes(rt: HostRuntime) {
         Some(RoundFault::Record(20_001, RecordFault::TooManyPages))
     );
     // A file of 268,435,456 bytes is read by the built program (tests/program/edges.py): with checks it takes minutes.
+}
+
+#[test]
+fn files_too_large(rt: HostRuntime) {
+    let alloc = rt.alloc();
     let fault = read_round(alloc, &mut long_file(268_435_457)).err();
     assert_eq!(rt; fault, Some(RoundFault::TooLarge));
     let mut tx = MemorySink::<140>::new(64, 1000);
