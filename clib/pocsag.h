@@ -58,11 +58,11 @@ extern "C" {
 #define POCSAG_DEFAULT_LIMIT 100000u
 #define POCSAG_GREATEST_LIMIT 1000000u
 
-/* The bytes of stack that a thread needs for a call, its own part included. A certificate has at most 300 levels, and a
- * search goes through at most 289. */
-#define POCSAG_CHECK_STACK 1310720u
-#define POCSAG_EXPLAIN_STACK 3145728u
-#define POCSAG_PLAN_STACK 4194304u      /* pocsag_report too; 13,000 bytes a level. Rounds that were met take 64 KiB. */
+/* The bytes of stack that a thread needs for a call, its own part included. A certificate has at most 300 levels: 64 KiB,
+ * and 1 KiB for each of them. A search goes through at most 289 levels of 13,000 bytes. */
+#define POCSAG_CHECK_STACK 372736u
+#define POCSAG_EXPLAIN_STACK 372736u
+#define POCSAG_PLAN_STACK 4194304u      /* pocsag_report too; no round is known that takes 64 KiB */
 #define POCSAG_LISTING_STACK 131072u    /* pocsag_decode, pocsag_hear */
 
 /* Statuses. */
