@@ -58,12 +58,12 @@ extern "C" {
 #define POCSAG_DEFAULT_LIMIT 100000u
 #define POCSAG_GREATEST_LIMIT 1000000u
 
-/* The bytes of stack that a thread needs to call, its own part included: 64 KiB, and for each of the 300 levels that a
- * certificate or a search has at most @@. */
-#define POCSAG_CHECK_STACK 1310720u
-#define POCSAG_EXPLAIN_STACK 3145728u
-#define POCSAG_PLAN_STACK 2097152u
-#define POCSAG_LISTING_STACK 131072u
+/* The bytes of stack that a thread needs for a call, its own part included. A certificate has at most 300 levels: 64 KiB,
+ * and 1 KiB for each of them. A search goes through at most 289 levels of 13,000 bytes. */
+#define POCSAG_CHECK_STACK 372736u
+#define POCSAG_EXPLAIN_STACK 372736u
+#define POCSAG_PLAN_STACK 4194304u      /* pocsag_report too; no round is known that takes 64 KiB */
+#define POCSAG_LISTING_STACK 131072u    /* pocsag_decode, pocsag_hear */
 
 /* Statuses. */
 #define POCSAG_OK 0u
