@@ -1,5 +1,9 @@
 -- The statuses of the calls, and the places that belong to them (this project's own).
 use Rattle.std.specs.Prelude.{ℕ, ◌≢◌}
+use Rattle.pocsag_pages.specs.declared.fault.PageFault.TheVariants as page
+use Rattle.pocsag_pages.specs.declared.fault.FieldFault.TheVariants as field
+use Rattle.pocsag_pages.specs.declared.fault.RecordFault.{RecordFault}
+use Rattle.pocsag_pages.specs.declared.fault.RecordFault.TheVariants as wrong
 use Rattle.pocsag_pages.specs.declared.fault.RoundFault.{RoundFault}
 use Rattle.pocsag_pages.specs.declared.fault.RoundFault.TheVariants as round
 use Rattle.pocsag_tree.specs.declared.refusals.CertificateFault.{CertificateFault}
@@ -26,22 +30,29 @@ record_refusal status number = record { status = status; place = record { record
 abbrev pub index_refusal : (status index : ℕ) → StatusAt
 index_refusal status index = record { status = status; place = record { record_number = 0; least = 0; found = 0; at = index } }
 
+-- From 19 on: the faults of a record of this number. Want of memory has no place.
+abbrev pub refusal_of_record : (number : ℕ) → RecordFault → StatusAt
+refusal_of_record n wrong.FieldCount = record_refusal 19 n
+refusal_of_record n (wrong.Field field.BadAddress) = record_refusal 20 n
+refusal_of_record n (wrong.Field field.ReservedAddress) = record_refusal 21 n
+refusal_of_record n (wrong.Field field.BadKind) = record_refusal 22 n
+refusal_of_record n (wrong.Field field.MessageForTone) = record_refusal 23 n
+refusal_of_record n (wrong.Field field.EmptyMessage) = record_refusal 24 n
+refusal_of_record n (wrong.Field (field.BadCharacter place)) = record { status = 25; place = record { record_number = n; least = 0; found = 0; at = place } }
+refusal_of_record n (wrong.Field field.TooLong) = record_refusal 26 n
+refusal_of_record n (wrong.Field field.OutOfMemory) = plain_refusal 3
+refusal_of_record n (wrong.Page page.BadAddress) = record_refusal 20 n
+refusal_of_record n (wrong.Page page.ReservedAddress) = record_refusal 21 n
+refusal_of_record n (wrong.Page page.BadPayload) = record_refusal 29 n
+refusal_of_record n wrong.DuplicateAddress = record_refusal 27 n
+refusal_of_record n wrong.TooManyPages = record_refusal 28 n
+
 -- From 16 on: the faults of a page file.
 abbrev pub round_refusal : RoundFault → StatusAt
 round_refusal round.ReadFault = plain_refusal 16
 round_refusal round.TooLarge = plain_refusal 17
 round_refusal round.BadHeader = plain_refusal 18
-round_refusal (round.FieldCount n) = record_refusal 19 n
-round_refusal (round.BadAddress n) = record_refusal 20 n
-round_refusal (round.ReservedAddress n) = record_refusal 21 n
-round_refusal (round.BadKind n) = record_refusal 22 n
-round_refusal (round.MessageForTone n) = record_refusal 23 n
-round_refusal (round.EmptyMessage n) = record_refusal 24 n
-round_refusal (round.BadCharacter n place) = record { status = 25; place = record { record_number = n; least = 0; found = 0; at = place } }
-round_refusal (round.TooLong n) = record_refusal 26 n
-round_refusal (round.DuplicateAddress n) = record_refusal 27 n
-round_refusal (round.TooManyPages n) = record_refusal 28 n
-round_refusal (round.BadPayload n) = record_refusal 29 n
+round_refusal (round.Record n f) = refusal_of_record n f
 round_refusal round.NoPages = plain_refusal 30
 round_refusal round.OutOfMemory = plain_refusal 3
 

@@ -1,10 +1,10 @@
 ghost use Rattle.std.specs.Prelude.{◌≡◌};
-ghost use Rattle.pocsag_c.specs.Statuses.{IsRefusing, certificate_refusal, index_refusal, pager_refusal, plain_refusal, record_refusal, refusal_of, round_refusal, transmission_refusal};
+ghost use Rattle.pocsag_c.specs.Statuses.{IsRefusing, certificate_refusal, index_refusal, pager_refusal, plain_refusal, record_refusal, refusal_of, refusal_of_record, round_refusal, transmission_refusal};
 
 use pocsag_decode::DecodeFault;
 use pocsag_faults::Fault;
 use pocsag_pager::PagerFault;
-use pocsag_pages::RoundFault;
+use pocsag_pages::{FieldFault, PageFault, RecordFault, RoundFault};
 use pocsag_tree::CertificateFault;
 
 /// Where a fault stands, and what a search knew; each number is 0 where it says nothing.
@@ -68,20 +68,19 @@ fn of_index(status: u32, at: u64) -> StatusAt
     }
 }
 
-fn refused_round(fault: RoundFault) -> StatusAt
-    ensures { result ≡ round_refusal fault }
+// A refusal for a record of this number.
+fn refused_record(record: u32, fault: RecordFault) -> StatusAt
+    ensures value { result ≡ refusal_of_record record fault }
+    ensures refusing { IsRefusing result.status }
 {
     match fault {
-        RoundFault::ReadFault => plain(16),
-        RoundFault::TooLarge => plain(17),
-        RoundFault::BadHeader => plain(18),
-        RoundFault::FieldCount(record) => of_record(19, record),
-        RoundFault::BadAddress(record) => of_record(20, record),
-        RoundFault::ReservedAddress(record) => of_record(21, record),
-        RoundFault::BadKind(record) => of_record(22, record),
-        RoundFault::MessageForTone(record) => of_record(23, record),
-        RoundFault::EmptyMessage(record) => of_record(24, record),
-        RoundFault::BadCharacter(record, at) => StatusAt {
+        RecordFault::FieldCount => of_record(19, record),
+        RecordFault::Field(FieldFault::BadAddress) => of_record(20, record),
+        RecordFault::Field(FieldFault::ReservedAddress) => of_record(21, record),
+        RecordFault::Field(FieldFault::BadKind) => of_record(22, record),
+        RecordFault::Field(FieldFault::MessageForTone) => of_record(23, record),
+        RecordFault::Field(FieldFault::EmptyMessage) => of_record(24, record),
+        RecordFault::Field(FieldFault::BadCharacter(at)) => StatusAt {
             status: 25,
             place: Place {
                 record_number: record,
@@ -89,10 +88,25 @@ fn refused_round(fault: RoundFault) -> StatusAt
                 ..NOWHERE
             },
         },
-        RoundFault::TooLong(record) => of_record(26, record),
-        RoundFault::DuplicateAddress(record) => of_record(27, record),
-        RoundFault::TooManyPages(record) => of_record(28, record),
-        RoundFault::BadPayload(record) => of_record(29, record),
+        RecordFault::Field(FieldFault::TooLong) => of_record(26, record),
+        RecordFault::Field(FieldFault::OutOfMemory) => plain(3),
+        RecordFault::Page(PageFault::BadAddress) => of_record(20, record),
+        RecordFault::Page(PageFault::ReservedAddress) => of_record(21, record),
+        RecordFault::Page(PageFault::BadPayload) => of_record(29, record),
+        RecordFault::DuplicateAddress => of_record(27, record),
+        RecordFault::TooManyPages => of_record(28, record),
+    }
+}
+
+fn refused_round(fault: RoundFault) -> StatusAt
+    ensures value { result ≡ round_refusal fault }
+    ensures refusing { IsRefusing result.status }
+{
+    match fault {
+        RoundFault::ReadFault => plain(16),
+        RoundFault::TooLarge => plain(17),
+        RoundFault::BadHeader => plain(18),
+        RoundFault::Record(record, fault) => refused_record(record, fault),
         RoundFault::NoPages => plain(30),
         RoundFault::OutOfMemory => plain(3),
     }

@@ -6,7 +6,7 @@ use pocsag_commands::{
 use pocsag_faults::{DEFAULT_LIMIT, Fault, PlanFiles, tell_fault};
 use pocsag_files::tell_explained;
 use pocsag_notes::{Names, RepairNotes, Role, Scene, Trouble};
-use pocsag_pages::RoundFault;
+use pocsag_pages::{FieldFault, RecordFault, RoundFault};
 use pocsag_plan::{Effort, Search};
 use pocsag_words::{End, MemorySink, MemorySource};
 use std::alloc::Global;
@@ -589,13 +589,16 @@ fn notes_are_told(rt: HostRuntime) -> Result<(), Fail> {
              if they are not meant, a quote is not closed\n",
         ),
         (
-            Err(Fault::Round(RoundFault::BadCharacter(1, 2))),
+            Err(Fault::Round(RoundFault::Record(
+                1,
+                RecordFault::Field(FieldFault::BadCharacter(2)),
+            ))),
             BAD_FILE,
             "pocsag: page file p?.csv, line 2, record 1, address '7': the message is '12a', \
              its kind 'numeric'; the byte is 0x61\n",
         ),
         (
-            Err(Fault::Round(RoundFault::FieldCount(2))),
+            Err(Fault::Round(RoundFault::Record(2, RecordFault::FieldCount))),
             b"address,kind,message\n8,tone0,\n\n9,alpha,\"a\nb\",c,\"\n\nd\",\n16,tone0\n",
             "pocsag: page file p?.csv, line 4, record 2, address '9': 6 fields, where address,kind,message are wanted; \
              a message with a comma stands in quotes\n\

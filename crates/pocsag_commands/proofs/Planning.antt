@@ -7,6 +7,7 @@ use Rattle.pocsag_pages.specs.declared.page.Page.{Page}
 use Rattle.pocsag_tree.specs.Views.{bound_tree_of}
 use Rattle.pocsag_plan.specs.declared.answer.Plan.{Plan}
 use Rattle.pocsag_plan.specs.declared.bounded.Bounded.{Bounded}
+use Rattle.pocsag_plan_faults.specs.declared.fault.PlanFault.TheVariants as planning
 use Rattle.pocsag_plan_faults.specs.declared.fault.StreamFault.{StreamFault}
 use Rattle.pocsag_plan_faults.specs.declared.fault.StreamFault.TheVariants as streaming
 use Rattle.pocsag_options.specs.declared.search.Search.{Search}
@@ -24,10 +25,10 @@ use Rattle.pocsag_commands.proofs.Refusing.{why_round}
 
 pub why_refused : (file : List ℕ) (search : Search) (e : StreamFault) → ExplainsStream search.effort file search.end search.limit e
     → status_of (fault_of_stream e) ≡ 1 → IsPlanRefused file search
-why_refused file search streaming.BadLimit said one = limit said
+why_refused file search (streaming.Plan planning.BadLimit) said one = limit said
 why_refused file search (streaming.Round f) said one = of_round f (why_round file f said.1 one)
-why_refused file search (streaming.SearchLimit stop) said one = stopped said.0 stop.least stop.found (bound_tree_of stop.tree) said.2
-why_refused file search streaming.OutOfMemory said one = absurd (omega arith)
+why_refused file search (streaming.Plan (planning.SearchLimit stop)) said one = stopped said.0 stop.least stop.found (bound_tree_of stop.tree) said.2
+why_refused file search (streaming.Plan planning.OutOfMemory) said one = absurd (omega arith)
 why_refused file search (streaming.Transmission f) said one = absurd (omega arith)
 why_refused file search (streaming.Certificate f) said one = absurd (omega arith)
 

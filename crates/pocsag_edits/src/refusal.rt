@@ -4,11 +4,11 @@ ghost use Rattle.pocsag_edits.specs.declared.refusal.Refusal.TheVariants as refu
 use pocsag_faults::Fault;
 use pocsag_pages::FieldFault;
 use pocsag_plan::{AddFault, NotThere, Refused};
-use std::error::Error;
 use std::fmt::{self, Display, Formatter};
+use thiserror::Error;
 
 /// Why an edit is refused. The round is as it was.
-#[derive(Clone, Copy)]
+#[derive(Clone, Copy, Debug, Error)]
 pub enum Refusal {
     Unknown,
     /// A quote of the line's last field is not closed.
@@ -44,14 +44,6 @@ impl Display for Refusal {
         }
     }
 }
-
-impl fmt::Debug for Refusal {
-    fn fmt<W: fmt::Write>(&self, f: &mut Formatter<W>) -> fmt::Result {
-        Display::fmt(self, f)
-    }
-}
-
-impl Error for Refusal {}
 
 impl Refusal {
     ghost use Rattle.pocsag_edits.specs.Runs.{wants_memory};

@@ -4,50 +4,27 @@ ghost use Rattle.pocsag_journal.specs.declared.fault.JournalFault.TheVariants as
 use pocsag_pages::WholeFault;
 use pocsag_words::OutOfMemory;
 use std::alloc::AllocError;
-use std::error::Error;
-use std::fmt::{self, Display, Formatter};
+use thiserror::Error;
 
 /// Why a journal was not read or written.
-#[derive(Clone, Copy, PartialEq, Eq)]
+#[derive(Clone, Copy, PartialEq, Eq, Debug, Error)]
 pub enum JournalFault {
+    #[error("cannot read the journal")]
     ReadFault,
+    #[error("cannot write the journal")]
     WriteFault,
     /// It has more than 1,073,741,824 bytes.
+    #[error("the journal is too large")]
     TooLarge,
     /// The line of this number, from 1, is no line of a journal.
+    #[error("journal line {0}: no edit that the pages before it accept")]
     BadLine(usize),
     /// The page of this number, from 1, has a message with a line feed, or one that no text spells.
+    #[error("page {0}: no line of a journal holds its message")]
     NoLine(usize),
+    #[error("out of memory")]
     OutOfMemory,
 }
-
-impl Display for JournalFault {
-    fn fmt<W: fmt::Write>(&self, f: &mut Formatter<W>) -> fmt::Result {
-        f.write_str(match self {
-            JournalFault::ReadFault => "cannot read the journal",
-            JournalFault::WriteFault => "cannot write the journal",
-            JournalFault::TooLarge => "the journal is too large",
-            JournalFault::BadLine(line) => {
-                return write!(
-                    f,
-                    "journal line {line}: no edit that the pages before it accept"
-                );
-            }
-            JournalFault::NoLine(page) => {
-                return write!(f, "page {page}: no line of a journal holds its message");
-            }
-            JournalFault::OutOfMemory => "out of memory",
-        })
-    }
-}
-
-impl fmt::Debug for JournalFault {
-    fn fmt<W: fmt::Write>(&self, f: &mut Formatter<W>) -> fmt::Result {
-        Display::fmt(self, f)
-    }
-}
-
-impl Error for JournalFault {}
 
 impl From<OutOfMemory> for JournalFault {
     ghost from_gives = { λ _ e. e ≡ fault.OutOfMemory };

@@ -3,7 +3,9 @@
 use crate::note::Notes;
 use crate::role::{NamedFile, Role};
 use crate::scene::Scene;
-use pocsag_pages::{FileRecords, RoundFault, line_feeds, wide_record_size};
+use pocsag_pages::{
+    FieldFault, FileRecords, RecordFault, RoundFault, line_feeds, wide_record_size,
+};
 use pocsag_words::OutOfMemory;
 use std::alloc::Global;
 use std::fmt::{self, Display};
@@ -78,24 +80,6 @@ fn record_size(records: &FileRecords<'_>, file: &[u8]) -> (usize, usize) {
     (fields, held)
 }
 
-// The number of the record that a fault names.
-fn record_number(refused: RoundFault) -> Option<u32> {
-    match refused {
-        RoundFault::FieldCount(number)
-        | RoundFault::BadAddress(number)
-        | RoundFault::ReservedAddress(number)
-        | RoundFault::BadKind(number)
-        | RoundFault::MessageForTone(number)
-        | RoundFault::EmptyMessage(number)
-        | RoundFault::BadCharacter(number, _)
-        | RoundFault::TooLong(number)
-        | RoundFault::DuplicateAddress(number)
-        | RoundFault::TooManyPages(number)
-        | RoundFault::BadPayload(number) => Some(number),
-        _ => None,
-    }
-}
-
 /// What the first line of a page file is, in place of the header.
 pub fn note_header(scene: &Scene<'_>, notes: &mut Notes) -> Result<(), OutOfMemory> {
     let place = scene.names.place(Role::PageFile);
@@ -159,7 +143,7 @@ fn note_record_among(
     records: &mut FileRecords<'_>,
     notes: &mut Notes,
 ) -> Result<(), OutOfMemory> {
-    let Some(number) = record_number(refused) else {
+    let RoundFault::Record(number, refused) = refused else {
         return Ok(());
     };
     if come_to(records, Sought::Number(number))?.is_none() {
@@ -173,7 +157,7 @@ fn note_record_among(
     };
     let (fields, held) = record_size(records, scene.file);
     note_field(refused, spot, fields, records, notes)?;
-    if let RoundFault::DuplicateAddress(_) = refused {
+    if let RecordFault::DuplicateAddress = refused {
         note_earlier(alloc, spot, scene, notes)?;
     }
     note_open_quote(number, held, notes)
@@ -188,13 +172,15 @@ fn note_open_quote(number: u32, held: usize, notes: &mut Notes) -> Result<(), Ou
 }
 
 // What is wanted of a record, where its own fields say no more.
-fn what_is_wanted(refused: RoundFault) -> Option<&'static str> {
+fn what_is_wanted(refused: RecordFault) -> Option<&'static str> {
     match refused {
-        RoundFault::BadAddress(_) => Some("one to seven digits are wanted, at most 2097151"),
-        RoundFault::ReservedAddress(_) => {
+        RecordFault::Field(FieldFault::BadAddress) => Some(
+            "one to seven digits are wanted, at most 2097151",
+        ),
+        RecordFault::Field(FieldFault::ReservedAddress) => {
             Some("2007664 to 2007671 and 2045056 to 2045063 are reserved")
         }
-        RoundFault::TooManyPages(_) => {
+        RecordFault::TooManyPages => {
             Some("a round has at most 20000 pages; make two of this one")
         }
         _ => None,
@@ -203,7 +189,7 @@ fn what_is_wanted(refused: RoundFault) -> Option<&'static str> {
 
 // What is wrong with the record, which has so many fields.
 fn note_field(
-    refused: RoundFault,
+    refused: RecordFault,
     spot: Spot<'_>,
     fields: usize,
     records: &FileRecords<'_>,
@@ -213,10 +199,10 @@ fn note_field(
         return notes.add(format_args!("{spot}: {wanted}"));
     }
     match refused {
-        RoundFault::FieldCount(_) => notes.add(format_args!(
+        RecordFault::FieldCount => notes.add(format_args!(
             "{spot}: {fields} fields, where address,kind,message are wanted; a message with a comma stands in quotes"
         )),
-        RoundFault::TooLong(_) => {
+        RecordFault::Field(FieldFault::TooLong) => {
             let length = field(records, 2).len();
             notes.add(format_args!(
                 "{spot}: the message has {length} bytes, where 4000 are allowed"
@@ -227,17 +213,19 @@ fn note_field(
 }
 
 // What is said of a kind that is wrong in itself.
-fn told_of_kind(refused: RoundFault) -> Option<&'static str> {
+fn told_of_kind(refused: RecordFault) -> Option<&'static str> {
     match refused {
-        RoundFault::BadKind(_) => Some(", not tone0, tone1, tone2, tone3, numeric or alpha"),
-        RoundFault::EmptyMessage(_) => Some("; tone0 to tone3 have no message"),
+        RecordFault::Field(FieldFault::BadKind) => Some(
+            ", not tone0, tone1, tone2, tone3, numeric or alpha",
+        ),
+        RecordFault::Field(FieldFault::EmptyMessage) => Some("; tone0 to tone3 have no message"),
         _ => None,
     }
 }
 
 // What is wrong with the kind of the record or with its message.
 fn note_kind(
-    refused: RoundFault,
+    refused: RecordFault,
     spot: Spot<'_>,
     records: &FileRecords<'_>,
     notes: &mut Notes,
@@ -248,10 +236,10 @@ fn note_kind(
     }
     let message = excerpt_of(records, 2);
     match refused {
-        RoundFault::MessageForTone(_) => notes.add(format_args!(
+        RecordFault::Field(FieldFault::MessageForTone) => notes.add(format_args!(
             "{spot}: the message is {message}, and the kind is {kind}"
         )),
-        RoundFault::BadCharacter(_, at) => {
+        RecordFault::Field(FieldFault::BadCharacter(at)) => {
             let byte = message.bytes.get(at).copied().unwrap_or(0);
             notes.add(format_args!(
                 "{spot}: the message is {message}, its kind {kind}; the byte is {byte:#04x}"
