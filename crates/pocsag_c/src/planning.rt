@@ -12,7 +12,7 @@ use crate::refusal::{NOWHERE, Place, refusal_of};
 use crate::source::page_source;
 use pocsag_faults::Fault;
 use pocsag_plan::{
-    Bounded, Effort, Search, StreamFault, bounded_stream, tight_headlines_are_headlines,
+    Bounded, Effort, PlanFault, Search, StreamFault, bounded_stream, tight_headlines_are_headlines,
 };
 use pocsag_words::{End, GrowingSink};
 use std::alloc::Global;
@@ -59,7 +59,7 @@ fn write_asked(alloc: Global, pages: &[u8], search: Search) -> Result<Written, S
 {
     tight_headlines_are_headlines();
     if search.limit == 0 || search.limit > GREATEST_LIMIT {
-        return Err(StreamFault::BadLimit);
+        return Err(StreamFault::Plan(PlanFault::BadLimit));
     }
     let mut source = page_source(pages)?;
     let mut sent = GrowingSink::new(alloc);
