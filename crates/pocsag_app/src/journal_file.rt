@@ -26,8 +26,8 @@ pub struct JournalPlace<'a> {
 #[derive(Drop)]
 pub struct JournalFile<'a> {
     pub place: JournalPlace<'a>,
-    /// Whether there was no file at the path before.
-    pub is_new: bool,
+    // Whether there was no file at the path before.
+    is_new: bool,
     file: File,
     named: Named,
     // How many bytes the file has, by what was found first and written since.
@@ -66,8 +66,16 @@ impl<'a> JournalFile<'a> {
         }))
     }
 
-    /// Another handle of the file, which keeps its lock.
-    pub fn handle(&self) -> Result<File, Fault> {
+    /// A handle of the file where it was made, which keeps its lock.
+    pub fn made(&self) -> Result<Option<File>, Fault> {
+        if !self.is_new {
+            return Ok(None);
+        }
+        Ok(Some(self.handle()?))
+    }
+
+    // Another handle of the file, which keeps its lock.
+    fn handle(&self) -> Result<File, Fault> {
         self.place.desk.opened(ROLE, self.file.try_clone())
     }
 

@@ -110,7 +110,7 @@ fn begin(
     always: bool,
     places: &RoundFiles<'_>,
 ) -> Result<u8, Fault> {
-    let (place, is_new, lock) = (file.place, file.is_new, file.handle()?);
+    let (place, made) = (file.place, file.made()?);
     let refused = match first_round(places, replayed) {
         Ok(Replayed { book, edits, torn }) => {
             match Journal::write_anew(place.desk.alloc, file, &book) {
@@ -123,16 +123,16 @@ fn begin(
         }
         Err(fault) => Err(fault),
     };
-    if is_new {
-        remove_made(place, &lock);
+    if let Some(made) = made {
+        remove_made(place, &made);
     }
     refused
 }
 
-// Takes the file away that is locked, if it still stands at the path. That it cannot be taken away changes nothing.
-fn remove_made(place: JournalPlace<'_>, lock: &File) {
+// Takes a file away that was made, if it still stands at the path. That it cannot be taken away changes nothing.
+fn remove_made(place: JournalPlace<'_>, made: &File) {
     let rt = place.desk.rt;
-    let Ok(metadata) = lock.metadata() else {
+    let Ok(metadata) = made.metadata() else {
         return;
     };
     if Named::at(rt, place.path) == Some(Named::of(&metadata)) {
