@@ -223,7 +223,7 @@ def due_groups(words, listed, low, high):
     return groups, len(drawn)
 
 
-def check_rows(tally, name, root, words, low, high):
+def check_rows(tally, name, root, words, low, high, drawn):
     """What stands behind the pages: numbers, synchronisation codewords and hatching of each row; words and axes."""
     rows = range(max(high - low, 0))
     texts = [(node.get("class"), node.text, int(node.get("x")), int(node.get("y"))) for node in root.findall(SVG + "text")]
@@ -234,6 +234,8 @@ def check_rows(tally, name, root, words, low, high):
     due += [("e", str(low + row + 1), 50, UPPER + ROW * row + 13) for row in rows]
     bottom = UPPER + ROW * len(rows) + 6
     due += [("n", "idle codeword", 114, bottom + 13), ("n", "synchronisation codeword", 248, bottom + 13)]
+    if drawn > MOST:
+        due.append(("n", "More than 40 pages: show --list tells each.", LEFT, bottom + 26 + 13))
     tally.check(f"{name}: words and numbers", [text for text in texts if text[0]] == due, texts[:40])
     tally.check(f"{name}: heading for readers of screens", root.findtext(SVG + "title") == heading, root.findtext(SVG + "title"))
     syncs = [(60, UPPER + ROW * row, 12, HEIGHT) for row in rows] + [(230, bottom, 12, HEIGHT)]
@@ -264,8 +266,8 @@ def check_drawing(tally, name, text, words, sent, first=1, last=None):
     found = [(group.get("class"), group.findtext(SVG + "title"), found_pieces(group)) for group in root.findall(SVG + "g")]
     wrong = [pair for pair in zip(found, due) if pair[0] != pair[1]]
     tally.check(f"{name}: pages and legend", len(found) == len(due) and not wrong, wrong[:1] or (len(found), len(due)))
-    check_rows(tally, name, root, words, low, high)
-    lines = (drawn + 2) // 3 if drawn <= MOST else 0
+    check_rows(tally, name, root, words, low, high, drawn)
+    lines = (drawn + 2) // 3 if drawn <= MOST else 1
     tall = 116 + ROW * (max(high - low, 0) + lines)
     tally.check(f"{name}: size", root.get("viewBox") == f"0 0 540 {tall}", root.get("viewBox"))
     rules = re.findall(r"([^{}]+)\{[^{}]*\}", root.findtext(SVG + "style").replace("@media screen and (prefers-color-scheme:dark){", ""))

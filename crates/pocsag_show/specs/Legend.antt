@@ -28,9 +28,9 @@ stands_before pl other = nat_lt pl.number other.number || (pl.number == other.nu
 abbrev pub place_in : (low high : ℕ) → List Placed → Placed → ℕ
 place_in low high pls pl = count_by (λ other. is_drawn low high other && stands_before other pl) pls
 
--- The legend has three entries to a line, where at most forty pages are drawn, and else none.
+-- The legend has three entries to a line, where at most forty pages are drawn, and else one line.
 abbrev pub legend_lines : (low high : ℕ) → List Placed → ℕ
-legend_lines low high pls = if nat_le (drawn_in low high pls) 40 then (drawn_in low high pls + 2) / 3 else 0
+legend_lines low high pls = if nat_le (drawn_in low high pls) 40 then (drawn_in low high pls + 2) / 3 else 1
 
 -- What hatching and the narrow rectangles mean, under so many rows.
 unfoldable pub key : ℕ → List ℕ
@@ -61,5 +61,10 @@ unfoldable pub entry_of : (low high : ℕ) → List Placed → Placed → List �
 entry_of low high pls pl =
     if is_drawn low high pl then entry (112 + 22 * (high - low)) (place_in low high pls pl) pl else []
 
+-- What stands in place of the entries of more pages, on a line with this upper side.
+unfoldable pub left_out : ℕ → List ℕ
+left_out top =
+    codes "<text class='n' x='80' y='" ++ (decimal (top + 13) ++ (codes "'>More than 40 pages: show --list tells each.</text>" ++ (10 ∷ [])))
+
 unfoldable pub legend : (low high : ℕ) → List Placed → List ℕ
-legend low high pls = if nat_le (drawn_in low high pls) 40 then flat_map (entry_of low high pls) pls else []
+legend low high pls = if nat_le (drawn_in low high pls) 40 then flat_map (entry_of low high pls) pls else left_out (112 + 22 * (high - low))

@@ -1,6 +1,6 @@
 ghost use Rattle.std.specs.Prelude.{◌≡◌, ◌<◌, ◌≤◌, ◌^◌, ◌++◌, OnOk, All, length};
 ghost use Rattle.pocsag_pages.specs.Listable.{IsListable};
-ghost use Rattle.pocsag_show.specs.Legend.{drawn_in, entry, entry_of, key, legend, legend_lines, names, place_in, stands_before};
+ghost use Rattle.pocsag_show.specs.Legend.{drawn_in, entry, entry_of, key, left_out, legend, legend_lines, names, place_in, stands_before};
 
 use crate::marks::{put_head, put_opened, put_rectangle};
 use crate::pieces::{put, put_printed};
@@ -51,7 +51,7 @@ pub(crate) fn legend_lines(window: Window, pages: &[Placed]) -> usize
     ensures few { result < 15 }
 {
     let count = drawn_in(window, pages);
-    if count <= MOST { (count + 2) / 3 } else { 0 }
+    if count <= MOST { (count + 2) / 3 } else { 1 }
 }
 
 /// Writes what hatching and narrow rectangles mean, under so many rows.
@@ -125,7 +125,22 @@ fn put_entry_of(
     put_entry(text, top, place_in(window, pages, placed), placed)
 }
 
-/// Writes the legend of the pages that are drawn, where they are few.
+// Writes what stands in place of the entries of more pages, on a line with this upper side.
+#[tactic(auto, unfolding(crate::specs::Legend::left_out))]
+fn put_left_out(text: &mut Vec<u8>, top: u128) -> Result<(), AllocError>
+    requires { top < 2 ^ 100 }
+    ensures { OnOk result (text.new.items ≡ text.old.items ++ left_out top) }
+{
+    let base = top + 13;
+    put_printed(
+        text,
+        format_args!(
+            "<text class='n' x='80' y='{base}'>More than 40 pages: show --list tells each.</text>\n"
+        ),
+    )
+}
+
+/// Writes the legend of the pages that are drawn, where they are few, and else where they are told.
 #[tactic(auto, unfolding(crate::specs::Legend::legend))]
 pub(crate) fn put_legend(
     text: &mut Vec<u8>,
@@ -136,7 +151,7 @@ pub(crate) fn put_legend(
     ensures { OnOk result (text.new.items ≡ text.old.items ++ legend window.low window.high pages.now) }
 {
     if drawn_in(window, pages) > MOST {
-        return Ok(());
+        return put_left_out(text, 112 + 22 * window.count() as u128);
     }
     for placed in pages {
         put_entry_of(text, window, pages, placed)?;
