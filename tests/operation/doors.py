@@ -15,6 +15,7 @@ OLD = (b"an older transmission", b"an older certificate")
 NAMED_TWICE = b"pocsag: the same file is named twice\n"
 CANNOT_OPEN = b"pocsag: cannot read or open a file\n"
 CANNOT_WRITE = b"pocsag: cannot write\n"
+NO_OWNER = b"pocsag: the new file cannot be given the owner, group and mode of the old one\n"
 TOLD = b"pages 1\nbatches 1\n"
 IS_ROOT = os.geteuid() == 0
 
@@ -125,7 +126,7 @@ def try_rights(tally, folder):
         before = names(room)
         done = as_nobody(["plan", "pages.csv", "tx.bin", "cert.bin", "--keep", "--verbose"], room)
         note = f"{name}: {os.strerror(1)} (os error 1)\n".encode()
-        holds = (done.returncode, done.stdout) == (3, b"") and done.stderr.startswith(CANNOT_WRITE) and done.stderr.endswith(note)
+        holds = (done.returncode, done.stdout) == (3, b"") and done.stderr.startswith(NO_OWNER) and done.stderr.endswith(note)
         tally.check(f"another's {name} stays", holds and stand(room) == OLD and names(room) == before, (done, names(room)))
     room = fresh(folder, "unread")
     for name in (".", "tx.bin", "cert.bin"):
