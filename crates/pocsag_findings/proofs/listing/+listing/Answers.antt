@@ -142,11 +142,11 @@ put_node-returns-in_ok-high-in-Split t c =
     let high : List Stated =
     findings_within k end b depth (limits_from l c.in-Split.class c.in-Split.m) (above + 1) From (bound_tree_of c.in-Split.from.value) in
     let first : all_stated c.put_node.new.found.items ≡ all_stated c.put_fact.new.found.items ++ low =
-    cc in
+    rw (c.deref.ensures, c.deref-in-Split.ensures, c.in_ok-low-in-Split.ensures.child, c.from.ensures) at c.in_ok-put_node-in-Split.ensures in
     on_ok_weaker c.put_node-in-Split.result
     (λ all.
     let second : all_stated c.put_node-in-Split.new.found.items ≡ all_stated c.put_node.new.found.items ++ high =
-    cc all in
+    rw (c.deref-in-Split-2.ensures, c.deref-in-Split-3.ensures, c.in_ok-high-in-Split.ensures.child, c.from-in-Split.ensures) at all in
     held_node k end b depth l above c.args.place.now.reached (bound_tree_of c.args.tree.now) _ _ (low ++ high) _ _ _ (omega arith)
     c.fact_of-fact.ensures c.in_ok-shares.ensures held c.in_ok-put_fact.ensures.put (two_more _ low high _ _ first second)
     (rw is refl))
