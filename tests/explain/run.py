@@ -13,6 +13,7 @@ import random
 import re
 import subprocess
 import sys
+import textwrap
 import xml.etree.ElementTree as ElementTree
 
 sys.dont_write_bytecode = True
@@ -53,61 +54,131 @@ def certificate(end, batches, node):
 
 
 APART = (EXAMPLES / "loops-apart.csv").read_text()
-EACH_LOOP = "1 from 1 page of frame 0 and length 0 modulo 16, 1 from 1 page of frame 3 and length 0 modulo 16"
+THREE_TONES = "address 5, 13 or 21 (1 codeword)"
+ONE_LOOP = "1 by whole turns from 1 page of address 0 (16 codewords)"
+EACH_LOOP = f"{ONE_LOOP}, 1 by whole turns from 1 page of address 3 (16 codewords)"
 SUM_APART = "at least 3 batches, open end: 2 pages, 32 codewords, room for 32 in 2 batches, yet"
 SUM_TONES = "at least 2 batches, open end: 3 pages, 3 codewords, room for 16 in 1 batch, yet"
 STARTS = "frame 5 (slots 10 and 11): 3 pages start there, 1 batch has room for 2"
-ROOT_APART = "node 1: a page of frame 3 and length 0 modulo 16 starts or ends outside boundary 0; 2 ways out"
+TWO_WAYS = "the way there and back takes the idle or the page of one of the 2 nodes below"
+ROOT_APART = f"node 1: a page of address 3 (16 codewords) starts or ends outside boundary 0; {TWO_WAYS}"
+SO_APART, SO_TONES = "so 2 batches do not suffice", "so 1 batch does not suffice"
+NONE_EARLY = f"limits: 0 of 3 pages of {THREE_TONES} start in slot 10"
+SOME_EARLY = f"limits: 1 to 3 of 3 pages of {THREE_TONES} start in slot 10"
 CUT_APART = cut([0], 48, overload(0), overload(15))
+# The same from the other side: the second loop stands between boundaries 6 and 7, and an idle of slot 5 or 7 leads there.
+CUT_AROUND = cut([at for at in range(16) if at not in (6, 7)], 48, overload(5), overload(7))
+ROOT_AROUND = f"node 1: a page of address 3 (16 codewords) starts or ends at boundaries 6 and 7; {TWO_WAYS}"
+# Two pages of 2 codewords and two of 18 in one frame, each of which covers slot 7 once, and by a whole turn once more.
+TURNS = HEADER + "".join(f"{address},numeric,{'5' * digits}\n" for address, digits in ((3, 5), (11, 85), (19, 5), (27, 85)))
+# Loops of all frames, two of them of frame 7, and pages of 17 codewords of frames 0 and 1.
+MANY = HEADER + "".join(f"{address},numeric,{'5' * digits}\n" for address, digits in [*((n, 75) for n in range(8)), (15, 75), (8, 80), (9, 80)])
+MANY_TOLD = ", ".join(
+    f"1 by whole turns from 1 page of address {address} ({codewords} codewords)"
+    for address, codewords in ((0, 16), (8, 17), (1, 16), (9, 17), (2, 16), (3, 16), (4, 16), (5, 16))
+)
+LAST_TONE = LOOP + "7,tone0,\n"
 
 # A page file, its certificate, more words, the status, and what is told.
 SHOWN = [
     ("the worked case", APART, certificate(OPEN, 3, CUT_APART), [], [
         SUM_APART, ROOT_APART,
         f"  node 1.1, with an idle in slot 0: slot 0: 2 codewords at the least, room for 1; {EACH_LOOP}",
+        "    limits: room for 1 in slot 0",
         f"  node 1.2, with an idle in slot 15: slot 15: 2 codewords at the least, room for 1; {EACH_LOOP}",
+        "    limits: room for 1 in slot 15",
+        SO_APART,
     ]),
-    ("its root alone", APART, certificate(OPEN, 3, CUT_APART), ["--depth", "1"], [SUM_APART, ROOT_APART, ".. 2 nodes below"]),
-    ("its sum alone", APART, certificate(OPEN, 3, CUT_APART), ["--depth", "0"], [SUM_APART, ".. 3 nodes below"]),
+    ("the worked case from the other side", APART, certificate(OPEN, 3, CUT_AROUND), [], [
+        SUM_APART, ROOT_AROUND,
+        f"  node 1.1, with an idle in slot 5: slot 5: 2 codewords at the least, room for 1; {EACH_LOOP}",
+        "    limits: room for 1 in slot 5",
+        f"  node 1.2, with an idle in slot 7: slot 7: 2 codewords at the least, room for 1; {EACH_LOOP}",
+        "    limits: room for 1 in slot 7",
+        SO_APART,
+    ]),
+    ("a cut below a cut", APART, certificate(OPEN, 3, cut([0], 48, CUT_AROUND, overload(15))), [], [
+        SUM_APART, ROOT_APART,
+        f"  node 1.1, with an idle in slot 0: a page of address 3 (16 codewords) starts or ends at boundaries 6 and 7; {TWO_WAYS}",
+        "    limits: room for 1 in slot 0",
+        f"    node 1.1.1, with an idle in slot 5: slot 5: 2 codewords at the least, room for 1; {EACH_LOOP}",
+        "      limits: room for 1 in slot 0; room for 1 in slot 5",
+        f"    node 1.1.2, with an idle in slot 7: slot 7: 2 codewords at the least, room for 1; {EACH_LOOP}",
+        "      limits: room for 1 in slot 0; room for 1 in slot 7",
+        f"  node 1.2, with an idle in slot 15: slot 15: 2 codewords at the least, room for 1; {EACH_LOOP}",
+        "    limits: room for 1 in slot 15",
+        SO_APART,
+    ]),
+    ("whole turns", TURNS, certificate(OPEN, 6, overload(7)), [], [
+        "at least 6 batches, open end: 4 pages, 40 codewords, room for 80 in 5 batches, yet",
+        "node 1: slot 7: 6 codewords at the least, room for 5; "
+        "6 (2 by whole turns) from 4 pages of address 3, 11, 19, .. (2 or 18 codewords)",
+        "so 5 batches do not suffice",
+    ]),
+    ("many frames and lengths", MANY, certificate(OPEN, 11, overload(15)), [], [
+        "at least 11 batches, open end: 11 pages, 178 codewords, room for 160 in 10 batches",
+        f"node 1: slot 15: 11 codewords at the least, room for 10; {MANY_TOLD}, 3 from 3 other pages",
+        "so 10 batches do not suffice",
+    ]),
+    ("its root alone", APART, certificate(OPEN, 3, CUT_APART), ["--depth", "1"], [SUM_APART, ROOT_APART, ".. 2 nodes below", SO_APART]),
+    ("its sum alone", APART, certificate(OPEN, 3, CUT_APART), ["--depth", "0"], [SUM_APART, ".. 3 nodes below", SO_APART]),
     ("the sample round", (EXAMPLES / "round.csv").read_text(), certificate(OPEN, 2, overload(*range(16))), [], [
         "at least 2 batches, open end: 6 pages, 24 codewords, room for 16 in 1 batch",
-        "node 1: all slots: 24 codewords, room for 16",
+        "node 1: all slots: 24 codewords, room for 16", SO_TONES,
     ]),
-    ("a full frame", TONES, certificate(OPEN, 2, overload(10, 11)), [], [SUM_TONES, f"node 1: {STARTS}"]),
+    ("a full frame", TONES, certificate(OPEN, 2, overload(10, 11)), [], [SUM_TONES, f"node 1: {STARTS}", SO_TONES]),
     ("two cases", TONES, certificate(OPEN, 2, split(81, 1, overload(11), overload(10, 11))), [], [
         SUM_TONES,
-        "node 1: no page of frame 5 and length 1 modulo 16 starts in slot 10, or at least 1 does",
-        "  node 1.1, in the first case: slot 11: 3 codewords at the least, room for 1; "
-        "3 from 3 pages of frame 5 and length 1 modulo 16",
+        f"node 1: no page of {THREE_TONES} starts in slot 10, or at least 1 does",
+        f"  node 1.1, in the first case: slot 11: 3 codewords at the least, room for 1; 3 from 3 pages of {THREE_TONES}",
+        f"    {NONE_EARLY}",
         f"  node 1.2, in the second case: {STARTS}",
+        f"    {SOME_EARLY}",
+        SO_TONES,
     ]),
     ("two cases at 2", TONES, certificate(OPEN, 2, split(81, 2, overload(11), overload(10))), ["--depth=1"], [
         SUM_TONES,
-        "node 1: fewer than 2 pages of frame 5 and length 1 modulo 16 start in slot 10, or at least 2 do",
+        f"node 1: fewer than 2 pages of {THREE_TONES} start in slot 10, or at least 2 do",
         ".. 2 nodes below",
+        SO_TONES,
     ]),
     ("slots of more frames", TONES, certificate(OPEN, 2, overload(3, 10, 11)), [], None),
     ("one batch", TONES, certificate(OPEN, 1, overload(10, 11)), [], [
         "at least 1 batch, open end: 3 pages, 3 codewords, room for 0 in 0 batches",
         "node 1: frame 5 (slots 10 and 11): 3 pages start there, 0 batches have room for 0",
+        "so 0 batches do not suffice",
     ]),
     ("a closed end", LOOP, certificate(CLOSED, 2, close(overload(15))), [], [
         "at least 2 batches, closed end: 1 page, 16 codewords, room for 16 in 1 batch, yet",
-        "node 1: the last codeword is an idle in slot 15; 1 way",
-        "  node 1.1, with an idle in slot 15: slot 15: 1 codeword at the least, room for 0; "
-        "1 from 1 page of frame 0 and length 0 modulo 16",
+        "node 1: the last codeword, in slot 15, is an idle",
+        f"  node 1.1, with an idle in slot 15: slot 15: 1 codeword at the least, room for 0; {ONE_LOOP}",
+        "    limits: room for 0 in slot 15",
+        f"{SO_TONES} with a closed end",
+    ]),
+    ("a closed end that a page may make", LAST_TONE, certificate(CLOSED, 2, close(overload(15), overload(15))), [], [
+        "at least 2 batches, closed end: 2 pages, 17 codewords, room for 16 in 1 batch",
+        "node 1: the last codeword, in slot 15, is an idle or a page of address 7 (1 codeword); a node below for each",
+        f"  node 1.1, with an idle in slot 15: slot 15: 1 codeword at the least, room for 0; {ONE_LOOP}",
+        "    limits: room for 0 in slot 15",
+        "  node 1.2, with a page of address 7 (1 codeword) that starts in slot 15: slot 15: 2 codewords at the least, room for 1; "
+        f"{ONE_LOOP}, 1 from 1 page of address 7 (1 codeword)",
+        "    limits: 0 of 1 page of address 7 (1 codeword) start in slot 14",
+        f"{SO_TONES} with a closed end",
     ]),
     ("a closed end with tones", TONES, certificate(CLOSED, 2, overload(10, 11)), [], [
         "at least 2 batches, closed end: 3 pages, 3 codewords, room for 16 in 1 batch, yet", f"node 1: {STARTS}",
+        f"{SO_TONES} with a closed end",
     ]),
-    ("an idle end", LOOP, certificate(IDLE, 2, close(overload(15))), [], [
-        "at least 2 batches, idle end: 1 page, 16 codewords, room for 16 in 1 batch, yet",
-        "node 1: the last codeword is an idle in slot 15; 1 way",
-        "  node 1.1, with an idle in slot 15: slot 15: 1 codeword at the least, room for 0; "
-        "1 from 1 page of frame 0 and length 0 modulo 16",
+    ("an idle last", LOOP, certificate(IDLE, 2, close(overload(15))), [], [
+        "at least 2 batches, idle last: 1 page, 16 codewords, room for 16 in 1 batch, yet",
+        "node 1: the last codeword, in slot 15, is an idle",
+        f"  node 1.1, with an idle in slot 15: slot 15: 1 codeword at the least, room for 0; {ONE_LOOP}",
+        "    limits: room for 0 in slot 15",
+        f"{SO_TONES} with an idle last",
     ]),
-    ("an idle end with tones", TONES, certificate(IDLE, 2, overload(10, 11)), [], [
-        "at least 2 batches, idle end: 3 pages, 3 codewords, room for 16 in 1 batch, yet", f"node 1: {STARTS}",
+    ("an idle last with tones", TONES, certificate(IDLE, 2, overload(10, 11)), [], [
+        "at least 2 batches, idle last: 3 pages, 3 codewords, room for 16 in 1 batch, yet", f"node 1: {STARTS}",
+        f"{SO_TONES} with an idle last",
     ]),
 ]
 REFUSED = [
@@ -120,14 +191,18 @@ REFUSED = [
     ("without boundary 0", APART, certificate(OPEN, 3, cut([6], 48, overload(0), overload(15))),
      "node 1: boundary 0 is not in the set of boundary 6"),
     ("a class that may stay", APART, certificate(OPEN, 3, cut([0], 0, overload(0), overload(15))),
-     "node 1: no page of frame 0 and length 0 modulo 16 has to start or end outside boundary 0"),
+     "node 1: no page of address 0 (16 codewords) has to start or end outside boundary 0"),
+    ("a class of no pages", APART, certificate(OPEN, 3, cut([0], 5, overload(0), overload(15))),
+     "node 1: no page of frame 0 and length 5 modulo 16 has to start or end outside boundary 0"),
+    ("a missing node of the smaller side", APART, certificate(OPEN, 3, cut([at for at in range(16) if at not in (6, 7)], 48, overload(5))),
+     "node 1: 2 ways out of boundaries 6 and 7, and 1 node for them"),
     ("a split too high", TONES, certificate(OPEN, 2, split(81, 4, overload(11), overload(10))),
-     "node 1: 0 to 3 pages of frame 5 and length 1 modulo 16 may start in slot 10: no split at 4"),
+     f"node 1: 0 to 3 pages of {THREE_TONES} may start in slot 10: no split at 4"),
     ("a deep one", TONES, certificate(OPEN, 2, split(81, 1, split(81, 1, overload(11), overload(11)), overload(10, 11))),
-     "node 1.1: 0 to 0 pages of frame 5 and length 1 modulo 16 may start in slot 10: no split at 1"),
+     f"node 1.1: 0 to 0 pages of {THREE_TONES} may start in slot 10: no split at 1"),
     ("a close of the open end", LOOP, certificate(OPEN, 2, close(overload(15))), "node 1: a closed end, where the end is open"),
     ("a close of no batches", LOOP, certificate(CLOSED, 1, close(overload(15))), "node 1: a closed end, where there are no batches"),
-    ("an idle end of no batches", LOOP, certificate(IDLE, 1, close(overload(15))), "node 1: an idle end, where there are no batches"),
+    ("an idle last of no batches", LOOP, certificate(IDLE, 1, close(overload(15))), "node 1: an idle last, where there are no batches"),
     ("a late tone for an idle end", LOOP, certificate(IDLE, 2, close(overload(15), overload(15))), "node 1: 1 way to close, and 2 nodes for them"),
     ("not examined", TONES, certificate(OPEN, 2, b"\3"), "node 1: not examined"),
     ("a cut of no batches", APART, certificate(OPEN, 1, CUT_APART), "node 1: a cut, where there are no batches"),
@@ -140,6 +215,15 @@ def explained(folder, pages, text, *words):
     return run("explain", folder / "pages.csv", folder / "cert.bin", *words)
 
 
+def wrapped(lines):
+    """The lines as they are told: none longer than 100 characters, and further ones four characters further right."""
+    for line in lines:
+        indent = " " * (len(line) - len(line.lstrip()))
+        yield from textwrap.wrap(
+            line.lstrip(), 100, initial_indent=indent, subsequent_indent=indent + "    ", break_long_words=False, break_on_hyphens=False
+        )
+
+
 def try_sentences(tally, folder):
     for name, pages, text, words, lines in SHOWN:
         done = explained(folder, pages, text, *words)
@@ -147,11 +231,11 @@ def try_sentences(tally, folder):
             checked = run("check", folder / "pages.csv", folder / "cert.bin")
             tally.check(f"explain: {name}", done.returncode == checked.returncode, done)
             continue
-        wanted = "".join(f"{line}\n" for line in lines).encode()
+        wanted = "".join(f"{line}\n" for line in wrapped(lines)).encode()
         tally.check(f"explain: {name}", (done.returncode, done.stdout, done.stderr) == (0, wanted, b""), done)
     for name, pages, text, line in REFUSED:
         done = explained(folder, pages, text)
-        wanted = f"not shown\n{line}\n".encode()
+        wanted = "".join(f"{line}\n" for line in ["not shown", *wrapped([line])]).encode()
         tally.check(f"explain, refused: {name}", (done.returncode, done.stdout, done.stderr) == (1, wanted, b""), done)
         told = explained(folder, pages, text, "--depth", "1")
         tally.check(f"explain, refused at any depth: {name}", told.stdout == wanted, told)
@@ -167,12 +251,16 @@ def try_json(tally, folder):
 
     def leaf(number, slot):
         fact = {"kind": "overload", "slots": [slot], "least": 2, "room": 1, "shares": shares}
-        return {"node": number, "reached": {"by": "idle", "slot": slot}, "holds": True, "fact": fact}
+        limits = {"cap": [2 - (at == slot) for at in range(16)], "classes": []}
+        return {"node": number, "reached": {"by": "idle", "slot": slot}, "holds": True, "limits": limits, "fact": fact}
 
     root = {"kind": "cut", "boundaries": [0], "pages": kind(3, 0), "certain": True, "ways": 2, "children": 2}
     wanted = {
         "shown": True, "end": "open", "batches": 3, "pages": 2, "codewords": 32, "room": 32, "nodes": 3, "refused": None,
-        "listed": [{"node": "1", "reached": {"by": "root"}, "holds": True, "fact": root}, leaf("1.1", 0), leaf("1.2", 15)],
+        "listed": [
+            {"node": "1", "reached": {"by": "root"}, "holds": True, "limits": {"cap": [2] * 16, "classes": []}, "fact": root},
+            leaf("1.1", 0), leaf("1.2", 15),
+        ],
     }
     tally.check("the worked case as JSON", done.returncode == 0 and json.loads(done.stdout) == wanted, done)
     tally.check("JSON is one line", done.stdout.count(b"\n") == 1 and done.stdout.endswith(b"}\n"), done)
@@ -184,6 +272,9 @@ def try_json(tally, folder):
     told = json.loads(explained(folder, TONES, text, "--json").stdout)
     fact = {"kind": "split", "pages": kind(5, 1), "slot": 10, "m": 1, "fewest": 0, "most": 3}
     ways = [node["reached"]["by"] for node in told["listed"]]
+    limits = [[{"pages": kind(5, 1), "count": 3, "lo": lo, "hi": hi} for lo, hi in bounds] for bounds in ([], [(0, 0)], [(1, 3)])]
+    found = [node["limits"] for node in told["listed"]]
+    tally.check("limits of a split as JSON", found == [{"cap": [1] * 16, "classes": it} for it in limits], found)
     tally.check("a split as JSON", told["listed"][0]["fact"] == fact and ways == ["root", "first_case", "second_case"], told)
 
 
@@ -206,13 +297,20 @@ DRAWN = [
         (f"node 1.2, with an idle in slot 15: slot 15: 2 codewords at the least, room for 1; {EACH_LOOP}",
          IN_EACH, [2] * 15 + [1], [15], []),
     ]),
+    ("the worked case from the other side", APART, certificate(OPEN, 3, CUT_AROUND), 0, SUM_APART, [
+        (ROOT_AROUND, IN_EACH, TWO_PLACES, [], [6, 7]),
+        (f"node 1.1, with an idle in slot 5: slot 5: 2 codewords at the least, room for 1; {EACH_LOOP}",
+         IN_EACH, [2] * 5 + [1] + [2] * 10, [5], []),
+        (f"node 1.2, with an idle in slot 7: slot 7: 2 codewords at the least, room for 1; {EACH_LOOP}",
+         IN_EACH, [2] * 7 + [1] + [2] * 8, [7], []),
+    ]),
     ("a full frame", TONES, certificate(OPEN, 2, overload(10, 11)), 0, SUM_TONES, [
         (f"node 1: {STARTS}", NO_TONE, ONE_PLACE, [10, 11], []),
     ]),
     ("two cases", TONES, certificate(OPEN, 2, split(81, 1, overload(11), overload(10, 11))), 0, SUM_TONES, [
-        ("node 1: no page of frame 5 and length 1 modulo 16 starts in slot 10, or at least 1 does", NO_TONE, ONE_PLACE, [], []),
+        (f"node 1: no page of {THREE_TONES} starts in slot 10, or at least 1 does", NO_TONE, ONE_PLACE, [], []),
         ("node 1.1, in the first case: slot 11: 3 codewords at the least, room for 1; "
-         "3 from 3 pages of frame 5 and length 1 modulo 16", TONES_LATE, ONE_PLACE, [11], []),
+         f"3 from 3 pages of {THREE_TONES}", TONES_LATE, ONE_PLACE, [11], []),
         (f"node 1.2, in the second case: {STARTS}", [0] * 10 + [1] + [0] * 5, ONE_PLACE, [10, 11], []),
     ]),
     ("no batches", TONES, certificate(OPEN, 1, overload(10, 11)), 0,
@@ -221,9 +319,9 @@ DRAWN = [
     ]),
     ("a closed end", LOOP, certificate(CLOSED, 2, close(overload(15))), 0,
      "at least 2 batches, closed end: 1 page, 16 codewords, room for 16 in 1 batch, yet", [
-        ("node 1: the last codeword is an idle in slot 15; 1 way", [1] * 16, ONE_PLACE, [], []),
+        ("node 1: the last codeword, in slot 15, is an idle", [1] * 16, ONE_PLACE, [], []),
         ("node 1.1, with an idle in slot 15: slot 15: 1 codeword at the least, room for 0; "
-         "1 from 1 page of frame 0 and length 0 modulo 16", [1] * 16, [1] * 15 + [0], [15], []),
+         f"{ONE_LOOP}", [1] * 16, [1] * 15 + [0], [15], []),
     ]),
     ("a refused node", APART, certificate(OPEN, 3, cut([0], 48, overload(0), overload(0))), 1,
      "not shown: node 1.2: slot 0: 2 codewords at the least, room for 2", [
@@ -239,10 +337,10 @@ DRAWN = [
     ("a refused node below those that are drawn", TONES,
      certificate(OPEN, 2, split(81, 1, overload(11), split(81, 2, overload(9), overload(10)))), 1,
      "not shown: node 1.2.1: slot 9: 0 codewords at the least, room for 1", [
-        ("node 1: no page of frame 5 and length 1 modulo 16 starts in slot 10, or at least 1 does", NO_TONE, ONE_PLACE, [], []),
+        (f"node 1: no page of {THREE_TONES} starts in slot 10, or at least 1 does", NO_TONE, ONE_PLACE, [], []),
         ("node 1.1, in the first case: slot 11: 3 codewords at the least, room for 1; "
-         "3 from 3 pages of frame 5 and length 1 modulo 16", TONES_LATE, ONE_PLACE, [11], []),
-        ("node 1.2, in the second case: fewer than 2 pages of frame 5 and length 1 modulo 16 start in slot 10, or at least 2 do",
+         f"3 from 3 pages of {THREE_TONES}", TONES_LATE, ONE_PLACE, [11], []),
+        (f"node 1.2, in the second case: fewer than 2 pages of {THREE_TONES} start in slot 10, or at least 2 do",
          [0] * 10 + [1] + [0] * 5, ONE_PLACE, [], []),
     ]),
 ]
@@ -288,6 +386,15 @@ def try_form(tally, name, root, text):
     tally.check(f"{name}: size", holds, (root.attrib, bases))
 
 
+def closing(heading):
+    """The sentence below the nodes of a certificate with this heading, if it shows its batches."""
+    if heading.startswith("not shown"):
+        return ""
+    batches = int(heading.split()[2]) - 1
+    end = " with a closed end" if "closed end" in heading else ""
+    return f"so {batches} batch{'es' * (batches != 1)} {'does' if batches == 1 else 'do'} not suffice{end} "
+
+
 def try_drawings(tally, folder):
     for name, pages, text, status, heading, nodes in DRAWN:
         done = explained(folder, pages, text, "--svg")
@@ -296,7 +403,7 @@ def try_drawings(tally, folder):
         try_form(tally, f"drawing: {name}", root, done.stdout)
         tally.check(f"drawing: {name}: heading", root.findtext(SVG + "title") == heading, root.findtext(SVG + "title"))
         seen = words_of(root.findall(SVG + "text"))
-        tally.check(f"drawing: {name}: words", seen == f"{heading} {root.findtext(SVG + 'desc')}", seen)
+        tally.check(f"drawing: {name}: words", seen == f"{heading} {closing(heading)}{root.findtext(SVG + 'desc')}", seen)
         groups = root.findall(SVG + "g")
         tally.check(f"drawing: {name}: nodes", [words_of(g.findall(SVG + "text")) for g in groups] == [n[0] for n in nodes], words_of(groups[0]))
         most = max(1, *(number for node in nodes for number in [*node[1], *node[2]]))

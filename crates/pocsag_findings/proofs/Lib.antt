@@ -2,6 +2,7 @@ pub mod Accepted
 pub mod Columns
 pub mod Holding
 pub mod Leasts
+pub mod Narrows
 pub mod Nodes
 pub mod Ordered
 pub mod Shares

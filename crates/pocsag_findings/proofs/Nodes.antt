@@ -3,7 +3,7 @@ use Rattle.pocsag_findings.proofs.Prelude.{◌≡◌, ℕ, ◌+◌, ◌<◌, ◌
 use Rattle.std.proofs.Common.{append_assoc}
 use Rattle.std.proofs.lemmas.Bool.Decides.{nat_tests}
 use Rattle.pocsag_slots.specs.Ways.{ways_across, ways_to_close}
-use Rattle.pocsag_findings.specs.Rules.{columns_at, fact_holds, fact_of, shares_at}
+use Rattle.pocsag_findings.specs.Rules.{columns_at, fact_holds, fact_of, narrowed_of, shares_at}
 use Rattle.pocsag_findings.specs.Findings.{findings_below, findings_within}
 
 -- a node whose rule holds, where those below it are found behind it
@@ -16,6 +16,8 @@ pub held_node : (k : Classes) (end : End) (b depth : ℕ) (l : Limits) (above : 
       fact = fact;
       shares = shares;
       columns = columns_at k l above;
+      narrowed = narrowed_of k l;
+      caps = l.cap;
       holds = fact_holds end b fact;
     } ∷ [] →
     new ≡ mid ++ below → below ≡ findings_below k end b depth l (above + 1) t →

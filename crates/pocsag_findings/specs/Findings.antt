@@ -11,7 +11,7 @@ use Rattle.pocsag_tree.specs.BoundTrees.{BoundTree, BoundTrees, overload, split,
 use Rattle.pocsag_findings.specs.declared.finding.Fact.TheVariants.{Unjudged}
 use Rattle.pocsag_findings.specs.declared.finding.Reached.{Reached}
 use Rattle.pocsag_findings.specs.declared.finding.Reached.TheVariants.{Root, Below, From, By, Unreached}
-use Rattle.pocsag_findings.specs.Rules.{fact_of, fact_holds, columns_at, shares_at}
+use Rattle.pocsag_findings.specs.Rules.{fact_of, fact_holds, columns_at, narrowed_of, shares_at}
 use Rattle.pocsag_findings.specs.Views.{Stated}
 
 -- What is found of one node: so many nodes stand above it, and it is reached so.
@@ -22,6 +22,8 @@ finding_of k end b l above reached t = record {
   fact = fact_of k end l t;
   shares = shares_at k l t;
   columns = columns_at k l above;
+  narrowed = narrowed_of k l;
+  caps = l.cap;
   holds = fact_holds end b (fact_of k end l t);
 }
 
@@ -33,6 +35,8 @@ unjudged_finding above = record {
   fact = Unjudged;
   shares = [];
   columns = [];
+  narrowed = [];
+  caps = [];
   holds = false;
 }
 

@@ -1,5 +1,5 @@
 -- *Rules of nodes*: what a node states under its limits, and whether its own rule holds, whatever lies below it.
-use Rattle.std.specs.Prelude.{ℕ, ◌^◌, ◌&&◌, ◌==◌, nat_lt, leb, Bool, true, false, cond, List, [], ◌∷◌, length, map, slice_index}
+use Rattle.std.specs.Prelude.{ℕ, ◌^◌, ◌&&◌, ◌||◌, ◌==◌, nat_lt, leb, Bool, true, false, cond, List, [], ◌∷◌, length, map, slice_index}
 use Rattle.std.specs.List.{range_with_len}
 use Rattle.pocsag_words.specs.declared.ending.End.{End}
 use Rattle.pocsag_words.specs.declared.ending.End.TheVariants as ends
@@ -14,6 +14,7 @@ use Rattle.pocsag_tree.specs.Limits.{greatest_set}
 use Rattle.pocsag_findings.specs.declared.finding.Column.{Column}
 use Rattle.pocsag_findings.specs.declared.finding.Fact.{Fact}
 use Rattle.pocsag_findings.specs.declared.finding.Fact.TheVariants.{Overload, Split, Cut, Close, Open, Unjudged}
+use Rattle.pocsag_findings.specs.declared.finding.Narrowed.{Narrowed}
 use Rattle.pocsag_findings.specs.declared.finding.Share.{Share}
 
 -- The room of a set of slots: how often pages may cover its slots, added up.
@@ -33,6 +34,22 @@ share_of k l set c =
 -- The shares of all classes in the least load of a set, classes in order.
 abbrev pub shares_of : Classes → Limits → ℕ → List Share
 shares_of k l set = joined_below class_count (share_of k l set)
+
+-- How many pages of a class start early under the limits.
+abbrev pub early_of : Classes → Limits → ℕ → Narrowed
+early_of k l c = record { class = c; pages = slice_index k.count c; lo = slice_index l.lo c; hi = slice_index l.hi c }
+
+-- Whether not each number of the pages may start early.
+abbrev pub is_narrower : Narrowed → Bool
+is_narrower early = nat_lt 0 early.lo || nat_lt early.hi early.pages
+
+-- What the limits say of a class that they narrow, and else nothing.
+abbrev pub narrowed_by : Classes → Limits → ℕ → List Narrowed
+narrowed_by k l c = cond (is_narrower (early_of k l c)) (early_of k l c ∷ []) []
+
+-- The classes that the limits narrow, in order.
+abbrev pub narrowed_of : Classes → Limits → List Narrowed
+narrowed_of k l = joined_below class_count (narrowed_by k l)
 
 -- What a node states under its limits, for an end.
 abbrev pub fact_of : Classes → End → Limits → BoundTree → Fact

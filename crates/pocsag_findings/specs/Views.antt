@@ -1,8 +1,9 @@
--- How contracts see findings: without where their shares and columns lie in memory.
+-- How contracts see findings: without where their lists lie in memory.
 use Rattle.std.specs.Prelude.{ℕ, Bool, List, map}
 use Rattle.pocsag_findings.specs.declared.finding.Column.{Column}
 use Rattle.pocsag_findings.specs.declared.finding.Fact.{Fact}
 use Rattle.pocsag_findings.specs.declared.finding.Finding.{Finding}
+use Rattle.pocsag_findings.specs.declared.finding.Narrowed.{Narrowed}
 use Rattle.pocsag_findings.specs.declared.finding.Reached.{Reached}
 use Rattle.pocsag_findings.specs.declared.finding.Share.{Share}
 
@@ -13,6 +14,8 @@ pub record Stated : Type 0 where
   pub fact : Fact
   pub shares : List Share
   pub columns : List Column
+  pub narrowed : List Narrowed
+  pub caps : List ℕ
   pub holds : Bool
 
 abbrev pub stated : Finding → Stated
@@ -22,6 +25,8 @@ stated f = record {
   fact = f.fact;
   shares = f.shares.items;
   columns = f.columns.items;
+  narrowed = f.narrowed.items;
+  caps = f.caps.items;
   holds = f.holds;
 }
 

@@ -24,6 +24,15 @@ pub struct Share {
     pub least: u64,
 }
 
+/// How many pages of one class start early under the limits of a node, where that may not be any number of them.
+#[derive(Clone, Copy)]
+pub struct Narrowed {
+    pub class: u8,
+    pub pages: u32,
+    pub lo: u32,
+    pub hi: u32,
+}
+
 /// What must stand in one slot under the limits of a node, and how much may.
 #[derive(Clone, Copy)]
 pub struct Column {
@@ -80,6 +89,11 @@ pub struct Finding {
     pub shares: Vec<Share>,
     /// Of the root and the nodes right below it the sixteen slots, in order; of another node nothing.
     pub columns: Vec<Column>,
+    /// The classes that the limits of the node narrow, in order; of a node that is not judged nothing.
+    pub narrowed: Vec<Narrowed>,
+    /// How often pages may cover each of the sixteen slots under these limits, in order; of a node that is not judged
+    /// nothing.
+    pub caps: Vec<u32>,
     /// Whether the node's own rule holds, whatever lies below it.
     pub holds: bool,
 }

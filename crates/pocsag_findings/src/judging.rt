@@ -4,9 +4,9 @@ ghost use Rattle.pocsag_slots.specs.Numbering.{class_count};
 ghost use Rattle.pocsag_slots.specs.Ways.{class_certain};
 ghost use Rattle.pocsag_tree.specs.Views.{bound_tree_of};
 ghost use Rattle.pocsag_findings.specs.declared.finding.Fact.TheVariants.{Split};
-ghost use Rattle.pocsag_findings.specs.Rules.{column_of, columns_at, columns_of, fact_holds, fact_of, least_of_set, shares_at, shares_of};
+ghost use Rattle.pocsag_findings.specs.Rules.{column_of, columns_at, columns_of, early_of, fact_holds, fact_of, is_narrower, least_of_set, narrowed_of, shares_at, shares_of};
 
-use crate::finding::{Column, Fact, Share};
+use crate::finding::{Column, Fact, Narrowed, Share};
 use crate::inquiry::Inquiry;
 use pocsag_slots::{
     CLASSES, Class, Classes, Limits, SLOTS, closing_ways, holds, is_certain, least_by_class,
@@ -175,4 +175,39 @@ pub(crate) fn shares_at(
         Tree::Overload(set) => shares_of(inquiry, limits, *set),
         _ => Ok(Vec::new(inquiry.alloc)),
     }
+}
+
+// How many pages of the class start early under the limits.
+fn early_of(inquiry: &Inquiry, limits: &Limits, class: u8) -> Narrowed
+    requires { class < 136 }
+    ensures { result ≡ early_of inquiry.now.classes.now limits.now class }
+{
+    Narrowed {
+        class,
+        pages: inquiry.classes.count[class as usize],
+        lo: limits.lo[class as usize],
+        hi: limits.hi[class as usize],
+    }
+}
+
+// Whether not each number of the pages may start early.
+fn is_narrower(early: Narrowed) -> bool
+    ensures { result ≡ is_narrower early }
+{
+    0 < early.lo || early.hi < early.pages
+}
+
+// The classes that the limits narrow.
+#[inline(never)]
+pub(crate) fn narrowed_of(inquiry: &Inquiry, limits: &Limits) -> Result<Vec<Narrowed>, OutOfMemory>
+    ensures { IfOk result (λ found. found.items ≡ narrowed_of inquiry.now.classes.now limits.now) }
+{
+    let mut found = Vec::new(inquiry.alloc);
+    for number in 0..CLASSES as u8 {
+        let early = early_of(inquiry, limits, number);
+        if is_narrower(early) {
+            found.push(early)?;
+        }
+    }
+    Ok(found)
 }

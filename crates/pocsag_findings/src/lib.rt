@@ -8,6 +8,6 @@ mod judging;
 mod laws;
 mod listing;
 
-pub use finding::{Column, Fact, Finding, Reached, Share};
+pub use finding::{Column, Fact, Finding, Narrowed, Reached, Share};
 pub use laws::{accepted_trees_hold, trees_that_hold_are_accepted};
 pub use listing::findings;

@@ -3,12 +3,12 @@ ghost use Rattle.pocsag_slots.specs.Loads.{AreInOrder};
 ghost use Rattle.pocsag_slots.specs.Ways.{MayTake};
 ghost use Rattle.pocsag_tree.specs.Views.{bound_tree_of, bounds_of};
 ghost use Rattle.pocsag_findings.specs.Findings.{each_unjudged, findings_by, findings_of, findings_within, unjudged_below, unjudged_within};
-ghost use Rattle.pocsag_findings.specs.Rules.{columns_at, fact_holds};
+ghost use Rattle.pocsag_findings.specs.Rules.{columns_at, fact_holds, narrowed_of};
 ghost use Rattle.pocsag_findings.specs.Views.{all_stated};
 
 use crate::finding::{Fact, Finding, Reached, Share};
 use crate::inquiry::{Inquiry, Position};
-use crate::judging::{columns_at, fact_of, is_met, shares_at};
+use crate::judging::{columns_at, fact_of, is_met, narrowed_of, shares_at};
 use pocsag_slots::{Classes, Way, all_limits, closing_ways, ways};
 use pocsag_tree::{Certificate, Tree};
 use pocsag_words::OutOfMemory;
@@ -32,18 +32,24 @@ fn put_fact(
           fact = fact;
           shares = shares.items;
           columns = columns_at inquiry.now.classes.now place.now.limits place.now.above;
+          narrowed = narrowed_of inquiry.now.classes.now place.now.limits;
+          caps = place.now.limits.cap;
           holds = fact_holds inquiry.now.end inquiry.now.batches fact;
         } ∷ [])) }
     ensures holds { IfOk result (λ holds. holds ≡ fact_holds inquiry.now.end inquiry.now.batches fact) }
 {
     let holds = is_met(fact, inquiry.end, inquiry.batches);
     let columns = columns_at(inquiry, &place.limits, place.above)?;
+    let narrowed = narrowed_of(inquiry, &place.limits)?;
+    let caps = place.limits.cap.to_vec(inquiry.alloc)?;
     found.push(Finding {
         depth: place.above + 1,
         reached: place.reached,
         fact,
         shares,
         columns,
+        narrowed,
+        caps,
         holds,
     })?;
     Ok(holds)
@@ -69,6 +75,8 @@ fn put_unjudged(
         fact: Fact::Unjudged,
         shares: Vec::new(inquiry.alloc),
         columns: Vec::new(inquiry.alloc),
+        narrowed: Vec::new(inquiry.alloc),
+        caps: Vec::new(inquiry.alloc),
         holds: false,
     })?;
     put_below_unjudged(inquiry, above + 1, tree, found)

@@ -1,6 +1,6 @@
 //! The sixteen slots of a node as columns.
 
-use crate::wording::BATCH_SLOTS;
+use crate::wording::{BATCH_SLOTS, smaller_side};
 use pocsag_findings::{Column, Fact, Finding};
 use pocsag_slots::holds;
 use std::alloc::AllocError;
@@ -63,7 +63,7 @@ pub(crate) fn push_columns(
         }
     }
     match finding.fact {
-        Fact::Cut { set, .. } => push_boundaries(text, set),
+        Fact::Cut { set, .. } => push_boundaries(text, smaller_side(set)),
         _ => Ok(()),
     }
 }

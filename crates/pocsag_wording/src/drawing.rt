@@ -2,7 +2,7 @@
 
 use crate::columns::{Scale, push_columns};
 use crate::numbering::Numbering;
-use crate::outline::{first_refused, node_line, summary};
+use crate::outline::{conclusion, first_refused, node_line, summary};
 use crate::subject::Subject;
 use pocsag_findings::Finding;
 use std::alloc::{AllocError, Global};
@@ -19,7 +19,8 @@ const COLUMNS_HEIGHT: u64 = 156;
 const KEY: &str = "\
 A bar is what must stand in its slot at the least, and the short line across it the room there, both in codewords. \
 Dark bars with a wedge over them are the slots that an overload names; several slots together may need more \
-than their bars add up to. Upright lines are the boundaries that a cut names; boundary 5 is the left side of slot 5.";
+than their bars add up to. Upright lines are the boundaries that a cut names; \
+boundary 5 is the left side of slot 5.";
 
 // The rules of the drawing, all under one class, for light and for dark.
 const STYLE: &str = "\
@@ -101,6 +102,10 @@ impl Sheet {
     ) -> Result<(), AllocError> {
         self.put_words(heading)?;
         self.put_nodes(alloc, subject)?;
+        if subject.is_shown {
+            let closing = conclusion(alloc, subject.refuted())?;
+            self.put_words(closing.as_str())?;
+        }
         self.put_words(KEY)
     }
 }
@@ -117,7 +122,7 @@ fn heading(alloc: Global, subject: &Subject<'_>) -> Result<String, AllocError> {
 /// The explanation as SVG 1.1: the nodes of which columns are found, one below the other, on one scale.
 pub(crate) fn drawing(alloc: Global, subject: &Subject<'_>) -> Result<String, AllocError> {
     let heading = heading(alloc, subject)?;
-    let heading = heading.as_str().trim_end();
+    let heading = heading.as_str();
     let mut sheet = Sheet {
         text: String::new(alloc),
         line: String::new(alloc),

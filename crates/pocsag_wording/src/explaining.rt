@@ -1,5 +1,7 @@
 use crate::drawing::drawing;
 use crate::facts::facts;
+use crate::kind::Kinds;
+use crate::lines::push_lines;
 use crate::outline::{first_refused, outline};
 use crate::subject::Subject;
 use pocsag_findings::findings;
@@ -26,7 +28,8 @@ pub fn explanation(
         DEPTH_LIMIT
     };
     let found = findings(alloc, &classes, certificate, depth)?;
-    let subject = Subject::new(round, certificate, is_shown, found.as_slice());
+    let kinds = Kinds::new(alloc, round, certificate.end, &classes)?;
+    let subject = Subject::new(round, certificate, is_shown, found.as_slice(), &kinds);
     Ok(told(alloc, telling, &subject)?)
 }
 
@@ -35,7 +38,9 @@ fn told(alloc: Global, telling: Telling, subject: &Subject<'_>) -> Result<String
         Telling::Lines(_) if subject.is_shown => outline(alloc, subject),
         Telling::Lines(_) => {
             let refused = first_refused(alloc, subject)?;
-            format!(in alloc; "not shown\n{refused}")
+            let mut text = format!(in alloc; "not shown\n")?;
+            push_lines(&mut text, 0, refused.as_str())?;
+            Ok(text)
         }
         Telling::Facts(depth) => facts(alloc, subject, depth),
         Telling::Drawing => drawing(alloc, subject),

@@ -4,7 +4,7 @@ use crate::numbering::Numbering;
 use crate::sentences::{Cut, Outlets};
 use crate::subject::Subject;
 use crate::wording::{is_bare, start_slot};
-use pocsag_findings::{Fact, Finding, Reached, Share};
+use pocsag_findings::{Fact, Finding, Narrowed, Reached, Share};
 use pocsag_slots::{CLASSES, SLOTS, Way, frame, holds, rest};
 use pocsag_words::End;
 use std::alloc::{AllocError, Global};
@@ -93,10 +93,11 @@ fn push_node(
     let comma = if finding.depth > 1 { "," } else { "" };
     let reached = ReachedFacts(finding.reached);
     let holds = finding.holds;
+    let limits = LimitFacts(finding);
     let fact = NodeFacts(finding);
     write!(
         text,
-        r#"{comma}{{"node":"{numbering}","reached":{reached},"holds":{holds},"fact":{fact}}}"#
+        r#"{comma}{{"node":"{numbering}","reached":{reached},"holds":{holds},"limits":{limits},"fact":{fact}}}"#
     )
 }
 
@@ -122,6 +123,43 @@ fn write_page<W: fmt::Write>(f: &mut Formatter<W>, class: u8, early: bool) -> fm
     let pages = ClassFacts(class);
     let slot = start_slot(class, early);
     write!(f, r#"{{"by":"page","pages":{pages},"slot":{slot}}}"#)
+}
+
+// The limits of a node: how often pages may cover each slot, and how many pages start early of each class that is narrowed.
+#[derive(Clone, Copy)]
+struct LimitFacts<'a>(&'a Finding);
+
+impl Display for LimitFacts<'_> {
+    fn fmt<W: fmt::Write>(&self, f: &mut Formatter<W>) -> fmt::Result {
+        f.write_str(r#"{"cap":["#)?;
+        let mut comma = "";
+        for cap in self.0.caps.iter() {
+            write!(f, "{comma}{cap}")?;
+            comma = ",";
+        }
+        f.write_str(r#"],"classes":["#)?;
+        comma = "";
+        for narrowed in self.0.narrowed.iter() {
+            f.write_str(comma)?;
+            write_narrowed(f, *narrowed)?;
+            comma = ",";
+        }
+        f.write_str("]}")
+    }
+}
+
+fn write_narrowed<W: fmt::Write>(f: &mut Formatter<W>, narrowed: Narrowed) -> fmt::Result {
+    let Narrowed {
+        class,
+        pages: count,
+        lo,
+        hi,
+    } = narrowed;
+    let pages = ClassFacts(class);
+    write!(
+        f,
+        r#"{{"pages":{pages},"count":{count},"lo":{lo},"hi":{hi}}}"#
+    )
 }
 
 // What a node states.

@@ -1,5 +1,7 @@
 //! A certificate as an indented list.
 
+use crate::limit::LimitWords;
+use crate::lines::push_lines;
 use crate::numbering::Numbering;
 use crate::sentences::{Refuted, refusal, statement, way_to};
 use crate::subject::Subject;
@@ -11,13 +13,28 @@ use std::alloc::{AllocError, Global};
 /// The sum of it, a line for each finding, and how many nodes are not listed.
 pub(crate) fn outline(alloc: Global, subject: &Subject<'_>) -> Result<String, AllocError> {
     let mut text = summary(alloc, subject)?;
+    text.push_str("\n")?;
     push_nodes(alloc, &mut text, subject)?;
     let below = subject.nodes.saturating_sub(subject.findings.len() as u64);
     if below > 0 {
         let nodes = Counted(below, "node");
         write!(text, ".. {nodes} below\n")?;
     }
+    let closing = conclusion(alloc, subject.refuted())?;
+    write!(text, "{closing}\n")?;
     Ok(text)
+}
+
+/// What a certificate shows, as its last sentence: `so 2 batches do not suffice`.
+pub(crate) fn conclusion(alloc: Global, refuted: Refuted<'_>) -> Result<String, AllocError> {
+    let batches = Counted(u64::from(refuted.batches), "batch");
+    let verb = if refuted.batches == 1 { "does" } else { "do" };
+    let end = match refuted.end {
+        End::Open => "",
+        End::Closed => " with a closed end",
+        End::Idle => " with an idle last",
+    };
+    format!(in alloc; "so {batches} {verb} not suffice{end}")
 }
 
 fn push_nodes(alloc: Global, text: &mut String, subject: &Subject<'_>) -> Result<(), AllocError> {
@@ -32,15 +49,19 @@ fn push_nodes(alloc: Global, text: &mut String, subject: &Subject<'_>) -> Result
 fn push_node(
     alloc: Global,
     text: &mut String,
-    refuted: Refuted,
+    refuted: Refuted<'_>,
     numbering: &Numbering,
     finding: &Finding,
 ) -> Result<(), AllocError> {
-    for _ in 1..finding.depth {
-        text.push_str("  ")?;
-    }
+    let indent = (finding.depth as usize).saturating_sub(1).saturating_mul(2);
     let line = node_line(alloc, refuted, numbering, finding)?;
-    write!(text, "{line}\n")
+    push_lines(text, indent, line.as_str())?;
+    let limits = LimitWords { refuted, finding };
+    let limits = format!(in alloc; "{limits}")?;
+    if limits.len() > 0 {
+        push_lines(text, indent.saturating_add(2), limits.as_str())?;
+    }
+    Ok(())
 }
 
 /// The first line: what is shown, and what the round and the batches hold.
@@ -49,7 +70,7 @@ pub(crate) fn summary(alloc: Global, subject: &Subject<'_>) -> Result<String, Al
     let end = match subject.end {
         End::Open => "open end",
         End::Closed => "closed end",
-        End::Idle => "idle end",
+        End::Idle => "idle last",
     };
     let pages = Counted(subject.pages, "page");
     let codewords = Counted(subject.codewords, "codeword");
@@ -61,18 +82,18 @@ pub(crate) fn summary(alloc: Global, subject: &Subject<'_>) -> Result<String, Al
         ""
     };
     format!(in alloc;
-        "at least {shown}, {end}: {pages}, {codewords}, room for {room} in {refuted}{yet}\n"
+        "at least {shown}, {end}: {pages}, {codewords}, room for {room} in {refuted}{yet}"
     )
 }
 
 /// The line of a node, without its indentation.
 pub(crate) fn node_line(
     alloc: Global,
-    refuted: Refuted,
+    refuted: Refuted<'_>,
     numbering: &Numbering,
     finding: &Finding,
 ) -> Result<String, AllocError> {
-    let way = way_to(alloc, finding.reached)?;
+    let way = way_to(alloc, refuted, finding.reached)?;
     let said = if finding.holds {
         statement(alloc, refuted, finding)?
     } else {
@@ -95,10 +116,10 @@ pub(crate) fn first_refused(alloc: Global, subject: &Subject<'_>) -> Result<Stri
 
 fn refused_line(
     alloc: Global,
-    refuted: Refuted,
+    refuted: Refuted<'_>,
     numbering: &Numbering,
     finding: &Finding,
 ) -> Result<String, AllocError> {
     let why = refusal(alloc, refuted, finding)?;
-    format!(in alloc; "node {numbering}: {why}\n")
+    format!(in alloc; "node {numbering}: {why}")
 }

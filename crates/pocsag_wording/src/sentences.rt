@@ -1,6 +1,9 @@
 //! What a finding says, as a sentence that a person can check by hand.
 
-use crate::wording::{BoundaryWords, ClassWords, Counted, SlotWords, are_frames, start_slot};
+use crate::kind::Kinds;
+use crate::wording::{
+    BoundaryWords, Counted, OutsideWords, SlotWords, are_frames, smaller_side, start_slot,
+};
 use pocsag_findings::{Fact, Finding, Reached, Share};
 use pocsag_slots::{CLASSES, Way, frame, holds, size};
 use pocsag_words::End;
@@ -10,12 +13,17 @@ use std::fmt::{self, Display, Formatter};
 // How many shares are told one by one.
 const MOST_SHARES: usize = 8;
 
-/// What a certificate is for: an end, and the number of batches that it refutes.
+// The class of the address codewords alone that may end a closed transmission, those of frame 7.
+const LAST_ALONE: u8 = CLASSES as u8 - 1;
+
+/// What a certificate is for: an end, the number of batches that it refutes, and the pages.
 #[derive(Clone, Copy)]
-pub(crate) struct Refuted {
+pub(crate) struct Refuted<'a> {
     pub(crate) end: End,
     /// One batch less than the certificate shows to be needed.
     pub(crate) batches: u32,
+    /// The pages that they do not hold.
+    pub(crate) kinds: &'a Kinds,
 }
 
 // What an overload compares: the codewords that must stand in a set of slots, and the room there.
@@ -27,19 +35,28 @@ struct Load {
 }
 
 /// How a node is reached, behind its number; nothing of the root.
-pub(crate) fn way_to(alloc: Global, reached: Reached) -> Result<String, AllocError> {
+pub(crate) fn way_to(
+    alloc: Global,
+    refuted: Refuted<'_>,
+    reached: Reached,
+) -> Result<String, AllocError> {
     match reached {
         Reached::Root | Reached::Unreached => Ok(String::new(alloc)),
         Reached::Below => format!(in alloc; ", in the first case"),
         Reached::From => format!(in alloc; ", in the second case"),
         Reached::By(Way::IdleIn(slot)) => format!(in alloc; ", with an idle in slot {slot}"),
-        Reached::By(Way::Early(class)) => with_page(alloc, class, true),
-        Reached::By(Way::Late(class)) => with_page(alloc, class, false),
+        Reached::By(Way::Early(class)) => with_page(alloc, refuted, class, true),
+        Reached::By(Way::Late(class)) => with_page(alloc, refuted, class, false),
     }
 }
 
-fn with_page(alloc: Global, class: u8, early: bool) -> Result<String, AllocError> {
-    let kind = ClassWords(class);
+fn with_page(
+    alloc: Global,
+    refuted: Refuted<'_>,
+    class: u8,
+    early: bool,
+) -> Result<String, AllocError> {
+    let kind = refuted.kinds.words(class);
     let slot = start_slot(class, early);
     format!(in alloc; ", with a page of {kind} that starts in slot {slot}")
 }
@@ -47,7 +64,7 @@ fn with_page(alloc: Global, class: u8, early: bool) -> Result<String, AllocError
 /// What a node says whose rule holds.
 pub(crate) fn statement(
     alloc: Global,
-    refuted: Refuted,
+    refuted: Refuted<'_>,
     finding: &Finding,
 ) -> Result<String, AllocError> {
     match finding.fact {
@@ -55,14 +72,14 @@ pub(crate) fn statement(
             let load = Load { set, least, room };
             overload_words(alloc, refuted, load, finding.shares.as_slice())
         }
-        Fact::Split { class, m, .. } => split_words(alloc, class, m),
+        Fact::Split { class, m, .. } => split_words(alloc, refuted, class, m),
         Fact::Cut {
             set,
             needed,
             ways,
             ..
-        } => cut_words(alloc, set, needed, ways),
-        Fact::Close { ways, .. } => closing_words(alloc, ways),
+        } => cut_words(alloc, refuted, set, needed, ways),
+        Fact::Close { ways, .. } => closing_words(alloc, refuted, ways),
         Fact::Open => not_examined(alloc),
         Fact::Unjudged => not_judged(alloc),
     }
@@ -76,8 +93,13 @@ fn not_judged(alloc: Global) -> Result<String, AllocError> {
     format!(in alloc; "not judged, since a node above it does not hold")
 }
 
-fn split_words(alloc: Global, class: u8, m: u16) -> Result<String, AllocError> {
-    let kind = ClassWords(class);
+fn split_words(
+    alloc: Global,
+    refuted: Refuted<'_>,
+    class: u8,
+    m: u16,
+) -> Result<String, AllocError> {
+    let kind = refuted.kinds.words(class);
     let slot = start_slot(class, true);
     if m == 1 {
         return format!(in alloc; "no page of {kind} starts in slot {slot}, or at least 1 does");
@@ -85,26 +107,34 @@ fn split_words(alloc: Global, class: u8, m: u16) -> Result<String, AllocError> {
     format!(in alloc; "fewer than {m} pages of {kind} start in slot {slot}, or at least {m} do")
 }
 
-fn cut_words(alloc: Global, set: u16, needed: u8, ways: usize) -> Result<String, AllocError> {
-    let kind = ClassWords(needed);
-    let set = BoundaryWords(set);
-    let ways = Counted(ways as u64, "way");
-    format!(in alloc; "a page of {kind} starts or ends outside {set}; {ways} out")
+fn cut_words(
+    alloc: Global,
+    refuted: Refuted<'_>,
+    set: u16,
+    needed: u8,
+    ways: usize,
+) -> Result<String, AllocError> {
+    let kind = refuted.kinds.words(needed);
+    let place = OutsideWords(set);
+    let nodes = Counted(ways as u64, "node");
+    format!(in alloc;
+        "a page of {kind} starts or ends {place}; the way there and back takes the idle or the page of one of the {nodes} below"
+    )
 }
 
-fn closing_words(alloc: Global, ways: usize) -> Result<String, AllocError> {
-    let page = if ways == 1 {
-        ""
-    } else {
-        ", or a page of frame 7 and length 1 there"
-    };
-    let ways = Counted(ways as u64, "way");
-    format!(in alloc; "the last codeword is an idle in slot 15{page}; {ways}")
+fn closing_words(alloc: Global, refuted: Refuted<'_>, ways: usize) -> Result<String, AllocError> {
+    if ways == 1 {
+        return format!(in alloc; "the last codeword, in slot 15, is an idle");
+    }
+    let kind = refuted.kinds.words(LAST_ALONE);
+    format!(in alloc;
+        "the last codeword, in slot 15, is an idle or a page of {kind}; a node below for each"
+    )
 }
 
 fn overload_words(
     alloc: Global,
-    refuted: Refuted,
+    refuted: Refuted<'_>,
     load: Load,
     shares: &[Share],
 ) -> Result<String, AllocError> {
@@ -117,12 +147,16 @@ fn overload_words(
     if set == u16::MAX {
         return format!(in alloc; "{place}: {codewords}, room for {room}");
     }
-    let origins = Origins(shares);
+    let origins = Origins {
+        kinds: refuted.kinds,
+        slots: u64::from(size(set)),
+        shares,
+    };
     format!(in alloc; "{place}: {codewords} at the least, room for {room}; {origins}")
 }
 
 // An overload of a frame by the pages that start there.
-fn start_words(alloc: Global, refuted: Refuted, load: Load) -> Result<String, AllocError> {
+fn start_words(alloc: Global, refuted: Refuted<'_>, load: Load) -> Result<String, AllocError> {
     let Load { set, least, room } = load;
     let place = SlotWords(set);
     let pages = Counted(least, "page");
@@ -155,19 +189,37 @@ fn is_start(set: u16, share: Share) -> bool {
         && share.least == u64::from(share.pages)
 }
 
-// From which pages the codewords come.
+// From which pages the codewords in so many slots come.
 #[derive(Clone, Copy)]
-struct Origins<'a>(&'a [Share]);
+struct Origins<'a> {
+    kinds: &'a Kinds,
+    slots: u64,
+    shares: &'a [Share],
+}
+
+impl Origins<'_> {
+    // Adds a share, and how much of it are whole turns, each of which covers each slot once.
+    fn write_share<W: fmt::Write>(&self, f: &mut Formatter<W>, share: Share) -> fmt::Result {
+        let least = share.least;
+        write!(f, "{least}")?;
+        let turned = self.kinds.turns(share.class).saturating_mul(self.slots);
+        if turned == least {
+            f.write_str(" by whole turns")?;
+        } else if turned > 0 {
+            write!(f, " ({turned} by whole turns)")?;
+        }
+        let pages = Counted(u64::from(share.pages), "page");
+        let kind = self.kinds.words(share.class);
+        write!(f, " from {pages} of {kind}")
+    }
+}
 
 impl Display for Origins<'_> {
     fn fmt<W: fmt::Write>(&self, f: &mut Formatter<W>) -> fmt::Result {
-        let (told, others) = self.0.split_at(self.0.len().min(MOST_SHARES));
+        let (told, others) = self.shares.split_at(self.shares.len().min(MOST_SHARES));
         for (place, share) in told.iter().enumerate() {
-            let link = if place > 0 { ", " } else { "" };
-            let least = share.least;
-            let pages = Counted(u64::from(share.pages), "page");
-            let kind = ClassWords(share.class);
-            write!(f, "{link}{least} from {pages} of {kind}")?;
+            f.write_str(if place > 0 { ", " } else { "" })?;
+            self.write_share(f, *share)?;
         }
         write_others(f, others)
     }
@@ -179,24 +231,32 @@ fn write_others<W: fmt::Write>(f: &mut Formatter<W>, shares: &[Share]) -> fmt::R
         return Ok(());
     }
     let mut more: u64 = 0;
+    let mut pages: u64 = 0;
     for share in shares {
         more = more.saturating_add(share.least);
+        pages = pages.saturating_add(u64::from(share.pages));
     }
-    let others = Counted(shares.len() as u64, "other kind");
-    write!(f, ", {more} from pages of {others}")
+    let others = Counted(pages, "other page");
+    write!(f, ", {more} from {others}")
 }
 
 /// Why the rule of a node does not hold.
 pub(crate) fn refusal(
     alloc: Global,
-    refuted: Refuted,
+    refuted: Refuted<'_>,
     finding: &Finding,
 ) -> Result<String, AllocError> {
     match finding.fact {
         Fact::Overload { set, least, room } => {
             refused_overload(alloc, Load { set, least, room })
         }
-        Fact::Split { class, m, lo, hi } => refused_split(alloc, class, m, lo, hi),
+        Fact::Split { class, m, lo, hi } => {
+            let kind = refuted.kinds.words(class);
+            let slot = start_slot(class, true);
+            format!(in alloc;
+                "{lo} to {hi} pages of {kind} may start in slot {slot}: no split at {m}"
+            )
+        }
         Fact::Cut {
             set,
             needed,
@@ -228,12 +288,6 @@ fn refused_overload(alloc: Global, load: Load) -> Result<String, AllocError> {
     format!(in alloc; "{place}: {codewords} at the least, room for {room}")
 }
 
-fn refused_split(alloc: Global, class: u8, m: u16, lo: u32, hi: u32) -> Result<String, AllocError> {
-    let kind = ClassWords(class);
-    let slot = start_slot(class, true);
-    format!(in alloc; "{lo} to {hi} pages of {kind} may start in slot {slot}: no split at {m}")
-}
-
 /// How many ways there are, and how many nodes for them.
 #[derive(Clone, Copy)]
 pub(crate) struct Outlets {
@@ -250,28 +304,34 @@ pub(crate) struct Cut {
     pub(crate) outlets: Outlets,
 }
 
-fn refused_cut(alloc: Global, refuted: Refuted, cut: Cut) -> Result<String, AllocError> {
+fn refused_cut(alloc: Global, refuted: Refuted<'_>, cut: Cut) -> Result<String, AllocError> {
     if refuted.batches == 0 {
         return format!(in alloc; "a cut, where there are no batches");
     }
-    let set = BoundaryWords(cut.set);
     if !holds(cut.set, 0) {
+        let set = BoundaryWords(cut.set);
         return format!(in alloc; "boundary 0 is not in the set of {set}");
     }
     if !cut.is_certain {
-        let kind = ClassWords(cut.needed);
-        return format!(in alloc; "no page of {kind} has to start or end outside {set}");
+        let kind = refuted.kinds.words(cut.needed);
+        let place = OutsideWords(cut.set);
+        return format!(in alloc; "no page of {kind} has to start or end {place}");
     }
     let ways = Counted(cut.outlets.ways as u64, "way");
     let nodes = Counted(cut.outlets.children as u64, "node");
-    format!(in alloc; "{ways} out of {set}, and {nodes} for them")
+    let side = BoundaryWords(smaller_side(cut.set));
+    format!(in alloc; "{ways} out of {side}, and {nodes} for them")
 }
 
-fn refused_close(alloc: Global, refuted: Refuted, outlets: Outlets) -> Result<String, AllocError> {
+fn refused_close(
+    alloc: Global,
+    refuted: Refuted<'_>,
+    outlets: Outlets,
+) -> Result<String, AllocError> {
     let end = match refuted.end {
         End::Open => return format!(in alloc; "a closed end, where the end is open"),
         End::Closed => "a closed end",
-        End::Idle => "an idle end",
+        End::Idle => "an idle last",
     };
     if refuted.batches == 0 {
         return format!(in alloc; "{end}, where there are no batches");

@@ -1,3 +1,4 @@
+use crate::kind::Kinds;
 use crate::sentences::Refuted;
 use pocsag_findings::Finding;
 use pocsag_pages::{Page, Round};
@@ -16,6 +17,7 @@ pub(crate) struct Subject<'a> {
     /// How many nodes the tree has.
     pub(crate) nodes: u64,
     pub(crate) findings: &'a [Finding],
+    pub(crate) kinds: &'a Kinds,
 }
 
 impl<'a> Subject<'a> {
@@ -25,6 +27,7 @@ impl<'a> Subject<'a> {
         certificate: &Certificate,
         is_shown: bool,
         findings: &'a [Finding],
+        kinds: &'a Kinds,
     ) -> Subject<'a> {
         Subject {
             end: certificate.end,
@@ -38,14 +41,16 @@ impl<'a> Subject<'a> {
                 findings.len() as u64
             },
             findings,
+            kinds,
         }
     }
 
     /// What the certificate is for.
-    pub(crate) fn refuted(&self) -> Refuted {
+    pub(crate) fn refuted(&self) -> Refuted<'a> {
         Refuted {
             end: self.end,
             batches: self.batches.saturating_sub(1),
+            kinds: self.kinds,
         }
     }
 

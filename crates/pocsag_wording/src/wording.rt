@@ -128,11 +128,33 @@ impl Display for BoundaryWords {
     }
 }
 
-/// The pages of a class: `frame 5 and length 4 modulo 16`.
-#[derive(Clone, Copy)]
-pub(crate) struct ClassWords(pub(crate) u8);
+/// A set of boundaries, or the others where they are fewer: the walk that leaves the one side leaves the other.
+pub(crate) fn smaller_side(set: u16) -> u16 {
+    if size(set) > u32::from(BATCH_SLOTS / 2) && set != u16::MAX {
+        !set
+    } else {
+        set
+    }
+}
 
-impl Display for ClassWords {
+/// Where a page starts or ends that does not stay inside the set: `outside boundary 0`, `at boundaries 3 to 5`.
+#[derive(Clone, Copy)]
+pub(crate) struct OutsideWords(pub(crate) u16);
+
+impl Display for OutsideWords {
+    fn fmt<W: fmt::Write>(&self, f: &mut Formatter<W>) -> fmt::Result {
+        let side = smaller_side(self.0);
+        let place = if side == self.0 { "outside" } else { "at" };
+        let boundaries = BoundaryWords(side);
+        write!(f, "{place} {boundaries}")
+    }
+}
+
+/// The pages of a class by their frame: `frame 5 and length 4 modulo 16`.
+#[derive(Clone, Copy)]
+pub(crate) struct FrameWords(pub(crate) u8);
+
+impl Display for FrameWords {
     fn fmt<W: fmt::Write>(&self, f: &mut Formatter<W>) -> fmt::Result {
         let class = self.0;
         if class as usize >= CLASSES {
