@@ -69,32 +69,32 @@ fn of_index(status: u32, at: u64) -> StatusAt
 }
 
 // A refusal for a record of this number.
-fn refused_record(record: u32, fault: RecordFault) -> StatusAt
-    ensures value { result ≡ refusal_of_record record fault }
+fn refused_record(number: u32, fault: RecordFault) -> StatusAt
+    ensures value { result ≡ refusal_of_record number fault }
     ensures refusing { IsRefusing result.status }
 {
     match fault {
-        RecordFault::FieldCount => of_record(19, record),
-        RecordFault::Field(FieldFault::BadAddress) => of_record(20, record),
-        RecordFault::Field(FieldFault::ReservedAddress) => of_record(21, record),
-        RecordFault::Field(FieldFault::BadKind) => of_record(22, record),
-        RecordFault::Field(FieldFault::MessageForTone) => of_record(23, record),
-        RecordFault::Field(FieldFault::EmptyMessage) => of_record(24, record),
+        RecordFault::FieldCount => of_record(19, number),
+        RecordFault::Field(FieldFault::BadAddress) => of_record(20, number),
+        RecordFault::Field(FieldFault::ReservedAddress) => of_record(21, number),
+        RecordFault::Field(FieldFault::BadKind) => of_record(22, number),
+        RecordFault::Field(FieldFault::MessageForTone) => of_record(23, number),
+        RecordFault::Field(FieldFault::EmptyMessage) => of_record(24, number),
         RecordFault::Field(FieldFault::BadCharacter(at)) => StatusAt {
             status: 25,
             place: Place {
-                record_number: record,
+                record_number: number,
                 at: at as u64,
                 ..NOWHERE
             },
         },
-        RecordFault::Field(FieldFault::TooLong) => of_record(26, record),
+        RecordFault::Field(FieldFault::TooLong) => of_record(26, number),
         RecordFault::Field(FieldFault::OutOfMemory) => plain(3),
-        RecordFault::Page(PageFault::BadAddress) => of_record(20, record),
-        RecordFault::Page(PageFault::ReservedAddress) => of_record(21, record),
-        RecordFault::Page(PageFault::BadPayload) => of_record(29, record),
-        RecordFault::DuplicateAddress => of_record(27, record),
-        RecordFault::TooManyPages => of_record(28, record),
+        RecordFault::Page(PageFault::BadAddress) => of_record(20, number),
+        RecordFault::Page(PageFault::ReservedAddress) => of_record(21, number),
+        RecordFault::Page(PageFault::BadPayload) => of_record(29, number),
+        RecordFault::DuplicateAddress => of_record(27, number),
+        RecordFault::TooManyPages => of_record(28, number),
     }
 }
 

@@ -370,7 +370,9 @@ pub fn stream_long_pages(alloc: Global, line: &mut Line) -> Result<(), OutOfMemo
         End::Open,
     ) {
         Ok(plan) => put_counts(&plan, line),
-        Err(StreamFault::Plan(PlanFault::OutOfMemory) | StreamFault::Round(RoundFault::OutOfMemory)) => {
+        Err(
+            StreamFault::Plan(PlanFault::OutOfMemory) | StreamFault::Round(RoundFault::OutOfMemory),
+        ) => {
             return Err(OutOfMemory);
         }
         Err(fault) => line.put(fault),
