@@ -35,12 +35,12 @@ fn open_watched(
     order: OpenOrder<'_>,
     places: &RoundFiles<'_>,
 ) -> Result<u8, Fault> {
-    let met = Watch::new(places.desk.alloc, None);
+    let met = Watch::new(notes.desk.alloc, None);
     let why = Cell::new(None);
     let place = JournalPlace {
         desk: Desk {
             watch: &met,
-            ..places.desk
+            ..notes.desk
         },
         path: notes.path,
         why: &why,
