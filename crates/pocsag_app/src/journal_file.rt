@@ -14,18 +14,18 @@ pub(crate) const ROLE: Role = Role::Lines;
 
 /// Where a journal stands.
 #[derive(Clone, Copy)]
-pub struct JournalPlace<'a> {
+pub struct JournalPlace<'a, 'w> {
     /// What the system refuses of the journal is met on this desk alone.
     pub desk: Desk<'a>,
     pub path: &'a str,
     /// Why the journal could not be written, where that is known better than by the system's reason.
-    pub why: &'a Cell<Option<Fault>>,
+    pub why: &'w Cell<Option<Fault>>,
 }
 
 /// The file of a journal, which this program alone holds. Nothing is known of its bytes.
 #[derive(Drop)]
-pub struct JournalFile<'a> {
-    pub place: JournalPlace<'a>,
+pub struct JournalFile<'a, 'w> {
+    pub place: JournalPlace<'a, 'w>,
     // Whether there was no file at the path before.
     is_new: bool,
     file: File,
@@ -36,10 +36,10 @@ pub struct JournalFile<'a> {
     failures: u64,
 }
 
-impl<'a> JournalFile<'a> {
+impl<'a, 'w> JournalFile<'a, 'w> {
     /// Opens or makes the file and locks it, unless another program holds it. The lock goes with the file, so what
     /// stands at the path must still be the file that is locked.
-    pub fn hold(place: JournalPlace<'a>) -> Result<Option<JournalFile<'a>>, Fault> {
+    pub fn hold(place: JournalPlace<'a, 'w>) -> Result<Option<JournalFile<'a, 'w>>, Fault> {
         let JournalPlace { desk, path, .. } = place;
         let is_new = Named::at(desk.rt, path).is_none();
         let mut options = OpenOptions::new();
@@ -156,7 +156,7 @@ impl<'a> JournalFile<'a> {
     }
 }
 
-impl Sink for JournalFile<'_> {
+impl Sink for JournalFile<'_, '_> {
     ghost tells = { ⊥ };
 
     ghost taken = { λ _. [] };
@@ -182,7 +182,7 @@ impl Sink for JournalFile<'_> {
     }
 }
 
-impl Disk for JournalFile<'_> {
+impl Disk for JournalFile<'_, '_> {
     ghost safe = { λ _. [] };
 
     fn sync(&mut self) -> Result<(), DeviceFault> {

@@ -4,7 +4,7 @@ use pocsag_faults::{Fault, tell};
 use pocsag_files::{Desk, JournalNotes, Named, is_regular_or_none, open_source};
 use pocsag_journal::{Journal, JournalFault, Replayed, list_journal};
 use pocsag_line::{OpenOrder, STANDARD};
-use pocsag_notes::{ReaderSource, Role, Watch};
+use pocsag_notes::{ReaderSource, Role, Trouble, Watch};
 use pocsag_open::{Keeper, OpenRound, Planner, run_open_kept};
 use pocsag_pages::read_round;
 use pocsag_plan::Book;
@@ -50,13 +50,27 @@ fn open_watched(
     } else {
         open_on(place, notes, order.always, places)
     };
-    match (done, why.get(), met.take_trouble()) {
-        (Err(Fault::Write), Some(Fault::NotHeld), _) => Ok(notes.explain_not_held()),
-        (Err(Fault::Write), Some(Fault::Owner), Some(trouble)) => {
-            Ok(notes.explain(Fault::Owner, trouble))
-        }
-        (Err(fault), _, Some(trouble)) => Ok(notes.explain(fault, trouble)),
-        _ => done,
+    match done {
+        Ok(status) => Ok(status),
+        Err(fault) => explain_met(notes, fault, why.get(), met.take_trouble()),
+    }
+}
+
+// Explains the fault by what was met of the journal, and answers the status.
+fn explain_met(
+    notes: JournalNotes<'_>,
+    fault: Fault,
+    why: Option<Fault>,
+    trouble: Option<Trouble>,
+) -> Result<u8, Fault> {
+    let why = if fault == Fault::Write { why } else { None };
+    if why == Some(Fault::NotHeld) {
+        return Ok(notes.explain_not_held());
+    }
+    match trouble {
+        Some(trouble) if why == Some(Fault::Owner) => Ok(notes.explain(Fault::Owner, trouble)),
+        Some(trouble) => Ok(notes.explain(fault, trouble)),
+        None => Err(fault),
     }
 }
 
@@ -70,7 +84,7 @@ fn is_first_file(path: &str, places: &RoundFiles<'_>) -> bool {
 }
 
 // `--read-only`: lists the pages of the journal, which is neither held nor changed.
-fn list_on(place: JournalPlace<'_>, notes: JournalNotes<'_>) -> Result<u8, Fault> {
+fn list_on(place: JournalPlace<'_, '_>, notes: JournalNotes<'_>) -> Result<u8, Fault> {
     let desk = place.desk;
     let mut source = open_source(desk, ROLE, Some(place.path))?;
     match list_journal(desk.alloc, &mut source, &mut notes.desk.out()) {
@@ -84,7 +98,7 @@ fn list_on(place: JournalPlace<'_>, notes: JournalNotes<'_>) -> Result<u8, Fault
 
 // Keeps a round, where no other program holds the journal.
 fn open_on(
-    place: JournalPlace<'_>,
+    place: JournalPlace<'_, '_>,
     notes: JournalNotes<'_>,
     always: bool,
     places: &RoundFiles<'_>,
@@ -104,7 +118,7 @@ fn open_on(
 // Keeps a round that begins with what the journal stands for. Where there is none, the file that was made for it is taken
 // away, while it is still locked.
 fn begin(
-    file: JournalFile<'_>,
+    file: JournalFile<'_, '_>,
     notes: JournalNotes<'_>,
     replayed: Replayed,
     always: bool,
@@ -130,7 +144,7 @@ fn begin(
 }
 
 // Takes a file away that was made, if it still stands at the path. That it cannot be taken away changes nothing.
-fn remove_made(place: JournalPlace<'_>, made: &File) {
+fn remove_made(place: JournalPlace<'_, '_>, made: &File) {
     let rt = place.desk.rt;
     let Ok(metadata) = made.metadata() else {
         return;
