@@ -566,7 +566,7 @@ REGULAR = "a regular file is wanted, and no link to one"
 BAD = "journal line %d: no edit that the pages before it accept"
 BEGUN = "the journal holds edits, so the round cannot begin with PAGES"
 TWICE = "the same file is named twice"
-OTHERS = "the lines of open come from standard input, so PAGES and FILE must be two other files"
+TWO_OTHERS = "the lines of open come from standard input, so PAGES and FILE must be two other files"
 CANNOT = "cannot read or open a file"
 
 # The words behind `open`, the status, what is told without `--verbose`, and the notes behind it.
@@ -577,10 +577,10 @@ REFUSED = [
     (["--journal", "/dev/full"], 3, CANNOT, [f"journal /dev/full: {REGULAR}"]),
     (["--journal", "fifo"], 3, CANNOT, [f"journal fifo: {REGULAR}"]),
     (["--journal", "a\nb/\x1b[2J"], 3, CANNOT, [f"journal a?b/?[2J: {NO_FILE}"]),
-    (["--journal", "-"], 1, TWICE, [OTHERS]),
-    (["pages.csv", "--journal", "pages.csv"], 1, TWICE, ["page file pages.csv", OTHERS]),
-    (["pages.csv", "--journal", "./pages.csv"], 1, TWICE, ["page file pages.csv", OTHERS]),
-    (["-", "--journal", "new"], 1, TWICE, ["page file -", OTHERS]),
+    (["--journal", "-"], 1, TWICE, [TWO_OTHERS]),
+    (["pages.csv", "--journal", "pages.csv"], 1, TWICE, ["page file pages.csv", TWO_OTHERS]),
+    (["pages.csv", "--journal", "./pages.csv"], 1, TWICE, ["page file pages.csv", TWO_OTHERS]),
+    (["-", "--journal", "new"], 1, TWICE, ["page file -", TWO_OTHERS]),
     (["none.csv", "--journal", "new"], 3, CANNOT, [f"page file none.csv: {NO_FILE}"]),
     (["pages.csv", "--journal", "held"], 1, BEGUN, ["journal held: it stays as it is"]),
     (["--journal", "bad"], 1, BAD % 3, ["journal bad: it stays as it is"]),
