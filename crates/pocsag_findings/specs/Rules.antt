@@ -36,8 +36,8 @@ abbrev pub shares_of : Classes → Limits → ℕ → List Share
 shares_of k l set = joined_below class_count (share_of k l set)
 
 -- How many pages of a class start early under the limits.
-abbrev pub early_of : Classes → Limits → ℕ → Narrowed
-early_of k l c = record { class = c; pages = slice_index k.count c; lo = slice_index l.lo c; hi = slice_index l.hi c }
+abbrev pub early_limits : Classes → Limits → ℕ → Narrowed
+early_limits k l c = record { class = c; pages = slice_index k.count c; lo = slice_index l.lo c; hi = slice_index l.hi c }
 
 -- Whether not each number of the pages may start early.
 abbrev pub is_narrower : Narrowed → Bool
@@ -45,7 +45,7 @@ is_narrower early = nat_lt 0 early.lo || nat_lt early.hi early.pages
 
 -- What the limits say of a class that they narrow, and else nothing.
 abbrev pub narrowed_by : Classes → Limits → ℕ → List Narrowed
-narrowed_by k l c = cond (is_narrower (early_of k l c)) (early_of k l c ∷ []) []
+narrowed_by k l c = cond (is_narrower (early_limits k l c)) (early_limits k l c ∷ []) []
 
 -- The classes that the limits narrow, in order.
 abbrev pub narrowed_of : Classes → Limits → List Narrowed

@@ -4,7 +4,7 @@ ghost use Rattle.pocsag_slots.specs.Numbering.{class_count};
 ghost use Rattle.pocsag_slots.specs.Ways.{class_certain};
 ghost use Rattle.pocsag_tree.specs.Views.{bound_tree_of};
 ghost use Rattle.pocsag_findings.specs.declared.finding.Fact.TheVariants.{Split};
-ghost use Rattle.pocsag_findings.specs.Rules.{column_of, columns_at, columns_of, early_of, fact_holds, fact_of, is_narrower, least_of_set, narrowed_of, shares_at, shares_of};
+ghost use Rattle.pocsag_findings.specs.Rules.{column_of, columns_at, columns_of, early_limits, fact_holds, fact_of, is_narrower, least_of_set, narrowed_of, shares_at, shares_of};
 
 use crate::finding::{Column, Fact, Narrowed, Share};
 use crate::inquiry::Inquiry;
@@ -178,9 +178,9 @@ pub(crate) fn shares_at(
 }
 
 // How many pages of the class start early under the limits.
-fn early_of(inquiry: &Inquiry, limits: &Limits, class: u8) -> Narrowed
+fn early_limits(inquiry: &Inquiry, limits: &Limits, class: u8) -> Narrowed
     requires { class < 136 }
-    ensures { result ≡ early_of inquiry.now.classes.now limits.now class }
+    ensures { result ≡ early_limits inquiry.now.classes.now limits.now class }
 {
     Narrowed {
         class,
@@ -204,7 +204,7 @@ pub(crate) fn narrowed_of(inquiry: &Inquiry, limits: &Limits) -> Result<Vec<Narr
 {
     let mut found = Vec::new(inquiry.alloc);
     for number in 0..CLASSES as u8 {
-        let early = early_of(inquiry, limits, number);
+        let early = early_limits(inquiry, limits, number);
         if is_narrower(early) {
             found.push(early)?;
         }

@@ -61,14 +61,14 @@ impl Display for Sample {
 
 // The pages of one class.
 #[derive(Drop)]
-struct Kind {
+struct ClassPages {
     addresses: Sample,
     lengths: Sample,
     // How many whole turns of sixteen codewords they take together.
     turns: u32,
 }
 
-impl Kind {
+impl ClassPages {
     fn add(&mut self, page: &Page) {
         self.addresses.add(u64::from(page.address));
         let message = page.payload.as_slice().len() as u64;
@@ -79,7 +79,7 @@ impl Kind {
 /// The pages of a round, class by class.
 #[derive(Drop)]
 pub(crate) struct Kinds {
-    kinds: Vec<Kind>,
+    kinds: Vec<ClassPages>,
 }
 
 impl Kinds {
@@ -92,7 +92,7 @@ impl Kinds {
     ) -> Result<Kinds, AllocError> {
         let mut kinds = Vec::new(alloc);
         for turns in classes.turns.iter() {
-            kinds.push(Kind {
+            kinds.push(ClassPages {
                 addresses: Sample::new(),
                 lengths: Sample::new(),
                 turns: *turns,
