@@ -17,7 +17,8 @@
  *           refused, the status is POCSAG_OUT_OF_MEMORY and no buffer was written. As measured it takes at most 16 bytes
  *           for each byte of a page file or a transmission, 40 for each node of a certificate or a search, and 180 for
  *           each node that is explained.
- * Stack.    A call takes at most as many bytes of stack as POCSAG_CHECK_STACK and so on say, whatever it is given.
+ * Stack.    POCSAG_CHECK_STACK and so on are the bytes of stack that each call needs at most: measured for certificates
+ *           of the greatest depth, computed and not measured for the deepest search of a plan.
  * Threads.  The library keeps no state: any number of threads may call at one time, with buffers of their own. No
  *           call from a signal handler, nor in a child of fork where the parent had several threads.
  */
@@ -62,7 +63,7 @@ extern "C" {
  * and 1 KiB for each of them. A search goes through at most 289 levels of 13,000 bytes. */
 #define POCSAG_CHECK_STACK 372736u
 #define POCSAG_EXPLAIN_STACK 372736u
-#define POCSAG_PLAN_STACK 4194304u      /* pocsag_report too; no round is known that takes 64 KiB */
+#define POCSAG_PLAN_STACK 4194304u      /* pocsag_report too; the rounds that were measured take up to 120 KB */
 #define POCSAG_LISTING_STACK 131072u    /* pocsag_decode, pocsag_hear */
 
 /* Statuses. */
