@@ -60,10 +60,11 @@ extern "C" {
 #define POCSAG_GREATEST_LIMIT 1000000u
 
 /* The bytes of stack that a thread needs for a call, its own part included. A certificate has at most 300 levels: 64 KiB,
- * and 1 KiB for each of them. A search goes through at most 289 levels of 13,000 bytes. */
+ * and 1 KiB for each of them. A search goes through at most 289 levels, each of some 1,600 bytes: 462 KB, and 120 KB that
+ * the measured rounds take in all; as much again is added. */
 #define POCSAG_CHECK_STACK 372736u
 #define POCSAG_EXPLAIN_STACK 372736u
-#define POCSAG_PLAN_STACK 4194304u      /* pocsag_report too; the rounds that were measured take up to 120 KB */
+#define POCSAG_PLAN_STACK 1048576u      /* pocsag_report too */
 #define POCSAG_LISTING_STACK 131072u    /* pocsag_decode, pocsag_hear */
 
 /* Statuses. */

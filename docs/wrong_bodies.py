@@ -1,7 +1,7 @@
 #!/usr/bin/env python3
 """Makes docs/WRONG_BODIES.md anew from what the script that tries wrong bodies prints:
 
-  python3 tests/wrong_bodies/run.py | python3 docs/wrong_bodies.py
+  ./test --mutations | python3 docs/wrong_bodies.py
 
 Each line that names a wrong body names the function that was refused and its goal. What the lines do not name
 keeps its row, as long as its edit stands.
@@ -18,16 +18,15 @@ LINE = re.compile(r"wrong body (\w+)/([\w.+-]+): refused in (\S+): (.*)")
 HEAD = """# Wrong bodies
 
 Each edit puts a wrong body in the place of a right one, and the prover refuses the function with it: so the
-contract that is named does say what it seems to say. `tests/wrong_bodies/run.py` tries all of them, and so does
-`./test`: many in one check, each in its own function or in a copy of that, which is judged by its own goals. Those of
-each kind that a planner, checker or receiver can go wrong by stand in `crates/NAME/must-fail/`, where `rt ci` tries them one by
-one; the others in `tests/wrong_bodies/NAME/`. The second column names the function, as the prover does, and the
+contract that is named does say what it seems to say. `./test --mutations` tries all of them, many in one check, each in
+its own function, which is judged by its own goals. Those of each kind that a planner, checker or receiver can go wrong
+by stand in `crates/NAME/must-fail/`, where `rt ci` tries them one by one too; the others in `tests/wrong_bodies/NAME/`.
+The second column names the function, as the prover does, and the
 goal of it that stays open: a clause of its contract (`returns` where it has one clause without a name, with the
 place where it returns behind it), else an invariant of its loop that leads to one, or what a call in it asks for;
 for an entry of a table the lemma that the table is right. A method stands under the module of its type, though its text
-may be in another file of the crate. The page is made by `docs/wrong_bodies.py` from what that
-script prints; an edit that a run did not name keeps its line. A run reads it too: it tries a wrong body against the
-clause that stands here first.
+may be in another file of the crate. `docs/wrong_bodies.py` makes the page from what that command prints; an edit that a
+run did not name keeps its line. A run reads it too: it tries a wrong body against the clause that stands here first.
 
 """
 
@@ -69,7 +68,7 @@ def told_rows(log):
 
 def titles_of(crate):
     """The names of the edits of a crate, as rows have them."""
-    folders = TOP / "crates" / crate / "must-fail", TOP / "tests/wrong_bodies" / crate
+    folders = *TOP.glob(f"crates/{crate}/must-fail"), TOP / "tests/wrong_bodies" / crate
     return sorted(title_of(edit.stem) for folder in folders for edit in folder.glob("*.edit"))
 
 
@@ -83,7 +82,7 @@ def main():
     rows = kept_rows()
     rows |= {name: row for name, row in told_rows(sys.stdin.read()).items() if not is_at_the_same(rows.get(name, ""), row)}
     page = HEAD
-    for crate in sorted((TOP / "crates").iterdir()):
+    for crate in sorted(TOP.glob("crates/*"), key=lambda it: it.name):
         titles = [it for it in titles_of(crate.name) if (crate.name, it) in rows]
         listed = [f"| {title} | {rows[crate.name, title]} |\n" for title in titles]
         if listed:

@@ -1,38 +1,42 @@
 #!/usr/bin/env python3
 """Proves and builds crates of this repository, as many at once as there are processors and memory for.
 
-    build.py program       the program and what it stands on; `./pocsag` calls it where a source has changed
-    build.py proofs        each crate and each program
-    build.py first         of these the program, what another crate stands on and what has tests
-    build.py last          the others
-    build.py tests [CRATE..]  runs the tests of the crates that have some, or of these, where what they stand on is built; other calls may go on beside it
-    build.py all           each crate, the tests of the crates that have some, and each program
-    build.py CRATE..       these crates with what they stand on, and their tests
+    build.py program [NAME]   builds the whole program, or the program NAME where the whole one does not stand, and prints
+                              the path of the one that does; `./pocsag` calls it where a source has changed
+    build.py proofs [CRATE..] proves and builds these crates, or all, with what they stand on
+    build.py tests CRATE..    runs the tests of these crates, where what they stand on is built, and counts them
+    build.py ci               runs `rt ci`, and takes the programs that it built
+    build.py all              proves and builds all crates and runs their tests
+    build.py CRATE..          proves and builds these crates, with what they stand on, and runs their tests
 
 What an earlier call proved is not proved again. Exit status 0 where all of it stands, 3 where something does not.
 """
 
+import contextlib
 import fcntl
-import hashlib
 import os
-import pathlib
 import shutil
 import subprocess
 import sys
 import time
 
 sys.dont_write_bytecode = True
+import kit
 import lanes
-import rt_beside
 import workspace
-from workspace import TOP
+from workspace import FIRST, TOP, WHOLE
 
 STATE = TOP / "out"  # never committed
-BUILT = STATE / "built"  # what the program was built from
-LOCK = STATE / "lock"
-BINARY = TOP / "crates" / workspace.PROGRAM / "out" / workspace.PROGRAM
 TEST_SECONDS = 3_600  # for each test: compiled with checks one of the greatest sizes takes minutes
-BESIDE = [sys.executable, str(TOP / "tools/rt_beside.py")]
+BASE = "pocsag_words"  # the crate that the whole build is compared with
+TAKEN = "begins with what a check kept"  # the toolchain says so where another copy of the repository has proved a crate
+NEEDS = "on four processors, with 2 GB of memory for each of them and 6 GB of disk"
+WAITS = {
+    FIRST: f"proving and building plan, check and report, once: 12 to 20 minutes {NEEDS}. The first call of another command "
+           "takes 8 to 12 minutes more",
+    WHOLE: f"proving and building all commands, once: 12 to 30 minutes {NEEDS}",
+}
+MORE = f"proving and building the other commands, once: 8 to 12 minutes more {NEEDS}"
 
 
 def say(text):
@@ -43,199 +47,180 @@ class Refused(Exception):
     """There can be no build, and why."""
 
 
-def sources(crates):
-    """What the crates are made from, relative to the top, also where it is not there (yet)."""
-    return ["crates.txt", *(f"crates/{name}/{part}" for name in crates for part in workspace.PARTS)]
-
-
 def listing(paths):
     """The files below the paths with their sizes and times, as `tools/listing.sh` has them."""
     words = ["bash", "-c", '. tools/listing.sh; listing "$@"', "listing", *paths]
     return subprocess.run(words, cwd=TOP, stdout=subprocess.PIPE, text=True).stdout
 
 
-def digest(paths):
-    """A sum of the names and contents of the files below the paths."""
-    total = hashlib.sha256()
-    for path in map(TOP.joinpath, paths):
-        for file in sorted([path] if path.is_file() else filter(pathlib.Path.is_file, path.glob("**/*"))):
-            total.update(repr((str(file.relative_to(TOP)), file.read_bytes())).encode())
-    return total.hexdigest()
+class Product:
+    """What is built of a crate, and what it is made from as that is now. The record of it is written when it is built."""
+
+    def __init__(self, crates, name):
+        self.crates = workspace.below(crates, name)
+        self.path = crates[name].folder / "out" / (name if crates[name].is_program else f"lib{name}.a")
+        self.record = STATE / f"{name}.built"
+        self.sources = ["crates.txt", *workspace.sources(self.crates.values())]
+        self.listing, self.sum = listing(self.sources), workspace.digest(self.sources)
+
+    def is_current(self):
+        try:
+            return self.path.is_file() and self.record.read_text().split("\n")[1] == self.sum
+        except (OSError, IndexError):
+            return False
+
+    def write_record(self):
+        """Writes down what it was built from; where that cannot be written, the next call looks again."""
+        fresh = self.record.with_suffix(f".{os.getpid()}")
+        try:
+            fresh.write_text("\n".join([" ".join(self.sources), self.sum, self.listing]))
+            fresh.replace(self.record)
+        except OSError:
+            pass
 
 
-def read_built():
-    """What the program was built from: the paths, the sum and the listing; empty texts where nothing tells."""
-    try:
-        paths, total, *files = BUILT.read_text().split("\n")
-    except (OSError, ValueError):
-        return "", "", ""
-    return paths, total, "\n".join(files)
-
-
-def write_built(paths, total, files):
-    """Writes down what the program was built from; where that cannot be written, the next call looks again."""
-    fresh = BUILT.with_suffix(f".{os.getpid()}")
-    try:
-        fresh.write_text("\n".join([" ".join(paths), total, files]))
-        fresh.replace(BUILT)
-    except OSError:
-        pass
-
-
-def lock_file():
+@contextlib.contextmanager
+def alone():
     """Lets one call build at a time, and the others wait for it. The lock ends with the call."""
     try:
         STATE.mkdir(exist_ok=True)
-        held = open(LOCK, "a")
+        held = open(STATE / "lock", "a")
     except OSError as error:
         raise Refused(f"cannot write {error.filename} ({error.strerror}), so nothing can be built here") from None
-    try:
-        fcntl.flock(held, fcntl.LOCK_EX | fcntl.LOCK_NB)
-    except BlockingIOError:
-        say("another call is building; waiting for it")
-        fcntl.flock(held, fcntl.LOCK_EX)
-    return held
-
-
-def lock_folders(crates):
-    """Keeps the toolchain's own commands out of the crates' folders, as they keep each other out."""
-    held = [os.open(crate.folder, os.O_RDONLY) for crate in crates.values()]
-    for crate, folder in zip(crates.values(), held):
+    with held:
         try:
-            fcntl.flock(folder, fcntl.LOCK_EX | fcntl.LOCK_NB)
+            fcntl.flock(held, fcntl.LOCK_EX | fcntl.LOCK_NB)
         except BlockingIOError:
-            say(f"another rt works in {crate.folder}; waiting for it")
-            fcntl.flock(folder, fcntl.LOCK_EX)
-        except OSError:
-            pass  # some file systems have no locks
-    return held
-
-
-def rt(crate, *words, arguments=()):
-    """The command `rt` with so many jobs, in the crate's folder."""
-    after = ["--", *arguments] if arguments else []
-    return lambda jobs: [*BESIDE, *words, "--jobs", str(jobs), *after]
+            say("another call is building; waiting for it")
+            fcntl.flock(held, fcntl.LOCK_EX)
+        yield
 
 
 def proof(crates, crate):
     """The proof of a library, or the proof, build and first run of a program."""
-    weight = workspace.weight(crates, crate.name)
-    if crate.is_program:
-        words = rt(crate, "run", arguments=["--help"] if crate.name == workspace.PROGRAM else [])
-    else:
-        words = rt(crate, "lib")
-    begins, ends = f"proving {crate.name}", f"{crate.name} proved"
-    return lanes.Task(crate.name, crate.uses, weight, workspace.most_jobs(crate), crate.folder, words, begins, ends)
+    verb, words = "run" if crate.is_program else "lib", ["--help"] if crate.name in WAITS else []
+    command = lambda jobs: [sys.executable, kit.__file__, verb, str(jobs), *words]
+    return lanes.Task(crate.name, command, crate.folder, crate.uses, workspace.weight(crates, crate.name))
 
 
-def tests(crates, crate):
+def tests(crate):
     """The run of a crate's tests, compiled with checks. They are proved by `rt ci` alone."""
-    weight = workspace.weight(crates, crate.name)
-    begins, ends = f"running the tests of {crate.name}", f"the tests of {crate.name} passed"
-    words = [*BESIDE, "try", "--test", "--seconds", str(TEST_SECONDS)]
-    waits = (*crate.uses, crate.name)
-    return lanes.Task(f"{crate.name} tests", waits, weight, 1, crate.folder, lambda _jobs: words, begins, ends)
+    words = ["rt", "try", "--test", "--seconds", str(TEST_SECONDS)]
+    return lanes.Task(f"the tests of {crate.name}", words, crate.folder, (*crate.uses, crate.name))
 
 
 def run(tasks, crates):
-    """Runs the tasks, and shows what one that failed printed."""
+    """Runs tasks, among them the proofs of these crates, and shows what one that failed printed. At the end it tells how long that
+    took and, where all was proved from nothing, how many times as long processors were busy as with the lowest crate."""
     if not shutil.which("rt"):
         raise Refused("the command rt of the toolchain is missing: put the folder bin of its kit into PATH (README, Install)")
-    # a toolchain that rt_beside does not know locks the folders itself
-    folders = lock_folders(crates) if rt_beside.kit_script() else []
+    start, busy, begun = time.monotonic(), {}, []
+    now = lambda: lanes.minutes(time.monotonic() - start)
+    is_new = BASE in crates and not any((it.folder / "out/incremental").exists() for it in crates.values())
+
+    def tell_begun(name):
+        begun.append(name)
+        say(f"{now()} {'proving' if name in crates else 'running'} {name} ({len(begun)} of {len(tasks)})")
+
+    held = kit.lock([it.folder for it in crates.values()])
     try:
-        failed = lanes.Lanes(tasks, say, int(os.environ.get("RT_JOBS") or 0)).run()
+        with contextlib.closing(lanes.Lanes(tasks, tell_begun).run()) as ended:
+            for it in ended:
+                if it.status:
+                    print(it.text, end="", file=sys.stderr)
+                    raise Refused(f"{it.name} failed, as shown above")
+                if it.name in crates:
+                    busy[it.name] = it.busy
+                    is_new = is_new and TAKEN not in it.text
+                what = f"{'proved' if it.name in crates else 'passed'} in {lanes.minutes(it.took)}"
+                say(f"{now()} {it.name} {what}, {lanes.minutes(it.busy)} of processors")
     finally:
-        for folder in folders:
-            os.close(folder)
-    if failed:
-        name, text = failed
-        print(text, end="", file=sys.stderr)
-        raise Refused(f"{name} failed, as shown above")
+        for it in held:
+            os.close(it)
+    if busy:
+        say(f"proved in {now()}" + (f", {sum(busy.values()) / busy[BASE]:.1f} times {BASE}" if is_new and busy[BASE] else ""))
 
 
-def build_program(crates):
-    """Builds the program where its sources are not those that it was built from."""
-    wanted = workspace.below(crates, workspace.PROGRAM)
-    paths = sources(wanted)
-    files, total = listing(paths), digest(paths)
-    is_there = os.access(BINARY, os.X_OK)
-    if is_there and read_built()[1] == total:
-        write_built(paths, total, files)
-        return
-    if is_there and not shutil.which("rt"):
+def build_program(crates, name):
+    """Builds a program where its sources are not those that it was built from; gives the path of the program that stands, which
+    is the whole one where that is current."""
+    products = [Product(crates, it) for it in dict.fromkeys((WHOLE, name))]
+    wanted = products[-1]
+    current = next((it for it in products if it.is_current()), None)
+    old = next((it for it in products if os.access(it.path, os.X_OK)), None)
+    if old and not current and not shutil.which("rt"):
         say("the sources are not those that the program was built from, and the command rt is missing: the program may be old")
-        return
-    held = lock_file()
-    if os.access(BINARY, os.X_OK) and read_built()[1] == total:
-        return
-    say("proving and building once: 15 to 30 minutes on four processors, 2 GB of memory for each of them, 6 GB of disk")
-    run([proof(wanted, crate) for crate in wanted.values()], wanted)
-    if not os.access(BINARY, os.X_OK):
-        raise Refused(f"'rt run' left no program in {BINARY.parent.relative_to(TOP)}")
-    write_built(paths, total, files)
-    held.close()
+        return old.path
+    if current:
+        current.write_record()
+        return current.path
+    with alone():
+        current = next((it for it in products if it.is_current()), None)
+        if current:
+            return current.path
+        has_first = name == WHOLE and Product(crates, FIRST).is_current()
+        say(MORE if has_first else WAITS[name])
+        run([proof(wanted.crates, crate) for crate in wanted.crates.values()], wanted.crates)
+        if not os.access(wanted.path, os.X_OK):
+            raise Refused(f"'rt run' left no program in {wanted.path.parent.relative_to(TOP)}")
+        wanted.write_record()
+    return wanted.path
 
 
-def record(crate):
-    """Where the sum of the sources stands that a library was built from."""
-    return STATE / f"{crate.name}.built"
+def build(crates, names, tested):
+    """Proves crates with what they stand on, and runs the tests of some of them. A program or a library for C that stands as its
+    sources are is left as it is."""
+    tested = [name for name in tested if crates[name].has_tests]
+    products = {name: Product(crates, name) for name in workspace.below(crates, *names) if crates[name].is_product}
+    wanted = workspace.below(crates, *tested, *(name for name in names if name not in products or not products[name].is_current()))
+    if wanted:
+        with alone():
+            run([proof(crates, crate) for crate in wanted.values()] + [tests(crates[name]) for name in tested], wanted)
+            for name in products.keys() & wanted.keys():
+                products[name].write_record()
 
 
-def is_library_built(crates, crate):
-    """A library without tests stands as its sources are, so there is nothing to wait for."""
-    if crate.is_program or crate.has_tests or not list((crate.folder / "out").glob(f"lib{crate.name}.*")):
-        return False
-    try:
-        return record(crate).read_text() == digest(sources(workspace.below(crates, crate.name)))
-    except OSError:
-        return False
+def run_tests(crates, names):
+    """Runs the tests of crates, as one thing to pass each."""
+    failed = 0
+    for it in lanes.Lanes([tests(crates[name]) for name in names]).run():
+        print(it.text, end="")
+        failed += bool(it.status)
+    print(f"{len(names) - failed} passed, {failed} failed")
+    return 1 if failed else 0
 
 
-def build(crates, tested):
-    """Proves the crates and the tests of some of them, and builds the programs among them."""
-    paths = sources(workspace.below(crates, workspace.PROGRAM)) if workspace.PROGRAM in crates else []
-    files, total = listing(paths), digest(paths)
-    libraries = {crate: digest(sources(workspace.below(crates, name))) for name, crate in crates.items() if not crate.is_program}
-    held = lock_file()
-    tasks = [proof(crates, crate) for crate in crates.values()]
-    tasks += [tests(crates, crate) for crate in tested if crate.has_tests]
-    run(tasks, crates)
-    if paths:
-        write_built(paths, total, files)
-    for crate, sum_of_sources in libraries.items():
-        record(crate).write_text(sum_of_sources)
-    held.close()
+def gate_of_toolchain(crates):
+    """Runs `rt ci`, which proves all crates from nothing and builds the programs, and writes down what these were built from."""
+    with alone():
+        products = [Product(crates, name) for name, crate in crates.items() if crate.is_program]
+        status = subprocess.run(["rt", "ci"], cwd=TOP, stdin=subprocess.DEVNULL).returncode
+        for it in products:
+            if not status and it.path.is_file():
+                it.write_record()
+    return status
 
 
 def main(words):
-    start = time.monotonic()
     lanes.end_on_signals()
     try:
         crates = workspace.read_crates()
-        if words == ["program"]:
-            build_program(crates)
-        elif words == ["proofs"]:
-            build(crates, [])
-        elif words in (["first"], ["last"]):
-            first = {it for it, crate in crates.items() if crate.has_tests or workspace.above(crates, it) or it == workspace.PROGRAM}
-            chosen = first if words == ["first"] else crates.keys() - first
-            wanted = set().union(*(workspace.below(crates, it) for it in chosen))
-            build({it: crate for it, crate in crates.items() if it in wanted}, [])
-        elif words[:1] == ["tests"]:
-            tested = {name: crate for name, crate in crates.items() if crate.has_tests and name in (words[1:] or crates)}
-            run([tests(crates, crate) for crate in tested.values()], tested)
-        elif words == ["all"]:
-            build(crates, crates.values())
+        verb, names = words[0], words[1:]
+        if verb == "program":
+            print(build_program(crates, *names or [WHOLE]))
+        elif verb == "proofs":
+            build(crates, names or [*crates], [])
+        elif verb == "tests":
+            return run_tests(crates, names)
+        elif verb == "ci":
+            return gate_of_toolchain(crates)
+        elif verb == "all":
+            build(crates, [*crates], [*crates])
         else:
-            wanted = {name: crate for word in words for name, crate in workspace.below(crates, word).items()}
-            if not all(is_library_built(crates, crates[word]) for word in words):
-                build({name: crate for name, crate in crates.items() if name in wanted}, [crates[word] for word in words])
+            build(crates, words, words)
     except (Refused, workspace.BadList) as why:
         say(why)
         return 3
-    if words != ["program"]:
-        say(f"all of it stands, after {lanes.minutes(time.monotonic() - start)}")
     return 0
 
 

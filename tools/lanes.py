@@ -1,4 +1,4 @@
-"""Runs commands side by side: as many as there are processors and memory for, the longest chain first."""
+"""Runs commands side by side: as many as there are processors and memory for, those with the longest chain behind them first."""
 
 import ctypes
 import dataclasses
@@ -9,26 +9,31 @@ import sys
 import tempfile
 import time
 
-MEMORY = 2_000_000_000  # what a proof of a crate takes, in bytes
+MEMORY = 2_000_000_000  # the bytes that a proof of a crate takes
+MOST_JOBS = 3  # of one proof: each job loads what stands below anew, so that four end it no sooner (docs/BENCHMARKS.md)
 
 
 @dataclasses.dataclass
 class Task:
-    """A command in a folder, the names of the tasks that it waits for, how long it takes beside others, and how many jobs
-    it can use."""
+    """A command in a folder, the names of the tasks that it waits for, and about how long it takes beside the others. The
+    command is a list of words, or gives them for a number of jobs."""
 
     name: str
-    waits: tuple
-    weight: int
-    most: int
+    words: object
     folder: object
-    words: object  # of the number of jobs that it may use
-    begins: str
-    ends: str
+    waits: tuple = ()
+    weight: int = 1
 
 
-def processors():
-    return len(os.sched_getaffinity(0))
+@dataclasses.dataclass
+class Ended:
+    """A task that has ended: its exit status, what it printed, how long it took, and how long processors were busy with it."""
+
+    name: str
+    status: int
+    text: str
+    took: float
+    busy: float
 
 
 def free_memory():
@@ -44,107 +49,90 @@ def free_memory():
     return min(found)
 
 
-def end_with_parent():
-    """Has the system end this process when the one that started it ends, however it ends."""
-    ctypes.CDLL(None).prctl(1, signal.SIGKILL)
+def width():
+    """How many tasks may run side by side: as RT_JOBS says, or as processors and memory allow."""
+    given = int(os.environ.get("RT_JOBS") or 0)
+    return given or max(1, min(len(os.sched_getaffinity(0)), free_memory() // MEMORY))
 
 
 def minutes(seconds):
     return f"{int(seconds) // 60}:{int(seconds) % 60:02}"
 
 
+def end_with_parent():
+    """Has the system end this process when the one that started it ends, however it ends."""
+    ctypes.CDLL(None).prctl(1, signal.SIGKILL)
+
+
 class Lanes:
-    """Tasks that run side by side. A task that fails ends the others."""
+    """Tasks that run side by side. What waits for a task that failed is not begun."""
 
-    def __init__(self, tasks, say, lanes=None):
-        self.tasks = {task.name: task for task in tasks}
-        self.say = say
-        self.room = max(1, free_memory() // MEMORY)  # for so many tasks
-        # Where it is said how many lanes there are, other work goes on beside these tasks, which then get a job each.
-        self.is_beside = bool(lanes)
-        self.lanes = lanes or min(processors(), self.room)
-        self.done, self.running = set(), {}
-        self.start = time.monotonic()
-        self.behind = {}
-        for task in self.tasks.values():
-            self.behind[task.name] = task.weight
-        for task in reversed(list(self.tasks.values())):
-            for waited in task.waits:
-                if waited in self.behind:
-                    self.behind[waited] = max(self.behind[waited], self.tasks[waited].weight + self.behind[task.name])
+    def __init__(self, tasks, begun=lambda name: None):
+        self.left = {task.name: task for task in tasks}
+        self.names, self.begun, self.width = set(self.left), begun, width()
+        self.passed, self.running = set(), {}
+        self.behind = {task.name: task.weight for task in tasks}  # the weight of the longest chain that begins with it
+        for task in reversed(tasks):
+            for waited in self.names.intersection(task.waits):
+                self.behind[waited] = max(self.behind[waited], self.left[waited].weight + self.behind[task.name])
 
-    def ready(self):
-        """The tasks that wait for nothing more, the longest chain first."""
-        left = [task for name, task in self.tasks.items() if name not in self.done and name not in self.running]
-        found = [task for task in left if all(it in self.done or it not in self.tasks for it in task.waits)]
-        return sorted(found, key=lambda task: -self.behind[task.name])
-
-    def is_waited_for(self, task):
-        """Whether nothing that is left has a longer chain, so that all ends the sooner the more jobs it has."""
-        return self.behind[task.name] == max(self.behind[name] for name in self.tasks if name not in self.done)
-
-    def begin(self, task, lanes):
-        """Begins a task on so many lanes; with as many jobs, or with two where it is waited for and can use them."""
-        jobs = max(lanes, min(2, task.most)) if self.is_waited_for(task) and not self.is_beside else lanes
+    def begin(self, task, lanes, jobs):
+        """Begins a task with so many jobs; gives what tells that it cannot be run."""
+        words = task.words(min(jobs, MOST_JOBS, self.width)) if callable(task.words) else task.words
         log = tempfile.TemporaryFile("w+", errors="replace")
         how = {"cwd": task.folder, "stdin": subprocess.DEVNULL, "stdout": log, "stderr": subprocess.STDOUT}
-        process = subprocess.Popen(task.words(jobs), start_new_session=True, preexec_fn=end_with_parent, **how)
-        self.running[task.name] = (process, log, lanes, time.monotonic())
-        number = len(self.done) + len(self.running)
-        self.say(f"{minutes(time.monotonic() - self.start)} {task.begins} ({number} of {len(self.tasks)})")
+        try:
+            process = subprocess.Popen(words, start_new_session=True, preexec_fn=end_with_parent, **how)
+        except OSError as error:
+            log.close()
+            return [Ended(task.name, 127, f"{error}\n", 0, 0)]
+        self.running[process.pid] = (task, process, log, lanes, time.monotonic())
+        self.begun(task.name)
+        return []
 
     def begin_all(self):
-        """Begins what is ready, as long as a lane is idle and there is memory for one more; the idle lanes are shared out,
-        and what is waited for gets all but one for each of the others."""
-        ready = self.ready()
-        for at, task in enumerate(ready):
-            idle = self.lanes - sum(lanes for _, _, lanes, _ in self.running.values())
-            if idle <= 0 or len(self.running) >= self.room:
-                return
-            others = len(ready) - at - 1
-            shared = max(1, idle - others if self.is_waited_for(task) else idle // (others + 1))
-            self.begin(task, 1 if self.is_beside else min(task.most, shared))
+        """Begins what waits for nothing more, as long as a lane is idle; gives what could not be run. Proofs share the idle lanes:
+        one with the longest chain behind it gets all but one for each of the others, and two jobs at least."""
+        ready = [task for task in self.left.values() if self.passed.issuperset(self.names.intersection(task.waits))]
+        ready.sort(key=lambda task: -self.behind[task.name])
+        longest, lost = max((self.behind[it] for it in self.names - self.passed), default=0), []
+        for others, task in zip(reversed(range(len(ready))), ready):
+            idle = self.width - sum(lanes for _, _, _, lanes, _ in self.running.values())
+            if idle > 0:
+                is_longest = self.behind[task.name] == longest
+                lanes = max(1, idle - others if is_longest else idle // (others + 1)) if callable(task.words) else 1
+                del self.left[task.name]
+                lost += self.begin(task, min(lanes, MOST_JOBS), max(lanes, 1 + is_longest))
+        return lost
 
-    def end_some(self):
-        """Takes out the tasks that have ended; gives the name and the text of one that failed."""
-        for name, (process, log, _, began) in list(self.running.items()):
-            ended, status, used = os.wait4(process.pid, os.WNOHANG)
-            if not ended:
-                continue
-            process.returncode = os.waitstatus_to_exitcode(status)
-            del self.running[name]
-            log.seek(0)
-            text = log.read()
-            log.close()
-            if process.returncode:
-                return name, text
-            self.done.add(name)
-            now = time.monotonic()
-            busy = minutes(used.ru_utime + used.ru_stime)
-            self.say(f"{minutes(now - self.start)} {self.tasks[name].ends} in {minutes(now - began)}, {busy} of processors")
-        return None
+    def wait(self):
+        """Waits until a task ends, and takes it out."""
+        pid, status, used = os.wait3(0)
+        task, process, log, _, began = self.running.pop(pid)
+        process.returncode = os.waitstatus_to_exitcode(status)
+        log.seek(0)
+        with log:
+            return Ended(task.name, process.returncode, log.read(), time.monotonic() - began, used.ru_utime + used.ru_stime)
 
     def stop(self):
         """Ends what still runs."""
-        for process, log, _, _ in self.running.values():
-            try:
-                os.killpg(process.pid, signal.SIGTERM)
-            except ProcessLookupError:
-                pass
-        for process, log, _, _ in self.running.values():
+        for pid in self.running:
+            os.killpg(pid, signal.SIGTERM)
+        for _, process, log, _, _ in self.running.values():
             process.wait()
             log.close()
 
     def run(self):
-        """Runs all; gives None, or the name and the text of a task that failed."""
+        """Runs the tasks; yields each as it ends. Where the caller looks no further, what still runs is ended."""
         try:
-            while len(self.done) < len(self.tasks):
-                self.begin_all()
-                failed = self.end_some()
-                if failed:
-                    return failed
-                time.sleep(0.05)
-            return None
+            while True:
+                yield from self.begin_all()
+                if not self.running:
+                    return
+                ended = self.wait()
+                if not ended.status:
+                    self.passed.add(ended.name)
+                yield ended
         finally:
             self.stop()
 

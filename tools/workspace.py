@@ -1,14 +1,14 @@
 """The crates of this repository, by the list that the prover reads, `crates.txt`."""
 
 import dataclasses
+import hashlib
 import pathlib
 import re
 
 TOP = pathlib.Path(__file__).resolve().parents[1]
 PARTS = ("src", "specs", "proofs")
-PROGRAM = "pocsag_app"
-# A line of the list: a name, what kind of crate it is, and after a colon the libraries that it uses.
-LINE = re.compile(r"([\w-]+)((?: +[\w=+.-]+)*) *(?::([\w\s,/-]*))?")
+WHOLE, FIRST = "pocsag_app", "pocsag_first"  # the program with all commands, and with those of the centre alone
+LINE = re.compile(r"([\w-]+(?:/[\w-]+)*)((?: +[\w=+.-]+)*) *(?::([\w\s,/-]*))?")  # a name, what kind of crate it is, its libraries
 TEST = re.compile(r"^\s*#\s*\[[^]]*\btest\b", re.M)
 FUNCTION = re.compile(r"\bfn \w")
 
@@ -19,27 +19,40 @@ class BadList(Exception):
 
 @dataclasses.dataclass(frozen=True)
 class Crate:
-    """A crate: its folder, and the crates of this repository that it uses."""
+    """A crate: its folder, its line of the list, and the crates of this repository that it uses."""
 
     name: str
+    path: str  # its name in the list: its folder below crates/
     folder: pathlib.Path
+    line: str
     uses: tuple
 
     @property
     def is_program(self):
         return (self.folder / "src/main.rt").is_file()
 
-    def texts(self):
-        """The texts of its code."""
-        return [path.read_text(errors="replace") for path in sorted(self.folder.glob("src/**/*.rt"))]
+    @property
+    def is_product(self):
+        """Whether it is built to be used without the crates, as a program or for C."""
+        return self.is_program or " staticlib" in self.line.partition(":")[0]
+
+    def code(self):
+        """The text of its source files."""
+        return "\n".join(path.read_text(errors="replace") for path in sorted(self.folder.glob("src/**/*.rt")))
 
     @property
     def has_tests(self):
-        return any(TEST.search(text) for text in self.texts())
+        return bool(TEST.search(self.code()))
 
-    def functions(self):
-        """How many functions it has."""
-        return sum(len(FUNCTION.findall(text)) for text in self.texts())
+    def edits(self, top=TOP):
+        """The files of its wrong bodies."""
+        folders = self.folder / "must-fail", top / "tests/wrong_bodies" / self.name
+        return sorted(file for folder in folders for file in folder.glob("*.edit"))
+
+
+def last(path):
+    """The name of the crate at a path of the list."""
+    return path.rpartition("/")[2]
 
 
 def read_crates(top=TOP):
@@ -47,39 +60,53 @@ def read_crates(top=TOP):
     rows = {}
     for line in (top / "crates.txt").read_text().splitlines():
         line = line.partition("#")[0].strip()
-        if not line:
-            continue
         found = LINE.fullmatch(line)
-        if not found:
+        if line and not found:
             raise BadList(f"crates.txt: NAME: LIBRARY .. is wanted, and not {line}")
-        rows[found[1]] = re.split(r"[\s,]+", (found[3] or "").strip())
-    uses = {name: tuple(it for it in words if it in rows) for name, words in rows.items()}
+        if line:
+            rows[last(found[1])] = found[1], line, map(last, re.split(r"[\s,]+", (found[3] or "").strip()))
     ordered = {}
 
     def visit(name, above=()):
         if name in above:
             raise BadList(f"crates.txt: {name} uses itself")
         if name not in ordered:
-            for used in uses[name]:
+            path, line, words = rows[name]
+            uses = tuple(it for it in words if it in rows)
+            for used in uses:
                 visit(used, (*above, name))
-            ordered[name] = Crate(name, top / "crates" / name, uses[name])
+            ordered[name] = Crate(name, path, top / "crates" / path, line, uses)
 
     for name in rows:
         visit(name)
     return ordered
 
 
-def below(crates, name):
-    """The crate and all that it stands on, a crate after those that it uses."""
-    if name not in crates:
-        raise BadList(f"crates.txt has no crate {name}")
-    wanted, left = set(), [name]
+def below(crates, *names):
+    """These crates and all that they stand on, a crate after those that it uses."""
+    wanted, left = set(), list(names)
     while left:
         name = left.pop()
+        if name not in crates:
+            raise BadList(f"crates.txt has no crate {name}")
         if name not in wanted:
             wanted.add(name)
             left += crates[name].uses
     return {name: crate for name, crate in crates.items() if name in wanted}
+
+
+def sources(crates):
+    """What the crates are made from, relative to the top, also where it is not there (yet)."""
+    return [f"crates/{crate.path}/{part}" for crate in crates for part in PARTS]
+
+
+def digest(paths, top=TOP):
+    """A sum of the names and contents of the files below the paths."""
+    total = hashlib.sha256()
+    for path in map(top.joinpath, paths):
+        for file in sorted([path] if path.is_file() else filter(pathlib.Path.is_file, path.glob("**/*"))):
+            total.update(repr((str(file.relative_to(top)), file.read_bytes())).encode())
+    return total.hexdigest()
 
 
 def above(crates, name):
@@ -90,12 +117,4 @@ def above(crates, name):
 def weight(crates, name):
     """About how many processor seconds a crate's proof takes: some two for each function, and three for each crate that
     it loads."""
-    return 2 * crates[name].functions() + 3 * len(below(crates, name))
-
-
-def most_jobs(crate):
-    """How many jobs a crate's proof can use. Each job loads what stands below anew, some rounds over: of a crate of some
-    fifty functions three take a sixth more of the processors' time than one and end in half of it, four take half as much
-    more and end no sooner; of one of twenty two end a tenth to a fifth sooner, for a quarter to two fifths more. A program
-    gets two at least: it is proved when nothing else is left."""
-    return max(2 if crate.is_program else 1, min(3, crate.functions() // 14))
+    return 2 * len(FUNCTION.findall(crates[name].code())) + 3 * len(below(crates, name))

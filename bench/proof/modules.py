@@ -17,7 +17,7 @@ import tempfile
 TOP = pathlib.Path(__file__).resolve().parents[2]
 sys.dont_write_bytecode = True
 sys.path.insert(0, str(TOP / "tools"))
-import rt_beside
+import kit
 
 KINDS = {"Answers", "Code", "Given", "Goals", "Invariants", "Key", "Kinds", "Layout", "Lts", "Met", "Mir", "Named", "Proof",
          "Reads", "Statement", "Symbol", "TheLink", "Tie", "View"}
@@ -26,10 +26,9 @@ FILE = re.compile(r"Rattle-\w+-(specs|proofs)\.(.+?)(?:\.decls)?\.oantt")
 
 def kept_files(crate, folder):
     """The seconds, the megabytes and the name of each file that a check of the crate keeps, in their order."""
-    words = rt_beside.check_words(TOP / "crates" / crate)
-    if words is None:
-        sys.exit(f"what {crate} stands on is not built: run ./test {crate} first")
-    words[words.index("--incremental") + 1] = folder
+    if kit.script() is None:
+        sys.exit("the toolchain's rt is not the script that tools/kit.py knows")
+    words = kit.check_words(TOP / "crates" / crate, folder)
     ran = subprocess.run(words, cwd=TOP / "crates" / crate, stdout=subprocess.PIPE, stderr=subprocess.STDOUT, text=True)
     if ran.returncode:
         sys.exit(ran.stdout)

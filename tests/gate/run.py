@@ -11,6 +11,7 @@ sys.dont_write_bytecode = True
 TOP = pathlib.Path(__file__).resolve().parents[2]
 sys.path[:0] = [str(TOP / "tests"), str(TOP / "tools")]
 from gate import Gate
+from lanes import Lanes, Task
 from tally import Tally
 
 # What a part prints, its status, and what the gate counts of it.
@@ -33,7 +34,7 @@ PARTS = [
 
 def try_part(tally, name, script, status, counts):
     gate = Gate(TOP, io.StringIO())
-    gate.part("part", "sh", "-c", script)
+    tally.check(f"{name}: whether it passed", gate.part("part", "sh", "-c", script) == (status == 0))
     tally.check(f"{name}: its counts", (gate.passed, gate.failed) == counts, (gate.passed, gate.failed))
     tally.check(f"{name}: the status", gate.end() == status)
     told = gate.out.getvalue().splitlines()[-1]
@@ -47,7 +48,7 @@ def try_others(tally):
     gate = Gate(TOP, io.StringIO())
     tally.check("no part at all fails", gate.end() == 1)
     gate = Gate(TOP, io.StringIO())
-    tally.check("a step that fails stops what stands on it", not gate.step("step", "sh", "-c", "exit 2") and gate.failed == 1)
+    tally.check("a step that fails is told", not gate.step("step", "sh", "-c", "exit 2") and gate.failed == 1)
     tally.check("a step that passes counts once", gate.step("step", "true") and gate.passed == 1)
     tally.check("one failure fails the whole", gate.end() == 1)
 
@@ -65,13 +66,6 @@ def try_beside(tally):
     gate.beside([("missing", "/nowhere/no-such-command"), ("there", "echo", "1 passed, 0 failed")])
     tally.check("side by side: a command that is not there fails", (gate.passed, gate.failed) == (1, 1))
     gate = Gate(TOP, io.StringIO())
-    gate.beside([("part", "echo", "4 passed, 0 failed")], [("step", "true"), ("bad step", "sh", "-c", "exit 3")])
-    tally.check("side by side: steps count once", (gate.passed, gate.failed, gate.bad) == (5, 1, ["bad step"]), gate.bad)
-    gate = Gate(TOP, io.StringIO())
-    behind = {"step": [("behind it", "echo", "2 passed, 0 failed")], "bad step": [("left out", "echo", "9 passed, 0 failed")]}
-    gate.beside([("part", "echo", "4 passed, 0 failed")], [("step", "true"), ("bad step", "sh", "-c", "exit 3")], behind)
-    tally.check("side by side: what stands behind a step", (gate.passed, gate.failed, gate.bad) == (7, 1, ["bad step"]), gate.bad)
-    gate = Gate(TOP, io.StringIO())
     script = "echo {0} begins; sleep 0.5; echo {0} ends; echo '1 passed, 0 failed'"
     began = time.monotonic()
     gate.beside([(it, "sh", "-c", script.format(it)) for it in "abc"])
@@ -82,6 +76,28 @@ def try_beside(tally):
     tally.check("side by side: no part waits for another", took < 1.4, took)
 
 
+def try_lanes(tally):
+    """The order in which tasks begin, how many jobs each gets, and what is left out."""
+    tasks = [
+        Task("low", lambda jobs: ["echo", str(jobs)], TOP, (), 5),
+        Task("beside", lambda jobs: ["echo", str(jobs)], TOP, (), 9),
+        Task("high", lambda jobs: ["echo", str(jobs)], TOP, ("low", "no task"), 9),
+        Task("bad", ["false"], TOP, ("high",)),
+        Task("behind", ["true"], TOP, ("bad",)),
+    ]
+    begun = []
+    ended = {it.name: it for it in Lanes(tasks, begun.append).run()}
+    tally.check("the longest chain first", begun[:2] == ["low", "beside"], begun)
+    tally.check("jobs of the longest chain", ended["low"].text == "2\n", ended["low"])
+    tally.check("jobs of what is beside it", ended["beside"].text == "1\n", ended["beside"])
+    tally.check("jobs of what is alone", ended["high"].text in ("2\n", "3\n"), ended["high"])
+    tally.check("what waits for a failure is left out", "behind" not in ended and ended["bad"].status == 1, [*ended])
+    began = time.monotonic()
+    for it in Lanes([Task("quick", ["false"], TOP), Task("slow", ["sleep", "30"], TOP)]).run():
+        break
+    tally.check("what still runs is ended", it.name == "quick" and time.monotonic() - began < 5, it)
+
+
 def main():
     os.environ["RT_JOBS"] = "3"
     tally = Tally()
@@ -89,6 +105,7 @@ def main():
         try_part(tally, *row)
     try_others(tally)
     try_beside(tally)
+    try_lanes(tally)
     return tally.end()
 
 

@@ -81,6 +81,21 @@ def run(folder, lines, *words, **more):
     return out, err, process.returncode
 
 
+def count(number, word):
+    """So many of them, as `1 page` and `2 pages`."""
+    return b"%d %s%s" % (number, word, b"" if number == 1 else b"s")
+
+
+def read_line(edits, pages):
+    """What a start tells of the journal that it read."""
+    return b"pocsag: %s read, %s\n" % (count(edits, b"edit"), count(pages, b"page"))
+
+
+def torn_line(torn, fate):
+    """What it tells of a torn line."""
+    return b"pocsag: a torn line of %s is %s\n" % (count(torn, b"byte"), fate)
+
+
 def is_count(answer):
     return answer.startswith(b"ok ")
 
@@ -105,7 +120,7 @@ def try_first_use(tally, folder):
     process.wait()
     found, err = listed(place)
     tally.check("first use: the list", found == listing(all_after(lines)), found)
-    tally.check("first use: what it tells", err == b"pocsag: 10 edits read, 10 pages\n", err)
+    tally.check("first use: what it tells", err == read_line(10, 10), err)
 
 
 def one_life(process, chooser, pages, count):
@@ -191,8 +206,8 @@ def try_cuts(tally, folder):
         torn = length - (text[:length].rfind(b"\n") + 1)
         pages = all_after(SAMPLE[: max(0, whole - 1)])
         found, err = listed(place)
-        told = b"pocsag: a torn line of %d bytes is cut off\n" % torn if torn else b""
-        told += b"pocsag: %d edits read, %d pages\n" % (max(0, whole - 1), len(pages))
+        told = torn_line(torn, b"cut off") if torn else b""
+        told += read_line(max(0, whole - 1), len(pages))
         tally.check(f"cut at {length}", (found, err) == (listing(pages), told), (found, err))
         anew = FIRST_LINE + b"".join(b"add,%d,%s\n" % page for page in pages)
         tally.check(f"cut at {length}, written anew", path.read_bytes() == anew, path.read_bytes())
@@ -298,7 +313,7 @@ def try_harms(tally, folder):
     """A journal that another program moves, deletes, cuts or writes to while it is held gives no `ok` any more, and what
     stands there stays as it was left. It is opened to append."""
     for number, harm in enumerate(HARMS):
-        for more, notes in (([], []), (["--verbose"], ["journal round.journal: what stands there now stays as it is"])):
+        for more in ([], ["--verbose"]):
             place = folder / f"harm{number}{len(more)}"
             place.mkdir()
             path = place / "round.journal"
@@ -309,7 +324,7 @@ def try_harms(tally, folder):
             harm(path)
             left = {other.name: other.read_bytes() for other in place.iterdir()}
             out, err = process.communicate(b"add,16,tone0,\nadd,24,tone0,\n", timeout=60)
-            due = b"pocsag: 0 edits read, 0 pages\n" + told(MOVED.decode(), notes)
+            due = read_line(0, 0) + told(MOVED.decode(), [])
             tally.check(f"harm {number} {more}", (out, err, process.returncode) == (b"", due, 3), (out, err, process.returncode))
             stands = {other.name: other.read_bytes() for other in place.iterdir()}
             tally.check(f"harm {number} {more}: the files", stands == left, (stands, left))
@@ -400,7 +415,7 @@ def try_read_only(tally, folder):
         process.stdin.flush()
         tally.check(f"read only: {line}", process.stdout.readline() == b"ok %d\n" % (number + 1))
     found = run(place, [b"clear"], "--read-only")
-    due = (HEADER + b"8,alpha,Ward 3\n16,tone0,\n", b"pocsag: 2 edits read, 2 pages\n", 0)
+    due = (HEADER + b"8,alpha,Ward 3\n16,tone0,\n", read_line(2, 2), 0)
     tally.check("read only: a journal that is held", found == due, found)
     process.stdin.write(b"cancel,8\n")
     process.stdin.flush()
@@ -410,7 +425,7 @@ def try_read_only(tally, folder):
     with path.open("ab") as file:
         file.write(b"add,24,al")
     stood = path.stat()
-    due = (HEADER + b"16,tone0,\n", b"pocsag: a torn line of 9 bytes is passed over\npocsag: 3 edits read, 1 pages\n", 0)
+    due = (HEADER + b"16,tone0,\n", torn_line(9, b"passed over") + read_line(3, 1), 0)
     users = [[]]
     user = as_nobody(place)
     if user:
@@ -450,9 +465,9 @@ def try_use(tally, folder):
     path = place / "round.journal"
     (place / "pages.csv").write_bytes(HEADER + b'8,alpha,"Ward 3, now"\n16,numeric,"12   345     "\n24,numeric, \n')
     out, err, status = run(place, [b"list"], "pages.csv")
-    tally.check("PAGES and a new journal", (err, status) == (b"pocsag: 0 edits read, 3 pages\n", 0), (out, err))
+    tally.check("PAGES and a new journal", (err, status) == (read_line(0, 3), 0), (out, err))
     again, err, status = run(place, [b"list", b"add,32,tone0,"])
-    tally.check("the pages of PAGES are kept", again.startswith(out) and err == b"pocsag: 3 edits read, 3 pages\n", (out, again, err))
+    tally.check("the pages of PAGES are kept", again.startswith(out) and err == read_line(3, 3), (out, again, err))
     held = path.read_bytes()
     out, err, status = run(place, [b"list"], "pages.csv")
     due = b"pocsag: the journal holds edits, so the round cannot begin with PAGES\n"
@@ -461,7 +476,7 @@ def try_use(tally, folder):
     fed = subprocess.run([str(PROGRAM), "open"], input=held + b"list\n", capture_output=True, timeout=60)
     tally.check("the journal as input", b"refused" not in fed.stdout and fed.stdout.count(b"ok ") == held.count(b"\n") + 1, fed)
     process = start(place)
-    tally.check("a program that holds it", process.stderr.readline() == b"pocsag: 4 edits read, 4 pages\n")
+    tally.check("a program that holds it", process.stderr.readline() == read_line(4, 4))
     second = run(place, [b"list"])
     tally.check("a second program", second == (b"", b"pocsag: another program holds the journal\n", 1), second)
     process.kill()
@@ -562,31 +577,29 @@ def fill_and_keep(tally, room):
 
 
 NO_FILE, IS_FOLDER, NO_RIGHT, TOO_LARGE = (f"{os.strerror(code)} (os error {code})" for code in (2, 21, 13, 27))
-REGULAR = "a regular file is wanted, and no link to one"
 BAD = "journal line %d: no edit that the pages before it accept"
 BEGUN = "the journal holds edits, so the round cannot begin with PAGES"
 TWICE = "the same file is named twice"
-TWO_OTHERS = "the lines of open come from standard input, so PAGES and FILE must be two other files"
 CANNOT = "cannot read or open a file"
 
-# The words behind `open`, the status, what is told without `--verbose`, and the notes behind it.
+# The words behind `open`, the status, what is told without `--verbose`, and the note behind it: the file that the system refused.
 REFUSED = [
     (["--journal", "none/j"], 3, CANNOT, [f"journal none/j: {NO_FILE}"]),
     (["--journal", "folder"], 3, CANNOT, [f"journal folder: {IS_FOLDER}"]),
-    (["--journal", "link"], 3, CANNOT, [f"journal link: {REGULAR}"]),
-    (["--journal", "/dev/full"], 3, CANNOT, [f"journal /dev/full: {REGULAR}"]),
-    (["--journal", "fifo"], 3, CANNOT, [f"journal fifo: {REGULAR}"]),
+    (["--journal", "link"], 3, CANNOT, []),
+    (["--journal", "/dev/full"], 3, CANNOT, []),
+    (["--journal", "fifo"], 3, CANNOT, []),
     (["--journal", "a\nb/\x1b[2J"], 3, CANNOT, [f"journal a?b/?[2J: {NO_FILE}"]),
-    (["--journal", "-"], 1, TWICE, [TWO_OTHERS]),
-    (["pages.csv", "--journal", "pages.csv"], 1, TWICE, ["page file pages.csv", TWO_OTHERS]),
-    (["pages.csv", "--journal", "./pages.csv"], 1, TWICE, ["page file pages.csv", TWO_OTHERS]),
-    (["-", "--journal", "new"], 1, TWICE, ["page file -", TWO_OTHERS]),
+    (["--journal", "-"], 1, TWICE, []),
+    (["pages.csv", "--journal", "pages.csv"], 1, TWICE, []),
+    (["pages.csv", "--journal", "./pages.csv"], 1, TWICE, []),
+    (["-", "--journal", "new"], 1, TWICE, []),
     (["none.csv", "--journal", "new"], 3, CANNOT, [f"page file none.csv: {NO_FILE}"]),
-    (["pages.csv", "--journal", "held"], 1, BEGUN, ["journal held: it stays as it is"]),
-    (["--journal", "bad"], 1, BAD % 3, ["journal bad: it stays as it is"]),
-    (["--journal", "other"], 1, "not a journal", ["journal other: it stays as it is"]),
-    (["--journal", "later"], 1, "a journal of another version", ["journal later: it stays as it is"]),
-    (["feed.csv", "--journal", "new"], 1, "page 1: no line of a journal holds its message", ["journal new: it stays as it is"]),
+    (["pages.csv", "--journal", "held"], 1, BEGUN, []),
+    (["--journal", "bad"], 1, BAD % 3, []),
+    (["--journal", "other"], 1, "not a journal", []),
+    (["--journal", "later"], 1, "a journal of another version", []),
+    (["feed.csv", "--journal", "new"], 1, "page 1: no line of a journal holds its message", []),
 ]
 
 
@@ -626,12 +639,12 @@ def try_verbose_later(tally, folder):
     held = "another program holds the journal"
     process = start(place)
     process.stderr.readline()
-    for more, due in (([], told(held, [])), (["--verbose"], told(held, ["journal round.journal: it stays as it is"]))):
+    for more in ([], ["--verbose"]):
         done = run(place, [b"list"], *more)
-        tally.check(f"told of a journal that is held {more}", done == (b"", due, 1), done)
+        tally.check(f"told of a journal that is held {more}", done == (b"", told(held, []), 1), done)
     process.kill()
     process.wait()
-    read = b"pocsag: 0 edits read, 0 pages\n"
+    read = read_line(0, 0)
     lines = [b"add,%d,tone0," % (8 * number) for number in range(9)]
     for more, notes in (([], []), (["--verbose"], [f"journal round.journal: {TOO_LARGE}"])):
         (place / "round.journal").unlink(missing_ok=True)
@@ -658,12 +671,12 @@ def try_many(tally, folder):
     (place / "pages.csv").write_bytes(file)
     out, err, status = run(place, [b"add,20000,tone0,", b"cancel,0", b"add,20000,tone0,"], "pages.csv")
     due = b"refused: too many pages\nok 19999\nok 20000\n"
-    tally.check("many pages", (out, err, status) == (due, b"pocsag: 0 edits read, 20000 pages\n", 0), (out, err, status))
+    tally.check("many pages", (out, err, status) == (due, read_line(0, 20000), 0), (out, err, status))
     found, err = listed(place)
-    tally.check("many pages: the edits", err == b"pocsag: 20002 edits read, 20000 pages\n", err)
+    tally.check("many pages: the edits", err == read_line(20002, 20000), err)
     tally.check("many pages: the list", found == file.replace(b"0,alpha,Ward 0\n", b"", 1) + b"20000,tone0,\n")
     found, err = listed(place)
-    tally.check("many pages: written anew", err == b"pocsag: 20000 edits read, 20000 pages\n", err)
+    tally.check("many pages: written anew", err == read_line(20000, 20000), err)
 
 
 def try_growth(tally, folder):

@@ -7,6 +7,7 @@ each way in which a build can go is tried in a moment. The last line is 'N passe
 
 import os
 import pathlib
+import re
 import shutil
 import signal
 import subprocess
@@ -18,27 +19,29 @@ sys.dont_write_bytecode = True
 sys.path.insert(0, str(pathlib.Path(__file__).resolve().parents[1]))
 from tally import TOP, Tally, as_nobody
 
-CRATES = "low:\nmiddle: low csv\npocsag_app: clap middle low\npocsag_beside: middle\npocsag_trial: low\n"
+CRATES = "low:\nmiddle: low csv\npocsag_first: low\npocsag_app: clap middle low\npocsag_beside: middle\npocsag_trial: low\n"
+NAMES = ("low", "middle", "pocsag_first", "pocsag_app", "pocsag_beside", "pocsag_trial")
 # Other forms of the same list that the prover reads.
 FORMS = [
-    "low :\nmiddle : low csv\npocsag_app : clap middle low\npocsag_beside: middle\npocsag_trial: low\n",
-    "low\nmiddle: low, csv\npocsag_app: clap,middle,low\npocsag_beside: middle\npocsag_trial: low\n",
-    "# all\n  low: # the lowest\n\n  middle:  low csv  # next\npocsag_app status=0: clap middle low\npocsag_beside: middle\npocsag_trial: low\n",
-    "pocsag_app: clap middle low\npocsag_trial: low\npocsag_beside: middle\nmiddle: low csv\nlow:\n",
+    "low :\nmiddle : low csv\npocsag_first: low\npocsag_app : clap middle low\npocsag_beside: middle\npocsag_trial: low\n",
+    "low\nmiddle: low, csv\npocsag_first: low\npocsag_app: clap,middle,low\npocsag_beside: middle\npocsag_trial: low\n",
+    "# all\n  low: # the lowest\n\n  middle:  low csv  # next\npocsag_first: low\npocsag_app status=0: clap middle low\npocsag_beside: middle\npocsag_trial: low\n",
+    "pocsag_app: clap middle low\npocsag_trial: low\npocsag_beside: middle\npocsag_first: low\nmiddle: low csv\nlow:\n",
 ]
 COMMANDS = "bash basename cat chmod dirname find mkdir mv pwd readlink rm sh sleep touch".split()
 
-# What each stand-in does when it is called as `rt run .. -- --help` in the program's folder.
+# What each stand-in does when it is called as `rt run .. -- --help` in a program's folder.
 MAKES = """mkdir -p out
-rm -f out/pocsag_app
-cat > out/pocsag_app <<'PROGRAM'
+made=out/$(basename "$(pwd)")
+rm -f "$made"
+cat > "$made" <<'PROGRAM'
 #!/bin/sh
-echo "words: $*"
+echo "$(basename "$0"): $*"
 echo "folder: $(pwd)"
 cat
 exit 7
 PROGRAM
-chmod +x out/pocsag_app
+chmod +x "$made"
 """
 EDITS = "echo later > ../middle/src/lib.rt\n"
 STAND_INS = {
@@ -64,10 +67,10 @@ class Clone:
         shutil.copy(TOP / "pocsag", self.top / "pocsag")
         shutil.copytree(TOP / "tools", self.top / "tools")
         (self.top / "crates.txt").write_text(CRATES)
-        for crate in ("low", "middle", "pocsag_app", "pocsag_beside", "pocsag_trial"):
+        for crate in NAMES:
             source = self.top / "crates" / crate / "src"
             source.mkdir(parents=True)
-            (source / ("main.rt" if crate == "pocsag_app" else "lib.rt")).write_text("first\n")
+            (source / ("main.rt" if crate in ("pocsag_first", "pocsag_app") else "lib.rt")).write_text("first\n")
         for command in COMMANDS:
             (self.commands / command).symlink_to(shutil.which(command))
         python = shutil.which("python3", path="/usr/bin:/bin") or sys.executable  # one that any user can run
@@ -87,20 +90,20 @@ class Clone:
     def environment(self, **more):
         return {"PATH": str(self.commands), "TMPDIR": str(self.temporary), **more}
 
-    def start(self, words=(), folder=None, script=None, before=(), **more):
+    def start(self, words=("w",), folder=None, script=None, before=(), **more):
         return subprocess.Popen(
             [*before, str(script or self.top / "pocsag"), *words],
             stdin=subprocess.PIPE, stdout=subprocess.PIPE, stderr=subprocess.PIPE,
             cwd=folder or self.top, env=self.environment(**more), text=True, start_new_session=True,
         )
 
-    def run(self, words=(), folder=None, script=None, stdin="", before=(), **more):
+    def run(self, words=("w",), folder=None, script=None, stdin="", before=(), **more):
         process = self.start(words, folder, script, before, **more)
         out, err = process.communicate(stdin, timeout=60)
         return process.returncode, out, err
 
     def builds(self):
-        """How often the program was built, and the whole list of calls without their jobs."""
+        """How often the whole program was built, and the list of all calls without their jobs."""
         calls = self.calls.read_text().splitlines() if self.calls.exists() else []
         calls = [call.partition(" --jobs")[0] for call in calls]
         return calls.count("pocsag_app run"), calls
@@ -110,8 +113,8 @@ class Clone:
 
 
 def try_success(tally, clone):
-    status, out, err = clone.run(["plan", "a b", ""], stdin="input\n")
-    tally.check("arguments, folder, input and status", (status, out) == (7, f"words: plan a b \nfolder: {clone.top}\ninput\n"), (status, out, err))
+    status, out, err = clone.run(["decode", "a b", ""], stdin="input\n")
+    tally.check("arguments, folder, input and status", (status, out) == (7, f"pocsag_app: decode a b \nfolder: {clone.top}\ninput\n"), (status, out, err))
     count, calls = clone.builds()
     tally.check("each crate once, lowest first", calls == ["low lib", "middle lib", "pocsag_app run"], calls)
     begun = [f"proving {name} ({place} of 3)" for place, name in enumerate(("low", "middle", "pocsag_app"), 1)]
@@ -137,9 +140,9 @@ def try_success(tally, clone):
     link = elsewhere / "planner"
     link.symlink_to(clone.top / "pocsag")
     status, out, err = clone.run(["y"], folder=elsewhere, script=link)
-    tally.check("a symbolic link from another folder", (status, out, err) == (7, f"words: y\nfolder: {elsewhere}\n", ""), (status, out, err))
+    tally.check("a symbolic link from another folder", (status, out, err) == (7, f"pocsag_app: y\nfolder: {elsewhere}\n", ""), (status, out, err))
     status, out, err = clone.run(["y"], folder=elsewhere, script="../clone/pocsag")
-    tally.check("a path from another folder", (status, out, err) == (7, f"words: y\nfolder: {elsewhere}\n", ""), (status, out, err))
+    tally.check("a path from another folder", (status, out, err) == (7, f"pocsag_app: y\nfolder: {elsewhere}\n", ""), (status, out, err))
 
 
 def try_old_times(tally, clone):
@@ -187,7 +190,7 @@ def try_forms(tally, clone):
         status, _, err = clone.run()
         count, calls = clone.builds()
         tally.check(f"form {number} of the list", status == 7 and calls == ["low lib", "middle lib", "pocsag_app run"], (err, calls))
-    (clone.top / "crates.txt").write_text("low: middle\nmiddle: low\npocsag_app: low\n")
+    (clone.top / "crates.txt").write_text("low: middle\nmiddle: low\npocsag_app: low\npocsag_first: low\n")
     status, _, err = clone.run()
     tally.check("a ring of crates", status == 3 and "uses itself" in err, (status, err))
     (clone.top / "crates.txt").write_text("low:\n! middle\n")
@@ -200,7 +203,7 @@ def try_options(tally, clone):
         clone.source("low").write_text(option)
         status, out, err = clone.run(["w"], SHELLOPTS=option)
         status, out, err = clone.run(["w"], SHELLOPTS=option)
-        tally.check(f"{option} handed down", (status, out, err) == (7, f"words: w\nfolder: {clone.top}\n", ""), (status, err))
+        tally.check(f"{option} handed down", (status, out, err) == (7, f"pocsag_app: w\nfolder: {clone.top}\n", ""), (status, err))
 
 
 def open_to_all(clone):
@@ -235,7 +238,7 @@ def try_unwritable(tally, clone):
 
 
 def try_failure(tally, clone):
-    status, out, err = clone.run(["plan"])
+    status, out, err = clone.run(["decode"])
     tally.check("a build that fails", status == 3 and out == "" and "goal left open" in err and "pocsag_app failed" in err, (status, out, err))
     tally.check("no log is left by it", list(clone.temporary.iterdir()) == [])
     clone.stand_in("makes")
@@ -257,10 +260,10 @@ def try_missing(tally, clone):
     tally.check("another time, and no rt", (status, err) == (7, ""), (status, err))
     clone.source("low").write_text("edited\n")
     status, out, err = clone.run(["u"])
-    tally.check("an edit, and no rt", status == 7 and out.startswith("words: u\n") and "may be old" in err, (status, out, err))
+    tally.check("an edit, and no rt", status == 7 and out.startswith("pocsag_app: u\n") and "may be old" in err, (status, out, err))
     (clone.commands / "python3").unlink()
     status, out, err = clone.run(["u"])
-    tally.check("an edit, and no python3", status == 7 and out.startswith("words: u\n") and "may be old" in err, (status, out, err))
+    tally.check("an edit, and no python3", status == 7 and out.startswith("pocsag_app: u\n") and "may be old" in err, (status, out, err))
     shutil.rmtree(clone.top / "crates/pocsag_app/out")
     status, out, err = clone.run(["u"])
     tally.check("no program, and no python3", (status, out) == (3, "") and "python3" in err, (status, out, err))
@@ -289,7 +292,7 @@ def try_two_at_once(tally, clone):
 
 def try_side_by_side(tally, clone):
     """Crates that do not wait for each other, each a second long."""
-    (clone.top / "crates.txt").write_text("low:\nmiddle:\npocsag_beside:\npocsag_app: low middle pocsag_beside\n")
+    (clone.top / "crates.txt").write_text("low:\nmiddle:\npocsag_beside:\npocsag_first: low\npocsag_app: low middle pocsag_beside\n")
     rt = clone.commands / "rt"
     rt.write_text(rt.read_text().replace('[ "$1" = run ] || exit 0\n', '[ "$1" = run ] || { sleep 1; exit 0; }\n'))
     start = time.monotonic()
@@ -323,8 +326,89 @@ def try_interrupt(tally, clone):
     tally.check("and the next call builds", clone.run()[0] == 7)
 
 
+def try_first(tally, clone):
+    """The program of the centre's commands, which a call builds that needs no more."""
+
+    def call(name, words, program, calls):
+        before = len(clone.builds()[1])
+        status, out, err = clone.run(words)
+        more = clone.builds()[1][before:]
+        wanted = (7, f"{program}: {' '.join(words)}\nfolder: {clone.top}\n", calls)
+        tally.check(name, (status, out, more) == wanted, (status, out, more, err))
+        return err
+
+    first, rest = ["low lib", "pocsag_first run"], ["low lib", "middle lib", "pocsag_app run"]
+    err = call("no words build the first program", [], "pocsag_first", first)
+    tally.check("the wait for it is told", "building plan, check and report" in err and "minutes" in err and "another command takes" in err, err)
+    for word in ("plan", "check", "report"):
+        call(f"{word} runs it", [word, "--help"], "pocsag_first", [])
+    clone.source("middle").write_text("edited\n")
+    call("an edit above it builds nothing", ["plan"], "pocsag_first", [])
+    err = call("another word builds the rest", ["--help"], "pocsag_app", rest)
+    tally.check("what more is waited for is told", "other commands" in err and "minutes more" in err, err)
+    call("the whole program is run then", ["plan"], "pocsag_app", [])
+    clone.source("middle").write_text("again\n")
+    call("the first one where the whole is old", ["report"], "pocsag_first", [])
+    clone.source("low").write_text("edited\n")
+    call("the first one anew where both are old", ["check"], "pocsag_first", first)
+    for word in ("", "plans", "--version", "decode"):
+        clone.source("middle").write_text(f"for {word}\n")
+        call(f"'{word}' wants the whole", [word], "pocsag_app", rest)
+    os.utime(clone.source("low"), (10**9, 10**9))
+    call("another time alone builds neither", ["plan"], "pocsag_app", [])
+    shutil.rmtree(clone.top / "crates/pocsag_app/out")
+    (clone.commands / "rt").unlink()
+    clone.source("low").write_text("no rt\n")
+    status, out, err = clone.run(["plan"])
+    tally.check("the first one where nothing can be built", out.startswith("pocsag_first: plan\n") and "may be old" in err, (status, out, err))
+    tally.check("and no other command", clone.run(["decode"])[:2] == (3, ""))
+    (clone.commands / "python3").unlink()
+    status, out, err = clone.run(["plan"])
+    tally.check("nor without python3", out.startswith("pocsag_first: plan\n") and "may be old" in err, (status, out, err))
+
+
+def try_multiples(tally, clone):
+    """How many times the lowest crate a build takes is told where that crate is proved from nothing too."""
+    (clone.top / "crates.txt").write_text("pocsag_words:\npocsag_first: pocsag_words\npocsag_app: pocsag_words\n")
+    source = clone.top / "crates/pocsag_words/src/lib.rt"
+    source.parent.mkdir(parents=True)
+    rt = clone.commands / "rt"
+    made, times = rt.read_text(), r"proved in 0:0\d"
+    for name, does, wanted in [
+        ("from nothing", "true", times + r", \d+\.\d times pocsag_words"),
+        ("over what another copy kept", "echo 'rt: pocsag_words: begins with what a check kept in x'; mkdir -p out/incremental", times),
+        ("over what was kept", "true", times),
+    ]:
+        rt.write_text(made.replace("exit 0\n", f"{{ {does}; exit 0; }}\n", 1))
+        source.write_text(name)
+        _, _, err = clone.run()
+        tally.check(f"the multiples {name}", re.search(rf"^pocsag: {wanted}$", err, re.M), err)
+
+
+def try_gate(tally, clone):
+    """The programs that `rt ci` leaves are taken as they are, and only where it passed."""
+    rt = clone.commands / "rt"
+    made = rt.read_text()
+    for status, calls in ((1, ["low lib", "pocsag_first run"]), (0, [])):
+        rt.write_text(made.replace('[ "$1" = run ]', f"""if [ "$1" = ci ]; then
+    for name in pocsag_first pocsag_app; do (cd crates/$name && {{ {MAKES} }}) done
+    exit {status}
+fi
+[ "$1" = run ]""", 1))
+        words = [str(clone.commands / "python3"), str(clone.top / "tools/build.py"), "ci"]
+        ended = subprocess.run(words, cwd=clone.top, env=clone.environment()).returncode
+        tally.check(f"its status {status}", ended == status, ended)
+        before = len(clone.builds()[1])
+        clone.run(["plan"])
+        tally.check(f"what is built after status {status}", clone.builds()[1][before:] == calls, clone.builds()[1][before:])
+    tally.check("the whole program is taken too", clone.run(["w"])[0] == 7 and clone.builds()[0] == 0, clone.builds())
+
+
 TRIALS = [
     ("makes", try_success),
+    ("makes", try_first),
+    ("makes", try_multiples),
+    ("makes", try_gate),
     ("makes", try_old_times),
     ("makes", try_forms),
     ("makes", try_options),

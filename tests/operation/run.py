@@ -150,14 +150,15 @@ def heed_interrupts():
 
 
 def kill_often(tally, room, words, lines, kills):
-    """Ends the command at random moments, its page file now this one and now that one."""
+    """Ends the command at random moments, its page file now this one and now that one. What is waited for at most follows
+    how long the command takes, which depends on what else runs on this machine. A command that reads `lines` runs on."""
     room.mkdir()
     files = [HEADER + b"".join(b"%d,numeric,%d\n" % (k, 10**9 + k + n) for k in range(4000)) for n in (0, 5000)]
     dues = [planned(room, file, f"due {n}") for n, file in enumerate(files)]
     (room / "pages.csv").write_bytes(files[0])
     start = time.monotonic()
     subprocess.run(words, cwd=room, input=lines, check=True, capture_output=True)
-    whole = time.monotonic() - start
+    longest = 1.3 * (time.monotonic() - start)
     chance = random.Random(28)
     ended = 0
     for number in range(kills):
@@ -167,9 +168,11 @@ def kill_often(tally, room, words, lines, kills):
         process = subprocess.Popen(words, preexec_fn=heed_interrupts, **how)
         process.stdin.write(lines)
         process.stdin.flush()
-        time.sleep(chance.uniform(0, 1.3 * whole))
+        time.sleep(chance.uniform(0, longest))
         process.send_signal(chance.choice([signal.SIGKILL, signal.SIGINT, signal.SIGTERM]))
-        ended += process.wait(60) != 0
+        is_ended = process.wait(60) != 0
+        ended += is_ended
+        longest *= 1 if lines else 1.2 if is_ended else 0.7
         process.stdin.close()
         tally.check(f"ended at a random moment, {words[1]} {number}", is_one_of(stand(room), before, due))
     tally.check(f"some of {words[1]} were ended", 0 < ended and (ended < kills or lines), ended)
@@ -365,7 +368,7 @@ def try_recipe(tally, folder):
     lines = sorted(done.stderr.splitlines())
     wanted = [
         "pocsag: cannot write",
-        "pocsag: page file channels/57.csv, line 3, record 2, address '9': the kind is 'alfa', not tone0, tone1, tone2, tone3, numeric or alpha",
+        "pocsag: page file channels/57.csv: line 3: 9,alfa,Fire",
         "pocsag: record 2: unknown kind",
         "pocsag: transmission channels/58.bin: Is a directory (os error 21)",
     ]

@@ -9,7 +9,7 @@ sys.dont_write_bytecode = True
 from tally import PROGRAM
 
 HEADER = b"address,kind,message\n"
-FRONT, WORD, BATCH = 72, 4, 68
+FRONT, WORD = 72, 4
 VIEWS = ([], ["--rows", "1"], ["--rows", "2-"], ["--svg"], ["--svg", "--rows", "1-2"], ["--list"])
 
 
@@ -36,28 +36,23 @@ def flipped(word, bits):
 
 
 def damaged(sent, source):
-    """The bytes with up to two wrong bits in each word, how many words and bits are wrong, and the marks of each batch."""
-    out, words, bits, marks = [sent[:FRONT]], 0, 0, []
-    for batch in range(FRONT, len(sent), BATCH):
-        letters = ""
-        for place in range(batch, batch + BATCH, WORD):
-            wrong = source.sample(range(32), source.choice([0, 0, 0, 1, 2]))
-            out.append(flipped(sent[place : place + WORD], wrong))
-            words, bits = words + bool(wrong), bits + len(wrong)
-            letters += ("r" if wrong else ".") + (" " if (place - batch) // WORD % 2 == 0 else "")
-        if "r" in letters:
-            marks.append(f"pocsag: batch {(batch - FRONT) // BATCH + 1}: {letters.rstrip()}\n")
-    return b"".join(out), words, bits, marks
+    """The bytes with up to two wrong bits in each word, and how many words and bits are wrong."""
+    out, words, bits = [sent[:FRONT]], 0, 0
+    for place in range(FRONT, len(sent), WORD):
+        wrong = source.sample(range(32), source.choice([0, 0, 0, 1, 2]))
+        out.append(flipped(sent[place : place + WORD], wrong))
+        words, bits = words + bool(wrong), bits + len(wrong)
+    return b"".join(out), words, bits
 
 
 def try_transmission(tally, folder, source):
     (folder / "p.csv").write_bytes(random_file(source))
     run(["plan", "p.csv", "tx.bin", "cert.bin", "--always"], folder)
     sent = (folder / "tx.bin").read_bytes()
-    received, words, bits, marks = damaged(sent, source)
+    received, words, bits = damaged(sent, source)
     (folder / "rx.bin").write_bytes(received)
     count = f"pocsag: transmission rx.bin: corrected bits {bits}, words {words}\n"
-    for command, views, notes in (("decode", ([],), count), ("show", VIEWS, count + "".join(marks))):
+    for command, views in (("decode", ([],)), ("show", VIEWS)):
         for view in views:
             due = run([command, "tx.bin", *view], folder)
             plain = run([command, "tx.bin", *view, "--repair"], folder)
@@ -65,7 +60,7 @@ def try_transmission(tally, folder, source):
             tally.check(f"{command} {view} of what was sent", same, plain)
             for more in ([], ["--verbose"]):
                 done = run([command, "rx.bin", *view, "--repair", *more], folder)
-                told = notes if more and due.returncode == 0 else None
+                told = count if more and due.returncode == 0 else None
                 holds = (done.returncode, done.stdout) == (due.returncode, due.stdout) and (told is None or done.stderr.decode() == told)
                 tally.check(f"{command} {view} {more} of what was received", holds, (done, told))
             refused = run([command, "rx.bin", *view], folder).returncode

@@ -2,8 +2,8 @@
 """Lists each word of specs/ that a public clause cites, and wants a row of docs/DEFINITIONS.md for it that names its
 file; and wants each word of specs/ to have one meaning: no name is given in two modules. Of the code it wants that no
 two crates give a name to two things, a module aside, but for the names of twice.txt, which tells of each why; that
-each line of a clause ends at column 120 (break_lines.py breaks longer ones); that `thiserror` derives each fault; and
-that a crate uses the libraries that crates.txt gives it.
+each line of a clause ends at column 120 (break_lines.py breaks longer ones); that `thiserror` derives each fault, and a
+table of tests has its text; and that a crate uses the libraries that crates.txt gives it.
 
 A clause is public where it stands on a function that its crate passes on, on a method of a type that it
 passes on, on a method of a public trait, or on a command of the program. The last line is
@@ -26,6 +26,7 @@ IGNORED_CRATES = {f"pocsag_{of}" for of in ("command_cases", "low_cases", "plan_
 ITEM = re.compile(r"^(?:pub(?:\([^)]*\))? )?(?:const )?(?:unsafe )?(?:extern \"C\" )?(?:fn|struct|enum|trait|const|static|type) (\w+)")
 LAST_COLUMN = 120
 FAULT = re.compile(r"((?:^#\[[^\n]*\]\n)*)^pub(?:\([^)]*\))? (?:enum|struct) (\w*Fault)\b", re.MULTILINE)
+TOLD = re.compile(r"^#\[derive\([^)]*\bError\b[^)]*\)\]\n(?:#\[[^\n]*\]\n)*pub (enum|struct) (\w+)(;|.*?^\})", re.MULTILINE | re.DOTALL)
 LIBRARIES = {"arrayvec", "clap", "csv", "indexmap", "thiserror"}
 
 
@@ -112,7 +113,7 @@ def check_meanings(tally):
 
 def sources():
     """Each file of code of the crates that are not for tests alone, by its crate."""
-    for crate in sorted((TOP / "crates").iterdir()):
+    for crate in sorted(TOP.glob("crates/*")):
         if crate.name not in IGNORED_CRATES:
             for file in sorted((crate / "src").rglob("*.rt")):
                 yield crate.name, file
@@ -144,6 +145,17 @@ def check_faults(tally):
             by_hand = re.search(rf"impl (?:[\w:]+::)?(?:Display|Debug|Error) for {name}\b", text)
             is_derived = {"Debug", "Error"} <= derived and "use thiserror::Error;" in text
             tally.check(f"derived text of {crate} {name}", is_derived and not by_hand, f"derives {sorted(derived)}")
+
+
+def check_texts(tally):
+    """Wants each fault and each of its variants to have a row in a table of texts, a `fault_texts.rt` of the tests."""
+    tables = "".join(table.read_text() for table in TOP.glob("crates/*/src/fault_texts.rt"))
+    rows = re.sub(r"^use [^;]*;", "", tables, flags=re.MULTILINE)
+    for crate, file in sources():
+        for kind, name, body in TOLD.findall(file.read_text()):
+            variants = re.findall(r"^    (\w+)", body, re.MULTILINE)
+            for told in [f"{name}::{variant}" for variant in variants] if kind == "enum" else [name]:
+                tally.check(f"text of {crate} {told}", re.search(rf"(?<!::)\b{told}\b", rows), "no row of a fault_texts.rt has it")
 
 
 def check_libraries(tally):
@@ -194,7 +206,7 @@ def named_files(row, section):
     """The files of crates that a row of the page names, as (crate, file), and whether each of them is there."""
     crates = [*section, *re.findall(r"`(pocsag_\w+)`", row)]
     names = set(re.findall(r"`([\w/]+\.(?:antt|rt))`", row))
-    folders = [(crate, TOP / "crates" / crate / inner) for crate in crates for inner in ("specs", "")]
+    folders = [(crate, folder / inner) for crate in crates for folder in TOP.glob(f"crates/{crate}") for inner in ("specs", "")]
     there = {(crate, name) for crate, folder in folders for name in names if (folder / name).exists()}
     return there, names == {name for _, name in there}
 
@@ -220,7 +232,7 @@ def check_page(tally):
 def wanted_words():
     """Each word of specs/ that a public clause cites, as (crate, module, name), with a function that cites it."""
     wanted = {}
-    for crate in sorted((TOP / "crates").iterdir()):
+    for crate in sorted(TOP.glob("crates/*")):
         if crate.name in IGNORED_CRATES:
             continue
         root = crate / "src/lib.rt"
@@ -241,6 +253,7 @@ def main():
     check_items(tally)
     check_lengths(tally)
     check_faults(tally)
+    check_texts(tally)
     check_libraries(tally)
     places = check_page(tally)
     check_reader(tally)

@@ -1,13 +1,10 @@
 """Wrong bodies: the files `.edit`, and the rounds in which as many as fit are planted side by side."""
 
-import pathlib
 import re
 
-from source import all_functions, function_at, functions_of, homes_of, reached, with_one_clause
+from source import all_functions, function_at, functions_of, homes_of, own_name, reached, with_one_clause
 
 UNOFFERED = "\npub unoffered : Unoffered\nunoffered = Unoffered\n"  # fits nothing
-FEW = 6  # edits of a round that is not worth what each check costs before it comes to its functions
-MOST = 32  # edits of a round with copies: with their number grows what a check of them holds in memory
 
 
 class Unfit(Exception):
@@ -18,10 +15,10 @@ class Edit:
     """A wrong body: pairs of texts by file, the function that the prover must refuse where the edit names it, and the
     clause that it was last refused at where that is known."""
 
-    def __init__(self, name, text):
-        self.name, self.pairs, self.function, self.clause = name, [], None, None
-        self.functions, self.is_alone, self.is_right = [], False, False
-        self.added, self.whole = {}, self  # what it adds to files, by their paths, and the edit as its own file has it
+    def __init__(self, name, text, clause=None):
+        self.name, self.text, self.clause = name, text, clause
+        self.pairs, self.function, self.functions = [], None, []
+        self.is_alone, self.is_right = False, False
         path = old = None
         for line in text.split("\n"):
             word, _, rest = line.partition(":")
@@ -47,12 +44,12 @@ class Edit:
             line = texts[path].partition(old)[0].count("\n")
             texts[path] = texts[path].replace(old, new)
             places.append((path, line, texts[path]))
-        if not places and not self.added:
+        if not places:
             raise Unfit("it has no 'file:', 'old:' and 'new:'")
-        return texts | {path: texts.get(path, "") + text for path, text in self.added.items()}, places
+        return texts, places
 
     def look(self, texts):
-        """Finds the functions that the edit changes, and whether it has to be tried with no other beside it."""
+        """Finds the functions that the edit changes, and whether it has to be tried with no other beside it; gives the edit."""
         homes, found = homes_of(texts), {}
         for (path, line, text), (_, old, _) in zip(self.planted(texts)[1], self.pairs):
             function = function_at(functions_of(path, text, homes), line)
@@ -63,10 +60,7 @@ class Edit:
         self.functions = list(found.values())
         if self.function and self.function not in [it.name for it in self.functions]:
             self.is_alone = True
-
-    @property
-    def is_copied(self):
-        return self.whole is not self
+        return self
 
     def names(self):
         """The functions that have to be checked, or none where those are that rest on what is changed."""
@@ -78,15 +72,13 @@ class Edit:
 def narrowed(texts, edits):
     """The planted texts in which the contract of each function keeps, of the clauses with a name, the one that its
     edit names, where nothing else that is checked beside it rests on the others."""
-    words, functions = reached(texts), {name: it for name, (_, it) in all_functions(texts).items()}
+    functions = {name: it for name, (_, it) in all_functions(texts).items()}
     checked = {name for edit in edits for name in edit.names()}
     for edit in edits:
         names = edit.names()
-        if not edit.clause or len(names) != 1 or names[0] not in functions or functions[names[0]].is_called_unnamed:
-            continue
-        own = names[0].rpartition("::")[2]
-        if not any(own in words.get(it, {own}) for it in checked - {names[0]}):
-            texts = with_one_clause(texts, names[0], edit.clause) or texts
+        if edit.clause and len(names) == 1 and checked <= functions.keys() and not functions[names[0]].is_called_unnamed:
+            if own_name(names[0]) not in reached(texts, checked - {*names}):
+                texts = with_one_clause(texts, names[0], edit.clause) or texts
     return texts
 
 
@@ -106,14 +98,12 @@ class Round:
     """Edits that are planted side by side: at most one in each function or cycle of functions."""
 
     def __init__(self, texts):
-        self.edits, self.texts, self.units, self.is_full = [], texts, set(), False
+        self.edits, self.texts, self.units = [], texts, set()
 
     def take(self, edit):
         """Plants the edit if it fits, and says whether it did."""
         units = {it.unit for it in edit.functions}
-        if self.is_full or edit.is_alone and self.edits or units & self.units:
-            return False
-        if len(self.edits) >= MOST and edit.is_copied:
+        if self.edits and (edit.is_alone or self.edits[0].is_alone) or units & self.units:
             return False
         try:
             self.texts = edit.planted(self.texts)[0]
@@ -121,18 +111,21 @@ class Round:
             return False
         self.edits.append(edit)
         self.units |= units
-        self.is_full = edit.is_alone
         return True
 
 
 def rounds_of(edits, texts):
-    """The edits in as few rounds as the first that fits gives."""
+    """The edits in as few rounds as the first that fits gives, with a change that is right in the first that has room for it."""
     rounds = []
     for edit in sorted(edits, key=lambda it: it.is_alone):
         if not any(it.take(edit) for it in rounds):
             rounds.append(Round(texts))
             rounds[-1].take(edit)
-    return rounds
+    for it in rounds:
+        right = not it.edits[0].is_alone and right_change(texts, it.units)
+        if right and it.take(right):
+            break
+    return [it.edits for it in rounds]
 
 
 def clauses_of(page, crate):
@@ -141,15 +134,13 @@ def clauses_of(page, crate):
     return {title: clause for title, clause in re.findall(r"\| ([^|`]+) \| `[^`]+`, clause `([\w-]+)` \|", section)}
 
 
-def read_edits(folders, texts, clauses=()):
-    """The edits of these folders that can be planted, with their clauses, and by its name why each other cannot."""
+def read_edits(files, texts, clauses):
+    """The edits of these files that can be planted, with their clauses, and by its name why each other cannot."""
     good, bad = [], {}
-    for file in sorted(it for folder in folders for it in pathlib.Path(folder).glob("*.edit")):
-        edit = Edit(file.stem, file.read_text())
-        edit.clause = dict(clauses).get(re.sub("[_-]", " ", file.stem))
+    for file in files:
+        edit = Edit(file.stem, file.read_text(), clauses.get(re.sub("[_-]", " ", file.stem)))
         try:
-            edit.look(texts)
-            good.append(edit)
+            good.append(edit.look(texts))
         except Unfit as why:
             bad[edit.name] = str(why)
     return good, bad
@@ -158,25 +149,25 @@ def read_edits(folders, texts, clauses=()):
 def right_change(texts, taken):
     """An edit that leaves a function right: a statement more in one that is not among the units taken and calls no
     other of the crate, so that nothing but its own goals can be refused. None where there is no such function."""
-    homes = homes_of(texts)
-    listed = [(path, it) for path in sorted(texts) if path.startswith("src/")
-              for it in functions_of(path, texts[path], homes)]
-    names = {it.name.rpartition("::")[2] for _, it in listed}
+    functions = all_functions(texts)
+    names = {own_name(name) for name in functions}
     # first of those with a contract, whose body begins on a line of its own
-    for skipped, (path, function) in [(skipped, it) for skipped in (0, 1) for it in listed]:
-        lines = texts[path].split("\n")[function.first:function.last + 1]
-        opens = ([place for place, line in enumerate(lines) if line.strip() == "{"]
-                 or [place for place, line in enumerate(lines) if line.endswith(") {") or re.search(r"-> .* \{$", line)])
-        if not opens or function.unit in taken or function.name.startswith("tests::"):
-            continue
-        body = "\n".join(lines[opens[0] + skipped:])
-        if any(f"{name}(" in body for name in names):
-            continue
-        old = "\n".join(lines[:opens[0] + 1])
-        if texts[path].count(old) > 1:
-            continue
-        edit = Edit("a change that is right", "")
-        edit.pairs = [(path, old, old + "\n    let _right = 0_u8;")]
-        edit.functions, edit.is_right = [function], True
-        return edit
+    for opening in (r"\s*\{", r".*(?:\) |-> .* )\{"):
+        for name, (path, function) in functions.items():
+            lines = texts[path].split("\n")[function.first:function.last + 1]
+            opens = next((at for at, line in enumerate(lines) if re.fullmatch(opening, line)), None)
+            if opens is None or function.unit in taken or name.startswith("tests::"):
+                continue
+            old = "\n".join(lines[:opens + 1])
+            if names & called_before_brackets("\n".join(lines[opens + 1:])) or texts[path].count(old) > 1:
+                continue
+            edit = Edit("a change that is right", "")
+            edit.pairs = [(path, old, old + "\n    let _right = 0_u8;")]
+            edit.functions, edit.is_right = [function], True
+            return edit
     return None
+
+
+def called_before_brackets(body):
+    """The names that stand before a bracket."""
+    return set(re.findall(r"\w+(?=\()", body))

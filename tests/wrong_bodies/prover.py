@@ -8,10 +8,10 @@ import subprocess
 import sys
 
 sys.path.insert(0, str(pathlib.Path(__file__).resolve().parents[2] / "tools"))
-import rt_beside
+import kit
 from source import function_at, functions_of, homes_of
+from workspace import PARTS
 
-PARTS = ("src", "specs", "proofs")
 MINUTES = 40  # the longest that one check may take
 CHECKED = re.compile(r"checked \w+?::(\S+), \d+ of \d+")
 STATUS = re.compile(r"fn \w+?::(\S+): (.*)")
@@ -26,25 +26,6 @@ UNOFFERED = "`unoffered`"  # the line that was planted in a proof file and fits 
 UNREADABLE = re.compile(r"is not in scope|has no field|is no name|operand is missing|expected the end|cannot continue")
 
 
-def link_or_copy(source, target):
-    """Makes a hard link, or a copy where the two places are on different file systems."""
-    try:
-        os.link(source, target)
-    except OSError:
-        shutil.copy2(source, target)
-
-
-def rt_check(folder, only=(), words=("rt", "check", "--jobs", "1")):
-    """What a check prints in a crate's folder: of the whole crate, or of these functions and what they call."""
-    words = [*words, *(word for name in only for word in ("--only", name))]
-    how = {"cwd": folder, "stdin": subprocess.DEVNULL, "stdout": subprocess.PIPE, "stderr": subprocess.STDOUT}
-    try:
-        ran = subprocess.run(words, timeout=60 * MINUTES, encoding="utf-8", errors="replace", check=False, **how)
-    except subprocess.TimeoutExpired:
-        return Said(f"the check did not end within {MINUTES} minutes")
-    return Said(ran.stdout)
-
-
 class Said:
     """What a check printed."""
 
@@ -52,9 +33,7 @@ class Said:
         self.lines = text.rstrip("\n").split("\n")
         self.statuses = {it[1]: it[2] for it in map(STATUS.fullmatch, self.lines) if it}
         self.checked = {it[1] for it in map(CHECKED.fullmatch, self.lines) if it}  # and not taken as it was kept
-        verdict = [it for it in self.lines if it.startswith("logic=")]
-        self.has_verdict = bool(verdict) or any(it.startswith("only=") for it in self.lines)
-        self.is_proved = bool(verdict) and verdict[-1].startswith("logic=proved ")
+        self.has_verdict = any(it.startswith(("logic=", "only=")) for it in self.lines)
         self.places = []  # of each goal that is open and each error: path, line from 0, what is said
         for number, line in enumerate(self.lines):
             found = PLACE.match(line)
@@ -133,49 +112,48 @@ class Planted:
         return False, "BAD EDIT: it is refused at no goal of its own"
 
 
+def link_or_copy(source, target):
+    """Makes a hard link, or a copy where the two places are on different file systems."""
+    try:
+        os.link(source, target)
+    except OSError:
+        shutil.copy2(source, target)
+
+
+def copy_kept(source, target):
+    """Copies a folder of kept work. A check puts a new file in the place of what it proved, and writes into none of these."""
+    shutil.copytree(source, target, copy_function=lambda one, other: (link_or_copy if one.endswith(".oantt") else shutil.copy2)(one, other))
+
+
 class Room:
     """A folder with a copy of the crate and of what stands below it, with what their proofs left."""
 
-    def __init__(self, crate, top):
-        self.crate, self.folder = crate, os.path.join(top, "crates", crate.name)
-        os.makedirs(os.path.join(self.folder, "out"))
-        with open(os.path.join(top, "crates.txt"), "w", encoding="utf-8") as listed:
-            listed.writelines(f"{it.line}\n" for it in [*crate.below, crate])
-        for it in crate.below:
+    def __init__(self, crate, below, top):
+        self.kept, self.folder = crate.folder / "out/incremental", pathlib.Path(top) / "crates" / crate.path
+        (self.folder / "out").mkdir(parents=True)
+        (pathlib.Path(top) / "crates.txt").write_text("".join(f"{it.line}\n" for it in [*below, crate]))
+        for it in below:
             for part in (*PARTS, "out/rlib"):
-                if os.path.isdir(f"{it.folder}/{part}"):
-                    target = os.path.join(top, "crates", it.name, part)
-                    shutil.copytree(f"{it.folder}/{part}", target, copy_function=link_or_copy)
+                if (it.folder / part).is_dir():
+                    shutil.copytree(it.folder / part, pathlib.Path(top) / "crates" / it.path / part, copy_function=link_or_copy)
         for part in PARTS:
-            if os.path.isdir(f"{crate.folder}/{part}"):
-                shutil.copytree(f"{crate.folder}/{part}", f"{self.folder}/{part}")
-        self.words = rt_beside.check_words(self.folder)
-
-    def restore_kept(self):
-        """Puts what the crate's own proof left in the place of what a refused check left."""
-        source, target = f"{self.crate.folder}/out/incremental", f"{self.folder}/out/incremental"
-        for at, _, names in os.walk(source):
-            there = target + at[len(source):]
-            os.makedirs(there, exist_ok=True)
-            for name in set(os.listdir(there)) - set(os.listdir(at)):
-                left = f"{there}/{name}"
-                shutil.rmtree(left) if os.path.isdir(left) else os.remove(left)
-            for name in names:
-                was, now = os.stat(f"{at}/{name}"), f"{there}/{name}"
-                is_same = os.path.exists(now) and os.stat(now).st_mtime_ns == was.st_mtime_ns
-                if not is_same or os.stat(now).st_size != was.st_size:
-                    shutil.copy2(f"{at}/{name}", now)
+            if (crate.folder / part).is_dir():
+                shutil.copytree(crate.folder / part, self.folder / part)
+        self.words = kit.check_words(self.folder)
 
     def check(self, texts, only=()):
-        """Checks the copy with these texts of its sources, the whole crate or these functions and what they call."""
-        self.restore_kept()
-        for part in PARTS:
-            for at, _, names in os.walk(f"{self.folder}/{part}"):
-                for it in (f"{at}/{name}" for name in names):
-                    if os.path.relpath(it, self.folder) not in texts:
-                        os.remove(it)
+        """Checks the copy with these texts of its sources, the whole crate or these functions and what they call, over what
+        the crate's own proof left."""
+        for part in (*PARTS, "out/incremental"):
+            shutil.rmtree(self.folder / part, ignore_errors=True)
+        copy_kept(self.kept, self.folder / "out/incremental")
         for path, text in texts.items():
-            os.makedirs(os.path.dirname(f"{self.folder}/{path}"), exist_ok=True)
-            with open(f"{self.folder}/{path}", "w", encoding="utf-8") as it:
-                it.write(text)
-        return Planted(texts, rt_check(self.folder, only, *filter(None, [self.words])))
+            (self.folder / path).parent.mkdir(parents=True, exist_ok=True)
+            (self.folder / path).write_text(text)
+        words = [*self.words, *(word for name in only for word in ("--only", name))]
+        how = {"cwd": self.folder, "stdin": subprocess.DEVNULL, "stdout": subprocess.PIPE, "stderr": subprocess.STDOUT}
+        try:
+            said = subprocess.run(words, timeout=60 * MINUTES, encoding="utf-8", errors="replace", **how).stdout
+        except subprocess.TimeoutExpired:
+            said = f"the check did not end within {MINUTES} minutes"
+        return Planted(texts, Said(said))

@@ -7,7 +7,6 @@ CLAUSE = re.compile(r" *ensures (\w+) \{")
 HEAD = re.compile(r"( *)(?:pub(?:\([^)]*\))? )?(?:const |unsafe |extern \"C\" )*fn (\w+)")
 TYPE = re.compile(r"^(?:pub(?:\([^)]*\))? )?(?:struct|enum) (\w+)", re.MULTILINE)
 CALLED = re.compile(r"(\w+)(?=\s*(?:\(|::<))|(?<=::)(\w+)|(?<=[(,])\s*(\w+)(?=\s*[,)])")
-CONSTANT = re.compile(r"(?:pub(?:\([^)]*\))? )?const (\w+): ")
 CYCLE = re.compile(r"#\[cycle\((\w+)\)\]")
 
 
@@ -21,7 +20,6 @@ class Function(typing.NamedTuple):
     last: int
     is_shown: bool  # has a contract, so that no other function's proof looks into its body
     is_called_unnamed: bool  # a trait's method, or one that calls itself: its contract serves more than named calls
-    is_exported: bool  # to C, by its name
 
 
 def module_of(path):
@@ -30,10 +28,18 @@ def module_of(path):
     return "" if module in ("lib", "main") else module
 
 
+def joined(*names):
+    return "::".join(filter(None, names))
+
+
+def own_name(name):
+    """The name of a function without its module and type."""
+    return name.rpartition("::")[2]
+
+
 def homes_of(texts):
     """The module of each type that the files (texts by path) declare."""
-    return {name: module_of(path) for path, text in texts.items()
-            if path.startswith("src/") for name in TYPE.findall(text)}
+    return {name: module_of(path) for path, text in texts.items() if path.startswith("src/") for name in TYPE.findall(text)}
 
 
 def without_arguments(words):
@@ -50,12 +56,12 @@ def owner_of(header, module, homes):
     if header.startswith("<"):
         header = header[re.match(r"<(?:[^<>]|<[^<>]*>)*>", header).end():].strip()
     of_trait, is_for, of_type = header.rpartition(" for ")
-    name = without_arguments(of_type).rpartition("::")[2]
+    name = own_name(without_arguments(of_type))
     if not is_for:
-        return "::".join(filter(None, (homes.get(name, module), name)))
+        return joined(homes.get(name, module), name)
     trait, _, arguments = of_trait.partition("<")
     inner = [without_arguments(it) for it in re.split(r",(?![^<]*>)", arguments.rstrip("> "))]
-    return "::".join(filter(None, (module, name + trait.strip() + "".join(inner))))
+    return joined(module, name + trait.strip() + "".join(inner))
 
 
 def start_of(lines, head):
@@ -89,33 +95,13 @@ def functions_of(path, text, homes):
         if last is None:
             continue
         first = start_of(lines, number)
-        name = "::".join(filter(None, (owner or module, head[2])))
+        name = joined(owner or module, head[2])
         cycle = CYCLE.search("\n".join(lines[first:number]))
-        unit = "::".join(filter(None, (module, "+" + cycle[1]))) if cycle else name
+        unit = joined(module, "+" + cycle[1]) if cycle else name
         is_shown = of_trait or "ensures" in "\n".join(lines[number:last])
         calls_itself = cycle or head[2] in called_in("\n".join(lines[number + 1:last]))
-        is_exported = 'extern "C"' in line
-        found.append(Function(name, unit, first, last, is_shown, bool(of_trait or calls_itself), is_exported))
+        found.append(Function(name, unit, first, last, is_shown, bool(of_trait or calls_itself)))
     return found
-
-
-class Constant(typing.NamedTuple):
-    """A constant that a source file declares outside its functions and types: its name by its module, and its first and
-    last line, from 0."""
-
-    name: str
-    first: int
-    last: int
-
-
-def constants_of(path, text):
-    """The constants of a file of the crate in the order of their places."""
-    module, lines = module_of(path), text.split("\n")
-    for number, line in enumerate(lines):
-        head = CONSTANT.match(line)
-        if head:
-            last = next(it for it in range(number, len(lines)) if lines[it].endswith(";"))
-            yield Constant("::".join(filter(None, (module, head[1]))), start_of(lines, number), last)
 
 
 def function_at(functions, line):
@@ -137,22 +123,18 @@ def called_in(text):
     return {word for found in CALLED.finditer(code) for word in found.groups() if word}
 
 
-def reached(texts):
-    """By its name the names that each function and all that it may call may call."""
-    called = {name: called_in("\n".join(texts[path].split("\n")[it.first:it.last + 1]))
-              for name, (path, it) in all_functions(texts).items()}
-    homonyms = {}
-    for name in called:
-        homonyms.setdefault(name.rpartition("::")[2], []).append(name)
-    found = {}
-    for name in called:
-        seen, left = {name}, [name]
-        while left:
-            more = {it for word in called[left.pop()] & homonyms.keys() for it in homonyms[word]} - seen
-            seen |= more
-            left += more
-        found[name] = set().union(*(called[it] for it in seen))
-    return found
+def reached(texts, names):
+    """The names that these functions, and all that they may call, may call."""
+    called = {}
+    for name, (path, it) in all_functions(texts).items():
+        body = "\n".join(texts[path].split("\n")[it.first:it.last + 1])
+        called.setdefault(own_name(name), set()).update(called_in(body))
+    seen, left = set(), {own_name(name) for name in names}
+    while left:
+        new = called.get(left.pop(), set()) - seen
+        seen |= new
+        left |= new
+    return seen
 
 
 def with_one_clause(texts, name, clause):

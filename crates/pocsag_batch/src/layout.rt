@@ -10,7 +10,7 @@ ghost use Rattle.pocsag_batch.specs.Placing.{IsOrder, laid_by};
 
 use crate::batches::Batches;
 use crate::laws::orders_give_layouts;
-use crate::placing::order_of;
+use crate::page_order::order_of;
 use crate::slots::Slots;
 use crate::word_list::WordList;
 use pocsag_pages::Round;

@@ -2,25 +2,25 @@
 //! Layouts of a round as batches of codewords, and the bytes of a transmission.
 
 mod batches;
+mod bytes;
 mod laws;
 mod layout;
 mod order;
+mod page_order;
 mod piece;
-mod placing;
 mod queue;
 mod slots;
 mod stream;
 mod word_list;
-mod writing;
 
 pub use batches::Batches;
+pub use bytes::{write, write_slots};
 pub use laws::{
     file_order_exists, file_order_is_legal, file_order_is_one, orders_are_one, orders_give_layouts,
     orders_have_places, tours_have_orders,
 };
 pub use layout::lay_out;
 pub use order::{in_order_batches, lay_in_order};
-pub use placing::order_of;
+pub use page_order::order_of;
 pub use slots::Slots;
 pub use stream::{FirstFault, first_stream};
-pub use writing::{write, write_slots};

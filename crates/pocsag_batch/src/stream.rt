@@ -5,8 +5,8 @@ ghost use Rattle.pocsag_pages.specs.declared.fault.RoundFault.TheVariants as rou
 ghost use Rattle.pocsag_batch.specs.Streams.{ExplainsFault, IsBeforeTransmission, LeavesPrefix, WritesInOrder};
 ghost use Rattle.pocsag_batch.specs.declared.stream.FirstFault.TheVariants as fault;
 
+use crate::bytes::write;
 use crate::order::lay_in_order;
-use crate::writing::write;
 use pocsag_pages::{RoundFault, read_round};
 use pocsag_words::{OutOfMemory, Sink, Source, WriteFault};
 use std::alloc::Global;

@@ -11,7 +11,7 @@ use Rattle.pocsag_branch.specs.declared.answer.Found.{Found}
 use Rattle.pocsag_branch.specs.declared.within_one.Near.{Near}
 use Rattle.pocsag_branch.specs.declared.within_one.FreeFault.{FreeFault}
 use Rattle.pocsag_branch.specs.declared.within_one.FreeFault.TheVariants.{SearchLimit, OutOfMemory}
-use Rattle.pocsag_branch.specs.Found.{IsBound}
+use Rattle.pocsag_branch.specs.Found.{IsBound, IsLimit}
 
 -- What `search_freely` found within so many nodes.
 pub record IsFoundFreely (k : Classes) (end : End) (limit : ℕ) (found : Found) : Type 0 where
@@ -42,7 +42,9 @@ pub record IsNearlyFewest (k : Classes) (end : End) (near : Near) : Type 0 where
   pub choice : IsChoice k (slice_index near.choice.early)
   pub tour : IsTour k end (slice_index near.choice.early) (near.least + 1) near.steps.items
 
--- What each fault of `search_freely` says.
-abbrev pub IsFreeFault : Classes → End → FreeFault → Type 0
-IsFreeFault k end (SearchLimit near) = IsNearlyFewest k end near
-IsFreeFault k end OutOfMemory = Unit {0}
+-- What each fault of `search_freely` says: at its limit, a tour of one batch more than the least, and all that
+-- `search` says at the same limit, so a tree of exactly so many nodes and of the promised shape.
+abbrev pub IsFreeFault : Classes → End → ℕ → FreeFault → Type 0
+IsFreeFault k end limit (SearchLimit near stop) =
+    IsNearlyFewest k end near × (stop.least ≡ near.least) × IsLimit k end limit stop.least stop.found (bound_tree_of stop.tree)
+IsFreeFault k end limit OutOfMemory = Unit {0}

@@ -3,49 +3,91 @@ ghost use Rattle.pocsag_slots.specs.Ways.{class_certain, limits_below, limits_fr
 ghost use Rattle.pocsag_tree.specs.BoundTrees.{split};
 ghost use Rattle.pocsag_tree.specs.Views.{bound_tree_of};
 ghost use Rattle.pocsag_branch.specs.Shape.{NoneCertain};
-ghost use Rattle.pocsag_branch.specs.Undecided.{AreNodeLimits, Falls, IsSplitPoint, undecided};
+ghost use Rattle.pocsag_branch.specs.Undecided.{Falls, IsSplitPoint, undecided};
 
 use crate::boundaries::BoundarySet;
 use crate::node::Node;
 use arrayvec::ArrayVec;
 use pocsag_slots::{
-    CLASSES, Class, Limits, Way, below_split, closing_ways, from_split, is_certain, narrow, ways,
+    CLASSES, Class, Way, below_split, closing_ways, from_split, is_certain, narrow, ways,
 };
 use pocsag_tree::Tree;
-use std::alloc::{AllocFailed, Global};
+use std::alloc::{AllocError, AllocFailed, Global};
 
-// The limits of the child that takes the way.
-pub(crate) fn child_limits(node: &Node<'_>, way: Way) -> Limits
+// The children of a node. Each is made on the heap by a call of its own, so that a level of a deep tree takes little
+// of the stack.
+
+// The child that takes the way.
+#[inline(never)]
+pub(crate) fn child_by<'a>(
+    alloc: Global,
+    node: &Node<'a>,
+    way: Way,
+) -> Result<Box<Node<'a>>, AllocError>
     requires way { MayTake node.now.classes.now node.now.limits way }
     requires falls { Falls node.now.classes.now node.now.task.batches node.now.limits way }
-    ensures value { result ≡ narrowed_limits node.now.classes.now node.now.limits way node.now.task.batches }
-    ensures limits { AreNodeLimits node.now.classes.now node.now.task.batches result }
-    ensures falls { undecided node.now.classes.now node.now.task.batches result <
-        undecided node.now.classes.now node.now.task.batches node.now.limits }
+    ensures classes { IfOk result (λ child. child.value.classes.now ≡ node.now.classes.now) }
+    ensures task { IfOk result (λ child. child.value.task ≡ node.now.task) }
+    ensures limits { IfOk result (λ child. child.value.limits ≡
+        narrowed_limits node.now.classes.now node.now.limits way node.now.task.batches) }
+    ensures falls { IfOk result (λ child.
+        undecided child.value.classes.now child.value.task.batches child.value.limits <
+        undecided node.now.classes.now node.now.task.batches node.now.limits) }
 {
-    narrow(node.classes, &node.limits, way, node.task.batches)
+    let child = Node {
+        classes: node.classes,
+        task: node.task,
+        limits: narrow(node.classes, &node.limits, way, node.task.batches),
+    };
+    Ok(Box::new(alloc, child)?)
 }
 
-// The limits of the lower child of a split.
-pub(crate) fn limits_under(node: &Node<'_>, class: Class, m: u16) -> Limits
+// The lower child of a split.
+#[inline(never)]
+pub(crate) fn lower_child<'a>(
+    alloc: Global,
+    node: &Node<'a>,
+    class: Class,
+    m: u16,
+) -> Result<Box<Node<'a>>, AllocError>
     requires { IsSplitPoint node.now.classes.now node.now.task.batches node.now.limits class.number m }
-    ensures value { result ≡ limits_below node.now.limits class.number m }
-    ensures limits { AreNodeLimits node.now.classes.now node.now.task.batches result }
-    ensures falls { undecided node.now.classes.now node.now.task.batches result <
-        undecided node.now.classes.now node.now.task.batches node.now.limits }
+    ensures classes { IfOk result (λ child. child.value.classes.now ≡ node.now.classes.now) }
+    ensures task { IfOk result (λ child. child.value.task ≡ node.now.task) }
+    ensures limits { IfOk result (λ child. child.value.limits ≡ limits_below node.now.limits class.number m) }
+    ensures falls { IfOk result (λ child.
+        undecided child.value.classes.now child.value.task.batches child.value.limits <
+        undecided node.now.classes.now node.now.task.batches node.now.limits) }
 {
-    below_split(&node.limits, class.number, u32::from(m))
+    let child = Node {
+        classes: node.classes,
+        task: node.task,
+        limits: below_split(&node.limits, class.number, u32::from(m)),
+    };
+    Ok(Box::new(alloc, child)?)
 }
 
-// The limits of the upper child of a split.
-pub(crate) fn limits_over(node: &Node<'_>, class: Class, m: u16) -> Limits
+// The upper child of a split.
+#[inline(never)]
+pub(crate) fn upper_child<'a>(
+    alloc: Global,
+    node: &Node<'a>,
+    class: Class,
+    m: u16,
+) -> Result<Box<Node<'a>>, AllocError>
     requires { IsSplitPoint node.now.classes.now node.now.task.batches node.now.limits class.number m }
-    ensures value { result ≡ limits_from node.now.limits class.number m }
-    ensures limits { AreNodeLimits node.now.classes.now node.now.task.batches result }
-    ensures falls { undecided node.now.classes.now node.now.task.batches result <
-        undecided node.now.classes.now node.now.task.batches node.now.limits }
+    ensures classes { IfOk result (λ child. child.value.classes.now ≡ node.now.classes.now) }
+    ensures task { IfOk result (λ child. child.value.task ≡ node.now.task) }
+    ensures limits { IfOk result (λ child. child.value.limits ≡ limits_from node.now.limits class.number m) }
+    ensures falls { IfOk result (λ child.
+        undecided child.value.classes.now child.value.task.batches child.value.limits <
+        undecided node.now.classes.now node.now.task.batches node.now.limits) }
 {
-    from_split(&node.limits, class.number, u32::from(m))
+    let child = Node {
+        classes: node.classes,
+        task: node.task,
+        limits: from_split(&node.limits, class.number, u32::from(m)),
+    };
+    Ok(Box::new(alloc, child)?)
 }
 
 // The tree of a split over those of its two children.
@@ -70,6 +112,7 @@ pub(crate) fn split_tree(
 }
 
 // The ways out of the set, each of which settles an open question.
+#[inline(never)]
 pub(crate) fn ways_out(node: &Node<'_>, set: BoundarySet) -> ArrayVec<Way, 288>
     requires { All (Falls node.now.classes.now node.now.task.batches node.now.limits)
         (ways_across node.now.classes.now node.now.limits set.members) }
@@ -81,6 +124,7 @@ pub(crate) fn ways_out(node: &Node<'_>, set: BoundarySet) -> ArrayVec<Way, 288>
 }
 
 // The ways to close, each of which settles an open question.
+#[inline(never)]
 pub(crate) fn ways_to_end(node: &Node<'_>) -> ArrayVec<Way, 2>
     requires { All (Falls node.now.classes.now node.now.task.batches node.now.limits)
         (ways_to_close node.now.classes.now node.now.task.end node.now.limits) }

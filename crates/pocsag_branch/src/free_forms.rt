@@ -16,6 +16,7 @@ use pocsag_slots::{Choice, Class, Way, ways};
 use std::alloc::Global;
 
 // Which node the free search makes under the limits.
+#[inline(never)]
 pub(crate) fn free_form(alloc: Global, node: &Node<'_>) -> Result<Form, Halt>
     ensures form { IfOk result (IsForm node.now.classes.now node.now.task node.now.limits) }
     ensures halt { IfErr result (IsHalt node.now.classes.now node.now.task) }

@@ -8,7 +8,7 @@ ghost use Rattle.pocsag_branch.specs.FreeNode.{AreChildren, IsFreeNode, IsHalt};
 ghost use Rattle.pocsag_branch.specs.Undecided.{Falls, IsSplitPoint};
 
 use crate::boundaries::BoundarySet;
-use crate::child::{child_limits, limits_over, limits_under, split_tree, ways_out, ways_to_end};
+use crate::child::{child_by, lower_child, split_tree, upper_child, ways_out, ways_to_end};
 use crate::free_forms::free_form;
 use crate::halt::{Children, Halt};
 use crate::node::Node;
@@ -19,6 +19,7 @@ use pocsag_tree::Tree;
 use std::alloc::Global;
 
 // Whether the tree of a child is accepted for the node itself.
+#[inline(never)]
 fn stands_for(node: &Node<'_>, tree: &Tree) -> bool
     ensures { IsTrue result ↔
         AcceptsWithin false node.now.classes.now node.now.task.end node.now.task.batches node.now.limits
@@ -110,20 +111,12 @@ fn free_split(
         (λ x. IsFreeNode node.now.classes.now node.now.task node.now.limits examined x.1 (bound_tree_of x.0)) }
     ensures halt { IfErr result (IsHalt node.now.classes.now node.now.task) }
 {
-    let under = Node {
-        classes: node.classes,
-        task: node.task,
-        limits: limits_under(node, class, m),
-    };
+    let under = lower_child(alloc, node, class, m)?;
     let (below, between) = free_node(alloc, &under, examined + 1)?;
     if stands_for(node, &below) {
         return Ok((below, between));
     }
-    let over = Node {
-        classes: node.classes,
-        task: node.task,
-        limits: limits_over(node, class, m),
-    };
+    let over = upper_child(alloc, node, class, m)?;
     let (from, after) = free_node(alloc, &over, between)?;
     if stands_for(node, &from) {
         return Ok((from, after));
@@ -151,11 +144,7 @@ fn free_children(
     let mut children = Vec::new(alloc);
     let mut after = examined;
     for way in ways {
-        let narrowed = Node {
-            classes: node.classes,
-            task: node.task,
-            limits: child_limits(node, *way),
-        };
+        let narrowed = child_by(alloc, node, *way)?;
         let (child, next) = free_node(alloc, &narrowed, after)?;
         if stands_for(node, &child) {
             return Ok((Children::Kept(child), next));

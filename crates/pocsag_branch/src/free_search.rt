@@ -11,6 +11,8 @@ use crate::free_root::free_tree;
 use crate::halt::Halt;
 use crate::least::least_of;
 use crate::outcome::{found_at_least, tour_of_one_more};
+use crate::promised_search::search;
+use crate::stop::SearchFault;
 use crate::task::Task;
 use crate::within_one::{FreeFault, Near};
 use pocsag_slots::{Choice, Classes};
@@ -19,8 +21,8 @@ use pocsag_words::End;
 use std::alloc::{AllocError, Global};
 
 /// The same answer as that of `search`, with a tree whose shape is not promised, and mostly far fewer
-/// nodes. Where so many nodes, 1 to 1,000,000, do not decide it, `SearchLimit` holds a transmission of at
-/// most one batch more than the fewest.
+/// nodes. Where so many nodes, 1 to 1,000,000, do not decide it, `search` has as many; and where these do not
+/// either, `SearchLimit` holds a transmission of one batch more than is refuted, beside what `search` says.
 ///
 /// It goes at most 289 nodes deep.
 pub fn search_freely(
@@ -32,7 +34,7 @@ pub fn search_freely(
     requires pages { HasPage classes.now }
     requires limit { IsNodeLimit node_limit }
     ensures found { IfOk result (IsFoundFreely classes.now end node_limit) }
-    ensures fault { IfErr result (IsFreeFault classes.now end) }
+    ensures fault { IfErr result (IsFreeFault classes.now end node_limit) }
 {
     let least = least_of(classes);
     let task = Task {
@@ -49,8 +51,30 @@ pub fn search_freely(
             least.set,
             Box::into_inner(answer),
         )),
-        Err(Halt::Limit) => Err(FreeFault::SearchLimit(near(alloc, classes, end)?)),
+        Err(Halt::Limit) => found_or_near(alloc, classes, node_limit, end),
         Err(Halt::OutOfMemory) => Err(FreeFault::OutOfMemory),
+    }
+}
+
+// What `search` finds; and where it stops at its limit, what it says beside a transmission of one batch more.
+fn found_or_near(
+    alloc: Global,
+    classes: &Classes,
+    node_limit: u32,
+    end: End,
+) -> Result<Found, FreeFault>
+    requires pages { HasPage classes.now }
+    requires limit { IsNodeLimit node_limit }
+    ensures found { IfOk result (IsFoundFreely classes.now end node_limit) }
+    ensures fault { IfErr result (IsFreeFault classes.now end node_limit) }
+{
+    match search(alloc, classes, node_limit, end) {
+        Ok(found) => Ok(found),
+        Err(SearchFault::SearchLimit(stop)) => {
+            let near = near(alloc, classes, end)?;
+            Err(FreeFault::SearchLimit { near, stop })
+        }
+        Err(SearchFault::OutOfMemory) => Err(FreeFault::OutOfMemory),
     }
 }
 

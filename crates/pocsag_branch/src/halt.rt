@@ -3,7 +3,7 @@ ghost use Rattle.pocsag_branch.specs.declared.halt.Halt.TheVariants.{OutOfMemory
 
 use crate::task::Answer;
 use pocsag_tree::Tree;
-use std::alloc::AllocFailed;
+use std::alloc::{AllocError, AllocFailed};
 
 // Why a try ends before its tree is whole.
 #[derive(Drop)]
@@ -17,6 +17,14 @@ impl<T: Drop> From<AllocFailed<T>> for Halt {
     ghost from_gives = { λ _ halt. halt ≡ OutOfMemory };
 
     fn from(_fault: AllocFailed<T>) -> Halt {
+        Halt::OutOfMemory
+    }
+}
+
+impl From<AllocError> for Halt {
+    ghost from_gives = { λ _ halt. halt ≡ OutOfMemory };
+
+    fn from(_fault: AllocError) -> Halt {
         Halt::OutOfMemory
     }
 }

@@ -19,6 +19,7 @@ mod promised_forms;
 mod promised_nodes;
 mod promised_root;
 mod promised_search;
+mod stop;
 mod task;
 mod thin_cuts;
 mod unfinished;
@@ -26,6 +27,6 @@ mod within_one;
 
 pub use answer::Found;
 pub use free_search::{near, search_freely};
-pub use pocsag_plan_faults::{SearchFault, SearchLimit};
 pub use promised_search::search;
+pub use stop::{SearchFault, SearchLimit};
 pub use within_one::{FreeFault, Near};

@@ -16,6 +16,7 @@ use pocsag_tour::{TourFault, has_run_outside, tour};
 use std::alloc::Global;
 
 // Which node is to be made under the limits. This is the one place where the search has a choice.
+#[inline(never)]
 pub(crate) fn promised_form(alloc: Global, node: &Node<'_>) -> Result<Form, Stop>
     ensures form { IfOk result (IsForm node.now.classes.now node.now.task node.now.limits) }
     ensures shape { IfOk result (StandsAs node.now.classes.now node.now.task node.now.limits) }

@@ -7,7 +7,7 @@ ghost use Rattle.pocsag_branch.specs.Shape.{AdmitApart, AdmitSplit, AdmitUnclose
 ghost use Rattle.pocsag_branch.specs.Undecided.{Falls, IsSplitPoint};
 
 use crate::boundaries::BoundarySet;
-use crate::child::{child_limits, limits_over, limits_under, split_tree, ways_out, ways_to_end};
+use crate::child::{child_by, lower_child, split_tree, upper_child, ways_out, ways_to_end};
 use crate::node::Node;
 use crate::promised_forms::promised_form;
 use crate::task::{Form, Stop};
@@ -98,17 +98,9 @@ fn split_node(
         (λ x. IsExamined node.now.classes.now node.now.task node.now.limits made x.1 (bound_tree_of x.0)) }
     ensures stop { IfErr result (IsStop node.now.classes.now node.now.task) }
 {
-    let under = Node {
-        classes: node.classes,
-        task: node.task,
-        limits: limits_under(node, class, m),
-    };
+    let under = lower_child(alloc, node, class, m)?;
     let (below, between) = promised_node(alloc, &under, made + 1)?;
-    let over = Node {
-        classes: node.classes,
-        task: node.task,
-        limits: limits_over(node, class, m),
-    };
+    let over = upper_child(alloc, node, class, m)?;
     let (from, after) = promised_node(alloc, &over, between)?;
     let tree = split_tree(alloc, class, m, below, from)?;
     Ok((tree, after))
@@ -149,11 +141,7 @@ fn child_nodes(
     let mut children = Vec::new(alloc);
     let mut after = made;
     for way in ways {
-        let narrowed = Node {
-            classes: node.classes,
-            task: node.task,
-            limits: child_limits(node, *way),
-        };
+        let narrowed = child_by(alloc, node, *way)?;
         let (child, next) = promised_node(alloc, &narrowed, after)?;
         children.push(child)?;
         after = next;

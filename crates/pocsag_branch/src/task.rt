@@ -5,7 +5,7 @@ ghost use Rattle.pocsag_branch.specs.declared.task.Stop.TheVariants.{OutOfMemory
 use crate::boundaries::BoundarySet;
 use pocsag_slots::{Choice, Class, Step};
 use pocsag_words::End;
-use std::alloc::AllocFailed;
+use std::alloc::{AllocError, AllocFailed};
 
 // What is asked of a node beside its limits: the end, the batches that are to be refuted, how many nodes may
 // be made, and, of the free search alone, whether it tries a second time: then it looks across no other set and
@@ -38,6 +38,14 @@ impl<T: Drop> From<AllocFailed<T>> for Stop {
     ghost from_gives = { λ _ stop. stop ≡ OutOfMemory };
 
     fn from(_fault: AllocFailed<T>) -> Stop {
+        Stop::OutOfMemory
+    }
+}
+
+impl From<AllocError> for Stop {
+    ghost from_gives = { λ _ stop. stop ≡ OutOfMemory };
+
+    fn from(_fault: AllocError) -> Stop {
         Stop::OutOfMemory
     }
 }

@@ -1,6 +1,7 @@
 ghost use Rattle.std.specs.Prelude.{◌≡◌};
 ghost use Rattle.pocsag_branch.specs.declared.within_one.FreeFault.TheVariants.{OutOfMemory};
 
+use crate::stop::SearchLimit;
 use pocsag_slots::{Choice, Step};
 use pocsag_tree::Tree;
 use std::alloc::AllocError;
@@ -19,9 +20,10 @@ pub struct Near {
 /// Why the free search gave no answer.
 #[derive(Debug, Drop, Error)]
 pub enum FreeFault {
-    /// So many nodes did not decide between `least` batches and one more.
+    /// So many nodes did not decide between `least` batches and one more: a transmission of one batch more,
+    /// and what `search` says at the same limit.
     #[error("search limit reached")]
-    SearchLimit(Near),
+    SearchLimit { near: Near, stop: SearchLimit },
     #[error("out of memory")]
     OutOfMemory,
 }

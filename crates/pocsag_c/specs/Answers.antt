@@ -2,12 +2,11 @@
 use Rattle.std.specs.Prelude.{◌≡◌, ◌≢◌, ℕ, ◌<◌, ◌≤◌, List, length, ◌++◌, drop}
 use Rattle.pocsag_words.specs.declared.ending.End.{End}
 use Rattle.pocsag_words.specs.declared.ending.End.TheVariants as ends
-use Rattle.pocsag_commands.specs.Commands.{Checked}
-use Rattle.pocsag_commands.specs.Judging.{IsNotShown}
-use Rattle.pocsag_faults.specs.declared.fault.Fault.{Fault}
-use Rattle.pocsag_c.specs.declared.checking.CheckInfo.{CheckInfo}
+use Rattle.pocsag_centre.specs.Commands.{Checked}
+use Rattle.pocsag_centre.specs.Judging.{IsNotShown}
+use Rattle.pocsag_c.specs.declared.check.CheckInfo.{CheckInfo}
 use Rattle.pocsag_c.specs.declared.refusal.Place.{Place}
-use Rattle.pocsag_c.specs.Statuses.{refusal_of}
+use Rattle.pocsag_c.specs.declared.refusal.StatusAt.{StatusAt}
 
 -- The number of an end.
 abbrev pub number_of_end : End → ℕ
@@ -19,12 +18,16 @@ number_of_end ends.Idle = 2
 abbrev pub IsNoEnd : ℕ → Type 0
 IsNoEnd number = (number ≢ 0) × (number ≢ 1) × (number ≢ 2)
 
--- The status and the place are those of a fault that says this.
-pub record TellsFault (Explains : Fault → Type 0) (status : ℕ) (place : Place) : Type 0 where
-  pub fault : Fault
+-- The status and the place are those of a fault of which this is said.
+pub record TellsFault {F : Type 0} (refusal : F → StatusAt) (Explains : F → Type 0) (status : ℕ) (place : Place) : Type 0 where
+  pub fault : F
   pub why : Explains fault
-  pub same_status : status ≡ (refusal_of fault).status
-  pub same_place : place ≡ (refusal_of fault).place
+  pub same_status : status ≡ (refusal fault).status
+  pub same_place : place ≡ (refusal fault).place
+
+-- What is told beside the place where nothing was judged.
+abbrev pub no_verdict : Place → CheckInfo
+no_verdict place = record { end = 0; batches = 0; place = place }
 
 -- The certificate shows its number of batches for its end and the page file's round.
 pub record IsShown (file text : List ℕ) (info : CheckInfo) : Type 0 where

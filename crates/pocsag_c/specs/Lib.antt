@@ -1,6 +1,6 @@
 pub mod Answers
-pub mod Explaining
+pub mod Explain
 pub mod Listings
 pub mod Plans
-pub mod Reporting
+pub mod Reports
 pub mod Statuses

@@ -9,13 +9,12 @@ use Rattle.pocsag_tree.specs.BoundTrees.{BoundTree}
 use Rattle.pocsag_batch.specs.FileOrder.{IsFileOrder}
 use Rattle.pocsag_plan.specs.BoundedHeadline.{BoundedHeadline}
 use Rattle.pocsag_plan.specs.Headline.{Headline}
-use Rattle.pocsag_plan.specs.Streams.{ExplainsStream}
-use Rattle.pocsag_plan_faults.specs.declared.fault.StreamFault.{StreamFault}
-use Rattle.pocsag_options.specs.declared.search.Effort.{Effort}
-use Rattle.pocsag_faults.specs.declared.fault.Fault.{Fault}
-use Rattle.pocsag_faults.specs.Faults.{fault_of_stream}
+use Rattle.pocsag_plan.specs.declared.search.Effort.{Effort}
+use Rattle.pocsag_centre.specs.Refusals.{ExplainsUnwritten}
+use Rattle.pocsag_centre.specs.declared.fault.CentreFault.{CentreFault}
 use Rattle.pocsag_c.specs.Answers.{IsDelivered, number_of_end}
-use Rattle.pocsag_c.specs.declared.planning.PlanInfo.{PlanInfo}
+use Rattle.pocsag_c.specs.declared.plan.PlanInfo.{PlanInfo}
+use Rattle.pocsag_c.specs.declared.refusal.Place.{Place}
 
 -- The headline of the page file, the end of this number, and the batches that are told.
 pub record IsHeadline (file : List ℕ) (number : ℕ) (info : PlanInfo) (sent certificate : List ℕ) : Type 0 where
@@ -64,10 +63,12 @@ pub record IsCounted (file : List ℕ) (info : PlanInfo) : Type 0 where
   pub codewords : info.codewords ≡ sum_by page_length round
   pub in_order : (T : List Kind) → IsFileOrder round T → length T ≡ 16 * info.in_order
 
+-- What is told beside the place where there is no plan.
+abbrev pub no_plan : Place → PlanInfo
+no_plan place = record { pages = 0; codewords = 0; in_order = 0; batches = 0; bound = 0; place = place }
+
 -- Why there is no plan.
-pub record ExplainsPlanning (effort : Effort) (file : List ℕ) (number limit : ℕ) (f : Fault) : Type 0 where
+pub record ExplainsPlanning (effort : Effort) (file : List ℕ) (number limit : ℕ) (f : CentreFault) : Type 0 where
   pub end : End
   pub same_end : number ≡ number_of_end end
-  pub fault : StreamFault
-  pub why : ExplainsStream effort file end limit fault
-  pub same : f ≡ fault_of_stream fault
+  pub why : ExplainsUnwritten file (record { limit = limit; end = end; effort = effort }) f

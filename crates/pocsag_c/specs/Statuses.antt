@@ -12,17 +12,25 @@ use Rattle.pocsag_decode.specs.declared.fault.DecodeFault.{DecodeFault}
 use Rattle.pocsag_decode.specs.declared.fault.DecodeFault.TheVariants as decoding
 use Rattle.pocsag_pager.specs.declared.fault.PagerFault.{PagerFault}
 use Rattle.pocsag_pager.specs.declared.fault.PagerFault.TheVariants as hearing
-use Rattle.pocsag_faults.specs.declared.fault.Fault.{Fault}
-use Rattle.pocsag_faults.specs.declared.fault.Fault.TheVariants as fault
+use Rattle.pocsag_shell.specs.declared.fault.FileFault.TheVariants as file
+use Rattle.pocsag_centre.specs.declared.fault.CentreFault.{CentreFault}
+use Rattle.pocsag_centre.specs.declared.fault.CentreFault.TheVariants as centre
+use Rattle.pocsag_receiver.specs.declared.fault.ReceiverFault.{ReceiverFault}
+use Rattle.pocsag_receiver.specs.declared.fault.ReceiverFault.TheVariants as receiver
+use Rattle.pocsag_c.specs.declared.refusal.Place.{Place}
 use Rattle.pocsag_c.specs.declared.refusal.StatusAt.{StatusAt}
 
 -- The number of the interface.
 abbrev pub interface_version : ℕ
 interface_version = 3
 
+-- No place.
+abbrev pub nowhere : Place
+nowhere = record { record_number = 0; least = 0; found = 0; at = 0 }
+
 -- A refusal that has no place; one for a record of the page file; and one for a batch or a codeword.
 abbrev pub plain_refusal : (status : ℕ) → StatusAt
-plain_refusal status = record { status = status; place = record { record_number = 0; least = 0; found = 0; at = 0 } }
+plain_refusal status = record { status = status; place = nowhere }
 
 abbrev pub record_refusal : (status number : ℕ) → StatusAt
 record_refusal status number = record { status = status; place = record { record_number = number; least = 0; found = 0; at = 0 } }
@@ -91,22 +99,58 @@ pager_refusal hearing.Truncated = plain_refusal 52
 pager_refusal hearing.OutOfMemory = plain_refusal 3
 pager_refusal hearing.Failed = plain_refusal 66
 
--- The status and the place of a fault. A text is written to memory, so a fault of writing is want of memory. What
--- comes of files alone is 15.
-abbrev pub refusal_of : Fault → StatusAt
-refusal_of fault.OutOfMemory = plain_refusal 3
-refusal_of fault.Write = plain_refusal 3
-refusal_of fault.BadRate = plain_refusal 4
-refusal_of fault.BadLimit = plain_refusal 5
-refusal_of (fault.SearchLimit least found) = record { status = 6; place = record { record_number = 0; least = least; found = found; at = 0 } }
-refusal_of (fault.Round f) = round_refusal f
-refusal_of (fault.Certificate f) = certificate_refusal f
-refusal_of (fault.Transmission f) = transmission_refusal f
-refusal_of (fault.Pager f) = pager_refusal f
-refusal_of _ = plain_refusal 15
+-- The status and the place of a fault of a call that plans or judges. A text is written to memory, so a fault of writing
+-- is want of memory. What comes of files alone is 15.
+abbrev pub refusal_in_centre : CentreFault → StatusAt
+refusal_in_centre (centre.File file.OutOfMemory) = plain_refusal 3
+refusal_in_centre (centre.File file.Write) = plain_refusal 3
+refusal_in_centre centre.BadRate = plain_refusal 4
+refusal_in_centre centre.BadLimit = plain_refusal 5
+refusal_in_centre (centre.SearchLimit least found) = record { status = 6; place = record { record_number = 0; least = least; found = found; at = 0 } }
+refusal_in_centre (centre.Round f) = round_refusal f
+refusal_in_centre (centre.Certificate f) = certificate_refusal f
+refusal_in_centre (centre.Transmission f) = transmission_refusal f
+refusal_in_centre _ = plain_refusal 15
+
+-- The same of a call that lists pages.
+abbrev pub refusal_in_receiver : ReceiverFault → StatusAt
+refusal_in_receiver (receiver.File file.OutOfMemory) = plain_refusal 3
+refusal_in_receiver (receiver.File file.Write) = plain_refusal 3
+refusal_in_receiver (receiver.Transmission f) = transmission_refusal f
+refusal_in_receiver (receiver.Pager f) = pager_refusal f
+refusal_in_receiver _ = plain_refusal 15
 
 -- A status of the faults: none of those for what was done, was not shown, had no room, or was asked for by no number.
 abbrev pub IsRefusing : ℕ → Type 0
 IsRefusing status =
     (status ≢ 0) × (status ≢ 1) × (status ≢ 2) × (status ≢ 7) × (status ≢ 8) × (status ≢ 9)
     × (status ≢ 10) × (status ≢ 11)
+
+-- A status that numbers, bytes and memory explain: neither what comes of files alone (15), nor of a reader of a page file or
+-- of a certificate (16, 40), nor of more bytes than are counted (54), nor of a decoder or a pager that has stopped (55, 66).
+abbrev pub IsOfBytes : ℕ → Type 0
+IsOfBytes status =
+    (status ≢ 15) × (status ≢ 16) × (status ≢ 40) × (status ≢ 54) × (status ≢ 55) × (status ≢ 66)
+
+-- A fault of bytes or of memory, and of no device.
+abbrev pub IsInMemory : CentreFault → Type 0
+IsInMemory (centre.Round round.ReadFault) = ⊥
+IsInMemory (centre.Round f) = Unit {0}
+IsInMemory (centre.Certificate certificate.ReadFault) = ⊥
+IsInMemory (centre.Certificate f) = Unit {0}
+IsInMemory (centre.File file.OutOfMemory) = Unit {0}
+IsInMemory centre.BadLimit = Unit {0}
+IsInMemory (centre.SearchLimit least found) = Unit {0}
+IsInMemory centre.BadRate = Unit {0}
+IsInMemory _ = ⊥
+
+-- The same of the faults of a call that lists pages.
+abbrev pub IsReceivedInMemory : ReceiverFault → Type 0
+IsReceivedInMemory (receiver.File file.OutOfMemory) = Unit {0}
+IsReceivedInMemory (receiver.File file.Write) = Unit {0}
+IsReceivedInMemory (receiver.Transmission decoding.TooMuch) = ⊥
+IsReceivedInMemory (receiver.Transmission decoding.Failed) = ⊥
+IsReceivedInMemory (receiver.Transmission f) = Unit {0}
+IsReceivedInMemory (receiver.Pager hearing.Failed) = ⊥
+IsReceivedInMemory (receiver.Pager f) = Unit {0}
+IsReceivedInMemory _ = ⊥

@@ -6,21 +6,20 @@
 ghost use Rattle.std.specs.Prelude.{◌≡◌};
 ghost use Rattle.pocsag_c.specs.Statuses.{interface_version};
 
-mod checking;
-mod explaining;
-mod handing;
-mod planning;
-mod receiving;
+mod buffer;
+mod check;
+mod explain;
+mod listings;
+mod plan;
 mod refusal;
-mod reporting;
-mod source;
+mod report;
 
-pub use checking::{CheckInfo, pocsag_check};
-pub use explaining::pocsag_explain;
-pub use planning::{PlanInfo, pocsag_plan};
-pub use receiving::{pocsag_decode, pocsag_hear};
+pub use check::{CheckInfo, pocsag_check};
+pub use explain::pocsag_explain;
+pub use listings::{pocsag_decode, pocsag_hear};
+pub use plan::{PlanInfo, pocsag_plan};
 pub use refusal::Place;
-pub use reporting::{ReportInfo, pocsag_report};
+pub use report::{ReportInfo, pocsag_report};
 
 /// The number of this interface: calls, structures and statuses. It grows with each change of them.
 #[unsafe(no_mangle)]

@@ -1,10 +1,12 @@
-ghost use Rattle.std.specs.Prelude.{◌≡◌};
-ghost use Rattle.pocsag_c.specs.Statuses.{IsRefusing, certificate_refusal, index_refusal, pager_refusal, plain_refusal, record_refusal, refusal_of, refusal_of_record, round_refusal, transmission_refusal};
+ghost use Rattle.std.specs.Prelude.{◌≡◌, ◌≢◌};
+ghost use Rattle.pocsag_c.specs.Statuses.{IsInMemory, IsOfBytes, IsReceivedInMemory, IsRefusing, certificate_refusal, index_refusal, pager_refusal, plain_refusal, record_refusal, refusal_in_centre, refusal_in_receiver, refusal_of_record, round_refusal, transmission_refusal};
 
+use pocsag_centre::CentreFault;
 use pocsag_decode::DecodeFault;
-use pocsag_faults::Fault;
 use pocsag_pager::PagerFault;
 use pocsag_pages::{FieldFault, PageFault, RecordFault, RoundFault};
+use pocsag_receiver::ReceiverFault;
+use pocsag_shell::FileFault;
 use pocsag_tree::CertificateFault;
 
 /// Where a fault stands, and what a search knew; each number is 0 where it says nothing.
@@ -72,6 +74,7 @@ fn of_index(status: u32, at: u64) -> StatusAt
 fn refused_record(number: u32, fault: RecordFault) -> StatusAt
     ensures value { result ≡ refusal_of_record number fault }
     ensures refusing { IsRefusing result.status }
+    ensures of_bytes { IsOfBytes result.status }
 {
     match fault {
         RecordFault::FieldCount => of_record(19, number),
@@ -101,6 +104,7 @@ fn refused_record(number: u32, fault: RecordFault) -> StatusAt
 fn refused_round(fault: RoundFault) -> StatusAt
     ensures value { result ≡ round_refusal fault }
     ensures refusing { IsRefusing result.status }
+    ensures of_bytes { fault ≢ RoundFault.ReadFault → IsOfBytes result.status }
 {
     match fault {
         RoundFault::ReadFault => plain(16),
@@ -113,7 +117,8 @@ fn refused_round(fault: RoundFault) -> StatusAt
 }
 
 fn refused_certificate(fault: CertificateFault) -> StatusAt
-    ensures { result ≡ certificate_refusal fault }
+    ensures value { result ≡ certificate_refusal fault }
+    ensures of_bytes { fault ≢ CertificateFault.ReadFault → IsOfBytes result.status }
 {
     plain(match fault {
         CertificateFault::NotCertificate => 32,
@@ -130,7 +135,8 @@ fn refused_certificate(fault: CertificateFault) -> StatusAt
 }
 
 fn refused_transmission(fault: DecodeFault) -> StatusAt
-    ensures { result ≡ transmission_refusal fault }
+    ensures value { result ≡ transmission_refusal fault }
+    ensures of_bytes { IsReceivedInMemory (ReceiverFault.Transmission fault) → IsOfBytes result.status }
 {
     match fault {
         DecodeFault::ShortPreamble => plain(48),
@@ -146,7 +152,8 @@ fn refused_transmission(fault: DecodeFault) -> StatusAt
 }
 
 fn refused_hearing(fault: PagerFault) -> StatusAt
-    ensures { result ≡ pager_refusal fault }
+    ensures value { result ≡ pager_refusal fault }
+    ensures of_bytes { IsReceivedInMemory (ReceiverFault.Pager fault) → IsOfBytes result.status }
 {
     plain(match fault {
         PagerFault::ShortPreamble => 48,
@@ -159,16 +166,17 @@ fn refused_hearing(fault: PagerFault) -> StatusAt
     })
 }
 
-// The status of a fault, with its place.
-pub(crate) fn refusal_of(fault: Fault) -> StatusAt
-    ensures value { result ≡ refusal_of fault }
+// The status of a fault of a call that plans or judges, with its place.
+pub(crate) fn refusal_in_centre(fault: CentreFault) -> StatusAt
+    ensures value { result ≡ refusal_in_centre fault }
     ensures refusing { IsRefusing result.status }
+    ensures of_bytes { IsInMemory fault → IsOfBytes result.status }
 {
     match fault {
-        Fault::OutOfMemory | Fault::Write => plain(3),
-        Fault::BadRate => plain(4),
-        Fault::BadLimit => plain(5),
-        Fault::SearchLimit(least, found) => StatusAt {
+        CentreFault::File(FileFault::OutOfMemory | FileFault::Write) => plain(3),
+        CentreFault::BadRate => plain(4),
+        CentreFault::BadLimit => plain(5),
+        CentreFault::SearchLimit(least, found) => StatusAt {
             status: 6,
             place: Place {
                 least,
@@ -176,10 +184,23 @@ pub(crate) fn refusal_of(fault: Fault) -> StatusAt
                 ..NOWHERE
             },
         },
-        Fault::Round(fault) => refused_round(fault),
-        Fault::Certificate(fault) => refused_certificate(fault),
-        Fault::Transmission(fault) => refused_transmission(fault),
-        Fault::Pager(fault) => refused_hearing(fault),
+        CentreFault::Round(fault) => refused_round(fault),
+        CentreFault::Certificate(fault) => refused_certificate(fault),
+        CentreFault::Transmission(fault) => refused_transmission(fault),
+        _ => plain(15),
+    }
+}
+
+// The same of a call that lists pages.
+pub(crate) fn refusal_in_receiver(fault: ReceiverFault) -> StatusAt
+    ensures value { result ≡ refusal_in_receiver fault }
+    ensures refusing { IsRefusing result.status }
+    ensures of_bytes { IsReceivedInMemory fault → IsOfBytes result.status }
+{
+    match fault {
+        ReceiverFault::File(FileFault::OutOfMemory | FileFault::Write) => plain(3),
+        ReceiverFault::Transmission(fault) => refused_transmission(fault),
+        ReceiverFault::Pager(fault) => refused_hearing(fault),
         _ => plain(15),
     }
 }

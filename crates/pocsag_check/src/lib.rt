@@ -3,8 +3,8 @@
 //! nothing of the search, and takes no memory.
 
 mod checker;
-mod judging;
 mod laws;
+mod verdict;
 
-pub use judging::{accepts, check, check_open};
 pub use laws::{accepted_nodes_refute, accepted_trees_bound, accepted_trees_have_texts};
+pub use verdict::{accepts, check, check_open};

@@ -1,26 +1,52 @@
 //! Journals on disks in memory: what they hold once an edit is answered, whichever call fails, and what reading them
 //! gives.
 
-use pocsag_faults::{Fault, Outputs};
+ghost use Rattle.std.specs.Prelude.{◌≡◌, [], ◌∷◌, ◌++◌, OnErr, OnOk};
+ghost use Rattle.pocsag_words.specs.MemorySink.{taken_of};
+ghost use Rattle.pocsag_open.specs.Plans.{no_names, no_plans, placed_plan};
+
 use pocsag_journal::{
     Journal, JournalFault, MemoryDisk, Replayed, first_line, read_journal, text_of_pages,
 };
 use pocsag_open::{OpenRound, Places, Planner, run_open_kept};
-use pocsag_plan::Book;
+use pocsag_plan::{Book, Effort};
 use pocsag_rounds::given::{Records, round_of_file};
+use pocsag_shell::{FileFault, Outputs};
 use pocsag_words::{MemorySink, MemorySource};
 use std::alloc::Global;
 use std::test::Fail;
 
 // A folder in which no file can be made.
+#[derive(Drop)]
 struct NoFolder;
 
 impl Places for NoFolder {
     type Output = MemorySink<1>;
 
-    fn make(&self, _tx: &str, _cert: &str) -> Result<Outputs<MemorySink<1>>, Fault> {
-        Err(Fault::Device)
+    ghost tells = { ⊥ };
+
+    ghost placed = { λ _. no_plans };
+
+    ghost made_for = { λ _. no_names };
+
+    fn make(&mut self, _tx: &str, _cert: &str) -> Result<Outputs<MemorySink<1>>, FileFault> {
+        Err(FileFault::Device)
     }
+
+    fn put(
+        &mut self,
+        tx: &str,
+        cert: &str,
+        outputs: Outputs<MemorySink<1>>,
+    ) -> Result<(), FileFault>
+        ensures placed { ⊥ → no_names ≡ (tx.now, cert.now) → OnOk result (no_plans ≡
+            no_plans ++ placed_plan tx.now cert.now (taken_of outputs.tx, taken_of outputs.cert) ∷ []) }
+        ensures same { ⊥ → OnErr result (no_plans ≡ no_plans) }
+    {
+        Ok(())
+    }
+
+    fn leave<'n>(&mut self, _tx: &'n str, _cert: &'n str) {}
 }
 
 // What a round leaves: its answers, its disk, and how it ended.
@@ -28,14 +54,14 @@ impl Places for NoFolder {
 struct Left {
     answers: MemorySink<8000>,
     disk: MemoryDisk,
-    done: Result<(), Fault>,
+    done: Result<(), FileFault>,
 }
 
 // Keeps a round of no pages on the disk.
 fn keep(alloc: Global, disk: MemoryDisk, lines: &[u8]) -> Result<Left, JournalFault> {
-    let planner = &Planner {
-        places: &NoFolder,
-        always: false,
+    let planner = &mut Planner {
+        places: NoFolder,
+        effort: Effort::Fewest,
     };
     let book = Book::new(alloc);
     let keeper = Journal::write_anew(alloc, disk, &book)?;
@@ -144,7 +170,7 @@ fn edits_are_kept_before_they_are_answered(rt: HostRuntime) -> Result<(), Fail> 
         let done = if due.is_all {
             Ok(())
         } else {
-            Err(Fault::Write)
+            Err(FileFault::Write)
         };
         assert_eq!(rt; left.done, done);
         assert_eq!(rt; left.answers.bytes(), due.answers.as_slice());
@@ -269,7 +295,7 @@ fn long_journals_are_written_anew(rt: HostRuntime) -> Result<(), Fail> {
     }
     let cases = [
         (u64::MAX, Ok(()), 600, 160_897, (80, 0, 0)),
-        (522, Err(Fault::Write), 521, 1_049_750, (521, 1, 0)),
+        (522, Err(FileFault::Write), 521, 1_049_750, (521, 1, 0)),
     ];
     for (settles, done, syncs, bytes, read) in cases {
         let disk = MemoryDisk::new(alloc, usize::MAX, settles);

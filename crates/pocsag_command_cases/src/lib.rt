@@ -1,9 +1,16 @@
 #![tactic(auto)]
-//! Tests of the commands, of open rounds and of journals over memory, written as tables. It has no code but its tests.
+//! Tests of the groups of commands, of open rounds and of journals over memory, and of the texts of their faults, written as
+//! tables. It has no code but its tests.
 
 #[cfg(test)]
-mod command_tests;
+mod centre_tests;
+#[cfg(test)]
+mod fault_texts;
 #[cfg(test)]
 mod journal_tests;
 #[cfg(test)]
 mod open_tests;
+#[cfg(test)]
+mod receiver_tests;
+#[cfg(test)]
+mod shell_tests;

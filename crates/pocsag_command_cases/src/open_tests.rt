@@ -1,7 +1,12 @@
 //! Open rounds over memory: what answers each line, and the exit status.
 
-use pocsag_faults::{Fault, Outputs, tell_fault};
+ghost use Rattle.std.specs.Prelude.{◌≡◌, [], ◌∷◌, ◌++◌, OnErr, OnOk};
+ghost use Rattle.pocsag_words.specs.MemorySink.{taken_of};
+ghost use Rattle.pocsag_open.specs.Plans.{no_names, no_plans, placed_plan};
+
 use pocsag_open::{LINE_LIMIT, Places, Planner, run_open, run_open_pages};
+use pocsag_plan::Effort;
+use pocsag_shell::{Failure, FileFault, Outputs, tell_fault};
 use pocsag_words::{MemorySink, MemorySource};
 use std::alloc::Global;
 use std::process::Abort;
@@ -11,12 +16,13 @@ const PAGES: &[u8] = b"address,kind,message\n8,tone0,\n16,numeric,12\n";
 
 const TWICE: &[u8] = b"address,kind,message\n8,tone0,\n8,tone0,\n";
 
-// A folder where `full` takes nothing, `none` cannot be made, and any other name is a file.
+// A folder where `full` takes nothing, `none` cannot be made, `there` cannot be put in its place, and any other name is a file.
+#[derive(Drop)]
 struct Folder;
 
-fn sink_at(path: &str) -> Result<MemorySink<1000>, Fault> {
+fn sink_at(path: &str) -> Result<MemorySink<1000>, FileFault> {
     match path {
-        "none" => Err(Fault::Device),
+        "none" => Err(FileFault::Device),
         "full" => Ok(MemorySink::new(5, 0)),
         _ => Ok(MemorySink::new(5, 1000)),
     }
@@ -25,22 +31,49 @@ fn sink_at(path: &str) -> Result<MemorySink<1000>, Fault> {
 impl Places for Folder {
     type Output = MemorySink<1000>;
 
-    fn make(&self, tx: &str, cert: &str) -> Result<Outputs<MemorySink<1000>>, Fault> {
+    ghost tells = { ⊥ };
+
+    ghost placed = { λ _. no_plans };
+
+    ghost made_for = { λ _. no_names };
+
+    fn make(&mut self, tx: &str, cert: &str) -> Result<Outputs<MemorySink<1000>>, FileFault> {
         if tx == cert {
-            return Err(Fault::EqualPaths);
+            return Err(FileFault::EqualPaths);
         }
         Ok(Outputs {
             tx: sink_at(tx)?,
             cert: sink_at(cert)?,
         })
     }
+
+    // What is written is a transmission of whole batches behind its preamble, and a certificate of its version.
+    fn put(
+        &mut self,
+        tx: &str,
+        cert: &str,
+        outputs: Outputs<MemorySink<1000>>,
+    ) -> Result<(), FileFault>
+        ensures placed { ⊥ → no_names ≡ (tx.now, cert.now) → OnOk result (no_plans ≡
+            no_plans ++ placed_plan tx.now cert.now (taken_of outputs.tx, taken_of outputs.cert) ∷ []) }
+        ensures same { ⊥ → OnErr result (no_plans ≡ no_plans) }
+    {
+        let sent = outputs.tx.bytes().len();
+        let is_whole = sent > 72 && (sent - 72) % 68 == 0;
+        if tx == "there" || !is_whole || !outputs.cert.bytes().starts_with(b"PCB") {
+            return Err(FileFault::Write);
+        }
+        Ok(())
+    }
+
+    fn leave<'n>(&mut self, _tx: &'n str, _cert: &'n str) {}
 }
 
 // The page file of an open round, if there is one, and after how many bytes it, the input and the output fail.
 #[derive(Clone, Copy)]
 struct Beginning {
     pages: Option<&'static [u8]>,
-    always: bool,
+    effort: Effort,
     read: u64,
     asked: u64,
     answered: u64,
@@ -48,7 +81,7 @@ struct Beginning {
 
 const EMPTY: Beginning = Beginning {
     pages: None,
-    always: false,
+    effort: Effort::Fewest,
     read: u64::MAX,
     asked: u64::MAX,
     answered: u64::MAX,
@@ -59,6 +92,14 @@ const TWO_PAGES: Beginning = Beginning {
     ..EMPTY
 };
 
+// The exit status, once a fault is told.
+fn status_after<F: Failure>(done: Result<(), F>, err: &mut MemorySink<100>) -> u8 {
+    match done {
+        Ok(()) => 0,
+        Err(fault) => tell_fault(err, fault),
+    }
+}
+
 // Runs an open round on these lines, and compares its status, its answers and its fault.
 fn assert_answers<R: Abort>(
     rt: &R,
@@ -67,23 +108,20 @@ fn assert_answers<R: Abort>(
     lines: &[u8],
     due: (u8, &[u8], &[u8]),
 ) -> Result<(), Fail> {
-    let planner = &Planner {
-        places: &Folder,
-        always: beginning.always,
+    let planner = &mut Planner {
+        places: Folder,
+        effort: beginning.effort,
     };
     let mut input = MemorySource::new(lines, 7, beginning.asked);
     let mut out = MemorySink::<2000>::new(5, beginning.answered);
     let mut err = MemorySink::<100>::new(1, 1000);
-    let done = match beginning.pages {
+    let status = match beginning.pages {
         Some(file) => {
             let mut pages = MemorySource::new(file, 4, beginning.read);
-            run_open_pages(alloc, planner, &mut pages, &mut input, &mut out)
+            let done = run_open_pages(alloc, planner, &mut pages, &mut input, &mut out);
+            status_after(done, &mut err)
         }
-        None => run_open(alloc, planner, &mut input, &mut out),
-    };
-    let status = match done {
-        Ok(()) => 0,
-        Err(fault) => tell_fault(&mut err, fault),
+        None => status_after(run_open(alloc, planner, &mut input, &mut out), &mut err),
     };
     let (ended, answers, told) = due;
     assert_eq!(rt; out.bytes(), answers);
@@ -198,6 +236,7 @@ const PLANS: Lines = &[
     ("plan,tx.bin,none", "refused: cannot read or open a file"),
     ("plan,full,cert.bin", "refused: cannot write"),
     ("plan,tx.bin,full", "refused: cannot write"),
+    ("plan,there,cert.bin", "refused: cannot write"),
     (
         "list",
         "address,kind,message\n5,tone0,\n13,tone0,\n21,tone0,\nok 3",
@@ -215,7 +254,7 @@ const AFTER_PAGES: Lines = &[
 fn lines_are_answered_one_by_one(rt: HostRuntime) -> Result<(), Fail> {
     let alloc = rt.alloc();
     let always = Beginning {
-        always: true,
+        effort: Effort::Always,
         ..TWO_PAGES
     };
     let rounds = [

@@ -4,6 +4,7 @@ pub mod Judgements
 pub mod Listings
 pub mod OneFault
 pub mod Preambles
+pub mod Prefixes
 pub mod PageRows
 pub mod Relisting
 pub mod Repairs

@@ -1,7 +1,7 @@
 -- Listings that are written as the codewords are read.
-use Rattle.std.proofs.Common.{◌≡◌, ◌≢◌, ℕ, ◌+◌, ◌-◌, ◌*◌, ◌/◌, ◌%◌, ◌<◌, ◌≤◌, List, [], ◌∷◌, ◌++◌, All, length, map, take, drop, replicate, Option, Some, None, refl, sym, ap, ap₂, ◌∙◌, arith, append_assoc}
+use Rattle.std.proofs.Common.{◌≡◌, ◌≢◌, ℕ, ◌+◌, ◌-◌, ◌*◌, ◌/◌, ◌%◌, ◌<◌, ◌≤◌, List, [], ◌∷◌, ◌++◌, All, length, get_or, map, take, drop, replicate, Option, Some, None, refl, sym, ap, ap₂, ◌∙◌, arith, append_assoc}
 use Rattle.std.proofs.lemmas.Bool.{eq-eqb, ne_eqb}
-use Rattle.std.proofs.lemmas.List.{append-nil, length-take, map-append, take_all}
+use Rattle.std.proofs.lemmas.List.{append-nil, length-take, map-append, take-append-drop, take_all, take_more}
 use Rattle.std.specs.Prelude.{Vec}
 use Rattle.std.specs.Global.{Global}
 use Rattle.csv.specs.Writing.{default_writer, row_text}
@@ -13,8 +13,8 @@ use Rattle.pocsag_pages.specs.declared.page.Page.{Page}
 use Rattle.pocsag_pages.specs.Bytes.{after_preamble, codewords_in, sync_word, unsynced, words_of}
 use Rattle.pocsag_pages.specs.Plain.{pages_from}
 use Rattle.pocsag_pages.proofs.Lengths.{unsynced_more, words_long}
-use Rattle.pocsag_pager.proofs.WholeWords.{next_batch}
-use Rattle.pocsag_decode.specs.declared.growing.OpenPage.{OpenPage}
+use Rattle.pocsag_pager.proofs.WholeWords.{next_batch, words_split}
+use Rattle.pocsag_decode.specs.declared.open_page.OpenPage.{OpenPage}
 use Rattle.pocsag_decode.specs.declared.lister.Lister.{Lister}
 use Rattle.pocsag_decode.specs.Faults.{ReadsAs}
 use Rattle.pocsag_decode.specs.Growing.{closed, resumed}
@@ -127,18 +127,40 @@ poured first written now before after i bytes same moved so_far ks =
     ∙ (ap (λ (o : Option OpenPage). (now ++ text_in after.records) ++ rows o) (sym same)
     ∙ append_assoc now (text_in after.records) (rows after.current))))
 
--- the last page is put behind, and all is written
+-- what is due is what was written, what waits and what still comes
+pub still_due : (first written : List ℕ) (l : Lister) (i : ℕ) (bytes : List ℕ) → 68 * i ≤ length bytes → AreListed first written l i bytes
+    → (rest : List ℕ)
+    × (first ++ listing (pages_from 0 (map kind_of (unsynced 0 (words_of bytes)))) ≡ written ++ (text_in l.records ++ rest))
+still_due first written l i bytes within so_far =
+    let done : List ℕ = words_of (take (68 * i) bytes) in
+    let left : List ℕ = words_of (drop (68 * i) bytes) in
+    let ks : List Kind = map kind_of (unsynced (0 + length done) left) in
+    let codes : map kind_of (unsynced 0 (words_of bytes)) ≡ map kind_of (unsynced 0 done) ++ ks =
+    ap (λ (ws : List ℕ). map kind_of (unsynced 0 ws)) (words_split (17 * i) (68 * i) bytes (omega arith) within)
+    ∙ (ap (map kind_of) (unsynced_more 0 done left)
+    ∙ map-append kind_of (unsynced 0 done) (unsynced (0 + length done) left)) in
+    (rows_of_pages (resumed (16 * i) l.current ks), ap (λ (l : List Kind). first ++ listing (pages_from 0 l)) codes ∙ so_far ks)
+
+-- the last page is put behind, and what waits is all that is due
+pub all_due : (first written : List ℕ) (before closed_one : Lister) (i : ℕ) (bytes : List ℕ) → length bytes ≡ 68 * i
+    → text_in closed_one.records ≡ text_in before.records ++ rows_of_pages (closed before.current) → AreListed first written before i bytes
+    → first ++ listing (pages_from 0 (map kind_of (unsynced 0 (words_of bytes)))) ≡ written ++ (text_in closed_one.records ++ [])
+all_due first written before closed_one i bytes long text so_far =
+    sym (ap (λ (l : List Kind). first ++ listing (pages_from 0 l)) (append-nil (map kind_of (unsynced 0 (words_of (take (68 * i) bytes)))))
+    ∙ ap (λ (l : List ℕ). first ++ listing (pages_from 0 (map kind_of (unsynced 0 (words_of l))))) (take_all (68 * i) bytes (omega arith)))
+    ∙ (so_far []
+    ∙ (ap (λ (ps : List Page). written ++ (text_in before.records ++ rows_of_pages ps)) (resumed_end (16 * i) before.current)
+    ∙ ap (λ (l : List ℕ). written ++ l) (sym text ∙ sym (append-nil (text_in closed_one.records)))))
+
+-- and then all is written
 pub all_listed : (first written now : List ℕ) (before closed_one : Lister) (i : ℕ) (bytes : List ℕ) → length bytes ≡ 68 * i
     → text_in closed_one.records ≡ text_in before.records ++ rows_of_pages (closed before.current)
     → now ≡ written ++ text_in closed_one.records → AreListed first written before i bytes
     → now ≡ first ++ listing (pages_from 0 (map kind_of (unsynced 0 (words_of bytes))))
 all_listed first written now before closed_one i bytes long text moved so_far =
     moved
-    ∙ (ap (λ (l : List ℕ). written ++ l) text
-    ∙ (ap (λ (ps : List Page). written ++ (text_in before.records ++ rows_of_pages ps)) (sym (resumed_end (16 * i) before.current))
-    ∙ (sym (so_far [])
-    ∙ (ap (λ (l : List Kind). first ++ listing (pages_from 0 l)) (append-nil (map kind_of (unsynced 0 (words_of (take (68 * i) bytes)))))
-    ∙ ap (λ (l : List ℕ). first ++ listing (pages_from 0 (map kind_of (unsynced 0 (words_of l))))) (take_all (68 * i) bytes (omega arith))))))
+    ∙ (ap (λ (l : List ℕ). written ++ l) (sym (append-nil (text_in closed_one.records)))
+    ∙ sym (all_due first written before closed_one i bytes long text so_far))
 
 -- what the bytes read as is what is listed
 pub listed_reading : (X rest part first now : List ℕ) (ps : List Page) → All (λ b. b < 256) X → rest ≡ after_preamble X
@@ -174,3 +196,24 @@ row_told first written now before next after ps p so_far put poured_now =
     ∙ (append_assoc first (head ++ rows_of_pages ps) row
     ∙ (ap (λ (l : List ℕ). first ++ l) (append_assoc head (rows_of_pages ps) row)
     ∙ ap (λ (l : List ℕ). first ++ (head ++ l)) (sym (rows_more ps (p ∷ []) ∙ ap (λ (l : List ℕ). rows_of_pages ps ++ l) (append-nil row))))))))
+
+-- what is due of these pages, so many of whose records were written or wait
+pub rows_due : (first now waiting : List ℕ) (done ps : List Page) (k : ℕ) → done ≡ take k ps
+    → now ++ waiting ≡ first ++ (row_text default_writer header ++ rows_of_pages done)
+    → first ++ listing ps ≡ now ++ (waiting ++ rows_of_pages (drop k ps))
+rows_due first now waiting done ps k is so_far =
+    let head = row_text default_writer header in
+    let rest = rows_of_pages (drop k ps) in
+    let rows : rows_of_pages ps ≡ rows_of_pages done ++ rest =
+    ap (λ (qs : List Page). rows_of_pages qs) (sym (take-append-drop k ps))
+    ∙ (rows_more (take k ps) (drop k ps) ∙ ap (λ (qs : List Page). rows_of_pages qs ++ rest) (sym is)) in
+    ap (λ (l : List ℕ). first ++ l)
+    (listing_is ps ∙ (ap (λ (l : List ℕ). head ++ l) rows ∙ sym (append_assoc head (rows_of_pages done) rest)))
+    ∙ (sym (append_assoc first (head ++ rows_of_pages done) rest)
+    ∙ (ap (λ (l : List ℕ). l ++ rest) (sym so_far) ∙ append_assoc now waiting rest))
+
+pub one_page_more : (done ps : List Page) (p : Page) → done ≡ take (length done) ps → length done < length ps
+    → p ≡ get_or ps (length done) p → done ++ p ∷ [] ≡ take (length done + 1) ps
+one_page_more done ps p is within here =
+    ap (λ (qs : List Page). qs ++ p ∷ []) is
+    ∙ (ap (λ (q : Page). take (length done) ps ++ q ∷ []) here ∙ sym (take_more ps (length done) p within))

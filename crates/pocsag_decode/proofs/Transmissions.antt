@@ -15,7 +15,7 @@ use Rattle.pocsag_pages.specs.declared.page.Page.{Page}
 use Rattle.pocsag_pages.specs.Bytes.{codewords_in, sync_word, synced, unsynced, words_of, leading, after_preamble, Sent}
 use Rattle.pocsag_pages.specs.Plain.{HasNoOrphan, items_of, pages_from}
 use Rattle.pocsag_pages.proofs.Readings.{plain_reads}
-use Rattle.pocsag_decode.specs.declared.growing.OpenPage.{OpenPage}
+use Rattle.pocsag_decode.specs.declared.open_page.OpenPage.{OpenPage}
 use Rattle.pocsag_decode.specs.Carried.{unfinished}
 use Rattle.pocsag_decode.specs.Faults.{words, ReadsAs}
 use Rattle.pocsag_decode.specs.Growing.{resumed, closed}

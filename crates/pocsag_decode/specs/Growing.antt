@@ -3,7 +3,7 @@ use Rattle.std.specs.Prelude.{ℕ, List, [], ◌∷◌, ◌++◌, Option, Some, 
 use Rattle.pocsag_words.specs.declared.codeword.Kind.{Kind}
 use Rattle.pocsag_pages.specs.declared.page.Page.{Page}
 use Rattle.pocsag_pages.specs.Plain.{items_of, pages_from}
-use Rattle.pocsag_decode.specs.declared.growing.OpenPage.{OpenPage}
+use Rattle.pocsag_decode.specs.declared.open_page.OpenPage.{OpenPage}
 
 -- The page, where these items are still to come.
 abbrev pub page_with : List ℕ → OpenPage → Page

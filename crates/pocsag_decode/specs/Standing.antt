@@ -4,7 +4,7 @@ use Rattle.pocsag_words.specs.Kinds.{kind_of}
 use Rattle.pocsag_words.specs.declared.codeword.Kind.{Kind}
 use Rattle.pocsag_pages.specs.Bytes.{leading, after_preamble, words_of, unsynced}
 use Rattle.pocsag_pages.specs.Plain.{pages_from}
-use Rattle.pocsag_decode.specs.declared.growing.Growing.{Growing}
+use Rattle.pocsag_decode.specs.declared.open_page.Growing.{Growing}
 use Rattle.pocsag_decode.specs.declared.body.Body.{Body}
 use Rattle.pocsag_decode.specs.declared.state.Decoder.{Decoder}
 use Rattle.pocsag_decode.specs.Carried.{carried, unfinished}

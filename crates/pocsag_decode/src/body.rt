@@ -8,7 +8,7 @@ ghost use Rattle.pocsag_decode.specs.Taking.{CountsBytes, CountsWord, ReadsWord,
 
 use crate::carry::Carry;
 use crate::fault::DecodeFault;
-use crate::growing::Growing;
+use crate::open_page::Growing;
 use pocsag_pages::Page;
 use pocsag_words::{BATCH_WORDS, Kind, SYNC_WORD, from_raw};
 use std::alloc::{AllocError, Global};

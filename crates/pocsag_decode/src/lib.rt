@@ -6,19 +6,19 @@ mod body;
 mod carry;
 mod decoder;
 mod fault;
-mod growing;
-mod judging;
+mod judge;
 mod laws;
 mod lister;
 mod listing;
+mod open_page;
 mod page_file;
+mod repair;
 mod repaired;
-mod repairing;
 mod state;
 mod whole;
 
 pub use fault::{DecodeFault, ListFault};
-pub use judging::judge_bytes;
+pub use judge::judge_bytes;
 pub use laws::{
     a_fault_there_stays, faults_are_one, listed_fields_are_read_back, no_fault_is_a_reading,
     page_files_are_read_back, readings_have_no_fault, readings_of_bytes_are_one, repair_restores,
@@ -27,7 +27,7 @@ pub use laws::{
 pub use lister::{list_sent, list_spent};
 pub use listing::{kind_of_page, list, message_of};
 pub use page_file::write_page_file;
+pub use repair::repair_all;
 pub use repaired::Repaired;
-pub use repairing::repair_all;
 pub use state::Decoder;
 pub use whole::decode;

@@ -1,6 +1,7 @@
 //! Listings that are written as the codewords are read.
-ghost use Rattle.std.specs.Prelude.{◌≡◌, ℕ, ◌+◌, ◌*◌, ◌%◌, ◌^◌, ◌<◌, ◌∷◌, ◌++◌, [], None, Some, List, All, IfOk, OnOk, length, map};
+ghost use Rattle.std.specs.Prelude.{◌≡◌, ℕ, ◌+◌, ◌*◌, ◌%◌, ◌^◌, ◌<◌, ◌∷◌, ◌++◌, [], None, Some, List, All, IfOk, OnErr, OnOk, length, map};
 ghost use Rattle.csv.specs.Writing.{default_writer, row_text};
+ghost use Rattle.pocsag_words.specs.Devices.{TookPrefix};
 ghost use Rattle.pocsag_words.specs.Kinds.{IsInRange, kind_of};
 ghost use Rattle.pocsag_words.specs.declared.codeword.Kind.{Kind};
 ghost use Rattle.pocsag_pages.specs.declared.page.Page.{Page};
@@ -15,9 +16,9 @@ ghost use Rattle.pocsag_decode.specs.Listers.{CanList, rows_of_pages, still_list
 ghost use Rattle.pocsag_decode.specs.Listing.{header, listing};
 
 use crate::fault::ListFault;
-use crate::growing::OpenPage;
-use crate::judging::IDLE_BATCH;
+use crate::judge::IDLE_BATCH;
 use crate::listing::{begun, pour, pour_many, put_spent};
+use crate::open_page::OpenPage;
 use csv::Writer;
 use pocsag_pages::{Page, Payload, leading_len};
 use pocsag_words::{BATCH_BYTES, Kind, Sink};
@@ -194,6 +195,8 @@ fn list_batches<S: Sink>(lister: &mut Lister, bytes: &[u8], sink: &mut S) -> Res
     requires long { length bytes.now % 68 ≡ 0 }
     ensures whole { S.tells → OnOk result (S.taken sink.new
         ≡ S.taken sink.old ++ listing (pages_from 0 (map kind_of (unsynced 0 (words_of bytes.now))))) }
+    ensures part { S.tells → OnErr result (TookPrefix (S.taken sink.old) (S.taken sink.new)
+        (listing (pages_from 0 (map kind_of (unsynced 0 (words_of bytes.now)))))) }
     ensures failures { TellsFailures result ListFault.WriteFault (S.failures sink.old) (S.failures sink.new) }
 {
     for i in 0..bytes.len() / BATCH_BYTES {
@@ -206,11 +209,13 @@ fn list_batches<S: Sink>(lister: &mut Lister, bytes: &[u8], sink: &mut S) -> Res
 }
 
 /// Writes the listing of the pages that the bytes of a transmission read as, as `list` does, but as they are read: no more
-/// than one page is held, and records up to 1,048,576 bytes beside its own. After a fault a part was written. Of bytes that
+/// than one page is held, and records up to 1,048,576 bytes beside its own. After a fault a prefix was written. Of bytes that
 /// have a fault nothing is promised: `judge_bytes` finds it before.
 pub fn list_sent<S: Sink>(alloc: Global, bytes: &[u8], sink: &mut S) -> Result<(), ListFault>
     ensures whole { S.tells → OnOk result ((pages : List Page) → ReadsAs bytes.now pages →
         S.taken sink.new ≡ S.taken sink.old ++ listing pages) }
+    ensures part { S.tells → OnErr result ((pages : List Page) → ReadsAs bytes.now pages →
+        TookPrefix (S.taken sink.old) (S.taken sink.new) (listing pages)) }
 
     // A device's fault is answered only where that device failed.
     ensures failures { TellsFailures result ListFault.WriteFault (S.failures sink.old) (S.failures sink.new) }
@@ -232,6 +237,7 @@ fn put_all<S: Sink>(
     requires begun { text_in records.old ≡ row_text default_writer header }
     requires listable { All IsListable pages.items }
     ensures whole { S.tells → OnOk result (S.taken sink.new ≡ S.taken sink.old ++ listing pages.items) }
+    ensures part { S.tells → OnErr result (TookPrefix (S.taken sink.old) (S.taken sink.new) (listing pages.items)) }
     ensures failures { TellsFailures result ListFault.WriteFault (S.failures sink.old) (S.failures sink.new) }
 {
     for page in pages {
@@ -241,11 +247,12 @@ fn put_all<S: Sink>(
     pour(alloc, records, sink)
 }
 
-/// Writes the listing of the pages, as `list` does, but each page is let go as its record is made. After a fault a part was
-/// written.
+/// Writes the listing of the pages, as `list` does, but each page is let go as its record is made. After a fault a prefix
+/// was written.
 pub fn list_spent<S: Sink>(alloc: Global, pages: Vec<Page>, sink: &mut S) -> Result<(), ListFault>
     requires { All IsListable pages.items }
     ensures whole { S.tells → OnOk result (S.taken sink.new ≡ S.taken sink.old ++ listing pages.items) }
+    ensures part { S.tells → OnErr result (TookPrefix (S.taken sink.old) (S.taken sink.new) (listing pages.items)) }
 
     // A device's fault is answered only where that device failed.
     ensures failures { TellsFailures result ListFault.WriteFault (S.failures sink.old) (S.failures sink.new) }

@@ -1,4 +1,4 @@
-ghost use Rattle.std.specs.Prelude.{◌≡◌, ◌≢◌, ◌^◌, ◌<◌, ◌∷◌, ◌++◌, [], length, All, OnOk, IfOk};
+ghost use Rattle.std.specs.Prelude.{◌≡◌, ◌≢◌, ◌^◌, ◌<◌, ◌≤◌, ◌∷◌, ◌++◌, [], length, All, OnErr, OnOk, IfOk};
 ghost use Rattle.std.specs.List.{flat_map};
 ghost use Rattle.std.specs.Fmt.{decimal};
 ghost use Rattle.csv.specs.Writing.{default_writer, row_text};
@@ -185,6 +185,7 @@ pub(crate) fn pour<S: Sink>(
     ensures ready { OnOk result (IsReady writer.new) }
     ensures none { OnOk result (text_in writer.new ≡ []) }
     ensures whole { S.tells → OnOk result (S.taken sink.new ≡ S.taken sink.old ++ text_in writer.old) }
+    ensures part { S.tells → OnErr result (TookPrefix (S.taken sink.old) (S.taken sink.new) (text_in writer.old)) }
     ensures failures { TellsFailures result ListFault.WriteFault (S.failures sink.old) (S.failures sink.new) }
 {
     let full = mem::replace(writer, Writer::from_writer(Vec::new(alloc)));
@@ -208,6 +209,8 @@ pub(crate) fn pour_many<S: Sink>(
     ensures ready { OnOk result (IsReady writer.new) }
     ensures told { S.tells → OnOk result
         (S.taken sink.new ++ text_in writer.new ≡ S.taken sink.old ++ text_in writer.old) }
+    ensures grown { S.tells → OnOk result (length (S.taken sink.old) ≤ length (S.taken sink.new)) }
+    ensures part { S.tells → OnErr result (TookPrefix (S.taken sink.old) (S.taken sink.new) (text_in writer.old)) }
     ensures failures { TellsFailures result ListFault.WriteFault (S.failures sink.old) (S.failures sink.new) }
 {
     if writer.get_ref().len() < PIECE {

@@ -1,14 +1,16 @@
 -- What the fields of a record ask for.
-use Rattle.std.proofs.Common.{◌≡◌, ◌≢◌, inl, inr, ℕ, zero, suc, ◌<◌, Bool, true, false, cond, List, [], ◌∷◌, length, refl, sym, ap, ◌∙◌, arith, codes}
-use Rattle.std.specs.Prelude.{Some, None}
+use Rattle.std.proofs.Common.{◌≡◌, ◌≢◌, ◌⊎◌, inl, inr, ℕ, zero, suc, ◌<◌, Bool, true, false, cond, List, [], ◌∷◌, length, refl, sym, ap, ◌∙◌, arith, codes}
+use Rattle.std.specs.Prelude.{Option, Some, None}
 use Rattle.std.proofs.lemmas.Bool.{false_from_ne_true}
 use Rattle.std.proofs.lemmas.Slice.Eq.{bytes_eq-Decides}
+use Rattle.std.specs.Str.{IsUtf8}
 use Rattle.pocsag_words.specs.declared.ending.End.{End}
-use Rattle.pocsag_edits.specs.Asks.{AsksNeither, AsksPlan, IsPlanEnd, end_word}
+use Rattle.pocsag_words.specs.declared.ending.End.TheVariants as ends
+use Rattle.pocsag_edits.specs.Asks.{AsksNone, AsksNoPlan, AsksPlan, IsPlanEnd, end_word}
 use Rattle.std.specs.Str.{bytes_eq}
 use Rattle.csv.specs.Records.{field_at}
 use Rattle.pocsag_pages.specs.PageFile.{Row}
-use Rattle.pocsag_edits.specs.Runs.{add, asked_of, cancel, clear}
+use Rattle.pocsag_edits.specs.Runs.{add, asked_of, cancel, clear, first_record}
 
 pub has_field : (row : Row) (i : ℕ) → i < length row → None ≡ field_at row i → ⊥
 unfolding field_at
@@ -45,22 +47,63 @@ not_add (w ∷ f ∷ g ∷ []) n d = absurd (omega arith)
 not_add (w ∷ f ∷ g ∷ h ∷ []) n d = rw (differs w (codes "add") (λ e. d (ap Some (sym e)))) refl
 not_add (w ∷ f ∷ g ∷ h ∷ i ∷ row) n d = absurd (omega arith)
 
--- a record of one field that is not `list` asks neither for the list nor for a journal
-pub not_list : (row : Row) → length row ≡ 1 → Some (codes "list") ≢ field_at row 0 → AsksNeither row
+-- what the fields of the record of a plan are
+asked_length : (end : End) (tx cert : List ℕ) (row : Row) → AsksPlan end tx cert row → (length row ≡ 3) ⊎ (length row ≡ 4)
+asked_length end tx cert row (inl e) = inr (ap length e)
+asked_length end tx cert row (inr e) = inl (ap length e.1)
+
+asked_word : (end : End) (tx cert : List ℕ) (row : Row) → AsksPlan end tx cert row → Some (codes "plan") ≡ field_at row 0
 unfolding field_at
-not_list row n d =
-    (λ h. d (ap (λ (r : Row). field_at r 0) (sym h)), λ h. absurd (let k : length row ≡ 2 = ap length h in omega (arith, k, n)))
+asked_word end tx cert row (inl e) = ap (λ (r : Row). field_at r 0) (sym e)
+asked_word end tx cert row (inr e) = ap (λ (r : Row). field_at r 0) (sym e.1)
+
+asked_tx : (end : End) (tx cert : List ℕ) (row : Row) → AsksPlan end tx cert row → Some tx ≡ field_at row 1
+unfolding field_at
+asked_tx end tx cert row (inl e) = ap (λ (r : Row). field_at r 1) (sym e)
+asked_tx end tx cert row (inr e) = ap (λ (r : Row). field_at r 1) (sym e.1)
+
+asked_cert : (end : End) (tx cert : List ℕ) (row : Row) → AsksPlan end tx cert row → Some cert ≡ field_at row 2
+unfolding field_at
+asked_cert end tx cert row (inl e) = ap (λ (r : Row). field_at r 2) (sym e)
+asked_cert end tx cert row (inr e) = ap (λ (r : Row). field_at r 2) (sym e.1)
+
+asked_end : (end : End) (tx cert : List ℕ) (row : Row) → length row ≡ 4 → AsksPlan end tx cert row → Some (end_word end) ≡ field_at row 3
+unfolding field_at
+asked_end end tx cert row n (inl e) = ap (λ (r : Row). field_at r 3) (sym e)
+asked_end end tx cert row n (inr e) = absurd (let k : length row ≡ 3 = ap length e.1 in omega (arith, k, n))
+
+-- a record of another length than three and four asks for no plan
+no_plan_by_length : (row : Row) → length row ≢ 3 → length row ≢ 4 → AsksNoPlan row
+no_plan_by_length row m n = λ end tx cert asks t c. elim (asked_length end tx cert row asks) [ inl e ↦ m e | inr e ↦ n e ]
+
+-- nor does one of another word
+no_plan_by_word : (row : Row) → Some (codes "plan") ≢ field_at row 0 → AsksNoPlan row
+no_plan_by_word row d = λ end tx cert asks t c. d (asked_word end tx cert row asks)
+
+-- a record of one field that is not `list` asks for nothing but an edit
+pub not_list : (row : Row) → length row ≡ 1 → Some (codes "list") ≢ field_at row 0 → AsksNone row
+unfolding field_at
+not_list row n d = record {
+  list = λ h. d (ap (λ (r : Row). field_at r 0) (sym h));
+  heading = λ h. absurd (let k : length row ≡ 2 = ap length h in omega (arith, k, n));
+  plan = no_plan_by_length row (λ e. absurd (omega (arith, n, e))) (λ e. absurd (omega (arith, n, e)));
+}
 
 -- nor does one of two fields that is not the first of a journal
-pub not_journal : (row : Row) → length row ≡ 2 → Some (codes "pocsag journal") ≢ field_at row 0 → AsksNeither row
-unfolding field_at
-not_journal row n d =
-    (λ h. absurd (let k : length row ≡ 1 = ap length h in omega (arith, k, n)), λ h. d (ap (λ (r : Row). field_at r 0) (sym h)))
+of_two : (row : Row) → length row ≡ 2 → row ≢ first_record → AsksNone row
+of_two row n d = record {
+  list = λ h. absurd (let k : length row ≡ 1 = ap length h in omega (arith, k, n));
+  heading = d;
+  plan = no_plan_by_length row (λ e. absurd (omega (arith, n, e))) (λ e. absurd (omega (arith, n, e)));
+}
 
-pub not_version : (row : Row) → length row ≡ 2 → Some (codes "1") ≢ field_at row 1 → AsksNeither row
+pub not_journal : (row : Row) → length row ≡ 2 → Some (codes "pocsag journal") ≢ field_at row 0 → AsksNone row
 unfolding field_at
-not_version row n d =
-    (λ h. absurd (let k : length row ≡ 1 = ap length h in omega (arith, k, n)), λ h. d (ap (λ (r : Row). field_at r 1) (sym h)))
+not_journal row n d = of_two row n (λ h. d (ap (λ (r : Row). field_at r 0) (sym h)))
+
+pub not_version : (row : Row) → length row ≡ 2 → Some (codes "1") ≢ field_at row 1 → AsksNone row
+unfolding field_at
+not_version row n d = of_two row n (λ h. d (ap (λ (r : Row). field_at r 1) (sym h)))
 
 pub bare_asks : (row : Row) (word : List ℕ) → length row ≡ 1 → Some word ≡ field_at row 0 → (b : Bool) → bytes_eq word (codes "clear") ≡ b →
     cond b (Some clear) None ≡ asked_of row
@@ -115,38 +158,78 @@ pair (w ∷ a ∷ []) word other n e h =
 pair (w ∷ a ∷ b ∷ row) word other n e h = absurd (omega arith)
 
 -- a record of another length than one and two asks neither for the list nor for a journal
-pub neither_by_length : (row : Row) → length row ≢ 1 → length row ≢ 2 → AsksNeither row
-neither_by_length row m n = (λ e. m (ap length e), λ e. n (ap length e))
+of_more : (row : Row) → length row ≢ 1 → length row ≢ 2 → AsksNoPlan row → AsksNone row
+of_more row m n p = record { list = λ e. m (ap length e); heading = λ e. n (ap length e); plan = p }
+
+-- and of another length than three and four for no plan either
+pub none_by_length : (row : Row) → length row ≢ 1 → length row ≢ 2 → length row ≢ 3 → length row ≢ 4 → AsksNone row
+none_by_length row m n o p = of_more row m n (no_plan_by_length row o p)
 
 -- nor does a record of one field that is not `list`
-pub neither_alone : (row : Row) (word : List ℕ) → row ≡ word ∷ [] → word ≢ codes "list" → AsksNeither row
-neither_alone row word e n = (λ h. n (cc (sym e ∙ h)), λ h. cc (sym e ∙ h))
+pub neither_alone : (row : Row) (word : List ℕ) → row ≡ word ∷ [] → word ≢ codes "list" → AsksNone row
+unfolding field_at
+neither_alone row word e n =
+    let k : length row ≡ 1 = ap length e in
+    not_list row k (λ h. n (cc (h ∙ ap (λ (r : Row). field_at r 0) e)))
 
 -- nor one of two fields that is not the first of a journal
-pub neither_of_two : (row : Row) (word : List ℕ) → length row ≡ 2 → Some word ≡ field_at row 0 → word ≢ codes "pocsag journal" → AsksNeither row
-unfolding field_at
-neither_of_two [] word n e d = absurd (omega arith)
-neither_of_two (w ∷ row) word n e d = (λ h. absurd (let k : length (w ∷ row) ≡ 1 = ap length h in omega arith), λ h. d (cc (e, h)))
+pub neither_of_two : (row : Row) (word : List ℕ) → length row ≡ 2 → Some word ≡ field_at row 0 → word ≢ codes "pocsag journal" → AsksNone row
+neither_of_two row word n e d = not_journal row n (λ h. d (cc (e ∙ sym h)))
 
--- nor the record of a plan
-pub neither_of_plan : (end : End) (row : Row) → IsPlanEnd end row → AsksNeither row
-neither_of_plan end row (inl h) = neither_by_length row (λ e. absurd (omega (arith, h.0))) (λ e. absurd (omega (arith, h.0)))
-neither_of_plan end row (inr h) = neither_by_length row (λ e. absurd (omega (arith, h.0))) (λ e. absurd (omega (arith, h.0)))
+plan_length : (end : End) (row : Row) → IsPlanEnd end row → (length row ≢ 1) × (length row ≢ 2)
+plan_length end row (inl h) = (λ e. absurd (omega (arith, h.0)), λ e. absurd (omega (arith, h.0)))
+plan_length end row (inr h) = (λ e. absurd (omega (arith, h.0)), λ e. absurd (omega (arith, h.0)))
+
+of_plan : (end : End) (row : Row) → IsPlanEnd end row → AsksNoPlan row → AsksNone row
+of_plan end row h p = of_more row (plan_length end row h).0 (plan_length end row h).1 p
+
+-- the record of a plan has another first word, or a place that is no text
+pub no_plan_word : (end : End) (row : Row) → IsPlanEnd end row → Some (codes "plan") ≢ field_at row 0 → AsksNone row
+no_plan_word end row h d = of_plan end row h (no_plan_by_word row d)
+
+pub no_tx : (end : End) (row : Row) → IsPlanEnd end row → ((field : List ℕ) → Some field ≡ field_at row 1 → IsUtf8 field → ⊥) → AsksNone row
+no_tx end row h d = of_plan end row h (λ other tx cert asks t c. d tx (asked_tx other tx cert row asks) t)
+
+pub no_cert : (end : End) (row : Row) → IsPlanEnd end row → ((field : List ℕ) → Some field ≡ field_at row 2 → IsUtf8 field → ⊥) → AsksNone row
+no_cert end row h d = of_plan end row h (λ other tx cert asks t c. d cert (asked_cert other tx cert row asks) c)
+
+-- a record of four fields that is an `add`, or names no end, asks for nothing but an edit
+pub none_of_four : (row : Row) (word : List ℕ) → length row ≡ 4 → Some word ≡ field_at row 0 → word ≢ codes "plan" → AsksNone row
+none_of_four row word n e d =
+    of_more row (λ k. absurd (omega (arith, n, k))) (λ k. absurd (omega (arith, n, k))) (no_plan_by_word row (λ h. d (cc (e ∙ sym h))))
+
+pub no_end : (row : Row) → length row ≡ 4 → ((end : End) → Some (end_word end) ≢ field_at row 3) → AsksNone row
+no_end row n d =
+    of_more row (λ k. absurd (omega (arith, n, k))) (λ k. absurd (omega (arith, n, k)))
+    (λ end tx cert asks t c. d end (asked_end end tx cert row n asks))
+
+pub no_end_word : (o : Option (List ℕ)) → Some (codes "open") ≢ o → Some (codes "closed") ≢ o → Some (codes "idle") ≢ o →
+    (end : End) → Some (end_word end) ≢ o
+no_end_word o p q r ends.Open = p
+no_end_word o p q r ends.Closed = q
+no_end_word o p q r ends.Idle = r
 
 -- the fields of the record of a plan
-pub plan_is : (end : End) (row : Row) (word : List ℕ) → IsPlanEnd end row → Some word ≡ field_at row 0 → word ≡ codes "plan" → AsksPlan end row
+pub plan_is : (end : End) (row : Row) (tx cert : List ℕ) → IsPlanEnd end row → Some (codes "plan") ≡ field_at row 0 →
+    Some tx ≡ field_at row 1 → Some cert ≡ field_at row 2 → AsksPlan end tx cert row
 unfolding field_at
-plan_is end [] word (inl h) e w = absurd (omega (arith, h.0))
-plan_is end (p ∷ []) word (inl h) e w = absurd (omega (arith, h.0))
-plan_is end (p ∷ tx ∷ []) word (inl h) e w = absurd (omega (arith, h.0))
-plan_is end (p ∷ tx ∷ cert ∷ []) word (inl h) e w = let same : p ≡ codes "plan" = cc (e, w) in (tx, cert, inr (h.1, rw same refl))
-plan_is end (p ∷ tx ∷ cert ∷ f ∷ row) word (inl h) e w = absurd (omega (arith, h.0))
-plan_is end [] word (inr h) e w = absurd (omega (arith, h.0))
-plan_is end (p ∷ []) word (inr h) e w = absurd (omega (arith, h.0))
-plan_is end (p ∷ tx ∷ []) word (inr h) e w = absurd (omega (arith, h.0))
-plan_is end (p ∷ tx ∷ cert ∷ []) word (inr h) e w = absurd (omega (arith, h.0))
-plan_is end (p ∷ tx ∷ cert ∷ f ∷ []) word (inr h) e w =
-    let same : p ≡ codes "plan" = cc (e, w) in
+plan_is end [] tx cert (inl h) e x y = absurd (omega (arith, h.0))
+plan_is end (p ∷ []) tx cert (inl h) e x y = absurd (omega (arith, h.0))
+plan_is end (p ∷ t ∷ []) tx cert (inl h) e x y = absurd (omega (arith, h.0))
+plan_is end (p ∷ t ∷ c ∷ []) tx cert (inl h) e x y =
+    let word : p ≡ codes "plan" = cc e in
+    let first : t ≡ tx = cc x in
+    let second : c ≡ cert = cc y in
+    inr (h.1, rw (word, first, second) refl)
+plan_is end (p ∷ t ∷ c ∷ f ∷ row) tx cert (inl h) e x y = absurd (omega (arith, h.0))
+plan_is end [] tx cert (inr h) e x y = absurd (omega (arith, h.0))
+plan_is end (p ∷ []) tx cert (inr h) e x y = absurd (omega (arith, h.0))
+plan_is end (p ∷ t ∷ []) tx cert (inr h) e x y = absurd (omega (arith, h.0))
+plan_is end (p ∷ t ∷ c ∷ []) tx cert (inr h) e x y = absurd (omega (arith, h.0))
+plan_is end (p ∷ t ∷ c ∷ f ∷ []) tx cert (inr h) e x y =
+    let word : p ≡ codes "plan" = cc e in
+    let first : t ≡ tx = cc x in
+    let second : c ≡ cert = cc y in
     let last : f ≡ end_word end = cc (h.1) in
-    (tx, cert, inl (rw (same, last) refl))
-plan_is end (p ∷ tx ∷ cert ∷ f ∷ g ∷ row) word (inr h) e w = absurd (omega (arith, h.0))
+    inl (rw (word, first, second, last) refl)
+plan_is end (p ∷ t ∷ c ∷ f ∷ g ∷ row) tx cert (inr h) e x y = absurd (omega (arith, h.0))

@@ -3,3 +3,5 @@ pub mod LineFeeds
 pub mod Quotes
 pub mod Refusals
 pub mod RowTexts
+pub mod Strays
+pub mod Reasons

@@ -6,8 +6,8 @@ use Rattle.std.proofs.lemmas.Bool.{cases_Bool, eqb-true, or_from, or_parts}
 use Rattle.std.proofs.lemmas.Bool.Decides.{nat_tests}
 use Rattle.csv.specs.Reading.{is_bom, strip_bom}
 use Rattle.csv.specs.Writing.{default_writer, escaped, needs_byte, needs_quotes}
-use Rattle.pocsag_edits.specs.declared.quoting.Quoting.{Quoting}
-use Rattle.pocsag_edits.specs.declared.quoting.Quoting.TheVariants as at
+use Rattle.pocsag_edits.specs.declared.quote.Quoting.{Quoting}
+use Rattle.pocsag_edits.specs.declared.quote.Quoting.TheVariants as at
 use Rattle.pocsag_edits.specs.Quotes.{MayEnd, unquoted_after, quoting_after, quoting_from}
 use Rattle.pocsag_edits.specs.Spelling.{IsRowText}
 use Rattle.pocsag_edits.specs.Spelling.IsFieldText.{bare, between_quotes}
@@ -104,12 +104,12 @@ IsHeld at.Ended held = ⊥
 abbrev IsText : List ℕ → Type 0
 IsText text = (fields : List (List ℕ)) × IsRowText fields text
 
-never_broken : (xs : List ℕ) → MayEnd (quoting_from at.Broken xs) → ⊥
+pub never_broken : (xs : List ℕ) → MayEnd (quoting_from at.Broken xs) → ⊥
 unfolding quoting_from
 never_broken [] m = m
 never_broken (b ∷ xs) m = never_broken xs m
 
-never_ended : (xs : List ℕ) → MayEnd (quoting_from at.Ended xs) → ⊥
+pub never_ended : (xs : List ℕ) → MayEnd (quoting_from at.Ended xs) → ⊥
 unfolding quoting_from
 never_ended [] m = m
 never_ended (b ∷ xs) m = never_ended xs m

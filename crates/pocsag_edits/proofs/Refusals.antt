@@ -7,7 +7,7 @@ use Rattle.pocsag_pages.specs.PageFile.{page_of_fields}
 use Rattle.pocsag_pages.specs.declared.page.Page.{Page}
 use Rattle.pocsag_pages.specs.declared.fault.FieldFault.{FieldFault}
 use Rattle.pocsag_plan.specs.OpenRound.{add_fault, fault_or_memory}
-use Rattle.pocsag_plan_faults.specs.declared.refusal.AddFault.{AddFault}
+use Rattle.pocsag_plan.specs.declared.refusal.AddFault.{AddFault}
 use Rattle.pocsag_edits.specs.Edited.{IsAdded, IsEditRefused}
 use Rattle.pocsag_edits.specs.Runs.{IsDone, IsReason, asked_by_line, wants_memory}
 use Rattle.pocsag_edits.specs.declared.edits.Line.{Line}

@@ -9,8 +9,8 @@ use Rattle.csv.specs.Reading.{default_config, records, records_from}
 use Rattle.csv.specs.Writing.{default_writer, escaped, needs_byte, needs_quotes, quoted}
 use Rattle.csv.specs.declared.parser.State.TheVariants as st
 use Rattle.csv.proofs.RoundTrip.{plain-run, quoted-run, start-same}
-use Rattle.pocsag_edits.specs.declared.quoting.Quoting.{Quoting}
-use Rattle.pocsag_edits.specs.declared.quoting.Quoting.TheVariants as at
+use Rattle.pocsag_edits.specs.declared.quote.Quoting.{Quoting}
+use Rattle.pocsag_edits.specs.declared.quote.Quoting.TheVariants as at
 use Rattle.pocsag_edits.specs.Quotes.{MayEnd, bare_after, quoting_after, quoting_from}
 use Rattle.pocsag_edits.specs.Spelling.{EndsInQuotes, HasNoRecord, IsFieldText, IsRowText}
 use Rattle.pocsag_edits.proofs.Quotes.{text_of}

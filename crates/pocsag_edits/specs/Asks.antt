@@ -1,5 +1,6 @@
 -- What a line of an open round that edits nothing asks for by its record (this project's own).
 use Rattle.std.specs.Prelude.{◌≡◌, ◌≢◌, ◌⊎◌, ℕ, List, [], ◌∷◌, length, codes, Option, Some, None}
+use Rattle.std.specs.Str.{IsUtf8}
 use Rattle.csv.specs.Records.{field_at}
 use Rattle.pocsag_words.specs.declared.ending.End.{End}
 use Rattle.pocsag_words.specs.declared.ending.End.TheVariants as ends
@@ -18,27 +19,34 @@ end_word ends.Open = codes "open"
 end_word ends.Closed = codes "closed"
 end_word ends.Idle = codes "idle"
 
--- The record asks for a plan for the end: `plan,TX,CERT` and the word of the end, or without a word for the open end.
-abbrev pub AsksPlan : End → Row → Type 0
-AsksPlan end row = (tx cert : List ℕ) ×
-    ((row ≡ codes "plan" ∷ tx ∷ cert ∷ end_word end ∷ []) ⊎ ((end ≡ ends.Open) × (row ≡ codes "plan" ∷ tx ∷ cert ∷ [])))
+-- The record asks for a plan for the end, which goes to two places: `plan,TX,CERT` and the word of the end, or without a
+-- word for the open end.
+abbrev pub AsksPlan : End → (tx cert : List ℕ) → Row → Type 0
+AsksPlan end tx cert row =
+    (row ≡ codes "plan" ∷ tx ∷ cert ∷ end_word end ∷ []) ⊎ ((end ≡ ends.Open) × (row ≡ codes "plan" ∷ tx ∷ cert ∷ []))
 
 -- So many fields has the record of a plan for the end, and the fourth is the word of the end.
 abbrev pub IsPlanEnd : End → Row → Type 0
 IsPlanEnd end row =
     ((length row ≡ 3) × (end ≡ ends.Open)) ⊎ ((length row ≡ 4) × (Some (end_word end) ≡ field_at row 3))
 
--- The record asks neither for the list nor for what the first line of a journal asks for.
-abbrev pub AsksNeither : Row → Type 0
-AsksNeither row = (row ≢ list_record) × (row ≢ first_record)
+-- The record asks for no plan whose places are texts.
+abbrev pub AsksNoPlan : Row → Type 0
+AsksNoPlan row = (end : End) (tx cert : List ℕ) → AsksPlan end tx cert row → IsUtf8 tx → IsUtf8 cert → ⊥
+
+-- The record asks neither for the list nor for what the first line of a journal asks for, and for no plan.
+pub record AsksNone (row : Row) : Type 0 where
+  pub list : row ≢ list_record
+  pub heading : row ≢ first_record
+  pub plan : AsksNoPlan row
 
 -- What a line that edits nothing asks for by its record.
 abbrev pub IsAskedBy : Line → Row → Type 0
 IsAskedBy line.List row = row ≡ list_record
 IsAskedBy line.Journal row = row ≡ first_record
-IsAskedBy (line.Plan tx cert end) row = AsksPlan end row
-IsAskedBy _ row = AsksNeither row
+IsAskedBy (line.Plan tx cert end) row = AsksPlan end tx.now cert.now row
+IsAskedBy _ row = AsksNone row
 
 abbrev pub IsAskedIn : Option Line → Row → Type 0
-IsAskedIn None row = AsksNeither row
+IsAskedIn None row = AsksNone row
 IsAskedIn (Some asking) row = IsAskedBy asking row

@@ -4,13 +4,14 @@ use Rattle.pocsag_pages.specs.Pages.{has_address}
 use Rattle.pocsag_pages.specs.PageFile.{address_of, page_of_fields}
 use Rattle.pocsag_pages.specs.declared.fault.FieldFault.TheVariants as field
 use Rattle.pocsag_pages.specs.declared.page.Page.{Page}
-use Rattle.pocsag_plan_faults.specs.declared.refusal.AddFault.TheVariants as adding
-use Rattle.pocsag_faults.specs.declared.fault.Fault.TheVariants as fault
+use Rattle.pocsag_plan.specs.declared.refusal.AddFault.TheVariants as adding
+use Rattle.pocsag_shell.specs.declared.fault.FileFault.TheVariants as file
 use Rattle.pocsag_plan.specs.OpenRound.{add_fault, fault_or_memory, without}
 use Rattle.pocsag_edits.specs.declared.edits.Line.{Line}
 use Rattle.pocsag_edits.specs.declared.edits.Line.TheVariants.{Add, Cancel, Clear}
 use Rattle.pocsag_edits.specs.declared.refusal.Refusal.{Refusal}
 use Rattle.pocsag_edits.specs.declared.refusal.Refusal.TheVariants as refusal
+use Rattle.pocsag_edits.specs.declared.refusal.UndoneFault.TheVariants as undone
 
 -- The page that the fields of an `add` spell, against which nothing stands, goes behind the others.
 pub record IsAdded (address kind message : List ℕ) (before after : List Page) : Type 0 where
@@ -62,5 +63,6 @@ own_words refusal.StrayQuote = Some (codes "a quote is out of place")
 own_words (refusal.Cancel absent) = Some (codes "no such page")
 own_words (refusal.Field field.OutOfMemory) = Some (codes "out of memory")
 own_words (refusal.Add adding.OutOfMemory) = Some (codes "out of memory")
-own_words (refusal.Undone fault.OutOfMemory) = Some (codes "out of memory")
+own_words (refusal.Undone undone.OutOfMemory) = Some (codes "out of memory")
+own_words (refusal.Undone (undone.File file.OutOfMemory)) = Some (codes "out of memory")
 own_words _ = None

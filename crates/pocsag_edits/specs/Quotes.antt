@@ -1,8 +1,8 @@
 -- Where a line of CSV stands after some of its bytes.
 use Rattle.std.specs.Prelude.{ℕ, ◌==◌, if◌then◌else◌, List, [], ◌∷◌}
 use Rattle.csv.specs.Writing.{comma, default_writer, needs_byte, quote_mark}
-use Rattle.pocsag_edits.specs.declared.quoting.Quoting.{Quoting}
-use Rattle.pocsag_edits.specs.declared.quoting.Quoting.TheVariants as at
+use Rattle.pocsag_edits.specs.declared.quote.Quoting.{Quoting}
+use Rattle.pocsag_edits.specs.declared.quote.Quoting.TheVariants as at
 
 -- After a byte that calls for quotes, where there are none: a quote that is out of place, or the end of the record.
 abbrev pub unquoted_after : ℕ → Quoting

@@ -9,7 +9,7 @@ use Rattle.pocsag_edits.specs.declared.edits.Line.TheVariants as line
 use Rattle.pocsag_edits.specs.declared.refusal.Refusal.{Refusal}
 use Rattle.pocsag_edits.specs.declared.refusal.Refusal.TheVariants as refusal
 use Rattle.pocsag_pages.specs.declared.fault.FieldFault.TheVariants as field
-use Rattle.pocsag_plan_faults.specs.declared.refusal.AddFault.TheVariants as adding
+use Rattle.pocsag_plan.specs.declared.refusal.AddFault.TheVariants as adding
 
 -- The first record of a journal: it names the format and its version.
 abbrev pub first_record : Row

@@ -3,9 +3,9 @@ use Rattle.std.specs.Prelude.{◌≡◌, ◌≢◌, ◌⊎◌, ℕ, ◌-◌, ◌
 use Rattle.std.specs.List.{AllByRecursion}
 use Rattle.csv.specs.Machine.{line_feed}
 use Rattle.csv.specs.Reading.{strip_bom}
-use Rattle.pocsag_faults.specs.declared.fault.Fault.TheVariants as fault
 use Rattle.pocsag_edits.specs.declared.refusal.Refusal.{Refusal}
 use Rattle.pocsag_edits.specs.declared.refusal.Refusal.TheVariants as refusal
+use Rattle.pocsag_edits.specs.declared.refusal.UndoneFault.TheVariants as undone
 use Rattle.csv.specs.Writing.{comma, default_writer, needs_quotes, quote_mark, quoted}
 
 -- The text of a field: as it is, where nothing in it calls for quotes, or between quotes, each quote in it doubled.
@@ -27,13 +27,33 @@ HasNoRecord text = (fields : List (List ℕ)) → IsRowText fields text → ⊥
 abbrev pub EndsInQuotes : List ℕ → Type 0
 EndsInQuotes text = (fields : List (List ℕ)) × IsRowText fields (text ++ quote_mark ∷ [])
 
--- Why a text is no record that an edit could be: it ends in quotes, it is that of no record, or it is empty; or memory
--- was wanting to read it.
+-- At this byte the text is lost: what stands before it is the text of a record, and no text of a record goes on with it.
+pub record IsLostAt (text front : List ℕ) (byte : ℕ) : Type 0 where
+  pub rest : List ℕ
+  pub parts : text ≡ front ++ byte ∷ rest
+  pub fields : List (List ℕ)
+  pub begun : IsRowText fields front
+  pub lost : (more : List ℕ) → HasNoRecord (front ++ byte ∷ more)
+
+-- The byte is a quote, or stands behind one.
+abbrev pub IsAtQuote : (front : List ℕ) (byte : ℕ) → Type 0
+IsAtQuote front byte = (byte ≡ quote_mark) ⊎ ((start : List ℕ) × (front ≡ start ++ quote_mark ∷ []))
+
+-- A quote is out of place: the text is lost at a quote, or behind one.
+abbrev pub HasStrayQuote : List ℕ → Type 0
+HasStrayQuote text = (front : List ℕ) × ((byte : ℕ) × IsLostAt text front byte × IsAtQuote front byte)
+
+-- The text is lost at a byte that is no matter of quotes.
+abbrev pub HasStrayByte : List ℕ → Type 0
+HasStrayByte text = (front : List ℕ) × ((byte : ℕ) × IsLostAt text front byte × (IsAtQuote front byte → ⊥))
+
+-- Why a text is no record that an edit could be: it ends in quotes, a quote is out of place, another byte is, or it is
+-- empty; or memory was wanting to read it.
 abbrev pub IsUnread : (text : List ℕ) → Refusal → Type 0
 IsUnread text refusal.InQuotes = HasNoRecord text × EndsInQuotes text
-IsUnread text refusal.StrayQuote = HasNoRecord text
-IsUnread text refusal.Unknown = HasNoRecord text ⊎ (text ≡ [])
-IsUnread text (refusal.Undone f) = f ≡ fault.OutOfMemory
+IsUnread text refusal.StrayQuote = HasStrayQuote text
+IsUnread text refusal.Unknown = HasStrayByte text ⊎ (text ≡ [])
+IsUnread text (refusal.Undone f) = f ≡ undone.OutOfMemory
 IsUnread text _ = ⊥
 
 -- Whether a byte is that of a carriage return.

@@ -1,13 +1,14 @@
-ghost use Rattle.std.specs.Prelude.{◌≡◌, ◌↔◌, length, IfErr, IfOk, IfSome, IsTrue, None, Some};
+ghost use Rattle.std.specs.Prelude.{◌≡◌, ◌≢◌, ◌↔◌, ℕ, List, length, IfErr, IfNone, IfOk, IfSome, IsTrue, None, Some};
+ghost use Rattle.std.specs.Str.{IsUtf8};
 ghost use Rattle.csv.specs.Records.{field_at, fields_of};
+ghost use Rattle.pocsag_words.specs.declared.ending.End.{End};
 ghost use Rattle.pocsag_edits.specs.Asks.{IsAskedBy, IsAskedIn, IsPlanEnd, end_word};
 ghost use Rattle.pocsag_edits.specs.Runs.{asked_by_line, asked_in, asked_of};
 ghost use Rattle.pocsag_edits.specs.Spelling.{IsRowText, IsUnread, record_text};
 
-use crate::quoting::{Quoting, quoting_of, without_mark, without_return};
-use crate::refusal::Refusal;
+use crate::quote::{Quoting, quoting_of, without_mark, without_return};
+use crate::refusal::{Refusal, UndoneFault};
 use csv::ByteRecord;
-use pocsag_faults::Fault;
 use pocsag_pages::only_row;
 use pocsag_words::End;
 use std::alloc::Global;
@@ -58,7 +59,7 @@ pub fn record_of(alloc: Global, line: &[u8]) -> Result<ByteRecord, Refusal>
     match only_row(alloc, bare) {
         Ok(Some(row)) => Ok(row),
         Ok(None) => Err(Refusal::Unknown),
-        Err(_) => Err(Refusal::Undone(Fault::OutOfMemory)),
+        Err(_) => Err(Refusal::Undone(UndoneFault::OutOfMemory)),
     }
 }
 
@@ -70,7 +71,7 @@ pub fn line_of(row: &ByteRecord) -> Line<'_>
 {
     let asked = match row.len() {
         1 => bare_line(row),
-        2 => cancel_line(row),
+        2 => pair_line(row),
         3 => plan_line(row, End::Open),
         4 => long_line(row),
         _ => None,
@@ -106,26 +107,18 @@ fn bare_line(row: &ByteRecord) -> Option<Line<'_>>
     None
 }
 
+// The lines of two fields: a page that is taken out, and the first line of a journal with its version.
 #[tactic(auto, unfolding(crate::specs::Runs::asked_of))]
-fn cancel_line(row: &ByteRecord) -> Option<Line<'_>>
+fn pair_line(row: &ByteRecord) -> Option<Line<'_>>
     requires { length (fields_of row.now) ≡ 2 }
     ensures edit { asked_in result ≡ asked_of (fields_of row.now) }
     ensures asks { IsAskedIn result (fields_of row.now) }
 {
-    if !is_at(row, 0, b"cancel") {
-        return journal_line(row);
+    if is_at(row, 0, b"cancel") {
+        return Some(Line::Cancel {
+            address: row.get(1)?,
+        });
     }
-    Some(Line::Cancel {
-        address: row.get(1)?,
-    })
-}
-
-// The first line of a journal, and its version.
-fn journal_line(row: &ByteRecord) -> Option<Line<'_>>
-    requires { length (fields_of row.now) ≡ 2 }
-    ensures edit { asked_in result ≡ None }
-    ensures asks { IsAskedIn result (fields_of row.now) }
-{
     if is_at(row, 0, b"pocsag journal") && is_at(row, 1, b"1") {
         return Some(Line::Journal);
     }
@@ -149,7 +142,11 @@ fn plan_line(row: &ByteRecord, end: End) -> Option<Line<'_>>
 }
 
 // The field of this index, where it is a text.
-fn text_at(row: &ByteRecord, index: usize) -> Option<&str> {
+fn text_at(row: &ByteRecord, index: usize) -> Option<&str>
+    ensures text { IfSome result (λ text. Some text.now ≡ field_at (fields_of row.now) index) }
+    ensures none { IfNone result
+        ((field : List ℕ) → Some field ≡ field_at (fields_of row.now) index → ¬ IsUtf8 field) }
+{
     str::from_utf8(row.get(index)?).ok()
 }
 
@@ -175,7 +172,8 @@ fn long_line(row: &ByteRecord) -> Option<Line<'_>>
 
 // The end that the fourth field names.
 fn end_at(row: &ByteRecord) -> Option<End>
-    ensures { IfSome result (λ end. Some (end_word end) ≡ field_at (fields_of row.now) 3) }
+    ensures named { IfSome result (λ end. Some (end_word end) ≡ field_at (fields_of row.now) 3) }
+    ensures none { IfNone result ((end : End) → Some (end_word end) ≢ field_at (fields_of row.now) 3) }
 {
     if is_at(row, 3, b"open") {
         Some(End::Open)

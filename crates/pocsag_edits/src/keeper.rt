@@ -3,12 +3,12 @@ ghost use Rattle.csv.specs.Records.{fields_of};
 ghost use Rattle.csv.specs.Writing.{default_writer, row_text};
 ghost use Rattle.pocsag_pages.specs.declared.page.Page.{Page};
 ghost use Rattle.pocsag_words.specs.Devices.{TookPrefix};
-ghost use Rattle.pocsag_faults.specs.Faults.{status_of};
+ghost use Rattle.pocsag_shell.specs.Faults.{file_status};
 ghost use Rattle.pocsag_edits.specs.Runs.{IsEdit};
 
 use csv::ByteRecord;
-use pocsag_faults::Fault;
 use pocsag_plan::Book;
+use pocsag_shell::FileFault;
 use std::alloc::Global;
 
 /// What keeps the edits of an open round, each before it is answered.
@@ -25,7 +25,7 @@ pub trait Keeper {
     ghost stands_for: { Self → List Page → Type 0 };
 
     /// Keeps an edit that was made, by the text of its record. Where it cannot, it took a prefix of that text.
-    fn keep(&mut self, alloc: Global, row: &ByteRecord) -> Result<(), Fault>
+    fn keep(&mut self, alloc: Global, row: &ByteRecord) -> Result<(), FileFault>
         ensures taken { tells → OnOk result
             (taken self.new ≡ taken self.old ++ row_text default_writer (fields_of row.now)) }
         ensures safe { tells → OnOk result (safe self.new ≡ taken self.new) }
@@ -33,12 +33,12 @@ pub trait Keeper {
             (TookPrefix (taken self.old) (taken self.new) (row_text default_writer (fields_of row.now))) }
         ensures stands { (before after : List Page) → stands_for self.old before →
             IsEdit (fields_of row.now) before after → OnOk result (stands_for self.new after) }
-        ensures lost { IfErr result (λ e. status_of e ≡ 3) };
+        ensures lost { IfErr result (λ e. file_status e ≡ 3) };
 
     /// Is called between two lines: what it took may be put shorter, and stands for the same pages.
-    fn settle(&mut self, alloc: Global, book: &Book) -> Result<(), Fault>
+    fn settle(&mut self, alloc: Global, book: &Book) -> Result<(), FileFault>
         ensures stands { stands_for self.old book.now → OnOk result (stands_for self.new book.now) }
-        ensures lost { IfErr result (λ e. status_of e ≡ 3) };
+        ensures lost { IfErr result (λ e. file_status e ≡ 3) };
 }
 
 /// Keeps nothing.
@@ -56,11 +56,11 @@ impl Keeper for NoKeeper {
 
     ghost stands_for = { λ _ _. Unit {0} };
 
-    fn keep(&mut self, _alloc: Global, _row: &ByteRecord) -> Result<(), Fault> {
+    fn keep(&mut self, _alloc: Global, _row: &ByteRecord) -> Result<(), FileFault> {
         Ok(())
     }
 
-    fn settle(&mut self, _alloc: Global, _book: &Book) -> Result<(), Fault> {
+    fn settle(&mut self, _alloc: Global, _book: &Book) -> Result<(), FileFault> {
         Ok(())
     }
 }

@@ -1,11 +1,26 @@
 ghost use Rattle.std.specs.Prelude.{◌≡◌};
 ghost use Rattle.pocsag_edits.specs.declared.refusal.Refusal.TheVariants as refusal;
 
-use pocsag_faults::Fault;
 use pocsag_pages::FieldFault;
 use pocsag_plan::{AddFault, NotThere, Refused};
+use pocsag_shell::FileFault;
 use std::fmt::{self, Display, Formatter};
 use thiserror::Error;
+
+/// Why what a line asks for beside an edit was not done.
+#[derive(Clone, Copy, Debug, Error)]
+pub enum UndoneFault {
+    /// One of the two files of a plan.
+    #[error(transparent)]
+    File(FileFault),
+    #[error("there are no pages")]
+    NoPages,
+    /// The search stopped: at least so many batches are needed, and one more would do.
+    #[error("search limit reached: at least {least} batches, {found} would do")]
+    SearchLimit { least: u32, found: u32 },
+    #[error("out of memory")]
+    OutOfMemory,
+}
 
 /// Why an edit is refused. The round is as it was.
 #[derive(Clone, Copy, Debug, Error)]
@@ -21,7 +36,7 @@ pub enum Refusal {
     Add(AddFault),
     Cancel(NotThere),
     /// What was asked could not be done.
-    Undone(Fault),
+    Undone(UndoneFault),
 }
 
 impl Display for Refusal {
@@ -37,7 +52,9 @@ impl Display for Refusal {
             Refusal::Cancel(NotThere) => f.write_str("no such page"),
             Refusal::Field(FieldFault::OutOfMemory)
             | Refusal::Add(AddFault::OutOfMemory)
-            | Refusal::Undone(Fault::OutOfMemory) => f.write_str("out of memory"),
+            | Refusal::Undone(
+                UndoneFault::OutOfMemory | UndoneFault::File(FileFault::OutOfMemory),
+            ) => f.write_str("out of memory"),
             Refusal::Field(fault) => fault.fmt(f),
             Refusal::Add(fault) => fault.fmt(f),
             Refusal::Undone(fault) => fault.fmt(f),
@@ -72,13 +89,5 @@ impl From<Refused> for Refusal {
 
     fn from(refused: Refused) -> Refusal {
         Refusal::Add(refused.fault)
-    }
-}
-
-impl From<NotThere> for Refusal {
-    ghost from_gives = { λ not_there e. e ≡ refusal.Cancel not_there };
-
-    fn from(not_there: NotThere) -> Refusal {
-        Refusal::Cancel(not_there)
     }
 }

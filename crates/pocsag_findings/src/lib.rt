@@ -4,7 +4,7 @@
 
 mod finding;
 mod inquiry;
-mod judging;
+mod judgement;
 mod laws;
 mod listing;
 

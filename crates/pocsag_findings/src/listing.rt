@@ -8,7 +8,7 @@ ghost use Rattle.pocsag_findings.specs.Views.{all_stated};
 
 use crate::finding::{Fact, Finding, Reached, Share};
 use crate::inquiry::{Inquiry, Position};
-use crate::judging::{columns_at, fact_of, is_met, narrowed_of, shares_at};
+use crate::judgement::{columns_at, fact_of, is_met, narrowed_of, shares_at};
 use pocsag_slots::{Classes, Way, all_limits, closing_ways, ways};
 use pocsag_tree::{Certificate, Tree};
 use pocsag_words::OutOfMemory;

@@ -3,10 +3,10 @@
 //! cap, or a set of slots that every choice within the limits loads above its caps. Nothing here takes
 //! memory.
 
-mod choosing;
+mod choice;
 mod fault;
 mod network;
 mod way;
 
-pub use choosing::{choose, choose_from};
+pub use choice::{choose, choose_from};
 pub use fault::ChooseFault;

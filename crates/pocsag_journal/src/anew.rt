@@ -1,4 +1,4 @@
-ghost use Rattle.std.specs.Prelude.{◌≡◌, ◌-◌, All, IfOk, IfSome, IsTrue, Some, length, slice_get};
+ghost use Rattle.std.specs.Prelude.{◌≡◌, All, IfOk, IfSome};
 ghost use Rattle.csv.specs.Records.{fields_of};
 ghost use Rattle.pocsag_pages.specs.Listable.{IsListable};
 ghost use Rattle.pocsag_journal.specs.Journals.{AddsLine, IsAdd, ListsPages};
@@ -46,18 +46,9 @@ fn add_line(alloc: Global, book: &mut Book, page: &Page) -> Result<Option<Vec<u8
         Err(refusal) if refusal.wants_memory() => return Err(OutOfMemory),
         Err(_) => return Ok(None),
     }
-    if !ends_with(book, page) {
-        return Ok(None);
-    }
-    Ok(Some(line))
-}
-
-fn ends_with(book: &Book, page: &Page) -> bool
-    ensures { IsTrue result → slice_get book.now (length book.now - 1) ≡ Some page.now }
-{
     match book.pages().last() {
-        Some(last) => *last == *page,
-        None => false,
+        Some(last) if *last == *page => Ok(Some(line)),
+        _ => Ok(None),
     }
 }
 

@@ -7,12 +7,12 @@ use crate::anew::text_of_pages;
 use crate::disk::Disk;
 use crate::fault::JournalFault;
 use crate::lines::is_one_line;
-use crate::reading::JOURNAL_LIMIT;
+use crate::replay::JOURNAL_LIMIT;
 use crate::text::row_line;
 use csv::ByteRecord;
 use pocsag_edits::Keeper;
-use pocsag_faults::Fault;
 use pocsag_plan::Book;
+use pocsag_shell::FileFault;
 use pocsag_words::write_all;
 use std::alloc::Global;
 
@@ -106,26 +106,26 @@ impl<D: Disk + Drop> Keeper for Journal<D> {
 
     ghost stands_for = { λ journal pages. D.tells → IsHeld journal (D.taken (disk_of journal)) pages };
 
-    fn keep(&mut self, alloc: Global, row: &ByteRecord) -> Result<(), Fault> {
+    fn keep(&mut self, alloc: Global, row: &ByteRecord) -> Result<(), FileFault> {
         let line = row_line(alloc, row)?;
         let len = self.len.saturating_add(line.len());
         // No line of `open` has a field with a line feed.
         if !is_one_line(line.as_slice()) || len > JOURNAL_LIMIT {
-            return Err(Fault::Write);
+            return Err(FileFault::Write);
         }
         let Ok(()) = write_all(&mut self.disk, line.as_slice()) else {
-            return Err(Fault::Write);
+            return Err(FileFault::Write);
         };
         let Ok(()) = self.disk.sync() else {
-            return Err(Fault::Write);
+            return Err(FileFault::Write);
         };
         self.len = len;
         Ok(())
     }
 
-    fn settle(&mut self, alloc: Global, book: &Book) -> Result<(), Fault> {
+    fn settle(&mut self, alloc: Global, book: &Book) -> Result<(), FileFault> {
         match self.shorten(alloc, book) {
-            Err(JournalFault::WriteFault) => Err(Fault::Write),
+            Err(JournalFault::WriteFault) => Err(FileFault::Write),
             _ => Ok(()),
         }
     }

@@ -10,7 +10,7 @@ mod laws;
 mod lines;
 mod list;
 mod memory_disk;
-mod reading;
+mod replay;
 mod text;
 
 pub use anew::text_of_pages;
@@ -20,5 +20,5 @@ pub use journal::Journal;
 pub use laws::{a_prefix_is_read, journals_read_as_one, lines_are_short};
 pub use list::list_journal;
 pub use memory_disk::MemoryDisk;
-pub use reading::{JOURNAL_LIMIT, Replayed, read_journal};
+pub use replay::{JOURNAL_LIMIT, Replayed, read_journal};
 pub use text::first_line;

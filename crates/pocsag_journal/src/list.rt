@@ -1,11 +1,10 @@
-ghost use Rattle.std.specs.Prelude.{◌≡◌, ◌≢◌, ◌⊎◌, ◌++◌, IfErr, IfOk};
-ghost use Rattle.pocsag_words.specs.Devices.{HasFailed};
+ghost use Rattle.std.specs.Prelude.{◌≡◌, ◌≢◌, ◌++◌, IfErr, IfOk};
 ghost use Rattle.pocsag_decode.specs.PageFiles.{page_file};
-ghost use Rattle.pocsag_journal.specs.Faults.{IsTold};
+ghost use Rattle.pocsag_journal.specs.Faults.{ExplainsListing};
 ghost use Rattle.pocsag_journal.specs.Journals.{Replays};
 
 use crate::fault::JournalFault;
-use crate::reading::{Replayed, read_journal};
+use crate::replay::{Replayed, read_journal};
 use pocsag_decode::{ListFault, write_page_file};
 use pocsag_words::{Sink, Source};
 use std::alloc::Global;
@@ -20,13 +19,11 @@ pub fn list_journal<S: Source, O: Sink>(
         (λ replayed. Replays (S.held source.old) replayed.edits replayed.torn replayed.book) }
     ensures listed { O.tells → IfOk result
         (λ replayed. O.taken out.new ≡ O.taken out.old ++ page_file replayed.book) }
-    ensures told { S.tells → IfErr result (λ e. (e ≡ JournalFault.ReadFault) ⊎ (e ≡ JournalFault.TooLarge)
-        ⊎ (e ≡ JournalFault.WriteFault) ⊎ IsTold (S.held source.old) e) }
+    ensures explained { S.tells → IfErr result (ExplainsListing (S.held source.old)
+        (S.failures source.old) (S.failures source.new) (O.failures out.old) (O.failures out.new)) }
 
-    // Nothing is listed where it is refused, and only an output that fails is told as one.
+    // Nothing is listed where it is refused.
     ensures refused { IfErr result (λ e. e ≢ JournalFault.WriteFault → out.new ≡ out.old) }
-    ensures failed { S.tells → IfErr result
-        (λ e. e ≡ JournalFault.WriteFault → HasFailed (O.failures out.old) (O.failures out.new)) }
 {
     let replayed = read_journal(alloc, source)?;
     match write_page_file(alloc, replayed.book.pages(), out) {

@@ -1,12 +1,11 @@
 ghost use Rattle.std.specs.Prelude.{◌≡◌, IfOk};
 ghost use Rattle.csv.specs.Records.{fields_of};
 ghost use Rattle.csv.specs.Writing.{default_writer, row_text};
-ghost use Rattle.pocsag_decode.specs.Lines.{IsReady, PutsRow};
 ghost use Rattle.pocsag_edits.specs.Runs.{first_record};
 
 use csv::{ByteRecord, Writer};
 use pocsag_words::OutOfMemory;
-use std::alloc::{AllocError, Global};
+use std::alloc::Global;
 
 /// The first line of a journal, which names the format and its version. The program `pocsag open` takes it as a line
 /// that changes nothing.
@@ -16,23 +15,14 @@ pub fn first_line() -> &'static [u8]
     b"pocsag journal,1\n"
 }
 
-// Writes one record.
-fn put_line_of(writer: &mut Writer<Vec<u8>>, row: &ByteRecord) -> Result<(), AllocError>
-    requires { IsReady writer.old }
-    ensures { PutsRow result writer.old writer.new (fields_of row.now) }
-{
-    match writer.write_byte_record(row) {
-        Ok(()) => Ok(()),
-        Err(_) => Err(AllocError),
-    }
-}
-
 /// The text of a record, with the line feed that ends it.
 pub fn row_line(alloc: Global, row: &ByteRecord) -> Result<Vec<u8>, OutOfMemory>
     ensures { IfOk result (λ text. text.items ≡ row_text default_writer (fields_of row.now)) }
 {
     let mut writer = Writer::from_writer(Vec::new(alloc));
-    put_line_of(&mut writer, row)?;
+    if writer.write_byte_record(row).is_err() {
+        return Err(OutOfMemory);
+    }
     match writer.into_inner() {
         Ok(text) => Ok(text),
         Err(_) => Err(OutOfMemory),

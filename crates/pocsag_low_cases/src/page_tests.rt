@@ -2,9 +2,8 @@
 
 use pocsag_batch::{FirstFault, first_stream};
 use pocsag_pages::{
-    FieldFault, FileRecords, PageFault, Payload, RecordFault, Round, RoundFault, WholeFault,
-    is_reserved_address, leading_len, line_feeds, only_row, page_fault, page_of_fields, read_round,
-    read_whole,
+    FieldFault, PageFault, Payload, RecordFault, Round, RoundFault, WholeFault,
+    is_reserved_address, leading_len, only_row, page_fault, page_of_fields, read_round, read_whole,
 };
 use pocsag_rounds::given::{PageRow, page, page_file, pages, tones};
 use pocsag_rounds::{THREE_PAGES_TIGHT, ones};
@@ -399,112 +398,23 @@ fn rounds_of_pages(rt: HostRuntime) {
     assert_eq!(rt; digits.payload.into_vec().len(), 1);
 }
 
-// A page file, and of each of its records the line, the number of fields and the last field.
-const WALKS: &[(&[u8], &[(usize, usize, &[u8])])] = &[
-    (b"", &[]),
-    (b"\n\r\n", &[]),
-    (b"address,kind,message", &[(1, 3, b"message")]),
-    (
-        b"address,kind,message\r\n\r\n8,tone0,\r\n\r\n9,tone0,x\r\n",
-        &[(1, 3, b"message"), (3, 3, b""), (5, 3, b"x")],
-    ),
-    (
-        b"\xEF\xBB\xBFa,b\n\n8,alpha,\"one\ntwo\n\"\n9,tone0\n10",
-        &[
-            (1, 2, b"b"),
-            (3, 3, b"one\ntwo\n"),
-            (6, 2, b"tone0"),
-            (7, 1, b"10"),
-        ],
-    ),
-    (
-        b"a\rb\r\rc\n\"never\nclosed\n",
-        &[
-            (1, 1, b"a"),
-            (1, 1, b"b"),
-            (1, 1, b"c"),
-            (2, 1, b"never\nclosed\n"),
-        ],
-    ),
-    // The walk ends with the first record of more than three fields, of which the rest is not kept.
-    (
-        b"address,kind,message\n\n8,alpha,one,two\n,,,,\n9,tone0,\n",
-        &[(1, 3, b"message"), (3, 4, b"")],
-    ),
-    (
-        b"address,kind,message\r\n8,alpha,\"one,\n\",\"two\n",
-        &[(1, 3, b"message"), (2, 4, b"")],
-    ),
-    (b"\xEF\xBB\xBF,,,", &[(1, 4, b"")]),
-];
-
-#[test]
-fn records_of_a_file(rt: HostRuntime) {
-    for (file, due) in WALKS {
-        let mut records = FileRecords::of(rt.alloc(), file);
-        for (line, fields, last) in *due {
-            assert_eq!(rt; records.advance(), Ok(true));
-            assert_eq!(rt; records.line(), *line);
-            assert_eq!(rt; records.len(), *fields);
-            assert_eq!(rt; records.field(fields.saturating_sub(1)), Some(*last));
-            assert_eq!(rt; records.field(*fields), None);
-        }
-        assert_eq!(rt; records.advance(), Ok(false));
-        assert_eq!(rt; records.advance(), Ok(false));
-    }
-    assert_eq!(rt; line_feeds(b"\r\na\n\n"), 3);
-}
-
-// A page file, and how many fields its first record of more than three has.
-const WIDE_COUNTS: &[(&[u8], Option<usize>)] = &[
-    (b"", None),
-    (b"a,b,c\nd,\"e,\n\",f\n\n", None),
-    (b"a,b,c,", Some(4)),
-    (b"a,b,c,\r\n\nd,e,f,g,h\n", Some(4)),
-    (b"\xEF\xBB\xBF\"a,\n,\",b,c,\"d\n\"\"\n\"\n", Some(4)),
-    (b"\"a\n\",b\n\n,,,,\"c\n,\n\"\"", Some(5)),
-    (b"\xEF\xBB\"\xBF,a\",,", Some(4)),
-];
-
-#[test]
-fn fields_of_wide_records(rt: HostRuntime) {
-    for (file, due) in WIDE_COUNTS {
-        let mut records = FileRecords::of(rt.alloc(), file);
-        for _ in 0..4 {
-            assert!(rt; records.advance().is_ok());
-        }
-        let count = records.wide_count();
-        assert_eq!(rt; count.map(|it| it.fields), *due);
-        assert!(rt; !count.is_some_and(|it| it.is_front));
-    }
-}
-
-// What stands behind the header, before and behind so many commas, how many fields of the record are read, and whether of a
-// front of 4,194,304 bytes.
-const LONG_FILES: &[(&[u8], usize, &[u8], (usize, bool))] = &[
-    (b"8,tone0,", 5_000_000, b"\n8,tone0,\n", (4_194_278, true)),
-    (b"8,alpha,\"", 5_000_000, b"\",\n8,tone0,\n", (4, false)),
-    (b"", 4_194_283, b"", (4_194_284, false)),
+// What stands behind the header, before and behind so many commas. Each first record has more than three fields, some of them
+// behind a front of 4,194,304 bytes.
+const LONG_FILES: &[(&[u8], usize, &[u8])] = &[
+    (b"8,tone0,", 5_000_000, b"\n8,tone0,\n"),
+    (b"8,alpha,\"", 5_000_000, b"\",\n8,tone0,\n"),
+    (b"", 4_194_283, b""),
 ];
 
 #[test]
 fn records_of_a_long_file(rt: HostRuntime) {
     let alloc = rt.alloc();
-    for (before, count, behind, due) in LONG_FILES {
+    for (before, count, behind) in LONG_FILES {
         let mut file = Vec::from_slice(alloc, b"address,kind,message\n").expect(&rt, "memory");
         file.extend_from_slice(before).expect(&rt, "memory");
         let len = file.len() + count;
         file.resize(len, b',').expect(&rt, "memory");
         file.extend_from_slice(behind).expect(&rt, "memory");
-        let mut records = FileRecords::of(alloc, file.as_slice());
-        assert_eq!(rt; records.advance(), Ok(true));
-        assert_eq!(rt; records.advance(), Ok(true));
-        assert_eq!(rt;
-            records.wide_count().map(|it| (it.fields, it.is_front)),
-            Some(*due)
-        );
-        assert_eq!(rt; records.line(), 2);
-        assert_eq!(rt; records.advance(), Ok(false));
         let mut source = MemorySource::new(file.as_slice(), 65_536, u64::MAX);
         let fault = read_round(alloc, &mut source).err().expect(&rt, "a fault");
         let text = format!(in alloc; "{fault}").expect(&rt, "memory");

@@ -1,3 +1,4 @@
+pub mod Plans
 pub mod SeenLines
 pub mod Sessions
 pub mod Telling

@@ -1,15 +1,24 @@
 #![tactic(auto)]
-//! An open round as a process: each line of an input is an edit, and is answered at once by one line. It
-//! knows no file: who calls it hands in what makes the two outputs of a plan.
+//! The group of the open round: a round as a process, in which each line of an input is an edit or asks for the list or a plan,
+//! and is answered at once by one line. The session itself knows no file: who calls it hands in what makes and places the two
+//! outputs of a plan. Beside it stand the files of the command `open`: those of its plans, and its journal.
 
-mod answering;
+mod answer;
+mod fault;
+mod group;
+mod journal_file;
+mod kept_round;
 mod lines;
-mod opening;
 mod outputs;
-mod settling;
+mod round_files;
+mod round_plan;
+mod session;
+mod words;
 
-pub use answering::{OpenRound, answer_edit};
+pub use answer::{OpenRound, answer_edit};
+pub use fault::OpenFault;
+pub use group::RoundGroup;
 pub use lines::LINE_LIMIT;
-pub use opening::{Planner, run_open, run_open_kept, run_open_pages};
 pub use outputs::Places;
-pub use pocsag_edits::{Keeper, NoKeeper, Refusal, edit_row};
+pub use pocsag_edits::{Keeper, NoKeeper, Refusal, UndoneFault, edit_row};
+pub use session::{Planner, run_open, run_open_kept, run_open_pages};

@@ -1,8 +1,8 @@
 ghost use Rattle.std.specs.Prelude.{◌≡◌, ◌≤◌, [], ◌++◌, length, IfErr, IfOk, OnOk};
-ghost use Rattle.pocsag_faults.specs.Faults.{status_of};
+ghost use Rattle.pocsag_shell.specs.Faults.{file_status};
 ghost use Rattle.pocsag_open.specs.Lines.{IsByteKept, IsLineFound, IsNextByte, between_places, line_limit};
 
-use pocsag_faults::Fault;
+use pocsag_shell::FileFault;
 use pocsag_words::{DeviceFault, Source};
 use std::alloc::Global;
 
@@ -26,7 +26,8 @@ pub enum LineRead {
 /// A line of a source, and the bytes that were read ahead of it. The memory for a line is taken once.
 #[derive(Drop)]
 pub struct Lines {
-    line: Vec<u8>,
+    /// The line that is kept.
+    pub line: Vec<u8>,
     piece: [u8; PIECE],
     start: usize,
     end: usize,
@@ -34,9 +35,9 @@ pub struct Lines {
 }
 
 impl Lines {
-    pub fn new(alloc: Global) -> Result<Lines, Fault>
+    pub fn new(alloc: Global) -> Result<Lines, FileFault>
         ensures ahead { IfOk result (λ lines. between_places lines.piece lines.start lines.end ≡ []) }
-        ensures lost { IfErr result (λ e. e ≡ Fault.OutOfMemory) }
+        ensures lost { IfErr result (λ e. e ≡ FileFault.OutOfMemory) }
     {
         Ok(Lines {
             line: Vec::with_capacity(alloc, LINE_LIMIT)?,
@@ -46,28 +47,7 @@ impl Lines {
         })
     }
 
-    /// The line that is kept.
-    pub fn line(&self) -> &[u8]
-        ensures { result.now ≡ self.now.line.items }
-    {
-        self.line.as_slice()
-    }
-
-    // Reads the next bytes of the source in place of those that are used up.
-    fn read_ahead<S: Source>(&mut self, source: &mut S) -> Result<(), DeviceFault>
-        ensures read { OnOk result (S.failures source.new ≡ S.failures source.old) }
-        ensures ahead { S.tells → OnOk result (S.held source.old ≡
-            between_places self.new.piece self.new.start self.new.end ++ S.held source.new) }
-        ensures end { S.tells → OnOk result (self.new.end ≤ self.new.start → S.held source.old ≡ []) }
-        ensures kept { self.new.line.items ≡ self.old.line.items }
-    {
-        self.start = 0;
-        self.end = 0;
-        self.end = source.read(&mut self.piece)?;
-        Ok(())
-    }
-
-    // The next byte, unless the source has ended.
+    // The next byte, unless the source has ended. It reads the next bytes of the source in place of those that are used up.
     fn next_byte<S: Source>(&mut self, source: &mut S) -> Result<Option<u8>, DeviceFault>
         ensures read { OnOk result (S.failures source.new ≡ S.failures source.old) }
         ensures next { S.tells → IfOk result (λ next. IsNextByte next
@@ -76,7 +56,9 @@ impl Lines {
         ensures kept { self.new.line.items ≡ self.old.line.items }
     {
         if self.start >= self.end {
-            self.read_ahead(source)?;
+            self.start = 0;
+            self.end = 0;
+            self.end = source.read(&mut self.piece)?;
         }
         if self.start >= self.end {
             return Ok(None);
@@ -88,19 +70,19 @@ impl Lines {
 
     /// Reads the next line of the source. The last line may lack its line feed. A line of more bytes than a count
     /// holds is taken for a fault of the source.
-    pub fn read_line<S: Source>(&mut self, source: &mut S) -> Result<LineRead, Fault>
+    pub fn read_line<S: Source>(&mut self, source: &mut S) -> Result<LineRead, FileFault>
         ensures found { S.tells → IfOk result (λ found. IsLineFound found
             (between_places self.old.piece self.old.start self.old.end ++ S.held source.old)
             self.new.line.items (between_places self.new.piece self.new.start self.new.end ++ S.held source.new)) }
         ensures short { length self.new.line.items ≤ line_limit }
         ensures read { OnOk result (S.failures source.new ≡ S.failures source.old) }
-        ensures lost { IfErr result (λ e. status_of e ≡ 3) }
+        ensures lost { IfErr result (λ e. file_status e ≡ 3) }
     {
         self.line.clear();
         let mut found = LineRead::End;
         for _ in 0..u64::MAX {
             let Ok(next) = self.next_byte(source) else {
-                return Err(Fault::Device);
+                return Err(FileFault::Device);
             };
             match next {
                 None => return Ok(found),
@@ -109,16 +91,16 @@ impl Lines {
                 Some(byte) => found = self.keep(byte)?,
             }
         }
-        Err(Fault::Device)
+        Err(FileFault::Device)
     }
 
     // Keeps one byte more of a line, unless the line is as long as may be.
-    fn keep(&mut self, byte: u8) -> Result<LineRead, Fault>
+    fn keep(&mut self, byte: u8) -> Result<LineRead, FileFault>
         ensures kept { IfOk result (λ found. IsByteKept found byte self.old.line.items self.new.line.items) }
         ensures short { length self.old.line.items ≤ line_limit → length self.new.line.items ≤ line_limit }
         ensures ahead { between_places self.new.piece self.new.start self.new.end ≡
             between_places self.old.piece self.old.start self.old.end }
-        ensures lost { IfErr result (λ e. e ≡ Fault.OutOfMemory) }
+        ensures lost { IfErr result (λ e. e ≡ FileFault.OutOfMemory) }
     {
         if self.line.len() >= LINE_LIMIT {
             return Ok(LineRead::TooLong);

@@ -1,16 +1,38 @@
-use pocsag_faults::{Fault, Outputs};
+ghost use Rattle.std.specs.Prelude.{◌≡◌, ℕ, List, [], ◌∷◌, ◌++◌, IfOk, OnErr, OnOk};
+ghost use Rattle.pocsag_open.specs.Plans.{PlacedPlan, placed_plan};
+
+use pocsag_shell::{FileFault, Outputs};
 use pocsag_words::Sink;
 
-/// What makes the outputs of the plans of an open round, as files of a folder are.
+/// What makes the outputs of the plans of an open round, as files of a folder are, and puts them in their places.
 pub trait Places {
     type Output: Sink + Drop;
 
-    /// Makes the two outputs that a line names, or answers why there are none.
-    fn make(&self, tx: &str, cert: &str) -> Result<Outputs<Self::Output>, Fault>;
+    // Whether contracts know what is put in its place.
+    ghost tells: { Type 0 };
 
-    /// Is called after each plan, before it is answered, with whether both outputs are whole: where they wait
-    /// beside the places that the line named, they are put there, or taken away.
-    fn settle(&self, _tx: &str, _cert: &str, _are_whole: bool) -> Result<(), Fault> {
-        Ok(())
-    }
+    // What was put there, plan by plan.
+    ghost placed: { Self → List PlacedPlan };
+
+    // The names for which outputs were made last: those of a transmission and of a certificate.
+    ghost made_for: { Self → List ℕ × List ℕ };
+
+    /// Makes the two outputs that a line names, which are empty, or answers why there are none.
+    fn make(&mut self, tx: &str, cert: &str) -> Result<Outputs<Self::Output>, FileFault>
+        ensures known { tells → IfOk result (λ outputs. Self.Output.tells) }
+        ensures empty { tells → IfOk result (λ outputs.
+            (Self.Output.taken outputs.tx ≡ []) × (Self.Output.taken outputs.cert ≡ [])) }
+        ensures made { tells → OnOk result (made_for self.new ≡ (tx.now, cert.now)) }
+        ensures same { tells → placed self.new ≡ placed self.old };
+
+    /// Puts both outputs of a plan, which are whole, in the places for which they were made.
+    fn put(&mut self, tx: &str, cert: &str, outputs: Outputs<Self::Output>) -> Result<(), FileFault>
+        ensures placed { tells → made_for self.old ≡ (tx.now, cert.now) → OnOk result (placed self.new ≡
+            placed self.old ++ placed_plan tx.now cert.now
+            (Self.Output.taken outputs.tx, Self.Output.taken outputs.cert) ∷ []) }
+        ensures same { tells → OnErr result (placed self.new ≡ placed self.old) };
+
+    /// Leaves the places as they are, where the outputs were not made or are not whole.
+    fn leave<'n>(&mut self, tx: &'n str, cert: &'n str)
+        ensures same { tells → placed self.new ≡ placed self.old };
 }

@@ -4,12 +4,12 @@
 
 mod address;
 mod fault;
-mod hearing;
 mod laws;
 mod pager;
+mod shown;
 mod turn;
 
 pub use fault::PagerFault;
-pub use hearing::hear_all;
 pub use laws::{damage_is_repaired, shown_pages_are_one_list};
 pub use pager::Pager;
+pub use shown::hear_all;

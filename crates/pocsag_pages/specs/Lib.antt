@@ -7,5 +7,4 @@ pub mod Pages
 pub mod Plain
 pub mod Reading
 pub mod Rows
-pub mod Walking
 pub mod WideRecords

@@ -15,7 +15,6 @@ mod record;
 mod round;
 mod row_reader;
 mod rule;
-mod walking;
 mod whole;
 
 pub use csv_row::only_row;
@@ -27,7 +26,5 @@ pub use pocsag_words::{BATCH_BITS, PREAMBLE_BITS, SYNC_WORD};
 pub use preamble::leading_len;
 pub use record::{page_of_fields, parse_address};
 pub use round::{PAGE_LIMIT, Round};
-pub use row_reader::FieldCount;
 pub use rule::{ITEM_LIMIT, is_reserved_address, page_fault};
-pub use walking::{FileRecords, line_feeds};
 pub use whole::read_whole;

@@ -10,22 +10,11 @@ use pocsag_words::OutOfMemory;
 use std::alloc::Global;
 use std::marker::Model;
 
-/// How many fields were read of a record.
-#[derive(Clone, Copy)]
-pub struct FieldCount {
-    pub fields: usize,
-    /// Only a front of the file was read: the record may have more.
-    pub is_front: bool,
-}
-
 // The records of a page file that are not read yet, up to the first of more than three fields.
 #[derive(Drop)]
 pub(crate) struct RowReader<'a> {
     reader: Reader<&'a [u8]>,
     is_over: bool,
-    // Only a front of the file is read.
-    is_front: bool,
-    wide_count: Option<FieldCount>,
 }
 
 impl<'a> Model for RowReader<'a> {
@@ -45,12 +34,9 @@ impl<'a> RowReader<'a> {
     pub(crate) fn of(alloc: Global, file: &'a [u8]) -> RowReader<'a>
         ensures { result ≡ up_to_wide (rows_of file.now) }
     {
-        let front = judged_front(alloc, file);
         RowReader {
-            reader: rows_reader(alloc, front),
+            reader: rows_reader(alloc, judged_front(alloc, file)),
             is_over: false,
-            is_front: front.len() < file.len(),
-            wide_count: None,
         }
     }
 
@@ -69,20 +55,11 @@ impl<'a> RowReader<'a> {
             return Ok(false);
         }
         if row.len() > PAGE_FIELDS {
-            self.wide_count = Some(FieldCount {
-                fields: row.len(),
-                is_front: self.is_front,
-            });
             row.truncate(PAGE_FIELDS);
             row.push_field(&[])?;
             return Ok(true);
         }
         self.is_over = false;
         Ok(true)
-    }
-
-    // The fields of the first record of more than three, once it was read.
-    pub(crate) fn wide_count(&self) -> Option<FieldCount> {
-        self.wide_count
     }
 }

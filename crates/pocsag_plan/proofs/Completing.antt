@@ -14,7 +14,8 @@ use Rattle.pocsag_tree.specs.Views.{bound_tree_of}
 use Rattle.pocsag_branch.specs.declared.answer.Found.{Found}
 use Rattle.pocsag_branch.specs.declared.within_one.Near.{Near}
 use Rattle.pocsag_branch.specs.declared.within_one.FreeFault.{FreeFault}
-use Rattle.pocsag_branch.specs.declared.within_one.FreeFault.TheVariants.{SearchLimit}
+use Rattle.pocsag_branch.specs.declared.within_one.FreeFault.TheVariants.{SearchLimit as AtLimit}
+use Rattle.pocsag_branch.specs.declared.stop.SearchLimit.{SearchLimit}
 use Rattle.pocsag_branch.specs.Found.{IsNodeLimit}
 use Rattle.pocsag_branch.specs.Freely.{IsFreeFault, IsNearlyFewest}
 use Rattle.pocsag_plan.specs.Within.{IsWithinOne}
@@ -26,9 +27,10 @@ least_few k least choice is among =
     is.least 1760000 (record { choice = choice; among = among; loads = λ slot h. load_few k choice slot h among })
 
 -- the bound that the free search leaves at its limit
-pub near_few : (k : Classes) (end : End) (e : FreeFault) (near : Near) → e ≡ SearchLimit near → IsFreeFault k end e → near.least ≤ 1760000
-near_few k end e near same said =
-    let is : IsNearlyFewest k end near = subst (IsFreeFault k end) same said in
+pub near_few : (k : Classes) (end : End) (limit : ℕ) (e : FreeFault) (near : Near) (stop : SearchLimit) → e ≡ AtLimit near stop →
+    IsFreeFault k end limit e → near.least ≤ 1760000
+near_few k end limit e near stop same said =
+    let is : IsNearlyFewest k end near = (subst (IsFreeFault k end limit) same said).0 in
     least_few k near.least (slice_index near.choice.early) is.is_least is.choice
 
 -- What is known of a tour that is within one batch of its bound.

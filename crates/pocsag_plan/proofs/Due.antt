@@ -14,8 +14,8 @@ use Rattle.pocsag_batch.specs.Saying.{Say}
 use Rattle.pocsag_batch.proofs.OrderLaws.{order_lays}
 use Rattle.pocsag_batch.proofs.Orders.{order_has_places}
 use Rattle.pocsag_plan.specs.declared.bounded.Bounded.{Bounded}
-use Rattle.pocsag_options.specs.declared.search.Effort.TheVariants.{Fewest}
-use Rattle.pocsag_options.specs.declared.search.Search.{Search}
+use Rattle.pocsag_plan.specs.declared.search.Effort.TheVariants.{Fewest}
+use Rattle.pocsag_plan.specs.declared.search.Search.{Search}
 use Rattle.pocsag_plan.specs.BoundedHeadline.{BoundedHeadline, IsHeadlineWhereTight}
 use Rattle.pocsag_plan.specs.Headline.{RoundHeadline}
 use Rattle.pocsag_plan.specs.Plans.{IsBounded, IsPlan, IsPlanFor}

@@ -1,17 +1,20 @@
 -- What a fault of the search says of the round.
-use Rattle.std.proofs.Common.{List}
+use Rattle.std.proofs.Common.{◌≡◌, ◌∙◌, sym, List, Option, Some, None}
 use Rattle.pocsag_words.specs.declared.ending.End.{End}
 use Rattle.pocsag_pages.specs.declared.page.Page.{Page}
 use Rattle.pocsag_pages.specs.Pages.{IsRound}
 use Rattle.pocsag_pages.proofs.GoodPages.{apart_pages}
 use Rattle.pocsag_slots.specs.declared.class.Classes.{Classes}
 use Rattle.pocsag_slots.specs.Loads.{AreClassesOf}
-use Rattle.pocsag_plan_faults.specs.declared.search.SearchFault.{SearchFault}
-use Rattle.pocsag_plan_faults.specs.declared.search.SearchFault.TheVariants as searching
+use Rattle.pocsag_branch.specs.declared.stop.SearchFault.{SearchFault}
+use Rattle.pocsag_branch.specs.declared.stop.SearchLimit.{SearchLimit}
+use Rattle.pocsag_branch.specs.declared.stop.SearchFault.TheVariants as searching
 use Rattle.pocsag_branch.specs.Found.{IsNodeLimit, IsSearchFault}
-use Rattle.pocsag_plan_faults.specs.FaultChains.{fault_of_search}
-use Rattle.pocsag_plan.specs.Plans.{ExplainsPlan}
-use Rattle.pocsag_options.specs.declared.search.Effort.TheVariants.{Fewest}
+use Rattle.pocsag_plan.specs.FaultChains.{fault_of_search}
+use Rattle.pocsag_plan.specs.declared.answer.Plan.{Plan}
+use Rattle.pocsag_plan.specs.Plans.{ExplainsPlan, IsNoWorse}
+use Rattle.pocsag_plan.specs.Within.{IsTightOrStopped}
+use Rattle.pocsag_plan.specs.declared.search.Effort.TheVariants.{Fewest}
 use Rattle.std.proofs.Common.{ℕ}
 
 pub explained : (k : Classes) (end : End) (R : List Page) (limit : ℕ) (fault : SearchFault) → IsRound R → AreClassesOf k end R
@@ -37,3 +40,18 @@ explained k end R limit (searching.SearchLimit stop) round classes within said =
       },
     )
 explained k end R limit searching.OutOfMemory round classes within said = within
+
+-- what the search for the fewest knew where it stopped is so of the round
+pub no_worse : (k : Classes) (end : End) (R : List Page) (limit bound batches : ℕ) (plan : Plan) (stopped : Option SearchLimit) → IsRound R
+    → AreClassesOf k end R → IsNodeLimit limit → plan.batches ≡ batches → IsTightOrStopped k end limit bound batches stopped →
+    IsNoWorse end R limit (record { plan = plan; bound = bound; stopped = stopped })
+no_worse k end R limit bound batches plan None round classes within same is = record { tight = is.tight ∙ sym same; stopped = tt }
+no_worse k end R limit bound batches plan (Some stop) round classes within same is =
+    record {
+      tight = tt;
+      stopped = (
+        is.at_limit.0,
+        is.at_limit.1 ∙ sym same,
+        (explained k end R limit (searching.SearchLimit stop) round classes within is.at_limit.2).2,
+      );
+    }

@@ -5,8 +5,8 @@ use Rattle.std.proofs.lemmas.Bool.Decides.{nat_tests}
 use Rattle.pocsag_pages.specs.declared.page.Page.{Page}
 use Rattle.pocsag_pages.specs.declared.fault.PageFault.{PageFault}
 use Rattle.pocsag_pages.specs.Pages.{page_limit, has_address, page_fault_of}
-use Rattle.pocsag_plan_faults.specs.declared.refusal.AddFault.{AddFault}
-use Rattle.pocsag_plan_faults.specs.declared.refusal.AddFault.TheVariants as fault
+use Rattle.pocsag_plan.specs.declared.refusal.AddFault.{AddFault}
+use Rattle.pocsag_plan.specs.declared.refusal.AddFault.TheVariants as fault
 use Rattle.pocsag_plan.specs.OpenRound.{add_fault, fault_beside}
 
 -- nothing stands against the page

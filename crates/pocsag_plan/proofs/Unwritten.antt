@@ -6,14 +6,14 @@ use Rattle.pocsag_pages.specs.declared.page.Page.{Page}
 use Rattle.pocsag_pages.specs.Pages.{IsRound}
 use Rattle.pocsag_branch.specs.Found.{IsNodeLimit}
 use Rattle.pocsag_plan.specs.BookPlans.{ExplainsBook, ExplainsBookStream}
-use Rattle.pocsag_plan_faults.specs.FaultChains.{stream_fault_of}
+use Rattle.pocsag_plan.specs.FaultChains.{stream_fault_of}
 use Rattle.pocsag_plan.specs.declared.answer.Plan.{Plan}
-use Rattle.pocsag_plan_faults.specs.declared.fault.PlanFault.TheVariants as planning
-use Rattle.pocsag_plan_faults.specs.declared.fault.StreamFault.{StreamFault}
-use Rattle.pocsag_plan_faults.specs.declared.fault.StreamFault.TheVariants as streaming
-use Rattle.pocsag_plan_faults.specs.declared.refusal.BookFault.{BookFault}
-use Rattle.pocsag_plan_faults.specs.declared.refusal.BookFault.TheVariants as book
-use Rattle.pocsag_options.specs.declared.search.Effort.{Effort}
+use Rattle.pocsag_plan.specs.declared.fault.PlanFault.TheVariants as planning
+use Rattle.pocsag_plan.specs.declared.fault.StreamFault.{StreamFault}
+use Rattle.pocsag_plan.specs.declared.fault.StreamFault.TheVariants as streaming
+use Rattle.pocsag_plan.specs.declared.refusal.BookFault.{BookFault}
+use Rattle.pocsag_plan.specs.declared.refusal.BookFault.TheVariants as book
+use Rattle.pocsag_plan.specs.declared.search.Effort.{Effort}
 use Rattle.pocsag_plan.specs.Plans.{IsBounded}
 use Rattle.pocsag_plan.specs.Streams.{IsBeforeWriting, IsCertificate, IsTransmission, IsUnsent, WritesCertificatePartOf, WritesInTurn, WritesPartOf}
 

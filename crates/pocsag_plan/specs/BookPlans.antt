@@ -6,12 +6,12 @@ use Rattle.pocsag_pages.specs.Pages.{IsRound}
 use Rattle.pocsag_tree.specs.Views.{bound_tree_of}
 use Rattle.pocsag_branch.specs.Found.{IsNodeLimit}
 use Rattle.pocsag_pages.specs.declared.fault.RoundFault.TheVariants as round
-use Rattle.pocsag_plan_faults.specs.declared.fault.PlanFault.TheVariants as planning
-use Rattle.pocsag_plan_faults.specs.declared.fault.StreamFault.{StreamFault}
-use Rattle.pocsag_plan_faults.specs.declared.fault.StreamFault.TheVariants as streaming
-use Rattle.pocsag_plan_faults.specs.declared.refusal.BookFault.{BookFault}
-use Rattle.pocsag_plan_faults.specs.declared.refusal.BookFault.TheVariants as fault
-use Rattle.pocsag_options.specs.declared.search.Effort.{Effort}
+use Rattle.pocsag_plan.specs.declared.fault.PlanFault.TheVariants as planning
+use Rattle.pocsag_plan.specs.declared.fault.StreamFault.{StreamFault}
+use Rattle.pocsag_plan.specs.declared.fault.StreamFault.TheVariants as streaming
+use Rattle.pocsag_plan.specs.declared.refusal.BookFault.{BookFault}
+use Rattle.pocsag_plan.specs.declared.refusal.BookFault.TheVariants as fault
+use Rattle.pocsag_plan.specs.declared.search.Effort.{Effort}
 use Rattle.pocsag_plan.specs.Plans.{IsStopped, MayStop}
 
 -- When each fault comes, and what it says. Memory is wanted only for a round and a limit that may be.

@@ -3,7 +3,7 @@ use Rattle.std.specs.Prelude.{◌≡◌, List, [], ◌∷◌, ◌++◌, fold, Op
 use Rattle.pocsag_pages.specs.declared.page.Page.{Page}
 use Rattle.pocsag_plan.specs.declared.edit.Edit.{Edit}
 use Rattle.pocsag_plan.specs.declared.edit.Edit.TheVariants.{Add, Cancel}
-use Rattle.pocsag_plan_faults.specs.declared.refusal.AddFault.{AddFault}
+use Rattle.pocsag_plan.specs.declared.refusal.AddFault.{AddFault}
 use Rattle.pocsag_plan.specs.OpenRound.{add_fault, without}
 
 -- A page against which nothing stands goes behind the others.

@@ -1,11 +1,12 @@
+pub mod BookPlans
+pub mod Books
+pub mod BoundedHeadline
+pub mod Edits
+pub mod FaultChains
 pub mod Headline
+pub mod OpenRound
 pub mod Plans
 pub mod Reports
 pub mod Streams
-pub mod Books
-pub mod OpenRound
 pub mod Tallies
-pub mod Edits
-pub mod BookPlans
-pub mod BoundedHeadline
 pub mod Within

@@ -4,8 +4,8 @@ use Rattle.std.specs.Prelude.{ℕ, List, length, filter, not, nat_eq, nat_le, Op
 use Rattle.pocsag_pages.specs.declared.page.Page.{Page}
 use Rattle.pocsag_pages.specs.declared.fault.PageFault.{PageFault}
 use Rattle.pocsag_pages.specs.Pages.{page_limit, page_fault_of, has_address}
-use Rattle.pocsag_plan_faults.specs.declared.refusal.AddFault.{AddFault}
-use Rattle.pocsag_plan_faults.specs.declared.refusal.AddFault.TheVariants as fault
+use Rattle.pocsag_plan.specs.declared.refusal.AddFault.{AddFault}
+use Rattle.pocsag_plan.specs.declared.refusal.AddFault.TheVariants as fault
 
 -- After the rules of a page alone: the address, then the number of pages.
 abbrev pub fault_beside : List Page → Page → Option PageFault → Option AddFault

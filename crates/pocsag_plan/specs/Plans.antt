@@ -1,5 +1,5 @@
 -- What a plan is, and why there is none.
-use Rattle.std.specs.Prelude.{◌≡◌, ℕ, ◌+◌, ◌*◌, ◌<◌, ◌≤◌, ◌⊎◌, true, false, List, ◌++◌, length, replicate, slice_index, sum_by}
+use Rattle.std.specs.Prelude.{◌≡◌, ℕ, ◌+◌, ◌*◌, ◌<◌, ◌≤◌, ◌⊎◌, true, false, List, ◌++◌, length, replicate, slice_index, sum_by, IfNone, IfSome}
 use Rattle.pocsag_words.specs.declared.codeword.Kind.{Kind}
 use Rattle.pocsag_words.specs.declared.ending.End.{End}
 use Rattle.pocsag_pages.specs.declared.page.Page.{Page}
@@ -19,11 +19,11 @@ use Rattle.pocsag_batch.specs.FileOrder.{IsFileOrder}
 use Rattle.pocsag_batch.specs.Placing.{IsOrder}
 use Rattle.pocsag_plan.specs.declared.answer.Plan.{Plan}
 use Rattle.pocsag_plan.specs.declared.bounded.Bounded.{Bounded}
-use Rattle.pocsag_plan_faults.specs.declared.fault.PlanFault.{PlanFault}
-use Rattle.pocsag_plan_faults.specs.declared.fault.PlanFault.TheVariants as fault
-use Rattle.pocsag_options.specs.declared.search.Effort.{Effort}
-use Rattle.pocsag_options.specs.declared.search.Effort.TheVariants.{Fewest, Always}
-use Rattle.pocsag_options.specs.declared.search.Search.{Search}
+use Rattle.pocsag_plan.specs.declared.fault.PlanFault.{PlanFault}
+use Rattle.pocsag_plan.specs.declared.fault.PlanFault.TheVariants as fault
+use Rattle.pocsag_plan.specs.declared.search.Effort.{Effort}
+use Rattle.pocsag_plan.specs.declared.search.Effort.TheVariants.{Fewest, Always}
+use Rattle.pocsag_plan.specs.declared.search.Search.{Search}
 
 -- Each list of codewords that is legal for the round and the end has at least so many batches.
 abbrev pub NoneHasFewer : End → List Page → ℕ → Type 0
@@ -76,16 +76,6 @@ pub record IsPlan (end : End) (R : List Page) (plan : Plan) : Type 0 where
   -- and its tree has the promised shape.
   pub shaped : IsSearchTreeFor end R plan.batches (bound_tree_of plan.tree)
 
--- The plan that is owed for what is asked of a planner.
-pub record IsPlanFor (search : Search) (R : List Page) (bounded : Bounded) : Type 0 where
-  -- It has a bound, and its tree has no more nodes than may be examined;
-  pub plan_of : IsBounded search.end R bounded.plan bounded.bound
-  pub small : closed_nodes (bound_tree_of bounded.plan.tree) ≤ search.limit
-  -- and where only the fewest batches are an answer, the bound is the batches, and the tree has the promised
-  -- shape.
-  pub fewest : search.effort ≡ Fewest → bounded.bound ≡ bounded.plan.batches
-  pub shaped : search.effort ≡ Fewest → IsSearchTreeFor search.end R bounded.plan.batches (bound_tree_of bounded.plan.tree)
-
 -- What the search knew of the round when it had made as many nodes as it may.
 pub record IsStopped (end : End) (R : List Page) (limit least found : ℕ) (tree : BoundTree) : Type 0 where
   pub table : Classes
@@ -105,6 +95,26 @@ pub record IsStopped (end : End) (R : List Page) (limit least found : ℕ) (tree
   -- the checker accepts the tree with its `Open` nodes, and it has the shape of the search's trees.
   pub accepted : IsAcceptedFor true end R found tree
   pub shaped : IsShaped table end least (limits_of_all table least) tree
+
+-- A plan that refuses no round is no worse than one that may. Where no search stopped, its bound is its batches;
+-- and where one did, it has one batch more, and this is what is known of the round at the same limit.
+pub record IsNoWorse (end : End) (R : List Page) (limit : ℕ) (bounded : Bounded) : Type 0 where
+  pub tight : IfNone bounded.stopped (bounded.bound ≡ bounded.plan.batches)
+  pub stopped : IfSome bounded.stopped (λ stop.
+      (stop.least ≡ bounded.bound) × (stop.found ≡ bounded.plan.batches)
+      × IsStopped end R limit stop.least stop.found (bound_tree_of stop.tree))
+
+-- The plan that is owed for what is asked of a planner.
+pub record IsPlanFor (search : Search) (R : List Page) (bounded : Bounded) : Type 0 where
+  -- It has a bound, and its tree has no more nodes than may be examined;
+  pub plan_of : IsBounded search.end R bounded.plan bounded.bound
+  pub small : closed_nodes (bound_tree_of bounded.plan.tree) ≤ search.limit
+  -- below its batches the bound stands only where a search stopped at so many nodes;
+  pub no_worse : IsNoWorse search.end R search.limit bounded
+  -- and where only the fewest batches are an answer, the bound is the batches, and the tree has the promised
+  -- shape.
+  pub fewest : search.effort ≡ Fewest → bounded.bound ≡ bounded.plan.batches
+  pub shaped : search.effort ≡ Fewest → IsSearchTreeFor search.end R bounded.plan.batches (bound_tree_of bounded.plan.tree)
 
 -- A planner stops at its limit only where the fewest batches alone are an answer.
 abbrev pub MayStop : Effort → Type 0

@@ -1,5 +1,5 @@
 -- What either search leaves for a plan.
-use Rattle.std.specs.Prelude.{◌≡◌, ◌⊎◌, ℕ, ◌+◌, ◌≤◌, false, List, slice_index}
+use Rattle.std.specs.Prelude.{◌≡◌, ◌⊎◌, ℕ, ◌+◌, ◌≤◌, false, List, slice_index, Option, IfNone, IfSome}
 use Rattle.pocsag_words.specs.declared.ending.End.{End}
 use Rattle.pocsag_pages.specs.declared.page.Page.{Page}
 use Rattle.pocsag_slots.specs.declared.class.Classes.{Classes}
@@ -9,7 +9,8 @@ use Rattle.pocsag_tree.specs.BoundTrees.{closed_nodes}
 use Rattle.pocsag_tree.specs.Views.{bound_tree_of}
 use Rattle.pocsag_check.specs.Accepting.{IsAccepted}
 use Rattle.pocsag_branch.specs.declared.answer.Found.{Found}
-use Rattle.pocsag_branch.specs.Found.{IsBound}
+use Rattle.pocsag_branch.specs.Found.{IsBound, IsLimit}
+use Rattle.pocsag_branch.specs.declared.stop.SearchLimit.{SearchLimit}
 
 -- A tour of the least that some choice of starts needs, or of one batch more, and a tree for a bound that
 -- the batches are, or exceed by one.
@@ -30,3 +31,9 @@ pub record IsWithinOneOf (end : End) (R : List Page) (limit bound : ℕ) (found 
   pub table : Classes
   pub classes : AreClassesOf table end R
   pub within : IsWithinOne table end limit bound found
+
+-- The bound is the batches where no search stopped; and where one did, they are one more, and it says this.
+pub record IsTightOrStopped (k : Classes) (end : End) (limit bound batches : ℕ) (stopped : Option SearchLimit) : Type 0 where
+  pub tight : IfNone stopped (bound ≡ batches)
+  pub at_limit : IfSome stopped (λ stop.
+      (stop.least ≡ bound) × (stop.found ≡ batches) × IsLimit k end limit stop.least stop.found (bound_tree_of stop.tree))

@@ -5,10 +5,10 @@ ghost use Rattle.pocsag_pages.specs.Pages.{page_limit, has_address, AreGood};
 ghost use Rattle.pocsag_slots.specs.Loads.{AreClassesOf};
 ghost use Rattle.pocsag_plan.specs.OpenRound.{add_fault, fault_or_memory, without};
 
+use crate::refusal::{AddFault, NotThere, Refused};
 use crate::tally::{count_page, discount_page, no_classes};
 use indexmap::IndexMap;
 use pocsag_pages::{PAGE_LIMIT, Page, Round, page_fault};
-use pocsag_plan_faults::{AddFault, NotThere, Refused};
 use pocsag_slots::Classes;
 use pocsag_words::{End, OutOfMemory};
 use std::alloc::Global;

@@ -2,8 +2,8 @@ ghost use Rattle.std.specs.Prelude.{◌≡◌, OnErr, OnOk};
 ghost use Rattle.pocsag_plan.specs.Edits.{after_edit, list_after, MakesSome};
 
 use crate::book::Book;
+use crate::refusal::AddFault;
 use pocsag_pages::Page;
-use pocsag_plan_faults::AddFault;
 use pocsag_words::OutOfMemory;
 
 /// An edit of an open round.

@@ -5,13 +5,16 @@
 mod airtime;
 mod answer;
 mod book;
+mod book_plans;
 mod bounded;
-mod closing;
 mod edit;
+mod fault;
 mod laws;
-mod planning;
-mod reporting;
-mod streaming;
+mod plans;
+mod refusal;
+mod reports;
+mod search;
+mod streams;
 mod tally;
 
 pub use airtime::Report;
@@ -19,11 +22,10 @@ pub use answer::Plan;
 pub use book::Book;
 pub use bounded::Bounded;
 pub use edit::Edit;
+pub use fault::{BadRate, PlanFault, StreamFault};
 pub use laws::tight_headlines_are_headlines;
-pub use planning::{bounded_plan, plan, plan_always};
-pub use pocsag_options::{Effort, Search};
-pub use pocsag_plan_faults::{
-    AddFault, BadRate, BookFault, NotThere, PlanFault, Refused, StreamFault,
-};
-pub use reporting::report;
-pub use streaming::{bounded_stream, plan_stream, plan_stream_always, send};
+pub use plans::{bounded_plan, plan, plan_always};
+pub use refusal::{AddFault, BookFault, NotThere, Refused};
+pub use reports::report;
+pub use search::{Effort, Search};
+pub use streams::{bounded_stream, plan_stream, plan_stream_always, send};

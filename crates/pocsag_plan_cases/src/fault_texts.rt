@@ -1,16 +1,18 @@
 //! The text of every fault.
 
 use pocsag_batch::FirstFault;
-use pocsag_branch::{FreeFault, SearchFault, SearchLimit};
+use pocsag_branch::{FreeFault, Near, SearchFault, SearchLimit};
 use pocsag_decode::{DecodeFault, ListFault};
+use pocsag_flow::ChooseFault;
 use pocsag_pager::PagerFault;
-use pocsag_pages::{FieldFault, PageFault, RecordFault, RoundFault, WholeFault};
-use pocsag_plan::{AddFault, BadRate, BookFault, NotThere, PlanFault, StreamFault};
+use pocsag_pages::{FieldFault, Page, PageFault, Payload, RecordFault, RoundFault, WholeFault};
+use pocsag_plan::{AddFault, BadRate, BookFault, NotThere, PlanFault, Refused, StreamFault};
 use pocsag_show::ShowFault;
+use pocsag_slots::{CLASSES, Choice};
 use pocsag_text::TextFault;
 use pocsag_tour::TourFault;
 use pocsag_tree::{CertificateFault, Tree, TreeWriteFault};
-use pocsag_words::WriteFault;
+use pocsag_words::{DeviceFault, OutOfMemory, WriteFault};
 use std::alloc::Global;
 use std::fmt::Display;
 use std::process::Abort;
@@ -230,6 +232,38 @@ fn stopped() -> SearchLimit {
     }
 }
 
+// What the free search has where it stops.
+fn near(alloc: Global) -> Near {
+    Near {
+        least: 2,
+        choice: Choice {
+            early: [0; CLASSES],
+        },
+        steps: Vec::new(alloc),
+        tree: Tree::Open,
+    }
+}
+
+// A page that was not added.
+fn refused(alloc: Global) -> Refused {
+    Refused {
+        fault: AddFault::Full,
+        page: Page {
+            address: 8,
+            function: 0,
+            payload: Payload::from_vec(Vec::new(alloc)),
+        },
+    }
+}
+
+#[test]
+fn devices_and_memory(rt: HostRuntime) {
+    let alloc = rt.alloc();
+    expect_texts(&rt, alloc, &[(DeviceFault, "a device failed")]);
+    expect_texts(&rt, alloc, &[(OutOfMemory, NO_MEMORY)]);
+    expect_texts(&rt, alloc, &[(WriteFault, NO_WRITE)]);
+}
+
 #[test]
 fn plans_and_edits(rt: HostRuntime) {
     let alloc = rt.alloc();
@@ -250,7 +284,25 @@ fn plans_and_edits(rt: HostRuntime) {
             (SearchFault::OutOfMemory, NO_MEMORY),
         ],
     );
-    expect_texts(&rt, alloc, &[(FreeFault::OutOfMemory, NO_MEMORY)]);
+    expect_texts(
+        &rt,
+        alloc,
+        &[
+            (
+                FreeFault::SearchLimit {
+                    near: near(alloc),
+                    stop: stopped(),
+                },
+                "search limit reached",
+            ),
+            (FreeFault::OutOfMemory, NO_MEMORY),
+        ],
+    );
+    expect_texts(
+        &rt,
+        alloc,
+        &[(ChooseFault::Overload(1), "the slots overflow")],
+    );
     expect_texts(
         &rt,
         alloc,
@@ -324,4 +376,5 @@ fn plans_and_edits(rt: HostRuntime) {
         &[(BadRate, "the rate must be 512, 1200 or 2400")],
     );
     expect_texts(&rt, alloc, &[(NotThere, "no such page")]);
+    expect_texts(&rt, alloc, &[(refused(alloc), "too many pages")]);
 }

@@ -1,11 +1,11 @@
 //! Plans of worked examples, as calls and as streams.
-use pocsag_check::check;
+use pocsag_check::{check, check_open};
 use pocsag_pages::RoundFault;
 use pocsag_plan::{
     PlanFault, StreamFault, plan, plan_always, plan_stream, plan_stream_always, report,
 };
 use pocsag_rounds::given::{ONES, Records, Sent, TIGHT, page_file, round_of_file, transmission};
-use pocsag_tree::read_certificate;
+use pocsag_tree::{nodes, read_certificate};
 use pocsag_words::{End, MemorySink, MemorySource, OutOfMemory};
 use std::alloc::Global;
 
@@ -113,6 +113,19 @@ fn plans(rt: HostRuntime) {
         );
         assert!(rt;
             check(&round, bound, &bounded.plan.tree, End::Open),
+            "{records:?}"
+        );
+        let Some(stop) = &bounded.stopped else {
+            assert_eq!(rt; bound, batches, "{records:?}");
+            continue;
+        };
+        assert_eq!(rt;
+            (stop.least, stop.found, nodes(&stop.tree)),
+            (bound, batches, u64::from(limit)),
+            "{records:?}"
+        );
+        assert!(rt;
+            check_open(&round, batches, &stop.tree, End::Open),
             "{records:?}"
         );
     }

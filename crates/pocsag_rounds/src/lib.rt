@@ -3,7 +3,7 @@
 
 pub mod given;
 mod rounds;
-mod touring;
+mod tours;
 
 pub use rounds::{THREE_PAGES_TIGHT, has_page, ones, round_of};
-pub use touring::{NoTour, tour_of};
+pub use tours::{NoTour, tour_of};

@@ -47,6 +47,9 @@ const EIGHT: &[(u32, usize)] = &[
     (57, 14),
 ];
 
+// Four pages for which the first node of the free search has no tour with the fewest batches, and a later one has.
+const LATER: &[(u32, usize)] = &[(4, 3), (10, 0), (20, 24), (29, 14)];
+
 // Rounds by address and number of items, each with its end and its fewest batches.
 const FEWEST: &[(&[(u32, usize)], End, u32)] = &[
     (&[(8, 0)], End::Open, 1),
@@ -88,13 +91,15 @@ const FEWEST_OF_TONES: [(u32, End, u32); 4] = [
 ];
 
 // The same of the free search within so many nodes, with the most nodes that its tree has.
-const FREELY: [(&[(u32, usize)], u32, End, u32, u64); 6] = [
+const FREELY: [(&[(u32, usize)], u32, End, u32, u64); 7] = [
     (EIGHT, 1_000, End::Open, 9, 40),
     (LOOPS_APART, 100_000, End::Open, 3, 100_000),
     (BOTH_WAYS, 100_000, End::Closed, 3, 100_000),
     (BOTH_WAYS, 100_000, End::Open, 2, 100_000),
     (BOTH_WAYS, 100_000, End::Idle, 3, 100_000),
     (SIXTEEN, 100_000, End::Idle, 2, 100_000),
+    // The free search gives up, and `search` meets the tour.
+    (LATER, 1, End::Open, 4, 1),
 ];
 
 // The search answers so many batches, with a tree that the checker accepts for them, and for no more.
@@ -165,13 +170,20 @@ fn node_limits(rt: HostRuntime) {
     assert_eq!(rt; (stop.least, stop.found, nodes(&stop.tree)), (2, 3, 2));
     assert_eq!(rt; check(&round, 3, &stop.tree, End::Open), false);
     assert_eq!(rt; check_open(&round, 3, &stop.tree, End::Open), true);
-    let Err(FreeFault::SearchLimit(stopped)) = search_freely(alloc, &classes, 1, End::Open) else {
+    let Err(FreeFault::SearchLimit { near: found, stop }) = search_freely(
+        alloc,
+        &classes,
+        1,
+        End::Open,
+    ) else {
         panic!(rt; "the limit is not reached freely");
     };
-    assert_eq!(rt; stopped.least, 2);
-    assert_eq!(rt; check(&round, 2, &stopped.tree, End::Open), true);
-    assert_eq!(rt; stopped.steps.len(), 2 + 16);
+    assert_eq!(rt; found.least, 2);
+    assert_eq!(rt; check(&round, 2, &found.tree, End::Open), true);
+    assert_eq!(rt; found.steps.len(), 2 + 16);
+    assert_eq!(rt; (stop.least, stop.found, nodes(&stop.tree)), (2, 3, 1));
+    assert_eq!(rt; check_open(&round, 3, &stop.tree, End::Open), true);
     let at_once = near(alloc, &classes, End::Open).expect(&rt, "an answer");
     assert_eq!(rt; at_once.least, 2);
-    assert_eq!(rt; at_once.steps.as_slice(), stopped.steps.as_slice());
+    assert_eq!(rt; at_once.steps.as_slice(), found.steps.as_slice());
 }

@@ -5,7 +5,7 @@ use Rattle.pocsag_show.specs.declared.grid.Grid.{Grid}
 use Rattle.pocsag_show.specs.Grid.{idles_in, letter_at}
 use Rattle.pocsag_show.specs.Picture.{batch_line, batch_lines, batches_in, frame_cells, head_line, number_column, picture, totals_line}
 use Rattle.pocsag_show.specs.Rows.{end_row, first_row}
-use Rattle.pocsag_options.specs.declared.rows.Rows.{Rows}
+use Rattle.pocsag_show.specs.declared.rows.Rows.{Rows}
 use Rattle.pocsag_show.specs.Taking.{IsGridOf}
 use Rattle.pocsag_show.proofs.Ranges.{flat_map_same}
 

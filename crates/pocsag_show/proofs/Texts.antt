@@ -17,7 +17,7 @@ use Rattle.pocsag_show.specs.declared.fault.ShowFault.{ShowFault}
 use Rattle.pocsag_show.specs.declared.fault.ShowFault.TheVariants as fault
 use Rattle.pocsag_show.specs.declared.grid.Grid.{Grid}
 use Rattle.pocsag_show.specs.declared.placed.Placed.{Placed}
-use Rattle.pocsag_options.specs.declared.rows.Rows.{Rows}
+use Rattle.pocsag_show.specs.declared.rows.Rows.{Rows}
 use Rattle.pocsag_show.specs.Drawing.{drawing, drawing_text}
 use Rattle.pocsag_show.specs.Grid.{idles_in}
 use Rattle.pocsag_show.specs.Numbers.{numbers_in}

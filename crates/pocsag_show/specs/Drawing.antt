@@ -6,7 +6,7 @@ use Rattle.std.specs.Fmt.{decimal}
 use Rattle.pocsag_words.specs.declared.codeword.Kind.{Kind}
 use Rattle.pocsag_pages.specs.declared.page.Page.{Page}
 use Rattle.pocsag_show.specs.declared.placed.Placed.{Placed}
-use Rattle.pocsag_options.specs.declared.rows.Rows.{Rows}
+use Rattle.pocsag_show.specs.declared.rows.Rows.{Rows}
 use Rattle.pocsag_show.specs.Escapes.{told}
 use Rattle.pocsag_show.specs.Grid.{idles_in}
 use Rattle.pocsag_show.specs.Legend.{end_row_of, first_row_of, is_drawn, key, legend, legend_lines}

@@ -13,3 +13,4 @@ pub mod Rows
 pub mod Showing
 pub mod Style
 pub mod Taking
+pub mod Views

@@ -6,7 +6,7 @@ use Rattle.std.specs.Fmt.{decimal}
 use Rattle.pocsag_words.specs.Frame.{airtime, transmission_bits}
 use Rattle.pocsag_words.specs.declared.codeword.Kind.{Kind}
 use Rattle.pocsag_pages.specs.declared.page.Page.{Page}
-use Rattle.pocsag_options.specs.declared.rows.Rows.{Rows}
+use Rattle.pocsag_show.specs.declared.rows.Rows.{Rows}
 use Rattle.pocsag_show.specs.Grid.{idles_in, letter_at}
 use Rattle.pocsag_show.specs.Numbers.{numbers_in}
 use Rattle.pocsag_show.specs.Rows.{end_row, first_row, rows_between}

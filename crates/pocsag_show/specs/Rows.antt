@@ -2,7 +2,7 @@
 -- batches, counted from 1, and are counted from 0 in what follows.
 use Rattle.std.specs.Prelude.{ℕ, ◌-◌, min, List}
 use Rattle.std.specs.List.{range_with_len}
-use Rattle.pocsag_options.specs.declared.rows.Rows.{Rows}
+use Rattle.pocsag_show.specs.declared.rows.Rows.{Rows}
 
 -- The first row that is drawn.
 abbrev pub first_row : Rows → ℕ

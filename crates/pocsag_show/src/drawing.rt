@@ -8,13 +8,13 @@ use crate::counts::Counts;
 use crate::front::put_front;
 use crate::judged::Judged;
 use crate::legend::{legend_lines, put_key, put_legend};
-use crate::paging::put_pages;
+use crate::page_lines::put_pages;
 use crate::picture::{CODEWORDS, FRAMES};
 use crate::pieces::{put, put_printed};
 use crate::placed::Placed;
 use crate::places::row_top;
+use crate::rows::Rows;
 use crate::window::Window;
-use pocsag_options::Rows;
 use std::alloc::{AllocError, Global};
 
 // Writes a row behind its pages.

@@ -3,7 +3,7 @@ ghost use Rattle.pocsag_show.specs.Marks.{head, opened, rectangle, tail};
 ghost use Rattle.pocsag_show.specs.Numbers.{turn};
 
 use crate::grid::LETTERS;
-use crate::marking::{capital_letter, small_letter};
+use crate::letter_cells::{capital_letter, small_letter};
 use crate::pieces::{put, put_printed};
 use crate::style::HUES;
 use std::alloc::AllocError;

@@ -7,9 +7,9 @@ ghost use Rattle.pocsag_show.specs.Taking.{IsGridOf};
 use crate::counts::Counts;
 use crate::grid::Grid;
 use crate::pieces::{put, put_printed};
+use crate::rows::Rows;
 use crate::window::Window;
 use itoa::Buffer;
-use pocsag_options::Rows;
 use pocsag_words::{airtime, transmission_bits};
 use std::alloc::{AllocError, Global};
 

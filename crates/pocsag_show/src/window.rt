@@ -2,7 +2,7 @@ ghost use Rattle.std.specs.Prelude.{◌≡◌, ◌-◌};
 ghost use Rattle.pocsag_show.specs.Measures.{height};
 ghost use Rattle.pocsag_show.specs.Rows.{end_row, first_row};
 
-use pocsag_options::Rows;
+use crate::rows::Rows;
 
 /// The rows that are drawn, counted from 0: from one up to before another.
 #[derive(Clone, Copy)]

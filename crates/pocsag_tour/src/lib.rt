@@ -3,18 +3,18 @@
 //! boundary 0.
 
 mod arc;
-mod counting;
+mod counts;
 mod fault;
 mod flood;
 mod laws;
 mod links;
 mod outside;
-mod reaching;
-mod touring;
-mod walking;
+mod reach;
+mod route;
+mod walk;
 
 pub use fault::TourFault;
 pub use laws::{apart_has_no_tour, spare_batches_have_tours, unclosed_has_no_tour};
 pub use outside::{has_run_outside, lies_outside};
-pub use reaching::reached;
-pub use touring::tour;
+pub use reach::reached;
+pub use route::tour;

@@ -2,18 +2,18 @@
 //! Bound trees, which show why fewer batches do not suffice, and certificates, their one spelling
 //! as bytes.
 
-mod counting;
+mod count;
 mod laws;
 mod limits;
-mod reading;
+mod reader;
 mod refusals;
 mod shape;
-mod writing;
+mod writer;
 
-pub use counting::{depth, nodes};
+pub use count::{depth, nodes};
 pub use laws::{no_text_begins_another, one_certificate, one_fault};
 pub use limits::{DEPTH_LIMIT, FIRST_VERSION, NODE_LIMIT, Ranges, SECOND_VERSION};
-pub use reading::read_certificate;
+pub use reader::read_certificate;
 pub use refusals::{CertificateFault, TreeWriteFault};
 pub use shape::{Certificate, Tree};
-pub use writing::{write_certificate, write_text};
+pub use writer::{write_certificate, write_text};

@@ -3,12 +3,12 @@
 use crate::kept::Kept;
 use crate::line::Line;
 use crate::pages::show_no_round;
-use crate::planning::{put_always, put_book_plan, put_counts};
-use crate::receiving::IDLE;
-use crate::searching::{put_free_search, put_search};
+use crate::plans::{put_always, put_book_plan, put_counts};
+use crate::receivers::IDLE;
+use crate::searches::{put_free_search, put_search};
 use arrayvec::ArrayString;
 use pocsag_batch::{FirstFault, first_stream, lay_in_order, lay_out, order_of, write};
-use pocsag_decode::{DecodeFault, ListFault, decode, list};
+use pocsag_decode::{DecodeFault, Decoder, ListFault, decode, list};
 use pocsag_pager::{PagerFault, hear_all};
 use pocsag_pages::{Page, Round, RoundFault, SYNC_WORD};
 use pocsag_plan::{Book, PlanFault, StreamFault, plan, plan_stream};
@@ -54,6 +54,53 @@ pub fn tour_many_tones(alloc: Global, line: &mut Line) -> Result<(), OutOfMemory
     line.put(order_of(alloc, &round, steps.as_slice(), End::Open)?.len());
     line.put(lay_out(alloc, &round, steps.as_slice(), End::Open)?.count());
     Ok(())
+}
+
+/// The tour of 20,000 tones of frame 0 that all start early, one to a batch: no round has a tour of more steps.
+pub fn tour_longest_laps(alloc: Global, line: &mut Line) -> Result<(), OutOfMemory> {
+    let mut pages = Vec::new(alloc);
+    for place in 0..PAGES {
+        pages.push(ones(alloc, 8 * place, 0)?)?;
+    }
+    let Ok(round) = Round::from_pages(alloc, pages) else {
+        return Err(OutOfMemory);
+    };
+    match tour_of(alloc, &round, None, PAGES, End::Open) {
+        Ok(steps) => line.put(steps.len()),
+        Err(_) => return Err(OutOfMemory),
+    }
+    Ok(())
+}
+
+// So many batches that each begin with a tone and are idle from there on.
+fn tone_batches(alloc: Global, count: usize) -> Result<Vec<u8>, OutOfMemory> {
+    let mut bytes = Vec::new(alloc);
+    for _ in 0..count {
+        put_words(&mut bytes, address_word(1, 0), address_word(1, 0), 1)?;
+    }
+    Ok(bytes)
+}
+
+/// The greatest transmission, 3,947,579 batches with a tone in each, in pieces: how many pages were fed.
+pub fn feed_greatest(alloc: Global, line: &mut Line) -> Result<(), OutOfMemory> {
+    let mut decoder = Decoder::new(alloc);
+    let many = tone_batches(alloc, 1_000)?;
+    let rest = tone_batches(alloc, 579)?;
+    match feed_all(&mut decoder, many.as_slice(), rest.as_slice()) {
+        Ok(pages) => line.put(pages.len()),
+        Err(DecodeFault::OutOfMemory) => return Err(OutOfMemory),
+        Err(fault) => line.put(fault),
+    }
+    Ok(())
+}
+
+fn feed_all(decoder: &mut Decoder, many: &[u8], rest: &[u8]) -> Result<Vec<Page>, DecodeFault> {
+    decoder.feed(&[0xaa; 72])?;
+    for _ in 0..3_947 {
+        decoder.feed(many)?;
+    }
+    decoder.feed(rest)?;
+    decoder.finish()
 }
 
 // The bytes of the round in file order.

@@ -7,18 +7,18 @@ mod certificates;
 mod kept;
 mod large;
 mod line;
-mod packing;
+mod packs;
 mod pages;
-mod planning;
-mod receiving;
+mod plans;
+mod receivers;
 mod rounds;
-mod searching;
+mod searches;
 mod tours;
 
 use crate::line::Line;
-use crate::planning::Planning;
-use crate::receiving::Received;
-use crate::searching::Search;
+use crate::plans::Planning;
+use crate::receivers::Received;
+use crate::searches::Search;
 use pocsag_words::OutOfMemory;
 use std::alloc::Global;
 use std::io;
@@ -56,6 +56,8 @@ enum Trial {
     Planning(Planning),
     CopyLong,
     TourMany,
+    TourLongest,
+    FeedGreatest,
     SendLong,
     ReceiveLongData,
     ReceiveManyTones,
@@ -92,11 +94,11 @@ const TRIALS: [Trial; 57] = [
     Trial::List,
     Trial::HearAll,
     Trial::HearWords,
-    Trial::Receive(receiving::THREE_TO_ONE_ADDRESS),
-    Trial::Receive(receiving::FOUR_TO_ONE_ADDRESS),
-    Trial::Receive(receiving::ALPHA_HEARD),
-    Trial::Receive(receiving::DATA_LISTED),
-    Trial::Receive(receiving::FOURTH_LISTED),
+    Trial::Receive(receivers::THREE_TO_ONE_ADDRESS),
+    Trial::Receive(receivers::FOUR_TO_ONE_ADDRESS),
+    Trial::Receive(receivers::ALPHA_HEARD),
+    Trial::Receive(receivers::DATA_LISTED),
+    Trial::Receive(receivers::FOURTH_LISTED),
     Trial::BadFiles,
     Trial::Search(Search::Tight),
     Trial::Search(Search::LoopsApart),
@@ -128,9 +130,11 @@ const TRIALS: [Trial; 57] = [
     Trial::Planning(Planning::StreamAlwaysKept),
 ];
 
-const LARGE_TRIALS: [Trial; 12] = [
+const LARGE_TRIALS: [Trial; 14] = [
     Trial::CopyLong,
     Trial::TourMany,
+    Trial::TourLongest,
+    Trial::FeedGreatest,
     Trial::SendLong,
     Trial::ReceiveLongData,
     Trial::ReceiveManyTones,
@@ -170,10 +174,12 @@ fn name_of(trial: Trial) -> &'static str {
         Trial::HearWords => "hear and end of wrong-bit-in-idle",
         Trial::Receive(received) => received.name,
         Trial::BadFiles => "bad files of first_stream",
-        Trial::Search(search) => searching::name_of(search),
-        Trial::Planning(planning) => planning::name_of(planning),
+        Trial::Search(search) => searches::name_of(search),
+        Trial::Planning(planning) => plans::name_of(planning),
         Trial::CopyLong => "Page::copy of 1,400 items",
         Trial::TourMany => "tour, order_of and lay_out of 20,000 tones",
+        Trial::TourLongest => "tour of 20,000 tones of one frame",
+        Trial::FeedGreatest => "feed and finish of 3,947,579 batches",
         Trial::SendLong => "write, decode, list and hear_all of 20,000 pages of 1,400 items",
         Trial::ReceiveLongData => "decode, list and hear_all of pages of 1,400 and 1,401 items",
         Trial::ReceiveManyTones => "hear_all, decode and list of 20,001 tones",
@@ -189,10 +195,10 @@ fn name_of(trial: Trial) -> &'static str {
 
 fn run(alloc: Global, trial: Trial, line: &mut Line) -> Result<(), OutOfMemory> {
     match trial {
-        Trial::PackNumeric => packing::pack_five_digits(alloc, line),
-        Trial::PackAlpha => packing::pack_three_letters(alloc, line),
-        Trial::UnpackNumeric => packing::unpack_symbols(alloc, line),
-        Trial::UnpackAlpha => packing::unpack_three_letters(alloc, line),
+        Trial::PackNumeric => packs::pack_five_digits(alloc, line),
+        Trial::PackAlpha => packs::pack_three_letters(alloc, line),
+        Trial::UnpackNumeric => packs::unpack_symbols(alloc, line),
+        Trial::UnpackAlpha => packs::unpack_three_letters(alloc, line),
         Trial::ReadWhole => pages::read_lone_tone_whole(alloc, line),
         Trial::ReadRound => pages::read_lone_tone(alloc, line),
         Trial::CopyTone => pages::copy_lone_tone(alloc, line),
@@ -207,17 +213,19 @@ fn run(alloc: Global, trial: Trial, line: &mut Line) -> Result<(), OutOfMemory> 
         Trial::OrderOf => tours::order_tight_pages(alloc, line),
         Trial::LayOut => tours::lay_out_tight_pages(alloc, line),
         Trial::ReadCertificate => certificates::read_loops_apart(alloc, line),
-        Trial::Decode => receiving::decode_whole(alloc, line),
-        Trial::FeedBytes => receiving::decode_bytes(alloc, line),
-        Trial::List => receiving::list_decoded(alloc, line),
-        Trial::HearAll => receiving::hear_whole(alloc, line),
-        Trial::HearWords => receiving::hear_words(alloc, line),
-        Trial::Receive(received) => receiving::receive(alloc, received, line),
+        Trial::Decode => receivers::decode_whole(alloc, line),
+        Trial::FeedBytes => receivers::decode_bytes(alloc, line),
+        Trial::List => receivers::list_decoded(alloc, line),
+        Trial::HearAll => receivers::hear_whole(alloc, line),
+        Trial::HearWords => receivers::hear_words(alloc, line),
+        Trial::Receive(received) => receivers::receive(alloc, received, line),
         Trial::BadFiles => rounds::stream_bad_files(alloc, line),
-        Trial::Search(search) => searching::run(alloc, search, line),
-        Trial::Planning(planning) => planning::run(alloc, planning, line),
+        Trial::Search(search) => searches::run(alloc, search, line),
+        Trial::Planning(planning) => plans::run(alloc, planning, line),
         Trial::CopyLong => large::copy_long_page(alloc, line),
         Trial::TourMany => large::tour_many_tones(alloc, line),
+        Trial::TourLongest => large::tour_longest_laps(alloc, line),
+        Trial::FeedGreatest => large::feed_greatest(alloc, line),
         Trial::SendLong => large::send_long_pages(alloc, line),
         Trial::ReceiveLongData => large::receive_long_data(alloc, line),
         Trial::ReceiveManyTones => large::receive_many_tones(alloc, line),

@@ -3,8 +3,9 @@
 
 mod columns;
 mod drawing;
-mod explaining;
+mod explained;
 mod facts;
+mod form;
 mod kind;
 mod limit;
 mod lines;
@@ -14,4 +15,5 @@ mod sentences;
 mod subject;
 mod wording;
 
-pub use explaining::explanation;
+pub use explained::explanation;
+pub use form::Telling;

@@ -15,9 +15,10 @@ free_children-loop-way-preserved t c =
     free_row_goes_on c.args.node.now.classes.now c.args.node.now.task c.args.node.now.limits c.args.examined
     c.loop-way.after c.in_ok-child.next c.loop-way.way-index c.args.ways.now c.loop-way.children.items
     (IdleIn 0) c.in_ok-child.child c.push.new.self.items
-    c.child_limits.result c.loop-way-test.true c.child_limits.ensures.value c.in_ok-push.ensures.items
+    c.in_ok-narrowed.narrowed.value.limits c.loop-way-test.true c.in_ok-narrowed.ensures.limits c.in_ok-push.ensures.items
     c.loop-way.invariant
-    c.in_ok-child.ensures.node c.child_limits.ensures.falls
+    (rw (c.deref.ensures, c.in_ok-narrowed.ensures.classes, c.in_ok-narrowed.ensures.task) at c.in_ok-child.ensures.node)
+    (rw (c.in_ok-narrowed.ensures.classes, c.in_ok-narrowed.ensures.task) at c.in_ok-narrowed.ensures.falls)
 
 pub free_cut-overflow_add-examined : goal.free_cut-overflow_add-examined
 free_cut-overflow_add-examined t c = omega (arith, c.requires.examined, c.args.node.now.task.limited.few)
@@ -30,8 +31,10 @@ free_close-overflow_add-examined t c = omega (arith, c.requires.examined, c.args
 
 pub free_children-returns-then-stands_for-clause-node : goal.free_children-returns-then-stands_for-clause-node
 free_children-returns-then-stands_for-clause-node t c =
-    kept_in_row c.args.node.now.classes.now c.args.node.now.task c.args.node.now.limits c.child_limits.result c.args.examined c.loop-way.after c.in_ok-child.next _ _ _
-    (bound_tree_of c.in_ok-child.child) c.loop-way.invariant c.in_ok-child.ensures.node c.child_limits.ensures.falls
+    kept_in_row c.args.node.now.classes.now c.args.node.now.task c.args.node.now.limits c.in_ok-narrowed.narrowed.value.limits c.args.examined c.loop-way.after c.in_ok-child.next _ _ _
+    (bound_tree_of c.in_ok-child.child) c.loop-way.invariant
+    (rw (c.deref.ensures, c.in_ok-narrowed.ensures.classes, c.in_ok-narrowed.ensures.task) at c.in_ok-child.ensures.node)
+    (rw (c.in_ok-narrowed.ensures.classes, c.in_ok-narrowed.ensures.task) at c.in_ok-narrowed.ensures.falls)
     (c.stands_for.ensures.0 c.if-stands_for.true)
 
 pub free_cut-returns-in-Whole-clause-node : goal.free_cut-returns-in-Whole-clause-node
@@ -59,19 +62,23 @@ free_close-returns-in-Kept-clause-node t c =
 pub free_split-returns-then-stands_for-clause-node : goal.free_split-returns-then-stands_for-clause-node
 free_split-returns-then-stands_for-clause-node t c =
     freed_before c.args.node.now.classes.now c.args.node.now.task c.args.node.now.limits c.args.examined c.in_ok-below.between (bound_tree_of c.in_ok-below.below)
-    (kept c.args.node.now.classes.now c.args.node.now.task c.args.node.now.limits c.limits_under.result (c.args.examined + 1) (c.args.examined + 1) c.in_ok-below.between _ (bound_tree_of c.in_ok-below.below)
-    (same (c.args.examined + 1)) c.in_ok-below.ensures.node c.limits_under.ensures.falls (c.stands_for.ensures.0 c.if-stands_for.true))
+    (kept c.args.node.now.classes.now c.args.node.now.task c.args.node.now.limits c.in_ok-under.under.value.limits (c.args.examined + 1) (c.args.examined + 1) c.in_ok-below.between _ (bound_tree_of c.in_ok-below.below)
+    (same (c.args.examined + 1)) (rw (c.deref.ensures, c.in_ok-under.ensures.classes, c.in_ok-under.ensures.task) at c.in_ok-below.ensures.node)
+    (rw (c.in_ok-under.ensures.classes, c.in_ok-under.ensures.task) at c.in_ok-under.ensures.falls) (c.stands_for.ensures.0 c.if-stands_for.true))
 
 pub free_split-returns-then-stands_for-2-clause-node : goal.free_split-returns-then-stands_for-2-clause-node
 free_split-returns-then-stands_for-2-clause-node t c =
     freed_before c.args.node.now.classes.now c.args.node.now.task c.args.node.now.limits c.args.examined c.in_ok-from.after (bound_tree_of c.in_ok-from.from)
-    (kept c.args.node.now.classes.now c.args.node.now.task c.args.node.now.limits c.limits_over.result (c.args.examined + 1) c.in_ok-below.between c.in_ok-from.after _ (bound_tree_of c.in_ok-from.from)
-    (before _ _ _ c.in_ok-below.ensures.node.few) c.in_ok-from.ensures.node c.limits_over.ensures.falls (c.stands_for-2.ensures.0 c.if-stands_for-2.true))
+    (kept c.args.node.now.classes.now c.args.node.now.task c.args.node.now.limits c.in_ok-over.over.value.limits (c.args.examined + 1) c.in_ok-below.between c.in_ok-from.after _ (bound_tree_of c.in_ok-from.from)
+    (before _ _ _ c.in_ok-below.ensures.node.few) (rw (c.deref-2.ensures, c.in_ok-over.ensures.classes, c.in_ok-over.ensures.task) at c.in_ok-from.ensures.node)
+    (rw (c.in_ok-over.ensures.classes, c.in_ok-over.ensures.task) at c.in_ok-over.ensures.falls) (c.stands_for-2.ensures.0 c.if-stands_for-2.true))
 
 pub free_split-returns-clause-node : goal.free_split-returns-clause-node
 free_split-returns-clause-node t c =
     split_freed c.args.node.now.classes.now c.args.node.now.task c.args.node.now.limits c.args.examined c.in_ok-below.between
-    c.in_ok-from.after c.args.class.number c.args.m c.limits_under.result c.limits_over.result c.in_ok-below.below c.in_ok-from.from
+    c.in_ok-from.after c.args.class.number c.args.m c.in_ok-under.under.value.limits c.in_ok-over.over.value.limits
+    c.in_ok-below.below c.in_ok-from.from
     c.in_ok-tree.tree c.in_ok-tree.ensures
-    c.requires.point c.limits_under.ensures.value c.limits_over.ensures.value c.in_ok-below.ensures.node
-    c.in_ok-from.ensures.node
+    c.requires.point c.in_ok-under.ensures.limits c.in_ok-over.ensures.limits
+    (rw (c.deref.ensures, c.in_ok-under.ensures.classes, c.in_ok-under.ensures.task) at c.in_ok-below.ensures.node)
+    (rw (c.deref-2.ensures, c.in_ok-over.ensures.classes, c.in_ok-over.ensures.task) at c.in_ok-from.ensures.node)

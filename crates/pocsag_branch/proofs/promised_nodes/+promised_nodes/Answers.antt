@@ -19,17 +19,20 @@ pub child_nodes-loop-way-preserved : goal.child_nodes-loop-way-preserved
 child_nodes-loop-way-preserved t c =
     row_goes_on c.args.node.now.classes.now c.args.node.now.task c.args.node.now.limits c.args.made c.loop-way.after
     c.in_ok-child.next c.loop-way.way-index c.args.ways.now c.loop-way.children.items (IdleIn 0) c.in_ok-child.child c.push.new.self.items
-    c.child_limits.result c.loop-way-test.true c.child_limits.ensures.value c.in_ok-push.ensures.items
+    c.in_ok-narrowed.narrowed.value.limits c.loop-way-test.true c.in_ok-narrowed.ensures.limits c.in_ok-push.ensures.items
     c.loop-way.invariant
-    c.in_ok-child.ensures.node c.child_limits.ensures.falls
+    (rw (c.deref.ensures, c.in_ok-narrowed.ensures.classes, c.in_ok-narrowed.ensures.task) at c.in_ok-child.ensures.node)
+    (rw (c.in_ok-narrowed.ensures.classes, c.in_ok-narrowed.ensures.task) at c.in_ok-narrowed.ensures.falls)
 
 pub split_node-returns-clause-node : goal.split_node-returns-clause-node
 split_node-returns-clause-node t c =
     split_made c.args.node.now.classes.now c.args.node.now.task c.args.node.now.limits c.args.made c.in_ok-below.between
-    c.in_ok-from.after c.args.class.number c.args.m c.limits_under.result c.limits_over.result c.in_ok-below.below c.in_ok-from.from
+    c.in_ok-from.after c.args.class.number c.args.m c.in_ok-under.under.value.limits c.in_ok-over.over.value.limits
+    c.in_ok-below.below c.in_ok-from.from
     c.in_ok-tree.tree c.in_ok-tree.ensures
-    c.requires.point c.requires.shape c.limits_under.ensures.value c.limits_over.ensures.value c.in_ok-below.ensures.node
-    c.in_ok-from.ensures.node
+    c.requires.point c.requires.shape c.in_ok-under.ensures.limits c.in_ok-over.ensures.limits
+    (rw (c.deref.ensures, c.in_ok-under.ensures.classes, c.in_ok-under.ensures.task) at c.in_ok-below.ensures.node)
+    (rw (c.deref-2.ensures, c.in_ok-over.ensures.classes, c.in_ok-over.ensures.task) at c.in_ok-from.ensures.node)
 
 pub node_of_form-overflow_add-result : goal.node_of_form-overflow_add-result
 node_of_form-overflow_add-result t c = omega (arith, c.requires.made, c.args.node.now.task.limited.few)

@@ -1,7 +1,8 @@
-use Rattle.std.proofs.Common.{◌<◌, refl, ap, ◌∙◌, arith, drop, ℕ}
+use Rattle.std.proofs.Common.{◌<◌, [], List, refl, subst, ap, ◌∙◌, arith, drop, ℕ}
 use Rattle.std.proofs.lemmas.List.Elements.{All-from_get_or}
-use Rattle.std.proofs.lemmas.Result.{on_ok_weaker}
+use Rattle.std.proofs.lemmas.Result.{on_err_weaker, on_ok_weaker}
 use Rattle.pocsag_decode.proofs.Listings.{listed_reading}
+use Rattle.pocsag_words.specs.Devices.{TookPrefix}
 use Rattle.pocsag_decode.proofs.lister.list_sent.Goals as goal
 
 pub returns-clause-whole : goal.returns-clause-whole
@@ -13,3 +14,15 @@ returns-clause-whole g c = λ tells.
     (All-from_get_or (λ b. b < 256) bytes 0 (λ i h. omega (arith, (c.type_inv.bytes i).fits)))
     (c.split_at.ensures.back ∙ ap (λ (n : ℕ). drop n bytes) c.leading_len.ensures.value) refl told reads)
     (c.list_batches.ensures.whole tells)
+
+pub returns-clause-part : goal.returns-clause-part
+returns-clause-part g c = λ tells.
+    let bytes = c.args.bytes.now in
+    on_err_weaker c.list_batches.result
+    (λ took pages reads.
+    subst (λ (due : List ℕ). TookPrefix (g.S.Sink.taken c.args.sink.now) (g.S.Sink.taken c.list_batches.new.sink) due)
+    (listed_reading bytes c.split_at.result.1.now _ [] _ pages
+    (All-from_get_or (λ b. b < 256) bytes 0 (λ i h. omega (arith, (c.type_inv.bytes i).fits)))
+    (c.split_at.ensures.back ∙ ap (λ (n : ℕ). drop n bytes) c.leading_len.ensures.value) refl refl reads)
+    took)
+    (c.list_batches.ensures.part tells)

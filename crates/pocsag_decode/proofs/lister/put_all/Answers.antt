@@ -1,17 +1,19 @@
-use Rattle.std.proofs.Common.{◌++◌, ℕ, List, refl, sym, ap, ◌∙◌}
+use Rattle.std.proofs.Common.{◌++◌, ◌+◌, ◌∷◌, [], ℕ, List, length, refl, sym, ap, ◌∙◌, arith}
 use Rattle.std.proofs.lemmas.Iterator.Adapters.{YieldsList-from_vec}
-use Rattle.std.proofs.lemmas.Iterator.Consumers.{YieldsList-end}
+use Rattle.std.proofs.lemmas.Iterator.Consumers.{YieldsList-end, YieldsList-so_far, YieldsList-turn}
 use Rattle.std.proofs.lemmas.List.{append-nil, map-id}
-use Rattle.std.proofs.lemmas.Result.{on_ok_weaker}
+use Rattle.std.proofs.lemmas.Result.{on_err_weaker, on_ok_weaker}
 use Rattle.pocsag_pages.specs.declared.page.Page.{Page}
 use Rattle.pocsag_decode.specs.Listing.{listing}
-use Rattle.pocsag_decode.proofs.Listings.{listing_is, row_told}
+use Rattle.pocsag_decode.proofs.Listings.{listing_is, one_page_more, row_told, rows_due}
+use Rattle.pocsag_decode.proofs.Prefixes.{after_fault, took_on, took_so_far}
 use Rattle.pocsag_decode.proofs.lister.put_all.Goals as goal
 
 pub loop-page-init : goal.loop-page-init
 loop-page-init g c = record {
   ready = c.requires.ready;
   told = λ tells. ap (λ (l : List ℕ). g.S.Sink.taken c.args.sink.now ++ l) (c.requires.begun ∙ sym (append-nil _));
+  grown = λ tells. omega arith;
   failures = refl;
 }
 
@@ -24,6 +26,7 @@ loop-page-preserved g c =
           row_told (g.S.Sink.taken c.args.sink.now) (g.S.Sink.taken loop.sink) (g.S.Sink.taken c.pour_many.new.sink) loop.records
           c.put_spent.new.writer c.pour_many.new.writer loop.yielded c.in-Some.page (loop.invariant.told tells)
           c.in_ok-put_spent.ensures.row.1 (c.in_ok-pour_many.ensures.told tells);
+      grown = λ tells. omega (arith, loop.invariant.grown tells, c.in_ok-pour_many.ensures.grown tells);
       failures = c.in_ok-pour_many.ensures.failures.0 ∙ loop.invariant.failures;
     }
 
@@ -41,3 +44,47 @@ returns-clause-whole g c = λ tells.
     ∙ (ap (λ (l : List ℕ). g.S.Sink.taken c.args.sink.now ++ l) (sym (listing_is c.loop-page.yielded))
     ∙ ap (λ (ps : List Page). g.S.Sink.taken c.args.sink.now ++ listing ps) (sym (map-id c.loop-page.yielded) ∙ t.0))))
     (c.pour.ensures.whole tells)
+
+pub returns-in_err-put_spent-clause-part : goal.returns-in_err-put_spent-clause-part
+returns-in_err-put_spent-clause-part g c = λ tells.
+    let first = g.S.Sink.taken c.args.sink.now in
+    let loop = c.loop-page in
+    let gives = c.into_iter-page-iterator.ensures.into_iter_gives in
+    let list = YieldsList-from_vec c.args.pages.items gives.0 (gives.1 ∙ c.args.pages.ok.0) in
+    let done = sym (map-id loop.yielded) ∙ YieldsList-so_far list loop.yielded loop.page-iterator loop.yielded_by in
+    after_fault c.from_residual.result
+    (took_so_far first (g.S.Sink.taken loop.sink) _ _ (loop.invariant.grown tells)
+    (rows_due first (g.S.Sink.taken loop.sink) _ loop.yielded c.args.pages.items (length loop.yielded) done
+    (loop.invariant.told tells)))
+
+pub returns-in_err-pour_many-clause-part : goal.returns-in_err-pour_many-clause-part
+returns-in_err-pour_many-clause-part g c = λ tells.
+    let first = g.S.Sink.taken c.args.sink.now in
+    let loop = c.loop-page in
+    let written = g.S.Sink.taken loop.sink in
+    let page = c.in-Some.page in
+    let gives = c.into_iter-page-iterator.ensures.into_iter_gives in
+    let list = YieldsList-from_vec c.args.pages.items gives.0 (gives.1 ∙ c.args.pages.ok.0) in
+    let done = sym (map-id loop.yielded) ∙ YieldsList-so_far list loop.yielded loop.page-iterator loop.yielded_by in
+    let turn = YieldsList-turn list loop.yielded loop.page-iterator loop.yielded_by c.next.result c.next.new.self page c.in-Some.is
+    c.next.ensures.steps in
+    after_fault c.from_residual-in_err-pour_many.result
+    (took_on first written (g.S.Sink.taken c.pour_many.new.sink) _ _ _ (loop.invariant.grown tells)
+    (rows_due first written _ (loop.yielded ++ page ∷ []) c.args.pages.items (length loop.yielded + 1)
+    (one_page_more loop.yielded c.args.pages.items page done turn.0 turn.1)
+    (row_told first written written loop.records c.put_spent.new.writer c.put_spent.new.writer loop.yielded page
+    (loop.invariant.told tells) c.in_ok-put_spent.ensures.row.1 refl))
+    (c.in_err-pour_many.ensures.part tells))
+
+pub returns-clause-part : goal.returns-clause-part
+returns-clause-part g c = λ tells.
+    let first = g.S.Sink.taken c.args.sink.now in
+    let loop = c.loop-page in
+    let written = g.S.Sink.taken loop.sink in
+    let gives = c.into_iter-page-iterator.ensures.into_iter_gives in
+    let list = YieldsList-from_vec c.args.pages.items gives.0 (gives.1 ∙ c.args.pages.ok.0) in
+    let done = sym (map-id loop.yielded) ∙ YieldsList-so_far list loop.yielded loop.page-iterator loop.yielded_by in
+    on_err_weaker c.pour.result
+    (took_on first written (g.S.Sink.taken c.pour.new.sink) _ _ _ (loop.invariant.grown tells)
+    (rows_due first written _ loop.yielded c.args.pages.items (length loop.yielded) done (loop.invariant.told tells)))
+    (c.pour.ensures.part tells)

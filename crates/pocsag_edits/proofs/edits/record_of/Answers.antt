@@ -1,8 +1,9 @@
 use Rattle.std.proofs.Common.{◌≡◌, ap, sym, ◌∙◌, subst, inl, inr}
 use Rattle.pocsag_edits.specs.Quotes.{MayEnd, quoting_from}
-use Rattle.pocsag_edits.specs.declared.quoting.Quoting.TheVariants as at
+use Rattle.pocsag_edits.specs.declared.quote.Quoting.TheVariants as at
 use Rattle.pocsag_edits.specs.Spelling.{record_text}
 use Rattle.pocsag_edits.proofs.RowTexts.{empty_is, may_end, no_row, open_quote, row_is}
+use Rattle.pocsag_edits.proofs.Strays.{stray_byte, stray_quote}
 use Rattle.pocsag_edits.proofs.edits.record_of.Goals as goal
 
 pub returns-in-Open-clause-refused : goal.returns-in-Open-clause-refused
@@ -17,14 +18,14 @@ returns-in-Broken-clause-refused c =
     let text : c.without_mark.result.now ≡ record_text c.args.line.now = rw c.without_return-bare.ensures at c.without_mark.ensures in
     let stands : quoting_from at.Start (record_text c.args.line.now) ≡ at.Broken =
     sym (ap (quoting_from at.Start) text) ∙ sym c.quoting_of.ensures ∙ c.in-Broken.is in
-    no_row _ (λ may. subst MayEnd stands may)
+    stray_quote _ stands
 
 pub returns-in-Ended-clause-refused : goal.returns-in-Ended-clause-refused
 returns-in-Ended-clause-refused c =
     let text : c.without_mark.result.now ≡ record_text c.args.line.now = rw c.without_return-bare.ensures at c.without_mark.ensures in
     let stands : quoting_from at.Start (record_text c.args.line.now) ≡ at.Ended =
     sym (ap (quoting_from at.Start) text) ∙ sym c.quoting_of.ensures ∙ c.in-Ended.is in
-    inl (no_row _ (λ may. subst MayEnd stands may))
+    inl (stray_byte _ stands)
 
 pub returns-in-Ok-Some : goal.returns-in-Ok-Some
 returns-in-Ok-Some c =

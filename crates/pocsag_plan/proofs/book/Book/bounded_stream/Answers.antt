@@ -1,7 +1,7 @@
 use Rattle.std.proofs.lemmas.Result.{err_from_is_err_and}
 use Rattle.pocsag_plan.proofs.Due.{all_as, asked_headline, certificate_part_as, has_headline, part_as}
 use Rattle.pocsag_plan.proofs.Unwritten.{answered_limit, before, its_own, no_certificate_part, no_part, ok_bad_limit, same_bad_limit, stream_explained, unsent_bad_limit, unsent_explained, unwritten}
-use Rattle.pocsag_plan_faults.specs.FaultChains.{stream_fault_of}
+use Rattle.pocsag_plan.specs.FaultChains.{stream_fault_of}
 use Rattle.pocsag_plan.proofs.book.Book.bounded_stream.Goals as goal
 
 pub returns-in_err-round : goal.returns-in_err-round

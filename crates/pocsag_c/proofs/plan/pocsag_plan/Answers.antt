@@ -1,0 +1,29 @@
+use Rattle.std.proofs.Common.{◌≡◌, ◌⊎◌, ℕ, refl, subst, inl, inr, arith}
+use Rattle.pocsag_words.specs.declared.ending.End.{End}
+use Rattle.pocsag_words.specs.declared.ending.End.TheVariants as ends
+use Rattle.pocsag_c.specs.Answers.{IsNoEnd, number_of_end}
+use Rattle.pocsag_c.specs.Plans.{IsWithoutRoom}
+use Rattle.pocsag_c.proofs.Devices.{unwritten_in_memory}
+use Rattle.pocsag_c.proofs.plan.pocsag_plan.Goals as goal
+
+is_an_end : (end : End) → IsNoEnd (number_of_end end) → ⊥
+is_an_end ends.Open none = none.0 refl
+is_an_end ends.Closed none = none.1 refl
+is_an_end ends.Idle none = none.2 refl
+
+never_two : (status : ℕ) → (status ≡ 0) ⊎ IsWithoutRoom status → status ≡ 2 → ⊥
+never_two status (inl done) two = omega arith
+never_two status (inr (inl seven)) two = omega arith
+never_two status (inr (inr eight)) two = omega arith
+
+pub returns-in-Ok-clause-bad_end : goal.returns-in-Ok-clause-bad_end
+returns-in-Ok-clause-bad_end c = (
+  λ two. absurd (never_two c.hand_out_both.result c.hand_out_both.ensures.status two),
+  λ none. absurd (is_an_end c.in-Some.end (subst IsNoEnd c.in-Some.ensures none)),
+)
+
+pub returns-in-Err-clause-of_bytes : goal.returns-in-Err-clause-of_bytes
+returns-in-Err-clause-of_bytes c =
+    c.refusal_in_centre-refusal.ensures.of_bytes
+    (unwritten_in_memory c.args.pages.now (record { limit = c.args.limit; end = c.in-Some.end; effort = c.effort_of-effort.result })
+    c.in-Err.fault c.in-Err.ensures.explained)

@@ -1,0 +1,78 @@
+ghost use Rattle.std.specs.Prelude.{◌≡◌, ◌≢◌, ◌↔◌, ◌⊎◌, None, Some};
+ghost use Rattle.pocsag_explain.specs.Verdicts.{ExplainsUntold};
+ghost use Rattle.pocsag_c.specs.Answers.{IsNotAccepted, IsShown, TellsFault, no_verdict};
+ghost use Rattle.pocsag_c.specs.Explain.{IsJudgedAs, IsNoForm, IsTextGiven, IsTextTooLong, IsUntold};
+ghost use Rattle.pocsag_c.specs.Statuses.{IsOfBytes, nowhere, refusal_in_centre};
+
+use crate::buffer::hand_out;
+use crate::check::{CheckInfo, NOT_JUDGED, info_of_judged};
+use crate::refusal::refusal_in_centre;
+use pocsag_explain::explain_file;
+use pocsag_wording::Telling;
+use std::alloc::Global;
+
+// How the certificate is told, by the number of a form: 0 in words, 1 as JSON.
+fn telling_of(form: u32, depth: u32) -> Option<Telling>
+    ensures words { form ≡ 0 → result ≡ Some (Telling.Lines depth) }
+    ensures facts { form ≡ 1 → result ≡ Some (Telling.Facts depth) }
+    ensures none { result ≡ None ↔ IsNoForm form }
+{
+    match form {
+        0 => Some(Telling::Lines(depth)),
+        1 => Some(Telling::Facts(depth)),
+        _ => None,
+    }
+}
+
+/// Judges a certificate for a page file as `pocsag_check` does, and puts the text that tells why fewer batches do not
+/// suffice, or which node does not hold, into a buffer: 10 where the buffer is too small. Then too `text_len` tells
+/// the length of the text. The form is 0 for words and 1 for JSON, and tells the nodes no deeper than `depth`.
+#[unsafe(no_mangle)]
+pub extern "C" fn pocsag_explain(
+    alloc: Global,
+    pages: &[u8],
+    cert: &[u8],
+    form: u32,
+    depth: u32,
+    text: &mut [u8],
+    text_len: &mut usize,
+    info: &mut CheckInfo,
+) -> u32
+    // The verdict is that of the checker, and a text stands in the buffer.
+    ensures shown { result ≡ 0 → IsShown pages.now cert.now info.new }
+    ensures not_shown { result ≡ 1 → IsNotAccepted pages.now cert.now info.new }
+    ensures told { (result ≡ 0) ⊎ (result ≡ 1) → IsTextGiven text.old text.new text_len.new }
+    // There is a verdict and a text, but no room for the text.
+    ensures judged { result ≡ 10 → IsJudgedAs pages.now cert.now info.new }
+    ensures no_room { result ≡ 10 → IsTextTooLong text.old text.new text_len.new }
+    // Any other status says why nothing is told, and never that a device failed.
+    ensures bad_form { result ≡ 11 ↔ IsNoForm form }
+    ensures fault { IsUntold result →
+        TellsFault refusal_in_centre (ExplainsUntold pages.now cert.now) result info.new.place }
+    ensures placeless { (result ≡ 0) ⊎ (result ≡ 1) ⊎ (result ≡ 10) ⊎ (result ≡ 11) → info.new.place ≡ nowhere }
+    ensures nothing { result ≢ 0 → result ≢ 1 → result ≢ 10 →
+        (text_len.new ≡ 0) × (info.new ≡ no_verdict info.new.place) }
+    ensures of_bytes { IsOfBytes result }
+    ensures untouched { result ≢ 0 → result ≢ 1 → text.new ≡ text.old }
+{
+    *text_len = 0;
+    *info = NOT_JUDGED;
+    let Some(telling) = telling_of(form, depth) else {
+        return 11;
+    };
+    match explain_file(alloc, telling, pages, cert) {
+        Ok(explained) => {
+            *info = info_of_judged(explained.judged);
+            if hand_out(explained.text.as_str().as_bytes(), text, text_len) {
+                u32::from(!explained.judged.is_shown)
+            } else {
+                10
+            }
+        }
+        Err(fault) => {
+            let refusal = refusal_in_centre(fault);
+            info.place = refusal.place;
+            refusal.status
+        }
+    }
+}

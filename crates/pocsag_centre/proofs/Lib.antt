@@ -1,0 +1,7 @@
+pub mod Endings
+pub mod Explained
+pub mod Planning
+pub mod Readers
+pub mod Rooms
+pub mod Shown
+pub mod Verified

@@ -1,0 +1,34 @@
+-- No fault that is answered for bytes is that of a reader.
+use Rattle.std.proofs.Common.{◌≡◌, ℕ, List, length, sym, ◌∙◌, subst, inl, inr, arith}
+use Rattle.std.proofs.lemmas.Bool.{cases_lt}
+use Rattle.pocsag_words.specs.Frame.{input_limit}
+use Rattle.pocsag_pages.proofs.Judging.{large_file, never_read, small_file}
+use Rattle.pocsag_pages.specs.PageFile.{rows_of}
+use Rattle.pocsag_pages.specs.declared.fault.RoundFault.TheVariants as round
+use Rattle.pocsag_plan.specs.declared.search.Search.{Search}
+use Rattle.pocsag_centre.specs.Refusals.{ExplainsNoPlan, ExplainsRound}
+use Rattle.pocsag_centre.specs.Reporting.{ExplainsReporting}
+use Rattle.pocsag_centre.specs.Verifying.{ExplainsVerifying}
+use Rattle.pocsag_centre.specs.declared.fault.CentreFault.{CentreFault}
+use Rattle.pocsag_centre.specs.declared.fault.CentreFault.TheVariants as fault
+
+not_read : (file : List ℕ) → ExplainsRound file round.ReadFault → ⊥
+not_read file (inl memory) = cc
+not_read file (inr is) =
+    elim (cases_lt input_limit (length file)) [
+      | inl large ↦ let other = large_file file large in cc
+      | inr small ↦ never_read (rows_of file) (sym (small_file file (omega arith)) ∙ is)
+    ]
+
+pub planned_unread : (file : List ℕ) (search : Search) (f : CentreFault) → ExplainsNoPlan file search f → f ≡ fault.Round round.ReadFault → ⊥
+planned_unread file search f said same = not_read file (subst (λ (g : CentreFault). ExplainsNoPlan file search g) same said)
+
+pub reported_unread : (file : List ℕ) (search : Search) (rate : ℕ) (f : CentreFault) → ExplainsReporting file search rate f →
+    f ≡ fault.Round round.ReadFault → ⊥
+reported_unread file search rate f said same =
+    not_read file (subst (λ (g : CentreFault). ExplainsReporting file search rate g) same said)
+
+pub verified_unread : (file : List ℕ) (search : Search) (sent certificate : List ℕ) (f : CentreFault) →
+    ExplainsVerifying file search sent certificate f → f ≡ fault.Round round.ReadFault → ⊥
+verified_unread file search sent certificate f said same =
+    not_read file (subst (λ (g : CentreFault). ExplainsVerifying file search sent certificate g) same said)

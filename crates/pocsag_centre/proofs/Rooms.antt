@@ -1,0 +1,76 @@
+-- The idles of a frame, step by step.
+use Rattle.std.proofs.Common.{◌≡◌, ℕ, ◌+◌, ◌*◌, ◌%◌, ◌<◌, ◌≤◌, ◌==◌, Bool, true, false, List, [], ◌∷◌, ◌++◌, cond, arith, ap, sym, subst, ◌∙◌, refl, eq-eqb, drop, get_or, length, map, inl, inr}
+use Rattle.std.proofs.lemmas.Bool.{cases_lt}
+use Rattle.std.proofs.lemmas.List.{drop_more}
+use Rattle.std.proofs.lemmas.List.FromFn.{map-range_with_len_more}
+use Rattle.std.specs.List.{range_with_len}
+use Rattle.std.specs.List.Sorted.{IsPermutation}
+use Rattle.pocsag_pages.specs.declared.page.Page.{Page}
+use Rattle.pocsag_slots.specs.declared.step.Step.{Step}
+use Rattle.pocsag_slots.specs.declared.step.Step.TheVariants.{Idle as Stay, Run}
+use Rattle.pocsag_slots.specs.Numbering.{finish_of}
+use Rattle.pocsag_slots.specs.Tours.{idles}
+use Rattle.pocsag_centre.specs.declared.frames.FrameRoom.{FrameRoom}
+use Rattle.pocsag_centre.specs.Frames.{HasClasses, frame_row}
+
+-- how many idles stand in the two slots of a frame, where the steps start at boundary p
+abbrev pub room_from : ℕ → ℕ → List Step → ℕ
+room_from frame p steps = idles (2 * frame) p steps + idles (2 * frame + 1) p steps
+
+pub next_step : (steps : List Step) (i : ℕ) (s : Step) → i < length steps → get_or steps i Stay ≡ s → drop i steps ≡ s ∷ drop (i + 1) steps
+next_step steps i s h is = drop_more steps i Stay h ∙ ap (λ (step : Step). step ∷ drop (i + 1) steps) is
+
+pub class_small : (c : ℕ) (e : Bool) (steps : List Step) → HasClasses (Run c e ∷ steps) → c < 136
+class_small c true steps h =
+    elim (cases_lt c 136) [
+      | inl small ↦ small
+      | inr other ↦ let none = h c true other in let same : (c == c) ≡ true = eq-eqb c c refl in absurd (omega (arith, rw same at none))
+    ]
+class_small c false steps h =
+    elim (cases_lt c 136) [
+      | inl small ↦ small
+      | inr other ↦ let none = h c false other in let same : (c == c) ≡ true = eq-eqb c c refl in absurd (omega (arith, rw same at none))
+    ]
+
+pub classes_behind : (s : Step) (steps : List Step) → HasClasses (s ∷ steps) → HasClasses steps
+classes_behind Stay steps h = h
+classes_behind (Run d f) steps h = λ c e high. omega (arith, h c e high)
+
+-- the idles so far, and those of the steps that are left from boundary p, are all
+abbrev pub Keeps : (frame total : ℕ) → List Step → (i p room : ℕ) → Type 0
+Keeps frame total steps i p room =
+    (room + room_from frame p (drop i steps) ≡ total) × HasClasses (drop i steps) × (p < 16) × (room ≤ i)
+
+pub idle_keeps : (frame total : ℕ) (steps : List Step) (i p room more : ℕ) → i < length steps → get_or steps i Stay ≡ Stay →
+    more ≡ cond (p == 2 * frame) 1 0 + cond (p == 2 * frame + 1) 1 0 → more ≤ 1 → Keeps frame total steps i p room →
+    Keeps frame total steps (i + 1) ((p + 1) % 16) (room + more)
+idle_keeps frame total steps i p room more h is value small keeps =
+    let next : drop i steps ≡ Stay ∷ drop (i + 1) steps = next_step steps i Stay h is in
+    let all : room + room_from frame p (Stay ∷ drop (i + 1) steps) ≡ total = rw next at keeps.0 in
+    let classes : HasClasses (Stay ∷ drop (i + 1) steps) = rw next at keeps.1 in
+    (omega (arith, all, value), classes_behind Stay (drop (i + 1) steps) classes, omega arith, omega (arith, keeps.3))
+
+pub run_keeps : (frame total : ℕ) (steps : List Step) (i p room c q : ℕ) (e : Bool) → i < length steps → get_or steps i Stay ≡ Run c e →
+    q ≡ finish_of c e → q < 16 → Keeps frame total steps i p room → Keeps frame total steps (i + 1) q room
+run_keeps frame total steps i p room c q e h is value small keeps =
+    let next : drop i steps ≡ Run c e ∷ drop (i + 1) steps = next_step steps i (Run c e) h is in
+    let all : room + room_from frame p (Run c e ∷ drop (i + 1) steps) ≡ total = rw next at keeps.0 in
+    let classes : HasClasses (Run c e ∷ drop (i + 1) steps) = rw next at keeps.1 in
+    (rw value all, classes_behind (Run c e) (drop (i + 1) steps) classes, small, omega (arith, keeps.3))
+
+-- the eight frames, one more of them
+pub rooms_more : (R S : List Page) (steps : List Step) (n : ℕ) (rooms after : List FrameRoom) (r : FrameRoom) → S ≡ R
+    → rooms ≡ map (frame_row R steps) (range_with_len 0 n) → r ≡ frame_row S steps n → after ≡ rooms ++ r ∷ [] →
+    after ≡ map (frame_row R steps) (range_with_len 0 (n + 1))
+rooms_more R S steps n rooms after r same so_far is pushed =
+    let this : r ≡ frame_row R steps n = is ∙ ap (λ (v : List Page). frame_row v steps n) same in
+    pushed ∙ ap (λ (v : List FrameRoom). v ++ r ∷ []) so_far
+    ∙ ap (λ (v : FrameRoom). map (frame_row R steps) (range_with_len 0 n) ++ v ∷ []) this
+    ∙ sym (map-range_with_len_more (frame_row R steps) 0 n n (omega arith))
+
+pub all_rooms : (R : List Page) (steps : List Step) (n : ℕ) (rooms sorted : List FrameRoom) → 8 ≤ n → n ≤ 8
+    → rooms ≡ map (frame_row R steps) (range_with_len 0 n) → IsPermutation rooms sorted →
+    IsPermutation (map (frame_row R steps) (range_with_len 0 8)) sorted
+all_rooms R steps n rooms sorted low high all same =
+    let eight : n ≡ 8 = omega arith in
+    subst (λ (v : List FrameRoom). IsPermutation v sorted) (all ∙ ap (λ (m : ℕ). map (frame_row R steps) (range_with_len 0 m)) eight) same

@@ -1,0 +1,153 @@
+-- What was read back, and what was found in its place.
+use Rattle.std.proofs.Common.{◌≡◌, ◌≢◌, ℕ, ◌<◌, ◌≤◌, ◌==◌, ◌&&◌, Bool, true, false, eq-eqb, tests, List, length, get_or, map, refl, sym, ap, ◌∙◌, subst, inl, inr, arith}
+use Rattle.std.specs.Prelude.{◌⊎◌, Contains, IsPermutation}
+use Rattle.std.specs.Cmp.{ranks}
+use Rattle.std.specs.Cmp.Lexicographic.{pointwise}
+use Rattle.std.specs.Ordering.{MatchOrdering, nat_cmp, ordering_index}
+use Rattle.std.specs.declared.cmp.Ordering.{Ordering}
+use Rattle.std.specs.declared.cmp.Ordering.TheVariants.{Less, Greater}
+use Rattle.std.specs.List.Sorted.{IsNonDecreasingBy}
+use Rattle.std.proofs.lemmas.Slice.Eq.{bytes_eq-Decides}
+use Rattle.std.proofs.lemmas.Bool.{cases_eq, cases_lt}
+use Rattle.std.proofs.lemmas.List.{get_or_default, length-map}
+use Rattle.std.proofs.lemmas.List.Sorted.{Contains-permutation, IsPermutation-sym, length_permutation}
+use Rattle.std.proofs.lemmas.List.Elements.{All-weaker}
+use Rattle.pocsag_pages.specs.declared.page.Page.{Page}
+use Rattle.pocsag_pages.specs.Pages.{IsRound}
+use Rattle.pocsag_pages.specs.Reading.{AreApart, EndsAs, IsBatchList}
+use Rattle.pocsag_pages.proofs.GoodPages.{apart_pages}
+use Rattle.pocsag_words.specs.Kinds.{kind_of}
+use Rattle.pocsag_words.specs.declared.ending.End.{End}
+use Rattle.pocsag_slots.proofs.Rearranged.{rearranged}
+use Rattle.pocsag_decode.specs.Faults.{ReadsAs}
+use Rattle.pocsag_plan.specs.declared.search.Search.{Search}
+use Rattle.pocsag_shell.specs.declared.fault.FileFault.TheVariants as file_fault
+use Rattle.pocsag_centre.specs.Refusals.{OrDevice}
+use Rattle.pocsag_centre.specs.Verifying.{AreAmong, ExplainsVerifying, HasRival, IsTransmissionOf, OrTooLarge}
+use Rattle.pocsag_centre.specs.declared.fault.CentreFault.{CentreFault}
+use Rattle.pocsag_centre.specs.declared.fault.CentreFault.TheVariants as fault
+use Rattle.pocsag_centre.proofs.Explained.{or_device}
+
+moved_pages : (ps qs : List Page) → IsPermutation ps qs → (R : List Page) → AreAmong qs R → AreAmong ps R
+moved_pages ps qs moved R among = record {
+  as_many = sym (length_permutation ps qs moved) ∙ among.as_many;
+  each = All-weaker (Contains qs) (Contains ps)
+      (λ x there. Contains-permutation qs ps x (IsPermutation-sym ps qs moved) there) R among.each;
+}
+
+-- pages that were sorted are the same pages
+module _ (ps qs others R S : List Page) (moved : IsPermutation ps qs) (view : others ≡ qs) (pages : S ≡ R) where
+  pub same_pages : AreAmong others S → AreAmong ps R
+  same_pages among =
+      moved_pages ps qs moved R (subst (λ (v : List Page). AreAmong qs v) pages (subst (λ (v : List Page). AreAmong v S) view among))
+
+  pub same_others : AreAmong ps R → AreAmong others S
+  same_others among =
+      subst (λ (v : List Page). AreAmong v S) (sym view)
+      (subst (λ (v : List Page). AreAmong qs v) (sym pages) (moved_pages qs ps (IsPermutation-sym ps qs moved) R among))
+
+-- pages that the test of their fields tells apart differ
+pub told_apart : (q p : Page) (b : Bool) → b ≡ (q.address == p.address && (q.function == p.function && pointwise ◌==◌ q.payload p.payload)) →
+    b ≡ false → q ≢ p
+told_apart q p b tested apart same =
+    let all : b ≡ (p.address == p.address && (p.function == p.function && pointwise ◌==◌ p.payload p.payload)) =
+    subst (λ (r : Page). b ≡ (r.address == p.address && (r.function == p.function && pointwise ◌==◌ r.payload p.payload))) same tested in
+    let yes : b ≡ true =
+    all ∙ (rw (eq-eqb p.address p.address refl, eq-eqb p.function p.function refl, (bytes_eq-Decides p.payload p.payload).1 refl) refl) in
+    cc
+
+-- where the addresses rise, so does how they compare with one of them
+comparing : (a b x : ℕ) → a ≤ b → ordering_index (nat_cmp a x) ≤ ordering_index (nat_cmp b x)
+comparing a b x le = grind (arith, tests)
+
+pub rising : (S : List Page) (x : ℕ) → IsNonDecreasingBy (λ p. p.address) S → IsNonDecreasingBy (λ p. ordering_index (nat_cmp p.address x)) S
+rising S x order = λ i j d low high. comparing (get_or S i d).address (get_or S j d).address x (order i j d low high)
+
+-- a page whose address is in none of two parts is not there
+pub not_there : (S : List Page) (p : Page) (i : ℕ) →
+    ((k : ℕ) (d : Page) → 0 ≤ k → k < i → nat_cmp (get_or S k d).address p.address ≡ Less) →
+    ((k : ℕ) (d : Page) → i ≤ k → k < length S → nat_cmp (get_or S k d).address p.address ≡ Greater) → ¬ Contains S p
+not_there S p i below above there =
+    let k : ℕ = there.0 in
+    let same : nat_cmp (get_or S k p).address p.address ≡ nat_cmp p.address p.address = ap (λ (q : Page). nat_cmp q.address p.address) there.2 in
+    elim (cases_lt k i) [
+      | inl low ↦
+          let less : p.address < p.address =
+          subst (λ (o : Ordering). MatchOrdering o (p.address < p.address) (p.address ≡ p.address) (p.address < p.address))
+          (sym same ∙ below k p (omega arith) low) (ranks p.address p.address) in
+          absurd (omega arith)
+      | inr high ↦
+          let less : p.address < p.address =
+          subst (λ (o : Ordering). MatchOrdering o (p.address < p.address) (p.address ≡ p.address) (p.address < p.address))
+          (sym same ∙ above k p high there.1) (ranks p.address p.address) in
+          absurd (omega arith)
+    ]
+
+-- two pages of a round with one address are one page
+one_page : (R : List Page) (j k : ℕ) (p q : Page) → AreApart R → j < length R → k < length R → get_or R j p ≡ p → get_or R k q ≡ q →
+    p.address ≡ q.address → p ≡ q
+one_page R j k p q apart within there here_p here_q same =
+    let at_p : get_or R j q ≡ p = get_or_default R j q p within ∙ here_p in
+    elim (cases_eq j k) [
+      | inl e ↦ sym at_p ∙ ap (λ (n : ℕ). get_or R n q) e ∙ here_q
+      | inr other ↦
+          elim (cases_lt j k) [
+            | inl below ↦
+                absurd (apart j k q below there
+                (ap (λ (r : Page). r.address) at_p ∙ same ∙ ap (λ (r : Page). r.address) (sym here_q)))
+            | inr above ↦
+                absurd (apart k j q (omega arith) within
+                (ap (λ (r : Page). r.address) here_q ∙ sym same ∙ ap (λ (r : Page). r.address) (sym at_p)))
+          ]
+    ]
+
+-- a page of a round is not among others, or another with its address is: then they are not the pages of the round
+pub not_among : (R S : List Page) (i : ℕ) (p : Page) → IsRound R → i < length R → p ≡ get_or R i p → (¬ Contains S p) ⊎ HasRival S p →
+    ¬ AreAmong S R
+not_among R S i p round within here (inl none) among =
+    none (subst (Contains S) (sym here) (among.each i p within))
+not_among R S i p round within here (inr rival) among =
+    let apart : AreApart R = apart_pages R round.good in
+    let moved : IsPermutation R S = rearranged R S apart among.as_many among.each in
+    let back : Contains R rival.rival = Contains-permutation S R rival.rival (IsPermutation-sym R S moved) rival.there in
+    rival.differs (sym (one_page R i back.0 p rival.rival apart within back.1 (sym here) back.2 (sym rival.same)))
+
+pub transmission : (end : End) (R : List Page) (X : List ℕ) (ps : List Page) (r : ReadsAs X ps) → AreAmong ps R →
+    EndsAs end (map kind_of r.codewords) → (n : ℕ) → n ≡ r.sent.batches → IsTransmissionOf end R n X
+transmission end R X ps r among ends n same =
+    let whole : IsBatchList r.sent.batches (map kind_of r.codewords) =
+    (r.sent.whole.0, length-map r.codewords kind_of ∙ r.sent.whole.1) in
+    record {
+      codewords = r.codewords;
+      sent = r.sent;
+      legal = (
+        r.sent.codewords,
+        (
+          record {
+            whole = subst (λ (b : ℕ). IsBatchList b (map kind_of r.codewords)) (sym same) whole;
+            ps = ps;
+            reads = r.reads;
+            as_many = among.as_many;
+            each = among.each;
+          },
+          ends,
+        ),
+      );
+    }
+
+or_too_large : (file : List ℕ) (search : Search) (sent certificate : List ℕ) (f : CentreFault) → ExplainsVerifying file search sent certificate f →
+    OrTooLarge sent certificate (ExplainsVerifying file search sent certificate) f
+or_too_large file search sent certificate (fault.File file_fault.TooLarge) said = absurd said.holds
+or_too_large file search sent certificate (fault.File file_fault.OutOfMemory) said = tt
+or_too_large file search sent certificate _ said = said
+
+-- what is so of the bytes that were read is so of those that the readers held
+pub read_verifying : (file : List ℕ) (search : Search) (sent certificate file' sent' certificate' : List ℕ) (f : CentreFault) →
+    file' ≡ file → sent' ≡ sent → certificate' ≡ certificate → ExplainsVerifying file' search sent' certificate' f →
+    OrDevice (OrTooLarge sent certificate (ExplainsVerifying file search sent certificate)) f
+read_verifying file search sent certificate file' sent' certificate' f one two three said =
+    or_device (OrTooLarge sent certificate (ExplainsVerifying file search sent certificate)) f
+    (or_too_large file search sent certificate f
+    (subst (λ (v : List ℕ). ExplainsVerifying v search sent certificate f) one
+    (subst (λ (v : List ℕ). ExplainsVerifying file' search v certificate f) two
+    (subst (λ (v : List ℕ). ExplainsVerifying file' search sent' v f) three said))))

@@ -1,0 +1,10 @@
+use Rattle.std.proofs.Common.{◌≡◌, ◌+◌, ◌<◌, ◌≤◌, drop}
+use Rattle.pocsag_centre.specs.Frames.{HasClasses, frame_idles}
+use Rattle.pocsag_centre.proofs.Rooms.{room_from}
+use Rattle.pocsag_centre.proofs.frames.room_left.Given as goal
+
+-- the idles so far, and those of the steps that are left, are all
+abbrev pub invariant-loop-step : goal.invariant-loop-step
+invariant-loop-step l =
+    (l.room + room_from l.frame l.place (drop l.step-index l.steps) ≡ frame_idles l.frame l.steps)
+    × HasClasses (drop l.step-index l.steps) × (l.place < 16) × (l.room ≤ l.step-index)

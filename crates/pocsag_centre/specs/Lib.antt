@@ -1,0 +1,10 @@
+pub mod Commands
+pub mod Expecting
+pub mod Faults
+pub mod Frames
+pub mod FramesTold
+pub mod Judging
+pub mod Lines
+pub mod Refusals
+pub mod Reporting
+pub mod Verifying

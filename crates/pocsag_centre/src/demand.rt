@@ -1,0 +1,48 @@
+ghost use Rattle.std.specs.Prelude.{◌≡◌, ◌↔◌, IfErr, IsErrOf, None, OnOk};
+ghost use Rattle.pocsag_branch.specs.Found.{IsNodeLimit};
+ghost use Rattle.pocsag_quotes.specs.Quotes.{first_misplaced};
+ghost use Rattle.pocsag_centre.specs.Expecting.{ExplainsExpecting, ExplainsStrict, HoldsPages};
+
+use crate::fault::CentreFault;
+use crate::round::round_of;
+use pocsag_plan::Search;
+use pocsag_quotes::quote_fault;
+use pocsag_tree::NODE_LIMIT;
+use std::alloc::Global;
+
+/// Refuses a node limit that is out of its range, so that nothing is opened for it: a search may examine as many nodes as a
+/// certificate may have.
+pub fn refuse_bad_limit(search: Search) -> Result<(), CentreFault>
+    ensures bad { IsErrOf result CentreFault.BadLimit ↔ (¬ IsNodeLimit search.limit) }
+    ensures alone { IfErr result (λ e. e ≡ CentreFault.BadLimit) }
+{
+    if 1 <= search.limit && search.limit <= NODE_LIMIT {
+        return Ok(());
+    }
+    Err(CentreFault::BadLimit)
+}
+
+/// `--strict`: refuses the bytes of a page file in which a quote is misplaced, with the first such quote.
+pub fn strict_file(pages: &[u8]) -> Result<(), CentreFault>
+    ensures strict { OnOk result (first_misplaced pages.now ≡ None) }
+    ensures explained { IfErr result (ExplainsStrict pages.now) }
+{
+    match quote_fault(pages) {
+        Some(quote) => Err(CentreFault::Quotes(quote)),
+        None => Ok(()),
+    }
+}
+
+/// `--expect N`: refuses the bytes of a page file whose round has another number of pages, with both numbers. They also have
+/// to give a round.
+pub fn expected_file(alloc: Global, pages: &[u8], expected: u32) -> Result<(), CentreFault>
+    ensures expected { OnOk result (HoldsPages pages.now expected) }
+    ensures explained { IfErr result (ExplainsExpecting pages.now expected) }
+{
+    let round = round_of(alloc, pages)?;
+    let found = round.pages().len() as u32;
+    if found != expected {
+        return Err(CentreFault::Unexpected(found, expected));
+    }
+    Ok(())
+}

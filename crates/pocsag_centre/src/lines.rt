@@ -1,0 +1,45 @@
+ghost use Rattle.std.specs.Prelude.{◌≡◌, ◌++◌, IfErr, OnOk};
+ghost use Rattle.pocsag_centre.specs.Lines.{below_text, bound_text, plan_text};
+
+use pocsag_shell::{FileFault, tell};
+use pocsag_words::{End, Sink};
+
+/// Tells the pages and the batches of a plan.
+#[tactic(auto, unfolding(crate::specs::Lines::plan_text))]
+pub(crate) fn tell_plan<O: Sink>(pages: u32, batches: u32, out: &mut O) -> Result<(), FileFault>
+    ensures told { O.tells → OnOk result (O.taken out.new ≡ O.taken out.old ++ plan_text pages batches) }
+    ensures lost { IfErr result (λ e. e ≡ FileFault.Write) }
+{
+    tell(out, format_args!("pages {pages}\nbatches {batches}\n"))
+}
+
+/// Tells that fewer batches do not suffice.
+#[tactic(auto, unfolding(crate::specs::Lines::bound_text))]
+pub(crate) fn tell_bound<O: Sink>(end: End, batches: u32, out: &mut O) -> Result<(), FileFault>
+    ensures told { O.tells → OnOk result (O.taken out.new ≡ O.taken out.old ++ bound_text end batches) }
+    ensures lost { IfErr result (λ e. e ≡ FileFault.Write) }
+{
+    match end {
+        End::Open => tell(out, format_args!("at least {batches} batches\n")),
+        End::Closed => tell(
+            out,
+            format_args!("at least {batches} batches with a closed end\n"),
+        ),
+        End::Idle => tell(
+            out,
+            format_args!("at least {batches} batches with an idle last\n"),
+        ),
+    }
+}
+
+/// Tells the bound of a plan where it is below its batches.
+#[tactic(auto, unfolding(crate::specs::Lines::below_text, crate::specs::Lines::bound_text))]
+pub(crate) fn tell_below<O: Sink>(batches: u32, bound: u32, out: &mut O) -> Result<(), FileFault>
+    ensures told { O.tells → OnOk result (O.taken out.new ≡ O.taken out.old ++ below_text batches bound) }
+    ensures lost { IfErr result (λ e. e ≡ FileFault.Write) }
+{
+    if bound < batches {
+        return tell(out, format_args!("at least {bound} batches\n"));
+    }
+    Ok(())
+}

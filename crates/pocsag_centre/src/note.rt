@@ -1,0 +1,77 @@
+use csv::{ByteRecord, ReaderBuilder};
+use pocsag_pages::RoundFault;
+use pocsag_quotes::quote_fault;
+use pocsag_shell::{Desk, NamedFile};
+use std::alloc::Global;
+use std::fmt::{self, Display, Write};
+
+// How many bytes of a record are shown.
+const SHOWN: usize = 80;
+
+// The front of some bytes, with a question mark for each that is no visible character.
+#[derive(Clone, Copy)]
+struct Front<'a> {
+    bytes: &'a [u8],
+}
+
+impl Display for Front<'_> {
+    fn fmt<W: fmt::Write>(&self, f: &mut fmt::Formatter<W>) -> fmt::Result {
+        for byte in self.bytes.iter().take(SHOWN) {
+            f.write_char(match byte {
+                32..=126 => char::from(*byte),
+                _ => '?',
+            })?;
+        }
+        Ok(())
+    }
+}
+
+fn ends_line(byte: &u8) -> bool {
+    matches!(byte, b'\r' | b'\n')
+}
+
+// The line on which the record of this number begins, and the record up to the end of that line. Each record in front of it
+// has three fields, so reading them takes little memory.
+fn record_at(alloc: Global, file: &[u8], number: u32) -> Option<(usize, &[u8])> {
+    let mut reader = ReaderBuilder::new()
+        .has_headers(false)
+        .flexible(true)
+        .from_reader(alloc, file);
+    let mut row = ByteRecord::new(alloc);
+    for _ in 0..number {
+        if !reader.read_byte_record(&mut row).unwrap_or(false) {
+            return None;
+        }
+    }
+    let position = reader.position();
+    let rest = file.get(position.byte() as usize..)?;
+    let begins = rest.iter().position(|byte| !ends_line(byte))?;
+    let (passed, record) = rest.split_at(begins);
+    let line_feeds = passed.iter().filter(|byte| **byte == b'\n').count();
+    let line = line_feeds.saturating_add(position.line() as usize);
+    Some((line, record.split(ends_line).next()?))
+}
+
+/// With `--verbose` keeps a note on the record that a fault of a page file names: its line, and its text.
+pub fn note_record(desk: Desk<'_>, place: NamedFile<'_>, file: &[u8], fault: RoundFault) {
+    let RoundFault::Record(number, _) = fault else {
+        return;
+    };
+    if !desk.watch.is_asked() {
+        return;
+    }
+    if let Some((line, bytes)) = record_at(desk.alloc, file, number) {
+        let text = Front { bytes };
+        desk.note(format_args!("{place}: line {line}: {text}"));
+    }
+}
+
+/// With `--verbose` keeps a note on the first misplaced quote of a page file, which `--strict` would refuse.
+pub(crate) fn note_quote(desk: Desk<'_>, place: NamedFile<'_>, file: &[u8]) {
+    if !desk.watch.is_asked() {
+        return;
+    }
+    if let Some(quote) = quote_fault(file) {
+        desk.note(format_args!("{place}: {quote}"));
+    }
+}

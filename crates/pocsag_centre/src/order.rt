@@ -1,0 +1,96 @@
+//! What the words of a command ask for.
+
+use crate::words::{
+    CLOSED_END, EACH_FRAME, END, EXPECT, IDLE_END, IDLE_LAST, LIMIT, OPEN_END, RATE, STRICT, VERIFY,
+};
+use clap::ArgMatches;
+use pocsag_plan::{Effort, Search};
+use pocsag_shell::{ALWAYS, CERT, KEEP, PAGES, TX, path_of};
+use pocsag_words::End;
+
+/// What is asked of the planner, and of the page file.
+#[derive(Clone, Copy)]
+pub(crate) struct SearchOrder {
+    /// How many pages the round must have, if that is given.
+    pub(crate) expect: Option<u32>,
+    /// Whether a misplaced quote refuses the page file.
+    pub(crate) strict: bool,
+    pub(crate) search: Search,
+}
+
+/// What `plan` is asked for.
+#[derive(Clone, Copy)]
+pub(crate) struct PlanOrder<'a> {
+    /// The path of the page file.
+    pub(crate) pages: Option<&'a str>,
+    /// The words for the transmission and for the certificate, of which one may name standard output.
+    pub(crate) tx: &'a str,
+    pub(crate) cert: &'a str,
+    pub(crate) search: SearchOrder,
+    /// Whether the files are read back.
+    pub(crate) verify: bool,
+    /// Whether what stands there before is kept until both files are whole.
+    pub(crate) keep: bool,
+}
+
+/// What `report` is asked for.
+#[derive(Clone, Copy)]
+pub(crate) struct ReportOrder<'a> {
+    /// The path of the page file.
+    pub(crate) pages: Option<&'a str>,
+    pub(crate) rate: u32,
+    pub(crate) search: SearchOrder,
+    /// Whether the frames are told too.
+    pub(crate) frames: bool,
+}
+
+fn end_in(found: &ArgMatches<'_>) -> Option<End> {
+    if found.get_flag(IDLE_LAST) {
+        return Some(End::Idle);
+    }
+    match found.get_str(END)? {
+        OPEN_END => Some(End::Open),
+        CLOSED_END => Some(End::Closed),
+        IDLE_END => Some(End::Idle),
+        _ => None,
+    }
+}
+
+fn search_in(found: &ArgMatches<'_>) -> Option<SearchOrder> {
+    let effort = if found.get_flag(ALWAYS) {
+        Effort::Always
+    } else {
+        Effort::Fewest
+    };
+    Some(SearchOrder {
+        expect: found.get_one::<u32>(EXPECT),
+        strict: found.get_flag(STRICT),
+        search: Search {
+            limit: found.get_one::<u32>(LIMIT)?,
+            end: end_in(found)?,
+            effort,
+        },
+    })
+}
+
+/// The order of the words of `plan`; none where a word is not there, which clap has seen to.
+pub(crate) fn plan_order<'a>(found: &ArgMatches<'a>) -> Option<PlanOrder<'a>> {
+    Some(PlanOrder {
+        pages: path_of(found.get_str(PAGES)?),
+        tx: found.get_str(TX)?,
+        cert: found.get_str(CERT)?,
+        search: search_in(found)?,
+        verify: found.get_flag(VERIFY),
+        keep: found.get_flag(KEEP),
+    })
+}
+
+/// The same of `report`.
+pub(crate) fn report_order<'a>(found: &ArgMatches<'a>) -> Option<ReportOrder<'a>> {
+    Some(ReportOrder {
+        pages: path_of(found.get_str(PAGES)?),
+        rate: found.get_one::<u32>(RATE)?,
+        search: search_in(found)?,
+        frames: found.get_flag(EACH_FRAME),
+    })
+}

@@ -1,0 +1,185 @@
+ghost use Rattle.std.specs.Prelude.{◌≡◌, ◌⊎◌, ◌↔◌, ◌++◌, [], ◌∷◌, List, ℕ, Contains, codes, map, IfErr, IfOk, IsErrOf, IsFalse, IsTrue, OnOk};
+ghost use Rattle.std.specs.List.Sorted.{IsNonDecreasingBy};
+ghost use Rattle.pocsag_words.specs.Devices.{HasFailed};
+ghost use Rattle.pocsag_words.specs.Kinds.{kind_of};
+ghost use Rattle.pocsag_pages.specs.Bytes.{Sent};
+ghost use Rattle.pocsag_pages.specs.Pages.{IsRound};
+ghost use Rattle.pocsag_pages.specs.Reading.{EndsAs, EndsIdle};
+ghost use Rattle.pocsag_pages.specs.declared.fault.RoundFault.TheVariants as round_fault;
+ghost use Rattle.pocsag_tree.specs.Views.{bound_tree_of};
+ghost use Rattle.pocsag_shell.specs.declared.fault.FileFault.TheVariants as file_fault;
+ghost use Rattle.pocsag_plan.specs.Plans.{NoneHasFewer};
+ghost use Rattle.pocsag_centre.specs.Refusals.{OrDevice};
+ghost use Rattle.pocsag_centre.specs.Verifying.{AreAmong, ExplainsReadback, ExplainsVerifying, HasRival, IsDueBound, IsTransmissionOf, OrTooLarge, ShowsDue, Verified};
+
+use crate::fault::CentreFault;
+use crate::plan::PlanFiles;
+use crate::round::{certificate_of, read_pages, round_of};
+use pocsag_check::check;
+use pocsag_decode::decode;
+use pocsag_pages::{Page, Round, leading_len, read_whole};
+use pocsag_plan::{Effort, Search};
+use pocsag_shell::tell;
+use pocsag_tree::Certificate;
+use pocsag_words::{BATCH_BYTES, End, INPUT_LIMIT, Sink, Source};
+use std::alloc::Global;
+
+// The bytes of the idle codeword.
+const IDLE_BYTES: [u8; 4] = [0x7A, 0x89, 0xC1, 0x97];
+
+/// Reads the bytes of a transmission and of a certificate back: whether the one holds the pages of the page file and ends as
+/// is asked for, and the other shows its number of batches for them and the end, or, where no round is to be refused, that
+/// number or one less.
+pub fn verify_files(
+    alloc: Global,
+    pages: &[u8],
+    tx: &[u8],
+    cert: &[u8],
+    search: Search,
+) -> Result<(), CentreFault>
+    ensures verified { OnOk result (Verified pages.now search tx.now cert.now) }
+    ensures explained { IfErr result (ExplainsVerifying pages.now search tx.now cert.now) }
+{
+    let round = round_of(alloc, pages)?;
+    let batches = read_back(alloc, tx, &round, search.end)?;
+    let certificate = certificate_of(alloc, cert)?;
+    if !shows_due(&round, &certificate, batches, search) {
+        return Err(CentreFault::NotTheBound);
+    }
+    Ok(())
+}
+
+/// `--verify`: reads a transmission and a certificate back, and tells `verified` where `verify_files` takes them for the page
+/// file.
+pub fn run_verify<P: Source + Drop, T: Source + Drop, C: Source + Drop, O: Sink>(
+    alloc: Global,
+    search: Search,
+    files: &mut PlanFiles<P, T, C>,
+    out: &mut O,
+) -> Result<(), CentreFault>
+    ensures verified { P.tells → T.tells → C.tells → OnOk result
+        (Verified (P.held files.old.pages) search (T.held files.old.tx) (C.held files.old.cert)) }
+    ensures told { O.tells → OnOk result (O.taken out.new ≡ O.taken out.old ++ codes "verified" ++ 10 ∷ []) }
+    ensures explained { P.tells → T.tells → C.tells → IfErr result (OrDevice
+        (OrTooLarge (T.held files.old.tx) (C.held files.old.cert)
+        (ExplainsVerifying (P.held files.old.pages) search (T.held files.old.tx) (C.held files.old.cert)))) }
+
+    // A reader's fault is answered only where that reader failed.
+    ensures read_failed { IsErrOf result (CentreFault.Round round_fault.ReadFault) →
+        HasFailed (P.failures files.old.pages) (P.failures files.new.pages) }
+    ensures device_failed { IsErrOf result (CentreFault.File file_fault.Device) →
+        HasFailed (T.failures files.old.tx) (T.failures files.new.tx)
+        ⊎ HasFailed (C.failures files.old.cert) (C.failures files.new.cert) }
+{
+    let PlanFiles { pages, tx, cert } = files;
+    let pages = read_pages(alloc, pages)?;
+    let tx = read_whole(alloc, tx, INPUT_LIMIT)?;
+    let cert = read_whole(alloc, cert, INPUT_LIMIT)?;
+    verify_files(
+        alloc,
+        pages.as_slice(),
+        tx.as_slice(),
+        cert.as_slice(),
+        search,
+    )?;
+    Ok(tell(out, "verified\n")?)
+}
+
+// Whether a certificate shows for the round and the end the bound that is due beside so many batches.
+fn shows_due(round: &Round, certificate: &Certificate, batches: usize, search: Search) -> bool
+    ensures due { IsTrue result ↔ ShowsDue search round.now batches
+        certificate.now.end certificate.now.batches (bound_tree_of certificate.now.tree) }
+    ensures bound { IsTrue result → NoneHasFewer search.end round.now certificate.now.batches }
+{
+    if certificate.end != search.end {
+        return false;
+    }
+    if !is_due(certificate.batches as usize, batches, search.effort) {
+        return false;
+    }
+    check(round, certificate.batches, &certificate.tree, search.end)
+}
+
+// The batches of a transmission of the round's pages that ends as is asked for.
+fn read_back(alloc: Global, bytes: &[u8], round: &Round, end: End) -> Result<usize, CentreFault>
+    ensures taken { IfOk result (λ batches. IsTransmissionOf end round.now batches bytes.now) }
+    ensures explained { IfErr result (ExplainsReadback end round.now bytes.now) }
+{
+    let mut sent = decode(alloc, bytes)?;
+    sent.sort_unstable_by_key(|page| page.address);
+    if !are_sent(round.pages(), sent.as_slice()) {
+        return Err(CentreFault::NotThePages);
+    }
+    if !ends_as(end, bytes) {
+        return Err(CentreFault::NotTheEnd);
+    }
+    Ok(batches_of(bytes))
+}
+
+// Whether a certificate for the bound is due beside a transmission of so many batches.
+fn is_due(bound: usize, batches: usize, effort: Effort) -> bool
+    ensures { IsTrue result ↔ IsDueBound effort bound batches }
+{
+    match effort {
+        Effort::Fewest => bound == batches,
+        Effort::Always => bound == batches || bound == batches.saturating_sub(1),
+    }
+}
+
+// How many whole batches follow the leading bytes AA.
+fn batches_of(bytes: &[u8]) -> usize
+    ensures { (codewords : List ℕ) → (sent : Sent bytes.now codewords) → result ≡ sent.batches }
+{
+    bytes.len().saturating_sub(leading_len(bytes)) / BATCH_BYTES
+}
+
+// Whether the last codeword of a transmission may be its last: for the closed end it is no message codeword,
+// whose first bit is 1, and for the idle end it is the idle one.
+fn ends_as(end: End, bytes: &[u8]) -> bool
+    ensures { (codewords : List ℕ) → Sent bytes.now codewords →
+        IsTrue result ↔ EndsAs end (map kind_of codewords) }
+{
+    match end {
+        End::Open => true,
+        End::Closed => bytes.len() >= 4 && bytes[bytes.len() - 4] < 128,
+        End::Idle => is_idle_last(bytes),
+    }
+}
+
+// Whether the last word of a transmission is the idle codeword.
+fn is_idle_last(bytes: &[u8]) -> bool
+    ensures { (codewords : List ℕ) → Sent bytes.now codewords → IsTrue result ↔ EndsIdle (map kind_of codewords) }
+{
+    let from = bytes.len().saturating_sub(4);
+    &bytes[from..] == IDLE_BYTES.as_slice()
+}
+
+// Whether the pages of a round are as many as those that were sent, and each is among these, which are in order of
+// their addresses.
+fn are_sent(pages: &[Page], sent: &[Page]) -> bool
+    requires round { IsRound pages.now }
+    requires order { IsNonDecreasingBy (λ page. page.address) sent.now }
+    ensures { IsTrue result ↔ AreAmong sent.now pages.now }
+{
+    if pages.len() != sent.len() {
+        return false;
+    }
+    for page in pages {
+        if !is_sent(page, sent) {
+            return false;
+        }
+    }
+    true
+}
+
+// Whether the page is among pages that are in order of their addresses, where no other with its address is.
+fn is_sent(page: &Page, sent: &[Page]) -> bool
+    requires order { IsNonDecreasingBy (λ page. page.address) sent.now }
+    ensures yes { IsTrue result → Contains sent.now page.now }
+    ensures no { IsFalse result → (¬ Contains sent.now page.now) ⊎ HasRival sent.now page.now }
+{
+    match sent.binary_search_by_key(&page.address, |other| other.address) {
+        Ok(place) => sent[place] == *page,
+        Err(_) => false,
+    }
+}

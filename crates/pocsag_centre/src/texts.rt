@@ -1,0 +1,58 @@
+//! What help says of the commands.
+
+pub(crate) const PLAN_MANUAL: &str = "\
+The page file is CSV with the header address,kind,message. The command first
+reads it, then makes TX and CERT or empties them: after a refusal they are
+empty, unless --keep is given. '-' as PAGES is standard input, and as TX or
+CERT standard output: the lines then go to standard error. The command refuses
+a file that stands behind standard output or standard error. It refuses a round
+whose search reaches the limit. With --always it answers every round: nearly
+always with the fewest batches, and otherwise with one more than the
+certificate shows to be needed. A third line, 'at least N batches', then gives
+that bound.
+
+Example:
+  pocsag plan pages.csv tx.bin cert.bin --strict --always --verify --keep";
+
+pub(crate) const LIMIT_HELP: &str = "\
+How many nodes the search may examine, 1 to 1000000.
+The first look, of up to 20000 of a first kind, does
+not count";
+
+pub(crate) const END_HELP: &str = "\
+What ends the last message: the end of the transmission
+(open), an idle or an address codeword behind it
+(closed), or an idle codeword, the last of all
+(idle)";
+
+pub(crate) const IDLE_LAST_HELP: &str = "\
+The same as --end idle: some receivers show a page only
+when another codeword than a message follows it";
+
+pub(crate) const EXPECT_HELP: &str = "\
+How many pages the round must have. The command refuses
+a round of another number and writes nothing";
+
+pub(crate) const STRICT_HELP: &str = "\
+Refuses a page file with a quote that is not closed or
+stands inside a field, before it writes anything";
+
+// What refuses --strict in front of a command.
+pub(crate) const EARLY_STRICT: &str =
+    "--strict stands behind the name of its command, plan or report";
+
+pub(crate) const FRAMES_HELP: &str = "\
+Adds a line for each frame: its pages, their codewords,
+and the idles in its two slots, the least room first";
+
+pub(crate) const VERIFY_HELP: &str = "Reads TX and CERT back and compares them with the page file";
+
+pub(crate) const RATE_HELP: &str = "Bits a second: 512, 1200 or 2400";
+
+pub(crate) const PLAN_ABOUT: &str =
+    "Writes a page file's transmission and the certificate of its bound";
+
+pub(crate) const CHECK_ABOUT: &str =
+    "Says whether a certificate shows that fewer batches do not suffice";
+
+pub(crate) const REPORT_ABOUT: &str = "Reports what the plan of a page file takes on the air";

@@ -1,0 +1,142 @@
+//! The words of the commands, as tables.
+
+use crate::texts::{
+    CHECK_ABOUT, END_HELP, EXPECT_HELP, FRAMES_HELP, IDLE_LAST_HELP, LIMIT_HELP, PLAN_ABOUT,
+    PLAN_MANUAL, RATE_HELP, REPORT_ABOUT, STRICT_HELP, VERIFY_HELP,
+};
+use pocsag_shell::{
+    ALWAYS_FLAG, CERT_PLACE, Content, FLAG, Given, KEEP_FLAG, LineWord, PAGES_PLACE, PLACE, Shape,
+    TX_PLACE,
+};
+
+// The commands.
+pub(crate) const PLAN: &str = "plan";
+
+pub(crate) const CHECK: &str = "check";
+
+pub(crate) const REPORT: &str = "report";
+
+// Their words.
+pub(crate) const RATE: &str = "rate";
+
+pub(crate) const LIMIT: &str = "limit";
+
+pub(crate) const END: &str = "end";
+
+pub(crate) const IDLE_LAST: &str = "idle-last";
+
+pub(crate) const VERIFY: &str = "verify";
+
+pub(crate) const EXPECT: &str = "expect";
+
+pub(crate) const STRICT: &str = "strict";
+
+pub(crate) const EACH_FRAME: &str = "frames";
+
+// The names of the ends.
+pub(crate) const OPEN_END: &str = "open";
+
+pub(crate) const CLOSED_END: &str = "closed";
+
+pub(crate) const IDLE_END: &str = "idle";
+
+const RATE_OPTION: LineWord = LineWord {
+    id: RATE,
+    help: RATE_HELP,
+    given: Given::Option("R", &[]),
+    content: Content::Number,
+    ..PLACE
+};
+
+const LIMIT_OPTION: LineWord = LineWord {
+    id: LIMIT,
+    help: LIMIT_HELP,
+    given: Given::Option("N", &["100000"]),
+    content: Content::Number,
+    ..FLAG
+};
+
+const END_OPTION: LineWord = LineWord {
+    id: END,
+    help: END_HELP,
+    given: Given::Option("END", &[OPEN_END]),
+    content: Content::Choice(&[OPEN_END, CLOSED_END, IDLE_END]),
+    ..FLAG
+};
+
+const IDLE_LAST_FLAG: LineWord = LineWord {
+    id: IDLE_LAST,
+    help: IDLE_LAST_HELP,
+    excludes: &[END],
+    ..FLAG
+};
+
+const EXPECT_OPTION: LineWord = LineWord {
+    id: EXPECT,
+    help: EXPECT_HELP,
+    given: Given::Option("N", &[]),
+    content: Content::Number,
+    ..FLAG
+};
+
+pub(crate) const STRICT_FLAG: LineWord = LineWord {
+    id: STRICT,
+    help: STRICT_HELP,
+    ..FLAG
+};
+
+const VERIFY_FLAG: LineWord = LineWord {
+    id: VERIFY,
+    help: VERIFY_HELP,
+    ..FLAG
+};
+
+const EACH_FRAME_FLAG: LineWord = LineWord {
+    id: EACH_FRAME,
+    help: FRAMES_HELP,
+    ..FLAG
+};
+
+// The commands in the order of help.
+pub(crate) const COMMANDS: &[Shape] = &[
+    Shape {
+        name: PLAN,
+        about: PLAN_ABOUT,
+        manual: Some(PLAN_MANUAL),
+        words: &[
+            PAGES_PLACE,
+            TX_PLACE,
+            CERT_PLACE,
+            LIMIT_OPTION,
+            END_OPTION,
+            IDLE_LAST_FLAG,
+            EXPECT_OPTION,
+            STRICT_FLAG,
+            ALWAYS_FLAG,
+            VERIFY_FLAG,
+            KEEP_FLAG,
+        ],
+    },
+    Shape {
+        name: CHECK,
+        about: CHECK_ABOUT,
+        manual: None,
+        words: &[PAGES_PLACE, CERT_PLACE],
+    },
+    Shape {
+        name: REPORT,
+        about: REPORT_ABOUT,
+        manual: None,
+        words: &[
+            PAGES_PLACE,
+            RATE_OPTION,
+            LIMIT_OPTION,
+            END_OPTION,
+            IDLE_LAST_FLAG,
+            EXPECT_OPTION,
+            STRICT_FLAG,
+            ALWAYS_FLAG,
+            EACH_FRAME_FLAG,
+        ],
+    },
+];

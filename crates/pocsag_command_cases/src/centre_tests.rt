@@ -1,0 +1,612 @@
+//! The commands of a paging centre over memory: what each tells, what it leaves, and its exit status.
+
+use pocsag_centre::{
+    CentreFault, DEFAULT_LIMIT, PlanFiles, check_file, expected_file, frames_file, plan_file,
+    report_file, run_check, run_frames, run_input, run_plan, run_report, run_verify, strict_file,
+    verify_files,
+};
+use pocsag_pages::{FieldFault, RecordFault, RoundFault};
+use pocsag_plan::{Effort, Search};
+use pocsag_quotes::QuoteFault;
+use pocsag_shell::{Failure, tell_fault};
+use pocsag_words::{End, MemorySink, MemorySource};
+use std::alloc::Global;
+use std::test::Fail;
+
+const LONE_TONE: &[u8] = b"address,kind,message\n8,tone0,\n";
+
+const OTHER_TONE: &[u8] = b"address,kind,message\n16,tone0,\n";
+
+const BAD_FILE: &[u8] = b"address,kind,message\n7,numeric,12a\n";
+
+// The worked example `loops-apart`: fewer than three batches are refuted by the third node of the search.
+const LOOPS_APART: &[u8] = b"address,kind,message\n\
+    0,numeric,111111111111111111111111111111111111111111111111111111111111111111111111111\n\
+    3,numeric,111111111111111111111111111111111111111111111111111111111111111111111111111";
+
+// The worked example `one-full-batch`: its message goes on to the end of the transmission.
+const ONE_FULL_BATCH: &[u8] = b"address,kind,message\n\
+    0,numeric,111111111111111111111111111111111111111111111111111111111111111111111111111";
+
+// A tone for each slot of a batch.
+const SIXTEEN_TONES: &[u8] = b"address,kind,message\n\
+    0,tone0,\n1,tone0,\n2,tone0,\n3,tone0,\n4,tone0,\n5,tone0,\n6,tone0,\n7,tone0,\n\
+    8,tone0,\n9,tone0,\n10,tone0,\n11,tone0,\n12,tone0,\n13,tone0,\n14,tone0,\n15,tone0,\n";
+
+const OPEN: Search = Search {
+    limit: DEFAULT_LIMIT,
+    end: End::Open,
+    effort: Effort::Fewest,
+};
+
+const CLOSED: Search = Search {
+    limit: DEFAULT_LIMIT,
+    end: End::Closed,
+    effort: Effort::Fewest,
+};
+
+const IDLE_LAST: Search = Search {
+    limit: DEFAULT_LIMIT,
+    end: End::Idle,
+    effort: Effort::Fewest,
+};
+
+const OPEN_ALWAYS: Search = Search {
+    effort: Effort::Always,
+    ..OPEN
+};
+
+const CLOSED_ALWAYS: Search = Search {
+    effort: Effort::Always,
+    ..CLOSED
+};
+
+const fn open_to(limit: u32, effort: Effort) -> Search {
+    Search {
+        limit,
+        end: End::Open,
+        effort,
+    }
+}
+
+// What a command answered and told.
+#[derive(Drop)]
+struct Told {
+    status: u8,
+    out: MemorySink<500>,
+    err: MemorySink<100>,
+}
+
+// The same of a plan, and what its two files took.
+#[derive(Drop)]
+struct Planned {
+    told: Told,
+    tx: MemorySink<300>,
+    cert: MemorySink<100>,
+}
+
+// After how many bytes the page file and the two outputs fail.
+#[derive(Clone, Copy)]
+struct Faults {
+    pages: u64,
+    tx: u64,
+    cert: u64,
+}
+
+const SOUND: Faults = Faults {
+    pages: 1000,
+    tx: 1000,
+    cert: 1000,
+};
+
+fn plan(alloc: Global, search: Search, file: &[u8], faults: Faults) -> Planned {
+    let mut files = PlanFiles {
+        pages: MemorySource::new(file, 4, faults.pages),
+        tx: MemorySink::<300>::new(9, faults.tx),
+        cert: MemorySink::<100>::new(3, faults.cert),
+    };
+    let mut out = MemorySink::<500>::new(1, 1000);
+    let mut err = MemorySink::<100>::new(1, 1000);
+    let done = run_plan(alloc, search, &mut files, &mut out);
+    let status = status_of(done.map(|()| 0), &mut err);
+    Planned {
+        told: Told { status, out, err },
+        tx: files.tx,
+        cert: files.cert,
+    }
+}
+
+// The exit status of a command.
+fn status_of(done: Result<u8, CentreFault>, err: &mut MemorySink<100>) -> u8 {
+    match done {
+        Ok(status) => status,
+        Err(fault) => tell_fault(err, fault),
+    }
+}
+
+// A plan that is asked for, what it tells, the length of its transmission, and the last byte of the number in
+// its certificate.
+#[derive(Clone, Copy)]
+struct PlanCase {
+    file: &'static [u8],
+    search: Search,
+    faults: Faults,
+    status: u8,
+    out: &'static str,
+    err: &'static str,
+    sent: usize,
+    bound: Option<u8>,
+}
+
+const LONE_PLAN: PlanCase = PlanCase {
+    file: LONE_TONE,
+    search: OPEN,
+    faults: SOUND,
+    status: 0,
+    out: "pages 1\nbatches 1\n",
+    err: "",
+    sent: 140,
+    bound: Some(1),
+};
+
+// The worked example at a limit, answered in any case.
+const fn apart_plan(limit: u32, out: &'static str, bound: u8) -> PlanCase {
+    PlanCase {
+        file: LOOPS_APART,
+        search: open_to(limit, Effort::Always),
+        faults: SOUND,
+        status: 0,
+        out,
+        err: "",
+        sent: 72 + 3 * 68,
+        bound: Some(bound),
+    }
+}
+
+const fn refused_plan(
+    search: Search,
+    faults: Faults,
+    status: u8,
+    err: &'static str,
+    sent: usize,
+) -> PlanCase {
+    PlanCase {
+        file: LONE_TONE,
+        search,
+        faults,
+        status,
+        out: "",
+        err,
+        sent,
+        bound: None,
+    }
+}
+
+#[test]
+fn plans_are_told(rt: HostRuntime) -> Result<(), Fail> {
+    let no_page = Faults { pages: 10, ..SOUND };
+    let cut_sending = Faults { tx: 100, ..SOUND };
+    let cut_certificate = Faults { cert: 5, ..SOUND };
+    let bad_limit = "pocsag: the limit must be 1 to 1000000\n";
+    let no_read = "pocsag: cannot read or open a file\n";
+    let no_write = "pocsag: cannot write\n";
+    let cases = [
+        LONE_PLAN,
+        PlanCase {
+            search: CLOSED,
+            ..LONE_PLAN
+        },
+        apart_plan(1, "pages 2\nbatches 3\nat least 2 batches\n", 2),
+        apart_plan(3, "pages 2\nbatches 3\n", 3),
+        refused_plan(open_to(0, Effort::Fewest), SOUND, 1, bad_limit, 0),
+        refused_plan(open_to(9, Effort::Fewest), no_page, 3, no_read, 0),
+        refused_plan(open_to(9, Effort::Fewest), cut_sending, 3, no_write, 100),
+        refused_plan(
+            open_to(9, Effort::Fewest),
+            cut_certificate,
+            3,
+            no_write,
+            140,
+        ),
+    ];
+    for case in cases {
+        let planned = plan(rt.alloc(), case.search, case.file, case.faults);
+        assert_eq!(rt; planned.told.status, case.status);
+        assert_eq!(rt; planned.told.out.bytes(), case.out.as_bytes());
+        assert_eq!(rt; planned.told.err.bytes(), case.err.as_bytes());
+        assert_eq!(rt; planned.tx.bytes().len(), case.sent);
+        assert_eq!(rt; planned.cert.bytes().get(8).copied(), case.bound);
+    }
+    Ok(())
+}
+
+// A command that reads files, and what its words ask for.
+#[derive(Clone, Copy)]
+enum Command {
+    Input,
+    Check,
+    Verify(Search),
+    // The rate first.
+    Report(u32, Search),
+    Frames(u32, Search),
+}
+
+// Runs a command on the page file and on what was planned.
+fn run(alloc: Global, command: Command, file: &[u8], planned: &Planned) -> Told {
+    let mut pages = MemorySource::new(file, 4, 1000);
+    let tx = MemorySource::new(planned.tx.bytes(), 4, 1000);
+    let mut cert = MemorySource::new(planned.cert.bytes(), 4, 1000);
+    let mut out = MemorySink::<500>::new(1, 1000);
+    let mut err = MemorySink::<100>::new(1, 1000);
+    let done = match command {
+        Command::Input => run_input(alloc, &mut pages, &mut out).map(|()| 0),
+        Command::Check => run_check(alloc, &mut pages, &mut cert, &mut out).map(|shown| if shown {
+            0
+        } else {
+            1
+        }),
+        Command::Verify(search) => {
+            let mut files = PlanFiles { pages, tx, cert };
+            run_verify(alloc, search, &mut files, &mut out).map(|()| 0)
+        }
+        Command::Report(rate, search) => {
+            run_report(alloc, rate, search, &mut pages, &mut out).map(|()| 0)
+        }
+        Command::Frames(rate, search) => {
+            run_frames(alloc, rate, search, &mut pages, &mut out).map(|()| 0)
+        }
+    };
+    let status = status_of(done, &mut err);
+    Told { status, out, err }
+}
+
+const LONE_REPORT: &str =
+    "pages 1\ncodewords 1\nin_order 1\nbatches 1\nidles 15\nbits 1120\nairtime_ms 934\n";
+
+// The one page stands in frame 0, whose other slot is idle.
+const LONE_FRAMES: &str =
+    "pages 1\ncodewords 1\nin_order 1\nbatches 1\nidles 15\nbits 1120\nairtime_ms 934\n\
+    frame 0 pages 1 codewords 1 room 1\n\
+    frame 1 pages 0 codewords 0 room 2\n\
+    frame 2 pages 0 codewords 0 room 2\n\
+    frame 3 pages 0 codewords 0 room 2\n\
+    frame 4 pages 0 codewords 0 room 2\n\
+    frame 5 pages 0 codewords 0 room 2\n\
+    frame 6 pages 0 codewords 0 room 2\n\
+    frame 7 pages 0 codewords 0 room 2\n";
+
+const APART_REPORT: &str =
+    "pages 2\ncodewords 32\nin_order 3\nbatches 3\nidles 16\nbits 2208\nairtime_ms 1840\n";
+
+const APART_REPORT_BELOW: &str =
+    "pages 2\ncodewords 32\nin_order 3\nbatches 3\nidles 16\nbits 2208\nairtime_ms 1840\nat least 2 batches\n";
+
+const NOT_THE_PAGES: &str = "pocsag: the transmission does not hold the pages of the page file\n";
+
+const NOT_THE_END: &str = "pocsag: the transmission does not end as was asked for\n";
+
+const NOT_THE_BOUND: &str =
+    "pocsag: the certificate does not show the batches of the transmission\n";
+
+const BAD_CHARACTER: &str = "pocsag: record 1: bad character at 2\n";
+
+const BAD_RATE: &str = "pocsag: the rate must be 512, 1200 or 2400\n";
+
+// A round is planned, and a command reads what was written: the plan's page file and search, the page file of
+// the command, the command, its status, and what it tells.
+type ReadCase = (
+    &'static [u8],
+    Search,
+    &'static [u8],
+    Command,
+    u8,
+    &'static str,
+    &'static str,
+);
+
+#[test]
+fn what_was_planned_is_read(rt: HostRuntime) -> Result<(), Fail> {
+    let alloc = rt.alloc();
+    let (to_one, to_three) = (open_to(1, Effort::Always), open_to(3, Effort::Always));
+    let cases: [ReadCase; 25] = [
+        (
+            ONE_FULL_BATCH,
+            OPEN,
+            ONE_FULL_BATCH,
+            Command::Verify(CLOSED),
+            1,
+            "",
+            NOT_THE_END,
+        ),
+        (
+            LONE_TONE,
+            OPEN,
+            LONE_TONE,
+            Command::Input,
+            0,
+            "pages 1\nbatches 1\n",
+            "",
+        ),
+        (
+            LONE_TONE,
+            OPEN,
+            BAD_FILE,
+            Command::Input,
+            1,
+            "",
+            BAD_CHARACTER,
+        ),
+        (
+            LONE_TONE,
+            OPEN,
+            LONE_TONE,
+            Command::Check,
+            0,
+            "at least 1 batches\n",
+            "",
+        ),
+        (
+            LONE_TONE,
+            CLOSED,
+            LONE_TONE,
+            Command::Check,
+            0,
+            "at least 1 batches with a closed end\n",
+            "",
+        ),
+        (
+            LONE_TONE,
+            IDLE_LAST,
+            LONE_TONE,
+            Command::Check,
+            0,
+            "at least 1 batches with an idle last\n",
+            "",
+        ),
+        (
+            SIXTEEN_TONES,
+            IDLE_LAST,
+            SIXTEEN_TONES,
+            Command::Verify(IDLE_LAST),
+            0,
+            "verified\n",
+            "",
+        ),
+        (
+            SIXTEEN_TONES,
+            CLOSED,
+            SIXTEEN_TONES,
+            Command::Verify(IDLE_LAST),
+            1,
+            "",
+            NOT_THE_END,
+        ),
+        (
+            LONE_TONE,
+            CLOSED,
+            LONE_TONE,
+            Command::Verify(IDLE_LAST),
+            1,
+            "",
+            NOT_THE_BOUND,
+        ),
+        (
+            LONE_TONE,
+            OPEN,
+            LONE_TONE,
+            Command::Report(1200, CLOSED),
+            0,
+            LONE_REPORT,
+            "",
+        ),
+        (
+            LONE_TONE,
+            OPEN,
+            LONE_TONE,
+            Command::Report(1201, OPEN),
+            1,
+            "",
+            BAD_RATE,
+        ),
+        (
+            LONE_TONE,
+            OPEN,
+            LONE_TONE,
+            Command::Frames(1200, OPEN),
+            0,
+            LONE_FRAMES,
+            "",
+        ),
+        (
+            LONE_TONE,
+            OPEN,
+            LONE_TONE,
+            Command::Frames(1201, OPEN),
+            1,
+            "",
+            BAD_RATE,
+        ),
+        // A lone tone stands in one batch, so three are not shown.
+        (
+            LOOPS_APART,
+            to_three,
+            LONE_TONE,
+            Command::Check,
+            1,
+            "not shown\n",
+            "",
+        ),
+        (
+            LOOPS_APART,
+            to_one,
+            LOOPS_APART,
+            Command::Report(1200, to_one),
+            0,
+            APART_REPORT_BELOW,
+            "",
+        ),
+        (
+            LOOPS_APART,
+            to_three,
+            LOOPS_APART,
+            Command::Report(1200, to_three),
+            0,
+            APART_REPORT,
+            "",
+        ),
+        (
+            LONE_TONE,
+            OPEN,
+            LONE_TONE,
+            Command::Verify(OPEN),
+            0,
+            "verified\n",
+            "",
+        ),
+        (
+            LONE_TONE,
+            OPEN,
+            OTHER_TONE,
+            Command::Verify(OPEN),
+            1,
+            "",
+            NOT_THE_PAGES,
+        ),
+        // A certificate for one end is none for the other.
+        (
+            LONE_TONE,
+            CLOSED,
+            LONE_TONE,
+            Command::Verify(CLOSED),
+            0,
+            "verified\n",
+            "",
+        ),
+        (
+            LONE_TONE,
+            CLOSED,
+            LONE_TONE,
+            Command::Verify(OPEN),
+            1,
+            "",
+            NOT_THE_BOUND,
+        ),
+        (
+            LONE_TONE,
+            OPEN,
+            LONE_TONE,
+            Command::Verify(CLOSED_ALWAYS),
+            1,
+            "",
+            NOT_THE_BOUND,
+        ),
+        // With `--always` alone may the certificate be for one batch less than those that were sent.
+        (
+            LOOPS_APART,
+            to_one,
+            LOOPS_APART,
+            Command::Verify(OPEN),
+            1,
+            "",
+            NOT_THE_BOUND,
+        ),
+        (
+            LOOPS_APART,
+            to_one,
+            LOOPS_APART,
+            Command::Verify(OPEN_ALWAYS),
+            0,
+            "verified\n",
+            "",
+        ),
+        (
+            LOOPS_APART,
+            to_three,
+            LOOPS_APART,
+            Command::Verify(OPEN),
+            0,
+            "verified\n",
+            "",
+        ),
+        (
+            LOOPS_APART,
+            to_three,
+            LOOPS_APART,
+            Command::Verify(OPEN_ALWAYS),
+            0,
+            "verified\n",
+            "",
+        ),
+    ];
+    for (file, search, read, command, status, out, err) in cases {
+        let planned = plan(alloc, search, file, SOUND);
+        assert_eq!(rt; planned.told.status, 0);
+        let told = run(alloc, command, read, &planned);
+        assert_eq!(rt; told.status, status);
+        assert_eq!(rt; told.out.bytes(), out.as_bytes());
+        assert_eq!(rt; told.err.bytes(), err.as_bytes());
+    }
+    Ok(())
+}
+
+// A round, how it is planned, how many bytes its transmission has, and its batches and their bound.
+type BytesCase = (&'static [u8], Search, usize, u32, u32);
+
+// What the commands do of bytes: the same plans, and each is taken by what reads it.
+#[test]
+fn files_are_planned_as_bytes(rt: HostRuntime) -> Result<(), Fail> {
+    let alloc = rt.alloc();
+    let cases: [BytesCase; 4] = [
+        (LONE_TONE, OPEN, 72 + 68, 1, 1),
+        (SIXTEEN_TONES, CLOSED, 72 + 68, 1, 1),
+        // An idle codeword behind sixteen others needs a second batch.
+        (SIXTEEN_TONES, IDLE_LAST, 72 + 2 * 68, 2, 2),
+        (LOOPS_APART, open_to(1, Effort::Always), 72 + 3 * 68, 3, 2),
+    ];
+    for (file, search, sent, batches, bound) in cases {
+        let planned = plan(alloc, search, file, SOUND);
+        let written = plan_file(alloc, file, search).expect(&rt, "a plan");
+        let (tx, cert) = (written.sent.as_slice(), written.certificate.as_slice());
+        assert_eq!(rt; tx.len(), sent);
+        assert_eq!(rt; written.bounded.plan.batches, batches);
+        assert_eq!(rt; written.bounded.bound, bound);
+        assert_eq!(rt; planned.tx.bytes(), tx);
+        assert_eq!(rt; planned.cert.bytes(), cert);
+        let judged = check_file(alloc, file, cert).expect(&rt, "a certificate");
+        assert_eq!(rt;
+            (judged.end, judged.batches, judged.is_shown),
+            (search.end, bound, true)
+        );
+        assert_eq!(rt; verify_files(alloc, file, tx, cert, search), Ok(()));
+        let reported = report_file(alloc, file, 1200, search).expect(&rt, "a report");
+        assert_eq!(rt; (reported.report.batches, reported.bound), (batches, bound));
+        let framed = frames_file(alloc, file, 1200, search).expect(&rt, "frames");
+        assert_eq!(rt; (framed.report.batches, framed.bound), (batches, bound));
+        assert_eq!(rt; framed.rooms.len(), 8);
+    }
+    Ok(())
+}
+
+// What `--strict` and `--expect` refuse.
+#[test]
+fn page_files_are_refused(rt: HostRuntime) -> Result<(), Fail> {
+    let alloc = rt.alloc();
+    let unclosed = b"address,kind,message\n8,alpha,\"one\n9,tone0,\n".as_slice();
+    let unclosed_quote = CentreFault::Quotes(QuoteFault::Unclosed { number: 1, line: 2 });
+    let bad_character = CentreFault::Round(RoundFault::Record(
+        1,
+        RecordFault::Field(FieldFault::BadCharacter(2)),
+    ));
+    assert_eq!(rt; strict_file(LONE_TONE), Ok(()));
+    assert_eq!(rt; strict_file(unclosed), Err(unclosed_quote));
+    let cases = [
+        (LONE_TONE, 1, Ok(())),
+        (LONE_TONE, 3, Err(CentreFault::Unexpected(1, 3))),
+        (SIXTEEN_TONES, 16, Ok(())),
+        (BAD_FILE, 1, Err(bad_character)),
+    ];
+    for (file, expected, due) in cases {
+        assert_eq!(rt; expected_file(alloc, file, expected), due);
+    }
+    Ok(())
+}

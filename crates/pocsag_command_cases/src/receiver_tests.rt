@@ -1,0 +1,226 @@
+//! The commands for transmissions and `explain`, over memory: what each tells, and its exit status.
+
+use pocsag_centre::{DEFAULT_LIMIT, plan_file};
+use pocsag_decode::Repaired;
+use pocsag_explain::run_explain;
+use pocsag_plan::{Effort, Search};
+use pocsag_receiver::{run_decode, run_hear, run_show};
+use pocsag_shell::{Failure, tell_fault};
+use pocsag_show::{Rows, View};
+use pocsag_wording::Telling;
+use pocsag_words::{End, MemorySink, MemorySource};
+use std::alloc::Global;
+use std::process::Abort;
+use std::test::Fail;
+
+const LONE_TONE: &[u8] = b"address,kind,message\n8,tone0,\n";
+
+const LISTED: &str = "address,kind,message\n8,tone0,\n";
+
+const NONE_HEARD: &str = "address,kind,message\n";
+
+const PLACES: &str = "batch,frame,slot,codewords,address,kind,message\n1,0,0,1,8,tone0,\n";
+
+const GRID: &str = "\
+batches 1, codewords 1, idles 15 (94%), airtime 2188 ms at 512 bit/s, 934 ms at 1200 bit/s, 467 ms at 2400 bit/s
+       0  1  2  3  4  5  6  7
+  1   A. .. .. .. .. .. .. ..
+";
+
+const EXPLAINED: &str = "\
+at least 1 batch, open end: 1 page, 1 codeword, room for 0 in 0 batches
+node 1: all slots: 1 codeword, room for 0
+so 0 batches do not suffice
+";
+
+const OPEN: Search = Search {
+    limit: DEFAULT_LIMIT,
+    end: End::Open,
+    effort: Effort::Fewest,
+};
+
+// A command, and what its words ask for.
+#[derive(Clone, Copy)]
+enum Command {
+    Decode { repair: bool },
+    Hear(u32),
+    Show { view: View, repair: bool },
+    Explain,
+}
+
+// What is wrong with the files: what is flipped in the last bytes of the first three words behind the preamble, the length
+// that the transmission is cut to, and after how many bytes its reader and standard output fail.
+#[derive(Clone, Copy)]
+struct Faults {
+    flipped: [u8; 3],
+    len: usize,
+    tx: u64,
+    out: u64,
+}
+
+const SOUND: Faults = Faults {
+    flipped: [0, 0, 0],
+    len: 1000,
+    tx: 1000,
+    out: 1000,
+};
+
+// What a command told.
+#[derive(Drop)]
+struct Told {
+    status: u8,
+    out: MemorySink<400>,
+    err: MemorySink<100>,
+}
+
+// The exit status of a command.
+fn status_of<T: Drop, F: Failure>(done: Result<T, F>, err: &mut MemorySink<100>) -> u8 {
+    match done {
+        Ok(answer) => {
+            drop(answer);
+            0
+        }
+        Err(fault) => tell_fault(err, fault),
+    }
+}
+
+// The bytes with what is wrong with them.
+fn spoiled(alloc: Global, sent: &[u8], faults: Faults) -> Result<Vec<u8>, Fail> {
+    let mut bytes = Vec::from_slice(alloc, &sent[..faults.len.min(sent.len())])?;
+    for (place, flipped) in faults.flipped.iter().enumerate() {
+        if let Some(byte) = bytes.get_mut(75 + 4 * place) {
+            *byte ^= *flipped;
+        }
+    }
+    Ok(bytes)
+}
+
+// Runs a command on the plan of a lone tone.
+fn run(rt: &impl Abort, alloc: Global, command: Command, faults: Faults) -> Result<Told, Fail> {
+    let written = plan_file(alloc, LONE_TONE, OPEN).expect(rt, "a plan");
+    let bytes = spoiled(alloc, written.sent.as_slice(), faults)?;
+    let mut tx = MemorySource::new(bytes.as_slice(), 4, faults.tx);
+    let mut out = MemorySink::<400>::new(7, faults.out);
+    let mut err = MemorySink::<100>::new(1, 1000);
+    let status = match command {
+        Command::Decode { repair } => status_of(
+            run_decode(alloc, repair, &mut tx, &mut out),
+            &mut err,
+        ),
+        Command::Hear(address) => status_of(run_hear(alloc, address, &mut tx, &mut out), &mut err),
+        Command::Show { view, repair } => {
+            status_of(run_show(alloc, view, repair, &mut tx, &mut out), &mut err)
+        }
+        Command::Explain => {
+            let mut pages = MemorySource::new(LONE_TONE, 4, 1000);
+            let mut cert = MemorySource::new(written.certificate.as_slice(), 4, faults.tx);
+            let done = run_explain(alloc, Telling::Lines(3), &mut pages, &mut cert, &mut out);
+            status_of(done, &mut err)
+        }
+    };
+    Ok(Told { status, out, err })
+}
+
+const DECODE: Command = Command::Decode { repair: false };
+
+const DECODE_REPAIRED: Command = Command::Decode { repair: true };
+
+const SHOW_REPAIRED: Command = Command::Show {
+    view: View::Places,
+    repair: true,
+};
+
+// A command, what is wrong, its status, and what it tells.
+type Case = (Command, Faults, u8, &'static str, &'static str);
+
+#[test]
+fn transmissions_are_read(rt: HostRuntime) -> Result<(), Fail> {
+    let grid = Command::Show {
+        view: View::Grid(Rows::all()),
+        repair: false,
+    };
+    let behind = Command::Show {
+        view: View::Grid(Rows::new(3, 7).expect(&rt, "rows")),
+        repair: false,
+    };
+    let flipped = Faults {
+        flipped: [1, 0, 3],
+        ..SOUND
+    };
+    let cut = Faults { len: 139, ..SOUND };
+    let unread = Faults { tx: 20, ..SOUND };
+    let unwritten = Faults { out: 5, ..SOUND };
+    let no_sync = "pocsag: batch 0: no synchronisation codeword\n";
+    let cases: [Case; 15] = [
+        (DECODE, SOUND, 0, LISTED, ""),
+        (DECODE, flipped, 1, "", no_sync),
+        (
+            DECODE,
+            cut,
+            1,
+            "",
+            "pocsag: the transmission is cut short\n",
+        ),
+        (
+            DECODE,
+            unread,
+            3,
+            "",
+            "pocsag: cannot read or open a file\n",
+        ),
+        (DECODE, unwritten, 3, "addre", "pocsag: cannot write\n"),
+        (DECODE_REPAIRED, flipped, 0, LISTED, ""),
+        (Command::Hear(8), flipped, 0, LISTED, ""),
+        (Command::Hear(9), SOUND, 0, NONE_HEARD, ""),
+        (
+            Command::Hear(2_097_152),
+            SOUND,
+            1,
+            "",
+            "pocsag: bad address\n",
+        ),
+        (grid, SOUND, 0, GRID, ""),
+        (grid, flipped, 1, "", no_sync),
+        (SHOW_REPAIRED, flipped, 0, PLACES, ""),
+        (
+            behind,
+            SOUND,
+            1,
+            "",
+            "pocsag: rows 3-7: the transmission has 1 batch\n",
+        ),
+        (Command::Explain, SOUND, 0, EXPLAINED, ""),
+        (
+            Command::Explain,
+            unwritten,
+            3,
+            "at le",
+            "pocsag: cannot write\n",
+        ),
+    ];
+    for (command, faults, status, out, err) in cases {
+        let told = run(&rt, rt.alloc(), command, faults)?;
+        assert_eq!(rt; told.status, status);
+        assert_eq!(rt; told.out.bytes(), out.as_bytes());
+        assert_eq!(rt; told.err.bytes(), err.as_bytes());
+    }
+    Ok(())
+}
+
+#[test]
+fn repairs_are_counted(rt: HostRuntime) -> Result<(), Fail> {
+    let written = plan_file(rt.alloc(), LONE_TONE, OPEN).expect(&rt, "a plan");
+    let cases = [([0, 0, 0], 0, 0), ([1, 0, 0], 1, 1), ([1, 0, 3], 2, 3)];
+    for (flipped, words, bits) in cases {
+        let bytes = spoiled(
+            rt.alloc(),
+            written.sent.as_slice(),
+            Faults { flipped, ..SOUND },
+        )?;
+        let mut tx = MemorySource::new(bytes.as_slice(), 4, 1000);
+        let mut out = MemorySink::<400>::new(7, 1000);
+        let corrected = run_decode(rt.alloc(), true, &mut tx, &mut out).expect(&rt, "its pages");
+        assert_eq!(rt; corrected, Repaired { words, bits });
+    }
+    Ok(())
+}

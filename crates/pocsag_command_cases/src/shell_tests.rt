@@ -1,0 +1,72 @@
+//! What the commands share, over memory: what names a file, and how a line is told.
+
+use pocsag_shell::{FileFault, NamedFile, Names, Role, tell, tell_fault};
+use pocsag_words::MemorySink;
+use std::test::Fail;
+
+// A file of a command, and how it is named.
+const NAMED: [(Role, &str); 6] = [
+    (Role::PageFile, "page file p\n.csv"),
+    (Role::Transmission, "transmission"),
+    (Role::Certificate, "certificate c"),
+    (Role::Journal, "journal j"),
+    (Role::Output, "standard output"),
+    (Role::Lines, "standard input"),
+];
+
+#[test]
+fn files_are_named(rt: HostRuntime) -> Result<(), Fail> {
+    let names = Names {
+        pages: Some("p\n.csv"),
+        cert: Some("c"),
+        journal: Some("j"),
+        ..Names::NONE
+    };
+    for (role, due) in NAMED {
+        let place: NamedFile<'_> = names.place(role);
+        let told = format!(in rt.alloc(); "{place}").expect(&rt, "memory");
+        assert_eq!(rt; told.as_str(), due);
+    }
+    Ok(())
+}
+
+// A text of 200 bytes is written, and of a longer one nothing.
+#[test]
+fn long_texts_are_refused(rt: HostRuntime) -> Result<(), Fail> {
+    let cases = [
+        (0, Ok(()), 0),
+        (200, Ok(()), 200),
+        (201, Err(FileFault::Write), 0),
+    ];
+    for (len, done, taken) in cases {
+        let mut text = String::new(rt.alloc());
+        for _ in 0..len {
+            text.push('a')?;
+        }
+        let mut out = MemorySink::<300>::new(7, 1000);
+        assert_eq!(rt; tell(&mut out, text.as_str()), done);
+        assert_eq!(rt; out.bytes().len(), taken);
+    }
+    Ok(())
+}
+
+// Where standard error fails the line is lost behind what was taken, and the status stays.
+#[test]
+fn faults_are_told(rt: HostRuntime) -> Result<(), Fail> {
+    let cases = [
+        (
+            FileFault::TooLarge,
+            1000,
+            1,
+            "pocsag: the file is too large\n",
+        ),
+        (FileFault::TooLarge, 5, 1, "pocsa"),
+        (FileFault::Device, 0, 3, ""),
+    ];
+    for (fault, fails_at, status, due) in cases {
+        let mut err = MemorySink::<100>::new(7, fails_at);
+        assert_eq!(rt; tell_fault(&mut err, fault), status);
+        assert_eq!(rt; err.bytes(), due.as_bytes());
+    }
+    Ok(())
+}

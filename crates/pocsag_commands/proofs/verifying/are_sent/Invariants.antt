@@ -1,6 +1,0 @@
-use Rattle.std.proofs.Common.{All, take}
-use Rattle.std.specs.Prelude.{Contains}
-use Rattle.pocsag_commands.proofs.verifying.are_sent.Given as goal
-
-abbrev pub invariant-loop-page : goal.invariant-loop-page
-invariant-loop-page l = All (Contains l.sent) (take l.page-index l.pages)

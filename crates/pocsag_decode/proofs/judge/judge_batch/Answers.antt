@@ -1,0 +1,33 @@
+use Rattle.std.proofs.Common.{◌≡◌, ◌∷◌, ℕ, List, length, take, drop, get_or, replicate, sym, ap, subst, ◌∙◌, arith, Ok, false}
+use Rattle.std.proofs.lemmas.List.{drop_more, length-drop, take_all}
+use Rattle.std.proofs.lemmas.Slice.Eq.{bytes_eq-Decides}
+use Rattle.pocsag_words.specs.Kinds.{idle_word}
+use Rattle.pocsag_pages.specs.Bytes.{sync_word, words_of}
+use Rattle.pocsag_pages.proofs.Lengths.{words_long}
+use Rattle.pocsag_decode.specs.Judging.{JudgesMore}
+use Rattle.pocsag_decode.proofs.Fine.{fine_after_sync, fine_idles}
+use Rattle.pocsag_decode.proofs.judge.judge_batch.Goals as goal
+
+pub returns-then-eq : goal.returns-then-eq
+returns-then-eq c =
+    let same : words_of c.args.batch.now ≡ sync_word ∷ replicate 16 idle_word =
+    ap words_of ((bytes_eq-Decides _ _).0 (sym c.if-eq.ensures) ∙ c.as_slice.ensures) in
+    subst (JudgesMore (Ok false) c.args.place c.args.may) (sym same) (fine_idles c.args.place c.args.may c.requires.first)
+
+pub judge_kinds-requires-clause-codewords : goal.judge_kinds-requires-clause-codewords
+judge_kinds-requires-clause-codewords c = c.are_codewords.ensures.0 c.if-not-are_codewords.false
+
+pub returns : goal.returns
+returns c =
+    let batch = c.args.batch.now in
+    let words = c.words_in-words.result in
+    let is : words ≡ words_of batch = c.words_in-words.ensures in
+    let b = c.requires.long in
+    let l = words_long batch in
+    let n = ap length is in
+    let long : length words ≡ 17 = omega arith in
+    let rest : take 16 (drop 1 words) ≡ drop 1 words = take_all 16 (drop 1 words) (omega (arith, length-drop 1 words)) in
+    let all : words_of batch ≡ get_or words 0 0 ∷ take 16 (drop 1 words) =
+    sym is ∙ drop_more words 0 0 (omega arith) ∙ ap (λ (l : List ℕ). get_or words 0 0 ∷ l) (sym rest) in
+    fine_after_sync c.args.place c.args.may (get_or words 0 0) (take 16 (drop 1 words)) (words_of batch) c.judge_kinds.result
+    c.requires.first c.if-words-ne-SYNC_WORD.false all c.judge_kinds.ensures

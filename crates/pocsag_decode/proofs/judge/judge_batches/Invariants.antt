@@ -1,0 +1,7 @@
+use Rattle.std.proofs.Common.{◌*◌, take}
+use Rattle.pocsag_pages.specs.Bytes.{words_of}
+use Rattle.pocsag_decode.specs.Judging.{AreFine}
+use Rattle.pocsag_decode.proofs.judge.judge_batches.Given as goal
+
+abbrev pub invariant-loop-i : goal.invariant-loop-i
+invariant-loop-i l = AreFine (17 * l.i) l.may (words_of (take (68 * l.i) l.bytes))

@@ -1,0 +1,27 @@
+use Rattle.std.proofs.Common.{ap, sym}
+use Rattle.std.proofs.lemmas.Bool.{true≢false}
+use Rattle.pocsag_words.specs.declared.codeword.Kind.TheVariants.{Idle, Address, Message}
+use Rattle.pocsag_decode.specs.Places.{is_message}
+use Rattle.pocsag_decode.proofs.Fine.{fine_kind, no_page}
+use Rattle.pocsag_decode.proofs.judge.judge_kind.Goals as goal
+
+pub returns-in-Idle : goal.returns-in-Idle
+returns-in-Idle c =
+    fine_kind c.args.place c.args.may c.args.codeword c.requires.other c.requires.codeword Idle c.in-Idle.ensures.kind
+    (λ m. absurd (true≢false (sym m)))
+
+pub returns-in-Address : goal.returns-in-Address
+returns-in-Address c =
+    fine_kind c.args.place c.args.may c.args.codeword c.requires.other c.requires.codeword
+    (Address c.in-Address.high c.in-Address.function) c.in-Address.ensures.kind (λ m. absurd (true≢false (sym m)))
+
+pub returns-in-Message : goal.returns-in-Message
+returns-in-Message c =
+    fine_kind c.args.place c.args.may c.args.codeword c.requires.other c.requires.codeword (Message c.in-Message.field-0)
+    c.in-Message.ensures.kind (λ m. c.if-may.true)
+
+pub returns-in-Message-2 : goal.returns-in-Message-2
+returns-in-Message-2 c = λ ws h.
+    rw c.index_at.ensures
+    (no_page c.args.place c.args.may c.args.codeword c.requires.other c.requires.codeword (sym (ap is_message c.in-Message.ensures.kind))
+    c.if-may.false ws h)

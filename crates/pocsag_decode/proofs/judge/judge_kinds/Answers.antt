@@ -1,0 +1,34 @@
+use Rattle.std.proofs.Common.{◌+◌, get_or, refl, subst, arith, Err, Ok}
+use Rattle.std.proofs.lemmas.List.{take_all}
+use Rattle.std.proofs.lemmas.Result.{err_from_is_err_and}
+use Rattle.pocsag_decode.specs.Judging.{JudgesMore}
+use Rattle.pocsag_decode.proofs.Fine.{bad_within, one_judged}
+use Rattle.pocsag_decode.proofs.judge.judge_kinds.Goals as goal
+
+pub loop-codeword-preserved : goal.loop-codeword-preserved
+loop-codeword-preserved c =
+    let loop = c.loop-codeword in
+    let ws = c.args.codewords.now in
+    record {
+      at = let at = loop.invariant.at in omega arith;
+      judged =
+          one_judged c.args.place loop.place loop.codeword-index c.args.may loop.may ws (get_or ws loop.codeword-index 0)
+          (Ok c.in_ok-may.may) loop.invariant.at (omega arith) refl loop.invariant.judged c.in_ok-may.ensures;
+    }
+
+pub returns-in_err-may : goal.returns-in_err-may
+returns-in_err-may c =
+    let loop = c.loop-codeword in
+    let ws = c.args.codewords.now in
+    let p = err_from_is_err_and c.from_residual.result c.from_residual.ensures.1 in
+    let f = c.in_err-may.field-0.0 in
+    rw (p.1, p.2)
+    (bad_within c.args.place (loop.codeword-index + 1) c.args.may ws f
+    (one_judged c.args.place loop.place loop.codeword-index c.args.may loop.may ws (get_or ws loop.codeword-index 0) (Err f)
+    loop.invariant.at (omega arith) refl loop.invariant.judged c.in_err-may.ensures))
+
+pub returns : goal.returns
+returns c =
+    let loop = c.loop-codeword in
+    subst (JudgesMore (Ok loop.may) c.args.place c.args.may) (take_all loop.codeword-index c.args.codewords.now (omega arith))
+    loop.invariant.judged

@@ -1,0 +1,9 @@
+use Rattle.std.proofs.Common.{arith}
+use Rattle.pocsag_decode.proofs.Fine.{fine_sync, not_sync}
+use Rattle.pocsag_decode.proofs.judge.judge_word.Goals as goal
+
+pub returns-then-word-ne-SYNC_WORD : goal.returns-then-word-ne-SYNC_WORD
+returns-then-word-ne-SYNC_WORD c = not_sync c.args.place c.args.may c.args.word (omega arith) c.if-word-ne-SYNC_WORD.true
+
+pub returns : goal.returns
+returns c = fine_sync c.args.place c.args.may c.args.word (omega arith) c.if-word-ne-SYNC_WORD.false

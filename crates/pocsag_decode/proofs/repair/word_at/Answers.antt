@@ -1,0 +1,18 @@
+use Rattle.std.proofs.Common.{◌≡◌, ◌<◌, take, drop, All, arith}
+use Rattle.std.specs.Int.{from_be_bytes, w32}
+use Rattle.std.proofs.lemmas.Grind.{common_steps}
+use Rattle.std.proofs.lemmas.List.{length-drop, length-take}
+use Rattle.std.proofs.lemmas.List.Elements.{All-drop, All-from_get_or, All-take}
+use Rattle.std.proofs.lemmas.Nat.{be_bytes_4}
+use Rattle.pocsag_decode.proofs.Repairs.{each_small}
+use Rattle.pocsag_decode.proofs.repair.word_at.Goals as goal
+
+pub returns : goal.returns
+returns c =
+    let bytes = c.args.bytes.now in
+    let four = take 4 (drop c.args.at bytes) in
+    let all : All (λ b. b < 256) bytes = All-from_get_or (λ b. b < 256) bytes 0 (λ i h. omega (arith, (c.type_inv.bytes i).fits)) in
+    let is : c.from_be_bytes.result ≡ from_be_bytes w32 four = grind (arith, common_steps) in
+    be_bytes_4 four c.from_be_bytes.result
+    (let t = length-take 4 (drop c.args.at bytes) in let d = length-drop c.args.at bytes in let room = c.requires in omega arith)
+    (each_small four (All-take (λ b. b < 256) 4 (drop c.args.at bytes) (All-drop (λ b. b < 256) c.args.at bytes all))) is

@@ -1,0 +1,38 @@
+-- `explain`: its verdict, which is that of `check`, and why it has none.
+use Rattle.std.specs.Prelude.{◌≡◌, ℕ, List, Ok}
+use Rattle.pocsag_words.specs.declared.ending.End.{End}
+use Rattle.pocsag_pages.specs.declared.page.Page.{Page}
+use Rattle.pocsag_pages.specs.PageFile.{verdict}
+use Rattle.pocsag_tree.specs.BoundTrees.{BoundTree}
+use Rattle.pocsag_tree.specs.Spelling.{IsText}
+use Rattle.pocsag_shell.specs.declared.fault.FileFault.TheVariants as file_fault
+use Rattle.pocsag_centre.specs.Commands.{Checked}
+use Rattle.pocsag_centre.specs.Judging.{ExplainsJudging, IsNotShown}
+use Rattle.pocsag_centre.specs.declared.fault.CentreFault.{CentreFault}
+use Rattle.pocsag_centre.specs.declared.fault.CentreFault.TheVariants as fault
+
+-- The certificate shows its number of batches, with its end, for the round of the page file.
+pub record ShowsItsBatches (file certificate : List ℕ) : Type 0 where
+  pub end : End
+  pub batches : ℕ
+  pub checked : Checked file certificate end batches
+
+-- The certificate is one of an end and a number of batches, and does not show them.
+pub record DoesNotShow (file certificate : List ℕ) : Type 0 where
+  pub end : End
+  pub batches : ℕ
+  pub not_shown : IsNotShown file certificate end batches
+
+-- The page file is that of a round, and the certificate is a text of a tree.
+pub record CanBeJudged (file certificate : List ℕ) : Type 0 where
+  pub round : List Page
+  pub read : verdict file ≡ Ok round
+  pub end : End
+  pub batches : ℕ
+  pub tree : BoundTree
+  pub text : IsText end batches tree certificate
+
+-- Why nothing is told of a certificate for a page file: memory refused the text, or the certificate was not judged.
+abbrev pub ExplainsUntold : (file certificate : List ℕ) → CentreFault → Type 0
+ExplainsUntold file certificate (fault.File file_fault.OutOfMemory) = CanBeJudged file certificate
+ExplainsUntold file certificate f = ExplainsJudging file certificate f

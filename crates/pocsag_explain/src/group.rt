@@ -1,0 +1,61 @@
+use crate::explained::explain_file;
+use crate::words::{EXPLAIN, EXPLAIN_COMMANDS, wanted_telling};
+use clap::{ArgMatches, Command, Error};
+use pocsag_centre::{CentreFault, note_record};
+use pocsag_pages::{FILE_LIMIT, read_whole};
+use pocsag_shell::{
+    CERT, Call, Desk, FileFault, Group, Names, PAGES, Role, STANDARD, add_commands, open_source,
+    path_of, put_whole,
+};
+use pocsag_wording::Telling;
+use pocsag_words::INPUT_LIMIT;
+use std::alloc::{AllocError, Global};
+
+/// The command `explain`.
+#[derive(Clone, Copy)]
+pub struct Explain;
+
+impl Group for Explain {
+    fn add_to<'a>(&self, alloc: Global, program: Command<'a>) -> Result<Command<'a>, AllocError> {
+        add_commands(alloc, program, EXPLAIN_COMMANDS)
+    }
+
+    fn misplaced(&self, _found: &ArgMatches<'_>) -> Option<&'static str> {
+        None
+    }
+
+    fn obey(&self, desk: Desk<'_>, call: Call<'_, '_>) -> Option<Result<u8, Error>> {
+        if call.name? != EXPLAIN {
+            return None;
+        }
+        let found = call.found;
+        let names = Names {
+            pages: Some(found.get_str(PAGES)?),
+            cert: Some(found.get_str(CERT)?),
+            ..Names::NONE
+        };
+        Some(Ok(desk.end(names, explain_paths(desk, wanted_telling(found)?, names))))
+    }
+}
+
+// Explains a certificate; the status is 1 where it does not show its batches. Both files are opened before one is read.
+fn explain_paths(desk: Desk<'_>, telling: Telling, names: Names<'_>) -> Result<u8, CentreFault> {
+    let (pages, cert) = (
+        names.pages.unwrap_or(STANDARD),
+        names.cert.unwrap_or(STANDARD),
+    );
+    if pages == STANDARD && cert == STANDARD {
+        return Err(CentreFault::File(FileFault::EqualPaths));
+    }
+    let mut source = open_source(desk, Role::PageFile, path_of(pages))?;
+    let mut cert = open_source(desk, Role::Certificate, path_of(cert))?;
+    let file = read_whole(desk.alloc, &mut source, FILE_LIMIT)?;
+    let cert = read_whole(desk.alloc, &mut cert, INPUT_LIMIT)?;
+    let done = explain_file(desk.alloc, telling, file.as_slice(), cert.as_slice());
+    if let Err(CentreFault::Round(fault)) = &done {
+        note_record(desk, names.place(Role::PageFile), file.as_slice(), *fault);
+    }
+    let explained = done?;
+    put_whole(&mut desk.out(), explained.text.as_str().as_bytes())?;
+    Ok(u8::from(!explained.judged.is_shown))
+}

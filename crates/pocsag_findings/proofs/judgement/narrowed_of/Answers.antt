@@ -1,0 +1,20 @@
+use Rattle.pocsag_findings.proofs.Prelude.{sym, ◌∙◌}
+use Rattle.std.proofs.Common.{rules}
+use Rattle.pocsag_findings.proofs.Narrows.{narrowed_added, narrowed_missing}
+use Rattle.pocsag_slots.proofs.WayLemmas.{joined_none}
+use Rattle.pocsag_findings.proofs.judgement.narrowed_of.Goals as goal
+use Rattle.pocsag_findings.proofs.judgement.narrowed_of.Goals.{then-is_narrower+in_ok-push, else-is_narrower}
+
+pub loop-number-init : goal.loop-number-init
+loop-number-init c = c.new-found.ensures.items ∙ sym (joined_none _)
+
+pub loop-number-preserved : goal.loop-number-preserved
+loop-number-preserved c =
+    elim c.if-is_narrower.branch [
+      | then-is_narrower+in_ok-push w ↦
+          narrowed_added c.args.inquiry.now.classes.now c.args.limits.now c.loop-number.number c.early_limits-early.result c.is_narrower.result
+          c.loop-number.found.items _ c.early_limits-early.ensures c.is_narrower.ensures w.if-is_narrower.true c.loop-number.invariant (search rules)
+      | else-is_narrower w ↦
+          narrowed_missing c.args.inquiry.now.classes.now c.args.limits.now c.loop-number.number c.early_limits-early.result c.is_narrower.result
+          _ c.early_limits-early.ensures c.is_narrower.ensures w.if-is_narrower.false cc
+    ]

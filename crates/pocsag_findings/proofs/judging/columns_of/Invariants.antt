@@ -1,8 +1,0 @@
-use Rattle.std.specs.Prelude.{◌≡◌, map}
-use Rattle.std.specs.List.{range_with_len}
-use Rattle.pocsag_findings.specs.Rules.{column_of}
-use Rattle.pocsag_findings.proofs.judging.columns_of.Given as goal
-
--- the columns of the slots so far
-abbrev pub invariant-loop-slot : goal.invariant-loop-slot
-invariant-loop-slot l = l.found.items ≡ map (column_of l.inquiry.classes.now l.limits) (range_with_len 0 l.slot)

@@ -1,8 +1,0 @@
-use Rattle.std.specs.Prelude.{◌≡◌}
-use Rattle.pocsag_slots.specs.Sums.{joined_below}
-use Rattle.pocsag_findings.specs.Rules.{narrowed_by}
-use Rattle.pocsag_findings.proofs.judging.narrowed_of.Given as goal
-
--- the classes so far
-abbrev pub invariant-loop-number : goal.invariant-loop-number
-invariant-loop-number l = l.found.items ≡ joined_below l.number (narrowed_by l.inquiry.classes.now l.limits)

@@ -1,7 +1,0 @@
-use Rattle.std.proofs.Common.{arith}
-use Rattle.pocsag_flow.proofs.Steps.{shifted_is}
-use Rattle.pocsag_flow.proofs.choosing.shifted.Goals as goal
-
-pub returns-clause-loads : goal.returns-clause-loads
-returns-clause-loads c slot h =
-    shifted_is c.args.loads c.args.from c.args.to c.args.moved slot (omega arith) (omega arith) c.requires.apart c.requires.taken

@@ -1,0 +1,63 @@
+use Rattle.std.proofs.Common.{◌≡◌, ℕ, List, [], ap, ◌∙◌, subst, sym, length}
+use Rattle.std.specs.Prelude.{IfErr, IfOk, MatchResult, Result, Ok, Err}
+use Rattle.pocsag_pages.specs.PageFile.{Row}
+use Rattle.pocsag_pages.specs.declared.page.Page.{Page}
+use Rattle.pocsag_edits.specs.Runs.{IsRun}
+use Rattle.pocsag_journal.specs.Faults.{ExplainsReplay, IsTold, IsToldOf}
+use Rattle.pocsag_journal.specs.Journals.{IsRead, Replays, ReplaysAs}
+use Rattle.pocsag_journal.specs.declared.fault.JournalFault.{JournalFault}
+use Rattle.pocsag_journal.specs.declared.fault.JournalFault.TheVariants as fault
+use Rattle.pocsag_journal.specs.declared.replay.Replayed.{Replayed}
+use Rattle.pocsag_journal.proofs.EditRuns.{run_once}
+use Rattle.pocsag_journal.proofs.Readings.{begun, no_bad_line, one_reading}
+use Rattle.pocsag_journal.proofs.replay.read_journal.Goals as goal
+
+-- whatever edits the bytes are the text of: these were read
+these : (bytes held : List ℕ) → bytes ≡ held → (r : Result Replayed JournalFault) →
+    IfOk r (λ x. Replays bytes x.edits x.torn x.book) → IfErr r (IsTold bytes) → (rows : List Row) (torn : List ℕ) (pages : List Page) →
+    IsRead held rows torn → IsRun rows [] pages → MatchResult r (λ x. ReplaysAs x.book x.edits x.torn pages rows torn) IsToldOf
+these bytes held e (Ok x) read told rows torn pages is run =
+    let here = subst (λ (b : List ℕ). IsRead b rows torn) (sym e) is in
+    let one = one_reading bytes rows read.rows torn read.rest here read.read in (
+      run_once rows [] x.book pages (subst (λ (l : List Row). IsRun l [] x.book) one.0 read.run) run,
+      read.as_many ∙ ap length one.0,
+      read.cut ∙ ap length one.1,
+    )
+these bytes held e (Err fault.NotJournal) read told rows torn pages is run =
+    told.0 (begun bytes rows torn (subst (λ (b : List ℕ). IsRead b rows torn) (sym e) is))
+these bytes held e (Err fault.OtherVersion) read told rows torn pages is run =
+    told.0 (begun bytes rows torn (subst (λ (b : List ℕ). IsRead b rows torn) (sym e) is))
+these bytes held e (Err (fault.BadLine n)) read told rows torn pages is run =
+    no_bad_line bytes n told rows torn pages (subst (λ (b : List ℕ). IsRead b rows torn) (sym e) is) run
+these bytes held e (Err (fault.NoLine n)) read told rows torn pages is run = told
+these bytes held e (Err fault.WriteFault) read told rows torn pages is run = told
+these bytes held e (Err fault.ReadFault) read told rows torn pages is run = tt
+these bytes held e (Err fault.TooLarge) read told rows torn pages is run = tt
+these bytes held e (Err fault.OutOfMemory) read told rows torn pages is run = tt
+
+-- what is told of bytes explains why they are not read
+told_replay : (bytes : List ℕ) (before after : ℕ) (f : JournalFault) → IsTold bytes f → ExplainsReplay bytes before after f
+told_replay bytes before after fault.ReadFault h = absurd h
+told_replay bytes before after fault.WriteFault h = h
+told_replay bytes before after fault.TooLarge h = absurd h
+told_replay bytes before after fault.NotJournal h = h
+told_replay bytes before after fault.OtherVersion h = h
+told_replay bytes before after (fault.BadLine n) h = h
+told_replay bytes before after (fault.NoLine n) h = h
+told_replay bytes before after fault.OutOfMemory h = h
+
+-- what is told of the bytes that were read is told of those that were held
+told_of : (bytes held : List ℕ) (before after : ℕ) → bytes ≡ held → (r : Result Replayed JournalFault) → IfErr r (IsTold bytes) →
+    IfErr r (ExplainsReplay held before after)
+told_of bytes held before after e (Ok x) told = tt
+told_of bytes held before after e (Err f) told = told_replay held before after f (subst (λ (b : List ℕ). IsTold b f) e told)
+
+pub returns-clause-told : goal.returns-clause-told
+returns-clause-told g c = λ tells.
+    told_of c.as_slice.result.now (g.S.Source.held c.args.source.now) _ _ (c.as_slice.ensures.value ∙ c.in_ok-bytes.ensures.whole tells)
+    c.replay.result c.replay.ensures.told
+
+pub returns-clause-replay : goal.returns-clause-replay
+returns-clause-replay g c = λ tells rows torn pages is run.
+    these c.as_slice.result.now (g.S.Source.held c.args.source.now) (c.as_slice.ensures.value ∙ c.in_ok-bytes.ensures.whole tells) c.replay.result
+    c.replay.ensures.read c.replay.ensures.told rows torn pages is run

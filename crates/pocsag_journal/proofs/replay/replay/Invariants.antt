@@ -1,0 +1,10 @@
+use Rattle.std.proofs.Common.{length}
+use Rattle.pocsag_journal.proofs.Replaying.{Made}
+use Rattle.pocsag_journal.proofs.replay.replay.Given as goal
+
+-- the lines so far were made
+abbrev pub invariant-loop-parts : goal.invariant-loop-parts
+invariant-loop-parts l = Made l.bytes l.rest l.edits l.book
+
+abbrev pub decreases-loop-parts : goal.decreases-loop-parts
+decreases-loop-parts l = length l.rest

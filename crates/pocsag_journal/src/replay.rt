@@ -1,0 +1,130 @@
+ghost use Rattle.std.specs.Prelude.{◌≡◌, ◌≤◌, ◌++◌, ℕ, List, [], length, IfErr, IfNone, IfOk, IfSome, MatchResult, OnOk};
+ghost use Rattle.csv.specs.Writing.{default_writer, row_text};
+ghost use Rattle.pocsag_pages.specs.PageFile.{Row};
+ghost use Rattle.pocsag_pages.specs.declared.page.Page.{Page};
+ghost use Rattle.pocsag_edits.specs.Runs.{IsRun, first_record};
+ghost use Rattle.pocsag_journal.specs.Faults.{ExplainsReplay, IsTold, IsToldOf};
+ghost use Rattle.pocsag_journal.specs.Journals.{IsFirstCut, IsRead, MakesLine, Replays, ReplaysAs, journal_limit};
+
+use crate::fault::JournalFault;
+use crate::lines::split_line;
+use crate::text::{first_line, row_line};
+use pocsag_edits::edit_row;
+use pocsag_pages::{only_row, read_whole};
+use pocsag_plan::Book;
+use pocsag_words::{OutOfMemory, Source};
+use std::alloc::Global;
+
+/// The greatest number of bytes of a journal that is read.
+pub const JOURNAL_LIMIT: usize = 1_073_741_824;
+
+// How a journal of each version begins.
+const FORMAT: &[u8] = b"pocsag journal,";
+
+/// What a journal stands for.
+#[derive(Drop)]
+pub struct Replayed {
+    /// The round after its edits.
+    pub book: Book,
+    /// How many edits were read.
+    pub edits: usize,
+    /// How many bytes at its end are a torn line.
+    pub torn: usize,
+}
+
+/// Reads the journal that a source holds up to its end. A torn end is passed over, also one in the first line; bytes that
+/// begin otherwise than a journal are told as none, and a line behind the first that is none of a journal by its number.
+pub fn read_journal<S: Source>(alloc: Global, source: &mut S) -> Result<Replayed, JournalFault>
+    ensures read { S.tells → IfOk result
+        (λ replayed. Replays (S.held source.old) replayed.edits replayed.torn replayed.book) }
+    ensures told { S.tells → IfErr result
+        (ExplainsReplay (S.held source.old) (S.failures source.old) (S.failures source.new)) }
+
+    // Whatever edits the bytes are the text of, each accepted in its turn: their list is read.
+    ensures replay { S.tells → (rows : List Row) (torn : List ℕ) (pages : List Page) →
+        IsRead (S.held source.old) rows torn → IsRun rows [] pages → MatchResult result
+        (λ replayed. ReplaysAs replayed.book replayed.edits replayed.torn pages rows torn) IsToldOf }
+    ensures succeeded { OnOk result (S.failures source.new ≡ S.failures source.old) }
+{
+    let bytes = read_whole(alloc, source, JOURNAL_LIMIT)?;
+    replay(alloc, bytes.as_slice())
+}
+
+// What stands behind the first line; nothing where the bytes are only a part of that.
+fn behind_first(bytes: &[u8]) -> Result<Option<&[u8]>, JournalFault>
+    ensures whole { IfOk result (λ found.
+        IfSome found (λ rest. bytes.now ≡ row_text default_writer first_record ++ rest.now)) }
+    ensures torn { IfOk result (λ found. IfNone found (IsFirstCut bytes.now)) }
+    ensures told { IfErr result (λ e. IsTold bytes.now e) }
+{
+    let first = first_line();
+    if let Some(rest) = bytes.strip_prefix(first) {
+        return Ok(Some(rest));
+    }
+    if first.starts_with(bytes) {
+        return Ok(None);
+    }
+    if bytes.starts_with(FORMAT) {
+        return Err(JournalFault::OtherVersion);
+    }
+    Err(JournalFault::NotJournal)
+}
+
+// Makes the edits of the lines, one after another.
+fn replay(alloc: Global, bytes: &[u8]) -> Result<Replayed, JournalFault>
+    requires { length bytes.now ≤ journal_limit }
+    ensures read { IfOk result (λ replayed. Replays bytes.now replayed.edits replayed.torn replayed.book) }
+    ensures told { IfErr result (λ e. IsTold bytes.now e) }
+{
+    let mut book = Book::new(alloc);
+    let mut edits = 0;
+    let behind = behind_first(bytes)?;
+    let mut rest = match behind {
+        Some(rest) => rest,
+        None => {
+            return Ok(Replayed {
+                book,
+                edits,
+                torn: bytes.len(),
+            });
+        }
+    };
+    loop {
+        let next = match split_line(rest) {
+            Some(parts) => parts,
+            None => {
+                return Ok(Replayed {
+                    book,
+                    edits,
+                    torn: rest.len(),
+                });
+            }
+        };
+        let made = replay_line(alloc, &mut book, next.0)?;
+        if !made {
+            return Err(JournalFault::BadLine(edits + 2));
+        }
+        edits += 1;
+        rest = next.1;
+    }
+}
+
+// Makes the edit that a line is the text of, if it is that of one that the pages accept, and says whether it is.
+fn replay_line(alloc: Global, book: &mut Book, line: &[u8]) -> Result<bool, OutOfMemory>
+    ensures { IfOk result (λ made. MakesLine made line.now book.old book.new) }
+{
+    let row = match only_row(alloc, line)? {
+        Some(row) => row,
+        None => return Ok(false),
+    };
+    let text = row_line(alloc, &row)?;
+    let same = text.as_slice() == line;
+    if !same {
+        return Ok(false);
+    }
+    match edit_row(alloc, book, &row) {
+        Ok(()) => Ok(true),
+        Err(refusal) if refusal.wants_memory() => Err(OutOfMemory),
+        Err(_) => Ok(false),
+    }
+}

@@ -1,0 +1,8 @@
+pub mod Minimum
+pub mod PagesTakenOut
+pub mod Ends
+pub mod Airtimes
+pub mod FileRounds
+pub mod Fronts
+pub mod SpellablePages
+pub mod TestedPages

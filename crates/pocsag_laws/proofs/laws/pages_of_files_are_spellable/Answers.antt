@@ -1,0 +1,8 @@
+use Rattle.pocsag_laws.proofs.SpellablePages.{page_spellable, round_spellable}
+use Rattle.pocsag_laws.proofs.laws.pages_of_files_are_spellable.Goals as goal
+
+pub returns-clause-fields : goal.returns-clause-fields
+returns-clause-fields c = page_spellable
+
+pub returns-clause-files : goal.returns-clause-files
+returns-clause-files c = round_spellable

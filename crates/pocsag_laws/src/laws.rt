@@ -1,0 +1,89 @@
+ghost use Rattle.std.specs.Prelude.{ℕ, ◌+◌, ◌<◌, ◌≤◌, ◌≡◌, List, ◌∷◌, ◌++◌, replicate, take, All, Bool, filter, Ok};
+ghost use Rattle.pocsag_words.specs.Frame.{airtime, transmission_bits};
+ghost use Rattle.pocsag_words.specs.Kinds.{idle_word};
+ghost use Rattle.pocsag_words.specs.declared.ending.End.{End};
+ghost use Rattle.pocsag_words.specs.declared.ending.End.TheVariants.{Closed, Idle, Open};
+ghost use Rattle.pocsag_pages.specs.declared.page.Page.{Page};
+ghost use Rattle.pocsag_pages.specs.PageFile.{page_of_fields, verdict};
+ghost use Rattle.pocsag_pages.specs.Pages.{IsRound};
+ghost use Rattle.pocsag_pages.specs.Reading.{AreApart, IsLegalList};
+ghost use Rattle.pocsag_decode.specs.PageFiles.{IsSpellable, page_file};
+ghost use Rattle.pocsag_laws.specs.FewestBatches.{AreFewest, AreSendable};
+
+/// Codewords that are legal with the idle end are legal with the closed end, and those with the open end; and with a
+/// batch of idle codewords behind them, codewords that are legal with one end are legal with each.
+pub fn stricter_ends_are_legal()
+    ensures idle { (T : List ℕ) (b : ℕ) (R : List Page) → IsLegalList Idle T b R → IsLegalList Closed T b R }
+    ensures closed { (T : List ℕ) (b : ℕ) (R : List Page) → IsLegalList Closed T b R → IsLegalList Open T b R }
+    ensures longer { (one other : End) (T : List ℕ) (b : ℕ) (R : List Page) → IsLegalList one T b R →
+        IsLegalList other (T ++ replicate 16 idle_word) (b + 1) R }
+{}
+
+/// Pages that are sendable in some number of batches are sendable in each greater number, with the same end.
+pub fn more_batches_are_enough()
+    ensures { (end : End) (R : List Page) (a b : ℕ) → a ≤ b → AreSendable end R a → AreSendable end R b }
+{}
+
+/// Where pages are sendable, it cannot be that no number is their fewest batches, and no two numbers are.
+pub fn one_number_is_fewest()
+    ensures some { (end : End) (R : List Page) (b : ℕ) → AreSendable end R b →
+        ¬ ((n : ℕ) → ¬ AreFewest end R n) }
+    ensures one { (end : End) (R : List Page) (a b : ℕ) → AreFewest end R a → AreFewest end R b → a ≡ b }
+{}
+
+/// The fewest batches with the open end are at most those with the closed end, these at most those with the idle end,
+/// and these at most one more than those with the open end.
+pub fn ends_cost_one_batch()
+    ensures { (R : List Page) (at_open at_closed at_idle : ℕ) →
+        AreFewest Open R at_open → AreFewest Closed R at_closed → AreFewest Idle R at_idle →
+        (at_open ≤ at_closed) × (at_closed ≤ at_idle) × (at_idle ≤ at_open + 1) }
+{}
+
+/// Where a page is taken away, or all pages that fail a test, the others are sendable in as many batches, with the same
+/// end; so their fewest batches are no more than before.
+pub fn fewer_pages_need_no_more()
+    ensures one { (end : End) (before after : List Page) (p : Page) (b : ℕ) →
+        AreApart (before ++ p ∷ after) → AreSendable end (before ++ p ∷ after) b →
+        AreSendable end (before ++ after) b }
+    ensures some { (end : End) (R : List Page) (stays : Page → Bool) (b : ℕ) →
+        AreApart R → AreSendable end R b → AreSendable end (filter stays R) b }
+    ensures fewest_without_one { (end : End) (before after : List Page) (p : Page) (a b : ℕ) →
+        AreApart (before ++ p ∷ after) → AreFewest end (before ++ after) a →
+        AreFewest end (before ++ p ∷ after) b → a ≤ b }
+    ensures fewest_without_some { (end : End) (R : List Page) (stays : Page → Bool) (a b : ℕ) →
+        AreApart R → AreFewest end (filter stays R) a → AreFewest end R b → a ≤ b }
+{}
+
+/// The first pages of a list are sendable in as many batches as more of its first pages, with the same end; so the
+/// fewest batches of the first `k` pages do not shrink as `k` grows.
+pub fn fronts_need_no_more()
+    ensures sendable { (end : End) (R : List Page) (j k b : ℕ) →
+        AreApart R → j ≤ k → AreSendable end (take k R) b → AreSendable end (take j R) b }
+    ensures fewest { (end : End) (R : List Page) (j k a b : ℕ) →
+        AreApart R → j ≤ k → AreFewest end (take j R) a → AreFewest end (take k R) b → a ≤ b }
+{}
+
+/// At each rate, no legal transmission of the pages for the end takes less time than one with the fewest batches; and
+/// at a rate of no more than 544,000 bits a second, at which a batch lasts a millisecond or longer, each with more
+/// batches takes more.
+pub fn fewest_batches_take_least_time()
+    ensures least { (end : End) (R : List Page) (fewest b rate : ℕ) →
+        AreFewest end R fewest → AreSendable end R b →
+        airtime (transmission_bits fewest) rate ≤ airtime (transmission_bits b) rate }
+    ensures more { (a b rate : ℕ) → 0 < rate → rate ≤ 544000 → a < b →
+        airtime (transmission_bits a) rate < airtime (transmission_bits b) rate }
+{}
+
+/// Each page that three fields spell is spellable, and so is each page of a page file's round: this is what the law
+/// `page_files_are_read_back` asks of pages.
+pub fn pages_of_files_are_spellable()
+    ensures fields { (address kind message : List ℕ) (p : Page) →
+        page_of_fields address kind message ≡ Ok p → IsSpellable p }
+    ensures files { (file : List ℕ) (R : List Page) → verdict file ≡ Ok R → All IsSpellable R }
+{}
+
+/// The verdict of a page file, where it is no fault, is a round; and the page file of that round has the same verdict.
+pub fn verdicts_are_rounds()
+    ensures round { (file : List ℕ) (R : List Page) → verdict file ≡ Ok R → IsRound R }
+    ensures again { (file : List ℕ) (R : List Page) → verdict file ≡ Ok R → verdict (page_file R) ≡ Ok R }
+{}

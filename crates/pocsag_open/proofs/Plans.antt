@@ -1,0 +1,35 @@
+-- What the outputs of a plan hold, and why it is refused.
+use Rattle.std.proofs.Common.{◌≡◌, ℕ, List, [], ◌++◌, sym, ap, ◌∙◌, subst, arith}
+use Rattle.pocsag_words.specs.declared.ending.End.{End}
+use Rattle.pocsag_pages.specs.declared.page.Page.{Page}
+use Rattle.pocsag_tree.specs.Views.{bound_tree_of}
+use Rattle.pocsag_plan.specs.declared.search.Effort.{Effort}
+use Rattle.pocsag_plan.specs.declared.fault.PlanFault.TheVariants as planning
+use Rattle.pocsag_plan.specs.declared.fault.StreamFault.{StreamFault}
+use Rattle.pocsag_plan.specs.declared.fault.StreamFault.TheVariants as streaming
+use Rattle.pocsag_plan.specs.BookPlans.{ExplainsBookStream}
+use Rattle.pocsag_plan.specs.Plans.{IsStopped}
+use Rattle.pocsag_plan.specs.Streams.{WritesAllOf}
+use Rattle.pocsag_open.specs.Plans.{ExplainsUndone, plan_limit, undone_of}
+
+-- outputs that were empty hold what was written
+pub all_held : (Holds : List ℕ → List ℕ → Type 0) (tx tx_after cert cert_after : List ℕ) → tx ≡ [] → cert ≡ [] →
+    WritesAllOf Holds tx tx_after cert cert_after → Holds tx_after cert_after
+all_held Holds tx tx_after cert cert_after none no_text w =
+    let sent : tx_after ≡ w.sent = w.transmission ∙ ap (λ (l : List ℕ). l ++ w.sent) none in
+    let text : cert_after ≡ w.certificate = w.text ∙ ap (λ (l : List ℕ). l ++ w.certificate) no_text in
+    subst (λ (l : List ℕ). Holds l cert_after) (sym sent) (subst (λ (l : List ℕ). Holds w.sent l) (sym text) w.headline)
+
+-- the fault of a stream of the pages explains why their plan is refused
+pub explains : (effort : Effort) (end : End) (pages : List Page) (limit : ℕ) (f : StreamFault) → limit ≡ plan_limit →
+    ExplainsBookStream effort end pages limit f → ExplainsUndone effort end pages (undone_of f)
+explains effort end pages limit (streaming.Plan planning.BadLimit) e h = absurd (h (record { some = omega (arith, e); few = omega (arith, e) }))
+explains effort end pages limit (streaming.Plan (planning.SearchLimit stop)) e h = (
+  h.0,
+  h.2,
+  (bound_tree_of stop.tree, subst (λ (l : ℕ). IsStopped end pages l stop.least stop.found (bound_tree_of stop.tree)) e h.3),
+)
+explains effort end pages limit (streaming.Plan planning.OutOfMemory) e h = h.1
+explains effort end pages limit (streaming.Round f) e h = h.1
+explains effort end pages limit (streaming.Transmission f) e h = tt
+explains effort end pages limit (streaming.Certificate f) e h = tt

@@ -1,0 +1,22 @@
+use Rattle.std.proofs.Common.{refl, subst, sym}
+use Rattle.pocsag_open.specs.Plans.{ExplainsUndone}
+use Rattle.pocsag_edits.specs.declared.refusal.UndoneFault.{UndoneFault}
+use Rattle.pocsag_open.proofs.Plans.{all_held, explains}
+use Rattle.pocsag_open.proofs.round_plan.send_plan.Goals as goal
+
+pub returns-in-Ok-bounded_stream-clause-planned : goal.returns-in-Ok-bounded_stream-clause-planned
+returns-in-Ok-bounded_stream-clause-planned g c = record {
+  plan = c.in-Ok-bounded_stream.bounded.plan;
+  plan_of = c.in-Ok-bounded_stream.ensures.plan.plan_of;
+  same = refl;
+  fewest = λ never. c.in-Ok-bounded_stream.ensures.plan.fewest never;
+  headline = λ tells.
+      let known = c.in-Ok.ensures.known tells in
+      let empty = c.in-Ok.ensures.empty tells in
+      all_held _ _ _ _ _ empty.0 empty.1 (c.in-Ok-bounded_stream.ensures.headline known known);
+}
+
+pub returns-in-Err-bounded_stream-clause-explained : goal.returns-in-Err-bounded_stream-clause-explained
+returns-in-Err-bounded_stream-clause-explained g c =
+    subst (λ (f : UndoneFault). ExplainsUndone c.args.search.effort c.args.search.end c.args.book.now f) (sym c.undone.ensures)
+    (explains _ _ _ _ c.in-Err-bounded_stream.fault c.requires c.in-Err-bounded_stream.ensures.explained)

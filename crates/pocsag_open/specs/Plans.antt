@@ -1,0 +1,77 @@
+-- What is so where the plan of an open round is written, and where it is refused (this project's own).
+use Rattle.std.specs.Prelude.{◌≡◌, ℕ, List, [], ◌∷◌, ◌++◌}
+use Rattle.pocsag_words.specs.declared.ending.End.{End}
+use Rattle.pocsag_pages.specs.Pages.{IsRound}
+use Rattle.pocsag_pages.specs.declared.page.Page.{Page}
+use Rattle.pocsag_tree.specs.BoundTrees.{BoundTree}
+use Rattle.pocsag_tree.specs.Views.{bound_tree_of}
+use Rattle.pocsag_plan.specs.declared.search.Effort.{Effort}
+use Rattle.pocsag_plan.specs.declared.search.Effort.TheVariants.{Fewest}
+use Rattle.pocsag_plan.specs.declared.fault.PlanFault.TheVariants as planning
+use Rattle.pocsag_plan.specs.declared.fault.StreamFault.{StreamFault}
+use Rattle.pocsag_plan.specs.declared.fault.StreamFault.TheVariants as streaming
+use Rattle.pocsag_plan.specs.declared.answer.Plan.{Plan}
+use Rattle.pocsag_plan.specs.Headline.{RoundHeadline}
+use Rattle.pocsag_plan.specs.Plans.{IsBounded, IsStopped, MayStop}
+use Rattle.pocsag_shell.specs.declared.fault.FileFault.TheVariants as file
+use Rattle.pocsag_edits.specs.declared.refusal.UndoneFault.{UndoneFault}
+use Rattle.pocsag_edits.specs.declared.refusal.UndoneFault.TheVariants as undone
+
+-- The nodes that the search of a plan may examine.
+abbrev pub plan_limit : ℕ
+plan_limit = 100000
+
+-- What the two outputs of a plan hold: the bytes of the transmission and of the certificate.
+abbrev pub PlanBytes : Type 0
+PlanBytes = List ℕ × List ℕ
+
+-- What was put in the two places of a plan: the names of both, and what their outputs hold.
+pub record PlacedPlan : Type 0 where
+  pub tx : List ℕ
+  pub cert : List ℕ
+  pub sent : PlanBytes
+
+-- No names, and no bytes either; and no plan.
+abbrev pub no_names : List ℕ × List ℕ
+no_names = ([], [])
+
+abbrev pub no_plans : List PlacedPlan
+no_plans = []
+
+abbrev pub placed_plan : (tx cert : List ℕ) → PlanBytes → PlacedPlan
+placed_plan tx cert sent = record { tx = tx; cert = cert; sent = sent }
+
+-- A plan of the pages for the end has so many batches and this bound, which is its batches where only the fewest are an
+-- answer; and its two outputs, where it is known what they hold, hold the transmission and the certificate of the headline of
+-- these pages, this end, these batches and this bound.
+pub record IsPlanned (Tells : Type 0) (effort : Effort) (end : End) (pages : List Page) (batches bound : ℕ) (sent : PlanBytes) : Type 0 where
+  pub plan : Plan
+  pub plan_of : IsBounded end pages plan bound
+  pub same : batches ≡ plan.batches
+  pub fewest : effort ≡ Fewest → bound ≡ batches
+  pub headline : Tells → RoundHeadline pages end batches bound (bound_tree_of plan.tree) sent.0 sent.1
+
+-- There is such a plan, and its outputs were put in these two places, behind those of the plans before it.
+pub record IsPlanPlaced (Tells : Type 0) (effort : Effort) (end : End) (tx cert : List ℕ) (pages : List Page) (batches bound : ℕ) (before after : List PlacedPlan) : Type 0 where
+  pub sent : PlanBytes
+  pub planned : IsPlanned Tells effort end pages batches bound sent
+  pub placed : Tells → after ≡ before ++ placed_plan tx cert sent ∷ []
+
+-- Why a plan is refused, and what is so of the pages then: there are none; or the search stopped at its limit between these
+-- two numbers of batches, which happens only where the fewest alone are an answer; or memory was wanting for a plan of a
+-- round. What is so of its files is not known.
+abbrev pub ExplainsUndone : Effort → End → List Page → UndoneFault → Type 0
+ExplainsUndone effort end pages undone.NoPages = pages ≡ []
+ExplainsUndone effort end pages (undone.SearchLimit least found) =
+    MayStop effort × IsRound pages × ((tree : BoundTree) × IsStopped end pages plan_limit least found tree)
+ExplainsUndone effort end pages undone.OutOfMemory = IsRound pages
+ExplainsUndone effort end pages (undone.File f) = Unit {0}
+
+-- Which reason the fault of a stream is. The limit of an open round is never a bad one.
+abbrev pub undone_of : StreamFault → UndoneFault
+undone_of (streaming.Plan (planning.SearchLimit stop)) = undone.SearchLimit stop.least stop.found
+undone_of (streaming.Plan planning.OutOfMemory) = undone.OutOfMemory
+undone_of (streaming.Plan planning.BadLimit) = undone.OutOfMemory
+undone_of (streaming.Round f) = undone.NoPages
+undone_of (streaming.Transmission f) = undone.File file.Write
+undone_of (streaming.Certificate f) = undone.File file.Write

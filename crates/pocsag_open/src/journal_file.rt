@@ -1,0 +1,181 @@
+ghost use Rattle.std.specs.Prelude.{[]};
+
+use crate::fault::OpenFault;
+use pocsag_journal::{Disk, Replayed, read_journal};
+use pocsag_shell::{Beside, Desk, FileFault, Named, ReaderSource, Role, WriterSink};
+use pocsag_words::{DeviceFault, Sink};
+use std::cell::Cell;
+use std::fs::{self, File, OpenFile, OpenOptions, TryLockError};
+use std::io::Write;
+
+const ROLE: Role = Role::Journal;
+
+/// Where a journal stands.
+#[derive(Clone, Copy)]
+pub(crate) struct JournalPlace<'a, 'w> {
+    pub desk: Desk<'a>,
+    pub path: &'a str,
+    /// Why the journal could not be written, where that is known better than that it could not.
+    pub why: &'w Cell<Option<OpenFault>>,
+}
+
+impl JournalPlace<'_, '_> {
+    // What was done, as a disk tells it, which has one fault alone.
+    fn by_disk<T: Drop>(&self, done: Result<T, OpenFault>) -> Result<T, DeviceFault> {
+        match done {
+            Ok(done) => Ok(done),
+            Err(fault) => {
+                self.why.set(Some(fault));
+                Err(DeviceFault)
+            }
+        }
+    }
+}
+
+/// The file of a journal, which this program alone holds. Nothing is known of its bytes.
+#[derive(Drop)]
+pub(crate) struct JournalFile<'a, 'w> {
+    pub place: JournalPlace<'a, 'w>,
+    // Whether there was no file at the path before.
+    is_new: bool,
+    file: File,
+    named: Named,
+    // How many bytes the file has, by what was found first and written since.
+    len: u64,
+    calls: u64,
+    failures: u64,
+}
+
+impl<'a, 'w> JournalFile<'a, 'w> {
+    /// Opens or makes the file and locks it, unless another program holds it. The lock goes with the file, so what
+    /// stands at the path must still be the file that is locked.
+    pub fn hold(place: JournalPlace<'a, 'w>) -> Result<JournalFile<'a, 'w>, OpenFault> {
+        let JournalPlace { desk, path, .. } = place;
+        let is_new = Named::at(desk.rt, path).is_none();
+        let mut options = OpenOptions::new();
+        options.read(true).append(true).create(true);
+        let file = desk.opened(ROLE, options.open(desk.rt, path))?;
+        match file.try_lock() {
+            Ok(()) => {}
+            Err(TryLockError::WouldBlock) => return Err(OpenFault::HeldByAnother),
+            Err(TryLockError::Error(error)) => desk.opened(ROLE, Err(error))?,
+        }
+        let metadata = desk.opened(ROLE, file.metadata())?;
+        let named = Named::of(&metadata);
+        if Named::at(desk.rt, path) != Some(named) {
+            return Err(OpenFault::HeldByAnother);
+        }
+        Ok(JournalFile {
+            place,
+            is_new,
+            file,
+            named,
+            len: metadata.len(),
+            calls: 0,
+            failures: 0,
+        })
+    }
+
+    /// A handle of the file where it was made, which keeps its lock.
+    pub fn made(&self) -> Result<Option<File>, FileFault> {
+        if !self.is_new {
+            return Ok(None);
+        }
+        Ok(Some(self.place.desk.opened(ROLE, self.file.try_clone())?))
+    }
+
+    /// What the file holds.
+    pub fn read(&self) -> Result<Replayed, OpenFault> {
+        let desk = self.place.desk;
+        let mut source = ReaderSource::new(&self.file, ROLE, desk.watch);
+        Ok(read_journal(desk.alloc, &mut source)?)
+    }
+
+    // That what stands at the path is the file that is held, with the bytes that it should have: another program may
+    // have moved it, deleted it or written to it.
+    fn stands(&self) -> Result<(), OpenFault> {
+        let JournalPlace { desk, path, .. } = self.place;
+        match fs::metadata(desk.rt, path) {
+            Ok(found) if Named::of(&found) == self.named && found.len() == self.len => Ok(()),
+            _ => Err(OpenFault::NotHeld),
+        }
+    }
+
+    // Puts a file of the text at the path, and holds it.
+    fn put(&mut self, text: &[u8]) -> Result<(), OpenFault> {
+        let desk = self.place.desk;
+        let beside = Beside::make(desk, ROLE, self.place.path)?;
+        match self.put_beside(&beside, text) {
+            Ok((file, named)) => {
+                self.file = file;
+                self.named = named;
+                self.len = text.len() as u64;
+                Ok(())
+            }
+            Err(fault) => {
+                beside.remove(desk);
+                Err(fault)
+            }
+        }
+    }
+
+    // Writes the text to the file beside the path, and puts it there once it is on the disk. It is locked before.
+    fn put_beside(&self, beside: &Beside<'_>, text: &[u8]) -> Result<(File, Named), OpenFault> {
+        let mut options = OpenOptions::new();
+        options.append(true);
+        let desk = self.place.desk;
+        let mut file = desk.opened(ROLE, options.open(desk.rt, beside.path()))?;
+        match file.try_lock() {
+            Ok(()) => {}
+            Err(TryLockError::WouldBlock) => return Err(OpenFault::File(FileFault::Device)),
+            Err(TryLockError::Error(error)) => desk.opened(ROLE, Err(error))?,
+        }
+        let named = Named::of(&desk.opened(ROLE, file.metadata())?);
+        desk.written(ROLE, file.write_all(text))?;
+        beside.sync(desk)?;
+        self.stands()?;
+        beside.put(desk)?;
+        Ok((file, named))
+    }
+}
+
+impl Sink for JournalFile<'_, '_> {
+    ghost tells = { ⊥ };
+
+    ghost taken = { λ _. [] };
+
+    ghost calls = { λ s. s.calls };
+
+    ghost failures = { λ s. s.failures };
+
+    fn write(&mut self, piece: &[u8]) -> Result<usize, DeviceFault> {
+        self.calls = self.calls.saturating_add(1);
+        let done = match self.place.by_disk(self.stands()) {
+            Ok(()) => WriterSink::new(&self.file, ROLE, self.place.desk.watch).write(piece),
+            Err(fault) => Err(fault),
+        };
+        match done {
+            Ok(count) => self.len = self.len.saturating_add(count as u64),
+            Err(_) => self.failures = self.failures.saturating_add(1),
+        }
+        done
+    }
+}
+
+impl Disk for JournalFile<'_, '_> {
+    ghost safe = { λ _. [] };
+
+    fn sync(&mut self) -> Result<(), DeviceFault> {
+        let synced = self.place.desk.written(ROLE, self.file.sync_data());
+        let done = match synced {
+            Ok(()) => self.stands(),
+            Err(fault) => Err(OpenFault::File(fault)),
+        };
+        self.place.by_disk(done)
+    }
+
+    fn replace(&mut self, text: &[u8]) -> Result<(), DeviceFault> {
+        let done = self.put(text);
+        self.place.by_disk(done)
+    }
+}

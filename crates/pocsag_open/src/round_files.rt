@@ -1,0 +1,137 @@
+ghost use Rattle.std.specs.Prelude.{◌≡◌, [], ◌∷◌, ◌++◌, OnErr, OnOk};
+ghost use Rattle.pocsag_open.specs.Plans.{no_names, no_plans, placed_plan};
+
+use crate::outputs::Places;
+use pocsag_plan::Effort;
+use pocsag_shell::{
+    Beside, Desk, FileFault, Input, Names, Output, Outputs, ReaderSource, Role, STANDARD,
+    WriterSink, is_regular_or_none, make_outputs, open_source, put_both, refuse_equal,
+    refuse_one_file, refuse_shared,
+};
+use std::fs::File;
+
+/// What `open` is asked for.
+#[derive(Clone, Copy)]
+pub(crate) struct OpenOrder<'a> {
+    /// The path of the page file that the round begins with, if there is one.
+    pub pages: Option<&'a str>,
+    /// The path of the journal, if there is one.
+    pub journal: Option<&'a str>,
+    /// Whether the journal is only listed.
+    pub read_only: bool,
+    /// What is answered where the search of a plan reaches its limit.
+    pub effort: Effort,
+    /// Whether what stands there before is kept until both files of a plan are whole.
+    pub keep: bool,
+}
+
+/// Opens the page file that a round begins with, which is not standard input: that holds the lines.
+pub(crate) fn open_pages<'a>(
+    desk: Desk<'a>,
+    path: &str,
+) -> Result<ReaderSource<'a, Input<File>>, FileFault> {
+    if path == STANDARD {
+        return Err(FileFault::EqualPaths);
+    }
+    open_source(desk, Role::PageFile, Some(path))
+}
+
+/// The files that the plans of an open round are written to, none of which is the page file that the round
+/// began with or its journal, and none standard output, which the answers take.
+#[derive(Drop)]
+pub(crate) struct RoundFiles<'a> {
+    pub desk: Desk<'a>,
+    pub order: OpenOrder<'a>,
+}
+
+impl<'a> RoundFiles<'a> {
+    // Makes both files beside their places.
+    fn make_beside(
+        &self,
+        tx: &str,
+        cert: &str,
+    ) -> Result<Outputs<WriterSink<'a, Output<File>>>, FileFault> {
+        let (desk, pages) = (self.desk, self.order.pages);
+        if !is_regular_or_none(desk.rt, tx) || !is_regular_or_none(desk.rt, cert) {
+            return Err(FileFault::Device);
+        }
+        refuse_shared(desk, pages, tx, cert)?;
+        let tx = Beside::make(desk, Role::Transmission, tx)?;
+        let cert = Beside::make(desk, Role::Certificate, cert)?;
+        make_outputs(desk, pages, tx.path(), cert.path())
+    }
+
+    // Puts the files that were made beside their places there, and takes away what is not put.
+    fn settle(&self, tx: &str, cert: &str, are_whole: bool) -> Result<(), FileFault> {
+        let tx = Beside::of(self.desk, Role::Transmission, tx)?;
+        let cert = Beside::of(self.desk, Role::Certificate, cert)?;
+        let done = if are_whole {
+            put_both(self.desk, &tx, &cert)
+        } else {
+            Ok(())
+        };
+        tx.remove(self.desk);
+        cert.remove(self.desk);
+        done
+    }
+}
+
+impl<'a> Places for RoundFiles<'a> {
+    type Output = WriterSink<'a, Output<File>>;
+
+    ghost tells = { ⊥ };
+
+    ghost placed = { λ _. no_plans };
+
+    ghost made_for = { λ _. no_names };
+
+    fn make(
+        &mut self,
+        tx: &str,
+        cert: &str,
+    ) -> Result<Outputs<WriterSink<'a, Output<File>>>, FileFault> {
+        let OpenOrder { pages, journal, .. } = self.order;
+        refuse_equal(pages, tx, cert)?;
+        refuse_equal(journal, tx, cert)?;
+        refuse_one_file(self.desk.rt, journal, tx, cert)?;
+        if tx == STANDARD || cert == STANDARD {
+            return Err(FileFault::EqualPaths);
+        }
+        if self.order.keep {
+            return self.make_beside(tx, cert);
+        }
+        make_outputs(self.desk, pages, tx, cert)
+    }
+
+    fn put(
+        &mut self,
+        tx: &str,
+        cert: &str,
+        outputs: Outputs<WriterSink<'a, Output<File>>>,
+    ) -> Result<(), FileFault>
+        // Nothing is known of what files hold.
+        ensures placed { ⊥ → no_names ≡ (tx.now, cert.now) → OnOk result
+            (no_plans ≡ no_plans ++ placed_plan tx.now cert.now no_names ∷ []) }
+        ensures same { ⊥ → OnErr result (no_plans ≡ no_plans) }
+    {
+        drop(outputs);
+        let done = if self.order.keep {
+            self.settle(tx, cert, true)
+        } else {
+            Ok(())
+        };
+        self.leave(tx, cert);
+        done
+    }
+
+    fn leave<'n>(&mut self, tx: &'n str, cert: &'n str) {
+        if self.order.keep {
+            let _ = self.settle(tx, cert, false);
+        }
+        self.desk.tell_more(Names {
+            tx: Some(tx),
+            cert: Some(cert),
+            ..Names::NONE
+        });
+    }
+}

@@ -1,0 +1,178 @@
+ghost use Rattle.std.specs.Prelude.{◌≡◌, ◌≤◌, List, [], length, IfErr, IfOk, Ok, OnOk};
+ghost use Rattle.pocsag_pages.specs.PageFile.{verdict};
+ghost use Rattle.pocsag_pages.specs.declared.page.Page.{Page};
+ghost use Rattle.pocsag_shell.specs.Faults.{file_status};
+ghost use Rattle.pocsag_open.specs.Faults.{ExplainsOpening, open_status};
+ghost use Rattle.pocsag_open.specs.Lines.{line_limit};
+ghost use Rattle.pocsag_open.specs.Replies.{IsLineReply, IsSession, TellsAndPlaces};
+
+use crate::answer::{OpenRound, answer_edit, refuse, tell_pages, tell_planned};
+use crate::fault::OpenFault;
+use crate::lines::{LineRead, Lines};
+use crate::outputs::Places;
+use crate::round_plan::{PLAN_LIMIT, put_plan};
+use pocsag_decode::{ListFault, write_page_file};
+use pocsag_edits::{Keeper, Line, NoKeeper, Refusal, UndoneFault, line_of, record_of};
+use pocsag_pages::read_round;
+use pocsag_plan::{Book, Effort, Search};
+use pocsag_shell::FileFault;
+use pocsag_words::{Sink, Source};
+use std::alloc::Global;
+
+/// How the plans of an open round are made.
+#[derive(Drop)]
+pub struct Planner<P: Places + Drop> {
+    /// What makes their outputs.
+    pub places: P,
+    /// What is answered where the limit is reached with one batch more than is shown to be needed.
+    pub effort: Effort,
+}
+
+/// `open` without PAGES: answers the lines of the input, one by one, up to its end. A round of no pages is
+/// open at first.
+pub fn run_open<P: Places + Drop, I: Source, O: Sink>(
+    alloc: Global,
+    planner: &mut Planner<P>,
+    input: &mut I,
+    out: &mut O,
+) -> Result<(), FileFault>
+    // What is told are the replies to the lines of the input, one by one, from no pages on; and what is placed are the
+    // outputs of the plans that they tell.
+    ensures session { I.tells → O.tells → OnOk result ((after : List Page) × TellsAndPlaces P.tells
+        (O.taken out.old) (O.taken out.new) (P.placed planner.old.places) (P.placed planner.new.places)
+        (IsSession P.tells planner.old.effort (I.held input.old) [] after)) }
+
+    // It is done only at the end of the input, which did not fail.
+    ensures input { OnOk result (I.failures input.new ≡ I.failures input.old) }
+    ensures lost { IfErr result (λ e. file_status e ≡ 3) }
+{
+    let mut round = OpenRound {
+        book: Book::new(alloc),
+        keeper: NoKeeper,
+    };
+    run_open_kept(alloc, planner, &mut round, input, out)
+}
+
+/// `open PAGES`: the same, where the pages of the page file are open at first.
+pub fn run_open_pages<P: Places + Drop, F: Source, I: Source, O: Sink>(
+    alloc: Global,
+    planner: &mut Planner<P>,
+    pages: &mut F,
+    input: &mut I,
+    out: &mut O,
+) -> Result<(), OpenFault>
+    // What is told are the replies to the lines of the input, one by one, from the pages of the page file on; and what is
+    // placed are the outputs of the plans that they tell.
+    ensures session { F.tells → I.tells → O.tells → OnOk result ((before after : List Page) ×
+        (verdict (F.held pages.old) ≡ Ok before) × TellsAndPlaces P.tells
+        (O.taken out.old) (O.taken out.new) (P.placed planner.old.places) (P.placed planner.new.places)
+        (IsSession P.tells planner.old.effort (I.held input.old) before after)) }
+
+    // It is done only at the end of the input, and neither it nor the page file failed.
+    ensures input { OnOk result (I.failures input.new ≡ I.failures input.old) }
+    ensures pages { OnOk result (F.failures pages.new ≡ F.failures pages.old) }
+
+    // Only a fault of the page file is refused, and then no line is read or answered.
+    ensures explained { F.tells → IfErr result
+        (ExplainsOpening (F.held pages.old) (F.failures pages.old) (F.failures pages.new)) }
+    ensures refused { IfErr result (λ e. open_status e ≡ 1 → (input.new ≡ input.old) × (out.new ≡ out.old)) }
+{
+    let mut round = OpenRound {
+        book: book_of(alloc, pages)?,
+        keeper: NoKeeper,
+    };
+    match run_open_kept(alloc, planner, &mut round, input, out) {
+        Ok(()) => Ok(()),
+        Err(fault) => Err(OpenFault::File(fault)),
+    }
+}
+
+/// A book of the pages of a page file.
+pub(crate) fn book_of<F: Source>(alloc: Global, pages: &mut F) -> Result<Book, OpenFault>
+    ensures pages { F.tells → IfOk result (λ book. verdict (F.held pages.old) ≡ Ok book) }
+    ensures read { OnOk result (F.failures pages.new ≡ F.failures pages.old) }
+    ensures explained { F.tells → IfErr result
+        (ExplainsOpening (F.held pages.old) (F.failures pages.old) (F.failures pages.new)) }
+{
+    let round = read_round(alloc, pages)?;
+    match Book::of_round(alloc, &round) {
+        Ok(book) => Ok(book),
+        Err(_) => Err(OpenFault::File(FileFault::OutOfMemory)),
+    }
+}
+
+/// The same of a round whose edits are kept, each before it is answered. Answers the lines of the input, one by one,
+/// up to its end.
+pub fn run_open_kept<P: Places + Drop, K: Keeper + Drop, I: Source, O: Sink>(
+    alloc: Global,
+    planner: &mut Planner<P>,
+    round: &mut OpenRound<K>,
+    input: &mut I,
+    out: &mut O,
+) -> Result<(), FileFault>
+    // What is told are the replies to the lines of the input, one by one, from the pages of the round on; and what is placed
+    // are the outputs of the plans that they tell.
+    ensures session { I.tells → O.tells → OnOk result (TellsAndPlaces P.tells
+        (O.taken out.old) (O.taken out.new) (P.placed planner.old.places) (P.placed planner.new.places)
+        (IsSession P.tells planner.old.effort (I.held input.old) round.old.book round.new.book)) }
+
+    // It is done only at the end of the input, which did not fail; then what is kept stands for the pages.
+    ensures input { OnOk result (I.failures input.new ≡ I.failures input.old) }
+    ensures stands { K.stands_for round.old.keeper round.old.book →
+        OnOk result (K.stands_for round.new.keeper round.new.book) }
+    ensures lost { IfErr result (λ e. file_status e ≡ 3) }
+{
+    let mut lines = Lines::new(alloc)?;
+    for _ in 0..u64::MAX {
+        match lines.read_line(input)? {
+            LineRead::End => return Ok(()),
+            LineRead::TooLong => refuse(Refusal::Unknown, out)?,
+            LineRead::Kept => answer_line(alloc, planner, round, lines.line.as_slice(), out)?,
+        }
+        round.keeper.settle(alloc, &round.book)?;
+    }
+    Err(FileFault::Device)
+}
+
+// Answers one line.
+fn answer_line<P: Places + Drop, K: Keeper + Drop, O: Sink>(
+    alloc: Global,
+    planner: &mut Planner<P>,
+    round: &mut OpenRound<K>,
+    line: &[u8],
+    out: &mut O,
+) -> Result<(), FileFault>
+    requires { length line.now ≤ line_limit }
+    ensures replied { O.tells → OnOk result (TellsAndPlaces P.tells
+        (O.taken out.old) (O.taken out.new) (P.placed planner.old.places) (P.placed planner.new.places)
+        (IsLineReply P.tells planner.old.effort line.now round.old.book round.new.book)) }
+    ensures effort { planner.new.effort ≡ planner.old.effort }
+    ensures stands { K.stands_for round.old.keeper round.old.book →
+        OnOk result (K.stands_for round.new.keeper round.new.book) }
+    ensures lost { IfErr result (λ e. file_status e ≡ 3) }
+{
+    let row = match record_of(alloc, line) {
+        Ok(row) => row,
+        Err(refusal) => return refuse(refusal, out),
+    };
+    match line_of(&row) {
+        Line::Plan { tx, cert, end } => {
+            let search = Search {
+                limit: PLAN_LIMIT,
+                end,
+                effort: planner.effort,
+            };
+            match put_plan(&mut planner.places, &round.book, tx, cert, search) {
+                Ok(planned) => tell_planned(planned, out),
+                Err(fault) => refuse(Refusal::Undone(fault), out),
+            }
+        }
+        Line::List => match write_page_file(alloc, round.book.pages(), out) {
+            Ok(()) => tell_pages(&round.book, out),
+            Err(ListFault::OutOfMemory) => refuse(Refusal::Undone(UndoneFault::OutOfMemory), out),
+            Err(ListFault::WriteFault) => Err(FileFault::Write),
+        },
+        Line::Journal => tell_pages(&round.book, out),
+        _ => answer_edit(alloc, round, &row, out),
+    }
+}

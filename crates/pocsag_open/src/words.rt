@@ -1,0 +1,67 @@
+//! The words of `open`.
+
+use pocsag_shell::{
+    ALWAYS, ALWAYS_FLAG, FLAG, Given, KEEP, KEEP_FLAG, LineWord, PAGES, PLACE, Shape,
+};
+
+pub(crate) const ROUND: &str = "open";
+
+pub(crate) const JOURNAL: &str = "journal";
+
+pub(crate) const READ_ONLY: &str = "read-only";
+
+const MANUAL: &str = "\
+Each line of standard input is an edit, and is answered at once by one line:
+  add,ADDRESS,KIND,MESSAGE   adds a page, its fields as in a page file
+  cancel,ADDRESS             takes the page of that address out
+  list                       lists the pages, before the answer
+  plan,TX,CERT[,END]         writes both files as the command plan does; END is
+                             open, closed or idle
+  clear                      takes all pages out
+A line is a CSV record of at most 65536 bytes. The answer is 'ok N' with the
+number of pages, 'batches B' after plan, or 'refused: ' and why: the round is
+then as it was. With --always no plan is refused at the limit; where the
+batches may be one more than the fewest, its answer is 'batches B, at least N'.
+The end of the input ends the program.
+
+Example:
+  printf 'add,8,tone0,\\nplan,tx.bin,cert.bin\\n' | pocsag open";
+
+const FIRST_PAGES_PLACE: LineWord = LineWord {
+    id: PAGES,
+    help: "The page file that the round begins with",
+    is_required: false,
+    ..PLACE
+};
+
+const JOURNAL_OPTION: LineWord = LineWord {
+    id: JOURNAL,
+    help: "\
+Keeps each edit in FILE before it is answered, and
+begins with the edits that FILE holds",
+    given: Given::Option("FILE", &[]),
+    ..FLAG
+};
+
+const READ_ONLY_FLAG: LineWord = LineWord {
+    id: READ_ONLY,
+    help: "\
+Lists the pages of the journal as a page file, and
+ends; FILE is neither locked nor changed",
+    needs: &[JOURNAL],
+    excludes: &[PAGES, ALWAYS, KEEP],
+    ..FLAG
+};
+
+pub(crate) const ROUND_SHAPES: &[Shape] = &[Shape {
+    name: ROUND,
+    about: "Keeps an open round, which lines of standard input edit and plan",
+    manual: Some(MANUAL),
+    words: &[
+        FIRST_PAGES_PLACE,
+        JOURNAL_OPTION,
+        READ_ONLY_FLAG,
+        ALWAYS_FLAG,
+        KEEP_FLAG,
+    ],
+}];

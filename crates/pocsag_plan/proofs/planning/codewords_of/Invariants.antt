@@ -1,6 +1,0 @@
-use Rattle.std.proofs.Common.{◌≡◌, ◌*◌, ◌≤◌, sum_by, take}
-use Rattle.pocsag_pages.specs.Reading.{page_length}
-use Rattle.pocsag_plan.proofs.planning.codewords_of.Given as goal
-
-abbrev pub invariant-loop-page : goal.invariant-loop-page
-invariant-loop-page l = (l.total ≡ sum_by page_length (take l.page-index l.round)) × (l.total ≤ 1401 * l.page-index)

@@ -1,0 +1,190 @@
+//! The round that an open round is sent as.
+ghost use Rattle.std.specs.Prelude.{◌≡◌, ◌<◌, ◌≤◌, ◌↔◌, [], length, IfErr, IfOk, IsErrOf, OnOk};
+ghost use Rattle.pocsag_pages.specs.Pages.{IsRound};
+ghost use Rattle.pocsag_tree.specs.BoundTrees.{closed_nodes};
+ghost use Rattle.pocsag_tree.specs.Views.{bound_tree_of};
+ghost use Rattle.pocsag_branch.specs.Found.{IsNodeLimit};
+ghost use Rattle.pocsag_plan.specs.BookPlans.{ExplainsBook, ExplainsBookStream};
+ghost use Rattle.pocsag_plan.specs.Headline.{RoundHeadline};
+ghost use Rattle.pocsag_plan.specs.Plans.{IsBounded, IsNoWorse, IsPlan, IsPlanFor, NoneHasFewer};
+ghost use Rattle.pocsag_plan.specs.Streams.{fault_in, HasHeadline, IsCertificate, IsSearchLimit, IsTransmission, WritesAllOf, WritesCertificatePartOf, WritesInTurn, WritesPartOf};
+
+use crate::answer::Plan;
+use crate::book::Book;
+use crate::bounded::Bounded;
+use crate::fault::{PlanFault, StreamFault};
+use crate::plans::{counted_plan, is_node_limit};
+use crate::refusal::BookFault;
+use crate::search::{Effort, Search};
+use crate::streams::send;
+use pocsag_pages::Round;
+use pocsag_words::{End, OutOfMemory, Sink};
+use std::alloc::Global;
+
+impl Book {
+    // A round of copies of the pages, of which there must be one at least.
+    pub(crate) fn to_round(&self, alloc: Global) -> Result<Round, OutOfMemory>
+        requires { 0 < length self.now }
+        ensures round { IfOk result (λ round. round ≡ self.now) }
+        ensures good { IsRound self.now }
+    {
+        let mut copies = Vec::new(alloc);
+        for page in self.pages() {
+            copies.push(page.copy(alloc)?)?;
+        }
+        Ok(Round::of(copies))
+    }
+
+    // The round, and its plan over the class table that the book keeps for the end.
+    fn planned(&self, search: Search) -> Result<(Round, Bounded), BookFault>
+        ensures round { IfOk result (λ both. (both.0 ≡ self.now) × IsRound self.now) }
+        ensures plan { IfOk result (λ both. IsPlanFor search self.now both.1) }
+        ensures bad_limit { IsErrOf result (BookFault.Plan PlanFault.BadLimit) ↔ (¬ IsNodeLimit search.limit) }
+        ensures no_pages { IsErrOf result BookFault.NoPages ↔ (IsNodeLimit search.limit × (self.now ≡ [])) }
+        ensures fault { IfErr result (ExplainsBook search.effort search.end self.now search.limit) }
+    {
+        if !is_node_limit(search.limit) {
+            return Err(BookFault::Plan(PlanFault::BadLimit));
+        }
+        if self.is_empty() {
+            return Err(BookFault::NoPages);
+        }
+        let alloc = self.allocator();
+        let round = self.to_round(alloc)?;
+        let bounded = counted_plan(alloc, &round, self.classes(search.end), search)?;
+        Ok((round, bounded))
+    }
+
+    /// Plans the round of the pages, as `plan` does, over the class table that the book keeps for the end.
+    /// `BadLimit` where the node limit is 0 or above 1,000,000, then `NoPages`, then as `plan`.
+    pub fn plan(&self, limit: u32, end: End) -> Result<Plan, BookFault>
+        ensures round { OnOk result (IsRound self.now) }
+        ensures plan { IfOk result (IsPlan end self.now) }
+        ensures small { IfOk result (λ plan. closed_nodes (bound_tree_of plan.tree) ≤ limit) }
+        ensures bad_limit { IsErrOf result (BookFault.Plan PlanFault.BadLimit) ↔ (¬ IsNodeLimit limit) }
+        ensures no_pages { IsErrOf result BookFault.NoPages ↔ (IsNodeLimit limit × (self.now ≡ [])) }
+        ensures fault { IfErr result (ExplainsBook Effort.Fewest end self.now limit) }
+    {
+        let effort = Effort::Fewest;
+        let (_round, bounded) = self.planned(Search { limit, end, effort })?;
+        Ok(bounded.plan)
+    }
+
+    /// Plans the round of the pages, as `plan_always` does, over the class table that the book keeps for the
+    /// end. `BadLimit` where the node limit is 0 or above 1,000,000, then `NoPages`; never `SearchLimit`.
+    pub fn plan_always(&self, limit: u32, end: End) -> Result<Bounded, BookFault>
+        ensures round { OnOk result (IsRound self.now) }
+        ensures plan { IfOk result (λ bounded. IsBounded end self.now bounded.plan bounded.bound) }
+        // Where the bound is the batches, they are the fewest.
+        ensures fewest { IfOk result (λ bounded. bounded.bound ≡ bounded.plan.batches →
+            NoneHasFewer end self.now bounded.plan.batches) }
+        // And where they are not, `plan` stops at the same limit, and all that it says then is so.
+        ensures no_worse { IfOk result (IsNoWorse end self.now limit) }
+        ensures small { IfOk result (λ bounded. closed_nodes (bound_tree_of bounded.plan.tree) ≤ limit) }
+        ensures bad_limit { IsErrOf result (BookFault.Plan PlanFault.BadLimit) ↔ (¬ IsNodeLimit limit) }
+        ensures no_pages { IsErrOf result BookFault.NoPages ↔ (IsNodeLimit limit × (self.now ≡ [])) }
+        ensures fault { IfErr result (ExplainsBook Effort.Always end self.now limit) }
+    {
+        let effort = Effort::Always;
+        let (_round, bounded) = self.planned(Search { limit, end, effort })?;
+        Ok(bounded)
+    }
+
+    /// Plans the round of the pages and writes the transmission whole and then the certificate, as
+    /// `plan_stream` does for a page file of these pages. Where there are no pages it answers
+    /// `Round(NoPages)`.
+    pub fn plan_stream<T: Sink, C: Sink>(
+        &self,
+        tx: &mut T,
+        cert: &mut C,
+        limit: u32,
+        end: End,
+    ) -> Result<Plan, StreamFault>
+        // The headline of these pages.
+        ensures headline { T.tells → C.tells → IfOk result (λ plan.
+            WritesAllOf (RoundHeadline self.now end plan.batches plan.batches (bound_tree_of plan.tree))
+            (T.taken tx.old) (T.taken tx.new) (C.taken cert.old) (C.taken cert.new)) }
+        ensures plan { IfOk result (IsPlan end self.now) }
+        ensures small { IfOk result (λ plan. closed_nodes (bound_tree_of plan.tree) ≤ limit) }
+
+        // When each fault comes, and what it leaves.
+        ensures explained { IfErr result (ExplainsBookStream Effort.Fewest end self.now limit) }
+        ensures bad_limit { IsErrOf result (StreamFault.Plan PlanFault.BadLimit) ↔ (¬ IsNodeLimit limit) }
+        ensures writers { WritesInTurn T.failures C.failures tx.old tx.new cert.old cert.new (fault_in result) }
+        ensures part { T.tells → IfErr result (λ e. IsTransmission e →
+            WritesPartOf (HasHeadline Effort.Fewest self.now end) (T.taken tx.old) (T.taken tx.new)) }
+        ensures certificate_part { T.tells → C.tells → IfErr result (λ e. IsCertificate e →
+            WritesCertificatePartOf (HasHeadline Effort.Fewest self.now end)
+            (T.taken tx.old) (T.taken tx.new) (C.taken cert.old) (C.taken cert.new)) }
+    {
+        let effort = Effort::Fewest;
+        let bounded = self.bounded_stream(tx, cert, Search { limit, end, effort })?;
+        Ok(bounded.plan)
+    }
+
+    /// Plans the round of the pages as `plan_always` does, and writes the transmission whole and then the
+    /// certificate, as `plan_stream_always` does for a page file of these pages. Where there are no pages it
+    /// answers `Round(NoPages)`.
+    pub fn plan_stream_always<T: Sink, C: Sink>(
+        &self,
+        tx: &mut T,
+        cert: &mut C,
+        limit: u32,
+        end: End,
+    ) -> Result<Bounded, StreamFault>
+        // The headline of these pages with the bound; the batches are the bound, or one more, by `plan`.
+        ensures headline { T.tells → C.tells → IfOk result (λ bounded.
+            WritesAllOf
+            (RoundHeadline self.now end bounded.plan.batches bounded.bound (bound_tree_of bounded.plan.tree))
+            (T.taken tx.old) (T.taken tx.new) (C.taken cert.old) (C.taken cert.new)) }
+        ensures fewest { T.tells → C.tells → IfOk result (λ bounded. bounded.bound ≡ bounded.plan.batches →
+            WritesAllOf
+            (RoundHeadline self.now end bounded.plan.batches bounded.plan.batches (bound_tree_of bounded.plan.tree))
+            (T.taken tx.old) (T.taken tx.new) (C.taken cert.old) (C.taken cert.new)) }
+        ensures plan { IfOk result (λ bounded. IsBounded end self.now bounded.plan bounded.bound) }
+        ensures no_worse { IfOk result (IsNoWorse end self.now limit) }
+        ensures small { IfOk result (λ bounded. closed_nodes (bound_tree_of bounded.plan.tree) ≤ limit) }
+
+        // When each fault comes, and what it leaves.
+        ensures explained { IfErr result (ExplainsBookStream Effort.Always end self.now limit) }
+        ensures answered { IfErr result (λ e. ¬ IsSearchLimit e) }
+        ensures bad_limit { IsErrOf result (StreamFault.Plan PlanFault.BadLimit) ↔ (¬ IsNodeLimit limit) }
+        ensures writers { WritesInTurn T.failures C.failures tx.old tx.new cert.old cert.new (fault_in result) }
+        ensures part { T.tells → IfErr result (λ e. IsTransmission e →
+            WritesPartOf (HasHeadline Effort.Always self.now end) (T.taken tx.old) (T.taken tx.new)) }
+        ensures certificate_part { T.tells → C.tells → IfErr result (λ e. IsCertificate e →
+            WritesCertificatePartOf (HasHeadline Effort.Always self.now end)
+            (T.taken tx.old) (T.taken tx.new) (C.taken cert.old) (C.taken cert.new)) }
+    {
+        let effort = Effort::Always;
+        self.bounded_stream(tx, cert, Search { limit, end, effort })
+    }
+
+    /// Plans the round of the pages and writes both as is asked: `plan_stream` with the bound of its plan,
+    /// which is its batches, or `plan_stream_always`.
+    pub fn bounded_stream<T: Sink, C: Sink>(
+        &self,
+        tx: &mut T,
+        cert: &mut C,
+        search: Search,
+    ) -> Result<Bounded, StreamFault>
+        ensures headline { T.tells → C.tells → IfOk result (λ bounded. WritesAllOf
+            (RoundHeadline self.now search.end bounded.plan.batches bounded.bound (bound_tree_of bounded.plan.tree))
+            (T.taken tx.old) (T.taken tx.new) (C.taken cert.old) (C.taken cert.new)) }
+        ensures plan { IfOk result (IsPlanFor search self.now) }
+
+        // When each fault comes, and what it leaves.
+        ensures explained { IfErr result (ExplainsBookStream search.effort search.end self.now search.limit) }
+        ensures bad_limit { IsErrOf result (StreamFault.Plan PlanFault.BadLimit) ↔ (¬ IsNodeLimit search.limit) }
+        ensures writers { WritesInTurn T.failures C.failures tx.old tx.new cert.old cert.new (fault_in result) }
+        ensures part { T.tells → IfErr result (λ e. IsTransmission e →
+            WritesPartOf (HasHeadline search.effort self.now search.end) (T.taken tx.old) (T.taken tx.new)) }
+        ensures certificate_part { T.tells → C.tells → IfErr result (λ e. IsCertificate e →
+            WritesCertificatePartOf (HasHeadline search.effort self.now search.end)
+            (T.taken tx.old) (T.taken tx.new) (C.taken cert.old) (C.taken cert.new)) }
+    {
+        let (round, bounded) = self.planned(search)?;
+        send(&round, &bounded, tx, cert)?;
+        Ok(bounded)
+    }
+}

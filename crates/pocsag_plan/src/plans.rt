@@ -1,0 +1,183 @@
+ghost use Rattle.std.specs.Prelude.{◌≡◌, ◌≤◌, ◌↔◌, IfErr, IfOk, IsErrOf, IsTrue, sum_by};
+ghost use Rattle.pocsag_pages.specs.Reading.{page_length};
+ghost use Rattle.pocsag_slots.specs.Loads.{AreClassesOf};
+ghost use Rattle.pocsag_tree.specs.BoundTrees.{closed_nodes};
+ghost use Rattle.pocsag_tree.specs.Views.{bound_tree_of};
+ghost use Rattle.pocsag_branch.specs.Found.{HasPage, IsNodeLimit};
+ghost use Rattle.pocsag_plan.specs.Plans.{ExplainsPlan, IsBounded, IsNoWorse, IsPlan, IsPlanFor, NoneHasFewer};
+ghost use Rattle.pocsag_plan.specs.Within.{IsTightOrStopped, IsWithinOne, IsWithinOneOf};
+
+use crate::answer::Plan;
+use crate::bounded::Bounded;
+use crate::fault::PlanFault;
+use crate::search::{Effort, Search};
+use pocsag_batch::{in_order_batches, order_of};
+use pocsag_branch::{Found, FreeFault, SearchLimit, search_freely};
+use pocsag_check::accepted_trees_have_texts;
+use pocsag_pages::Round;
+use pocsag_slots::{Classes, classes_of, tours_have_codewords};
+use pocsag_words::{End, OutOfMemory};
+use std::alloc::Global;
+
+// The greatest node limit.
+const NODE_LIMIT: u32 = 1_000_000;
+
+/// Plans the round: the fewest batches for the end, with a tour and the tree that refutes one batch less.
+/// `BadLimit` where the node limit is 0 or above 1,000,000, `SearchLimit` where so many nodes do not
+/// decide it.
+pub fn plan(alloc: Global, round: &Round, limit: u32, end: End) -> Result<Plan, PlanFault>
+    ensures plan { IfOk result (IsPlan end round.now) }
+    ensures small { IfOk result (λ plan. closed_nodes (bound_tree_of plan.tree) ≤ limit) }
+    ensures bad_limit { IsErrOf result PlanFault.BadLimit ↔ (¬ IsNodeLimit limit) }
+    ensures fault { IfErr result (ExplainsPlan Effort.Fewest end round.now limit) }
+{
+    let effort = Effort::Fewest;
+    let bounded = bounded_plan(alloc, round, Search { limit, end, effort })?;
+    Ok(bounded.plan)
+}
+
+/// Plans the round for the end, and refuses none: with the fewest batches, or, where `plan` stops at its limit,
+/// with one batch more than the bound that is proved, beside what `plan` answers. `BadLimit` where the node limit
+/// is 0 or above 1,000,000; never `SearchLimit`.
+pub fn plan_always(alloc: Global, round: &Round, limit: u32, end: End) -> Result<Bounded, PlanFault>
+    ensures plan { IfOk result (λ bounded. IsBounded end round.now bounded.plan bounded.bound) }
+    // Where the bound is the batches, they are the fewest.
+    ensures fewest { IfOk result (λ bounded. bounded.bound ≡ bounded.plan.batches →
+        NoneHasFewer end round.now bounded.plan.batches) }
+    // And where they are not, `plan` stops at the same limit, and all that it says then is so.
+    ensures no_worse { IfOk result (IsNoWorse end round.now limit) }
+    ensures small { IfOk result (λ bounded. closed_nodes (bound_tree_of bounded.plan.tree) ≤ limit) }
+    ensures bad_limit { IsErrOf result PlanFault.BadLimit ↔ (¬ IsNodeLimit limit) }
+    ensures fault { IfErr result (ExplainsPlan Effort.Always end round.now limit) }
+{
+    let effort = Effort::Always;
+    bounded_plan(alloc, round, Search { limit, end, effort })
+}
+
+/// Plans the round as is asked: `plan` with its bound, which is its batches, or `plan_always`.
+pub fn bounded_plan(alloc: Global, round: &Round, search: Search) -> Result<Bounded, PlanFault>
+    ensures plan { IfOk result (IsPlanFor search round.now) }
+    ensures bad_limit { IsErrOf result PlanFault.BadLimit ↔ (¬ IsNodeLimit search.limit) }
+    ensures fault { IfErr result (ExplainsPlan search.effort search.end round.now search.limit) }
+{
+    if !is_node_limit(search.limit) {
+        return Err(PlanFault::BadLimit);
+    }
+    counted_plan(alloc, round, &classes_of(round, search.end), search)
+}
+
+pub(crate) fn is_node_limit(limit: u32) -> bool
+    ensures { IsTrue result ↔ IsNodeLimit limit }
+{
+    1 <= limit && limit <= NODE_LIMIT
+}
+
+// The same for a limit that can be asked for and the class table of the round for the end.
+pub(crate) fn counted_plan(
+    alloc: Global,
+    round: &Round,
+    classes: &Classes,
+    search: Search,
+) -> Result<Bounded, PlanFault>
+    requires limited { IsNodeLimit search.limit }
+    requires counted { AreClassesOf classes.now search.end round.now }
+    ensures plan { IfOk result (IsPlanFor search round.now) }
+    ensures limit { ¬ IsErrOf result PlanFault.BadLimit }
+    ensures fault { IfErr result (ExplainsPlan search.effort search.end round.now search.limit) }
+{
+    round.keeps_rules();
+    match search.effort {
+        Effort::Fewest => {
+            let found = pocsag_branch::search(alloc, classes, search.limit, search.end)?;
+            let bound = found.batches;
+            let plan = completed(alloc, round, found, bound, search)?;
+            Ok(Bounded {
+                plan,
+                bound,
+                stopped: None,
+            })
+        }
+        Effort::Always => {
+            let (found, bound, stopped) = within_one(alloc, classes, search)?;
+            let plan = completed(alloc, round, found, bound, search)?;
+            Ok(Bounded {
+                plan,
+                bound,
+                stopped,
+            })
+        }
+    }
+}
+
+// What the free search finds, or what it leaves at its limit; the bound; and at the limit what the search for
+// the fewest says.
+fn within_one(
+    alloc: Global,
+    classes: &Classes,
+    search: Search,
+) -> Result<(Found, u32, Option<SearchLimit>), OutOfMemory>
+    requires limited { IsNodeLimit search.limit }
+    requires pages { HasPage classes.now }
+    ensures within { IfOk result (λ x. IsWithinOne classes.now search.end search.limit x.1 x.0) }
+    ensures stopped { IfOk result
+        (λ x. IsTightOrStopped classes.now search.end search.limit x.1 x.0.batches x.2) }
+{
+    match search_freely(alloc, classes, search.limit, search.end) {
+        Ok(found) => {
+            let bound = found.batches;
+            Ok((found, bound, None))
+        }
+        Err(FreeFault::SearchLimit { near, stop }) => {
+            let found = Found {
+                batches: near.least + 1,
+                choice: near.choice,
+                steps: near.steps,
+                tree: near.tree,
+            };
+            Ok((found, near.least, Some(stop)))
+        }
+        Err(FreeFault::OutOfMemory) => Err(OutOfMemory),
+    }
+}
+
+// How many codewords the pages have.
+fn codewords_of(round: &Round) -> u32
+    ensures { result ≡ sum_by page_length round.now }
+{
+    let mut total = 0;
+    for page in round.pages() {
+        total += 1 + page.payload.as_slice().len();
+    }
+    total as u32
+}
+
+// The plan with what a search found, and the bound for which its tree is.
+fn completed(
+    alloc: Global,
+    round: &Round,
+    found: Found,
+    bound: u32,
+    search: Search,
+) -> Result<Plan, OutOfMemory>
+    requires limited { IsNodeLimit search.limit }
+    requires within { IsWithinOneOf search.end round.now search.limit bound found }
+    ensures plan { IfOk result (λ plan. IsBounded search.end round.now plan bound) }
+    ensures batches { IfOk result (λ plan. plan.batches ≡ found.batches) }
+    ensures tree { IfOk result (λ plan. plan.tree ≡ found.tree) }
+{
+    tours_have_codewords();
+    accepted_trees_have_texts();
+    let pages = round.pages().len() as u32;
+    let order = order_of(alloc, round, &found.steps, search.end)?;
+    Ok(Plan {
+        end: search.end,
+        batches: found.batches,
+        in_order: in_order_batches(round),
+        pages,
+        codewords: codewords_of(round),
+        steps: found.steps,
+        order,
+        choice: found.choice,
+        tree: found.tree,
+    })
+}

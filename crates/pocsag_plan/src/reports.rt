@@ -1,0 +1,68 @@
+ghost use Rattle.std.specs.Prelude.{◌≡◌, ◌*◌, ◌≤◌, IfOk, IsErr, ◌↔◌, Some};
+ghost use Rattle.std.specs.Fmt.{WritesOnOk};
+ghost use Rattle.pocsag_plan.specs.Reports.{IsRate, IsReport, first_lines, last_lines, line_of, report_text};
+
+use crate::airtime::Report;
+use crate::answer::Plan;
+use crate::fault::BadRate;
+use pocsag_words::{airtime, transmission_bits};
+use std::fmt::{self, Display, Formatter};
+
+/// What the plan takes on the air at a rate of 512, 1200 or 2400 bits a second.
+pub fn report(plan: &Plan, rate: u32) -> Result<Report, BadRate>
+    requires { plan.now.codewords ≤ 16 * plan.now.batches }
+    ensures report { IfOk result (IsReport plan.now rate) }
+    ensures bad { IsErr result ↔ (¬ IsRate rate) }
+{
+    if !matches!(rate, 512 | 1200 | 2400) {
+        return Err(BadRate);
+    }
+    let batches = u64::from(plan.batches);
+    let bits = transmission_bits(batches);
+    Ok(Report {
+        pages: plan.pages,
+        codewords: plan.codewords,
+        in_order: plan.in_order,
+        batches: plan.batches,
+        idles: 16 * batches - u64::from(plan.codewords),
+        bits: bits as u64,
+        airtime_ms: airtime(bits, rate) as u64,
+    })
+}
+
+impl Display for Report {
+    ghost output = { λ r. Some (report_text r) };
+
+    #[tactic(auto, unfolding(crate::specs::Reports::report_text))]
+    fn fmt<W: fmt::Write>(&self, f: &mut Formatter<W>) -> fmt::Result {
+        write_first(self, f)?;
+        write_last(self, f)
+    }
+}
+
+#[tactic(auto, unfolding(crate::specs::Reports::first_lines))]
+fn write_first<W: fmt::Write>(report: &Report, f: &mut Formatter<W>) -> fmt::Result
+    ensures { WritesOnOk W.write_str_gives f.old result (first_lines report.now) f.new }
+{
+    write_line(f, "pages", u64::from(report.pages))?;
+    write_line(f, "codewords", u64::from(report.codewords))?;
+    write_line(f, "in_order", u64::from(report.in_order))?;
+    write_line(f, "batches", u64::from(report.batches))
+}
+
+#[tactic(auto, unfolding(crate::specs::Reports::last_lines))]
+fn write_last<W: fmt::Write>(report: &Report, f: &mut Formatter<W>) -> fmt::Result
+    ensures { WritesOnOk W.write_str_gives f.old result (last_lines report.now) f.new }
+{
+    write_line(f, "idles", report.idles)?;
+    write_line(f, "bits", report.bits)?;
+    write_line(f, "airtime_ms", report.airtime_ms)
+}
+
+#[tactic(auto, unfolding(crate::specs::Reports::line_of))]
+fn write_line<W: fmt::Write>(f: &mut Formatter<W>, name: &str, n: u64) -> fmt::Result
+    ensures { WritesOnOk W.write_str_gives f.old result (line_of name.now n) f.new }
+{
+    f.write_str(name)?;
+    writeln!(f, " {n}")
+}

@@ -1,0 +1,47 @@
+-- What is received of bytes that were sent, and why a command does not answer.
+use Rattle.std.proofs.Common.{◌≡◌, ◌⊎◌, ℕ, ◌*◌, List, ◌++◌, length, None, Some, refl, ap, ◌∙◌, subst, inl, inr, arith}
+use Rattle.pocsag_pages.specs.declared.page.Page.{Page}
+use Rattle.pocsag_pages.specs.Bytes.{Sent, after_preamble, body_bytes, synced, words_of}
+use Rattle.pocsag_pages.proofs.Lengths.{body_length, synced_count}
+use Rattle.pocsag_decode.specs.Faults.{IsFaultless, ReadsAs}
+use Rattle.pocsag_decode.specs.Listing.{listing}
+use Rattle.pocsag_decode.proofs.Preambles.{after_is}
+use Rattle.pocsag_decode.proofs.SentBytes.{body_begins}
+use Rattle.pocsag_pager.specs.Faults.{hearing_fault}
+use Rattle.pocsag_pager.specs.Shown.{ShowsSome}
+use Rattle.pocsag_pager.specs.declared.fault.PagerFault.{PagerFault}
+use Rattle.pocsag_pager.specs.declared.fault.PagerFault.TheVariants as hearing
+use Rattle.pocsag_shell.specs.declared.fault.FileFault.TheVariants as file
+use Rattle.pocsag_receiver.specs.Faults.{receiver_status}
+use Rattle.pocsag_receiver.specs.Listings.{Decoded, ExplainsDecoding, ExplainsHearing}
+use Rattle.pocsag_receiver.specs.declared.fault.ReceiverFault.{ReceiverFault}
+use Rattle.pocsag_receiver.specs.declared.fault.ReceiverFault.TheVariants as fault
+
+-- what is listed of the bytes that were sent are their pages
+pub listed_as_sent : (X bytes : List ℕ) (ps : List Page) (out out' : List ℕ) → ((qs : List Page) → ReadsAs X qs → qs ≡ ps) → bytes ≡ X →
+    Decoded bytes out out' → out' ≡ out ++ listing ps
+listed_as_sent X bytes ps out out' one same d =
+    d.listed ∙ ap (λ (qs : List Page). out ++ listing qs) (one d.pages (subst (λ (l : List ℕ). ReadsAs l d.pages) same d.reads))
+
+-- bytes of a reading are not refused
+pub never_refused : (X : List ℕ) (e : ReceiverFault) → IsFaultless X → ExplainsDecoding X e → receiver_status e ≡ 3
+never_refused X (fault.Transmission f) none said = absurd (none f said)
+never_refused X (fault.File file.OutOfMemory) none said = refl
+never_refused X (fault.File file.Write) none said = refl
+never_refused X _ none said = absurd said
+
+pub why_unheard : (a : ℕ) (X : List ℕ) (f : PagerFault) →
+    (hearing_fault a X ≡ Some f) ⊎ ((hearing_fault a X ≡ None) × (f ≡ hearing.OutOfMemory)) →
+    (hearing_fault a X ≡ None → ShowsSome (words_of (after_preamble X)) a) → ExplainsHearing a X (fault.Pager f)
+why_unheard a X f (inl is) some = inl is
+why_unheard a X f (inr none) some = inr (none.1, record { taken = none.0; some = some none.0 })
+
+-- how long the batches are
+pub batches_long : (X T : List ℕ) (s : Sent X T) → length (after_preamble X) ≡ 68 * s.batches
+batches_long X T s =
+    let body : after_preamble X ≡ body_bytes T =
+    after_is X s.preamble (body_bytes T) (record { whole = s.bytes; other = body_begins T }) in
+    let whole = s.whole.1 in
+    let count = synced_count 0 T in
+    let size = body_length (synced 0 T) in
+    omega (arith, ap length body)

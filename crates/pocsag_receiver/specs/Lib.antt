@@ -1,0 +1,5 @@
+pub mod Faults
+pub mod Files
+pub mod Listings
+pub mod Repair
+pub mod Views

@@ -1,0 +1,58 @@
+-- What `decode` and `hear` list, and why they list nothing.
+use Rattle.std.specs.Prelude.{◌≡◌, ◌⊎◌, ℕ, List, ◌++◌, None, Some}
+use Rattle.pocsag_words.specs.Devices.{TookPrefix}
+use Rattle.pocsag_pages.specs.declared.page.Page.{Page}
+use Rattle.pocsag_pages.specs.Bytes.{after_preamble, words_of}
+use Rattle.pocsag_decode.specs.Faults.{HasFault, ReadsAs}
+use Rattle.pocsag_decode.specs.Listing.{listing}
+use Rattle.pocsag_pager.specs.Faults.{hearing_fault}
+use Rattle.pocsag_pager.specs.Shown.{AreShown, ShowsSome}
+use Rattle.pocsag_pager.specs.declared.fault.PagerFault.TheVariants as hearing
+use Rattle.pocsag_shell.specs.declared.fault.FileFault.TheVariants as file
+use Rattle.pocsag_receiver.specs.declared.fault.ReceiverFault.{ReceiverFault}
+use Rattle.pocsag_receiver.specs.declared.fault.ReceiverFault.TheVariants as fault
+
+-- `decode`: the pages that the bytes read as were listed.
+pub record Decoded (bytes out_before out_after : List ℕ) : Type 0 where
+  pub pages : List Page
+  pub reads : ReadsAs bytes pages
+  pub listed : out_after ≡ out_before ++ listing pages
+
+-- A prefix of that listing was taken.
+pub record DecodedPart (bytes out_before out_after : List ℕ) : Type 0 where
+  pub pages : List Page
+  pub reads : ReadsAs bytes pages
+  pub part : TookPrefix out_before out_after (listing pages)
+
+-- The bytes have this fault, of which they have one at most; or they read as pages, and memory or the writer refused.
+abbrev pub ExplainsDecoding : (bytes : List ℕ) → ReceiverFault → Type 0
+ExplainsDecoding bytes (fault.Transmission f) = HasFault bytes f
+ExplainsDecoding bytes (fault.File file.OutOfMemory) = (pages : List Page) × ReadsAs bytes pages
+ExplainsDecoding bytes (fault.File file.Write) = (pages : List Page) × ReadsAs bytes pages
+ExplainsDecoding bytes _ = ⊥
+
+-- `hear`: the pages that a pager of the address shows of the bytes were listed.
+pub record HeardAndListed (address : ℕ) (bytes out_before out_after : List ℕ) : Type 0 where
+  pub taken : hearing_fault address bytes ≡ None
+  pub pages : List Page
+  pub shown : AreShown (words_of (after_preamble bytes)) address pages
+  pub listed : out_after ≡ out_before ++ listing pages
+
+-- A prefix of that listing was taken.
+pub record HeardPart (address : ℕ) (bytes out_before out_after : List ℕ) : Type 0 where
+  pub taken : hearing_fault address bytes ≡ None
+  pub pages : List Page
+  pub shown : AreShown (words_of (after_preamble bytes)) address pages
+  pub part : TookPrefix out_before out_after (listing pages)
+
+-- Memory refused a page that the pager shows.
+pub record IsUnheard (address : ℕ) (bytes : List ℕ) : Type 0 where
+  pub taken : hearing_fault address bytes ≡ None
+  pub some : ShowsSome (words_of (after_preamble bytes)) address
+
+-- The address or the bytes have this fault; or they have none, and memory or the writer refused.
+abbrev pub ExplainsHearing : (address : ℕ) → (bytes : List ℕ) → ReceiverFault → Type 0
+ExplainsHearing address bytes (fault.Pager f) = (hearing_fault address bytes ≡ Some f) ⊎ ((f ≡ hearing.OutOfMemory) × IsUnheard address bytes)
+ExplainsHearing address bytes (fault.File file.OutOfMemory) = hearing_fault address bytes ≡ None
+ExplainsHearing address bytes (fault.File file.Write) = hearing_fault address bytes ≡ None
+ExplainsHearing address bytes _ = ⊥

@@ -1,0 +1,51 @@
+-- What `show` leaves of standard output, and why bytes are not shown.
+use Rattle.std.specs.Prelude.{◌≡◌, ◌⊎◌, ℕ, ◌<◌, ◌≤◌, List, Some, IfSome}
+use Rattle.pocsag_pages.specs.declared.page.Page.{Page}
+use Rattle.pocsag_decode.specs.Faults.{HasFault, ReadsAs, WantsMemory}
+use Rattle.pocsag_show.specs.Drawing.{drawing}
+use Rattle.pocsag_show.specs.Picture.{grid_text}
+use Rattle.pocsag_show.specs.Places.{place_listing}
+use Rattle.pocsag_show.specs.Showing.{Shows, ShowsPart}
+use Rattle.pocsag_show.specs.Views.{rows_wanted}
+use Rattle.pocsag_show.specs.declared.rows.Rows.{Rows}
+use Rattle.pocsag_show.specs.declared.view.View.{View}
+use Rattle.pocsag_show.specs.declared.view.View.TheVariants.{Grid, Places, Drawing}
+use Rattle.pocsag_shell.specs.declared.fault.FileFault.TheVariants as file
+use Rattle.pocsag_receiver.specs.declared.fault.ReceiverFault.{ReceiverFault}
+use Rattle.pocsag_receiver.specs.declared.fault.ReceiverFault.TheVariants as fault
+
+-- The grid of the rows that are asked for, the listing of the places or the drawing of these rows was told.
+abbrev pub Viewed : View → (bytes out_before out_after : List ℕ) → Type 0
+Viewed (Grid rows) bytes out_before out_after = Shows (grid_text rows) bytes out_before out_after
+Viewed Places bytes out_before out_after = Shows place_listing bytes out_before out_after
+Viewed (Drawing rows) bytes out_before out_after = Shows (drawing rows) bytes out_before out_after
+
+-- A prefix of it was told.
+abbrev pub ViewedPart : View → (bytes out_before out_after : List ℕ) → Type 0
+ViewedPart (Grid rows) bytes out_before out_after = ShowsPart (grid_text rows) bytes out_before out_after
+ViewedPart Places bytes out_before out_after = ShowsPart place_listing bytes out_before out_after
+ViewedPart (Drawing rows) bytes out_before out_after = ShowsPart (drawing rows) bytes out_before out_after
+
+-- The bytes read as pages, in so many batches.
+pub record ReadsInBatches (bytes : List ℕ) (batches : ℕ) : Type 0 where
+  pub pages : List Page
+  pub reads : ReadsAs bytes pages
+  pub as_many : reads.sent.batches ≡ batches
+
+-- If rows are asked for, the first of them is a batch of the transmission.
+abbrev pub HasRows : View → (bytes : List ℕ) → Type 0
+HasRows view bytes = IfSome (rows_wanted view) (λ rows. (batches : ℕ) → ReadsInBatches bytes batches → rows.first ≤ batches)
+
+-- These rows are asked for, and the first of them is behind the last batch of the transmission, which has so many.
+pub record IsBehindLast (view : View) (bytes : List ℕ) (rows : Rows) (batches : ℕ) : Type 0 where
+  pub wanted : rows_wanted view ≡ Some rows
+  pub reads : ReadsInBatches bytes batches
+  pub behind : batches < rows.first
+
+-- The bytes have this fault, the rows that are asked for are behind their last batch, or memory or the writer refused.
+abbrev pub ExplainsShowing : View → (bytes : List ℕ) → ReceiverFault → Type 0
+ExplainsShowing view bytes (fault.Transmission f) = HasFault bytes f
+ExplainsShowing view bytes (fault.NoSuchRows rows batches) = IsBehindLast view bytes rows batches
+ExplainsShowing view bytes (fault.File file.OutOfMemory) = WantsMemory bytes ⊎ ((pages : List Page) × ReadsAs bytes pages)
+ExplainsShowing view bytes (fault.File file.Write) = (pages : List Page) × ReadsAs bytes pages
+ExplainsShowing view bytes _ = ⊥

@@ -1,0 +1,111 @@
+use crate::decode::decode_bytes;
+use crate::fault::ReceiverFault;
+use crate::hear::list_heard;
+use crate::show::show_bytes;
+use crate::transmission::TRANSMISSION_LIMIT;
+use crate::words::{
+    ADDRESS, BAD_ROWS, DECODE, HEAR, RECEIVER_COMMANDS, REPAIR, SHOW, SHOW_SHAPE, wanted_view,
+};
+use clap::error::ErrorKind;
+use clap::{ArgMatches, Command, Error};
+use pocsag_decode::Repaired;
+use pocsag_shell::{Call, Desk, Group, Names, Role, TX, add_commands, command, path_of, read_file};
+use pocsag_show::View;
+use std::alloc::{AllocError, Global};
+
+/// The commands `decode`, `hear` and `show`.
+#[derive(Clone, Copy)]
+pub struct Receiver;
+
+// What is asked of a transmission.
+#[derive(Clone, Copy)]
+enum Receiving {
+    Decode { repair: bool },
+    Hear { address: u32 },
+    Show { view: View, repair: bool },
+}
+
+impl Group for Receiver {
+    fn add_to<'a>(&self, alloc: Global, program: Command<'a>) -> Result<Command<'a>, AllocError> {
+        add_commands(alloc, program, RECEIVER_COMMANDS)
+    }
+
+    fn misplaced(&self, _found: &ArgMatches<'_>) -> Option<&'static str> {
+        None
+    }
+
+    fn obey(&self, desk: Desk<'_>, call: Call<'_, '_>) -> Option<Result<u8, Error>> {
+        let (name, found) = (call.name?, call.found);
+        let Some(asked) = asked_of(name, found) else {
+            return if name == SHOW {
+                Some(Err(bad_rows(desk.alloc)))
+            } else {
+                None
+            };
+        };
+        let tx = found.get_str(TX)?;
+        let names = Names {
+            tx: Some(tx),
+            ..Names::NONE
+        };
+        Some(Ok(desk.end(names, receive(desk, asked, tx))))
+    }
+}
+
+// What the words ask of a transmission; nothing where they are those of no command, or of `show` with rows that are none.
+fn asked_of(name: &str, found: &ArgMatches<'_>) -> Option<Receiving> {
+    match name {
+        DECODE => Some(Receiving::Decode {
+            repair: found.get_flag(REPAIR),
+        }),
+        HEAR => Some(Receiving::Hear {
+            address: found.get_one::<u32>(ADDRESS)?,
+        }),
+        SHOW => Some(Receiving::Show {
+            view: wanted_view(found)?,
+            repair: found.get_flag(REPAIR),
+        }),
+        _ => None,
+    }
+}
+
+// Why the rows are none.
+fn bad_rows(alloc: Global) -> Error {
+    match rows_error(alloc) {
+        Ok(error) => error,
+        Err(refused) => Error::from(refused),
+    }
+}
+
+fn rows_error(alloc: Global) -> Result<Error, AllocError> {
+    let mut show = command(alloc, &SHOW_SHAPE)?.bin_name("pocsag show")?;
+    show.error(ErrorKind::ValueValidation, BAD_ROWS)
+}
+
+// Reads a transmission and answers what is asked of it. The exit status is 0.
+fn receive(desk: Desk<'_>, asked: Receiving, tx: &str) -> Result<u8, ReceiverFault> {
+    let mut bytes = read_file(desk, Role::Transmission, path_of(tx), TRANSMISSION_LIMIT)?;
+    let bytes = bytes.as_mut_slice();
+    let out = &mut desk.out();
+    match asked {
+        Receiving::Decode { repair } => {
+            let corrected = decode_bytes(desk.alloc, repair, bytes, out)?;
+            note_repair(desk, repair, tx, corrected);
+        }
+        Receiving::Hear { address } => list_heard(desk.alloc, address, bytes, out)?,
+        Receiving::Show { view, repair } => {
+            let corrected = show_bytes(desk.alloc, view, repair, bytes, out)?;
+            note_repair(desk, repair, tx, corrected);
+        }
+    }
+    Ok(0)
+}
+
+// With `--repair` and `--verbose` notes how much was corrected.
+fn note_repair(desk: Desk<'_>, repair: bool, tx: &str, corrected: Repaired) {
+    if repair {
+        let Repaired { words, bits } = corrected;
+        let role = Role::Transmission;
+        desk.note(format_args!("{role} {tx}: corrected bits {bits}, words {words}"));
+    }
+}

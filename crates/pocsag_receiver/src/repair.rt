@@ -1,0 +1,20 @@
+ghost use Rattle.std.specs.Prelude.{◌≡◌, ℕ, List, true};
+ghost use Rattle.pocsag_pages.specs.Bytes.{Sent};
+ghost use Rattle.pocsag_pager.specs.Damage.{IsDamaged};
+ghost use Rattle.pocsag_decode.specs.Repairing.{Counts};
+ghost use Rattle.pocsag_receiver.specs.Repair.{AreReadOf};
+
+use pocsag_decode::{Repaired, repair_all};
+
+/// Repairs each word of a transmission, where that is asked for, and answers how much was corrected.
+pub(crate) fn repair_asked(repair: bool, bytes: &mut [u8]) -> Repaired
+    ensures read { AreReadOf bytes.old repair bytes.new }
+    ensures counted { Counts result bytes.old bytes.new }
+    ensures restored { repair ≡ true → (X codewords : List ℕ) → Sent X codewords → IsDamaged X bytes.old →
+        bytes.new ≡ X }
+{
+    if repair {
+        return repair_all(bytes);
+    }
+    Repaired { words: 0, bits: 0 }
+}

@@ -1,0 +1,134 @@
+//! The words of `decode`, `hear` and `show`, and what help says of them.
+
+use clap::ArgMatches;
+use pocsag_shell::{Content, FLAG, Given, LineWord, PLACE, SVG, Shape, TX_PLACE};
+use pocsag_show::{Rows, View};
+
+pub(crate) const DECODE: &str = "decode";
+
+pub(crate) const HEAR: &str = "hear";
+
+pub(crate) const SHOW: &str = "show";
+
+pub(crate) const ADDRESS: &str = "ADDRESS";
+
+pub(crate) const REPAIR: &str = "repair";
+
+const LIST: &str = "list";
+
+const ROWS: &str = "rows";
+
+const SHOW_MANUAL: &str = "\
+The first line has the totals. Then each batch has a line with its number and
+a letter for each codeword, in eight frames of two: a capital letter for the
+address codeword of a page, the same letter in lower case for its message
+codewords, and a full stop for an idle codeword. The address of a page decides
+its letter, and its hue in the drawing, so a page keeps both however its round
+is sent. --rows A-B shows the batches from A to B, --rows A- those from A on,
+and --rows A one batch. The whole transmission is read and checked in each
+case, and rows after its last batch are refused. --repair shows the
+transmission as it is after the repair.
+
+Example:
+  pocsag show tx.bin
+  pocsag show tx.bin --svg > tx.svg
+  pocsag show tx.bin --rows 3-7";
+
+// What refuses a range of rows that is none.
+pub(crate) const BAD_ROWS: &str = "\
+invalid value for '--rows A-B': batches are counted from 1, as in 3-7, 3- or 5,
+and the last is not before the first";
+
+const ADDRESS_PLACE: LineWord = LineWord {
+    id: ADDRESS,
+    help: "The pager's address, 0 to 2097151",
+    content: Content::Number,
+    ..PLACE
+};
+
+const REPAIR_FLAG: LineWord = LineWord {
+    id: REPAIR,
+    help: "\
+Corrects up to two wrong bits in each word before it is
+read, for every address; --verbose tells how many",
+    ..FLAG
+};
+
+const SVG_FLAG: LineWord = LineWord {
+    id: SVG,
+    help: "Draws the transmission as an SVG picture",
+    ..FLAG
+};
+
+const LIST_FLAG: LineWord = LineWord {
+    id: LIST,
+    help: "Lists where each page is, as CSV",
+    excludes: &[SVG],
+    ..FLAG
+};
+
+const ROWS_OPTION: LineWord = LineWord {
+    id: ROWS,
+    help: "Shows these batches alone, counted from 1",
+    given: Given::Option("A-B", &[]),
+    excludes: &[LIST],
+    ..FLAG
+};
+
+pub(crate) const SHOW_SHAPE: Shape = Shape {
+    name: SHOW,
+    about: "Shows what a transmission looks like, codeword by codeword",
+    manual: Some(SHOW_MANUAL),
+    words: &[TX_PLACE, SVG_FLAG, ROWS_OPTION, LIST_FLAG, REPAIR_FLAG],
+};
+
+// The commands in the order of help.
+pub(crate) const RECEIVER_COMMANDS: &[Shape] = &[
+    Shape {
+        name: DECODE,
+        about: "Lists the pages of a transmission",
+        manual: None,
+        words: &[TX_PLACE, REPAIR_FLAG],
+    },
+    Shape {
+        name: HEAR,
+        about: "Lists what one pager shows, past two wrong bits in each codeword",
+        manual: None,
+        words: &[ADDRESS_PLACE, TX_PLACE],
+    },
+    SHOW_SHAPE,
+];
+
+// The rows that a word names: A-B, A- or A.
+fn named_rows(word: &str) -> Option<Rows> {
+    let (first, last) = word.split_once('-').unwrap_or((word, word));
+    let last = if last.is_empty() {
+        u64::MAX
+    } else {
+        number_of(last)?
+    };
+    Rows::new(number_of(first)?, last)
+}
+
+// The number of decimal digits alone.
+fn number_of(word: &str) -> Option<u64> {
+    if word.starts_with('+') {
+        return None;
+    }
+    word.parse::<u64>().ok()
+}
+
+/// How `show` is asked to show a transmission; nothing where the word for the rows names none.
+pub(crate) fn wanted_view(found: &ArgMatches<'_>) -> Option<View> {
+    let rows = match found.get_str(ROWS) {
+        Some(word) => named_rows(word)?,
+        None => Rows::all(),
+    };
+    Some(if found.get_flag(SVG) {
+        View::Drawing(rows)
+    } else if found.get_flag(LIST) {
+        View::Places
+    } else {
+        View::Grid(rows)
+    })
+}

@@ -1,0 +1,14 @@
+-- The lines on standard error (this project's own).
+use Rattle.std.specs.Prelude.{◌==◌, ◌||◌, ℕ, if◌then◌else◌, nat_lt, List, [], ◌∷◌, ◌++◌, map, codes}
+
+-- A byte of a note: the given one, or a question mark for one that ends a line or steers a terminal.
+unfoldable pub plain : ℕ → ℕ
+plain byte = if nat_lt byte 32 || (byte == 127) then 63 else byte
+
+-- The line of a text: `pocsag: `, the text, and a line feed.
+abbrev pub error_line : List ℕ → List ℕ
+error_line text = codes "pocsag: " ++ (text ++ (10 ∷ []))
+
+-- The line of a note of `--verbose`, in which the line feed at its end is the only one.
+unfoldable pub note_text : List ℕ → List ℕ
+note_text text = error_line (map plain text)

@@ -1,0 +1,115 @@
+ghost use Rattle.std.specs.Prelude.{◌≡◌, ◌⊎◌, IfErr, IfOk, IsErrAnd, IsErrOf, Ok, OnErr};
+
+use crate::devices::WriterSink;
+use crate::fault::{Failure, FileFault};
+use crate::lines::tell_fault;
+use crate::note::tell_note;
+use crate::role::{Names, Role};
+use crate::watch::{Trouble, Watch};
+use std::alloc::Global;
+use std::fmt::Display;
+use std::io::{self, ErrorKind, Stderr, Stdout};
+
+/// What each step of a command needs: the runtime, the allocator, and the watch for `--verbose`.
+#[derive(Clone, Copy)]
+pub struct Desk<'a> {
+    pub rt: &'a HostRuntime,
+    pub alloc: Global,
+    pub watch: &'a Watch,
+}
+
+impl<'a> Desk<'a> {
+    /// The result of opening or making a file, as a fault of the command if the system refused it.
+    pub fn opened<T: Drop>(&self, role: Role, found: io::Result<T>) -> Result<T, FileFault>
+        ensures kept { IfOk found (λ file. result ≡ Ok file) }
+        ensures fault { OnErr found (IsErrAnd result (λ e. (e ≡ FileFault.Device) ⊎ (e ≡ FileFault.OutOfMemory))) }
+    {
+        match found {
+            Ok(found) => Ok(found),
+            Err(error) if error.kind() == ErrorKind::OutOfMemory => Err(FileFault::OutOfMemory),
+            Err(error) => {
+                self.watch.meet(role, error.raw_os_error());
+                Err(FileFault::Device)
+            }
+        }
+    }
+
+    /// The result of writing, renaming or synchronising a file, as a fault of the command if the system refused it.
+    pub fn written(&self, role: Role, done: io::Result<()>) -> Result<(), FileFault>
+        ensures kept { IfOk done (λ unit. result ≡ Ok unit) }
+        ensures fault { OnErr done (IsErrOf result FileFault.Write) }
+    {
+        match done {
+            Ok(()) => Ok(()),
+            Err(error) => {
+                self.watch.meet(role, error.raw_os_error());
+                Err(FileFault::Write)
+            }
+        }
+    }
+
+    /// Standard output.
+    pub fn out(&self) -> WriterSink<'a, Stdout> {
+        WriterSink::new(self.rt.stdout(), Role::Output, self.watch)
+    }
+
+    /// Standard error.
+    pub fn err(&self) -> WriterSink<'a, Stderr> {
+        WriterSink::new(self.rt.stderr(), Role::Output, self.watch)
+    }
+
+    /// Keeps a note for `tell_more`, in place of an earlier one, if the user gave `--verbose`. It keeps none if memory
+    /// runs out.
+    pub fn note<D: Display + Drop>(&self, text: D) {
+        if self.watch.is_asked() {
+            let _ = self.watch.note.try_replace(text.to_string(self.alloc).ok());
+        }
+    }
+
+    /// Adds the line of `--verbose` on standard error: the note that was kept, or else which file the system refused last
+    /// and why. Both are then forgotten. If standard error fails the line is lost.
+    pub fn tell_more(&self, names: Names<'_>) {
+        if !self.watch.is_asked() {
+            return;
+        }
+        let kept = self.watch.note.try_replace(None).ok().flatten();
+        let told = match (kept, self.watch.take_trouble()) {
+            (None, Some(trouble)) => self.reason(names, trouble),
+            (kept, _) => kept,
+        };
+        if let Some(told) = told {
+            let _ = tell_note(self.alloc, &mut self.err(), told.as_str());
+        }
+    }
+
+    // Which file the system refused and why, unless memory runs out.
+    fn reason(&self, names: Names<'_>, trouble: Trouble) -> Option<String> {
+        let place = names.place(trouble.role);
+        let told = match trouble.code {
+            Some(code) => {
+                let reason = io::Error::from_raw_os_error(code);
+                format!(in self.alloc; "{place}: {reason}")
+            }
+            None => format!(in self.alloc; "{place}: the system took nothing and told no reason"),
+        };
+        told.ok()
+    }
+
+    /// Ends a command: writes its fault to standard error, and the line of `--verbose` behind it. It writes nothing if standard
+    /// output lost its reader. Answers the exit status.
+    pub fn end<F: Failure>(&self, names: Names<'_>, done: Result<u8, F>) -> u8
+        ensures done { IfOk done (λ status. result ≡ status) }
+        ensures fault { IfErr done (λ fault. (result ≡ F.status_is fault) ⊎ (result ≡ 3)) }
+    {
+        let status = match done {
+            Ok(status) => {
+                let _ = self.watch.take_trouble();
+                status
+            }
+            Err(_) if self.watch.met_closed_output() => return FileFault::Write.status(),
+            Err(fault) => tell_fault(&mut self.err(), fault),
+        };
+        self.tell_more(names);
+        status
+    }
+}

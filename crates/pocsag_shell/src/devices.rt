@@ -1,0 +1,97 @@
+ghost use Rattle.std.specs.Prelude.{◌≡◌, []};
+
+use crate::role::Role;
+use crate::watch::Watch;
+use pocsag_words::{DeviceFault, Sink, Source};
+use std::io::{Read, Write};
+
+/// A reader of the system as a `Source`. It records each refused call in the watch. Every error counts as a failure, an
+/// interruption too. Contracts know nothing of its bytes.
+#[derive(Drop)]
+pub struct ReaderSource<'a, R: Read> {
+    reader: R,
+    role: Role,
+    watch: &'a Watch,
+    calls: u64,
+    failures: u64,
+}
+
+impl<'a, R: Read> ReaderSource<'a, R> {
+    /// A source over the reader of a file with this role.
+    pub fn new(reader: R, role: Role, watch: &'a Watch) -> ReaderSource<'a, R> {
+        ReaderSource {
+            reader,
+            role,
+            watch,
+            calls: 0,
+            failures: 0,
+        }
+    }
+}
+
+impl<'a, R: Read> Source for ReaderSource<'a, R> {
+    ghost tells = { ⊥ };
+
+    ghost held = { λ _. [] };
+
+    ghost calls = { λ s. s.calls };
+
+    ghost failures = { λ s. s.failures };
+
+    fn read(&mut self, buffer: &mut [u8]) -> Result<usize, DeviceFault> {
+        self.calls = self.calls.saturating_add(1);
+        match self.reader.read(buffer) {
+            Ok(count) => Ok(count),
+            Err(error) => {
+                self.watch.meet(self.role, error.raw_os_error());
+                self.failures = self.failures.saturating_add(1);
+                Err(DeviceFault)
+            }
+        }
+    }
+}
+
+/// A writer of the system as a `Sink`. It records each refused call in the watch. Every error counts as a failure, an
+/// interruption too, and so does a write that takes nothing of a non-empty piece. Contracts know nothing of its bytes.
+#[derive(Drop)]
+pub struct WriterSink<'a, W: Write> {
+    writer: W,
+    role: Role,
+    watch: &'a Watch,
+    calls: u64,
+    failures: u64,
+}
+
+impl<'a, W: Write> WriterSink<'a, W> {
+    /// A sink over the writer of a file with this role.
+    pub fn new(writer: W, role: Role, watch: &'a Watch) -> WriterSink<'a, W> {
+        WriterSink {
+            writer,
+            role,
+            watch,
+            calls: 0,
+            failures: 0,
+        }
+    }
+}
+
+impl<'a, W: Write> Sink for WriterSink<'a, W> {
+    ghost tells = { ⊥ };
+
+    ghost taken = { λ _. [] };
+
+    ghost calls = { λ s. s.calls };
+
+    ghost failures = { λ s. s.failures };
+
+    fn write(&mut self, piece: &[u8]) -> Result<usize, DeviceFault> {
+        self.calls = self.calls.saturating_add(1);
+        match self.writer.write(piece) {
+            Ok(count) if count > 0 || piece.is_empty() => return Ok(count),
+            Ok(_) => self.watch.meet(self.role, None),
+            Err(error) => self.watch.meet(self.role, error.raw_os_error()),
+        }
+        self.failures = self.failures.saturating_add(1);
+        Err(DeviceFault)
+    }
+}

@@ -1,0 +1,187 @@
+ghost use Rattle.std.specs.Prelude.{◌≤◌, length, IfOk};
+
+use crate::desk::Desk;
+use crate::devices::{ReaderSource, WriterSink};
+use crate::fault::FileFault;
+use crate::paths::{Named, are_one, name_one_file};
+use crate::role::Role;
+use crate::streams::{Input, Output};
+use crate::words::{STANDARD, path_of};
+use pocsag_pages::read_whole;
+use pocsag_words::Sink;
+use std::fs::{self, File, Metadata, OpenFile, OpenOptions};
+use std::io;
+use std::rt::Files;
+
+// The system's error number for a folder in place of a file.
+const IS_FOLDER: i32 = 21;
+
+/// The two outputs of a plan.
+#[derive(Drop)]
+pub struct Outputs<S: Sink + Drop> {
+    /// Takes the transmission.
+    pub tx: S,
+    /// Takes the certificate.
+    pub cert: S,
+}
+
+// The files behind standard output and standard error.
+const OUTPUT_STREAM: &str = "/proc/self/fd/1";
+
+const ERROR_STREAM: &str = "/proc/self/fd/2";
+
+// What --verbose adds where a word names such a file.
+const BEHIND_STREAM: &str =
+    "a file is the one behind standard output or standard error; to write to standard output, give '-' in place of TX or CERT";
+
+// Opens a file for reading. It refuses a folder.
+fn open_file(desk: Desk<'_>, role: Role, path: &str) -> Result<File, FileFault> {
+    let file = desk.opened(role, fs::open(desk.rt, path))?;
+    let metadata = desk.opened(role, file.metadata())?;
+    if metadata.is_dir() {
+        desk.watch.meet(role, Some(IS_FOLDER));
+        return Err(FileFault::Device);
+    }
+    Ok(file)
+}
+
+/// Opens a file for reading, or standard input if there is no path.
+pub fn open_source<'a>(
+    desk: Desk<'a>,
+    role: Role,
+    path: Option<&str>,
+) -> Result<ReaderSource<'a, Input<File>>, FileFault> {
+    let input = match path {
+        Some(path) => Input::File(open_file(desk, role, path)?),
+        None => Input::Standard(desk.rt.stdin()),
+    };
+    Ok(ReaderSource::new(input, role, desk.watch))
+}
+
+/// Reads a whole file, or standard input if there is no path. More than `limit` bytes are a fault.
+pub fn read_file(
+    desk: Desk<'_>,
+    role: Role,
+    path: Option<&str>,
+    limit: usize,
+) -> Result<Vec<u8>, FileFault>
+    ensures fits { IfOk result (λ file. length file.items ≤ limit) }
+{
+    let mut source = open_source(desk, role, path)?;
+    Ok(read_whole(desk.alloc, &mut source, limit)?)
+}
+
+// Opens or makes a file for writing and keeps its bytes, or opens standard output.
+fn open_output(desk: Desk<'_>, role: Role, word: &str) -> Result<Output<File>, FileFault> {
+    let Some(path) = path_of(word) else {
+        return Ok(Output::Standard(desk.rt.stdout()));
+    };
+    let mut options = OpenOptions::new();
+    options.write(true).create(true);
+    let file = desk.opened(role, options.open(desk.rt, path))?;
+    Ok(Output::File(file))
+}
+
+// Empties a regular file. Other files keep no bytes.
+fn empty(desk: Desk<'_>, role: Role, output: &Output<File>) -> Result<(), FileFault> {
+    let Output::File(file) = output else {
+        return Ok(());
+    };
+    let metadata = desk.opened(role, file.metadata())?;
+    if metadata.is_file() {
+        return desk.opened(role, file.set_len(0));
+    }
+    Ok(())
+}
+
+/// Opens or makes the two files of a plan, and empties them once both are open. If two of the three words name one file it
+/// refuses them and empties none.
+pub fn make_outputs<'a>(
+    desk: Desk<'a>,
+    pages: Option<&str>,
+    tx: &str,
+    cert: &str,
+) -> Result<Outputs<WriterSink<'a, Output<File>>>, FileFault> {
+    refuse_shared(desk, pages, tx, cert)?;
+    let opened_tx = open_output(desk, Role::Transmission, tx)?;
+    // A new file may have a second spelling among the paths. It may also stand behind a standard stream that was closed.
+    refuse_shared(desk, pages, tx, cert)?;
+    let opened_cert = open_output(desk, Role::Certificate, cert)?;
+    refuse_shared(desk, pages, tx, cert)?;
+    empty(desk, Role::Transmission, &opened_tx)?;
+    empty(desk, Role::Certificate, &opened_cert)?;
+    Ok(Outputs {
+        tx: WriterSink::new(opened_tx, Role::Transmission, desk.watch),
+        cert: WriterSink::new(opened_cert, Role::Certificate, desk.watch),
+    })
+}
+
+/// Refuses two words that name one file, whatever their spelling, and a word that names the file behind standard output or
+/// standard error.
+pub fn refuse_shared(
+    desk: Desk<'_>,
+    pages: Option<&str>,
+    tx: &str,
+    cert: &str,
+) -> Result<(), FileFault> {
+    let rt = desk.rt;
+    refuse_one_file(rt, pages, tx, cert)?;
+    let output = Named::behind(rt, OUTPUT_STREAM);
+    let errors = Named::behind(rt, ERROR_STREAM);
+    for path in [pages, path_of(tx), path_of(cert)] {
+        let named = named_at(rt, path);
+        if are_one(named, output) || are_one(named, errors) {
+            desk.note(BEHIND_STREAM);
+            return Err(FileFault::EqualPaths);
+        }
+    }
+    // If standard output takes a file, standard error takes the lines.
+    if (tx == STANDARD || cert == STANDARD) && are_one(output, errors) {
+        return Err(FileFault::EqualPaths);
+    }
+    Ok(())
+}
+
+/// Refuses two words that name one file, whatever their spelling.
+pub fn refuse_one_file<R: Files>(
+    rt: &R,
+    pages: Option<&str>,
+    tx: &str,
+    cert: &str,
+) -> Result<(), FileFault> {
+    let pages = named_at(rt, pages);
+    let tx = named_at(rt, path_of(tx));
+    if name_one_file(pages, tx, named_at(rt, path_of(cert))) {
+        return Err(FileFault::EqualPaths);
+    }
+    Ok(())
+}
+
+fn named_at<R: Files>(rt: &R, path: Option<&str>) -> Option<Named> {
+    match path {
+        Some(path) => Named::at(rt, path),
+        None => None,
+    }
+}
+
+/// Whether there is a path, and at it a regular file. A folder or nothing counts too: opening it reports the fault.
+pub fn is_regular(rt: &HostRuntime, path: Option<&str>) -> bool {
+    match path {
+        Some(path) => !is_other(fs::metadata(rt, path)),
+        None => false,
+    }
+}
+
+/// Whether a rename may replace what stands at the path: a regular file that is no link, or nothing. A folder counts too:
+/// replacing it reports the fault.
+pub fn is_regular_or_none(rt: &HostRuntime, path: &str) -> bool {
+    !is_other(fs::symlink_metadata(rt, path))
+}
+
+// Whether there is something other than a regular file or a folder.
+fn is_other(found: io::Result<Metadata>) -> bool {
+    match found {
+        Ok(metadata) => !metadata.is_file() && !metadata.is_dir(),
+        Err(_) => false,
+    }
+}

@@ -1,0 +1,50 @@
+use crate::desk::Desk;
+use clap::{ArgMatches, Command, Error};
+use std::alloc::{AllocError, Global};
+
+/// What the command line asks for.
+#[derive(Clone, Copy)]
+pub struct Call<'a, 'm> {
+    /// The name of the command, if the user named one.
+    pub name: Option<&'m str>,
+    /// The words of the command, or those of the program if the user named no command.
+    pub found: &'m ArgMatches<'a>,
+}
+
+/// A group of commands.
+pub trait Group {
+    /// Adds the group's commands to the program, in the order of help, and the words that the group takes without a
+    /// command.
+    fn add_to<'a>(&self, alloc: Global, program: Command<'a>) -> Result<Command<'a>, AllocError>;
+
+    /// The error text for words of the group that stand in front of a command, if there are any. `found` holds the words of
+    /// the program.
+    fn misplaced(&self, found: &ArgMatches<'_>) -> Option<&'static str>;
+
+    /// Carries out a call and answers the exit status, or an error in the words. `None` means that the call is not for this
+    /// group.
+    fn obey(&self, desk: Desk<'_>, call: Call<'_, '_>) -> Option<Result<u8, Error>>;
+}
+
+/// Two groups as one. Help lists the commands of the first in front.
+pub struct Both<A: Group, B: Group>(pub A, pub B);
+
+impl<A: Group, B: Group> Group for Both<A, B> {
+    fn add_to<'a>(&self, alloc: Global, program: Command<'a>) -> Result<Command<'a>, AllocError> {
+        self.1.add_to(alloc, self.0.add_to(alloc, program)?)
+    }
+
+    fn misplaced(&self, found: &ArgMatches<'_>) -> Option<&'static str> {
+        match self.0.misplaced(found) {
+            Some(text) => Some(text),
+            None => self.1.misplaced(found),
+        }
+    }
+
+    fn obey(&self, desk: Desk<'_>, call: Call<'_, '_>) -> Option<Result<u8, Error>> {
+        match self.0.obey(desk, call) {
+            Some(done) => Some(done),
+            None => self.1.obey(desk, call),
+        }
+    }
+}

@@ -1,0 +1,55 @@
+use crate::beside::parts_of;
+use std::fs;
+use std::io::ErrorKind;
+
+// The endings of the files that a run makes beside a place.
+const ENDINGS: [&str; 2] = [".new", ".old"];
+
+/// Removes `PLACE.NUMBER.new` and `PLACE.NUMBER.old` of runs that were killed: files whose process number no process has
+/// now. It removes nothing if the system does not show its processes.
+pub(crate) fn remove_left_over(rt: &HostRuntime, place: &str) {
+    if fs::metadata(rt, "/proc/self/stat").is_err() {
+        return;
+    }
+    let (folder, name) = parts_of(place);
+    let Ok(entries) = fs::read_dir(rt, folder) else {
+        return;
+    };
+    for entry in entries {
+        let Ok(entry) = entry else {
+            continue;
+        };
+        let Some(number) = process_of(name, entry.file_name()) else {
+            continue;
+        };
+        if is_gone(rt, number) {
+            let _ = fs::remove_file(rt, entry.path());
+        }
+    }
+}
+
+// The number of the process that made the file beside the place of a name, if a process made it.
+fn process_of(name: &str, file: &str) -> Option<u32> {
+    let rest = file.strip_prefix(name)?.strip_prefix('.')?;
+    for ending in ENDINGS {
+        if let Some(number) = rest.strip_suffix(ending) {
+            return if number.starts_with('+') {
+                None
+            } else {
+                number.parse::<u32>().ok()
+            };
+        }
+    }
+    None
+}
+
+// Whether no process has the number.
+fn is_gone(rt: &HostRuntime, number: u32) -> bool {
+    let Ok(path) = format!(in rt.alloc(); "/proc/{number}") else {
+        return false;
+    };
+    match fs::metadata(rt, path.as_str()) {
+        Ok(_) => false,
+        Err(error) => error.kind() == ErrorKind::NotFound,
+    }
+}

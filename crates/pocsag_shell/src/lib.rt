@@ -1,0 +1,41 @@
+#![tactic(auto)]
+//! What the groups of commands share: the faults of files, how a command opens and makes files, the lines on standard error,
+//! and how the words of the command line become a call of a command. The crate knows neither the commands nor the planner.
+
+mod beside;
+mod desk;
+mod devices;
+mod fault;
+mod files;
+mod group;
+mod left_over;
+mod lines;
+mod note;
+mod paths;
+mod program;
+mod role;
+mod streams;
+mod tables;
+mod watch;
+mod words;
+
+pub use beside::{Beside, put_both};
+pub use desk::Desk;
+pub use devices::{ReaderSource, WriterSink};
+pub use fault::{Failure, FileFault};
+pub use files::{
+    Outputs, is_regular, is_regular_or_none, make_outputs, open_source, read_file, refuse_one_file,
+    refuse_shared,
+};
+pub use group::{Both, Call, Group};
+pub use lines::{put_whole, tell, tell_fault};
+pub use paths::{Named, refuse_equal};
+pub use program::run;
+pub use role::{NamedFile, Names, Role};
+pub use streams::{Input, Output};
+pub use tables::{add_commands, add_words, command};
+pub use watch::Watch;
+pub use words::{
+    ALWAYS, ALWAYS_FLAG, CERT, CERT_PLACE, Content, FLAG, Given, KEEP, KEEP_FLAG, LineWord, PAGES,
+    PAGES_PLACE, PLACE, STANDARD, SVG, Shape, TX, TX_PLACE, path_of,
+};

@@ -1,0 +1,51 @@
+ghost use Rattle.std.specs.Prelude.{◌≡◌, ℕ, List, ◌++◌, IfErr, OnErr, OnOk, Some};
+ghost use Rattle.pocsag_words.specs.Devices.{CountsFailures, Delivers, TookPrefix};
+ghost use Rattle.pocsag_shell.specs.Faults.{IsFailure};
+ghost use Rattle.pocsag_shell.specs.Notes.{error_line};
+
+use crate::fault::{Failure, FileFault};
+use arrayvec::ArrayString;
+use pocsag_words::{Sink, write_all};
+use std::fmt::{Display, Write};
+
+// The longest text in bytes.
+const LONGEST: usize = 200;
+
+/// Writes the bytes whole. After a fault a prefix of them was taken.
+pub fn put_whole<S: Sink>(sink: &mut S, bytes: &[u8]) -> Result<(), FileFault>
+    ensures delivers { S.tells → Delivers result (S.taken sink.old) (S.taken sink.new) bytes.now }
+    ensures lost { IfErr result (λ e. e ≡ FileFault.Write) }
+    ensures failures { CountsFailures result (S.failures sink.old) (S.failures sink.new) }
+{
+    match write_all(sink, bytes) {
+        Ok(()) => Ok(()),
+        Err(_) => Err(FileFault::Write),
+    }
+}
+
+/// Writes a text of at most 200 bytes without allocating. A longer text is a fault.
+pub fn tell<S: Sink, D: Display + Drop>(sink: &mut S, text: D) -> Result<(), FileFault>
+    ensures told { S.tells → (told : List ℕ) → D.output text ≡ Some told →
+        OnOk result (S.taken sink.new ≡ S.taken sink.old ++ told) }
+    ensures part { S.tells → (told : List ℕ) → D.output text ≡ Some told →
+        OnErr result (TookPrefix (S.taken sink.old) (S.taken sink.new) told) }
+    ensures lost { IfErr result (λ e. e ≡ FileFault.Write) }
+{
+    let mut kept = ArrayString::<LONGEST>::new();
+    let Ok(()) = write!(kept, "{text}") else {
+        return Err(FileFault::Write);
+    };
+    put_whole(sink, kept.as_str().as_bytes())
+}
+
+/// Writes the line of a fault to standard error and answers the exit status. If standard error fails the line is lost, or all
+/// but its front.
+pub fn tell_fault<S: Sink, F: Failure>(err: &mut S, fault: F) -> u8
+    ensures told { S.tells → (text : List ℕ) → F.output fault ≡ Some text →
+        TookPrefix (S.taken err.old) (S.taken err.new) (error_line text) }
+    ensures value { result ≡ F.status_is fault }
+    ensures failure { IsFailure result }
+{
+    let _ = tell(err, format_args!("pocsag: {fault}\n"));
+    fault.status()
+}

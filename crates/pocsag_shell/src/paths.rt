@@ -1,0 +1,71 @@
+ghost use Rattle.std.specs.Prelude.{◌↔◌, ◌⊎◌, IsErrOf, IsTrue, map};
+ghost use Rattle.pocsag_shell.specs.declared.fault.FileFault.TheVariants.{EqualPaths};
+ghost use Rattle.pocsag_shell.specs.Paths.{AreOne, HasEqual, paths_of};
+
+use crate::fault::FileFault;
+use std::fs::{self, Metadata};
+use std::os::unix::fs::{FileTypeExt, MetadataExt};
+use std::rt::Files;
+
+/// Refuses equal texts among the paths of a page file, if there is one, and of two outputs.
+pub fn refuse_equal(pages: Option<&str>, tx: &str, cert: &str) -> Result<(), FileFault>
+    ensures { HasEqual (map (λ path. path.now) (paths_of pages.entry tx.entry cert.entry)) ↔ IsErrOf result EqualPaths }
+{
+    let is_input = match pages {
+        Some(pages) => pages == tx || pages == cert,
+        None => false,
+    };
+    if is_input || tx == cert {
+        return Err(FileFault::EqualPaths);
+    }
+    Ok(())
+}
+
+/// A file as the system knows it. A second spelling of a path, or a link, names the same file.
+#[derive(Clone, Copy, PartialEq, Eq)]
+pub struct Named {
+    device: u64,
+    number: u64,
+}
+
+impl Named {
+    /// The file that the metadata describe.
+    pub fn of(metadata: &Metadata) -> Named {
+        Named {
+            device: metadata.dev(),
+            number: metadata.ino(),
+        }
+    }
+
+    /// The file that the path names, if there is one.
+    pub fn at<R: Files>(rt: &R, path: &str) -> Option<Named> {
+        match fs::metadata(rt, path) {
+            Ok(metadata) => Some(Named::of(&metadata)),
+            Err(_) => None,
+        }
+    }
+
+    /// The file behind a stream with this path. A character device such as a terminal does not count: it keeps no bytes.
+    pub fn behind<R: Files>(rt: &R, path: &str) -> Option<Named> {
+        match fs::metadata(rt, path) {
+            Ok(metadata) if !metadata.file_type().is_char_device() => Some(Named::of(&metadata)),
+            _ => None,
+        }
+    }
+}
+
+/// Whether two of the files of a plan are one file.
+pub fn name_one_file(pages: Option<Named>, tx: Option<Named>, cert: Option<Named>) -> bool
+    ensures { IsTrue result ↔ (AreOne pages tx ⊎ AreOne pages cert ⊎ AreOne tx cert) }
+{
+    are_one(pages, tx) || are_one(pages, cert) || are_one(tx, cert)
+}
+
+pub(crate) fn are_one(one: Option<Named>, other: Option<Named>) -> bool
+    ensures { IsTrue result ↔ AreOne one other }
+{
+    match (one, other) {
+        (Some(one), Some(other)) => one == other,
+        _ => false,
+    }
+}

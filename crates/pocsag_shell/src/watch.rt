@@ -1,0 +1,59 @@
+use crate::role::Role;
+use std::cell::{Cell, RefCell};
+
+// The system's error number for a pipe without a reader.
+const BROKEN_PIPE: i32 = 32;
+
+/// The system refused a call on a file or a stream.
+#[derive(Clone, Copy)]
+pub(crate) struct Trouble {
+    /// What the file is to the command.
+    pub(crate) role: Role,
+    /// The system's error number, if it gave one.
+    pub(crate) code: Option<i32>,
+}
+
+/// What one call of the program keeps for the line that `--verbose` adds: the last call that the system refused, and a
+/// note of the command itself.
+#[derive(Drop)]
+pub struct Watch {
+    is_asked: bool,
+    trouble: Cell<Option<Trouble>>,
+    pub(crate) note: RefCell<Option<String>>,
+}
+
+impl Watch {
+    /// An empty watch. `is_asked` says whether the user gave `--verbose`.
+    pub(crate) fn new(is_asked: bool) -> Watch {
+        Watch {
+            is_asked,
+            trouble: Cell::new(None),
+            note: RefCell::new(None),
+        }
+    }
+
+    /// Records that the system refused a call on a file or a stream.
+    pub fn meet(&self, role: Role, code: Option<i32>) {
+        self.trouble.set(Some(Trouble { role, code }));
+    }
+
+    /// The last refused call. The watch forgets it.
+    pub(crate) fn take_trouble(&self) -> Option<Trouble> {
+        self.trouble.replace(None)
+    }
+
+    /// Whether the last refused call was a write to a standard output without a reader.
+    pub(crate) fn met_closed_output(&self) -> bool {
+        match self.trouble.get() {
+            Some(trouble) => {
+                matches!(trouble.role, Role::Output) && trouble.code == Some(BROKEN_PIPE)
+            }
+            None => false,
+        }
+    }
+
+    /// Whether the user gave `--verbose`.
+    pub fn is_asked(&self) -> bool {
+        self.is_asked
+    }
+}

@@ -1,0 +1,111 @@
+ghost use Rattle.std.specs.Prelude.{◌≡◌, ◌<◌, ◌^◌, ◌++◌, OnOk, All};
+ghost use Rattle.std.specs.List.{flat_map};
+ghost use Rattle.pocsag_pages.specs.Listable.{IsListable};
+ghost use Rattle.pocsag_show.specs.Drawing.{group, page_drawn, page_title, piece};
+ghost use Rattle.pocsag_show.specs.Legend.{end_row_of, first_row_of};
+ghost use Rattle.pocsag_show.specs.Rows.{rows_between};
+
+use crate::marks::{put_head, put_opened, put_rectangle, put_tail};
+use crate::page_text::put_told;
+use crate::pieces::put;
+use crate::placed::Placed;
+use crate::places::{cell_left, row_top};
+use crate::window::Window;
+use std::alloc::{AllocError, Global};
+
+// Writes what is drawn of a page in a row.
+#[tactic(auto, unfolding(crate::specs::Drawing::piece))]
+fn put_piece(text: &mut Vec<u8>, low: usize, placed: &Placed, row: usize) -> Result<(), AllocError>
+    requires { row < 2 ^ 59 }
+    ensures { OnOk result (text.new.items ≡ text.old.items ++ piece low placed.now row) }
+{
+    let from = placed.start.max(16 * row);
+    let behind = placed.index_behind().min(16 * row as u128 + 16);
+    let x = cell_left(from);
+    let y = row_top(low, row);
+    put_rectangle(text, x, y, 28 * behind.saturating_sub(from as u128))?;
+    if 16 * row <= placed.start {
+        put_head(text, x, y, placed.number)
+    } else {
+        put_tail(text, x, y, placed.number)
+    }
+}
+
+// Writes what is drawn of a page in the rows in which it has codewords.
+fn put_pieces(text: &mut Vec<u8>, window: Window, placed: &Placed) -> Result<(), AllocError>
+    requires { window.high < 2 ^ 59 }
+    ensures { OnOk result (text.new.items ≡ text.old.items
+        ++ flat_map (piece window.low placed.now)
+        (rows_between (first_row_of window.low placed.now) (end_row_of window.high placed.now))) }
+{
+    let first = placed.first_row(window);
+    let end = placed.end_row(window);
+    for row in first..end {
+        put_piece(text, window.low, placed, row)?;
+    }
+    Ok(())
+}
+
+// Writes what is told of a page as the title of its group.
+#[tactic(auto, unfolding(crate::specs::Drawing::page_title))]
+fn put_title(alloc: Global, text: &mut Vec<u8>, placed: &Placed) -> Result<(), AllocError>
+    requires { IsListable placed.now.page }
+    ensures { OnOk result (text.new.items ≡ text.old.items ++ page_title placed.now) }
+{
+    put(text, b"<title>")?;
+    put_told(alloc, text, placed)?;
+    put(text, b"</title>")
+}
+
+// Writes the group of a page.
+#[tactic(auto, unfolding(crate::specs::Drawing::group))]
+fn put_group(
+    alloc: Global,
+    text: &mut Vec<u8>,
+    window: Window,
+    placed: &Placed,
+) -> Result<(), AllocError>
+    requires few { window.high < 2 ^ 59 }
+    requires listable { IsListable placed.now.page }
+    ensures { OnOk result (text.new.items ≡ text.old.items
+        ++ group window.low placed.now (first_row_of window.low placed.now) (end_row_of window.high placed.now)) }
+{
+    put_opened(text, placed.number)?;
+    put_title(alloc, text, placed)?;
+    put_pieces(text, window, placed)?;
+    put(text, b"</g>\n")
+}
+
+#[tactic(auto, unfolding(crate::specs::Drawing::page_drawn))]
+fn put_page(
+    alloc: Global,
+    text: &mut Vec<u8>,
+    window: Window,
+    placed: &Placed,
+) -> Result<(), AllocError>
+    requires few { window.high < 2 ^ 59 }
+    requires listable { IsListable placed.now.page }
+    ensures { OnOk result (text.new.items ≡ text.old.items ++ page_drawn window.low window.high placed.now) }
+{
+    if !placed.is_drawn(window) {
+        return Ok(());
+    }
+    put_group(alloc, text, window, placed)
+}
+
+/// Writes the pages that have codewords in the rows that are drawn.
+pub(crate) fn put_pages(
+    alloc: Global,
+    text: &mut Vec<u8>,
+    window: Window,
+    pages: &[Placed],
+) -> Result<(), AllocError>
+    requires few { window.high < 2 ^ 59 }
+    requires listable { All (λ pl. IsListable pl.page) pages.now }
+    ensures { OnOk result (text.new.items ≡ text.old.items ++ flat_map (page_drawn window.low window.high) pages.now) }
+{
+    for placed in pages {
+        put_page(alloc, text, window, placed)?;
+    }
+    Ok(())
+}

@@ -1,0 +1,73 @@
+ghost use Rattle.std.specs.Prelude.{◌≡◌, ◌++◌, OnOk};
+ghost use Rattle.std.specs.List.{flat_map};
+ghost use Rattle.pocsag_pages.specs.Listable.{IsListable};
+ghost use Rattle.pocsag_show.specs.Escapes.{escaped, told, told_message};
+
+use crate::letter_cells::capital_letter;
+use crate::marks::put_label;
+use crate::pieces::{put, put_printed};
+use crate::placed::Placed;
+use pocsag_decode::{kind_of_page, message_of};
+use pocsag_pages::Page;
+use std::alloc::{AllocError, Global};
+
+// Writes a character of a message so that it stands for itself.
+#[tactic(auto, unfolding(crate::specs::Escapes::escaped))]
+fn put_escaped(text: &mut Vec<u8>, byte: u8) -> Result<(), AllocError>
+    ensures { OnOk result (text.new.items ≡ text.old.items ++ escaped byte) }
+{
+    if byte == b'&' {
+        put(text, b"&amp;")
+    } else if byte == b'<' {
+        put(text, b"&lt;")
+    } else if byte == b'>' {
+        put(text, b"&gt;")
+    } else if byte < 32 {
+        let code = 9216 + u32::from(byte);
+        put_printed(text, format_args!("&#{code};"))
+    } else if byte < 127 {
+        put(text, &[byte])
+    } else {
+        put(text, b"&#9249;")
+    }
+}
+
+fn put_all_escaped(text: &mut Vec<u8>, message: &[u8]) -> Result<(), AllocError>
+    ensures { OnOk result (text.new.items ≡ text.old.items ++ flat_map escaped message.now) }
+{
+    for byte in message {
+        put_escaped(text, *byte)?;
+    }
+    Ok(())
+}
+
+// Writes the message of a page, where it has one.
+#[tactic(auto, unfolding(crate::specs::Escapes::told_message))]
+fn put_message(alloc: Global, text: &mut Vec<u8>, page: &Page) -> Result<(), AllocError>
+    requires { IsListable page.now }
+    ensures { OnOk result (text.new.items ≡ text.old.items ++ told_message page.now.function page.now.payload) }
+{
+    let items = page.payload.as_slice();
+    if items.is_empty() {
+        return Ok(());
+    }
+    put(text, b": ")?;
+    let Ok(message) = message_of(alloc, page.function, items) else {
+        return Err(AllocError);
+    };
+    put_all_escaped(text, message.as_slice())
+}
+
+/// Writes what is told of a page: its label, address, kind and message.
+#[tactic(auto, unfolding(crate::specs::Escapes::told))]
+pub(crate) fn put_told(alloc: Global, text: &mut Vec<u8>, placed: &Placed) -> Result<(), AllocError>
+    requires { IsListable placed.now.page }
+    ensures { OnOk result (text.new.items ≡ text.old.items ++ told placed.now) }
+{
+    let page = &placed.page;
+    let address = page.address;
+    put_label(text, capital_letter(placed.number), placed.number)?;
+    put_printed(text, format_args!(": address {address}, "))?;
+    put(text, kind_of_page(page.function, page.payload.as_slice()))?;
+    put_message(alloc, text, page)
+}
