@@ -2,6 +2,7 @@
 
 import re
 
+from page import read_page, title_of
 from source import all_functions, function_at, functions_of, homes_of, own_name, reached, with_one_clause
 
 UNOFFERED = "\npub unoffered : Unoffered\nunoffered = Unoffered\n"  # fits nothing
@@ -129,16 +130,16 @@ def rounds_of(edits, texts):
 
 
 def clauses_of(page, crate):
-    """The clauses that the page of wrong bodies names for a crate, by the edit's name as a row has it."""
-    section = page.partition(f"\n## `{crate}`\n")[2].partition("\n## ")[0]
-    return {title: clause for title, clause in re.findall(r"\| ([^|`]+) \| `[^`]+`, clause `([\w-]+)` \|", section)}
+    """The clauses that the page of wrong bodies names for a crate, by the edit's name as the page has it."""
+    named = ((title, re.fullmatch(r"clause `([\w-]+)`", goal)) for (home, title), (_, goal) in read_page(page).items() if home == crate)
+    return {title: clause[1] for title, clause in named if clause}
 
 
 def read_edits(files, texts, clauses):
     """The edits of these files that can be planted, with their clauses, and by its name why each other cannot."""
     good, bad = [], {}
     for file in files:
-        edit = Edit(file.stem, file.read_text(), clauses.get(re.sub("[_-]", " ", file.stem)))
+        edit = Edit(file.stem, file.read_text(), clauses.get(title_of(file.stem)))
         try:
             good.append(edit.look(texts))
         except Unfit as why:
