@@ -131,7 +131,7 @@ def rounds_of(edits, texts):
 
 def clauses_of(page, crate):
     """The clauses that the page of wrong bodies names for a crate, by the edit's name as the page has it."""
-    named = ((title, re.fullmatch(r"clause `([\w-]+)`", goal)) for (home, title), (_, goal) in read_page(page).items() if home == crate)
+    named = ((title, re.fullmatch(r"`([\w-]+)`", goal)) for (home, title), (_, goal) in read_page(page).items() if home == crate)
     return {title: clause[1] for title, clause in named if clause}
 
 

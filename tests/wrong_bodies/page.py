@@ -21,9 +21,9 @@ HEAD = """# Wrong bodies
 
 Each name below is an edit that puts a wrong body in the place of a right one, and the prover refuses it. So a contract
 does say what it seems to say. An item names the function that is refused, as the prover names it, and its wrong bodies
-with the goal that stays open: a clause of the contract (`returns` where the contract is one clause without a name, with
-the place where the function returns behind it), an invariant of a loop that leads to a clause, or a condition of a
-call. A method is listed under the module of its type.
+with the goal that stays open: a clause of the contract, in `code` font; or returns and the place where the function
+returns, if the contract is one clause without a name; or an invariant of a loop that leads to a clause, or a condition
+of a call. A method is listed under the module of its type.
 
 `./test --mutations` tries all of them. The edits are files: those of each kind of mistake that a planner, checker or
 receiver can make are in `crates/NAME/must-fail/`, where `rt ci` tries them too, and the others in
@@ -56,15 +56,15 @@ def goal_of(told):
     name = (quoted[1] or quoted[2]) if quoted else ""
     clause = re.search(r"clause-([\w-]+)$", name)
     if clause:
-        return f"clause `{clause[1]}`"
+        return f"`{clause[1]}`"
     if "requires" in name:
-        return f"`{name}`, a condition of a call"
-    return f"`{name}`" if name else re.sub("[(;)]", ",", told[:80])
+        return f"{name}, a condition of a call"
+    return name or re.sub("[(;)]", ",", told[:80])
 
 
 def is_at_the_same(known, told):
     """Whether a clause that is known is the one that a run tells without its name, as it does where it tries that one alone."""
-    return known[1].startswith("clause ") and told[0] == known[0] and told[1].startswith("`") and "returns" in told[1]
+    return known[1].startswith("`") and told[0] == known[0] and not told[1].startswith("`") and "returns" in told[1]
 
 
 def items_of(found):

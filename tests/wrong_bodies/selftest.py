@@ -217,7 +217,7 @@ def test_narrowing(tally, _):
     _, texts = clauses_kept([("top", "whole")])
     left = re.findall(r"^(?:pub )?(returns\S*)", texts["proofs/top/Answers.antt"], re.M)
     tally.check("answers for the clause alone", left == ["returns-then-clause-whole"] * 2, left)
-    page = "\n## `low`\n\n- `top`: a body, one\n  more (clause `small`); b (`returns`)\n- `on`: c (`x`, a condition of a call)\n\n## `a`\n\n- `d`: c (clause `e`)\n"
+    page = "\n## `low`\n\n- `top`: a body, one\n  more (`small`); b (returns)\n- `on`: c (x, a condition of a call)\n\n## `a`\n\n- `d`: c (`e`)\n"
     tally.check("the clauses of the page", clauses_of(page, "low") == {"a body": "small", "one more": "small"}, clauses_of(page, "low"))
 
 
