@@ -8,14 +8,14 @@ use crate::plan::{DEFAULT_SEARCH, bounded_file};
 use crate::report::{frames_file, report_file, tell_frames, tell_report};
 use crate::texts::EARLY_STRICT;
 use crate::words::{CHECK, COMMANDS, PLAN, REPORT, STRICT, STRICT_FLAG};
-use clap::{ArgMatches, Command, Error};
+use clap::{ArgMatches, Error};
 use pocsag_pages::{FILE_LIMIT, read_whole};
 use pocsag_shell::{
-    CERT, Call, Desk, FileFault, Group, Names, PAGES, Role, STANDARD, TX, add_commands, add_words,
-    open_source, path_of, read_file, tell,
+    CERT, Call, Desk, FileFault, Group, Names, PAGES, Role, STANDARD, TX, Tables, open_source,
+    path_of, read_file, tell,
 };
 use pocsag_words::INPUT_LIMIT;
-use std::alloc::{AllocError, Global};
+use std::alloc::AllocError;
 use std::io::IsTerminal;
 
 // What a person is told who gave no words.
@@ -27,9 +27,9 @@ const AT_TERMINAL: &str =
 pub struct Centre;
 
 impl Group for Centre {
-    fn add_to<'a>(&self, alloc: Global, program: Command<'a>) -> Result<Command<'a>, AllocError> {
-        let program = add_words(alloc, program, &[STRICT_FLAG])?;
-        add_commands(alloc, program, COMMANDS)
+    fn add_to(&self, tables: &mut Tables) -> Result<(), AllocError> {
+        tables.words.push(STRICT_FLAG)?;
+        tables.commands.extend_from_slice(COMMANDS)
     }
 
     fn misplaced(&self, found: &ArgMatches<'_>) -> Option<&'static str> {

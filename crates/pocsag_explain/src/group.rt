@@ -1,23 +1,23 @@
 use crate::explained::explain_file;
 use crate::words::{EXPLAIN, EXPLAIN_COMMANDS, wanted_telling};
-use clap::{ArgMatches, Command, Error};
+use clap::{ArgMatches, Error};
 use pocsag_centre::{CentreFault, note_record};
 use pocsag_pages::{FILE_LIMIT, read_whole};
 use pocsag_shell::{
-    CERT, Call, Desk, FileFault, Group, Names, PAGES, Role, STANDARD, add_commands, open_source,
-    path_of, put_whole,
+    CERT, Call, Desk, FileFault, Group, Names, PAGES, Role, STANDARD, Tables, open_source, path_of,
+    put_whole,
 };
 use pocsag_wording::Telling;
 use pocsag_words::INPUT_LIMIT;
-use std::alloc::{AllocError, Global};
+use std::alloc::AllocError;
 
 /// The command `explain`.
 #[derive(Clone, Copy)]
 pub struct Explain;
 
 impl Group for Explain {
-    fn add_to<'a>(&self, alloc: Global, program: Command<'a>) -> Result<Command<'a>, AllocError> {
-        add_commands(alloc, program, EXPLAIN_COMMANDS)
+    fn add_to(&self, tables: &mut Tables) -> Result<(), AllocError> {
+        tables.commands.extend_from_slice(EXPLAIN_COMMANDS)
     }
 
     fn misplaced(&self, _found: &ArgMatches<'_>) -> Option<&'static str> {

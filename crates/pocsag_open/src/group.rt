@@ -3,19 +3,17 @@ use crate::kept_round::open_journal;
 use crate::round_files::{OpenOrder, RoundFiles, open_pages};
 use crate::session::{Planner, run_open, run_open_pages};
 use crate::words::{JOURNAL, READ_ONLY, ROUND, ROUND_SHAPES};
-use clap::{ArgMatches, Command, Error};
+use clap::{ArgMatches, Error};
 use pocsag_plan::Effort;
-use pocsag_shell::{
-    ALWAYS, Call, Desk, Group, KEEP, Names, PAGES, ReaderSource, Role, add_commands,
-};
-use std::alloc::{AllocError, Global};
+use pocsag_shell::{ALWAYS, Call, Desk, Group, KEEP, Names, PAGES, ReaderSource, Role, Tables};
+use std::alloc::AllocError;
 
 /// The group of the open round: the command `open`.
 pub struct RoundGroup;
 
 impl Group for RoundGroup {
-    fn add_to<'a>(&self, alloc: Global, program: Command<'a>) -> Result<Command<'a>, AllocError> {
-        add_commands(alloc, program, ROUND_SHAPES)
+    fn add_to(&self, tables: &mut Tables) -> Result<(), AllocError> {
+        tables.commands.extend_from_slice(ROUND_SHAPES)
     }
 
     fn misplaced(&self, _found: &ArgMatches<'_>) -> Option<&'static str> {

@@ -7,9 +7,9 @@ use crate::words::{
     ADDRESS, BAD_ROWS, DECODE, HEAR, RECEIVER_COMMANDS, REPAIR, SHOW, SHOW_SHAPE, wanted_view,
 };
 use clap::error::ErrorKind;
-use clap::{ArgMatches, Command, Error};
+use clap::{ArgMatches, Error};
 use pocsag_decode::Repaired;
-use pocsag_shell::{Call, Desk, Group, Names, Role, TX, add_commands, command, path_of, read_file};
+use pocsag_shell::{Call, Desk, Group, Names, Role, TX, Tables, command, path_of, read_file};
 use pocsag_show::View;
 use std::alloc::{AllocError, Global};
 
@@ -26,8 +26,8 @@ enum Receiving {
 }
 
 impl Group for Receiver {
-    fn add_to<'a>(&self, alloc: Global, program: Command<'a>) -> Result<Command<'a>, AllocError> {
-        add_commands(alloc, program, RECEIVER_COMMANDS)
+    fn add_to(&self, tables: &mut Tables) -> Result<(), AllocError> {
+        tables.commands.extend_from_slice(RECEIVER_COMMANDS)
     }
 
     fn misplaced(&self, _found: &ArgMatches<'_>) -> Option<&'static str> {

@@ -1,6 +1,7 @@
 use crate::desk::Desk;
-use clap::{ArgMatches, Command, Error};
-use std::alloc::{AllocError, Global};
+use crate::words::{LineWord, Shape};
+use clap::{ArgMatches, Error};
+use std::alloc::AllocError;
 
 /// What the command line asks for.
 #[derive(Clone, Copy)]
@@ -11,11 +12,19 @@ pub struct Call<'a, 'm> {
     pub found: &'m ArgMatches<'a>,
 }
 
+/// What the groups add to the program.
+#[derive(Drop)]
+pub struct Tables {
+    /// The commands, in the order of help.
+    pub commands: Vec<Shape>,
+    /// The words that the program takes without a command.
+    pub words: Vec<LineWord>,
+}
+
 /// A group of commands.
 pub trait Group {
-    /// Adds the group's commands to the program, in the order of help, and the words that the group takes without a
-    /// command.
-    fn add_to<'a>(&self, alloc: Global, program: Command<'a>) -> Result<Command<'a>, AllocError>;
+    /// Adds the group's tables to those of the groups before it.
+    fn add_to(&self, tables: &mut Tables) -> Result<(), AllocError>;
 
     /// The error text for words of the group that stand in front of a command, if there are any. `found` holds the words of
     /// the program.
@@ -30,8 +39,9 @@ pub trait Group {
 pub struct Both<A: Group, B: Group>(pub A, pub B);
 
 impl<A: Group, B: Group> Group for Both<A, B> {
-    fn add_to<'a>(&self, alloc: Global, program: Command<'a>) -> Result<Command<'a>, AllocError> {
-        self.1.add_to(alloc, self.0.add_to(alloc, program)?)
+    fn add_to(&self, tables: &mut Tables) -> Result<(), AllocError> {
+        self.0.add_to(tables)?;
+        self.1.add_to(tables)
     }
 
     fn misplaced(&self, found: &ArgMatches<'_>) -> Option<&'static str> {

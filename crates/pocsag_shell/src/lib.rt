@@ -27,13 +27,13 @@ pub use files::{
     Outputs, is_regular, is_regular_or_none, make_outputs, open_source, read_file, refuse_one_file,
     refuse_shared,
 };
-pub use group::{Both, Call, Group};
+pub use group::{Both, Call, Group, Tables};
 pub use lines::{put_whole, tell, tell_fault};
 pub use paths::{Named, refuse_equal};
 pub use program::run;
 pub use role::{NamedFile, Names, Role};
 pub use streams::{Input, Output};
-pub use tables::{add_commands, add_words, command};
+pub use tables::command;
 pub use watch::Watch;
 pub use words::{
     ALWAYS, ALWAYS_FLAG, CERT, CERT_PLACE, Content, FLAG, Given, KEEP, KEEP_FLAG, LineWord, PAGES,

@@ -8,7 +8,7 @@ use crate::tables::program;
 use crate::watch::Watch;
 use crate::words::{Shape, VERBOSE};
 use clap::error::ErrorKind;
-use clap::{ArgMatches, Error};
+use clap::{ArgMatches, Command, Error};
 use pocsag_words::Sink;
 use std::alloc::Global;
 use std::env;
@@ -57,32 +57,31 @@ fn obey<G: Group>(
 ) -> Result<u8, Error> {
     let mut program = program(rt.alloc(), shape, group)?;
     let matches = program.try_get_matches_from_mut(words)?;
-    let misplaced = match matches.subcommand() {
-        Some(_) => group.misplaced(&matches),
-        None => None,
-    };
-    if let Some(text) = misplaced {
-        return Err(program.error(ErrorKind::ArgumentConflict, text)?);
-    }
-    match answer(rt, group, &matches) {
-        Some(done) => done,
-        None => Err(program.error(ErrorKind::MissingRequiredArgument, "a word is missing")?),
-    }
+    answer(rt, group, &mut program, &matches)
 }
 
 // What the group answers to the words that clap found.
 fn answer<G: Group>(
     rt: &HostRuntime,
     group: &G,
+    program: &mut Command<'_>,
     matches: &ArgMatches<'_>,
-) -> Option<Result<u8, Error>> {
+) -> Result<u8, Error> {
     let (name, found) = match matches.subcommand() {
         Some((name, found)) => (Some(name), found),
         None => (None, matches),
     };
+    if name.is_some() {
+        if let Some(text) = group.misplaced(matches) {
+            return Err(program.error(ErrorKind::ArgumentConflict, text)?);
+        }
+    }
     let watch = &Watch::new(found.get_flag(VERBOSE));
     let alloc = rt.alloc();
-    group.obey(Desk { rt, alloc, watch }, Call { name, found })
+    match group.obey(Desk { rt, alloc, watch }, Call { name, found }) {
+        Some(done) => done,
+        None => Err(program.error(ErrorKind::MissingRequiredArgument, "a word is missing")?),
+    }
 }
 
 // Prints an error of clap, which stands for help too, and answers the exit status.

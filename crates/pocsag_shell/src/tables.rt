@@ -1,6 +1,6 @@
 //! Builds the parser of the command line from the tables of words.
 
-use crate::group::Group;
+use crate::group::{Group, Tables};
 use crate::words::{Content, Given, LineWord, Shape, VERBOSE_FLAG};
 use clap::{Arg, ArgAction, Command, value_parser};
 use std::alloc::{AllocError, Global};
@@ -34,38 +34,33 @@ fn with_content<'a>(argument: Arg<'a>, content: Content) -> Arg<'a> {
     }
 }
 
-/// Adds words to a command.
-pub fn add_words<'a>(
-    alloc: Global,
-    mut command: Command<'a>,
-    words: &[LineWord],
-) -> Result<Command<'a>, AllocError> {
+// The arguments of words.
+fn arguments<'a>(alloc: Global, words: &[LineWord]) -> Result<Vec<Arg<'a>>, AllocError> {
+    let mut arguments = Vec::new(alloc);
     for word in words {
-        command = command.arg(argument(alloc, word)?)?;
+        arguments.push(argument(alloc, word)?)?;
     }
-    Ok(command)
+    Ok(arguments)
 }
 
 /// Builds a command.
 pub fn command<'a>(alloc: Global, shape: &Shape) -> Result<Command<'a>, AllocError> {
+    let arguments = arguments(alloc, shape.words)?;
     let command = Command::new(alloc, shape.name).about(shape.about);
-    let command = add_words(alloc, command, shape.words)?;
-    Ok(match shape.manual {
+    match shape.manual {
         Some(manual) => command.after_help(manual),
         None => command,
-    })
+    }
+    .args(arguments)
 }
 
-/// Adds commands to the program, in the order of help.
-pub fn add_commands<'a>(
-    alloc: Global,
-    mut program: Command<'a>,
-    shapes: &[Shape],
-) -> Result<Command<'a>, AllocError> {
+// Builds commands, in the order of help.
+fn commands<'a>(alloc: Global, shapes: &[Shape]) -> Result<Vec<Command<'a>>, AllocError> {
+    let mut commands = Vec::new(alloc);
     for shape in shapes {
-        program = program.subcommand(command(alloc, shape)?)?;
+        commands.push(command(alloc, shape)?)?;
     }
-    Ok(program)
+    Ok(commands)
 }
 
 /// Builds the program. It takes what the group takes, and `--verbose`.
@@ -74,10 +69,17 @@ pub(crate) fn program<'a, G: Group>(
     shape: &Shape,
     group: &G,
 ) -> Result<Command<'a>, AllocError> {
-    let program = command(alloc, shape)?
+    let mut tables = Tables {
+        commands: Vec::new(alloc),
+        words: Vec::new(alloc),
+    };
+    group.add_to(&mut tables)?;
+    tables.words.push(VERBOSE_FLAG)?;
+    let words = arguments(alloc, tables.words.as_slice())?;
+    let commands = commands(alloc, tables.commands.as_slice())?;
+    command(alloc, shape)?
         .version(VERSION)
-        .bin_name(shape.name)?;
-    group
-        .add_to(alloc, program)?
-        .arg(argument(alloc, &VERBOSE_FLAG)?)
+        .bin_name(shape.name)?
+        .args(words)?
+        .subcommands(commands)
 }
