@@ -9,12 +9,11 @@ use crate::report::{frames_file, report_file, tell_frames, tell_report};
 use crate::texts::EARLY_STRICT;
 use crate::words::{CHECK, COMMANDS, PLAN, REPORT, STRICT, STRICT_FLAG};
 use clap::{ArgMatches, Error};
-use pocsag_pages::{FILE_LIMIT, read_whole};
+use pocsag_pages::FILE_LIMIT;
 use pocsag_shell::{
-    CERT, Call, Desk, FileFault, Group, Names, PAGES, Role, STANDARD, TX, Tables, open_source,
-    path_of, read_file, tell,
+    CERT, Call, Desk, Group, Names, PAGES, Role, STANDARD, TX, Tables, path_of, read_both,
+    read_file, tell,
 };
-use pocsag_words::INPUT_LIMIT;
 use std::alloc::AllocError;
 use std::io::IsTerminal;
 
@@ -81,24 +80,24 @@ fn plan_input(desk: Desk<'_>, strict: bool) -> Result<u8, CentreFault> {
         let _ = tell(&mut desk.err(), AT_TERMINAL);
     }
     let file = read_file(desk, Role::PageFile, None, FILE_LIMIT)?;
-    if strict {
-        strict_file(file.as_slice())?;
-    }
-    let done = bounded_file(desk.alloc, file.as_slice(), DEFAULT_SEARCH);
-    let bounded = noted(desk, None, file.as_slice(), done)?;
-    tell_plan(bounded.plan.pages, bounded.plan.batches, &mut desk.out())?;
+    let done = counts_of(desk, strict, file.as_slice());
+    let (pages, batches) = noted(desk, None, file.as_slice(), done)?;
+    tell_plan(pages, batches, &mut desk.out())?;
     Ok(0)
 }
 
-// Judges a certificate; the status is 1 where it does not show its batches. Both files are opened before one is read.
-fn check_paths(desk: Desk<'_>, pages: &str, cert: &str) -> Result<u8, CentreFault> {
-    if pages == STANDARD && cert == STANDARD {
-        return Err(CentreFault::File(FileFault::EqualPaths));
+// The pages and the fewest batches of a page file.
+fn counts_of(desk: Desk<'_>, strict: bool, file: &[u8]) -> Result<(u32, u32), CentreFault> {
+    if strict {
+        strict_file(file)?;
     }
-    let mut source = open_source(desk, Role::PageFile, path_of(pages))?;
-    let mut cert = open_source(desk, Role::Certificate, path_of(cert))?;
-    let file = read_whole(desk.alloc, &mut source, FILE_LIMIT)?;
-    let cert = read_whole(desk.alloc, &mut cert, INPUT_LIMIT)?;
+    let plan = bounded_file(desk.alloc, file, DEFAULT_SEARCH)?.plan;
+    Ok((plan.pages, plan.batches))
+}
+
+// Judges a certificate; the status is 1 where it does not show its batches.
+fn check_paths(desk: Desk<'_>, pages: &str, cert: &str) -> Result<u8, CentreFault> {
+    let (file, cert) = read_both(desk, pages, cert)?;
     let done = check_file(desk.alloc, file.as_slice(), cert.as_slice());
     let judged = noted(desk, path_of(pages), file.as_slice(), done)?;
     tell_verdict(judged, &mut desk.out())?;

@@ -2,13 +2,10 @@ use crate::explained::explain_file;
 use crate::words::{EXPLAIN, EXPLAIN_COMMANDS, wanted_telling};
 use clap::{ArgMatches, Error};
 use pocsag_centre::{CentreFault, note_record};
-use pocsag_pages::{FILE_LIMIT, read_whole};
 use pocsag_shell::{
-    CERT, Call, Desk, FileFault, Group, Names, PAGES, Role, STANDARD, Tables, open_source, path_of,
-    put_whole,
+    CERT, Call, Desk, Group, Names, PAGES, Role, STANDARD, Tables, put_whole, read_both,
 };
 use pocsag_wording::Telling;
-use pocsag_words::INPUT_LIMIT;
 use std::alloc::AllocError;
 
 /// The command `explain`.
@@ -38,19 +35,13 @@ impl Group for Explain {
     }
 }
 
-// Explains a certificate; the status is 1 where it does not show its batches. Both files are opened before one is read.
+// Explains a certificate; the status is 1 where it does not show its batches.
 fn explain_paths(desk: Desk<'_>, telling: Telling, names: Names<'_>) -> Result<u8, CentreFault> {
     let (pages, cert) = (
         names.pages.unwrap_or(STANDARD),
         names.cert.unwrap_or(STANDARD),
     );
-    if pages == STANDARD && cert == STANDARD {
-        return Err(CentreFault::File(FileFault::EqualPaths));
-    }
-    let mut source = open_source(desk, Role::PageFile, path_of(pages))?;
-    let mut cert = open_source(desk, Role::Certificate, path_of(cert))?;
-    let file = read_whole(desk.alloc, &mut source, FILE_LIMIT)?;
-    let cert = read_whole(desk.alloc, &mut cert, INPUT_LIMIT)?;
+    let (file, cert) = read_both(desk, pages, cert)?;
     let done = explain_file(desk.alloc, telling, file.as_slice(), cert.as_slice());
     if let Err(CentreFault::Round(fault)) = &done {
         note_record(desk, names.place(Role::PageFile), file.as_slice(), *fault);

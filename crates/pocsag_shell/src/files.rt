@@ -7,8 +7,8 @@ use crate::paths::{Named, are_one, name_one_file};
 use crate::role::Role;
 use crate::streams::{Input, Output};
 use crate::words::{STANDARD, path_of};
-use pocsag_pages::read_whole;
-use pocsag_words::Sink;
+use pocsag_pages::{FILE_LIMIT, read_whole};
+use pocsag_words::{INPUT_LIMIT, Sink};
 use std::fs::{self, File, Metadata, OpenFile, OpenOptions};
 use std::io;
 use std::rt::Files;
@@ -69,6 +69,17 @@ pub fn read_file(
 {
     let mut source = open_source(desk, role, path)?;
     Ok(read_whole(desk.alloc, &mut source, limit)?)
+}
+
+/// Reads a page file and a certificate, of which one may be standard input. It opens both before it reads one.
+pub fn read_both(desk: Desk<'_>, pages: &str, cert: &str) -> Result<(Vec<u8>, Vec<u8>), FileFault> {
+    if pages == STANDARD && cert == STANDARD {
+        return Err(FileFault::EqualPaths);
+    }
+    let mut pages = open_source(desk, Role::PageFile, path_of(pages))?;
+    let mut cert = open_source(desk, Role::Certificate, path_of(cert))?;
+    let file = read_whole(desk.alloc, &mut pages, FILE_LIMIT)?;
+    Ok((file, read_whole(desk.alloc, &mut cert, INPUT_LIMIT)?))
 }
 
 // Opens or makes a file for writing and keeps its bytes, or opens standard output.

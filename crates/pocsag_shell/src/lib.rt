@@ -24,8 +24,8 @@ pub use desk::Desk;
 pub use devices::{ReaderSource, WriterSink};
 pub use fault::{Failure, FileFault};
 pub use files::{
-    Outputs, is_regular, is_regular_or_none, make_outputs, open_source, read_file, refuse_one_file,
-    refuse_shared,
+    Outputs, is_regular, is_regular_or_none, make_outputs, open_source, read_both, read_file,
+    refuse_one_file, refuse_shared,
 };
 pub use group::{Both, Call, Group, Tables};
 pub use lines::{put_whole, tell, tell_fault};
