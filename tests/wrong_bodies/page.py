@@ -25,10 +25,9 @@ with the goal that stays open: a clause of the contract, in `code` font; or retu
 returns, if the contract is one clause without a name; or an invariant of a loop that leads to a clause, or a condition
 of a call. A method is listed under the module of its type.
 
-`./test --mutations` tries all of them. The edits are files: those of each kind of mistake that a planner, checker or
-receiver can make are in `crates/NAME/must-fail/`, where `rt ci` tries them too, and the others in
-`tests/wrong_bodies/NAME/`. A run tries an edit first against the clause that this page names, and
-`tests/wrong_bodies/page.py` makes the page anew from what a run prints.
+`./test --mutations` tries all of them. The edits are files of `tests/wrong_bodies/NAME/`; those of the checker are in
+`crates/pocsag_check/must-fail/`, where `rt ci` tries them too. A run tries an edit first against the goal that this page
+names, and `tests/wrong_bodies/page.py` makes the page anew from what a run prints.
 
 """
 
