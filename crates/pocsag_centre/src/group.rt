@@ -7,7 +7,9 @@ use crate::order::{ReportOrder, plan_order, report_order};
 use crate::plan::{DEFAULT_SEARCH, bounded_file};
 use crate::report::{frames_file, report_file, tell_frames, tell_report};
 use crate::texts::EARLY_STRICT;
-use crate::words::{CHECK, COMMANDS, PLAN, REPORT, STRICT, STRICT_FLAG};
+use crate::words::{
+    CHECK, CHECK_COMMAND, PLAN, PLAN_COMMAND, REPORT, REPORT_COMMAND, STRICT, STRICT_FLAG,
+};
 use clap::{ArgMatches, Error};
 use pocsag_pages::FILE_LIMIT;
 use pocsag_shell::{
@@ -28,7 +30,10 @@ pub struct Centre;
 impl Group for Centre {
     fn add_to(&self, tables: &mut Tables) -> Result<(), AllocError> {
         tables.words.push(STRICT_FLAG)?;
-        tables.commands.extend_from_slice(COMMANDS)
+        tables.commands.push(PLAN_COMMAND)?;
+        tables.commands.push(CHECK_COMMAND)?;
+        tables.commands.push(REPORT_COMMAND)?;
+        Ok(())
     }
 
     fn misplaced(&self, found: &ArgMatches<'_>) -> Option<&'static str> {

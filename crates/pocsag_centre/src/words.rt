@@ -97,46 +97,45 @@ const EACH_FRAME_FLAG: LineWord = LineWord {
     ..FLAG
 };
 
-// The commands in the order of help.
-pub(crate) const COMMANDS: &[Shape] = &[
-    Shape {
-        name: PLAN,
-        about: PLAN_ABOUT,
-        manual: Some(PLAN_MANUAL),
-        words: &[
-            PAGES_PLACE,
-            TX_PLACE,
-            CERT_PLACE,
-            LIMIT_OPTION,
-            END_OPTION,
-            IDLE_LAST_FLAG,
-            EXPECT_OPTION,
-            STRICT_FLAG,
-            ALWAYS_FLAG,
-            VERIFY_FLAG,
-            KEEP_FLAG,
-        ],
-    },
-    Shape {
-        name: CHECK,
-        about: CHECK_ABOUT,
-        manual: None,
-        words: &[PAGES_PLACE, CERT_PLACE],
-    },
-    Shape {
-        name: REPORT,
-        about: REPORT_ABOUT,
-        manual: None,
-        words: &[
-            PAGES_PLACE,
-            RATE_OPTION,
-            LIMIT_OPTION,
-            END_OPTION,
-            IDLE_LAST_FLAG,
-            EXPECT_OPTION,
-            STRICT_FLAG,
-            ALWAYS_FLAG,
-            EACH_FRAME_FLAG,
-        ],
-    },
-];
+pub(crate) const PLAN_COMMAND: Shape = Shape {
+    name: PLAN,
+    about: PLAN_ABOUT,
+    manual: Some(PLAN_MANUAL),
+    words: &[
+        PAGES_PLACE,
+        TX_PLACE,
+        CERT_PLACE,
+        LIMIT_OPTION,
+        END_OPTION,
+        IDLE_LAST_FLAG,
+        EXPECT_OPTION,
+        STRICT_FLAG,
+        ALWAYS_FLAG,
+        VERIFY_FLAG,
+        KEEP_FLAG,
+    ],
+};
+
+pub(crate) const CHECK_COMMAND: Shape = Shape {
+    name: CHECK,
+    about: CHECK_ABOUT,
+    manual: None,
+    words: &[PAGES_PLACE, CERT_PLACE],
+};
+
+pub(crate) const REPORT_COMMAND: Shape = Shape {
+    name: REPORT,
+    about: REPORT_ABOUT,
+    manual: None,
+    words: &[
+        PAGES_PLACE,
+        RATE_OPTION,
+        LIMIT_OPTION,
+        END_OPTION,
+        IDLE_LAST_FLAG,
+        EXPECT_OPTION,
+        STRICT_FLAG,
+        ALWAYS_FLAG,
+        EACH_FRAME_FLAG,
+    ],
+};
