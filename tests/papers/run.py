@@ -19,7 +19,7 @@ from tally import PROGRAM, TOP, run_parts
 
 ELSEWHERE = {"OPERATION.md", "LIBRARY.md"}
 PAPERS = [TOP / "README.md"] + sorted(path for path in (TOP / "docs").glob("*.md") if path.name not in ELSEWHERE)
-EXAMPLE = TOP / "crates/pocsag_plan_cases/src/readme.rt"  # README's example in Rattle, which is proved and run as a test
+EXAMPLE = TOP / "crates/pocsag_core_cases/src/readme.rt"  # README's example in Rattle, which is proved and run as a test
 HEADER = "address,kind,message\n"
 
 
