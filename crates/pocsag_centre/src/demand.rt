@@ -5,18 +5,16 @@ ghost use Rattle.pocsag_centre.specs.Expecting.{ExplainsExpecting, ExplainsStric
 
 use crate::fault::CentreFault;
 use crate::round::round_of;
-use pocsag_plan::Search;
+use pocsag_plan::{Search, is_node_limit};
 use pocsag_quotes::quote_fault;
-use pocsag_tree::NODE_LIMIT;
 use std::alloc::Global;
 
-/// Refuses a node limit that is out of its range, so that nothing is opened for it: a search may examine as many nodes as a
-/// certificate may have.
+/// Refuses a node limit that is out of its range, so that nothing is opened for it.
 pub fn refuse_bad_limit(search: Search) -> Result<(), CentreFault>
     ensures bad { IsErrOf result CentreFault.BadLimit ↔ (¬ IsNodeLimit search.limit) }
     ensures alone { IfErr result (λ e. e ≡ CentreFault.BadLimit) }
 {
-    if 1 <= search.limit && search.limit <= NODE_LIMIT {
+    if is_node_limit(search.limit) {
         return Ok(());
     }
     Err(CentreFault::BadLimit)

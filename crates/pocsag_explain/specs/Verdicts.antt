@@ -1,5 +1,5 @@
--- `explain`: its verdict, which is that of `check`, and why it has none.
-use Rattle.std.specs.Prelude.{◌≡◌, ℕ, List, Ok}
+-- `explain`: its verdict, which is that of `check`, the text that tells it, and why there is none.
+use Rattle.std.specs.Prelude.{◌≡◌, ℕ, Bool, List, ◌++◌, Ok}
 use Rattle.pocsag_words.specs.declared.ending.End.{End}
 use Rattle.pocsag_pages.specs.declared.page.Page.{Page}
 use Rattle.pocsag_pages.specs.PageFile.{verdict}
@@ -10,6 +10,8 @@ use Rattle.pocsag_centre.specs.Commands.{Checked}
 use Rattle.pocsag_centre.specs.Judging.{ExplainsJudging, IsNotShown}
 use Rattle.pocsag_centre.specs.declared.fault.CentreFault.{CentreFault}
 use Rattle.pocsag_centre.specs.declared.fault.CentreFault.TheVariants as fault
+use Rattle.pocsag_wording.specs.Beginnings.{TellsVerdict}
+use Rattle.pocsag_wording.specs.declared.form.Telling.{Telling}
 
 -- The certificate shows its number of batches, with its end, for the round of the page file.
 pub record ShowsItsBatches (file certificate : List ℕ) : Type 0 where
@@ -22,6 +24,16 @@ pub record DoesNotShow (file certificate : List ℕ) : Type 0 where
   pub end : End
   pub batches : ℕ
   pub not_shown : IsNotShown file certificate end batches
+
+-- What was taken more is a text of this form which begins with this verdict on the end and the batches of the certificate.
+pub record TookVerdict (telling : Telling) (is_shown : Bool) (certificate before after : List ℕ) : Type 0 where
+  pub end : End
+  pub batches : ℕ
+  pub tree : BoundTree
+  pub spelled : IsText end batches tree certificate
+  pub text : List ℕ
+  pub tells : TellsVerdict telling is_shown end batches text
+  pub taken : after ≡ before ++ text
 
 -- The page file is that of a round, and the certificate is a text of a tree.
 pub record CanBeJudged (file certificate : List ℕ) : Type 0 where

@@ -1,4 +1,4 @@
-ghost use Rattle.std.specs.Prelude.{◌≡◌, ◌≢◌, ◌↔◌, false, IfErr, IfOk, IsErrOf, IsFalse, IsTrue};
+ghost use Rattle.std.specs.Prelude.{◌≡◌, ◌≢◌, ◌↔◌, false, IfErr, IfOk, IsErrOf, IsFalse, IsTrue, string_bytes};
 ghost use Rattle.pocsag_words.specs.Devices.{HasFailed};
 ghost use Rattle.pocsag_pages.specs.declared.fault.RoundFault.TheVariants as round_fault;
 ghost use Rattle.pocsag_tree.specs.declared.refusals.CertificateFault.TheVariants as tree_fault;
@@ -9,7 +9,8 @@ ghost use Rattle.pocsag_shell.specs.declared.fault.FileFault.TheVariants as file
 ghost use Rattle.pocsag_centre.specs.Commands.{Checked};
 ghost use Rattle.pocsag_centre.specs.Judging.{IsNotShown};
 ghost use Rattle.pocsag_centre.specs.Refusals.{OrDevice};
-ghost use Rattle.pocsag_explain.specs.Verdicts.{DoesNotShow, ExplainsUntold, ShowsItsBatches};
+ghost use Rattle.pocsag_wording.specs.Beginnings.{TellsVerdict};
+ghost use Rattle.pocsag_explain.specs.Verdicts.{DoesNotShow, ExplainsUntold, ShowsItsBatches, TookVerdict};
 
 use pocsag_centre::{CentreFault, CheckVerdict, certificate_of, round_of, verdict_on};
 use pocsag_pages::{Round, read_round};
@@ -19,7 +20,7 @@ use pocsag_wording::{Telling, explanation};
 use pocsag_words::{OutOfMemory, Sink, Source};
 use std::alloc::Global;
 
-/// A certificate beside the round of a page file, in words or as facts.
+/// A certificate beside the round of a page file, in words, as facts or as a drawing.
 #[derive(Drop)]
 pub struct Explained {
     /// What it names, and the verdict.
@@ -41,6 +42,8 @@ fn judged_and_told(
         certificate.now.batches (bound_tree_of certificate.now.tree)) }
     ensures bound { IfOk result (λ e. IsTrue e.judged.is_shown →
         NoneHasFewer certificate.now.end round.now certificate.now.batches) }
+    ensures told { IfOk result (λ e.
+        TellsVerdict telling e.judged.is_shown e.judged.end e.judged.batches (string_bytes e.text)) }
 {
     let judged = verdict_on(round, certificate);
     Ok(Explained {
@@ -60,6 +63,8 @@ pub fn explain_file(
         Checked pages.now cert.now e.judged.end e.judged.batches) }
     ensures not_shown { IfOk result (λ e. IsFalse e.judged.is_shown →
         IsNotShown pages.now cert.now e.judged.end e.judged.batches) }
+    ensures told { IfOk result (λ e.
+        TellsVerdict telling e.judged.is_shown e.judged.end e.judged.batches (string_bytes e.text)) }
     ensures explained { IfErr result (ExplainsUntold pages.now cert.now) }
 {
     let round = round_of(alloc, pages)?;
@@ -80,6 +85,8 @@ pub fn run_explain<P: Source, C: Source, O: Sink>(
         ShowsItsBatches (P.held pages.old) (C.held cert.old)) }
     ensures not_shown { P.tells → C.tells → IfOk result (λ shown. IsFalse shown →
         DoesNotShow (P.held pages.old) (C.held cert.old)) }
+    ensures told { C.tells → O.tells → IfOk result (λ shown.
+        TookVerdict telling shown (C.held cert.old) (O.taken out.old) (O.taken out.new)) }
     ensures explained { P.tells → C.tells →
         IfErr result (OrDevice (ExplainsUntold (P.held pages.old) (C.held cert.old))) }
     ensures refused { IfErr result (λ e. e ≢ CentreFault.File file_fault.Write → out.new ≡ out.old) }

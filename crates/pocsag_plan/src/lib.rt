@@ -24,7 +24,7 @@ pub use bounded::Bounded;
 pub use edit::Edit;
 pub use fault::{BadRate, PlanFault, StreamFault};
 pub use laws::tight_headlines_are_headlines;
-pub use plans::{bounded_plan, plan, plan_always};
+pub use plans::{bounded_plan, is_node_limit, plan, plan_always};
 pub use refusal::{AddFault, BookFault, NotThere, Refused};
 pub use reports::report;
 pub use search::{Effort, Search};

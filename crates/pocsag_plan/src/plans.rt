@@ -16,11 +16,9 @@ use pocsag_branch::{Found, FreeFault, SearchLimit, search_freely};
 use pocsag_check::accepted_trees_have_texts;
 use pocsag_pages::Round;
 use pocsag_slots::{Classes, classes_of, tours_have_codewords};
+use pocsag_tree::NODE_LIMIT;
 use pocsag_words::{End, OutOfMemory};
 use std::alloc::Global;
-
-// The greatest node limit.
-const NODE_LIMIT: u32 = 1_000_000;
 
 /// Plans the round: the fewest batches for the end, with a tour and the tree that refutes one batch less.
 /// `BadLimit` where the node limit is 0 or above 1,000,000, `SearchLimit` where so many nodes do not
@@ -66,7 +64,8 @@ pub fn bounded_plan(alloc: Global, round: &Round, search: Search) -> Result<Boun
     counted_plan(alloc, round, &classes_of(round, search.end), search)
 }
 
-pub(crate) fn is_node_limit(limit: u32) -> bool
+/// Whether a search may examine at most so many nodes: 1 to 1,000,000, which is as many as a certificate may have.
+pub fn is_node_limit(limit: u32) -> bool
     ensures { IsTrue result ↔ IsNodeLimit limit }
 {
     1 <= limit && limit <= NODE_LIMIT

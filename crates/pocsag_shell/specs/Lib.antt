@@ -1,3 +1,4 @@
+pub mod Besides
 pub mod Faults
 pub mod Notes
 pub mod Paths

@@ -1,9 +1,10 @@
+ghost use Rattle.std.specs.Prelude.{◌≡◌, ◌↔◌, ◌^◌, ◌<◌, ℕ, Some};
+ghost use Rattle.std.specs.Fmt.{decimal};
+ghost use Rattle.pocsag_shell.specs.Besides.{IsMadeBeside};
+
 use crate::beside::parts_of;
 use std::fs;
 use std::io::ErrorKind;
-
-// The endings of the files that a run makes beside a place.
-const ENDINGS: [&str; 2] = [".new", ".old"];
 
 /// Removes `PLACE.NUMBER.new` and `PLACE.NUMBER.old` of runs that were killed: files whose process number no process has
 /// now. It removes nothing if the system does not show its processes.
@@ -29,18 +30,28 @@ pub(crate) fn remove_left_over(rt: &HostRuntime, place: &str) {
 }
 
 // The number of the process that made the file beside the place of a name, if a process made it.
-fn process_of(name: &str, file: &str) -> Option<u32> {
+fn process_of(name: &str, file: &str) -> Option<u32>
+    ensures { (number : ℕ) → (result ≡ Some number) ↔ IsMadeBeside name.now number file.now }
+{
     let rest = file.strip_prefix(name)?.strip_prefix('.')?;
-    for ending in ENDINGS {
-        if let Some(number) = rest.strip_suffix(ending) {
-            return if number.starts_with('+') {
-                None
-            } else {
-                number.parse::<u32>().ok()
-            };
-        }
+    let digits = match rest.strip_suffix(".new") {
+        Some(digits) => digits,
+        None => rest.strip_suffix(".old")?,
+    };
+    number_of(digits)
+}
+
+// The number from 1 on that is written so.
+fn number_of(digits: &str) -> Option<u32>
+    ensures { (number : ℕ) → (result ≡ Some number)
+        ↔ ((0 < number) × (number < 2 ^ 32) × (digits.now ≡ decimal number)) }
+{
+    let first = *digits.as_bytes().first()?;
+    // A sign, or a zero in front of others.
+    if first <= b'0' {
+        return None;
     }
-    None
+    digits.parse::<u32>().ok()
 }
 
 // Whether no process has the number.

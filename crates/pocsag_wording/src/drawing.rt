@@ -1,8 +1,11 @@
 //! A certificate as a drawing: of the root and of each node right below it the sixteen slots as columns.
+ghost use Rattle.std.specs.Prelude.{ℕ, ◌++◌, IfOk, string_bytes};
+ghost use Rattle.pocsag_wording.specs.Beginnings.{BeginsWith, drawing_head, verdict_words};
 
 use crate::columns::{Scale, push_columns};
+use crate::explained::first_words;
 use crate::numbering::Numbering;
-use crate::outline::{conclusion, first_refused, node_line, summary};
+use crate::outline::{conclusion, first_refused, node_line};
 use crate::subject::Subject;
 use pocsag_findings::Finding;
 use std::alloc::{AllocError, Global};
@@ -110,17 +113,25 @@ impl Sheet {
     }
 }
 
-// The sum of it; where the certificate does not show its batches, that, and the first node that does not hold.
-fn heading(alloc: Global, subject: &Subject<'_>) -> Result<String, AllocError> {
-    if subject.is_shown {
-        return summary(alloc, subject);
+// The verdict; if the checker does not accept the certificate, the first node that does not hold too.
+fn heading(alloc: Global, subject: &Subject<'_>) -> Result<String, AllocError>
+    ensures { IfOk result (λ text. BeginsWith
+        (verdict_words subject.now.is_shown subject.now.end subject.now.batches) (string_bytes text)) }
+{
+    let mut text = first_words(alloc, subject)?;
+    if !subject.is_shown {
+        let refused = first_refused(alloc, subject)?;
+        text.push_str(": ")?;
+        text.push_str(refused.as_str())?;
     }
-    let refused = first_refused(alloc, subject)?;
-    format!(in alloc; "not shown: {refused}")
+    Ok(text)
 }
 
 /// The explanation as SVG 1.1: the nodes of which columns are found, one below the other, on one scale.
-pub(crate) fn drawing(alloc: Global, subject: &Subject<'_>) -> Result<String, AllocError> {
+pub(crate) fn drawing(alloc: Global, subject: &Subject<'_>) -> Result<String, AllocError>
+    ensures { IfOk result (λ text. (height : ℕ) × BeginsWith (drawing_head height
+        ++ verdict_words subject.now.is_shown subject.now.end subject.now.batches) (string_bytes text)) }
+{
     let heading = heading(alloc, subject)?;
     let heading = heading.as_str();
     let mut sheet = Sheet {
@@ -133,13 +144,20 @@ pub(crate) fn drawing(alloc: Global, subject: &Subject<'_>) -> Result<String, Al
 }
 
 // The whole page, of what was drawn.
-fn page(alloc: Global, heading: &str, sheet: &Sheet) -> Result<String, AllocError> {
+fn page(alloc: Global, heading: &str, sheet: &Sheet) -> Result<String, AllocError>
+    ensures { IfOk result (λ text. (height : ℕ) × BeginsWith (drawing_head height ++ heading.now) (string_bytes text)) }
+{
     let tall = sheet.height.saturating_add(8);
-    let body = sheet.text.as_str();
-    format!(in alloc;
+    let mut text = format!(in alloc;
         "\
 <svg xmlns='http://www.w3.org/2000/svg' version='1.1' class='pocsag-why' role='img' width='540' height='{tall}' \
-viewBox='0 0 540 {tall}'>\n<title>{heading}</title>\n<desc>{KEY}</desc>\n{STYLE}\
-<rect class='b' width='540' height='{tall}'/>\n{body}</svg>\n"
-    )
+viewBox='0 0 540 {tall}'>\n<title>{heading}"
+    )?;
+    let body = sheet.text.as_str();
+    let rest = format!(in alloc;
+        "\
+</title>\n<desc>{KEY}</desc>\n{STYLE}<rect class='b' width='540' height='{tall}'/>\n{body}</svg>\n"
+    )?;
+    text.push_str(rest.as_str())?;
+    Ok(text)
 }

@@ -1,4 +1,6 @@
 //! A certificate as JSON, whose texts are fixed words and the numbers of nodes: none of them needs an escape.
+ghost use Rattle.std.specs.Prelude.{IfOk, string_bytes};
+ghost use Rattle.pocsag_wording.specs.Beginnings.{BeginsWith, verdict_members};
 
 use crate::numbering::Numbering;
 use crate::sentences::{Cut, Outlets};
@@ -11,24 +13,25 @@ use std::alloc::{AllocError, Global};
 use std::fmt::{self, Display, Formatter};
 
 /// The explanation as one line of JSON, with the findings no deeper than so.
-pub(crate) fn facts(
-    alloc: Global,
-    subject: &Subject<'_>,
-    depth: u32,
-) -> Result<String, AllocError> {
-    let mut text = heading(alloc, subject)?;
-    push_findings(alloc, &mut text, subject.findings, depth)?;
+pub(crate) fn facts(alloc: Global, subject: &Subject<'_>, depth: u32) -> Result<String, AllocError>
+    ensures { IfOk result (λ text. BeginsWith
+        (verdict_members subject.now.is_shown subject.now.end subject.now.batches) (string_bytes text)) }
+{
+    let mut text = verdict(alloc, subject)?;
+    let mut found = counts(alloc, subject)?;
+    push_findings(alloc, &mut found, subject.findings, depth)?;
+    text.push_str(found.as_str())?;
     Ok(text)
 }
 
-// The members of the whole, up to the number of the first node that does not hold.
-fn heading(alloc: Global, subject: &Subject<'_>) -> Result<String, AllocError> {
+// The first members of the whole.
+fn verdict(alloc: Global, subject: &Subject<'_>) -> Result<String, AllocError>
+    ensures { IfOk result (λ text. BeginsWith
+        (verdict_members subject.now.is_shown subject.now.end subject.now.batches) (string_bytes text)) }
+{
     let Subject {
         is_shown,
         batches,
-        pages,
-        codewords,
-        nodes,
         ..
     } = *subject;
     let end = match subject.end {
@@ -36,9 +39,20 @@ fn heading(alloc: Global, subject: &Subject<'_>) -> Result<String, AllocError> {
         End::Closed => "closed",
         End::Idle => "idle",
     };
+    format!(in alloc; r#"{{"shown":{is_shown},"end":"{end}","batches":{batches},"#)
+}
+
+// The members after them, up to the number of the first node that does not hold.
+fn counts(alloc: Global, subject: &Subject<'_>) -> Result<String, AllocError> {
+    let Subject {
+        pages,
+        codewords,
+        nodes,
+        ..
+    } = *subject;
     let room = subject.room();
     format!(in alloc;
-        r#"{{"shown":{is_shown},"end":"{end}","batches":{batches},"pages":{pages},"codewords":{codewords},"room":{room},"nodes":{nodes},"refused":"#
+        r#""pages":{pages},"codewords":{codewords},"room":{room},"nodes":{nodes},"refused":"#
     )
 }
 

@@ -1,4 +1,6 @@
 //! A certificate as an indented list.
+ghost use Rattle.std.specs.Prelude.{true, IfOk, string_bytes};
+ghost use Rattle.pocsag_wording.specs.Beginnings.{BeginsWith, verdict_words};
 
 use crate::limit::LimitWords;
 use crate::lines::push_lines;
@@ -10,10 +12,15 @@ use pocsag_findings::{Finding, Reached};
 use pocsag_words::End;
 use std::alloc::{AllocError, Global};
 
-/// The sum of it, a line for each finding, and how many nodes are not listed.
+/// What follows the first words: a line for each finding, how many nodes are not listed, and the conclusion; or, if the
+/// checker does not accept the certificate, the first node that does not hold.
 pub(crate) fn outline(alloc: Global, subject: &Subject<'_>) -> Result<String, AllocError> {
-    let mut text = summary(alloc, subject)?;
-    text.push_str("\n")?;
+    let mut text = format!(in alloc; "\n")?;
+    if !subject.is_shown {
+        let refused = first_refused(alloc, subject)?;
+        push_lines(&mut text, 0, refused.as_str())?;
+        return Ok(text);
+    }
     push_nodes(alloc, &mut text, subject)?;
     let below = subject.nodes.saturating_sub(subject.findings.len() as u64);
     if below > 0 {
@@ -64,14 +71,24 @@ fn push_node(
     Ok(())
 }
 
-/// The first line: what is shown, and what the round and the batches hold.
-pub(crate) fn summary(alloc: Global, subject: &Subject<'_>) -> Result<String, AllocError> {
-    let shown = Counted(u64::from(subject.batches), "batch");
+/// What is shown, and what the round and the batches hold.
+pub(crate) fn summary(alloc: Global, subject: &Subject<'_>) -> Result<String, AllocError>
+    ensures { IfOk result (λ text.
+        BeginsWith (verdict_words true subject.now.end subject.now.batches) (string_bytes text)) }
+{
+    let held = held_words(alloc, subject)?;
+    let batches = subject.batches;
+    let noun = if batches == 1 { "batch" } else { "batches" };
     let end = match subject.end {
         End::Open => "open end",
         End::Closed => "closed end",
         End::Idle => "idle last",
     };
+    format!(in alloc; "at least {batches} {noun}, {end}: {held}")
+}
+
+// What the round and the batches that do not suffice hold.
+fn held_words(alloc: Global, subject: &Subject<'_>) -> Result<String, AllocError> {
     let pages = Counted(subject.pages, "page");
     let codewords = Counted(subject.codewords, "codeword");
     let room = subject.room();
@@ -81,9 +98,7 @@ pub(crate) fn summary(alloc: Global, subject: &Subject<'_>) -> Result<String, Al
     } else {
         ""
     };
-    format!(in alloc;
-        "at least {shown}, {end}: {pages}, {codewords}, room for {room} in {refuted}{yet}"
-    )
+    format!(in alloc; "{pages}, {codewords}, room for {room} in {refuted}{yet}")
 }
 
 /// The line of a node, without its indentation.

@@ -1,3 +1,5 @@
+ghost use Rattle.std.specs.Prelude.{◌≡◌};
+
 use crate::kind::Kinds;
 use crate::sentences::Refuted;
 use pocsag_findings::Finding;
@@ -28,7 +30,11 @@ impl<'a> Subject<'a> {
         is_shown: bool,
         findings: &'a [Finding],
         kinds: &'a Kinds,
-    ) -> Subject<'a> {
+    ) -> Subject<'a>
+        ensures end { result.end ≡ certificate.now.end }
+        ensures batches { result.batches ≡ certificate.now.batches }
+        ensures verdict { result.is_shown ≡ is_shown }
+    {
         Subject {
             end: certificate.end,
             batches: certificate.batches,

@@ -28,3 +28,17 @@ returns-clause-not_shown g c = λ pages_tell cert_tells no.
         refused = λ accepted. let yes = told.accepted.1 accepted in cc;
       };
     }
+
+pub returns-clause-told : goal.returns-clause-told
+returns-clause-told g c = λ cert_tells out_tells.
+    let certificate = c.in_ok-certificate.certificate in
+    let told = c.in_ok-explained.ensures in
+    record {
+      end = certificate.end;
+      batches = certificate.batches;
+      tree = bound_tree_of certificate.tree;
+      spelled = c.in_ok-certificate.ensures.found cert_tells;
+      text = c.as_bytes.result.now;
+      tells = rw (c.as_bytes.ensures.value, c.as_str.ensures.value) (rw (told.end, told.batches) at told.told);
+      taken = (c.in_ok-put_whole.ensures.delivers out_tells).0;
+    }
