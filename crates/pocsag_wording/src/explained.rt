@@ -1,9 +1,9 @@
 use crate::drawing::drawing;
 use crate::facts::facts;
 use crate::form::Telling;
-use crate::kind::Kinds;
+use crate::kind::kinds_of;
 use crate::lines::push_lines;
-use crate::outline::{first_refused, outline};
+use crate::outline::{first_refused, margins, outline};
 use crate::subject::Subject;
 use pocsag_findings::findings;
 use pocsag_pages::Round;
@@ -28,8 +28,14 @@ pub fn explanation(
         DEPTH_LIMIT
     };
     let found = findings(alloc, &classes, certificate, depth)?;
-    let kinds = Kinds::new(alloc, round, certificate.end, &classes)?;
-    let subject = Subject::new(round, certificate, is_shown, found.as_slice(), &kinds);
+    let kinds = kinds_of(alloc, round, certificate.end, &classes)?;
+    let subject = Subject::new(
+        round,
+        certificate,
+        is_shown,
+        found.as_slice(),
+        kinds.as_slice(),
+    );
     Ok(told(alloc, telling, &subject)?)
 }
 
@@ -39,7 +45,7 @@ fn told(alloc: Global, telling: Telling, subject: &Subject<'_>) -> Result<String
         Telling::Lines(_) => {
             let refused = first_refused(alloc, subject)?;
             let mut text = format!(in alloc; "not shown\n")?;
-            push_lines(&mut text, 0, refused.as_str())?;
+            push_lines(&mut text, margins(0), refused.as_str())?;
             Ok(text)
         }
         Telling::Facts(depth) => facts(alloc, subject, depth),
