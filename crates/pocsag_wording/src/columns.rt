@@ -14,31 +14,6 @@ const LEFT: u64 = 80;
 
 const WIDTH: u64 = 28;
 
-/// The number of codewords to which the highest bar stands.
-#[derive(Clone, Copy)]
-pub(crate) struct Scale {
-    most: u64,
-}
-
-impl Scale {
-    /// The scale on which all columns of the findings have place.
-    pub(crate) fn new(findings: &[Finding]) -> Scale {
-        let mut most = 1;
-        for finding in findings {
-            for column in finding.columns.as_slice() {
-                most = most.max(column.least).max(u64::from(column.room));
-            }
-        }
-        Scale { most }
-    }
-
-    // How far above the ground so many codewords are.
-    fn top(self, codewords: u64) -> u64 {
-        let height = codewords.saturating_mul(HIGHEST) / self.most.max(1);
-        GROUND.saturating_sub(height)
-    }
-}
-
 // What stands under the columns: the ground, and what their numbers are.
 const AXIS: &str = "\
 <path class='x' d='M80 98h448'/>\n\
@@ -46,95 +21,78 @@ const AXIS: &str = "\
 <text class='e' x='74' y='126'>at least</text>\
 <text class='e' x='74' y='140'>room</text>\n";
 
+/// The number of codewords to which the highest bar stands, on the scale on which all columns of the findings have place.
+pub(crate) fn most_of(findings: &[Finding]) -> u64 {
+    let mut most = 1;
+    for finding in findings {
+        for column in finding.columns.as_slice() {
+            most = most.max(column.least).max(u64::from(column.room));
+        }
+    }
+    most
+}
+
+// Where so many codewords are, above the ground.
+fn top(most: u64, codewords: u64) -> u64 {
+    let height = codewords.saturating_mul(HIGHEST) / most.max(1);
+    GROUND.saturating_sub(height)
+}
+
 /// Adds the columns that were found of a node, with the slots or boundaries that it names marked.
 pub(crate) fn push_columns(
     text: &mut String,
-    scale: Scale,
+    most: u64,
     finding: &Finding,
 ) -> Result<(), AllocError> {
     text.push_str(AXIS)?;
-    let named = match finding.fact {
-        Fact::Overload { set, .. } => set,
-        _ => 0,
+    let (slots, boundaries) = match finding.fact {
+        Fact::Overload { set, .. } => (set, 0),
+        Fact::Cut { set, .. } => (0, smaller_side(set)),
+        _ => (0, 0),
     };
     for slot in 0..BATCH_SLOTS {
         if let Some(column) = finding.columns.get(usize::from(slot)) {
-            push_column(text, scale, slot, *column, holds(named, slot))?;
+            push_column(text, most, slot, *column, holds(slots, slot))?;
         }
     }
-    match finding.fact {
-        Fact::Cut { set, .. } => push_boundaries(text, smaller_side(set)),
-        _ => Ok(()),
+    for boundary in 0..BATCH_SLOTS {
+        if holds(boundaries, boundary) {
+            let x = LEFT + WIDTH * u64::from(boundary);
+            write!(text, "<path class='s' d='M{x} 6V102'/>\n")?;
+        }
     }
+    Ok(())
 }
 
-// The left side of a slot, which is the boundary of its number.
-fn left(slot: u8) -> u64 {
-    LEFT.saturating_add(WIDTH.saturating_mul(u64::from(slot)))
-}
-
-// A column: its bar, the room in it, and its numbers.
+// A column: its bar, with a wedge over it where the slot is named, the room in it, and its numbers.
 fn push_column(
     text: &mut String,
-    scale: Scale,
+    most: u64,
     slot: u8,
     column: Column,
     is_named: bool,
 ) -> Result<(), AllocError> {
     let Column { least, room } = column;
     let words = if least == 1 { "codeword" } else { "codewords" };
-    write!(
-        text,
-        "<g><title>slot {slot}: {least} {words} at the least, room for {room}</title>"
-    )?;
-    push_bar(text, scale, slot, least, is_named)?;
-    let x = left(slot);
-    let y = scale.top(u64::from(room));
-    write!(text, "<path class='r' d='M{x} {y}h28'/>")?;
-    push_numbers(text, slot, column)
-}
-
-// The bar of a column, with a wedge over it where the slot is named.
-fn push_bar(
-    text: &mut String,
-    scale: Scale,
-    slot: u8,
-    least: u64,
-    is_named: bool,
-) -> Result<(), AllocError> {
-    let y = scale.top(least);
+    let class = if is_named { 'n' } else { 'c' };
+    let left = LEFT.saturating_add(WIDTH.saturating_mul(u64::from(slot)));
+    let x = left.saturating_add(4);
+    let y = top(most, least);
     let tall = GROUND.saturating_sub(y);
-    let x = left(slot).saturating_add(4);
-    if !is_named {
-        return write!(
-            text,
-            "<rect class='c' x='{x}' y='{y}' width='20' height='{tall}'/>"
-        );
-    }
-    let wedge = x.saturating_add(5);
     write!(
         text,
-        "<rect class='n' x='{x}' y='{y}' width='20' height='{tall}'/><path class='w' d='M{wedge} 4h10l-5 8z'/>"
-    )
-}
-
-// The number of a slot, and below it those of its column, which ends with them.
-fn push_numbers(text: &mut String, slot: u8, column: Column) -> Result<(), AllocError> {
-    let Column { least, room } = column;
-    let x = left(slot).saturating_add(WIDTH / 2);
+        "<g><title>slot {slot}: {least} {words} at the least, room for {room}</title>\
+        <rect class='{class}' x='{x}' y='{y}' width='20' height='{tall}'/>"
+    )?;
+    if is_named {
+        let wedge = left.saturating_add(9);
+        write!(text, "<path class='w' d='M{wedge} 4h10l-5 8z'/>")?;
+    }
+    let y = top(most, u64::from(room));
+    let x = left.saturating_add(WIDTH / 2);
     write!(
         text,
-        "<text class='m' x='{x}' y='112'>{slot}</text><text class='m' x='{x}' y='126'>{least}</text><text class='m' x='{x}' y='140'>{room}</text></g>\n"
+        "<path class='r' d='M{left} {y}h28'/>\
+        <text class='m' x='{x}' y='112'>{slot}</text><text class='m' x='{x}' y='126'>{least}</text><text class='m' x='{x}' y='140'>{room}</text></g>\n"
     )
-}
-
-// A line at each boundary of the set.
-fn push_boundaries(text: &mut String, set: u16) -> Result<(), AllocError> {
-    for boundary in 0..BATCH_SLOTS {
-        if holds(set, boundary) {
-            let x = left(boundary);
-            write!(text, "<path class='s' d='M{x} 6V102'/>\n")?;
-        }
-    }
-    Ok(())
 }

@@ -2,16 +2,23 @@
 ghost use Rattle.std.specs.Prelude.{ℕ, ◌++◌, IfOk, string_bytes};
 ghost use Rattle.pocsag_wording.specs.Beginnings.{BeginsWith, drawing_head, verdict_words};
 
-use crate::columns::{Scale, push_columns};
+use crate::columns::{most_of, push_columns};
 use crate::explained::first_words;
+use crate::lines::{Margins, push_lines};
 use crate::numbering::Numbering;
-use crate::outline::{conclusion, first_refused, node_line};
+use crate::outline::{conclusion, first_refused, write_node_line};
 use crate::subject::Subject;
 use pocsag_findings::Finding;
 use std::alloc::{AllocError, Global};
 
 // How many characters stand in a line at the most, where its words are no longer.
 const LINE: usize = 84;
+
+const MARGINS: Margins = Margins {
+    first: 0,
+    others: 0,
+    width: LINE,
+};
 
 // How far it is from line to line, and from the top of the columns of a node to what stands below them.
 const LINE_HEIGHT: u64 = 15;
@@ -37,46 +44,34 @@ const STYLE: &str = "\
 .pocsag-why .x{stroke:#8a8f98}.pocsag-why .s{stroke:#ffb4a8}}\
 </style>\n";
 
-// What is drawn so far, the line of words that is not full yet, and how tall the drawing is.
+// What is drawn so far, and how tall it is; the lines are those of the words that were added last.
 #[derive(Drop)]
 struct Sheet {
     text: String,
-    line: String,
+    lines: String,
     height: u64,
 }
 
 impl Sheet {
-    // Adds the line of words, and begins another.
-    fn end_line(&mut self) -> Result<(), AllocError> {
-        let base = self.height.saturating_add(13);
-        let words = self.line.as_str();
-        write!(self.text, "<text x='12' y='{base}'>{words}</text>\n")?;
-        self.line.clear();
-        self.height = self.height.saturating_add(LINE_HEIGHT);
+    // Adds words in as many lines as they need.
+    fn put_words(&mut self, words: &str) -> Result<(), AllocError> {
+        self.lines.clear();
+        push_lines(&mut self.lines, MARGINS, words)?;
+        for line in self.lines.as_str().split_terminator('\n') {
+            let base = self.height.saturating_add(13);
+            write!(self.text, "<text x='12' y='{base}'>{line}</text>\n")?;
+            self.height = self.height.saturating_add(LINE_HEIGHT);
+        }
         Ok(())
     }
 
-    // Adds words in as many lines as they need.
-    fn put_words(&mut self, words: &str) -> Result<(), AllocError> {
-        for word in words.split(' ') {
-            if self.line.len().saturating_add(word.len()) >= LINE {
-                self.end_line()?;
-            }
-            if self.line.len() > 0 {
-                self.line.push_str(" ")?;
-            }
-            self.line.push_str(word)?;
-        }
-        self.end_line()
-    }
-
-    // Adds the line of a node, and its columns.
-    fn put_node(&mut self, line: &str, scale: Scale, finding: &Finding) -> Result<(), AllocError> {
+    // Adds the line of a node, and its columns on a scale of so many codewords.
+    fn put_node(&mut self, line: &str, most: u64, finding: &Finding) -> Result<(), AllocError> {
         self.text.push_str("<g class='d'>\n")?;
         self.put_words(line)?;
         let top = self.height;
         write!(self.text, "<g transform='translate(0 {top})'>\n")?;
-        push_columns(&mut self.text, scale, finding)?;
+        push_columns(&mut self.text, most, finding)?;
         self.text.push_str("</g></g>\n")?;
         self.height = self.height.saturating_add(COLUMNS_HEIGHT);
         Ok(())
@@ -84,39 +79,26 @@ impl Sheet {
 
     // Adds the nodes of which columns are found, one below the other, on one scale.
     fn put_nodes(&mut self, alloc: Global, subject: &Subject<'_>) -> Result<(), AllocError> {
-        let scale = Scale::new(subject.findings);
-        let mut numbering = Numbering::new(alloc);
+        let most = most_of(subject.findings);
+        let mut numbering = Numbering {
+            path: Vec::new(alloc),
+        };
+        let mut line = String::new(alloc);
         for finding in subject.findings {
             numbering.step(finding.depth)?;
             if finding.columns.len() > 0 {
-                let line = node_line(alloc, subject.refuted(), &numbering, finding)?;
-                self.put_node(line.as_str(), scale, finding)?;
+                write_node_line(&mut line, subject.refuted, &numbering, finding)?;
+                self.put_node(line.as_str(), most, finding)?;
             }
         }
         Ok(())
-    }
-
-    // Adds all that stands on it.
-    fn fill(
-        &mut self,
-        alloc: Global,
-        heading: &str,
-        subject: &Subject<'_>,
-    ) -> Result<(), AllocError> {
-        self.put_words(heading)?;
-        self.put_nodes(alloc, subject)?;
-        if subject.is_shown {
-            let closing = conclusion(alloc, subject.refuted())?;
-            self.put_words(closing.as_str())?;
-        }
-        self.put_words(KEY)
     }
 }
 
 // The verdict; if the checker does not accept the certificate, the first node that does not hold too.
 fn heading(alloc: Global, subject: &Subject<'_>) -> Result<String, AllocError>
     ensures { IfOk result (λ text. BeginsWith
-        (verdict_words subject.now.is_shown subject.now.end subject.now.batches) (string_bytes text)) }
+        (verdict_words subject.now.is_shown subject.now.refuted.end subject.now.batches) (string_bytes text)) }
 {
     let mut text = first_words(alloc, subject)?;
     if !subject.is_shown {
@@ -130,16 +112,22 @@ fn heading(alloc: Global, subject: &Subject<'_>) -> Result<String, AllocError>
 /// The explanation as SVG 1.1: the nodes of which columns are found, one below the other, on one scale.
 pub(crate) fn drawing(alloc: Global, subject: &Subject<'_>) -> Result<String, AllocError>
     ensures { IfOk result (λ text. (height : ℕ) × BeginsWith (drawing_head height
-        ++ verdict_words subject.now.is_shown subject.now.end subject.now.batches) (string_bytes text)) }
+        ++ verdict_words subject.now.is_shown subject.now.refuted.end subject.now.batches) (string_bytes text)) }
 {
     let heading = heading(alloc, subject)?;
     let heading = heading.as_str();
     let mut sheet = Sheet {
         text: String::new(alloc),
-        line: String::new(alloc),
+        lines: String::new(alloc),
         height: 8,
     };
-    sheet.fill(alloc, heading, subject)?;
+    sheet.put_words(heading)?;
+    sheet.put_nodes(alloc, subject)?;
+    if subject.is_shown {
+        let closing = conclusion(alloc, subject.refuted)?;
+        sheet.put_words(closing.as_str())?;
+    }
+    sheet.put_words(KEY)?;
     page(alloc, heading, &sheet)
 }
 

@@ -4,7 +4,7 @@ ghost use Rattle.pocsag_wording.specs.Beginnings.{BeginsWith, TellsVerdict, verd
 use crate::drawing::drawing;
 use crate::facts::facts;
 use crate::form::Telling;
-use crate::kind::Kinds;
+use crate::kind::kinds_of;
 use crate::outline::{outline, summary};
 use crate::subject::Subject;
 use pocsag_findings::findings;
@@ -33,14 +33,20 @@ pub fn explanation(
         DEPTH_LIMIT
     };
     let found = findings(alloc, &classes, certificate, depth)?;
-    let kinds = Kinds::new(alloc, round, certificate.end, &classes)?;
-    let subject = Subject::new(round, certificate, is_shown, found.as_slice(), &kinds);
+    let kinds = kinds_of(alloc, round, certificate.end, &classes)?;
+    let subject = Subject::new(
+        round,
+        certificate,
+        is_shown,
+        found.as_slice(),
+        kinds.as_slice(),
+    );
     Ok(told(alloc, telling, &subject)?)
 }
 
 fn told(alloc: Global, telling: Telling, subject: &Subject<'_>) -> Result<String, AllocError>
     ensures { IfOk result (λ text.
-        TellsVerdict telling subject.now.is_shown subject.now.end subject.now.batches (string_bytes text)) }
+        TellsVerdict telling subject.now.is_shown subject.now.refuted.end subject.now.batches (string_bytes text)) }
 {
     match telling {
         Telling::Lines(_) => {
@@ -57,7 +63,7 @@ fn told(alloc: Global, telling: Telling, subject: &Subject<'_>) -> Result<String
 /// The first line of the text, or of the drawing its title.
 pub(crate) fn first_words(alloc: Global, subject: &Subject<'_>) -> Result<String, AllocError>
     ensures { IfOk result (λ text. BeginsWith
-        (verdict_words subject.now.is_shown subject.now.end subject.now.batches) (string_bytes text)) }
+        (verdict_words subject.now.is_shown subject.now.refuted.end subject.now.batches) (string_bytes text)) }
 {
     if subject.is_shown {
         summary(alloc, subject)

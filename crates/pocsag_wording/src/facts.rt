@@ -3,9 +3,8 @@ ghost use Rattle.std.specs.Prelude.{IfOk, string_bytes};
 ghost use Rattle.pocsag_wording.specs.Beginnings.{BeginsWith, verdict_members};
 
 use crate::numbering::Numbering;
-use crate::sentences::{Cut, Outlets};
 use crate::subject::Subject;
-use crate::wording::{is_bare, start_slot};
+use crate::wording::{FIRST_ALONE, start_slot};
 use pocsag_findings::{Fact, Finding, Narrowed, Reached, Share};
 use pocsag_slots::{CLASSES, SLOTS, Way, frame, holds, rest};
 use pocsag_words::End;
@@ -15,26 +14,25 @@ use std::fmt::{self, Display, Formatter};
 /// The explanation as one line of JSON, with the findings no deeper than so.
 pub(crate) fn facts(alloc: Global, subject: &Subject<'_>, depth: u32) -> Result<String, AllocError>
     ensures { IfOk result (λ text. BeginsWith
-        (verdict_members subject.now.is_shown subject.now.end subject.now.batches) (string_bytes text)) }
+        (verdict_members subject.now.is_shown subject.now.refuted.end subject.now.batches) (string_bytes text)) }
 {
     let mut text = verdict(alloc, subject)?;
-    let mut found = counts(alloc, subject)?;
-    push_findings(alloc, &mut found, subject.findings, depth)?;
-    text.push_str(found.as_str())?;
+    let others = other_members(alloc, subject, depth)?;
+    text.push_str(others.as_str())?;
     Ok(text)
 }
 
 // The first members of the whole.
 fn verdict(alloc: Global, subject: &Subject<'_>) -> Result<String, AllocError>
     ensures { IfOk result (λ text. BeginsWith
-        (verdict_members subject.now.is_shown subject.now.end subject.now.batches) (string_bytes text)) }
+        (verdict_members subject.now.is_shown subject.now.refuted.end subject.now.batches) (string_bytes text)) }
 {
     let Subject {
         is_shown,
         batches,
         ..
     } = *subject;
-    let end = match subject.end {
+    let end = match subject.refuted.end {
         End::Open => "open",
         End::Closed => "closed",
         End::Idle => "idle",
@@ -42,77 +40,56 @@ fn verdict(alloc: Global, subject: &Subject<'_>) -> Result<String, AllocError>
     format!(in alloc; r#"{{"shown":{is_shown},"end":"{end}","batches":{batches},"#)
 }
 
-// The members after them, up to the number of the first node that does not hold.
-fn counts(alloc: Global, subject: &Subject<'_>) -> Result<String, AllocError> {
+// The members after them, with the findings no deeper than so.
+fn other_members(alloc: Global, subject: &Subject<'_>, depth: u32) -> Result<String, AllocError> {
     let Subject {
         pages,
         codewords,
+        room,
         nodes,
+        findings,
         ..
     } = *subject;
-    let room = subject.room();
-    format!(in alloc;
+    let mut numbering = Numbering {
+        path: Vec::new(alloc),
+    };
+    let mut text = format!(in alloc;
         r#""pages":{pages},"codewords":{codewords},"room":{room},"nodes":{nodes},"refused":"#
-    )
-}
-
-// Adds what comes after them.
-fn push_findings(
-    alloc: Global,
-    text: &mut String,
-    findings: &[Finding],
-    depth: u32,
-) -> Result<(), AllocError> {
-    push_refused(alloc, text, findings)?;
-    text.push_str(",\"listed\":[")?;
-    push_nodes(alloc, text, findings, depth)?;
-    text.push_str("]}\n")
-}
-
-// Adds the number of the first node that does not hold, if there is one.
-fn push_refused(alloc: Global, text: &mut String, findings: &[Finding]) -> Result<(), AllocError> {
-    let mut numbering = Numbering::new(alloc);
-    for finding in findings {
-        numbering.step(finding.depth)?;
-        if !finding.holds {
-            return write!(text, "\"{numbering}\"");
-        }
+    )?;
+    match numbering.step_to_refused(findings)? {
+        Some(_) => write!(text, "\"{numbering}\"")?,
+        None => text.push_str("null")?,
     }
-    text.push_str("null")
+    push_nodes(alloc, &mut text, findings, depth)?;
+    Ok(text)
 }
 
-// Adds the nodes no deeper than so.
+// Adds the nodes no deeper than so; the root, which stands at depth 1, is the first.
 fn push_nodes(
     alloc: Global,
     text: &mut String,
     findings: &[Finding],
     depth: u32,
 ) -> Result<(), AllocError> {
-    let mut numbering = Numbering::new(alloc);
+    let mut numbering = Numbering {
+        path: Vec::new(alloc),
+    };
+    text.push_str(",\"listed\":[")?;
     for finding in findings {
         numbering.step(finding.depth)?;
         if finding.depth <= depth {
-            push_node(text, &numbering, finding)?;
+            let comma = if finding.depth > 1 { "," } else { "" };
+            let reached = ReachedFacts(finding.reached);
+            let holds = finding.holds;
+            let limits = LimitFacts(finding);
+            let fact = NodeFacts(finding);
+            write!(
+                text,
+                r#"{comma}{{"node":"{numbering}","reached":{reached},"holds":{holds},"limits":{limits},"fact":{fact}}}"#
+            )?;
         }
     }
-    Ok(())
-}
-
-// Adds a node; the root, which stands at depth 1, is the first.
-fn push_node(
-    text: &mut String,
-    numbering: &Numbering,
-    finding: &Finding,
-) -> Result<(), AllocError> {
-    let comma = if finding.depth > 1 { "," } else { "" };
-    let reached = ReachedFacts(finding.reached);
-    let holds = finding.holds;
-    let limits = LimitFacts(finding);
-    let fact = NodeFacts(finding);
-    write!(
-        text,
-        r#"{comma}{{"node":"{numbering}","reached":{reached},"holds":{holds},"limits":{limits},"fact":{fact}}}"#
-    )
+    text.push_str("]}\n")
 }
 
 // How a node is reached from the one above it.
@@ -121,22 +98,19 @@ struct ReachedFacts(Reached);
 
 impl Display for ReachedFacts {
     fn fmt<W: fmt::Write>(&self, f: &mut Formatter<W>) -> fmt::Result {
-        match self.0 {
-            Reached::Root => f.write_str(r#"{"by":"root"}"#),
-            Reached::Below => f.write_str(r#"{"by":"first_case"}"#),
-            Reached::From => f.write_str(r#"{"by":"second_case"}"#),
-            Reached::By(Way::IdleIn(slot)) => write!(f, r#"{{"by":"idle","slot":{slot}}}"#),
-            Reached::By(Way::Early(class)) => write_page(f, class, true),
-            Reached::By(Way::Late(class)) => write_page(f, class, false),
-            Reached::Unreached => f.write_str(r#"{"by":"unreached"}"#),
-        }
+        let (class, early) = match self.0 {
+            Reached::Root => return f.write_str(r#"{"by":"root"}"#),
+            Reached::Below => return f.write_str(r#"{"by":"first_case"}"#),
+            Reached::From => return f.write_str(r#"{"by":"second_case"}"#),
+            Reached::By(Way::IdleIn(slot)) => return write!(f, r#"{{"by":"idle","slot":{slot}}}"#),
+            Reached::By(Way::Early(class)) => (class, true),
+            Reached::By(Way::Late(class)) => (class, false),
+            Reached::Unreached => return f.write_str(r#"{"by":"unreached"}"#),
+        };
+        let pages = ClassFacts(class);
+        let slot = start_slot(class, early);
+        write!(f, r#"{{"by":"page","pages":{pages},"slot":{slot}}}"#)
     }
-}
-
-fn write_page<W: fmt::Write>(f: &mut Formatter<W>, class: u8, early: bool) -> fmt::Result {
-    let pages = ClassFacts(class);
-    let slot = start_slot(class, early);
-    write!(f, r#"{{"by":"page","pages":{pages},"slot":{slot}}}"#)
 }
 
 // The limits of a node: how often pages may cover each slot, and how many pages start early of each class that is narrowed.
@@ -154,26 +128,21 @@ impl Display for LimitFacts<'_> {
         f.write_str(r#"],"classes":["#)?;
         comma = "";
         for narrowed in self.0.narrowed.iter() {
-            f.write_str(comma)?;
-            write_narrowed(f, *narrowed)?;
+            let Narrowed {
+                class,
+                pages: count,
+                lo,
+                hi,
+            } = *narrowed;
+            let pages = ClassFacts(class);
+            write!(
+                f,
+                r#"{comma}{{"pages":{pages},"count":{count},"lo":{lo},"hi":{hi}}}"#
+            )?;
             comma = ",";
         }
         f.write_str("]}")
     }
-}
-
-fn write_narrowed<W: fmt::Write>(f: &mut Formatter<W>, narrowed: Narrowed) -> fmt::Result {
-    let Narrowed {
-        class,
-        pages: count,
-        lo,
-        hi,
-    } = narrowed;
-    let pages = ClassFacts(class);
-    write!(
-        f,
-        r#"{{"pages":{pages},"count":{count},"lo":{lo},"hi":{hi}}}"#
-    )
 }
 
 // What a node states.
@@ -186,29 +155,41 @@ impl Display for NodeFacts<'_> {
             Fact::Overload { set, least, room } => {
                 write_overload(f, set, least, room, self.0.shares.as_slice())
             }
-            Fact::Split { class, m, lo, hi } => write_split(f, class, m, lo, hi),
+            Fact::Split { class, m, lo, hi } => {
+                let pages = ClassFacts(class);
+                let slot = start_slot(class, true);
+                write!(
+                    f,
+                    r#"{{"kind":"split","pages":{pages},"slot":{slot},"m":{m},"fewest":{lo},"most":{hi}}}"#
+                )
+            }
             Fact::Cut {
                 set,
                 needed,
-                is_certain,
+                is_certain: certain,
                 ways,
                 children,
             } => {
-                let cut = Cut {
-                    set,
-                    needed,
-                    is_certain,
-                    outlets: Outlets { ways, children },
-                };
-                write_cut(f, cut)
+                let boundaries = SetFacts(set);
+                let pages = ClassFacts(needed);
+                write!(
+                    f,
+                    r#"{{"kind":"cut","boundaries":[{boundaries}],"pages":{pages},"certain":{certain},"ways":{ways},"children":{children}}}"#
+                )
             }
-            Fact::Close { ways, children } => write_close(f, Outlets { ways, children }),
+            Fact::Close { ways, children } => {
+                write!(
+                    f,
+                    r#"{{"kind":"close","ways":{ways},"children":{children}}}"#
+                )
+            }
             Fact::Open => f.write_str(r#"{"kind":"open"}"#),
             Fact::Unjudged => f.write_str(r#"{"kind":"unjudged"}"#),
         }
     }
 }
 
+// Adds an overload, and what the pages of each class cover of its slots at the least.
 fn write_overload<W: fmt::Write>(
     f: &mut Formatter<W>,
     set: u16,
@@ -217,65 +198,22 @@ fn write_overload<W: fmt::Write>(
     shares: &[Share],
 ) -> fmt::Result {
     let slots = SetFacts(set);
-    let shares = ShareFacts(shares);
     write!(
         f,
-        r#"{{"kind":"overload","slots":[{slots}],"least":{least},"room":{room},"shares":[{shares}]}}"#
-    )
-}
-
-fn write_split<W: fmt::Write>(
-    f: &mut Formatter<W>,
-    class: u8,
-    m: u16,
-    lo: u32,
-    hi: u32,
-) -> fmt::Result {
-    let pages = ClassFacts(class);
-    let slot = start_slot(class, true);
-    write!(
-        f,
-        r#"{{"kind":"split","pages":{pages},"slot":{slot},"m":{m},"fewest":{lo},"most":{hi}}}"#
-    )
-}
-
-fn write_cut<W: fmt::Write>(f: &mut Formatter<W>, cut: Cut) -> fmt::Result {
-    let boundaries = SetFacts(cut.set);
-    let pages = ClassFacts(cut.needed);
-    let certain = cut.is_certain;
-    let Outlets { ways, children } = cut.outlets;
-    write!(
-        f,
-        r#"{{"kind":"cut","boundaries":[{boundaries}],"pages":{pages},"certain":{certain},"ways":{ways},"children":{children}}}"#
-    )
-}
-
-fn write_close<W: fmt::Write>(f: &mut Formatter<W>, outlets: Outlets) -> fmt::Result {
-    let Outlets { ways, children } = outlets;
-    write!(
-        f,
-        r#"{{"kind":"close","ways":{ways},"children":{children}}}"#
-    )
-}
-
-// What the pages of each class cover of an overload's slots at the least.
-#[derive(Clone, Copy)]
-struct ShareFacts<'a>(&'a [Share]);
-
-impl Display for ShareFacts<'_> {
-    fn fmt<W: fmt::Write>(&self, f: &mut Formatter<W>) -> fmt::Result {
-        for (place, share) in self.0.iter().enumerate() {
-            let comma = if place > 0 { "," } else { "" };
-            let pages = ClassFacts(share.class);
-            let count = share.pages;
-            let least = share.least;
-            write!(
-                f,
-                r#"{comma}{{"pages":{pages},"count":{count},"least":{least}}}"#
-            )?;
-        }
-        Ok(())
+        r#"{{"kind":"overload","slots":[{slots}],"least":{least},"room":{room},"shares":["#
+    )?;
+    let mut comma = "";
+    for share in shares {
+        let pages = ClassFacts(share.class);
+        let count = share.pages;
+        let least = share.least;
+        write!(
+            f,
+            r#"{comma}{{"pages":{pages},"count":{count},"least":{least}}}"#
+        )?;
+        comma = ",";
     }
+    f.write_str("]}")
 }
 
 // The pages of a class; no frame and no length for one that there is not. They are alone where they are address
@@ -291,7 +229,7 @@ impl Display for ClassFacts {
         }
         let frame = frame(class);
         let rest = rest(class);
-        let alone = is_bare(class);
+        let alone = class >= FIRST_ALONE;
         write!(
             f,
             r#"{{"frame":{frame},"length_modulo_16":{rest},"alone":{alone}}}"#
@@ -305,12 +243,11 @@ struct SetFacts(u16);
 
 impl Display for SetFacts {
     fn fmt<W: fmt::Write>(&self, f: &mut Formatter<W>) -> fmt::Result {
-        let set = self.0;
+        let mut comma = "";
         for member in 0..SLOTS as u8 {
-            if holds(set, member) {
-                let is_first = set.trailing_zeros() == u32::from(member);
-                let comma = if is_first { "" } else { "," };
+            if holds(self.0, member) {
                 write!(f, "{comma}{member}")?;
+                comma = ",";
             }
         }
         Ok(())

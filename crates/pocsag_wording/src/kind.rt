@@ -1,9 +1,9 @@
 //! Classes of pages by what a person knows of them: some addresses and lengths.
 
-use crate::wording::FrameWords;
+use crate::wording::FIRST_ALONE;
 use arrayvec::ArrayVec;
-use pocsag_pages::{Page, Round};
-use pocsag_slots::{Classes, class_of};
+use pocsag_pages::Round;
+use pocsag_slots::{CLASSES, Classes, class_of, frame, rest};
 use pocsag_words::End;
 use std::alloc::{AllocError, Global};
 use std::fmt::{self, Display, Formatter};
@@ -11,135 +11,94 @@ use std::fmt::{self, Display, Formatter};
 // How many different addresses, and how many lengths, are named of a class at the most.
 const NAMED: usize = 3;
 
-// Different numbers in the order in which they came; of more than three the first three.
+// Different numbers in the order in which they came, with one more than are named where there are more.
+type Sample = ArrayVec<u64, 4>;
+
+fn add_different(sample: &mut Sample, number: u64) {
+    if !sample.as_slice().contains(&number) {
+        let _ = sample.try_push(number);
+    }
+}
+
+/// What is told of the pages of one class.
 #[derive(Drop)]
-struct Sample {
-    numbers: ArrayVec<u64, NAMED>,
-    has_more: bool,
-}
-
-impl Sample {
-    fn new() -> Sample {
-        Sample {
-            numbers: ArrayVec::new(),
-            has_more: false,
-        }
-    }
-
-    fn add(&mut self, number: u64) {
-        if !self.numbers.as_slice().contains(&number) && self.numbers.try_push(number).is_err() {
-            self.has_more = true;
-        }
-    }
-
-    // What is counted by these numbers.
-    fn noun(&self) -> &'static str {
-        match self.numbers.as_slice().first().copied() {
-            Some(1) if self.numbers.len() == 1 => "codeword",
-            _ => "codewords",
-        }
-    }
-}
-
-/// The numbers: `3`, `3 or 11`, `3, 11, 19, ..`.
-impl Display for Sample {
-    fn fmt<W: fmt::Write>(&self, f: &mut Formatter<W>) -> fmt::Result {
-        let numbers = self.numbers.as_slice();
-        let mut link = "";
-        for (place, number) in numbers.iter().enumerate() {
-            write!(f, "{link}{number}")?;
-            let is_next_last = numbers.len().saturating_sub(place) == 2;
-            link = if is_next_last && !self.has_more {
-                " or "
-            } else {
-                ", "
-            };
-        }
-        f.write_str(if self.has_more { ", .." } else { "" })
-    }
-}
-
-// The pages of one class.
-#[derive(Drop)]
-struct ClassPages {
+pub(crate) struct ClassPages {
     addresses: Sample,
     lengths: Sample,
-    // How many whole turns of sixteen codewords they take together.
-    turns: u32,
+    /// How many whole turns of sixteen codewords they take together.
+    pub(crate) turns: u32,
 }
 
-impl ClassPages {
-    fn add(&mut self, page: &Page) {
-        self.addresses.add(u64::from(page.address));
-        let message = page.payload.as_slice().len() as u64;
-        self.lengths.add(message.saturating_add(1));
+/// The kinds of a round whose classes were counted for the end, class by class.
+pub(crate) fn kinds_of(
+    alloc: Global,
+    round: &Round,
+    end: End,
+    classes: &Classes,
+) -> Result<Vec<ClassPages>, AllocError> {
+    let mut kinds = Vec::new(alloc);
+    for turns in classes.turns.iter() {
+        kinds.push(ClassPages {
+            addresses: ArrayVec::new(),
+            lengths: ArrayVec::new(),
+            turns: *turns,
+        })?;
     }
-}
-
-/// The pages of a round, class by class.
-#[derive(Drop)]
-pub(crate) struct Kinds {
-    kinds: Vec<ClassPages>,
-}
-
-impl Kinds {
-    /// The kinds of a round whose classes were counted for the end.
-    pub(crate) fn new(
-        alloc: Global,
-        round: &Round,
-        end: End,
-        classes: &Classes,
-    ) -> Result<Kinds, AllocError> {
-        let mut kinds = Vec::new(alloc);
-        for turns in classes.turns.iter() {
-            kinds.push(ClassPages {
-                addresses: Sample::new(),
-                lengths: Sample::new(),
-                turns: *turns,
-            })?;
-        }
-        for page in round.pages() {
-            let class = class_of(page, end).number;
-            if let Some(kind) = kinds.get_mut(usize::from(class)) {
-                kind.add(page);
-            }
-        }
-        Ok(Kinds { kinds })
-    }
-
-    /// The pages of a class in words.
-    pub(crate) fn words(&self, class: u8) -> KindWords<'_> {
-        KindWords { kinds: self, class }
-    }
-
-    /// How many whole turns the pages of a class take together.
-    pub(crate) fn turns(&self, class: u8) -> u64 {
-        match self.kinds.get(usize::from(class)) {
-            Some(kind) => u64::from(kind.turns),
-            None => 0,
+    for page in round.pages() {
+        let class = class_of(page, end).number;
+        if let Some(kind) = kinds.get_mut(usize::from(class)) {
+            let message = page.payload.as_slice().len() as u64;
+            add_different(&mut kind.addresses, u64::from(page.address));
+            add_different(&mut kind.lengths, message.saturating_add(1));
         }
     }
+    Ok(kinds)
 }
 
-/// The pages of a class: `address 3, 11, 19, .. (2 or 18 codewords)`; by their frame where the round has none.
+// Some numbers of a sample: `3`, `3 or 11`, `3, 11, 19, ..`.
 #[derive(Clone, Copy)]
-pub(crate) struct KindWords<'a> {
-    kinds: &'a Kinds,
-    class: u8,
+struct SampleWords<'a>(&'a Sample);
+
+impl Display for SampleWords<'_> {
+    fn fmt<W: fmt::Write>(&self, f: &mut Formatter<W>) -> fmt::Result {
+        let numbers = self.0.as_slice();
+        let (named, more) = numbers.split_at(numbers.len().min(NAMED));
+        let mut link = "";
+        for (place, number) in named.iter().enumerate() {
+            write!(f, "{link}{number}")?;
+            let is_next_last = numbers.len().saturating_sub(place) == 2;
+            link = if is_next_last { " or " } else { ", " };
+        }
+        f.write_str(if more.is_empty() { "" } else { ", .." })
+    }
 }
+
+/// The pages of a class: `address 3, 11, 19, .. (2 or 18 codewords)`; where the round has none
+/// `frame 5 and length 4 modulo 16`.
+#[derive(Clone, Copy)]
+pub(crate) struct KindWords<'a>(pub(crate) &'a [ClassPages], pub(crate) u8);
 
 impl Display for KindWords<'_> {
     fn fmt<W: fmt::Write>(&self, f: &mut Formatter<W>) -> fmt::Result {
-        match self.kinds.kinds.get(usize::from(self.class)) {
-            Some(kind) if kind.addresses.numbers.len() > 0 => {
-                let addresses = &kind.addresses;
-                let lengths = &kind.lengths;
-                let codewords = lengths.noun();
-                write!(f, "address {addresses} ({lengths} {codewords})")
+        let KindWords(kinds, class) = *self;
+        match kinds.get(usize::from(class)) {
+            Some(kind) if kind.addresses.len() > 0 => {
+                let addresses = SampleWords(&kind.addresses);
+                let lengths = SampleWords(&kind.lengths);
+                let is_one = kind.lengths.as_slice() == [1].as_slice();
+                let noun = if is_one { "codeword" } else { "codewords" };
+                write!(f, "address {addresses} ({lengths} {noun})")
             }
+            _ if usize::from(class) >= CLASSES => { write!(f, "class {class}, which there is not") }
             _ => {
-                let pages = FrameWords(self.class);
-                write!(f, "{pages}")
+                let frame = frame(class);
+                let rest = rest(class);
+                let modulo = if class >= FIRST_ALONE {
+                    ""
+                } else {
+                    " modulo 16"
+                };
+                write!(f, "frame {frame} and length {rest}{modulo}")
             }
         }
     }

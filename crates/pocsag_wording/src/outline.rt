@@ -3,14 +3,32 @@ ghost use Rattle.std.specs.Prelude.{true, IfOk, string_bytes};
 ghost use Rattle.pocsag_wording.specs.Beginnings.{BeginsWith, verdict_words};
 
 use crate::limit::LimitWords;
-use crate::lines::push_lines;
+use crate::lines::{Margins, push_lines};
 use crate::numbering::Numbering;
-use crate::sentences::{Refuted, refusal, statement, way_to};
-use crate::subject::Subject;
+use crate::sentences::{Sentence, WayWords};
+use crate::subject::{Refuted, Subject};
 use crate::wording::Counted;
-use pocsag_findings::{Finding, Reached};
+use pocsag_findings::Finding;
 use pocsag_words::End;
 use std::alloc::{AllocError, Global};
+
+// How many characters stand in a line at the most, where its words are no longer.
+const WIDTH: usize = 100;
+
+// How many of them may be words, however deep the line stands.
+const LEAST: usize = 50;
+
+// How much further right the second line of a text begins.
+const HANG: usize = 4;
+
+/// The margins of a text that is indented so far.
+pub(crate) fn margins(indent: usize) -> Margins {
+    Margins {
+        first: indent,
+        others: indent.saturating_add(HANG),
+        width: WIDTH.max(indent.saturating_add(LEAST)),
+    }
+}
 
 /// What follows the first words: a line for each finding, how many nodes are not listed, and the conclusion; or, if the
 /// checker does not accept the certificate, the first node that does not hold.
@@ -18,7 +36,7 @@ pub(crate) fn outline(alloc: Global, subject: &Subject<'_>) -> Result<String, Al
     let mut text = format!(in alloc; "\n")?;
     if !subject.is_shown {
         let refused = first_refused(alloc, subject)?;
-        push_lines(&mut text, 0, refused.as_str())?;
+        push_lines(&mut text, margins(0), refused.as_str())?;
         return Ok(text);
     }
     push_nodes(alloc, &mut text, subject)?;
@@ -27,7 +45,7 @@ pub(crate) fn outline(alloc: Global, subject: &Subject<'_>) -> Result<String, Al
         let nodes = Counted(below, "node");
         write!(text, ".. {nodes} below\n")?;
     }
-    let closing = conclusion(alloc, subject.refuted())?;
+    let closing = conclusion(alloc, subject.refuted)?;
     write!(text, "{closing}\n")?;
     Ok(text)
 }
@@ -44,29 +62,23 @@ pub(crate) fn conclusion(alloc: Global, refuted: Refuted<'_>) -> Result<String, 
     format!(in alloc; "so {batches} {verb} not suffice{end}")
 }
 
+// Adds a line for each finding, and one for its limits, where they say more than those of the root.
 fn push_nodes(alloc: Global, text: &mut String, subject: &Subject<'_>) -> Result<(), AllocError> {
-    let mut numbering = Numbering::new(alloc);
+    let mut numbering = Numbering {
+        path: Vec::new(alloc),
+    };
+    let mut words = String::new(alloc);
     for finding in subject.findings {
         numbering.step(finding.depth)?;
-        push_node(alloc, text, subject.refuted(), &numbering, finding)?;
-    }
-    Ok(())
-}
-
-fn push_node(
-    alloc: Global,
-    text: &mut String,
-    refuted: Refuted<'_>,
-    numbering: &Numbering,
-    finding: &Finding,
-) -> Result<(), AllocError> {
-    let indent = (finding.depth as usize).saturating_sub(1).saturating_mul(2);
-    let line = node_line(alloc, refuted, numbering, finding)?;
-    push_lines(text, indent, line.as_str())?;
-    let limits = LimitWords { refuted, finding };
-    let limits = format!(in alloc; "{limits}")?;
-    if limits.len() > 0 {
-        push_lines(text, indent.saturating_add(2), limits.as_str())?;
+        let indent = (finding.depth as usize).saturating_sub(1).saturating_mul(2);
+        write_node_line(&mut words, subject.refuted, &numbering, finding)?;
+        push_lines(text, margins(indent), words.as_str())?;
+        let limits = LimitWords(subject.refuted, finding);
+        words.clear();
+        write!(words, "{limits}")?;
+        if words.len() > 0 {
+            push_lines(text, margins(indent.saturating_add(2)), words.as_str())?;
+        }
     }
     Ok(())
 }
@@ -74,12 +86,12 @@ fn push_node(
 /// What is shown, and what the round and the batches hold.
 pub(crate) fn summary(alloc: Global, subject: &Subject<'_>) -> Result<String, AllocError>
     ensures { IfOk result (λ text.
-        BeginsWith (verdict_words true subject.now.end subject.now.batches) (string_bytes text)) }
+        BeginsWith (verdict_words true subject.now.refuted.end subject.now.batches) (string_bytes text)) }
 {
     let held = held_words(alloc, subject)?;
     let batches = subject.batches;
     let noun = if batches == 1 { "batch" } else { "batches" };
-    let end = match subject.end {
+    let end = match subject.refuted.end {
         End::Open => "open end",
         End::Closed => "closed end",
         End::Idle => "idle last",
@@ -91,8 +103,8 @@ pub(crate) fn summary(alloc: Global, subject: &Subject<'_>) -> Result<String, Al
 fn held_words(alloc: Global, subject: &Subject<'_>) -> Result<String, AllocError> {
     let pages = Counted(subject.pages, "page");
     let codewords = Counted(subject.codewords, "codeword");
-    let room = subject.room();
-    let refuted = Counted(u64::from(subject.refuted().batches), "batch");
+    let room = subject.room;
+    let refuted = Counted(u64::from(subject.refuted.batches), "batch");
     let yet = if subject.codewords <= room {
         ", yet"
     } else {
@@ -101,40 +113,27 @@ fn held_words(alloc: Global, subject: &Subject<'_>) -> Result<String, AllocError
     format!(in alloc; "{pages}, {codewords}, room for {room} in {refuted}{yet}")
 }
 
-/// The line of a node, without its indentation.
-pub(crate) fn node_line(
-    alloc: Global,
+/// Makes the words the line of a node, without its indentation.
+pub(crate) fn write_node_line(
+    words: &mut String,
     refuted: Refuted<'_>,
     numbering: &Numbering,
     finding: &Finding,
-) -> Result<String, AllocError> {
-    let way = way_to(alloc, refuted, finding.reached)?;
-    let said = if finding.holds {
-        statement(alloc, refuted, finding)?
-    } else {
-        refusal(alloc, refuted, finding)?
-    };
-    format!(in alloc; "node {numbering}{way}: {said}")
+) -> Result<(), AllocError> {
+    let way = WayWords(refuted, finding.reached);
+    let said = Sentence(refuted, finding);
+    words.clear();
+    write!(words, "node {numbering}{way}: {said}")
 }
 
 /// The first finding that does not hold, and why: `node 1.2: slot 15: 1 codeword at the least, room for 1`.
 pub(crate) fn first_refused(alloc: Global, subject: &Subject<'_>) -> Result<String, AllocError> {
-    let mut numbering = Numbering::new(alloc);
-    for finding in subject.findings {
-        numbering.step(finding.depth)?;
-        if !finding.holds {
-            return refused_line(alloc, subject.refuted(), &numbering, finding);
-        }
-    }
-    Ok(String::new(alloc))
-}
-
-fn refused_line(
-    alloc: Global,
-    refuted: Refuted<'_>,
-    numbering: &Numbering,
-    finding: &Finding,
-) -> Result<String, AllocError> {
-    let why = refusal(alloc, refuted, finding)?;
+    let mut numbering = Numbering {
+        path: Vec::new(alloc),
+    };
+    let Some(finding) = numbering.step_to_refused(subject.findings)? else {
+        return Ok(String::new(alloc));
+    };
+    let why = Sentence(subject.refuted, finding);
     format!(in alloc; "node {numbering}: {why}")
 }

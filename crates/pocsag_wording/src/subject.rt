@@ -1,25 +1,35 @@
 ghost use Rattle.std.specs.Prelude.{◌≡◌};
 
-use crate::kind::Kinds;
-use crate::sentences::Refuted;
+use crate::kind::ClassPages;
 use pocsag_findings::Finding;
-use pocsag_pages::{Page, Round};
+use pocsag_pages::Round;
 use pocsag_tree::{Certificate, nodes};
 use pocsag_words::End;
+
+/// What a certificate is for: an end, the number of batches that it refutes, and the pages.
+#[derive(Clone, Copy)]
+pub(crate) struct Refuted<'a> {
+    pub(crate) end: End,
+    /// One batch less than the certificate shows to be needed.
+    pub(crate) batches: u32,
+    /// The pages that they do not hold.
+    pub(crate) kinds: &'a [ClassPages],
+}
 
 /// What is explained: a certificate beside the round of a page file, and what was found of its nodes.
 #[derive(Clone, Copy)]
 pub(crate) struct Subject<'a> {
-    pub(crate) end: End,
+    pub(crate) refuted: Refuted<'a>,
     pub(crate) batches: u32,
     /// Whether the checker accepts the certificate.
     pub(crate) is_shown: bool,
     pub(crate) pages: u64,
     pub(crate) codewords: u64,
+    /// How many codewords the refuted batches hold.
+    pub(crate) room: u64,
     /// How many nodes the tree has.
     pub(crate) nodes: u64,
     pub(crate) findings: &'a [Finding],
-    pub(crate) kinds: &'a Kinds,
 }
 
 impl<'a> Subject<'a> {
@@ -29,47 +39,35 @@ impl<'a> Subject<'a> {
         certificate: &Certificate,
         is_shown: bool,
         findings: &'a [Finding],
-        kinds: &'a Kinds,
+        kinds: &'a [ClassPages],
     ) -> Subject<'a>
-        ensures end { result.end ≡ certificate.now.end }
+        ensures end { result.refuted.end ≡ certificate.now.end }
         ensures batches { result.batches ≡ certificate.now.batches }
         ensures verdict { result.is_shown ≡ is_shown }
     {
-        Subject {
+        let pages = round.pages();
+        let mut codewords = pages.len() as u64;
+        for page in pages {
+            codewords = codewords.saturating_add(page.payload.as_slice().len() as u64);
+        }
+        let refuted = Refuted {
             end: certificate.end,
+            batches: certificate.batches.saturating_sub(1),
+            kinds,
+        };
+        Subject {
+            refuted,
             batches: certificate.batches,
             is_shown,
-            pages: round.pages().len() as u64,
-            codewords: all_codewords(round.pages()),
+            pages: pages.len() as u64,
+            codewords,
+            room: 16 * u64::from(refuted.batches),
             nodes: if is_shown {
                 nodes(&certificate.tree)
             } else {
                 findings.len() as u64
             },
             findings,
-            kinds,
         }
     }
-
-    /// What the certificate is for.
-    pub(crate) fn refuted(&self) -> Refuted<'a> {
-        Refuted {
-            end: self.end,
-            batches: self.batches.saturating_sub(1),
-            kinds: self.kinds,
-        }
-    }
-
-    /// How many codewords the refuted batches hold.
-    pub(crate) fn room(&self) -> u64 {
-        16 * u64::from(self.refuted().batches)
-    }
-}
-
-fn all_codewords(pages: &[Page]) -> u64 {
-    let mut codewords: u64 = 0;
-    for page in pages {
-        codewords = codewords.saturating_add(page.payload.as_slice().len() as u64);
-    }
-    codewords.saturating_add(pages.len() as u64)
 }

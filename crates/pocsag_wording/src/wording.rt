@@ -1,7 +1,6 @@
-//! Sets, classes and counts in words.
-ghost use Rattle.std.specs.Prelude.{◌<◌};
+//! Sets of slots and boundaries, and counts, in words.
 
-use pocsag_slots::{CLASSES, SLOTS, frame, holds, rest, size, start, with_member};
+use pocsag_slots::{CLASSES, SLOTS, holds, size, start};
 use std::fmt::{self, Display, Formatter};
 
 /// How many slots a batch has, as a number of the kind that a slot is.
@@ -10,8 +9,8 @@ pub(crate) const BATCH_SLOTS: u8 = SLOTS as u8;
 // How many frames of two slots.
 const BATCH_FRAMES: u8 = BATCH_SLOTS / 2;
 
-// The first class of address codewords alone, which the closed end has, one to a frame.
-const FIRST_ALONE: usize = CLASSES - BATCH_FRAMES as usize;
+/// The first class of address codewords alone, which the closed end has, one to a frame.
+pub(crate) const FIRST_ALONE: u8 = CLASSES as u8 - BATCH_FRAMES;
 
 const ALL_SLOTS: u16 = u16::MAX;
 
@@ -34,54 +33,39 @@ impl Display for Counted<'_> {
     }
 }
 
-// The members of a set: `0, 4 to 7 and 15`.
-#[derive(Clone, Copy)]
-struct MemberWords(u16);
+/// The word for one thing, and for several.
+pub(crate) type Noun = (&'static str, &'static str);
 
-impl Display for MemberWords {
+pub(crate) const BOUNDARY: Noun = ("boundary", "boundaries");
+
+/// Things of a batch, by the set of their numbers: `boundary 0`, `slots 0, 4 to 7 and 15`.
+#[derive(Clone, Copy)]
+pub(crate) struct Members(pub(crate) Noun, pub(crate) u16);
+
+impl Display for Members {
     fn fmt<W: fmt::Write>(&self, f: &mut Formatter<W>) -> fmt::Result {
-        let set = self.0;
+        let Members((one, several), set) = *self;
+        let word = if size(set) == 1 { one } else { several };
+        write!(f, "{word} ")?;
+        // A member between two others is not told. Where a span of three or more ends, it is no item of its own.
+        let told = set & !(set << 1 & set >> 1);
+        let items = told & !(set << 1 & set << 2);
         for member in 0..BATCH_SLOTS {
-            if holds(set & !between(set), member) {
-                let link = link_before(set, member);
+            if holds(told, member) {
+                let link = if !holds(items, member) {
+                    " to "
+                } else if items.trailing_zeros() == u32::from(member) {
+                    ""
+                } else if items >> member == 1 {
+                    " and "
+                } else {
+                    ", "
+                };
                 write!(f, "{link}{member}")?;
             }
         }
         Ok(())
     }
-}
-
-// The members that are not told, since those on both sides are.
-fn between(set: u16) -> u16 {
-    set & set << 1 & set >> 1
-}
-
-// What stands before a member that is told.
-fn link_before(set: u16, member: u8) -> &'static str
-    requires { member < 16 }
-{
-    // Where a span of three or more ends, it is no item of its own.
-    let items = set & !between(set) & !(set << 1 & set << 2);
-    if !holds(items, member) {
-        " to "
-    } else if items.trailing_zeros() == u32::from(member) {
-        ""
-    } else if items >> member == 1 {
-        " and "
-    } else {
-        ", "
-    }
-}
-
-// The frames that have a slot in a set of slots, as a set.
-fn frame_set(set: u16) -> u16 {
-    let mut frames = 0;
-    for frame in 0..BATCH_FRAMES {
-        if holds(set, 2 * frame) || holds(set, 2 * frame + 1) {
-            frames = with_member(frames, frame);
-        }
-    }
-    frames
 }
 
 /// Whether each frame that has a slot in the set has both.
@@ -99,32 +83,18 @@ impl Display for SlotWords {
         if set == ALL_SLOTS {
             return f.write_str("all slots");
         }
-        let slots = MemberWords(set);
+        let slots = Members(("slot", "slots"), set);
         if set == 0 || !are_frames(set) {
-            let word = if size(set) == 1 { "slot" } else { "slots" };
-            return write!(f, "{word} {slots}");
+            return write!(f, "{slots}");
         }
-        let frames = frame_set(set);
-        let word = if size(frames) == 1 { "frame" } else { "frames" };
-        let frames = MemberWords(frames);
-        write!(f, "{word} {frames} (slots {slots})")
-    }
-}
-
-/// A set of boundaries: `boundary 0`, `boundaries 0 to 3`.
-#[derive(Clone, Copy)]
-pub(crate) struct BoundaryWords(pub(crate) u16);
-
-impl Display for BoundaryWords {
-    fn fmt<W: fmt::Write>(&self, f: &mut Formatter<W>) -> fmt::Result {
-        let set = self.0;
-        let word = if size(set) == 1 {
-            "boundary"
-        } else {
-            "boundaries"
-        };
-        let members = MemberWords(set);
-        write!(f, "{word} {members}")
+        let mut frames = 0;
+        for frame in 0..BATCH_FRAMES {
+            if holds(set, 2 * frame) {
+                frames |= 1 << frame;
+            }
+        }
+        let frames = Members(("frame", "frames"), frames);
+        write!(f, "{frames} ({slots})")
     }
 }
 
@@ -138,38 +108,14 @@ pub(crate) fn smaller_side(set: u16) -> u16 {
 }
 
 /// Where a page starts or ends that does not stay inside the set: `outside boundary 0`, `at boundaries 3 to 5`.
-#[derive(Clone, Copy)]
-pub(crate) struct OutsideWords(pub(crate) u16);
-
-impl Display for OutsideWords {
-    fn fmt<W: fmt::Write>(&self, f: &mut Formatter<W>) -> fmt::Result {
-        let side = smaller_side(self.0);
-        let place = if side == self.0 { "outside" } else { "at" };
-        let boundaries = BoundaryWords(side);
-        write!(f, "{place} {boundaries}")
-    }
-}
-
-/// The pages of a class by their frame: `frame 5 and length 4 modulo 16`.
-#[derive(Clone, Copy)]
-pub(crate) struct FrameWords(pub(crate) u8);
-
-impl Display for FrameWords {
-    fn fmt<W: fmt::Write>(&self, f: &mut Formatter<W>) -> fmt::Result {
-        let class = self.0;
-        if class as usize >= CLASSES {
-            return write!(f, "class {class}, which there is not");
-        }
-        let frame = frame(class);
-        let rest = rest(class);
-        let modulo = if is_bare(class) { "" } else { " modulo 16" };
-        write!(f, "frame {frame} and length {rest}{modulo}")
-    }
-}
-
-/// Whether the pages of the class are address codewords alone, of which the closed end has classes of their own.
-pub(crate) fn is_bare(class: u8) -> bool {
-    class as usize >= FIRST_ALONE
+pub(crate) fn outside(set: u16) -> Members {
+    let side = smaller_side(set);
+    let noun = if side == set {
+        ("outside boundary", "outside boundaries")
+    } else {
+        ("at boundary", "at boundaries")
+    };
+    Members(noun, side)
 }
 
 /// The slot in which a page of the class starts, early or late.

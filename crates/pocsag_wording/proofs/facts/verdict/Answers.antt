@@ -6,7 +6,7 @@ use Rattle.pocsag_wording.proofs.facts.verdict.Goals as goal
 pub returns : goal.returns
 returns c =
     members_begin string_bytes c.format.result _ c.format.ensures.ok c.args.subject.now.is_shown c.args.subject.now.batches c.match-subject.end.now _
-    c.args.subject.now.end
+    c.args.subject.now.refuted.end
     (elim c.match-subject.branch [
       | in-Open w ↦ rw w.in-Open.is (search (rules, w.end-is))
       | in-Closed w ↦ rw w.in-Closed.is (search (rules, w.end-is))

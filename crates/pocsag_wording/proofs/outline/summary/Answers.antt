@@ -6,7 +6,7 @@ use Rattle.pocsag_wording.proofs.outline.summary.Goals as goal
 pub returns : goal.returns
 returns c =
     words_begin string_bytes c.format.result _ c.format.ensures.ok c.args.subject.now.batches c.if-batches-eq1.noun.now c.match-subject.end.now _
-    c.args.subject.now.end
+    c.args.subject.now.refuted.end
     (elim c.if-batches-eq1.branch [ then-batches-eq1 w ↦ search (rules, w.noun-is) | else-batches-eq1 w ↦ search (rules, w.noun-is) ])
     (elim c.match-subject.branch [
       | in-Open w ↦ rw w.in-Open.is (search (rules, w.end-is))
