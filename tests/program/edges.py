@@ -127,6 +127,21 @@ def try_largest_files(tally, folder):
         path.unlink()
 
 
+def try_largest_round(tally, folder):
+    """The frames of 20,000 pages of 4,000 characters, of which each frame has 2,500 and no slot is left over."""
+    with open(folder / "pages.csv", "wb") as file:
+        file.write(HEADER)
+        for address in range(20_000):
+            file.write(b"%d,alpha,%s\n" % (address, b"a" * 4_000))
+    done = run(["report", "pages.csv", "--rate", "2400", "--frames"], folder)
+    told = done.stdout.decode().splitlines()
+    batches = 20_000 * 1_401 // 16
+    counts = ["pages 20000", "codewords 28020000", f"batches {batches}", "idles 0"]
+    tally.check("the largest round: its report", done.returncode == 0 and told[:2] + told[3:5] == counts, (done, counts))
+    frames = {f"frame {frame} pages 2500 codewords {2_500 * 1_401} room 0" for frame in range(8)}
+    tally.check("the largest round: its frames", len(told) == 15 and set(told[7:]) == frames, told[7:])
+
+
 # Rounds whose trees have a little less than 100,000 nodes and a little more: the frame and the codewords of each page,
 # the nodes, and the fewest batches, all with the open end. None is known that takes 100,000 just.
 NEAR_THE_LIMIT = [
@@ -170,4 +185,4 @@ def try_default_limit(tally, folder):
         tally.check(f"{nodes} nodes: open", done.returncode == 0 and done.stdout.endswith(b"\n" + due), done)
 
 
-PARTS = (try_hundreds, try_largest_files, try_default_limit)
+PARTS = (try_hundreds, try_largest_files, try_largest_round, try_default_limit)

@@ -10,8 +10,8 @@ use crate::plan::{plan_file, tell_bounded};
 use crate::readback::verify_files;
 use pocsag_pages::FILE_LIMIT;
 use pocsag_shell::{
-    Beside, Desk, NamedFile, Outputs, Role, STANDARD, is_regular, is_regular_or_none,
-    make_outputs, path_of, put_both, put_whole, read_file, refuse_equal, refuse_shared, tell,
+    Beside, Desk, NamedFile, Outputs, Role, STANDARD, is_regular, is_regular_or_none, make_outputs,
+    path_of, put_both, put_whole, read_file, refuse_equal, refuse_shared, tell,
 };
 use pocsag_words::{INPUT_LIMIT, MemorySink, Sink};
 

@@ -1,7 +1,7 @@
 //! Journals on disks in memory: what they hold once an edit is answered, whichever call fails, and what reading them
 //! gives.
 
-ghost use Rattle.std.specs.Prelude.{◌≡◌, [], ◌∷◌, ◌++◌, OnErr, OnOk};
+ghost use Rattle.std.specs.Prelude.{◌≡◌, [], ◌∷◌, ◌++◌, None, OnErr, OnOk, Some};
 ghost use Rattle.pocsag_words.specs.MemorySink.{taken_of};
 ghost use Rattle.pocsag_open.specs.Plans.{no_names, no_plans, placed_plan};
 
@@ -39,9 +39,10 @@ impl Places for NoFolder {
         cert: &str,
         outputs: Outputs<MemorySink<1>>,
     ) -> Result<(), FileFault>
-        ensures placed { ⊥ → no_names ≡ (tx.now, cert.now) → OnOk result (no_plans ≡
+        ensures placed { ⊥ → no_names ≡ Some (tx.now, cert.now) → OnOk result (no_plans ≡
             no_plans ++ placed_plan tx.now cert.now (taken_of outputs.tx, taken_of outputs.cert) ∷ []) }
         ensures same { ⊥ → OnErr result (no_plans ≡ no_plans) }
+        ensures none_left { ⊥ → no_names ≡ Some (tx.now, cert.now) → no_names ≡ None }
     {
         Ok(())
     }

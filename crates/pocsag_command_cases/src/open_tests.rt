@@ -1,6 +1,6 @@
 //! Open rounds over memory: what answers each line, and the exit status.
 
-ghost use Rattle.std.specs.Prelude.{◌≡◌, [], ◌∷◌, ◌++◌, OnErr, OnOk};
+ghost use Rattle.std.specs.Prelude.{◌≡◌, [], ◌∷◌, ◌++◌, None, OnErr, OnOk, Some};
 ghost use Rattle.pocsag_words.specs.MemorySink.{taken_of};
 ghost use Rattle.pocsag_open.specs.Plans.{no_names, no_plans, placed_plan};
 
@@ -54,9 +54,10 @@ impl Places for Folder {
         cert: &str,
         outputs: Outputs<MemorySink<1000>>,
     ) -> Result<(), FileFault>
-        ensures placed { ⊥ → no_names ≡ (tx.now, cert.now) → OnOk result (no_plans ≡
+        ensures placed { ⊥ → no_names ≡ Some (tx.now, cert.now) → OnOk result (no_plans ≡
             no_plans ++ placed_plan tx.now cert.now (taken_of outputs.tx, taken_of outputs.cert) ∷ []) }
         ensures same { ⊥ → OnErr result (no_plans ≡ no_plans) }
+        ensures none_left { ⊥ → no_names ≡ Some (tx.now, cert.now) → no_names ≡ None }
     {
         let sent = outputs.tx.bytes().len();
         let is_whole = sent > 72 && (sent - 72) % 68 == 0;

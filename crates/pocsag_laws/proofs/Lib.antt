@@ -6,3 +6,4 @@ pub mod FileRounds
 pub mod Fronts
 pub mod SpellablePages
 pub mod TestedPages
+pub mod OpenRounds

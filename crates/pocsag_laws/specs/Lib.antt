@@ -1,1 +1,2 @@
 pub mod FewestBatches
+pub mod OpenRounds

@@ -1,14 +1,16 @@
-ghost use Rattle.std.specs.Prelude.{ℕ, ◌+◌, ◌<◌, ◌≤◌, ◌≡◌, List, ◌∷◌, ◌++◌, replicate, take, All, Bool, filter, Ok};
+ghost use Rattle.std.specs.Prelude.{ℕ, ◌+◌, ◌<◌, ◌≤◌, ◌≡◌, List, ◌∷◌, ◌++◌, length, replicate, take, All, Bool, filter, Ok};
 ghost use Rattle.pocsag_words.specs.Frame.{airtime, transmission_bits};
 ghost use Rattle.pocsag_words.specs.Kinds.{idle_word};
 ghost use Rattle.pocsag_words.specs.declared.ending.End.{End};
 ghost use Rattle.pocsag_words.specs.declared.ending.End.TheVariants.{Closed, Idle, Open};
 ghost use Rattle.pocsag_pages.specs.declared.page.Page.{Page};
-ghost use Rattle.pocsag_pages.specs.PageFile.{page_of_fields, verdict};
+ghost use Rattle.pocsag_pages.specs.PageFile.{Row, page_of_fields, verdict};
 ghost use Rattle.pocsag_pages.specs.Pages.{IsRound};
 ghost use Rattle.pocsag_pages.specs.Reading.{AreApart, IsLegalList};
 ghost use Rattle.pocsag_decode.specs.PageFiles.{IsSpellable, page_file};
+ghost use Rattle.pocsag_edits.specs.Runs.{IsEdit, IsRun};
 ghost use Rattle.pocsag_laws.specs.FewestBatches.{AreFewest, AreSendable};
+ghost use Rattle.pocsag_laws.specs.OpenRounds.{IsOpenRound};
 
 /// Codewords that are legal with the idle end are legal with the closed end, and those with the open end; and with a
 /// batch of idle codewords behind them, codewords that are legal with one end are legal with each.
@@ -86,4 +88,17 @@ pub fn pages_of_files_are_spellable()
 pub fn verdicts_are_rounds()
     ensures round { (file : List ℕ) (R : List Page) → verdict file ≡ Ok R → IsRound R }
     ensures again { (file : List ℕ) (R : List Page) → verdict file ≡ Ok R → verdict (page_file R) ≡ Ok R }
+{}
+
+/// An edit, and so a run of edits, leaves spellable pages where those before it are spellable; so all pages of an open round
+/// are. Where it has pages they are a round, whose page file, which `list` writes, has this round as its verdict.
+pub fn pages_of_open_rounds_are_spellable()
+    ensures edit { (row : Row) (before after : List Page) →
+        IsEdit row before after → All IsSpellable before → All IsSpellable after }
+    ensures run { (rows : List Row) (before after : List Page) →
+        IsRun rows before after → All IsSpellable before → All IsSpellable after }
+    ensures open_round { (pages : List Page) → IsOpenRound pages → All IsSpellable pages }
+    ensures round { (pages : List Page) → IsOpenRound pages → 0 < length pages → IsRound pages }
+    ensures again { (pages : List Page) → IsOpenRound pages → 0 < length pages →
+        verdict (page_file pages) ≡ Ok pages }
 {}

@@ -1,5 +1,5 @@
 -- What is so where the plan of an open round is written, and where it is refused (this project's own).
-use Rattle.std.specs.Prelude.{◌≡◌, ℕ, List, [], ◌∷◌, ◌++◌}
+use Rattle.std.specs.Prelude.{◌≡◌, ℕ, List, [], ◌∷◌, ◌++◌, Option, None}
 use Rattle.pocsag_words.specs.declared.ending.End.{End}
 use Rattle.pocsag_pages.specs.Pages.{IsRound}
 use Rattle.pocsag_pages.specs.declared.page.Page.{Page}
@@ -31,9 +31,16 @@ pub record PlacedPlan : Type 0 where
   pub cert : List ℕ
   pub sent : PlanBytes
 
--- No names, and no bytes either; and no plan.
-abbrev pub no_names : List ℕ × List ℕ
-no_names = ([], [])
+-- The names of the places of a transmission and of its certificate.
+abbrev pub PlaceNames : Type 0
+PlaceNames = List ℕ × List ℕ
+
+-- No names, no bytes, and no plan.
+abbrev pub no_names : Option PlaceNames
+no_names = None
+
+abbrev pub no_bytes : PlanBytes
+no_bytes = ([], [])
 
 abbrev pub no_plans : List PlacedPlan
 no_plans = []

@@ -1,5 +1,5 @@
-ghost use Rattle.std.specs.Prelude.{◌≡◌, ℕ, List, [], ◌∷◌, ◌++◌, IfOk, OnErr, OnOk};
-ghost use Rattle.pocsag_open.specs.Plans.{PlacedPlan, placed_plan};
+ghost use Rattle.std.specs.Prelude.{◌≡◌, List, [], ◌∷◌, ◌++◌, Option, None, Some, IfOk, OnErr, OnOk};
+ghost use Rattle.pocsag_open.specs.Plans.{PlaceNames, PlacedPlan, placed_plan};
 
 use pocsag_shell::{FileFault, Outputs};
 use pocsag_words::Sink;
@@ -14,25 +14,28 @@ pub trait Places {
     // What was put there, plan by plan.
     ghost placed: { Self → List PlacedPlan };
 
-    // The names for which outputs were made last: those of a transmission and of a certificate.
-    ghost made_for: { Self → List ℕ × List ℕ };
+    // The names of the two places for which outputs, or a part of them, were made and are neither put nor left; none if all
+    // that was made is put or left.
+    ghost made_for: { Self → Option PlaceNames };
 
     /// Makes the two outputs that a line names, which are empty, or answers why there are none.
     fn make(&mut self, tx: &str, cert: &str) -> Result<Outputs<Self::Output>, FileFault>
         ensures known { tells → IfOk result (λ outputs. Self.Output.tells) }
         ensures empty { tells → IfOk result (λ outputs.
             (Self.Output.taken outputs.tx ≡ []) × (Self.Output.taken outputs.cert ≡ [])) }
-        ensures made { tells → OnOk result (made_for self.new ≡ (tx.now, cert.now)) }
+        ensures made { tells → made_for self.new ≡ Some (tx.now, cert.now) }
         ensures same { tells → placed self.new ≡ placed self.old };
 
     /// Puts both outputs of a plan, which are whole, in the places for which they were made.
     fn put(&mut self, tx: &str, cert: &str, outputs: Outputs<Self::Output>) -> Result<(), FileFault>
-        ensures placed { tells → made_for self.old ≡ (tx.now, cert.now) → OnOk result (placed self.new ≡
+        ensures placed { tells → made_for self.old ≡ Some (tx.now, cert.now) → OnOk result (placed self.new ≡
             placed self.old ++ placed_plan tx.now cert.now
             (Self.Output.taken outputs.tx, Self.Output.taken outputs.cert) ∷ []) }
-        ensures same { tells → OnErr result (placed self.new ≡ placed self.old) };
+        ensures same { tells → OnErr result (placed self.new ≡ placed self.old) }
+        ensures none_left { tells → made_for self.old ≡ Some (tx.now, cert.now) → made_for self.new ≡ None };
 
-    /// Leaves the places as they are, where the outputs were not made or are not whole.
+    /// Leaves the places as they are, and removes what was made for them, if the outputs were not made or are not whole.
     fn leave<'n>(&mut self, tx: &'n str, cert: &'n str)
-        ensures same { tells → placed self.new ≡ placed self.old };
+        ensures same { tells → placed self.new ≡ placed self.old }
+        ensures none_left { tells → made_for self.old ≡ Some (tx.now, cert.now) → made_for self.new ≡ None };
 }

@@ -1,5 +1,5 @@
-ghost use Rattle.std.specs.Prelude.{◌≡◌, [], ◌∷◌, ◌++◌, OnErr, OnOk};
-ghost use Rattle.pocsag_open.specs.Plans.{no_names, no_plans, placed_plan};
+ghost use Rattle.std.specs.Prelude.{◌≡◌, [], ◌∷◌, ◌++◌, None, OnErr, OnOk, Some};
+ghost use Rattle.pocsag_open.specs.Plans.{no_bytes, no_names, no_plans, placed_plan};
 
 use crate::outputs::Places;
 use pocsag_plan::Effort;
@@ -110,9 +110,10 @@ impl<'a> Places for RoundFiles<'a> {
         outputs: Outputs<WriterSink<'a, Output<File>>>,
     ) -> Result<(), FileFault>
         // Nothing is known of what files hold.
-        ensures placed { ⊥ → no_names ≡ (tx.now, cert.now) → OnOk result
-            (no_plans ≡ no_plans ++ placed_plan tx.now cert.now no_names ∷ []) }
+        ensures placed { ⊥ → no_names ≡ Some (tx.now, cert.now) → OnOk result
+            (no_plans ≡ no_plans ++ placed_plan tx.now cert.now no_bytes ∷ []) }
         ensures same { ⊥ → OnErr result (no_plans ≡ no_plans) }
+        ensures none_left { ⊥ → no_names ≡ Some (tx.now, cert.now) → no_names ≡ None }
     {
         drop(outputs);
         let done = if self.order.keep {

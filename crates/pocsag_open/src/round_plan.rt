@@ -1,14 +1,15 @@
-ghost use Rattle.std.specs.Prelude.{◌≡◌, ◌≢◌, IfErr, IfOk, OnErr, OnOk};
-ghost use Rattle.pocsag_open.specs.Plans.{ExplainsUndone, IsPlanned, IsPlanPlaced, plan_limit, undone_of};
+ghost use Rattle.std.specs.Prelude.{◌≡◌, ◌≢◌, None, Some, IfErr, IfOk, OnErr};
+ghost use Rattle.pocsag_open.specs.Plans.{ExplainsUndone, IsPlanned, IsPlanPlaced, undone_of};
 
 use crate::outputs::Places;
+use crate::session::Planner;
 use pocsag_edits::UndoneFault;
 use pocsag_plan::{Book, PlanFault, Search, StreamFault};
 use pocsag_shell::{FileFault, Outputs};
-use pocsag_words::Sink;
+use pocsag_words::{End, Sink};
 
-/// How many nodes the search of a plan may examine.
-pub(crate) const PLAN_LIMIT: u32 = 100_000;
+// How many nodes the search of a plan may examine.
+const PLAN_LIMIT: u32 = 100_000;
 
 /// The batches of a plan, and the bound that its certificate shows.
 #[derive(Clone, Copy)]
@@ -17,48 +18,54 @@ pub(crate) struct Planned {
     pub bound: u32,
 }
 
-/// Plans the pages, writes the two outputs that a line names, and puts them in their places once both are whole.
-pub(crate) fn put_plan<P: Places>(
-    places: &mut P,
+/// Plans the pages for the end, writes the two outputs that a line names, and puts them in their places once both are whole.
+pub(crate) fn put_plan<P: Places + Drop>(
+    planner: &mut Planner<P>,
     book: &Book,
     tx: &str,
     cert: &str,
-    search: Search,
+    end: End,
 ) -> Result<Planned, UndoneFault>
-    requires { search.limit ≡ plan_limit }
-    ensures planned { IfOk result (λ planned. IsPlanPlaced P.tells search.effort search.end tx.now cert.now book.now
-        planned.batches planned.bound (P.placed places.old) (P.placed places.new)) }
-    ensures explained { IfErr result (ExplainsUndone search.effort search.end book.now) }
-    ensures same { P.tells → OnErr result (P.placed places.new ≡ P.placed places.old) }
+    ensures planned { IfOk result (λ planned. IsPlanPlaced P.tells planner.old.effort end tx.now cert.now book.now
+        planned.batches planned.bound (P.placed planner.old.places) (P.placed planner.new.places)) }
+    ensures explained { IfErr result (ExplainsUndone planner.old.effort end book.now) }
+    ensures same { P.tells → OnErr result (P.placed planner.new.places ≡ P.placed planner.old.places) }
+    ensures none_left { P.tells → P.made_for planner.new.places ≡ None }
+    ensures effort { planner.new.effort ≡ planner.old.effort }
 {
-    match send_plan(places, book, tx, cert, search) {
-        Ok((planned, outputs)) => match places.put(tx, cert, outputs) {
+    match send_plan(planner, book, tx, cert, end) {
+        Ok((planned, outputs)) => match planner.places.put(tx, cert, outputs) {
             Ok(()) => Ok(planned),
             Err(fault) => Err(UndoneFault::File(fault)),
         },
         Err(fault) => {
-            places.leave(tx, cert);
+            planner.places.leave(tx, cert);
             Err(fault)
         }
     }
 }
 
 // Makes both outputs, and writes them whole.
-fn send_plan<P: Places>(
-    places: &mut P,
+fn send_plan<P: Places + Drop>(
+    planner: &mut Planner<P>,
     book: &Book,
     tx: &str,
     cert: &str,
-    search: Search,
+    end: End,
 ) -> Result<(Planned, Outputs<P::Output>), UndoneFault>
-    requires { search.limit ≡ plan_limit }
-    ensures planned { IfOk result (λ both. IsPlanned P.tells search.effort search.end book.now
+    ensures planned { IfOk result (λ both. IsPlanned P.tells planner.old.effort end book.now
         both.0.batches both.0.bound (P.Output.taken both.1.tx, P.Output.taken both.1.cert)) }
-    ensures explained { IfErr result (ExplainsUndone search.effort search.end book.now) }
-    ensures made { P.tells → OnOk result (P.made_for places.new ≡ (tx.now, cert.now)) }
-    ensures same { P.tells → P.placed places.new ≡ P.placed places.old }
+    ensures explained { IfErr result (ExplainsUndone planner.old.effort end book.now) }
+    ensures made { P.tells → P.made_for planner.new.places ≡ Some (tx.now, cert.now) }
+    ensures same { P.tells → P.placed planner.new.places ≡ P.placed planner.old.places }
+    ensures effort { planner.new.effort ≡ planner.old.effort }
 {
-    let mut outputs = match places.make(tx, cert) {
+    let search = Search {
+        limit: PLAN_LIMIT,
+        end,
+        effort: planner.effort,
+    };
+    let mut outputs = match planner.places.make(tx, cert) {
         Ok(outputs) => outputs,
         Err(fault) => return Err(UndoneFault::File(fault)),
     };

@@ -1,4 +1,4 @@
-ghost use Rattle.std.specs.Prelude.{◌≡◌, ◌≤◌, List, [], length, IfErr, IfOk, Ok, OnOk};
+ghost use Rattle.std.specs.Prelude.{◌≡◌, ◌≤◌, List, [], length, IfErr, IfOk, None, Ok, OnOk};
 ghost use Rattle.pocsag_pages.specs.PageFile.{verdict};
 ghost use Rattle.pocsag_pages.specs.declared.page.Page.{Page};
 ghost use Rattle.pocsag_shell.specs.Faults.{file_status};
@@ -10,11 +10,11 @@ use crate::answer::{OpenRound, answer_edit, refuse, tell_pages, tell_planned};
 use crate::fault::OpenFault;
 use crate::lines::{LineRead, Lines};
 use crate::outputs::Places;
-use crate::round_plan::{PLAN_LIMIT, put_plan};
+use crate::round_plan::put_plan;
 use pocsag_decode::{ListFault, write_page_file};
 use pocsag_edits::{Keeper, Line, NoKeeper, Refusal, UndoneFault, line_of, record_of};
 use pocsag_pages::read_round;
-use pocsag_plan::{Book, Effort, Search};
+use pocsag_plan::{Book, Effort};
 use pocsag_shell::FileFault;
 use pocsag_words::{Sink, Source};
 use std::alloc::Global;
@@ -42,6 +42,9 @@ pub fn run_open<P: Places + Drop, I: Source, O: Sink>(
         (O.taken out.old) (O.taken out.new) (P.placed planner.old.places) (P.placed planner.new.places)
         (IsSession P.tells planner.old.effort (I.held input.old) [] after)) }
 
+    // No output that a plan made is left over, whatever is answered.
+    ensures none_left { P.tells → P.made_for planner.old.places ≡ None → P.made_for planner.new.places ≡ None }
+
     // It is done only at the end of the input, which did not fail.
     ensures input { OnOk result (I.failures input.new ≡ I.failures input.old) }
     ensures lost { IfErr result (λ e. file_status e ≡ 3) }
@@ -67,6 +70,9 @@ pub fn run_open_pages<P: Places + Drop, F: Source, I: Source, O: Sink>(
         (verdict (F.held pages.old) ≡ Ok before) × TellsAndPlaces P.tells
         (O.taken out.old) (O.taken out.new) (P.placed planner.old.places) (P.placed planner.new.places)
         (IsSession P.tells planner.old.effort (I.held input.old) before after)) }
+
+    // No output that a plan made is left over, whatever is answered.
+    ensures none_left { P.tells → P.made_for planner.old.places ≡ None → P.made_for planner.new.places ≡ None }
 
     // It is done only at the end of the input, and neither it nor the page file failed.
     ensures input { OnOk result (I.failures input.new ≡ I.failures input.old) }
@@ -116,6 +122,9 @@ pub fn run_open_kept<P: Places + Drop, K: Keeper + Drop, I: Source, O: Sink>(
         (O.taken out.old) (O.taken out.new) (P.placed planner.old.places) (P.placed planner.new.places)
         (IsSession P.tells planner.old.effort (I.held input.old) round.old.book round.new.book)) }
 
+    // No output that a plan made is left over, whatever is answered.
+    ensures none_left { P.tells → P.made_for planner.old.places ≡ None → P.made_for planner.new.places ≡ None }
+
     // It is done only at the end of the input, which did not fail; then what is kept stands for the pages.
     ensures input { OnOk result (I.failures input.new ≡ I.failures input.old) }
     ensures stands { K.stands_for round.old.keeper round.old.book →
@@ -147,6 +156,7 @@ fn answer_line<P: Places + Drop, K: Keeper + Drop, O: Sink>(
         (O.taken out.old) (O.taken out.new) (P.placed planner.old.places) (P.placed planner.new.places)
         (IsLineReply P.tells planner.old.effort line.now round.old.book round.new.book)) }
     ensures effort { planner.new.effort ≡ planner.old.effort }
+    ensures none_left { P.tells → P.made_for planner.old.places ≡ None → P.made_for planner.new.places ≡ None }
     ensures stands { K.stands_for round.old.keeper round.old.book →
         OnOk result (K.stands_for round.new.keeper round.new.book) }
     ensures lost { IfErr result (λ e. file_status e ≡ 3) }
@@ -156,17 +166,10 @@ fn answer_line<P: Places + Drop, K: Keeper + Drop, O: Sink>(
         Err(refusal) => return refuse(refusal, out),
     };
     match line_of(&row) {
-        Line::Plan { tx, cert, end } => {
-            let search = Search {
-                limit: PLAN_LIMIT,
-                end,
-                effort: planner.effort,
-            };
-            match put_plan(&mut planner.places, &round.book, tx, cert, search) {
-                Ok(planned) => tell_planned(planned, out),
-                Err(fault) => refuse(Refusal::Undone(fault), out),
-            }
-        }
+        Line::Plan { tx, cert, end } => match put_plan(planner, &round.book, tx, cert, end) {
+            Ok(planned) => tell_planned(planned, out),
+            Err(fault) => refuse(Refusal::Undone(fault), out),
+        },
         Line::List => match write_page_file(alloc, round.book.pages(), out) {
             Ok(()) => tell_pages(&round.book, out),
             Err(ListFault::OutOfMemory) => refuse(Refusal::Undone(UndoneFault::OutOfMemory), out),

@@ -38,11 +38,11 @@ fn process_of(name: &str, file: &str) -> Option<u32>
         Some(digits) => digits,
         None => rest.strip_suffix(".old")?,
     };
-    number_of(digits)
+    written_number(digits)
 }
 
 // The number from 1 on that is written so.
-fn number_of(digits: &str) -> Option<u32>
+fn written_number(digits: &str) -> Option<u32>
     ensures { (number : ℕ) → (result ≡ Some number)
         ↔ ((0 < number) × (number < 2 ^ 32) × (digits.now ≡ decimal number)) }
 {

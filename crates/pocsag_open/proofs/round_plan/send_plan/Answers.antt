@@ -18,5 +18,5 @@ returns-in-Ok-bounded_stream-clause-planned g c = record {
 
 pub returns-in-Err-bounded_stream-clause-explained : goal.returns-in-Err-bounded_stream-clause-explained
 returns-in-Err-bounded_stream-clause-explained g c =
-    subst (λ (f : UndoneFault). ExplainsUndone c.args.search.effort c.args.search.end c.args.book.now f) (sym c.undone.ensures)
-    (explains _ _ _ _ c.in-Err-bounded_stream.fault c.requires c.in-Err-bounded_stream.ensures.explained)
+    subst (λ (f : UndoneFault). ExplainsUndone c.args.planner.now.effort c.args.end c.args.book.now f) (sym c.undone.ensures)
+    (explains _ _ _ _ c.in-Err-bounded_stream.fault refl c.in-Err-bounded_stream.ensures.explained)

@@ -14,6 +14,7 @@ pub loop-preserved : goal.loop-preserved
 loop-preserved g c = record {
   unfailed = search rules;
   effort = search rules;
+  none_left = search rules;
   stands = search rules;
   session = λ reads tells. elim c.match-branch-3.branch [
     | in-TooLong+in_ok-refuse-in-TooLong w ↦

@@ -33,10 +33,10 @@ returns c =
       | in-Some w ↦
           let last = w.in-Some.ensures.cases in
           let ends : c.in_ok-rest.rest.now ≡ w.in-Some.digits.now ++ codes ".new" = last.1.1 ∙ ap (λ (v : List ℕ). v ++ codes ".new") (sym last.2) in
-          made_new c.args.name.now c.args.file.now w.in-Some.digits.now _ (rw ends at parts) (rw w.digits-is at c.number_of.ensures)
+          made_new c.args.name.now c.args.file.now w.in-Some.digits.now _ (rw ends at parts) (rw w.digits-is at c.written_number.ensures)
       | in-None+in_ok-digits-in-None w ↦
           let last = w.in_ok-digits-in-None.ensures.cases in
           let ends : c.in_ok-rest.rest.now ≡ w.in_ok-digits-in-None.digits.now ++ codes ".old" =
           last.1.1 ∙ ap (λ (v : List ℕ). v ++ codes ".old") (sym last.2) in
-          made_old c.args.name.now c.args.file.now w.in_ok-digits-in-None.digits.now _ (rw ends at parts) (rw w.digits-is at c.number_of.ensures)
+          made_old c.args.name.now c.args.file.now w.in_ok-digits-in-None.digits.now _ (rw ends at parts) (rw w.digits-is at c.written_number.ensures)
     ]

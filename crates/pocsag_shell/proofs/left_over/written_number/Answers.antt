@@ -1,6 +1,6 @@
 use Rattle.std.proofs.Common.{refl, arith}
 use Rattle.pocsag_shell.proofs.Besides.{first_some, none_read, none_read_of, parsed}
-use Rattle.pocsag_shell.proofs.left_over.number_of.Goals as goal
+use Rattle.pocsag_shell.proofs.left_over.written_number.Goals as goal
 
 pub returns-in_err-first : goal.returns-in_err-first
 returns-in_err-first c = none_read_of c.args.digits.now _ c.from_residual.ensures (rw c.as_bytes.ensures.value at c.in_err-first.ensures.value)
