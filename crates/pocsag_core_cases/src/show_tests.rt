@@ -4,7 +4,7 @@ use pocsag_decode::DecodeFault;
 use pocsag_rounds::given::{
     ACROSS, DIGITS, IDLE, LONE_TONE, ONES, SECOND, Sent, TIGHT, cut, transmission,
 };
-use pocsag_show::{Rows, ShowFault, show_list, show_svg, show_text};
+use pocsag_show::{Rows, ShowFault, View};
 use pocsag_words::MemorySink;
 use std::alloc::Global;
 
@@ -67,7 +67,7 @@ const PLACED_LIST: &[u8] = b"batch,frame,slot,codewords,address,kind,message
 const ORPHAN: Sent = (16, IDLE, &[(1, DIGITS)]);
 
 #[derive(Clone, Copy, PartialEq, Eq, Debug)]
-enum View {
+enum Form {
     Text,
     List,
     Drawing,
@@ -76,59 +76,60 @@ enum View {
 // Shows the first so many bytes to a sink.
 fn show<const N: usize>(
     alloc: Global,
-    view: View,
+    form: Form,
     bytes: &[u8],
     sink: &mut MemorySink<N>,
 ) -> Option<ShowFault> {
-    match view {
-        View::Text => show_text(alloc, Rows::all(), bytes, sink).err(),
-        View::List => show_list(alloc, bytes, sink).err(),
-        View::Drawing => show_svg(alloc, Rows::all(), bytes, sink).err(),
-    }
+    let view = match form {
+        Form::Text => View::Grid(Rows::all()),
+        Form::List => View::Places,
+        Form::Drawing => View::Drawing(Rows::all()),
+    };
+    pocsag_show::show(alloc, view, bytes, sink).err()
 }
 
 // What is shown of these codewords behind so many more bytes of the preamble, so many bytes at a time.
-const SHOWN: &[(View, Sent, usize, usize, &[u8])] = &[
-    (View::Text, LONE_TONE, 0, 7, LONE_TEXT),
-    (View::Text, LONE_TONE, 9, 512, LONE_TEXT),
-    (View::Text, ACROSS, 0, 7, ACROSS_TEXT),
-    (View::Text, TIGHT, 0, 7, TIGHT_TEXT),
-    (View::Text, MANY, 0, 7, MANY_TEXT),
-    (View::List, LONE_TONE, 0, 7, LONE_LIST),
-    (View::List, PLACED, 0, 5, PLACED_LIST),
+const SHOWN: &[(Form, Sent, usize, usize, &[u8])] = &[
+    (Form::Text, LONE_TONE, 0, 7, LONE_TEXT),
+    (Form::Text, LONE_TONE, 9, 512, LONE_TEXT),
+    (Form::Text, ACROSS, 0, 7, ACROSS_TEXT),
+    (Form::Text, TIGHT, 0, 7, TIGHT_TEXT),
+    (Form::Text, MANY, 0, 7, MANY_TEXT),
+    (Form::List, LONE_TONE, 0, 7, LONE_LIST),
+    (Form::List, PLACED, 0, 5, PLACED_LIST),
 ];
 
 const TRUNCATED: ShowFault = ShowFault::Transmission(DecodeFault::Truncated);
 
 // The first so many bytes of codewords, of which nothing is shown.
-const REFUSED: &[(View, Sent, usize, ShowFault)] = &[
-    (View::Text, LONE_TONE, 139, TRUNCATED),
+const REFUSED: &[(Form, Sent, usize, ShowFault)] = &[
+    (Form::Text, LONE_TONE, 139, TRUNCATED),
     (
-        View::Text,
+        Form::Text,
         LONE_TONE,
         72,
         ShowFault::Transmission(DecodeFault::NoBatch),
     ),
     (
-        View::Text,
+        Form::Text,
         LONE_TONE,
         71,
         ShowFault::Transmission(DecodeFault::ShortPreamble),
     ),
     (
-        View::Text,
+        Form::Text,
         ORPHAN,
         140,
         ShowFault::Transmission(DecodeFault::Orphan(1)),
     ),
-    (View::List, LONE_TONE, 139, TRUNCATED),
-    (View::Drawing, LONE_TONE, 139, TRUNCATED),
+    (Form::List, LONE_TONE, 139, TRUNCATED),
+    (Form::Drawing, LONE_TONE, 139, TRUNCATED),
 ];
 
 #[test]
 fn texts_and_lists(rt: HostRuntime) {
     let alloc = rt.alloc();
-    for (view, sent, more, step, text) in SHOWN {
+    for (form, sent, more, step, text) in SHOWN {
         let mut bytes = vec![in alloc; 0xAA; *more].expect(&rt, "an answer");
         bytes
             .extend_from_slice(
@@ -138,22 +139,22 @@ fn texts_and_lists(rt: HostRuntime) {
             )
             .expect(&rt, "an answer");
         let mut sink = MemorySink::<512>::new((*step).max(1), 512);
-        assert_eq!(rt; show(alloc, *view, bytes.as_slice(), &mut sink), None);
+        assert_eq!(rt; show(alloc, *form, bytes.as_slice(), &mut sink), None);
         assert_eq!(rt; sink.bytes(), *text);
     }
-    for (view, sent, len, fault) in REFUSED {
+    for (form, sent, len, fault) in REFUSED {
         let bytes = transmission(alloc, *sent).expect(&rt, "an answer");
         let mut sink = MemorySink::<512>::new(512, 512);
-        let told = show(alloc, *view, cut(bytes.as_slice(), *len), &mut sink);
-        assert_eq!(rt; told, Some(*fault), "{view:?} {len}");
-        assert!(rt; sink.bytes().is_empty(), "{view:?} {len}");
+        let told = show(alloc, *form, cut(bytes.as_slice(), *len), &mut sink);
+        assert_eq!(rt; told, Some(*fault), "{form:?} {len}");
+        assert!(rt; sink.bytes().is_empty(), "{form:?} {len}");
     }
     let bytes = transmission(alloc, LONE_TONE).expect(&rt, "an answer");
-    for (view, text) in [(View::Text, LONE_TEXT), (View::List, LONE_LIST)] {
+    for (form, text) in [(Form::Text, LONE_TEXT), (Form::List, LONE_LIST)] {
         for left in 0..text.len() {
             let mut sink = MemorySink::<512>::new(3, left as u64);
-            let told = show(alloc, view, bytes.as_slice(), &mut sink);
-            assert_eq!(rt; told, Some(ShowFault::WriteFault), "{view:?} {left}");
+            let told = show(alloc, form, bytes.as_slice(), &mut sink);
+            assert_eq!(rt; told, Some(ShowFault::WriteFault), "{form:?} {left}");
             assert_eq!(rt; sink.bytes(), &text[..left]);
         }
     }
@@ -185,7 +186,7 @@ fn rows_that_are_wanted(rt: HostRuntime) {
         let rows = Rows::new(*first, *last).expect(&rt, "rows");
         let mut sink = MemorySink::<512>::new(512, 512);
         assert_eq!(rt;
-            show_text(alloc, rows, bytes.as_slice(), &mut sink).err(),
+            pocsag_show::show(alloc, View::Grid(rows), bytes.as_slice(), &mut sink).err(),
             None
         );
         assert!(rt; sink.bytes().starts_with(&ACROSS_TEXT[..113]));
@@ -198,13 +199,13 @@ fn large_texts_and_drawings(rt: HostRuntime) {
     let alloc = rt.alloc();
     let bytes = transmission(alloc, (16_000, IDLE, &[])).expect(&rt, "an answer");
     let mut sink = MemorySink::<40000>::new(40_000, 40_000);
-    assert_eq!(rt; show(alloc, View::Text, bytes.as_slice(), &mut sink), None);
+    assert_eq!(rt; show(alloc, Form::Text, bytes.as_slice(), &mut sink), None);
     assert!(rt; sink.bytes().starts_with(TOTALS));
     assert!(rt; sink.bytes().ends_with(LAST_ROWS));
     let bytes = transmission(alloc, LONE_TONE).expect(&rt, "an answer");
     let mut sink = MemorySink::<40000>::new(10_000, 10_000);
     assert_eq!(rt;
-        show(alloc, View::Drawing, bytes.as_slice(), &mut sink),
+        show(alloc, Form::Drawing, bytes.as_slice(), &mut sink),
         None
     );
     assert!(rt;
@@ -213,7 +214,7 @@ fn large_texts_and_drawings(rt: HostRuntime) {
             .any(|piece| piece == DRAWN)
     );
     let mut sink = MemorySink::<512>::new(16, 16);
-    let told = show(alloc, View::Drawing, bytes.as_slice(), &mut sink);
+    let told = show(alloc, Form::Drawing, bytes.as_slice(), &mut sink);
     assert_eq!(rt; told, Some(ShowFault::WriteFault));
     assert_eq!(rt; sink.bytes(), b"<svg xmlns='http".as_slice());
 }

@@ -2,29 +2,21 @@
 use Rattle.std.specs.Prelude.{◌≡◌, ◌⊎◌, ℕ, ◌<◌, ◌≤◌, List, Some, IfSome}
 use Rattle.pocsag_pages.specs.declared.page.Page.{Page}
 use Rattle.pocsag_decode.specs.Faults.{HasFault, ReadsAs, WantsMemory}
-use Rattle.pocsag_show.specs.Drawing.{drawing}
-use Rattle.pocsag_show.specs.Picture.{grid_text}
-use Rattle.pocsag_show.specs.Places.{place_listing}
 use Rattle.pocsag_show.specs.Showing.{Shows, ShowsPart}
-use Rattle.pocsag_show.specs.Views.{rows_wanted}
+use Rattle.pocsag_show.specs.Views.{rows_wanted, view_text}
 use Rattle.pocsag_show.specs.declared.rows.Rows.{Rows}
 use Rattle.pocsag_show.specs.declared.view.View.{View}
-use Rattle.pocsag_show.specs.declared.view.View.TheVariants.{Grid, Places, Drawing}
 use Rattle.pocsag_shell.specs.declared.fault.FileFault.TheVariants as file
 use Rattle.pocsag_receiver.specs.declared.fault.ReceiverFault.{ReceiverFault}
 use Rattle.pocsag_receiver.specs.declared.fault.ReceiverFault.TheVariants as fault
 
 -- The grid of the rows that are asked for, the listing of the places or the drawing of these rows was told.
 abbrev pub Viewed : View → (bytes out_before out_after : List ℕ) → Type 0
-Viewed (Grid rows) bytes out_before out_after = Shows (grid_text rows) bytes out_before out_after
-Viewed Places bytes out_before out_after = Shows place_listing bytes out_before out_after
-Viewed (Drawing rows) bytes out_before out_after = Shows (drawing rows) bytes out_before out_after
+Viewed view bytes out_before out_after = Shows (view_text view) bytes out_before out_after
 
 -- A prefix of it was told.
 abbrev pub ViewedPart : View → (bytes out_before out_after : List ℕ) → Type 0
-ViewedPart (Grid rows) bytes out_before out_after = ShowsPart (grid_text rows) bytes out_before out_after
-ViewedPart Places bytes out_before out_after = ShowsPart place_listing bytes out_before out_after
-ViewedPart (Drawing rows) bytes out_before out_after = ShowsPart (drawing rows) bytes out_before out_after
+ViewedPart view bytes out_before out_after = ShowsPart (view_text view) bytes out_before out_after
 
 -- The bytes read as pages, in so many batches.
 pub record ReadsInBatches (bytes : List ℕ) (batches : ℕ) : Type 0 where

@@ -1,10 +1,8 @@
 ghost use Rattle.std.specs.Prelude.{◌≡◌, ◌≢◌, ◌⊎◌, ℕ, List, Err, true, IfErr, IfOk, IsErrOf, OnOk};
 ghost use Rattle.pocsag_words.specs.Devices.{HasFailed};
 ghost use Rattle.pocsag_pages.specs.Bytes.{Sent};
-ghost use Rattle.pocsag_decode.specs.Faults.{TellsFailures};
 ghost use Rattle.pocsag_decode.specs.Repairing.{Counts};
 ghost use Rattle.pocsag_pager.specs.Damage.{IsDamaged};
-ghost use Rattle.pocsag_show.specs.Showing.{Explains};
 ghost use Rattle.pocsag_shell.specs.declared.fault.FileFault.TheVariants as file;
 ghost use Rattle.pocsag_receiver.specs.Files.{ExplainsUnread};
 ghost use Rattle.pocsag_receiver.specs.Repair.{AreReadOf, IsSoOfRead};
@@ -16,7 +14,7 @@ use crate::repair::repair_asked;
 use crate::transmission::read_transmission;
 use pocsag_decode::{Repaired, judge_bytes};
 use pocsag_pages::leading_len;
-use pocsag_show::{ShowFault, View, show_list, show_svg, show_text};
+use pocsag_show::{View, show};
 use pocsag_words::{BATCH_BYTES, Sink, Source};
 use std::alloc::Global;
 
@@ -43,22 +41,6 @@ fn refuse_rows(view: View, bytes: &[u8]) -> Result<(), ReceiverFault>
     }
     judge_bytes(bytes)?;
     Err(ReceiverFault::NoSuchRows { rows, batches })
-}
-
-// Shows the bytes of a transmission, whatever rows it has.
-fn show_view<O: Sink>(alloc: Global, view: View, bytes: &[u8], out: &mut O) -> Result<(), ShowFault>
-    ensures shown { O.tells → OnOk result (Viewed view bytes.now (O.taken out.old) (O.taken out.new)) }
-    ensures part { O.tells → result ≡ Err ShowFault.WriteFault →
-        ViewedPart view bytes.now (O.taken out.old) (O.taken out.new) }
-    ensures fault { IfErr result (Explains bytes.now) }
-    ensures untouched { IfErr result (λ e. e ≢ ShowFault.WriteFault → out.new ≡ out.old) }
-    ensures failures { TellsFailures result ShowFault.WriteFault (O.failures out.old) (O.failures out.new) }
-{
-    match view {
-        View::Grid(rows) => show_text(alloc, rows, bytes, out),
-        View::Places => show_list(alloc, bytes, out),
-        View::Drawing(rows) => show_svg(alloc, rows, bytes, out),
-    }
 }
 
 /// `show` of the bytes of a transmission, with repair as it is once each of its words is repaired. Rows of which it has
@@ -90,7 +72,7 @@ pub fn show_bytes<O: Sink>(
 {
     let corrected = repair_asked(repair, bytes);
     refuse_rows(view, bytes)?;
-    show_view(alloc, view, bytes, out)?;
+    show(alloc, view, bytes, out)?;
     Ok(corrected)
 }
 

@@ -25,19 +25,19 @@ counts_part batches codewords idles =
     codes "batches " ++ (decimal batches ++ (codes ", codewords " ++ (decimal codewords ++ (codes ", idles "
     ++ (decimal idles ++ (codes " (" ++ (decimal (share idles batches) ++ codes "%)")))))))
 
--- How long a transmission of so many batches lasts at a rate in bits a second, and at the three rates.
+-- How long a transmission of so many batches lasts at a rate in bits a second, and at the three rates, up to the end of
+-- the line.
 abbrev pub airtime_at : (batches rate : ℕ) → ℕ
 airtime_at batches rate = airtime (transmission_bits batches) rate
 
 unfoldable pub airtimes_part : ℕ → List ℕ
 airtimes_part batches =
-    decimal (airtime_at batches 512) ++ (codes " ms at 512 bit/s, " ++ (decimal (airtime_at batches 1200)
-    ++ (codes " ms at 1200 bit/s, " ++ (decimal (airtime_at batches 2400) ++ codes " ms at 2400 bit/s"))))
+    codes ", airtime " ++ (decimal (airtime_at batches 512) ++ (codes " ms at 512 bit/s, " ++ (decimal (airtime_at batches 1200)
+    ++ (codes " ms at 1200 bit/s, " ++ (decimal (airtime_at batches 2400) ++ (codes " ms at 2400 bit/s" ++ (10 ∷ [])))))))
 
 -- The line of totals.
 unfoldable pub totals_line : (batches codewords idles : ℕ) → List ℕ
-totals_line batches codewords idles =
-    counts_part batches codewords idles ++ (codes ", airtime " ++ (airtimes_part batches ++ (10 ∷ [])))
+totals_line batches codewords idles = counts_part batches codewords idles ++ airtimes_part batches
 
 -- The frames from 0 to 7 by their numbers, two cells wide, each with a space before it.
 abbrev pub head_line : List ℕ

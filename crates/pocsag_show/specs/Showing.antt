@@ -5,8 +5,6 @@ use Rattle.pocsag_words.specs.declared.codeword.Kind.{Kind}
 use Rattle.pocsag_words.specs.Kinds.{kind_of}
 use Rattle.pocsag_pages.specs.declared.page.Page.{Page}
 use Rattle.pocsag_decode.specs.Faults.{HasFault, ReadsAs, WantsMemory}
-use Rattle.pocsag_decode.specs.declared.fault.DecodeFault.{DecodeFault}
-use Rattle.pocsag_decode.specs.declared.fault.DecodeFault.TheVariants as decoding
 use Rattle.pocsag_show.specs.declared.fault.ShowFault.{ShowFault}
 use Rattle.pocsag_show.specs.declared.fault.ShowFault.TheVariants as fault
 
@@ -39,8 +37,3 @@ Explains X fault.OutOfMemory = WantsMemory X ⊎ ((pages : List Page) × ReadsAs
 -- The same of what comes before the first write.
 abbrev pub ExplainsReading : List ℕ → ShowFault → Type 0
 ExplainsReading X f = (f ≢ fault.WriteFault) × Explains X f
-
--- The decoder's fault passed up: want of memory keeps its name.
-abbrev pub fault_passed_on : DecodeFault → ShowFault
-fault_passed_on decoding.OutOfMemory = fault.OutOfMemory
-fault_passed_on f = fault.Transmission f

@@ -1,7 +1,7 @@
 ghost use Rattle.std.specs.Prelude.{◌≡◌, ◌-◌, ◌/◌, ◌≤◌, ◌<◌, ◌^◌, ◌++◌, All, IfOk, OnOk, length};
-ghost use Rattle.std.specs.List.{flat_map, range_with_len};
+ghost use Rattle.std.specs.List.{flat_map};
 ghost use Rattle.pocsag_pages.specs.Listable.{IsListable};
-ghost use Rattle.pocsag_show.specs.Drawing.{drawing_text, frame_line, frame_lines, row_drawn, rows_and_pages};
+ghost use Rattle.pocsag_show.specs.Drawing.{drawing_text, frame_lines, row_drawn};
 ghost use Rattle.pocsag_show.specs.Rows.{end_row, first_row, rows_between};
 
 use crate::counts::Counts;
@@ -17,99 +17,62 @@ use crate::rows::Rows;
 use crate::window::Window;
 use std::alloc::{AllocError, Global};
 
-// Writes a row behind its pages.
-fn put_row(text: &mut Vec<u8>, low: usize, row: usize) -> Result<(), AllocError>
-    ensures { OnOk result (text.new.items ≡ text.old.items ++ row_drawn low row) }
-{
-    let number = row as u128 + 1;
-    let y = row_top(low, row);
-    let (middle, base) = (y + 9, y + 13);
-    put_printed(
-        text,
-        format_args!(
-            "<text class='e' x='50' y='{base}'>{number}</text>\
-            <rect class='s' x='60' y='{y}' width='12' height='18'/><path class='h' d='M80 {middle}h448'/>\n"
-        ),
-    )
-}
-
-// Writes the rows that are drawn.
+// Writes the rows that are drawn, each behind its pages.
 fn put_rows(text: &mut Vec<u8>, window: Window) -> Result<(), AllocError>
     ensures { OnOk result (text.new.items ≡ text.old.items
         ++ flat_map (row_drawn window.low) (rows_between window.low window.high)) }
 {
     for row in window.low..window.high {
-        put_row(text, window.low, row)?;
-    }
-    Ok(())
-}
-
-#[tactic(auto, unfolding(crate::specs::Drawing::frame_line))]
-fn put_frame_line(text: &mut Vec<u8>, bottom: u128, frame: usize) -> Result<(), AllocError>
-    requires { frame < 9 }
-    ensures { OnOk result (text.new.items ≡ text.old.items ++ frame_line bottom frame) }
-{
-    let x = 80 + 56 * frame;
-    put_printed(text, format_args!("M{x} 78V{bottom}"))
-}
-
-fn put_all_frame_lines(text: &mut Vec<u8>, bottom: u128) -> Result<(), AllocError>
-    ensures { OnOk result (text.new.items ≡ text.old.items ++ flat_map (frame_line bottom) (range_with_len 0 9)) }
-{
-    for frame in 0..FRAMES + 1 {
-        put_frame_line(text, bottom, frame)?;
+        let number = row as u128 + 1;
+        let y = row_top(window.low, row);
+        let (middle, base) = (y + 9, y + 13);
+        put_printed(
+            text,
+            format_args!(
+                "<text class='e' x='50' y='{base}'>{number}</text>\
+                <rect class='s' x='60' y='{y}' width='12' height='18'/><path class='h' d='M80 {middle}h448'/>\n"
+            ),
+        )?;
     }
     Ok(())
 }
 
 // Writes a line at each side of a frame, over so many rows.
-#[tactic(auto, unfolding(crate::specs::Drawing::frame_lines))]
+#[tactic(auto, unfolding(crate::specs::Drawing::frame_line, crate::specs::Drawing::frame_lines))]
 fn put_frame_lines(text: &mut Vec<u8>, count: usize) -> Result<(), AllocError>
     ensures { OnOk result (text.new.items ≡ text.old.items ++ frame_lines count) }
 {
+    let bottom = 80 + 22 * count as u128;
     put(text, b"<path class='f' d='")?;
-    put_all_frame_lines(text, 80 + 22 * count as u128)?;
+    for frame in 0..FRAMES + 1 {
+        let x = 80 + 56 * frame;
+        put_printed(text, format_args!("M{x} 78V{bottom}"))?;
+    }
     put(text, b"'/>\n")
 }
 
-// Writes the rows and the pages that lie on them.
-#[tactic(auto, unfolding(crate::specs::Drawing::rows_and_pages))]
-fn put_rows_and_pages(
+// Writes the drawing of pages in a transmission with these counts.
+#[tactic(auto, unfolding(crate::specs::Drawing::drawing_text, crate::specs::Drawing::rows_and_pages))]
+fn put_drawing(
     alloc: Global,
     text: &mut Vec<u8>,
     window: Window,
-    pages: &[Placed],
-) -> Result<(), AllocError>
-    requires few { window.high < 2 ^ 59 }
-    requires listable { All (λ pl. IsListable pl.page) pages.now }
-    ensures { OnOk result (text.new.items ≡ text.old.items ++ rows_and_pages window.low window.high pages.now) }
-{
-    put_rows(text, window)?;
-    put_pages(alloc, text, window, pages)?;
-    put_frame_lines(text, window.count())
-}
-
-// The drawing of pages in a transmission with these counts.
-#[tactic(auto, unfolding(crate::specs::Drawing::drawing_text))]
-fn drawing_text(
-    alloc: Global,
-    window: Window,
     counts: Counts,
     pages: &[Placed],
-) -> Result<Vec<u8>, AllocError>
+) -> Result<(), AllocError>
     requires some { 0 < counts.batches }
     requires few { window.high < 2 ^ 59 }
     requires listable { All (λ pl. IsListable pl.page) pages.now }
-    ensures { IfOk result
-        (λ v. v.items ≡ drawing_text window.low window.high counts.batches counts.codewords counts.idles pages.now) }
+    ensures { OnOk result (text.new.items ≡ text.old.items
+        ++ drawing_text window.low window.high counts.batches counts.codewords counts.idles pages.now) }
 {
-    let mut text = Vec::new(alloc);
-    put_front(&mut text, window, counts, legend_lines(window, pages))?;
-    put_rows_and_pages(alloc, &mut text, window, pages)?;
-    put_key(&mut text, window.count())?;
-    put_legend(&mut text, window, pages)?;
-    put(&mut text, b"</svg>\n")?;
-    Ok(text)
+    put_front(text, window, counts, legend_lines(window, pages))?;
+    put_rows(text, window)?;
+    put_pages(alloc, text, window, pages)?;
+    put_frame_lines(text, window.count())?;
+    put_key(text, window.count())?;
+    put_legend(text, window, pages)?;
+    put(text, b"</svg>\n")
 }
 
 /// The drawing of these rows of a transmission that was judged, as SVG 1.1.
@@ -128,10 +91,8 @@ pub(crate) fn drawing_of(alloc: Global, rows: Rows, judged: &Judged) -> Result<V
         codewords: letters as u64 - judged.grid.idles,
         idles: judged.grid.idles,
     };
-    drawing_text(
-        alloc,
-        Window::new(rows, batches),
-        counts,
-        judged.placed.as_slice(),
-    )
+    let window = Window::new(rows, batches);
+    let mut text = Vec::new(alloc);
+    put_drawing(alloc, &mut text, window, counts, judged.placed.as_slice())?;
+    Ok(text)
 }

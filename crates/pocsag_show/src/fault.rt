@@ -2,7 +2,6 @@ ghost use Rattle.std.specs.Prelude.{◌≡◌};
 ghost use Rattle.pocsag_show.specs.declared.fault.ShowFault.TheVariants as fault;
 
 use pocsag_decode::DecodeFault;
-use pocsag_words::DeviceFault;
 use std::alloc::AllocError;
 use thiserror::Error;
 
@@ -25,26 +24,5 @@ impl From<AllocError> for ShowFault {
 
     fn from(_refused: AllocError) -> ShowFault {
         ShowFault::OutOfMemory
-    }
-}
-
-impl From<DeviceFault> for ShowFault {
-    ghost from_gives = { λ _ e. e ≡ fault.WriteFault };
-
-    fn from(_refused: DeviceFault) -> ShowFault {
-        ShowFault::WriteFault
-    }
-}
-
-impl From<DecodeFault> for ShowFault {
-    ghost use Rattle.pocsag_show.specs.Showing.{fault_passed_on};
-
-    ghost from_gives = { λ refused e. e ≡ fault_passed_on refused };
-
-    fn from(refused: DecodeFault) -> ShowFault {
-        match refused {
-            DecodeFault::OutOfMemory => ShowFault::OutOfMemory,
-            refused => ShowFault::Transmission(refused),
-        }
     }
 }

@@ -1,6 +1,6 @@
 ghost use Rattle.std.specs.Prelude.{◌≡◌, ◌<◌, ◌++◌, OnOk};
 ghost use Rattle.std.specs.List.{flat_map, range_with_len};
-ghost use Rattle.pocsag_show.specs.Drawing.{axes, axis_number, counted, description, frame_number, front, headed, opening, seen_before, slot_number, title, told_before};
+ghost use Rattle.pocsag_show.specs.Drawing.{counted, frame_number, front, seen_before, slot_number, told_before};
 
 use crate::counts::Counts;
 use crate::picture::{CODEWORDS, FRAMES, put_counts, put_totals};
@@ -9,38 +9,31 @@ use crate::style::put_style;
 use crate::window::Window;
 use std::alloc::AllocError;
 
-#[tactic(auto, unfolding(crate::specs::Drawing::opening))]
-fn put_opening(text: &mut Vec<u8>, tall: u128) -> Result<(), AllocError>
-    ensures { OnOk result (text.new.items ≡ text.old.items ++ opening tall) }
+// Writes what is told before the rows: which batches are drawn, the totals and what the drawing is.
+#[tactic(auto, unfolding(crate::specs::Drawing::told_before, crate::specs::Drawing::opening, crate::specs::Drawing::title, crate::specs::Drawing::description, crate::specs::Drawing::explanation))]
+fn put_told_before(
+    text: &mut Vec<u8>,
+    window: Window,
+    counts: Counts,
+    lines: usize,
+) -> Result<(), AllocError>
+    requires { 0 < counts.batches }
+    ensures { OnOk result (text.new.items ≡ text.old.items
+        ++ told_before window.low window.high counts.batches counts.codewords counts.idles lines) }
 {
+    let tall = window.height(lines);
+    let (first, last, batches) = (window.low as u128 + 1, window.high, counts.batches);
     put_printed(
         text,
         format_args!(
             "<svg xmlns='http://www.w3.org/2000/svg' version='1.1' class='pocsag' role='img' \
             width='540' height='{tall}' viewBox='0 0 540 {tall}'>\n"
         ),
-    )
-}
-
-// Writes which of so many batches are drawn.
-#[tactic(auto, unfolding(crate::specs::Drawing::title))]
-fn put_title(text: &mut Vec<u8>, window: Window, batches: u64) -> Result<(), AllocError>
-    ensures { OnOk result (text.new.items ≡ text.old.items ++ title window.low window.high batches) }
-{
-    let (first, last) = (window.low as u128 + 1, window.high);
+    )?;
     put_printed(
         text,
         format_args!("<title>Batches {first} to {last} of {batches}</title>\n"),
-    )
-}
-
-// Writes the totals and what the drawing is.
-#[tactic(auto, unfolding(crate::specs::Drawing::description, crate::specs::Drawing::explanation))]
-fn put_description(text: &mut Vec<u8>, counts: Counts) -> Result<(), AllocError>
-    requires { 0 < counts.batches }
-    ensures { OnOk result (text.new.items ≡ text.old.items
-        ++ description counts.batches counts.codewords counts.idles) }
-{
+    )?;
     put(text, b"<desc>")?;
     put_totals(text, counts)?;
     put(
@@ -50,24 +43,34 @@ fn put_description(text: &mut Vec<u8>, counts: Counts) -> Result<(), AllocError>
     )
 }
 
-// Writes the ground, and on it which of so many batches are drawn.
-#[tactic(auto, unfolding(crate::specs::Drawing::headed))]
-fn put_headed(
-    text: &mut Vec<u8>,
-    tall: u128,
-    window: Window,
-    batches: u64,
-) -> Result<(), AllocError>
-    ensures { OnOk result (text.new.items ≡ text.old.items ++ headed tall window.low window.high batches) }
+// Writes the numbers of the frames over the rows.
+#[tactic(auto, unfolding(crate::specs::Drawing::axis_number))]
+fn put_frame_numbers(text: &mut Vec<u8>) -> Result<(), AllocError>
+    ensures { OnOk result (text.new.items ≡ text.old.items ++ flat_map frame_number (range_with_len 0 8)) }
 {
-    let (first, last) = (window.low as u128 + 1, window.high);
-    put_printed(
-        text,
-        format_args!(
-            "<rect class='b' width='540' height='{tall}'/>\n\
-            <text class='t' x='12' y='22'>Batches {first} to {last} of {batches}</text>"
-        ),
-    )
+    for frame in 0..FRAMES {
+        let (x, y) = (108 + 56 * frame, 60usize);
+        put_printed(
+            text,
+            format_args!("<text class='m' x='{x}' y='{y}'>{frame}</text>"),
+        )?;
+    }
+    Ok(())
+}
+
+// Writes the numbers of the slots under them.
+#[tactic(auto, unfolding(crate::specs::Drawing::axis_number))]
+fn put_slot_numbers(text: &mut Vec<u8>) -> Result<(), AllocError>
+    ensures { OnOk result (text.new.items ≡ text.old.items ++ flat_map slot_number (range_with_len 0 16)) }
+{
+    for slot in 0..CODEWORDS {
+        let (x, y) = (94 + 28 * slot, 74usize);
+        put_printed(
+            text,
+            format_args!("<text class='m' x='{x}' y='{y}'>{slot}</text>"),
+        )?;
+    }
+    Ok(())
 }
 
 // Writes the counts that are seen.
@@ -81,68 +84,9 @@ fn put_counted(text: &mut Vec<u8>, counts: Counts) -> Result<(), AllocError>
     put(text, b"</text>\n")
 }
 
-// Writes a number over the rows.
-#[tactic(auto, unfolding(crate::specs::Drawing::axis_number))]
-fn put_number(text: &mut Vec<u8>, x: usize, y: usize, number: usize) -> Result<(), AllocError>
-    ensures { OnOk result (text.new.items ≡ text.old.items ++ axis_number x y number) }
-{
-    put_printed(
-        text,
-        format_args!("<text class='m' x='{x}' y='{y}'>{number}</text>"),
-    )
-}
-
-fn put_frame_numbers(text: &mut Vec<u8>) -> Result<(), AllocError>
-    ensures { OnOk result (text.new.items ≡ text.old.items ++ flat_map frame_number (range_with_len 0 8)) }
-{
-    for frame in 0..FRAMES {
-        put_number(text, 108 + 56 * frame, 60, frame)?;
-    }
-    Ok(())
-}
-
-fn put_slot_numbers(text: &mut Vec<u8>) -> Result<(), AllocError>
-    ensures { OnOk result (text.new.items ≡ text.old.items ++ flat_map slot_number (range_with_len 0 16)) }
-{
-    for slot in 0..CODEWORDS {
-        put_number(text, 94 + 28 * slot, 74, slot)?;
-    }
-    Ok(())
-}
-
-// Writes the words frame, slot and batch, and the numbers of the frames and slots.
-#[tactic(auto, unfolding(crate::specs::Drawing::axes))]
-fn put_axes(text: &mut Vec<u8>) -> Result<(), AllocError>
-    ensures { OnOk result (text.new.items ≡ text.old.items ++ axes) }
-{
-    put(
-        text,
-        b"<text class='e' x='74' y='60'>frame</text><text class='e' x='74' y='74'>slot</text><text class='e' x='50' y='74'>batch</text>",
-    )?;
-    put_frame_numbers(text)?;
-    put_slot_numbers(text)?;
-    put(text, b"\n")
-}
-
-// Writes what is told before the rows, in a drawing so tall.
-#[tactic(auto, unfolding(crate::specs::Drawing::told_before))]
-fn put_told_before(
-    text: &mut Vec<u8>,
-    window: Window,
-    counts: Counts,
-    lines: usize,
-) -> Result<(), AllocError>
-    requires { 0 < counts.batches }
-    ensures { OnOk result (text.new.items ≡ text.old.items
-        ++ told_before window.low window.high counts.batches counts.codewords counts.idles lines) }
-{
-    put_opening(text, window.height(lines))?;
-    put_title(text, window, counts.batches)?;
-    put_description(text, counts)
-}
-
-// Writes what is seen before the rows.
-#[tactic(auto, unfolding(crate::specs::Drawing::seen_before))]
+// Writes what is seen before the rows: on the ground which batches are drawn, the counts, and the words frame, slot and
+// batch with the numbers of the frames and slots.
+#[tactic(auto, unfolding(crate::specs::Drawing::seen_before, crate::specs::Drawing::headed, crate::specs::Drawing::axes))]
 fn put_seen_before(
     text: &mut Vec<u8>,
     window: Window,
@@ -153,10 +97,25 @@ fn put_seen_before(
     ensures { OnOk result (text.new.items ≡ text.old.items
         ++ seen_before window.low window.high counts.batches counts.codewords counts.idles lines) }
 {
+    let tall = window.height(lines);
+    let (first, last, batches) = (window.low as u128 + 1, window.high, counts.batches);
     put_style(text)?;
-    put_headed(text, window.height(lines), window, counts.batches)?;
+    put_printed(
+        text,
+        format_args!(
+            "<rect class='b' width='540' height='{tall}'/>\n\
+            <text class='t' x='12' y='22'>Batches {first} to {last} of {batches}</text>"
+        ),
+    )?;
     put_counted(text, counts)?;
-    put_axes(text)
+    put(
+        text,
+        b"<text class='e' x='74' y='60'>frame</text><text class='e' x='74' y='74'>slot</text>\
+        <text class='e' x='50' y='74'>batch</text>",
+    )?;
+    put_frame_numbers(text)?;
+    put_slot_numbers(text)?;
+    put(text, b"\n")
 }
 
 /// Writes all that stands before the rows, where the legend has so many lines.

@@ -1,6 +1,6 @@
 ghost use Rattle.std.specs.Prelude.{◌≡◌, ◌<◌, ◌≤◌, ◌^◌, ◌++◌, OnOk, All, length};
 ghost use Rattle.pocsag_pages.specs.Listable.{IsListable};
-ghost use Rattle.pocsag_show.specs.Legend.{drawn_in, entry, entry_of, key, left_out, legend, legend_lines, names, place_in, stands_before};
+ghost use Rattle.pocsag_show.specs.Legend.{drawn_in, entry, entry_of, key, legend, legend_lines, place_in, stands_before};
 
 use crate::marks::{put_head, put_opened, put_rectangle};
 use crate::pieces::{put, put_printed};
@@ -71,28 +71,8 @@ pub(crate) fn put_key(text: &mut Vec<u8>, count: usize) -> Result<(), AllocError
     )
 }
 
-// Writes an address and a kind, and ends the group of a page.
-fn put_names(
-    text: &mut Vec<u8>,
-    x: u128,
-    y: u128,
-    address: u32,
-    kind: &[u8],
-) -> Result<(), AllocError>
-    requires { y < 2 ^ 127 }
-    ensures { OnOk result (text.new.items ≡ text.old.items ++ names x y address kind.now) }
-{
-    let base = y + 13;
-    put_printed(
-        text,
-        format_args!("<text class='n' x='{x}' y='{base}'>{address} "),
-    )?;
-    put(text, kind)?;
-    put(text, b"</text></g>\n")
-}
-
 // Writes the entry of a page at a place of the legend, whose upper side is given.
-#[tactic(auto, unfolding(crate::specs::Legend::entry))]
+#[tactic(auto, unfolding(crate::specs::Legend::entry, crate::specs::Legend::names, crate::specs::Legend::address_named))]
 fn put_entry(text: &mut Vec<u8>, top: u128, place: usize, placed: &Placed) -> Result<(), AllocError>
     requires top { top < 2 ^ 100 }
     requires listable { IsListable placed.now.page }
@@ -104,10 +84,16 @@ fn put_entry(text: &mut Vec<u8>, top: u128, place: usize, placed: &Placed) -> Re
     put_opened(text, placed.number)?;
     put_rectangle(text, x, y, 28)?;
     put_head(text, x, y, placed.number)?;
-    let kind = kind_of_page(page.function, page.payload.as_slice());
-    put_names(text, x + 34, y, page.address, kind)
+    let (name, base, address) = (x + 34, y + 13, page.address);
+    put_printed(
+        text,
+        format_args!("<text class='n' x='{name}' y='{base}'>{address} "),
+    )?;
+    put(text, kind_of_page(page.function, page.payload.as_slice()))?;
+    put(text, b"</text></g>\n")
 }
 
+// Writes the entry of a page that is drawn.
 #[tactic(auto, unfolding(crate::specs::Legend::entry_of))]
 fn put_entry_of(
     text: &mut Vec<u8>,
@@ -125,23 +111,8 @@ fn put_entry_of(
     put_entry(text, top, place_in(window, pages, placed), placed)
 }
 
-// Writes what stands in place of the entries of more pages, on a line with this upper side.
-#[tactic(auto, unfolding(crate::specs::Legend::left_out))]
-fn put_left_out(text: &mut Vec<u8>, top: u128) -> Result<(), AllocError>
-    requires { top < 2 ^ 100 }
-    ensures { OnOk result (text.new.items ≡ text.old.items ++ left_out top) }
-{
-    let base = top + 13;
-    put_printed(
-        text,
-        format_args!(
-            "<text class='n' x='80' y='{base}'>More than 40 pages: show --list tells each.</text>\n"
-        ),
-    )
-}
-
 /// Writes the legend of the pages that are drawn, where they are few, and else where they are told.
-#[tactic(auto, unfolding(crate::specs::Legend::legend))]
+#[tactic(auto, unfolding(crate::specs::Legend::legend, crate::specs::Legend::left_out))]
 pub(crate) fn put_legend(
     text: &mut Vec<u8>,
     window: Window,
@@ -151,7 +122,14 @@ pub(crate) fn put_legend(
     ensures { OnOk result (text.new.items ≡ text.old.items ++ legend window.low window.high pages.now) }
 {
     if drawn_in(window, pages) > MOST {
-        return put_left_out(text, 112 + 22 * window.count() as u128);
+        let top = 112 + 22 * window.count() as u128;
+        let base = top + 13;
+        return put_printed(
+            text,
+            format_args!(
+                "<text class='n' x='80' y='{base}'>More than 40 pages: show --list tells each.</text>\n"
+            ),
+        );
     }
     for placed in pages {
         put_entry_of(text, window, pages, placed)?;

@@ -31,4 +31,4 @@ mod window;
 pub use fault::ShowFault;
 pub use rows::Rows;
 pub use view::View;
-pub use views::{show_list, show_svg, show_text};
+pub use views::show;

@@ -1,12 +1,8 @@
-ghost use Rattle.std.specs.Prelude.{◌≡◌, ℕ, ◌∷◌, ◌++◌, [], List, All, IfOk, OnOk, map, string_bytes};
-ghost use Rattle.std.specs.Fmt.{decimal};
+ghost use Rattle.std.specs.Prelude.{◌≡◌, ◌++◌, All, IfOk, OnOk, map};
 ghost use Rattle.csv.specs.Writing.{row_text, default_writer};
 ghost use Rattle.pocsag_pages.specs.Listable.{IsListable};
 ghost use Rattle.pocsag_decode.specs.Lines.{IsReady, PutsRow, text_in};
-ghost use Rattle.pocsag_show.specs.Judged.{IsJudged};
 ghost use Rattle.pocsag_show.specs.Places.{place_header, place_record, place_rows};
-ghost use Rattle.pocsag_show.specs.Showing.{IsTextOf};
-ghost use Rattle.pocsag_show.specs.Places.{place_listing};
 
 use crate::judged::Judged;
 use crate::picture::CODEWORDS;
@@ -82,23 +78,15 @@ fn put_places(
     Ok(())
 }
 
-// The listing of the pages.
-fn rows_of(alloc: Global, pages: &[Placed]) -> Result<Vec<u8>, AllocError>
-    requires { All (λ pl. IsListable pl.page) pages.now }
-    ensures { IfOk result (λ v. v.items ≡ row_text default_writer place_header ++ place_rows pages.now) }
+/// The listing of a transmission that was judged.
+pub(crate) fn listing_of(alloc: Global, judged: &Judged) -> Result<Vec<u8>, AllocError>
+    requires { All (λ pl. IsListable pl.page) judged.now.placed.items }
+    ensures { IfOk result (λ v. v.items ≡ row_text default_writer place_header ++ place_rows judged.now.placed.items) }
 {
     let mut writer = Writer::from_writer(Vec::new(alloc));
-    put_places(alloc, &mut writer, pages)?;
+    put_places(alloc, &mut writer, judged.placed.as_slice())?;
     match writer.into_inner() {
         Ok(text) => Ok(text),
         Err(_) => Err(AllocError),
     }
-}
-
-/// The listing of a transmission that was judged.
-pub(crate) fn listing_of(alloc: Global, judged: &Judged) -> Result<Vec<u8>, AllocError>
-    requires { All (λ pl. IsListable pl.page) judged.now.placed.items }
-    ensures { (X : List ℕ) → IsJudged X judged.now → IfOk result (λ v. IsTextOf place_listing X v.items) }
-{
-    rows_of(alloc, judged.placed.as_slice())
 }

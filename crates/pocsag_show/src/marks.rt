@@ -8,23 +8,16 @@ use crate::pieces::{put, put_printed};
 use crate::style::HUES;
 use std::alloc::AllocError;
 
-// Writes how many times the letter of a number came, from the second time on.
+/// Writes the label of a page: its letter, which is given, and from the second time on how many times that came.
 #[tactic(auto, unfolding(crate::specs::Numbers::turn))]
-fn put_turn(text: &mut Vec<u8>, number: usize) -> Result<(), AllocError>
-    ensures { OnOk result (text.new.items ≡ text.old.items ++ turn number) }
-{
-    if number < LETTERS {
-        return Ok(());
-    }
-    put_printed(text, number / LETTERS + 1)
-}
-
-/// Writes the label of a page, whose letter is given.
 pub(crate) fn put_label(text: &mut Vec<u8>, letter: u8, number: usize) -> Result<(), AllocError>
     ensures { OnOk result (text.new.items ≡ text.old.items ++ letter ∷ turn number) }
 {
     put(text, &[letter])?;
-    put_turn(text, number)
+    if number < LETTERS {
+        return Ok(());
+    }
+    put_printed(text, number / LETTERS + 1)
 }
 
 /// Writes a rectangle over codewords.

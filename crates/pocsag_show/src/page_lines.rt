@@ -1,7 +1,7 @@
 ghost use Rattle.std.specs.Prelude.{◌≡◌, ◌<◌, ◌^◌, ◌++◌, OnOk, All};
 ghost use Rattle.std.specs.List.{flat_map};
 ghost use Rattle.pocsag_pages.specs.Listable.{IsListable};
-ghost use Rattle.pocsag_show.specs.Drawing.{group, page_drawn, page_title, piece};
+ghost use Rattle.pocsag_show.specs.Drawing.{page_drawn, piece};
 ghost use Rattle.pocsag_show.specs.Legend.{end_row_of, first_row_of};
 ghost use Rattle.pocsag_show.specs.Rows.{rows_between};
 
@@ -46,37 +46,8 @@ fn put_pieces(text: &mut Vec<u8>, window: Window, placed: &Placed) -> Result<(),
     Ok(())
 }
 
-// Writes what is told of a page as the title of its group.
-#[tactic(auto, unfolding(crate::specs::Drawing::page_title))]
-fn put_title(alloc: Global, text: &mut Vec<u8>, placed: &Placed) -> Result<(), AllocError>
-    requires { IsListable placed.now.page }
-    ensures { OnOk result (text.new.items ≡ text.old.items ++ page_title placed.now) }
-{
-    put(text, b"<title>")?;
-    put_told(alloc, text, placed)?;
-    put(text, b"</title>")
-}
-
-// Writes the group of a page.
-#[tactic(auto, unfolding(crate::specs::Drawing::group))]
-fn put_group(
-    alloc: Global,
-    text: &mut Vec<u8>,
-    window: Window,
-    placed: &Placed,
-) -> Result<(), AllocError>
-    requires few { window.high < 2 ^ 59 }
-    requires listable { IsListable placed.now.page }
-    ensures { OnOk result (text.new.items ≡ text.old.items
-        ++ group window.low placed.now (first_row_of window.low placed.now) (end_row_of window.high placed.now)) }
-{
-    put_opened(text, placed.number)?;
-    put_title(alloc, text, placed)?;
-    put_pieces(text, window, placed)?;
-    put(text, b"</g>\n")
-}
-
-#[tactic(auto, unfolding(crate::specs::Drawing::page_drawn))]
+// Writes the group of a page that has codewords in the rows that are drawn.
+#[tactic(auto, unfolding(crate::specs::Drawing::page_drawn, crate::specs::Drawing::group, crate::specs::Drawing::page_title))]
 fn put_page(
     alloc: Global,
     text: &mut Vec<u8>,
@@ -90,7 +61,12 @@ fn put_page(
     if !placed.is_drawn(window) {
         return Ok(());
     }
-    put_group(alloc, text, window, placed)
+    put_opened(text, placed.number)?;
+    put(text, b"<title>")?;
+    put_told(alloc, text, placed)?;
+    put(text, b"</title>")?;
+    put_pieces(text, window, placed)?;
+    put(text, b"</g>\n")
 }
 
 /// Writes the pages that have codewords in the rows that are drawn.

@@ -1,14 +1,13 @@
 ghost use Rattle.std.specs.Prelude.{◌≡◌, ◌++◌, OnOk};
 ghost use Rattle.std.specs.List.{flat_map};
 ghost use Rattle.pocsag_pages.specs.Listable.{IsListable};
-ghost use Rattle.pocsag_show.specs.Escapes.{escaped, told, told_message};
+ghost use Rattle.pocsag_show.specs.Escapes.{escaped, told};
 
 use crate::letter_cells::capital_letter;
 use crate::marks::put_label;
 use crate::pieces::{put, put_printed};
 use crate::placed::Placed;
 use pocsag_decode::{kind_of_page, message_of};
-use pocsag_pages::Page;
 use std::alloc::{AllocError, Global};
 
 // Writes a character of a message so that it stands for itself.
@@ -41,13 +40,17 @@ fn put_all_escaped(text: &mut Vec<u8>, message: &[u8]) -> Result<(), AllocError>
     Ok(())
 }
 
-// Writes the message of a page, where it has one.
-#[tactic(auto, unfolding(crate::specs::Escapes::told_message))]
-fn put_message(alloc: Global, text: &mut Vec<u8>, page: &Page) -> Result<(), AllocError>
-    requires { IsListable page.now }
-    ensures { OnOk result (text.new.items ≡ text.old.items ++ told_message page.now.function page.now.payload) }
+/// Writes what is told of a page: its label, address, kind and, where it has one, message.
+#[tactic(auto, unfolding(crate::specs::Escapes::told, crate::specs::Escapes::told_message))]
+pub(crate) fn put_told(alloc: Global, text: &mut Vec<u8>, placed: &Placed) -> Result<(), AllocError>
+    requires { IsListable placed.now.page }
+    ensures { OnOk result (text.new.items ≡ text.old.items ++ told placed.now) }
 {
-    let items = page.payload.as_slice();
+    let page = &placed.page;
+    let (address, items) = (page.address, page.payload.as_slice());
+    put_label(text, capital_letter(placed.number), placed.number)?;
+    put_printed(text, format_args!(": address {address}, "))?;
+    put(text, kind_of_page(page.function, items))?;
     if items.is_empty() {
         return Ok(());
     }
@@ -56,18 +59,4 @@ fn put_message(alloc: Global, text: &mut Vec<u8>, page: &Page) -> Result<(), All
         return Err(AllocError);
     };
     put_all_escaped(text, message.as_slice())
-}
-
-/// Writes what is told of a page: its label, address, kind and message.
-#[tactic(auto, unfolding(crate::specs::Escapes::told))]
-pub(crate) fn put_told(alloc: Global, text: &mut Vec<u8>, placed: &Placed) -> Result<(), AllocError>
-    requires { IsListable placed.now.page }
-    ensures { OnOk result (text.new.items ≡ text.old.items ++ told placed.now) }
-{
-    let page = &placed.page;
-    let address = page.address;
-    put_label(text, capital_letter(placed.number), placed.number)?;
-    put_printed(text, format_args!(": address {address}, "))?;
-    put(text, kind_of_page(page.function, page.payload.as_slice()))?;
-    put_message(alloc, text, page)
 }

@@ -1,7 +1,7 @@
 ghost use Rattle.std.specs.Prelude.{◌≡◌, ℕ, ◌+◌, ◌*◌, ◌%◌, ◌<◌, ◌≤◌, ◌++◌, List, IfOk, OnOk, length, replicate, slice_index};
 ghost use Rattle.std.specs.List.{flat_map, range_with_len};
 ghost use Rattle.pocsag_words.specs.declared.codeword.Kind.{Kind};
-ghost use Rattle.pocsag_show.specs.Picture.{airtimes_part, batch_line, batch_lines, counts_part, frame_cells, number_column, picture, share, totals_line};
+ghost use Rattle.pocsag_show.specs.Picture.{batch_lines, counts_part, frame_cells, number_column, picture, totals_line};
 ghost use Rattle.pocsag_show.specs.Taking.{IsGridOf};
 
 use crate::counts::Counts;
@@ -19,15 +19,6 @@ pub(crate) const CODEWORDS: usize = 16;
 /// The frames of a batch, of two codewords each.
 pub(crate) const FRAMES: usize = 8;
 
-// The idle codewords in per cent of all, to the nearest whole one.
-#[tactic(auto, unfolding(crate::specs::Picture::share))]
-fn share(idles: u64, batches: u64) -> u128
-    requires { 0 < batches }
-    ensures { result ≡ share idles batches }
-{
-    (100 * u128::from(idles) + 8 * u128::from(batches)) / (16 * u128::from(batches))
-}
-
 fn put_spaces(text: &mut Vec<u8>, count: usize) -> Result<(), AllocError>
     requires { count < 4 }
     ensures { OnOk result (text.new.items ≡ text.old.items ++ replicate count 32) }
@@ -37,7 +28,7 @@ fn put_spaces(text: &mut Vec<u8>, count: usize) -> Result<(), AllocError>
 }
 
 /// Writes how many batches, codewords of pages and idle codewords there are, and the share of the idle ones.
-#[tactic(auto, unfolding(crate::specs::Picture::counts_part))]
+#[tactic(auto, unfolding(crate::specs::Picture::counts_part, crate::specs::Picture::share))]
 pub(crate) fn put_counts(text: &mut Vec<u8>, counts: Counts) -> Result<(), AllocError>
     requires { 0 < counts.batches }
     ensures { OnOk result (text.new.items ≡ text.old.items
@@ -48,37 +39,30 @@ pub(crate) fn put_counts(text: &mut Vec<u8>, counts: Counts) -> Result<(), Alloc
         codewords,
         idles,
     } = counts;
-    let percent = share(idles, batches);
+    let all = 16 * u128::from(batches);
+    let percent = (100 * u128::from(idles) + 8 * u128::from(batches)) / all;
     put_printed(
         text,
         format_args!("batches {batches}, codewords {codewords}, idles {idles} ({percent}%)"),
     )
 }
 
-// Writes how long so many batches last at the three rates.
-#[tactic(auto, unfolding(crate::specs::Picture::airtimes_part))]
-fn put_airtimes(text: &mut Vec<u8>, batches: u64) -> Result<(), AllocError>
-    ensures { OnOk result (text.new.items ≡ text.old.items ++ airtimes_part batches) }
-{
-    let bits = transmission_bits(batches);
-    let (slow, middle, fast) = (airtime(bits, 512), airtime(bits, 1200), airtime(bits, 2400));
-    put_printed(
-        text,
-        format_args!("{slow} ms at 512 bit/s, {middle} ms at 1200 bit/s, {fast} ms at 2400 bit/s"),
-    )
-}
-
-/// Writes the line of totals.
-#[tactic(auto, unfolding(crate::specs::Picture::totals_line))]
+/// Writes the line of totals: the counts, and how long so many batches last at the three rates.
+#[tactic(auto, unfolding(crate::specs::Picture::totals_line, crate::specs::Picture::airtimes_part))]
 pub(crate) fn put_totals(text: &mut Vec<u8>, counts: Counts) -> Result<(), AllocError>
     requires { 0 < counts.batches }
     ensures { OnOk result (text.new.items ≡ text.old.items
         ++ totals_line counts.batches counts.codewords counts.idles) }
 {
+    let bits = transmission_bits(counts.batches);
+    let (slow, middle, fast) = (airtime(bits, 512), airtime(bits, 1200), airtime(bits, 2400));
     put_counts(text, counts)?;
-    put(text, b", airtime ")?;
-    put_airtimes(text, counts.batches)?;
-    put(text, b"\n")
+    put_printed(
+        text,
+        format_args!(
+            ", airtime {slow} ms at 512 bit/s, {middle} ms at 1200 bit/s, {fast} ms at 2400 bit/s\n"
+        ),
+    )
 }
 
 // Writes a number at the right of three columns, and spaces up to the fifth.
@@ -93,47 +77,21 @@ fn put_number(text: &mut Vec<u8>, number: u64) -> Result<(), AllocError>
     put_spaces(text, 2usize.saturating_sub(digits.len().saturating_sub(3)))
 }
 
-// Writes the two cells of a frame.
+// Writes the eight frames of a batch, each with its two cells.
 #[tactic(auto, unfolding(crate::specs::Picture::frame_cells))]
-fn put_frame(
-    text: &mut Vec<u8>,
-    letters: &[u8],
-    batch: usize,
-    frame: usize,
-) -> Result<(), AllocError>
-    requires frame { frame < 8 }
-    requires whole { 16 * batch + 16 ≤ length letters.now }
-    ensures { OnOk result (text.new.items ≡ text.old.items ++ frame_cells (slice_index letters.now) batch frame) }
-{
-    let index = CODEWORDS * batch + 2 * frame;
-    put(text, &[b' ', letters[index], letters[index + 1]])
-}
-
-// Writes the eight frames of a batch.
 fn put_frames(text: &mut Vec<u8>, letters: &[u8], batch: usize) -> Result<(), AllocError>
     requires { 16 * batch + 16 ≤ length letters.now }
     ensures { OnOk result (text.new.items ≡ text.old.items
         ++ flat_map (frame_cells (slice_index letters.now) batch) (range_with_len 0 8)) }
 {
     for frame in 0..FRAMES {
-        put_frame(text, letters, batch, frame)?;
+        let index = CODEWORDS * batch + 2 * frame;
+        put(text, &[b' ', letters[index], letters[index + 1]])?;
     }
     Ok(())
 }
 
-// Writes the line of a batch.
-#[tactic(auto, unfolding(crate::specs::Picture::batch_line))]
-fn put_batch(text: &mut Vec<u8>, letters: &[u8], batch: usize) -> Result<(), AllocError>
-    requires { 16 * batch + 16 ≤ length letters.now }
-    ensures { OnOk result (text.new.items ≡ text.old.items ++ batch_line (slice_index letters.now) batch) }
-{
-    put_number(text, batch as u64 + 1)?;
-    put_frames(text, letters, batch)?;
-    put(text, b"\n")
-}
-
 // Writes the lines of the batches from one up to before another.
-#[tactic(auto, unfolding(crate::specs::Picture::batch_lines))]
 fn put_batches(
     text: &mut Vec<u8>,
     letters: &[u8],
@@ -144,7 +102,9 @@ fn put_batches(
     ensures { OnOk result (text.new.items ≡ text.old.items ++ batch_lines (slice_index letters.now) low high) }
 {
     for batch in low..high {
-        put_batch(text, letters, batch)?;
+        put_number(text, batch as u64 + 1)?;
+        put_frames(text, letters, batch)?;
+        put(text, b"\n")?;
     }
     Ok(())
 }

@@ -4,4 +4,4 @@ use Rattle.pocsag_show.specs.Drawing.{frame_number}
 use Rattle.pocsag_show.proofs.front.put_frame_numbers.Given as goal
 
 abbrev pub invariant-loop-frame : goal.invariant-loop-frame
-invariant-loop-frame l = l.text.items ≡ l.fn.text.items ++ flat_map frame_number (range_with_len 0 l.frame)
+invariant-loop-frame l = l.text.items ≡ l.fn.text.items ++ flat_map frame_number (range_with_len 0 l.frame-counter)
