@@ -1,7 +1,7 @@
 use crate::fault::SoundFault;
 use crate::keying::Keying;
 use crate::wav::wav_bytes;
-use crate::words::{SOUND_COMMANDS, WAV, wanted_keying};
+use crate::words::{BIT_RATE, INVERT, LEAD, SAMPLES, SOUND_COMMANDS, WAV};
 use clap::{ArgMatches, Command, Error};
 use pocsag_shell::{Call, Desk, Group, Names, Role, TX, add_commands, path_of, read_file};
 use pocsag_words::INPUT_LIMIT;
@@ -24,12 +24,16 @@ impl Group for Sound {
         if call.name? != WAV {
             return None;
         }
-        let tx = call.found.get_str(TX)?;
+        let found = call.found;
+        let tx = found.get_str(TX)?;
         let names = Names {
             tx: Some(tx),
             ..Names::NONE
         };
-        let keying = wanted_keying(call.found)?;
+        let rate = found.get_one::<u32>(BIT_RATE)?;
+        let samples = found.get_one::<u32>(SAMPLES)?;
+        let preamble = found.get_one::<u32>(LEAD);
+        let keying = Keying::new(rate, samples, preamble, found.get_flag(INVERT));
         Some(Ok(desk.end(names, key_path(desk, keying, tx))))
     }
 }

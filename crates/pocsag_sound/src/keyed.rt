@@ -27,7 +27,7 @@ impl<'a> Model for Keyed<'a> {
 }
 
 impl<'a> Keyed<'a> {
-    ghost use Rattle.std.specs.Prelude.{◌≡◌, ◌-◌, ◌/◌, ◌%◌, length, slice_get};
+    ghost use Rattle.std.specs.Prelude.{◌≡◌, ◌*◌, length};
     ghost use Rattle.pocsag_sound.specs.Levels.{keyed_bytes, level_at};
 
     /// The bytes of a transmission, with so many bits of preamble if that is asked for.
@@ -50,21 +50,15 @@ impl<'a> Keyed<'a> {
         8 * (self.preamble as u128 + self.batches.len() as u128)
     }
 
-    // The byte at a place, if there is one.
-    fn byte(&self, place: usize) -> Option<u8>
-        ensures { result ≡ slice_get self.now place }
-    {
-        if place < self.preamble {
-            return Some(PREAMBLE_BYTE);
-        }
-        self.batches.get(place - self.preamble).copied()
-    }
-
     /// The level of a bit by its place; behind the last there is silence.
     pub(crate) fn level(&self, is_inverted: bool, place: u64) -> i16
         ensures { result ≡ level_at is_inverted self.now place }
     {
-        match self.byte((place / 8) as usize) {
+        let byte = match ((place / 8) as usize).checked_sub(self.preamble) {
+            None => Some(PREAMBLE_BYTE),
+            Some(index) => self.batches.get(index).copied(),
+        };
+        match byte {
             None => 0,
             Some(byte) if (byte >> (7 - place % 8)) % 2 == u8::from(is_inverted) => HIGH,
             Some(_) => LOW,

@@ -1,3 +1,5 @@
+ghost use Rattle.std.specs.Prelude.{◌<◌, ◌≤◌, IfErr, IfOk, OnOk};
+
 use crate::fault::SoundFault;
 use pocsag_words::PREAMBLE_BITS;
 

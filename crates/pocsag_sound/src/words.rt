@@ -1,19 +1,16 @@
 //! The words of `wav`, and what help says of them.
 
-use crate::fault::SoundFault;
-use crate::keying::Keying;
-use clap::ArgMatches;
 use pocsag_shell::{Content, FLAG, Given, LineWord, Shape, TX_PLACE};
 
 pub(crate) const WAV: &str = "wav";
 
-const BIT_RATE: &str = "rate";
+pub(crate) const BIT_RATE: &str = "rate";
 
-const SAMPLES: &str = "samples";
+pub(crate) const SAMPLES: &str = "samples";
 
-const INVERT: &str = "invert";
+pub(crate) const INVERT: &str = "invert";
 
-const LEAD: &str = "preamble";
+pub(crate) const LEAD: &str = "preamble";
 
 const WAV_MANUAL: &str = "\
 The sound goes to standard output: a WAV file of PCM samples, 16 bits and one
@@ -70,12 +67,3 @@ pub(crate) const SOUND_COMMANDS: &[Shape] = &[Shape {
         LEAD_OPTION,
     ],
 }];
-
-/// How a transmission is to be keyed, by the words of `wav`.
-pub(crate) fn wanted_keying(found: &ArgMatches<'_>) -> Option<Result<Keying, SoundFault>> {
-    let rate = found.get_one::<u32>(BIT_RATE)?;
-    let samples = found.get_one::<u32>(SAMPLES)?;
-    let preamble = found.get_one::<u32>(LEAD);
-    let is_inverted = found.get_flag(INVERT);
-    Some(Keying::new(rate, samples, preamble, is_inverted))
-}
