@@ -1,5 +1,5 @@
 -- How many samples a sound has, and which; and what of them is written so far.
-use Rattle.std.proofs.Common.{◌≡◌, ◌==◌, ◌↔◌, Bool, true, false, cond, Option, None, ℕ, suc, ◌+◌, ◌*◌, ◌/◌, ◌^◌, ◌<◌, ◌≤◌, List, [], ◌∷◌, ◌++◌, length, take, drop, map, get_or, Some, slice_get, ℤ, pos, refl, sym, ap, ap₂, subst, ◌∙◌, inl, inr, arith, append_assoc}
+use Rattle.std.proofs.Common.{◌≡◌, ◌==◌, ◌↔◌, Bool, true, false, cond, Option, None, ℕ, ◌+◌, ◌*◌, ◌/◌, ◌^◌, ◌<◌, ◌≤◌, List, [], ◌∷◌, ◌++◌, length, take, drop, Some, slice_get, ℤ, pos, refl, sym, ap, ap₂, subst, ◌∙◌, inl, inr, arith, append_assoc}
 use Rattle.std.proofs.Math.Nat.{mul-le-mul_right}
 use Rattle.std.proofs.lemmas.Bool.{cases_lt}
 use Rattle.std.proofs.lemmas.Grind.{div_ceil_times}
@@ -9,10 +9,10 @@ use Rattle.std.proofs.lemmas.List.FromFn.{get_or-map-range_with_len, length-map-
 use Rattle.std.proofs.lemmas.Nat.{div_below, le-div}
 use Rattle.std.proofs.lemmas.Option.{slice_get-get_or}
 use Rattle.std.specs.Int.{bit_at, cast_signed, cast_unsigned, div_ceil, from_bool, w16}
-use Rattle.std.specs.List.{flat_map, range_with_len}
+use Rattle.std.specs.List.{flat_map}
 use Rattle.pocsag_sound.specs.declared.keying.Keying.{Keying}
 use Rattle.pocsag_sound.specs.Levels.{IsKeyed, bits_due, high_level, keyed_bytes, level_at, level_in, low_level}
-use Rattle.pocsag_sound.specs.Wav.{HoldsSamples, IsWav, sample_bytes, wav_header}
+use Rattle.pocsag_sound.specs.Wav.{IsWav, sample_bytes, wav_header}
 use Rattle.pocsag_sound.specs.Writing.{IsCount, samples_of}
 
 -- c is the least number with T * S ≤ c * R: just the i below it have i * R / S below T

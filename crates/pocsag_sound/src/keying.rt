@@ -13,7 +13,7 @@ pub struct Keying {
     pub rate: u32,
     /// Samples a second.
     pub samples: u32,
-    /// The bits of the preamble, if it has not those of the transmission's own.
+    /// How many bits of preamble replace the transmission's own, if any do.
     pub preamble: Option<u32>,
     /// Whether a 0 has the low level and a 1 the high one.
     pub is_inverted: bool,

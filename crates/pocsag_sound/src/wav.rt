@@ -21,7 +21,7 @@ use std::alloc::Global;
 // The bytes of one write.
 const PIECE: usize = 8192;
 
-// The most samples of a WAV file: two bytes each and the 36 other bytes of its length are below 2^32.
+// The most samples of a WAV file: with two bytes each and 36 other bytes, its length stays below 2^32.
 const FILE_SAMPLES: u128 = 2_147_483_629;
 
 // How many samples so many bits last, if a WAV file can hold them.

@@ -1,4 +1,4 @@
-use Rattle.std.proofs.Common.{◌≡◌, ◌+◌, ◌*◌, ◌/◌, ◌≤◌, List, ℕ, ℤ, get_or, ap₂, ◌++◌, ◌∷◌, [], length, refl, sym, ap, ◌∙◌, rules, arith}
+use Rattle.std.proofs.Common.{◌≡◌, ◌*◌, ◌/◌, List, ℕ, ℤ, get_or, ap₂, ◌++◌, ◌∷◌, [], refl, sym, ap, ◌∙◌, rules, arith}
 use Rattle.std.specs.Int.{cast_signed, cast_unsigned, w16}
 use Rattle.std.specs.List.{flat_map}
 use Rattle.pocsag_decode.proofs.Prefixes.{after_fault, took_on}
@@ -22,9 +22,9 @@ returns-in_err-spill-clause-delivers g c = λ tells.
     let now = g.O.Sink.taken loop.out in (
       search rules,
       after_fault c.from_residual.result
-      (took_on before now (g.O.Sink.taken c.spill.new.out) loop.piece.items _ _ (loop.invariant.grown tells)
-      (still_to_write c.args.keying c.args.keyed.now before now loop.piece.items loop.index c.args.count (omega arith) (loop.invariant.told tells))
-      (c.in_err-spill.ensures.part tells)),
+          (took_on before now (g.O.Sink.taken c.spill.new.out) loop.piece.items _ _ (loop.invariant.grown tells)
+          (still_to_write c.args.keying c.args.keyed.now before now loop.piece.items loop.index c.args.count (omega arith) (loop.invariant.told tells))
+          (c.in_err-spill.ensures.part tells)),
     )
 
 pub loop-index-preserved : goal.loop-index-preserved
@@ -42,7 +42,7 @@ loop-index-preserved g c =
           ap (λ (z : ℤ). cast_signed w16 (cast_unsigned w16 z)) level_is ∙ level_fits c.args.keying.is_inverted _ _ in
           let written : c.to_le_bytes.result ≡ sample_bytes level = c.to_le_bytes.ensures ∙ ap sample_bytes same in
           let behind : c.push-in-loop-index.new.self.items
-              ≡ (c.spill.new.piece.items ++ get_or (sample_bytes level) 0 0 ∷ []) ++ get_or (sample_bytes level) 1 0 ∷ [] =
+          ≡ (c.spill.new.piece.items ++ get_or (sample_bytes level) 0 0 ∷ []) ++ get_or (sample_bytes level) 1 0 ∷ [] =
           c.push-in-loop-index.ensures.items
           ∙ ap₂ (λ (l bytes : List ℕ). l ++ get_or bytes 1 0 ∷ [])
           (c.push.ensures.items ∙ ap (λ (bytes : List ℕ). c.spill.new.piece.items ++ get_or bytes 0 0 ∷ []) written) written in
