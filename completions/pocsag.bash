@@ -12,7 +12,7 @@ _pocsag() {
         mapfile -t COMPREPLY < <(compgen -W "512 1200 2400" -- "$word")
         return
         ;;
-    --limit | --expect | --rows | --depth)
+    --limit | --expect | --rows | --depth | --samples | --preamble)
         compopt +o default 2>/dev/null
         COMPREPLY=()
         return
@@ -29,11 +29,12 @@ _pocsag() {
         [decode]='--repair --verbose --help -h'
         [hear]='--verbose --help -h'
         [show]='--svg --list --rows --repair --verbose --help -h'
+        [wav]='--rate --samples --invert --preamble --verbose --help -h'
         [open]='--journal --read-only --always --keep --verbose --help -h'
         [report]='--rate --limit --end --idle-last --expect --strict --always --frames --verbose --help -h'
         [help]=''
     )
-    local commands='plan check explain decode hear show open report help'
+    local commands='plan check explain decode hear show wav open report help'
     if [[ $word == -* ]]; then
         mapfile -t COMPREPLY < <(compgen -W "${options[$command]-}" -- "$word")
     elif ((COMP_CWORD == 1)) || [[ $command == help && $COMP_CWORD -eq 2 ]]; then

@@ -428,7 +428,7 @@ def try_late_growths(tally, library, folder):
     pages.write_bytes(b"address,kind,message\n" + records)
     names = [str(path) for path in (pages, sent, cert)]
     plans = [["plan", *names, *end, *more] for end in ENDS.values() for more in ([], ["--always"])]
-    others = [["check", names[0], names[2]], ["decode", names[1]], ["hear", "8", names[1]]]
+    others = [["check", names[0], names[2]], ["decode", names[1]], ["hear", "8", names[1]], ["wav", names[1]]]
     others += [["show", names[1], *more] for more in ([], ["--svg"], ["--list"])]
     others += [["report", names[0], "--rate", "512", *more] for more in ([], ["--always"], ["--frames"])]
     others += [["explain", names[0], names[2], *more] for more in ([], ["--json"], ["--svg"])]
@@ -485,6 +485,7 @@ def main():
         files = {"tx.bin": ACROSS}
         try_printing(tally, library, "decode", ["decode", "tx.bin"], files, folder)
         try_printing(tally, library, "hear", ["hear", "7", "tx.bin"], files, folder)
+        try_printing(tally, library, "wav", ["wav", "tx.bin", "--samples", "8000"], files, folder)
     return tally.end()
 
 

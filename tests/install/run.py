@@ -23,7 +23,7 @@ WORDS = [PYTHON, "-c", "import sys; print(*sys.version_info[:2], sep='.')"]
 MODULE = f"lib/python{subprocess.run(WORDS, capture_output=True, text=True).stdout.strip()}/site-packages/pocsag.py"
 PACKAGE = "lib/pkgconfig/pocsag.pc"
 LIBRARY = ["lib/libpocsag.a", "lib/libpocsag.so.1", "include/pocsag.h", MODULE, PACKAGE, "lib/libpocsag.so"]
-COMMANDS = ["plan", "check", "explain", "decode", "hear", "show", "open", "report"]
+COMMANDS = ["plan", "check", "explain", "decode", "hear", "show", "wav", "open", "report"]
 # Options with a value, and what is offered for it.
 VALUES = {"--end": {"open", "closed", "idle"}, "--rate": {"512", "1200", "2400"}, "--limit": set(), "--expect": set()}
 
@@ -203,7 +203,7 @@ def try_completions(tally, _folder):
         tally.check(f"files after {command}", completed(command, "") == (set(), ""), completed(command, ""))
     for option, values in VALUES.items():
         tally.check(f"the values of {option}", completed("plan", option, "") == (values, ""), completed("plan", option, ""))
-    for option in ("--end", "--rate", "--limit", "--expect", "--rows", "--depth"):
+    for option in ("--end", "--rate", "--limit", "--expect", "--rows", "--depth", "--samples", "--preamble"):
         tally.check(f"no file names after {option}", leaves_files_out(option))
     tally.check("file names after --journal", not leaves_files_out("--journal"))
     tally.check("a value begun", completed("plan", "--end", "c")[0] == {"closed"})

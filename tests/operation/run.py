@@ -257,7 +257,7 @@ def try_pipes(tally, folder):
         tally.check(f"pipes {words}", (done.returncode, done.stdout, done.stderr) == (status, out, err), done)
     tally.check("nothing is called -", not (room / "-").exists() and (room / "c.bin").read_bytes() == due_cert)
     (room / "tx.bin").write_bytes(due)
-    for words, given in ((["decode"], due), (["hear", "3"], due), (["show"], due), (["show", "--list"], due), (["report", "--rate", "512"], APART)):
+    for words, given in ((["decode"], due), (["hear", "3"], due), (["show"], due), (["show", "--list"], due), (["wav"], due), (["report", "--rate", "512"], APART)):
         file = "apart.csv" if words[0] == "report" else "tx.bin"
         wanted, done = run([*words, file], room), run([*words, "-"], room, given)
         holds = wanted.returncode == 0 and (done.returncode, done.stdout, done.stderr) == (0, wanted.stdout, b"")

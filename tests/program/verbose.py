@@ -86,6 +86,9 @@ CASES = [
     (APART, ["show", "-", "--repair"], BEYOND_REPAIR, 1, "", "codeword 15: not a codeword", []),
     (APART, ["decode", "none", "--repair"], b"", 3, "", "cannot read or open a file", [f"transmission none: {NO_FILE}"]),
     (APART, ["show", "none", "--svg"], b"", 3, "", "cannot read or open a file", [f"transmission none: {NO_FILE}"]),
+    (APART, ["wav", "none"], b"", 3, "", "cannot read or open a file", [f"transmission none: {NO_FILE}"]),
+    (APART, ["wav", "none", "--rate", "9"], b"", 1, "", "the rate must be 512, 1200 or 2400", []),
+    (APART, ["wav", "p.csv"], b"", 1, "", "the preamble is too short", []),
     (APART, ["hear", "2097152", "p.csv"], b"", 1, "", "bad address", []),
     (APART, ["hear", "8", "p.csv"], b"", 1, "", "the preamble is too short", []),
     (APART, ["open", "none.csv"], b"", 3, "", "cannot read or open a file", [f"page file none.csv: {NO_FILE}"]),
@@ -130,7 +133,7 @@ def try_verbose(tally, folder):
     before = run(["--verbose", "plan", "none.csv", "t", "c"], folder)
     behind = run(["plan", "none.csv", "t", "c", "--verbose"], folder)
     tally.check("--verbose before the command", before.stderr == behind.stderr and before.returncode == 3, before)
-    for words in ([], ["plan"], ["check"], ["explain"], ["decode"], ["hear"], ["show"], ["open"], ["report"]):
+    for words in ([], ["plan"], ["check"], ["explain"], ["decode"], ["hear"], ["show"], ["wav"], ["open"], ["report"]):
         done = run([*words, "--help"], folder)
         tally.check(f"--verbose in the help of {words}", b"--verbose" in done.stdout, done.stdout)
         longest = max(len(line) for line in done.stdout.splitlines())

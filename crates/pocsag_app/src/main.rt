@@ -6,6 +6,7 @@ use pocsag_explain::Explain;
 use pocsag_open::RoundGroup;
 use pocsag_receiver::Receiver;
 use pocsag_shell::{Both, Shape, run};
+use pocsag_sound::Sound;
 use std::process::ExitCode;
 
 const POCSAG: Shape = Shape {
@@ -35,6 +36,6 @@ Example:
 };
 
 fn main(rt: HostRuntime) -> ExitCode {
-    let groups = &Both(Centre, Both(Receiver, Both(RoundGroup, Explain)));
+    let groups = &Both(Centre, Both(Receiver, Both(Sound, Both(RoundGroup, Explain))));
     ExitCode::from(run(&rt, &POCSAG, groups))
 }

@@ -11,6 +11,7 @@ use pocsag_quotes::QuoteFault;
 use pocsag_receiver::ReceiverFault;
 use pocsag_shell::{Failure, FileFault};
 use pocsag_show::Rows;
+use pocsag_sound::SoundFault;
 use pocsag_tree::CertificateFault;
 use std::alloc::Global;
 use std::fmt::Display;
@@ -45,6 +46,8 @@ const TOO_LARGE: &str = "the file is too large";
 const NO_PAGES: &str = "there are no pages";
 
 const CUT_SHORT: &str = "the transmission is cut short";
+
+const BAD_RATE: &str = "the rate must be 512, 1200 or 2400";
 
 const LIMIT_REACHED: &str = "search limit reached: at least 2 batches, 3 would do";
 
@@ -124,7 +127,7 @@ fn centre(rt: HostRuntime) {
             (
                 1,
                 CentreFault::BadRate,
-                "the rate must be 512, 1200 or 2400",
+                BAD_RATE,
             ),
             (
                 1,
@@ -166,6 +169,29 @@ fn centre(rt: HostRuntime) {
                 CentreFault::NotTheBound,
                 "the certificate does not show the batches of the transmission",
             ),
+        ],
+    );
+}
+
+#[test]
+fn sound(rt: HostRuntime) {
+    let preamble = "the preamble must have 576 bits or more, a multiple of 8";
+    let samples = "the samples a second must be from the rate to 192000";
+    expect_failures(
+        &rt,
+        rt.alloc(),
+        &[
+            (1, SoundFault::BadRate, BAD_RATE),
+            (1, SoundFault::BadSamples, samples),
+            (1, SoundFault::BadPreamble, preamble),
+            (1, SoundFault::File(FileFault::TooLarge), TOO_LARGE),
+            (3, SoundFault::File(FileFault::Write), NO_WRITE),
+            (
+                1,
+                SoundFault::Transmission(DecodeFault::Truncated),
+                CUT_SHORT,
+            ),
+            (1, SoundFault::TooLong, "the sound is too long for a WAV file"),
         ],
     );
 }

@@ -14,3 +14,5 @@ mod open_tests;
 mod receiver_tests;
 #[cfg(test)]
 mod shell_tests;
+#[cfg(test)]
+mod sound_tests;

@@ -1,0 +1,80 @@
+//! `wav` over memory: the header and samples of a lone tone, worked out by hand, and its faults.
+
+use pocsag_shell::Failure;
+use pocsag_sound::{Keying, SoundFault, run_wav};
+use pocsag_words::{MemorySink, MemorySource};
+use std::alloc::Global;
+use std::process::Abort;
+use std::test::Fail;
+
+// A preamble of 576 bits and a batch with a tone in its first codeword.
+fn lone_tone() -> [u8; 140] {
+    let mut sent = [0xaa; 140];
+    for place in 72..140 {
+        sent[place] = [0x7a, 0x89, 0xc1, 0x97][place % 4];
+    }
+    for (place, byte) in [0x7c, 0xd2, 0x15, 0xd8, 0x00, 0x00, 0x26, 0xec]
+        .iter()
+        .enumerate()
+    {
+        sent[72 + place] = *byte;
+    }
+    sent
+}
+
+// 2,400 samples a second: 36 + 3,328 and 3,328 bytes for 576 + 544 + 544 bits.
+const HEADER: [u8; 44] = [
+    b'R', b'I', b'F', b'F', 0x24, 0x0d, 0, 0, b'W', b'A', b'V', b'E', b'f', b'm', b't', b' ', 16,
+    0, 0, 0, 1, 0, 1, 0, 0x60, 0x09, 0, 0, 0xc0, 0x12, 0, 0, 2, 0, 16, 0, b'd', b'a', b't', b'a',
+    0x00, 0x0d, 0, 0,
+];
+
+// The bits of 7C, highest first, by a sample each: 8,000 for a 0 and -8,000 for a 1.
+const SYNCHRONISATION: [u8; 16] = [
+    0x40, 0x1f, 0xc0, 0xe0, 0xc0, 0xe0, 0xc0, 0xe0, 0xc0, 0xe0, 0xc0, 0xe0, 0x40, 0x1f, 0x40, 0x1f,
+];
+
+// The same with the levels exchanged.
+const INVERTED: [u8; 16] = [
+    0xc0, 0xe0, 0x40, 0x1f, 0x40, 0x1f, 0x40, 0x1f, 0x40, 0x1f, 0x40, 0x1f, 0xc0, 0xe0, 0xc0, 0xe0,
+];
+
+// What `wav` writes of the lone tone, with a sample for each bit, where its writer takes at most so many bytes.
+fn keyed(
+    rt: &impl Abort,
+    alloc: Global,
+    is_inverted: bool,
+    most: u64,
+) -> (Result<(), SoundFault>, MemorySink<4000>) {
+    let sent = lone_tone();
+    let mut tx = MemorySource::new(&sent, 50, 1000);
+    let mut out = MemorySink::<4000>::new(1000, most);
+    let keying = Keying::new(2400, 2400, None, is_inverted).expect(rt, "a keying");
+    (run_wav(alloc, keying, &mut tx, &mut out), out)
+}
+
+#[test]
+fn a_lone_tone_is_keyed(rt: HostRuntime) -> Result<(), Fail> {
+    for (is_inverted, first) in [(false, SYNCHRONISATION), (true, INVERTED)] {
+        let (done, out) = keyed(&rt, rt.alloc(), is_inverted, 4000);
+        done.expect(&rt, "a sound");
+        let file = out.bytes();
+        assert_eq!(rt; file.len(), 3372);
+        assert_eq!(rt; file.get(..44), Some(&HEADER[..]));
+        assert_eq!(rt; file.get(1196..1212), Some(&first[..]));
+        assert!(rt; file.get(2284..).ok_or("silence")?.iter().all(|byte| *byte == 0));
+    }
+    Ok(())
+}
+
+#[test]
+fn a_failed_write_leaves_a_front(rt: HostRuntime) -> Result<(), Fail> {
+    let (_, whole) = keyed(&rt, rt.alloc(), false, 4000);
+    for most in [0, 43, 44, 2000, 3371] {
+        let (done, out) = keyed(&rt, rt.alloc(), false, most);
+        let fault = done.err().ok_or("a fault")?;
+        assert_eq!(rt; fault.status(), 3);
+        assert_eq!(rt; out.bytes(), whole.bytes().get(..most as usize).ok_or("a front")?);
+    }
+    Ok(())
+}

@@ -1,0 +1,5 @@
+pub mod Faults
+pub mod Keying
+pub mod Levels
+pub mod Wav
+pub mod Writing

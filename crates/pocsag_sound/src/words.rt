@@ -1,0 +1,69 @@
+//! The words of `wav`, and what help says of them.
+
+use pocsag_shell::{Content, FLAG, Given, LineWord, Shape, TX_PLACE};
+
+pub(crate) const WAV: &str = "wav";
+
+pub(crate) const BIT_RATE: &str = "rate";
+
+pub(crate) const SAMPLES: &str = "samples";
+
+pub(crate) const INVERT: &str = "invert";
+
+pub(crate) const LEAD: &str = "preamble";
+
+const WAV_MANUAL: &str = "\
+The sound goes to standard output: a WAV file of PCM samples, 16 bits and one
+channel. A bit 0 has a high level and a bit 1 a low one, and the time of one
+batch is silent at the end. Sample i belongs to bit i * R / S, rounded down.
+TX is read whole and judged as decode judges it before the first sample is
+written. '-' as TX is standard input.
+
+Example:
+  pocsag wav tx.bin > tx.wav
+  pocsag plan pages.csv - cert.bin | pocsag wav - --rate 512 | aplay";
+
+const BIT_RATE_OPTION: LineWord = LineWord {
+    id: BIT_RATE,
+    help: "Bits a second: 512, 1200 or 2400",
+    given: Given::Option("R", &["1200"]),
+    content: Content::Number,
+    ..FLAG
+};
+
+const SAMPLES_OPTION: LineWord = LineWord {
+    id: SAMPLES,
+    help: "Samples a second, from R to 192000",
+    given: Given::Option("S", &["48000"]),
+    content: Content::Number,
+    ..FLAG
+};
+
+const INVERT_FLAG: LineWord = LineWord {
+    id: INVERT,
+    help: "Makes a bit 0 low and a bit 1 high",
+    ..FLAG
+};
+
+const LEAD_OPTION: LineWord = LineWord {
+    id: LEAD,
+    help: "\
+Sends N bits of preamble in place of those of TX: 576 or
+more, a multiple of 8",
+    given: Given::Option("N", &[]),
+    content: Content::Number,
+    ..FLAG
+};
+
+pub(crate) const SOUND_COMMANDS: &[Shape] = &[Shape {
+    name: WAV,
+    about: "Writes a transmission as sound, for a transmitter or a receiver",
+    manual: Some(WAV_MANUAL),
+    words: &[
+        TX_PLACE,
+        BIT_RATE_OPTION,
+        SAMPLES_OPTION,
+        INVERT_FLAG,
+        LEAD_OPTION,
+    ],
+}];

@@ -1,0 +1,212 @@
+#!/usr/bin/env python3
+"""Runs `wav` of the compiled program: its header and each of its samples, beside those that are worked out here from the
+bits; every option with every other; what it refuses; pipes; and writes that fail.
+
+It takes the binary that the gate left in crates/pocsag_app/out. The last line is 'N passed, M failed'.
+"""
+
+import io
+import itertools
+import pathlib
+import random
+import resource
+import signal
+import struct
+import subprocess
+import sys
+import wave
+
+sys.dont_write_bytecode = True
+sys.path.insert(0, str(pathlib.Path(__file__).resolve().parents[1]))
+from tally import ENDS, PROGRAM, run_parts
+
+HEADER = b"address,kind,message\n"
+RATES = (512, 1200, 2400)
+SAMPLES = (2_400, 8_000, 22_050, 44_100, 48_000, 96_000, 192_000)
+SYNC, IDLE, TONE = (bytes.fromhex(word) for word in ("7CD215D8", "7A89C197", "000026EC"))
+# A tone in the first codeword of a batch.
+SENT = b"\xaa" * 72 + SYNC + TONE + 15 * IDLE
+ROUNDS = {
+    "a tone": b"8,tone0,\n",
+    "two pages": b"0,numeric,5550199\n11,alpha,\"Pump 4, hall B: pressure low\"\n",
+    "mixed": b"".join(b"%d,%s\n" % (5 * k, row) for k, row in enumerate((b"tone1,", b"numeric,]-[ U*", b"alpha,\x01~\x7f") * 4)),
+}
+# What the program says of words that it refuses.
+BAD_RATE, BAD_SAMPLES, BAD_PREAMBLE, TOO_LONG = (
+    "the rate must be 512, 1200 or 2400", "the samples a second must be from the rate to 192000",
+    "the preamble must have 576 bits or more, a multiple of 8", "the sound is too long for a WAV file",
+)  # fmt: skip
+
+
+def run(words, folder, stdin=b"", **more):
+    return subprocess.run([str(PROGRAM), "wav", *map(str, words)], input=stdin, capture_output=True, cwd=folder, timeout=110, **more)
+
+
+def fails(done, status, fault):
+    return (done.returncode, done.stdout, done.stderr) == (status, b"", b"pocsag: %s\n" % fault.encode())
+
+
+def samples_of(sent, rate, a_second, inverted=False, preamble=None):
+    """The samples of a transmission: sample i has the level of bit i * rate / a_second."""
+    if preamble is not None:
+        sent = b"\xaa" * (preamble // 8) + sent[sent.index(SYNC) :]
+    bits = [int(bit) for byte in sent for bit in f"{byte:08b}"]
+    levels = [(8_000 if bit == inverted else -8_000) for bit in bits] + 544 * [0]
+    count = -(-len(levels) * a_second // rate)
+    return [levels[index * rate // a_second] for index in range(count)]
+
+
+def is_sound(out, samples, a_second):
+    """Whether this is the WAV file of these samples, byte by byte and as Python's own reader has it."""
+    data = struct.pack(f"<{len(samples)}h", *samples)
+    with wave.open(io.BytesIO(out)) as file:
+        read = (file.getnchannels(), file.getsampwidth(), file.getframerate(), file.getnframes(), file.readframes(len(samples) + 1))
+    front = struct.pack("<4sI4s4sIHHIIHH4sI", b"RIFF", 36 + len(data), b"WAVE", b"fmt ", 16, 1, 1, a_second, 2 * a_second, 2, 16, b"data", len(data))
+    return out == front + data and read == (1, 2, a_second, len(samples), data)
+
+
+def planned(folder, records, end):
+    (folder / "pages.csv").write_bytes(HEADER + records)
+    subprocess.run([str(PROGRAM), "plan", "pages.csv", "tx.bin", "cert.bin", *ENDS[end]], cwd=folder, check=True, stdout=subprocess.DEVNULL)
+    return (folder / "tx.bin").read_bytes()
+
+
+def try_by_hand(tally, folder):
+    """A sample for each bit: the first 576 alternate, and those of 7CD215D8 follow."""
+    (folder / "tx.bin").write_bytes(SENT)
+    done = run(["tx.bin", "--rate", 2400, "--samples", 2400], folder)
+    tally.check("a lone tone", (done.returncode, done.stderr, len(done.stdout)) == (0, b"", 44 + 2 * (576 + 544 + 544)), done)
+    high, low = b"\x40\x1f", b"\xc0\xe0"
+    sync = [high if bit == "0" else low for bit in "01111100110100100001010111011000"]
+    tally.check("its preamble", done.stdout[44:1196] == 288 * (low + high))
+    tally.check("its first word", done.stdout[1196:1260] == b"".join(sync), done.stdout[1196:1260].hex())
+    tally.check("its silence", done.stdout[-1088:] == bytes(1088) and done.stdout[-1090:-1088] == low)
+    done = run(["tx.bin"], folder)
+    tally.check("1200 bit/s and 48000 samples by default", done.stdout == run(["tx.bin", "--rate", 1200, "--samples", 48_000], folder).stdout)
+
+
+def try_rounds(tally, folder):
+    """Each round at each rate and number of samples."""
+    for (name, records), end in itertools.product(ROUNDS.items(), ENDS):
+        sent = planned(folder, records, end)
+        for rate, a_second in itertools.product(RATES, {*SAMPLES}):
+            done = run(["tx.bin", "--rate", rate, "--samples", a_second], folder)
+            holds = (done.returncode, done.stderr) == (0, b"") and is_sound(done.stdout, samples_of(sent, rate, a_second), a_second)
+            tally.check(f"{name}, {end} end, {rate} bit/s, {a_second} samples", holds, (done.stderr, len(done.stdout)))
+
+
+def try_odd_numbers(tally, folder):
+    """Numbers of samples that no rate divides."""
+    chance = random.Random(20261126)
+    (folder / "tx.bin").write_bytes(SENT)
+    for rate in RATES:
+        for a_second in (rate, rate + 1, 2 * rate - 1, 191_999, *(chance.randint(rate, 192_000) for _ in range(20))):
+            done = run(["tx.bin", "--rate", rate, "--samples", a_second], folder)
+            tally.check(f"{rate} bit/s, {a_second} samples", is_sound(done.stdout, samples_of(SENT, rate, a_second), a_second), done.stderr)
+
+
+def try_options(tally, folder):
+    """Each option with each other, of a file and of standard input, and of transmissions with longer preambles."""
+    sent = {length: b"\xaa" * length + SENT[72:] for length in (72, 73, 200)}
+    for length, rate, a_second, inverted, preamble, is_piped, is_verbose in itertools.product(
+        sent, RATES, (22_050, 48_000), (False, True), (None, 576, 1_000, 4_096), (False, True), (False, True)
+    ):
+        (folder / "tx.bin").write_bytes(sent[length])
+        words = ["-" if is_piped else "tx.bin", "--rate", rate, "--samples", a_second]
+        words += ["--invert"] * inverted + (["--preamble", preamble] if preamble else []) + ["--verbose"] * is_verbose
+        done = run(words, folder, sent[length] if is_piped else b"")
+        samples = samples_of(sent[length], rate, a_second, inverted, preamble)
+        holds = (done.returncode, done.stderr) == (0, b"") and is_sound(done.stdout, samples, a_second)
+        tally.check(f"{length} bytes AA, {words}", holds, (done.stderr, len(done.stdout)))
+
+
+def try_words(tally, folder):
+    """Numbers that are refused before the file is opened, and words that are none."""
+    refused = [(BAD_RATE, ["--rate", rate]) for rate in (0, 1, 511, 513, 1_201, 4_294_967_295)]
+    refused += [(BAD_SAMPLES, ["--samples", a_second]) for a_second in (0, 1, 1_199, 192_001, 4_294_967_295)]
+    refused += [(BAD_SAMPLES, ["--rate", rate, "--samples", rate - 1]) for rate in RATES]
+    refused += [(BAD_PREAMBLE, ["--preamble", bits]) for bits in (0, 8, 568, 575, 577, 4_294_967_295)]
+    refused += [(BAD_RATE, ["--rate", 9, "--samples", 0, "--preamble", 0]), (BAD_SAMPLES, ["--samples", 0, "--preamble", 0])]
+    for fault, words in refused:
+        tally.check(f"refused {words}", fails(run(["none.bin", *words], folder), 1, fault), run(["none.bin", *words], folder))
+    usage = [
+        [], ["a", "b"], ["a", "--rate"], ["a", "--rate", "fast"], ["a", "--rate", "-1"], ["a", "--samples", "4294967296"],
+        ["a", "--preamble", "x"], ["a", "--preamble"], ["a", "--invert=yes"], ["a", "--repair"], ["a", "--rate", "512", "--rate", "512"],
+        ["a", "--end", "open"], ["a", "-"],
+    ]  # fmt: skip
+    for words in usage:
+        done = run(words, folder)
+        tally.check(f"usage {words}", (done.returncode, done.stdout) == (2, b"") and done.stderr.startswith(b"error: "), done)
+
+
+def try_refused(tally, folder):
+    """Bytes that are no transmission have the decoder's fault, and files have theirs."""
+    first, rest = SENT[:72], SENT[72:]
+    none = [
+        b"", b"x", first[:71] + rest, first, SENT[:-1], SENT + SYNC, first + IDLE + rest[4:], first + SYNC + b"\x12\x34\x56\x78" + rest[8:],
+        first + SYNC + bytes.fromhex("C44447B9") + rest[8:],
+    ]  # fmt: skip
+    for bytes_ in none:
+        decoded = subprocess.run([str(PROGRAM), "decode", "-"], input=bytes_, capture_output=True, timeout=60)
+        done = run(["-"], folder, bytes_)
+        holds = (done.returncode, done.stdout, done.stderr) == (1, b"", decoded.stderr) and decoded.returncode == 1
+        tally.check(f"no transmission: {bytes_[68:].hex()[:40]}", holds, (done, decoded))
+    for name in ("none.bin", "."):
+        done = run([name], folder)
+        tally.check(f"no file: {name}", fails(done, 3, "cannot read or open a file"), done)
+    with open(folder / "huge.bin", "wb") as huge:
+        huge.truncate(300_000_000)
+    tally.check("a file of 300 MB", fails(run(["huge.bin"], folder), 1, "the file is too large"))
+    (folder / "huge.bin").unlink()
+
+
+def try_lengths(tally, folder):
+    """The longest sound that a WAV file holds, of which the front is read, and longer ones."""
+    (folder / "tx.bin").write_bytes(SENT)
+    # 375 samples for each bit: 2,147,483,629 samples are the most
+    longest = (2_147_483_629 // 375 - 2 * 544) // 8 * 8
+    words = ["tx.bin", "--rate", 512, "--samples", 192_000, "--preamble"]
+    with subprocess.Popen([str(PROGRAM), "wav", *map(str, words), str(longest)], cwd=folder, stdout=subprocess.PIPE, stderr=subprocess.PIPE) as process:
+        front = process.stdout.read(44)
+        process.stdout.close()
+        told = process.stderr.read()
+    count = 375 * (longest + 2 * 544)
+    lengths = (int.from_bytes(front[4:8], "little"), int.from_bytes(front[40:44], "little"))
+    tally.check("the longest sound", lengths == (36 + 2 * count, 2 * count) and 2**32 - 6_000 < 36 + 2 * count < 2**32, lengths)
+    tally.check("its reader goes", (process.returncode, told) == (3, b""), (process.returncode, told))
+    for bits in (longest + 8, 4_294_967_288):
+        tally.check(f"{bits} bits of preamble", fails(run([*words, bits], folder), 1, TOO_LONG))
+
+
+def try_pipes(tally, folder):
+    """The line of the manual: a plan is keyed as it is made."""
+    (folder / "pages.csv").write_bytes(HEADER + ROUNDS["mixed"])
+    line = f"'{PROGRAM}' plan pages.csv - cert.bin 2> told | '{PROGRAM}' wav - --rate 512 | cat"
+    done = subprocess.run(["bash", "-o", "pipefail", "-c", line], cwd=folder, capture_output=True, timeout=60)
+    samples = samples_of(planned(folder, ROUNDS["mixed"], "open"), 512, 48_000)
+    tally.check("plan into wav", done.returncode == 0 and is_sound(done.stdout, samples, 48_000), done.stderr)
+
+
+def try_failing_writes(tally, folder):
+    """What was written before a write failed is a front of the sound."""
+    (folder / "tx.bin").write_bytes(SENT)
+    whole = run(["tx.bin"], folder).stdout
+    with open("/dev/full", "wb") as full:
+        done = subprocess.run([str(PROGRAM), "wav", "tx.bin"], stdout=full, stderr=subprocess.PIPE, cwd=folder, timeout=60)
+    tally.check("a full device", (done.returncode, done.stderr) == (3, b"pocsag: cannot write\n"), done)
+    for size in (0, 1, 43, 44, 45, 8_192, 100_001, len(whole) - 1, len(whole)):
+
+        def limit(size=size):
+            signal.signal(signal.SIGXFSZ, signal.SIG_IGN)
+            resource.setrlimit(resource.RLIMIT_FSIZE, (size, size))
+
+        with open(folder / "out.wav", "wb") as out:
+            done = subprocess.run([str(PROGRAM), "wav", "tx.bin"], stdout=out, stderr=subprocess.PIPE, cwd=folder, preexec_fn=limit, timeout=60)
+        due = (0, b"") if size == len(whole) else (3, b"pocsag: cannot write\n")
+        wrote = (folder / "out.wav").read_bytes()
+        tally.check(f"a disk of {size} bytes", (done.returncode, done.stderr) == due and wrote == whole[:size], (done, len(wrote)))
+
+
+if __name__ == "__main__":
+    parts = (try_by_hand, try_rounds, try_odd_numbers, try_options, try_words, try_refused, try_lengths, try_pipes, try_failing_writes)
+    sys.exit(run_parts(*parts))
