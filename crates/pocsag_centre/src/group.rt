@@ -85,14 +85,14 @@ fn plan_input(desk: Desk<'_>, strict: bool) -> Result<u8, CentreFault> {
         let _ = tell(&mut desk.err(), AT_TERMINAL);
     }
     let file = read_file(desk, Role::PageFile, None, FILE_LIMIT)?;
-    let done = counts_of(desk, strict, file.as_slice());
+    let done = pages_and_batches(desk, strict, file.as_slice());
     let (pages, batches) = noted(desk, None, file.as_slice(), done)?;
     tell_plan(pages, batches, &mut desk.out())?;
     Ok(0)
 }
 
 // The pages and the fewest batches of a page file.
-fn counts_of(desk: Desk<'_>, strict: bool, file: &[u8]) -> Result<(u32, u32), CentreFault> {
+fn pages_and_batches(desk: Desk<'_>, strict: bool, file: &[u8]) -> Result<(u32, u32), CentreFault> {
     if strict {
         strict_file(file)?;
     }
