@@ -34,7 +34,7 @@ only_read : (text : List ℕ) (row : Row) → next_record default_config st.Star
 unfolding records_from
 only_read text row e = rw (add-one, e, none_left (length text)) refl
 
-is_true : (b : Bool) (asked : Asked) (before after : List Page) → IsDone (cond b (Some asked) None) before after → b ≡ true
+pub is_true : (b : Bool) (asked : Asked) (before after : List Page) → IsDone (cond b (Some asked) None) before after → b ≡ true
 is_true true asked before after d = refl
 is_true false asked before after d = absurd d
 
