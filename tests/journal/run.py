@@ -213,6 +213,62 @@ def try_cuts(tally, folder):
         tally.check(f"cut at {length}, written anew", path.read_bytes() == anew, path.read_bytes())
 
 
+SECTOR = 512
+
+
+def try_lost_sectors(tally, folder):
+    """A last line of 4,000 letters, of which each sector in turn was not written: it is taken for none. The start reads the
+    lines before it, or refuses the journal, and then leaves it as it is."""
+    place = folder / "sectors"
+    place.mkdir()
+    path = place / "round.journal"
+    before = [b"add,%d,alpha,Ward %d" % (8 * number, number) for number in range(40)]
+    text = FIRST_LINE + b"".join(line + b"\n" for line in before)
+    start = len(text)
+    text += b"add,800,alpha,%s\n" % (b"w" * 4000)
+    bad = b"pocsag: journal line %d: no edit that the pages before it accept\n" % (len(before) + 2)
+    for sector in range(start // SECTOR, len(text) // SECTOR + 1):
+        low, high = max(start, sector * SECTOR), min(len(text), (sector + 1) * SECTOR)
+        path.write_bytes(text[:low] + bytes(high - low) + text[high:])
+        if high == len(text):
+            found, err = listed(place)
+            told = torn_line(len(text) - start, b"cut off") + read_line(len(before), len(before))
+            tally.check(f"sector {sector} lost, with the line feed", (found, err) == (listing(all_after(before)), told), (found, err))
+        else:
+            held = path.read_bytes()
+            found = run(place, [b"list"])
+            tally.check(f"sector {sector} lost", found == (b"", bad, 1) and path.read_bytes() == held, found)
+
+
+def traced(folder, words, lines):
+    """The calls by which a program brings files to the disk and renames them, in order."""
+    place = folder / "calls"
+    command = ["strace", "-f", "-y", "-o", str(place), "-e", "trace=fsync,fdatasync,rename,renameat,renameat2,link,linkat"]
+    done = subprocess.run([*command, str(PROGRAM), *words], input=lines, capture_output=True, cwd=folder, timeout=60)
+    calls = [line.split(maxsplit=1)[1].split("(")[0] for line in place.read_text().splitlines() if "(" in line]
+    place.unlink()
+    return done, ["rename" if call.startswith("rename") else call for call in calls if not call.startswith("link")]
+
+
+def try_synchronised(tally, folder):
+    """What is renamed into its place was brought to the disk before, and its name after; an edit is before its answer."""
+    if not shutil.which("strace"):
+        print("left out: the calls that synchronise, since there is no strace")
+        return
+    place = folder / "synchronised"
+    place.mkdir()
+    (place / "pages.csv").write_bytes(HEADER + b"8,tone0,\n")
+    both = ["fsync", "fsync", "rename", "rename", "fsync", "fsync"]
+    for number in range(2):
+        done, calls = traced(place, ["plan", "pages.csv", "t", "c", "--keep"], b"")
+        tally.check(f"synchronised: plan --keep {number}", done.returncode == 0 and calls == both, (done, calls))
+    anew = ["fsync", "rename", "fsync"]
+    done, calls = traced(place, ["open", "--journal", "j"], b"add,8,tone0,\nadd,8,tone0,\nadd,16,tone0,\nlist\n")
+    tally.check("synchronised: a journal", done.returncode == 0 and calls == anew + ["fdatasync"] * 2, (done, calls))
+    done, calls = traced(place, ["open", "--journal", "j", "--keep"], b"plan,t,c\n")
+    tally.check("synchronised: a plan of an open round", done.stdout == b"batches 1\n" and calls == anew + both, (done, calls))
+
+
 def try_bad_lines(tally, folder):
     """A line that is no edit, or none that is accepted, is told by its number, and the file stays as it is."""
     place = folder / "bad"
@@ -703,7 +759,7 @@ def try_growth(tally, folder):
 
 
 def main():
-    return run_parts(try_first_use, try_kills, try_cuts, try_bad_lines, try_others, try_harms, try_rights, try_read_only, try_use, try_full_disk, try_full_system, try_verbose, try_verbose_later, try_many, try_growth)
+    return run_parts(try_first_use, try_kills, try_cuts, try_lost_sectors, try_synchronised, try_bad_lines, try_others, try_harms, try_rights, try_read_only, try_use, try_full_disk, try_full_system, try_verbose, try_verbose_later, try_many, try_growth)
 
 
 if __name__ == "__main__":

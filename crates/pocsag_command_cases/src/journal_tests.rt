@@ -65,7 +65,10 @@ fn keep(alloc: Global, disk: MemoryDisk, lines: &[u8]) -> Result<Left, JournalFa
         effort: Effort::Fewest,
     };
     let book = Book::new(alloc);
-    let keeper = Journal::write_anew(alloc, disk, &book)?;
+    let keeper = match Journal::write_anew(alloc, disk, &book) {
+        Ok(keeper) => keeper,
+        Err((fault, _disk)) => return Err(fault),
+    };
     let mut round = OpenRound { book, keeper };
     let mut input = MemorySource::new(lines, 7, u64::MAX);
     let mut answers = MemorySink::new(5, u64::MAX);
@@ -175,7 +178,7 @@ fn edits_are_kept_before_they_are_answered(rt: HostRuntime) -> Result<(), Fail> 
         };
         assert_eq!(rt; left.done, done);
         assert_eq!(rt; left.answers.bytes(), due.answers.as_slice());
-        assert_eq!(rt; left.disk.safe(), due.safe.as_slice());
+        assert_eq!(rt; left.disk.synced(), due.safe.as_slice());
         assert_eq!(rt; left.disk.syncs(), due.syncs);
     }
     let none = keep(alloc, MemoryDisk::new(alloc, 1000, 0), lines.as_slice());

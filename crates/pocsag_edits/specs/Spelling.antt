@@ -72,3 +72,9 @@ record_text line = strip_bom (without_return line)
 -- No byte is a line feed.
 abbrev pub HasNoLineFeed : List ℕ → Type 0
 HasNoLineFeed bytes = AllByRecursion (λ b. b ≢ line_feed) bytes
+
+-- Bytes without a line feed, and a line feed.
+pub record IsWholeLine (line : List ℕ) : Type 0 where
+  pub body : List ℕ
+  pub parts : line ≡ body ++ line_feed ∷ []
+  pub one : HasNoLineFeed body

@@ -15,11 +15,11 @@ use Rattle.pocsag_pages.specs.PageFile.{Row, only_row, rows_of}
 use Rattle.pocsag_pages.specs.declared.page.Page.{Page}
 use Rattle.pocsag_edits.specs.Runs.{Asked, IsDone, IsEdit, IsRefusedFor, IsRun, asked_of, wants_memory}
 use Rattle.pocsag_edits.specs.declared.refusal.Refusal.{Refusal}
-use Rattle.pocsag_edits.specs.Spelling.{HasNoLineFeed}
+use Rattle.pocsag_edits.specs.Spelling.{HasNoLineFeed, IsWholeLine}
 use Rattle.pocsag_edits.specs.Runs.{first_record}
 use Rattle.pocsag_edits.proofs.Fields.{is_word}
 use Rattle.pocsag_edits.proofs.RowTexts.{none_left}
-use Rattle.pocsag_journal.specs.Journals.{IsBadLine, IsFirstCut, IsLine, IsWholeLine, MakesLine, Replays, journal_text, rows_text}
+use Rattle.pocsag_journal.specs.Journals.{IsBadLine, IsFirstCut, IsLine, MakesLine, Replays, journal_text, rows_text}
 use Rattle.pocsag_journal.proofs.EditRuns.{run_on}
 use Rattle.pocsag_journal.proofs.Prefixes.{all_more, journal_more, short}
 use Rattle.pocsag_journal.proofs.TextLines.{back_is, first_line}
@@ -34,7 +34,7 @@ only_read : (text : List ℕ) (row : Row) → next_record default_config st.Star
 unfolding records_from
 only_read text row e = rw (add-one, e, none_left (length text)) refl
 
-is_true : (b : Bool) (asked : Asked) (before after : List Page) → IsDone (cond b (Some asked) None) before after → b ≡ true
+pub is_true : (b : Bool) (asked : Asked) (before after : List Page) → IsDone (cond b (Some asked) None) before after → b ≡ true
 is_true true asked before after d = refl
 is_true false asked before after d = absurd d
 

@@ -1,17 +1,24 @@
 -- What a journal stands for once an edit more is kept.
-use Rattle.std.proofs.Common.{◌≡◌, ℕ, ◌-◌, arith, List, [], ◌∷◌, ◌++◌, length, refl, sym, ap, ◌∙◌, subst}
+use Rattle.std.proofs.Common.{◌≡◌, ◌≢◌, inl, inr, false, true≢false, ℕ, ◌-◌, arith, List, [], ◌∷◌, ◌++◌, length, refl, sym, ap, ◌∙◌, subst}
 use Rattle.std.proofs.lemmas.List.{append-nil, length-append}
 use Rattle.std.specs.Prelude.{Some, slice_get}
 use Rattle.std.specs.List.{AllByRecursion}
 use Rattle.std.proofs.lemmas.Option.{same_Some}
+use Rattle.std.specs.Fmt.{decimal}
 use Rattle.csv.specs.Writing.{default_writer, row_text}
 use Rattle.pocsag_pages.specs.PageFile.{Row}
 use Rattle.pocsag_pages.specs.declared.page.Page.{Page}
+use Rattle.pocsag_decode.specs.Listing.{kind_field}
+use Rattle.pocsag_decode.specs.PageFiles.{whole_message}
 use Rattle.pocsag_edits.specs.Edited.{IsAdded}
-use Rattle.pocsag_edits.specs.Runs.{IsEdit, IsRun, asked_of}
+use Rattle.pocsag_edits.specs.Runs.{IsEdit, IsRefusedFor, IsRun, asked_of, wants_memory}
+use Rattle.pocsag_edits.specs.declared.refusal.Refusal.{Refusal}
 use Rattle.pocsag_edits.specs.Runs.{first_record}
-use Rattle.pocsag_journal.specs.Journals.{AddsLine, IsAdd, IsWholeLine, ListsPages, StandsFor, rows_text}
-use Rattle.pocsag_journal.proofs.EditRuns.{run_on}
+use Rattle.pocsag_edits.specs.Spelling.{IsWholeLine}
+use Rattle.pocsag_journal.specs.Journals.{AddsLine, IsAdd, ListsPages, StandsFor, add_record, rows_text}
+use Rattle.pocsag_journal.specs.Faults.{IsUnspelled}
+use Rattle.pocsag_journal.proofs.EditRuns.{edit_once, run_on}
+use Rattle.pocsag_journal.proofs.TextLines.{same_row}
 use Rattle.pocsag_journal.proofs.Prefixes.{all_more, journal_more}
 use Rattle.pocsag_journal.proofs.Replaying.{edit_some}
 
@@ -24,19 +31,58 @@ stands_on text later row before after stands line edit e = record {
   run = run_on stands.rows row [] before after stands.run edit;
 }
 
+at_end : (before : List Page) (page : Page) → slice_get (before ++ page ∷ []) (length before) ≡ Some page
+at_end [] page = refl
+at_end (b ∷ before) page = at_end before page
+
+-- the record of a page adds one
+pub added_row : (row : Row) (page : Page) → row ≡ add_record page → IsAdd row
+added_row row page e = record {
+  address = decimal page.address;
+  kind = kind_field page.function page.payload;
+  message = whole_message page.function page.payload;
+  fields = e;
+}
+
+-- the page has no line where its record is none, or is no edit of these pages
+pub no_line : (row : Row) (line : List ℕ) (before : List Page) (page : Page) → row ≡ add_record page → line ≡ row_text default_writer row →
+    (¬ IsWholeLine line) → IsUnspelled before page
+no_line row line before page e text none adds =
+    none (subst IsWholeLine (adds.text ∙ ap (row_text default_writer) (sym e) ∙ sym text) adds.one.line)
+
+same_add : (row : Row) (before : List Page) (page : Page) (after : List Page) → row ≡ add_record page →
+    AddsLine (row_text default_writer (add_record page)) before page after → IsEdit row before after
+same_add row before page after e adds =
+    let some : add_record page ≢ [] = λ none. cc none in
+    subst (λ (r : Row). IsEdit r before after) (same_row adds.row (add_record page) adds.one.some some adds.text ∙ sym e) adds.edit
+
+pub no_edit : (row : Row) (before : List Page) (page : Page) → row ≡ add_record page →
+    ((after : List Page) → ¬ IsEdit row before after) → IsUnspelled before page
+no_edit row before page e none adds = none (before ++ page ∷ []) (same_add row before page (before ++ page ∷ []) e adds)
+
+pub not_refused : (row : Row) (pages : List Page) (why : Refusal) → IsRefusedFor row pages why → wants_memory why ≡ false →
+    (after : List Page) → ¬ IsEdit row pages after
+not_refused row pages why (inl wants) e after edit = true≢false (sym wants ∙ e)
+not_refused row pages why (inr none) e after edit = none after edit
+
+-- or adds another
+pub no_last : (row : Row) (before after : List Page) (page : Page) → row ≡ add_record page → IsEdit row before after →
+    (slice_get after (length after - 1) ≢ Some page) → IsUnspelled before page
+no_last row before after page e edit other adds =
+    let same = edit_once row before after (before ++ page ∷ []) edit (same_add row before page (before ++ page ∷ []) e adds) in
+    let place : length (before ++ page ∷ []) - 1 ≡ length before = rw (length-append before (page ∷ [])) (omega arith) in
+    other
+    (ap (λ (ps : List Page). slice_get ps (length ps - 1)) same ∙ ap (λ (n : ℕ). slice_get (before ++ page ∷ []) n) place ∙ at_end before page)
+
 -- an edit that adds puts a page behind the others
-abbrev Behind : (before after : List Page) → Type 0
+abbrev pub Behind : (before after : List Page) → Type 0
 Behind before after = (page : Page) × (after ≡ before ++ page ∷ [])
 
-added_behind : (row : Row) (before after : List Page) → IsAdd row → IsEdit row before after → Behind before after
+pub added_behind : (row : Row) (before after : List Page) → IsAdd row → IsEdit row before after → Behind before after
 unfolding asked_of
 added_behind row before after adds edit =
     let d : IsAdded adds.address adds.kind adds.message before after = subst (λ (r : Row). IsEdit r before after) adds.fields edit in
     (d.page, d.behind)
-
-at_end : (before : List Page) (page : Page) → slice_get (before ++ page ∷ []) (length before) ≡ Some page
-at_end [] page = refl
-at_end (b ∷ before) page = at_end before page
 
 last_is : (before after : List Page) (page other : Page) → after ≡ before ++ page ∷ [] → slice_get after (length after - 1) ≡ Some other →
     after ≡ before ++ other ∷ []

@@ -1,5 +1,5 @@
 -- Lines of a text, and the records that they are.
-use Rattle.std.proofs.Common.{◌≡◌, ◌≢◌, ℕ, zero, suc, ◌+◌, ◌<◌, List, [], ◌∷◌, ◌++◌, length, take, arith, add-one, refl, sym, ap, ◌∙◌, append_assoc, Some}
+use Rattle.std.proofs.Common.{◌≡◌, ◌≢◌, ℕ, zero, suc, ◌+◌, ◌<◌, List, [], ◌∷◌, ◌++◌, length, take, arith, add-one, refl, sym, ap, ◌∙◌, subst, append_assoc, append-nil, Some, Bool, true, ◌==◌}
 use Rattle.std.proofs.lemmas.Bool.{eqb-true}
 use Rattle.std.specs.Prelude.{Option, None, codes, slice_index}
 use Rattle.memchr.specs.Find.{NoneBefore, Passes, is_byte}
@@ -10,10 +10,10 @@ use Rattle.csv.specs.Writing.{default_writer, fields_text, is_blank, read_back, 
 use Rattle.csv.specs.declared.parser.State.TheVariants as st
 use Rattle.csv.proofs.RoundTrip.{read-write}
 use Rattle.pocsag_pages.specs.PageFile.{Row}
-use Rattle.pocsag_edits.specs.Spelling.{HasNoLineFeed}
+use Rattle.pocsag_edits.specs.Spelling.{HasNoLineFeed, IsWholeLine}
 use Rattle.pocsag_edits.proofs.LineFeeds.{none_found}
 use Rattle.pocsag_edits.specs.Runs.{first_record}
-use Rattle.pocsag_journal.specs.Journals.{IsLine, IsWholeLine, rows_text}
+use Rattle.pocsag_journal.specs.Journals.{IsLine, rows_text}
 
 -- two texts that begin with a line each and are equal begin with the same line
 pub split_lines : (a b xs ys : List ℕ) → HasNoLineFeed a → HasNoLineFeed b → a ++ line_feed ∷ xs ≡ b ++ line_feed ∷ ys →
@@ -53,7 +53,7 @@ same_row a b m n e =
     ∙ back_is b n
 
 -- a whole line in front
-at_line : (line rest body : List ℕ) → line ≡ body ++ line_feed ∷ [] → line ++ rest ≡ body ++ line_feed ∷ rest
+pub at_line : (line rest body : List ℕ) → line ≡ body ++ line_feed ∷ [] → line ++ rest ≡ body ++ line_feed ∷ rest
 at_line line rest body e = ap (λ (l : List ℕ). l ++ rest) e ∙ append_assoc body (line_feed ∷ []) rest
 
 -- two texts that begin with a whole line each and are equal begin with the same line
@@ -64,6 +64,20 @@ same_line a b xs ys p q e =
 
 pub no_whole_line : (a xs torn : List ℕ) → IsWholeLine a → HasNoLineFeed torn → a ++ xs ≡ torn → ⊥
 no_whole_line a xs torn p n e = no_line p.body xs torn n (sym (at_line a xs p.body p.parts) ∙ e)
+
+-- a whole line is all of a whole line, and the other way round
+pub nothing_behind : (bytes line rest : List ℕ) → bytes ≡ line ++ rest → IsWholeLine line → IsWholeLine bytes → rest ≡ []
+nothing_behind bytes line rest e p q = (same_line line bytes rest [] p q (sym e ∙ sym (append-nil bytes))).1
+
+pub alone : (bytes line rest : List ℕ) → bytes ≡ line ++ rest → IsWholeLine line → rest ≡ [] → IsWholeLine bytes
+alone bytes line rest e p none = subst IsWholeLine (sym (e ∙ ap (λ (l : List ℕ). line ++ l) none ∙ append-nil line)) p
+
+pub is_none : (xs : List ℕ) (b : Bool) → b ≡ (length xs == 0) → b ≡ true → xs ≡ []
+is_none [] b e t = refl
+is_none (x ∷ xs) b e t = let none : length (x ∷ xs) ≡ 0 = eqb-true _ 0 (sym e ∙ t) in absurd (omega (arith, none))
+
+pub none_is : (xs : List ℕ) (b : Bool) → b ≡ (length xs == 0) → xs ≡ [] → b ≡ true
+none_is xs b e none = e ∙ ap (λ (l : List ℕ). length l == 0) none
 
 -- what is left of records and a text once the first of them are known
 pub record Left (done rows : List Row) (rest torn : List ℕ) : Type 0 where

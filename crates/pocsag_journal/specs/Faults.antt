@@ -1,11 +1,13 @@
--- Why a journal is not read, and when.
-use Rattle.std.specs.Prelude.{ℕ, ◌<◌, List, length}
+-- Why a journal is not read or written, and when.
+use Rattle.std.specs.Prelude.{◌≡◌, ℕ, ◌+◌, ◌<◌, List, [], ◌∷◌, ◌++◌, length}
+use Rattle.csv.specs.Writing.{default_writer, row_text}
 use Rattle.pocsag_words.specs.Devices.{HasFailed}
 use Rattle.pocsag_pages.specs.declared.fault.WholeFault.{WholeFault}
 use Rattle.pocsag_pages.specs.declared.fault.WholeFault.TheVariants as whole
+use Rattle.pocsag_pages.specs.declared.page.Page.{Page}
 use Rattle.pocsag_journal.specs.declared.fault.JournalFault.{JournalFault}
 use Rattle.pocsag_journal.specs.declared.fault.JournalFault.TheVariants as fault
-use Rattle.pocsag_journal.specs.Journals.{IsBadLine, IsBegun, NamesFormat, journal_limit}
+use Rattle.pocsag_journal.specs.Journals.{AddsLine, IsBadLine, IsBegun, NamesFormat, add_record, journal_limit}
 
 abbrev pub fault_of_reading : WholeFault → JournalFault
 fault_of_reading whole.ReadFault = fault.ReadFault
@@ -41,3 +43,27 @@ IsToldOf (fault.BadLine n) = ⊥
 IsToldOf (fault.NoLine n) = ⊥
 IsToldOf fault.WriteFault = ⊥
 IsToldOf _ = Unit {0}
+
+-- The record of the page, as a page file spells it, is no line that adds it behind these pages.
+abbrev pub IsUnspelled : (before : List Page) → Page → Type 0
+IsUnspelled before page = ¬ AddsLine (row_text default_writer (add_record page)) before page (before ++ page ∷ [])
+
+-- No line of a journal adds the page of this number, from 1, behind the pages before it.
+pub record HasNoLine (pages : List Page) (number : ℕ) : Type 0 where
+  pub before : List Page
+  pub page : Page
+  pub rest : List Page
+  pub parts : pages ≡ before ++ page ∷ rest
+  pub place : number ≡ length before + 1
+  pub none : IsUnspelled before page
+
+-- Why there is no text of the pages: one has no line, or memory was wanting.
+abbrev pub ExplainsText : List Page → JournalFault → Type 0
+ExplainsText pages (fault.NoLine n) = HasNoLine pages n
+ExplainsText pages fault.OutOfMemory = Unit {0}
+ExplainsText pages _ = ⊥
+
+-- Why a journal of the pages is not written: the same, or the disk failed, between these two counts of failures.
+abbrev pub ExplainsAnew : List Page → (failures_before failures_after : ℕ) → JournalFault → Type 0
+ExplainsAnew pages before after fault.WriteFault = HasFailed before after
+ExplainsAnew pages before after f = ExplainsText pages f

@@ -1,5 +1,5 @@
 -- When a journal is written anew, and how long its lines are (this project's own).
-use Rattle.std.specs.Prelude.{◌≡◌, ℕ, ◌+◌, ◌*◌, ◌/◌, ◌<◌, ◌≤◌, List, length}
+use Rattle.std.specs.Prelude.{◌≡◌, ℕ, ◌+◌, ◌*◌, ◌/◌, ◌<◌, ◌≤◌, Bool, true, false, List, length}
 use Rattle.pocsag_pages.specs.declared.page.Page.{Page}
 use Rattle.pocsag_journal.specs.Journals.{ListsPages}
 
@@ -25,13 +25,25 @@ pub record IsDue (counted bytes : ℕ) : Type 0 where
   pub long : least_anew < bytes
   pub grown : counted + counted / growth_parts < bytes
 
--- What a journal holds between two edits. It stays as it is where it is not due, or where it has at most four times the
--- bytes of a text that adds its pages, a line for each; otherwise it is such a text.
-pub data IsSettled (pages : List Page) (counted : ℕ) (before after : List ℕ) : Type 0 where
-  early : ¬ IsDue counted (length before) → after ≡ before → IsSettled pages counted before after
+-- *Settled*: what a journal holds between two edits, and how many bytes it had when what its pages need was counted last.
+-- It stays as it is where it is not due, or where it has at most four times the bytes of a text that adds its pages, a line for
+-- each; otherwise it is such a text.
+pub data IsSettled (pages : List Page) (counted later : ℕ) (before after : List ℕ) : Type 0 where
+  early : ¬ IsDue counted (length before) → after ≡ before → later ≡ counted → IsSettled pages counted later before after
   small :
-      (text : List ℕ) → ListsPages text pages → length before ≤ times_needed * length text → after ≡ before →
-      IsSettled pages counted before after
+      (text : List ℕ) → IsDue counted (length before) → ListsPages text pages → length before ≤ times_needed * length text → after ≡ before →
+      later ≡ length before → IsSettled pages counted later before after
   anew :
-      IsDue counted (length before) → times_needed * length after < length before → ListsPages after pages →
-      IsSettled pages counted before after
+      IsDue counted (length before) → times_needed * length after < length before → ListsPages after pages → later ≡ length after →
+      IsSettled pages counted later before after
+
+-- *Put off*: it is due and stays as it is, until it has grown again.
+pub record IsPutOff (counted later : ℕ) (before after : List ℕ) : Type 0 where
+  pub due : IsDue counted (length before)
+  pub same : after ≡ before
+  pub counts : later ≡ length before
+
+-- It is settled, or where that was not done, it is put off.
+abbrev pub SettlesAs : Bool → List Page → (counted later : ℕ) → (before after : List ℕ) → Type 0
+SettlesAs true pages counted later before after = IsSettled pages counted later before after
+SettlesAs false pages counted later before after = IsPutOff counted later before after

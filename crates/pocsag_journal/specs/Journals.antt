@@ -1,11 +1,11 @@
 -- *Journal*: the text that an open round is kept in, and what bytes read as (the format is this project's own).
 use Rattle.std.specs.Prelude.{◌≡◌, ◌≢◌, ◌⊎◌, ℕ, ◌+◌, Bool, true, false, List, [], ◌∷◌, ◌++◌, length, codes}
 use Rattle.std.specs.List.{AllByRecursion}
-use Rattle.csv.specs.Machine.{line_feed}
 use Rattle.csv.specs.Writing.{default_writer, row_text}
 use Rattle.pocsag_pages.specs.PageFile.{Row}
 use Rattle.pocsag_pages.specs.declared.page.Page.{Page}
-use Rattle.pocsag_edits.specs.Spelling.{HasNoLineFeed}
+use Rattle.pocsag_decode.specs.PageFiles.{page_record}
+use Rattle.pocsag_edits.specs.Spelling.{HasNoLineFeed, IsWholeLine}
 use Rattle.pocsag_edits.specs.Runs.{IsEdit, IsRun, first_record}
 
 -- The most bytes of a journal that is read.
@@ -20,12 +20,6 @@ rows_text (row ∷ rows) = row_text default_writer row ++ rows_text rows
 -- *Journal text*: the first record, and then those of the edits.
 abbrev pub journal_text : List Row → List ℕ
 journal_text rows = row_text default_writer first_record ++ rows_text rows
-
--- Bytes without a line feed, and a line feed.
-pub record IsWholeLine (line : List ℕ) : Type 0 where
-  pub body : List ℕ
-  pub parts : line ≡ body ++ line_feed ∷ []
-  pub one : HasNoLineFeed body
 
 -- The record has a field, and its text is one line.
 pub record IsLine (row : Row) : Type 0 where
@@ -98,6 +92,10 @@ pub record IsAdd (row : Row) : Type 0 where
   pub kind : List ℕ
   pub message : List ℕ
   pub fields : row ≡ codes "add" ∷ address ∷ kind ∷ message ∷ []
+
+-- The record that adds a page, as a page file spells it.
+abbrev pub add_record : Page → Row
+add_record page = codes "add" ∷ page_record page
 
 -- The line is the text of a record that adds this page behind the others.
 pub record AddsLine (line : List ℕ) (before : List Page) (page : Page) (after : List Page) : Type 0 where

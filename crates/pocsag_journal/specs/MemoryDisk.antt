@@ -2,21 +2,17 @@
 use Rattle.std.specs.Prelude.{ℕ, List, take}
 use Rattle.pocsag_journal.specs.declared.memory_disk.MemoryDisk.{MemoryDisk}
 
--- The bytes that it holds, and those of them that no crash takes away.
-abbrev pub disk_taken : MemoryDisk → List ℕ
-disk_taken disk = disk.bytes.items
+-- The bytes that it holds, and those of them that were there at the last `sync` or `replace`.
+abbrev pub disk_held : MemoryDisk → List ℕ
+disk_held disk = disk.bytes.items
 
-abbrev pub disk_safe : MemoryDisk → List ℕ
-disk_safe disk = take disk.safe disk.bytes.items
+abbrev pub disk_synced : MemoryDisk → List ℕ
+disk_synced disk = take disk.synced disk.bytes.items
 
--- How many calls of `write` there were, and how many of these failed.
-abbrev pub disk_calls : MemoryDisk → ℕ
-disk_calls disk = disk.calls
-
+-- How many calls failed, and how many calls of `sync` there were.
 abbrev pub disk_failures : MemoryDisk → ℕ
 disk_failures disk = disk.failures
 
--- How many calls of `sync` there were.
 abbrev pub disk_syncs : MemoryDisk → ℕ
 disk_syncs disk = disk.syncs
 

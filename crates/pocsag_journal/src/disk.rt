@@ -1,22 +1,61 @@
-ghost use Rattle.std.specs.Prelude.{◌≡◌, ◌⊎◌, ℕ, List, OnErr, OnOk};
+ghost use Rattle.std.specs.Prelude.{◌≡◌, ◌≤◌, ◌++◌, ℕ, List, OnOk};
+ghost use Rattle.pocsag_words.specs.Devices.{CountsFailures, Delivers};
+ghost use Rattle.pocsag_edits.specs.Moments.{Elapses, IsSafe};
+ghost use Rattle.pocsag_journal.specs.Crashes.{IsTorn, LeavesAfter, LeavesOr};
 
-use pocsag_words::{DeviceFault, Sink};
+use pocsag_words::DeviceFault;
 
-/// What a journal is written to: it takes bytes behind those that it holds, and puts them where no crash takes them
-/// away.
-pub trait Disk: Sink {
-    // The bytes that no crash takes away.
-    ghost safe: { Self → List ℕ };
+/// What a journal is on, as a file of a disk is: it holds bytes, and at any moment, during a call or between two, it may
+/// crash, which leaves some of what was written.
+pub trait Disk {
+    // Whether contracts know its bytes.
+    ghost tells: { Type 0 };
 
-    /// Puts what was taken where no crash takes it away.
+    // The bytes that it holds.
+    ghost held: { Self → List ℕ };
+
+    // What a crash at this moment may leave.
+    ghost may_leave: { Self → List ℕ → Type 0 };
+
+    // This moment, as a number that does not fall.
+    ghost moment: { Self → ℕ };
+
+    // What a crash at some moment from that one on might have left, during a call or between two.
+    ghost left_since: { Self → ℕ → List ℕ → Type 0 };
+
+    // How many of its calls failed; it stays at its greatest value.
+    ghost failures: { Self → ℕ };
+
+    // This moment is one of those since an earlier one, and since this moment there is no other.
+    ghost counts_now: { (disk : Self) (t : ℕ) (left : List ℕ) → tells → t ≤ moment disk → may_leave disk left →
+        left_since disk t left };
+
+    ghost only_now: { (disk : Self) (left : List ℕ) → tells → left_since disk (moment disk) left →
+        may_leave disk left };
+
+    /// Writes a line behind what it holds. Before `sync` a crash may leave the line torn.
+    fn append(&mut self, line: &[u8]) -> Result<(), DeviceFault>
+        ensures delivers { tells → Delivers result (held self.old) (held self.new) line.now }
+        ensures crash { tells → LeavesAfter (IsTorn line.now) (may_leave self.old) (may_leave self.new) }
+        ensures time { tells → Elapses (moment self.old) (moment self.new)
+            (left_since self.old) (left_since self.new) (may_leave self.new) }
+        ensures failures { tells → CountsFailures result (failures self.old) (failures self.new) };
+
+    /// Puts all that it holds where no crash takes it away.
     fn sync(&mut self) -> Result<(), DeviceFault>
-        ensures safe { Self.tells → OnOk result (safe self.new ≡ Self.taken self.new) }
-        ensures same { Self.tells → Self.taken self.new ≡ Self.taken self.old };
+        ensures safe { tells → OnOk result (IsSafe (held self.new) (may_leave self.new)) }
+        ensures same { tells → held self.new ≡ held self.old }
+        ensures crash { tells → (left : List ℕ) → may_leave self.new left → may_leave self.old left }
+        ensures time { tells → Elapses (moment self.old) (moment self.new)
+            (left_since self.old) (left_since self.new) (may_leave self.new) }
+        ensures failures { tells → CountsFailures result (failures self.old) (failures self.new) };
 
-    /// Puts a text in the place of all that it holds, at once: after a fault it holds the one or the other.
+    /// Puts a text in the place of all that it holds, at once: a crash leaves the one or the other.
     fn replace(&mut self, text: &[u8]) -> Result<(), DeviceFault>
-        ensures taken { Self.tells → OnOk result (Self.taken self.new ≡ text.now) }
-        ensures safe { Self.tells → OnOk result (safe self.new ≡ text.now) }
-        ensures either { Self.tells → OnErr result
-            ((Self.taken self.new ≡ Self.taken self.old) ⊎ (Self.taken self.new ≡ text.now)) };
+        ensures held { tells → OnOk result (held self.new ≡ text.now) }
+        ensures safe { tells → OnOk result (IsSafe text.now (may_leave self.new)) }
+        ensures crash { tells → LeavesOr text.now (may_leave self.old) (may_leave self.new) }
+        ensures time { tells → Elapses (moment self.old) (moment self.new)
+            (left_since self.old) (left_since self.new) (may_leave self.new) }
+        ensures failures { tells → CountsFailures result (failures self.old) (failures self.new) };
 }

@@ -1,59 +1,63 @@
-ghost use Rattle.std.specs.Prelude.{◌≡◌, ◌≢◌, IfErr, IfOk, OnOk};
-ghost use Rattle.pocsag_journal.specs.Growth.{IsSettled};
+ghost use Rattle.std.specs.Prelude.{◌≡◌, ◌⊎◌, IfErr, IfOk};
+ghost use Rattle.pocsag_edits.specs.Moments.{IsSafe, LeavesOnly};
+ghost use Rattle.pocsag_journal.specs.Crashes.{RestartsAs};
+ghost use Rattle.pocsag_journal.specs.Faults.{ExplainsAnew};
 ghost use Rattle.pocsag_journal.specs.Journals.{ListsPages};
-ghost use Rattle.pocsag_journal.specs.Keeping.{IsMeasured, counted_of, disk_of};
+ghost use Rattle.pocsag_journal.specs.Keeping.{IsMeasured, counted_of, disk_of, journal_length};
 
 use crate::anew::text_of_pages;
 use crate::disk::Disk;
 use crate::fault::JournalFault;
 use crate::lines::is_one_line;
 use crate::replay::JOURNAL_LIMIT;
+use crate::sizes::Sizes;
 use crate::text::row_line;
 use csv::ByteRecord;
 use pocsag_edits::Keeper;
 use pocsag_plan::Book;
 use pocsag_shell::FileFault;
-use pocsag_words::write_all;
 use std::alloc::Global;
 
-// A journal of at most so many bytes stays as it is while its round is open.
-const LEAST_ANEW: usize = 1_048_576;
-
-// A longer one is written anew where it has more than so many times the bytes that its pages need.
+// A journal that is due is written anew where it has more than so many times the bytes that its pages need.
 const TIMES_NEEDED: usize = 4;
-
-// What they need is counted once it has grown by one part in so many, so that counting costs each edit the same.
-const GROWTH_PARTS: usize = 8;
 
 /// The journal of an open round, on a disk that holds it.
 #[derive(Drop)]
 pub struct Journal<D: Disk + Drop> {
     disk: D,
-    // How many bytes it has, and how many it had when what its pages need was counted last.
-    len: usize,
-    counted: usize,
+    sizes: Sizes,
 }
 
 impl<D: Disk + Drop> Journal<D> {
-    /// Writes the journal of a round anew, in the place of all that the disk holds.
-    pub fn write_anew(alloc: Global, mut disk: D, book: &Book) -> Result<Journal<D>, JournalFault>
-        ensures adds { D.tells → IfOk result (λ journal. ListsPages (D.taken (disk_of journal)) book.now) }
-        ensures safe { D.tells → IfOk result (λ journal. D.safe (disk_of journal) ≡ D.taken (disk_of journal)) }
-        ensures counted { D.tells → IfOk result (λ journal. IsMeasured journal (D.taken (disk_of journal))) }
+    /// Writes the journal of a round anew, in the place of all that the disk holds. A fault gives the disk back.
+    pub fn write_anew(
+        alloc: Global,
+        mut disk: D,
+        book: &Book,
+    ) -> Result<Journal<D>, (JournalFault, D)>
+        ensures adds { D.tells → IfOk result (λ journal. ListsPages (D.held (disk_of journal)) book.now) }
+        ensures safe { D.tells → IfOk result
+            (λ journal. IsSafe (D.held (disk_of journal)) (D.may_leave (disk_of journal))) }
+        ensures measured { D.tells → IfOk result (λ journal. IsMeasured journal (D.held (disk_of journal))) }
+        ensures counted { IfOk result (λ journal. counted_of journal ≡ journal_length journal) }
+
+        // A crash at any moment of it leaves what one before might have left, or what is read as the pages of the round.
+        ensures any_moment { D.tells → IfOk result (λ journal. LeavesOnly D.moment D.left_since disk (disk_of journal)
+            (λ left. D.may_leave disk left ⊎ RestartsAs left book.now)) }
+        ensures any_moment_err { D.tells → IfErr result (λ e. LeavesOnly D.moment D.left_since disk e.1
+            (λ left. D.may_leave disk left ⊎ RestartsAs left book.now)) }
+        ensures explained { D.tells → IfErr result
+            (λ e. ExplainsAnew book.now (D.failures disk) (D.failures e.1) e.0) }
     {
-        let text = text_of_pages(alloc, book.pages())?;
-        let len = text.len();
-        if len > JOURNAL_LIMIT {
-            return Err(JournalFault::TooLarge);
-        }
-        let Ok(()) = disk.replace(text.as_slice()) else {
-            return Err(JournalFault::WriteFault);
+        let text = match text_of_pages(alloc, book.pages()) {
+            Ok(text) => text,
+            Err(fault) => return Err((fault, disk)),
         };
-        Ok(Journal {
-            disk,
-            len,
-            counted: len,
-        })
+        let Ok(()) = disk.replace(text.as_slice()) else {
+            return Err((JournalFault::WriteFault, disk));
+        };
+        let sizes = Sizes::counted(text.len());
+        Ok(Journal { disk, sizes })
     }
 
     /// The disk, with what it holds.
@@ -62,71 +66,80 @@ impl<D: Disk + Drop> Journal<D> {
     {
         self.disk
     }
-
-    // Writes the journal anew where it is due and has more than so many times the bytes that its pages need. Where
-    // memory is wanting to count these, it stays as it is.
-    fn shorten(&mut self, alloc: Global, book: &Book) -> Result<(), JournalFault>
-        ensures settled { D.tells → IsMeasured self.old (D.taken (disk_of self.old)) →
-            OnOk result (IsSettled book.now (counted_of self.old)
-            (D.taken (disk_of self.old)) (D.taken (disk_of self.new))) }
-        ensures counted { D.tells → IsMeasured self.old (D.taken (disk_of self.old)) →
-            OnOk result (IsMeasured self.new (D.taken (disk_of self.new))) }
-        ensures kept { D.tells → IsMeasured self.old (D.taken (disk_of self.old)) →
-            IfErr result (λ e. e ≢ JournalFault.WriteFault →
-            (D.taken (disk_of self.new) ≡ D.taken (disk_of self.old))
-            × IsMeasured self.new (D.taken (disk_of self.new))) }
-    {
-        let grown = self.counted.saturating_add(self.counted / GROWTH_PARTS);
-        if self.len <= LEAST_ANEW || self.len <= grown {
-            return Ok(());
-        }
-        self.counted = self.len;
-        let text = text_of_pages(alloc, book.pages())?;
-        if self.len <= text.len().saturating_mul(TIMES_NEEDED) {
-            return Ok(());
-        }
-        let Ok(()) = self.disk.replace(text.as_slice()) else {
-            return Err(JournalFault::WriteFault);
-        };
-        self.len = text.len();
-        self.counted = text.len();
-        Ok(())
-    }
 }
 
 impl<D: Disk + Drop> Keeper for Journal<D> {
     ghost use Rattle.std.specs.Prelude.{ℕ, List};
-    ghost use Rattle.pocsag_journal.specs.Keeping.{IsHeld, disk_of};
+    ghost use Rattle.pocsag_journal.specs.Crashes.{RestartsAs};
+    ghost use Rattle.pocsag_journal.specs.Growth.{SettlesAs};
+    ghost use Rattle.pocsag_journal.specs.Journals.{journal_limit};
+    ghost use Rattle.pocsag_journal.specs.Keeping.{IsHeld, counted_of, disk_of};
+    ghost use Rattle.pocsag_journal.specs.Restarts.{held_restarts};
 
     ghost tells = { D.tells };
 
-    ghost taken = { λ journal. D.taken (disk_of journal) };
+    ghost taken = { λ journal. D.held (disk_of journal) };
 
-    ghost safe = { λ journal. D.safe (disk_of journal) };
+    ghost most = { journal_limit };
 
-    ghost stands_for = { λ journal pages. D.tells → IsHeld journal (D.taken (disk_of journal)) pages };
+    ghost failures = { λ journal. D.failures (disk_of journal) };
+
+    ghost may_leave = { λ journal. D.may_leave (disk_of journal) };
+
+    ghost moment = { λ journal. D.moment (disk_of journal) };
+
+    ghost left_since = { λ journal. D.left_since (disk_of journal) };
+
+    ghost reads_as = { RestartsAs };
+
+    ghost stands_for = { λ journal pages. D.tells →
+        IsHeld journal (D.held (disk_of journal)) (D.may_leave (disk_of journal)) pages };
+
+    ghost settles = { λ done pages old new. SettlesAs done pages (counted_of old) (counted_of new)
+        (D.held (disk_of old)) (D.held (disk_of new)) };
+
+    ghost settled_at = { counted_of };
+
+    ghost restarts = { λ journal pages left tells stands now.
+        held_restarts journal (D.held (disk_of journal)) (D.may_leave (disk_of journal)) pages left (stands tells) now };
+
+    ghost counts_now = { λ journal t left tells le now. D.counts_now (disk_of journal) t left tells le now };
+
+    ghost only_now = { λ journal left tells since. D.only_now (disk_of journal) left tells since };
 
     fn keep(&mut self, alloc: Global, row: &ByteRecord) -> Result<(), FileFault> {
         let line = row_line(alloc, row)?;
-        let len = self.len.saturating_add(line.len());
+        let len = self.sizes.len.saturating_add(line.len());
         // No line of `open` has a field with a line feed.
         if !is_one_line(line.as_slice()) || len > JOURNAL_LIMIT {
             return Err(FileFault::Write);
         }
-        let Ok(()) = write_all(&mut self.disk, line.as_slice()) else {
+        let Ok(()) = self.disk.append(line.as_slice()) else {
             return Err(FileFault::Write);
         };
         let Ok(()) = self.disk.sync() else {
             return Err(FileFault::Write);
         };
-        self.len = len;
+        self.sizes = self.sizes.grown(len);
         Ok(())
     }
 
-    fn settle(&mut self, alloc: Global, book: &Book) -> Result<(), FileFault> {
-        match self.shorten(alloc, book) {
-            Err(JournalFault::WriteFault) => Err(FileFault::Write),
-            _ => Ok(()),
+    fn settle(&mut self, alloc: Global, book: &Book) -> Result<bool, FileFault> {
+        if !self.sizes.is_due() {
+            return Ok(true);
         }
+        let len = self.sizes.len;
+        self.sizes = Sizes::counted(len);
+        let Ok(text) = text_of_pages(alloc, book.pages()) else {
+            return Ok(false);
+        };
+        if len <= text.len().saturating_mul(TIMES_NEEDED) {
+            return Ok(true);
+        }
+        let Ok(()) = self.disk.replace(text.as_slice()) else {
+            return Err(FileFault::Write);
+        };
+        self.sizes = Sizes::counted(text.len());
+        Ok(true)
     }
 }

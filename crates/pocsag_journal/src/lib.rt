@@ -11,6 +11,7 @@ mod lines;
 mod list;
 mod memory_disk;
 mod replay;
+mod sizes;
 mod text;
 
 pub use anew::text_of_pages;

@@ -1,6 +1,5 @@
-ghost use Rattle.std.specs.Prelude.{◌≡◌, ◌++◌, IfNone, IfSome, IsTrue};
-ghost use Rattle.pocsag_edits.specs.Spelling.{HasNoLineFeed};
-ghost use Rattle.pocsag_journal.specs.Journals.{IsWholeLine};
+ghost use Rattle.std.specs.Prelude.{◌≡◌, ◌↔◌, ◌++◌, IfNone, IfSome, IsTrue};
+ghost use Rattle.pocsag_edits.specs.Spelling.{HasNoLineFeed, IsWholeLine};
 
 use memchr::memchr;
 
@@ -16,7 +15,7 @@ pub fn split_line(bytes: &[u8]) -> Option<(&[u8], &[u8])>
 
 /// Whether the bytes are one whole line, and nothing behind it.
 pub fn is_one_line(bytes: &[u8]) -> bool
-    ensures { IsTrue result → IsWholeLine bytes.now }
+    ensures { IsTrue result ↔ IsWholeLine bytes.now }
 {
     match split_line(bytes) {
         Some(parts) => parts.1.is_empty(),

@@ -3,15 +3,16 @@ use Rattle.std.specs.Prelude.{◌≡◌, ◌⊎◌, ℕ, List, ◌++◌, length}
 use Rattle.csv.specs.Writing.{default_writer, row_text}
 use Rattle.pocsag_pages.specs.PageFile.{Row}
 use Rattle.pocsag_pages.specs.declared.page.Page.{Page}
+use Rattle.pocsag_edits.specs.Moments.{IsSafe}
 use Rattle.pocsag_edits.specs.Runs.{IsEdit}
 use Rattle.pocsag_open.specs.Answers.{pages_answer}
 
--- The edit of the record was accepted, and it is kept: the text of its record was taken, no more, and all that was taken
--- no crash takes away.
-pub record IsKept (row : Row) (before after : List Page) (taken_before taken_after safe : List ℕ) : Type 0 where
+-- The edit of the record was accepted, and it is kept: the text of its record was taken, no more, and no crash takes away
+-- any of what was taken.
+pub record IsKept (row : Row) (before after : List Page) (taken_before taken_after : List ℕ) (may_leave : List ℕ → Type 0) : Type 0 where
   pub edit : IsEdit row before after
   pub text : taken_after ≡ taken_before ++ row_text default_writer row
-  pub for_good : safe ≡ taken_after
+  pub for_good : IsSafe taken_after may_leave
 
 -- Nothing was changed and nothing taken.
 pub record IsUntouched (before after : List Page) (taken_before taken_after : List ℕ) : Type 0 where
@@ -20,12 +21,12 @@ pub record IsUntouched (before after : List Page) (taken_before taken_after : Li
 
 -- What is so once an edit is answered: it was accepted and is kept, and is answered by the number of pages; or nothing
 -- was touched.
-abbrev pub IsAnswered : (row : Row) → (before after : List Page) → (taken_before taken_after safe : List ℕ) → (out_before out_after : List ℕ) → Type 0
-IsAnswered row before after taken_before taken_after safe out_before out_after =
-    (IsKept row before after taken_before taken_after safe × (out_after ≡ out_before ++ pages_answer (length after)))
+abbrev pub IsAnswered : (row : Row) → (before after : List Page) → (taken_before taken_after : List ℕ) → (may_leave : List ℕ → Type 0) → (out_before out_after : List ℕ) → Type 0
+IsAnswered row before after taken_before taken_after may_leave out_before out_after =
+    (IsKept row before after taken_before taken_after may_leave × (out_after ≡ out_before ++ pages_answer (length after)))
     ⊎ IsUntouched before after taken_before taken_after
 
 -- Where the answer was lost: nothing was answered, or the edit is kept, or nothing was touched.
-abbrev pub IsLost : (row : Row) → (before after : List Page) → (taken_before taken_after safe : List ℕ) → (out_before out_after : List ℕ) → Type 0
-IsLost row before after taken_before taken_after safe out_before out_after =
-    (out_after ≡ out_before) ⊎ IsKept row before after taken_before taken_after safe ⊎ IsUntouched before after taken_before taken_after
+abbrev pub IsLost : (row : Row) → (before after : List Page) → (taken_before taken_after : List ℕ) → (may_leave : List ℕ → Type 0) → (out_before out_after : List ℕ) → Type 0
+IsLost row before after taken_before taken_after may_leave out_before out_after =
+    (out_after ≡ out_before) ⊎ IsKept row before after taken_before taken_after may_leave ⊎ IsUntouched before after taken_before taken_after

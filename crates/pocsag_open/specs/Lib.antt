@@ -4,4 +4,6 @@ pub mod Faults
 pub mod Keeping
 pub mod Lines
 pub mod Plans
+pub mod Reopening
 pub mod Replies
+pub mod Survival

@@ -1,9 +1,13 @@
 ghost use Rattle.std.specs.Prelude.{◌≡◌, ◌++◌, length, IfErr, OnErr, OnOk};
 ghost use Rattle.csv.specs.Records.{fields_of};
+ghost use Rattle.pocsag_words.specs.Devices.{TookPrefix};
 ghost use Rattle.pocsag_shell.specs.Faults.{file_status};
+ghost use Rattle.pocsag_edits.specs.Moments.{LeavesOnly};
+ghost use Rattle.pocsag_edits.specs.Runs.{IsEdit};
 ghost use Rattle.pocsag_open.specs.Answers.{pages_answer, plan_answer};
 ghost use Rattle.pocsag_open.specs.Keeping.{IsAnswered, IsLost};
 ghost use Rattle.pocsag_open.specs.Replies.{IsEditReply, IsRefusalTold, TookMore};
+ghost use Rattle.pocsag_open.specs.Survival.{IsCutShort, ReadsOrEdited, TookPartOf};
 
 use crate::round_plan::Planned;
 use arrayvec::ArrayString;
@@ -34,15 +38,24 @@ pub fn answer_edit<K: Keeper + Drop, O: Sink>(
     out: &mut O,
 ) -> Result<(), FileFault>
     ensures answered { K.tells → O.tells → OnOk result (IsAnswered (fields_of row.now) round.old.book round.new.book
-        (K.taken round.old.keeper) (K.taken round.new.keeper) (K.safe round.new.keeper)
+        (K.taken round.old.keeper) (K.taken round.new.keeper) (K.may_leave round.new.keeper)
         (O.taken out.old) (O.taken out.new)) }
     ensures unanswered { K.tells → O.tells → OnErr result (IsLost (fields_of row.now) round.old.book round.new.book
-        (K.taken round.old.keeper) (K.taken round.new.keeper) (K.safe round.new.keeper)
+        (K.taken round.old.keeper) (K.taken round.new.keeper) (K.may_leave round.new.keeper)
         (O.taken out.old) (O.taken out.new)) }
     ensures replied { O.tells → OnOk result (TookMore (O.taken out.old) (O.taken out.new)
         (IsEditReply (fields_of row.now) round.old.book round.new.book)) }
     ensures stands { K.stands_for round.old.keeper round.old.book →
         OnOk result (K.stands_for round.new.keeper round.new.book) }
+
+    // Where the answer is cut short, a crash leaves what is read as the pages before the edit, or as those after it; and those
+    // after it where any of the answer was told. So it is at any moment.
+    ensures cut { K.tells → O.tells → K.stands_for round.old.keeper round.old.book → OnErr result
+        (IsCutShort (IsEdit (fields_of row.now)) (IsEditReply (fields_of row.now)) round.old.book
+        (O.taken out.old) (O.taken out.new) K.reads_as (K.may_leave round.new.keeper)) }
+    ensures any_moment { K.tells → K.stands_for round.old.keeper round.old.book →
+        LeavesOnly K.moment K.left_since round.old.keeper round.new.keeper
+        (ReadsOrEdited K.reads_as (IsEdit (fields_of row.now)) round.old.book) }
     ensures lost { IfErr result (λ e. file_status e ≡ 3) }
 {
     match edit_row(alloc, &mut round.book, row) {
@@ -57,6 +70,8 @@ pub fn answer_edit<K: Keeper + Drop, O: Sink>(
 pub(crate) fn refuse<O: Sink>(refusal: Refusal, out: &mut O) -> Result<(), FileFault>
     ensures told { O.tells → OnOk result
         (TookMore (O.taken out.old) (O.taken out.new) (IsRefusalTold refusal)) }
+    ensures part { O.tells → OnErr result
+        (TookPartOf (O.taken out.old) (O.taken out.new) (IsRefusalTold refusal)) }
     ensures lost { IfErr result (λ e. e ≡ FileFault.Write) }
 {
     let mut words = ArrayString::<LONGEST_WORDS>::new();
@@ -74,6 +89,8 @@ pub(crate) fn refuse<O: Sink>(refusal: Refusal, out: &mut O) -> Result<(), FileF
 #[tactic(auto, unfolding(crate::specs::Answers::pages_answer))]
 pub(crate) fn tell_pages<O: Sink>(book: &Book, out: &mut O) -> Result<(), FileFault>
     ensures told { O.tells → OnOk result (O.taken out.new ≡ O.taken out.old ++ pages_answer (length book.now)) }
+    ensures part { O.tells → OnErr result
+        (TookPrefix (O.taken out.old) (O.taken out.new) (pages_answer (length book.now))) }
     ensures lost { IfErr result (λ e. e ≡ FileFault.Write) }
 {
     let pages = book.len();
@@ -85,6 +102,8 @@ pub(crate) fn tell_pages<O: Sink>(book: &Book, out: &mut O) -> Result<(), FileFa
 pub(crate) fn tell_planned<O: Sink>(planned: Planned, out: &mut O) -> Result<(), FileFault>
     ensures told { O.tells → OnOk result
         (O.taken out.new ≡ O.taken out.old ++ plan_answer planned.batches planned.bound) }
+    ensures part { O.tells → OnErr result
+        (TookPrefix (O.taken out.old) (O.taken out.new) (plan_answer planned.batches planned.bound)) }
     ensures lost { IfErr result (λ e. e ≡ FileFault.Write) }
 {
     let Planned { batches, bound } = planned;

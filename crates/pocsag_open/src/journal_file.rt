@@ -3,7 +3,7 @@ ghost use Rattle.std.specs.Prelude.{[]};
 use crate::fault::OpenFault;
 use pocsag_journal::{Disk, Replayed, read_journal};
 use pocsag_shell::{Beside, Desk, FileFault, Named, ReaderSource, Role, WriterSink};
-use pocsag_words::{DeviceFault, Sink};
+use pocsag_words::{DeviceFault, write_all};
 use std::cell::Cell;
 use std::fs::{self, File, OpenFile, OpenOptions, TryLockError};
 use std::io::Write;
@@ -42,8 +42,6 @@ pub(crate) struct JournalFile<'a, 'w> {
     named: Named,
     // How many bytes the file has, by what was found first and written since.
     len: u64,
-    calls: u64,
-    failures: u64,
 }
 
 impl<'a, 'w> JournalFile<'a, 'w> {
@@ -71,8 +69,6 @@ impl<'a, 'w> JournalFile<'a, 'w> {
             file,
             named,
             len: metadata.len(),
-            calls: 0,
-            failures: 0,
         })
     }
 
@@ -139,31 +135,30 @@ impl<'a, 'w> JournalFile<'a, 'w> {
     }
 }
 
-impl Sink for JournalFile<'_, '_> {
+impl Disk for JournalFile<'_, '_> {
     ghost tells = { ⊥ };
 
-    ghost taken = { λ _. [] };
+    ghost held = { λ _. [] };
 
-    ghost calls = { λ s. s.calls };
+    ghost may_leave = { λ _ _. ⊥ };
 
-    ghost failures = { λ s. s.failures };
+    ghost moment = { λ _. 0 };
 
-    fn write(&mut self, piece: &[u8]) -> Result<usize, DeviceFault> {
-        self.calls = self.calls.saturating_add(1);
-        let done = match self.place.by_disk(self.stands()) {
-            Ok(()) => WriterSink::new(&self.file, ROLE, self.place.desk.watch).write(piece),
-            Err(fault) => Err(fault),
-        };
-        match done {
-            Ok(count) => self.len = self.len.saturating_add(count as u64),
-            Err(_) => self.failures = self.failures.saturating_add(1),
-        }
-        done
+    ghost left_since = { λ _ _ _. ⊥ };
+
+    ghost failures = { λ _. 0 };
+
+    ghost counts_now = { λ file t left tells le now. absurd tells };
+
+    ghost only_now = { λ file left tells since. absurd tells };
+
+    fn append(&mut self, line: &[u8]) -> Result<(), DeviceFault> {
+        self.place.by_disk(self.stands())?;
+        let mut sink = WriterSink::new(&self.file, ROLE, self.place.desk.watch);
+        write_all(&mut sink, line)?;
+        self.len = self.len.saturating_add(line.len() as u64);
+        Ok(())
     }
-}
-
-impl Disk for JournalFile<'_, '_> {
-    ghost safe = { λ _. [] };
 
     fn sync(&mut self) -> Result<(), DeviceFault> {
         let synced = self.place.desk.written(ROLE, self.file.sync_data());

@@ -103,7 +103,10 @@ fn first_round<'a, 'w>(
         Some(path) => book_of(desk.alloc, &mut open_pages(desk, path)?)?,
         None => book,
     };
-    let keeper = Journal::write_anew(desk.alloc, file, &book)?;
+    let keeper = match Journal::write_anew(desk.alloc, file, &book) {
+        Ok(keeper) => keeper,
+        Err((fault, _file)) => return Err(OpenFault::from(fault)),
+    };
     tell_read(desk, torn, "cut off", edits, book.len());
     Ok(OpenRound { book, keeper })
 }

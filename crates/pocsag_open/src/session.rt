@@ -1,10 +1,19 @@
-ghost use Rattle.std.specs.Prelude.{◌≡◌, ◌≤◌, List, [], length, IfErr, IfOk, None, Ok, OnOk};
+ghost use Rattle.std.specs.Prelude.{◌≡◌, ◌≤◌, List, [], length, IfErr, IfOk, None, Ok, OnErr, OnOk};
 ghost use Rattle.pocsag_pages.specs.PageFile.{verdict};
 ghost use Rattle.pocsag_pages.specs.declared.page.Page.{Page};
 ghost use Rattle.pocsag_shell.specs.Faults.{file_status};
+ghost use Rattle.pocsag_edits.specs.Moments.{LeavesOnly};
 ghost use Rattle.pocsag_open.specs.Faults.{ExplainsOpening, open_status};
 ghost use Rattle.pocsag_open.specs.Lines.{line_limit};
 ghost use Rattle.pocsag_open.specs.Replies.{IsLineReply, IsSession, TellsAndPlaces};
+ghost use Rattle.pocsag_open.specs.Survival.{
+  IsCutShort,
+  IsEditLine,
+  ReadsAfterLines,
+  ReadsOrEdited,
+  RepliesTo,
+  Survives,
+};
 
 use crate::answer::{OpenRound, answer_edit, refuse, tell_pages, tell_planned};
 use crate::fault::OpenFault;
@@ -129,6 +138,15 @@ pub fn run_open_kept<P: Places + Drop, K: Keeper + Drop, I: Source, O: Sink>(
     ensures input { OnOk result (I.failures input.new ≡ I.failures input.old) }
     ensures stands { K.stands_for round.old.keeper round.old.book →
         OnOk result (K.stands_for round.new.keeper round.new.book) }
+
+    // However it ends, whatever a crash leaves then is read as the pages after the lines that were answered, or as those
+    // after one line more; and after a crash at any moment before, as the pages after some of the first lines.
+    ensures survives { K.tells → I.tells → O.tells → K.stands_for round.old.keeper round.old.book →
+        Survives P.tells planner.old.effort (I.held input.old) round.old.book (O.taken out.old) (O.taken out.new)
+        K.reads_as (K.may_leave round.new.keeper) }
+    ensures any_moment { K.tells → I.tells → O.tells → K.stands_for round.old.keeper round.old.book →
+        LeavesOnly K.moment K.left_since round.old.keeper round.new.keeper
+        (ReadsAfterLines P.tells planner.old.effort (I.held input.old) round.old.book K.reads_as) }
     ensures lost { IfErr result (λ e. file_status e ≡ 3) }
 {
     let mut lines = Lines::new(alloc)?;
@@ -138,7 +156,8 @@ pub fn run_open_kept<P: Places + Drop, K: Keeper + Drop, I: Source, O: Sink>(
             LineRead::TooLong => refuse(Refusal::Unknown, out)?,
             LineRead::Kept => answer_line(alloc, planner, round, lines.line.as_slice(), out)?,
         }
-        round.keeper.settle(alloc, &round.book)?;
+        // Where memory is wanting for it, that is put off.
+        let _ = round.keeper.settle(alloc, &round.book)?;
     }
     Err(FileFault::Device)
 }
@@ -159,6 +178,12 @@ fn answer_line<P: Places + Drop, K: Keeper + Drop, O: Sink>(
     ensures none_left { P.tells → P.made_for planner.old.places ≡ None → P.made_for planner.new.places ≡ None }
     ensures stands { K.stands_for round.old.keeper round.old.book →
         OnOk result (K.stands_for round.new.keeper round.new.book) }
+    ensures cut { K.tells → O.tells → K.stands_for round.old.keeper round.old.book → OnErr result
+        (IsCutShort (IsEditLine line.now) (RepliesTo P.tells planner.old.effort line.now) round.old.book
+        (O.taken out.old) (O.taken out.new) K.reads_as (K.may_leave round.new.keeper)) }
+    ensures any_moment { K.tells → K.stands_for round.old.keeper round.old.book →
+        LeavesOnly K.moment K.left_since round.old.keeper round.new.keeper
+        (ReadsOrEdited K.reads_as (IsEditLine line.now) round.old.book) }
     ensures lost { IfErr result (λ e. file_status e ≡ 3) }
 {
     let row = match record_of(alloc, line) {

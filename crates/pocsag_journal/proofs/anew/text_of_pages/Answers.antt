@@ -1,7 +1,8 @@
-use Rattle.std.proofs.Common.{◌≡◌, ℕ, ◌≤◌, ◌++◌, List, [], ◌∷◌, length, take, arith, ap, ◌∙◌, subst, sym}
-use Rattle.std.proofs.lemmas.List.{take_more}
+use Rattle.std.proofs.Common.{◌≡◌, ℕ, ◌≤◌, ◌++◌, List, [], ◌∷◌, length, take, drop, ◌+◌, arith, ap, ◌∙◌, subst, sym, take-append-drop}
+use Rattle.std.proofs.lemmas.List.{drop_more, length-take-le, take_more}
 use Rattle.std.proofs.Math.Seq.{take-length}
 use Rattle.pocsag_pages.specs.declared.page.Page.{Page}
+use Rattle.pocsag_journal.specs.Faults.{IsUnspelled}
 use Rattle.pocsag_journal.specs.Journals.{AddsLine, ListsPages}
 use Rattle.pocsag_journal.proofs.Standing.{listed_first, listed_on}
 use Rattle.pocsag_journal.proofs.anew.text_of_pages.Goals as goal
@@ -22,7 +23,7 @@ loop-index-init c = (
 pub loop-index-preserved : goal.loop-index-preserved
 loop-index-preserved c =
     let page = c.index-pages-index.result in
-    let adds : AddsLine c.in-Some.line.items c.loop-index.book page c.add_line.new.book = rw c.in-Some.is at c.in_ok-line.ensures in (
+    let adds : AddsLine c.in-Some.line.items c.loop-index.book page c.add_line.new.book = rw c.in-Some.is at c.in_ok-line.ensures.some in (
       listed_on c.loop-index.text.items c.in-Some.line.items c.extend_from_slice.new.self.items c.loop-index.book c.add_line.new.book page
           c.loop-index.invariant.0 adds
           (c.in_ok-extend_from_slice.ensures.items ∙ ap (λ (t : List ℕ). c.loop-index.text.items ++ t) c.as_slice.ensures.value),
@@ -31,7 +32,23 @@ loop-index-preserved c =
           ∙ sym (take_more c.args.pages.now c.loop-index.index page c.loop-index-test.true),
     )
 
-pub returns : goal.returns
-returns c =
+pub returns-clause-listed : goal.returns-clause-listed
+returns-clause-listed c =
     whole c.loop-index.text.items c.args.pages.now c.loop-index.book c.loop-index.index c.loop-index-test.false
     c.loop-index.auto.index-end c.loop-index.invariant.1 c.loop-index.invariant.0
+
+pub returns-in_default-clause-explained : goal.returns-in_default-clause-explained
+returns-in_default-clause-explained c =
+    let pages = c.args.pages.now in
+    let page = c.index-pages-index.result in
+    let i = c.loop-index.index in
+    record {
+      before = take i pages;
+      page = page;
+      rest = drop (i + 1) pages;
+      parts = sym (take-append-drop i pages)
+          ∙ ap (λ (ps : List Page). take i pages ++ ps)
+          (drop_more pages i page c.loop-index-test.true ∙ ap (λ (p : Page). p ∷ drop (i + 1) pages) (sym c.index-pages-index.is));
+      place = let long = length-take-le i pages (omega (arith, c.loop-index-test.true)) in omega (arith, long);
+      none = subst (λ (ps : List Page). IsUnspelled ps page) c.loop-index.invariant.1 (rw c.in_default.is at c.in_ok-line.ensures.none);
+    }

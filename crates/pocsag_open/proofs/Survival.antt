@@ -1,0 +1,265 @@
+-- How an open round goes on line by line, and what is so where it is cut short.
+use Rattle.std.proofs.Common.{◌≡◌, inl, inr, ℕ, ◌+◌, ◌-◌, List, [], ◌∷◌, ◌++◌, length, take, drop, refl, sym, ap, ◌∙◌, subst, arith, append_assoc, append-nil, take-append-drop}
+use Rattle.std.proofs.Math.Seq.{take-append-add}
+use Rattle.std.specs.Prelude.{OnErr, Result, Ok, Err}
+use Rattle.pocsag_words.specs.Devices.{TookPrefix}
+use Rattle.pocsag_pages.specs.declared.page.Page.{Page}
+use Rattle.pocsag_plan.specs.declared.search.Effort.{Effort}
+use Rattle.pocsag_open.specs.Answers.{pages_answer}
+use Rattle.pocsag_open.specs.Lines.{AreLines, IsFirstLine}
+use Rattle.pocsag_open.specs.Plans.{PlacedPlan}
+use Rattle.pocsag_open.specs.Replies.{AreReplies, IsLineReply, IsSession, TellsAndPlaces, edited, read}
+use Rattle.pocsag_open.specs.Survival.{AreFirstLines, IsCutShort, IsEditLine, ReadsAfterLines, ReadsOrEdited, RepliesTo, Survives, TookPartOf, begun, between, untold, within}
+
+pub on_err : {X E : Type 0} (r : Result X E) (P Q : Type 0) → (P → Q) → OnErr r P → OnErr r Q
+on_err (Ok x) P Q f h = tt
+on_err (Err e) P Q f h = f h
+
+-- a prefix that was taken is a part
+pub took_part : (before after due : List ℕ) (is : List ℕ → Type 0) → is due → TookPrefix before after due → TookPartOf before after is
+took_part before after due is so took =
+    let n : ℕ = length after - length before in
+    let all : length before + n ≡ length after = omega (arith, took.0) in
+    let part : after ≡ before ++ take n due =
+    sym took.1 ∙ ap (λ (k : ℕ). take k (before ++ due)) (sym all) ∙ take-append-add before due n in
+    inr (due, take n due, drop n due, so, sym (take-append-drop n due), part)
+
+-- an answer of which a part was told is cut short
+pub cut_part : (Edits : (before after : List Page) → Type 0) (Replies : (before after : List Page) → List ℕ → Type 0)
+    (before after : List Page) (out_before out_after : List ℕ) (reads_as : List ℕ → List Page → Type 0) (may_leave : List ℕ → Type 0)
+    (is : List ℕ → Type 0) → ((told : List ℕ) → is told → Replies before after told) →
+    ((left : List ℕ) → may_leave left → ReadsOrEdited reads_as Edits before left) → ((left : List ℕ) → may_leave left → reads_as left after) →
+    TookPartOf out_before out_after is → IsCutShort Edits Replies before out_before out_after reads_as may_leave
+cut_part Edits Replies before after out_before out_after reads_as may_leave is reply either kept (inl same) = untold same either
+cut_part Edits Replies before after out_before out_after reads_as may_leave is reply either kept (inr (told, part, more, so, parts, took)) =
+    begun after told part more (reply told so) parts took kept
+
+-- the same where the pages stay as they are
+pub cut_told : {X E : Type 0} (r : Result X E) (Edits : (before after : List Page) → Type 0)
+    (Replies : (before after : List Page) → List ℕ → Type 0) (before : List Page) (out_before out_after : List ℕ)
+    (reads_as : List ℕ → List Page → Type 0) (may_leave : List ℕ → Type 0) (is : List ℕ → Type 0) →
+    ((told : List ℕ) → is told → Replies before before told) → ((left : List ℕ) → may_leave left → reads_as left before) →
+    OnErr r (TookPartOf out_before out_after is) → OnErr r (IsCutShort Edits Replies before out_before out_after reads_as may_leave)
+cut_told r Edits Replies before out_before out_after reads_as may_leave is reply kept h =
+    on_err r _ _
+    (λ took. cut_part Edits Replies before before out_before out_after reads_as may_leave is reply (λ left now. inl (kept left now)) kept took) h
+
+-- the same of a reply that is known
+pub cut_due : {X E : Type 0} (r : Result X E) (Edits : (before after : List Page) → Type 0)
+    (Replies : (before after : List Page) → List ℕ → Type 0) (before : List Page) (out_before out_after due : List ℕ)
+    (reads_as : List ℕ → List Page → Type 0) (may_leave : List ℕ → Type 0) → Replies before before due →
+    ((left : List ℕ) → may_leave left → reads_as left before) → OnErr r (TookPrefix out_before out_after due) →
+    OnErr r (IsCutShort Edits Replies before out_before out_after reads_as may_leave)
+cut_due r Edits Replies before out_before out_after due reads_as may_leave reply kept h =
+    cut_told r Edits Replies before out_before out_after reads_as may_leave (λ (told : List ℕ). told ≡ due)
+    (λ told e. subst (λ (t : List ℕ). Replies before before t) (sym e) reply) kept
+    (on_err r _ _ (took_part out_before out_after due (λ (told : List ℕ). told ≡ due) refl) h)
+
+-- of its first part
+pub cut_front : (Edits : (before after : List Page) → Type 0) (Replies : (before after : List Page) → List ℕ → Type 0) (before : List Page)
+    (out_before out_after first last : List ℕ) (reads_as : List ℕ → List Page → Type 0) (may_leave : List ℕ → Type 0) →
+    Replies before before (first ++ last) → ((left : List ℕ) → may_leave left → reads_as left before) →
+    TookPrefix out_before out_after first → IsCutShort Edits Replies before out_before out_after reads_as may_leave
+cut_front Edits Replies before out_before out_after first last reads_as may_leave reply kept took =
+    cut_of (took_part out_before out_after first (λ (told : List ℕ). told ≡ first) refl took)
+  where
+    cut_of : TookPartOf out_before out_after (λ (told : List ℕ). told ≡ first) → IsCutShort Edits Replies before out_before out_after reads_as may_leave
+    cut_of (inl same) = untold same (λ left now. inl (kept left now))
+    cut_of (inr (told, part, more, so, parts, is)) =
+        begun before (first ++ last) part (more ++ last) reply
+        (ap (λ (l : List ℕ). l ++ last) (sym so ∙ parts) ∙ append_assoc part more last) is kept
+
+-- and of its last part
+pub cut_last : {X E : Type 0} (r : Result X E) (Edits : (before after : List Page) → Type 0)
+    (Replies : (before after : List Page) → List ℕ → Type 0) (before : List Page) (out_before mid out_after first last : List ℕ)
+    (reads_as : List ℕ → List Page → Type 0) (may_leave : List ℕ → Type 0) → mid ≡ out_before ++ first → Replies before before (first ++ last) →
+    ((left : List ℕ) → may_leave left → reads_as left before) → OnErr r (TookPrefix mid out_after last) →
+    OnErr r (IsCutShort Edits Replies before out_before out_after reads_as may_leave)
+cut_last r Edits Replies before out_before mid out_after first last reads_as may_leave begins reply kept h =
+    on_err r _ _ (λ took. cut_of (took_part mid out_after last (λ (told : List ℕ). told ≡ last) refl took)) h
+  where
+    cut_of : TookPartOf mid out_after (λ (told : List ℕ). told ≡ last) → IsCutShort Edits Replies before out_before out_after reads_as may_leave
+    cut_of (inl same) = begun before (first ++ last) first last reply refl (same ∙ begins) kept
+    cut_of (inr (told, part, more, so, parts, is)) =
+        begun before (first ++ last) (first ++ part) more reply
+        (ap (λ (l : List ℕ). first ++ l) (sym so ∙ parts) ∙ sym (append_assoc first part more))
+        (is ∙ ap (λ (l : List ℕ). l ++ part) begins ∙ append_assoc out_before first part) kept
+
+-- and by other names
+pub cut_as : (Edits Others : (before after : List Page) → Type 0) (Replies More : (before after : List Page) → List ℕ → Type 0)
+    (before : List Page) (out_before out_after : List ℕ) (reads_as : List ℕ → List Page → Type 0) (may_leave : List ℕ → Type 0) →
+    ((after : List Page) → Edits before after → Others before after) →
+    ((after : List Page) (told : List ℕ) → Replies before after told → More before after told) →
+    IsCutShort Edits Replies before out_before out_after reads_as may_leave → IsCutShort Others More before out_before out_after reads_as may_leave
+cut_as Edits Others Replies More before out_before out_after reads_as may_leave f h (untold same either) =
+    untold same (λ left now. other left (either left now))
+  where
+    other : (left : List ℕ) → ReadsOrEdited reads_as Edits before left → ReadsOrEdited reads_as Others before left
+    other left (inl is) = inl is
+    other left (inr (after, edit, is)) = inr (after, f after edit, is)
+cut_as Edits Others Replies More before out_before out_after reads_as may_leave f h (begun after reply part more so parts took kept) =
+    begun after reply part more (h after reply so) parts took kept
+
+-- one line more
+lines_more : (lines : List (List ℕ)) (line bytes pending rest : List ℕ) → AreFirstLines lines bytes pending → IsFirstLine pending line rest →
+    AreFirstLines (lines ++ line ∷ []) bytes rest
+unfolding AreFirstLines
+lines_more [] line bytes pending rest firsts first = (rest, subst (λ (b : List ℕ). IsFirstLine b line rest) firsts first, refl)
+lines_more (l ∷ lines) line bytes pending rest firsts first =
+    (firsts.0, firsts.1, lines_more lines line firsts.0 pending rest firsts.2 first)
+
+replies_more : (Tells : Type 0) (effort : Effort) (lines : List (List ℕ)) (line : List ℕ) (before now after : List Page) (told reply : List ℕ)
+    (placed its : List PlacedPlan) → AreReplies Tells effort lines before now told placed → IsLineReply Tells effort line now after reply its →
+    AreReplies Tells effort (lines ++ line ∷ []) before after (told ++ reply) (placed ++ its)
+unfolding AreReplies
+replies_more Tells effort [] line before now after told reply placed its replies next =
+    let here : IsLineReply Tells effort line before after reply its =
+    subst (λ (ps : List Page). IsLineReply Tells effort line ps after reply its) replies.0 next in (
+      after,
+      reply,
+      [],
+      its,
+      [],
+      here,
+      (refl, refl, refl),
+      ap (λ (l : List ℕ). l ++ reply) replies.1 ∙ sym (append-nil reply),
+      ap (λ (l : List PlacedPlan). l ++ its) replies.2 ∙ sym (append-nil its),
+    )
+replies_more Tells effort (l ∷ lines) line before now after told reply placed its (mid, first, more, one, others, here, rest, parts, sent) next = (
+  mid,
+  first,
+  more ++ reply,
+  one,
+  others ++ its,
+  here,
+  replies_more Tells effort lines line mid now after more reply others its rest next,
+  ap (λ (t : List ℕ). t ++ reply) parts ∙ append_assoc first more reply,
+  ap (λ (t : List PlacedPlan). t ++ its) sent ∙ append_assoc one others its,
+)
+
+-- the lines so far are answered
+pub record Answered (Tells : Type 0) (effort : Effort) (input pending : List ℕ) (before now : List Page) (out_before out_after : List ℕ)
+    (placed_before placed_after : List PlacedPlan) : Type 0 where
+  pub lines : List (List ℕ)
+  pub told : List ℕ
+  pub placed : List PlacedPlan
+  pub firsts : AreFirstLines lines input pending
+  pub replies : AreReplies Tells effort lines before now told placed
+  pub answers : out_after ≡ out_before ++ told
+  pub outputs : Tells → placed_after ≡ placed_before ++ placed
+
+pub none_answered : (Tells : Type 0) (effort : Effort) (input pending : List ℕ) (before : List Page) (out : List ℕ) (placed : List PlacedPlan) →
+    pending ≡ input → Answered Tells effort input pending before before out out placed placed
+unfolding AreFirstLines AreReplies
+none_answered Tells effort input pending before out placed e = record {
+  lines = [];
+  told = [];
+  placed = [];
+  firsts = e;
+  replies = (refl, refl, refl);
+  answers = sym (append-nil out);
+  outputs = λ tells. sym (append-nil placed);
+}
+
+pub one_answered : (Tells : Type 0) (effort : Effort) (input pending line rest : List ℕ) (before now after : List Page)
+    (start out next : List ℕ) (first_placed placed then_placed : List PlacedPlan) →
+    Answered Tells effort input pending before now start out first_placed placed → IsFirstLine pending line rest →
+    TellsAndPlaces Tells out next placed then_placed (IsLineReply Tells effort line now after) →
+    Answered Tells effort input rest before after start next first_placed then_placed
+one_answered Tells effort input pending line rest before now after start out next first_placed placed then_placed so_far first reply = record {
+  lines = so_far.lines ++ line ∷ [];
+  told = so_far.told ++ reply.told;
+  placed = so_far.placed ++ reply.placed;
+  firsts = lines_more so_far.lines line input pending rest so_far.firsts first;
+  replies = replies_more Tells effort so_far.lines line before now after so_far.told reply.told so_far.placed reply.placed so_far.replies reply.holds;
+  answers = reply.answers ∙ ap (λ (l : List ℕ). l ++ reply.told) so_far.answers ∙ append_assoc start so_far.told reply.told;
+  outputs = λ tells. reply.outputs tells ∙ ap (λ (l : List PlacedPlan). l ++ reply.placed) (so_far.outputs tells)
+      ∙ append_assoc first_placed so_far.placed reply.placed;
+}
+
+all_lines : (lines : List (List ℕ)) (bytes rest : List ℕ) → rest ≡ [] → AreFirstLines lines bytes rest → AreLines lines bytes
+unfolding AreFirstLines AreLines
+all_lines [] bytes rest none firsts = sym firsts ∙ none
+all_lines (line ∷ lines) bytes rest none firsts = (firsts.0, firsts.1, all_lines lines firsts.0 rest none firsts.2)
+
+-- no line is left
+pub all_answered : (Tells : Type 0) (effort : Effort) (input pending : List ℕ) (before now : List Page) (start out : List ℕ)
+    (first_placed placed : List PlacedPlan) → pending ≡ [] → Answered Tells effort input pending before now start out first_placed placed →
+    TellsAndPlaces Tells start out first_placed placed (IsSession Tells effort input before now)
+all_answered Tells effort input pending before now start out first_placed placed none so_far = record {
+  told = so_far.told;
+  placed = so_far.placed;
+  answers = so_far.answers;
+  outputs = so_far.outputs;
+  holds = record { lines = so_far.lines; cut = all_lines so_far.lines input pending none so_far.firsts; replies = so_far.replies };
+}
+
+-- what a crash leaves between two lines
+pub survives_between : (Tells : Type 0) (effort : Effort) (input pending : List ℕ) (before now : List Page) (start out : List ℕ)
+    (first_placed placed : List PlacedPlan) (reads_as : List ℕ → List Page → Type 0) (may_leave : List ℕ → Type 0) →
+    Answered Tells effort input pending before now start out first_placed placed → ((left : List ℕ) → may_leave left → reads_as left now) →
+    Survives Tells effort input before start out reads_as may_leave
+survives_between Tells effort input pending before now start out first_placed placed reads_as may_leave so_far kept = record {
+  lines = so_far.lines;
+  rest = pending;
+  now = now;
+  told = so_far.told;
+  placed = so_far.placed;
+  firsts = so_far.firsts;
+  replies = so_far.replies;
+  cut = between so_far.answers kept;
+}
+
+-- and within one
+pub survives_within : (Tells : Type 0) (effort : Effort) (input pending line behind : List ℕ) (before now : List Page) (start out next : List ℕ)
+    (first_placed placed : List PlacedPlan) (reads_as : List ℕ → List Page → Type 0) (may_leave : List ℕ → Type 0) →
+    Answered Tells effort input pending before now start out first_placed placed → IsFirstLine pending line behind →
+    IsCutShort (IsEditLine line) (RepliesTo Tells effort line) now out next reads_as may_leave →
+    Survives Tells effort input before start next reads_as may_leave
+survives_within Tells effort input pending line behind before now start out next first_placed placed reads_as may_leave so_far first cut = record {
+  lines = so_far.lines;
+  rest = pending;
+  now = now;
+  told = so_far.told;
+  placed = so_far.placed;
+  firsts = so_far.firsts;
+  replies = so_far.replies;
+  cut = within line behind first
+      (subst (λ (l : List ℕ). IsCutShort (IsEditLine line) (RepliesTo Tells effort line) now l next reads_as may_leave) so_far.answers cut);
+}
+
+-- what is read as the pages now is read after the lines so far
+pub read_now : (Tells : Type 0) (effort : Effort) (input pending : List ℕ) (before now : List Page) (start out : List ℕ)
+    (first_placed placed : List PlacedPlan) (reads_as : List ℕ → List Page → Type 0) (left : List ℕ) →
+    Answered Tells effort input pending before now start out first_placed placed → reads_as left now →
+    ReadsAfterLines Tells effort input before reads_as left
+read_now Tells effort input pending before now start out first_placed placed reads_as left so_far is = record {
+  lines = so_far.lines;
+  rest = pending;
+  pages = now;
+  told = so_far.told;
+  placed = so_far.placed;
+  firsts = so_far.firsts;
+  replies = so_far.replies;
+  read = is;
+}
+
+-- and as those after its edit, after one line more
+pub read_next : (Tells : Type 0) (effort : Effort) (input pending line behind : List ℕ) (before now : List Page) (start out : List ℕ)
+    (first_placed placed : List PlacedPlan) (reads_as : List ℕ → List Page → Type 0) (left : List ℕ) →
+    Answered Tells effort input pending before now start out first_placed placed → IsFirstLine pending line behind →
+    ReadsOrEdited reads_as (IsEditLine line) now left → ReadsAfterLines Tells effort input before reads_as left
+read_next Tells effort input pending line behind before now start out first_placed placed reads_as left so_far first (inl is) =
+    read_now Tells effort input pending before now start out first_placed placed reads_as left so_far is
+read_next Tells effort input pending line behind before now start out first_placed placed reads_as left so_far first (inr (after, e, is)) =
+    let reply : IsLineReply Tells effort line now after (pages_answer (length after)) [] = read e.row e.few e.text (edited e.edit refl refl) in
+    record {
+      lines = so_far.lines ++ line ∷ [];
+      rest = behind;
+      pages = after;
+      told = so_far.told ++ pages_answer (length after);
+      placed = so_far.placed ++ [];
+      firsts = lines_more so_far.lines line input pending behind so_far.firsts first;
+      replies = replies_more Tells effort so_far.lines line before now after so_far.told (pages_answer (length after)) so_far.placed [] so_far.replies reply;
+      read = is;
+    }

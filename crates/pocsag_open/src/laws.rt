@@ -1,0 +1,19 @@
+ghost use Rattle.std.specs.Prelude.{◌≡◌, ◌⊎◌, ℕ, List, []};
+ghost use Rattle.std.specs.List.{AllByRecursion};
+ghost use Rattle.pocsag_pages.specs.PageFile.{Row};
+ghost use Rattle.pocsag_pages.specs.declared.page.Page.{Page};
+ghost use Rattle.pocsag_plan.specs.declared.search.Effort.{Effort};
+ghost use Rattle.pocsag_edits.specs.Runs.{IsRun};
+ghost use Rattle.pocsag_journal.specs.Journals.{IsLine, journal_text};
+ghost use Rattle.pocsag_open.specs.Plans.{PlacedPlan};
+ghost use Rattle.pocsag_open.specs.Replies.{IsSession};
+ghost use Rattle.pocsag_open.specs.Reopening.{TellsNoMemory};
+
+use crate::outputs::Places;
+
+/// `open` over the text of a journal: the session leaves the pages of the journal, unless it told that memory was wanting.
+pub fn a_journal_opens_as_its_pages<P: Places>()
+    ensures { (effort : Effort) (rows : List Row) (pages after : List Page) (told : List ℕ)
+        (placed : List PlacedPlan) → AllByRecursion IsLine rows → IsRun rows [] pages →
+        IsSession P.tells effort (journal_text rows) [] after told placed → (after ≡ pages) ⊎ TellsNoMemory told }
+{}
