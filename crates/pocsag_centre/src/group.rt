@@ -7,7 +7,7 @@ use crate::order::{ReportOrder, plan_order, report_order};
 use crate::plan::{DEFAULT_SEARCH, bounded_file};
 use crate::report::{frames_file, report_file, tell_frames, tell_report};
 use crate::texts::EARLY_STRICT;
-use crate::words::{CHECK, COMMANDS, PLAN, REPORT, STRICT, STRICT_FLAG};
+use crate::words::{CHECK, COMMANDS, PLAN, REPORT, REST, STRICT, STRICT_FLAG, WHY};
 use clap::{ArgMatches, Command, Error};
 use pocsag_pages::{FILE_LIMIT, read_whole};
 use pocsag_shell::{
@@ -61,6 +61,8 @@ fn names_of<'a>(call: Call<'a, '_>) -> Names<'a> {
             pages: found.get_str(PAGES),
             tx: found.get_str(TX),
             cert: found.get_str(CERT),
+            rest: found.get_str(REST),
+            why: found.get_str(WHY),
             ..Names::NONE
         },
         Some(CHECK) => Names {

@@ -8,7 +8,7 @@ use crate::role::Role;
 use crate::streams::{Input, Output};
 use crate::words::{STANDARD, path_of};
 use pocsag_pages::read_whole;
-use pocsag_words::Sink;
+use pocsag_words::{Sink, write_all};
 use std::fs::{self, File, Metadata, OpenFile, OpenOptions};
 use std::io;
 use std::rt::Files;
@@ -114,6 +114,16 @@ pub fn make_outputs<'a>(
         tx: WriterSink::new(opened_tx, Role::Transmission, desk.watch),
         cert: WriterSink::new(opened_cert, Role::Certificate, desk.watch),
     })
+}
+
+/// Opens or makes a file, and writes the bytes in place of those that it has.
+pub fn write_file(desk: Desk<'_>, role: Role, path: &str, bytes: &[u8]) -> Result<(), FileFault> {
+    let output = open_output(desk, role, path)?;
+    empty(desk, role, &output)?;
+    match write_all(&mut WriterSink::new(output, role, desk.watch), bytes) {
+        Ok(()) => Ok(()),
+        Err(_) => Err(FileFault::Write),
+    }
 }
 
 /// Refuses two words that name one file, whatever their spelling, and a word that names the file behind standard output or
