@@ -10,8 +10,8 @@ use Rattle.pocsag_tree.specs.declared.shape.Certificate.{Certificate}
 use Rattle.pocsag_check.specs.Accepting.{IsAccepted}
 use Rattle.pocsag_branch.specs.Found.{CanBeSent, IsBound, IsLimit}
 use Rattle.pocsag_branch.specs.declared.stop.SearchLimit.{SearchLimit}
-use Rattle.pocsag_plan.specs.declared.attempt.Attempt.{Attempt}
-use Rattle.pocsag_plan.specs.declared.attempt.Attempt.TheVariants.{Fits, Exceeds}
+use Rattle.pocsag_plan.specs.declared.attempt.Tried.{Tried}
+use Rattle.pocsag_plan.specs.declared.attempt.Tried.TheVariants.{Fits, Exceeds}
 use Rattle.pocsag_plan.specs.declared.attempt.Bracket.{Bracket}
 use Rattle.pocsag_plan.specs.declared.front.FrontCut.{FrontCut}
 use Rattle.pocsag_plan.specs.declared.outcome.Outcome.{Outcome}
@@ -46,9 +46,9 @@ pub record IsExcess (k : Classes) (search : Search) (batches : ℕ) (certificate
   pub more : search.effort ≡ Fewest → batches < certificate.batches
   pub beyond : IsBound k search.end (batches + 1) ⊎ IsUndecidedAt k search batches
 
-abbrev pub IsAttempt : Classes → Search → (batches : ℕ) → Attempt → Type 0
-IsAttempt k search batches (Fits outcome) = IsFit k search batches outcome
-IsAttempt k search batches (Exceeds certificate) = IsExcess k search batches certificate
+abbrev pub IsTried : Classes → Search → (batches : ℕ) → Tried → Type 0
+IsTried k search batches (Fits outcome) = IsFit k search batches outcome
+IsTried k search batches (Exceeds certificate) = IsExcess k search batches certificate
 
 -- The same of pages that have these classes.
 pub record ExceedsPages (search : Search) (R : List Page) (batches : ℕ) (certificate : Certificate) : Type 0 where

@@ -48,4 +48,4 @@ pub record IsOutcome (k : Classes) (search : Search) (outcome : Outcome) : Type 
 pub record IsOutcomeFor (search : Search) (R : List Page) (outcome : Outcome) : Type 0 where
   pub table : Classes
   pub classes : AreClassesOf table search.end R
-  pub outcome : IsOutcome table search outcome
+  pub of_classes : IsOutcome table search outcome

@@ -4,7 +4,7 @@ ghost use Rattle.pocsag_pages.specs.declared.page.Page.{Page};
 ghost use Rattle.pocsag_pages.specs.Pages.{IsRound};
 ghost use Rattle.pocsag_slots.specs.Loads.{AreClassesOf};
 ghost use Rattle.pocsag_branch.specs.Found.{HasPage, IsNodeLimit};
-ghost use Rattle.pocsag_plan.specs.Attempts.{IsAttempt, IsBracket};
+ghost use Rattle.pocsag_plan.specs.Attempts.{IsTried, IsBracket};
 ghost use Rattle.pocsag_plan.specs.declared.search.Search.{Search};
 ghost use Rattle.pocsag_plan.specs.Plans.{ExplainsPlan};
 
@@ -19,7 +19,7 @@ use std::alloc::Global;
 
 // What is found of some first pages.
 #[derive(Drop)]
-pub(crate) enum Attempt {
+pub(crate) enum Tried {
     // They fit, with what a search left for them, if one was needed to know it.
     Fits(Option<Outcome>),
     // They do not, with what shows how many batches they need.
@@ -33,10 +33,10 @@ pub(crate) fn attempt(
     classes: &Classes,
     batches: u32,
     search: Search,
-) -> Result<Attempt, PlanFault>
+) -> Result<Tried, PlanFault>
     requires limited { IsNodeLimit search.limit }
     requires pages { HasPage classes.now }
-    ensures attempt { IfOk result (IsAttempt classes.now search batches) }
+    ensures attempt { IfOk result (IsTried classes.now search batches) }
     ensures limit { ¬ IsErrOf result PlanFault.BadLimit }
     ensures fault { IfErr result (λ e. (R : List Page) → IsRound R → AreClassesOf classes.now search.end R →
         ExplainsPlan search.effort search.end R search.limit e) }
@@ -44,19 +44,20 @@ pub(crate) fn attempt(
     accepted_trees_have_texts();
     let by_loads = least_certificate(classes, search.end);
     if by_loads.batches < batches {
-        return Ok(Attempt::Fits(None));
+        return Ok(Tried::Fits(None));
     }
     if by_loads.batches > batches {
-        return Ok(Attempt::Exceeds(by_loads));
+        return Ok(Tried::Exceeds(by_loads));
     }
     let outcome = outcome_of(alloc, classes, search)?;
     if outcome.found.batches <= batches {
-        return Ok(Attempt::Fits(Some(outcome)));
+        return Ok(Tried::Fits(Some(outcome)));
     }
-    Ok(Attempt::Exceeds(Certificate {
+    let Outcome { found, bound, .. } = outcome;
+    Ok(Tried::Exceeds(Certificate {
         end: search.end,
-        batches: outcome.bound,
-        tree: outcome.found.tree,
+        batches: bound,
+        tree: found.tree,
     }))
 }
 
@@ -73,23 +74,23 @@ pub(crate) struct Bracket {
 
 impl Bracket {
     // The bracket that a try of so many first pages, between the two, leaves; the table is theirs.
-    pub(crate) fn narrowed(self, count: usize, classes: &Classes, attempt: Attempt) -> Bracket
+    pub(crate) fn narrowed(self, count: usize, classes: &Classes, attempt: Tried) -> Bracket
         requires above { self.fitting < count }
         requires below { count < self.beyond }
         ensures bracket { (search : Search) (R : List Page) (batches : ℕ) →
-            AreClassesOf classes.now search.end (take count R) → IsAttempt classes.now search batches attempt →
+            AreClassesOf classes.now search.end (take count R) → IsTried classes.now search batches attempt →
             IsBracket search R batches self → IsBracket search R batches result }
         ensures narrower { result.beyond + self.fitting < self.beyond + result.fitting }
     {
         match attempt {
-            Attempt::Fits(outcome) => Bracket {
+            Tried::Fits(outcome) => Bracket {
                 fitting: count,
                 classes: *classes,
                 outcome,
                 beyond: self.beyond,
                 why: self.why,
             },
-            Attempt::Exceeds(certificate) => Bracket {
+            Tried::Exceeds(certificate) => Bracket {
                 fitting: self.fitting,
                 classes: self.classes,
                 outcome: self.outcome,

@@ -1,7 +1,8 @@
-use Rattle.std.proofs.Common.{◌+◌, arith, false, slice_index}
+use Rattle.std.proofs.Common.{◌+◌, ap, arith, false, slice_index}
 use Rattle.pocsag_tree.specs.declared.shape.Tree.TheVariants.{Overload}
+use Rattle.pocsag_tree.specs.BoundTrees.{all_nodes}
 use Rattle.pocsag_tree.specs.Views.{bound_tree_of}
-use Rattle.pocsag_branch.proofs.TreeEnds.{has_room, least_tree, tree_bound}
+use Rattle.pocsag_branch.proofs.TreeEnds.{bound_tree_of-overload, has_room, least_tree, tree_bound}
 use Rattle.pocsag_branch.proofs.least.least_certificate.Goals as goal
 
 pub returns-clause-bound : goal.returns-clause-bound
@@ -21,7 +22,7 @@ returns-clause-text c =
     let small = c.least_of-least.ensures.bound in
     let tree = least_tree c.args.classes.now c.args.end least.batches 1 least.set (omega arith) c.least_of-least.ensures.refuses in
     c.accepted_trees_have_texts.ensures.text false c.args.classes.now c.args.end least.batches (bound_tree_of (Overload least.set))
-    tree.accepted (omega arith) (omega arith)
+    tree.accepted (omega arith) (omega (arith, ap all_nodes (bound_tree_of-overload least.set)))
 
 pub returns-clause-enough : goal.returns-clause-enough
 returns-clause-enough c = λ R round counted.

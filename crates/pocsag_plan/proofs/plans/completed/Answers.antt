@@ -14,7 +14,7 @@ order_of-requires c =
     let is = c.requires.of_round in
     let outcome = c.args.outcome in
     subst (λ (steps : List Step). IsTourFor c.args.search.end c.args.round.now steps) (sym c.deref.ensures.value)
-    (tour_for is.table c.args.search.end c.args.search.limit outcome.bound outcome.found is.outcome.within c.args.round.now is.classes)
+    (tour_for is.table c.args.search.end c.args.search.limit outcome.bound outcome.found is.of_classes.within c.args.round.now is.classes)
 
 pub returns-clause-plan : goal.returns-clause-plan
 returns-clause-plan c =
@@ -25,7 +25,7 @@ returns-clause-plan c =
     let limit = c.args.search.limit in
     let bound = c.args.outcome.bound in
     let found = c.args.outcome.found in
-    let left = c.requires.of_round.outcome in
+    let left = c.requires.of_round.of_classes in
     let is = left.within in
     let near : found.batches ≤ 1760001 = most k end limit bound found is in
     let at_least : bound ≤ found.batches = is.at_least in

@@ -2,8 +2,8 @@ use Rattle.std.proofs.lemmas.Result.{err_from_is_err_and}
 use Rattle.pocsag_plan.proofs.Counted.{has_page}
 use Rattle.pocsag_plan.proofs.plans.counted_plan.Goals as goal
 
-pub outcome_of-outcome-requires-clause-pages : goal.outcome_of-outcome-requires-clause-pages
-outcome_of-outcome-requires-clause-pages c =
+pub outcome_of-requires-clause-pages : goal.outcome_of-requires-clause-pages
+outcome_of-requires-clause-pages c =
     has_page c.args.classes.now c.args.search.end c.args.round.now c.requires.counted c.keeps_rules.ensures.some
 
 pub completed-requires-clause-of_round : goal.completed-requires-clause-of_round
@@ -11,10 +11,10 @@ completed-requires-clause-of_round c =
     record {
       table = c.args.classes.now;
       classes = c.requires.counted;
-      outcome = c.in_ok-outcome.ensures.outcome;
+      of_classes = c.in_ok-outcome.ensures.outcome;
     }
 
 pub returns-in_err-outcome-clause-fault : goal.returns-in_err-outcome-clause-fault
 returns-in_err-outcome-clause-fault c =
-    let p = err_from_is_err_and c.from_residual-in_err-outcome.result c.from_residual-in_err-outcome.ensures.1 in
+    let p = err_from_is_err_and c.from_residual.result c.from_residual.ensures.1 in
     rw (p.1, p.2) (c.in_err-outcome.ensures.fault c.args.round.now c.keeps_rules.ensures c.requires.counted)

@@ -35,3 +35,10 @@ within_rate : (ms rate : ℕ) → IsRate rate → AreMostWithin ms rate ((ms * r
 within_rate ms rate (inl e) = subst (λ (r : ℕ). AreMostWithin ms r ((ms * r / 1000 - 576) / 544)) (sym e) (within_512 ms)
 within_rate ms rate (inr (inl e)) = subst (λ (r : ℕ). AreMostWithin ms r ((ms * r / 1000 - 576) / 544)) (sym e) (within_1200 ms)
 within_rate ms rate (inr (inr e)) = subst (λ (r : ℕ). AreMostWithin ms r ((ms * r / 1000 - 576) / 544)) (sym e) (within_2400 ms)
+
+pub returns-in-512-clause-most : goal.returns-in-512-clause-most
+returns-in-512-clause-most c =
+    let ms = c.args.airtime_ms in
+    let rate = c.args.rate in
+    let is : c.saturating_sub.result ≡ ms * rate / 1000 - 576 = cc (c.saturating_sub.ensures, c.from.ensures, c.from-in-512.ensures) in
+    subst (λ (n : ℕ). AreMostWithin ms rate (n / 544)) (sym is) (within_rate ms rate c.in-512.is)
