@@ -9,7 +9,6 @@ use crate::note::{note_quote, note_record};
 use crate::order::{FrontLimit, PlanOrder, SearchOrder};
 use crate::plan::{plan_file, tell_bounded};
 use crate::readback::verify_files;
-use arrayvec::ArrayVec;
 use pocsag_pages::FILE_LIMIT;
 use pocsag_plan::most_batches;
 use pocsag_shell::{
@@ -91,17 +90,13 @@ pub(crate) fn obey_plan(desk: Desk<'_>, order: PlanOrder<'_>) -> Result<u8, Cent
 // The files that a plan writes, in the order in which `--keep` puts them at their places. The page file of the rest goes
 // first, so that no page is both in it and in a transmission that is not there; and no transmission ever stands without
 // its certificate.
-fn places<'a>(order: PlanOrder<'a>) -> ArrayVec<(Role, &'a str), 4> {
-    let mut places = ArrayVec::new();
-    if let Some(rest) = order.rest {
-        places.push((Role::Rest, rest));
-    }
-    if let Some(why) = order.why {
-        places.push((Role::Why, why));
-    }
-    places.push((Role::Certificate, order.cert));
-    places.push((Role::Transmission, order.tx));
-    places
+fn places<'a>(order: PlanOrder<'a>) -> [(Role, Option<&'a str>); 4] {
+    [
+        (Role::Rest, order.rest),
+        (Role::Why, order.why),
+        (Role::Certificate, Some(order.cert)),
+        (Role::Transmission, Some(order.tx)),
+    ]
 }
 
 // The first option of the order that its files do not serve, as the text that refuses it. It reads nothing of them.
@@ -122,7 +117,7 @@ fn misuse(desk: Desk<'_>, order: PlanOrder<'_>) -> Option<&'static str> {
         return None;
     }
     for (_role, place) in places(order) {
-        if place == STANDARD || !is_regular_or_none(rt, place) {
+        if place.is_some_and(|place| place == STANDARD || !is_regular_or_none(rt, place)) {
             return Some(BAD_KEEP);
         }
     }
@@ -268,11 +263,13 @@ fn plan_beside<O: Sink>(
     refuse_shared(desk, order.pages, order.tx, order.cert)?;
     refuse_rest(desk, order)?;
     let mut files = Vec::new(desk.alloc);
-    let done = plan_among(desk, order, &mut files, out);
+    let mut lines = MemorySink::<LINES>::new(LINES, LINES as u64);
+    let done = plan_among(desk, order, &mut files, &mut lines);
     for file in &files {
         file.remove(desk);
     }
-    done
+    done?;
+    Ok(put(out, lines.bytes())?)
 }
 
 // The same, with a list of the files beside the places, which the caller takes away.
@@ -280,15 +277,19 @@ fn plan_among<'a, O: Sink>(
     desk: Desk<'_>,
     order: PlanOrder<'a>,
     files: &mut Vec<Beside<'a>>,
-    out: &mut O,
+    lines: &mut O,
 ) -> Result<(), CentreFault> {
     for (role, place) in places(order) {
-        files.push(Beside::make(desk, role, place)?)?;
+        let Some(place) = place else {
+            continue;
+        };
+        let made = Beside::make(desk, role, place)?;
+        if files.push(made).is_err() {
+            return Err(CentreFault::File(FileFault::OutOfMemory));
+        }
     }
-    let mut lines = MemorySink::<LINES>::new(LINES, LINES as u64);
-    plan_files(desk, beside(order, files.as_slice()), &mut lines)?;
-    put_all(desk, files.as_slice())?;
-    Ok(put(out, lines.bytes())?)
+    plan_files(desk, beside(order, files.as_slice()), lines)?;
+    Ok(put_all(desk, files.as_slice())?)
 }
 
 // The order with the files beside the places.
