@@ -12,7 +12,7 @@ _pocsag() {
         mapfile -t COMPREPLY < <(compgen -W "512 1200 2400" -- "$word")
         return
         ;;
-    --limit | --expect | --rows | --depth | --samples | --preamble)
+    --limit | --expect | --rows | --depth | --samples | --preamble | --at-most | --airtime)
         compopt +o default 2>/dev/null
         COMPREPLY=()
         return
@@ -23,7 +23,7 @@ _pocsag() {
     fi
     local -A options=(
         [pocsag]='--strict --verbose --help --version -h -V'
-        [plan]='--limit --end --idle-last --expect --strict --always --verify --keep --verbose --help -h'
+        [plan]='--limit --end --idle-last --expect --strict --always --verify --keep --at-most --airtime --rate --rest --why --verbose --help -h'
         [check]='--verbose --help -h'
         [explain]='--depth --json --svg --verbose --help -h'
         [decode]='--repair --verbose --help -h'

@@ -5,7 +5,7 @@ For each round and end, with `--always` and without: the batches are those of th
 are the round's pages, and the last one is what the end asks for; and the certificate is accepted by the program's
 checker and by the second one, and by neither for one batch more. So is each certificate of some larger rounds: there the
 closed end takes no fewer batches than the open one, the idle end no fewer than the closed one, and at most one more than
-the open one. The last line is 'N passed, M failed'.
+the open one. `fronts` compares fronts. The last line is 'N passed, M failed'.
 """
 
 import csv
@@ -24,6 +24,7 @@ HERE = pathlib.Path(__file__).resolve().parent
 sys.path.insert(0, str(HERE.parent))
 sys.path.insert(0, str(HERE.parent / "certificates"))
 import checker
+import fronts
 from rounds import page_file
 from tally import ENDS, PROGRAM, Tally
 from trees import certificate
@@ -232,6 +233,7 @@ def main():
         try_checks(tally, folder, source)
         try_ends(tally, folder, source)
         try_examples(tally, folder)
+        fronts.try_fronts(sys.modules[__name__], tally, folder, source)
     return tally.end()
 
 

@@ -14,6 +14,7 @@ sys.dont_write_bytecode = True
 sys.path.insert(0, str(pathlib.Path(__file__).resolve().parents[1]))
 sys.path.insert(0, str(pathlib.Path(__file__).resolve().parent))
 import edges
+import fronts
 import options
 import repair
 import verbose
@@ -537,6 +538,7 @@ def main():
         try_receivers,
         try_words,
         *edges.PARTS,
+        *fronts.PARTS,
         *options.PARTS,
         *repair.PARTS,
         *verbose.PARTS,

@@ -1,12 +1,19 @@
-ghost use Rattle.std.specs.Prelude.{◌<◌, ◌≤◌, slice_index};
+ghost use Rattle.std.specs.Prelude.{◌≡◌, ◌+◌, ◌<◌, ◌≤◌, false, slice_index};
 ghost use Rattle.pocsag_slots.specs.Loads.{IsAdmitted, IsLeast, limits_of_all, Overloads};
-ghost use Rattle.pocsag_tree.specs.Spelling.{IsSet};
+ghost use Rattle.pocsag_tree.specs.Limits.{second_ranges};
+ghost use Rattle.pocsag_tree.specs.Spelling.{HasText, IsSet};
+ghost use Rattle.pocsag_tree.specs.Views.{bound_tree_of};
+ghost use Rattle.pocsag_check.specs.Accepting.{IsAccepted};
 ghost use Rattle.pocsag_branch.specs.Examined.{greatest_least};
-ghost use Rattle.pocsag_branch.specs.Found.{HasPage};
+ghost use Rattle.pocsag_branch.specs.Found.{CanBeSent, HasPage, IsBound};
 ghost use Rattle.pocsag_branch.specs.Shape.{RefusesOneLess};
 
+use pocsag_check::accepted_trees_have_texts;
 use pocsag_flow::{ChooseFault, choose};
-use pocsag_slots::{Choice, Classes, all_limits, least_load, size};
+use pocsag_slots::{Choice, Classes, all_limits, least_load, size, tours_have_codewords};
+use pocsag_tour::spare_batches_have_tours;
+use pocsag_tree::{Certificate, Tree};
+use pocsag_words::End;
 
 // The least number of batches that some choice of starts needs, with such a choice and the set of slots
 // that refuses one batch less.
@@ -55,5 +62,27 @@ pub(crate) fn least_of(classes: &Classes) -> Least
                 set = over;
             }
         }
+    }
+}
+
+/// The certificate that the loads alone give, without a search: its number of batches is the least that some choice
+/// of starts needs, and its tree is one node. With one batch more there is a transmission.
+pub fn least_certificate(classes: &Classes, end: End) -> Certificate
+    requires { HasPage classes.now }
+    ensures end { result.end ≡ end }
+    ensures least { IsLeast classes.now result.batches }
+    ensures bound { IsBound classes.now end result.batches }
+    ensures accepted { IsAccepted false classes.now end result.batches (bound_tree_of result.tree) }
+    ensures text { HasText second_ranges result.batches (bound_tree_of result.tree) }
+    ensures enough { CanBeSent classes.now end (result.batches + 1) }
+{
+    accepted_trees_have_texts();
+    spare_batches_have_tours();
+    tours_have_codewords();
+    let least = least_of(classes);
+    Certificate {
+        end,
+        batches: least.batches,
+        tree: Tree::Overload(least.set),
     }
 }

@@ -27,6 +27,7 @@ mod within_one;
 
 pub use answer::Found;
 pub use free_search::{near, search_freely};
+pub use least::least_certificate;
 pub use promised_search::search;
 pub use stop::{SearchFault, SearchLimit};
 pub use within_one::{FreeFault, Near};

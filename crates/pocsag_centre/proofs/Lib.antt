@@ -1,5 +1,6 @@
 pub mod Endings
 pub mod Explained
+pub mod FirstPart
 pub mod Planning
 pub mod Readers
 pub mod Rooms

@@ -3,6 +3,8 @@ use Rattle.std.specs.Prelude.{ℕ}
 use Rattle.pocsag_pages.specs.declared.fault.RoundFault.TheVariants as round
 use Rattle.pocsag_tree.specs.declared.refusals.CertificateFault.TheVariants as certificate
 use Rattle.pocsag_decode.specs.declared.fault.DecodeFault.TheVariants as decoding
+use Rattle.pocsag_plan.specs.declared.fault.NoFront.{NoFront}
+use Rattle.pocsag_plan.specs.declared.fault.NoFront.TheVariants as front
 use Rattle.pocsag_plan.specs.declared.fault.PlanFault.{PlanFault}
 use Rattle.pocsag_plan.specs.declared.fault.PlanFault.TheVariants as planning
 use Rattle.pocsag_plan.specs.declared.fault.StreamFault.{StreamFault}
@@ -26,6 +28,10 @@ abbrev pub fault_of_plan : PlanFault → CentreFault
 fault_of_plan planning.BadLimit = fault.BadLimit
 fault_of_plan (planning.SearchLimit stop) = fault.SearchLimit stop.least stop.found
 fault_of_plan planning.OutOfMemory = fault.File file_fault.OutOfMemory
+
+abbrev pub fault_of_front : NoFront → CentreFault
+fault_of_front (front.Plan f) = fault_of_plan f
+fault_of_front (front.FirstPage needed) = fault.FirstPage needed
 
 abbrev pub fault_of_stream : StreamFault → CentreFault
 fault_of_stream (streaming.Plan f) = fault_of_plan f

@@ -3,6 +3,7 @@ pub mod Expecting
 pub mod Faults
 pub mod Frames
 pub mod FramesTold
+pub mod FrontFiles
 pub mod Judging
 pub mod Lines
 pub mod Refusals

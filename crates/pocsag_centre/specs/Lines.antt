@@ -24,3 +24,13 @@ verdict_text false end batches = codes "not shown" ++ (10 ∷ [])
 -- The third line on a plan, `at least N batches`, only where its bound is below its batches.
 unfoldable pub below_text : (batches bound : ℕ) → List ℕ
 below_text batches bound = if nat_lt bound batches then bound_text ends.Open bound else []
+
+-- The line on the pages that are left, `left L`.
+unfoldable pub left_text : ℕ → List ℕ
+left_text left = codes "left " ++ (decimal left ++ (10 ∷ []))
+
+-- The last line on a front of at most so many batches, `at least N batches with one page more`, only where the certificate
+-- for one page more shows no more than these.
+unfoldable pub undecided_text : (batches bound : ℕ) → List ℕ
+undecided_text batches bound =
+    if nat_lt batches bound then [] else codes "at least " ++ (decimal bound ++ (codes " batches with one page more" ++ (10 ∷ [])))

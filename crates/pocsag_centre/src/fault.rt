@@ -4,7 +4,7 @@ ghost use Rattle.pocsag_centre.specs.declared.fault.CentreFault.TheVariants as f
 
 use pocsag_decode::DecodeFault;
 use pocsag_pages::{RoundFault, WholeFault};
-use pocsag_plan::{BadRate, PlanFault, StreamFault};
+use pocsag_plan::{BadRate, NoFront, PlanFault, StreamFault};
 use pocsag_quotes::QuoteFault;
 use pocsag_shell::{Failure, FileFault};
 use pocsag_tree::CertificateFault;
@@ -31,6 +31,9 @@ pub enum CentreFault {
     /// The search stopped: at least so many batches are needed, and one more would do.
     #[error("search limit reached: at least {0} batches, {1} would do")]
     SearchLimit(u32, u32),
+    /// Not even the first page fits into the batches that a front may have: it needs so many.
+    #[error("page 1 needs {0} batches")]
+    FirstPage(u32),
     #[error("the rate must be 512, 1200 or 2400")]
     BadRate,
     /// The bytes are no certificate.
@@ -136,6 +139,19 @@ impl From<PlanFault> for CentreFault {
             PlanFault::BadLimit => CentreFault::BadLimit,
             PlanFault::SearchLimit(stop) => CentreFault::SearchLimit(stop.least, stop.found),
             PlanFault::OutOfMemory => CentreFault::File(FileFault::OutOfMemory),
+        }
+    }
+}
+
+impl From<NoFront> for CentreFault {
+    ghost use Rattle.pocsag_centre.specs.Faults.{fault_of_front};
+
+    ghost from_gives = { λ refused e. e ≡ fault_of_front refused };
+
+    fn from(refused: NoFront) -> CentreFault {
+        match refused {
+            NoFront::Plan(refused) => CentreFault::from(refused),
+            NoFront::FirstPage(needed) => CentreFault::FirstPage(needed),
         }
     }
 }

@@ -4,19 +4,22 @@ ghost use Rattle.pocsag_shell.specs.Paths.{HasEqual, paths_of};
 
 use crate::demand::{expected_file, refuse_bad_limit, strict_file};
 use crate::fault::CentreFault;
+use crate::front::{first_file, front_file, tell_front};
 use crate::note::{note_quote, note_record};
-use crate::order::{PlanOrder, SearchOrder};
+use crate::order::{FrontLimit, PlanOrder, SearchOrder};
 use crate::plan::{plan_file, tell_bounded};
 use crate::readback::verify_files;
 use pocsag_pages::FILE_LIMIT;
+use pocsag_plan::most_batches;
 use pocsag_shell::{
-    Beside, Desk, NamedFile, Outputs, Role, STANDARD, is_regular, is_regular_or_none, make_outputs,
-    path_of, put_both, put_whole, read_file, refuse_equal, refuse_shared, tell,
+    Beside, Desk, FileFault, NamedFile, Outputs, Role, STANDARD, is_regular, is_regular_or_none,
+    make_outputs, path_of, put_all, put_whole, read_file, refuse_equal, refuse_one_file,
+    refuse_shared, tell, write_file,
 };
 use pocsag_words::{INPUT_LIMIT, MemorySink, Sink};
 
-// More than the lines of a plan have, which are three and `verified`.
-const LINES: usize = 200;
+// More than the lines of a plan have, which are five and `verified`.
+const LINES: usize = 300;
 
 // What refuses `--verify`, and what refuses `--keep`.
 const BAD_VERIFY: &str =
@@ -24,6 +27,9 @@ const BAD_VERIFY: &str =
 
 const BAD_KEEP: &str =
     "--keep renames what it wrote to TX and CERT, so that each must be a regular file, or not there";
+
+// What refuses `--rest` and `--why` where no front is asked for, and where they name no file.
+const BAD_REST: &str = "--rest and --why name files, and go with --at-most or --airtime";
 
 /// What is answered for a page file. A note is kept on the record that its fault names, or on a misplaced quote of a file
 /// that was taken.
@@ -81,24 +87,41 @@ pub(crate) fn obey_plan(desk: Desk<'_>, order: PlanOrder<'_>) -> Result<u8, Cent
     Ok(0)
 }
 
+// The files that a plan writes, in the order in which `--keep` puts them at their places. The page file of the rest goes
+// first, so that no page is both in it and in a transmission that is not there; and no transmission ever stands without
+// its certificate.
+fn places<'a>(order: PlanOrder<'a>) -> [(Role, Option<&'a str>); 4] {
+    [
+        (Role::Rest, order.rest),
+        (Role::Why, order.why),
+        (Role::Certificate, Some(order.cert)),
+        (Role::Transmission, Some(order.tx)),
+    ]
+}
+
 // The first option of the order that its files do not serve, as the text that refuses it. It reads nothing of them.
 fn misuse(desk: Desk<'_>, order: PlanOrder<'_>) -> Option<&'static str> {
     let rt = desk.rt;
     let (tx, cert) = (path_of(order.tx), path_of(order.cert));
+    for word in [order.rest, order.why] {
+        if word == Some(STANDARD) || (word.is_some() && order.front.is_none()) {
+            return Some(BAD_REST);
+        }
+    }
     if order.verify
         && !(is_regular(rt, order.pages) && is_regular(rt, tx) && is_regular(rt, cert))
     {
         return Some(BAD_VERIFY);
     }
-    if order.keep && !(may_be_replaced(desk, order.tx) && may_be_replaced(desk, order.cert)) {
-        return Some(BAD_KEEP);
+    if !order.keep {
+        return None;
+    }
+    for (_role, place) in places(order) {
+        if place.is_some_and(|place| place == STANDARD || !is_regular_or_none(rt, place)) {
+            return Some(BAD_KEEP);
+        }
     }
     None
-}
-
-// Whether a word names a path, and what stands there may be replaced by renaming.
-fn may_be_replaced(desk: Desk<'_>, word: &str) -> bool {
-    word != STANDARD && is_regular_or_none(desk.rt, word)
 }
 
 // Plans, where the files serve the options.
@@ -118,9 +141,15 @@ fn plan_files<O: Sink>(
     order: PlanOrder<'_>,
     out: &mut O,
 ) -> Result<(), CentreFault> {
-    write_files(desk, order, out)?;
+    let first = match order.front {
+        Some(limit) => Some(write_front(desk, order, limit, out)?),
+        None => {
+            write_files(desk, order, out)?;
+            None
+        }
+    };
     if order.verify {
-        read_files_back(desk, order, out)?;
+        read_files_back(desk, order, first, out)?;
     }
     Ok(())
 }
@@ -139,12 +168,71 @@ fn write_files<O: Sink>(
     tell_bounded(&written.bounded, out)
 }
 
+// Writes the front of a page file, the rest first, once it is planned. Answers how many pages it has.
+fn write_front<O: Sink>(
+    desk: Desk<'_>,
+    order: PlanOrder<'_>,
+    limit: FrontLimit,
+    out: &mut O,
+) -> Result<u32, CentreFault> {
+    let batches = match limit {
+        FrontLimit::Batches(batches) => batches,
+        FrontLimit::Airtime { ms, rate } => most_batches(ms, rate)?,
+    };
+    refuse_rest(desk, order)?;
+    let file = page_file(desk, order.pages, order.search)?;
+    let done = front_file(desk.alloc, file.as_slice(), batches, order.search.search);
+    let front = noted(desk, order.pages, file.as_slice(), done)?;
+    if let Some(path) = order.rest {
+        write_file(desk, Role::Rest, path, front.rest.as_slice())?;
+    }
+    if let Some(path) = order.why {
+        let text = front
+            .why
+            .as_ref()
+            .map_or(&[][..], |why| why.bytes.as_slice());
+        write_file(desk, Role::Why, path, text)?;
+    }
+    // A new file may have a second spelling among the words.
+    refuse_rest(desk, order)?;
+    let Outputs { mut tx, mut cert } = make_outputs(desk, order.pages, order.tx, order.cert)?;
+    put_whole(&mut tx, front.first.sent.as_slice())?;
+    put_whole(&mut cert, front.first.certificate.as_slice())?;
+    tell_front(&front, batches, out)?;
+    Ok(front.first.bounded.plan.pages)
+}
+
+// Refuses a word for the rest, or for the certificate of one page more, that names another file of the plan.
+fn refuse_rest(desk: Desk<'_>, order: PlanOrder<'_>) -> Result<(), FileFault> {
+    for word in [order.rest, order.why] {
+        refuse_equal(word, order.tx, order.cert)?;
+        refuse_shared(desk, word, order.tx, order.cert)?;
+    }
+    for (pages, word) in [
+        (order.pages, order.rest),
+        (order.rest, order.why),
+        (order.pages, order.why),
+    ] {
+        if let Some(word) = word {
+            refuse_equal(pages, word, STANDARD)?;
+            refuse_one_file(desk.rt, pages, word, STANDARD)?;
+        }
+    }
+    Ok(())
+}
+
+// Reads the files back and compares them with the page file, or with so many of its first pages.
 fn read_files_back<O: Sink>(
     desk: Desk<'_>,
     order: PlanOrder<'_>,
+    first: Option<u32>,
     out: &mut O,
 ) -> Result<(), CentreFault> {
-    let file = read_file(desk, Role::PageFile, order.pages, FILE_LIMIT)?;
+    let mut file = read_file(desk, Role::PageFile, order.pages, FILE_LIMIT)?;
+    if let Some(first) = first {
+        let done = first_file(desk.alloc, file.as_slice(), first as usize);
+        file = noted(desk, order.pages, file.as_slice(), done)?;
+    }
     let tx = read_file(desk, Role::Transmission, Some(order.tx), INPUT_LIMIT)?;
     let cert = read_file(desk, Role::Certificate, Some(order.cert), INPUT_LIMIT)?;
     let done = verify_files(
@@ -158,47 +246,54 @@ fn read_files_back<O: Sink>(
     Ok(tell(out, "verified\n")?)
 }
 
-// `--keep`: plans beside the places of the files, puts both there once they are whole, and then tells the lines.
+// `--keep`: plans beside the places of the files, puts all there once they are whole, and then tells the lines.
 fn plan_beside<O: Sink>(
     desk: Desk<'_>,
     order: PlanOrder<'_>,
     out: &mut O,
 ) -> Result<(), CentreFault> {
     refuse_shared(desk, order.pages, order.tx, order.cert)?;
-    let tx = Beside::make(desk, Role::Transmission, order.tx)?;
-    let done = plan_beside_two(desk, order, &tx, out);
-    tx.remove(desk);
-    done
-}
-
-// The same, where the file beside the place of the transmission is there.
-fn plan_beside_two<O: Sink>(
-    desk: Desk<'_>,
-    order: PlanOrder<'_>,
-    tx: &Beside<'_>,
-    out: &mut O,
-) -> Result<(), CentreFault> {
-    let cert = Beside::make(desk, Role::Certificate, order.cert)?;
-    let beside = PlanOrder {
-        tx: tx.path(),
-        cert: cert.path(),
-        ..order
-    };
+    refuse_rest(desk, order)?;
+    let mut files = Vec::new(desk.alloc);
     let mut lines = MemorySink::<LINES>::new(LINES, LINES as u64);
-    let done = plan_and_put(desk, beside, tx, &cert, &mut lines);
-    cert.remove(desk);
+    let done = plan_among(desk, order, &mut files, &mut lines);
+    for file in &files {
+        file.remove(desk);
+    }
     done?;
     Ok(put_whole(out, lines.bytes())?)
 }
 
-// The same, where both are there.
-fn plan_and_put<O: Sink>(
+// The same, with a list of the files beside the places, which the caller takes away.
+fn plan_among<'a, O: Sink>(
     desk: Desk<'_>,
-    order: PlanOrder<'_>,
-    tx: &Beside<'_>,
-    cert: &Beside<'_>,
+    order: PlanOrder<'a>,
+    files: &mut Vec<Beside<'a>>,
     lines: &mut O,
 ) -> Result<(), CentreFault> {
-    plan_files(desk, order, lines)?;
-    Ok(put_both(desk, tx, cert)?)
+    for (role, place) in places(order) {
+        let Some(place) = place else {
+            continue;
+        };
+        let made = Beside::make(desk, role, place)?;
+        if files.push(made).is_err() {
+            return Err(CentreFault::File(FileFault::OutOfMemory));
+        }
+    }
+    plan_files(desk, beside(order, files.as_slice()), lines)?;
+    Ok(put_all(desk, files.as_slice())?)
+}
+
+// The order with the files beside the places.
+fn beside<'a>(order: PlanOrder<'a>, files: &'a [Beside<'_>]) -> PlanOrder<'a> {
+    let mut beside = order;
+    for file in files {
+        match file.role {
+            Role::Rest => beside.rest = Some(file.path()),
+            Role::Why => beside.why = Some(file.path()),
+            Role::Certificate => beside.cert = file.path(),
+            _ => beside.tx = file.path(),
+        }
+    }
+    beside
 }

@@ -8,7 +8,8 @@ use crate::plan::{DEFAULT_SEARCH, bounded_file};
 use crate::report::{frames_file, report_file, tell_frames, tell_report};
 use crate::texts::EARLY_STRICT;
 use crate::words::{
-    CHECK, CHECK_COMMAND, PLAN, PLAN_COMMAND, REPORT, REPORT_COMMAND, STRICT, STRICT_FLAG,
+    CHECK, CHECK_COMMAND, PLAN, PLAN_COMMAND, REPORT, REPORT_COMMAND, REST, STRICT, STRICT_FLAG,
+    WHY,
 };
 use clap::{ArgMatches, Error};
 use pocsag_pages::FILE_LIMIT;
@@ -65,6 +66,8 @@ fn names_of<'a>(call: Call<'a, '_>) -> Names<'a> {
             pages: found.get_str(PAGES),
             tx: found.get_str(TX),
             cert: found.get_str(CERT),
+            rest: found.get_str(REST),
+            why: found.get_str(WHY),
             ..Names::NONE
         },
         Some(CHECK) => Names {

@@ -1,7 +1,8 @@
 //! What the words of a command ask for.
 
 use crate::words::{
-    CLOSED_END, EACH_FRAME, END, EXPECT, IDLE_END, IDLE_LAST, LIMIT, OPEN_END, RATE, STRICT, VERIFY,
+    AIRTIME, AT_MOST, CLOSED_END, EACH_FRAME, END, EXPECT, IDLE_END, IDLE_LAST, LIMIT, OPEN_END,
+    RATE, REST, STRICT, VERIFY, WHY,
 };
 use clap::ArgMatches;
 use pocsag_plan::{Effort, Search};
@@ -18,6 +19,15 @@ pub(crate) struct SearchOrder {
     pub(crate) search: Search,
 }
 
+/// What bounds the front of a page file, where one is planned.
+#[derive(Clone, Copy)]
+pub(crate) enum FrontLimit {
+    /// So many batches.
+    Batches(u32),
+    /// So many milliseconds at a rate.
+    Airtime { ms: u32, rate: u32 },
+}
+
 /// What `plan` is asked for.
 #[derive(Clone, Copy)]
 pub(crate) struct PlanOrder<'a> {
@@ -29,8 +39,13 @@ pub(crate) struct PlanOrder<'a> {
     pub(crate) search: SearchOrder,
     /// Whether the files are read back.
     pub(crate) verify: bool,
-    /// Whether what stands there before is kept until both files are whole.
+    /// Whether what stands there before is kept until all files are whole.
     pub(crate) keep: bool,
+    /// What bounds the front, where not all pages need to be planned.
+    pub(crate) front: Option<FrontLimit>,
+    /// The words for the page file of the pages that are left, and for the certificate of one page more.
+    pub(crate) rest: Option<&'a str>,
+    pub(crate) why: Option<&'a str>,
 }
 
 /// What `report` is asked for.
@@ -73,6 +88,15 @@ fn search_in(found: &ArgMatches<'_>) -> Option<SearchOrder> {
     })
 }
 
+fn front_in(found: &ArgMatches<'_>) -> Option<FrontLimit> {
+    if let Some(batches) = found.get_one::<u32>(AT_MOST) {
+        return Some(FrontLimit::Batches(batches));
+    }
+    let ms = found.get_one::<u32>(AIRTIME)?;
+    let rate = found.get_one::<u32>(RATE)?;
+    Some(FrontLimit::Airtime { ms, rate })
+}
+
 /// The order of the words of `plan`; none where a word is not there, which clap has seen to.
 pub(crate) fn plan_order<'a>(found: &ArgMatches<'a>) -> Option<PlanOrder<'a>> {
     Some(PlanOrder {
@@ -82,6 +106,9 @@ pub(crate) fn plan_order<'a>(found: &ArgMatches<'a>) -> Option<PlanOrder<'a>> {
         search: search_in(found)?,
         verify: found.get_flag(VERIFY),
         keep: found.get_flag(KEEP),
+        front: front_in(found),
+        rest: found.get_str(REST),
+        why: found.get_str(WHY),
     })
 }
 

@@ -84,7 +84,7 @@ pub fn plan_file(alloc: Global, pages: &[u8], search: Search) -> Result<Written,
 }
 
 // The fault of a stream that is written to memory: what a writer lacks is memory.
-fn in_memory(fault: StreamFault) -> CentreFault
+pub(crate) fn in_memory(fault: StreamFault) -> CentreFault
     ensures { result ≡ fault_in_memory fault }
 {
     match fault {

@@ -11,8 +11,30 @@ always with the fewest batches, and otherwise with one more than the
 certificate shows to be needed. A third line, 'at least N batches', then gives
 that bound.
 
-Example:
-  pocsag plan pages.csv tx.bin cert.bin --strict --always --verify --keep";
+With --at-most or --airtime the command plans the longest front of the file:
+its first pages, as many as so many batches carry, in the order of the file. It
+adds the line 'left L', the number of the other pages. Nothing is written if
+not even the first page fits.
+
+Examples:
+  pocsag plan pages.csv tx.bin cert.bin --strict --always --verify --keep
+  pocsag plan queue.csv tx.bin cert.bin --at-most 9 --rest rest.csv --keep";
+
+pub(crate) const AT_MOST_HELP: &str = "\
+Plans the first pages, as many as B batches carry";
+
+pub(crate) const AIRTIME_HELP: &str = "\
+The same for the most batches that last at most MS
+milliseconds at the rate R, as report tells it";
+
+pub(crate) const PLAN_RATE_HELP: &str = "Bits a second for --airtime: 512, 1200 or 2400";
+
+pub(crate) const REST_HELP: &str = "\
+Writes the pages that are left to the page file REST";
+
+pub(crate) const WHY_HELP: &str = "\
+Writes a certificate that the first pages and one more
+need more batches, if pages are left";
 
 pub(crate) const LIMIT_HELP: &str = "\
 How many nodes the search may examine, 1 to 1000000.

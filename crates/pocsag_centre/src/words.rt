@@ -1,8 +1,9 @@
 //! The words of the commands, as tables.
 
 use crate::texts::{
-    CHECK_ABOUT, END_HELP, EXPECT_HELP, FRAMES_HELP, IDLE_LAST_HELP, LIMIT_HELP, PLAN_ABOUT,
-    PLAN_MANUAL, RATE_HELP, REPORT_ABOUT, STRICT_HELP, VERIFY_HELP,
+    AIRTIME_HELP, AT_MOST_HELP, CHECK_ABOUT, END_HELP, EXPECT_HELP, FRAMES_HELP, IDLE_LAST_HELP,
+    LIMIT_HELP, PLAN_ABOUT, PLAN_MANUAL, PLAN_RATE_HELP, RATE_HELP, REPORT_ABOUT, REST_HELP,
+    STRICT_HELP, VERIFY_HELP, WHY_HELP,
 };
 use pocsag_shell::{
     ALWAYS_FLAG, CERT_PLACE, Content, FLAG, Given, KEEP_FLAG, LineWord, PAGES_PLACE, PLACE, Shape,
@@ -32,6 +33,14 @@ pub(crate) const EXPECT: &str = "expect";
 pub(crate) const STRICT: &str = "strict";
 
 pub(crate) const EACH_FRAME: &str = "frames";
+
+pub(crate) const AT_MOST: &str = "at-most";
+
+pub(crate) const AIRTIME: &str = "airtime";
+
+pub(crate) const REST: &str = "rest";
+
+pub(crate) const WHY: &str = "why";
 
 // The names of the ends.
 pub(crate) const OPEN_END: &str = "open";
@@ -97,6 +106,47 @@ const EACH_FRAME_FLAG: LineWord = LineWord {
     ..FLAG
 };
 
+const AT_MOST_OPTION: LineWord = LineWord {
+    id: AT_MOST,
+    help: AT_MOST_HELP,
+    given: Given::Option("B", &[]),
+    content: Content::Number,
+    excludes: &[AIRTIME],
+    ..FLAG
+};
+
+const AIRTIME_OPTION: LineWord = LineWord {
+    id: AIRTIME,
+    help: AIRTIME_HELP,
+    given: Given::Option("MS", &[]),
+    content: Content::Number,
+    needs: &[RATE],
+    ..FLAG
+};
+
+const PLAN_RATE_OPTION: LineWord = LineWord {
+    id: RATE,
+    help: PLAN_RATE_HELP,
+    given: Given::Option("R", &[]),
+    content: Content::Number,
+    needs: &[AIRTIME],
+    ..FLAG
+};
+
+const REST_OPTION: LineWord = LineWord {
+    id: REST,
+    help: REST_HELP,
+    given: Given::Option("REST", &[]),
+    ..FLAG
+};
+
+const WHY_OPTION: LineWord = LineWord {
+    id: WHY,
+    help: WHY_HELP,
+    given: Given::Option("FILE", &[]),
+    ..FLAG
+};
+
 pub(crate) const PLAN_COMMAND: Shape = Shape {
     name: PLAN,
     about: PLAN_ABOUT,
@@ -113,6 +163,11 @@ pub(crate) const PLAN_COMMAND: Shape = Shape {
         ALWAYS_FLAG,
         VERIFY_FLAG,
         KEEP_FLAG,
+        AT_MOST_OPTION,
+        AIRTIME_OPTION,
+        PLAN_RATE_OPTION,
+        REST_OPTION,
+        WHY_OPTION,
     ],
 };
 

@@ -11,6 +11,7 @@ pub mod Repairs
 pub mod Restoring
 pub mod Respelled
 pub mod SentBytes
+pub mod SpellablePages
 pub mod Transmissions
 pub mod WordByWord
 pub mod Words

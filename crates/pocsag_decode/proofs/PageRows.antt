@@ -207,11 +207,14 @@ some_pages (p ∷ ps) h = refl
 all_back : (ps : List Page) → All (λ p. page_fault_of p ≡ None) ps → All IsSpellable ps → All IsBack ps
 all_back ps fine texts = λ k d h. record_back _ (fine k d h) (texts k d h)
 
+-- pages that may stand in one round are read back, none as no pages
+pub good_back : (ps : List Page) → AreGood ps → length ps ≤ 20000 → All IsSpellable ps → verdict (page_file ps) ≡ unless_empty ps
+good_back ps good few texts =
+    let back = all_back ps good.each texts in
+    small_file (page_file ps) (file_short ps back few)
+    ∙ (rw (file_rows ps) (after_header header (map page_record ps) headed))
+    ∙ judged (map page_record ps)
+    ∙ all_grown [] ps good few back
+
 pub read_back : (R : List Page) → IsRound R → All IsSpellable R → verdict (page_file R) ≡ Ok R
-read_back R round texts =
-    let back = all_back R round.good.each texts in
-    small_file (page_file R) (file_short R back round.few)
-    ∙ (rw (file_rows R) (after_header header (map page_record R) headed))
-    ∙ judged (map page_record R)
-    ∙ all_grown [] R round.good round.few back
-    ∙ some_pages R round.some
+read_back R round texts = good_back R round.good round.few texts ∙ some_pages R round.some

@@ -1,9 +1,10 @@
-ghost use Rattle.std.specs.Prelude.{◌≡◌, ◌↔◌, ℕ, ◌<◌, ◌≤◌, ◌==◌, ◌++◌, List, All, false, filter};
+ghost use Rattle.std.specs.Prelude.{◌≡◌, ◌↔◌, ℕ, ◌<◌, ◌≤◌, ◌==◌, ◌++◌, List, All, false, filter, length};
 ghost use Rattle.std.specs.Fmt.{decimal};
 ghost use Rattle.pocsag_pages.specs.declared.page.Page.{Page};
 ghost use Rattle.pocsag_pages.specs.Bytes.{Sent, after_preamble, words_of};
 ghost use Rattle.pocsag_pages.specs.PageFile.{page_of_fields, verdict};
-ghost use Rattle.pocsag_pages.specs.Pages.{IsRound, is_reserved, last_address};
+ghost use Rattle.pocsag_pages.specs.PageList.{unless_empty};
+ghost use Rattle.pocsag_pages.specs.Pages.{AreGood, IsRound, is_reserved, last_address, page_limit};
 ghost use Rattle.pocsag_pager.specs.Damage.{IsDamaged};
 ghost use Rattle.pocsag_pager.specs.Shown.{AreShown};
 ghost use Rattle.pocsag_decode.specs.Listing.{kind_field, message_field};
@@ -68,7 +69,18 @@ pub fn listed_fields_are_read_back()
 {}
 
 /// The page file of a round's pages is read as that round, where the payload of each page is none, that of a numeric
-/// text with function 0, or that of an alphanumeric text with function 3.
+/// text with function 0, or that of an alphanumeric text with function 3. The same holds of any pages of a round, but
+/// that no pages, of which the file has the header alone, give no round.
 pub fn page_files_are_read_back()
-    ensures { (R : List Page) → IsRound R → All IsSpellable R → verdict (page_file R) ≡ Ok R }
+    ensures round { (R : List Page) → IsRound R → All IsSpellable R → verdict (page_file R) ≡ Ok R }
+    ensures pages { (ps : List Page) → AreGood ps → length ps ≤ page_limit → All IsSpellable ps →
+        verdict (page_file ps) ≡ unless_empty ps }
+{}
+
+/// Each page that three fields spell is spellable, and so is each page of a page file's round: this is what the law
+/// `page_files_are_read_back` asks of pages.
+pub fn pages_of_files_are_spellable()
+    ensures fields { (address kind message : List ℕ) (p : Page) →
+        page_of_fields address kind message ≡ Ok p → IsSpellable p }
+    ensures files { (file : List ℕ) (R : List Page) → verdict file ≡ Ok R → All IsSpellable R }
 {}

@@ -25,7 +25,7 @@ use Rattle.pocsag_pages.specs.PageList.{unless_empty}
 use Rattle.pocsag_pages.specs.Pages.{AreGood, IsRound, has_address, is_bad_payload, is_reserved, last_address, page_fault_of, page_limit}
 use Rattle.pocsag_pages.proofs.Growing.{good_none, good_push}
 use Rattle.pocsag_pages.proofs.Judging.{grown, judged, or_later}
-use Rattle.pocsag_laws.proofs.SpellablePages.{of_files, one_name, page_at, paged, value_of}
+use Rattle.pocsag_decode.proofs.SpellablePages.{of_files, one_name, page_at, paged, value_of}
 
 -- what bits are cut in twenties has twenty bits
 cut_small : (n : ℕ) (bits : List ℕ) → AreBits bits → 20 * n ≤ length bits → AreItems (cut 20 (high_number 0) n bits)

@@ -4,6 +4,5 @@ pub mod Ends
 pub mod Airtimes
 pub mod FileRounds
 pub mod Fronts
-pub mod SpellablePages
 pub mod TestedPages
 pub mod OpenRounds

@@ -14,7 +14,7 @@ use Rattle.pocsag_edits.specs.Edited.{IsAdded, IsCancelled}
 use Rattle.pocsag_edits.specs.Runs.{Asked, IsDone, IsEdit, IsRun, add, asked_of, cancel, clear}
 use Rattle.pocsag_laws.specs.OpenRounds.{IsOpenRound}
 use Rattle.pocsag_laws.proofs.FileRounds.{file_round}
-use Rattle.pocsag_laws.proofs.SpellablePages.{page_spellable, round_spellable}
+use Rattle.pocsag_decode.proofs.SpellablePages.{page_spellable, round_spellable}
 
 -- pages that pass a test are as good as all of them
 all_kept : (P : ℕ → Type 0) (stays : Page → Bool) (ps : List Page) → AllByRecursion P (addresses_of ps) →

@@ -76,14 +76,6 @@ pub fn fewest_batches_take_least_time()
         airtime (transmission_bits a) rate < airtime (transmission_bits b) rate }
 {}
 
-/// Each page that three fields spell is spellable, and so is each page of a page file's round: this is what the law
-/// `page_files_are_read_back` asks of pages.
-pub fn pages_of_files_are_spellable()
-    ensures fields { (address kind message : List ℕ) (p : Page) →
-        page_of_fields address kind message ≡ Ok p → IsSpellable p }
-    ensures files { (file : List ℕ) (R : List Page) → verdict file ≡ Ok R → All IsSpellable R }
-{}
-
 /// The verdict of a page file, where it is no fault, is a round; and the page file of that round has the same verdict.
 pub fn verdicts_are_rounds()
     ensures round { (file : List ℕ) (R : List Page) → verdict file ≡ Ok R → IsRound R }

@@ -8,6 +8,5 @@ mod laws;
 pub use laws::{
     ends_cost_one_batch, fewer_pages_need_no_more, fewest_batches_take_least_time,
     fronts_need_no_more, more_batches_are_enough, one_number_is_fewest,
-    pages_of_files_are_spellable, pages_of_open_rounds_are_spellable, stricter_ends_are_legal,
-    verdicts_are_rounds,
+    pages_of_open_rounds_are_spellable, stricter_ends_are_legal, verdicts_are_rounds,
 };

@@ -5,7 +5,7 @@ use crate::outputs::Places;
 use pocsag_plan::Effort;
 use pocsag_shell::{
     Beside, Desk, FileFault, Input, Names, Output, Outputs, ReaderSource, Role, STANDARD,
-    WriterSink, is_regular_or_none, make_outputs, open_source, put_both, refuse_equal,
+    WriterSink, is_regular_or_none, make_outputs, open_source, put_all, refuse_equal,
     refuse_one_file, refuse_shared,
 };
 use std::fs::File;
@@ -63,15 +63,19 @@ impl<'a> RoundFiles<'a> {
 
     // Puts the files that were made beside their places there, and takes away what is not put.
     fn settle(&self, tx: &str, cert: &str, are_whole: bool) -> Result<(), FileFault> {
-        let tx = Beside::of(self.desk, Role::Transmission, tx)?;
-        let cert = Beside::of(self.desk, Role::Certificate, cert)?;
+        // No transmission ever stands without its certificate.
+        let files = [
+            Beside::of(self.desk, Role::Certificate, cert)?,
+            Beside::of(self.desk, Role::Transmission, tx)?,
+        ];
         let done = if are_whole {
-            put_both(self.desk, &tx, &cert)
+            put_all(self.desk, &files)
         } else {
             Ok(())
         };
-        tx.remove(self.desk);
-        cert.remove(self.desk);
+        for file in &files {
+            file.remove(self.desk);
+        }
         done
     }
 }

@@ -1,5 +1,6 @@
 pub mod CsvRecords
 pub mod CsvSteps
+pub mod FirstPages
 pub mod Fronts
 pub mod GoodPages
 pub mod Growing

@@ -1,7 +1,8 @@
-ghost use Rattle.std.specs.Prelude.{◌≡◌};
+ghost use Rattle.std.specs.Prelude.{◌≡◌, ◌<◌, ◌≤◌, drop, length, take, IfOk};
 ghost use Rattle.pocsag_pages.specs.Pages.{IsRound};
 
 use crate::page::Page;
+use pocsag_words::OutOfMemory;
 use std::marker::Model;
 
 /// The greatest number of pages of a round.
@@ -40,6 +41,18 @@ impl Round {
     {
         // What a type keeps is known where its fields are looked at, and so in the methods of the type alone.
         let _ = &self.pages;
+    }
+
+    /// The round of the first pages, so many, and the pages behind them, both in order.
+    pub fn split(self, count: usize) -> Result<(Round, Vec<Page>), OutOfMemory>
+        requires some { 0 < count }
+        requires among { count ≤ length self }
+        ensures first { IfOk result (λ parts. parts.0 ≡ take count self) }
+        ensures rest { IfOk result (λ parts. parts.1.items ≡ drop count self) }
+    {
+        let Round { mut pages } = self;
+        let rest = pages.split_off(count)?;
+        Ok((Round { pages }, rest))
     }
 
     /// The pages in order.

@@ -4,6 +4,7 @@ pub mod Due
 pub mod Editing
 pub mod Entries
 pub mod Explaining
+pub mod FrontTries
 pub mod Refusing
 pub mod Rooms
 pub mod Tallying

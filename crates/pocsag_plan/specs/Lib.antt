@@ -1,8 +1,10 @@
+pub mod Attempts
 pub mod BookPlans
 pub mod Books
 pub mod BoundedHeadline
 pub mod Edits
 pub mod FaultChains
+pub mod Fronts
 pub mod Headline
 pub mod OpenRound
 pub mod Plans

@@ -1,7 +1,7 @@
 -- What a report tells of a plan at a rate, and its text (this project's own).
 use Rattle.std.specs.Prelude.{◌≡◌, ◌⊎◌, ℕ, ◌+◌, ◌*◌, ◌<◌, ◌≤◌, List, [], ◌∷◌, ◌++◌, codes}
 use Rattle.std.specs.Fmt.{decimal}
-use Rattle.pocsag_words.specs.Frame.{transmission_bits}
+use Rattle.pocsag_words.specs.Frame.{airtime, transmission_bits}
 use Rattle.pocsag_plan.specs.declared.airtime.Report.{Report}
 use Rattle.pocsag_plan.specs.declared.answer.Plan.{Plan}
 
@@ -20,6 +20,12 @@ pub record IsReport (plan : Plan) (rate : ℕ) (report : Report) : Type 0 where
   pub bits : report.bits ≡ transmission_bits plan.batches
   pub enough : 1000 * report.bits ≤ rate * report.airtime_ms
   pub least : rate * report.airtime_ms < 1000 * report.bits + rate
+
+-- A transmission of so many batches lasts at most so many milliseconds at the rate, as a report tells it, and one of a batch
+-- more lasts longer. No batch is none.
+pub record AreMostWithin (airtime_ms rate batches : ℕ) : Type 0 where
+  pub within : 0 < batches → airtime (transmission_bits batches) rate ≤ airtime_ms
+  pub most : airtime_ms < airtime (transmission_bits (batches + 1)) rate
 
 -- A line: a name, a space, a decimal number, and a line feed.
 unfoldable pub line_of : List ℕ → ℕ → List ℕ

@@ -10,7 +10,11 @@ use Rattle.pocsag_tree.specs.Views.{bound_tree_of}
 use Rattle.pocsag_check.specs.Accepting.{IsAccepted}
 use Rattle.pocsag_branch.specs.declared.answer.Found.{Found}
 use Rattle.pocsag_branch.specs.Found.{IsBound, IsLimit}
+use Rattle.pocsag_branch.specs.Shape.{IsSearchTree}
 use Rattle.pocsag_branch.specs.declared.stop.SearchLimit.{SearchLimit}
+use Rattle.pocsag_plan.specs.declared.outcome.Outcome.{Outcome}
+use Rattle.pocsag_plan.specs.declared.search.Effort.TheVariants.{Fewest}
+use Rattle.pocsag_plan.specs.declared.search.Search.{Search}
 
 -- A tour of the least that some choice of starts needs, or of one batch more, and a tree for a bound that
 -- the batches are, or exceed by one.
@@ -26,14 +30,22 @@ pub record IsWithinOne (k : Classes) (end : End) (limit bound : ℕ) (found : Fo
   pub accepted : IsAccepted false k end bound (bound_tree_of found.tree)
   pub few : closed_nodes (bound_tree_of found.tree) ≤ limit
 
--- The same for a round of these classes.
-pub record IsWithinOneOf (end : End) (R : List Page) (limit bound : ℕ) (found : Found) : Type 0 where
-  pub table : Classes
-  pub classes : AreClassesOf table end R
-  pub within : IsWithinOne table end limit bound found
-
 -- The bound is the batches where no search stopped; and where one did, they are one more, and it says this.
 pub record IsTightOrStopped (k : Classes) (end : End) (limit bound batches : ℕ) (stopped : Option SearchLimit) : Type 0 where
   pub tight : IfNone stopped (bound ≡ batches)
   pub at_limit : IfSome stopped (λ stop.
       (stop.least ≡ bound) × (stop.found ≡ batches) × IsLimit k end limit stop.least stop.found (bound_tree_of stop.tree))
+
+-- What is left for a plan by the search that is asked for.
+pub record IsOutcome (k : Classes) (search : Search) (outcome : Outcome) : Type 0 where
+  pub within : IsWithinOne k search.end search.limit outcome.bound outcome.found
+  pub stopped : IsTightOrStopped k search.end search.limit outcome.bound outcome.found.batches outcome.stopped
+  -- Where only the fewest batches are an answer, the bound is the batches, and the tree has the promised shape.
+  pub fewest : search.effort ≡ Fewest → outcome.bound ≡ outcome.found.batches
+  pub shaped : search.effort ≡ Fewest → IsSearchTree k search.end within.least outcome.found.batches (bound_tree_of outcome.found.tree)
+
+-- The same for a round of these classes.
+pub record IsOutcomeFor (search : Search) (R : List Page) (outcome : Outcome) : Type 0 where
+  pub table : Classes
+  pub classes : AreClassesOf table search.end R
+  pub of_classes : IsOutcome table search outcome

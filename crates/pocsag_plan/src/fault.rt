@@ -1,4 +1,5 @@
 ghost use Rattle.std.specs.Prelude.{◌≡◌};
+ghost use Rattle.pocsag_plan.specs.declared.fault.NoFront.TheVariants as front;
 ghost use Rattle.pocsag_plan.specs.declared.fault.PlanFault.TheVariants as planning;
 ghost use Rattle.pocsag_plan.specs.declared.fault.StreamFault.TheVariants as streaming;
 ghost use Rattle.pocsag_plan.specs.FaultChains.{fault_of_search};
@@ -18,6 +19,15 @@ pub enum PlanFault {
     SearchLimit(SearchLimit),
     #[error("out of memory")]
     OutOfMemory,
+}
+
+/// Why a round has no front that so many batches carry.
+#[derive(Drop)]
+pub enum NoFront {
+    /// There is no plan.
+    Plan(PlanFault),
+    /// Not even the first page fits: it is sent in so many batches.
+    FirstPage(u32),
 }
 
 /// Why a page file was not planned and written.
@@ -47,6 +57,14 @@ impl From<OutOfMemory> for PlanFault {
 
     fn from(_fault: OutOfMemory) -> PlanFault {
         PlanFault::OutOfMemory
+    }
+}
+
+impl From<PlanFault> for NoFront {
+    ghost from_gives = { λ fault e. e ≡ front.Plan fault };
+
+    fn from(fault: PlanFault) -> NoFront {
+        NoFront::Plan(fault)
     }
 }
 

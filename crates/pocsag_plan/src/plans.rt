@@ -3,16 +3,16 @@ ghost use Rattle.pocsag_pages.specs.Reading.{page_length};
 ghost use Rattle.pocsag_slots.specs.Loads.{AreClassesOf};
 ghost use Rattle.pocsag_tree.specs.BoundTrees.{closed_nodes};
 ghost use Rattle.pocsag_tree.specs.Views.{bound_tree_of};
-ghost use Rattle.pocsag_branch.specs.Found.{HasPage, IsNodeLimit};
+ghost use Rattle.pocsag_branch.specs.Found.{IsNodeLimit};
 ghost use Rattle.pocsag_plan.specs.Plans.{ExplainsPlan, IsBounded, IsNoWorse, IsPlan, IsPlanFor, NoneHasFewer};
-ghost use Rattle.pocsag_plan.specs.Within.{IsTightOrStopped, IsWithinOne, IsWithinOneOf};
+ghost use Rattle.pocsag_plan.specs.Within.{IsOutcomeFor};
 
 use crate::answer::Plan;
 use crate::bounded::Bounded;
 use crate::fault::PlanFault;
+use crate::outcome::{Outcome, outcome_of};
 use crate::search::{Effort, Search};
 use pocsag_batch::{in_order_batches, order_of};
-use pocsag_branch::{Found, FreeFault, SearchLimit, search_freely};
 use pocsag_check::accepted_trees_have_texts;
 use pocsag_pages::Round;
 use pocsag_slots::{Classes, classes_of, tours_have_codewords};
@@ -85,58 +85,8 @@ pub(crate) fn counted_plan(
     ensures fault { IfErr result (ExplainsPlan search.effort search.end round.now search.limit) }
 {
     round.keeps_rules();
-    match search.effort {
-        Effort::Fewest => {
-            let found = pocsag_branch::search(alloc, classes, search.limit, search.end)?;
-            let bound = found.batches;
-            let plan = completed(alloc, round, found, bound, search)?;
-            Ok(Bounded {
-                plan,
-                bound,
-                stopped: None,
-            })
-        }
-        Effort::Always => {
-            let (found, bound, stopped) = within_one(alloc, classes, search)?;
-            let plan = completed(alloc, round, found, bound, search)?;
-            Ok(Bounded {
-                plan,
-                bound,
-                stopped,
-            })
-        }
-    }
-}
-
-// What the free search finds, or what it leaves at its limit; the bound; and at the limit what the search for
-// the fewest says.
-fn within_one(
-    alloc: Global,
-    classes: &Classes,
-    search: Search,
-) -> Result<(Found, u32, Option<SearchLimit>), OutOfMemory>
-    requires limited { IsNodeLimit search.limit }
-    requires pages { HasPage classes.now }
-    ensures within { IfOk result (λ x. IsWithinOne classes.now search.end search.limit x.1 x.0) }
-    ensures stopped { IfOk result
-        (λ x. IsTightOrStopped classes.now search.end search.limit x.1 x.0.batches x.2) }
-{
-    match search_freely(alloc, classes, search.limit, search.end) {
-        Ok(found) => {
-            let bound = found.batches;
-            Ok((found, bound, None))
-        }
-        Err(FreeFault::SearchLimit { near, stop }) => {
-            let found = Found {
-                batches: near.least + 1,
-                choice: near.choice,
-                steps: near.steps,
-                tree: near.tree,
-            };
-            Ok((found, near.least, Some(stop)))
-        }
-        Err(FreeFault::OutOfMemory) => Err(OutOfMemory),
-    }
+    let outcome = outcome_of(alloc, classes, search)?;
+    Ok(completed(alloc, round, outcome, search)?)
 }
 
 // How many codewords the pages have.
@@ -150,25 +100,28 @@ fn codewords_of(round: &Round) -> u32
     total as u32
 }
 
-// The plan with what a search found, and the bound for which its tree is.
-fn completed(
+// The plan of the round with what a search left for its classes.
+pub(crate) fn completed(
     alloc: Global,
     round: &Round,
-    found: Found,
-    bound: u32,
+    outcome: Outcome,
     search: Search,
-) -> Result<Plan, OutOfMemory>
+) -> Result<Bounded, OutOfMemory>
     requires limited { IsNodeLimit search.limit }
-    requires within { IsWithinOneOf search.end round.now search.limit bound found }
-    ensures plan { IfOk result (λ plan. IsBounded search.end round.now plan bound) }
-    ensures batches { IfOk result (λ plan. plan.batches ≡ found.batches) }
-    ensures tree { IfOk result (λ plan. plan.tree ≡ found.tree) }
+    requires of_round { IsOutcomeFor search round.now outcome }
+    ensures plan { IfOk result (IsPlanFor search round.now) }
+    ensures batches { IfOk result (λ bounded. bounded.plan.batches ≡ outcome.found.batches) }
 {
     tours_have_codewords();
     accepted_trees_have_texts();
+    let Outcome {
+        found,
+        bound,
+        stopped,
+    } = outcome;
     let pages = round.pages().len() as u32;
     let order = order_of(alloc, round, &found.steps, search.end)?;
-    Ok(Plan {
+    let plan = Plan {
         end: search.end,
         batches: found.batches,
         in_order: in_order_batches(round),
@@ -178,5 +131,10 @@ fn completed(
         order,
         choice: found.choice,
         tree: found.tree,
+    };
+    Ok(Bounded {
+        plan,
+        bound,
+        stopped,
     })
 }

@@ -1,11 +1,11 @@
 ghost use Rattle.std.specs.Prelude.{◌≡◌, ◌*◌, ◌≤◌, IfOk, IsErr, ◌↔◌, Some};
 ghost use Rattle.std.specs.Fmt.{WritesOnOk};
-ghost use Rattle.pocsag_plan.specs.Reports.{IsRate, IsReport, first_lines, last_lines, line_of, report_text};
+ghost use Rattle.pocsag_plan.specs.Reports.{AreMostWithin, IsRate, IsReport, first_lines, last_lines, line_of, report_text};
 
 use crate::airtime::Report;
 use crate::answer::Plan;
 use crate::fault::BadRate;
-use pocsag_words::{airtime, transmission_bits};
+use pocsag_words::{BATCH_BITS, PREAMBLE_BITS, airtime, transmission_bits};
 use std::fmt::{self, Display, Formatter};
 
 /// What the plan takes on the air at a rate of 512, 1200 or 2400 bits a second.
@@ -28,6 +28,21 @@ pub fn report(plan: &Plan, rate: u32) -> Result<Report, BadRate>
         bits: bits as u64,
         airtime_ms: airtime(bits, rate) as u64,
     })
+}
+
+/// The most batches whose airtime at a rate of 512, 1200 or 2400 bits a second, as `report` tells it, is at most so many
+/// milliseconds; 0 where one batch takes longer.
+pub fn most_batches(airtime_ms: u32, rate: u32) -> Result<u32, BadRate>
+    ensures most { IfOk result (AreMostWithin airtime_ms rate) }
+    ensures bad { IsErr result ↔ (¬ IsRate rate) }
+{
+    match rate {
+        512 | 1200 | 2400 => {
+            let bits = u64::from(airtime_ms) * u64::from(rate) / 1000;
+            Ok((bits.saturating_sub(PREAMBLE_BITS) / BATCH_BITS) as u32)
+        }
+        _ => Err(BadRate),
+    }
 }
 
 impl Display for Report {

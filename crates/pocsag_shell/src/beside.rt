@@ -17,7 +17,8 @@ const OWNER_ALONE: u32 = 0o600;
 /// then.
 #[derive(Drop)]
 pub struct Beside<'a> {
-    role: Role,
+    /// What the file is to the command.
+    pub role: Role,
     place: &'a str,
     path: String,
 }
@@ -135,25 +136,34 @@ fn keep_as(desk: Desk<'_>, place: &str, name: &str) -> io::Result<()> {
     }
 }
 
-/// Renames both files to their places once both are on the disk. The certificate goes first, so no transmission ever stands
-/// without its certificate. If the transmission cannot be renamed, the old certificate comes back.
-pub fn put_both(desk: Desk<'_>, tx: &Beside<'_>, cert: &Beside<'_>) -> Result<(), FileFault> {
-    tx.sync(desk)?;
-    cert.sync(desk)?;
-    let cert_folder = cert.open_folder(desk)?;
-    let tx_folder = tx.open_folder(desk)?;
-    rename_both(desk, tx, cert)?;
-    desk.written(cert.role, cert_folder.sync_all())?;
-    desk.written(tx.role, tx_folder.sync_all())
+/// Renames the files to their places, in this order, once all are on the disk. If one cannot be renamed, the older files
+/// come back to the places before it. So a file never stands without those before it.
+pub fn put_all(desk: Desk<'_>, files: &[Beside<'_>]) -> Result<(), FileFault> {
+    let mut folders = Vec::new(desk.alloc);
+    for file in files {
+        file.sync(desk)?;
+        folders.push(file.open_folder(desk)?)?;
+    }
+    rename_all(desk, files)?;
+    for (file, folder) in files.iter().zip(&folders) {
+        desk.written(file.role, folder.sync_all())?;
+    }
+    Ok(())
 }
 
-fn rename_both(desk: Desk<'_>, tx: &Beside<'_>, cert: &Beside<'_>) -> Result<(), FileFault> {
-    let old = cert.keep_old(desk)?;
-    let renamed = cert.rename(desk);
+fn rename_all(desk: Desk<'_>, files: &[Beside<'_>]) -> Result<(), FileFault> {
+    let [first, others @ ..] = files else {
+        return Ok(());
+    };
+    if others.is_empty() {
+        return first.rename(desk);
+    }
+    let old = first.keep_old(desk)?;
+    let renamed = first.rename(desk);
     if renamed.is_ok() {
-        let renamed = tx.rename(desk);
+        let renamed = rename_all(desk, others);
         if renamed.is_err() {
-            cert.put_back(desk, old);
+            first.put_back(desk, old);
             return renamed;
         }
     }

@@ -3,6 +3,7 @@ ghost use Rattle.std.specs.Prelude.{◌≤◌, length, IfOk};
 use crate::desk::Desk;
 use crate::devices::{ReaderSource, WriterSink};
 use crate::fault::FileFault;
+use crate::lines::put_whole;
 use crate::paths::{Named, are_one, name_one_file};
 use crate::role::Role;
 use crate::streams::{Input, Output};
@@ -125,6 +126,13 @@ pub fn make_outputs<'a>(
         tx: WriterSink::new(opened_tx, Role::Transmission, desk.watch),
         cert: WriterSink::new(opened_cert, Role::Certificate, desk.watch),
     })
+}
+
+/// Opens or makes a file, and writes the bytes in place of those that it has.
+pub fn write_file(desk: Desk<'_>, role: Role, path: &str, bytes: &[u8]) -> Result<(), FileFault> {
+    let output = open_output(desk, role, path)?;
+    empty(desk, role, &output)?;
+    put_whole(&mut WriterSink::new(output, role, desk.watch), bytes)
 }
 
 /// Refuses two words that name one file, whatever their spelling, and a word that names the file behind standard output or

@@ -19,13 +19,13 @@ mod tables;
 mod watch;
 mod words;
 
-pub use beside::{Beside, put_both};
+pub use beside::{Beside, put_all};
 pub use desk::Desk;
 pub use devices::{ReaderSource, WriterSink};
 pub use fault::{Failure, FileFault};
 pub use files::{
     Outputs, is_regular, is_regular_or_none, make_outputs, open_source, read_both, read_file,
-    refuse_one_file, refuse_shared,
+    refuse_one_file, refuse_shared, write_file,
 };
 pub use group::{Both, Call, Group, Tables};
 pub use lines::{put_whole, tell, tell_fault};

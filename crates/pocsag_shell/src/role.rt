@@ -6,6 +6,10 @@ pub enum Role {
     PageFile,
     Transmission,
     Certificate,
+    /// The page file of the pages that are left.
+    Rest,
+    /// The certificate that says why they are.
+    Why,
     /// The journal of an open round.
     Journal,
     /// Standard output.
@@ -20,6 +24,8 @@ impl Display for Role {
             Role::PageFile => "page file",
             Role::Transmission => "transmission",
             Role::Certificate => "certificate",
+            Role::Rest => "page file of the rest",
+            Role::Why => "certificate of one page more",
             Role::Journal => "journal",
             Role::Output => "standard output",
             Role::Lines => "standard input",
@@ -33,6 +39,8 @@ pub struct Names<'a> {
     pub pages: Option<&'a str>,
     pub tx: Option<&'a str>,
     pub cert: Option<&'a str>,
+    pub rest: Option<&'a str>,
+    pub why: Option<&'a str>,
     pub journal: Option<&'a str>,
 }
 
@@ -49,6 +57,8 @@ impl<'a> Names<'a> {
         pages: None,
         tx: None,
         cert: None,
+        rest: None,
+        why: None,
         journal: None,
     };
 
@@ -58,6 +68,8 @@ impl<'a> Names<'a> {
             Role::PageFile => self.pages,
             Role::Transmission => self.tx,
             Role::Certificate => self.cert,
+            Role::Rest => self.rest,
+            Role::Why => self.why,
             Role::Journal => self.journal,
             Role::Output | Role::Lines => None,
         };

@@ -1,5 +1,8 @@
-use Rattle.pocsag_decode.proofs.PageRows.{read_back}
+use Rattle.pocsag_decode.proofs.PageRows.{good_back, read_back}
 use Rattle.pocsag_decode.proofs.laws.page_files_are_read_back.Goals as goal
 
-pub returns : goal.returns
-returns c = read_back
+pub returns-clause-round : goal.returns-clause-round
+returns-clause-round c = read_back
+
+pub returns-clause-pages : goal.returns-clause-pages
+returns-clause-pages c = good_back

@@ -5,25 +5,28 @@ use Rattle.pocsag_slots.specs.Tours.{IsTourFor}
 use Rattle.pocsag_tree.specs.Views.{bound_tree_of}
 use Rattle.pocsag_batch.specs.Placing.{IsOrder}
 use Rattle.pocsag_check.proofs.Bounding.{admitted_all}
+use Rattle.pocsag_plan.proofs.Explaining.{no_worse}
 use Rattle.pocsag_plan.proofs.Completing.{found_room, most, nodes_few, some_batch, tour_for}
 use Rattle.pocsag_plan.proofs.plans.completed.Goals as goal
 
 pub order_of-requires : goal.order_of-requires
 order_of-requires c =
-    let is = c.requires.within in
+    let is = c.requires.of_round in
+    let outcome = c.args.outcome in
     subst (λ (steps : List Step). IsTourFor c.args.search.end c.args.round.now steps) (sym c.deref.ensures.value)
-    (tour_for is.table c.args.search.end c.args.search.limit c.args.bound c.args.found is.within c.args.round.now is.classes)
+    (tour_for is.table c.args.search.end c.args.search.limit outcome.bound outcome.found is.of_classes.within c.args.round.now is.classes)
 
 pub returns-clause-plan : goal.returns-clause-plan
 returns-clause-plan c =
-    let k = c.requires.within.table in
-    let counted = c.requires.within.classes in
+    let k = c.requires.of_round.table in
+    let counted = c.requires.of_round.classes in
     let end = c.args.search.end in
     let R = c.args.round.now in
     let limit = c.args.search.limit in
-    let bound = c.args.bound in
-    let found = c.args.found in
-    let is = c.requires.within.within in
+    let bound = c.args.outcome.bound in
+    let found = c.args.outcome.found in
+    let left = c.requires.of_round.of_classes in
+    let is = left.within in
     let near : found.batches ≤ 1760001 = most k end limit bound found is in
     let at_least : bound ≤ found.batches = is.at_least in
     let sent = c.tours_have_codewords.ensures k end (slice_index found.choice.early) found.batches found.steps.items R
@@ -32,22 +35,35 @@ returns-clause-plan c =
     let few = nodes_few k end limit bound found is c.requires.limited
     (c.accepted_trees_have_texts.ensures.closed k end bound (bound_tree_of found.tree) is.accepted) in
     record {
-      asked = refl;
-      pages = ap length c.pages.ensures.pages;
-      codewords = c.codewords_of.ensures;
-      in_order = c.in_order_batches.ensures;
-      table = k;
-      classes = counted;
-      admitted = admitted_all k end (slice_index found.choice.early) found.batches found.steps.items is.tour;
-      tour = is.tour;
-      order = subst (λ (steps : List Step). IsOrder end R steps c.in_ok-order.order.items) c.deref.ensures.value
-          c.in_ok-order.ensures.order;
-      room = subst (λ (n : ℕ). n ≤ 16 * found.batches) (sym c.codewords_of.ensures) room;
-      near_least = record { least = is.least; is_least = is.is_least; near = is.or_one_more };
-      most = near;
-      fewest = λ T n legal. is.bounded R T n (apart_pages R c.pages.ensures.round.good) counted legal;
-      at_least = at_least;
-      within_one = is.within_one;
-      accepted = record { table = k; counted = counted; accepted = is.accepted };
-      text = c.accepted_trees_have_texts.ensures.text false k end bound (bound_tree_of found.tree) is.accepted (omega arith) few;
+      plan_of = record {
+        asked = refl;
+        pages = ap length c.pages.ensures.pages;
+        codewords = c.codewords_of.ensures;
+        in_order = c.in_order_batches.ensures;
+        table = k;
+        classes = counted;
+        admitted = admitted_all k end (slice_index found.choice.early) found.batches found.steps.items is.tour;
+        tour = is.tour;
+        order = subst (λ (steps : List Step). IsOrder end R steps c.in_ok-order.order.items) c.deref.ensures.value
+            c.in_ok-order.ensures.order;
+        room = subst (λ (n : ℕ). n ≤ 16 * found.batches) (sym c.codewords_of.ensures) room;
+        near_least = record { least = is.least; is_least = is.is_least; near = is.or_one_more };
+        most = near;
+        fewest = λ T n legal. is.bounded R T n (apart_pages R c.pages.ensures.round.good) counted legal;
+        at_least = at_least;
+        within_one = is.within_one;
+        accepted = record { table = k; counted = counted; accepted = is.accepted };
+        text = c.accepted_trees_have_texts.ensures.text false k end bound (bound_tree_of found.tree) is.accepted (omega arith) few;
+      };
+      small = is.few;
+      no_worse = no_worse k end R limit bound found.batches _ c.args.outcome.stopped c.pages.ensures.round counted c.requires.limited refl
+          left.stopped;
+      fewest = left.fewest;
+      shaped = λ same. record {
+        table = k;
+        classes = counted;
+        least = is.least;
+        is_least = is.is_least;
+        shaped = left.shaped same;
+      };
     }

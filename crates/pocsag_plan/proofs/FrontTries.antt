@@ -1,0 +1,214 @@
+-- What a try of some first pages says of them.
+use Rattle.std.proofs.Common.{◌≡◌, ℕ, ◌+◌, ◌<◌, ◌≤◌, List, [], ◌∷◌, ◌++◌, length, take, get_or, arith, inl, inr, refl, sym, ◌∙◌, subst, ap}
+use Rattle.std.specs.Prelude.{◌⊎◌, Option, Some, None, false}
+use Rattle.std.proofs.lemmas.List.{length-take, length-take-le, take_more}
+use Rattle.std.proofs.lemmas.List.Elements.{All-take}
+use Rattle.pocsag_words.specs.declared.ending.End.{End}
+use Rattle.pocsag_pages.specs.declared.page.Page.{Page}
+use Rattle.pocsag_pages.specs.Pages.{IsGoodPage, IsRound, page_limit}
+use Rattle.pocsag_pages.specs.Reading.{IsLegalList}
+use Rattle.pocsag_pages.proofs.FirstPages.{first_round}
+use Rattle.pocsag_pages.proofs.GoodPages.{apart_pages, good_pages}
+use Rattle.pocsag_slots.specs.declared.class.Classes.{Classes}
+use Rattle.pocsag_slots.specs.Loads.{AreClassesOf, IsLeast}
+use Rattle.pocsag_tree.specs.Limits.{second_ranges}
+use Rattle.pocsag_tree.specs.Spelling.{HasText}
+use Rattle.pocsag_tree.specs.Views.{bound_tree_of}
+use Rattle.pocsag_tree.specs.declared.shape.Certificate.{Certificate}
+use Rattle.pocsag_branch.specs.declared.stop.SearchLimit.{SearchLimit}
+use Rattle.pocsag_branch.specs.declared.stop.SearchFault.TheVariants as searching
+use Rattle.pocsag_check.specs.Accepting.{IsAccepted}
+use Rattle.pocsag_branch.specs.Found.{HasPage, IsBound, IsLimit, IsNodeLimit}
+use Rattle.pocsag_plan.specs.declared.fault.NoFront.TheVariants as front
+use Rattle.pocsag_plan.specs.declared.fault.PlanFault.{PlanFault}
+use Rattle.pocsag_plan.specs.declared.fault.PlanFault.TheVariants as planning
+use Rattle.pocsag_plan.specs.declared.front.FrontCut.{FrontCut}
+use Rattle.pocsag_plan.specs.declared.outcome.Outcome.{Outcome}
+use Rattle.pocsag_plan.specs.declared.search.Effort.{Effort}
+use Rattle.pocsag_plan.specs.declared.search.Effort.TheVariants.{Fewest, Always}
+use Rattle.pocsag_plan.specs.declared.search.Search.{Search}
+use Rattle.pocsag_plan.specs.declared.attempt.Bracket.{Bracket}
+use Rattle.pocsag_plan.specs.Attempts.{ExceedsPages, HasSpare, IsBracket, IsCut, IsExcess, IsUndecidedAt, IsUpper}
+use Rattle.pocsag_plan.specs.Fronts.{AreBeyond, ExplainsFront, FirstNeeds, IsFrontFor, IsLongestFront, IsUndecidedFor, IsWhyNoMore, ShowsBeyond}
+use Rattle.pocsag_plan.specs.Plans.{ExplainsPlan, NoneHasFewer}
+use Rattle.pocsag_plan.specs.Within.{IsOutcome, IsTightOrStopped}
+use Rattle.pocsag_plan.proofs.Counted.{has_page}
+use Rattle.pocsag_plan.proofs.Explaining.{explained}
+
+pub one_least : (k : Classes) (a b : ℕ) → IsLeast k a → IsLeast k b → a ≡ b
+one_least k a b first second = omega (arith, first.least b second.carried, second.least a first.carried)
+
+-- the bound of the batches that were found, where these are one more than so many: more than these, or the search stopped there
+pub bound_beyond : (k : Classes) (search : Search) (batches bound found : ℕ) (effort : Effort) (stopped : Option SearchLimit) → search.effort ≡ effort →
+    found ≡ batches + 1 → IsBound k search.end bound → (search.effort ≡ Fewest → bound ≡ found) →
+    IsTightOrStopped k search.end search.limit bound found stopped →
+    IsBound k search.end (batches + 1) ⊎ IsUndecidedAt k search batches
+bound_beyond k search batches bound found effort None same more is fewest left =
+    inl (subst (IsBound k search.end) (left.tight ∙ more) is)
+bound_beyond k search batches bound found Fewest (Some stop) same more is fewest left =
+    inl (subst (IsBound k search.end) (fewest same ∙ more) is)
+bound_beyond k search batches bound found Always (Some stop) same more is fewest left =
+    let at : IsLimit k search.end search.limit stop.least stop.found (bound_tree_of stop.tree) = left.at_limit.2 in
+    let here : stop.found ≡ batches + 1 = left.at_limit.1 ∙ more in
+    let least : stop.least ≡ batches = omega (arith, at.one_more) in
+    inr (record {
+      always = same;
+      stop = stop;
+      limit = subst (λ (n : ℕ). IsLimit k search.end search.limit batches n (bound_tree_of stop.tree)) here
+          (subst (λ (n : ℕ). IsLimit k search.end search.limit n stop.found (bound_tree_of stop.tree)) least at);
+    })
+
+pub bound_less : (k : Classes) (end : End) (a b : ℕ) → a ≤ b → IsBound k end b → IsBound k end a
+bound_less k end a b less is = λ R U n apart counted legal. omega (arith, less, is R U n apart counted legal)
+
+module _ (k : Classes) (search : Search) (batches : ℕ) where
+  -- with a batch to spare, a search finds a plan within the batches
+  pub spare_fits : (outcome : Outcome) → HasSpare k search batches → IsOutcome k search outcome → outcome.found.batches ≤ batches
+  spare_fits outcome spare is =
+      let same : is.within.least ≡ spare.least = one_least k is.within.least spare.least is.within.is_least spare.is_least in
+      elim is.within.or_one_more [ inl e ↦ omega (arith, spare.below) | inr e ↦ omega (arith, spare.below) ]
+
+  -- what exceeds the batches by the loads alone, and by what a search found
+  pub loads_exceed : (certificate : Certificate) → certificate.end ≡ search.end → batches < certificate.batches →
+      IsAccepted false k search.end certificate.batches (bound_tree_of certificate.tree) →
+      HasText second_ranges certificate.batches (bound_tree_of certificate.tree) → IsBound k search.end certificate.batches →
+      IsExcess k search batches certificate
+  loads_exceed certificate asked more accepted text bound = record {
+    asked = asked;
+    accepted = accepted;
+    text = text;
+    at_least = omega arith;
+    more = λ _. more;
+    beyond = inl (bound_less k search.end (batches + 1) certificate.batches (omega arith) bound);
+  }
+
+  pub search_exceeds : (outcome : Outcome) (least : ℕ) → IsLeast k least → least ≤ batches → batches < outcome.found.batches →
+      IsOutcome k search outcome → HasText second_ranges outcome.bound (bound_tree_of outcome.found.tree) →
+      IsExcess k search batches (record { end = search.end; batches = outcome.bound; tree = outcome.found.tree })
+  search_exceeds outcome least is_least few more is text =
+      let same : is.within.least ≡ least = one_least k is.within.least least is.within.is_least is_least in
+      let found : outcome.found.batches ≡ batches + 1 =
+      elim is.within.or_one_more [ inl e ↦ omega (arith, few, more) | inr e ↦ omega (arith, few, more) ] in
+      record {
+        asked = refl;
+        accepted = is.within.accepted;
+        text = text;
+        at_least = omega (arith, is.within.within_one);
+        more = λ fewest. omega (arith, is.fewest fewest);
+        beyond = bound_beyond k search batches outcome.bound outcome.found.batches search.effort outcome.stopped refl found is.within.bounded
+            is.fewest is.stopped;
+      }
+
+-- What is so of classes is so of the pages that have them.
+module _ (search : Search) (R : List Page) (batches : ℕ) (round : IsRound R) (limited : IsNodeLimit search.limit) where
+  none_fewer : (k : Classes) (n : ℕ) → AreClassesOf k search.end R → IsBound k search.end n → NoneHasFewer search.end R n
+  none_fewer k n counted is = λ T m legal. is R T m (apart_pages R round.good) counted legal
+
+  beyond : (k : Classes) → AreClassesOf k search.end R → IsBound k search.end (batches + 1) ⊎ IsUndecidedAt k search batches →
+      AreBeyond search R batches
+  beyond k counted (inl is) = inl (none_fewer k (batches + 1) counted is)
+  beyond k counted (inr undecided) =
+      let stop : SearchLimit = record { least = batches; found = batches + 1; tree = undecided.stop.tree } in
+      inr (
+        undecided.always,
+        record {
+          tree = bound_tree_of undecided.stop.tree;
+          stopped = (explained k search.end R search.limit (searching.SearchLimit stop) round counted limited undecided.limit).2;
+        },
+      )
+
+  pub pages_beyond : (certificate : Certificate) → ExceedsPages search R batches certificate → AreBeyond search R batches
+  pages_beyond certificate is = beyond is.table is.counted is.excess.beyond
+
+  pub shown_beyond : (certificate : Certificate) → ExceedsPages search R batches certificate → ShowsBeyond search R batches certificate
+  shown_beyond certificate is = record {
+    asked = is.excess.asked;
+    accepted = record { table = is.table; counted = is.counted; accepted = is.excess.accepted };
+    text = is.excess.text;
+    at_least = is.excess.at_least;
+    more = is.excess.more;
+  }
+
+module _ (search : Search) (R : List Page) (batches count : ℕ) (round : IsRound R) (limited : IsNodeLimit search.limit) where
+  pub longest_beyond : (why : Option Certificate) → IsUpper search R batches (count + 1) why → count < length R →
+      AreBeyond search (take (count + 1) R) batches
+  longest_beyond None is less = absurd (omega arith)
+  longest_beyond (Some certificate) is less =
+      pages_beyond search (take (count + 1) R) batches (first_round (count + 1) R round (omega arith) is.0) limited certificate is.1
+
+  pub why_no_more : (why : Option Certificate) → IsUpper search R batches (count + 1) why → IsWhyNoMore search R batches count why
+  why_no_more None is = omega arith
+  why_no_more (Some certificate) is = (
+    omega arith,
+    shown_beyond search (take (count + 1) R) batches (first_round (count + 1) R round (omega arith) is.0) limited certificate is.1,
+  )
+
+  -- a fault for some first pages explains that there is no front
+  pub front_explained : 0 < count → count ≤ length R → (f : PlanFault) →
+      ExplainsPlan search.effort search.end (take count R) search.limit f → ExplainsFront search R batches (front.Plan f)
+  front_explained some among planning.BadLimit said = said
+  front_explained some among (planning.SearchLimit stop) said =
+      (said.0, said.1, record { count = count; some = some; among = among; stopped = said.2 })
+  front_explained some among planning.OutOfMemory said = said
+
+-- The first pages that a table counts have a page.
+pub first_has_page : (k : Classes) (end : End) (R : List Page) (n : ℕ) → AreClassesOf k end (take n R) → 0 < n → 0 < length R → HasPage k
+first_has_page k end R n counted some any = has_page k end (take n R) counted (omega (arith, length-take n R))
+
+-- What is found for the first page alone, where it does not fit.
+pub first_needs : (k : Classes) (search : Search) (R : List Page) (batches : ℕ) (outcome : Outcome) → IsRound (take 1 R) →
+    AreClassesOf k search.end (take 1 R) → IsOutcome k search outcome → batches < outcome.found.batches → (U : List ℕ) →
+    IsLegalList search.end U outcome.found.batches (take 1 R) → FirstNeeds search R batches outcome.found.batches
+first_needs k search R batches outcome round counted is more U legal =
+    let none : NoneHasFewer search.end (take 1 R) outcome.bound = λ T n sent. is.within.bounded (take 1 R) T n (apart_pages (take 1 R) round.good) counted sent in
+    record {
+      codewords = U;
+      legal = legal;
+      within_one = λ T n sent. omega (arith, is.within.within_one, none T n sent);
+      fewest = λ fewest T n sent. omega (arith, is.fewest fewest, none T n sent);
+      more = more;
+    }
+
+-- The cut behind the pages that fit, where the bracket is closed.
+pub cut_of : (search : Search) (R : List Page) (batches : ℕ) (bracket : Bracket) (outcome : Outcome) → IsBracket search R batches bracket →
+    bracket.beyond ≤ bracket.fitting + 1 → IsOutcome bracket.classes search outcome → outcome.found.batches ≤ batches →
+    IsCut search R batches (record { count = bracket.fitting; outcome = outcome; why = bracket.why })
+cut_of search R batches bracket outcome is closed found within =
+    let next : bracket.beyond ≡ bracket.fitting + 1 = omega (arith, is.order) in
+    record {
+      some = is.some;
+      among = omega (arith, is.order, is.few);
+      outcome = record { table = bracket.classes; classes = is.counted; of_classes = found };
+      within = within;
+      upper = subst (λ (n : ℕ). IsUpper search R batches n bracket.why) next is.upper;
+    }
+
+-- The front that ends at the cut.
+module _ (search : Search) (R : List Page) (batches : ℕ) (cut : FrontCut) (F : List Page) (round : IsRound R) (limited : IsNodeLimit search.limit)
+    (is : IsCut search R batches cut) (same : F ≡ take cut.count R) where
+  long : length F ≡ cut.count
+  long = ap length same ∙ length-take-le cut.count R is.among
+
+  pub front_of : (U : List ℕ) → IsLegalList search.end U cut.outcome.found.batches (take cut.count R) → IsFrontFor search R batches (length F)
+  front_of U legal =
+      subst (IsFrontFor search R batches) (sym long)
+      (record {
+        some = is.some;
+        among = is.among;
+        sent = record { codewords = U; used = cut.outcome.found.batches; legal = legal; few = is.within };
+        longest = λ less. longest_beyond search R batches cut.count round limited cut.why is.upper less;
+      })
+
+  pub why_of : IsWhyNoMore search R batches (length F) cut.why
+  why_of = subst (λ (n : ℕ). IsWhyNoMore search R batches n cut.why) (sym long) (why_no_more search R batches cut.count round limited cut.why is.upper)
+
+pub longest_of : (search : Search) (R : List Page) (batches count : ℕ) → IsFrontFor search R batches count → search.effort ≡ Fewest →
+    IsLongestFront search.end R batches count
+longest_of search R batches count is fewest = record {
+  among = is.among;
+  sent = is.sent;
+  longest = λ less. elim (is.longest less) [ inl none ↦ none | inr undecided ↦ absurd (cc (undecided.0, fewest)) ];
+}
+
+pub split_last : (R : List Page) (at : ℕ) (page : Page) → at < length R → page ≡ get_or R at page → take (at + 1) R ≡ take at R ++ page ∷ []
+split_last R at page within is = take_more R at page within ∙ ap (λ (p : Page). take at R ++ p ∷ []) (sym is)

@@ -1,0 +1,27 @@
+use Rattle.std.proofs.Common.{arith, false}
+use Rattle.pocsag_tree.specs.Views.{bound_tree_of}
+use Rattle.pocsag_plan.proofs.Completing.{most, nodes_few}
+use Rattle.pocsag_plan.proofs.FrontTries.{loads_exceed, search_exceeds}
+use Rattle.pocsag_plan.proofs.attempt.attempt.Goals as goal
+
+pub returns-then-by_loads-batches-2-clause-attempt : goal.returns-then-by_loads-batches-2-clause-attempt
+returns-then-by_loads-batches-2-clause-attempt c =
+    let by_loads = c.least_certificate-by_loads in
+    loads_exceed c.args.classes.now c.args.search c.args.batches by_loads.result by_loads.ensures.end c.if-by_loads-batches-2.true
+    by_loads.ensures.accepted by_loads.ensures.text by_loads.ensures.bound
+
+pub returns-clause-attempt : goal.returns-clause-attempt
+returns-clause-attempt c =
+    let k = c.args.classes.now in
+    let end = c.args.search.end in
+    let limit = c.args.search.limit in
+    let outcome = c.in_ok-outcome.outcome in
+    let is = c.in_ok-outcome.ensures.outcome in
+    let within = is.within in
+    let near = most k end limit outcome.bound outcome.found within in
+    let few = nodes_few k end limit outcome.bound outcome.found within c.requires.limited
+    (c.accepted_trees_have_texts.ensures.closed k end outcome.bound (bound_tree_of outcome.found.tree) within.accepted) in
+    let text = c.accepted_trees_have_texts.ensures.text false k end outcome.bound (bound_tree_of outcome.found.tree) within.accepted
+    (omega (arith, within.at_least)) few in
+    search_exceeds k c.args.search c.args.batches outcome c.least_certificate-by_loads.result.batches c.least_certificate-by_loads.ensures.least
+    c.if-by_loads-batches-2.false c.if-outcome-batches.false is text

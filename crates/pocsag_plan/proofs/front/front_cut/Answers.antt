@@ -1,0 +1,94 @@
+use Rattle.std.proofs.Common.{◌≡◌, ℕ, ◌+◌, ◌-◌, ◌/◌, ◌<◌, ◌≤◌, length, take, arith, subst, slice_index}
+use Rattle.std.specs.Prelude.{None}
+use Rattle.std.proofs.lemmas.Result.{err_from_is_err_and}
+use Rattle.pocsag_pages.proofs.FirstPages.{first_round}
+use Rattle.pocsag_plan.specs.Attempts.{IsFit}
+use Rattle.pocsag_plan.proofs.Completing.{some_batch}
+use Rattle.pocsag_plan.proofs.FrontTries.{cut_of, first_has_page, first_needs, front_explained, spare_fits}
+use Rattle.pocsag_plan.proofs.front.front_cut.Goals as goal
+
+pub outcome_of-requires-clause-pages : goal.outcome_of-requires-clause-pages
+outcome_of-requires-clause-pages c =
+    first_has_page c.recount.new.classes c.args.search.end c.args.pages.now 1 c.recount.ensures (omega arith) c.requires.round.some
+
+pub returns-in_err-first-clause-fault : goal.returns-in_err-first-clause-fault
+returns-in_err-first-clause-fault c =
+    let p = err_from_is_err_and c.from_residual.result c.from_residual.ensures.1 in
+    let R = c.args.pages.now in
+    let any : 1 ≤ length R = c.requires.round.some in
+    rw (p.1, p.2)
+    (front_explained c.args.search R c.args.batches 1 c.requires.round c.requires.limited (omega arith) any c.in_err-first.field-0.0
+    (c.in_err-first.ensures.fault (take 1 R) (first_round 1 R c.requires.round (omega arith) any) c.recount.ensures))
+
+pub returns-then-first-batches-clause-fault : goal.returns-then-first-batches-clause-fault
+returns-then-first-batches-clause-fault c =
+    let R = c.args.pages.now in
+    let k = c.recount.new.classes in
+    let search = c.args.search in
+    let first = c.in_ok-first.first in
+    let is = c.in_ok-first.ensures.outcome in
+    let round = first_round 1 R c.requires.round (omega arith) c.requires.round.some in
+    let sent = c.tours_have_codewords.ensures k search.end (slice_index first.found.choice.early) first.found.batches first.found.steps.items
+    (take 1 R) (some_batch k search.end search.limit first.bound first.found is.within) round c.recount.ensures is.within.tour in
+    (c.requires.limited, first_needs k search R c.args.batches first round c.recount.ensures is c.if-first-batches.true sent.0 sent.2)
+
+pub attempt-requires-clause-pages : goal.attempt-requires-clause-pages
+attempt-requires-clause-pages c =
+    let bracket = c.loop-bracket.bracket in
+    first_has_page c.recount-in-loop-bracket.new.classes c.args.search.end c.args.pages.now _ c.recount-in-loop-bracket.ensures
+    (omega (arith, c.loop-bracket.invariant.bracket.some)) c.requires.round.some
+
+pub returns-in_err-tried-clause-fault : goal.returns-in_err-tried-clause-fault
+returns-in_err-tried-clause-fault c =
+    let p = err_from_is_err_and c.from_residual-in_err-tried.result c.from_residual-in_err-tried.ensures.1 in
+    let R = c.args.pages.now in
+    let bracket = c.loop-bracket.bracket in
+    let is = c.loop-bracket.invariant.bracket in
+    let n : ℕ = bracket.fitting + (bracket.beyond - bracket.fitting) / 2 in
+    let some : 0 < n = omega (arith, is.some) in
+    let among : n ≤ length R = omega (arith, is.order, is.few, c.loop-bracket-test.true) in
+    rw (p.1, p.2)
+    (front_explained c.args.search R c.args.batches n c.requires.round c.requires.limited some among c.in_err-tried.field-0.0
+    (c.in_err-tried.ensures.fault (take n R) (first_round n R c.requires.round some among) c.recount-in-loop-bracket.ensures))
+
+pub loop-bracket-preserved : goal.loop-bracket-preserved
+loop-bracket-preserved c = record {
+  bracket = c.narrowed-bracket.ensures.bracket c.args.search c.args.pages.now c.args.batches c.recount-in-loop-bracket.ensures
+      c.in_ok-tried.ensures.attempt c.loop-bracket.invariant.bracket;
+  among = omega (arith, c.loop-bracket.invariant.bracket.order, c.loop-bracket.invariant.bracket.few, c.loop-bracket-test.true);
+  counted = c.recount-in-loop-bracket.ensures;
+}
+
+pub returns-in-Some-clause-cut : goal.returns-in-Some-clause-cut
+returns-in-Some-clause-cut c =
+    let bracket = c.loop-bracket.bracket in
+    let is = c.loop-bracket.invariant.bracket in
+    let fit = subst (IsFit bracket.classes c.args.search c.args.batches) c.in-Some.is is.fit in
+    cut_of c.args.search c.args.pages.now c.args.batches bracket c.in-Some.outcome is c.loop-bracket-test.false fit.0 fit.1
+
+pub outcome_of-requires-2-clause-pages : goal.outcome_of-requires-2-clause-pages
+outcome_of-requires-2-clause-pages c =
+    let bracket = c.loop-bracket.bracket in
+    let is = c.loop-bracket.invariant.bracket in
+    first_has_page bracket.classes c.args.search.end c.args.pages.now bracket.fitting is.counted is.some c.requires.round.some
+
+pub returns-in_err-outcome-clause-fault : goal.returns-in_err-outcome-clause-fault
+returns-in_err-outcome-clause-fault c =
+    let p = err_from_is_err_and c.from_residual-in_err-outcome.result c.from_residual-in_err-outcome.ensures.1 in
+    let R = c.args.pages.now in
+    let bracket = c.loop-bracket.bracket in
+    let is = c.loop-bracket.invariant.bracket in
+    let among : bracket.fitting ≤ length R = omega (arith, is.order, is.few) in
+    rw (p.1, p.2)
+    (front_explained c.args.search R c.args.batches bracket.fitting c.requires.round c.requires.limited is.some among c.in_err-outcome.field-0.0
+    (c.in_err-outcome.ensures.fault (take bracket.fitting R) (first_round bracket.fitting R c.requires.round is.some among) is.counted))
+
+pub returns-clause-cut : goal.returns-clause-cut
+returns-clause-cut c =
+    let bracket = c.loop-bracket.bracket in
+    let is = c.loop-bracket.invariant.bracket in
+    let found = c.in_ok-outcome.ensures.outcome in
+    let none : bracket.outcome ≡ None = c.in_default.is in
+    let spare = subst (IsFit bracket.classes c.args.search c.args.batches) none is.fit in
+    cut_of c.args.search c.args.pages.now c.args.batches bracket c.in_ok-outcome.outcome is c.loop-bracket-test.false found
+    (spare_fits bracket.classes c.args.search c.args.batches c.in_ok-outcome.outcome spare found)

@@ -1,0 +1,85 @@
+ghost use Rattle.std.specs.Prelude.{◌≡◌, List, IfErr, IfOk, IsErrOf};
+ghost use Rattle.pocsag_pages.specs.declared.page.Page.{Page};
+ghost use Rattle.pocsag_pages.specs.Pages.{IsRound};
+ghost use Rattle.pocsag_slots.specs.Loads.{AreClassesOf};
+ghost use Rattle.pocsag_branch.specs.Found.{HasPage, IsNodeLimit};
+ghost use Rattle.pocsag_plan.specs.Plans.{ExplainsPlan};
+ghost use Rattle.pocsag_plan.specs.Within.{IsOutcome, IsTightOrStopped, IsWithinOne};
+
+use crate::fault::PlanFault;
+use crate::search::{Effort, Search};
+use pocsag_branch::{Found, FreeFault, SearchLimit, search_freely};
+use pocsag_slots::Classes;
+use pocsag_words::OutOfMemory;
+use std::alloc::Global;
+
+// What a search leaves for a plan: what it found; the bound, for which the tree is; and what the search for the fewest
+// says where it stopped.
+#[derive(Drop)]
+pub(crate) struct Outcome {
+    pub(crate) found: Found,
+    pub(crate) bound: u32,
+    pub(crate) stopped: Option<SearchLimit>,
+}
+
+// What the search that is asked for leaves for the classes.
+pub(crate) fn outcome_of(
+    alloc: Global,
+    classes: &Classes,
+    search: Search,
+) -> Result<Outcome, PlanFault>
+    requires limited { IsNodeLimit search.limit }
+    requires pages { HasPage classes.now }
+    ensures outcome { IfOk result (IsOutcome classes.now search) }
+    ensures limit { ¬ IsErrOf result PlanFault.BadLimit }
+    ensures fault { IfErr result (λ e. (R : List Page) → IsRound R → AreClassesOf classes.now search.end R →
+        ExplainsPlan search.effort search.end R search.limit e) }
+{
+    match search.effort {
+        Effort::Fewest => {
+            let found = pocsag_branch::search(alloc, classes, search.limit, search.end)?;
+            let bound = found.batches;
+            Ok(Outcome {
+                found,
+                bound,
+                stopped: None,
+            })
+        }
+        Effort::Always => Ok(within_one(alloc, classes, search)?),
+    }
+}
+
+// What the free search finds, or what it leaves at its limit; the bound; and at the limit what the search for
+// the fewest says.
+fn within_one(alloc: Global, classes: &Classes, search: Search) -> Result<Outcome, OutOfMemory>
+    requires limited { IsNodeLimit search.limit }
+    requires pages { HasPage classes.now }
+    ensures within { IfOk result (λ x. IsWithinOne classes.now search.end search.limit x.bound x.found) }
+    ensures stopped { IfOk result
+        (λ x. IsTightOrStopped classes.now search.end search.limit x.bound x.found.batches x.stopped) }
+{
+    match search_freely(alloc, classes, search.limit, search.end) {
+        Ok(found) => {
+            let bound = found.batches;
+            Ok(Outcome {
+                found,
+                bound,
+                stopped: None,
+            })
+        }
+        Err(FreeFault::SearchLimit { near, stop }) => {
+            let found = Found {
+                batches: near.least + 1,
+                choice: near.choice,
+                steps: near.steps,
+                tree: near.tree,
+            };
+            Ok(Outcome {
+                found,
+                bound: near.least,
+                stopped: Some(stop),
+            })
+        }
+        Err(FreeFault::OutOfMemory) => Err(OutOfMemory),
+    }
+}
