@@ -26,6 +26,7 @@ pub loop-init : goal.loop-init
 loop-init g c = record {
   unfailed = refl;
   effort = refl;
+  none_left = λ tells none. none;
   stands = λ stands. stands;
   answered = λ reads tells.
       none_answered _ _ _ _ _ _ _ (ap (λ (l : List ℕ). l ++ g.I.Source.held c.args.input.now) c.in_ok-lines.ensures.ahead);
