@@ -36,6 +36,9 @@ Example:
 };
 
 fn main(rt: HostRuntime) -> ExitCode {
-    let groups = &Both(Centre, Both(Receiver, Both(Sound, Both(RoundGroup, Explain))));
+    let groups = &Both(
+        Centre,
+        Both(Receiver, Both(Sound, Both(RoundGroup, Explain))),
+    );
     ExitCode::from(run(&rt, &POCSAG, groups))
 }

@@ -124,11 +124,7 @@ fn centre(rt: HostRuntime) {
             ),
             (1, CentreFault::BadLimit, "the limit must be 1 to 1000000"),
             (1, CentreFault::SearchLimit(2, 3), LIMIT_REACHED),
-            (
-                1,
-                CentreFault::BadRate,
-                BAD_RATE,
-            ),
+            (1, CentreFault::BadRate, BAD_RATE),
             (
                 1,
                 CentreFault::Certificate(CertificateFault::NotCertificate),
@@ -191,7 +187,11 @@ fn sound(rt: HostRuntime) {
                 SoundFault::Transmission(DecodeFault::Truncated),
                 CUT_SHORT,
             ),
-            (1, SoundFault::TooLong, "the sound is too long for a WAV file"),
+            (
+                1,
+                SoundFault::TooLong,
+                "the sound is too long for a WAV file",
+            ),
         ],
     );
 }

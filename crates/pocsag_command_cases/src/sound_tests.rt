@@ -62,7 +62,12 @@ fn a_lone_tone_is_keyed(rt: HostRuntime) -> Result<(), Fail> {
         assert_eq!(rt; file.len(), 3372);
         assert_eq!(rt; file.get(..44), Some(&HEADER[..]));
         assert_eq!(rt; file.get(1196..1212), Some(&first[..]));
-        assert!(rt; file.get(2284..).ok_or("silence")?.iter().all(|byte| *byte == 0));
+        assert!(rt;
+            file.get(2284..)
+                .ok_or("silence")?
+                .iter()
+                .all(|byte| *byte == 0)
+        );
     }
     Ok(())
 }
@@ -74,7 +79,10 @@ fn a_failed_write_leaves_a_front(rt: HostRuntime) -> Result<(), Fail> {
         let (done, out) = keyed(&rt, rt.alloc(), false, most);
         let fault = done.err().ok_or("a fault")?;
         assert_eq!(rt; fault.status(), 3);
-        assert_eq!(rt; out.bytes(), whole.bytes().get(..most as usize).ok_or("a front")?);
+        assert_eq!(rt;
+            out.bytes(),
+            whole.bytes().get(..most as usize).ok_or("a front")?
+        );
     }
     Ok(())
 }
