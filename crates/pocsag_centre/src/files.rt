@@ -13,7 +13,7 @@ use pocsag_pages::FILE_LIMIT;
 use pocsag_plan::most_batches;
 use pocsag_shell::{
     Beside, Desk, FileFault, NamedFile, Outputs, Role, STANDARD, is_regular, is_regular_or_none,
-    make_outputs, path_of, put_all, put_whole, read_file, refuse_equal, refuse_one_file,
+    make_outputs, path_of, put_files, put_whole, read_file, refuse_equal, refuse_one_file,
     refuse_shared, tell, write_file,
 };
 use pocsag_words::{INPUT_LIMIT, MemorySink, Sink};
@@ -117,7 +117,10 @@ fn misuse(desk: Desk<'_>, order: PlanOrder<'_>) -> Option<&'static str> {
         return None;
     }
     for (_role, place) in places(order) {
-        if place.is_some_and(|place| place == STANDARD || !is_regular_or_none(rt, place)) {
+        let Some(place) = place else {
+            continue;
+        };
+        if place == STANDARD || !is_regular_or_none(rt, place) {
             return Some(BAD_KEEP);
         }
     }
@@ -281,7 +284,7 @@ fn plan_among<'a, O: Sink>(
         }
     }
     plan_files(desk, beside(order, files.as_slice()), lines)?;
-    Ok(put_all(desk, files.as_slice())?)
+    Ok(put_files(desk, files.as_slice())?)
 }
 
 // The order with the files beside the places.

@@ -1,4 +1,4 @@
-ghost use Rattle.std.specs.Prelude.{◌≡◌, ◌<◌, ◌≤◌, drop, length, take, All, IfErr, IfNone, IfOk, IfSome, IsNone, IsSomeAnd};
+ghost use Rattle.std.specs.Prelude.{◌≡◌, ◌≤◌, drop, length, take, All, IfErr, IfNone, IfOk, IfSome, IsNone, IsSomeAnd};
 ghost use Rattle.pocsag_pages.specs.declared.page.Page.{Page};
 ghost use Rattle.pocsag_pages.specs.Listable.{IsListable};
 ghost use Rattle.pocsag_tree.specs.Limits.{second_ranges};
@@ -97,7 +97,6 @@ pub fn front_file(
 
 /// A page file of the first pages of the bytes of a page file, so many, or all where it has fewer.
 pub fn first_file(alloc: Global, pages: &[u8], count: usize) -> Result<Vec<u8>, CentreFault>
-    requires { 0 < count }
     ensures first { IfOk result (λ file. IsOfRound pages.now (λ round. IsPageFileOf (take count round) file.items)) }
     ensures explained { IfErr result (ExplainsFirst pages.now) }
 {

@@ -124,6 +124,7 @@ fn centre(rt: HostRuntime) {
             ),
             (1, CentreFault::BadLimit, "the limit must be 1 to 1000000"),
             (1, CentreFault::SearchLimit(2, 3), LIMIT_REACHED),
+            (1, CentreFault::FirstPage(2), "page 1 needs 2 batches"),
             (1, CentreFault::BadRate, BAD_RATE),
             (
                 1,

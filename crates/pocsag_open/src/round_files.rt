@@ -5,7 +5,7 @@ use crate::outputs::Places;
 use pocsag_plan::Effort;
 use pocsag_shell::{
     Beside, Desk, FileFault, Input, Names, Output, Outputs, ReaderSource, Role, STANDARD,
-    WriterSink, is_regular_or_none, make_outputs, open_source, put_all, refuse_equal,
+    WriterSink, is_regular_or_none, make_outputs, open_source, put_files, refuse_equal,
     refuse_one_file, refuse_shared,
 };
 use std::fs::File;
@@ -69,7 +69,7 @@ impl<'a> RoundFiles<'a> {
             Beside::of(self.desk, Role::Transmission, tx)?,
         ];
         let done = if are_whole {
-            put_all(self.desk, &files)
+            put_files(self.desk, &files)
         } else {
             Ok(())
         };

@@ -1,7 +1,7 @@
 -- What a try of some first pages says of them.
 use Rattle.std.proofs.Common.{◌≡◌, ℕ, ◌+◌, ◌<◌, ◌≤◌, List, [], ◌∷◌, ◌++◌, length, take, get_or, arith, inl, inr, refl, sym, ◌∙◌, subst, ap}
 use Rattle.std.specs.Prelude.{◌⊎◌, Option, Some, None, false}
-use Rattle.std.proofs.lemmas.List.{length-take, length-take-le, take_more}
+use Rattle.std.proofs.lemmas.List.{length-take, length-take-le}
 use Rattle.std.proofs.lemmas.List.Elements.{All-take}
 use Rattle.pocsag_words.specs.declared.ending.End.{End}
 use Rattle.pocsag_pages.specs.declared.page.Page.{Page}
@@ -35,9 +35,6 @@ use Rattle.pocsag_plan.specs.Within.{IsOutcome, IsTightOrStopped}
 use Rattle.pocsag_plan.proofs.Counted.{has_page}
 use Rattle.pocsag_plan.proofs.Explaining.{explained}
 
-pub one_least : (k : Classes) (a b : ℕ) → IsLeast k a → IsLeast k b → a ≡ b
-one_least k a b first second = omega (arith, first.least b second.carried, second.least a first.carried)
-
 -- the bound of the batches that were found, where these are one more than so many: more than these, or the search stopped there
 pub bound_beyond : (k : Classes) (search : Search) (batches bound found : ℕ) (effort : Effort) (stopped : Option SearchLimit) → search.effort ≡ effort →
     found ≡ batches + 1 → IsBound k search.end bound → (search.effort ≡ Fewest → bound ≡ found) →
@@ -65,7 +62,8 @@ module _ (k : Classes) (search : Search) (batches : ℕ) where
   -- with a batch to spare, a search finds a plan within the batches
   pub spare_fits : (outcome : Outcome) → HasSpare k search batches → IsOutcome k search outcome → outcome.found.batches ≤ batches
   spare_fits outcome spare is =
-      let same : is.within.least ≡ spare.least = one_least k is.within.least spare.least is.within.is_least spare.is_least in
+      let same : is.within.least ≡ spare.least = 
+      omega (arith, is.within.is_least.least spare.least spare.is_least.carried, spare.is_least.least is.within.least is.within.is_least.carried) in
       elim is.within.or_one_more [ inl e ↦ omega (arith, spare.below) | inr e ↦ omega (arith, spare.below) ]
 
   -- what exceeds the batches by the loads alone, and by what a search found
@@ -86,7 +84,8 @@ module _ (k : Classes) (search : Search) (batches : ℕ) where
       IsOutcome k search outcome → HasText second_ranges outcome.bound (bound_tree_of outcome.found.tree) →
       IsExcess k search batches (record { end = search.end; batches = outcome.bound; tree = outcome.found.tree })
   search_exceeds outcome least is_least few more is text =
-      let same : is.within.least ≡ least = one_least k is.within.least least is.within.is_least is_least in
+      let same : is.within.least ≡ least = 
+      omega (arith, is.within.is_least.least least is_least.carried, is_least.least is.within.least is.within.is_least.carried) in
       let found : outcome.found.batches ≡ batches + 1 =
       elim is.within.or_one_more [ inl e ↦ omega (arith, few, more) | inr e ↦ omega (arith, few, more) ] in
       record {
@@ -209,6 +208,3 @@ longest_of search R batches count is fewest = record {
   sent = is.sent;
   longest = λ less. elim (is.longest less) [ inl none ↦ none | inr undecided ↦ absurd (cc (undecided.0, fewest)) ];
 }
-
-pub split_last : (R : List Page) (at : ℕ) (page : Page) → at < length R → page ≡ get_or R at page → take (at + 1) R ≡ take at R ++ page ∷ []
-split_last R at page within is = take_more R at page within ∙ ap (λ (p : Page). take at R ++ p ∷ []) (sym is)

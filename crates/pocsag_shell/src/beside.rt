@@ -138,7 +138,7 @@ fn keep_as(desk: Desk<'_>, place: &str, name: &str) -> io::Result<()> {
 
 /// Renames the files to their places, in this order, once all are on the disk. If one cannot be renamed, the older files
 /// come back to the places before it. So a file never stands without those before it.
-pub fn put_all(desk: Desk<'_>, files: &[Beside<'_>]) -> Result<(), FileFault> {
+pub fn put_files(desk: Desk<'_>, files: &[Beside<'_>]) -> Result<(), FileFault> {
     let mut folders = Vec::new(desk.alloc);
     for file in files {
         file.sync(desk)?;

@@ -19,7 +19,7 @@ mod tables;
 mod watch;
 mod words;
 
-pub use beside::{Beside, put_all};
+pub use beside::{Beside, put_files};
 pub use desk::Desk;
 pub use devices::{ReaderSource, WriterSink};
 pub use fault::{Failure, FileFault};

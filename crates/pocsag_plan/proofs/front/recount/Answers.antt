@@ -3,9 +3,9 @@ use Rattle.std.proofs.lemmas.List.{length-take-le}
 use Rattle.std.proofs.lemmas.List.Elements.{All-take}
 use Rattle.pocsag_pages.specs.Pages.{IsGoodPage, page_limit}
 use Rattle.pocsag_pages.proofs.GoodPages.{good_pages}
+use Rattle.pocsag_pages.proofs.PageLists.{taken}
 use Rattle.pocsag_batch.proofs.PageLists.{good_at}
 use Rattle.pocsag_slots.specs.Loads.{AreClassesOf}
-use Rattle.pocsag_plan.proofs.FrontTries.{split_last}
 use Rattle.pocsag_plan.proofs.front.recount.Goals as goal
 
 pub count_page-requires : goal.count_page-requires
@@ -32,7 +32,7 @@ discount_page-requires c =
     let next : k.counted ≡ i + 1 = omega (arith, c.loop-counted-2-test.true) in
     let counted : AreClassesOf k.classes c.args.end (take (i + 1) R) =
     subst (λ n. AreClassesOf k.classes c.args.end (take n R)) next k.invariant.counted in
-    let split : take (i + 1) R ≡ take i R ++ page.result ∷ [] = split_last R i page.result within page.is in
+    let split : take (i + 1) R ≡ take i R ++ page.result ∷ [] = taken R i page.result within page.is in
     let long : length (take (i + 1) R) ≡ i + 1 = length-take-le (i + 1) R (omega arith) in
     record {
       before = take i R;
