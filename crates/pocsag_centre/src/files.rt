@@ -10,10 +10,10 @@ use crate::plan::{plan_file, tell_bounded};
 use crate::readback::verify_files;
 use pocsag_pages::FILE_LIMIT;
 use pocsag_shell::{
-    Beside, Desk, FileFault, NamedFile, Outputs, Role, STANDARD, is_regular, is_regular_or_none,
-    make_outputs, path_of, put_both, read_file, refuse_equal, refuse_shared, tell,
+    Beside, Desk, NamedFile, Outputs, Role, STANDARD, is_regular, is_regular_or_none, make_outputs,
+    path_of, put_both, put_whole, read_file, refuse_equal, refuse_shared, tell,
 };
-use pocsag_words::{INPUT_LIMIT, MemorySink, Sink, write_all};
+use pocsag_words::{INPUT_LIMIT, MemorySink, Sink};
 
 // More than the lines of a plan have, which are three and `verified`.
 const LINES: usize = 200;
@@ -134,17 +134,9 @@ fn write_files<O: Sink>(
     let Outputs { mut tx, mut cert } = make_outputs(desk, order.pages, order.tx, order.cert)?;
     let done = plan_file(desk.alloc, file.as_slice(), order.search.search);
     let written = noted(desk, order.pages, file.as_slice(), done)?;
-    put(&mut tx, written.sent.as_slice())?;
-    put(&mut cert, written.certificate.as_slice())?;
+    put_whole(&mut tx, written.sent.as_slice())?;
+    put_whole(&mut cert, written.certificate.as_slice())?;
     tell_bounded(&written.bounded, out)
-}
-
-// Writes all of the bytes.
-fn put<S: Sink>(sink: &mut S, bytes: &[u8]) -> Result<(), FileFault> {
-    match write_all(sink, bytes) {
-        Ok(()) => Ok(()),
-        Err(_) => Err(FileFault::Write),
-    }
 }
 
 fn read_files_back<O: Sink>(
@@ -193,20 +185,11 @@ fn plan_beside_two<O: Sink>(
         ..order
     };
     let mut lines = MemorySink::<LINES>::new(LINES, LINES as u64);
-    let done = plan_and_put(desk, beside, tx, &cert, &mut lines);
+    let done = match plan_files(desk, beside, &mut lines) {
+        Ok(()) => put_both(desk, tx, &cert).map_err(CentreFault::File),
+        refused => refused,
+    };
     cert.remove(desk);
     done?;
-    Ok(put(out, lines.bytes())?)
-}
-
-// The same, where both are there.
-fn plan_and_put<O: Sink>(
-    desk: Desk<'_>,
-    order: PlanOrder<'_>,
-    tx: &Beside<'_>,
-    cert: &Beside<'_>,
-    lines: &mut O,
-) -> Result<(), CentreFault> {
-    plan_files(desk, order, lines)?;
-    Ok(put_both(desk, tx, cert)?)
+    Ok(put_whole(out, lines.bytes())?)
 }
