@@ -6,13 +6,13 @@ ghost use Rattle.pocsag_words.specs.MemorySink.{taken_of};
 ghost use Rattle.pocsag_open.specs.Plans.{no_names, no_plans, placed_plan};
 
 use pocsag_journal::{
-    Journal, JournalFault, MemoryDisk, Replayed, first_line, read_journal, text_of_pages,
+    Disk, Journal, JournalFault, MemoryDisk, Replayed, first_line, read_journal, text_of_pages,
 };
 use pocsag_open::{OpenRound, Places, Planner, run_open_kept};
 use pocsag_plan::{Book, Effort};
 use pocsag_rounds::given::{Records, round_of_file};
 use pocsag_shell::{FileFault, Outputs};
-use pocsag_words::{MemorySink, MemorySource};
+use pocsag_words::{DeviceFault, MemorySink, MemorySource};
 use std::alloc::Global;
 use std::test::Fail;
 
@@ -50,16 +50,71 @@ impl Places for NoFolder {
     fn leave<'n>(&mut self, _tx: &'n str, _cert: &'n str) {}
 }
 
+// A disk in memory that forgets what it held before, for long journals.
+#[derive(Drop)]
+struct ForgetfulDisk {
+    alloc: Global,
+    bytes: Vec<u8>,
+    settlings_left: u64,
+    syncs: u64,
+}
+
+impl Disk for ForgetfulDisk {
+    ghost tells = { ⊥ };
+
+    ghost held = { λ _. [] };
+
+    ghost may_leave = { λ _ _. ⊥ };
+
+    ghost moment = { λ _. 0 };
+
+    ghost left_since = { λ _ _ _. ⊥ };
+
+    ghost failures = { λ _. 0 };
+
+    ghost counts_now = { λ disk t left tells le now. absurd tells };
+
+    ghost only_now = { λ disk left tells since. absurd tells };
+
+    fn append(&mut self, line: &[u8]) -> Result<(), DeviceFault> {
+        match self.bytes.extend_from_slice(line) {
+            Ok(()) => Ok(()),
+            Err(_) => Err(DeviceFault),
+        }
+    }
+
+    fn sync(&mut self) -> Result<(), DeviceFault> {
+        self.syncs = self.syncs.saturating_add(1);
+        if self.settlings_left == 0 {
+            return Err(DeviceFault);
+        }
+        self.settlings_left -= 1;
+        Ok(())
+    }
+
+    fn replace(&mut self, text: &[u8]) -> Result<(), DeviceFault> {
+        if self.settlings_left == 0 {
+            return Err(DeviceFault);
+        }
+        let Ok(bytes) = text.to_vec(self.alloc) else {
+            return Err(DeviceFault);
+        };
+        self.settlings_left -= 1;
+        self.bytes = bytes;
+        Ok(())
+    }
+}
+
 // What a round leaves: its answers, its disk, and how it ended.
 #[derive(Drop)]
-struct Left {
+struct Left<D: Disk + Drop> {
     answers: MemorySink<8000>,
-    disk: MemoryDisk,
+    disk: D,
     done: Result<(), FileFault>,
 }
 
 // Keeps a round of no pages on the disk.
-fn keep(alloc: Global, disk: MemoryDisk, lines: &[u8]) -> Result<Left, JournalFault> {
+fn keep<D: Disk + Drop>(alloc: Global, disk: D, lines: &[u8]) -> Result<Left<D>, JournalFault> {
     let planner = &mut Planner {
         places: NoFolder,
         effort: Effort::Fewest,
@@ -302,12 +357,17 @@ fn long_journals_are_written_anew(rt: HostRuntime) -> Result<(), Fail> {
         (522, Err(FileFault::Write), 521, 1_049_750, (521, 1, 0)),
     ];
     for (settles, done, syncs, bytes, read) in cases {
-        let disk = MemoryDisk::new(alloc, usize::MAX, settles);
+        let disk = ForgetfulDisk {
+            alloc,
+            bytes: Vec::new(alloc),
+            settlings_left: settles,
+            syncs: 0,
+        };
         let left = keep(alloc, disk, lines.as_slice())?;
         assert_eq!(rt; left.done, done);
-        assert_eq!(rt; left.disk.syncs(), syncs);
-        assert_eq!(rt; left.disk.bytes().len(), bytes);
-        let mut source = MemorySource::new(left.disk.bytes(), 4096, u64::MAX);
+        assert_eq!(rt; left.disk.syncs, syncs);
+        assert_eq!(rt; left.disk.bytes.len(), bytes);
+        let mut source = MemorySource::new(left.disk.bytes.as_slice(), 4096, u64::MAX);
         assert_eq!(rt; told(read_journal(alloc, &mut source)), Ok(read));
     }
     Ok(())
