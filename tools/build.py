@@ -32,11 +32,11 @@ BASE = "pocsag_words"  # the crate that the whole build is compared with
 TAKEN = "begins with what a check kept"  # the toolchain says so where another copy of the repository has proved a crate
 NEEDS = "on four processors, with 2 GB of memory for each of them and 6 GB of disk"
 WAITS = {
-    FIRST: f"proving and building plan, check and report, once: 12 to 20 minutes {NEEDS}. The first call of another command "
-           "takes 8 to 12 minutes more",
+    FIRST: f"proving and building plan, check and report, once: 15 to 25 minutes {NEEDS}. The first call of another command "
+           "takes 10 to 16 minutes more",
     WHOLE: f"proving and building all commands, once: 12 to 30 minutes {NEEDS}",
 }
-MORE = f"proving and building the other commands, once: 8 to 12 minutes more {NEEDS}"
+MORE = f"proving and building the other commands, once: 10 to 16 minutes more {NEEDS}"
 
 
 def say(text):
