@@ -130,6 +130,7 @@ const PLAN_RATE_OPTION: LineWord = LineWord {
     given: Given::Option("R", &[]),
     content: Content::Number,
     needs: &[AIRTIME],
+    excludes: &[AT_MOST],
     ..FLAG
 };
 
