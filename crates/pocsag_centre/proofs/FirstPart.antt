@@ -59,14 +59,14 @@ module _ (R : List Page) (round : IsRound R) (texts : All IsSpellable R)
       subst (λ (ps : List Page). IsPageFileOf ps file) same
       (elim (cases_lt 0 k) [
         | inl more ↦
-          let good = first_round k R round more few in
-          ap verdict (written ∙ ap page_file is) ∙ read_back (take k R) good.good good.few (All-take IsSpellable k R texts)
+            let good = first_round k R round more few in
+            ap verdict (written ∙ ap page_file is) ∙ read_back (take k R) good.good good.few (All-take IsSpellable k R texts)
         | inr none ↦
-          let zero : k ≡ 0 = omega arith in
-          let nothing : take k R ≡ [] = ap (λ (m : ℕ). take m R) zero in
-          let good : AreGood [] = subst AreGood (drop_all (length R) R (omega arith)) (good_last (length R) R round.good) in
-          subst (λ (ps : List Page). IsPageFileOf ps file) (sym nothing)
-          (ap verdict (written ∙ ap page_file (is ∙ nothing)) ∙ read_back [] good (omega arith) (All-nil IsSpellable))
+            let zero : k ≡ 0 = omega arith in
+            let nothing : take k R ≡ [] = ap (λ (m : ℕ). take m R) zero in
+            let good : AreGood [] = subst AreGood (drop_all (length R) R (omega arith)) (good_last (length R) R round.good) in
+            subst (λ (ps : List Page). IsPageFileOf ps file) (sym nothing)
+            (ap verdict (written ∙ ap page_file (is ∙ nothing)) ∙ read_back [] good (omega arith) (All-nil IsSpellable))
       ])
 
 pub first_listable : (k : ℕ) (R : List Page) → IsRound R → All IsListable (take k R)

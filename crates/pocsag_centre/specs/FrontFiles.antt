@@ -1,5 +1,5 @@
 -- The front of a page file: what is written of its first pages and of the others, and why nothing is.
-use Rattle.std.specs.Prelude.{◌≡◌, ◌⊎◌, ℕ, ◌+◌, ◌<◌, ◌≤◌, false, List, drop, length, take, Option, Some, None, IsOk}
+use Rattle.std.specs.Prelude.{◌≡◌, ◌⊎◌, ℕ, ◌+◌, ◌<◌, ◌≤◌, false, List, [], drop, length, take, Option, Some, None, IsOk}
 use Rattle.pocsag_pages.specs.declared.page.Page.{Page}
 use Rattle.pocsag_pages.specs.PageFile.{verdict}
 use Rattle.pocsag_pages.specs.PageList.{unless_empty}
@@ -13,6 +13,7 @@ use Rattle.pocsag_plan.specs.Fronts.{FirstNeeds, StopsAtFront}
 use Rattle.pocsag_plan.specs.Plans.{MayStop}
 use Rattle.pocsag_plan.specs.Streams.{IsOfRound}
 use Rattle.pocsag_shell.specs.declared.fault.FileFault.TheVariants as file_fault
+use Rattle.pocsag_centre.specs.Lines.{undecided_text}
 use Rattle.pocsag_centre.specs.Refusals.{ExplainsRound}
 use Rattle.pocsag_centre.specs.declared.fault.CentreFault.{CentreFault}
 use Rattle.pocsag_centre.specs.declared.fault.CentreFault.TheVariants as fault
@@ -54,3 +55,8 @@ abbrev pub ExplainsFirst : (file : List ℕ) → CentreFault → Type 0
 ExplainsFirst file (fault.Round f) = ExplainsRound file f
 ExplainsFirst file (fault.File file_fault.OutOfMemory) = IsOk (verdict file)
 ExplainsFirst file _ = ⊥
+
+-- The last line on a front of at most so many batches: what the certificate for one page more shows, where there is one.
+abbrev pub why_text : (batches : ℕ) → Option WrittenCertificate → List ℕ
+why_text batches None = []
+why_text batches (Some written) = undecided_text batches written.bound

@@ -1,4 +1,4 @@
-ghost use Rattle.std.specs.Prelude.{◌≡◌, ◌≤◌, drop, length, take, All, IfErr, IfNone, IfOk, IfSome, IsNone, IsSomeAnd};
+ghost use Rattle.std.specs.Prelude.{◌≡◌, ◌≤◌, ◌++◌, drop, length, take, All, IfErr, IfNone, IfOk, IfSome, IsNone, IsSomeAnd, OnOk};
 ghost use Rattle.pocsag_pages.specs.declared.page.Page.{Page};
 ghost use Rattle.pocsag_pages.specs.Listable.{IsListable};
 ghost use Rattle.pocsag_tree.specs.Limits.{second_ranges};
@@ -9,7 +9,8 @@ ghost use Rattle.pocsag_plan.specs.Fronts.{IsFrontFor, IsLongestFront};
 ghost use Rattle.pocsag_plan.specs.Headline.{RoundHeadline};
 ghost use Rattle.pocsag_plan.specs.Plans.{IsBounded, IsPlanFor};
 ghost use Rattle.pocsag_plan.specs.Streams.{HeadlineOf, IsOfRound};
-ghost use Rattle.pocsag_centre.specs.FrontFiles.{ExplainsFirst, ExplainsNoFront, IsPageFileOf, IsWhyWritten};
+ghost use Rattle.pocsag_centre.specs.FrontFiles.{ExplainsFirst, ExplainsNoFront, IsPageFileOf, IsWhyWritten, why_text};
+ghost use Rattle.pocsag_centre.specs.Lines.{below_text, left_text, plan_text, undecided_text};
 ghost use Rattle.pocsag_shell.specs.declared.fault.FileFault.TheVariants as file_fault;
 
 use crate::demand::refuse_bad_limit;
@@ -167,21 +168,37 @@ fn written_why(
 
 /// Tells the counts of a front, with its bound where that is below its batches; how many pages are left; and what is shown
 /// of one page more, where that is no more than the batches that were asked for.
+#[tactic(auto, unfolding(crate::specs::Lines::left_text))]
 pub(crate) fn tell_front<O: Sink>(
     front: &WrittenFront,
     batches: u32,
     out: &mut O,
-) -> Result<(), CentreFault> {
+) -> Result<(), CentreFault>
+    ensures told { O.tells → OnOk result (O.taken out.new ≡ O.taken out.old
+        ++ plan_text front.now.first.bounded.plan.pages front.now.first.bounded.plan.batches
+        ++ below_text front.now.first.bounded.plan.batches front.now.first.bounded.bound
+        ++ left_text front.now.left ++ why_text batches front.now.why) }
+    ensures lost { IfErr result (λ e. e ≡ CentreFault.File file_fault.Write) }
+{
     tell_bounded(&front.first.bounded, out)?;
     tell(out, format_args!("left {}\n", front.left))?;
     match &front.why {
-        Some(why) if why.bound <= batches => {
-            let bound = why.bound;
-            Ok(tell(
-                out,
-                format_args!("at least {bound} batches with one page more\n"),
-            )?)
-        }
-        _ => Ok(()),
+        Some(why) => Ok(tell_undecided(batches, why.bound, out)?),
+        None => Ok(()),
     }
+}
+
+// Tells what is shown of one page more, where that is no more than so many batches.
+#[tactic(auto, unfolding(crate::specs::Lines::undecided_text))]
+fn tell_undecided<O: Sink>(batches: u32, bound: u32, out: &mut O) -> Result<(), FileFault>
+    ensures told { O.tells → OnOk result (O.taken out.new ≡ O.taken out.old ++ undecided_text batches bound) }
+    ensures lost { IfErr result (λ e. e ≡ FileFault.Write) }
+{
+    if batches < bound {
+        return Ok(());
+    }
+    tell(
+        out,
+        format_args!("at least {bound} batches with one page more\n"),
+    )
 }
