@@ -16,7 +16,7 @@ its first pages, as many as so many batches carry, in the order of the file. It
 adds the line 'left L', the number of the other pages. Nothing is written if
 not even the first page fits.
 
-Examples:
+Example:
   pocsag plan pages.csv tx.bin cert.bin --strict --always --verify --keep
   pocsag plan queue.csv tx.bin cert.bin --at-most 9 --rest rest.csv --keep";
 
@@ -44,8 +44,8 @@ not count";
 pub(crate) const END_HELP: &str = "\
 What ends the last message: the end of the transmission
 (open), an idle or an address codeword behind it
-(closed), or an idle codeword, the last of all
-(idle)";
+(closed), or an idle codeword, the last of all (idle)
+";
 
 pub(crate) const IDLE_LAST_HELP: &str = "\
 The same as --end idle: some receivers show a page only
@@ -67,7 +67,9 @@ pub(crate) const FRAMES_HELP: &str = "\
 Adds a line for each frame: its pages, their codewords,
 and the idles in its two slots, the least room first";
 
-pub(crate) const VERIFY_HELP: &str = "Reads TX and CERT back and compares them with the page file";
+pub(crate) const VERIFY_HELP: &str = "\
+Reads TX and CERT back and compares them with the page
+file";
 
 pub(crate) const RATE_HELP: &str = "Bits a second: 512, 1200 or 2400";
 

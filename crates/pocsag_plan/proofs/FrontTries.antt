@@ -62,7 +62,7 @@ module _ (k : Classes) (search : Search) (batches : ℕ) where
   -- with a batch to spare, a search finds a plan within the batches
   pub spare_fits : (outcome : Outcome) → HasSpare k search batches → IsOutcome k search outcome → outcome.found.batches ≤ batches
   spare_fits outcome spare is =
-      let same : is.within.least ≡ spare.least = 
+      let same : is.within.least ≡ spare.least =
       omega (arith, is.within.is_least.least spare.least spare.is_least.carried, spare.is_least.least is.within.least is.within.is_least.carried) in
       elim is.within.or_one_more [ inl e ↦ omega (arith, spare.below) | inr e ↦ omega (arith, spare.below) ]
 
@@ -84,7 +84,7 @@ module _ (k : Classes) (search : Search) (batches : ℕ) where
       IsOutcome k search outcome → HasText second_ranges outcome.bound (bound_tree_of outcome.found.tree) →
       IsExcess k search batches (record { end = search.end; batches = outcome.bound; tree = outcome.found.tree })
   search_exceeds outcome least is_least few more is text =
-      let same : is.within.least ≡ least = 
+      let same : is.within.least ≡ least =
       omega (arith, is.within.is_least.least least is_least.carried, is_least.least is.within.least is.within.is_least.carried) in
       let found : outcome.found.batches ≡ batches + 1 =
       elim is.within.or_one_more [ inl e ↦ omega (arith, few, more) | inr e ↦ omega (arith, few, more) ] in
