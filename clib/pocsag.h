@@ -10,6 +10,7 @@
  *           suffice for a plan, so that its search need not be made twice.
  * Numbers.  A limit, end, rate, form or address that is none of those allowed is a fault; `always` may be any number.
  * Order.    A call answers the first fault in this order. pocsag_plan: end, limit, page file, search, size of `tx`, size
+ *           of `cert`. pocsag_plan_at_most: end, limit, page file, first page, search, size of `rest`, of `why`, of `tx`,
  *           of `cert`. pocsag_report: end, page file, limit, search, rate. pocsag_check: page file, certificate.
  *           pocsag_explain: form, page file, certificate, size of `text`. pocsag_decode: transmission, size of
  *           `listing`; pocsag_hear: before them the address. Where memory is wanting, that may come first.
@@ -40,7 +41,7 @@ extern "C" {
 #endif
 
 /* The number of this interface, which pocsag_version answers. */
-#define POCSAG_VERSION 3u
+#define POCSAG_VERSION 4u
 
 /* The end of a transmission: it ends the last message, or the last codeword is no message codeword, or an idle one. */
 #define POCSAG_END_OPEN 0u
@@ -64,7 +65,7 @@ extern "C" {
  * the measured rounds take in all; as much again is added. */
 #define POCSAG_CHECK_STACK 372736u
 #define POCSAG_EXPLAIN_STACK 372736u
-#define POCSAG_PLAN_STACK 1048576u      /* pocsag_report too */
+#define POCSAG_PLAN_STACK 1048576u      /* pocsag_plan_at_most and pocsag_report too */
 #define POCSAG_LISTING_STACK 131072u    /* pocsag_decode, pocsag_hear */
 
 /* Statuses. */
@@ -80,6 +81,9 @@ extern "C" {
 #define POCSAG_LISTING_TOO_SMALL 9u
 #define POCSAG_TEXT_TOO_SMALL 10u
 #define POCSAG_BAD_FORM 11u            /* the form is neither 0 nor 1 */
+#define POCSAG_FIRST_PAGE 12u          /* place.found: not even the first page fits, which needs so many batches */
+#define POCSAG_REST_TOO_SMALL 13u
+#define POCSAG_WHY_TOO_SMALL 14u
 /* Of a page file. From POCSAG_FIELD_COUNT to POCSAG_BAD_PAYLOAD place.record_number says which record. */
 #define POCSAG_PAGES_TOO_LARGE 17u     /* over 268,435,456 bytes */
 #define POCSAG_BAD_HEADER 18u
@@ -119,7 +123,7 @@ extern "C" {
 struct pocsag_place {
     uint32_t record_number; /* the record of the page file, from 1, the header not counted */
     uint32_t least;         /* POCSAG_SEARCH_LIMIT: at least so many batches are needed */
-    uint32_t found;         /* POCSAG_SEARCH_LIMIT: so many, one more, would do */
+    uint32_t found;         /* POCSAG_SEARCH_LIMIT: so many, one more, would do; POCSAG_FIRST_PAGE: so many are needed */
     uint64_t at;            /* a byte of the message, a batch or a codeword, from 0 */
 };
 
@@ -130,6 +134,18 @@ struct pocsag_plan_info {
     uint32_t in_order;  /* batches in file order, with the open end */
     uint32_t batches;   /* of the transmission */
     uint32_t bound;     /* no transmission of the round has fewer; batches, or one less */
+    struct pocsag_place place;
+};
+
+/* What the plan of a front tells. Where there is none, all but the place is 0. */
+struct pocsag_front_info {
+    uint32_t pages;     /* how many first pages of the round are planned */
+    uint32_t left;      /* how many pages are left */
+    uint32_t codewords; /* of the planned pages */
+    uint32_t in_order;  /* their batches in file order, with the open end */
+    uint32_t batches;   /* of the transmission */
+    uint32_t bound;     /* no transmission of the planned pages has fewer; batches, or one less */
+    uint32_t beyond;    /* no transmission of one page more has fewer; 0 where no page is left */
     struct pocsag_place place;
 };
 
@@ -164,6 +180,19 @@ POCSAG_CALL uint32_t pocsag_plan(const uint8_t *pages, size_t pages_len,
                                  uint8_t *cert, size_t cert_size, size_t *cert_len,
                                  uint32_t limit, uint32_t end, uint32_t always,
                                  struct pocsag_plan_info *info);
+
+/* Plans the first pages of a page file, as many as so many batches carry, as pocsag_plan plans all of them. It also puts
+ * the page file of the pages that are left into `rest`, and into `why` the certificate of one page more, which needs more
+ * batches; it has no byte where no page is left. A buffer `rest` or `why` of 0 bytes is not wanted: its length alone is
+ * told. REST_TOO_SMALL, WHY_TOO_SMALL, TX_TOO_SMALL, CERT_TOO_SMALL: all lengths are told. Else: all are 0. Where `always`
+ * is not 0, the pages are as many as the search found to fit, and `beyond` may be `batches`. */
+POCSAG_CALL uint32_t pocsag_plan_at_most(const uint8_t *pages, size_t pages_len, uint32_t batches,
+                                         uint8_t *tx, size_t tx_size, size_t *tx_len,
+                                         uint8_t *cert, size_t cert_size, size_t *cert_len,
+                                         uint8_t *rest, size_t rest_size, size_t *rest_len,
+                                         uint8_t *why, size_t why_size, size_t *why_len,
+                                         uint32_t limit, uint32_t end, uint32_t always,
+                                         struct pocsag_front_info *info);
 
 /* Whether the certificate shows its number of batches for the page file: OK or NOT_SHOWN. */
 POCSAG_CALL uint32_t pocsag_check(const uint8_t *pages, size_t pages_len,
@@ -211,6 +240,9 @@ static inline const char *pocsag_status_text(uint32_t status)
     case POCSAG_LISTING_TOO_SMALL: return "the buffer of the listing is too small";
     case POCSAG_TEXT_TOO_SMALL: return "the buffer of the text is too small";
     case POCSAG_BAD_FORM: return "the form must be 0 or 1";
+    case POCSAG_FIRST_PAGE: return "page 1 needs more batches";
+    case POCSAG_REST_TOO_SMALL: return "the buffer of the pages that are left is too small";
+    case POCSAG_WHY_TOO_SMALL: return "the buffer of the certificate of one page more is too small";
     case POCSAG_PAGES_TOO_LARGE: return "the file is too large";
     case POCSAG_BAD_HEADER: return "the header must be address,kind,message";
     case POCSAG_FIELD_COUNT: return "three fields are wanted";

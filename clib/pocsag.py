@@ -23,6 +23,10 @@ class PlanInfo(ctypes.Structure):
     _fields_ = [*((name, ctypes.c_uint32) for name in ("pages", "codewords", "in_order", "batches", "bound")), ("place", Place)]
 
 
+class FrontInfo(ctypes.Structure):
+    _fields_ = [*((name, ctypes.c_uint32) for name in ("pages", "left", "codewords", "in_order", "batches", "bound", "beyond")), ("place", Place)]
+
+
 class CheckInfo(ctypes.Structure):
     _fields_ = [("end", ctypes.c_uint32), ("batches", ctypes.c_uint32), ("place", Place)]
 
@@ -54,6 +58,7 @@ NAMES = {
     5: ("BadLimit", "the limit must be 1 to 1000000"),
     6: ("SearchLimit", "search limit reached: at least {least} batches, {found} would do"),
     11: ("BadForm", "the form must be 0 or 1"),
+    12: ("FirstPage", "page 1 needs {found} batches"),
     17: ("PagesTooLarge", "the file is too large"),
     18: ("BadHeader", "the header must be address,kind,message"),
     19: ("FieldCount", "record {record_number}: three fields are wanted"),
@@ -89,6 +94,7 @@ FAULTS = {status: type(name, (Fault,), {"text": text}) for status, (name, text) 
 globals().update({fault.__name__: fault for fault in FAULTS.values()})
 
 Plan = namedtuple("Plan", "transmission certificate pages codewords in_order batches bound")
+Front = namedtuple("Front", "transmission certificate rest why pages left codewords in_order batches bound beyond")
 Report = namedtuple("Report", "pages codewords in_order batches idles bits airtime_ms bound")
 Shown = namedtuple("Shown", "is_shown end batches")
 Explanation = namedtuple("Explanation", "is_shown end batches text")
@@ -160,6 +166,23 @@ class Pocsag:
         if status:
             raise raised(status, info.place)
         return Plan(bytes(tx)[: tx_len.value], bytes(cert)[: cert_len.value], info.pages, info.codewords, info.in_order, info.batches, info.bound)
+
+    def plan_at_most(self, pages, batches, limit=100_000, end=OPEN, always=False, sizes=(65_536,) * 4):
+        """The plan of as many first pages of a page file as so many batches carry, the page file of the others, and the
+        certificate of one page more; of these two None where their size is 0. It is asked for once more where a size does
+        not do."""
+        info, lens, buffers = FrontInfo(), [ctypes.c_size_t() for _ in sizes], [buffer_of(size) for size in sizes]
+        status = self.library.pocsag_plan_at_most(
+            *bytes_in(pages), ctypes.c_uint32(small_number(batches, "the batches")),
+            *(word for buffer, told in zip(buffers, lens) for word in (*buffer, ctypes.byref(told))),
+            number_in(limit, 5), number_in(end, 2), ctypes.c_uint32(bool(always)), ctypes.byref(info),
+        )  # fmt: skip
+        if status in (7, 8, 13, 14):
+            return self.plan_at_most(pages, batches, limit, end, always, [size and told.value for size, told in zip(sizes, lens)])
+        if status:
+            raise raised(status, info.place)
+        texts = (bytes(buffer)[: told.value] if told.value <= size.value else None for (buffer, size), told in zip(buffers, lens))
+        return Front(*texts, *(getattr(info, name) for name in Front._fields[4:]))
 
     def report(self, pages, rate, limit=100_000, end=OPEN, always=False):
         """What the plan of a page file takes on the air at a rate."""

@@ -1,6 +1,7 @@
 """The parts of `./test`: each is a command whose last line is 'N passed, M failed', and the sum of these is told."""
 
 import re
+import resource
 import subprocess
 import sys
 import time
@@ -79,6 +80,8 @@ class Gate:
         """Tells the sum; gives the exit status."""
         if self.bad:
             self.say(f"what failed: {', '.join(self.bad)}")
-        self.say(f"after {lanes.minutes(time.monotonic() - self.start)} minutes")
+        used = resource.getrusage(resource.RUSAGE_CHILDREN)
+        busy = lanes.minutes(used.ru_utime + used.ru_stime)
+        self.say(f"after {lanes.minutes(time.monotonic() - self.start)} minutes, {busy} of processors")
         self.say(f"{self.passed} passed, {self.failed} failed")
         return 0 if self.passed and not self.failed else 1

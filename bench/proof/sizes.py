@@ -15,7 +15,7 @@ import sys
 import tarfile
 
 TOP = pathlib.Path(__file__).resolve().parents[2]
-OF_TESTS = {f"pocsag_{of}" for of in ("command_cases", "core_cases", "rounds", "trial")}
+OF_TESTS = {f"pocsag_{of}" for of in ("command_cases", "core_cases", "trial")}
 OF_TESTS |= {"pocsag_bench", "pocsag_cases"}  # in earlier commits alone
 COLUMNS = ("functions", "above five", "clauses", "src", "specs", "proofs", "imports", "From")
 HEAD = re.compile(r"^\s*(?:pub(?:\([^)]*\))? )?(?:const )?(?:unsafe )?(?:extern \"C\" )?fn (\w+)", re.MULTILINE)

@@ -324,8 +324,14 @@ class Answers:
         if word == b"list":
             listed = [address + record for address, record in self.pages.items()]
             return [b"address,kind,message", *listed, b"ok %d" % len(self.pages)]
+        if word == b"plan" and not self.pages:
+            return [b"refused: there are no pages"]
+        if word == b"plan" and line.count(b",") == 4:
+            sent = len(self.pages)
+            self.pages.clear()
+            return [b"batches 1, sent %d" % sent]
         if word == b"plan":
-            return [b"batches 1"] if self.pages else [b"refused: there are no pages"]
+            return [b"batches 1"]
         if word == b"add" and address in self.pages:
             return [b"refused: the address is already there"]
         if word == b"cancel" and address not in self.pages:
@@ -362,7 +368,7 @@ def try_open(tally, library, folder):
     edits = [
         b"add,8,tone0,", b"add,17,numeric,5550199", b'add,26,alpha,"Ward 3, bed 2"', b"list", b"cancel,17", b"cancel,99",
         b"add,8,tone1,", b"add,38,alpha,Gate", b"plan," + files, b"plan," + files + b",closed", b"plan," + files + b",idle", b"bogus", b"list",
-        b"cancel,38", b"clear", b"plan," + files, b"add,7,tone3,", b"list",
+        b"plan," + files + b",open,9", b"cancel,38", b"add,38,alpha,Gate", b"clear", b"plan," + files, b"add,7,tone3,", b"list",
     ]
     (folder / "open.csv").write_bytes(b"address,kind,message\n")
     stdin = b"\n".join(edits) + b"\n"
@@ -486,6 +492,8 @@ def main():
         try_printing(tally, library, "decode", ["decode", "tx.bin"], files, folder)
         try_printing(tally, library, "hear", ["hear", "7", "tx.bin"], files, folder)
         try_printing(tally, library, "wav", ["wav", "tx.bin", "--samples", "8000"], files, folder)
+        for words in (["decode", "tx.bin"], ["hear", "7", "tx.bin"], ["show", "tx.bin"]):
+            try_printing(tally, library, f"{words[0]} --capture", [*words, "--capture"], files, folder)
     return tally.end()
 
 

@@ -35,6 +35,11 @@ def after(pages, line):
         if any(address == other for other, _ in pages):
             return None
         return pages + [(address, words[2])]
+    if words[0] == b"sent":
+        return pages[int(words[1]) :] if int(words[1]) <= len(pages) else None
+    if words[0] == b"plan":
+        # The pages are tones of one frame: each batch carries two.
+        return pages[2 * int(line.rsplit(b",")[-1]) :] if pages else None
     if words[0] == b"cancel":
         left = [page for page in pages if page[0] != int(words[1])]
         return left if len(left) < len(pages) else None
@@ -96,8 +101,15 @@ def torn_line(torn, fate):
     return b"pocsag: a torn line of %s is %s\n" % (count(torn, b"byte"), fate)
 
 
-def is_count(answer):
-    return answer.startswith(b"ok ")
+def is_done(answer):
+    return answer.startswith((b"ok ", b"batches "))
+
+
+def random_tone(chooser, pages):
+    """A page of frame 5, or a plan of so many batches that takes its pages out."""
+    if chooser.random() < 0.3:
+        return b"plan,t,c,open,%d" % chooser.randrange(1, 4)
+    return b"add,%d,tone0," % (8 * chooser.randrange(400) + 5)
 
 
 def listed(folder, *words, **more):
@@ -123,17 +135,17 @@ def try_first_use(tally, folder):
     tally.check("first use: what it tells", err == read_line(10, 10), err)
 
 
-def one_life(process, chooser, pages, count):
+def one_life(process, chooser, pages, count, edit_of=random_edit):
     """Sends edits one by one, and then a few without waiting, and kills it; gives the edits that were sent in their
     order, as far as they are accepted, and how many of them were answered ok."""
     sent, answered = [], 0
     for _ in range(count):
-        line = random_edit(chooser, pages)
+        line = edit_of(chooser, pages)
         process.stdin.write(line + b"\n")
         process.stdin.flush()
         answer = process.stdout.readline()
         later = after(pages, line)
-        if (later is not None) != is_count(answer):
+        if (later is not None) != is_done(answer):
             return None
         if later is not None:
             pages = later
@@ -141,7 +153,7 @@ def one_life(process, chooser, pages, count):
             answered += 1
     burst, many = [], []
     for _ in range(chooser.randrange(4)):
-        line = random_edit(chooser, pages)
+        line = edit_of(chooser, pages)
         many.append(line)
         later = after(pages, line)
         if later is not None:
@@ -153,19 +165,27 @@ def one_life(process, chooser, pages, count):
     process.kill()
     told = process.stdout.read()
     process.wait()
-    answered += sum(is_count(answer) for answer in told.splitlines(True) if answer.endswith(b"\n"))
+    answered += sum(is_done(answer) for answer in told.splitlines(True) if answer.endswith(b"\n"))
     return sent + burst, answered
 
 
 def try_kills(tally, folder):
     """Random edits, killed at random moments and started again each time."""
-    place = folder / "kills"
+    many_lives(tally, folder / "kills", random_edit, KILLS, EDITS)
+
+
+def try_killed_slots(tally, folder):
+    """The same where pages are sent slot by slot."""
+    many_lives(tally, folder / "killed slots", random_tone, KILLS // 3, EDITS // 5)
+
+
+def many_lives(tally, place, edit_of, kills, edits_due):
     place.mkdir()
     chooser = random.Random(SEED)
     pages, edits, ahead = [], 0, 0
-    for life in range(KILLS):
+    for life in range(kills):
         process = start(place)
-        done = one_life(process, chooser, pages, EDITS // KILLS + 1)
+        done = one_life(process, chooser, pages, edits_due // kills + 1, edit_of)
         if done is None:
             tally.check(f"kill {life}: an answer", False)
             return
@@ -179,7 +199,7 @@ def try_kills(tally, folder):
         tally.check(f"kill {life}", found in (listing(kept), listing(more)), (found, err))
         ahead += found != listing(kept)
         pages = kept if found == listing(kept) else more
-    tally.check("kills: edits in all", edits >= EDITS, edits)
+    tally.check("kills: edits in all", edits >= edits_due, edits)
 
 
 SAMPLE = [
@@ -191,6 +211,7 @@ SAMPLE = [
     b"clear",
     b"add,37,alpha,Fire",
     b"add,45,tone3,",
+    b"sent,1",
 ]
 
 
@@ -240,6 +261,31 @@ def try_lost_sectors(tally, folder):
             tally.check(f"sector {sector} lost", found == (b"", bad, 1) and path.read_bytes() == held, found)
 
 
+def try_lost_lines(tally, folder):
+    """A journal of short lines, of which each sector of the last 4 KB in turn was not written: the start reads the lines before
+    it, where it is the last, or refuses the first line that is lost."""
+    place = folder / "lost lines"
+    place.mkdir()
+    path = place / "round.journal"
+    lines = [b"add,%d,alpha,Ward %d" % (8 * number, number) for number in range(300)]
+    text = FIRST_LINE + b"".join(line + b"\n" for line in lines)
+    last = (len(text) - 1) // SECTOR
+    for sector in range(last - 7, last + 1):
+        low, high = sector * SECTOR, min(len(text), (sector + 1) * SECTOR)
+        path.write_bytes(text[:low] + bytes(high - low) + text[high:])
+        whole = text[:low].count(b"\n")
+        if sector == last:
+            found, err = listed(place)
+            torn = len(text) - text[:low].rfind(b"\n") - 1
+            told = torn_line(torn, b"cut off") + read_line(whole - 1, whole - 1)
+            tally.check("the last sector lost", (found, err) == (listing(all_after(lines[: whole - 1])), told), (found, err))
+        else:
+            held = path.read_bytes()
+            bad = b"pocsag: journal line %d: no edit that the pages before it accept\n" % (whole + 1)
+            found = run(place, [b"list"])
+            tally.check(f"sector {sector} of short lines lost", found == (b"", bad, 1) and path.read_bytes() == held, found)
+
+
 def traced(folder, words, lines):
     """The calls by which a program brings files to the disk and renames them, in order."""
     place = folder / "calls"
@@ -267,6 +313,10 @@ def try_synchronised(tally, folder):
     tally.check("synchronised: a journal", done.returncode == 0 and calls == anew + ["fdatasync"] * 2, (done, calls))
     done, calls = traced(place, ["open", "--journal", "j", "--keep"], b"plan,t,c\n")
     tally.check("synchronised: a plan of an open round", done.stdout == b"batches 1\n" and calls == anew + both, (done, calls))
+    done, calls = traced(place, ["open", "--journal", "j", "--keep"], b"plan,t,c,open,1\n")
+    kept = (place / "j").read_bytes().endswith(b"\nsent,2\n")
+    due = anew + both + ["fdatasync"]
+    tally.check("synchronised: a slot", done.stdout == b"batches 1, sent 2\n" and calls == due and kept, (done, calls))
 
 
 def try_bad_lines(tally, folder):
@@ -281,6 +331,9 @@ def try_bad_lines(tally, folder):
         b'add,99,alpha,"x"\n',
         b"cancel,99\n",
         b"plan,a,b\n",
+        b"plan,a,b,open,1\n",
+        b"sent,9\n",
+        b"sent,01\n",
         b"\n",
         b"add,099999999,tone0,\n",
         b"pocsag journal,2\n",
@@ -574,7 +627,7 @@ def try_full_disk(tally, folder):
         out, err, status = run(place, lines, preexec_fn=limited(size), restore_signals=False)
         answered = out.count(b"\n")
         tally.check(f"full at {size}", 0 < answered < 40 and status == 3 and b"pocsag: cannot write\n" in err, (out, err, status))
-        tally.check(f"full at {size}: answers", all(map(is_count, out.splitlines())), out)
+        tally.check(f"full at {size}: answers", all(map(is_done, out.splitlines())), out)
         found, err = listed(place)
         tally.check(f"full at {size}: the list", found == listing(all_after(lines[:answered])), (found, err))
 
@@ -759,7 +812,7 @@ def try_growth(tally, folder):
 
 
 def main():
-    return run_parts(try_first_use, try_kills, try_cuts, try_lost_sectors, try_synchronised, try_bad_lines, try_others, try_harms, try_rights, try_read_only, try_use, try_full_disk, try_full_system, try_verbose, try_verbose_later, try_many, try_growth)
+    return run_parts(try_first_use, try_kills, try_killed_slots, try_cuts, try_lost_sectors, try_lost_lines, try_synchronised, try_bad_lines, try_others, try_harms, try_rights, try_read_only, try_use, try_full_disk, try_full_system, try_verbose, try_verbose_later, try_many, try_growth)
 
 
 if __name__ == "__main__":

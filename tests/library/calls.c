@@ -92,8 +92,23 @@ static uint32_t plan(struct texts *t)
                        &t->info);
 }
 
+struct fronts {
+    uint8_t tx[LARGE], cert[LARGE], rest[LARGE], why[LARGE];
+    size_t tx_len, cert_len, rest_len, why_len;
+    struct pocsag_front_info info;
+};
+
+/* The front of one batch less than the round needs, into buffers of these sizes. */
+static uint32_t front(const struct texts *whole, struct fronts *f, size_t tx_size, size_t cert_size, size_t rest_size,
+                      size_t why_size)
+{
+    return pocsag_plan_at_most(pages, pages_len, whole->info.batches - 1, f->tx, tx_size, &f->tx_len, f->cert, cert_size,
+                               &f->cert_len, f->rest, rest_size, &f->rest_len, f->why, why_size, &f->why_len, 100000, end,
+                               always, &f->info);
+}
+
 /* How many calls take memory. */
-#define CALLS 7
+#define CALLS 8
 
 /* One of them, its texts into t. */
 static uint32_t call_of(int call, const struct texts *whole, struct texts *t)
@@ -111,6 +126,14 @@ static uint32_t call_of(int call, const struct texts *whole, struct texts *t)
         return pocsag_decode(whole->tx, whole->tx_len, t->tx, LARGE, &t->tx_len, &place);
     case 3:
         return pocsag_hear(8, whole->tx, whole->tx_len, t->tx, LARGE, &t->tx_len, &place);
+    case 6: {
+        static struct fronts f;
+        memset(&f, 0x5a, sizeof f);
+        uint32_t status = front(whole, &f, LARGE, LARGE, LARGE, LARGE);
+        memcpy(t->tx, f.rest, LARGE);
+        memcpy(t->cert, f.why, LARGE);
+        return status;
+    }
     case 4:
     case 5:
         return pocsag_explain(pages, pages_len, whole->cert, whole->cert_len,
@@ -205,6 +228,38 @@ static void try_explanations(const struct texts *whole)
     }
 }
 
+/* The front of the round, with buffers that just do, that have a byte too few, and that are not wanted. */
+static void try_fronts(const struct texts *whole)
+{
+    static struct fronts f, t;
+    memset(&f, 0x5a, sizeof f);
+    if (front(whole, &f, LARGE, LARGE, LARGE, LARGE) != POCSAG_OK || f.info.left == 0 ||
+        f.info.batches >= whole->info.batches || f.info.beyond + always < whole->info.batches || f.why_len == 0)
+        wrong("the front", (long)f.info.pages);
+    for (int less = 0; less < 6; less++) {
+        size_t rest_size = less == 5 ? 0 : f.rest_len - (less == 1), why_size = less == 5 ? 0 : f.why_len - (less == 2);
+        static const uint32_t statuses[] = {POCSAG_OK, POCSAG_REST_TOO_SMALL, POCSAG_WHY_TOO_SMALL, POCSAG_TX_TOO_SMALL,
+                                            POCSAG_CERT_TOO_SMALL, POCSAG_OK};
+        memset(&t, 0x5a, sizeof t);
+        uint32_t status = front(whole, &t, f.tx_len - (less == 3), f.cert_len - (less == 4), rest_size, why_size);
+        if (status != statuses[less])
+            wrong("the status of a front", (long)status);
+        if (t.tx_len != f.tx_len || t.cert_len != f.cert_len || t.rest_len != f.rest_len || t.why_len != f.why_len ||
+            memcmp(&t.info, &f.info, sizeof f.info) != 0)
+            wrong("what a front tells", less);
+        int given = status == POCSAG_OK;
+        if (given ? memcmp(t.tx, f.tx, f.tx_len) != 0 || memcmp(t.cert, f.cert, f.cert_len) != 0
+                  : !is_untouched(t.tx, LARGE) || !is_untouched(t.cert, LARGE))
+            wrong("the plan of a front", less);
+        if (given && less != 5 ? memcmp(t.rest, f.rest, f.rest_len) != 0 || memcmp(t.why, f.why, f.why_len) != 0
+                               : !is_untouched(t.rest, LARGE) || !is_untouched(t.why, LARGE))
+            wrong("what is left by a front", less);
+        if (given && less == 0 && (!is_untouched(t.rest + t.rest_len, LARGE - t.rest_len) ||
+                                   !is_untouched(t.why + t.why_len, LARGE - t.why_len)))
+            wrong("a byte behind the texts of a front", less);
+    }
+}
+
 static void try_buffers(const struct texts *whole)
 {
     struct pocsag_plan_info info;
@@ -225,6 +280,7 @@ static void try_buffers(const struct texts *whole)
     }
     try_listings(whole);
     try_explanations(whole);
+    try_fronts(whole);
     struct pocsag_check_info check;
     uint8_t *file = guarded(pages_len), *cert = guarded(whole->cert_len);
     memcpy(file, pages, pages_len);

@@ -30,7 +30,8 @@ EXAMPLES = TOP / "clib/examples"
 ROUND = TOP / "examples/round.csv"
 ROUNDS, CHANGED = 1_200, 400
 ROUNDS_OF_BOTH, CHANGED_OF_BOTH = 2_000, 8_000
-CALLS = {"pocsag_check", "pocsag_decode", "pocsag_explain", "pocsag_hear", "pocsag_plan", "pocsag_report", "pocsag_version"}
+CALLS = {"check", "decode", "explain", "hear", "plan", "plan_at_most", "report", "version"}
+CALLS = {f"pocsag_{name}" for name in CALLS}
 
 # The words of the program for each end, and what its `check` tells of it.
 WORDS = dict(zip((pocsag.OPEN, pocsag.CLOSED, pocsag.IDLE), ENDS.values()))
@@ -39,7 +40,7 @@ TOLD = dict(zip(WORDS, (b"", b" with a closed end", b" with an idle last")))
 # What the program prints where a call answers a status.
 SAID = {
     3: "out of memory", 5: "the limit must be 1 to 1000000", 6: "search limit reached: at least {least} batches, {found} would do",
-    17: "the file is too large", 18: "the header must be address,kind,message",
+    12: "page 1 needs {found} batches", 17: "the file is too large", 18: "the header must be address,kind,message",
     19: "record {record_number}: three fields are wanted", 20: "record {record_number}: bad address",
     21: "record {record_number}: reserved address", 22: "record {record_number}: unknown kind",
     23: "record {record_number}: a tone page has no message", 24: "record {record_number}: the message is empty",
@@ -131,6 +132,22 @@ class Library:
         same = same and shown == (True, end, plan.bound)
         return same, plan
 
+    def front_beside_program(self, pages, batches, end, always):
+        """Whether the plan of a front, the pages that are left, and why not one more are those of the program; and the front."""
+        self.pages.write_bytes(pages)
+        rest, why = self.pages.with_suffix(".rest"), self.pages.with_suffix(".why")
+        words = [*WORDS[end], *["--always"] * always, "--at-most", batches, "--rest", rest, "--why", why]
+        status, text = program("plan", self.pages, self.tx, self.cert, *words)
+        front = attempt(self.pocsag.plan_at_most, pages, batches, end=end, always=always)
+        if isinstance(front, pocsag.Fault):
+            return status != 0 and said(front) == text, None
+        files = [path.read_bytes() for path in (self.tx, self.cert, rest, why)]
+        same = status == 0 and [front.transmission, front.certificate, front.rest, front.why] == files
+        told = b"pages %d\nbatches %d\n" % (front.pages, front.batches)
+        told += b"at least %d batches\n" % front.bound * (front.bound < front.batches) + b"left %d\n" % front.left
+        told += b"at least %d batches with one page more\n" % front.beyond * (0 < front.beyond <= batches)
+        return same and text == told, front
+
     def reads_alike(self, pages, tx, cert, address):
         """Whether a check, a listing and what a pager shows are what the program says."""
         self.pages.write_bytes(pages)
@@ -174,6 +191,33 @@ def try_bytes(tally, library, rounds, seed):
     return plans
 
 
+def try_fronts(tally, library, plans, seed):
+    """Fronts of random rounds, beside the program; and of the sample round, as its picture in two batches shows them."""
+    source = random.Random(seed)
+    wrong, kinds = [], set()
+    for number, (pages, plan) in enumerate(plans[::3]):
+        batches = source.randrange(plan.batches + 2)
+        same, front = library.front_beside_program(pages, batches, source.randrange(3), source.randrange(4) == 0)
+        wrong += [number] * (not same)
+        kinds.add("none" if front is None else "all" if front.left == 0 else "some")
+    tally.check(f"{len(plans[::3])} fronts are planned as the program plans them", not wrong, wrong[:5])
+    tally.check("some have no page, some each, and some a part", kinds == {"none", "all", "some"}, kinds)
+    call, tones = library.pocsag.plan_at_most, [b"%d,tone0,\n" % (8 * number) for number in range(1, 6)]
+    # Each tone wants a slot of frame 0, of which a batch has two: five need three batches, and two batches carry four.
+    front = call(b"address,kind,message\n" + b"".join(tones), 2)
+    numbers = (front.pages, front.left, front.codewords, front.batches, front.bound, front.beyond)
+    tally.check("four of five tones of one frame in two batches", numbers == (4, 1, 4, 2, 2, 3), front)
+    tally.check("the fifth is left", front.rest == b"address,kind,message\n40,tone0,\n", front.rest)
+    shown = library.pocsag.check(b"address,kind,message\n" + b"".join(tones), front.why)
+    tally.check("five need three batches, as is certified", shown == (True, 0, 3), shown)
+    whole = call(b"address,kind,message\n" + b"".join(tones), 3)
+    tally.check("three batches carry all", (whole.pages, whole.left, whole.why, whole.beyond) == (5, 0, b"", 0), whole)
+    fault = attempt(call, b"address,kind,message\n8,alpha,%s\n" % (b"a" * 50), 1)
+    tally.check("a first page of 19 codewords needs two batches", (type(fault), fault.found) == (pocsag.FirstPage, 2), fault)
+    unwanted = call(b"address,kind,message\n" + b"".join(tones), 2, sizes=(4_096, 4_096, 0, 0))
+    tally.check("what is not wanted is not given", (unwanted.pages, unwanted.rest, unwanted.why) == (4, None, None), unwanted)
+
+
 def try_changed(tally, library, plans, count, seed):
     source = random.Random(seed)
     wrong, refused = [], 0
@@ -194,7 +238,7 @@ def try_changed(tally, library, plans, count, seed):
 
 def try_faults(tally, library):
     call, sample = library.pocsag, ROUND.read_bytes()
-    tally.check("the version", call.version() == 3)
+    tally.check("the version", call.version() == 4)
     for name, wanted, given in (
         ("a limit of 0", pocsag.BadLimit, dict(limit=0)),
         ("a limit above the greatest", pocsag.BadLimit, dict(limit=1_000_001)),
@@ -258,7 +302,7 @@ def try_header(tally, folder, room):
     built = run("cc", "-std=c11", "-Wall", "-Wextra", "-Werror", HERE / "header.c", f"-I{folder}", "-o", sized)
     tally.check("the header's own functions are compiled", built.returncode == 0, built.stderr)
     told = run(sized, "texts").stdout.decode().splitlines()
-    wanted = {number: re.sub(r"^(record|batch|codeword) \{\w+\}: | at \{at\}$|: at least .*$", "", text) for number, text in SAID.items()}
+    wanted = {number: re.sub(r"^(record|batch|codeword) \{\w+\}: | at \{at\}$|: at least .*$", "", text).replace("{found}", "more") for number, text in SAID.items()}
     texts = dict(line.split(" ", 1) for line in told)
     wrong = [(number, text) for number, text in wanted.items() if texts.get(str(number)) != text]
     tally.check("a status has the program's text", not wrong and len(texts) == 100, wrong)
@@ -344,6 +388,7 @@ def try_stack(tally, folder, room):
         pages.write_bytes(data)
         cert.write_bytes(pocsag.Pocsag(str(folder / make.SONAME)).plan(data).transmission)
         on_stack("plan", "PLAN", {0}, name)
+        on_stack("front", "PLAN", {0}, name)
         on_stack("report", "PLAN", {0}, name)
         on_stack("decode", "LISTING", {0}, name)
         on_stack("hear", "LISTING", {0}, name)
@@ -482,6 +527,7 @@ def all_answers(library, pages, tx, cert, address, end, always):
         attempt(library.decode, tx),
         attempt(library.hear, address, tx),
         attempt(library.report, pages, 1200, end=end, always=always),
+        attempt(library.plan_at_most, pages, address % 8, end=end, always=always),
     ]
     return [(type(it), vars(it)) if isinstance(it, pocsag.Fault) else it for it in answers]
 
@@ -544,6 +590,7 @@ def try_library(tally, room):
     try_page(tally, folder, room)
     try_calls(tally, folder, room, ways_to_try())
     plans = try_bytes(tally, library, ROUNDS, 1)
+    try_fronts(tally, library, plans, 4)
     try_changed(tally, library, plans, CHANGED, 2)
     try_other_compiler(tally, room, library)
 

@@ -2,7 +2,7 @@
  *
  *     stack CALL BYTES PAGES CERT
  *
- * CALL is plan, report, check, words, json, decode or hear; the last two read CERT as a transmission. It prints the status
+ * CALL is plan, front, report, check, words, json, decode or hear; the last two read CERT as a transmission. It prints the status
  * of the call and how many bytes of the stack were written, the thread's own part included. */
 #define _GNU_SOURCE
 #include <pthread.h>
@@ -23,7 +23,7 @@ struct file {
 
 static struct file pages, other;
 static const char *call;
-static uint8_t *first, *second;
+static uint8_t *first, *second, *third, *fourth;
 
 static struct file read_file(const char *name)
 {
@@ -39,14 +39,18 @@ static struct file read_file(const char *name)
 static void *run(void *status)
 {
     static struct pocsag_plan_info plan;
+    static struct pocsag_front_info front;
     static struct pocsag_report_info report;
     static struct pocsag_check_info check;
     static struct pocsag_place place;
-    static size_t len, other_len;
+    static size_t len, other_len, rest_len, why_len;
     uint32_t *told = status;
     if (strcmp(call, "plan") == 0)
         *told = pocsag_plan(pages.bytes, pages.len, first, LARGE, &len, second, LARGE, &other_len, POCSAG_DEFAULT_LIMIT,
                             POCSAG_END_CLOSED, 1, &plan);
+    else if (strcmp(call, "front") == 0)
+        *told = pocsag_plan_at_most(pages.bytes, pages.len, 2, first, LARGE, &len, second, LARGE, &other_len, third, LARGE,
+                                    &rest_len, fourth, LARGE, &why_len, POCSAG_DEFAULT_LIMIT, POCSAG_END_CLOSED, 1, &front);
     else if (strcmp(call, "report") == 0)
         *told = pocsag_report(pages.bytes, pages.len, 1200, POCSAG_DEFAULT_LIMIT, POCSAG_END_CLOSED, 1, &report);
     else if (strcmp(call, "check") == 0)
@@ -71,9 +75,11 @@ int main(int argc, char **argv)
     other = read_file(argv[4]);
     first = malloc(LARGE);
     second = malloc(LARGE);
+    third = malloc(LARGE);
+    fourth = malloc(LARGE);
     size_t page = (size_t)sysconf(_SC_PAGESIZE), bytes = (strtoul(argv[2], NULL, 10) + page - 1) / page * page;
     uint8_t *low = mmap(NULL, page + bytes, PROT_READ | PROT_WRITE, MAP_PRIVATE | MAP_ANONYMOUS, -1, 0);
-    if (first == NULL || second == NULL || low == MAP_FAILED || mprotect(low, page, PROT_NONE) != 0)
+    if (first == NULL || second == NULL || third == NULL || fourth == NULL || low == MAP_FAILED || mprotect(low, page, PROT_NONE) != 0)
         return 2;
     uint8_t *stack = low + page;
     memset(stack, 0x5a, bytes);

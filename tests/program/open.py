@@ -370,6 +370,79 @@ def hard_pages(tally, folder):
         program.close()
 
 
+# Three pages: the first alone and the first two take two batches, and the last alone takes one.
+LONG = b"1" * 75
+SLOTS = [b"3,numeric," + LONG, b"8,tone0,", b"0,numeric," + LONG]
+
+# Lines that ask for no front, since the number of batches is none.
+NO_BATCHES = [b"0", b"", b"02", b"+2", b"-2", b"2.", b"2x", b" 2", b"4294967296", b"two", b"2,"]
+
+
+def slots_of_a_day(tally, folder):
+    """A front is sent, and its pages are taken out; a refused one takes nothing out."""
+    program = OpenRound(folder)
+    for page in SLOTS:
+        program.ask(b"add," + page)
+    whole = [HEADER.strip(), *SLOTS, b"ok 3"]
+    for batches in NO_BATCHES:
+        found = program.ask(b"plan,f.bin,f.cert,open," + batches)
+        tally.check(f"no front for {batches!r} batches", found == b"refused: unknown edit", found)
+    for line, due in (
+        (b"plan,f.bin,f.cert,open,1", b"refused: page 1 needs 2 batches"),
+        (b"plan,f.bin,f.cert,soon,2", b"refused: unknown edit"),
+        (b"plan,f.bin,f.cert,,2", b"refused: unknown edit"),
+        (b"plan,f.bin,f.bin,open,2", b"refused: the same file is named twice"),
+        (b"plan,no/such/f.bin,f.cert,open,2", b"refused: cannot read or open a file"),
+        (b"plan,/dev/full,/dev/zero,open,2", b"refused: cannot write"),
+        (b"plan,/dev/null,/dev/full,open,2", b"refused: cannot write"),
+        (b"sent,4", b"refused: no such page"),
+        (b"sent,0", b"refused: no such page"),
+        (b"sent,01", b"refused: no such page"),
+        (b"sent,-1", b"refused: no such page"),
+        (b"sent,4294967296", b"refused: no such page"),
+        (b"sent", b"refused: unknown edit"),
+        (b"sent,1,", b"refused: unknown edit"),
+        (b"Sent,1", b"refused: unknown edit"),
+    ):
+        found = program.ask(line)
+        tally.check(f"{line!r} is answered {due!r}", found == due, found)
+    tally.check("what is refused takes nothing out", program.lines(b"list") == whole, "")
+    tally.check("two batches carry two pages", program.ask(b"plan,f.bin,f.cert,open,2") == b"batches 2, sent 2", "")
+    sent = subprocess.run([str(PROGRAM), "decode", "f.bin"], capture_output=True, cwd=folder, timeout=60)
+    tally.check("they are sent", sorted(sent.stdout.splitlines()[1:]) == sorted(SLOTS[:2]), sent)
+    (folder / "f.csv").write_bytes(HEADER + b"\n".join(SLOTS[:2]) + b"\n")
+    shown = subprocess.run([str(PROGRAM), "check", "f.csv", "f.cert"], capture_output=True, cwd=folder, timeout=60)
+    tally.check("the certificate is for them", shown.stdout == b"at least 2 batches\n", shown)
+    tally.check("they are out of the round", program.lines(b"list") == [HEADER.strip(), SLOTS[2], b"ok 1"], "")
+    tally.check("a page comes behind the others", program.ask(b"add,16,tone0,") == b"ok 2", "")
+    tally.check("the first page is told as sent", program.ask(b"sent,1") == b"ok 1", "")
+    tally.check("the other stays", program.lines(b"list") == [HEADER.strip(), b"16,tone0,", b"ok 1"], "")
+    found = program.ask(b"plan,f.bin,f.cert,idle,4294967295")
+    tally.check("all pages are sent", found == b"batches 1, sent 1", found)
+    found = program.ask(b"plan,f.bin,f.cert,open,1")
+    tally.check("no page is left", found == b"refused: there are no pages", found)
+    status, rest, err = program.close()
+    tally.check("slots end nothing", (status, rest, err) == (0, b"", b""), (status, rest, err))
+
+
+def hard_slots(tally, folder):
+    """Where the search gives up, a front is refused, and sent with `--always`."""
+    pages = [b"%d,numeric,%s" % (8 * place + frame, 5 * (length - 1) * b"1") for place, (frame, length) in enumerate(HARD)]
+    for words in ((), ("--always",)):
+        program = OpenRound(folder, *words)
+        for page in pages:
+            program.ask(b"add," + page)
+        found = program.ask(b"plan,h.bin,h.cert,open,8")
+        if words:
+            tally.check("seven hard pages are sent", found == b"batches 8, sent 7", found)
+            tally.check("the last one stays", program.lines(b"list") == [HEADER.strip(), pages[-1], b"ok 1"], "")
+        else:
+            due = b"refused: search limit reached: at least 8 batches, 9 would do"
+            tally.check("a hard front is refused", found == due, found)
+            tally.check("its pages stay", program.lines(b"list") == [HEADER.strip(), *pages, b"ok 8"], "")
+        program.close()
+
+
 def begins_with_pages(tally, folder):
     path = folder / "pages.csv"
     path.write_bytes(HEADER + b"8,tone0,\n16,numeric,12\n")
@@ -425,6 +498,8 @@ def main():
         files_of_a_plan,
         hard_plans,
         hard_pages,
+        slots_of_a_day,
+        hard_slots,
         begins_with_pages,
         last_line,
         worked_session,

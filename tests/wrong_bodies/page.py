@@ -1,5 +1,5 @@
 #!/usr/bin/env python3
-"""Makes docs/WRONG_BODIES.md anew from what the script that tries wrong bodies prints:
+"""Makes REFUSED.md of this folder anew from what the script that tries wrong bodies prints:
 
   ./test --mutations | python3 tests/wrong_bodies/page.py
 
@@ -13,21 +13,17 @@ import sys
 import textwrap
 
 TOP = pathlib.Path(__file__).resolve().parents[2]
-PAGE = TOP / "docs/WRONG_BODIES.md"
+PAGE = TOP / "tests/wrong_bodies/REFUSED.md"
 ITEM = re.compile(r"- `([^`]+)`: (.*)")
 GOAL = re.compile(r"([^(;]+) \(([^)]*)\)(?:; |$)")
 TOLD = re.compile(r"wrong body (\w+)/([\w.+-]+): refused in (\S+): (.*)")
-HEAD = """# Wrong bodies
+HEAD = """# Where each wrong body is refused
 
-Each name below is an edit that puts a wrong body in the place of a right one, and the prover refuses it. So a contract
-does say what it seems to say. An item names the function that is refused, as the prover names it, and its wrong bodies
-with the goal that stays open: a clause of the contract, in `code` font; or returns and the place where the function
-returns, if the contract is one clause without a name; or an invariant of a loop that leads to a clause, or a condition
-of a call. A method is listed under the module of its type.
-
-`./test --mutations` tries all of them. The edits are files of `tests/wrong_bodies/NAME/`; those of the checker are in
-`crates/pocsag_check/must-fail/`, where `rt ci` tries them too. A run tries an edit first against the goal that this page
-names, and `tests/wrong_bodies/page.py` makes the page anew from what a run prints.
+`page.py` makes this list from what a run prints; [WRONG_BODIES.md](../../docs/WRONG_BODIES.md) says what it is. An item
+names the function that is refused, as the prover names it, and its wrong bodies with the goal that stays open: a clause
+of the contract, in `code` font; or returns and the place where the function returns, if the contract is one clause
+without a name; or an invariant of a loop that leads to a clause. A method is listed under the module of its type. A run
+tries an edit first against the goal that is named here.
 
 """
 

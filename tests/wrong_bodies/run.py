@@ -34,7 +34,7 @@ from edits import clauses_of, narrowed, read_edits, rounds_of, unoffered
 from prover import Room
 from tally import TOP, Tally
 
-PAGE = TOP / "docs/WRONG_BODIES.md"  # names the clause that each was refused at
+PAGE = TOP / "tests/wrong_bodies/REFUSED.md"  # names the clause that each was refused at
 
 
 def texts_of(crate):

@@ -4,7 +4,7 @@ use Rattle.std.proofs.Common.{get_or-set_same, get_or-set_other}
 use Rattle.std.proofs.lemmas.Bool.{eqb-true}
 use Rattle.std.proofs.lemmas.Grind.{get_or-set_at}
 use Rattle.std.proofs.lemmas.List.Elements.{filter_passes}
-use Rattle.pocsag_slots.specs.Numbering.{class_of_page}
+use Rattle.pocsag_slots.specs.Classes.{class_of_page}
 use Rattle.pocsag_batch.specs.Chains.{IsChain}
 use Rattle.pocsag_batch.proofs.ClassLists.{class_left, of_class_in, of_class_out, others_left, without}
 use Rattle.pocsag_slots.proofs.CountLemmas.{page_class_below}

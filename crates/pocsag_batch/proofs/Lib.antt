@@ -1,7 +1,7 @@
 pub mod Chains
 pub mod ClassLists
 pub mod FileOrders
-pub mod Laying
+pub mod Layouts
 pub mod OrderExists
 pub mod OrderLaws
 pub mod Orders

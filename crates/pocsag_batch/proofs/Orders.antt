@@ -4,7 +4,7 @@ use Rattle.std.proofs.lemmas.List.{map_push}
 use Rattle.std.proofs.lemmas.List.Elements.{filter-append}
 use Rattle.std.proofs.lemmas.List.Sorted.{All-permutation}
 use Rattle.pocsag_slots.specs.declared.step.Step.TheVariants.{Idle as Stay, Run}
-use Rattle.pocsag_slots.proofs.Laying.{first_runs}
+use Rattle.pocsag_slots.proofs.LaidSteps.{first_runs}
 use Rattle.pocsag_batch.proofs.Chains.{Takes, chains_left, takes_from}
 use Rattle.pocsag_batch.proofs.ClassLists.{alike_permuted, class_left, never_none, of_class, of_class_in, of_class_out, others_left, rest_same, without}
 use Rattle.pocsag_batch.proofs.Places.{all_within, tour_serves}

@@ -1,8 +1,8 @@
 -- What several proofs of the crate import, passed on to all of them.
 pub use Rattle.pocsag_batch.specs.Chains.{AreChains, Links}
 pub use Rattle.pocsag_batch.specs.FileOrder.{InOrder, IsFileOrder, IsInFrame, IsLeastFrom, IsWhole, at_end, past_page}
-pub use Rattle.pocsag_batch.specs.Placing.{HavePlaces, IsOrder, all_places, class_at, laid_by, page_at, places_of, run_classes}
-pub use Rattle.pocsag_batch.specs.Sending.{body_from}
+pub use Rattle.pocsag_batch.specs.Placement.{HavePlaces, IsOrder, all_places, class_at, laid_by, page_at, places_of, run_classes}
+pub use Rattle.pocsag_batch.specs.SlotBytes.{body_from}
 unfoldable pub use Rattle.pocsag_pages.specs.Bytes.{bytes_of}
 pub use Rattle.pocsag_pages.specs.Pages.{IsGoodPage, IsRound}
 pub use Rattle.pocsag_pages.specs.Reading.{IsLegalFor, page_length, page_words}

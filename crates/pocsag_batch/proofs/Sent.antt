@@ -5,7 +5,7 @@ use Rattle.std.specs.Prelude.{if◌then◌else◌}
 use Rattle.std.specs.List.{flat_map}
 use Rattle.std.specs.Int.{to_be_bytes, w32}
 use Rattle.pocsag_pages.specs.Bytes.{sync_word, synced}
-use Rattle.pocsag_batch.specs.Sending.{slot_bytes}
+use Rattle.pocsag_batch.specs.SlotBytes.{slot_bytes}
 
 -- what was taken and the piece are the transmission of the codewords that came
 pub record IsSent (tells : Type 0) (before taken piece came : List ℕ) : Type 0 where

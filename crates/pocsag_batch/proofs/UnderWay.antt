@@ -5,7 +5,7 @@ use Rattle.std.proofs.lemmas.Iterator.{items_from_drains}
 use Rattle.std.specs.Iterator.{AlwaysYields, Drains, Yields}
 use Rattle.std.specs.Prelude.{Option}
 use Rattle.pocsag_words.specs.Devices.{CallsPerByte, TookPrefix}
-use Rattle.pocsag_batch.specs.Saying.{IsSayable, Say, SendsPart}
+use Rattle.pocsag_batch.specs.Meanings.{IsSayable, Say, SendsPart}
 use Rattle.pocsag_batch.proofs.Sent.{bytes_append}
 
 -- codewords of one kind are one

@@ -2,7 +2,7 @@
 use Rattle.std.specs.Prelude.{◌≡◌, ℕ, ◌<◌, List, [], ◌∷◌, length, slice_index}
 use Rattle.pocsag_words.specs.declared.ending.End.{End}
 use Rattle.pocsag_pages.specs.declared.page.Page.{Page}
-use Rattle.pocsag_batch.specs.Placing.{places_of}
+use Rattle.pocsag_batch.specs.Placement.{places_of}
 
 -- The places, one after another, by the list of next places, the first of them here.
 abbrev pub IsChain : List ℕ → ℕ → List ℕ → Type 0

@@ -1,7 +1,7 @@
 pub mod Chains
 pub mod FileOrder
-pub mod Placing
-pub mod Saying
-pub mod Sending
+pub mod Meanings
+pub mod Placement
+pub mod SlotBytes
 pub mod Streams
 pub mod WordLists

@@ -3,7 +3,7 @@ ghost use Rattle.std.specs.Iterator.{Drains, IsFinite, Yields};
 ghost use Rattle.pocsag_words.specs.Codeword.{IsCodeword};
 ghost use Rattle.pocsag_words.specs.Devices.{CallsPerByte, CountsFailures, Delivers, TookPrefix};
 ghost use Rattle.pocsag_pages.specs.Bytes.{bytes_of};
-ghost use Rattle.pocsag_batch.specs.Saying.{Say, Sends, SendsPart};
+ghost use Rattle.pocsag_batch.specs.Meanings.{Say, Sends, SendsPart};
 
 use crate::batches::Batches;
 use crate::piece::{Piece, put_word};

@@ -8,7 +8,7 @@ ghost use Rattle.pocsag_slots.specs.declared.step.Step.{Step};
 ghost use Rattle.pocsag_slots.specs.Layout.{laid};
 ghost use Rattle.pocsag_slots.specs.Tours.{IsTourFor};
 ghost use Rattle.pocsag_batch.specs.FileOrder.{IsFileOrder};
-ghost use Rattle.pocsag_batch.specs.Placing.{HavePlaces, IsOrder, laid_by};
+ghost use Rattle.pocsag_batch.specs.Placement.{HavePlaces, IsOrder, laid_by};
 
 /// File order is a legal transmission with the open end.
 pub fn file_order_is_legal()

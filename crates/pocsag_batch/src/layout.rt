@@ -6,7 +6,7 @@ ghost use Rattle.pocsag_slots.specs.declared.class.Classes.{Classes};
 ghost use Rattle.pocsag_slots.specs.Loads.{AreClassesOf};
 ghost use Rattle.pocsag_slots.specs.Tours.{IsTour, IsTourFor};
 ghost use Rattle.pocsag_slots.specs.Layout.{laid};
-ghost use Rattle.pocsag_batch.specs.Placing.{IsOrder, laid_by};
+ghost use Rattle.pocsag_batch.specs.Placement.{IsOrder, laid_by};
 
 use crate::batches::Batches;
 use crate::laws::orders_give_layouts;

@@ -1,6 +1,6 @@
 ghost use Rattle.std.specs.Prelude.{length, IfOk};
 ghost use Rattle.pocsag_slots.specs.Tours.{IsTourFor};
-ghost use Rattle.pocsag_batch.specs.Placing.{HavePlaces, IsOrder};
+ghost use Rattle.pocsag_batch.specs.Placement.{HavePlaces, IsOrder};
 
 use crate::queue::Queues;
 use pocsag_pages::Round;

@@ -2,7 +2,7 @@ ghost use Rattle.std.specs.Prelude.{◌≡◌, ◌+◌, ◌≤◌, [], ◌++◌,
 ghost use Rattle.std.specs.Int.{to_be_bytes, w32};
 ghost use Rattle.pocsag_words.specs.Codeword.{IsCodeword};
 ghost use Rattle.pocsag_words.specs.Devices.{CallsPerByte, CountsFailures, TookPrefix};
-ghost use Rattle.pocsag_batch.specs.Sending.{slot_bytes};
+ghost use Rattle.pocsag_batch.specs.SlotBytes.{slot_bytes};
 
 use pocsag_words::{
     BATCH_BYTES, DeviceFault, PREAMBLE_BYTE, PREAMBLE_BYTES, SYNC_WORD, Sink, Word, write_all,

@@ -1,7 +1,7 @@
 ghost use Rattle.std.specs.Prelude.{◌≡◌, ◌<◌, ◌≤◌, All, length, slice_index, slice_set, IfOk};
 ghost use Rattle.pocsag_pages.specs.Pages.{IsGoodPage};
 ghost use Rattle.pocsag_batch.specs.Chains.{AreChains};
-ghost use Rattle.pocsag_batch.specs.Placing.{all_places};
+ghost use Rattle.pocsag_batch.specs.Placement.{all_places};
 
 use pocsag_pages::Page;
 use pocsag_slots::{CLASSES, Class, class_of};

@@ -1,8 +1,8 @@
 ghost use Rattle.std.specs.Prelude.{◌≡◌, length};
 ghost use Rattle.std.specs.Iterator.{YieldsFirstBy, item_count};
 ghost use Rattle.pocsag_words.specs.Kinds.{kind_of};
-ghost use Rattle.pocsag_batch.specs.Placing.{HavePlaces, laid_by};
-ghost use Rattle.pocsag_batch.specs.Saying.{IsSayable};
+ghost use Rattle.pocsag_batch.specs.Placement.{HavePlaces, laid_by};
+ghost use Rattle.pocsag_batch.specs.Meanings.{IsSayable};
 
 use crate::word_list::idle_word;
 use pocsag_pages::{Page, Round};
@@ -27,7 +27,7 @@ impl<'a> Model for Slots<'a> {
     ghost use Rattle.pocsag_words.specs.declared.codeword.Kind.{Kind};
     ghost use Rattle.pocsag_words.specs.declared.codeword.Kind.TheVariants.{Message};
     ghost use Rattle.pocsag_pages.specs.Pages.{IsGoodPage};
-    ghost use Rattle.pocsag_batch.specs.Placing.{HavePlaces, laid_by};
+    ghost use Rattle.pocsag_batch.specs.Placement.{HavePlaces, laid_by};
 
     ghost Value = { List Kind };
 

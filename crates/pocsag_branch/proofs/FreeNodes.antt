@@ -14,12 +14,12 @@ use Rattle.pocsag_tree.specs.declared.shape.Tree.TheViews.{Cut, Close}
 use Rattle.pocsag_tree.specs.BoundTrees.{BoundTree, BoundTrees, split, none, more, closed_nodes, closed_nodes_in}
 use Rattle.pocsag_tree.specs.Views.{bound_tree_of, bounds_of}
 use Rattle.pocsag_tree.proofs.Counts.{bound_tree_of-cut, bound_tree_of-close}
-use Rattle.pocsag_check.specs.Accepting.{AcceptsWithin}
+use Rattle.pocsag_check.specs.Acceptance.{AcceptsWithin}
 use Rattle.pocsag_branch.specs.declared.task.Task.{Task}
 use Rattle.pocsag_branch.specs.FreeNode.{AreFreeNodes, IsFreeNode, IsUndecidedWay}
 use Rattle.pocsag_branch.specs.Undecided.{AreNodeLimits, Falls, IsSplitPoint, undecided}
-use Rattle.pocsag_branch.proofs.Falling.{early_falls, idle_falls, late_falls}
-use Rattle.pocsag_branch.proofs.Joining.{bounds_of-push, close_refuted, cut_refuted, refuted_more, split_refuted, with_last}
+use Rattle.pocsag_branch.proofs.Settled.{early_falls, idle_falls, late_falls}
+use Rattle.pocsag_branch.proofs.NodeChildren.{bounds_of-push, close_refuted, cut_refuted, refuted_more, split_refuted, with_last}
 
 -- a way that is undecided settles a question
 pub undecided_falls : (k : Classes) (b : ℕ) (l : Limits) (w : Way) → 0 < b → AreNodeLimits k b l → MayTake k l w → IsUndecidedWay k b l w → Falls k b l w

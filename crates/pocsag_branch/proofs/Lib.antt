@@ -1,7 +1,7 @@
 pub mod OpenWays
 pub mod TreeEnds
-pub mod Falling
-pub mod Filling
+pub mod Settled
+pub mod NodeRows
 pub mod FreeNodes
-pub mod Joining
-pub mod Sharing
+pub mod NodeChildren
+pub mod LeastBounds

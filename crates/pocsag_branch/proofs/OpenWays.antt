@@ -14,7 +14,7 @@ use Rattle.pocsag_slots.proofs.WayLemmas.{All-joined_below, All-one_or_none}
 use Rattle.pocsag_tour.specs.Reached.{HasRunOutside, IsApart, IsUnclosed, runs_of}
 use Rattle.pocsag_branch.specs.Shape.{NoneCertain, SplitsAt, at_one, at_count}
 use Rattle.pocsag_branch.specs.Undecided.{AreNodeLimits, Falls, IsSplitPoint}
-use Rattle.pocsag_branch.proofs.Falling.{early_falls, idle_falls, late_falls, splits_at_count, splits_at_one}
+use Rattle.pocsag_branch.proofs.Settled.{early_falls, idle_falls, late_falls, splits_at_count, splits_at_one}
 
 never_both : (b : Bool) → b ≡ true → b ≡ false → ⊥
 never_both b held lost = absurd (cc)

@@ -10,7 +10,7 @@ use Rattle.pocsag_slots.specs.declared.limit.Limits.{Limits}
 use Rattle.pocsag_slots.specs.declared.step.Step.{Step}
 use Rattle.pocsag_slots.specs.declared.way.Way.{Way}
 use Rattle.pocsag_slots.specs.Loads.{IsAdmitted, IsChoice, IsLeast, limits_of_all, load}
-use Rattle.pocsag_slots.specs.Numbering.{start_of}
+use Rattle.pocsag_slots.specs.Classes.{start_of}
 use Rattle.pocsag_slots.specs.Sums.{holds}
 use Rattle.pocsag_slots.specs.Tours.{IsTour}
 use Rattle.pocsag_slots.specs.Ways.{limits_below, limits_from, narrowed_limits, ways_across, ways_to_close}
@@ -22,8 +22,8 @@ use Rattle.pocsag_tree.specs.Views.{bound_tree_of, bound_step}
 use Rattle.pocsag_tree.specs.declared.shape.Tree.TheVariants.{Overload, rolls-Overload}
 use Rattle.pocsag_tree.specs.declared.shape.Tree.TheOpen as layer
 use Rattle.pocsag_tree.specs.declared.shape.Tree.TheFolds.{fold-roll-Tree}
-use Rattle.pocsag_check.specs.Accepting.{Accepts, AcceptsEach, IsAccepted}
-use Rattle.pocsag_check.proofs.Bounding.{bounded}
+use Rattle.pocsag_check.specs.Acceptance.{Accepts, AcceptsEach, IsAccepted}
+use Rattle.pocsag_check.proofs.Bounds.{bounded}
 use Rattle.pocsag_tour.specs.Reached.{IsApart, IsReached, at_start, by_idle, IsUnclosed}
 use Rattle.pocsag_slots.proofs.CoverLemmas.{start_below}
 use Rattle.pocsag_branch.proofs.OpenWays.{closing_ways_fall}

@@ -8,8 +8,8 @@ use Rattle.pocsag_slots.specs.Loads.{IsChoice, Overloads, limits_of_all}
 use Rattle.pocsag_slots.specs.Tours.{AsksForLast, IsTour}
 use Rattle.pocsag_slots.specs.Ways.{class_certain, ways_across, ways_to_close}
 use Rattle.pocsag_tree.specs.BoundTrees.{BoundTree, BoundTrees, depth_of, deepest}
-use Rattle.pocsag_tree.specs.Spelling.{IsSet}
-use Rattle.pocsag_check.specs.Accepting.{Accepts, AcceptsEach}
+use Rattle.pocsag_tree.specs.CertificateText.{IsSet}
+use Rattle.pocsag_check.specs.Acceptance.{Accepts, AcceptsEach}
 use Rattle.pocsag_tour.specs.Reached.{IsApart, IsUnclosed}
 use Rattle.pocsag_branch.specs.declared.task.Answer.{Answer}
 use Rattle.pocsag_branch.specs.declared.task.Form.{Form}

@@ -6,7 +6,7 @@ use Rattle.pocsag_slots.specs.Loads.{IsChoice, IsLeast}
 use Rattle.pocsag_slots.specs.Tours.{IsTour}
 use Rattle.pocsag_tree.specs.BoundTrees.{closed_nodes, overload}
 use Rattle.pocsag_tree.specs.Views.{bound_tree_of}
-use Rattle.pocsag_check.specs.Accepting.{IsAccepted}
+use Rattle.pocsag_check.specs.Acceptance.{IsAccepted}
 use Rattle.pocsag_branch.specs.declared.answer.Found.{Found}
 use Rattle.pocsag_branch.specs.declared.within_one.Near.{Near}
 use Rattle.pocsag_branch.specs.declared.within_one.FreeFault.{FreeFault}

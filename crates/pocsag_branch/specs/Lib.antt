@@ -1,4 +1,4 @@
-pub mod Climbing
+pub mod Climb
 pub mod Examined
 pub mod Found
 pub mod FreeNode

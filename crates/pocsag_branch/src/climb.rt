@@ -1,7 +1,7 @@
 ghost use Rattle.std.specs.Prelude.{◌<◌, All, slice_index};
 ghost use Rattle.pocsag_slots.specs.Loads.{IsAdmitted};
 ghost use Rattle.pocsag_slots.specs.Ways.{MayTake};
-ghost use Rattle.pocsag_branch.specs.Climbing.{IsClimb};
+ghost use Rattle.pocsag_branch.specs.Climb.{IsClimb};
 
 use crate::boundaries::{BoundarySet, reached_set};
 use crate::child::certain_class;

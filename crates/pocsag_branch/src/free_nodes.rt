@@ -3,7 +3,7 @@ ghost use Rattle.pocsag_slots.specs.Tours.{AsksForLast};
 ghost use Rattle.pocsag_slots.specs.Ways.{class_certain, MayTake, ways_across, ways_to_close};
 ghost use Rattle.pocsag_tree.specs.Views.{bound_tree_of};
 ghost use Rattle.pocsag_tree.specs.Limits.{greatest_depth};
-ghost use Rattle.pocsag_check.specs.Accepting.{AcceptsWithin};
+ghost use Rattle.pocsag_check.specs.Acceptance.{AcceptsWithin};
 ghost use Rattle.pocsag_branch.specs.FreeNode.{AreChildren, IsFreeNode, IsHalt};
 ghost use Rattle.pocsag_branch.specs.Undecided.{Falls, IsSplitPoint};
 

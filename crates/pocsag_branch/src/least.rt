@@ -1,9 +1,9 @@
 ghost use Rattle.std.specs.Prelude.{◌≡◌, ◌+◌, ◌<◌, ◌≤◌, false, slice_index};
 ghost use Rattle.pocsag_slots.specs.Loads.{IsAdmitted, IsLeast, limits_of_all, Overloads};
 ghost use Rattle.pocsag_tree.specs.Limits.{second_ranges};
-ghost use Rattle.pocsag_tree.specs.Spelling.{HasText, IsSet};
+ghost use Rattle.pocsag_tree.specs.CertificateText.{HasText, IsSet};
 ghost use Rattle.pocsag_tree.specs.Views.{bound_tree_of};
-ghost use Rattle.pocsag_check.specs.Accepting.{IsAccepted};
+ghost use Rattle.pocsag_check.specs.Acceptance.{IsAccepted};
 ghost use Rattle.pocsag_branch.specs.Examined.{greatest_least};
 ghost use Rattle.pocsag_branch.specs.Found.{CanBeSent, HasPage, IsBound};
 ghost use Rattle.pocsag_branch.specs.Shape.{RefusesOneLess};
@@ -37,7 +37,7 @@ fn batches_needed(classes: &Classes, batches: u32, set: u16) -> u32
 }
 
 // The least number of batches: from the share of all slots up to the first that some choice meets.
-#[tactic(auto, using(crate::proofs::Sharing::nothing_fits))]
+#[tactic(auto, using(crate::proofs::LeastBounds::nothing_fits))]
 pub(crate) fn least_of(classes: &Classes) -> Least
     requires { HasPage classes.now }
     ensures refuses { RefusesOneLess classes.now result.batches result.set }

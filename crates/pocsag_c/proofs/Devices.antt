@@ -7,16 +7,17 @@ use Rattle.pocsag_words.specs.Frame.{input_limit}
 use Rattle.pocsag_pages.specs.PageFile.{rows_of, verdict}
 use Rattle.pocsag_pages.specs.declared.fault.RoundFault.{RoundFault}
 use Rattle.pocsag_pages.specs.declared.fault.RoundFault.TheVariants as round
-use Rattle.pocsag_pages.proofs.Judging.{large_file, never_read, small_file}
+use Rattle.pocsag_pages.proofs.Judgements.{large_file, never_read, small_file}
 use Rattle.pocsag_tree.specs.Limits.{greatest_depth, most_nodes}
 use Rattle.pocsag_tree.specs.Parts.{Meets, Part, children, early, early_fault, field, judged, mark, node, right, short, trailing, version, whole, wrong}
 use Rattle.pocsag_tree.specs.declared.refusals.CertificateFault.{CertificateFault}
 use Rattle.pocsag_tree.specs.declared.refusals.CertificateFault.TheVariants as certificate
 use Rattle.pocsag_plan.specs.declared.search.Search.{Search}
 use Rattle.pocsag_shell.specs.declared.fault.FileFault.TheVariants as file_fault
-use Rattle.pocsag_centre.specs.Judging.{ExplainsCertificate, ExplainsJudging}
+use Rattle.pocsag_centre.specs.FrontFiles.{ExplainsNoFront}
+use Rattle.pocsag_centre.specs.Judgements.{ExplainsCertificate, ExplainsJudging}
 use Rattle.pocsag_centre.specs.Refusals.{ExplainsNoPlan, ExplainsRound, ExplainsUnwritten}
-use Rattle.pocsag_centre.specs.Reporting.{ExplainsReporting}
+use Rattle.pocsag_centre.specs.Reports.{ExplainsReporting}
 use Rattle.pocsag_centre.specs.declared.fault.CentreFault.{CentreFault}
 use Rattle.pocsag_centre.specs.declared.fault.CentreFault.TheVariants as centre
 use Rattle.pocsag_explain.specs.Verdicts.{ExplainsUntold}
@@ -112,6 +113,14 @@ no_plan_in_memory file search _ said = absurd said
 pub unwritten_in_memory : (file : List ℕ) (search : Search) (f : CentreFault) → ExplainsUnwritten file search f → IsInMemory f
 unwritten_in_memory file search centre.BadLimit said = tt
 unwritten_in_memory file search f said = no_plan_in_memory file search f said.1
+
+pub unfronted_in_memory : (file : List ℕ) (search : Search) (batches : ℕ) (f : CentreFault) → ExplainsNoFront file search batches f → IsInMemory f
+unfronted_in_memory file search batches centre.BadLimit said = tt
+unfronted_in_memory file search batches (centre.Round f) said = round_in_memory file f said.1
+unfronted_in_memory file search batches (centre.FirstPage needed) said = tt
+unfronted_in_memory file search batches (centre.SearchLimit least found) said = tt
+unfronted_in_memory file search batches (centre.File file_fault.OutOfMemory) said = tt
+unfronted_in_memory file search batches _ said = absurd said
 
 pub unreported_in_memory : (file : List ℕ) (search : Search) (rate : ℕ) (f : CentreFault) → ExplainsReporting file search rate f → IsInMemory f
 unreported_in_memory file search rate centre.BadRate said = tt

@@ -3,7 +3,7 @@ use Rattle.std.specs.Prelude.{◌≡◌, ◌≢◌, ℕ, ◌<◌, ◌≤◌, Lis
 use Rattle.pocsag_words.specs.declared.ending.End.{End}
 use Rattle.pocsag_words.specs.declared.ending.End.TheVariants as ends
 use Rattle.pocsag_centre.specs.Commands.{Checked}
-use Rattle.pocsag_centre.specs.Judging.{IsNotShown}
+use Rattle.pocsag_centre.specs.Judgements.{IsNotShown}
 use Rattle.pocsag_c.specs.declared.check.CheckInfo.{CheckInfo}
 use Rattle.pocsag_c.specs.declared.refusal.Place.{Place}
 use Rattle.pocsag_c.specs.declared.refusal.StatusAt.{StatusAt}

@@ -1,6 +1,10 @@
 -- What `pocsag_explain` owes.
-use Rattle.std.specs.Prelude.{◌≢◌, ◌⊎◌, ℕ, List}
-use Rattle.pocsag_c.specs.Answers.{IsDelivered, IsNotAccepted, IsShown, IsTooSmall}
+use Rattle.std.specs.Prelude.{◌≡◌, ◌≢◌, ◌⊎◌, ℕ, Bool, true, false, List}
+use Rattle.pocsag_words.specs.declared.ending.End.{End}
+use Rattle.pocsag_findings.specs.Beginnings.{TellsVerdict}
+use Rattle.pocsag_findings.specs.declared.form.Telling.{Telling}
+use Rattle.pocsag_findings.specs.declared.form.Telling.TheVariants as tellings
+use Rattle.pocsag_c.specs.Answers.{IsNotAccepted, IsShown, number_of_end}
 use Rattle.pocsag_c.specs.declared.check.CheckInfo.{CheckInfo}
 
 -- The number of no form: 0 is an indented list in words, 1 is JSON.
@@ -11,15 +15,23 @@ IsNoForm form = (form ≢ 0) × (form ≢ 1)
 abbrev pub IsJudgedAs : (file text : List ℕ) → CheckInfo → Type 0
 IsJudgedAs file text info = IsShown file text info ⊎ IsNotAccepted file text info
 
--- A text stands in the buffer, with its length told.
-pub record IsTextGiven (before after : List ℕ) (told : ℕ) : Type 0 where
-  pub text : List ℕ
-  pub delivered : IsDelivered before after told text
+-- The form of this number, for nodes no deeper than this.
+abbrev pub IsNumberOfForm : (form depth : ℕ) → Telling → Type 0
+IsNumberOfForm form depth (tellings.Lines deepest) = (form ≡ 0) × (deepest ≡ depth)
+IsNumberOfForm form depth (tellings.Facts deepest) = (form ≡ 1) × (deepest ≡ depth)
+IsNumberOfForm form depth tellings.Drawing = ⊥
 
--- The buffer is too small for a text, whose length is told.
-pub record IsTextTooLong (before after : List ℕ) (told : ℕ) : Type 0 where
-  pub text : List ℕ
-  pub too_small : IsTooSmall before after told text
+-- A text of the form of this number, which begins with the verdict on the end and the batches that are told.
+pub record IsVerdictText (form depth : ℕ) (info : CheckInfo) (is_shown : Bool) (text : List ℕ) : Type 0 where
+  pub telling : Telling
+  pub same_form : IsNumberOfForm form depth telling
+  pub end : End
+  pub same_end : info.end ≡ number_of_end end
+  pub tells : TellsVerdict telling is_shown end info.batches text
+
+-- The same with one verdict or the other.
+abbrev pub IsTextOfVerdict : (form depth : ℕ) → CheckInfo → (text : List ℕ) → Type 0
+IsTextOfVerdict form depth info text = IsVerdictText form depth info true text ⊎ IsVerdictText form depth info false text
 
 -- Nothing is told of the certificate, though the form is one.
 abbrev pub IsUntold : (status : ℕ) → Type 0

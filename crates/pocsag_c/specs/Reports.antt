@@ -1,7 +1,7 @@
 -- What `pocsag_report` owes.
 use Rattle.std.specs.Prelude.{◌≡◌, ℕ, List}
 use Rattle.pocsag_plan.specs.declared.search.Search.{Search}
-use Rattle.pocsag_centre.specs.Reporting.{ExplainsReporting, IsReportOf}
+use Rattle.pocsag_centre.specs.Reports.{ExplainsReporting, IsReportOf}
 use Rattle.pocsag_centre.specs.declared.fault.CentreFault.{CentreFault}
 use Rattle.pocsag_centre.specs.declared.report.BoundedReport.{BoundedReport}
 use Rattle.pocsag_c.specs.Answers.{number_of_end}

@@ -22,7 +22,7 @@ use Rattle.pocsag_c.specs.declared.refusal.StatusAt.{StatusAt}
 
 -- The number of the interface.
 abbrev pub interface_version : ℕ
-interface_version = 3
+interface_version = 4
 
 -- No place.
 abbrev pub nowhere : Place
@@ -107,6 +107,7 @@ refusal_in_centre (centre.File file.Write) = plain_refusal 3
 refusal_in_centre centre.BadRate = plain_refusal 4
 refusal_in_centre centre.BadLimit = plain_refusal 5
 refusal_in_centre (centre.SearchLimit least found) = record { status = 6; place = record { record_number = 0; least = least; found = found; at = 0 } }
+refusal_in_centre (centre.FirstPage needed) = record { status = 12; place = record { record_number = 0; least = 0; found = needed; at = 0 } }
 refusal_in_centre (centre.Round f) = round_refusal f
 refusal_in_centre (centre.Certificate f) = certificate_refusal f
 refusal_in_centre (centre.Transmission f) = transmission_refusal f
@@ -124,7 +125,7 @@ refusal_in_receiver _ = plain_refusal 15
 abbrev pub IsRefusing : ℕ → Type 0
 IsRefusing status =
     (status ≢ 0) × (status ≢ 1) × (status ≢ 2) × (status ≢ 7) × (status ≢ 8) × (status ≢ 9)
-    × (status ≢ 10) × (status ≢ 11)
+    × (status ≢ 10) × (status ≢ 11) × (status ≢ 13) × (status ≢ 14)
 
 -- A status that numbers, bytes and memory explain: neither what comes of files alone (15), nor of a reader of a page file or
 -- of a certificate (16, 40), nor of more bytes than are counted (54), nor of a decoder or a pager that has stopped (55, 66).
@@ -141,6 +142,7 @@ IsInMemory (centre.Certificate f) = Unit {0}
 IsInMemory (centre.File file.OutOfMemory) = Unit {0}
 IsInMemory centre.BadLimit = Unit {0}
 IsInMemory (centre.SearchLimit least found) = Unit {0}
+IsInMemory (centre.FirstPage needed) = Unit {0}
 IsInMemory centre.BadRate = Unit {0}
 IsInMemory _ = ⊥
 

@@ -1,5 +1,5 @@
 ghost use Rattle.std.specs.Prelude.{◌≡◌, ◌≢◌, ◌⊎◌};
-ghost use Rattle.pocsag_centre.specs.Judging.{ExplainsJudging};
+ghost use Rattle.pocsag_centre.specs.Judgements.{ExplainsJudging};
 ghost use Rattle.pocsag_c.specs.Answers.{IsNotAccepted, IsShown, TellsFault, no_verdict, number_of_end};
 ghost use Rattle.pocsag_c.specs.Statuses.{IsOfBytes, nowhere, refusal_in_centre};
 

@@ -1,20 +1,20 @@
-ghost use Rattle.std.specs.Prelude.{◌≡◌, ◌≢◌, ◌↔◌, ◌⊎◌, None, Some};
+ghost use Rattle.std.specs.Prelude.{◌≡◌, ◌≢◌, ◌↔◌, ◌⊎◌, false, true, IfSome, None};
 ghost use Rattle.pocsag_explain.specs.Verdicts.{ExplainsUntold};
 ghost use Rattle.pocsag_c.specs.Answers.{IsNotAccepted, IsShown, TellsFault, no_verdict};
-ghost use Rattle.pocsag_c.specs.Explain.{IsJudgedAs, IsNoForm, IsTextGiven, IsTextTooLong, IsUntold};
+ghost use Rattle.pocsag_c.specs.Explain.{IsNumberOfForm, IsJudgedAs, IsNoForm, IsTextOfVerdict, IsUntold, IsVerdictText};
+ghost use Rattle.pocsag_c.specs.Listings.{HasNoRoom, IsListed};
 ghost use Rattle.pocsag_c.specs.Statuses.{IsOfBytes, nowhere, refusal_in_centre};
 
 use crate::buffer::hand_out;
 use crate::check::{CheckInfo, NOT_JUDGED, info_of_judged};
 use crate::refusal::refusal_in_centre;
 use pocsag_explain::explain_file;
-use pocsag_wording::Telling;
+use pocsag_findings::Telling;
 use std::alloc::Global;
 
 // How the certificate is told, by the number of a form: 0 in words, 1 as JSON.
 fn telling_of(form: u32, depth: u32) -> Option<Telling>
-    ensures words { form ≡ 0 → result ≡ Some (Telling.Lines depth) }
-    ensures facts { form ≡ 1 → result ≡ Some (Telling.Facts depth) }
+    ensures form { IfSome result (IsNumberOfForm form depth) }
     ensures none { result ≡ None ↔ IsNoForm form }
 {
     match form {
@@ -38,13 +38,17 @@ pub extern "C" fn pocsag_explain(
     text_len: &mut usize,
     info: &mut CheckInfo,
 ) -> u32
-    // The verdict is that of the checker, and a text stands in the buffer.
+    // The verdict is that of the checker, and a text that begins with it stands in the buffer.
     ensures shown { result ≡ 0 → IsShown pages.now cert.now info.new }
     ensures not_shown { result ≡ 1 → IsNotAccepted pages.now cert.now info.new }
-    ensures told { (result ≡ 0) ⊎ (result ≡ 1) → IsTextGiven text.old text.new text_len.new }
+    ensures told { result ≡ 0 →
+        IsListed (IsVerdictText form depth info.new true) text.old text.new text_len.new }
+    ensures refused { result ≡ 1 →
+        IsListed (IsVerdictText form depth info.new false) text.old text.new text_len.new }
     // There is a verdict and a text, but no room for the text.
     ensures judged { result ≡ 10 → IsJudgedAs pages.now cert.now info.new }
-    ensures no_room { result ≡ 10 → IsTextTooLong text.old text.new text_len.new }
+    ensures no_room { result ≡ 10 →
+        HasNoRoom (IsTextOfVerdict form depth info.new) text.old text.new text_len.new }
     // Any other status says why nothing is told, and never that a device failed.
     ensures bad_form { result ≡ 11 ↔ IsNoForm form }
     ensures fault { IsUntold result →

@@ -9,6 +9,7 @@ ghost use Rattle.pocsag_c.specs.Statuses.{interface_version};
 mod buffer;
 mod check;
 mod explain;
+mod front;
 mod listings;
 mod plan;
 mod refusal;
@@ -16,6 +17,7 @@ mod report;
 
 pub use check::{CheckInfo, pocsag_check};
 pub use explain::pocsag_explain;
+pub use front::{FrontInfo, pocsag_plan_at_most};
 pub use listings::{pocsag_decode, pocsag_hear};
 pub use plan::{PlanInfo, pocsag_plan};
 pub use refusal::Place;
@@ -26,5 +28,5 @@ pub use report::{ReportInfo, pocsag_report};
 pub extern "C" fn pocsag_version() -> u32
     ensures { result ≡ interface_version }
 {
-    3
+    4
 }

@@ -80,7 +80,7 @@ pub(crate) fn end_of(number: u32) -> Option<End>
 }
 
 // Puts both texts into their buffers, if each has room for its text, and tells their lengths.
-fn hand_out_both(
+pub(crate) fn hand_out_both(
     written: &Written,
     tx: &mut [u8],
     tx_len: &mut usize,

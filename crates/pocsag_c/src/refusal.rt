@@ -184,6 +184,10 @@ pub(crate) fn refusal_in_centre(fault: CentreFault) -> StatusAt
                 ..NOWHERE
             },
         },
+        CentreFault::FirstPage(found) => StatusAt {
+            status: 12,
+            place: Place { found, ..NOWHERE },
+        },
         CentreFault::Round(fault) => refused_round(fault),
         CentreFault::Certificate(fault) => refused_certificate(fault),
         CentreFault::Transmission(fault) => refused_transmission(fault),

@@ -1,5 +1,5 @@
 -- The two parts of a page file's round, and what is written of them.
-use Rattle.std.proofs.Common.{◌≡◌, ℕ, refl, ◌<◌, ◌≤◌, List, [], ◌++◌, All, length, take, drop, min, sym, ap, subst, ◌∙◌, ◌+◌, false, arith, inl, inr}
+use Rattle.std.proofs.Common.{◌≡◌, ℕ, refl, ◌≤◌, List, [], ◌++◌, All, length, take, drop, min, sym, ap, subst, ◌∙◌, ◌+◌, false, arith, inl, inr}
 use Rattle.std.proofs.lemmas.Bool.{cases_lt}
 use Rattle.std.proofs.Math.Seq.{drop-append_seam}
 use Rattle.std.proofs.lemmas.List.{drop_all, length-drop, take_at, take_min}
@@ -15,13 +15,17 @@ use Rattle.pocsag_decode.specs.PageFiles.{IsSpellable, page_file}
 use Rattle.pocsag_words.specs.declared.ending.End.{End}
 use Rattle.pocsag_tree.specs.BoundTrees.{BoundTree}
 use Rattle.pocsag_tree.specs.Limits.{second_ranges}
-use Rattle.pocsag_tree.specs.Spelling.{HasText, written_text}
+use Rattle.pocsag_tree.specs.CertificateText.{HasText, written_text}
 use Rattle.pocsag_tree.specs.Views.{bound_tree_of}
 use Rattle.pocsag_tree.specs.declared.shape.Certificate.{Certificate}
-use Rattle.pocsag_check.specs.Accepting.{IsAcceptedFor}
+use Rattle.pocsag_check.specs.Acceptance.{IsAcceptedFor}
 use Rattle.pocsag_branch.specs.Found.{IsNodeLimit}
 use Rattle.pocsag_plan.specs.declared.search.Search.{Search}
-use Rattle.pocsag_plan.specs.Fronts.{IsWhyNoMore}
+use Rattle.pocsag_plan.specs.Fronts.{ExplainsFront, IsWhyNoMore}
+use Rattle.pocsag_plan.specs.declared.fault.NoFront.{NoFront}
+use Rattle.pocsag_plan.specs.declared.fault.NoFront.TheVariants as front
+use Rattle.pocsag_plan.specs.declared.fault.PlanFault.TheVariants as planning
+use Rattle.pocsag_centre.specs.Faults.{fault_of_front}
 use Rattle.pocsag_shell.specs.declared.fault.FileFault.TheVariants as file_fault
 use Rattle.pocsag_centre.specs.declared.fault.CentreFault.{CentreFault}
 use Rattle.pocsag_centre.specs.declared.fault.CentreFault.TheVariants as fault
@@ -103,3 +107,12 @@ why_written search R batches count (Some c) (Some w) is none some =
 pub no_room : (file : List ℕ) (search : Search) (batches : ℕ) (R : List Page) (e : CentreFault) → IsNodeLimit search.limit → verdict file ≡ Ok R →
     e ≡ fault.File file_fault.OutOfMemory → ExplainsNoFront file search batches e
 no_room file search batches R e limited read memory = subst (ExplainsNoFront file search batches) (sym memory) (limited, subst IsOk (sym read) refl)
+
+-- why there is no front of a round says why none of its page file is written
+pub front_unwritten : (file : List ℕ) (search : Search) (batches : ℕ) (R : List Page) → verdict file ≡ Ok R → (e : NoFront) →
+    ExplainsFront search R batches e → ExplainsNoFront file search batches (fault_of_front e)
+front_unwritten file search batches R read (front.Plan planning.BadLimit) said = said
+front_unwritten file search batches R read (front.Plan (planning.SearchLimit stop)) said =
+    (said.0, said.1, record { round = R; read = read; holds = (bound_tree_of stop.tree, said.2) })
+front_unwritten file search batches R read (front.Plan planning.OutOfMemory) said = (said, subst IsOk (sym read) refl)
+front_unwritten file search batches R read (front.FirstPage needed) said = (said.0, record { round = R; read = read; holds = said.1 })

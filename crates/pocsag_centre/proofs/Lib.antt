@@ -1,8 +1,10 @@
 pub mod Endings
 pub mod Explained
 pub mod FirstPart
-pub mod Planning
+pub mod Plans
 pub mod Readers
+pub mod ReportLines
 pub mod Rooms
 pub mod Shown
+pub mod Streams
 pub mod Verified

@@ -2,13 +2,13 @@
 use Rattle.std.proofs.Common.{◌≡◌, ℕ, List, length, sym, ◌∙◌, subst, inl, inr, arith}
 use Rattle.std.proofs.lemmas.Bool.{cases_lt}
 use Rattle.pocsag_words.specs.Frame.{input_limit}
-use Rattle.pocsag_pages.proofs.Judging.{large_file, never_read, small_file}
+use Rattle.pocsag_pages.proofs.Judgements.{large_file, never_read, small_file}
 use Rattle.pocsag_pages.specs.PageFile.{rows_of}
 use Rattle.pocsag_pages.specs.declared.fault.RoundFault.TheVariants as round
 use Rattle.pocsag_plan.specs.declared.search.Search.{Search}
 use Rattle.pocsag_centre.specs.Refusals.{ExplainsNoPlan, ExplainsRound}
-use Rattle.pocsag_centre.specs.Reporting.{ExplainsReporting}
-use Rattle.pocsag_centre.specs.Verifying.{ExplainsVerifying}
+use Rattle.pocsag_centre.specs.Reports.{ExplainsReporting}
+use Rattle.pocsag_centre.specs.Verification.{ExplainsVerifying}
 use Rattle.pocsag_centre.specs.declared.fault.CentreFault.{CentreFault}
 use Rattle.pocsag_centre.specs.declared.fault.CentreFault.TheVariants as fault
 

@@ -8,7 +8,7 @@ use Rattle.std.specs.List.Sorted.{IsPermutation}
 use Rattle.pocsag_pages.specs.declared.page.Page.{Page}
 use Rattle.pocsag_slots.specs.declared.step.Step.{Step}
 use Rattle.pocsag_slots.specs.declared.step.Step.TheVariants.{Idle as Stay, Run}
-use Rattle.pocsag_slots.specs.Numbering.{finish_of}
+use Rattle.pocsag_slots.specs.Classes.{finish_of}
 use Rattle.pocsag_slots.specs.Tours.{idles}
 use Rattle.pocsag_centre.specs.declared.frames.FrameRoom.{FrameRoom}
 use Rattle.pocsag_centre.specs.Frames.{HasClasses, frame_row}

@@ -4,8 +4,8 @@ use Rattle.pocsag_words.specs.declared.ending.End.{End}
 use Rattle.pocsag_pages.specs.declared.page.Page.{Page}
 use Rattle.pocsag_pages.specs.PageFile.{verdict}
 use Rattle.pocsag_tree.specs.BoundTrees.{BoundTree}
-use Rattle.pocsag_tree.specs.Spelling.{IsText}
-use Rattle.pocsag_check.specs.Accepting.{IsAcceptedFor}
+use Rattle.pocsag_tree.specs.CertificateText.{IsText}
+use Rattle.pocsag_check.specs.Acceptance.{IsAcceptedFor}
 use Rattle.pocsag_plan.specs.Plans.{NoneHasFewer}
 use Rattle.pocsag_centre.specs.Commands.{Checked, CheckedAndTold}
 use Rattle.pocsag_centre.specs.Lines.{bound_text}

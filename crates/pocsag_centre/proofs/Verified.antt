@@ -16,6 +16,10 @@ use Rattle.pocsag_pages.specs.declared.page.Page.{Page}
 use Rattle.pocsag_pages.specs.Pages.{IsRound}
 use Rattle.pocsag_pages.specs.Reading.{AreApart, EndsAs, IsBatchList}
 use Rattle.pocsag_pages.proofs.GoodPages.{apart_pages}
+use Rattle.pocsag_pages.specs.declared.fault.WholeFault.{WholeFault}
+use Rattle.pocsag_pages.specs.declared.fault.WholeFault.TheVariants as whole
+use Rattle.pocsag_words.specs.Frame.{input_limit}
+use Rattle.pocsag_shell.specs.Faults.{fault_of_whole}
 use Rattle.pocsag_words.specs.Kinds.{kind_of}
 use Rattle.pocsag_words.specs.declared.ending.End.{End}
 use Rattle.pocsag_slots.proofs.Rearranged.{rearranged}
@@ -23,7 +27,7 @@ use Rattle.pocsag_decode.specs.Faults.{ReadsAs}
 use Rattle.pocsag_plan.specs.declared.search.Search.{Search}
 use Rattle.pocsag_shell.specs.declared.fault.FileFault.TheVariants as file_fault
 use Rattle.pocsag_centre.specs.Refusals.{OrDevice}
-use Rattle.pocsag_centre.specs.Verifying.{AreAmong, ExplainsVerifying, HasRival, IsTransmissionOf, OrTooLarge}
+use Rattle.pocsag_centre.specs.Verification.{AreAmong, ExplainsVerifying, HasRival, IsTransmissionOf, OrTooLarge}
 use Rattle.pocsag_centre.specs.declared.fault.CentreFault.{CentreFault}
 use Rattle.pocsag_centre.specs.declared.fault.CentreFault.TheVariants as fault
 use Rattle.pocsag_centre.proofs.Explained.{or_device}
@@ -151,3 +155,19 @@ read_verifying file search sent certificate file' sent' certificate' f one two t
     (subst (λ (v : List ℕ). ExplainsVerifying v search sent certificate f) one
     (subst (λ (v : List ℕ). ExplainsVerifying file' search v certificate f) two
     (subst (λ (v : List ℕ). ExplainsVerifying file' search sent' v f) three said))))
+
+-- a reader failed, a file is larger than is read, or memory refused its bytes
+pub whole_verifying : (file : List ℕ) (search : Search) (sent certificate : List ℕ) (w : WholeFault) →
+    (w ≡ whole.TooLarge → (input_limit < length sent) ⊎ (input_limit < length certificate)) →
+    OrDevice (OrTooLarge sent certificate (ExplainsVerifying file search sent certificate)) (fault.File (fault_of_whole w))
+whole_verifying file search sent certificate whole.ReadFault large = tt
+whole_verifying file search sent certificate whole.TooLarge large = large refl
+whole_verifying file search sent certificate whole.OutOfMemory large = tt
+
+-- no fault of bytes is that of a device
+pub verified_undevised : (file : List ℕ) (search : Search) (sent certificate : List ℕ) (f : CentreFault) →
+    ExplainsVerifying file search sent certificate f → (f ≡ fault.File file_fault.Device) ⊎ (f ≡ fault.File file_fault.Write) → ⊥
+verified_undevised file search sent certificate f said (inl same) =
+    (subst (λ (g : CentreFault). ExplainsVerifying file search sent certificate g) same said).holds
+verified_undevised file search sent certificate f said (inr same) =
+    (subst (λ (g : CentreFault). ExplainsVerifying file search sent certificate g) same said).holds

@@ -4,8 +4,8 @@ use Rattle.pocsag_words.specs.declared.ending.End.{End}
 use Rattle.pocsag_pages.specs.declared.page.Page.{Page}
 use Rattle.pocsag_pages.specs.PageFile.{verdict}
 use Rattle.pocsag_tree.specs.BoundTrees.{BoundTree}
-use Rattle.pocsag_tree.specs.Spelling.{IsText}
-use Rattle.pocsag_check.specs.Accepting.{IsAcceptedFor}
+use Rattle.pocsag_tree.specs.CertificateText.{IsText}
+use Rattle.pocsag_check.specs.Acceptance.{IsAcceptedFor}
 use Rattle.pocsag_plan.specs.declared.answer.Plan.{Plan}
 use Rattle.pocsag_plan.specs.declared.search.Effort.TheVariants.{Fewest}
 use Rattle.pocsag_plan.specs.declared.search.Search.{Search}
@@ -13,7 +13,7 @@ use Rattle.pocsag_plan.specs.Plans.{IsSearchTreeFor, NoneHasFewer}
 use Rattle.pocsag_plan.specs.Reports.{report_text}
 use Rattle.pocsag_plan.specs.Streams.{IsPlanOf, Writes, WritesBounded, WritesCertificatePart, WritesPart}
 use Rattle.pocsag_centre.specs.Lines.{below_text, bound_text, plan_text}
-use Rattle.pocsag_centre.specs.Reporting.{IsReportOf}
+use Rattle.pocsag_centre.specs.Reports.{IsReportOf}
 use Rattle.pocsag_centre.specs.declared.report.BoundedReport.{BoundedReport}
 
 -- No words: the counts of a plan of the page file's round were told.

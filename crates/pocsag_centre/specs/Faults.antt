@@ -38,10 +38,3 @@ fault_of_stream (streaming.Plan f) = fault_of_plan f
 fault_of_stream (streaming.Round f) = fault.Round f
 fault_of_stream (streaming.Transmission f) = fault.File file_fault.Write
 fault_of_stream (streaming.Certificate f) = fault.File file_fault.Write
-
--- The same where both are written to memory: what a writer lacks is memory.
-abbrev pub fault_in_memory : StreamFault → CentreFault
-fault_in_memory (streaming.Plan f) = fault_of_plan f
-fault_in_memory (streaming.Round f) = fault.Round f
-fault_in_memory (streaming.Transmission f) = fault.File file_fault.OutOfMemory
-fault_in_memory (streaming.Certificate f) = fault.File file_fault.OutOfMemory

@@ -7,7 +7,7 @@ use Rattle.pocsag_pages.specs.declared.page.Page.{Page}
 use Rattle.pocsag_pages.specs.Reading.{page_length}
 use Rattle.pocsag_slots.specs.declared.step.Step.{Step}
 use Rattle.pocsag_slots.specs.Arcs.{runs}
-use Rattle.pocsag_slots.specs.Numbering.{class_count}
+use Rattle.pocsag_slots.specs.Classes.{class_count}
 use Rattle.pocsag_slots.specs.Tours.{idles}
 use Rattle.pocsag_centre.specs.declared.frames.FrameRoom.{FrameRoom}
 

@@ -1,11 +1,11 @@
 pub mod Commands
-pub mod Expecting
+pub mod Demands
 pub mod Faults
 pub mod Frames
 pub mod FramesTold
 pub mod FrontFiles
-pub mod Judging
+pub mod Judgements
 pub mod Lines
 pub mod Refusals
-pub mod Reporting
-pub mod Verifying
+pub mod Reports
+pub mod Verification

@@ -4,10 +4,11 @@ use Rattle.pocsag_words.specs.declared.ending.End.TheVariants.{Open}
 use Rattle.pocsag_pages.specs.declared.fault.RoundFault.{RoundFault}
 use Rattle.pocsag_pages.specs.declared.fault.RoundFault.TheVariants as round
 use Rattle.pocsag_pages.specs.PageFile.{verdict}
+use Rattle.pocsag_pages.specs.declared.page.Page.{Page}
 use Rattle.pocsag_tree.specs.BoundTrees.{BoundTree}
 use Rattle.pocsag_tree.specs.declared.refusals.CertificateFault.TheVariants as certificate
 use Rattle.pocsag_branch.specs.Found.{IsNodeLimit}
-use Rattle.pocsag_plan.specs.Plans.{MayStop}
+use Rattle.pocsag_plan.specs.Plans.{IsStopped, MayStop}
 use Rattle.pocsag_plan.specs.Streams.{IsStoppedAt}
 use Rattle.pocsag_plan.specs.declared.search.Effort.TheVariants.{Fewest}
 use Rattle.pocsag_plan.specs.declared.search.Search.{Search}
@@ -36,6 +37,15 @@ ExplainsNoPlan file search (fault.SearchLimit least found) =
     × ((tree : BoundTree) × IsStoppedAt file search.end search.limit least found tree)
 ExplainsNoPlan file search (fault.File file_fault.OutOfMemory) = IsNodeLimit search.limit × IsOk (verdict file)
 ExplainsNoPlan file search _ = ⊥
+
+-- Why a round has no plan.
+abbrev pub ExplainsUnplanned : Search → (R : List Page) → CentreFault → Type 0
+ExplainsUnplanned search R fault.BadLimit = ¬ IsNodeLimit search.limit
+ExplainsUnplanned search R (fault.SearchLimit least found) =
+    MayStop search.effort × IsNodeLimit search.limit
+    × ((tree : BoundTree) × IsStopped search.end R search.limit least found tree)
+ExplainsUnplanned search R (fault.File file_fault.OutOfMemory) = IsNodeLimit search.limit
+ExplainsUnplanned search R _ = ⊥
 
 -- Why a plan of them is not written. The limit is judged before the file.
 abbrev pub ExplainsUnwritten : (file : List ℕ) → Search → CentreFault → Type 0

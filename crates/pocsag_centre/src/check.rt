@@ -1,13 +1,13 @@
 ghost use Rattle.std.specs.Prelude.{◌≡◌, ◌≢◌, ◌↔◌, ◌++◌, false, IfErr, IfOk, IsErrOf, IsFalse, IsTrue, OnOk};
-ghost use Rattle.pocsag_words.specs.Devices.{HasFailed};
+ghost use Rattle.pocsag_words.specs.Devices.{CountsFailures, HasFailed};
 ghost use Rattle.pocsag_pages.specs.declared.fault.RoundFault.TheVariants as round_fault;
 ghost use Rattle.pocsag_tree.specs.declared.refusals.CertificateFault.TheVariants as tree_fault;
 ghost use Rattle.pocsag_tree.specs.Views.{bound_tree_of};
-ghost use Rattle.pocsag_check.specs.Accepting.{IsAcceptedFor};
+ghost use Rattle.pocsag_check.specs.Acceptance.{IsAcceptedFor};
 ghost use Rattle.pocsag_plan.specs.Plans.{NoneHasFewer};
 ghost use Rattle.pocsag_shell.specs.declared.fault.FileFault.TheVariants as file_fault;
 ghost use Rattle.pocsag_centre.specs.Commands.{Checked, CheckedAndTold};
-ghost use Rattle.pocsag_centre.specs.Judging.{ExplainsJudging, IsNotShown, NotShownAndTold};
+ghost use Rattle.pocsag_centre.specs.Judgements.{ExplainsJudging, IsNotShown, NotShownAndTold};
 ghost use Rattle.pocsag_centre.specs.Lines.{verdict_text};
 ghost use Rattle.pocsag_centre.specs.Refusals.{OrDevice};
 
@@ -16,7 +16,7 @@ use crate::lines::tell_bound;
 use crate::round::{certificate_of, round_of};
 use pocsag_check::check;
 use pocsag_pages::{Round, read_round};
-use pocsag_shell::{FileFault, tell};
+use pocsag_shell::{FileFault, put_whole};
 use pocsag_tree::{Certificate, read_certificate};
 use pocsag_words::{End, Sink, Source};
 use std::alloc::Global;
@@ -79,11 +79,13 @@ pub fn run_check<P: Source, C: Source, O: Sink>(
         IfErr result (OrDevice (ExplainsJudging (P.held pages.old) (C.held cert.old))) }
     ensures refused { IfErr result (λ e. e ≢ CentreFault.File file_fault.Write → out.new ≡ out.old) }
 
-    // A reader's fault is answered only where that reader failed.
+    // A device's fault is answered only where that device failed.
     ensures read_failed { IsErrOf result (CentreFault.Round round_fault.ReadFault) →
         HasFailed (P.failures pages.old) (P.failures pages.new) }
     ensures certificate_failed { IsErrOf result (CentreFault.Certificate tree_fault.ReadFault) →
         HasFailed (C.failures cert.old) (C.failures cert.new) }
+    ensures write_failed { IsErrOf result (CentreFault.File file_fault.Write) →
+        HasFailed (O.failures out.old) (O.failures out.new) }
 {
     let round = read_round(alloc, pages)?;
     let certificate = read_certificate(alloc, cert)?;
@@ -97,10 +99,11 @@ pub(crate) fn tell_verdict<O: Sink>(judged: CheckVerdict, out: &mut O) -> Result
     ensures told { O.tells → OnOk result
         (O.taken out.new ≡ O.taken out.old ++ verdict_text judged.is_shown judged.end judged.batches) }
     ensures lost { IfErr result (λ e. e ≡ FileFault.Write) }
+    ensures failures { CountsFailures result (O.failures out.old) (O.failures out.new) }
 {
     if judged.is_shown {
         tell_bound(judged.end, judged.batches, out)
     } else {
-        tell(out, "not shown\n")
+        put_whole(out, b"not shown\n")
     }
 }

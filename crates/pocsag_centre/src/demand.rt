@@ -1,12 +1,12 @@
 ghost use Rattle.std.specs.Prelude.{◌≡◌, ◌↔◌, IfErr, IsErrOf, None, OnOk};
 ghost use Rattle.pocsag_branch.specs.Found.{IsNodeLimit};
-ghost use Rattle.pocsag_quotes.specs.Quotes.{first_misplaced};
-ghost use Rattle.pocsag_centre.specs.Expecting.{ExplainsExpecting, ExplainsStrict, HoldsPages};
+ghost use Rattle.pocsag_pages.specs.Quotes.{first_misplaced};
+ghost use Rattle.pocsag_centre.specs.Demands.{ExplainsExpecting, ExplainsStrict, HoldsPages};
 
 use crate::fault::CentreFault;
 use crate::round::round_of;
+use pocsag_pages::quote_fault;
 use pocsag_plan::{Search, is_node_limit};
-use pocsag_quotes::quote_fault;
 use std::alloc::Global;
 
 /// Refuses a node limit that is out of its range, so that nothing is opened for it.

@@ -3,9 +3,8 @@ ghost use Rattle.pocsag_shell.specs.declared.fault.FileFault.TheVariants as file
 ghost use Rattle.pocsag_centre.specs.declared.fault.CentreFault.TheVariants as fault;
 
 use pocsag_decode::DecodeFault;
-use pocsag_pages::{RoundFault, WholeFault};
+use pocsag_pages::{QuoteFault, RoundFault, WholeFault};
 use pocsag_plan::{BadRate, NoFront, PlanFault, StreamFault};
-use pocsag_quotes::QuoteFault;
 use pocsag_shell::{Failure, FileFault};
 use pocsag_tree::CertificateFault;
 use pocsag_words::OutOfMemory;

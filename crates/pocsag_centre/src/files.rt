@@ -4,11 +4,12 @@ ghost use Rattle.pocsag_shell.specs.Paths.{HasEqual, paths_of};
 
 use crate::demand::{expected_file, refuse_bad_limit, strict_file};
 use crate::fault::CentreFault;
-use crate::front::{first_file, front_file, tell_front};
+use crate::front::{WrittenFront, first_file, front_file, tell_front};
 use crate::note::{note_quote, note_record};
 use crate::order::{FrontLimit, PlanOrder, SearchOrder};
-use crate::plan::{plan_file, tell_bounded};
+use crate::plan::{Written, plan_round, tell_bounded};
 use crate::readback::verify_files;
+use crate::round::round_of;
 use pocsag_pages::FILE_LIMIT;
 use pocsag_plan::most_batches;
 use pocsag_shell::{
@@ -163,12 +164,27 @@ fn write_files<O: Sink>(
     out: &mut O,
 ) -> Result<(), CentreFault> {
     let file = page_file(desk, order.pages, order.search)?;
-    let Outputs { mut tx, mut cert } = make_outputs(desk, order.pages, order.tx, order.cert)?;
-    let done = plan_file(desk.alloc, file.as_slice(), order.search.search);
-    let written = noted(desk, order.pages, file.as_slice(), done)?;
-    put_whole(&mut tx, written.sent.as_slice())?;
-    put_whole(&mut cert, written.certificate.as_slice())?;
+    let mut outputs = make_outputs(desk, order.pages, order.tx, order.cert)?;
+    let written = planned_at(desk, order, file)?;
+    put_written(&mut outputs, &written)?;
     tell_bounded(&written.bounded, out)
+}
+
+// The plan of a page file. Its bytes are let go once it is read, so that the transmission may take their room.
+fn planned_at(desk: Desk<'_>, order: PlanOrder<'_>, file: Vec<u8>) -> Result<Written, CentreFault> {
+    let done = round_of(desk.alloc, file.as_slice()).map_err(CentreFault::Round);
+    let round = noted(desk, order.pages, file.as_slice(), done)?;
+    drop(file);
+    plan_round(desk.alloc, &round, order.search.search)
+}
+
+// Puts the transmission and then the certificate.
+fn put_written<S: Sink + Drop>(
+    outputs: &mut Outputs<S>,
+    written: &Written,
+) -> Result<(), FileFault> {
+    put_whole(&mut outputs.tx, written.sent.as_slice())?;
+    put_whole(&mut outputs.cert, written.certificate.as_slice())
 }
 
 // Writes the front of a page file, the rest first, once it is planned. Answers how many pages it has.
@@ -183,26 +199,41 @@ fn write_front<O: Sink>(
         FrontLimit::Airtime { ms, rate } => most_batches(ms, rate)?,
     };
     refuse_rest(desk, order)?;
+    let front = front_at(desk, order, batches)?;
+    put_front_files(desk, order, &front)?;
+    tell_front(&front, batches, out)?;
+    Ok(front.first.bounded.plan.pages)
+}
+
+fn front_at(
+    desk: Desk<'_>,
+    order: PlanOrder<'_>,
+    batches: u32,
+) -> Result<WrittenFront, CentreFault> {
     let file = page_file(desk, order.pages, order.search)?;
     let done = front_file(desk.alloc, file.as_slice(), batches, order.search.search);
-    let front = noted(desk, order.pages, file.as_slice(), done)?;
+    noted(desk, order.pages, file.as_slice(), done)
+}
+
+fn put_front_files(
+    desk: Desk<'_>,
+    order: PlanOrder<'_>,
+    front: &WrittenFront,
+) -> Result<(), FileFault> {
     if let Some(path) = order.rest {
         write_file(desk, Role::Rest, path, front.rest.as_slice())?;
     }
     if let Some(path) = order.why {
-        let text = front
-            .why
-            .as_ref()
-            .map_or(&[][..], |why| why.bytes.as_slice());
+        let text = match &front.why {
+            Some(why) => why.bytes.as_slice(),
+            None => &[],
+        };
         write_file(desk, Role::Why, path, text)?;
     }
     // A new file may have a second spelling among the words.
     refuse_rest(desk, order)?;
-    let Outputs { mut tx, mut cert } = make_outputs(desk, order.pages, order.tx, order.cert)?;
-    put_whole(&mut tx, front.first.sent.as_slice())?;
-    put_whole(&mut cert, front.first.certificate.as_slice())?;
-    tell_front(&front, batches, out)?;
-    Ok(front.first.bounded.plan.pages)
+    let mut outputs = make_outputs(desk, order.pages, order.tx, order.cert)?;
+    put_written(&mut outputs, &front.first)
 }
 
 // Refuses a word for the rest, or for the certificate of one page more, that names another file of the plan.

@@ -2,25 +2,25 @@ ghost use Rattle.std.specs.Prelude.{◌≡◌, ◌≤◌, ◌++◌, drop, length
 ghost use Rattle.pocsag_pages.specs.declared.page.Page.{Page};
 ghost use Rattle.pocsag_pages.specs.Listable.{IsListable};
 ghost use Rattle.pocsag_tree.specs.Limits.{second_ranges};
-ghost use Rattle.pocsag_tree.specs.Spelling.{HasText, written_text};
+ghost use Rattle.pocsag_tree.specs.CertificateText.{HasText, written_text};
 ghost use Rattle.pocsag_tree.specs.Views.{bound_tree_of};
 ghost use Rattle.pocsag_decode.specs.PageFiles.{page_file};
 ghost use Rattle.pocsag_plan.specs.Fronts.{IsFrontFor, IsLongestFront};
 ghost use Rattle.pocsag_plan.specs.Headline.{RoundHeadline};
-ghost use Rattle.pocsag_plan.specs.Plans.{IsBounded, IsPlanFor};
-ghost use Rattle.pocsag_plan.specs.Streams.{HeadlineOf, IsOfRound};
+ghost use Rattle.pocsag_plan.specs.Plans.{IsPlanFor};
+ghost use Rattle.pocsag_plan.specs.Streams.{IsOfRound};
 ghost use Rattle.pocsag_centre.specs.FrontFiles.{ExplainsFirst, ExplainsNoFront, IsPageFileOf, IsWhyWritten, why_text};
 ghost use Rattle.pocsag_centre.specs.Lines.{below_text, left_text, plan_text, undecided_text};
 ghost use Rattle.pocsag_shell.specs.declared.fault.FileFault.TheVariants as file_fault;
 
 use crate::demand::refuse_bad_limit;
 use crate::fault::CentreFault;
-use crate::plan::{Written, in_memory, tell_bounded};
+use crate::plan::{Written, tell_bounded, write_plan};
 use crate::round::round_of;
 use pocsag_decode::{page_files_are_read_back, pages_of_files_are_spellable, write_page_file};
-use pocsag_pages::{Page, Round};
-use pocsag_plan::{Bounded, Effort, FrontPlan, Search, longest_front, send};
-use pocsag_shell::{FileFault, tell};
+use pocsag_pages::Page;
+use pocsag_plan::{Effort, FrontPlan, Search, longest_front};
+use pocsag_shell::{FileFault, tell_numbers};
 use pocsag_tree::{Certificate, write_text};
 use pocsag_words::{GrowingSink, Sink};
 use std::alloc::Global;
@@ -89,7 +89,7 @@ pub fn front_file(
         why,
     } = longest_front(alloc, round, batches, search)?;
     Ok(WrittenFront {
-        first: written(alloc, &round, bounded)?,
+        first: write_plan(alloc, &round, bounded)?,
         rest: written_pages(alloc, rest.as_slice())?,
         left: rest.len() as u32,
         why: written_why(alloc, why)?,
@@ -107,25 +107,6 @@ pub fn first_file(alloc: Global, pages: &[u8], count: usize) -> Result<Vec<u8>, 
     let count = count.min(round.pages().len());
     let first = &round.pages()[..count];
     written_pages(alloc, first)
-}
-
-// The plan of a round, with the bytes of its transmission and of its certificate.
-fn written(alloc: Global, round: &Round, bounded: Bounded) -> Result<Written, CentreFault>
-    requires { IsBounded bounded.plan.end round.now bounded.plan bounded.bound }
-    ensures headline { IfOk result (λ w. HeadlineOf round.now bounded w.sent.items w.certificate.items) }
-    ensures plan { IfOk result (λ w. w.bounded ≡ bounded) }
-    ensures memory { IfErr result (λ e. e ≡ CentreFault.File file_fault.OutOfMemory) }
-{
-    let mut sent = GrowingSink::new(alloc);
-    let mut certificate = GrowingSink::new(alloc);
-    match send(round, &bounded, &mut sent, &mut certificate) {
-        Ok(()) => Ok(Written {
-            sent: sent.into_bytes(),
-            certificate: certificate.into_bytes(),
-            bounded,
-        }),
-        Err(fault) => Err(in_memory(fault)),
-    }
 }
 
 // The page file of the pages.
@@ -181,7 +162,7 @@ pub(crate) fn tell_front<O: Sink>(
     ensures lost { IfErr result (λ e. e ≡ CentreFault.File file_fault.Write) }
 {
     tell_bounded(&front.first.bounded, out)?;
-    tell(out, format_args!("left {}\n", front.left))?;
+    tell_numbers(out, &[("left ", front.left as u64)], "\n")?;
     match &front.why {
         Some(why) => Ok(tell_undecided(batches, why.bound, out)?),
         None => Ok(()),
@@ -197,8 +178,6 @@ fn tell_undecided<O: Sink>(batches: u32, bound: u32, out: &mut O) -> Result<(), 
     if batches < bound {
         return Ok(());
     }
-    tell(
-        out,
-        format_args!("at least {bound} batches with one page more\n"),
-    )
+    let number = [("at least ", bound as u64)];
+    tell_numbers(out, &number, " batches with one page more\n")
 }

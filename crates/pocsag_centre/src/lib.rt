@@ -26,7 +26,9 @@ pub use frames::FrameRoom;
 pub use front::{WrittenCertificate, WrittenFront, front_file};
 pub use group::Centre;
 pub use note::note_record;
-pub use plan::{DEFAULT_LIMIT, PlanFiles, Written, bounded_file, plan_file, run_input, run_plan};
+pub use plan::{
+    DEFAULT_LIMIT, PlanFiles, Written, bounded_file, plan_file, plan_round, run_input, run_plan,
+};
 pub use readback::{run_verify, verify_files};
 pub use report::{BoundedReport, FrameReport, frames_file, report_file, run_frames, run_report};
 pub use round::{certificate_of, round_of};

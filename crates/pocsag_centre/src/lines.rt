@@ -1,7 +1,8 @@
 ghost use Rattle.std.specs.Prelude.{◌≡◌, ◌++◌, IfErr, OnOk};
+ghost use Rattle.pocsag_words.specs.Devices.{CountsFailures};
 ghost use Rattle.pocsag_centre.specs.Lines.{below_text, bound_text, plan_text};
 
-use pocsag_shell::{FileFault, tell};
+use pocsag_shell::{FileFault, tell_numbers};
 use pocsag_words::{End, Sink};
 
 /// Tells the pages and the batches of a plan.
@@ -9,8 +10,10 @@ use pocsag_words::{End, Sink};
 pub(crate) fn tell_plan<O: Sink>(pages: u32, batches: u32, out: &mut O) -> Result<(), FileFault>
     ensures told { O.tells → OnOk result (O.taken out.new ≡ O.taken out.old ++ plan_text pages batches) }
     ensures lost { IfErr result (λ e. e ≡ FileFault.Write) }
+    ensures failures { CountsFailures result (O.failures out.old) (O.failures out.new) }
 {
-    tell(out, format_args!("pages {pages}\nbatches {batches}\n"))
+    let numbers = [("pages ", pages as u64), ("\nbatches ", batches as u64)];
+    tell_numbers(out, &numbers, "\n")
 }
 
 /// Tells that fewer batches do not suffice.
@@ -18,17 +21,13 @@ pub(crate) fn tell_plan<O: Sink>(pages: u32, batches: u32, out: &mut O) -> Resul
 pub(crate) fn tell_bound<O: Sink>(end: End, batches: u32, out: &mut O) -> Result<(), FileFault>
     ensures told { O.tells → OnOk result (O.taken out.new ≡ O.taken out.old ++ bound_text end batches) }
     ensures lost { IfErr result (λ e. e ≡ FileFault.Write) }
+    ensures failures { CountsFailures result (O.failures out.old) (O.failures out.new) }
 {
+    let number = [("at least ", batches as u64)];
     match end {
-        End::Open => tell(out, format_args!("at least {batches} batches\n")),
-        End::Closed => tell(
-            out,
-            format_args!("at least {batches} batches with a closed end\n"),
-        ),
-        End::Idle => tell(
-            out,
-            format_args!("at least {batches} batches with an idle last\n"),
-        ),
+        End::Open => tell_numbers(out, &number, " batches\n"),
+        End::Closed => tell_numbers(out, &number, " batches with a closed end\n"),
+        End::Idle => tell_numbers(out, &number, " batches with an idle last\n"),
     }
 }
 
@@ -37,9 +36,10 @@ pub(crate) fn tell_bound<O: Sink>(end: End, batches: u32, out: &mut O) -> Result
 pub(crate) fn tell_below<O: Sink>(batches: u32, bound: u32, out: &mut O) -> Result<(), FileFault>
     ensures told { O.tells → OnOk result (O.taken out.new ≡ O.taken out.old ++ below_text batches bound) }
     ensures lost { IfErr result (λ e. e ≡ FileFault.Write) }
+    ensures failures { CountsFailures result (O.failures out.old) (O.failures out.new) }
 {
     if bound < batches {
-        return tell(out, format_args!("at least {bound} batches\n"));
+        return tell_bound(End::Open, bound, out);
     }
     Ok(())
 }

@@ -1,6 +1,5 @@
 use csv::{ByteRecord, ReaderBuilder};
-use pocsag_pages::RoundFault;
-use pocsag_quotes::quote_fault;
+use pocsag_pages::{RoundFault, quote_fault};
 use pocsag_shell::{Desk, NamedFile};
 use std::alloc::Global;
 use std::fmt::{self, Display, Write};

@@ -1,26 +1,23 @@
-ghost use Rattle.std.specs.Prelude.{◌≡◌, ◌≢◌, ◌++◌, IfErr, IfOk, IsErrOf, OnOk};
-ghost use Rattle.pocsag_words.specs.Devices.{HasFailed};
+ghost use Rattle.std.specs.Prelude.{◌≡◌, ◌≢◌, ◌⊎◌, ◌++◌, IfErr, IfOk, IsErrOf, OnOk};
+ghost use Rattle.pocsag_words.specs.Devices.{CountsFailures, HasFailed};
 ghost use Rattle.pocsag_pages.specs.declared.fault.RoundFault.TheVariants as round_fault;
 ghost use Rattle.pocsag_words.specs.declared.ending.End.TheVariants.{Open as open_end};
 ghost use Rattle.pocsag_tree.specs.Views.{bound_tree_of};
 ghost use Rattle.pocsag_plan.specs.BoundedHeadline.{BoundedHeadline};
 ghost use Rattle.pocsag_plan.specs.Headline.{Headline};
-ghost use Rattle.pocsag_plan.specs.Plans.{IsPlanFor};
-ghost use Rattle.pocsag_plan.specs.Streams.{IsOfRound};
+ghost use Rattle.pocsag_plan.specs.Plans.{IsBounded, IsPlanFor};
+ghost use Rattle.pocsag_plan.specs.Streams.{HeadlineOf, IsOfRound};
 ghost use Rattle.pocsag_centre.specs.Commands.{LeavesOutputs, Planned, PlannedAndTold, ToldPlan};
-ghost use Rattle.pocsag_centre.specs.Faults.{fault_in_memory};
 ghost use Rattle.pocsag_centre.specs.Lines.{below_text, plan_text};
-ghost use Rattle.pocsag_centre.specs.Refusals.{ExplainsNoPlan, ExplainsUnwritten, OrDevice, default_search};
+ghost use Rattle.pocsag_centre.specs.Refusals.{ExplainsNoPlan, ExplainsUnplanned, ExplainsUnwritten, OrDevice, default_search};
 ghost use Rattle.pocsag_shell.specs.declared.fault.FileFault.TheVariants as file_fault;
 
 use crate::demand::refuse_bad_limit;
 use crate::fault::CentreFault;
 use crate::lines::{tell_below, tell_plan};
-use crate::round::{page_source, read_pages, round_of};
-use pocsag_plan::{
-    Bounded, Effort, Search, StreamFault, bounded_plan, bounded_stream,
-    tight_headlines_are_headlines,
-};
+use crate::round::{read_pages, round_of};
+use pocsag_pages::Round;
+use pocsag_plan::{Bounded, Effort, Search, bounded_plan, bounded_stream, send};
 use pocsag_shell::FileFault;
 use pocsag_words::{End, GrowingSink, Sink, Source};
 use std::alloc::Global;
@@ -68,30 +65,41 @@ pub fn plan_file(alloc: Global, pages: &[u8], search: Search) -> Result<Written,
     ensures plan { IfOk result (λ w. IsOfRound pages.now (λ round. IsPlanFor search round w.bounded)) }
     ensures explained { IfErr result (ExplainsUnwritten pages.now search) }
 {
-    tight_headlines_are_headlines();
     refuse_bad_limit(search)?;
-    let mut source = page_source(pages)?;
+    let round = round_of(alloc, pages)?;
+    plan_round(alloc, &round, search)
+}
+
+/// The same of a round. Faults in order: `BadLimit`, `SearchLimit`; want of memory.
+pub fn plan_round(alloc: Global, round: &Round, search: Search) -> Result<Written, CentreFault>
+    ensures headline { IfOk result (λ w. HeadlineOf round.now w.bounded w.sent.items w.certificate.items) }
+    ensures plan { IfOk result (λ w. IsPlanFor search round.now w.bounded) }
+    ensures explained { IfErr result (ExplainsUnplanned search round.now) }
+{
+    let bounded = bounded_plan(alloc, round, search)?;
+    write_plan(alloc, round, bounded)
+}
+
+// The plan of a round, with the bytes of its transmission and of its certificate.
+pub(crate) fn write_plan(
+    alloc: Global,
+    round: &Round,
+    bounded: Bounded,
+) -> Result<Written, CentreFault>
+    requires { IsBounded bounded.plan.end round.now bounded.plan bounded.bound }
+    ensures headline { IfOk result (λ w. HeadlineOf round.now bounded w.sent.items w.certificate.items) }
+    ensures plan { IfOk result (λ w. w.bounded ≡ bounded) }
+    ensures memory { IfErr result (λ e. e ≡ CentreFault.File file_fault.OutOfMemory) }
+{
     let mut sent = GrowingSink::new(alloc);
     let mut certificate = GrowingSink::new(alloc);
-    match bounded_stream(alloc, &mut source, &mut sent, &mut certificate, search) {
-        Ok(bounded) => Ok(Written {
+    match send(round, &bounded, &mut sent, &mut certificate) {
+        Ok(()) => Ok(Written {
             sent: sent.into_bytes(),
             certificate: certificate.into_bytes(),
             bounded,
         }),
-        Err(fault) => Err(in_memory(fault)),
-    }
-}
-
-// The fault of a stream that is written to memory: what a writer lacks is memory.
-pub(crate) fn in_memory(fault: StreamFault) -> CentreFault
-    ensures { result ≡ fault_in_memory fault }
-{
-    match fault {
-        StreamFault::Transmission(_) | StreamFault::Certificate(_) => {
-            CentreFault::File(FileFault::OutOfMemory)
-        }
-        fault => CentreFault::from(fault),
+        Err(_) => Err(CentreFault::File(FileFault::OutOfMemory)),
     }
 }
 
@@ -117,9 +125,11 @@ pub fn run_input<I: Source, O: Sink>(
     ensures explained { I.tells → IfErr result (OrDevice (ExplainsNoPlan (I.held input.old) default_search)) }
     ensures refused { IfErr result (λ e. e ≢ CentreFault.File file_fault.Write → out.new ≡ out.old) }
 
-    // The reader's fault is answered only where it failed.
+    // A device's fault is answered only where that device failed.
     ensures read_failed { IsErrOf result (CentreFault.Round round_fault.ReadFault) →
         HasFailed (I.failures input.old) (I.failures input.new) }
+    ensures write_failed { IsErrOf result (CentreFault.File file_fault.Write) →
+        HasFailed (O.failures out.old) (O.failures out.new) }
 {
     let file = read_pages(alloc, input)?;
     let bounded = bounded_file(alloc, file.as_slice(), DEFAULT_SEARCH)?;
@@ -148,9 +158,13 @@ pub fn run_plan<P: Source + Drop, T: Sink + Drop, C: Sink + Drop, O: Sink>(
         LeavesOutputs (P.held files.old.pages) search (T.taken files.old.tx) (T.taken files.new.tx)
         (C.taken files.old.cert) (C.taken files.new.cert) }
 
-    // The reader's fault is answered only where it failed.
+    // A device's fault is answered only where that device failed.
     ensures read_failed { IsErrOf result (CentreFault.Round round_fault.ReadFault) →
         HasFailed (P.failures files.old.pages) (P.failures files.new.pages) }
+    ensures write_failed { IsErrOf result (CentreFault.File file_fault.Write) →
+        HasFailed (T.failures files.old.tx) (T.failures files.new.tx)
+        ⊎ HasFailed (C.failures files.old.cert) (C.failures files.new.cert)
+        ⊎ HasFailed (O.failures out.old) (O.failures out.new) }
 {
     let PlanFiles { pages, tx, cert } = files;
     let bounded = bounded_stream(alloc, pages, tx, cert, search)?;
@@ -163,6 +177,7 @@ pub(crate) fn tell_bounded<O: Sink>(bounded: &Bounded, out: &mut O) -> Result<()
         (O.taken out.new ≡ O.taken out.old ++ plan_text bounded.now.plan.pages bounded.now.plan.batches
         ++ below_text bounded.now.plan.batches bounded.now.bound) }
     ensures lost { IfErr result (λ e. e ≡ CentreFault.File file_fault.Write) }
+    ensures failures { CountsFailures result (O.failures out.old) (O.failures out.new) }
 {
     tell_plan(bounded.plan.pages, bounded.plan.batches, out)?;
     Ok(tell_below(bounded.plan.batches, bounded.bound, out)?)

@@ -10,7 +10,7 @@ ghost use Rattle.pocsag_tree.specs.Views.{bound_tree_of};
 ghost use Rattle.pocsag_shell.specs.declared.fault.FileFault.TheVariants as file_fault;
 ghost use Rattle.pocsag_plan.specs.Plans.{NoneHasFewer};
 ghost use Rattle.pocsag_centre.specs.Refusals.{OrDevice};
-ghost use Rattle.pocsag_centre.specs.Verifying.{AreAmong, ExplainsReadback, ExplainsVerifying, HasRival, IsDueBound, IsTransmissionOf, OrTooLarge, ShowsDue, Verified};
+ghost use Rattle.pocsag_centre.specs.Verification.{AreAmong, ExplainsReadback, ExplainsVerifying, HasRival, IsDueBound, IsTransmissionOf, OrTooLarge, ShowsDue, Verified};
 
 use crate::fault::CentreFault;
 use crate::plan::PlanFiles;
@@ -19,7 +19,7 @@ use pocsag_check::check;
 use pocsag_decode::decode;
 use pocsag_pages::{Page, Round, leading_len, read_whole};
 use pocsag_plan::{Effort, Search};
-use pocsag_shell::tell;
+use pocsag_shell::put_whole;
 use pocsag_tree::Certificate;
 use pocsag_words::{BATCH_BYTES, End, INPUT_LIMIT, Sink, Source};
 use std::alloc::Global;
@@ -64,12 +64,14 @@ pub fn run_verify<P: Source + Drop, T: Source + Drop, C: Source + Drop, O: Sink>
         (OrTooLarge (T.held files.old.tx) (C.held files.old.cert)
         (ExplainsVerifying (P.held files.old.pages) search (T.held files.old.tx) (C.held files.old.cert)))) }
 
-    // A reader's fault is answered only where that reader failed.
+    // A device's fault is answered only where that device failed.
     ensures read_failed { IsErrOf result (CentreFault.Round round_fault.ReadFault) →
         HasFailed (P.failures files.old.pages) (P.failures files.new.pages) }
     ensures device_failed { IsErrOf result (CentreFault.File file_fault.Device) →
         HasFailed (T.failures files.old.tx) (T.failures files.new.tx)
         ⊎ HasFailed (C.failures files.old.cert) (C.failures files.new.cert) }
+    ensures write_failed { IsErrOf result (CentreFault.File file_fault.Write) →
+        HasFailed (O.failures out.old) (O.failures out.new) }
 {
     let PlanFiles { pages, tx, cert } = files;
     let pages = read_pages(alloc, pages)?;
@@ -82,7 +84,7 @@ pub fn run_verify<P: Source + Drop, T: Source + Drop, C: Source + Drop, O: Sink>
         cert.as_slice(),
         search,
     )?;
-    Ok(tell(out, "verified\n")?)
+    Ok(put_whole(out, b"verified\n")?)
 }
 
 // Whether a certificate shows for the round and the end the bound that is due beside so many batches.

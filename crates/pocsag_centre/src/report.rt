@@ -1,5 +1,5 @@
 ghost use Rattle.std.specs.Prelude.{◌≡◌, ◌≢◌, ◌++◌, IfErr, IfOk, IsErrOf, OnOk};
-ghost use Rattle.pocsag_words.specs.Devices.{HasFailed};
+ghost use Rattle.pocsag_words.specs.Devices.{CountsFailures, HasFailed};
 ghost use Rattle.pocsag_pages.specs.declared.fault.RoundFault.TheVariants as round_fault;
 ghost use Rattle.std.specs.List.{flat_map};
 ghost use Rattle.pocsag_plan.specs.Reports.{report_text};
@@ -9,7 +9,7 @@ ghost use Rattle.pocsag_centre.specs.Frames.{frame_text};
 ghost use Rattle.pocsag_centre.specs.FramesTold.{IsFrameReportOf, ReportedFrames};
 ghost use Rattle.pocsag_centre.specs.Lines.{below_text};
 ghost use Rattle.pocsag_centre.specs.Refusals.{OrDevice};
-ghost use Rattle.pocsag_centre.specs.Reporting.{ExplainsReporting, IsReportOf};
+ghost use Rattle.pocsag_centre.specs.Reports.{ExplainsReporting, IsReportOf};
 
 use crate::fault::CentreFault;
 use crate::frames::{FrameRoom, frames_of};
@@ -17,7 +17,7 @@ use crate::lines::tell_below;
 use crate::plan::bounded_file;
 use crate::round::{read_pages, round_of};
 use pocsag_plan::{Effort, Report, Search, bounded_plan, report};
-use pocsag_shell::{FileFault, tell};
+use pocsag_shell::{FileFault, tell_numbers};
 use pocsag_words::{Sink, Source};
 use std::alloc::Global;
 
@@ -90,9 +90,11 @@ pub fn run_report<P: Source, O: Sink>(
     ensures explained { P.tells → IfErr result (OrDevice (ExplainsReporting (P.held pages.old) search rate)) }
     ensures refused { IfErr result (λ e. e ≢ CentreFault.File file_fault.Write → out.new ≡ out.old) }
 
-    // The reader's fault is answered only where it failed.
+    // A device's fault is answered only where that device failed.
     ensures read_failed { IsErrOf result (CentreFault.Round round_fault.ReadFault) →
         HasFailed (P.failures pages.old) (P.failures pages.new) }
+    ensures write_failed { IsErrOf result (CentreFault.File file_fault.Write) →
+        HasFailed (O.failures out.old) (O.failures out.new) }
 {
     let file = read_pages(alloc, pages)?;
     let answered = report_file(alloc, file.as_slice(), rate, search)?;
@@ -112,9 +114,11 @@ pub fn run_frames<P: Source, O: Sink>(
     ensures explained { P.tells → IfErr result (OrDevice (ExplainsReporting (P.held pages.old) search rate)) }
     ensures refused { IfErr result (λ e. e ≢ CentreFault.File file_fault.Write → out.new ≡ out.old) }
 
-    // The reader's fault is answered only where it failed.
+    // A device's fault is answered only where that device failed.
     ensures read_failed { IsErrOf result (CentreFault.Round round_fault.ReadFault) →
         HasFailed (P.failures pages.old) (P.failures pages.new) }
+    ensures write_failed { IsErrOf result (CentreFault.File file_fault.Write) →
+        HasFailed (O.failures out.old) (O.failures out.new) }
 {
     let file = read_pages(alloc, pages)?;
     let answered = frames_file(alloc, file.as_slice(), rate, search)?;
@@ -122,12 +126,23 @@ pub fn run_frames<P: Source, O: Sink>(
 }
 
 /// Tells a report, and the bound where it is below the batches.
+#[tactic(auto, using(crate::proofs::ReportLines::report_numbered))]
 pub(crate) fn tell_report<O: Sink>(report: Report, bound: u32, out: &mut O) -> Result<(), FileFault>
     ensures told { O.tells → OnOk result
         (O.taken out.new ≡ O.taken out.old ++ report_text report ++ below_text report.batches bound) }
     ensures lost { IfErr result (λ e. e ≡ FileFault.Write) }
+    ensures failures { CountsFailures result (O.failures out.old) (O.failures out.new) }
 {
-    tell(out, report)?;
+    let numbers = [
+        ("pages ", report.pages as u64),
+        ("\ncodewords ", report.codewords as u64),
+        ("\nin_order ", report.in_order as u64),
+        ("\nbatches ", report.batches as u64),
+        ("\nidles ", report.idles),
+        ("\nbits ", report.bits),
+        ("\nairtime_ms ", report.airtime_ms),
+    ];
+    tell_numbers(out, &numbers, "\n")?;
     tell_below(report.batches, bound, out)
 }
 
@@ -137,6 +152,7 @@ pub(crate) fn tell_frames<O: Sink>(answered: &FrameReport, out: &mut O) -> Resul
         ++ below_text answered.now.report.batches answered.now.bound
         ++ flat_map frame_text answered.now.rooms.items) }
     ensures lost { IfErr result (λ e. e ≡ FileFault.Write) }
+    ensures failures { CountsFailures result (O.failures out.old) (O.failures out.new) }
 {
     tell_report(answered.report, answered.bound, out)?;
     for room in &answered.rooms {
@@ -149,15 +165,13 @@ pub(crate) fn tell_frames<O: Sink>(answered: &FrameReport, out: &mut O) -> Resul
 fn tell_frame<O: Sink>(room: &FrameRoom, out: &mut O) -> Result<(), FileFault>
     ensures told { O.tells → OnOk result (O.taken out.new ≡ O.taken out.old ++ frame_text room.now) }
     ensures lost { IfErr result (λ e. e ≡ FileFault.Write) }
+    ensures failures { CountsFailures result (O.failures out.old) (O.failures out.new) }
 {
-    let FrameRoom {
-        frame,
-        pages,
-        codewords,
-        room,
-    } = *room;
-    tell(
-        out,
-        format_args!("frame {frame} pages {pages} codewords {codewords} room {room}\n"),
-    )
+    let numbers = [
+        ("frame ", room.frame as u64),
+        (" pages ", room.pages as u64),
+        (" codewords ", room.codewords as u64),
+        (" room ", room.room as u64),
+    ];
+    tell_numbers(out, &numbers, "\n")
 }

@@ -1,10 +1,10 @@
 ghost use Rattle.std.specs.Prelude.{◌≡◌, ◌⊎◌, Err, Ok, IfErr, IfOk};
 ghost use Rattle.pocsag_words.specs.SliceSource.{rest_of};
 ghost use Rattle.pocsag_pages.specs.PageFile.{verdict};
-ghost use Rattle.pocsag_tree.specs.Spelling.{IsText};
+ghost use Rattle.pocsag_tree.specs.CertificateText.{IsText};
 ghost use Rattle.pocsag_tree.specs.Views.{bound_tree_of};
 ghost use Rattle.pocsag_words.specs.Devices.{HasFailed};
-ghost use Rattle.pocsag_centre.specs.Judging.{ExplainsCertificate};
+ghost use Rattle.pocsag_centre.specs.Judgements.{ExplainsCertificate};
 ghost use Rattle.pocsag_centre.specs.Refusals.{ExplainsRound};
 
 use pocsag_pages::{FILE_LIMIT, Round, RoundFault, read_round, read_whole};
@@ -22,7 +22,7 @@ pub(crate) fn read_pages<P: Source>(alloc: Global, pages: &mut P) -> Result<Vec<
 }
 
 // A source of the bytes of a page file. Where they are too many none of them is copied.
-pub(crate) fn page_source(pages: &[u8]) -> Result<SliceSource<'_>, RoundFault>
+fn page_source(pages: &[u8]) -> Result<SliceSource<'_>, RoundFault>
     ensures rest { IfOk result (λ source. rest_of source ≡ pages.now) }
     ensures too_large { IfErr result (λ fault. verdict pages.now ≡ Err fault) }
 {

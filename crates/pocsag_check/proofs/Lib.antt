@@ -1,10 +1,10 @@
-pub mod Bounding
-pub mod Crossing
+pub mod Bounds
+pub mod Crossings
 pub mod Prelude
+pub mod Refutations
 pub mod Refuted
-pub mod Refuting
+pub mod Rims
 pub mod RowChecks
 pub mod Spelled
 pub mod Tables
-pub mod Taking
-pub mod Turning
+pub mod WaysTaken

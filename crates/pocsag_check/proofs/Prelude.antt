@@ -1,9 +1,9 @@
 -- What several proofs of the crate import, passed on to all of them.
-pub use Rattle.pocsag_check.specs.Accepting.{Accepts, AcceptsEach, AcceptsWithin, IsAccepted}
+pub use Rattle.pocsag_check.specs.Acceptance.{Accepts, AcceptsEach, AcceptsWithin, IsAccepted}
 pub use Rattle.pocsag_pages.specs.declared.page.Page.{Page}
 pub use Rattle.pocsag_slots.specs.Arcs.{runs}
 pub use Rattle.pocsag_slots.specs.Loads.{AreClassesOf, IsAdmitted, limits_of_all, load}
-pub use Rattle.pocsag_slots.specs.Numbering.{finish_of, start_of}
+pub use Rattle.pocsag_slots.specs.Classes.{finish_of, start_of}
 unfoldable pub use Rattle.pocsag_slots.specs.Sums.{joined_below}
 pub use Rattle.pocsag_slots.specs.Sums.{holds}
 pub use Rattle.pocsag_slots.specs.Tours.{AsksForLast, IsTour, LastAs, LastIsIdle, LastIsWhole, Leads, idles}

@@ -5,9 +5,9 @@ use Rattle.pocsag_slots.specs.declared.step.Step.TheVariants.{Idle as Stay, Run}
 use Rattle.pocsag_slots.specs.declared.way.Way.TheVariants.{IdleIn, Late}
 use Rattle.pocsag_slots.proofs.CoverLemmas.{finish_below}
 use Rattle.pocsag_slots.proofs.Endings.{idles_last}
-use Rattle.pocsag_check.proofs.Crossing.{IsInside, crosses_or_stays}
-use Rattle.pocsag_check.proofs.Refuting.{AnyTaken, not_overloaded, admitted_below, admitted_from, admitted_narrowed}
-use Rattle.pocsag_check.proofs.Taking.{taken_way}
+use Rattle.pocsag_check.proofs.Crossings.{IsInside, crosses_or_stays}
+use Rattle.pocsag_check.proofs.Refutations.{AnyTaken, not_overloaded, admitted_below, admitted_from, admitted_narrowed}
+use Rattle.pocsag_check.proofs.WaysTaken.{taken_way}
 
 -- what a certain class has
 pub record IsCertain (some early late forced_early forced_late : Bool) : Type 0 where

@@ -5,7 +5,7 @@ use Rattle.std.proofs.Math.Seq.{drop-cons}
 use Rattle.std.proofs.lemmas.List.{drop_all}
 use Rattle.pocsag_tree.specs.declared.shape.Tree.{Tree}
 use Rattle.pocsag_tree.specs.Views.{bounds_of}
-use Rattle.pocsag_check.specs.Accepting.{AcceptsEachWithin}
+use Rattle.pocsag_check.specs.Acceptance.{AcceptsEachWithin}
 use Rattle.pocsag_tree.proofs.Counts.{count_of_bounds}
 
 pub row_long : (u : Bool) (k : Classes) (end : End) (b : ℕ) (l : Limits) (ws : List Way) (ts : BoundTrees) → AcceptsEach u k end b l ws ts →

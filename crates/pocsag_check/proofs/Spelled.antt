@@ -4,14 +4,14 @@ use Rattle.std.proofs.Common.{◌^◌}
 use Rattle.pocsag_words.specs.declared.ending.End.TheVariants as ends
 use Rattle.pocsag_tree.specs.Limits.{most_nodes, second_ranges}
 use Rattle.pocsag_tree.specs.BoundTrees.{all_nodes, all_nodes_in, closed_nodes, closed_nodes_in}
-use Rattle.pocsag_tree.specs.Spelling.{AreInRange, HasText, IsInRange}
+use Rattle.pocsag_tree.specs.CertificateText.{AreInRange, HasText, IsInRange}
 use Rattle.pocsag_slots.specs.declared.way.Way.TheVariants.{IdleIn, Early, Late}
 use Rattle.pocsag_slots.proofs.LoadLemmas.{count_few}
 use Rattle.pocsag_slots.proofs.Members.{held_some}
 use Rattle.pocsag_slots.proofs.WayLemmas.{classes_few, one_or_none}
-use Rattle.pocsag_check.proofs.Refuting.{low_set}
+use Rattle.pocsag_check.proofs.Refutations.{low_set}
 use Rattle.pocsag_check.proofs.RowChecks.{row_long}
-use Rattle.pocsag_check.proofs.Turning.{two_ways}
+use Rattle.pocsag_check.proofs.Rims.{two_ways}
 
 -- no more pages may start early than there are
 record AreCounted (k : Classes) (l : Limits) : Type 0 where

@@ -1,2 +1,2 @@
-pub mod Accepting
-pub mod Fitting
+pub mod Acceptance
+pub mod Fits

@@ -4,7 +4,7 @@ ghost use Rattle.pocsag_slots.specs.Sums.{holds};
 ghost use Rattle.pocsag_slots.specs.Tours.{AsksForLast};
 ghost use Rattle.pocsag_slots.specs.Ways.{class_certain, limits_below, limits_from, MayTake, narrowed_limits, ways_across};
 ghost use Rattle.pocsag_tree.specs.Views.{bound_tree_of, bounds_of};
-ghost use Rattle.pocsag_check.specs.Accepting.{AcceptsEachWithin, AcceptsWithin};
+ghost use Rattle.pocsag_check.specs.Acceptance.{AcceptsEachWithin, AcceptsWithin};
 
 use pocsag_slots::{
     CLASSES, Classes, Limits, Way, closing_ways, holds, is_certain, overloads, ways,

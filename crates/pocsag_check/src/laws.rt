@@ -5,12 +5,12 @@ ghost use Rattle.pocsag_pages.specs.declared.page.Page.{Page};
 ghost use Rattle.pocsag_pages.specs.Reading.{AreApart, IsLegalFor};
 ghost use Rattle.pocsag_tree.specs.Limits.{most_nodes, second_ranges};
 ghost use Rattle.pocsag_tree.specs.BoundTrees.{all_nodes, BoundTree, closed_nodes};
-ghost use Rattle.pocsag_tree.specs.Spelling.{HasText};
+ghost use Rattle.pocsag_tree.specs.CertificateText.{HasText};
 ghost use Rattle.pocsag_slots.specs.declared.class.Classes.{Classes};
 ghost use Rattle.pocsag_slots.specs.declared.limit.Limits.{Limits};
 ghost use Rattle.pocsag_slots.specs.Loads.{AreClassesOf};
-ghost use Rattle.pocsag_check.specs.Accepting.{Accepts, AcceptsRoot, IsAccepted};
-ghost use Rattle.pocsag_check.specs.Fitting.{Fits};
+ghost use Rattle.pocsag_check.specs.Acceptance.{Accepts, AcceptsRoot, IsAccepted};
+ghost use Rattle.pocsag_check.specs.Fits.{Fits};
 
 /// The limits of an accepted node are met by no transmission.
 pub fn accepted_nodes_refute()

@@ -3,7 +3,7 @@ ghost use Rattle.pocsag_pages.specs.Reading.{IsLegalList};
 ghost use Rattle.pocsag_slots.specs.Loads.{AreInOrder};
 ghost use Rattle.pocsag_tree.specs.Limits.{greatest_depth};
 ghost use Rattle.pocsag_tree.specs.Views.{bound_tree_of};
-ghost use Rattle.pocsag_check.specs.Accepting.{AcceptsWithin, IsAcceptedFor};
+ghost use Rattle.pocsag_check.specs.Acceptance.{AcceptsWithin, IsAcceptedFor};
 
 use crate::checker::{Claim, check_node};
 use pocsag_pages::Round;

@@ -5,9 +5,8 @@ use pocsag_centre::{
     report_file, run_check, run_frames, run_input, run_plan, run_report, run_verify, strict_file,
     verify_files,
 };
-use pocsag_pages::{FieldFault, RecordFault, RoundFault};
+use pocsag_pages::{FieldFault, QuoteFault, RecordFault, RoundFault};
 use pocsag_plan::{Effort, Search};
-use pocsag_quotes::QuoteFault;
 use pocsag_shell::{Failure, tell_fault};
 use pocsag_words::{End, MemorySink, MemorySource};
 use std::alloc::Global;

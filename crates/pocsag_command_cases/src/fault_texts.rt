@@ -1,13 +1,13 @@
 //! The text of every fault of a command, and the exit status behind it: 1 for what was refused, 3 for a device or memory.
 
+use pocsag_capture::CaptureFault;
 use pocsag_centre::CentreFault;
 use pocsag_decode::DecodeFault;
 use pocsag_journal::JournalFault;
 use pocsag_open::{OpenFault, Refusal, UndoneFault};
 use pocsag_pager::PagerFault;
-use pocsag_pages::{FieldFault, PageFault, RecordFault, RoundFault};
+use pocsag_pages::{FieldFault, PageFault, QuoteFault, RecordFault, RoundFault};
 use pocsag_plan::{AddFault, NotThere};
-use pocsag_quotes::QuoteFault;
 use pocsag_receiver::ReceiverFault;
 use pocsag_shell::{Failure, FileFault};
 use pocsag_show::Rows;
@@ -231,6 +231,21 @@ fn receiver(rt: HostRuntime) {
             (3, ReceiverFault::Pager(PagerFault::OutOfMemory), NO_MEMORY),
             (
                 1,
+                ReceiverFault::Capture(CaptureFault::TooLarge),
+                "the capture is too large",
+            ),
+            (
+                1,
+                ReceiverFault::Capture(CaptureFault::NoSuchTransmission { nth: 3, found: 2 }),
+                "transmission 3 of 2: the capture has no such transmission",
+            ),
+            (
+                3,
+                ReceiverFault::Capture(CaptureFault::OutOfMemory),
+                NO_MEMORY,
+            ),
+            (
+                1,
                 no_such_rows(&rt, 2, 2, 1),
                 "rows 2: the transmission has 1 batch",
             ),
@@ -329,6 +344,7 @@ fn refusals(rt: HostRuntime) {
             UndoneFault::SearchLimit { least: 2, found: 3 },
             LIMIT_REACHED,
         ),
+        (UndoneFault::FirstPage(2), "page 1 needs 2 batches"),
         (UndoneFault::OutOfMemory, NO_MEMORY),
     ];
     expect_texts(&rt, alloc, &undone);

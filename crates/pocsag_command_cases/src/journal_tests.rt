@@ -5,12 +5,12 @@ ghost use Rattle.std.specs.Prelude.{◌≡◌, [], ◌∷◌, ◌++◌, None, On
 ghost use Rattle.pocsag_words.specs.MemorySink.{taken_of};
 ghost use Rattle.pocsag_open.specs.Plans.{no_names, no_plans, placed_plan};
 
+use pocsag_core_cases::given::{Records, round_of_file};
 use pocsag_journal::{
     Disk, Journal, JournalFault, MemoryDisk, Replayed, first_line, read_journal, text_of_pages,
 };
 use pocsag_open::{OpenRound, Places, Planner, run_open_kept};
 use pocsag_plan::{Book, Effort};
-use pocsag_rounds::given::{Records, round_of_file};
 use pocsag_shell::{FileFault, Outputs};
 use pocsag_words::{DeviceFault, MemorySink, MemorySource};
 use std::alloc::Global;
@@ -154,6 +154,8 @@ const LINES: Lines = &[
     ),
     ("add,21,alpha,\"Bed 2, \"\"now\"\"\"\n", "ok 2\n", true),
     ("cancel,22\n", "refused: no such page\n", false),
+    ("sent,3\n", "refused: no such page\n", false),
+    ("sent,1\n", "ok 1\n", true),
     (
         "add,29,alpha,\"Fire\n",
         "refused: the line ends inside quotes\n",

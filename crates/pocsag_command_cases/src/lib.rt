@@ -3,6 +3,7 @@
 //! tables. It has no code but its tests.
 
 #[cfg(test)]
+mod capture_tests;
 mod centre_tests;
 #[cfg(test)]
 mod fault_texts;

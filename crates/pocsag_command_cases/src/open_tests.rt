@@ -242,6 +242,23 @@ const PLANS: Lines = &[
         "list",
         "address,kind,message\n5,tone0,\n13,tone0,\n21,tone0,\nok 3",
     ),
+    // A batch carries two pages of a tone in one frame.
+    ("plan,tx.bin,cert.bin,open,0", "refused: unknown edit"),
+    ("plan,full,cert.bin,open,1", "refused: cannot write"),
+    ("plan,tx.bin,cert.bin,open,1", "batches 1, sent 2"),
+    ("list", "address,kind,message\n21,tone0,\nok 1"),
+    ("sent,2", "refused: no such page"),
+    ("sent,1", "ok 0"),
+    // Sixteen codewords fill a batch from its first frame on.
+    (
+        "add,1,numeric,111111111111111111111111111111111111111111111111111111111111111111111111111",
+        "ok 1",
+    ),
+    (
+        "plan,tx.bin,cert.bin,open,1",
+        "refused: page 1 needs 2 batches",
+    ),
+    ("plan,tx.bin,cert.bin,open,2", "batches 2, sent 1"),
 ];
 
 const AFTER_PAGES: Lines = &[

@@ -3,11 +3,11 @@
 use pocsag_centre::{DEFAULT_LIMIT, plan_file};
 use pocsag_decode::Repaired;
 use pocsag_explain::run_explain;
+use pocsag_findings::Telling;
 use pocsag_plan::{Effort, Search};
 use pocsag_receiver::{run_decode, run_hear, run_show};
 use pocsag_shell::{Failure, tell_fault};
 use pocsag_show::{Rows, View};
-use pocsag_wording::Telling;
 use pocsag_words::{End, MemorySink, MemorySource};
 use std::alloc::Global;
 use std::process::Abort;

@@ -1,15 +1,15 @@
 //! File order, layouts of tours, and bytes.
 
+use crate::given::{
+    IDLE, LONE_TONE, ONES, PageRow, SECOND, Sent, TIGHT, cut, pages, transmission, words,
+};
+use crate::{THREE_PAGES_TIGHT, round_of, tour_of};
 use pocsag_batch::{
     FirstFault, Slots, first_stream, in_order_batches, lay_in_order, lay_out, order_of, write,
     write_slots,
 };
 use pocsag_decode::decode;
 use pocsag_pages::RoundFault;
-use pocsag_rounds::given::{
-    IDLE, LONE_TONE, ONES, PageRow, SECOND, Sent, TIGHT, cut, pages, transmission, words,
-};
-use pocsag_rounds::{THREE_PAGES_TIGHT, round_of, tour_of};
 use pocsag_words::{End, MemorySink, MemorySource, OutOfMemory, Word, WriteFault};
 use std::alloc::Global;
 

@@ -1,9 +1,9 @@
 //! Open rounds.
 
+use crate::given::{IDLE, LONE_TONE, PageRow, SECOND, Sent, transmission};
+use crate::round_of;
 use pocsag_pages::{Page, PageFault, Payload};
 use pocsag_plan::{AddFault, Book, BookFault, Bounded, Edit, NotThere, PlanFault};
-use pocsag_rounds::given::{IDLE, LONE_TONE, PageRow, SECOND, Sent, transmission};
-use pocsag_rounds::round_of;
 use pocsag_words::{End, MemorySink};
 use std::alloc::Global;
 use std::process::Abort;

@@ -1,10 +1,10 @@
 //! Worked examples of the search.
 
+use crate::given::tones;
+use crate::{has_page, round_of};
 use pocsag_branch::{FreeFault, SearchFault, near, search, search_freely};
 use pocsag_check::{check, check_open};
 use pocsag_pages::Round;
-use pocsag_rounds::given::tones;
-use pocsag_rounds::{has_page, round_of};
 use pocsag_slots::classes_of;
 use pocsag_tree::nodes;
 use pocsag_words::End;

@@ -1,7 +1,7 @@
 //! Worked examples of the checker.
 
+use crate::round_of;
 use pocsag_check::{accepts, check, check_open};
-use pocsag_rounds::round_of;
 use pocsag_slots::{all_limits, classes_of};
 use pocsag_tree::{Tree, read_certificate};
 use pocsag_words::{End, MemorySource};

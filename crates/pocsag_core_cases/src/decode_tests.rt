@@ -1,10 +1,10 @@
 //! The decoder and the listing.
 
-use pocsag_decode::{DecodeFault, Decoder, ListFault, decode, list, repair_all};
-use pocsag_rounds::given::{
+use crate::given::{
     ACROSS, DIGITS, IDLE, LONE_TONE, ONES, PageRow, SECOND, SYNC, Sent, TIGHT, bytes_of, cut,
     pages, transmission,
 };
+use pocsag_decode::{DecodeFault, Decoder, ListFault, decode, list, repair_all};
 use pocsag_text::pack_alpha;
 use pocsag_words::{MemorySink, OutOfMemory, address_word, message_word};
 use std::alloc::Global;

@@ -1,9 +1,9 @@
 //! Worked examples of choices of starts.
 
+use crate::given::tones;
+use crate::round_of;
 use pocsag_flow::{ChooseFault, choose, choose_from};
 use pocsag_pages::Round;
-use pocsag_rounds::given::tones;
-use pocsag_rounds::round_of;
 use pocsag_slots::{Choice, all_limits, classes_of, loads};
 use pocsag_words::End;
 use std::process::Abort;

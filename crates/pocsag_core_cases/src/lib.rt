@@ -1,6 +1,6 @@
 #![tactic(auto)]
-//! Tests of the public calls below the commands, written as tables, with the texts of faults and README's example. It has
-//! no code but its tests.
+//! Tests of the public calls below the commands, written as tables, with the texts of faults and README's example; and the
+//! worked rounds that they share with the tests of commands and the calls of `pocsag_trial`.
 
 #[cfg(test)]
 mod batch_tests;
@@ -16,6 +16,7 @@ mod decode_tests;
 mod fault_texts;
 #[cfg(test)]
 mod flow_tests;
+pub mod given;
 #[cfg(test)]
 mod page_tests;
 #[cfg(test)]
@@ -24,6 +25,7 @@ mod pager_tests;
 mod plan_tests;
 #[cfg(test)]
 mod readme;
+mod rounds;
 #[cfg(test)]
 mod show_tests;
 #[cfg(test)]
@@ -32,7 +34,11 @@ mod slots_tests;
 mod text_tests;
 #[cfg(test)]
 mod tour_tests;
+mod tours;
 #[cfg(test)]
 mod tree_tests;
 #[cfg(test)]
 mod word_tests;
+
+pub use rounds::{THREE_PAGES_TIGHT, has_page, ones, round_of};
+pub use tours::{NoTour, tour_of};

@@ -1,12 +1,12 @@
 //! Page files, rounds and pages.
 
+use crate::given::{PageRow, page, page_file, pages, tones};
+use crate::{THREE_PAGES_TIGHT, ones};
 use pocsag_batch::{FirstFault, first_stream};
 use pocsag_pages::{
     FieldFault, PageFault, Payload, RecordFault, Round, RoundFault, WholeFault,
     is_reserved_address, leading_len, only_row, page_fault, page_of_fields, read_round, read_whole,
 };
-use pocsag_rounds::given::{PageRow, page, page_file, pages, tones};
-use pocsag_rounds::{THREE_PAGES_TIGHT, ones};
 use pocsag_words::{DeviceFault, MemorySink, MemorySource, Source};
 use std::alloc::Global;
 

@@ -1,9 +1,9 @@
 //! The simulated pager.
 
-use pocsag_pager::{Pager, PagerFault, hear_all};
-use pocsag_rounds::given::{
+use crate::given::{
     ACROSS, DIGITS, IDLE, LONE_TONE, PageRow, SECOND, SYNC, Sent, cut, page, pages, transmission,
 };
+use pocsag_pager::{Pager, PagerFault, hear_all};
 
 // The page of `12345` for address 0.
 const ZERO: Sent = (16, IDLE, &[(0, 0), (1, DIGITS)]);

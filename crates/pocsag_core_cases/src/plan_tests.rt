@@ -1,10 +1,10 @@
 //! Plans of worked examples, as calls and as streams.
+use crate::given::{ONES, Records, Sent, TIGHT, page_file, round_of_file, transmission};
 use pocsag_check::{check, check_open};
 use pocsag_pages::RoundFault;
 use pocsag_plan::{
     PlanFault, StreamFault, plan, plan_always, plan_stream, plan_stream_always, report,
 };
-use pocsag_rounds::given::{ONES, Records, Sent, TIGHT, page_file, round_of_file, transmission};
 use pocsag_tree::{nodes, read_certificate};
 use pocsag_words::{End, MemorySink, MemorySource, OutOfMemory};
 use std::alloc::Global;

@@ -1,9 +1,7 @@
 //! Transmissions as they are shown: grids, drawings and listings.
 
+use crate::given::{ACROSS, DIGITS, IDLE, LONE_TONE, ONES, SECOND, Sent, TIGHT, cut, transmission};
 use pocsag_decode::DecodeFault;
-use pocsag_rounds::given::{
-    ACROSS, DIGITS, IDLE, LONE_TONE, ONES, SECOND, Sent, TIGHT, cut, transmission,
-};
 use pocsag_show::{Rows, ShowFault, View};
 use pocsag_words::MemorySink;
 use std::alloc::Global;

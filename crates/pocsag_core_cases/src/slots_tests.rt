@@ -1,6 +1,6 @@
 //! Worked examples of classes, ways and loads.
 
-use pocsag_rounds::round_of;
+use crate::round_of;
 use pocsag_slots::{
     Choice, Way, all_limits, carries, classes_of, closing_ways, holds, is_certain, least_load,
     loads, narrow, overloads, size, ways, with_member,

@@ -1,6 +1,6 @@
 //! Worked examples of tours.
 
-use pocsag_rounds::{NoTour, round_of, tour_of};
+use crate::{NoTour, round_of, tour_of};
 use pocsag_slots::{Choice, Step, classes_of};
 use pocsag_tour::{TourFault, has_run_outside, reached};
 use pocsag_words::End;

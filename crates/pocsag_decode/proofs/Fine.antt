@@ -14,7 +14,7 @@ use Rattle.pocsag_pages.proofs.Lengths.{words_long}
 use Rattle.pocsag_pager.proofs.WholeWords.{next_batch, one_more_word, words_split}
 use Rattle.pocsag_decode.specs.declared.fault.DecodeFault.{DecodeFault}
 use Rattle.pocsag_decode.specs.declared.fault.DecodeFault.TheVariants as fault
-use Rattle.pocsag_decode.specs.Judging.{AreFine, JudgesMore}
+use Rattle.pocsag_decode.specs.Judgements.{AreFine, JudgesMore}
 use Rattle.pocsag_decode.specs.Places.{AllMayStand, HasBadWord, index_at, is_idle, is_message, may_follow}
 use Rattle.pocsag_decode.proofs.Judgements.{none_good}
 use Rattle.pocsag_decode.proofs.WordByWord.{bad_codeword, bad_orphan, bad_stays, bad_sync, good_codeword, good_sync, may_codeword, may_sync}

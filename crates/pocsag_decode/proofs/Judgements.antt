@@ -11,7 +11,7 @@ use Rattle.pocsag_decode.specs.declared.fault.DecodeFault.{DecodeFault}
 use Rattle.pocsag_decode.specs.declared.fault.DecodeFault.TheVariants as fault
 use Rattle.pocsag_decode.specs.Faults.{words, HasFaultThere, HasFaultOfEnd, IsFaultless}
 use Rattle.pocsag_decode.specs.declared.state.Decoder.{Decoder}
-use Rattle.pocsag_decode.specs.Standing.{StandsAfter}
+use Rattle.pocsag_decode.specs.States.{StandsAfter}
 use Rattle.pocsag_decode.specs.Places.{is_message, index_at, may_follow, AllMayStand, HasBadWord}
 use Rattle.pocsag_decode.proofs.Preambles.{nil_or}
 use Rattle.pocsag_decode.proofs.Transmissions.{IsWhole}

@@ -1,4 +1,4 @@
-pub mod Feeding
+pub mod Pieces
 pub mod Fine
 pub mod Judgements
 pub mod Listings
@@ -6,9 +6,9 @@ pub mod OneFault
 pub mod Preambles
 pub mod Prefixes
 pub mod PageRows
-pub mod Relisting
+pub mod ListedFields
 pub mod Repairs
-pub mod Restoring
+pub mod Restoration
 pub mod Respelled
 pub mod SentBytes
 pub mod SpellablePages

@@ -17,7 +17,7 @@ use Rattle.pocsag_pager.proofs.WholeWords.{next_batch, words_split}
 use Rattle.pocsag_decode.specs.declared.open_page.OpenPage.{OpenPage}
 use Rattle.pocsag_decode.specs.declared.lister.Lister.{Lister}
 use Rattle.pocsag_decode.specs.Faults.{ReadsAs}
-use Rattle.pocsag_decode.specs.Growing.{closed, resumed}
+use Rattle.pocsag_decode.specs.OpenPages.{closed, resumed}
 use Rattle.pocsag_decode.specs.Lines.{text_in}
 use Rattle.pocsag_decode.specs.Listers.{rows_of_pages, still_listed}
 use Rattle.pocsag_decode.specs.Listing.{header, listing, record_of}

@@ -22,12 +22,12 @@ use Rattle.pocsag_pages.specs.Pages.{AreGood, IsRound, addresses_of, has_address
 use Rattle.pocsag_pages.specs.PageFile.{fault_after, is_header, page_of, page_of_fields, pages_of, rows_of, verdict}
 use Rattle.pocsag_pages.specs.PageList.{unless_empty}
 use Rattle.pocsag_pages.proofs.GoodPages.{good_page}
-use Rattle.pocsag_pages.proofs.Judging.{after_header, grown, grown_end, grown_on, judged, small_file}
+use Rattle.pocsag_pages.proofs.Judgements.{after_header, grown, grown_end, grown_on, judged, small_file}
 use Rattle.pocsag_pages.proofs.Spelled.{characters_spelled, digits_spelled, tone_spelled}
 use Rattle.pocsag_decode.specs.Listing.{header, kind_field, message_field}
 use Rattle.pocsag_decode.specs.PageFiles.{IsSpellable, IsOfText, page_file, page_record, whole_message}
 use Rattle.pocsag_decode.specs.PageFiles.IsOfText.{characters, digits, silent}
-use Rattle.pocsag_decode.proofs.Relisting.{characters_listed}
+use Rattle.pocsag_decode.proofs.ListedFields.{characters_listed}
 use Rattle.pocsag_decode.proofs.Respelled.{spaced_back}
 
 -- the record of a page spells it, in short fields

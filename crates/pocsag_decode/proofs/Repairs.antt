@@ -12,7 +12,7 @@ use Rattle.pocsag_pages.proofs.Lengths.{body_length}
 use Rattle.pocsag_pager.proofs.WholeWords.{words_small}
 use Rattle.pocsag_decode.specs.Carried.{unfinished}
 use Rattle.pocsag_decode.specs.Faults.{words}
-use Rattle.pocsag_decode.specs.Repairing.{AreRepaired, IsRepairOf, IsRepaired, differing_bits, differing_words, sync, no_sync, codeword, beyond}
+use Rattle.pocsag_decode.specs.Repairs.{AreRepaired, IsRepairOf, IsRepaired, differing_bits, differing_words, sync, no_sync, codeword, beyond}
 use Rattle.pocsag_decode.proofs.Preambles.{BeginsOther, Parts, after_is, parts}
 use Rattle.pocsag_decode.proofs.Transmissions.{four_bytes}
 

@@ -18,7 +18,7 @@ use Rattle.pocsag_pages.proofs.Readings.{plain_reads}
 use Rattle.pocsag_decode.specs.declared.open_page.OpenPage.{OpenPage}
 use Rattle.pocsag_decode.specs.Carried.{unfinished}
 use Rattle.pocsag_decode.specs.Faults.{words, ReadsAs}
-use Rattle.pocsag_decode.specs.Growing.{resumed, closed}
+use Rattle.pocsag_decode.specs.OpenPages.{resumed, closed}
 use Rattle.pocsag_pages.specs.Listable.{IsListable}
 use Rattle.pocsag_decode.specs.Places.{is_message, is_idle, may_follow, MayStandAt, AllMayStand}
 use Rattle.pocsag_decode.proofs.Preambles.{parts}

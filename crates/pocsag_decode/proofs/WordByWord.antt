@@ -12,9 +12,9 @@ use Rattle.pocsag_pages.specs.Reading.{frame_at}
 use Rattle.pocsag_decode.specs.declared.fault.DecodeFault.{DecodeFault}
 use Rattle.pocsag_decode.specs.declared.fault.DecodeFault.TheVariants as fault
 use Rattle.pocsag_decode.specs.declared.open_page.Growing.{Growing}
-use Rattle.pocsag_decode.specs.Growing.{resumed}
+use Rattle.pocsag_decode.specs.OpenPages.{resumed}
 use Rattle.pocsag_decode.specs.Places.{is_message, is_idle, index_at, before, may_follow, IsBad, no_sync, bad_word, orphan, MayStandAt, AllMayStand, HasBadWord, KeepsFrom}
-use Rattle.pocsag_decode.specs.Standing.{HasRead}
+use Rattle.pocsag_decode.specs.States.{HasRead}
 use Rattle.pocsag_pages.proofs.Lengths.{unsynced_codeword, unsynced_count, unsynced_more, unsynced_sync}
 
 before_lt : (j : ℕ) → 1 < j → before j < j

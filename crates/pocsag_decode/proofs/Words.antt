@@ -10,8 +10,8 @@ use Rattle.pocsag_decode.specs.declared.body.Body.{Body}
 use Rattle.pocsag_decode.specs.declared.carry.Carry.{Carry}
 use Rattle.pocsag_decode.specs.Carried.{carried, size_of, unfinished}
 use Rattle.pocsag_decode.specs.Places.{HasBadWord, KeepsFrom}
-use Rattle.pocsag_decode.specs.Standing.{HasRead, StandsIn}
-use Rattle.pocsag_decode.specs.Taking.{IsTaking, IsWantingOrBad}
+use Rattle.pocsag_decode.specs.States.{HasRead, StandsIn}
+use Rattle.pocsag_decode.specs.Intake.{IsTaking, IsWantingOrBad}
 use Rattle.pocsag_decode.proofs.WordByWord.{bad_stays, keeps_on}
 
 pub words_on : (Y Z : List ℕ) → words_of (Y ++ Z) ≡ words_of Y ++ words_of (unfinished Y ++ Z)

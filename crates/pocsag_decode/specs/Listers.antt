@@ -6,7 +6,7 @@ use Rattle.pocsag_words.specs.declared.codeword.Kind.{Kind}
 use Rattle.pocsag_pages.specs.declared.page.Page.{Page}
 use Rattle.pocsag_pages.specs.Listable.{IsListable}
 use Rattle.pocsag_decode.specs.declared.lister.Lister.{Lister}
-use Rattle.pocsag_decode.specs.Growing.{closed, resumed}
+use Rattle.pocsag_decode.specs.OpenPages.{closed, resumed}
 use Rattle.pocsag_decode.specs.Lines.{IsReady, text_in}
 use Rattle.pocsag_decode.specs.Listing.{record_of}
 

@@ -1,10 +1,10 @@
 ghost use Rattle.std.specs.Prelude.{◌≡◌, ◌≢◌, ◌↔◌, ℕ, ◌+◌, ◌*◌, ◌%◌, ◌^◌, ◌<◌, ◌≤◌, ◌∷◌, ◌++◌, [], length, is_some, IsTrue, IfOk, OnErr};
 ghost use Rattle.std.specs.Int.{from_be_bytes, w32};
 ghost use Rattle.pocsag_decode.specs.Carried.{carried, size_of};
-ghost use Rattle.pocsag_decode.specs.Growing.{closed};
+ghost use Rattle.pocsag_decode.specs.OpenPages.{closed};
 ghost use Rattle.pocsag_decode.specs.Places.{is_message};
-ghost use Rattle.pocsag_decode.specs.Standing.{StandsIn};
-ghost use Rattle.pocsag_decode.specs.Taking.{CountsBytes, CountsWord, ReadsWord, RefusesBytes, RefusesWord, StandsWith};
+ghost use Rattle.pocsag_decode.specs.States.{StandsIn};
+ghost use Rattle.pocsag_decode.specs.Intake.{CountsBytes, CountsWord, ReadsWord, RefusesBytes, RefusesWord, StandsWith};
 
 use crate::carry::Carry;
 use crate::fault::DecodeFault;

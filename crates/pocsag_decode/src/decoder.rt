@@ -3,7 +3,7 @@ ghost use Rattle.pocsag_pages.specs.Bytes.{after_preamble, leading};
 ghost use Rattle.pocsag_decode.specs.Carried.{size_of};
 ghost use Rattle.pocsag_decode.specs.Faults.{EndsOpen, HasFaultOfEnd, IsFaultless, ReadsAs, RefusesPiece};
 ghost use Rattle.pocsag_pages.specs.Listable.{IsListable};
-ghost use Rattle.pocsag_decode.specs.Standing.{HasStopped, StandsAfter};
+ghost use Rattle.pocsag_decode.specs.States.{HasStopped, StandsAfter};
 
 use crate::body::Body;
 use crate::fault::DecodeFault;

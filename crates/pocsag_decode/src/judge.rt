@@ -4,7 +4,7 @@ ghost use Rattle.pocsag_words.specs.Codeword.{IsCodeword};
 ghost use Rattle.pocsag_pages.specs.declared.page.Page.{Page};
 ghost use Rattle.pocsag_pages.specs.Bytes.{words_of};
 ghost use Rattle.pocsag_decode.specs.Faults.{HasFault, ReadsAs};
-ghost use Rattle.pocsag_decode.specs.Judging.{JudgesMore};
+ghost use Rattle.pocsag_decode.specs.Judgements.{JudgesMore};
 ghost use Rattle.pocsag_decode.specs.Places.{AllMayStand, HasBadWord, index_at};
 
 use crate::fault::DecodeFault;

@@ -9,10 +9,10 @@ ghost use Rattle.pocsag_pager.specs.Damage.{IsDamaged};
 ghost use Rattle.pocsag_pager.specs.Shown.{AreShown};
 ghost use Rattle.pocsag_decode.specs.Listing.{kind_field, message_field};
 ghost use Rattle.pocsag_decode.specs.PageFiles.{IsSpellable, page_file};
-ghost use Rattle.pocsag_decode.specs.Relisting.{IsSpelled};
-ghost use Rattle.pocsag_decode.specs.Repairing.{IsRepairOf};
+ghost use Rattle.pocsag_decode.specs.ListedFields.{IsSpelled};
+ghost use Rattle.pocsag_decode.specs.Repairs.{IsRepairOf};
 ghost use Rattle.pocsag_decode.specs.Faults.{HasFault, HasFaultThere, IsFaultless, ReadsAs};
-ghost use Rattle.pocsag_decode.specs.Standing.{StandsAfter};
+ghost use Rattle.pocsag_decode.specs.States.{StandsAfter};
 ghost use Rattle.pocsag_decode.specs.declared.state.Decoder.{Decoder};
 ghost use Rattle.pocsag_decode.specs.declared.fault.DecodeFault.{DecodeFault};
 

@@ -10,7 +10,7 @@ ghost use Rattle.pocsag_pages.specs.Listable.{IsListable};
 ghost use Rattle.pocsag_pages.specs.Plain.{pages_from};
 ghost use Rattle.pocsag_pages.specs.Reading.{frame_at};
 ghost use Rattle.pocsag_decode.specs.Faults.{ReadsAs, TellsFailures};
-ghost use Rattle.pocsag_decode.specs.Growing.{closed, resumed};
+ghost use Rattle.pocsag_decode.specs.OpenPages.{closed, resumed};
 ghost use Rattle.pocsag_decode.specs.Lines.{IsReady, text_in};
 ghost use Rattle.pocsag_decode.specs.Listers.{CanList, rows_of_pages, still_listed};
 ghost use Rattle.pocsag_decode.specs.Listing.{header, listing};

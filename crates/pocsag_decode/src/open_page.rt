@@ -3,7 +3,7 @@ ghost use Rattle.pocsag_words.specs.declared.codeword.Kind.{Kind};
 ghost use Rattle.pocsag_words.specs.Kinds.{IsInRange};
 ghost use Rattle.pocsag_pages.specs.Reading.{frame_at};
 ghost use Rattle.pocsag_decode.specs.Places.{is_message, is_idle};
-ghost use Rattle.pocsag_decode.specs.Growing.{resumed, closed};
+ghost use Rattle.pocsag_decode.specs.OpenPages.{resumed, closed};
 
 use pocsag_pages::{Page, Payload};
 use pocsag_words::Kind;

@@ -3,7 +3,7 @@ ghost use Rattle.std.specs.Prelude.{◌≡◌, ℕ, ◌+◌, ◌^◌, ◌<◌, �
 ghost use Rattle.std.specs.Int.{from_be_bytes, to_be_bytes, w32};
 ghost use Rattle.pocsag_pages.specs.Bytes.{Sent};
 ghost use Rattle.pocsag_pager.specs.Damage.{IsDamaged};
-ghost use Rattle.pocsag_decode.specs.Repairing.{Counts, IsRepaired, IsRepairOf};
+ghost use Rattle.pocsag_decode.specs.Repairs.{Counts, IsRepaired, IsRepairOf};
 
 use crate::laws::repair_restores;
 use crate::repaired::Repaired;

@@ -1,17 +1,18 @@
 -- `explain`: its verdict, which is that of `check`, the text that tells it, and why there is none.
-use Rattle.std.specs.Prelude.{◌≡◌, ℕ, Bool, List, ◌++◌, Ok}
+use Rattle.std.specs.Prelude.{◌≡◌, ℕ, Bool, true, false, List, ◌++◌, Ok}
+use Rattle.pocsag_words.specs.Devices.{TookPrefix}
 use Rattle.pocsag_words.specs.declared.ending.End.{End}
 use Rattle.pocsag_pages.specs.declared.page.Page.{Page}
 use Rattle.pocsag_pages.specs.PageFile.{verdict}
 use Rattle.pocsag_tree.specs.BoundTrees.{BoundTree}
-use Rattle.pocsag_tree.specs.Spelling.{IsText}
+use Rattle.pocsag_tree.specs.CertificateText.{IsText}
 use Rattle.pocsag_shell.specs.declared.fault.FileFault.TheVariants as file_fault
 use Rattle.pocsag_centre.specs.Commands.{Checked}
-use Rattle.pocsag_centre.specs.Judging.{ExplainsJudging, IsNotShown}
+use Rattle.pocsag_centre.specs.Judgements.{ExplainsJudging, IsNotShown}
 use Rattle.pocsag_centre.specs.declared.fault.CentreFault.{CentreFault}
 use Rattle.pocsag_centre.specs.declared.fault.CentreFault.TheVariants as fault
-use Rattle.pocsag_wording.specs.Beginnings.{TellsVerdict}
-use Rattle.pocsag_wording.specs.declared.form.Telling.{Telling}
+use Rattle.pocsag_findings.specs.Beginnings.{TellsVerdict}
+use Rattle.pocsag_findings.specs.declared.form.Telling.{Telling}
 
 -- The certificate shows its number of batches, with its end, for the round of the page file.
 pub record ShowsItsBatches (file certificate : List ℕ) : Type 0 where
@@ -34,6 +35,19 @@ pub record TookVerdict (telling : Telling) (is_shown : Bool) (certificate before
   pub text : List ℕ
   pub tells : TellsVerdict telling is_shown end batches text
   pub taken : after ≡ before ++ text
+
+-- What was taken more is a prefix of such a text, whose verdict is so of the page file and the certificate.
+pub record TookVerdictPart (telling : Telling) (file certificate before after : List ℕ) : Type 0 where
+  pub is_shown : Bool
+  pub shown : is_shown ≡ true → ShowsItsBatches file certificate
+  pub not_shown : is_shown ≡ false → DoesNotShow file certificate
+  pub end : End
+  pub batches : ℕ
+  pub tree : BoundTree
+  pub spelled : IsText end batches tree certificate
+  pub text : List ℕ
+  pub tells : TellsVerdict telling is_shown end batches text
+  pub part : TookPrefix before after text
 
 -- The page file is that of a round, and the certificate is a text of a tree.
 pub record CanBeJudged (file certificate : List ℕ) : Type 0 where

@@ -3,20 +3,20 @@ ghost use Rattle.pocsag_words.specs.Devices.{HasFailed};
 ghost use Rattle.pocsag_pages.specs.declared.fault.RoundFault.TheVariants as round_fault;
 ghost use Rattle.pocsag_tree.specs.declared.refusals.CertificateFault.TheVariants as tree_fault;
 ghost use Rattle.pocsag_tree.specs.Views.{bound_tree_of};
-ghost use Rattle.pocsag_check.specs.Accepting.{IsAcceptedFor};
+ghost use Rattle.pocsag_check.specs.Acceptance.{IsAcceptedFor};
 ghost use Rattle.pocsag_plan.specs.Plans.{NoneHasFewer};
 ghost use Rattle.pocsag_shell.specs.declared.fault.FileFault.TheVariants as file_fault;
 ghost use Rattle.pocsag_centre.specs.Commands.{Checked};
-ghost use Rattle.pocsag_centre.specs.Judging.{IsNotShown};
+ghost use Rattle.pocsag_centre.specs.Judgements.{IsNotShown};
 ghost use Rattle.pocsag_centre.specs.Refusals.{OrDevice};
-ghost use Rattle.pocsag_wording.specs.Beginnings.{TellsVerdict};
-ghost use Rattle.pocsag_explain.specs.Verdicts.{DoesNotShow, ExplainsUntold, ShowsItsBatches, TookVerdict};
+ghost use Rattle.pocsag_findings.specs.Beginnings.{TellsVerdict};
+ghost use Rattle.pocsag_explain.specs.Verdicts.{DoesNotShow, ExplainsUntold, ShowsItsBatches, TookVerdict, TookVerdictPart};
 
 use pocsag_centre::{CentreFault, CheckVerdict, certificate_of, round_of, verdict_on};
+use pocsag_findings::{Telling, explanation};
 use pocsag_pages::{Round, read_round};
 use pocsag_shell::put_whole;
 use pocsag_tree::{Certificate, read_certificate};
-use pocsag_wording::{Telling, explanation};
 use pocsag_words::{OutOfMemory, Sink, Source};
 use std::alloc::Global;
 
@@ -87,6 +87,8 @@ pub fn run_explain<P: Source, C: Source, O: Sink>(
         DoesNotShow (P.held pages.old) (C.held cert.old)) }
     ensures told { C.tells → O.tells → IfOk result (λ shown.
         TookVerdict telling shown (C.held cert.old) (O.taken out.old) (O.taken out.new)) }
+    ensures part { P.tells → C.tells → O.tells → IsErrOf result (CentreFault.File file_fault.Write) →
+        TookVerdictPart telling (P.held pages.old) (C.held cert.old) (O.taken out.old) (O.taken out.new) }
     ensures explained { P.tells → C.tells →
         IfErr result (OrDevice (ExplainsUntold (P.held pages.old) (C.held cert.old))) }
     ensures refused { IfErr result (λ e. e ≢ CentreFault.File file_fault.Write → out.new ≡ out.old) }

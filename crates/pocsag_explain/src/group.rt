@@ -2,10 +2,10 @@ use crate::explained::explain_file;
 use crate::words::{EXPLAIN, EXPLAIN_COMMANDS, wanted_telling};
 use clap::{ArgMatches, Error};
 use pocsag_centre::{CentreFault, note_record};
+use pocsag_findings::Telling;
 use pocsag_shell::{
     CERT, Call, Desk, Group, Names, PAGES, Role, STANDARD, Tables, put_whole, read_both,
 };
-use pocsag_wording::Telling;
 use std::alloc::AllocError;
 
 /// The command `explain`.

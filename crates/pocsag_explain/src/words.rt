@@ -1,8 +1,8 @@
 //! The words of `explain`, and what help says of them.
 
 use clap::ArgMatches;
+use pocsag_findings::Telling;
 use pocsag_shell::{CERT_PLACE, Content, FLAG, Given, LineWord, PAGES_PLACE, SVG, Shape};
-use pocsag_wording::Telling;
 
 pub(crate) const EXPLAIN: &str = "explain";
 

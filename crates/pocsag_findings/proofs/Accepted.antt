@@ -9,12 +9,12 @@ use Rattle.pocsag_slots.specs.Sums.{holds}
 use Rattle.pocsag_slots.specs.Tours.{AsksForLast}
 use Rattle.pocsag_slots.specs.Ways.{MayTake, class_certain, ways_across, ways_to_close, limits_below, limits_from, narrowed_limits}
 use Rattle.pocsag_tree.specs.BoundTrees.{depth_of, deepest}
-use Rattle.pocsag_tree.specs.Spelling.{IsSet}
-use Rattle.pocsag_check.specs.Accepting.{Accepts, AcceptsEach}
+use Rattle.pocsag_tree.specs.CertificateText.{IsSet}
+use Rattle.pocsag_check.specs.Acceptance.{Accepts, AcceptsEach}
 use Rattle.pocsag_findings.specs.declared.finding.Reached.TheVariants.{Below, From, By}
 use Rattle.pocsag_findings.specs.Findings.{findings_below, findings_by, findings_within, unjudged_below}
 use Rattle.pocsag_findings.specs.Rules.{fact_holds, fact_of, least_of_set, room_of}
-use Rattle.pocsag_findings.proofs.Holding.{all, each, overload_fact}
+use Rattle.pocsag_findings.proofs.AllHold.{all, each, overload_fact}
 use Rattle.pocsag_findings.proofs.Nodes.{held_close, held_cut, held_split}
 use Rattle.pocsag_findings.proofs.Ordered.{across_allowed, closing_allowed, ordered_below, ordered_from, ordered_narrowed}
 

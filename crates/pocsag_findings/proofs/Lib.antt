@@ -1,6 +1,7 @@
 pub mod Accepted
-pub mod Columns
-pub mod Holding
+pub mod Beginnings
+pub mod SlotColumns
+pub mod AllHold
 pub mod Leasts
 pub mod Narrows
 pub mod Nodes

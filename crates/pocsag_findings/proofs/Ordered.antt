@@ -10,7 +10,7 @@ use Rattle.pocsag_slots.specs.declared.way.Way.TheVariants.{IdleIn, Early, Late}
 use Rattle.pocsag_slots.specs.Loads.{AreInOrder}
 use Rattle.pocsag_slots.specs.Ways.{MayTake, limits_below, limits_from, narrowed_limits, ways_across, ways_to_close}
 use Rattle.pocsag_slots.proofs.WayLemmas.{All-one_or_none, ways_allowed}
-use Rattle.pocsag_check.proofs.Refuting.{high_set, low_set}
+use Rattle.pocsag_check.proofs.Refutations.{high_set, low_set}
 
 pub ordered_below : (k : Classes) (l : Limits) (c m : ℕ) → AreInOrder k l → slice_index l.lo c < m → m ≤ slice_index l.hi c →
     AreInOrder k (limits_below l c m)

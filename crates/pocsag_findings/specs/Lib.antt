@@ -1,3 +1,4 @@
+pub mod Beginnings
 pub mod Findings
 pub mod Rules
 pub mod Views

@@ -6,7 +6,7 @@ use Rattle.pocsag_words.specs.declared.ending.End.TheVariants as ends
 use Rattle.pocsag_slots.specs.declared.class.Classes.{Classes}
 use Rattle.pocsag_slots.specs.declared.limit.Limits.{Limits}
 use Rattle.pocsag_slots.specs.Loads.{least_of_class}
-use Rattle.pocsag_slots.specs.Numbering.{class_count, slot_count}
+use Rattle.pocsag_slots.specs.Classes.{class_count, slot_count}
 use Rattle.pocsag_slots.specs.Sums.{holds, joined_below, sum_below, sum_over}
 use Rattle.pocsag_slots.specs.Ways.{class_certain, ways_across, ways_to_close}
 use Rattle.pocsag_tree.specs.BoundTrees.{BoundTree, overload, split, cut, close, unexamined, children_count}

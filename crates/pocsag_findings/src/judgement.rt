@@ -1,6 +1,6 @@
 ghost use Rattle.std.specs.Prelude.{◌≡◌, ◌&&◌, ◌<◌, nat_lt, IfOk, slice_index};
 ghost use Rattle.pocsag_slots.specs.Loads.{AreInOrder};
-ghost use Rattle.pocsag_slots.specs.Numbering.{class_count};
+ghost use Rattle.pocsag_slots.specs.Classes.{class_count};
 ghost use Rattle.pocsag_slots.specs.Ways.{class_certain};
 ghost use Rattle.pocsag_tree.specs.Views.{bound_tree_of};
 ghost use Rattle.pocsag_findings.specs.declared.finding.Fact.TheVariants.{Split};

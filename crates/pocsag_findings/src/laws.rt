@@ -4,7 +4,7 @@ ghost use Rattle.std.specs.Prelude.{ℕ, ◌≤◌, false};
 ghost use Rattle.pocsag_words.specs.declared.ending.End.{End};
 ghost use Rattle.pocsag_slots.specs.declared.class.Classes.{Classes};
 ghost use Rattle.pocsag_tree.specs.BoundTrees.{BoundTree, depth_of};
-ghost use Rattle.pocsag_check.specs.Accepting.{AcceptsRoot};
+ghost use Rattle.pocsag_check.specs.Acceptance.{AcceptsRoot};
 ghost use Rattle.pocsag_findings.specs.Findings.{AllHold, findings_of};
 
 /// Of an accepted tree all that is found holds, however deep it is listed. So a tree of which something does not

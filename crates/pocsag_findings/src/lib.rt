@@ -1,13 +1,28 @@
 #![tactic(auto)]
-//! What a certificate shows, node by node: what each node states, and whether its own rule holds. A tree is
-//! accepted exactly where all of them do.
+//! What a certificate shows, node by node: what each node states, and whether its own rule holds. A tree is accepted
+//! exactly where all of them do. And the same in words: as an indented list, as JSON, and as a drawing.
 
+mod columns;
+mod drawing;
+mod explained;
+mod facts;
 mod finding;
+mod form;
 mod inquiry;
 mod judgement;
+mod kind;
 mod laws;
+mod limit;
+mod lines;
 mod listing;
+mod node_number;
+mod outline;
+mod sentences;
+mod sets;
+mod subject;
 
+pub use explained::explanation;
 pub use finding::{Column, Fact, Finding, Narrowed, Reached, Share};
+pub use form::Telling;
 pub use laws::{accepted_trees_hold, trees_that_hold_are_accepted};
 pub use listing::findings;

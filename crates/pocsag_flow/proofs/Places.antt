@@ -3,7 +3,7 @@ use Rattle.std.proofs.Common.{◌≡◌, ◌≢◌, ℕ, ◌+◌, ◌-◌, ◌*�
 use Rattle.std.proofs.lemmas.Bool.{cases_lt}
 use Rattle.std.proofs.lemmas.Bool.Decides.{nat_tests}
 use Rattle.pocsag_slots.specs.declared.limit.Limits.{Limits}
-use Rattle.pocsag_slots.specs.Numbering.{class_frame, class_rest, finish_of, start_of}
+use Rattle.pocsag_slots.specs.Classes.{class_frame, class_rest, finish_of, start_of}
 use Rattle.pocsag_flow.specs.declared.network.Network.{Network}
 use Rattle.pocsag_flow.specs.declared.network.Progress.{Progress}
 use Rattle.pocsag_flow.specs.Search.{EndsElsewhere, HasEndAt, LeadsInto, Leaves}

@@ -5,7 +5,7 @@ use Rattle.std.proofs.lemmas.Bool.Decides.{nat_tests}
 use Rattle.pocsag_slots.specs.declared.class.Classes.{Classes}
 use Rattle.pocsag_slots.specs.Cover.{covered}
 use Rattle.pocsag_slots.specs.Loads.{class_load, class_load_over, load}
-use Rattle.pocsag_slots.specs.Numbering.{class_frame, class_rest, finish_of, start_of}
+use Rattle.pocsag_slots.specs.Classes.{class_frame, class_rest, finish_of, start_of}
 use Rattle.pocsag_slots.specs.Sums.{holds, sum_over}
 use Rattle.pocsag_slots.proofs.CoverLemmas.{covered_split}
 use Rattle.pocsag_slots.proofs.LeastLemmas.{class_load_over_is, members_more, members_none}

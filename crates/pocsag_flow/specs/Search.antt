@@ -3,7 +3,7 @@ use Rattle.std.specs.Prelude.{◌≡◌, ◌≢◌, ℕ, ◌+◌, ◌*◌, ◌<�
 use Rattle.pocsag_slots.specs.declared.class.Classes.{Classes}
 use Rattle.pocsag_slots.specs.declared.limit.Limits.{Limits}
 use Rattle.pocsag_slots.specs.Loads.{AreInOrder, IsWithin, load}
-use Rattle.pocsag_slots.specs.Numbering.{finish_of, start_of}
+use Rattle.pocsag_slots.specs.Classes.{finish_of, start_of}
 use Rattle.pocsag_slots.specs.Sums.{holds}
 use Rattle.pocsag_flow.specs.declared.network.Network.{Network}
 use Rattle.pocsag_flow.specs.declared.network.Progress.{Progress}

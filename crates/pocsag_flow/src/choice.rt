@@ -1,7 +1,7 @@
 ghost use Rattle.std.specs.Prelude.{◌≡◌, ◌≢◌, ℕ, ◌+◌, ◌*◌, ◌^◌, ◌<◌, ◌≤◌, IfErr, IfNone, IfOk, IfSome, length, OnOk, slice_index};
 ghost use Rattle.pocsag_slots.specs.Loads.{AreInOrder, IsAdmitted, IsWithin, Overloads};
-ghost use Rattle.pocsag_tree.specs.Spelling.{IsSet};
-ghost use Rattle.pocsag_flow.specs.Choosing.{IsBelowLeast, overload, set_of};
+ghost use Rattle.pocsag_tree.specs.CertificateText.{IsSet};
+ghost use Rattle.pocsag_flow.specs.Choices.{IsBelowLeast, overload, set_of};
 ghost use Rattle.pocsag_flow.specs.Search.{IsLoaded, same_slot};
 
 use crate::fault::ChooseFault;

@@ -1,5 +1,5 @@
 ghost use Rattle.std.specs.Prelude.{◌≡◌, ℕ, ◌<◌, ◌≤◌, false, true, slice_index};
-ghost use Rattle.pocsag_slots.specs.Numbering.{finish_of, start_of};
+ghost use Rattle.pocsag_slots.specs.Classes.{finish_of, start_of};
 ghost use Rattle.pocsag_slots.specs.Sums.{holds};
 ghost use Rattle.pocsag_flow.specs.Search.{EndsElsewhere, HasEndAt, LeadsInto, MayPush, Pushes, StaysInside};
 

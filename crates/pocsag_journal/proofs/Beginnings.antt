@@ -2,7 +2,7 @@
 use Rattle.std.proofs.Common.{◌≡◌, ◌≢◌, inl, inr, ℕ, Bool, true, false, List, [], ◌++◌, sym, ap, ◌∙◌, true≢false}
 use Rattle.std.proofs.lemmas.List.{append-nil}
 use Rattle.csv.specs.Writing.{default_writer, row_text}
-use Rattle.pocsag_edits.specs.Runs.{first_record}
+use Rattle.pocsag_journal.specs.Runs.{first_record}
 use Rattle.pocsag_journal.specs.Journals.{IsBegun, IsFirstCut}
 
 -- what is before the first line's end, and is not all of it

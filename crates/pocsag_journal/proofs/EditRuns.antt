@@ -1,10 +1,11 @@
 -- Runs of edits.
-use Rattle.std.proofs.Common.{◌≡◌, ℕ, List, [], ◌∷◌, ◌++◌, refl, sym, ap, ◌∙◌, subst}
+use Rattle.std.proofs.Common.{◌≡◌, ℕ, List, [], ◌∷◌, ◌++◌, arith, drop, refl, sym, ap, ◌∙◌, subst}
 use Rattle.std.specs.Prelude.{Option, Some, None, Result, Ok}
+use Rattle.std.proofs.lemmas.Fmt.{decimal_injective}
 use Rattle.pocsag_pages.specs.PageFile.{Row}
 use Rattle.pocsag_pages.specs.declared.page.Page.{Page}
 use Rattle.pocsag_plan.specs.OpenRound.{without}
-use Rattle.pocsag_edits.specs.Runs.{Asked, IsDone, IsEdit, IsRun, add, asked_of, cancel, clear}
+use Rattle.pocsag_journal.specs.Runs.{Asked, IsDone, IsEdit, IsRun, add, asked_of, cancel, clear, sent}
 
 ok_is : {A E : Type 0} (r : Result A E) (a b : A) → r ≡ Ok a → r ≡ Ok b → a ≡ b
 ok_is r a b d e = cc (sym d ∙ e)
@@ -20,6 +21,9 @@ done_once (Some (add a k m)) before after other p q =
 done_once (Some (cancel a)) before after other p q =
     let same = some_is _ p.page.address q.page.address p.spelled q.spelled in
     p.rest ∙ ap (λ (address : ℕ). without before address) same ∙ sym q.rest
+done_once (Some (sent n)) before after other p q =
+    let same = decimal_injective p.count q.count (omega (arith, p.spelled.small)) (omega (arith, q.spelled.small)) (sym p.spelled.spelled ∙ q.spelled.spelled) in
+    p.rest ∙ ap (λ (k : ℕ). drop k before) same ∙ sym q.rest
 done_once (Some clear) before after other p q = p ∙ sym q
 
 -- an edit leads to one list

@@ -1,7 +1,7 @@
 -- One content more joins those that a disk in memory had.
 use Rattle.std.proofs.Common.{◌≡◌, ◌⊎◌, inl, inr, ⊎_elim, ℕ, zero, suc, ◌≤◌, List, [], ◌∷◌, ◌++◌, length, drop, Vec, sym, ◌∙◌, subst, arith, refl, length-append}
 use Rattle.std.specs.declared.alloc.Global.{Global}
-use Rattle.pocsag_edits.specs.Moments.{Elapses}
+use Rattle.pocsag_journal.specs.Moments.{Elapses}
 use Rattle.pocsag_journal.specs.Past.{HadBeen, HeldSince}
 
 abbrev Contents : Type 0

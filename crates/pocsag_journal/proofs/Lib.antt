@@ -1,12 +1,21 @@
 mod Beginnings
-pub mod Counting
+pub mod ByteCounts
+pub mod Counts
 pub mod EditRuns
+pub mod Fields
 mod Kept
+pub mod KeptPages
+pub mod LineFeeds
 pub mod LineLengths
+pub mod Moments
 pub mod Prefixes
+pub mod Quotes
 pub mod Readings
-pub mod Replaying
+pub mod Reasons
+pub mod Refusals
+pub mod Replays
+pub mod RowTexts
 pub mod Spaces
-pub mod Standing
-pub mod Tearing
+pub mod Strays
 pub mod TextLines
+pub mod TornLines

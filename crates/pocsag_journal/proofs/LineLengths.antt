@@ -1,9 +1,11 @@
 -- How long the text of an edit is.
 use Rattle.std.proofs.Common.{◌≡◌, ℕ, ◌+◌, ◌*◌, ◌≤◌, Bool, true, false, cond, List, [], ◌∷◌, ◌++◌, length, arith, refl, sym, ap, subst}
 use Rattle.std.specs.Prelude.{Option, Some, None, Result, Ok, Err, codes, ◌||◌, nat_eq, nat_lt}
+use Rattle.std.specs.Fmt.{decimal}
 use Rattle.std.specs.Str.{bytes_eq}
 use Rattle.std.proofs.lemmas.Bool.{or_parts}
 use Rattle.std.proofs.lemmas.Bool.Decides.{nat_tests}
+use Rattle.std.proofs.lemmas.Fmt.{length-decimal-le}
 use Rattle.std.proofs.lemmas.List.{append-nil, length-append}
 use Rattle.std.proofs.lemmas.Slice.Eq.{bytes_eq-Decides}
 use Rattle.csv.specs.Writing.{default_writer, field_text, fields_text, is_blank, row_text}
@@ -17,7 +19,7 @@ use Rattle.pocsag_pages.specs.Pages.{is_reserved}
 use Rattle.pocsag_pages.specs.declared.fault.FieldFault.{FieldFault}
 use Rattle.pocsag_pages.specs.declared.fault.FieldFault.TheVariants as field
 use Rattle.pocsag_pages.specs.declared.page.Page.{Page}
-use Rattle.pocsag_edits.specs.Runs.{Asked, IsDone, IsEdit, add, asked_of, cancel, clear}
+use Rattle.pocsag_journal.specs.Runs.{Asked, IsDone, IsEdit, add, asked_of, cancel, clear, sent}
 use Rattle.pocsag_journal.specs.Growth.{kept_line_limit}
 
 -- the fields of an edit
@@ -143,6 +145,11 @@ done : {P : Type 0} (t : Bool) (asked : Asked) (before after : List Page) → (t
 done true asked before after here d = here refl d
 done false asked before after here d = absurd d
 
+one_done : {P : Type 0} (t : Bool) (asked : Asked) (others : Option Asked) (before after : List Page) →
+    (t ≡ true → IsDone (Some asked) before after → P) → (IsDone others before after → P) → IsDone (cond t (Some asked) others) before after → P
+one_done true asked others before after here more d = here refl d
+one_done false asked others before after here more d = more d
+
 -- *Length of a line*
 pub line_length : (row : Row) (before after : List Page) → IsEdit row before after → length (row_text default_writer row) ≤ kept_line_limit
 unfolding asked_of fields_text is_blank
@@ -152,11 +159,18 @@ line_length (w ∷ []) before after d =
     (λ t made. subst (λ (x : List ℕ). length (row_text default_writer (x ∷ [])) ≤ kept_line_limit)
     (sym ((bytes_eq-Decides w (codes "clear")).0 t)) (omega arith)) d
 line_length (w ∷ a ∷ []) before after d =
-    done (bytes_eq w (codes "cancel")) (cancel a) before after
+    one_done (bytes_eq w (codes "cancel")) (cancel a) _ before after
     (λ t made.
     let short = address_length a made.page.address made.spelled in
     let six : length w ≡ 6 = ap length ((bytes_eq-Decides w (codes "cancel")).0 t) in
-    omega (arith, two_length w a, short, six)) d
+    omega (arith, two_length w a, short, six))
+    (done (bytes_eq w (codes "sent")) (sent a) before after
+    (λ t made.
+    let long : length (decimal made.count) ≤ 10 =
+    length-decimal-le 10 made.count (omega arith) (omega (arith, made.spelled.small)) (omega (arith, made.spelled.small)) in
+    let same : length a ≡ length (decimal made.count) = ap length made.spelled.spelled in
+    let four : length w ≡ 4 = ap length ((bytes_eq-Decides w (codes "sent")).0 t) in
+    omega (arith, two_length w a, long, same, four))) d
 line_length (w ∷ a ∷ k ∷ []) before after d = absurd d
 line_length (w ∷ a ∷ k ∷ m ∷ []) before after d =
     done (bytes_eq w (codes "add")) (add a k m) before after

@@ -5,8 +5,8 @@ use Rattle.std.specs.List.{AllByRecursion}
 use Rattle.csv.specs.Machine.{line_feed}
 use Rattle.csv.specs.Writing.{default_writer, row_text}
 use Rattle.pocsag_pages.specs.PageFile.{Row}
-use Rattle.pocsag_edits.specs.Spelling.{HasNoLineFeed, IsWholeLine}
-use Rattle.pocsag_edits.specs.Runs.{first_record}
+use Rattle.pocsag_journal.specs.LineTexts.{HasNoLineFeed, IsWholeLine}
+use Rattle.pocsag_journal.specs.Runs.{first_record}
 use Rattle.pocsag_journal.specs.Journals.{IsLine, IsRead, ReadsFirst, journal_text, rows_text}
 use Rattle.pocsag_journal.proofs.TextLines.{first_line}
 use Rattle.pocsag_journal.proofs.Readings.{one_reading, read_on}

@@ -10,9 +10,9 @@ use Rattle.csv.specs.Writing.{default_writer, fields_text, is_blank, read_back, 
 use Rattle.csv.specs.declared.parser.State.TheVariants as st
 use Rattle.csv.proofs.RoundTrip.{read-write}
 use Rattle.pocsag_pages.specs.PageFile.{Row}
-use Rattle.pocsag_edits.specs.Spelling.{HasNoLineFeed, IsWholeLine}
-use Rattle.pocsag_edits.proofs.LineFeeds.{none_found}
-use Rattle.pocsag_edits.specs.Runs.{first_record}
+use Rattle.pocsag_journal.specs.LineTexts.{HasNoLineFeed, IsWholeLine}
+use Rattle.pocsag_journal.proofs.LineFeeds.{none_found}
+use Rattle.pocsag_journal.specs.Runs.{first_record}
 use Rattle.pocsag_journal.specs.Journals.{IsLine, rows_text}
 
 -- two texts that begin with a line each and are equal begin with the same line

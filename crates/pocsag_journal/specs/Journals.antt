@@ -5,8 +5,8 @@ use Rattle.csv.specs.Writing.{default_writer, row_text}
 use Rattle.pocsag_pages.specs.PageFile.{Row}
 use Rattle.pocsag_pages.specs.declared.page.Page.{Page}
 use Rattle.pocsag_decode.specs.PageFiles.{page_record}
-use Rattle.pocsag_edits.specs.Spelling.{HasNoLineFeed, IsWholeLine}
-use Rattle.pocsag_edits.specs.Runs.{IsEdit, IsRun, first_record}
+use Rattle.pocsag_journal.specs.LineTexts.{HasNoLineFeed, IsWholeLine}
+use Rattle.pocsag_journal.specs.Runs.{IsEdit, IsRun, first_record}
 
 -- The most bytes of a journal that is read.
 abbrev pub journal_limit : ℕ

@@ -1,8 +1,15 @@
+pub mod Asks
 pub mod Crashes
+pub mod Edited
 pub mod Faults
 pub mod Growth
 pub mod Journals
-pub mod Keeping
+pub mod Keepers
+pub mod LineTexts
 pub mod MemoryDisk
+pub mod Moments
 pub mod Past
+pub mod Quotes
 pub mod Restarts
+pub mod Runs
+pub mod Views

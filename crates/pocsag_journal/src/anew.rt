@@ -5,12 +5,12 @@ ghost use Rattle.pocsag_decode.specs.PageFiles.{whole_message};
 ghost use Rattle.pocsag_journal.specs.Faults.{ExplainsText, IsUnspelled};
 ghost use Rattle.pocsag_journal.specs.Journals.{AddsLine, ListsPages, add_record};
 
+use crate::edit::edit_row;
 use crate::fault::JournalFault;
 use crate::lines::is_one_line;
 use crate::text::{first_line, row_line};
 use csv::ByteRecord;
 use pocsag_decode::{kind_of_page, message_of};
-use pocsag_edits::edit_row;
 use pocsag_pages::Page;
 use pocsag_plan::Book;
 use pocsag_words::OutOfMemory;

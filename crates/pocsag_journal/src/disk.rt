@@ -1,6 +1,6 @@
 ghost use Rattle.std.specs.Prelude.{◌≡◌, ◌≤◌, ◌++◌, ℕ, List, OnOk};
 ghost use Rattle.pocsag_words.specs.Devices.{CountsFailures, Delivers};
-ghost use Rattle.pocsag_edits.specs.Moments.{Elapses, IsSafe};
+ghost use Rattle.pocsag_journal.specs.Moments.{Elapses, IsSafe};
 ghost use Rattle.pocsag_journal.specs.Crashes.{IsTorn, LeavesAfter, LeavesOr};
 
 use pocsag_words::DeviceFault;

@@ -1,19 +1,19 @@
 ghost use Rattle.std.specs.Prelude.{◌≡◌, ◌⊎◌, IfErr, IfOk};
-ghost use Rattle.pocsag_edits.specs.Moments.{IsSafe, LeavesOnly};
+ghost use Rattle.pocsag_journal.specs.Moments.{IsSafe, LeavesOnly};
 ghost use Rattle.pocsag_journal.specs.Crashes.{RestartsAs};
 ghost use Rattle.pocsag_journal.specs.Faults.{ExplainsAnew};
 ghost use Rattle.pocsag_journal.specs.Journals.{ListsPages};
-ghost use Rattle.pocsag_journal.specs.Keeping.{IsMeasured, counted_of, disk_of, journal_length};
+ghost use Rattle.pocsag_journal.specs.Views.{IsMeasured, counted_of, disk_of, journal_length};
 
 use crate::anew::text_of_pages;
 use crate::disk::Disk;
 use crate::fault::JournalFault;
+use crate::keeper::Keeper;
 use crate::lines::is_one_line;
 use crate::replay::JOURNAL_LIMIT;
 use crate::sizes::Sizes;
 use crate::text::row_line;
 use csv::ByteRecord;
-use pocsag_edits::Keeper;
 use pocsag_plan::Book;
 use pocsag_shell::FileFault;
 use std::alloc::Global;
@@ -73,7 +73,7 @@ impl<D: Disk + Drop> Keeper for Journal<D> {
     ghost use Rattle.pocsag_journal.specs.Crashes.{RestartsAs};
     ghost use Rattle.pocsag_journal.specs.Growth.{SettlesAs};
     ghost use Rattle.pocsag_journal.specs.Journals.{journal_limit};
-    ghost use Rattle.pocsag_journal.specs.Keeping.{IsHeld, counted_of, disk_of};
+    ghost use Rattle.pocsag_journal.specs.Views.{IsHeld, counted_of, disk_of};
     ghost use Rattle.pocsag_journal.specs.Restarts.{held_restarts};
 
     ghost tells = { D.tells };

@@ -1,11 +1,15 @@
-ghost use Rattle.std.specs.Prelude.{◌≡◌, ◌≤◌, ◌⊎◌, ℕ, List, [], ◌∷◌, ◌++◌, length};
+ghost use Rattle.std.specs.Prelude.{List, [], length, ℕ, ◌++◌, ◌∷◌, ◌≡◌, ◌≢◌, ◌≤◌, ◌⊎◌};
 ghost use Rattle.std.specs.List.{AllByRecursion};
 ghost use Rattle.csv.specs.Writing.{default_writer, row_text};
 ghost use Rattle.pocsag_pages.specs.PageFile.{Row};
 ghost use Rattle.pocsag_pages.specs.declared.page.Page.{Page};
-ghost use Rattle.pocsag_edits.specs.Runs.{IsEdit, IsRun};
+ghost use Rattle.pocsag_journal.specs.Runs.{IsEdit, IsRun};
 ghost use Rattle.pocsag_journal.specs.Growth.{kept_line_limit};
 ghost use Rattle.pocsag_journal.specs.Journals.{IsBadLine, IsBegun, IsLine, IsRead, ReadsFirst, journal_text};
+ghost use Rattle.pocsag_journal.specs.LineTexts.{IsUnread};
+ghost use Rattle.pocsag_journal.specs.declared.refusal.Refusal.{Refusal};
+
+use crate::refusal::{Refusal, UndoneFault};
 
 /// Bytes read as one list of records at most, with one torn end, and only where they begin with the first line or are a part of
 /// it; and where the records are a run, no line is bad.
@@ -35,4 +39,11 @@ pub fn a_prefix_is_read()
 pub fn lines_are_short()
     ensures { (row : Row) (before after : List Page) →
         IsEdit row before after → length (row_text default_writer row) ≤ kept_line_limit }
+{}
+
+/// A text is no record for one reason at most, want of memory aside.
+#[tactic(auto, using(crate::proofs::Reasons::one_reason))]
+pub fn texts_have_one_reason()
+    ensures { (text : List ℕ) (why other : Refusal) → IsUnread text why → IsUnread text other →
+        why ≢ Refusal.Undone UndoneFault.OutOfMemory → other ≢ Refusal.Undone UndoneFault.OutOfMemory → why ≡ other }
 {}

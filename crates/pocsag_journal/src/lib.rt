@@ -1,25 +1,35 @@
 #![tactic(auto)]
-//! The journal of an open round: the text of its edits, and what reading that text gives, whole or cut. It knows no
-//! file: it reads a source, and writes to a disk that tells its bytes.
+//! The edits of an open round: what each of its lines asks for, and the edit that a record makes of its pages. And the
+//! journal that keeps them: their text, and what reading it gives, whole or cut. It knows no file: it reads a source, and
+//! writes to a disk that tells its bytes.
 
 mod anew;
 mod disk;
+mod edit;
+mod edits;
 mod fault;
 mod journal;
+mod keeper;
 mod laws;
 mod lines;
 mod list;
 mod memory_disk;
+mod quote;
+mod refusal;
 mod replay;
 mod sizes;
 mod text;
 
 pub use anew::text_of_pages;
 pub use disk::Disk;
+pub use edit::{edit_row, sent_row};
+pub use edits::{Line, line_of, record_of};
 pub use fault::JournalFault;
 pub use journal::Journal;
-pub use laws::{a_prefix_is_read, journals_read_as_one, lines_are_short};
+pub use keeper::{Keeper, NoKeeper};
+pub use laws::{a_prefix_is_read, journals_read_as_one, lines_are_short, texts_have_one_reason};
 pub use list::list_journal;
 pub use memory_disk::MemoryDisk;
+pub use refusal::{Refusal, UndoneFault};
 pub use replay::{JOURNAL_LIMIT, Replayed, read_journal};
 pub use text::first_line;

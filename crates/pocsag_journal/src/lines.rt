@@ -1,5 +1,5 @@
 ghost use Rattle.std.specs.Prelude.{◌≡◌, ◌↔◌, ◌++◌, IfNone, IfSome, IsTrue};
-ghost use Rattle.pocsag_edits.specs.Spelling.{HasNoLineFeed, IsWholeLine};
+ghost use Rattle.pocsag_journal.specs.LineTexts.{HasNoLineFeed, IsWholeLine};
 
 use memchr::memchr;
 

@@ -1,5 +1,5 @@
 ghost use Rattle.std.specs.Prelude.{◌≡◌, ◌++◌, List, length, OnErr, OnOk};
-ghost use Rattle.pocsag_edits.specs.Moments.{Elapses};
+ghost use Rattle.pocsag_journal.specs.Moments.{Elapses};
 ghost use Rattle.pocsag_journal.specs.Past.{HeldSince};
 
 use crate::disk::Disk;
@@ -113,7 +113,7 @@ impl Disk for MemoryDisk {
     ghost use Rattle.std.specs.Prelude.{◌↔◌, ℕ, IsErr};
     ghost use Rattle.std.proofs.Common.{inl};
     ghost use Rattle.pocsag_words.specs.Devices.{CountsFailures, one_more};
-    ghost use Rattle.pocsag_edits.specs.Moments.{IsSafe};
+    ghost use Rattle.pocsag_journal.specs.Moments.{IsSafe};
     ghost use Rattle.pocsag_journal.specs.MemoryDisk.{disk_failures, disk_held, disk_syncs, settlings_left};
     ghost use Rattle.pocsag_journal.specs.Past.{only_bytes};
 

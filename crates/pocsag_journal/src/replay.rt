@@ -2,14 +2,14 @@ ghost use Rattle.std.specs.Prelude.{◌≡◌, ◌≤◌, ◌++◌, ℕ, List, [
 ghost use Rattle.csv.specs.Writing.{default_writer, row_text};
 ghost use Rattle.pocsag_pages.specs.PageFile.{Row};
 ghost use Rattle.pocsag_pages.specs.declared.page.Page.{Page};
-ghost use Rattle.pocsag_edits.specs.Runs.{IsRun, first_record};
+ghost use Rattle.pocsag_journal.specs.Runs.{IsRun, first_record};
 ghost use Rattle.pocsag_journal.specs.Faults.{ExplainsReplay, IsTold, IsToldOf};
 ghost use Rattle.pocsag_journal.specs.Journals.{IsFirstCut, IsRead, MakesLine, Replays, ReplaysAs, journal_limit};
 
+use crate::edit::edit_row;
 use crate::fault::JournalFault;
 use crate::lines::split_line;
 use crate::text::{first_line, row_line};
-use pocsag_edits::edit_row;
 use pocsag_pages::{only_row, read_whole};
 use pocsag_plan::Book;
 use pocsag_words::{OutOfMemory, Source};

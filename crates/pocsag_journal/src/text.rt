@@ -1,7 +1,7 @@
 ghost use Rattle.std.specs.Prelude.{◌≡◌, IfOk};
 ghost use Rattle.csv.specs.Records.{fields_of};
 ghost use Rattle.csv.specs.Writing.{default_writer, row_text};
-ghost use Rattle.pocsag_edits.specs.Runs.{first_record};
+ghost use Rattle.pocsag_journal.specs.Runs.{first_record};
 
 use csv::{ByteRecord, Writer};
 use pocsag_words::OutOfMemory;

@@ -23,8 +23,8 @@ use Rattle.pocsag_pages.specs.declared.fault.RoundFault.{RoundFault}
 use Rattle.pocsag_pages.specs.PageFile.{◌>>=◌, Row, address_of, at_most, decimal, fault_after, fault_if, kind_of_field, of_record, of_text, or_fault, page_of, page_of_fields, pages_of, payload_of, round_of_rows, verdict, with_page}
 use Rattle.pocsag_pages.specs.PageList.{unless_empty}
 use Rattle.pocsag_pages.specs.Pages.{AreGood, IsRound, has_address, is_bad_payload, is_reserved, last_address, page_fault_of, page_limit}
-use Rattle.pocsag_pages.proofs.Growing.{good_none, good_push}
-use Rattle.pocsag_pages.proofs.Judging.{grown, judged, or_later}
+use Rattle.pocsag_pages.proofs.GrownRounds.{good_none, good_push}
+use Rattle.pocsag_pages.proofs.Judgements.{grown, judged, or_later}
 use Rattle.pocsag_decode.proofs.SpellablePages.{of_files, one_name, page_at, paged, value_of}
 
 -- what bits are cut in twenties has twenty bits

@@ -1,17 +1,19 @@
 -- The pages of an open round may stand in a round, and are spellable.
-use Rattle.std.proofs.Common.{◌≡◌, ◌⊎◌, inl, inr, ℕ, ◌<◌, ◌≤◌, Bool, true, false, cond, not, List, [], ◌∷◌, ◌++◌, length, nat_eq, All, sym, subst, arith, length-append}
+use Rattle.std.proofs.Common.{◌≡◌, ◌⊎◌, inl, inr, ℕ, ◌<◌, ◌≤◌, Bool, true, false, cond, not, List, [], ◌∷◌, ◌++◌, drop, length, nat_eq, All, sym, subst, arith, length-append}
 use Rattle.std.specs.Prelude.{Option, Some, None, Ok, filter}
 use Rattle.std.specs.List.{AllByRecursion, IsDistinct}
-use Rattle.std.proofs.lemmas.List.Elements.{All-filter, All-nil, All-push}
+use Rattle.std.proofs.lemmas.List.{length-drop}
+use Rattle.std.proofs.lemmas.List.Elements.{All-drop, All-filter, All-nil, All-push}
 use Rattle.pocsag_pages.specs.PageFile.{Row, verdict}
 use Rattle.pocsag_pages.specs.Pages.{AreGood, IsRound, addresses_of, page_fault_of, page_limit}
 use Rattle.pocsag_pages.specs.declared.page.Page.{Page}
-use Rattle.pocsag_pages.proofs.Growing.{good_none, good_push}
+use Rattle.pocsag_pages.proofs.FirstPages.{good_last}
+use Rattle.pocsag_pages.proofs.GrownRounds.{good_none, good_push}
 use Rattle.pocsag_decode.specs.PageFiles.{IsSpellable}
 use Rattle.pocsag_plan.specs.OpenRound.{without}
-use Rattle.pocsag_plan.proofs.Refusing.{may_follow}
-use Rattle.pocsag_edits.specs.Edited.{IsAdded, IsCancelled}
-use Rattle.pocsag_edits.specs.Runs.{Asked, IsDone, IsEdit, IsRun, add, asked_of, cancel, clear}
+use Rattle.pocsag_plan.proofs.Refusals.{may_follow}
+use Rattle.pocsag_journal.specs.Edited.{IsAdded, IsCancelled, IsSent}
+use Rattle.pocsag_journal.specs.Runs.{Asked, IsDone, IsEdit, IsRun, add, asked_of, cancel, clear, sent}
 use Rattle.pocsag_laws.specs.OpenRounds.{IsOpenRound}
 use Rattle.pocsag_laws.proofs.FileRounds.{file_round}
 use Rattle.pocsag_decode.proofs.SpellablePages.{page_spellable, round_spellable}
@@ -88,6 +90,17 @@ cancelled_keeps spelling before after d =
       spellable = λ all. subst (All IsSpellable) (sym d.rest) (All-filter _ IsSpellable before all);
     }
 
+sent_keeps : (count : List ℕ) (before after : List Page) → IsSent count before after → KeepsBoth before after
+sent_keeps count before after d =
+    record {
+      stand = λ was.
+          let few = was.few in
+          let left : MayStand (drop d.count before) =
+          record { few = omega (arith, length-drop d.count before, few); good = good_last d.count before was.good } in
+          subst MayStand (sym d.rest) left;
+      spellable = λ all. subst (All IsSpellable) (sym d.rest) (All-drop IsSpellable d.count before all);
+    }
+
 none_stand : MayStand []
 none_stand = record { few = omega arith; good = good_none }
 
@@ -95,6 +108,7 @@ done_keeps : (asked : Option Asked) (before after : List Page) → IsDone asked 
 done_keeps None before after d = absurd d
 done_keeps (Some (add address kind message)) before after d = added_keeps address kind message before after d
 done_keeps (Some (cancel address)) before after d = cancelled_keeps address before after d
+done_keeps (Some (sent count)) before after d = sent_keeps count before after d
 done_keeps (Some clear) before after d =
     record {
       stand = λ was. subst MayStand (sym d) none_stand;

@@ -2,7 +2,7 @@
 use Rattle.std.specs.Prelude.{◌≡◌, ◌⊎◌, ℕ, List, [], Ok}
 use Rattle.pocsag_pages.specs.PageFile.{Row, verdict}
 use Rattle.pocsag_pages.specs.declared.page.Page.{Page}
-use Rattle.pocsag_edits.specs.Runs.{IsRun}
+use Rattle.pocsag_journal.specs.Runs.{IsRun}
 
 -- Pages of an open round: a run of edits leads to them from no pages, or from those of a page file.
 pub record IsOpenRound (pages : List Page) : Type 0 where

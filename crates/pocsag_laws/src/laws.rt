@@ -1,4 +1,4 @@
-ghost use Rattle.std.specs.Prelude.{ℕ, ◌+◌, ◌<◌, ◌≤◌, ◌≡◌, List, ◌∷◌, ◌++◌, length, replicate, take, All, Bool, filter, Ok};
+ghost use Rattle.std.specs.Prelude.{ℕ, ◌+◌, ◌<◌, ◌≤◌, ◌≡◌, List, [], ◌∷◌, ◌++◌, length, replicate, take, All, Bool, filter, Ok};
 ghost use Rattle.pocsag_words.specs.Frame.{airtime, transmission_bits};
 ghost use Rattle.pocsag_words.specs.Kinds.{idle_word};
 ghost use Rattle.pocsag_words.specs.declared.ending.End.{End};
@@ -8,7 +8,11 @@ ghost use Rattle.pocsag_pages.specs.PageFile.{Row, page_of_fields, verdict};
 ghost use Rattle.pocsag_pages.specs.Pages.{IsRound};
 ghost use Rattle.pocsag_pages.specs.Reading.{AreApart, IsLegalList};
 ghost use Rattle.pocsag_decode.specs.PageFiles.{IsSpellable, page_file};
-ghost use Rattle.pocsag_edits.specs.Runs.{IsEdit, IsRun};
+ghost use Rattle.pocsag_journal.specs.Runs.{IsEdit, IsRun};
+ghost use Rattle.pocsag_capture.specs.Bits.{capture_bits};
+ghost use Rattle.pocsag_capture.specs.Caught.{HasCaught};
+ghost use Rattle.pocsag_capture.specs.Receptions.{IsQuiet};
+ghost use Rattle.pocsag_capture.specs.declared.reception.Reception.{Reception};
 ghost use Rattle.pocsag_laws.specs.FewestBatches.{AreFewest, AreSendable};
 ghost use Rattle.pocsag_laws.specs.OpenRounds.{IsOpenRound};
 
@@ -93,4 +97,17 @@ pub fn pages_of_open_rounds_are_spellable()
     ensures round { (pages : List Page) → IsOpenRound pages → 0 < length pages → IsRound pages }
     ensures again { (pages : List Page) → IsOpenRound pages → 0 < length pages →
         verdict (page_file pages) ≡ Ok pages }
+{}
+
+/// Nothing is caught of noise alone: there is no reception.
+pub fn noise_shows_nothing()
+    ensures { (capture : List ℕ) (receptions : List Reception) (ps : List Page) →
+        IsQuiet (capture_bits capture) 0 (length (capture_bits capture)) → HasCaught capture receptions ps →
+        (receptions ≡ []) × (ps ≡ []) }
+{}
+
+/// A capture has one list of receptions and of pages.
+pub fn captures_say_one_thing()
+    ensures { (capture : List ℕ) (rs ss : List Reception) (ps qs : List Page) →
+        HasCaught capture rs ps → HasCaught capture ss qs → (rs ≡ ss) × (ps ≡ qs) }
 {}

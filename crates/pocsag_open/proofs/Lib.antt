@@ -1,6 +1,7 @@
+pub mod Fronts
 pub mod Plans
-pub mod Reopening
+pub mod Reopened
 pub mod SeenLines
 pub mod Sessions
 pub mod Survival
-pub mod Telling
+pub mod Told

@@ -7,10 +7,11 @@ use Rattle.pocsag_plan.specs.declared.search.Effort.{Effort}
 use Rattle.pocsag_plan.specs.declared.fault.PlanFault.TheVariants as planning
 use Rattle.pocsag_plan.specs.declared.fault.StreamFault.{StreamFault}
 use Rattle.pocsag_plan.specs.declared.fault.StreamFault.TheVariants as streaming
-use Rattle.pocsag_plan.specs.BookPlans.{ExplainsBookStream}
+use Rattle.pocsag_plan.specs.declared.fault.UnsentFront.TheVariants as front
+use Rattle.pocsag_plan.specs.BookPlans.{ExplainsBookFront, ExplainsBookStream}
 use Rattle.pocsag_plan.specs.Plans.{IsStopped}
 use Rattle.pocsag_plan.specs.Streams.{WritesAllOf}
-use Rattle.pocsag_open.specs.Plans.{ExplainsUndone, plan_limit, undone_of}
+use Rattle.pocsag_open.specs.Plans.{ExplainsFrontUndone, ExplainsUndone, plan_limit, plan_search, undone_of}
 
 -- outputs that were empty hold what was written
 pub all_held : (Holds : List ℕ → List ℕ → Type 0) (tx tx_after cert cert_after : List ℕ) → tx ≡ [] → cert ≡ [] →
@@ -33,3 +34,13 @@ explains effort end pages limit (streaming.Plan planning.OutOfMemory) e h = h.1
 explains effort end pages limit (streaming.Round f) e h = h.1
 explains effort end pages limit (streaming.Transmission f) e h = tt
 explains effort end pages limit (streaming.Certificate f) e h = tt
+
+-- and so does that of a stream of a front
+pub explains_front : (effort : Effort) (end : End) (most : ℕ) (pages : List Page) (f : StreamFault) →
+    ExplainsBookFront (plan_search effort end) pages most (front.Stream f) → ExplainsFrontUndone effort end most pages (undone_of f)
+explains_front effort end most pages (streaming.Plan planning.BadLimit) h = absurd (h (record { some = omega arith; few = omega arith }))
+explains_front effort end most pages (streaming.Plan (planning.SearchLimit stop)) h = (h.0, h.2, (bound_tree_of stop.tree, h.3))
+explains_front effort end most pages (streaming.Plan planning.OutOfMemory) h = h.1
+explains_front effort end most pages (streaming.Round f) h = h.1
+explains_front effort end most pages (streaming.Transmission f) h = tt
+explains_front effort end most pages (streaming.Certificate f) h = tt

@@ -2,7 +2,7 @@
 use Rattle.std.proofs.Common.{◌≡◌, ◌≢◌, ℕ, List, [], ◌∷◌, ◌++◌, length, sym, ap, ◌∙◌, arith, append_assoc}
 use Rattle.std.proofs.lemmas.List.{length_push}
 use Rattle.csv.specs.Machine.{line_feed}
-use Rattle.pocsag_edits.specs.Spelling.{HasNoLineFeed}
+use Rattle.pocsag_journal.specs.LineTexts.{HasNoLineFeed}
 use Rattle.pocsag_open.specs.Lines.{IsByteKept, IsSeen}
 use Rattle.pocsag_open.specs.declared.lines.LineRead.{LineRead}
 use Rattle.pocsag_open.specs.declared.lines.LineRead.TheVariants as found

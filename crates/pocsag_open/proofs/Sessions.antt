@@ -1,20 +1,20 @@
 -- The replies to lines, one after another.
 use Rattle.std.proofs.Common.{◌≡◌, inl, inr, ℕ, List, [], ◌∷◌, ◌++◌, refl, sym, ap, ◌∙◌, subst, Bor, append_assoc, append-nil}
-use Rattle.std.specs.Prelude.{Option, None}
+use Rattle.std.specs.Prelude.{Option, Some, None}
 use Rattle.pocsag_words.specs.declared.ending.End.{End}
 use Rattle.pocsag_pages.specs.PageFile.{Row}
 use Rattle.pocsag_pages.specs.declared.page.Page.{Page}
 use Rattle.pocsag_plan.specs.declared.search.Effort.{Effort}
-use Rattle.pocsag_edits.specs.Asks.{AsksNone, AsksPlan, IsAskedBy, list_record}
-use Rattle.pocsag_edits.specs.Runs.{Asked, IsDone, IsEdit, asked_of, first_record}
-use Rattle.pocsag_edits.specs.declared.edits.Line.{Line}
-use Rattle.pocsag_edits.specs.declared.edits.Line.TheVariants as line
-use Rattle.pocsag_edits.specs.declared.refusal.Refusal.TheVariants as refusal
-use Rattle.pocsag_edits.specs.declared.refusal.UndoneFault.{UndoneFault}
-use Rattle.pocsag_edits.specs.declared.refusal.UndoneFault.TheVariants as undone
+use Rattle.pocsag_journal.specs.Asks.{AsksNone, AsksPlan, IsAskedBy, list_record}
+use Rattle.pocsag_journal.specs.Runs.{Asked, IsDone, IsEdit, asked_of, first_record}
+use Rattle.pocsag_journal.specs.declared.edits.Line.{Line}
+use Rattle.pocsag_journal.specs.declared.edits.Line.TheVariants as line
+use Rattle.pocsag_journal.specs.declared.refusal.Refusal.TheVariants as refusal
+use Rattle.pocsag_journal.specs.declared.refusal.UndoneFault.{UndoneFault}
+use Rattle.pocsag_journal.specs.declared.refusal.UndoneFault.TheVariants as undone
 use Rattle.pocsag_open.specs.Lines.{AreLines, IsFirstLine}
-use Rattle.pocsag_open.specs.Plans.{ExplainsUndone, PlacedPlan}
-use Rattle.pocsag_open.specs.Replies.{AreReplies, IsEditReply, IsLineReply, IsPlanRefused, IsRefusalDue, IsReply, IsSession, TellsAndPlaces, edited, refused}
+use Rattle.pocsag_open.specs.Plans.{ExplainsPlanUndone, PlacedPlan}
+use Rattle.pocsag_open.specs.Replies.{AreReplies, IsEditReply, IsFrontReply, IsLineReply, IsPlanRefused, IsRefusalDue, IsReply, IsSession, TellsAndPlaces, edited, front_refused, front_sent, refused, sent_first}
 
 -- one line more, and its reply
 pub one_reply : (Tells : Type 0) (effort : Effort) (pending line rest input : List ℕ) (before now between : List Page)
@@ -58,39 +58,42 @@ pub no_edit : (row : Row) → None ≡ asked_of row → (pages after : List Page
 no_edit row e pages after = subst (λ (o : Option Asked). IsDone o pages after → ⊥) e (λ d. d)
 
 -- what asks for a plan asks neither for the list nor for what the first line of a journal asks for
-plan_or_list : (end : End) (tx cert : List ℕ) (row : Row) → AsksPlan end tx cert row → row ≡ list_record → ⊥
-plan_or_list end tx cert row (inl e) h = cc (e, h)
-plan_or_list end tx cert row (inr e) h = cc (e.1, h)
+plan_or_list : (end : End) (most : Option ℕ) (tx cert : List ℕ) (row : Row) → AsksPlan end most tx cert row → row ≡ list_record → ⊥
+plan_or_list end None tx cert row (inl e) h = cc (e, h)
+plan_or_list end None tx cert row (inr e) h = cc (e.1, h)
+plan_or_list end (Some b) tx cert row e h = cc (e.2, h)
 
-plan_or_heading : (end : End) (tx cert : List ℕ) (row : Row) → AsksPlan end tx cert row → row ≡ first_record → ⊥
-plan_or_heading end tx cert row (inl e) h = cc (e, h)
-plan_or_heading end tx cert row (inr e) h = cc (e.1, h)
+pub plan_or_heading : (end : End) (most : Option ℕ) (tx cert : List ℕ) (row : Row) → AsksPlan end most tx cert row → row ≡ first_record → ⊥
+plan_or_heading end None tx cert row (inl e) h = cc (e, h)
+plan_or_heading end None tx cert row (inr e) h = cc (e.1, h)
+plan_or_heading end (Some b) tx cert row e h = cc (e.2, h)
 
 -- nor does a line that asks for none of these
 pub other_none : (asking : Line) (row : Row) → (asking ≡ line.List → ⊥) →
-    ((tx cert : Bor (List ℕ)) (end : End) → asking ≡ line.Plan tx cert end → ⊥) → (asking ≡ line.Journal → ⊥) →
+    ((tx cert : Bor (List ℕ)) (end : End) (most : Option ℕ) → asking ≡ line.Plan tx cert end most → ⊥) → (asking ≡ line.Journal → ⊥) →
     IsAskedBy asking row → AsksNone row
 other_none (line.Add a k m) row l p j h = h
 other_none (line.Cancel a) row l p j h = h
+other_none (line.Sent n) row l p j h = h
 other_none line.List row l p j h = absurd (l refl)
-other_none (line.Plan tx cert end) row l p j h = absurd (p tx cert end refl)
+other_none (line.Plan tx cert end most) row l p j h = absurd (p tx cert end most refl)
 other_none line.Clear row l p j h = h
 other_none line.Journal row l p j h = absurd (j refl)
 other_none line.Unknown row l p j h = h
 
 -- a reason that applies to the plan is due where it is refused
-pub plan_due : (effort : Effort) (end : End) (tx cert : List ℕ) (row : Row) (pages : List Page) (fault : UndoneFault) →
-    AsksPlan end tx cert row → None ≡ asked_of row → ExplainsUndone effort end pages fault →
+pub plan_due : (effort : Effort) (end : End) (most : Option ℕ) (tx cert : List ℕ) (row : Row) (pages : List Page) (fault : UndoneFault) →
+    AsksPlan end most tx cert row → None ≡ asked_of row → ExplainsPlanUndone effort end most pages fault →
     IsRefusalDue effort row pages (refusal.Undone fault)
-plan_due effort end tx cert row pages fault asks e explained =
+plan_due effort end most tx cert row pages fault asks e explained =
     let why : IsPlanRefused effort row pages (refusal.Undone fault) =
-    record { end = end; tx = tx; cert = cert; asks = asks; fault = fault; names = refl; explained = explained } in
+    record { end = end; at_most = most; tx = tx; cert = cert; asks = asks; fault = fault; names = refl; explained = explained } in
     record {
       edit = inr (λ after d. no_edit row e pages after d);
       reason = inr (inr why);
-      list = λ h. absurd (plan_or_list end tx cert row asks h);
-      plan = λ other first second a t c. why;
-      heading = plan_or_heading end tx cert row asks;
+      list = λ h. absurd (plan_or_list end most tx cert row asks h);
+      plan = λ other its first second a t c. why;
+      heading = plan_or_heading end most tx cert row asks;
     }
 
 -- want of memory is due where the list is refused
@@ -101,7 +104,7 @@ list_due effort row pages asks e =
       edit = inr (λ after d. no_edit row e pages after d);
       reason = inr (inl asks);
       list = λ h. refl;
-      plan = λ end tx cert a t c. absurd (plan_or_list end tx cert row a asks);
+      plan = λ end most tx cert a t c. absurd (plan_or_list end most tx cert row a asks);
       heading = λ h. cc (asks, h);
     }
 
@@ -115,7 +118,16 @@ edit_reply Tells effort row before after told none (inr h) =
       edit = h.1.1;
       reason = inl h.1.2;
       list = λ (e : row ≡ list_record). absurd (none.list e);
-      plan = λ end tx cert a t c. absurd (none.plan end tx cert a t c);
+      plan = λ end most tx cert a t c. absurd (none.plan end most tx cert a t c);
       heading = none.heading;
     } in
     refused h.1.0 due h.0 h.1.3 refl
+
+-- the reply to a record that asks for a plan of a front
+pub front_reply : (Tells : Type 0) (effort : Effort) (end : End) (most : ℕ) (tx cert : List ℕ) (row : Row) (before after : List Page)
+    (told : List ℕ) (placed : List PlacedPlan) → AsksPlan end (Some most) tx cert row → None ≡ asked_of row →
+    IsFrontReply Tells effort end most tx cert before after told placed → IsReply Tells effort row before after told placed
+front_reply Tells effort end most tx cert row before after told placed asks e (front_sent count batches bound sent is left t n) =
+    sent_first end most tx cert count batches bound sent asks is left t n
+front_reply Tells effort end most tx cert row before after told placed asks e (front_refused fault explained same t n) =
+    refused (refusal.Undone fault) (plan_due effort end (Some most) tx cert row before fault asks e explained) same t n

@@ -5,11 +5,11 @@ use Rattle.std.specs.Prelude.{OnErr, Result, Ok, Err}
 use Rattle.pocsag_words.specs.Devices.{TookPrefix}
 use Rattle.pocsag_pages.specs.declared.page.Page.{Page}
 use Rattle.pocsag_plan.specs.declared.search.Effort.{Effort}
-use Rattle.pocsag_open.specs.Answers.{pages_answer}
+use Rattle.pocsag_journal.specs.Keepers.{ReadsAsEither}
 use Rattle.pocsag_open.specs.Lines.{AreLines, IsFirstLine}
 use Rattle.pocsag_open.specs.Plans.{PlacedPlan}
-use Rattle.pocsag_open.specs.Replies.{AreReplies, IsLineReply, IsSession, TellsAndPlaces, edited, read}
-use Rattle.pocsag_open.specs.Survival.{AreFirstLines, IsCutShort, IsEditLine, ReadsAfterLines, ReadsOrEdited, RepliesTo, Survives, TookPartOf, begun, between, untold, within}
+use Rattle.pocsag_open.specs.Replies.{AreReplies, IsLineReply, IsSession, TellsAndPlaces}
+use Rattle.pocsag_open.specs.Survival.{AreFirstLines, IsCutShort, ReadsAfterLines, ReadsOrReplied, RepliesTo, Survives, TookPartOf, begun, between, untold, within}
 
 pub on_err : {X E : Type 0} (r : Result X E) (P Q : Type 0) → (P → Q) → OnErr r P → OnErr r Q
 on_err (Ok x) P Q f h = tt
@@ -24,61 +24,68 @@ took_part before after due is so took =
     sym took.1 ∙ ap (λ (k : ℕ). take k (before ++ due)) (sym all) ∙ take-append-add before due n in
     inr (due, take n due, drop n due, so, sym (take-append-drop n due), part)
 
+-- what is read as the pages before or after a reply
+pub either_read : (Replies : (before after : List Page) → List ℕ → Type 0) (before after : List Page) (told : List ℕ)
+    (reads_as : List ℕ → List Page → Type 0) (left : List ℕ) → Replies before after told → ReadsAsEither reads_as before after left →
+    ReadsOrReplied reads_as Replies before left
+either_read Replies before after told reads_as left so (inl is) = inl is
+either_read Replies before after told reads_as left so (inr is) = inr (after, (told, so, is))
+
 -- an answer of which a part was told is cut short
-pub cut_part : (Edits : (before after : List Page) → Type 0) (Replies : (before after : List Page) → List ℕ → Type 0)
+pub cut_part : (Replies : (before after : List Page) → List ℕ → Type 0)
     (before after : List Page) (out_before out_after : List ℕ) (reads_as : List ℕ → List Page → Type 0) (may_leave : List ℕ → Type 0)
     (is : List ℕ → Type 0) → ((told : List ℕ) → is told → Replies before after told) →
-    ((left : List ℕ) → may_leave left → ReadsOrEdited reads_as Edits before left) → ((left : List ℕ) → may_leave left → reads_as left after) →
-    TookPartOf out_before out_after is → IsCutShort Edits Replies before out_before out_after reads_as may_leave
-cut_part Edits Replies before after out_before out_after reads_as may_leave is reply either kept (inl same) = untold same either
-cut_part Edits Replies before after out_before out_after reads_as may_leave is reply either kept (inr (told, part, more, so, parts, took)) =
+    ((left : List ℕ) → may_leave left → ReadsOrReplied reads_as Replies before left) → ((left : List ℕ) → may_leave left → reads_as left after) →
+    TookPartOf out_before out_after is → IsCutShort Replies before out_before out_after reads_as may_leave
+cut_part Replies before after out_before out_after reads_as may_leave is reply either kept (inl same) = untold same either
+cut_part Replies before after out_before out_after reads_as may_leave is reply either kept (inr (told, part, more, so, parts, took)) =
     begun after told part more (reply told so) parts took kept
 
 -- the same where the pages stay as they are
-pub cut_told : {X E : Type 0} (r : Result X E) (Edits : (before after : List Page) → Type 0)
-    (Replies : (before after : List Page) → List ℕ → Type 0) (before : List Page) (out_before out_after : List ℕ)
+pub cut_told : {X E : Type 0} (r : Result X E) (Replies : (before after : List Page) → List ℕ → Type 0)
+    (before : List Page) (out_before out_after : List ℕ)
     (reads_as : List ℕ → List Page → Type 0) (may_leave : List ℕ → Type 0) (is : List ℕ → Type 0) →
     ((told : List ℕ) → is told → Replies before before told) → ((left : List ℕ) → may_leave left → reads_as left before) →
-    OnErr r (TookPartOf out_before out_after is) → OnErr r (IsCutShort Edits Replies before out_before out_after reads_as may_leave)
-cut_told r Edits Replies before out_before out_after reads_as may_leave is reply kept h =
+    OnErr r (TookPartOf out_before out_after is) → OnErr r (IsCutShort Replies before out_before out_after reads_as may_leave)
+cut_told r Replies before out_before out_after reads_as may_leave is reply kept h =
     on_err r _ _
-    (λ took. cut_part Edits Replies before before out_before out_after reads_as may_leave is reply (λ left now. inl (kept left now)) kept took) h
+    (λ took. cut_part Replies before before out_before out_after reads_as may_leave is reply (λ left now. inl (kept left now)) kept took) h
 
 -- the same of a reply that is known
-pub cut_due : {X E : Type 0} (r : Result X E) (Edits : (before after : List Page) → Type 0)
-    (Replies : (before after : List Page) → List ℕ → Type 0) (before : List Page) (out_before out_after due : List ℕ)
+pub cut_due : {X E : Type 0} (r : Result X E) (Replies : (before after : List Page) → List ℕ → Type 0)
+    (before : List Page) (out_before out_after due : List ℕ)
     (reads_as : List ℕ → List Page → Type 0) (may_leave : List ℕ → Type 0) → Replies before before due →
     ((left : List ℕ) → may_leave left → reads_as left before) → OnErr r (TookPrefix out_before out_after due) →
-    OnErr r (IsCutShort Edits Replies before out_before out_after reads_as may_leave)
-cut_due r Edits Replies before out_before out_after due reads_as may_leave reply kept h =
-    cut_told r Edits Replies before out_before out_after reads_as may_leave (λ (told : List ℕ). told ≡ due)
+    OnErr r (IsCutShort Replies before out_before out_after reads_as may_leave)
+cut_due r Replies before out_before out_after due reads_as may_leave reply kept h =
+    cut_told r Replies before out_before out_after reads_as may_leave (λ (told : List ℕ). told ≡ due)
     (λ told e. subst (λ (t : List ℕ). Replies before before t) (sym e) reply) kept
     (on_err r _ _ (took_part out_before out_after due (λ (told : List ℕ). told ≡ due) refl) h)
 
 -- of its first part
-pub cut_front : (Edits : (before after : List Page) → Type 0) (Replies : (before after : List Page) → List ℕ → Type 0) (before : List Page)
+pub cut_front : (Replies : (before after : List Page) → List ℕ → Type 0) (before : List Page)
     (out_before out_after first last : List ℕ) (reads_as : List ℕ → List Page → Type 0) (may_leave : List ℕ → Type 0) →
     Replies before before (first ++ last) → ((left : List ℕ) → may_leave left → reads_as left before) →
-    TookPrefix out_before out_after first → IsCutShort Edits Replies before out_before out_after reads_as may_leave
-cut_front Edits Replies before out_before out_after first last reads_as may_leave reply kept took =
+    TookPrefix out_before out_after first → IsCutShort Replies before out_before out_after reads_as may_leave
+cut_front Replies before out_before out_after first last reads_as may_leave reply kept took =
     cut_of (took_part out_before out_after first (λ (told : List ℕ). told ≡ first) refl took)
   where
-    cut_of : TookPartOf out_before out_after (λ (told : List ℕ). told ≡ first) → IsCutShort Edits Replies before out_before out_after reads_as may_leave
+    cut_of : TookPartOf out_before out_after (λ (told : List ℕ). told ≡ first) → IsCutShort Replies before out_before out_after reads_as may_leave
     cut_of (inl same) = untold same (λ left now. inl (kept left now))
     cut_of (inr (told, part, more, so, parts, is)) =
         begun before (first ++ last) part (more ++ last) reply
         (ap (λ (l : List ℕ). l ++ last) (sym so ∙ parts) ∙ append_assoc part more last) is kept
 
 -- and of its last part
-pub cut_last : {X E : Type 0} (r : Result X E) (Edits : (before after : List Page) → Type 0)
-    (Replies : (before after : List Page) → List ℕ → Type 0) (before : List Page) (out_before mid out_after first last : List ℕ)
+pub cut_last : {X E : Type 0} (r : Result X E) (Replies : (before after : List Page) → List ℕ → Type 0)
+    (before : List Page) (out_before mid out_after first last : List ℕ)
     (reads_as : List ℕ → List Page → Type 0) (may_leave : List ℕ → Type 0) → mid ≡ out_before ++ first → Replies before before (first ++ last) →
     ((left : List ℕ) → may_leave left → reads_as left before) → OnErr r (TookPrefix mid out_after last) →
-    OnErr r (IsCutShort Edits Replies before out_before out_after reads_as may_leave)
-cut_last r Edits Replies before out_before mid out_after first last reads_as may_leave begins reply kept h =
+    OnErr r (IsCutShort Replies before out_before out_after reads_as may_leave)
+cut_last r Replies before out_before mid out_after first last reads_as may_leave begins reply kept h =
     on_err r _ _ (λ took. cut_of (took_part mid out_after last (λ (told : List ℕ). told ≡ last) refl took)) h
   where
-    cut_of : TookPartOf mid out_after (λ (told : List ℕ). told ≡ last) → IsCutShort Edits Replies before out_before out_after reads_as may_leave
+    cut_of : TookPartOf mid out_after (λ (told : List ℕ). told ≡ last) → IsCutShort Replies before out_before out_after reads_as may_leave
     cut_of (inl same) = begun before (first ++ last) first last reply refl (same ∙ begins) kept
     cut_of (inr (told, part, more, so, parts, is)) =
         begun before (first ++ last) (first ++ part) more reply
@@ -86,18 +93,19 @@ cut_last r Edits Replies before out_before mid out_after first last reads_as may
         (is ∙ ap (λ (l : List ℕ). l ++ part) begins ∙ append_assoc out_before first part) kept
 
 -- and by other names
-pub cut_as : (Edits Others : (before after : List Page) → Type 0) (Replies More : (before after : List Page) → List ℕ → Type 0)
+pub read_as : (Replies More : (before after : List Page) → List ℕ → Type 0) (before : List Page) (reads_as : List ℕ → List Page → Type 0)
+    (left : List ℕ) → ((after : List Page) (told : List ℕ) → Replies before after told → More before after told) →
+    ReadsOrReplied reads_as Replies before left → ReadsOrReplied reads_as More before left
+read_as Replies More before reads_as left h (inl is) = inl is
+read_as Replies More before reads_as left h (inr (after, (reply, so, is))) = inr (after, (reply, h after reply so, is))
+
+pub cut_as : (Replies More : (before after : List Page) → List ℕ → Type 0)
     (before : List Page) (out_before out_after : List ℕ) (reads_as : List ℕ → List Page → Type 0) (may_leave : List ℕ → Type 0) →
-    ((after : List Page) → Edits before after → Others before after) →
     ((after : List Page) (told : List ℕ) → Replies before after told → More before after told) →
-    IsCutShort Edits Replies before out_before out_after reads_as may_leave → IsCutShort Others More before out_before out_after reads_as may_leave
-cut_as Edits Others Replies More before out_before out_after reads_as may_leave f h (untold same either) =
-    untold same (λ left now. other left (either left now))
-  where
-    other : (left : List ℕ) → ReadsOrEdited reads_as Edits before left → ReadsOrEdited reads_as Others before left
-    other left (inl is) = inl is
-    other left (inr (after, edit, is)) = inr (after, f after edit, is)
-cut_as Edits Others Replies More before out_before out_after reads_as may_leave f h (begun after reply part more so parts took kept) =
+    IsCutShort Replies before out_before out_after reads_as may_leave → IsCutShort More before out_before out_after reads_as may_leave
+cut_as Replies More before out_before out_after reads_as may_leave h (untold same either) =
+    untold same (λ left now. read_as Replies More before reads_as left h (either left now))
+cut_as Replies More before out_before out_after reads_as may_leave h (begun after reply part more so parts took kept) =
     begun after reply part more (h after reply so) parts took kept
 
 -- one line more
@@ -214,7 +222,7 @@ survives_between Tells effort input pending before now start out first_placed pl
 pub survives_within : (Tells : Type 0) (effort : Effort) (input pending line behind : List ℕ) (before now : List Page) (start out next : List ℕ)
     (first_placed placed : List PlacedPlan) (reads_as : List ℕ → List Page → Type 0) (may_leave : List ℕ → Type 0) →
     Answered Tells effort input pending before now start out first_placed placed → IsFirstLine pending line behind →
-    IsCutShort (IsEditLine line) (RepliesTo Tells effort line) now out next reads_as may_leave →
+    IsCutShort (RepliesTo Tells effort line) now out next reads_as may_leave →
     Survives Tells effort input before start next reads_as may_leave
 survives_within Tells effort input pending line behind before now start out next first_placed placed reads_as may_leave so_far first cut = record {
   lines = so_far.lines;
@@ -225,7 +233,7 @@ survives_within Tells effort input pending line behind before now start out next
   firsts = so_far.firsts;
   replies = so_far.replies;
   cut = within line behind first
-      (subst (λ (l : List ℕ). IsCutShort (IsEditLine line) (RepliesTo Tells effort line) now l next reads_as may_leave) so_far.answers cut);
+      (subst (λ (l : List ℕ). IsCutShort (RepliesTo Tells effort line) now l next reads_as may_leave) so_far.answers cut);
 }
 
 -- what is read as the pages now is read after the lines so far
@@ -244,22 +252,21 @@ read_now Tells effort input pending before now start out first_placed placed rea
   read = is;
 }
 
--- and as those after its edit, after one line more
+-- and as those that the reply leaves, after one line more
 pub read_next : (Tells : Type 0) (effort : Effort) (input pending line behind : List ℕ) (before now : List Page) (start out : List ℕ)
     (first_placed placed : List PlacedPlan) (reads_as : List ℕ → List Page → Type 0) (left : List ℕ) →
     Answered Tells effort input pending before now start out first_placed placed → IsFirstLine pending line behind →
-    ReadsOrEdited reads_as (IsEditLine line) now left → ReadsAfterLines Tells effort input before reads_as left
+    ReadsOrReplied reads_as (RepliesTo Tells effort line) now left → ReadsAfterLines Tells effort input before reads_as left
 read_next Tells effort input pending line behind before now start out first_placed placed reads_as left so_far first (inl is) =
     read_now Tells effort input pending before now start out first_placed placed reads_as left so_far is
-read_next Tells effort input pending line behind before now start out first_placed placed reads_as left so_far first (inr (after, e, is)) =
-    let reply : IsLineReply Tells effort line now after (pages_answer (length after)) [] = read e.row e.few e.text (edited e.edit refl refl) in
+read_next Tells effort input pending line behind before now start out first_placed placed reads_as left so_far first (inr (after, (told, (its, reply), is))) =
     record {
       lines = so_far.lines ++ line ∷ [];
       rest = behind;
       pages = after;
-      told = so_far.told ++ pages_answer (length after);
-      placed = so_far.placed ++ [];
+      told = so_far.told ++ told;
+      placed = so_far.placed ++ its;
       firsts = lines_more so_far.lines line input pending behind so_far.firsts first;
-      replies = replies_more Tells effort so_far.lines line before now after so_far.told (pages_answer (length after)) so_far.placed [] so_far.replies reply;
+      replies = replies_more Tells effort so_far.lines line before now after so_far.told told so_far.placed its so_far.replies reply;
       read = is;
     }

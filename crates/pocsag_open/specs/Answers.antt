@@ -6,6 +6,13 @@ use Rattle.std.specs.Fmt.{decimal}
 unfoldable pub pages_answer : ℕ → List ℕ
 pages_answer pages = codes "ok " ++ (decimal pages ++ (10 ∷ []))
 
+-- `batches B, sent K`, where the first K pages are sent, and where the bound is below the batches `batches B, sent K, at least N`.
+unfoldable pub front_answer : (batches count bound : ℕ) → List ℕ
+front_answer batches count bound =
+    if nat_lt bound batches
+    then codes "batches " ++ (decimal batches ++ (codes ", sent " ++ (decimal count ++ (codes ", at least " ++ (decimal bound ++ (10 ∷ []))))))
+    else codes "batches " ++ (decimal batches ++ (codes ", sent " ++ (decimal count ++ (10 ∷ []))))
+
 -- `batches B`, and where the bound is below them `batches B, at least N`.
 unfoldable pub plan_answer : (batches bound : ℕ) → List ℕ
 plan_answer batches bound =

@@ -1,9 +1,9 @@
 pub mod Ahead
 pub mod Answers
 pub mod Faults
-pub mod Keeping
+pub mod KeptAnswers
 pub mod Lines
 pub mod Plans
-pub mod Reopening
+pub mod Reopened
 pub mod Replies
 pub mod Survival

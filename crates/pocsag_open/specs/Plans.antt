@@ -1,5 +1,5 @@
 -- What is so where the plan of an open round is written, and where it is refused (this project's own).
-use Rattle.std.specs.Prelude.{◌≡◌, ℕ, List, [], ◌∷◌, ◌++◌, Option, None}
+use Rattle.std.specs.Prelude.{◌≡◌, ℕ, ◌≤◌, List, [], ◌∷◌, ◌++◌, take, Option, Some, None}
 use Rattle.pocsag_words.specs.declared.ending.End.{End}
 use Rattle.pocsag_pages.specs.Pages.{IsRound}
 use Rattle.pocsag_pages.specs.declared.page.Page.{Page}
@@ -11,11 +11,13 @@ use Rattle.pocsag_plan.specs.declared.fault.PlanFault.TheVariants as planning
 use Rattle.pocsag_plan.specs.declared.fault.StreamFault.{StreamFault}
 use Rattle.pocsag_plan.specs.declared.fault.StreamFault.TheVariants as streaming
 use Rattle.pocsag_plan.specs.declared.answer.Plan.{Plan}
+use Rattle.pocsag_plan.specs.declared.search.Search.{Search}
+use Rattle.pocsag_plan.specs.Fronts.{FirstNeeds, IsFrontFor, IsLongestFront, StopsAtFront}
 use Rattle.pocsag_plan.specs.Headline.{RoundHeadline}
 use Rattle.pocsag_plan.specs.Plans.{IsBounded, IsStopped, MayStop}
 use Rattle.pocsag_shell.specs.declared.fault.FileFault.TheVariants as file
-use Rattle.pocsag_edits.specs.declared.refusal.UndoneFault.{UndoneFault}
-use Rattle.pocsag_edits.specs.declared.refusal.UndoneFault.TheVariants as undone
+use Rattle.pocsag_journal.specs.declared.refusal.UndoneFault.{UndoneFault}
+use Rattle.pocsag_journal.specs.declared.refusal.UndoneFault.TheVariants as undone
 
 -- The nodes that the search of a plan may examine.
 abbrev pub plan_limit : ℕ
@@ -58,10 +60,29 @@ pub record IsPlanned (Tells : Type 0) (effort : Effort) (end : End) (pages : Lis
   pub fewest : effort ≡ Fewest → bound ≡ batches
   pub headline : Tells → RoundHeadline pages end batches bound (bound_tree_of plan.tree) sent.0 sent.1
 
+-- The search of a plan for the end.
+abbrev pub plan_search : Effort → End → Search
+plan_search effort end = record { limit = plan_limit; end = end; effort = effort }
+
+-- The first `count` pages are the front that is owed for so many batches, the longest where only the fewest are an answer; and
+-- they are planned, in no more batches. The pages may stand in a round.
+pub record IsFrontPlanned (Tells : Type 0) (effort : Effort) (end : End) (most : ℕ) (pages : List Page) (count batches bound : ℕ) (sent : PlanBytes) : Type 0 where
+  pub round : IsRound pages
+  pub front : IsFrontFor (plan_search effort end) pages most count
+  pub longest : effort ≡ Fewest → IsLongestFront end pages most count
+  pub planned : IsPlanned Tells effort end (take count pages) batches bound sent
+  pub within : batches ≤ most
+
 -- There is such a plan, and its outputs were put in these two places, behind those of the plans before it.
 pub record IsPlanPlaced (Tells : Type 0) (effort : Effort) (end : End) (tx cert : List ℕ) (pages : List Page) (batches bound : ℕ) (before after : List PlacedPlan) : Type 0 where
   pub sent : PlanBytes
   pub planned : IsPlanned Tells effort end pages batches bound sent
+  pub placed : Tells → after ≡ before ++ placed_plan tx cert sent ∷ []
+
+-- There is such a plan of a front, and its outputs were put in these two places.
+pub record IsFrontPlaced (Tells : Type 0) (effort : Effort) (end : End) (most : ℕ) (tx cert : List ℕ) (pages : List Page) (count batches bound : ℕ) (before after : List PlacedPlan) : Type 0 where
+  pub sent : PlanBytes
+  pub planned : IsFrontPlanned Tells effort end most pages count batches bound sent
   pub placed : Tells → after ≡ before ++ placed_plan tx cert sent ∷ []
 
 -- Why a plan is refused, and what is so of the pages then: there are none; or the search stopped at its limit between these
@@ -71,8 +92,23 @@ abbrev pub ExplainsUndone : Effort → End → List Page → UndoneFault → Typ
 ExplainsUndone effort end pages undone.NoPages = pages ≡ []
 ExplainsUndone effort end pages (undone.SearchLimit least found) =
     MayStop effort × IsRound pages × ((tree : BoundTree) × IsStopped end pages plan_limit least found tree)
+ExplainsUndone effort end pages (undone.FirstPage needed) = ⊥
 ExplainsUndone effort end pages undone.OutOfMemory = IsRound pages
 ExplainsUndone effort end pages (undone.File f) = Unit {0}
+
+-- Why the plan of a front for so many batches is refused: the first page alone needs more; or the search stopped at some first
+-- pages; or for the same reason as a plan of all pages.
+abbrev pub ExplainsFrontUndone : Effort → End → (most : ℕ) → List Page → UndoneFault → Type 0
+ExplainsFrontUndone effort end most pages (undone.FirstPage needed) =
+    IsRound pages × FirstNeeds (plan_search effort end) pages most needed
+ExplainsFrontUndone effort end most pages (undone.SearchLimit least found) =
+    MayStop effort × IsRound pages × ((tree : BoundTree) × StopsAtFront (plan_search effort end) pages least found tree)
+ExplainsFrontUndone effort end most pages f = ExplainsUndone effort end pages f
+
+-- Why a plan is refused that a line asks for, of all pages or of a front.
+abbrev pub ExplainsPlanUndone : Effort → End → (at_most : Option ℕ) → List Page → UndoneFault → Type 0
+ExplainsPlanUndone effort end None pages f = ExplainsUndone effort end pages f
+ExplainsPlanUndone effort end (Some most) pages f = ExplainsFrontUndone effort end most pages f
 
 -- Which reason the fault of a stream is. The limit of an open round is never a bad one.
 abbrev pub undone_of : StreamFault → UndoneFault

@@ -1,5 +1,5 @@
 -- What an open round replies to its lines (this project's own).
-use Rattle.std.specs.Prelude.{◌≡◌, ◌≢◌, ◌⊎◌, ℕ, ◌<◌, ◌≤◌, List, [], ◌∷◌, ◌++◌, length, codes, IfSome}
+use Rattle.std.specs.Prelude.{◌≡◌, ◌≢◌, ◌⊎◌, ℕ, ◌<◌, ◌≤◌, List, [], ◌∷◌, ◌++◌, drop, length, codes, Option, Some, None, IfSome}
 use Rattle.std.specs.Str.{IsUtf8}
 use Rattle.csv.specs.Machine.{line_feed}
 use Rattle.pocsag_words.specs.declared.ending.End.{End}
@@ -7,17 +7,17 @@ use Rattle.pocsag_pages.specs.PageFile.{Row}
 use Rattle.pocsag_pages.specs.declared.page.Page.{Page}
 use Rattle.pocsag_decode.specs.PageFiles.{page_file}
 use Rattle.pocsag_plan.specs.declared.search.Effort.{Effort}
-use Rattle.pocsag_edits.specs.Asks.{AsksPlan, list_record}
-use Rattle.pocsag_edits.specs.Edited.{own_words}
-use Rattle.pocsag_edits.specs.Runs.{IsEdit, IsReasonFor, IsRefusedFor, first_record}
-use Rattle.pocsag_edits.specs.Spelling.{HasNoLineFeed, IsRowText, IsUnread, record_text}
-use Rattle.pocsag_edits.specs.declared.refusal.Refusal.{Refusal}
-use Rattle.pocsag_edits.specs.declared.refusal.Refusal.TheVariants as refusal
-use Rattle.pocsag_edits.specs.declared.refusal.UndoneFault.{UndoneFault}
-use Rattle.pocsag_edits.specs.declared.refusal.UndoneFault.TheVariants as undone
-use Rattle.pocsag_open.specs.Answers.{pages_answer, plan_answer}
+use Rattle.pocsag_journal.specs.Asks.{AsksPlan, list_record}
+use Rattle.pocsag_journal.specs.Edited.{own_words}
+use Rattle.pocsag_journal.specs.Runs.{IsEdit, IsReasonFor, IsRefusedFor, first_record}
+use Rattle.pocsag_journal.specs.LineTexts.{HasNoLineFeed, IsRowText, IsUnread, record_text}
+use Rattle.pocsag_journal.specs.declared.refusal.Refusal.{Refusal}
+use Rattle.pocsag_journal.specs.declared.refusal.Refusal.TheVariants as refusal
+use Rattle.pocsag_journal.specs.declared.refusal.UndoneFault.{UndoneFault}
+use Rattle.pocsag_journal.specs.declared.refusal.UndoneFault.TheVariants as undone
+use Rattle.pocsag_open.specs.Answers.{front_answer, pages_answer, plan_answer}
 use Rattle.pocsag_open.specs.Lines.{AreLines, line_limit}
-use Rattle.pocsag_open.specs.Plans.{ExplainsUndone, IsPlanned, PlacedPlan, PlanBytes, placed_plan}
+use Rattle.pocsag_open.specs.Plans.{ExplainsPlanUndone, IsFrontPlanned, IsPlanned, PlacedPlan, PlanBytes, placed_plan}
 
 -- The line that tells a refusal: `refused: ` and its words, which hold no line feed.
 pub record IsRefusalTold (why : Refusal) (told : List ℕ) : Type 0 where
@@ -29,12 +29,13 @@ pub record IsRefusalTold (why : Refusal) (told : List ℕ) : Type 0 where
 -- The reason is that of a plan which the record asks for, and it applies to the plan of these pages for that end.
 pub record IsPlanRefused (effort : Effort) (row : Row) (pages : List Page) (why : Refusal) : Type 0 where
   pub end : End
+  pub at_most : Option ℕ
   pub tx : List ℕ
   pub cert : List ℕ
-  pub asks : AsksPlan end tx cert row
+  pub asks : AsksPlan end at_most tx cert row
   pub fault : UndoneFault
   pub names : why ≡ refusal.Undone fault
-  pub explained : ExplainsUndone effort end pages fault
+  pub explained : ExplainsPlanUndone effort end at_most pages fault
 
 -- The reason is due where a record is refused: it is no edit that these pages accept, or memory was wanting, and the
 -- reason is that of the edit, unless it asks for the list or is that of a plan; the list is refused for want of memory alone, a
@@ -43,7 +44,7 @@ pub record IsRefusalDue (effort : Effort) (row : Row) (pages : List Page) (why :
   pub edit : IsRefusedFor row pages why
   pub reason : IsReasonFor row pages why ⊎ (row ≡ list_record) ⊎ IsPlanRefused effort row pages why
   pub list : row ≡ list_record → why ≡ refusal.Undone undone.OutOfMemory
-  pub plan : (end : End) (tx cert : List ℕ) → AsksPlan end tx cert row → IsUtf8 tx → IsUtf8 cert → IsPlanRefused effort row pages why
+  pub plan : (end : End) (at_most : Option ℕ) (tx cert : List ℕ) → AsksPlan end at_most tx cert row → IsUtf8 tx → IsUtf8 cert → IsPlanRefused effort row pages why
   pub heading : row ≢ first_record
 
 -- The reply to a record that is judged as an edit: the edit is made, and the reply is the number of pages; or nothing is
@@ -70,14 +71,33 @@ pub data IsReply (Tells : Type 0) (effort : Effort) (row : Row) (before after : 
   -- It asks for a plan for an end: the reply is the batches and the bound of a plan of the pages for that end, which the two
   -- outputs hold that were put in the places that it names.
   planned :
-      (end : End) (tx cert : List ℕ) (batches bound : ℕ) (sent : PlanBytes) → AsksPlan end tx cert row →
+      (end : End) (tx cert : List ℕ) (batches bound : ℕ) (sent : PlanBytes) → AsksPlan end None tx cert row →
       IsPlanned Tells effort end before batches bound sent →
       after ≡ before → told ≡ plan_answer batches bound → placed ≡ placed_plan tx cert sent ∷ [] →
+      IsReply Tells effort row before after told placed
+  -- It asks for a plan of the longest front that so many batches carry: the pages of the front are taken out, and the reply is
+  -- the batches of its plan, how many pages it sends, and the bound.
+  sent_first :
+      (end : End) (most : ℕ) (tx cert : List ℕ) (count batches bound : ℕ) (sent : PlanBytes) → AsksPlan end (Some most) tx cert row →
+      IsFrontPlanned Tells effort end most before count batches bound sent →
+      after ≡ drop count before → told ≡ front_answer batches count bound → placed ≡ placed_plan tx cert sent ∷ [] →
       IsReply Tells effort row before after told placed
   -- It is refused, for a reason that is due.
   refused :
       (why : Refusal) → IsRefusalDue effort row before why → after ≡ before → IsRefusalTold why told → placed ≡ [] →
       IsReply Tells effort row before after told placed
+
+-- The reply where a record asks for a plan of a front, for the end and so many batches: the first pages that are planned are
+-- taken out; or nothing is changed, and the reply tells why the plan is refused.
+pub data IsFrontReply (Tells : Type 0) (effort : Effort) (end : End) (most : ℕ) (tx cert : List ℕ) (before after : List Page) (told : List ℕ) (placed : List PlacedPlan) : Type 0 where
+  front_sent :
+      (count batches bound : ℕ) (sent : PlanBytes) → IsFrontPlanned Tells effort end most before count batches bound sent →
+      after ≡ drop count before → told ≡ front_answer batches count bound → placed ≡ placed_plan tx cert sent ∷ [] →
+      IsFrontReply Tells effort end most tx cert before after told placed
+  front_refused :
+      (fault : UndoneFault) → ExplainsPlanUndone effort end (Some most) before fault → after ≡ before →
+      IsRefusalTold (refusal.Undone fault) told → placed ≡ [] →
+      IsFrontReply Tells effort end most tx cert before after told placed
 
 -- *Reply* to a line, its line feed not counted.
 pub data IsLineReply (Tells : Type 0) (effort : Effort) (line : List ℕ) (before after : List Page) (told : List ℕ) (placed : List PlacedPlan) : Type 0 where

@@ -1,48 +1,43 @@
 -- *Survival*: what is so of an open round whose edits are kept, at whatever moment it ends (this project's own).
-use Rattle.std.specs.Prelude.{◌≡◌, ◌⊎◌, ℕ, ◌≤◌, List, [], ◌∷◌, ◌++◌, length}
-use Rattle.pocsag_pages.specs.PageFile.{Row}
+use Rattle.std.specs.Prelude.{◌≡◌, ◌⊎◌, ℕ, List, [], ◌∷◌, ◌++◌}
+use Rattle.pocsag_words.specs.declared.ending.End.{End}
 use Rattle.pocsag_pages.specs.declared.page.Page.{Page}
 use Rattle.pocsag_plan.specs.declared.search.Effort.{Effort}
-use Rattle.pocsag_edits.specs.Runs.{IsEdit}
-use Rattle.pocsag_edits.specs.Spelling.{IsRowText, record_text}
-use Rattle.pocsag_open.specs.Lines.{IsFirstLine, line_limit}
+use Rattle.pocsag_open.specs.Lines.{IsFirstLine}
 use Rattle.pocsag_open.specs.Plans.{PlacedPlan}
-use Rattle.pocsag_open.specs.Replies.{AreReplies, IsLineReply}
+use Rattle.pocsag_open.specs.Replies.{AreReplies, IsFrontReply, IsLineReply}
 
 -- *First lines*: the bytes begin with these lines, one after another, and this stands behind them.
 unfoldable pub AreFirstLines : (lines : List (List ℕ)) (bytes rest : List ℕ) → Type 0
 AreFirstLines [] bytes rest = rest ≡ bytes
 AreFirstLines (line ∷ lines) bytes rest = (more : List ℕ) × IsFirstLine bytes line more × AreFirstLines lines more rest
 
--- The line is the text of an edit, quoting apart, which these pages accept, and leaves those.
-pub record IsEditLine (line : List ℕ) (before after : List Page) : Type 0 where
-  pub row : Row
-  pub few : length line ≤ line_limit
-  pub text : IsRowText row (record_text line)
-  pub edit : IsEdit row before after
-
 -- A reply to a line, whatever plan it places.
 abbrev pub RepliesTo : (Tells : Type 0) → Effort → (line : List ℕ) → (before after : List Page) → (told : List ℕ) → Type 0
 RepliesTo Tells effort line before after told =
     (placed : List PlacedPlan) × IsLineReply Tells effort line before after told placed
 
--- The bytes are read as these pages, or as those that an edit of them leaves.
-abbrev pub ReadsOrEdited : (List ℕ → List Page → Type 0) → (Edits : (before after : List Page) → Type 0) → List Page → List ℕ → Type 0
-ReadsOrEdited reads_as Edits before left =
-    reads_as left before ⊎ ((after : List Page) × Edits before after × reads_as left after)
+-- A reply to what asks for a plan of a front, whatever plan it places.
+abbrev pub FrontRepliesTo : (Tells : Type 0) → Effort → End → (most : ℕ) → (tx cert : List ℕ) → (before after : List Page) → (told : List ℕ) → Type 0
+FrontRepliesTo Tells effort end most tx cert before after told =
+    (placed : List PlacedPlan) × IsFrontReply Tells effort end most tx cert before after told placed
+
+-- The bytes are read as these pages, or as those that a reply leaves.
+abbrev pub ReadsOrReplied : (List ℕ → List Page → Type 0) → (Replies : (before after : List Page) → List ℕ → Type 0) → List Page → List ℕ → Type 0
+ReadsOrReplied reads_as Replies before left =
+    reads_as left before ⊎ ((after : List Page) × ((reply : List ℕ) × Replies before after reply × reads_as left after))
 
 -- Where an answer is cut short: nothing of it was told, and whatever a crash leaves is read as the pages before, or as those
--- after the edit that was asked for; or a part of a reply was told, and whatever a crash leaves is read as the pages that this
--- reply leaves.
-pub data IsCutShort (Edits : (before after : List Page) → Type 0) (Replies : (before after : List Page) → List ℕ → Type 0)
+-- that a reply leaves; or a part of a reply was told, and whatever a crash leaves is read as the pages that this reply leaves.
+pub data IsCutShort (Replies : (before after : List Page) → List ℕ → Type 0)
     (before : List Page) (out_before out_after : List ℕ) (reads_as : List ℕ → List Page → Type 0) (may_leave : List ℕ → Type 0) : Type 0 where
   untold :
-      out_after ≡ out_before → ((left : List ℕ) → may_leave left → ReadsOrEdited reads_as Edits before left) →
-      IsCutShort Edits Replies before out_before out_after reads_as may_leave
+      out_after ≡ out_before → ((left : List ℕ) → may_leave left → ReadsOrReplied reads_as Replies before left) →
+      IsCutShort Replies before out_before out_after reads_as may_leave
   begun :
       (after : List Page) (reply part more : List ℕ) → Replies before after reply → reply ≡ part ++ more →
       out_after ≡ out_before ++ part → ((left : List ℕ) → may_leave left → reads_as left after) →
-      IsCutShort Edits Replies before out_before out_after reads_as may_leave
+      IsCutShort Replies before out_before out_after reads_as may_leave
 
 -- What stands behind the lines that are answered: the answer to the first line of it is cut short; or none is under way, and
 -- whatever a crash leaves is read as the pages now.
@@ -53,7 +48,7 @@ pub data IsCutBehind (Tells : Type 0) (effort : Effort) (rest : List ℕ) (now :
       IsCutBehind Tells effort rest now out_before out_after reads_as may_leave
   within :
       (line behind : List ℕ) → IsFirstLine rest line behind →
-      IsCutShort (IsEditLine line) (RepliesTo Tells effort line) now out_before out_after reads_as may_leave →
+      IsCutShort (RepliesTo Tells effort line) now out_before out_after reads_as may_leave →
       IsCutBehind Tells effort rest now out_before out_after reads_as may_leave
 
 -- *Survives*: the first lines of an input were answered whole, from the pages before on, and at most one line more in part.

@@ -2,17 +2,17 @@ ghost use Rattle.std.specs.Prelude.{◌≡◌, ◌++◌, length, IfErr, OnErr, O
 ghost use Rattle.csv.specs.Records.{fields_of};
 ghost use Rattle.pocsag_words.specs.Devices.{TookPrefix};
 ghost use Rattle.pocsag_shell.specs.Faults.{file_status};
-ghost use Rattle.pocsag_edits.specs.Moments.{LeavesOnly};
-ghost use Rattle.pocsag_edits.specs.Runs.{IsEdit};
-ghost use Rattle.pocsag_open.specs.Answers.{pages_answer, plan_answer};
-ghost use Rattle.pocsag_open.specs.Keeping.{IsAnswered, IsLost};
+ghost use Rattle.pocsag_journal.specs.Moments.{LeavesOnly};
+ghost use Rattle.pocsag_open.specs.Answers.{front_answer, pages_answer, plan_answer};
+ghost use Rattle.pocsag_open.specs.KeptAnswers.{IsAnswered, IsLost};
 ghost use Rattle.pocsag_open.specs.Replies.{IsEditReply, IsRefusalTold, TookMore};
-ghost use Rattle.pocsag_open.specs.Survival.{IsCutShort, ReadsOrEdited, TookPartOf};
+ghost use Rattle.pocsag_open.specs.Survival.{IsCutShort, ReadsOrReplied, TookPartOf};
 
+use crate::front::SentFront;
 use crate::round_plan::Planned;
 use arrayvec::ArrayString;
 use csv::ByteRecord;
-use pocsag_edits::{Keeper, Refusal, edit_row};
+use pocsag_journal::{Keeper, Refusal, edit_row};
 use pocsag_plan::Book;
 use pocsag_shell::{FileFault, tell};
 use pocsag_words::Sink;
@@ -51,11 +51,11 @@ pub fn answer_edit<K: Keeper + Drop, O: Sink>(
     // Where the answer is cut short, a crash leaves what is read as the pages before the edit, or as those after it; and those
     // after it where any of the answer was told. So it is at any moment.
     ensures cut { K.tells → O.tells → K.stands_for round.old.keeper round.old.book → OnErr result
-        (IsCutShort (IsEdit (fields_of row.now)) (IsEditReply (fields_of row.now)) round.old.book
+        (IsCutShort (IsEditReply (fields_of row.now)) round.old.book
         (O.taken out.old) (O.taken out.new) K.reads_as (K.may_leave round.new.keeper)) }
     ensures any_moment { K.tells → K.stands_for round.old.keeper round.old.book →
         LeavesOnly K.moment K.left_since round.old.keeper round.new.keeper
-        (ReadsOrEdited K.reads_as (IsEdit (fields_of row.now)) round.old.book) }
+        (ReadsOrReplied K.reads_as (IsEditReply (fields_of row.now)) round.old.book) }
     ensures lost { IfErr result (λ e. file_status e ≡ 3) }
 {
     match edit_row(alloc, &mut round.book, row) {
@@ -112,4 +112,27 @@ pub(crate) fn tell_planned<O: Sink>(planned: Planned, out: &mut O) -> Result<(),
     } else {
         tell(out, format_args!("batches {batches}\n"))
     }
+}
+
+/// The batches of the plan of a front, how many pages it sends, and the bound where it is below the batches.
+#[tactic(auto, unfolding(crate::specs::Answers::front_answer))]
+pub(crate) fn tell_sent<O: Sink>(front: SentFront, out: &mut O) -> Result<(), FileFault>
+    ensures told { O.tells → OnOk result
+        (O.taken out.new ≡ O.taken out.old ++ front_answer front.batches front.pages front.bound) }
+    ensures part { O.tells → OnErr result
+        (TookPrefix (O.taken out.old) (O.taken out.new) (front_answer front.batches front.pages front.bound)) }
+    ensures lost { IfErr result (λ e. e ≡ FileFault.Write) }
+{
+    let SentFront {
+        batches,
+        bound,
+        pages,
+    } = front;
+    if bound >= batches {
+        return tell(out, format_args!("batches {batches}, sent {pages}\n"));
+    }
+    tell(
+        out,
+        format_args!("batches {batches}, sent {pages}, at least {bound}\n"),
+    )
 }

@@ -3,11 +3,11 @@ ghost use Rattle.std.specs.List.{AllByRecursion};
 ghost use Rattle.pocsag_pages.specs.PageFile.{Row};
 ghost use Rattle.pocsag_pages.specs.declared.page.Page.{Page};
 ghost use Rattle.pocsag_plan.specs.declared.search.Effort.{Effort};
-ghost use Rattle.pocsag_edits.specs.Runs.{IsRun};
+ghost use Rattle.pocsag_journal.specs.Runs.{IsRun};
 ghost use Rattle.pocsag_journal.specs.Journals.{IsLine, journal_text};
 ghost use Rattle.pocsag_open.specs.Plans.{PlacedPlan};
 ghost use Rattle.pocsag_open.specs.Replies.{IsSession};
-ghost use Rattle.pocsag_open.specs.Reopening.{TellsNoMemory};
+ghost use Rattle.pocsag_open.specs.Reopened.{TellsNoMemory};
 
 use crate::outputs::Places;
 

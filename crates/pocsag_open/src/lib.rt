@@ -5,6 +5,7 @@
 
 mod answer;
 mod fault;
+mod front;
 mod group;
 mod journal_file;
 mod kept_round;
@@ -22,5 +23,5 @@ pub use group::RoundGroup;
 pub use laws::a_journal_opens_as_its_pages;
 pub use lines::LINE_LIMIT;
 pub use outputs::Places;
-pub use pocsag_edits::{Keeper, NoKeeper, Refusal, UndoneFault, edit_row};
+pub use pocsag_journal::{Keeper, NoKeeper, Refusal, UndoneFault, edit_row};
 pub use session::{Planner, run_open, run_open_kept, run_open_pages};

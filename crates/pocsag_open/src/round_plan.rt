@@ -3,13 +3,13 @@ ghost use Rattle.pocsag_open.specs.Plans.{ExplainsUndone, IsPlanned, IsPlanPlace
 
 use crate::outputs::Places;
 use crate::session::Planner;
-use pocsag_edits::UndoneFault;
+use pocsag_journal::UndoneFault;
 use pocsag_plan::{Book, PlanFault, Search, StreamFault};
 use pocsag_shell::{FileFault, Outputs};
 use pocsag_words::{End, Sink};
 
 // How many nodes the search of a plan may examine.
-const PLAN_LIMIT: u32 = 100_000;
+pub(crate) const PLAN_LIMIT: u32 = 100_000;
 
 /// The batches of a plan, and the bound that its certificate shows.
 #[derive(Clone, Copy)]
@@ -81,8 +81,8 @@ fn send_plan<P: Places + Drop>(
     }
 }
 
-// Why a plan was not written.
-fn undone(fault: StreamFault) -> UndoneFault
+/// Why a plan was not written.
+pub(crate) fn undone(fault: StreamFault) -> UndoneFault
     requires { fault ≢ StreamFault.Plan PlanFault.BadLimit }
     ensures { result ≡ undone_of fault }
 {

@@ -2,26 +2,20 @@ ghost use Rattle.std.specs.Prelude.{◌≡◌, ◌≤◌, List, [], length, IfEr
 ghost use Rattle.pocsag_pages.specs.PageFile.{verdict};
 ghost use Rattle.pocsag_pages.specs.declared.page.Page.{Page};
 ghost use Rattle.pocsag_shell.specs.Faults.{file_status};
-ghost use Rattle.pocsag_edits.specs.Moments.{LeavesOnly};
+ghost use Rattle.pocsag_journal.specs.Moments.{LeavesOnly};
 ghost use Rattle.pocsag_open.specs.Faults.{ExplainsOpening, open_status};
 ghost use Rattle.pocsag_open.specs.Lines.{line_limit};
 ghost use Rattle.pocsag_open.specs.Replies.{IsLineReply, IsSession, TellsAndPlaces};
-ghost use Rattle.pocsag_open.specs.Survival.{
-  IsCutShort,
-  IsEditLine,
-  ReadsAfterLines,
-  ReadsOrEdited,
-  RepliesTo,
-  Survives,
-};
+ghost use Rattle.pocsag_open.specs.Survival.{IsCutShort, ReadsAfterLines, ReadsOrReplied, RepliesTo, Survives};
 
 use crate::answer::{OpenRound, answer_edit, refuse, tell_pages, tell_planned};
 use crate::fault::OpenFault;
+use crate::front::{FrontOrder, answer_front};
 use crate::lines::{LineRead, Lines};
 use crate::outputs::Places;
 use crate::round_plan::put_plan;
 use pocsag_decode::{ListFault, write_page_file};
-use pocsag_edits::{Keeper, Line, NoKeeper, Refusal, UndoneFault, line_of, record_of};
+use pocsag_journal::{Keeper, Line, NoKeeper, Refusal, UndoneFault, line_of, record_of};
 use pocsag_pages::read_round;
 use pocsag_plan::{Book, Effort};
 use pocsag_shell::FileFault;
@@ -179,11 +173,11 @@ fn answer_line<P: Places + Drop, K: Keeper + Drop, O: Sink>(
     ensures stands { K.stands_for round.old.keeper round.old.book →
         OnOk result (K.stands_for round.new.keeper round.new.book) }
     ensures cut { K.tells → O.tells → K.stands_for round.old.keeper round.old.book → OnErr result
-        (IsCutShort (IsEditLine line.now) (RepliesTo P.tells planner.old.effort line.now) round.old.book
+        (IsCutShort (RepliesTo P.tells planner.old.effort line.now) round.old.book
         (O.taken out.old) (O.taken out.new) K.reads_as (K.may_leave round.new.keeper)) }
     ensures any_moment { K.tells → K.stands_for round.old.keeper round.old.book →
         LeavesOnly K.moment K.left_since round.old.keeper round.new.keeper
-        (ReadsOrEdited K.reads_as (IsEditLine line.now) round.old.book) }
+        (ReadsOrReplied K.reads_as (RepliesTo P.tells planner.old.effort line.now) round.old.book) }
     ensures lost { IfErr result (λ e. file_status e ≡ 3) }
 {
     let row = match record_of(alloc, line) {
@@ -191,9 +185,25 @@ fn answer_line<P: Places + Drop, K: Keeper + Drop, O: Sink>(
         Err(refusal) => return refuse(refusal, out),
     };
     match line_of(&row) {
-        Line::Plan { tx, cert, end } => match put_plan(planner, &round.book, tx, cert, end) {
-            Ok(planned) => tell_planned(planned, out),
-            Err(fault) => refuse(Refusal::Undone(fault), out),
+        Line::Plan {
+            tx,
+            cert,
+            end,
+            at_most,
+        } => match at_most {
+            None => match put_plan(planner, &round.book, tx, cert, end) {
+                Ok(planned) => tell_planned(planned, out),
+                Err(fault) => refuse(Refusal::Undone(fault), out),
+            },
+            Some(batches) => {
+                let order = FrontOrder {
+                    tx,
+                    cert,
+                    end,
+                    batches,
+                };
+                answer_front(alloc, planner, round, order, out)
+            }
         },
         Line::List => match write_page_file(alloc, round.book.pages(), out) {
             Ok(()) => tell_pages(&round.book, out),

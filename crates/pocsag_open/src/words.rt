@@ -17,12 +17,15 @@ Each line of standard input is an edit, and is answered at once by one line:
   list                       lists the pages, before the answer
   plan,TX,CERT[,END]         writes both files as the command plan does; END is
                              open, closed or idle
+  plan,TX,CERT,END,B         the same of the longest front that B batches carry,
+                             whose pages are taken out
+  sent,K                     takes the first K pages out
   clear                      takes all pages out
 A line is a CSV record of at most 65536 bytes. The answer is 'ok N' with the
-number of pages, 'batches B' after plan, or 'refused: ' and why: the round is
-then as it was. With --always no plan is refused at the limit; where the
-batches may be one more than the fewest, its answer is 'batches B, at least N'.
-The end of the input ends the program.
+number of pages, 'batches B' after plan, or 'batches N, sent K' if it took K
+pages out, or 'refused: ' and why: the round is then as it was. With --always
+no plan is refused at the limit; where the batches may be one more than the
+fewest, ', at least N' follows. The end of the input ends the program.
 
 Example:
   printf 'add,8,tone0,\\nplan,tx.bin,cert.bin\\n' | pocsag open";

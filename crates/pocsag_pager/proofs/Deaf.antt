@@ -11,7 +11,7 @@ use Rattle.pocsag_pages.proofs.Lengths.{words_long}
 use Rattle.pocsag_pager.specs.declared.pager.State.{State}
 use Rattle.pocsag_pager.specs.declared.pager.State.TheVariants.{Listening}
 use Rattle.pocsag_pager.proofs.Hearings.{IsOpen, Known, pass_all, turn_ended, turn_open}
-use Rattle.pocsag_pager.proofs.Mending.{AreRepaired}
+use Rattle.pocsag_pager.proofs.Mended.{AreRepaired}
 use Rattle.pocsag_pager.proofs.Places.{ending_none, quiet_kind}
 use Rattle.pocsag_pager.proofs.WholeWords.{three_parts}
 

@@ -6,7 +6,7 @@ use Rattle.std.proofs.lemmas.Slice.Zip.{AllZip-long}
 use Rattle.pocsag_pager.specs.declared.pager.State.{State}
 use Rattle.pocsag_pager.specs.declared.pager.State.TheVariants.{Listening}
 use Rattle.pocsag_pager.specs.Shown.{HoldsOnceMended}
-use Rattle.pocsag_pager.proofs.Mending.{AreRepaired, heard_at, all_mended_same}
+use Rattle.pocsag_pager.proofs.Mended.{AreRepaired, heard_at, all_mended_same}
 use Rattle.pocsag_pager.proofs.Places.{ended_more, ending_none, next_open_elsewhere, next_open_same, open_more, shown_is}
 use Rattle.pocsag_pages.proofs.Lengths.{unsynced_codeword, unsynced_count, unsynced_more, unsynced_sync}
 

@@ -1,10 +1,10 @@
 pub mod Chosen
+pub mod Damage
 pub mod Deaf
 pub mod Hearings
-pub mod Mending
+pub mod Memory
+pub mod Mended
 pub mod Places
 pub mod Prelude
-pub mod Repairing
-pub mod Showing
-pub mod Wanting
+pub mod ShownPages
 pub mod WholeWords

@@ -4,7 +4,7 @@ use Rattle.std.proofs.Common.{not, nat_lt, ◌&&◌}
 use Rattle.pocsag_words.specs.declared.codeword.Kind.TheVariants.{Idle, Address, Message}
 use Rattle.pocsag_words.proofs.TruthValues.{and_false}
 use Rattle.pocsag_words.specs.Kinds.{idle_word, kind_of}
-use Rattle.pocsag_pager.specs.Standing.{is_run}
+use Rattle.pocsag_pager.specs.States.{is_run}
 
 -- ---- a run of message codewords has no page of its own
 

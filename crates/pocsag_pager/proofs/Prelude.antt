@@ -1,7 +1,7 @@
 -- What several proofs of the crate import, passed on to all of them.
 unfoldable pub use Rattle.pocsag_pager.specs.Shown.{is_ours}
 pub use Rattle.pocsag_pager.specs.Shown.{AreShown, IsMended, page_called, run_of, said, shown_from}
-pub use Rattle.pocsag_pager.specs.Standing.{HasHeard, HaveEnded, IsElsewhere, ended_from, open_from, pager_address}
+pub use Rattle.pocsag_pager.specs.States.{HasHeard, HaveEnded, IsElsewhere, ended_from, open_from, pager_address}
 pub use Rattle.pocsag_pager.specs.Turns.{IsHeardAs, ending, next_open}
 pub use Rattle.pocsag_pages.specs.Bytes.{unsynced, words_of}
 pub use Rattle.pocsag_pages.specs.Reading.{AreApart, frame_at}

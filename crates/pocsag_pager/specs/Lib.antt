@@ -1,5 +1,5 @@
 pub mod Damage
 pub mod Faults
 pub mod Shown
-pub mod Standing
+pub mod States
 pub mod Turns

@@ -45,7 +45,7 @@ impl Pager {
     ghost use Rattle.pocsag_pages.specs.Bytes.{words_of};
     ghost use Rattle.pocsag_pager.specs.Faults.{address_fault};
     ghost use Rattle.pocsag_pager.specs.Shown.{AreShown};
-    ghost use Rattle.pocsag_pager.specs.Standing.{Continues, HasHeard, HaveEnded, IsElsewhere, IsOver, Stands, pager_address};
+    ghost use Rattle.pocsag_pager.specs.States.{Continues, HasHeard, HaveEnded, IsElsewhere, IsOver, Stands, pager_address};
 
     /// A pager that has heard nothing yet, which takes no memory. It refuses an address above
     /// 2,097,151 (`BadAddress`) and then a reserved one (`ReservedAddress`).

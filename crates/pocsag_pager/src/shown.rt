@@ -8,7 +8,7 @@ ghost use Rattle.pocsag_pager.specs.Damage.{IsDamaged};
 ghost use Rattle.pocsag_pager.specs.Faults.{address_fault, bytes_fault, hearing_fault};
 ghost use Rattle.pocsag_pages.specs.Listable.{IsListable};
 ghost use Rattle.pocsag_pager.specs.Shown.{AreShown, ShowsSome};
-ghost use Rattle.pocsag_pager.specs.Standing.{Hears, Stands, WantsForPage, pager_address};
+ghost use Rattle.pocsag_pager.specs.States.{Hears, Stands, WantsForPage, pager_address};
 
 use crate::fault::PagerFault;
 use crate::laws::{damage_is_repaired, shown_pages_are_one_list};

@@ -3,10 +3,11 @@ pub mod CsvSteps
 pub mod FirstPages
 pub mod Fronts
 pub mod GoodPages
-pub mod Growing
-pub mod Judging
+pub mod GrownRounds
+pub mod Judgements
 pub mod Lengths
 pub mod PageLists
+pub mod QuoteSteps
 pub mod Readings
 pub mod RecordPages
 pub mod Spelled

@@ -15,7 +15,7 @@ use Rattle.pocsag_pages.specs.declared.fault.RoundFault.TheVariants as fault
 use Rattle.pocsag_pages.specs.PageFile.{Row, fault_after, is_header, page_of, pages_of, verdict_of_rows}
 use Rattle.pocsag_pages.specs.WideRecords.{up_to_wide}
 use Rattle.pocsag_pages.proofs.CsvSteps.{IsInside, StaysInside, stays_inside}
-use Rattle.pocsag_pages.proofs.Judging.{grown, or_later, judged}
+use Rattle.pocsag_pages.proofs.Judgements.{grown, or_later, judged}
 
 -- the records of a text, of which the first has these fields and this part of one so far
 abbrev pub rows_on : ℕ → State → List (List ℕ) → List ℕ → List ℕ → List Row

@@ -5,6 +5,7 @@ pub mod PageFile
 pub mod PageList
 pub mod Pages
 pub mod Plain
+pub mod Quotes
 pub mod Reading
 pub mod Rows
 pub mod WideRecords

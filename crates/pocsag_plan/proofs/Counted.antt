@@ -4,7 +4,7 @@ use Rattle.pocsag_words.specs.declared.ending.End.{End}
 use Rattle.pocsag_pages.specs.declared.page.Page.{Page}
 use Rattle.pocsag_slots.specs.declared.class.Classes.{Classes}
 use Rattle.pocsag_slots.specs.Loads.{AreClassesOf}
-use Rattle.pocsag_slots.specs.Numbering.{class_of_page, count_of}
+use Rattle.pocsag_slots.specs.Classes.{class_of_page, count_of}
 use Rattle.pocsag_slots.proofs.CountLemmas.{page_class_below}
 use Rattle.pocsag_slots.proofs.Walks.{count_of-cons}
 use Rattle.pocsag_branch.specs.Found.{HasPage}

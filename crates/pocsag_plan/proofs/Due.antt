@@ -4,13 +4,13 @@ use Rattle.pocsag_words.specs.declared.codeword.Kind.{Kind}
 use Rattle.pocsag_words.specs.declared.ending.End.{End}
 use Rattle.pocsag_pages.specs.declared.page.Page.{Page}
 use Rattle.pocsag_pages.specs.Bytes.{bytes_of}
-use Rattle.pocsag_tree.specs.Spelling.{written_text}
+use Rattle.pocsag_tree.specs.CertificateText.{written_text}
 use Rattle.pocsag_tree.specs.BoundTrees.{BoundTree}
 use Rattle.pocsag_tree.specs.Views.{bound_tree_of}
 use Rattle.pocsag_slots.specs.declared.step.Step.{Step}
 use Rattle.pocsag_slots.proofs.Fewest.{laid_list_legal}
-use Rattle.pocsag_batch.specs.Placing.{HavePlaces, laid_by}
-use Rattle.pocsag_batch.specs.Saying.{Say}
+use Rattle.pocsag_batch.specs.Placement.{HavePlaces, laid_by}
+use Rattle.pocsag_batch.specs.Meanings.{Say}
 use Rattle.pocsag_batch.proofs.OrderLaws.{order_lays}
 use Rattle.pocsag_batch.proofs.Orders.{order_has_places}
 use Rattle.pocsag_plan.specs.declared.bounded.Bounded.{Bounded}

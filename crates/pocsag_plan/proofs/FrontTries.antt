@@ -1,23 +1,22 @@
 -- What a try of some first pages says of them.
-use Rattle.std.proofs.Common.{◌≡◌, ℕ, ◌+◌, ◌<◌, ◌≤◌, List, [], ◌∷◌, ◌++◌, length, take, get_or, arith, inl, inr, refl, sym, ◌∙◌, subst, ap}
+use Rattle.std.proofs.Common.{◌≡◌, ℕ, ◌+◌, ◌<◌, ◌≤◌, List, length, take, arith, inl, inr, refl, sym, ◌∙◌, subst, ap}
 use Rattle.std.specs.Prelude.{◌⊎◌, Option, Some, None, false}
 use Rattle.std.proofs.lemmas.List.{length-take, length-take-le}
-use Rattle.std.proofs.lemmas.List.Elements.{All-take}
 use Rattle.pocsag_words.specs.declared.ending.End.{End}
 use Rattle.pocsag_pages.specs.declared.page.Page.{Page}
-use Rattle.pocsag_pages.specs.Pages.{IsGoodPage, IsRound, page_limit}
+use Rattle.pocsag_pages.specs.Pages.{IsRound}
 use Rattle.pocsag_pages.specs.Reading.{IsLegalList}
 use Rattle.pocsag_pages.proofs.FirstPages.{first_round}
-use Rattle.pocsag_pages.proofs.GoodPages.{apart_pages, good_pages}
+use Rattle.pocsag_pages.proofs.GoodPages.{apart_pages}
 use Rattle.pocsag_slots.specs.declared.class.Classes.{Classes}
 use Rattle.pocsag_slots.specs.Loads.{AreClassesOf, IsLeast}
 use Rattle.pocsag_tree.specs.Limits.{second_ranges}
-use Rattle.pocsag_tree.specs.Spelling.{HasText}
+use Rattle.pocsag_tree.specs.CertificateText.{HasText}
 use Rattle.pocsag_tree.specs.Views.{bound_tree_of}
 use Rattle.pocsag_tree.specs.declared.shape.Certificate.{Certificate}
 use Rattle.pocsag_branch.specs.declared.stop.SearchLimit.{SearchLimit}
 use Rattle.pocsag_branch.specs.declared.stop.SearchFault.TheVariants as searching
-use Rattle.pocsag_check.specs.Accepting.{IsAccepted}
+use Rattle.pocsag_check.specs.Acceptance.{IsAccepted}
 use Rattle.pocsag_branch.specs.Found.{HasPage, IsBound, IsLimit, IsNodeLimit}
 use Rattle.pocsag_plan.specs.declared.fault.NoFront.TheVariants as front
 use Rattle.pocsag_plan.specs.declared.fault.PlanFault.{PlanFault}
@@ -29,11 +28,11 @@ use Rattle.pocsag_plan.specs.declared.search.Effort.TheVariants.{Fewest, Always}
 use Rattle.pocsag_plan.specs.declared.search.Search.{Search}
 use Rattle.pocsag_plan.specs.declared.attempt.Bracket.{Bracket}
 use Rattle.pocsag_plan.specs.Attempts.{ExceedsPages, HasSpare, IsBracket, IsCut, IsExcess, IsUndecidedAt, IsUpper}
-use Rattle.pocsag_plan.specs.Fronts.{AreBeyond, ExplainsFront, FirstNeeds, IsFrontFor, IsLongestFront, IsUndecidedFor, IsWhyNoMore, ShowsBeyond}
+use Rattle.pocsag_plan.specs.Fronts.{AreBeyond, ExplainsFront, FirstNeeds, IsFrontFor, IsLongestFront, IsWhyNoMore, ShowsBeyond}
 use Rattle.pocsag_plan.specs.Plans.{ExplainsPlan, NoneHasFewer}
 use Rattle.pocsag_plan.specs.Within.{IsOutcome, IsTightOrStopped}
 use Rattle.pocsag_plan.proofs.Counted.{has_page}
-use Rattle.pocsag_plan.proofs.Explaining.{explained}
+use Rattle.pocsag_plan.proofs.Explained.{explained}
 
 -- the bound of the batches that were found, where these are one more than so many: more than these, or the search stopped there
 pub bound_beyond : (k : Classes) (search : Search) (batches bound found : ℕ) (effort : Effort) (stopped : Option SearchLimit) → search.effort ≡ effort →

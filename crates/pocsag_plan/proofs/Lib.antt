@@ -1,11 +1,11 @@
-pub mod Completing
+pub mod Completed
 pub mod Counted
 pub mod Due
-pub mod Editing
+pub mod Edits
 pub mod Entries
-pub mod Explaining
+pub mod Explained
 pub mod FrontTries
-pub mod Refusing
+pub mod Refusals
 pub mod Rooms
-pub mod Tallying
+pub mod Tallies
 pub mod Unwritten

@@ -4,10 +4,10 @@ use Rattle.pocsag_pages.specs.declared.page.Page.{Page}
 use Rattle.pocsag_slots.specs.declared.class.Classes.{Classes}
 use Rattle.pocsag_slots.specs.Loads.{AreClassesOf, IsLeast}
 use Rattle.pocsag_tree.specs.Limits.{second_ranges}
-use Rattle.pocsag_tree.specs.Spelling.{HasText}
+use Rattle.pocsag_tree.specs.CertificateText.{HasText}
 use Rattle.pocsag_tree.specs.Views.{bound_tree_of}
 use Rattle.pocsag_tree.specs.declared.shape.Certificate.{Certificate}
-use Rattle.pocsag_check.specs.Accepting.{IsAccepted}
+use Rattle.pocsag_check.specs.Acceptance.{IsAccepted}
 use Rattle.pocsag_branch.specs.Found.{CanBeSent, IsBound, IsLimit}
 use Rattle.pocsag_branch.specs.declared.stop.SearchLimit.{SearchLimit}
 use Rattle.pocsag_plan.specs.declared.attempt.Tried.{Tried}

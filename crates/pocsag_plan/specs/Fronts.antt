@@ -6,10 +6,10 @@ use Rattle.pocsag_pages.specs.declared.page.Page.{Page}
 use Rattle.pocsag_pages.specs.Reading.{IsLegalList}
 use Rattle.pocsag_tree.specs.BoundTrees.{BoundTree}
 use Rattle.pocsag_tree.specs.Limits.{second_ranges}
-use Rattle.pocsag_tree.specs.Spelling.{HasText}
+use Rattle.pocsag_tree.specs.CertificateText.{HasText}
 use Rattle.pocsag_tree.specs.Views.{bound_tree_of}
 use Rattle.pocsag_tree.specs.declared.shape.Certificate.{Certificate}
-use Rattle.pocsag_check.specs.Accepting.{IsAcceptedFor}
+use Rattle.pocsag_check.specs.Acceptance.{IsAcceptedFor}
 use Rattle.pocsag_branch.specs.Found.{IsNodeLimit}
 use Rattle.pocsag_plan.specs.declared.fault.NoFront.{NoFront}
 use Rattle.pocsag_plan.specs.declared.fault.NoFront.TheVariants as fault

@@ -6,8 +6,8 @@ use Rattle.pocsag_pages.specs.Bytes.{bytes_of}
 use Rattle.pocsag_pages.specs.PageFile.{verdict}
 use Rattle.pocsag_pages.specs.Reading.{IsLegalList}
 use Rattle.pocsag_tree.specs.BoundTrees.{BoundTree}
-use Rattle.pocsag_tree.specs.Spelling.{IsWrittenText}
-use Rattle.pocsag_check.specs.Accepting.{IsAcceptedFor}
+use Rattle.pocsag_tree.specs.CertificateText.{IsWrittenText}
+use Rattle.pocsag_check.specs.Acceptance.{IsAcceptedFor}
 
 -- For a round and an end, with a bound.
 pub record RoundHeadline (round : List Page) (end : End) (batches bound : ℕ) (tree : BoundTree) (sent certificate : List ℕ) : Type 0 where

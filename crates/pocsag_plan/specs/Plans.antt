@@ -9,14 +9,14 @@ use Rattle.pocsag_slots.specs.Loads.{AreClassesOf, IsAdmitted, IsLeast, limits_o
 use Rattle.pocsag_slots.specs.Tours.{IsTour}
 use Rattle.pocsag_tree.specs.BoundTrees.{BoundTree, closed_nodes}
 use Rattle.pocsag_tree.specs.Limits.{second_ranges}
-use Rattle.pocsag_tree.specs.Spelling.{HasText}
+use Rattle.pocsag_tree.specs.CertificateText.{HasText}
 use Rattle.pocsag_tree.specs.Views.{bound_tree_of}
-use Rattle.pocsag_check.specs.Accepting.{IsAcceptedFor}
+use Rattle.pocsag_check.specs.Acceptance.{IsAcceptedFor}
 use Rattle.pocsag_branch.specs.Found.{IsNodeLimit}
 use Rattle.pocsag_branch.specs.Marks.{opens}
 use Rattle.pocsag_branch.specs.Shape.{IsSearchTree, IsShaped}
 use Rattle.pocsag_batch.specs.FileOrder.{IsFileOrder}
-use Rattle.pocsag_batch.specs.Placing.{IsOrder}
+use Rattle.pocsag_batch.specs.Placement.{IsOrder}
 use Rattle.pocsag_plan.specs.declared.answer.Plan.{Plan}
 use Rattle.pocsag_plan.specs.declared.bounded.Bounded.{Bounded}
 use Rattle.pocsag_plan.specs.declared.fault.PlanFault.{PlanFault}

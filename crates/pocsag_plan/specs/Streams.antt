@@ -10,6 +10,8 @@ use Rattle.pocsag_tree.specs.Views.{bound_tree_of}
 use Rattle.pocsag_branch.specs.Found.{IsNodeLimit}
 use Rattle.pocsag_plan.specs.declared.answer.Plan.{Plan}
 use Rattle.pocsag_plan.specs.declared.bounded.Bounded.{Bounded}
+use Rattle.pocsag_plan.specs.declared.fault.UnsentFront.{UnsentFront}
+use Rattle.pocsag_plan.specs.declared.fault.UnsentFront.TheVariants as front
 use Rattle.pocsag_plan.specs.declared.fault.PlanFault.TheVariants as planning
 use Rattle.pocsag_plan.specs.declared.fault.StreamFault.{StreamFault}
 use Rattle.pocsag_plan.specs.declared.fault.StreamFault.TheVariants as fault
@@ -144,6 +146,12 @@ IsUnsent (fault.Certificate f) = Unit {0}
 abbrev pub fault_in : {X : Type 0} → Result X StreamFault → Option StreamFault
 fault_in (Ok x) = None
 fault_in (Err e) = Some e
+
+-- The fault that a front answers, if it is one of a stream: that the first page does not fit is none.
+abbrev pub unsent_fault_in : {X : Type 0} → Result X UnsentFront → Option StreamFault
+unsent_fault_in (Ok x) = None
+unsent_fault_in (Err (front.Stream f)) = Some f
+unsent_fault_in (Err (front.FirstPage needed)) = None
 
 -- The two writers take turns, whatever fault a stream answers, if any. The two functions are how often each writer failed.
 pub record WritesInTurn {T C : Type 0} (failures : T → ℕ) (certificate_failures : C → ℕ) (tx tx_after : T) (cert cert_after : C) (answered : Option StreamFault) : Type 0 where

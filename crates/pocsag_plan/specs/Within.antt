@@ -7,7 +7,7 @@ use Rattle.pocsag_slots.specs.Loads.{AreClassesOf, IsChoice, IsLeast}
 use Rattle.pocsag_slots.specs.Tours.{IsTour}
 use Rattle.pocsag_tree.specs.BoundTrees.{closed_nodes}
 use Rattle.pocsag_tree.specs.Views.{bound_tree_of}
-use Rattle.pocsag_check.specs.Accepting.{IsAccepted}
+use Rattle.pocsag_check.specs.Acceptance.{IsAccepted}
 use Rattle.pocsag_branch.specs.declared.answer.Found.{Found}
 use Rattle.pocsag_branch.specs.Found.{IsBound, IsLimit}
 use Rattle.pocsag_branch.specs.Shape.{IsSearchTree}

@@ -1,4 +1,4 @@
-ghost use Rattle.std.specs.Prelude.{◌≡◌, ◌≤◌, ◌∷◌, ◌++◌, [], length, slice_get, All, Contains, None, false, IfErr, IfOk, IsTrue, OnErr, OnOk, ◌↔◌};
+ghost use Rattle.std.specs.Prelude.{◌≡◌, ◌≤◌, ◌∷◌, ◌++◌, [], drop, length, slice_get, All, Contains, None, false, IfErr, IfOk, IsTrue, OnErr, OnOk, ◌↔◌};
 ghost use Rattle.std.specs.Option.{option_copied};
 ghost use Rattle.pocsag_pages.specs.Listable.{IsListable};
 ghost use Rattle.pocsag_pages.specs.Pages.{page_limit, has_address, AreGood};
@@ -6,7 +6,7 @@ ghost use Rattle.pocsag_slots.specs.Loads.{AreClassesOf};
 ghost use Rattle.pocsag_plan.specs.OpenRound.{add_fault, fault_or_memory, without};
 
 use crate::refusal::{AddFault, NotThere, Refused};
-use crate::tally::{count_page, discount_page, no_classes};
+use crate::tally::{count_page, discount_first, discount_page, no_classes};
 use indexmap::IndexMap;
 use pocsag_pages::{PAGE_LIMIT, Page, Round, page_fault};
 use pocsag_slots::Classes;
@@ -171,6 +171,18 @@ impl Book {
             }
             None => Err(NotThere),
         }
+    }
+
+    /// Takes the first pages out, so many, or all where there are fewer; the others keep their order. It takes no
+    /// memory, and its time grows with the number of all pages.
+    pub fn drop_first(&mut self, count: usize)
+        ensures { self.new ≡ drop count self.old }
+    {
+        let count = count.min(self.pages.len());
+        let pages = self.pages.values().as_slice();
+        discount_first(&mut self.for_open, pages, count, End::Open);
+        discount_first(&mut self.for_closed, pages, count, End::Closed);
+        let _gone = self.pages.drain(..count);
     }
 
     pub(crate) fn allocator(&self) -> Global {

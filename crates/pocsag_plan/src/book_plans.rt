@@ -1,23 +1,25 @@
 //! The round that an open round is sent as.
-ghost use Rattle.std.specs.Prelude.{◌≡◌, ◌<◌, ◌≤◌, ◌↔◌, [], length, IfErr, IfOk, IsErrOf, OnOk};
+ghost use Rattle.std.specs.Prelude.{◌≡◌, ◌<◌, ◌≤◌, ◌↔◌, [], length, take, IfErr, IfOk, IfSome, IsErrOf, OnOk};
 ghost use Rattle.pocsag_pages.specs.Pages.{IsRound};
 ghost use Rattle.pocsag_tree.specs.BoundTrees.{closed_nodes};
 ghost use Rattle.pocsag_tree.specs.Views.{bound_tree_of};
 ghost use Rattle.pocsag_branch.specs.Found.{IsNodeLimit};
-ghost use Rattle.pocsag_plan.specs.BookPlans.{ExplainsBook, ExplainsBookStream};
+ghost use Rattle.pocsag_plan.specs.BookPlans.{ExplainsBook, ExplainsBookFront, ExplainsBookStream};
+ghost use Rattle.pocsag_plan.specs.Fronts.{IsFrontFor, IsLongestFront};
 ghost use Rattle.pocsag_plan.specs.Headline.{RoundHeadline};
 ghost use Rattle.pocsag_plan.specs.Plans.{IsBounded, IsNoWorse, IsPlan, IsPlanFor, NoneHasFewer};
-ghost use Rattle.pocsag_plan.specs.Streams.{fault_in, HasHeadline, IsCertificate, IsSearchLimit, IsTransmission, WritesAllOf, WritesCertificatePartOf, WritesInTurn, WritesPartOf};
+ghost use Rattle.pocsag_plan.specs.Streams.{fault_in, unsent_fault_in, HasHeadline, IsBeforeWriting, IsCertificate, IsSearchLimit, IsTransmission, WritesAllOf, WritesCertificatePartOf, WritesInTurn, WritesPartOf};
 
 use crate::answer::Plan;
 use crate::book::Book;
 use crate::bounded::Bounded;
-use crate::fault::{PlanFault, StreamFault};
+use crate::fault::{NoFront, PlanFault, StreamFault, UnsentFront};
+use crate::front::{FrontPlan, longest_front};
 use crate::plans::{counted_plan, is_node_limit};
 use crate::refusal::BookFault;
 use crate::search::{Effort, Search};
 use crate::streams::send;
-use pocsag_pages::Round;
+use pocsag_pages::{Round, RoundFault};
 use pocsag_words::{End, OutOfMemory, Sink};
 use std::alloc::Global;
 
@@ -186,5 +188,67 @@ impl Book {
         let (round, bounded) = self.planned(search)?;
         send(&round, &bounded, tx, cert)?;
         Ok(bounded)
+    }
+
+    // The longest front of a round of copies of the pages.
+    fn front(&self, batches: u32, search: Search) -> Result<FrontPlan, UnsentFront>
+        ensures front { IfOk result (λ front. IsFrontFor search self.now batches front.bounded.plan.pages) }
+        ensures first { IfOk result (λ front. front.round ≡ take front.bounded.plan.pages self.now) }
+        ensures plan { IfOk result (λ front. IsPlanFor search front.round front.bounded) }
+        ensures within { IfOk result (λ front. front.bounded.plan.batches ≤ batches) }
+        ensures round { OnOk result (IsNodeLimit search.limit × IsRound self.now) }
+        ensures explained { IfErr result (ExplainsBookFront search self.now batches) }
+        ensures unwritten { IfSome (unsent_fault_in result) IsBeforeWriting }
+    {
+        if !is_node_limit(search.limit) {
+            return Err(UnsentFront::Stream(StreamFault::Plan(PlanFault::BadLimit)));
+        }
+        if self.is_empty() {
+            return Err(UnsentFront::Stream(StreamFault::Round(RoundFault::NoPages)));
+        }
+        let alloc = self.allocator();
+        let Ok(round) = self.to_round(alloc) else {
+            return Err(UnsentFront::Stream(StreamFault::Plan(PlanFault::OutOfMemory)));
+        };
+        match longest_front(alloc, round, batches, search) {
+            Ok(front) => Ok(front),
+            Err(NoFront::Plan(fault)) => Err(UnsentFront::Stream(StreamFault::Plan(fault))),
+            Err(NoFront::FirstPage(needed)) => Err(UnsentFront::FirstPage(needed)),
+        }
+    }
+
+    /// Plans the longest front of the pages that so many batches carry, as `longest_front` does, and writes its
+    /// transmission whole and then its certificate; its pages are the first `plan.pages` of the book. Faults in order:
+    /// `BadLimit`; `Round(NoPages)`; `FirstPage`, where not even the first page fits; `SearchLimit`; `OutOfMemory`;
+    /// `Transmission`; `Certificate`.
+    pub fn front_stream<T: Sink, C: Sink>(
+        &self,
+        tx: &mut T,
+        cert: &mut C,
+        batches: u32,
+        search: Search,
+    ) -> Result<Bounded, UnsentFront>
+        ensures round { OnOk result (IsRound self.now) }
+        ensures front { IfOk result (λ bounded. IsFrontFor search self.now batches bounded.plan.pages) }
+        ensures longest { search.effort ≡ Effort.Fewest → IfOk result (λ bounded.
+            IsLongestFront search.end self.now batches bounded.plan.pages) }
+
+        // The headline of these first pages.
+        ensures headline { T.tells → C.tells → IfOk result (λ bounded. WritesAllOf
+            (RoundHeadline (take bounded.plan.pages self.now) search.end bounded.plan.batches bounded.bound
+            (bound_tree_of bounded.plan.tree))
+            (T.taken tx.old) (T.taken tx.new) (C.taken cert.old) (C.taken cert.new)) }
+        ensures plan { IfOk result (λ bounded. IsPlanFor search (take bounded.plan.pages self.now) bounded) }
+        ensures within { IfOk result (λ bounded. bounded.plan.batches ≤ batches) }
+
+        // When each fault comes, and what it leaves.
+        ensures explained { IfErr result (ExplainsBookFront search self.now batches) }
+        ensures writers { WritesInTurn T.failures C.failures tx.old tx.new cert.old cert.new (unsent_fault_in result) }
+    {
+        let FrontPlan { round, bounded, .. } = self.front(batches, search)?;
+        match send(&round, &bounded, tx, cert) {
+            Ok(()) => Ok(bounded),
+            Err(fault) => Err(UnsentFront::Stream(fault)),
+        }
     }
 }

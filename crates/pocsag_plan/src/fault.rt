@@ -47,6 +47,15 @@ pub enum StreamFault {
     Certificate(WriteFault),
 }
 
+/// Why no front of an open round was planned and written.
+#[derive(Drop)]
+pub enum UnsentFront {
+    /// As of a plan of all its pages.
+    Stream(StreamFault),
+    /// Not even the first page fits: it is sent in so many batches.
+    FirstPage(u32),
+}
+
 /// A rate that is none of 512, 1200 and 2400 bits a second.
 #[derive(Clone, Copy, PartialEq, Eq, Debug, Error)]
 #[error("the rate must be 512, 1200 or 2400")]

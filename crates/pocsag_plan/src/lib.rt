@@ -25,7 +25,7 @@ pub use answer::Plan;
 pub use book::Book;
 pub use bounded::Bounded;
 pub use edit::Edit;
-pub use fault::{BadRate, NoFront, PlanFault, StreamFault};
+pub use fault::{BadRate, NoFront, PlanFault, StreamFault, UnsentFront};
 pub use front::{FrontPlan, longest_front};
 pub use laws::tight_headlines_are_headlines;
 pub use plans::{bounded_plan, is_node_limit, plan, plan_always};

@@ -1,6 +1,7 @@
 // Class tables that are kept by each edit and never counted again.
-ghost use Rattle.std.specs.Prelude.{List, [], ◌∷◌, ◌++◌};
+ghost use Rattle.std.specs.Prelude.{◌≤◌, List, [], ◌∷◌, ◌++◌, drop, length};
 ghost use Rattle.pocsag_words.specs.declared.ending.End.{End};
+ghost use Rattle.pocsag_pages.specs.Pages.{AreGood, page_limit};
 ghost use Rattle.pocsag_pages.specs.declared.page.Page.{Page};
 ghost use Rattle.pocsag_slots.specs.Loads.{AreClassesOf};
 ghost use Rattle.pocsag_plan.specs.Tallies.{CanGain, CanLose};
@@ -41,4 +42,17 @@ pub(crate) fn discount_page(classes: &mut Classes, page: &Page, end: End)
     let turns = whole_turns(page);
     classes.count[class] -= 1;
     classes.turns[class] -= turns;
+}
+
+// Counts the first pages, so many, no longer.
+pub(crate) fn discount_first(classes: &mut Classes, pages: &[Page], count: usize, end: End)
+    requires good { AreGood pages.now }
+    requires few { length pages.now ≤ page_limit }
+    requires among { count ≤ length pages.now }
+    requires counted { AreClassesOf classes.old end pages.now }
+    ensures { AreClassesOf classes.new end (drop count pages.now) }
+{
+    for page in &pages[..count] {
+        discount_page(classes, page, end);
+    }
 }

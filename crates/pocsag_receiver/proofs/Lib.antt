@@ -1,1 +1,2 @@
+pub mod Captured
 pub mod Received

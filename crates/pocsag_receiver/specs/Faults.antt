@@ -1,5 +1,6 @@
 -- The faults of the commands for transmissions: their exit statuses, and which of them each fault of a call is.
 use Rattle.std.specs.Prelude.{ℕ}
+use Rattle.pocsag_capture.specs.declared.fault.CaptureFault.TheVariants as capturing
 use Rattle.pocsag_decode.specs.declared.fault.DecodeFault.TheVariants as decoding
 use Rattle.pocsag_decode.specs.declared.fault.ListFault.{ListFault}
 use Rattle.pocsag_decode.specs.declared.fault.ListFault.TheVariants as listing
@@ -16,6 +17,7 @@ abbrev pub receiver_status : ReceiverFault → ℕ
 receiver_status (fault.File f) = file_status f
 receiver_status (fault.Transmission decoding.OutOfMemory) = 3
 receiver_status (fault.Pager hearing.OutOfMemory) = 3
+receiver_status (fault.Capture capturing.OutOfMemory) = 3
 receiver_status _ = 1
 
 abbrev pub fault_of_list : ListFault → ReceiverFault

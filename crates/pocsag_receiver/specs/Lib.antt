@@ -1,3 +1,4 @@
+pub mod Captures
 pub mod Faults
 pub mod Files
 pub mod Listings

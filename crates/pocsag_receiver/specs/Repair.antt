@@ -1,6 +1,6 @@
 -- What `--repair` changes: which bytes `decode` and `show` read.
 use Rattle.std.specs.Prelude.{◌≡◌, ℕ, Bool, true, false, List}
-use Rattle.pocsag_decode.specs.Repairing.{IsRepairOf}
+use Rattle.pocsag_decode.specs.Repairs.{IsRepairOf}
 
 -- The bytes that are read of a file: its own or, with repair, their repair.
 abbrev pub AreReadOf : (file : List ℕ) → (repair : Bool) → (bytes : List ℕ) → Type 0

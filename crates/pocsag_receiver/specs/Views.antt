@@ -2,7 +2,7 @@
 use Rattle.std.specs.Prelude.{◌≡◌, ◌⊎◌, ℕ, ◌<◌, ◌≤◌, List, Some, IfSome}
 use Rattle.pocsag_pages.specs.declared.page.Page.{Page}
 use Rattle.pocsag_decode.specs.Faults.{HasFault, ReadsAs, WantsMemory}
-use Rattle.pocsag_show.specs.Showing.{Shows, ShowsPart}
+use Rattle.pocsag_show.specs.Shows.{Shows, ShowsPart}
 use Rattle.pocsag_show.specs.Views.{rows_wanted, view_text}
 use Rattle.pocsag_show.specs.declared.rows.Rows.{Rows}
 use Rattle.pocsag_show.specs.declared.view.View.{View}

@@ -4,7 +4,7 @@ ghost use Rattle.pocsag_words.specs.Frame.{input_limit};
 ghost use Rattle.pocsag_pages.specs.declared.page.Page.{Page};
 ghost use Rattle.pocsag_decode.specs.Faults.{ReadsAs};
 ghost use Rattle.pocsag_decode.specs.Listing.{listing};
-ghost use Rattle.pocsag_decode.specs.Repairing.{Counts};
+ghost use Rattle.pocsag_decode.specs.Repairs.{Counts};
 ghost use Rattle.pocsag_pager.specs.Damage.{IsDamaged};
 ghost use Rattle.pocsag_shell.specs.declared.fault.FileFault.TheVariants as file;
 ghost use Rattle.pocsag_receiver.specs.Faults.{receiver_status};

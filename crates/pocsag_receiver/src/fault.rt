@@ -1,6 +1,7 @@
 ghost use Rattle.std.specs.Prelude.{◌≡◌};
 ghost use Rattle.pocsag_receiver.specs.declared.fault.ReceiverFault.TheVariants as fault;
 
+use pocsag_capture::CaptureFault;
 use pocsag_decode::{DecodeFault, ListFault};
 use pocsag_pager::PagerFault;
 use pocsag_shell::{Failure, FileFault};
@@ -19,6 +20,9 @@ pub enum ReceiverFault {
     /// The pager shows nothing of these bytes.
     #[error(transparent)]
     Pager(PagerFault),
+    /// Nothing is lifted out of this capture.
+    #[error(transparent)]
+    Capture(CaptureFault),
     /// The transmission has so many batches, and the first row that `show` is asked for is behind them.
     #[error("rows {rows}: the transmission has {batches} batch{}", batch_ending(.batches))]
     NoSuchRows { rows: Rows, batches: u64 },
@@ -39,6 +43,7 @@ impl Failure for ReceiverFault {
             ReceiverFault::File(fault) => fault.status(),
             ReceiverFault::Transmission(DecodeFault::OutOfMemory) => 3,
             ReceiverFault::Pager(PagerFault::OutOfMemory) => 3,
+            ReceiverFault::Capture(CaptureFault::OutOfMemory) => 3,
             _ => 1,
         }
     }
@@ -65,6 +70,14 @@ impl From<PagerFault> for ReceiverFault {
 
     fn from(refused: PagerFault) -> ReceiverFault {
         ReceiverFault::Pager(refused)
+    }
+}
+
+impl From<CaptureFault> for ReceiverFault {
+    ghost from_gives = { λ refused e. e ≡ fault.Capture refused };
+
+    fn from(refused: CaptureFault) -> ReceiverFault {
+        ReceiverFault::Capture(refused)
     }
 }
 

@@ -1,15 +1,18 @@
+use crate::capture::{decode_capture, hear_capture, show_capture};
 use crate::decode::decode_bytes;
 use crate::fault::ReceiverFault;
 use crate::hear::list_heard;
 use crate::show::show_bytes;
 use crate::transmission::TRANSMISSION_LIMIT;
 use crate::words::{
-    ADDRESS, BAD_ROWS, DECODE, HEAR, RECEIVER_COMMANDS, REPAIR, SHOW, SHOW_SHAPE, wanted_view,
+    ADDRESS, BAD_ROWS, CAPTURE, DECODE, HEAR, NTH, RECEIVER_COMMANDS, REPAIR, SHOW, SHOW_SHAPE,
+    wanted_view,
 };
 use clap::error::ErrorKind;
 use clap::{ArgMatches, Error};
+use pocsag_capture::{Heard, Polarity, Reception};
 use pocsag_decode::Repaired;
-use pocsag_shell::{Call, Desk, Group, Names, Role, TX, Tables, command, path_of, read_file};
+use pocsag_shell::{Call, Desk, Group, Names, Role, TX, Tables, command, path_of, read_file, tell};
 use pocsag_show::View;
 use std::alloc::{AllocError, Global};
 
@@ -23,6 +26,9 @@ enum Receiving {
     Decode { repair: bool },
     Hear { address: u32 },
     Show { view: View, repair: bool },
+    DecodeCapture,
+    HearCapture { address: u32 },
+    ShowCapture { view: View, nth: u32 },
 }
 
 impl Group for Receiver {
@@ -54,16 +60,23 @@ impl Group for Receiver {
 
 // What the words ask of a transmission; nothing where they are those of no command, or of `show` with rows that are none.
 fn asked_of(name: &str, found: &ArgMatches<'_>) -> Option<Receiving> {
-    match name {
-        DECODE => Some(Receiving::Decode {
-            repair: found.get_flag(REPAIR),
-        }),
-        HEAR => Some(Receiving::Hear {
+    let repair = || found.get_flag(REPAIR);
+    match (name, found.get_flag(CAPTURE)) {
+        (DECODE, false) => Some(Receiving::Decode { repair: repair() }),
+        (DECODE, true) => Some(Receiving::DecodeCapture),
+        (HEAR, false) => Some(Receiving::Hear {
             address: found.get_one::<u32>(ADDRESS)?,
         }),
-        SHOW => Some(Receiving::Show {
+        (HEAR, true) => Some(Receiving::HearCapture {
+            address: found.get_one::<u32>(ADDRESS)?,
+        }),
+        (SHOW, false) => Some(Receiving::Show {
             view: wanted_view(found)?,
-            repair: found.get_flag(REPAIR),
+            repair: repair(),
+        }),
+        (SHOW, true) => Some(Receiving::ShowCapture {
+            view: wanted_view(found)?,
+            nth: found.get_one::<u32>(NTH).unwrap_or(1),
         }),
         _ => None,
     }
@@ -97,6 +110,24 @@ fn receive(desk: Desk<'_>, asked: Receiving, tx: &str) -> Result<u8, ReceiverFau
             let corrected = show_bytes(desk.alloc, view, repair, bytes, out)?;
             note_repair(desk, repair, tx, corrected);
         }
+        Receiving::DecodeCapture => {
+            tell_heard(desk, 1, decode_capture(desk.alloc, bytes, out)?.as_slice());
+        }
+        Receiving::HearCapture { address } => {
+            tell_heard(
+                desk,
+                1,
+                hear_capture(desk.alloc, address, bytes, out)?.as_slice(),
+            );
+        }
+        Receiving::ShowCapture { view, nth } => {
+            let nth = u64::from(nth);
+            tell_heard(
+                desk,
+                nth,
+                show_capture(desk.alloc, view, nth, bytes, out)?.as_slice(),
+            );
+        }
     }
     Ok(0)
 }
@@ -107,5 +138,38 @@ fn note_repair(desk: Desk<'_>, repair: bool, tx: &str, corrected: Repaired) {
         let Repaired { words, bits } = corrected;
         let role = Role::Transmission;
         desk.note(format_args!("{role} {tx}: corrected bits {bits}, words {words}"));
+    }
+}
+
+// With `--verbose` tells how transmissions of a capture were received, of which the first has this number.
+fn tell_heard(desk: Desk<'_>, first: u64, heard: &[Heard]) {
+    if !desk.watch.is_asked() {
+        return;
+    }
+    let mut number = first;
+    for told in heard {
+        let Heard {
+            reception,
+            corrected,
+            lost,
+        } = *told;
+        let Reception {
+            bit,
+            polarity,
+            batches,
+        } = reception;
+        let polarity = polarity_name(polarity);
+        let line = format_args!(
+            "pocsag: transmission {number}: bit {bit}, {polarity}, batches {batches}, corrected bits {corrected}, lost words {lost}\n"
+        );
+        let _ = tell(&mut desk.err(), line);
+        number = number.saturating_add(1);
+    }
+}
+
+fn polarity_name(polarity: Polarity) -> &'static str {
+    match polarity {
+        Polarity::Upright => "upright",
+        Polarity::Inverted => "inverted",
     }
 }

@@ -1,6 +1,7 @@
 #![tactic(auto)]
 //! The commands `decode`, `hear` and `show`: what each answers for the bytes of a transmission, and how the command line calls it.
 
+mod capture;
 mod decode;
 mod fault;
 mod group;
@@ -10,6 +11,7 @@ mod show;
 mod transmission;
 mod words;
 
+pub use capture::{decode_capture, hear_capture, show_capture};
 pub use decode::{decode_bytes, list_decoded, run_decode};
 pub use fault::ReceiverFault;
 pub use group::Receiver;

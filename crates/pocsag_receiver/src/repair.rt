@@ -1,7 +1,7 @@
 ghost use Rattle.std.specs.Prelude.{◌≡◌, ℕ, List, true};
 ghost use Rattle.pocsag_pages.specs.Bytes.{Sent};
 ghost use Rattle.pocsag_pager.specs.Damage.{IsDamaged};
-ghost use Rattle.pocsag_decode.specs.Repairing.{Counts};
+ghost use Rattle.pocsag_decode.specs.Repairs.{Counts};
 ghost use Rattle.pocsag_receiver.specs.Repair.{AreReadOf};
 
 use pocsag_decode::{Repaired, repair_all};

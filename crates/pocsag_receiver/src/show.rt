@@ -1,7 +1,7 @@
 ghost use Rattle.std.specs.Prelude.{◌≡◌, ◌≢◌, ◌⊎◌, ℕ, List, Err, true, IfErr, IfOk, IsErrOf, OnOk};
 ghost use Rattle.pocsag_words.specs.Devices.{HasFailed};
 ghost use Rattle.pocsag_pages.specs.Bytes.{Sent};
-ghost use Rattle.pocsag_decode.specs.Repairing.{Counts};
+ghost use Rattle.pocsag_decode.specs.Repairs.{Counts};
 ghost use Rattle.pocsag_pager.specs.Damage.{IsDamaged};
 ghost use Rattle.pocsag_shell.specs.declared.fault.FileFault.TheVariants as file;
 ghost use Rattle.pocsag_receiver.specs.Files.{ExplainsUnread};

@@ -14,6 +14,10 @@ pub(crate) const ADDRESS: &str = "ADDRESS";
 
 pub(crate) const REPAIR: &str = "repair";
 
+pub(crate) const CAPTURE: &str = "capture";
+
+pub(crate) const NTH: &str = "nth";
+
 const LIST: &str = "list";
 
 const ROWS: &str = "rows";
@@ -27,12 +31,24 @@ its letter, and its hue in the drawing, so a page keeps both however its round
 is sent. --rows A-B shows the batches from A to B, --rows A- those from A on,
 and --rows A one batch. The whole transmission is read and checked in each
 case, and rows after its last batch are refused. --repair shows the
-transmission as it is after the repair.
+transmission as it is after the repair. --capture shows one transmission of a
+capture, each word repaired: a word past repair, and a message codeword that
+it leaves without a page, are shown as idle.
 
 Example:
   pocsag show tx.bin
   pocsag show tx.bin --svg > tx.svg
-  pocsag show tx.bin --rows 3-7";
+  pocsag show tx.bin --rows 3-7
+  pocsag show --capture air.bin --nth 2";
+
+// What help says of captures.
+const CAPTURE_MANUAL: &str = "\
+A capture holds bits off the air, eight to a byte, from any point on. A
+transmission begins at each synchronisation codeword within two wrong bits, at
+any bit and in either polarity, and goes on while its batches follow one
+another. Each word is repaired; a word past repair ends the open page. The
+pages of all transmissions are listed in order. --verbose tells the bit, the
+polarity, the batches and the damage of each transmission.";
 
 // What refuses a range of rows that is none.
 pub(crate) const BAD_ROWS: &str = "\
@@ -51,6 +67,26 @@ const REPAIR_FLAG: LineWord = LineWord {
     help: "\
 Corrects up to two wrong bits in each word before it is
 read, for every address; --verbose tells how many",
+    excludes: &[CAPTURE],
+    ..FLAG
+};
+
+const CAPTURE_FLAG: LineWord = LineWord {
+    id: CAPTURE,
+    help: "\
+Reads a capture: bits off the air, at any offset and in
+either polarity, with noise; each word is repaired",
+    ..FLAG
+};
+
+const NTH_OPTION: LineWord = LineWord {
+    id: NTH,
+    help: "\
+Shows this transmission of the capture, counted from 1;
+without it the first",
+    given: Given::Option("N", &[]),
+    content: Content::Number,
+    needs: &[CAPTURE],
     ..FLAG
 };
 
@@ -79,7 +115,15 @@ pub(crate) const SHOW_SHAPE: Shape = Shape {
     name: SHOW,
     about: "Shows what a transmission looks like, codeword by codeword",
     manual: Some(SHOW_MANUAL),
-    words: &[TX_PLACE, SVG_FLAG, ROWS_OPTION, LIST_FLAG, REPAIR_FLAG],
+    words: &[
+        TX_PLACE,
+        SVG_FLAG,
+        ROWS_OPTION,
+        LIST_FLAG,
+        REPAIR_FLAG,
+        CAPTURE_FLAG,
+        NTH_OPTION,
+    ],
 };
 
 // The commands in the order of help.
@@ -87,14 +131,14 @@ pub(crate) const RECEIVER_COMMANDS: &[Shape] = &[
     Shape {
         name: DECODE,
         about: "Lists the pages of a transmission",
-        manual: None,
-        words: &[TX_PLACE, REPAIR_FLAG],
+        manual: Some(CAPTURE_MANUAL),
+        words: &[TX_PLACE, REPAIR_FLAG, CAPTURE_FLAG],
     },
     Shape {
         name: HEAR,
         about: "Lists what one pager shows, past two wrong bits in each codeword",
-        manual: None,
-        words: &[ADDRESS_PLACE, TX_PLACE],
+        manual: Some(CAPTURE_MANUAL),
+        words: &[ADDRESS_PLACE, TX_PLACE, CAPTURE_FLAG],
     },
     SHOW_SHAPE,
 ];

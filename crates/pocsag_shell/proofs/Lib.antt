@@ -1,2 +1,2 @@
 pub mod Besides
-pub mod Telling
+pub mod Told

@@ -28,7 +28,7 @@ pub use files::{
     refuse_one_file, refuse_shared, write_file,
 };
 pub use group::{Both, Call, Group, Tables};
-pub use lines::{put_whole, tell, tell_fault};
+pub use lines::{put_whole, tell, tell_fault, tell_numbers};
 pub use paths::{Named, refuse_equal};
 pub use program::run;
 pub use role::{NamedFile, Names, Role};

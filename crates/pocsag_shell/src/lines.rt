@@ -1,10 +1,11 @@
-ghost use Rattle.std.specs.Prelude.{◌≡◌, ℕ, List, ◌++◌, IfErr, OnErr, OnOk, Some};
+ghost use Rattle.std.specs.Prelude.{◌≡◌, ℕ, ◌≤◌, List, ◌++◌, length, map, IfErr, OnErr, OnOk, Some};
 ghost use Rattle.pocsag_words.specs.Devices.{CountsFailures, Delivers, TookPrefix};
 ghost use Rattle.pocsag_shell.specs.Faults.{IsFailure};
-ghost use Rattle.pocsag_shell.specs.Notes.{error_line};
+ghost use Rattle.pocsag_shell.specs.Notes.{error_line, numbered_text};
 
 use crate::fault::{Failure, FileFault};
 use arrayvec::ArrayString;
+use itoa::Buffer;
 use pocsag_words::{Sink, write_all};
 use std::fmt::{Display, Write};
 
@@ -36,6 +37,50 @@ pub fn tell<S: Sink, D: Display + Drop>(sink: &mut S, text: D) -> Result<(), Fil
         return Err(FileFault::Write);
     };
     put_whole(sink, kept.as_str().as_bytes())
+}
+
+// Keeps the text behind the one that is kept. Where it has no room there, both are written.
+fn keep_text<S: Sink>(
+    sink: &mut S,
+    line: &mut ArrayString<LONGEST>,
+    text: &str,
+) -> Result<(), FileFault>
+    ensures whole { S.tells → OnOk result
+        (S.taken sink.new ++ line.new.bytes ≡ S.taken sink.old ++ (line.old.bytes ++ text.now)) }
+    ensures more { S.tells → OnOk result (length (S.taken sink.old) ≤ length (S.taken sink.new)) }
+    ensures part { S.tells → OnErr result
+        (TookPrefix (S.taken sink.old) (S.taken sink.new) (line.old.bytes ++ text.now)) }
+    ensures lost { IfErr result (λ e. e ≡ FileFault.Write) }
+    ensures failures { CountsFailures result (S.failures sink.old) (S.failures sink.new) }
+{
+    if line.try_push_str(text).is_ok() {
+        return Ok(());
+    }
+    put_whole(sink, line.as_str().as_bytes())?;
+    line.clear();
+    put_whole(sink, text.as_bytes())
+}
+
+/// Writes each text with its number behind it, and then the last text. It does not allocate, and a text of at most 200
+/// bytes is one piece. After a fault a prefix was taken.
+pub fn tell_numbers<S: Sink>(
+    sink: &mut S,
+    numbers: &[(&str, u64)],
+    last: &str,
+) -> Result<(), FileFault>
+    ensures delivers { S.tells → Delivers result (S.taken sink.old) (S.taken sink.new)
+        (numbered_text (map (λ pair. (pair.0.now, pair.1)) numbers.now) last.now) }
+    ensures lost { IfErr result (λ e. e ≡ FileFault.Write) }
+    ensures failures { CountsFailures result (S.failures sink.old) (S.failures sink.new) }
+{
+    let mut line = ArrayString::<LONGEST>::new();
+    let mut digits = Buffer::new();
+    for pair in numbers {
+        keep_text(sink, &mut line, pair.0)?;
+        keep_text(sink, &mut line, digits.format(pair.1))?;
+    }
+    keep_text(sink, &mut line, last)?;
+    put_whole(sink, line.as_str().as_bytes())
 }
 
 /// Writes the line of a fault to standard error and answers the exit status. If standard error fails the line is lost, or all

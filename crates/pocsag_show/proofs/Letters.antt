@@ -6,7 +6,7 @@ use Rattle.std.specs.Prelude.{cond}
 use Rattle.pocsag_words.specs.declared.codeword.Kind.{Kind}
 use Rattle.pocsag_words.specs.declared.codeword.Kind.TheVariants.{Idle, Address, Message}
 use Rattle.pocsag_show.specs.Grid.{is_address, letter_after, letter_at, pages_in, starts_from}
-use Rattle.pocsag_show.specs.Taking.{letters_from}
+use Rattle.pocsag_show.specs.Cells.{letters_from}
 
 pub count-append : (p : Kind → Bool) (ks ls : List Kind) → count_by p (ks ++ ls) ≡ count_by p ks + count_by p ls
 count-append p ks ls = sum_by-append (λ x. cond (p x) 1 0) ks ls

@@ -6,7 +6,7 @@ use Rattle.pocsag_show.specs.Grid.{idles_in, letter_at}
 use Rattle.pocsag_show.specs.Picture.{batch_line, batch_lines, batches_in, frame_cells, head_line, number_column, picture, totals_line}
 use Rattle.pocsag_show.specs.Rows.{end_row, first_row}
 use Rattle.pocsag_show.specs.declared.rows.Rows.{Rows}
-use Rattle.pocsag_show.specs.Taking.{IsGridOf}
+use Rattle.pocsag_show.specs.Cells.{IsGridOf}
 use Rattle.pocsag_show.proofs.Ranges.{flat_map_same}
 
 -- letters that are the same in so many batches

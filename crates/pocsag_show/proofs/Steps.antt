@@ -12,7 +12,7 @@ use Rattle.pocsag_pages.proofs.Lengths.{first_word, unsynced_codeword, unsynced_
 use Rattle.pocsag_decode.specs.Places.{is_idle}
 use Rattle.pocsag_show.specs.declared.grid.Grid.{Grid}
 use Rattle.pocsag_show.specs.Grid.{idles_in, pages_in, starts_from}
-use Rattle.pocsag_show.specs.Taking.{IsGridOf, IsUnderWay, Took, kinds_from, letters_from}
+use Rattle.pocsag_show.specs.Cells.{IsGridOf, IsUnderWay, Took, kinds_from, letters_from}
 use Rattle.pocsag_show.proofs.Letters.{count-append, index-letters, length-letters, length-starts, letters-append, starts-append}
 
 module _ (place number : ℕ) (front back Y : List ℕ) (four : length front ≡ 4)

@@ -25,8 +25,8 @@ use Rattle.pocsag_show.specs.Placed.{placed}
 use Rattle.pocsag_show.specs.Places.{place_header, place_listing, place_rows}
 use Rattle.pocsag_show.specs.Rows.{end_row, first_row}
 use Rattle.pocsag_show.specs.Picture.{grid_text, picture}
-use Rattle.pocsag_show.specs.Showing.{Explains, ExplainsReading, IsTextOf}
-use Rattle.pocsag_show.specs.Taking.{IsGridOf}
+use Rattle.pocsag_show.specs.Shows.{Explains, ExplainsReading, IsTextOf}
+use Rattle.pocsag_show.specs.Cells.{IsGridOf}
 
 module _ (X : List ℕ) (ps : List Page) (r : ReadsAs X ps) where
   same : codewords_in X ≡ r.codewords

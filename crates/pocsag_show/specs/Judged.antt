@@ -7,7 +7,7 @@ use Rattle.pocsag_decode.specs.Faults.{ReadsAs}
 use Rattle.pocsag_show.specs.declared.judged.Judged.{Judged}
 use Rattle.pocsag_show.specs.Numbers.{numbers_in}
 use Rattle.pocsag_show.specs.Placed.{placed_in}
-use Rattle.pocsag_show.specs.Taking.{IsGridOf}
+use Rattle.pocsag_show.specs.Cells.{IsGridOf}
 
 -- The bytes read as pages, which are kept with their places, and the grid is that of the codewords that the bytes
 -- are sent from, whole batches of them.

@@ -1,3 +1,4 @@
+pub mod Cells
 pub mod Drawing
 pub mod Escapes
 pub mod Grid
@@ -10,7 +11,6 @@ pub mod Picture
 pub mod Placed
 pub mod Places
 pub mod Rows
-pub mod Showing
+pub mod Shows
 pub mod Style
-pub mod Taking
 pub mod Views

@@ -3,7 +3,7 @@ ghost use Rattle.std.specs.Int.{from_be_bytes, w32};
 ghost use Rattle.pocsag_words.specs.Codeword.{IsCodeword};
 ghost use Rattle.pocsag_words.specs.Kinds.{kind_of};
 ghost use Rattle.pocsag_pages.specs.Bytes.{codewords_in, unsynced};
-ghost use Rattle.pocsag_show.specs.Taking.{IsGridOf, Took};
+ghost use Rattle.pocsag_show.specs.Cells.{IsGridOf, Took};
 
 use crate::grid::Grid;
 use pocsag_pages::leading_len;

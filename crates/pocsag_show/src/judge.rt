@@ -1,11 +1,11 @@
 ghost use Rattle.std.specs.Prelude.{MatchResult};
-ghost use Rattle.pocsag_show.specs.Showing.{ExplainsReading};
+ghost use Rattle.pocsag_show.specs.Shows.{ExplainsReading};
 ghost use Rattle.pocsag_show.specs.Judged.{IsJudged};
 
 use crate::fault::ShowFault;
 use crate::grid_words::grid_of;
 use crate::judged::Judged;
-use crate::numbering::numbers_of;
+use crate::page_numbers::numbers_of;
 use crate::placement::placed_pages;
 use pocsag_decode::{DecodeFault, decode};
 use std::alloc::Global;

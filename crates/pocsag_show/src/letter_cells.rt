@@ -1,7 +1,7 @@
 ghost use Rattle.std.specs.Prelude.{◌≡◌, ◌∷◌, [], OnOk, slice_index};
 ghost use Rattle.pocsag_show.specs.Grid.{letter_after};
 ghost use Rattle.pocsag_show.specs.Numbers.{capital, small};
-ghost use Rattle.pocsag_show.specs.Taking.{Took};
+ghost use Rattle.pocsag_show.specs.Cells.{Took};
 
 use crate::grid::{Grid, LETTERS};
 use pocsag_words::Kind;

@@ -2,7 +2,7 @@ ghost use Rattle.std.specs.Prelude.{◌≡◌, ℕ, ◌+◌, ◌*◌, ◌%◌, �
 ghost use Rattle.std.specs.List.{flat_map, range_with_len};
 ghost use Rattle.pocsag_words.specs.declared.codeword.Kind.{Kind};
 ghost use Rattle.pocsag_show.specs.Picture.{batch_lines, counts_part, frame_cells, number_column, picture, totals_line};
-ghost use Rattle.pocsag_show.specs.Taking.{IsGridOf};
+ghost use Rattle.pocsag_show.specs.Cells.{IsGridOf};
 
 use crate::counts::Counts;
 use crate::grid::Grid;

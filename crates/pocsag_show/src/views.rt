@@ -2,7 +2,7 @@ ghost use Rattle.std.specs.Prelude.{◌≡◌, ◌≢◌, ◌≤◌, ℕ, List, 
 ghost use Rattle.pocsag_pages.specs.Listable.{IsListable};
 ghost use Rattle.pocsag_decode.specs.Faults.{TellsFailures};
 ghost use Rattle.pocsag_show.specs.Judged.{IsJudged};
-ghost use Rattle.pocsag_show.specs.Showing.{Explains, ExplainsReading, IsTextOf, Shows, ShowsPart};
+ghost use Rattle.pocsag_show.specs.Shows.{Explains, ExplainsReading, IsTextOf, Shows, ShowsPart};
 ghost use Rattle.pocsag_show.specs.Views.{view_text};
 
 use crate::drawing::drawing_of;

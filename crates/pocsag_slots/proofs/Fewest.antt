@@ -1,8 +1,8 @@
 -- What a legal transmission says of its count of batches.
 use Rattle.pocsag_slots.proofs.Prelude.{◌≡◌, ℕ, ◌<◌, ◌≤◌, List, All, map, sym, subst, arith, IsCodeword, kind_of, Kind, End, Page, AreApart, IsLegalFor, IsLegalList, Classes, Step, early_in, laid, AreClassesOf, IsChoice, load, IsTour}
 use Rattle.pocsag_slots.specs.Loads.{IsLeast}
-use Rattle.pocsag_slots.proofs.Laying.{laid_legal}
-use Rattle.pocsag_slots.proofs.Touring.{toured}
+use Rattle.pocsag_slots.proofs.LaidSteps.{laid_legal}
+use Rattle.pocsag_slots.proofs.ToursOfLists.{toured}
 
 pub early_choice : (k : Classes) (end : End) (T : List Kind) (R : List Page) (b : ℕ) → AreApart R → AreClassesOf k end R →
     IsLegalFor end T b R → IsChoice k (early_in end T)

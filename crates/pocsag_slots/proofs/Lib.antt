@@ -1,9 +1,10 @@
 pub mod CountLemmas
 pub mod CoverLemmas
-pub mod Edging
+pub mod EdgeLemmas
 pub mod Endings
 pub mod Fewest
-pub mod Laying
+pub mod FirstOfClass
+pub mod LaidSteps
 pub mod LeastLemmas
 pub mod LimitLemmas
 pub mod LoadLemmas
@@ -12,7 +13,6 @@ pub mod Prelude
 pub mod Rearranged
 pub mod Sayable
 pub mod SumLemmas
-pub mod Taking
-pub mod Touring
+pub mod ToursOfLists
 pub mod Walks
 pub mod WayLemmas

@@ -9,8 +9,8 @@ pub use Rattle.pocsag_slots.specs.Edges.{ends_at, starts_at}
 pub use Rattle.pocsag_slots.specs.Layout.{first_of, laid, without_first}
 unfoldable pub use Rattle.pocsag_slots.specs.Loads.{class_load, least_of_class, load}
 pub use Rattle.pocsag_slots.specs.Loads.{AreClassesOf, AreInOrder, IsChoice}
-unfoldable pub use Rattle.pocsag_slots.specs.Numbering.{class_frame, class_of, class_rest, finish_of, start_of}
-pub use Rattle.pocsag_slots.specs.Numbering.{class_of_page, count_of, turns_of}
+unfoldable pub use Rattle.pocsag_slots.specs.Classes.{class_frame, class_of, class_rest, finish_of, start_of}
+pub use Rattle.pocsag_slots.specs.Classes.{class_of_page, count_of, turns_of}
 unfoldable pub use Rattle.pocsag_slots.specs.Sums.{holds, joined_below, sum_below, sum_over}
 pub use Rattle.pocsag_slots.specs.Tours.{IsTour, LastAs, LastIsIdle, LastIsWhole, Leads, idles}
 unfoldable pub use Rattle.pocsag_slots.specs.Ways.{class_ways, slot_ways, ways_across}

@@ -6,10 +6,10 @@ use Rattle.pocsag_words.specs.declared.codeword.Kind.TheVariants.{Idle, Address,
 use Rattle.pocsag_pages.specs.Pages.{is_reserved}
 use Rattle.pocsag_pages.proofs.GoodPages.{good_pages}
 use Rattle.pocsag_slots.specs.declared.step.Step.TheVariants.{Idle as Stay, Run}
-use Rattle.pocsag_slots.specs.Saying.{IsSayable}
+use Rattle.pocsag_slots.specs.Meanings.{IsSayable}
 use Rattle.pocsag_slots.proofs.Fewest.{laid_list_legal}
-use Rattle.pocsag_slots.proofs.Laying.{IsServed, served_left, served_tour, some_left}
-use Rattle.pocsag_slots.proofs.Taking.{taken}
+use Rattle.pocsag_slots.proofs.LaidSteps.{IsServed, served_left, served_tour, some_left}
+use Rattle.pocsag_slots.proofs.FirstOfClass.{taken}
 
 -- each address with a function, and each message, has a codeword
 pub record HaveCodewords : Type 0 where

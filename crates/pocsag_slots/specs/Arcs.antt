@@ -6,7 +6,7 @@ use Rattle.pocsag_words.specs.declared.ending.End.{End}
 use Rattle.pocsag_pages.specs.Reading.{frame_at}
 use Rattle.pocsag_slots.specs.declared.step.Step.{Step}
 use Rattle.pocsag_slots.specs.declared.step.Step.TheVariants.{Idle as Stay, Run}
-use Rattle.pocsag_slots.specs.Numbering.{class_of}
+use Rattle.pocsag_slots.specs.Classes.{class_of}
 
 -- How many message codewords stand first.
 abbrev pub run_length : List Kind → ℕ

@@ -2,7 +2,7 @@
 use Rattle.std.specs.Prelude.{◌≡◌, ℕ, ◌+◌, ◌-◌, ◌<◌, ◌==◌, true, false, cond, List, slice_index}
 use Rattle.pocsag_slots.specs.declared.class.Classes.{Classes}
 use Rattle.pocsag_slots.specs.Loads.{class_load}
-use Rattle.pocsag_slots.specs.Numbering.{slot_count, start_of, finish_of}
+use Rattle.pocsag_slots.specs.Classes.{slot_count, start_of, finish_of}
 use Rattle.pocsag_slots.specs.Sums.{sum_below}
 
 -- The runs of a class that start at the boundary, and those that end there.

@@ -7,7 +7,7 @@ use Rattle.pocsag_pages.specs.declared.page.Page.{Page}
 use Rattle.pocsag_pages.specs.Reading.{page_words}
 use Rattle.pocsag_slots.specs.declared.step.Step.{Step}
 use Rattle.pocsag_slots.specs.declared.step.Step.TheVariants.{Idle as Stay, Run}
-use Rattle.pocsag_slots.specs.Numbering.{class_of_page}
+use Rattle.pocsag_slots.specs.Classes.{class_of_page}
 
 -- The first page of the class, and the other pages of the list in order.
 abbrev pub first_of : End → ℕ → List Page → Page

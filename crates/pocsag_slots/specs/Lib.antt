@@ -1,10 +1,10 @@
 pub mod Arcs
+pub mod Classes
 pub mod Cover
 pub mod Edges
 pub mod Layout
 pub mod Loads
-pub mod Numbering
-pub mod Saying
+pub mod Meanings
 pub mod Sums
 pub mod Tables
 pub mod Tours

@@ -6,7 +6,7 @@ use Rattle.pocsag_slots.specs.declared.class.Choice.{Choice}
 use Rattle.pocsag_slots.specs.declared.class.Classes.{Classes}
 use Rattle.pocsag_slots.specs.declared.limit.Limits.{Limits}
 use Rattle.pocsag_slots.specs.Cover.{covered}
-use Rattle.pocsag_slots.specs.Numbering.{class_count, slot_count, class_rest, start_of, count_of, turns_of}
+use Rattle.pocsag_slots.specs.Classes.{class_count, slot_count, class_rest, start_of, count_of, turns_of}
 use Rattle.pocsag_slots.specs.Sums.{sum_below, sum_over}
 
 -- The table counts the pages of the list.

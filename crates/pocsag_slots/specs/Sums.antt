@@ -1,6 +1,6 @@
 -- Sums and lists over the numbers below a number, and sets as numbers.
 use Rattle.std.specs.Prelude.{◌≡◌, ◌≢◌, ℕ, zero, suc, ◌+◌, ◌/◌, ◌%◌, ◌^◌, ◌<◌, ◌==◌, Bool, true, false, cond, List, [], ◌++◌}
-use Rattle.pocsag_slots.specs.Numbering.{slot_count}
+use Rattle.pocsag_slots.specs.Classes.{slot_count}
 
 -- f 0 + .. + f (n - 1)
 unfoldable pub sum_below : ℕ → (ℕ → ℕ) → ℕ

@@ -2,7 +2,7 @@
 -- (this project's own limits).
 use Rattle.std.specs.Prelude.{◌≡◌, ℕ, ◌*◌, ◌<◌, ◌≤◌, List, length, slice_index}
 use Rattle.pocsag_pages.specs.Pages.{page_limit}
-use Rattle.pocsag_slots.specs.Numbering.{first_bare, class_count, class_rest}
+use Rattle.pocsag_slots.specs.Classes.{first_bare, class_count, class_rest}
 use Rattle.pocsag_slots.specs.Sums.{sum_below}
 
 -- The most whole turns of a page.

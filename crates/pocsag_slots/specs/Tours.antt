@@ -9,7 +9,7 @@ use Rattle.pocsag_slots.specs.declared.step.Step.{Step}
 use Rattle.pocsag_slots.specs.declared.step.Step.TheVariants.{Idle as Stay, Run}
 use Rattle.pocsag_slots.specs.Arcs.{runs}
 use Rattle.pocsag_slots.specs.Loads.{load, AreClassesOf}
-use Rattle.pocsag_slots.specs.Numbering.{class_count, last_class, slot_count, start_of, finish_of}
+use Rattle.pocsag_slots.specs.Classes.{class_count, last_class, slot_count, start_of, finish_of}
 
 -- The arcs lead from boundary p to boundary q, each starting where the one before ended.
 abbrev pub Leads : ℕ → List Step → ℕ → Type 0

@@ -6,7 +6,7 @@ use Rattle.pocsag_slots.specs.declared.class.Classes.{Classes}
 use Rattle.pocsag_slots.specs.declared.limit.Limits.{Limits}
 use Rattle.pocsag_slots.specs.declared.way.Way.{Way}
 use Rattle.pocsag_slots.specs.declared.way.Way.TheVariants.{IdleIn, Early, Late}
-use Rattle.pocsag_slots.specs.Numbering.{class_count, last_class, last_slot, slot_count, start_of, finish_of}
+use Rattle.pocsag_slots.specs.Classes.{class_count, last_class, last_slot, slot_count, start_of, finish_of}
 use Rattle.pocsag_slots.specs.Sums.{holds, joined_below}
 
 -- A run of the class has an end outside the set.

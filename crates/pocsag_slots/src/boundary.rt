@@ -1,10 +1,10 @@
 ghost use Rattle.std.specs.Prelude.{◌≡◌, ◌<◌};
-ghost use Rattle.pocsag_slots.specs.Numbering.{class_frame, class_rest, finish_of, start_of};
+ghost use Rattle.pocsag_slots.specs.Classes.{class_frame, class_rest, finish_of, start_of};
 
 use crate::class::{FIRST_BARE, SLOT_COUNT};
 
 /// The frame of the class, 0 to 7.
-#[tactic(auto, unfolding(crate::specs::Numbering::class_frame))]
+#[tactic(auto, unfolding(crate::specs::Classes::class_frame))]
 pub fn frame(class: u8) -> u8
     requires { class < 136 }
     ensures value { result ≡ class_frame class }
@@ -18,7 +18,7 @@ pub fn frame(class: u8) -> u8
 }
 
 /// How many slots a run of the class covers beside its whole turns, 0 to 15.
-#[tactic(auto, unfolding(crate::specs::Numbering::class_rest))]
+#[tactic(auto, unfolding(crate::specs::Classes::class_rest))]
 pub fn rest(class: u8) -> u8
     requires { class < 136 }
     ensures value { result ≡ class_rest class }
@@ -32,7 +32,7 @@ pub fn rest(class: u8) -> u8
 }
 
 /// The boundary, and the slot, at which an early or a late run of the class starts.
-#[tactic(auto, unfolding(crate::specs::Numbering::start_of))]
+#[tactic(auto, unfolding(crate::specs::Classes::start_of))]
 pub fn start(class: u8, early: bool) -> u8
     requires { class < 136 }
     ensures value { result ≡ start_of class early }
@@ -46,7 +46,7 @@ pub fn start(class: u8, early: bool) -> u8
 }
 
 /// The boundary to which an early or a late run of the class leads.
-#[tactic(auto, unfolding(crate::specs::Numbering::finish_of))]
+#[tactic(auto, unfolding(crate::specs::Classes::finish_of))]
 pub fn finish(class: u8, early: bool) -> u8
     requires { class < 136 }
     ensures value { result ≡ finish_of class early }

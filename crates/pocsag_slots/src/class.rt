@@ -1,5 +1,5 @@
 ghost use Rattle.std.specs.Prelude.{◌≡◌, ◌<◌, length};
-ghost use Rattle.pocsag_slots.specs.Numbering.{class_count};
+ghost use Rattle.pocsag_slots.specs.Classes.{class_count};
 ghost use Rattle.pocsag_slots.specs.Tables.{AreTables};
 
 /// How many classes of pages there are.

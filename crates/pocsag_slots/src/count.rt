@@ -1,7 +1,7 @@
 ghost use Rattle.std.specs.Prelude.{◌≡◌, ◌≢◌, ℕ, ◌/◌, ◌<◌, ◌≤◌, length, slice_index};
 ghost use Rattle.pocsag_pages.specs.Reading.{page_length};
 ghost use Rattle.pocsag_slots.specs.Loads.{AreClassesOf};
-ghost use Rattle.pocsag_slots.specs.Numbering.{class_of_page, slot_count};
+ghost use Rattle.pocsag_slots.specs.Classes.{class_of_page, slot_count};
 ghost use Rattle.pocsag_slots.specs.Sums.{sum_below};
 ghost use Rattle.pocsag_slots.specs.Tables.{turn_limit};
 
@@ -10,7 +10,7 @@ use pocsag_pages::{Page, Round};
 use pocsag_words::End;
 
 /// The class of the page for the end.
-#[tactic(auto, unfolding(crate::specs::Numbering::class_of))]
+#[tactic(auto, unfolding(crate::specs::Classes::class_of))]
 pub fn class_of(page: &Page, end: End) -> Class
     ensures { result.number ≡ class_of_page end page.now }
 {

@@ -1,7 +1,7 @@
 ghost use Rattle.std.specs.Prelude.{◌≡◌, ℕ, ◌+◌, ◌^◌, ◌<◌, ◌==◌, if◌then◌else◌, length, slice_index};
 ghost use Rattle.pocsag_slots.specs.Edges.{CountEnds, CountStarts, LoadFirst};
 ghost use Rattle.pocsag_slots.specs.Loads.{early_of, IsChoice, load};
-ghost use Rattle.pocsag_slots.specs.Numbering.{class_count};
+ghost use Rattle.pocsag_slots.specs.Classes.{class_count};
 
 use crate::boundary::{finish, start};
 use crate::class::{CLASS_COUNT, Choice, Class, Classes, SLOTS};

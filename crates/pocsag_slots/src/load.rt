@@ -1,7 +1,7 @@
 ghost use Rattle.std.specs.Prelude.{◌≡◌, ℕ, ◌+◌, ◌*◌, ◌^◌, ◌<◌, ◌≤◌, ◌↔◌, IsTrue, if◌then◌else◌, length, slice_index};
 ghost use Rattle.pocsag_slots.specs.Cover.{covered};
 ghost use Rattle.pocsag_slots.specs.Loads.{AreCarried, AreInOrder, class_load, early_of, IsChoice, IsLeastLoad, least_of_class, load, load_limit, Overloads};
-ghost use Rattle.pocsag_slots.specs.Numbering.{slot_count};
+ghost use Rattle.pocsag_slots.specs.Classes.{slot_count};
 ghost use Rattle.pocsag_slots.specs.Sums.{holds, sum_over};
 ghost use Rattle.pocsag_slots.specs.Tables.{turn_limit};
 

@@ -1,1 +1,1 @@
-pub mod Sounding
+pub mod Sounds

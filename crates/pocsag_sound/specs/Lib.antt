@@ -1,5 +1,5 @@
 pub mod Faults
-pub mod Keying
+pub mod Keys
 pub mod Levels
+pub mod Samples
 pub mod Wav
-pub mod Writing

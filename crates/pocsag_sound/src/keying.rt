@@ -23,7 +23,7 @@ pub struct Keying {
 }
 
 impl Keying {
-    ghost use Rattle.pocsag_sound.specs.Keying.{ExplainsKeying, IsAsAsked, MayBeKeyed};
+    ghost use Rattle.pocsag_sound.specs.Keys.{ExplainsKeying, IsAsAsked, MayBeKeyed};
 
     /// The keying of these numbers: a rate of 512, 1200 or 2400 bits a second, samples from the rate to 192,000, and a
     /// preamble of at least 576 bits that are whole bytes.

@@ -5,7 +5,7 @@ ghost use Rattle.pocsag_words.specs.Devices.{CountsFailures, Delivers, HasFailed
 ghost use Rattle.pocsag_shell.specs.declared.fault.FileFault.TheVariants as file;
 ghost use Rattle.pocsag_sound.specs.Faults.{ExplainsSound, ExplainsUnsounded, Sounded, SoundedPart, sound_status};
 ghost use Rattle.pocsag_sound.specs.Wav.{sample_bytes, wav_header};
-ghost use Rattle.pocsag_sound.specs.Writing.{IsCount, samples_of};
+ghost use Rattle.pocsag_sound.specs.Samples.{IsCount, samples_of};
 ghost use Rattle.pocsag_sound.specs.declared.fault.SoundFault.TheVariants as fault;
 
 use crate::fault::SoundFault;

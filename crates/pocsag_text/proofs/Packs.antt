@@ -7,7 +7,7 @@ use Rattle.std.proofs.lemmas.List.{append_assoc, append-nil, length-append, flat
 use Rattle.std.proofs.lemmas.List.Concat.{flat_map-append}
 use Rattle.std.proofs.lemmas.List.Elements.{All-push, All-weaker}
 use Rattle.pocsag_text.specs.Bits.{high_first, high_number, item_bits}
-use Rattle.pocsag_text.specs.Packing.{packed_bits, IsPacked}
+use Rattle.pocsag_text.specs.Packers.{packed_bits, IsPacked}
 use Rattle.pocsag_text.specs.Text.{twenties}
 use Rattle.pocsag_text.proofs.BitLists.{high_first-join, high_first-split, length-high_first, high_number-high_first}
 use Rattle.pocsag_text.proofs.Cuts.{cut-flat_map, length-flat_map-wide}

@@ -7,7 +7,7 @@ use Rattle.std.proofs.lemmas.List.{append_assoc, append-nil, length-append}
 use Rattle.std.proofs.lemmas.List.Concat.{flat_map-append}
 use Rattle.std.proofs.lemmas.List.Elements.{All-push, All-weaker}
 use Rattle.pocsag_text.specs.Bits.{low_first, high_first, low_number, cut}
-use Rattle.pocsag_text.specs.Packing.{unpacked_bits, IsUnpacked}
+use Rattle.pocsag_text.specs.Packers.{unpacked_bits, IsUnpacked}
 use Rattle.pocsag_text.proofs.BitLists.{high_first-join, high_first-split, length-low_first, length-high_first, code-back}
 use Rattle.pocsag_text.proofs.Cuts.{cut-flat_map, length-flat_map-wide}
 use Rattle.pocsag_text.proofs.Packs.{held_with-lt}

@@ -1,4 +1,4 @@
 pub mod Bits
 pub mod Characters
-pub mod Packing
+pub mod Packers
 pub mod Text

@@ -22,7 +22,7 @@ pub struct Packer {
 
 impl Model for Packer {
     ghost use Rattle.std.specs.Prelude.{ℕ, List};
-    ghost use Rattle.pocsag_text.specs.Packing.{packed_bits, IsPacked};
+    ghost use Rattle.pocsag_text.specs.Packers.{packed_bits, IsPacked};
 
     ghost Value = { List ℕ };
 

@@ -19,7 +19,7 @@ pub struct Unpacker<const W: u32> {
 
 impl<const W: u32> Model for Unpacker<W> {
     ghost use Rattle.std.specs.Prelude.{ℕ, List};
-    ghost use Rattle.pocsag_text.specs.Packing.{unpacked_bits, IsUnpacked};
+    ghost use Rattle.pocsag_text.specs.Packers.{unpacked_bits, IsUnpacked};
 
     ghost Value = { List ℕ };
 

@@ -7,7 +7,7 @@ use Rattle.std.proofs.lemmas.List.Sums.{sum_by-append, sum_by-cons, sum_by_more,
 use Rattle.pocsag_slots.specs.Sums.{AddsMember}
 use Rattle.pocsag_slots.proofs.SumLemmas.{sum_below-bump, sum_below-le}
 use Rattle.pocsag_tour.specs.Laps.{ArePassed, AreTaken, IsLap, IsPassed, IsPath, often}
-use Rattle.pocsag_tour.proofs.Joining.{cond_few}
+use Rattle.pocsag_tour.proofs.Joined.{cond_few}
 use Rattle.pocsag_tour.proofs.Walks.{IsLess, hit, less_le, no_hit, walk_on}
 
 -- how often an arc stands among arcs

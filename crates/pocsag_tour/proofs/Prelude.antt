@@ -1,7 +1,7 @@
 -- What several proofs of the crate import, passed on to all of them.
 pub use Rattle.pocsag_slots.specs.Arcs.{runs}
 pub use Rattle.pocsag_slots.specs.Loads.{IsChoice, load}
-unfoldable pub use Rattle.pocsag_slots.specs.Numbering.{class_frame, finish_of, start_of}
+unfoldable pub use Rattle.pocsag_slots.specs.Classes.{class_frame, finish_of, start_of}
 unfoldable pub use Rattle.pocsag_slots.specs.Sums.{holds, sum_below}
 pub use Rattle.pocsag_slots.specs.Sums.{SetsTakeMembers}
 pub use Rattle.pocsag_slots.specs.Tours.{AsksForLast, IsTour, LastAs, LastIsIdle, LastIsWhole, Leads, idles}

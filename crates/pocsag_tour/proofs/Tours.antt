@@ -3,15 +3,15 @@ use Rattle.pocsag_tour.proofs.Prelude.{◌≡◌, ℕ, ◌+◌, ◌-◌, ◌%◌
 use Rattle.std.proofs.lemmas.Bool.{cases_Bool}
 use Rattle.pocsag_words.specs.declared.ending.End.TheVariants as ends
 use Rattle.pocsag_slots.specs.Loads.{AreCarried}
-use Rattle.pocsag_slots.specs.Numbering.{class_rest}
+use Rattle.pocsag_slots.specs.Classes.{class_rest}
 use Rattle.pocsag_slots.specs.Ways.{run_crosses, idle_crosses}
 use Rattle.pocsag_tour.specs.declared.fault.TourFault.{TourFault}
 use Rattle.pocsag_tour.specs.declared.fault.TourFault.TheVariants.{Apart, Unclosed, OutOfMemory}
 use Rattle.pocsag_tour.specs.Moves.{NoWay, at_start as visited_start}
 use Rattle.pocsag_tour.specs.Reached.{at_start, by_idle, by_run, IsRefused, LiesOutside, NoIdleCrosses, NoRunCrosses}
-use Rattle.pocsag_tour.proofs.Covering.{balanced_start, count_early, count_idle, count_late}
+use Rattle.pocsag_tour.proofs.CoverLemmas.{balanced_start, count_early, count_idle, count_late}
 use Rattle.pocsag_tour.proofs.Geometry.{by_kind, from_below, from_early, from_idle, from_late, step_idle, step_late, to_below, to_early, to_idle, to_late}
-use Rattle.pocsag_tour.proofs.Joining.{balance_enters}
+use Rattle.pocsag_tour.proofs.Joined.{balance_enters}
 use Rattle.pocsag_tour.proofs.Walks.{taken_early, taken_idle, taken_late}
 
 pub tour_of : (k : Classes) (end : End) (choice : ℕ → ℕ) (b : ℕ) (counts : ℕ → ℕ) (ss : List Step) → AreCounts k choice b counts →

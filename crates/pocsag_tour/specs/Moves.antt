@@ -8,7 +8,7 @@ use Rattle.pocsag_slots.specs.declared.step.Step.{Step}
 use Rattle.pocsag_slots.specs.declared.step.Step.TheVariants.{Idle as Stay, Run}
 use Rattle.pocsag_slots.specs.Arcs.{runs}
 use Rattle.pocsag_slots.specs.Loads.{load}
-use Rattle.pocsag_slots.specs.Numbering.{start_of, finish_of}
+use Rattle.pocsag_slots.specs.Classes.{start_of, finish_of}
 use Rattle.pocsag_slots.specs.Sums.{holds, sum_below}
 use Rattle.pocsag_slots.specs.Tours.{AsksForLast, Leads, idles, LastAs}
 use Rattle.pocsag_tour.specs.declared.fault.TourFault.{TourFault}

@@ -5,7 +5,7 @@ use Rattle.pocsag_words.specs.declared.ending.End.TheVariants as ends
 use Rattle.pocsag_slots.specs.declared.class.Classes.{Classes}
 use Rattle.pocsag_slots.specs.declared.step.Step.{Step}
 use Rattle.pocsag_slots.specs.Loads.{load}
-use Rattle.pocsag_slots.specs.Numbering.{start_of, finish_of}
+use Rattle.pocsag_slots.specs.Classes.{start_of, finish_of}
 use Rattle.pocsag_slots.specs.Sums.{holds}
 use Rattle.pocsag_slots.specs.Tours.{AsksForLast, IsTour}
 use Rattle.pocsag_slots.specs.Ways.{run_crosses, idle_crosses}

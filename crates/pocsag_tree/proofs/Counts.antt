@@ -6,7 +6,7 @@ use Rattle.pocsag_tree.specs.declared.shape.Tree.TheViews.{Split, Cut, Close}
 use Rattle.pocsag_tree.specs.declared.shape.Tree.TheVariants.{rolls-Split, rolls-Cut, rolls-Close}
 use Rattle.pocsag_tree.specs.declared.shape.Tree.TheOpen as layer
 use Rattle.pocsag_tree.specs.declared.shape.Tree.TheFolds.{fold-roll-Tree}
-use Rattle.pocsag_tree.specs.Spelling.{node, split_head, cut_head, close_head}
+use Rattle.pocsag_tree.specs.CertificateText.{node, split_head, cut_head, close_head}
 use Rattle.pocsag_tree.specs.Views.{bound_step}
 
 pub count_of_bounds : (ts : List Tree) → children_count (bounds_of ts) ≡ length ts

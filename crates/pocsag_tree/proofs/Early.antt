@@ -1,7 +1,7 @@
 -- Nodes that are judged before any byte of them, and nodes of which no byte is there.
 use Rattle.pocsag_tree.proofs.Prelude.{◌≡◌, ℕ, zero, suc, ◌-◌, ◌≤◌, ◌<◌, List, [], Result, Ok, Err, refl, arith, lt-ltb, le-ltb, Ranges, most_nodes, CertificateFault, Fails, Reader, small_at, large_at, split_at, node_at, tagged_at, row_at}
 use Rattle.pocsag_tree.specs.declared.refusals.CertificateFault.TheVariants as fault
-use Rattle.pocsag_tree.specs.Reading.{IsEarly}
+use Rattle.pocsag_tree.specs.Parser.{IsEarly}
 
 -- the fault of a node before any byte of it is what reading it gives, whatever its bytes
 pub node_is_early : (ranges : Ranges) (depth made : ℕ) (bytes : List ℕ) (e : CertificateFault) → IsEarly depth made e

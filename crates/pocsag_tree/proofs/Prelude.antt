@@ -2,9 +2,9 @@
 pub use Rattle.pocsag_tree.specs.BoundTrees.{BoundTree, BoundTrees, all_nodes, all_nodes_in, children_count, close, cut, deepest, depth_of, greatest_count, more, none, split, unexamined}
 pub use Rattle.pocsag_tree.specs.Limits.{first_ranges, greatest_depth, most_nodes, second_ranges}
 pub use Rattle.pocsag_tree.specs.Parts.{Meets, Part, children, early, early_fault, field, right, short, wrong}
-unfoldable pub use Rattle.pocsag_tree.specs.Reading.{all_of, batches_at, body_at, but_last, certificate_at, close_at, cut_at, end_at, large_at, long_number_at, mark_at, node_at, number_at, overload_at, row_at, small_at, split_at, tagged_at, version_at}
-pub use Rattle.pocsag_tree.specs.Reading.{Fails, Read, Reader, byte_at, end_of, ◌>>=◌}
-pub use Rattle.pocsag_tree.specs.Spelling.{AreInRange, IsInRange, IsText, row}
+unfoldable pub use Rattle.pocsag_tree.specs.Parser.{all_of, batches_at, body_at, but_last, certificate_at, close_at, cut_at, end_at, large_at, long_number_at, mark_at, node_at, number_at, overload_at, row_at, small_at, split_at, tagged_at, version_at}
+pub use Rattle.pocsag_tree.specs.Parser.{Fails, Read, Reader, byte_at, end_of, ◌>>=◌}
+pub use Rattle.pocsag_tree.specs.CertificateText.{AreInRange, IsInRange, IsText, row}
 pub use Rattle.pocsag_tree.specs.Views.{bound_tree_of, bounds_of}
 pub use Rattle.pocsag_tree.specs.declared.limits.Ranges.{Ranges}
 pub use Rattle.pocsag_tree.specs.declared.refusals.CertificateFault.{CertificateFault}

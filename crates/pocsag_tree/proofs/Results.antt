@@ -6,7 +6,7 @@ use Rattle.pocsag_tree.specs.declared.shape.Certificate.{Certificate}
 use Rattle.pocsag_tree.specs.declared.refusals.CertificateFault.TheVariants as fault
 use Rattle.pocsag_tree.specs.Parts.{HasFirst}
 use Rattle.pocsag_tree.specs.Answers.{IsRefusal, AnswersTriple, AnswersFault, IsFault, HasNoFault}
-use Rattle.pocsag_tree.specs.Reading.{Gives, IsWanting}
+use Rattle.pocsag_tree.specs.Parser.{Gives, IsWanting}
 use Rattle.pocsag_tree.proofs.Fields.{bind_ok, ok_is}
 use Rattle.pocsag_tree.proofs.Rows.{fails_along}
 use Rattle.pocsag_tree.proofs.Texts.{certificate_takes, certificate_again}

@@ -3,7 +3,7 @@ use Rattle.pocsag_tree.proofs.Prelude.{◌≡◌, ℕ, zero, suc, ◌<◌, ◌�
 use Rattle.std.proofs.lemmas.Bool.{eq-eqb}
 use Rattle.pocsag_words.specs.declared.ending.End.TheVariants as ends
 use Rattle.pocsag_tree.specs.declared.refusals.CertificateFault.TheVariants as fault
-use Rattle.pocsag_tree.specs.Spelling.{HasText, node, version_bytes, written_head, first_head, written_text, first_text}
+use Rattle.pocsag_tree.specs.CertificateText.{HasText, node, version_bytes, written_head, first_head, written_text, first_text}
 use Rattle.pocsag_tree.proofs.Fields.{bind_ok, guard_ok, chosen, ok_is, byte_is, byte_again, small_takes, batches_takes, batches_again}
 use Rattle.pocsag_tree.proofs.SpelledNodes.{IsVersion, first_ranges-is, second_ranges-is, node_again}
 use Rattle.pocsag_tree.proofs.ReadNodes.{node_takes}

@@ -5,7 +5,7 @@ use Rattle.pocsag_words.specs.declared.ending.End.TheVariants as ends
 use Rattle.pocsag_tree.specs.declared.refusals.CertificateFault.TheVariants as fault
 use Rattle.pocsag_tree.specs.Parts.{mark, version, node, whole, trailing, certificate}
 use Rattle.pocsag_tree.proofs.Fields.{ok_is, IsShort, FourIs, long_number_is, long_number_short}
-use Rattle.pocsag_tree.proofs.Leading.{Place, Leads, along, then_leads, right_part, wrong_part, short_part, ReadsNumber, one_byte, small_leads, at}
+use Rattle.pocsag_tree.proofs.Leads.{Place, Leads, along, then_leads, right_part, wrong_part, short_part, ReadsNumber, one_byte, small_leads, at}
 use Rattle.pocsag_tree.proofs.NodesLead.{node_leads}
 
 -- no bytes have two verdicts

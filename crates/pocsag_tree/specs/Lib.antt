@@ -1,7 +1,7 @@
 pub mod Answers
 pub mod BoundTrees
+pub mod CertificateText
 pub mod Limits
+pub mod Parser
 pub mod Parts
-pub mod Reading
-pub mod Spelling
 pub mod Views

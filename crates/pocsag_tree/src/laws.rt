@@ -4,7 +4,7 @@ ghost use Rattle.std.specs.Prelude.{◌≡◌, ℕ, List, [], ◌++◌};
 ghost use Rattle.pocsag_words.specs.declared.ending.End.{End};
 ghost use Rattle.pocsag_tree.specs.declared.refusals.CertificateFault.{CertificateFault};
 ghost use Rattle.pocsag_tree.specs.BoundTrees.{BoundTree};
-ghost use Rattle.pocsag_tree.specs.Spelling.{IsText};
+ghost use Rattle.pocsag_tree.specs.CertificateText.{IsText};
 ghost use Rattle.pocsag_tree.specs.Parts.{HasFirst};
 
 /// No two certificates have one text, over all versions together.

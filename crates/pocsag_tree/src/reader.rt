@@ -4,12 +4,12 @@ ghost use Rattle.pocsag_words.specs.Devices.{HasFailed};
 ghost use Rattle.pocsag_tree.specs.Limits.{greatest_depth, most_nodes};
 ghost use Rattle.pocsag_tree.specs.BoundTrees.{BoundTree, all_nodes, depth_of};
 ghost use Rattle.pocsag_tree.specs.Views.{bound_tree_of, bounds_of};
-ghost use Rattle.pocsag_tree.specs.Spelling.{IsText};
+ghost use Rattle.pocsag_tree.specs.CertificateText.{IsText};
 ghost use Rattle.pocsag_tree.specs.Parts.{HasFirst};
 ghost use Rattle.pocsag_tree.specs.Answers.{AnswersTriple, AnswersFault, IsFault, HasNoFault, given_before};
 ghost use Rattle.pocsag_tree.specs.declared.refusals.CertificateFault.{CertificateFault};
 ghost use Rattle.pocsag_tree.specs.declared.refusals.CertificateFault.TheVariants as fault;
-ghost use Rattle.pocsag_tree.specs.Reading.{Gives, ReadsBy, IsNodeRead, IsBodyRead, IsRowRead, IsWanting, but_last, number_then, node_then, failed_after, byte_at, number_at, small_at, large_at, row_at, overload_at, split_at, cut_at, close_at, body_at, tagged_at, node_at, mark_at, version_at, long_number_at, batches_at, end_at, end_of, certificate_at, all_of, IsEarly};
+ghost use Rattle.pocsag_tree.specs.Parser.{Gives, ReadsBy, IsNodeRead, IsBodyRead, IsRowRead, IsWanting, but_last, number_then, node_then, failed_after, byte_at, number_at, small_at, large_at, row_at, overload_at, split_at, cut_at, close_at, body_at, tagged_at, node_at, mark_at, version_at, long_number_at, batches_at, end_at, end_of, certificate_at, all_of, IsEarly};
 
 use crate::limits::{DEPTH_LIMIT, FIRST_VERSION, NODE_LIMIT, Ranges, SECOND_VERSION};
 use crate::refusals::CertificateFault;
@@ -47,7 +47,7 @@ fn next_byte<S: Source>(source: &mut S) -> Result<u8, CertificateFault>
 }
 
 // A number of two bytes.
-#[tactic(auto, unfolding(crate::specs::Reading::number_at))]
+#[tactic(auto, unfolding(crate::specs::Parser::number_at))]
 fn next_number<S: Source>(source: &mut S) -> Result<u16, CertificateFault>
     ensures failures { S.failures source.new ≡ failed_after result (S.failures source.old) }
     ensures reads { S.tells → ReadsBy number_at number_then result (S.held source.old) (S.held source.new) }
@@ -58,7 +58,7 @@ fn next_number<S: Source>(source: &mut S) -> Result<u16, CertificateFault>
 }
 
 // A field of one byte, in this range.
-#[tactic(auto, unfolding(crate::specs::Reading::small_at))]
+#[tactic(auto, unfolding(crate::specs::Parser::small_at))]
 fn small<S: Source>(low: u8, high: u8, source: &mut S) -> Result<u8, CertificateFault>
     ensures in_range { IfOk result (λ n. (low ≤ n) × (n ≤ high)) }
     ensures failures { S.failures source.new ≡ failed_after result (S.failures source.old) }
@@ -74,7 +74,7 @@ fn small<S: Source>(low: u8, high: u8, source: &mut S) -> Result<u8, Certificate
 }
 
 // A field of two bytes, in this range.
-#[tactic(auto, unfolding(crate::specs::Reading::large_at))]
+#[tactic(auto, unfolding(crate::specs::Parser::large_at))]
 fn large<S: Source>(low: u16, high: u16, source: &mut S) -> Result<u16, CertificateFault>
     ensures in_range { IfOk result (λ n. (low ≤ n) × (n ≤ high)) }
     ensures failures { S.failures source.new ≡ failed_after result (S.failures source.old) }
@@ -89,7 +89,7 @@ fn large<S: Source>(low: u16, high: u16, source: &mut S) -> Result<u16, Certific
     }
 }
 
-#[tactic(auto, unfolding(crate::specs::Reading::mark_at))]
+#[tactic(auto, unfolding(crate::specs::Parser::mark_at))]
 fn mark<S: Source>(wanted: u8, source: &mut S) -> Result<(), CertificateFault>
     ensures failures { S.failures source.new ≡ failed_after result (S.failures source.old) }
     ensures reads { S.tells → ReadsBy (mark_at wanted) (λ _ rest. rest) result
@@ -110,7 +110,7 @@ fn end_from(byte: u8) -> End
 }
 
 // The ranges of the version, and the end.
-#[tactic(auto, unfolding(crate::specs::Reading::version_at))]
+#[tactic(auto, unfolding(crate::specs::Parser::version_at))]
 fn version<S: Source>(source: &mut S) -> Result<(Ranges, End), CertificateFault>
     ensures failures { S.failures source.new ≡ failed_after result (S.failures source.old) }
     ensures reads { S.tells → ReadsBy version_at (λ x rest. (x.0, x.1, rest)) result
@@ -128,7 +128,7 @@ fn version<S: Source>(source: &mut S) -> Result<(Ranges, End), CertificateFault>
 }
 
 // A number of four bytes.
-#[tactic(auto, unfolding(crate::specs::Reading::long_number_at))]
+#[tactic(auto, unfolding(crate::specs::Parser::long_number_at))]
 fn next_long_number<S: Source>(source: &mut S) -> Result<u32, CertificateFault>
     ensures failures { S.failures source.new ≡ failed_after result (S.failures source.old) }
     ensures reads { S.tells → ReadsBy long_number_at number_then result
@@ -139,7 +139,7 @@ fn next_long_number<S: Source>(source: &mut S) -> Result<u32, CertificateFault>
     Ok(u32::from(high) * 65536 + u32::from(low))
 }
 
-#[tactic(auto, unfolding(crate::specs::Reading::batches_at))]
+#[tactic(auto, unfolding(crate::specs::Parser::batches_at))]
 fn batches<S: Source>(source: &mut S) -> Result<u32, CertificateFault>
     ensures failures { S.failures source.new ≡ failed_after result (S.failures source.old) }
     ensures reads { S.tells → ReadsBy batches_at number_then result (S.held source.old) (S.held source.new) }
@@ -152,7 +152,7 @@ fn batches<S: Source>(source: &mut S) -> Result<u32, CertificateFault>
     }
 }
 
-#[tactic(auto, unfolding(crate::specs::Reading::end_at))]
+#[tactic(auto, unfolding(crate::specs::Parser::end_at))]
 fn end<S: Source>(source: &mut S) -> Result<(), CertificateFault>
     ensures failures { S.failures source.new ≡ failed_after result (S.failures source.old) }
     ensures shrinks { S.tells → length (S.held source.new) ≤ length (S.held source.old) }
@@ -189,7 +189,7 @@ struct Builder {
 }
 
 #[cycle(node)]
-#[tactic(auto, unfolding(crate::specs::Reading::node_at))]
+#[tactic(auto, unfolding(crate::specs::Parser::node_at))]
 fn node<S: Source>(
     builder: Builder,
     depth: u32,
@@ -207,7 +207,7 @@ fn node<S: Source>(
 }
 
 #[cycle(node)]
-#[tactic(auto, unfolding(crate::specs::Reading::tagged_at))]
+#[tactic(auto, unfolding(crate::specs::Parser::tagged_at))]
 fn tagged<S: Source>(
     builder: Builder,
     depth: u32,
@@ -228,7 +228,7 @@ fn tagged<S: Source>(
 }
 
 #[cycle(node)]
-#[tactic(auto, unfolding(crate::specs::Reading::body_at))]
+#[tactic(auto, unfolding(crate::specs::Parser::body_at))]
 fn body<S: Source>(
     builder: Builder,
     tag: u8,
@@ -251,7 +251,7 @@ fn body<S: Source>(
     }
 }
 
-#[tactic(auto, unfolding(crate::specs::Reading::overload_at))]
+#[tactic(auto, unfolding(crate::specs::Parser::overload_at))]
 fn overload<S: Source>(made: u32, source: &mut S) -> Result<(Tree, u32), CertificateFault>
     requires { made ≤ most_nodes }
     ensures counts { IfOk result (λ x. IsBodyRead 0 made (bound_tree_of x.0) x.1) }
@@ -273,7 +273,7 @@ fn two_boxes(alloc: Global) -> Result<(Box<Tree>, Box<Tree>), CertificateFault>
 }
 
 #[cycle(node)]
-#[tactic(auto, unfolding(crate::specs::Reading::split_at))]
+#[tactic(auto, unfolding(crate::specs::Parser::split_at))]
 fn split<S: Source>(
     builder: Builder,
     depth: u32,
@@ -306,7 +306,7 @@ fn split<S: Source>(
 }
 
 #[cycle(node)]
-#[tactic(auto, unfolding(crate::specs::Reading::cut_at))]
+#[tactic(auto, unfolding(crate::specs::Parser::cut_at))]
 fn cut<S: Source>(
     builder: Builder,
     depth: u32,
@@ -334,7 +334,7 @@ fn cut<S: Source>(
 }
 
 #[cycle(node)]
-#[tactic(auto, unfolding(crate::specs::Reading::close_at))]
+#[tactic(auto, unfolding(crate::specs::Parser::close_at))]
 fn close<S: Source>(
     builder: Builder,
     depth: u32,
@@ -381,7 +381,7 @@ fn row<S: Source>(
 }
 
 // A certificate, whatever comes after it.
-#[tactic(auto, unfolding(crate::specs::Reading::certificate_at))]
+#[tactic(auto, unfolding(crate::specs::Parser::certificate_at))]
 fn certificate<S: Source>(alloc: Global, source: &mut S) -> Result<Certificate, CertificateFault>
     ensures deep { IfOk result (λ c. depth_of (bound_tree_of c.tree) ≤ greatest_depth) }
     ensures few { IfOk result (λ c. all_nodes (bound_tree_of c.tree) ≤ most_nodes) }
@@ -399,7 +399,7 @@ fn certificate<S: Source>(alloc: Global, source: &mut S) -> Result<Certificate, 
 }
 
 // A certificate, and then the end.
-#[tactic(auto, using(crate::proofs::Fronts::but_last_none), unfolding(crate::specs::Reading::all_of))]
+#[tactic(auto, using(crate::proofs::Fronts::but_last_none), unfolding(crate::specs::Parser::all_of))]
 fn all<S: Source>(alloc: Global, source: &mut S) -> Result<Certificate, CertificateFault>
     ensures deep { IfOk result (λ c. depth_of (bound_tree_of c.tree) ≤ greatest_depth) }
     ensures few { IfOk result (λ c. all_nodes (bound_tree_of c.tree) ≤ most_nodes) }

@@ -3,7 +3,7 @@ ghost use Rattle.pocsag_words.specs.Devices.{CountsFailures, Delivers, HasFailed
 ghost use Rattle.pocsag_tree.specs.Limits.{most_nodes, second_ranges};
 ghost use Rattle.pocsag_tree.specs.BoundTrees.{all_nodes, all_nodes_in, depth_of, deepest, children_count};
 ghost use Rattle.pocsag_tree.specs.Views.{bound_tree_of, bounds_of};
-ghost use Rattle.pocsag_tree.specs.Spelling.{IsInRange, AreInRange, HasText, IsSet, split_head, cut_head, close_head, node, row, written_head, written_text};
+ghost use Rattle.pocsag_tree.specs.CertificateText.{IsInRange, AreInRange, HasText, IsSet, split_head, cut_head, close_head, node, row, written_head, written_text};
 
 use crate::limits::{DEPTH_LIMIT, NODE_LIMIT, SECOND_VERSION};
 use crate::refusals::TreeWriteFault;

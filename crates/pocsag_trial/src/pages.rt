@@ -1,6 +1,6 @@
 use crate::line::Line;
+use pocsag_core_cases::{THREE_PAGES_TIGHT, ones, round_of};
 use pocsag_pages::{Page, Round, RoundFault, WholeFault, read_round, read_whole};
-use pocsag_rounds::{THREE_PAGES_TIGHT, ones, round_of};
 use pocsag_words::{MemorySource, OutOfMemory};
 use std::alloc::Global;
 

@@ -2,12 +2,12 @@
 
 use crate::line::Line;
 use crate::pages::show_no_round;
+use pocsag_core_cases::{THREE_PAGES_TIGHT, ones, round_of};
 use pocsag_pages::{Round, RoundFault};
 use pocsag_plan::{
     AddFault, Book, BookFault, Bounded, Edit, Plan, PlanFault, StreamFault, plan, plan_always,
     plan_stream, plan_stream_always,
 };
-use pocsag_rounds::{THREE_PAGES_TIGHT, ones, round_of};
 use pocsag_slots::Classes;
 use pocsag_words::{End, MemorySink, MemorySource, OutOfMemory};
 use std::alloc::Global;

@@ -1,7 +1,7 @@
 use crate::line::Line;
 use crate::pages::show_no_round;
 use pocsag_batch::{lay_out, order_of};
-use pocsag_rounds::{NoTour, THREE_PAGES_TIGHT, round_of, tour_of};
+use pocsag_core_cases::{NoTour, THREE_PAGES_TIGHT, round_of, tour_of};
 use pocsag_tour::TourFault;
 use pocsag_words::{End, OutOfMemory};
 use std::alloc::Global;

@@ -1,5 +1,5 @@
 use Rattle.pocsag_batch.proofs.Prelude.{◌≡◌, ℕ, List, map, sym, ap, ◌∙◌, kind_of, laid, laid_by}
-use Rattle.pocsag_batch.proofs.Laying.{list_batches}
+use Rattle.pocsag_batch.proofs.Layouts.{list_batches}
 use Rattle.pocsag_batch.proofs.layout.lay_out.Goals as goal
 
 pub new-requires-2 : goal.new-requires-2

@@ -1,4 +1,4 @@
-use Rattle.pocsag_branch.specs.Climbing.{IsClimb}
+use Rattle.pocsag_branch.specs.Climb.{IsClimb}
 use Rattle.pocsag_branch.proofs.climb.best_step.Given as goal
 
 abbrev pub invariant-loop-way : goal.invariant-loop-way

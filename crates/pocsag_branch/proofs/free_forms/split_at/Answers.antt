@@ -1,6 +1,6 @@
 use Rattle.std.proofs.Common.{arith}
 use Rattle.pocsag_slots.proofs.LoadLemmas.{count_few}
-use Rattle.pocsag_branch.proofs.Falling.{splits_at_count, splits_at_one}
+use Rattle.pocsag_branch.proofs.Settled.{splits_at_count, splits_at_one}
 use Rattle.pocsag_branch.proofs.free_forms.split_at.Goals as goal
 
 pub overflow_cast-result-in-Late : goal.overflow_cast-result-in-Late

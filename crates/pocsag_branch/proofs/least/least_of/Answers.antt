@@ -1,5 +1,5 @@
 use Rattle.std.proofs.Common.{slice_index}
-use Rattle.pocsag_branch.proofs.Sharing.{least_is_least}
+use Rattle.pocsag_branch.proofs.LeastBounds.{least_is_least}
 use Rattle.pocsag_branch.proofs.least.least_of.Goals as goal
 
 pub returns-in-Ok-clause-least : goal.returns-in-Ok-clause-least

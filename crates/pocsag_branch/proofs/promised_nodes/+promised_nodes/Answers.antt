@@ -1,6 +1,6 @@
 use Rattle.std.proofs.Common.{arith, ◌∙◌}
 use Rattle.pocsag_slots.specs.declared.way.Way.TheVariants.{IdleIn}
-use Rattle.pocsag_branch.proofs.Joining.{close_made, cut_made, row_goes_on, split_made}
+use Rattle.pocsag_branch.proofs.NodeChildren.{close_made, cut_made, row_goes_on, split_made}
 use Rattle.pocsag_branch.proofs.promised_nodes.+promised_nodes.Goals as goal
 
 pub close_node-returns-clause-node : goal.close_node-returns-clause-node

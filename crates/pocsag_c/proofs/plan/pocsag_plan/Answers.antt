@@ -1,15 +1,9 @@
-use Rattle.std.proofs.Common.{◌≡◌, ◌⊎◌, ℕ, refl, subst, inl, inr, arith}
-use Rattle.pocsag_words.specs.declared.ending.End.{End}
-use Rattle.pocsag_words.specs.declared.ending.End.TheVariants as ends
-use Rattle.pocsag_c.specs.Answers.{IsNoEnd, number_of_end}
+use Rattle.std.proofs.Common.{◌≡◌, ◌⊎◌, ℕ, subst, inl, inr, arith}
+use Rattle.pocsag_c.specs.Answers.{IsNoEnd}
 use Rattle.pocsag_c.specs.Plans.{IsWithoutRoom}
 use Rattle.pocsag_c.proofs.Devices.{unwritten_in_memory}
+use Rattle.pocsag_c.proofs.Fronts.{is_an_end}
 use Rattle.pocsag_c.proofs.plan.pocsag_plan.Goals as goal
-
-is_an_end : (end : End) → IsNoEnd (number_of_end end) → ⊥
-is_an_end ends.Open none = none.0 refl
-is_an_end ends.Closed none = none.1 refl
-is_an_end ends.Idle none = none.2 refl
 
 never_two : (status : ℕ) → (status ≡ 0) ⊎ IsWithoutRoom status → status ≡ 2 → ⊥
 never_two status (inl done) two = omega arith

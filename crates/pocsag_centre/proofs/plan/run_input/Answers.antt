@@ -4,7 +4,7 @@ use Rattle.pocsag_plan.specs.Plans.{IsPlanFor}
 use Rattle.pocsag_plan.specs.Streams.{IsOfRound}
 use Rattle.pocsag_centre.specs.Refusals.{ExplainsNoPlan, default_search}
 use Rattle.pocsag_centre.proofs.Explained.{or_device}
-use Rattle.pocsag_centre.proofs.Planning.{told_plan}
+use Rattle.pocsag_centre.proofs.Plans.{told_plan}
 use Rattle.pocsag_pages.specs.declared.fault.RoundFault.TheVariants as round
 use Rattle.pocsag_centre.specs.declared.fault.CentreFault.TheVariants as fault
 use Rattle.pocsag_centre.proofs.Readers.{planned_unread}

@@ -1,6 +1,9 @@
-use Rattle.std.proofs.Common.{◌≡◌, ◌∙◌}
+use Rattle.std.proofs.Common.{◌≡◌, ◌∙◌, Err, ap, inl, inr}
 use Rattle.std.proofs.lemmas.Result.{err_from_is_err_and}
-use Rattle.pocsag_centre.proofs.Verified.{read_verifying}
+use Rattle.pocsag_shell.specs.declared.fault.FileFault.TheVariants as file_fault
+use Rattle.pocsag_centre.specs.Verification.{ExplainsVerifying, OrTooLarge}
+use Rattle.pocsag_centre.proofs.Explained.{round_or_device}
+use Rattle.pocsag_centre.proofs.Verified.{read_verifying, verified_undevised, whole_verifying}
 use Rattle.pocsag_pages.specs.declared.fault.RoundFault.TheVariants as round
 use Rattle.pocsag_centre.specs.declared.fault.CentreFault.TheVariants as fault
 use Rattle.pocsag_centre.proofs.Readers.{verified_unread}
@@ -19,3 +22,37 @@ returns-in_err-verify_files-clause-read_failed g c = λ failed.
     let p = err_from_is_err_and c.from_residual-in_err-verify_files.result c.from_residual-in_err-verify_files.ensures.1 in
     let same : c.in_err-verify_files.field-0.0 ≡ fault.Round round.ReadFault = cc (p.1, p.2, failed) in
     absurd (verified_unread _ _ _ _ c.in_err-verify_files.field-0.0 c.in_err-verify_files.ensures.explained same)
+
+pub returns-in_err-pages-clause-explained : goal.returns-in_err-pages-clause-explained
+returns-in_err-pages-clause-explained g c = λ pages_tell tx_tells cert_tells.
+    let p = err_from_is_err_and c.from_residual.result c.from_residual.ensures.1 in
+    rw (p.1, p.2)
+    (round_or_device (OrTooLarge (g.T.Source.held c.args.files.now.tx) (g.C.Source.held c.args.files.now.cert)
+    (ExplainsVerifying (g.P.Source.held c.args.files.now.pages) c.args.search (g.T.Source.held c.args.files.now.tx) (g.C.Source.held c.args.files.now.cert)))
+    c.in_err-pages.field-0.0 (c.in_err-pages.ensures.explained pages_tell))
+
+pub returns-in_err-tx-clause-explained : goal.returns-in_err-tx-clause-explained
+returns-in_err-tx-clause-explained g c = λ pages_tell tx_tells cert_tells.
+    let p = err_from_is_err_and c.from_residual-in_err-tx.result c.from_residual-in_err-tx.ensures.1 in
+    rw (p.1, p.2)
+    (whole_verifying _ c.args.search _ _ c.in_err-tx.field-0.0
+    (λ w. inl (c.read_whole.ensures.too_large tx_tells (c.in_err-tx.was ∙ ap Err w))))
+
+pub returns-in_err-cert-clause-explained : goal.returns-in_err-cert-clause-explained
+returns-in_err-cert-clause-explained g c = λ pages_tell tx_tells cert_tells.
+    let p = err_from_is_err_and c.from_residual-in_err-cert.result c.from_residual-in_err-cert.ensures.1 in
+    rw (p.1, p.2)
+    (whole_verifying _ c.args.search _ _ c.in_err-cert.field-0.0
+    (λ w. inr (c.read_whole-2.ensures.too_large cert_tells (c.in_err-cert.was ∙ ap Err w))))
+
+pub returns-in_err-verify_files-clause-device_failed : goal.returns-in_err-verify_files-clause-device_failed
+returns-in_err-verify_files-clause-device_failed g c = λ failed.
+    let p = err_from_is_err_and c.from_residual-in_err-verify_files.result c.from_residual-in_err-verify_files.ensures.1 in
+    let same : c.in_err-verify_files.field-0.0 ≡ fault.File file_fault.Device = cc (p.1, p.2, failed) in
+    absurd (verified_undevised _ _ _ _ c.in_err-verify_files.field-0.0 c.in_err-verify_files.ensures.explained (inl same))
+
+pub returns-in_err-verify_files-clause-write_failed : goal.returns-in_err-verify_files-clause-write_failed
+returns-in_err-verify_files-clause-write_failed g c = λ failed.
+    let p = err_from_is_err_and c.from_residual-in_err-verify_files.result c.from_residual-in_err-verify_files.ensures.1 in
+    let same : c.in_err-verify_files.field-0.0 ≡ fault.File file_fault.Write = cc (p.1, p.2, failed) in
+    absurd (verified_undevised _ _ _ _ c.in_err-verify_files.field-0.0 c.in_err-verify_files.ensures.explained (inr same))

@@ -1,6 +1,6 @@
 use Rattle.std.proofs.Common.{subst}
 use Rattle.pocsag_words.specs.declared.ending.End.{End}
-use Rattle.pocsag_tree.specs.Spelling.{IsText}
+use Rattle.pocsag_tree.specs.CertificateText.{IsText}
 use Rattle.pocsag_tree.specs.Views.{bound_tree_of}
 use Rattle.pocsag_centre.specs.Commands.{Checked}
 use Rattle.pocsag_centre.proofs.readback.verify_files.Goals as goal

@@ -1,5 +1,5 @@
 use Rattle.std.proofs.Common.{arith}
-use Rattle.pocsag_pages.proofs.Judging.{large_file}
+use Rattle.pocsag_pages.proofs.Judgements.{large_file}
 use Rattle.pocsag_centre.proofs.round.page_source.Goals as goal
 
 pub returns-then-pages-gt-FILE_LIMIT-clause-too_large : goal.returns-then-pages-gt-FILE_LIMIT-clause-too_large

@@ -1,6 +1,6 @@
 use Rattle.std.proofs.Common.{Err, ap, ◌∙◌}
 use Rattle.std.proofs.lemmas.Result.{err_from_is_err_and}
-use Rattle.pocsag_pages.proofs.Judging.{unread}
+use Rattle.pocsag_pages.proofs.Judgements.{unread}
 use Rattle.pocsag_centre.proofs.Explained.{round_read}
 use Rattle.pocsag_centre.proofs.round.read_pages.Goals as goal
 

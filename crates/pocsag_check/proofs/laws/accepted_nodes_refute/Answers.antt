@@ -1,4 +1,4 @@
-use Rattle.pocsag_check.proofs.Bounding.{none_fits}
+use Rattle.pocsag_check.proofs.Bounds.{none_fits}
 use Rattle.pocsag_check.proofs.laws.accepted_nodes_refute.Goals as goal
 
 pub returns : goal.returns

@@ -1,7 +1,7 @@
 use Rattle.pocsag_check.proofs.Prelude.{map}
 use Rattle.pocsag_words.specs.Kinds.{kind_of}
 use Rattle.pocsag_pages.proofs.GoodPages.{apart_pages}
-use Rattle.pocsag_check.proofs.Bounding.{bounded}
+use Rattle.pocsag_check.proofs.Bounds.{bounded}
 use Rattle.pocsag_check.proofs.verdict.check.Goals as goal
 
 pub returns-clause-bound : goal.returns-clause-bound

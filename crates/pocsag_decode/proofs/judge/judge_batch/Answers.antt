@@ -4,7 +4,7 @@ use Rattle.std.proofs.lemmas.Slice.Eq.{bytes_eq-Decides}
 use Rattle.pocsag_words.specs.Kinds.{idle_word}
 use Rattle.pocsag_pages.specs.Bytes.{sync_word, words_of}
 use Rattle.pocsag_pages.proofs.Lengths.{words_long}
-use Rattle.pocsag_decode.specs.Judging.{JudgesMore}
+use Rattle.pocsag_decode.specs.Judgements.{JudgesMore}
 use Rattle.pocsag_decode.proofs.Fine.{fine_after_sync, fine_idles}
 use Rattle.pocsag_decode.proofs.judge.judge_batch.Goals as goal
 

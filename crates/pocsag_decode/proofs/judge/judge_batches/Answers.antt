@@ -2,7 +2,7 @@ use Rattle.std.proofs.Common.{◌≡◌, ◌+◌, ◌-◌, ◌*◌, ◌/◌, ◌
 use Rattle.std.proofs.lemmas.List.{length-drop, take_all}
 use Rattle.std.proofs.lemmas.Result.{err_from_is_err_and}
 use Rattle.pocsag_pages.specs.Bytes.{words_of}
-use Rattle.pocsag_decode.specs.Judging.{AreFine, JudgesMore}
+use Rattle.pocsag_decode.specs.Judgements.{AreFine, JudgesMore}
 use Rattle.pocsag_decode.proofs.Fine.{last_judged, next_judged, none_fine}
 use Rattle.pocsag_decode.proofs.judge.judge_batches.Goals as goal
 

@@ -1,6 +1,6 @@
 use Rattle.std.proofs.Common.{◌*◌, take}
 use Rattle.pocsag_pages.specs.Bytes.{words_of}
-use Rattle.pocsag_decode.specs.Judging.{AreFine}
+use Rattle.pocsag_decode.specs.Judgements.{AreFine}
 use Rattle.pocsag_decode.proofs.judge.judge_batches.Given as goal
 
 abbrev pub invariant-loop-i : goal.invariant-loop-i

@@ -1,7 +1,7 @@
 use Rattle.std.proofs.Common.{◌+◌, get_or, refl, subst, arith, Err, Ok}
 use Rattle.std.proofs.lemmas.List.{take_all}
 use Rattle.std.proofs.lemmas.Result.{err_from_is_err_and}
-use Rattle.pocsag_decode.specs.Judging.{JudgesMore}
+use Rattle.pocsag_decode.specs.Judgements.{JudgesMore}
 use Rattle.pocsag_decode.proofs.Fine.{bad_within, one_judged}
 use Rattle.pocsag_decode.proofs.judge.judge_kinds.Goals as goal
 

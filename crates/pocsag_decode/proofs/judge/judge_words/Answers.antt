@@ -4,7 +4,7 @@ use Rattle.std.proofs.lemmas.List.{take_all}
 use Rattle.std.proofs.lemmas.Result.{err_from_is_err_and}
 use Rattle.pocsag_pages.specs.Bytes.{words_of}
 use Rattle.pocsag_pager.proofs.WholeWords.{chunk_words}
-use Rattle.pocsag_decode.specs.Judging.{JudgesMore}
+use Rattle.pocsag_decode.specs.Judgements.{JudgesMore}
 use Rattle.pocsag_decode.proofs.Fine.{bad_among, fine_none, word_judged}
 use Rattle.pocsag_decode.proofs.judge.judge_words.Goals as goal
 

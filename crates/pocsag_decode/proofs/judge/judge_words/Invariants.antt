@@ -1,6 +1,6 @@
 use Rattle.std.proofs.Common.{◌≡◌, ◌+◌, map, take, Ok}
 use Rattle.std.specs.Int.{from_be_bytes, w32}
-use Rattle.pocsag_decode.specs.Judging.{JudgesMore}
+use Rattle.pocsag_decode.specs.Judgements.{JudgesMore}
 use Rattle.pocsag_decode.proofs.judge.judge_words.Given as goal
 
 abbrev pub invariant-loop-word : goal.invariant-loop-word

@@ -1,4 +1,4 @@
-use Rattle.pocsag_decode.proofs.Relisting.{fields_back}
+use Rattle.pocsag_decode.proofs.ListedFields.{fields_back}
 use Rattle.pocsag_decode.proofs.laws.listed_fields_are_read_back.Goals as goal
 
 pub returns : goal.returns

@@ -1,4 +1,4 @@
-use Rattle.pocsag_decode.proofs.Restoring.{restores, undamaged}
+use Rattle.pocsag_decode.proofs.Restoration.{restores, undamaged}
 use Rattle.pocsag_decode.proofs.laws.repair_restores.Goals as goal
 
 pub returns-clause-damaged : goal.returns-clause-damaged

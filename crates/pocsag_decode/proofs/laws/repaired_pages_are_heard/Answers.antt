@@ -1,4 +1,4 @@
-use Rattle.pocsag_decode.proofs.Restoring.{heard_of_repaired}
+use Rattle.pocsag_decode.proofs.Restoration.{heard_of_repaired}
 use Rattle.pocsag_decode.proofs.laws.repaired_pages_are_heard.Goals as goal
 
 pub returns : goal.returns

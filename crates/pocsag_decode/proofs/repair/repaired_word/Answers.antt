@@ -1,5 +1,5 @@
 use Rattle.std.proofs.Common.{arith}
-use Rattle.pocsag_decode.specs.Repairing.{IsRepaired}
+use Rattle.pocsag_decode.specs.Repairs.{IsRepaired}
 use Rattle.pocsag_decode.proofs.repair.repaired_word.Goals as goal
 
 pub returns-in-Some : goal.returns-in-Some

@@ -1,4 +1,4 @@
-use Rattle.pocsag_findings.proofs.Columns.{column_added}
+use Rattle.pocsag_findings.proofs.SlotColumns.{column_added}
 use Rattle.pocsag_findings.proofs.judgement.columns_of.Goals as goal
 
 pub loop-slot-preserved : goal.loop-slot-preserved

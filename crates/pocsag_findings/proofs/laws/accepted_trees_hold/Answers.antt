@@ -2,7 +2,7 @@ use Rattle.pocsag_findings.proofs.Prelude.{◌-◌}
 use Rattle.pocsag_slots.specs.Loads.{limits_of_all}
 use Rattle.pocsag_slots.proofs.LimitLemmas.{all_ordered}
 use Rattle.pocsag_findings.specs.declared.finding.Reached.TheVariants.{Root}
-use Rattle.pocsag_findings.proofs.Holding.{all_within}
+use Rattle.pocsag_findings.proofs.AllHold.{all_within}
 use Rattle.pocsag_findings.proofs.laws.accepted_trees_hold.Goals as goal
 
 pub returns : goal.returns

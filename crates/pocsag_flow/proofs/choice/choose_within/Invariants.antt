@@ -1,5 +1,5 @@
 use Rattle.std.proofs.Common.{slice_index}
-use Rattle.pocsag_flow.specs.Choosing.{overload}
+use Rattle.pocsag_flow.specs.Choices.{overload}
 use Rattle.pocsag_flow.specs.Search.{IsLoaded}
 use Rattle.pocsag_flow.proofs.choice.choose_within.Given as goal
 

@@ -1,8 +1,8 @@
 use Rattle.std.proofs.Common.{rules, ◌≡◌, ◌-◌, length, subst, sym, ◌∙◌}
 use Rattle.std.specs.Prelude.{Some, slice_get}
 use Rattle.csv.specs.Records.{fields_of}
-use Rattle.pocsag_edits.specs.Spelling.{IsWholeLine}
-use Rattle.pocsag_journal.proofs.Standing.{added_row, adds_line, no_edit, no_last, not_refused}
+use Rattle.pocsag_journal.specs.LineTexts.{IsWholeLine}
+use Rattle.pocsag_journal.proofs.KeptPages.{added_row, adds_line, no_edit, no_last, not_refused}
 use Rattle.pocsag_journal.proofs.anew.add_line.Goals as goal
 
 pub returns-clause-some : goal.returns-clause-some

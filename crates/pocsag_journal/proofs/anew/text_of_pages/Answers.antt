@@ -4,7 +4,7 @@ use Rattle.std.proofs.Math.Seq.{take-length}
 use Rattle.pocsag_pages.specs.declared.page.Page.{Page}
 use Rattle.pocsag_journal.specs.Faults.{IsUnspelled}
 use Rattle.pocsag_journal.specs.Journals.{AddsLine, ListsPages}
-use Rattle.pocsag_journal.proofs.Standing.{listed_first, listed_on}
+use Rattle.pocsag_journal.proofs.KeptPages.{listed_first, listed_on}
 use Rattle.pocsag_journal.proofs.anew.text_of_pages.Goals as goal
 
 whole : (text : List ℕ) (pages so_far : List Page) (i : ℕ) → length pages ≤ i → i ≤ length pages → so_far ≡ take i pages →

@@ -2,7 +2,7 @@ use Rattle.std.proofs.Common.{◌≡◌, ℕ, List, [], ap, ◌∙◌, subst, sy
 use Rattle.std.specs.Prelude.{IfErr, IfOk, MatchResult, Result, Ok, Err}
 use Rattle.pocsag_pages.specs.PageFile.{Row}
 use Rattle.pocsag_pages.specs.declared.page.Page.{Page}
-use Rattle.pocsag_edits.specs.Runs.{IsRun}
+use Rattle.pocsag_journal.specs.Runs.{IsRun}
 use Rattle.pocsag_journal.specs.Faults.{ExplainsReplay, IsTold, IsToldOf}
 use Rattle.pocsag_journal.specs.Journals.{IsRead, Replays, ReplaysAs}
 use Rattle.pocsag_journal.specs.declared.fault.JournalFault.{JournalFault}

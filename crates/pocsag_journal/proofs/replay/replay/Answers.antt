@@ -1,6 +1,6 @@
 use Rattle.std.proofs.Common.{Bool, arith, subst}
 use Rattle.pocsag_journal.specs.Journals.{MakesLine}
-use Rattle.pocsag_journal.proofs.Replaying.{made_bad, made_end, made_first, made_on, nothing_read, shorter}
+use Rattle.pocsag_journal.proofs.Replays.{made_bad, made_end, made_first, made_on, nothing_read, shorter}
 use Rattle.pocsag_journal.proofs.replay.replay.Goals as goal
 
 pub returns-in-None-clause-read : goal.returns-in-None-clause-read

@@ -1,5 +1,5 @@
 use Rattle.std.proofs.Common.{length}
-use Rattle.pocsag_journal.proofs.Replaying.{Made}
+use Rattle.pocsag_journal.proofs.Replays.{Made}
 use Rattle.pocsag_journal.proofs.replay.replay.Given as goal
 
 -- the lines so far were made

@@ -1,5 +1,5 @@
 use Rattle.std.proofs.Common.{sym, ◌∙◌}
-use Rattle.pocsag_journal.proofs.Replaying.{edit_made, edit_refused, none_made, other_text}
+use Rattle.pocsag_journal.proofs.Replays.{edit_made, edit_refused, none_made, other_text}
 use Rattle.pocsag_journal.proofs.replay.replay_line.Goals as goal
 
 pub returns-in-None : goal.returns-in-None

@@ -2,12 +2,12 @@ use Rattle.std.proofs.Common.{◌≡◌, ℕ, List, [], ◌∷◌, ◌++◌, ap,
 use Rattle.std.specs.Prelude.{codes}
 use Rattle.std.proofs.lemmas.Fmt.{contents_after_writes}
 use Rattle.arrayvec.specs.declared.array_string.ArrayString.{ArrayString}
-use Rattle.pocsag_edits.specs.Edited.{own_words}
-use Rattle.pocsag_edits.specs.Spelling.{HasNoLineFeed}
-use Rattle.pocsag_edits.proofs.LineFeeds.{none_found}
+use Rattle.pocsag_journal.specs.Edited.{own_words}
+use Rattle.pocsag_journal.specs.LineTexts.{HasNoLineFeed}
+use Rattle.pocsag_journal.proofs.LineFeeds.{none_found}
 use Rattle.pocsag_open.specs.Replies.{IsRefusalTold}
 use Rattle.pocsag_open.proofs.Survival.{on_err, took_part}
-use Rattle.pocsag_open.proofs.Telling.{if_some, on_ok}
+use Rattle.pocsag_open.proofs.Told.{if_some, on_ok}
 use Rattle.pocsag_open.proofs.answer.refuse.Goals as goal
 
 pub returns-clause-told : goal.returns-clause-told

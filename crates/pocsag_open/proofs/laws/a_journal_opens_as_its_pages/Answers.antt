@@ -1,4 +1,4 @@
-use Rattle.pocsag_open.proofs.Reopening.{reopened}
+use Rattle.pocsag_open.proofs.Reopened.{reopened}
 use Rattle.pocsag_open.proofs.laws.a_journal_opens_as_its_pages.Goals as goal
 
 pub returns : goal.returns

@@ -1,6 +1,6 @@
 use Rattle.std.proofs.Common.{refl, subst, sym}
 use Rattle.pocsag_open.specs.Plans.{ExplainsUndone}
-use Rattle.pocsag_edits.specs.declared.refusal.UndoneFault.{UndoneFault}
+use Rattle.pocsag_journal.specs.declared.refusal.UndoneFault.{UndoneFault}
 use Rattle.pocsag_open.proofs.Plans.{all_held, explains}
 use Rattle.pocsag_open.proofs.round_plan.send_plan.Goals as goal
 

@@ -1,16 +1,18 @@
-use Rattle.std.proofs.Common.{◌≡◌, List, ℕ, [], ◌∷◌, ◌++◌, length, Err, refl, ap, ◌∙◌, append_assoc}
+use Rattle.std.proofs.Common.{◌≡◌, List, ℕ, [], ◌∷◌, ◌++◌, length, Err, refl, ap, subst, ◌∙◌, append_assoc}
+use Rattle.std.specs.Prelude.{Option, None}
 use Rattle.csv.specs.Records.{fields_of}
+use Rattle.pocsag_journal.proofs.Moments.{named}
+use Rattle.pocsag_journal.specs.Asks.{AsksPlan}
 use Rattle.pocsag_decode.specs.PageFiles.{page_file}
-use Rattle.pocsag_edits.specs.Runs.{IsEdit}
-use Rattle.pocsag_edits.specs.declared.refusal.Refusal.TheVariants as refusal
-use Rattle.pocsag_edits.specs.declared.refusal.UndoneFault.TheVariants as undone
+use Rattle.pocsag_journal.specs.declared.refusal.Refusal.TheVariants as refusal
+use Rattle.pocsag_journal.specs.declared.refusal.UndoneFault.TheVariants as undone
 use Rattle.pocsag_open.specs.Answers.{pages_answer, plan_answer}
 use Rattle.pocsag_open.specs.Plans.{placed_plan}
 use Rattle.pocsag_open.specs.Replies.{IsEditReply, IsRefusalTold, listed, noted, planned, read, refused, unread}
-use Rattle.pocsag_open.specs.Survival.{IsEditLine, RepliesTo}
-use Rattle.pocsag_open.proofs.Sessions.{edit_reply, list_due, other_none, plan_due}
-use Rattle.pocsag_open.proofs.Survival.{cut_as, cut_due, cut_front, cut_last, cut_told, on_err}
-use Rattle.pocsag_open.proofs.Telling.{on_ok, told_as, told_once, told_this}
+use Rattle.pocsag_open.specs.Survival.{FrontRepliesTo, RepliesTo}
+use Rattle.pocsag_open.proofs.Sessions.{edit_reply, front_reply, list_due, other_none, plan_due}
+use Rattle.pocsag_open.proofs.Survival.{cut_as, cut_due, cut_front, cut_last, cut_told, on_err, read_as}
+use Rattle.pocsag_open.proofs.Told.{on_ok, told_as, told_like, told_once, told_this}
 use Rattle.pocsag_open.proofs.session.answer_line.Goals as goal
 
 pub returns-in-Err-clause-replied : goal.returns-in-Err-clause-replied
@@ -20,6 +22,7 @@ returns-in-Err-clause-replied g c = λ tells.
 
 pub returns-in-Ok-put_plan-clause-replied : goal.returns-in-Ok-put_plan-clause-replied
 returns-in-Ok-put_plan-clause-replied g c = λ tells.
+    let asks = subst (λ (most : Option ℕ). AsksPlan c.in-Plan.end most c.in-Plan.tx.now c.in-Plan.cert.now (fields_of c.in-Ok.row)) c.in-None.is c.in-Plan.ensures.asks in
     let done = c.in-Ok-put_plan.ensures.planned in
     on_ok c.tell_planned.result _ _
     (λ (told : g.O.Sink.taken c.tell_planned.new.out ≡ g.O.Sink.taken c.args.out.now
@@ -28,15 +31,16 @@ returns-in-Ok-put_plan-clause-replied g c = λ tells.
       placed = placed_plan c.in-Plan.tx.now c.in-Plan.cert.now done.sent ∷ [];
       answers = told;
       outputs = done.placed;
-      holds = read _ c.requires c.in-Ok.ensures.spelled (planned _ _ _ _ _ _ c.in-Plan.ensures.asks done.planned refl refl refl);
+      holds = read _ c.requires c.in-Ok.ensures.spelled (planned _ _ _ _ _ _ asks done.planned refl refl refl);
     })
     (c.tell_planned.ensures.told tells)
 
-pub returns-in-Plan-clause-replied : goal.returns-in-Plan-clause-replied
-returns-in-Plan-clause-replied g c = λ tells.
+pub returns-in-None-clause-replied : goal.returns-in-None-clause-replied
+returns-in-None-clause-replied g c = λ tells.
+    let asks = subst (λ (most : Option ℕ). AsksPlan c.in-Plan.end most c.in-Plan.tx.now c.in-Plan.cert.now (fields_of c.in-Ok.row)) c.in-None.is c.in-Plan.ensures.asks in
     told_as c.refuse-in-Err-put_plan.result _ _ _ _ _ _ _ c.in-Err-put_plan.ensures.same
     (λ told is. read _ c.requires c.in-Ok.ensures.spelled
-    (refused _ (plan_due _ _ _ _ _ _ _ c.in-Plan.ensures.asks c.in-Plan.ensures.edit c.in-Err-put_plan.ensures.explained) refl is refl))
+    (refused _ (plan_due _ _ None _ _ _ _ _ asks c.in-Plan.ensures.edit c.in-Err-put_plan.ensures.explained) refl is refl))
     (c.refuse-in-Err-put_plan.ensures.told tells)
 
 pub returns-in-Ok-write_page_file-clause-replied : goal.returns-in-Ok-write_page_file-clause-replied
@@ -75,29 +79,31 @@ returns-clause-replied g c = λ tells.
 
 pub returns-in-Err-clause-cut : goal.returns-in-Err-clause-cut
 returns-in-Err-clause-cut g c = λ keeps tells stands.
-    cut_told c.refuse.result (IsEditLine c.args.line.now) (RepliesTo g.P.Places.tells c.args.planner.now.effort c.args.line.now) c.args.round.now.book (g.O.Sink.taken c.args.out.now) (g.O.Sink.taken c.refuse.new.out)
+    cut_told c.refuse.result (RepliesTo g.P.Places.tells c.args.planner.now.effort c.args.line.now) c.args.round.now.book (g.O.Sink.taken c.args.out.now) (g.O.Sink.taken c.refuse.new.out)
     g.K.Keeper.reads_as (g.K.Keeper.may_leave c.args.round.now.keeper) (IsRefusalTold c.in-Err.refusal)
     (λ told is. ([], unread c.in-Err.refusal c.requires c.in-Err.ensures.refused refl is refl))
     (λ left now. g.K.Keeper.restarts c.args.round.now.keeper c.args.round.now.book left keeps stands now) (c.refuse.ensures.part tells)
 
 pub returns-in-Ok-put_plan-clause-cut : goal.returns-in-Ok-put_plan-clause-cut
 returns-in-Ok-put_plan-clause-cut g c = λ keeps tells stands.
+    let asks = subst (λ (most : Option ℕ). AsksPlan c.in-Plan.end most c.in-Plan.tx.now c.in-Plan.cert.now (fields_of c.in-Ok.row)) c.in-None.is c.in-Plan.ensures.asks in
     let done = c.in-Ok-put_plan.ensures.planned in
-    cut_due c.tell_planned.result (IsEditLine c.args.line.now) (RepliesTo g.P.Places.tells c.args.planner.now.effort c.args.line.now) c.args.round.now.book (g.O.Sink.taken c.args.out.now) (g.O.Sink.taken c.tell_planned.new.out)
+    cut_due c.tell_planned.result (RepliesTo g.P.Places.tells c.args.planner.now.effort c.args.line.now) c.args.round.now.book (g.O.Sink.taken c.args.out.now) (g.O.Sink.taken c.tell_planned.new.out)
     (plan_answer c.in-Ok-put_plan.planned.batches c.in-Ok-put_plan.planned.bound) g.K.Keeper.reads_as (g.K.Keeper.may_leave c.args.round.now.keeper) (
       placed_plan c.in-Plan.tx.now c.in-Plan.cert.now done.sent ∷ [],
-      read _ c.requires c.in-Ok.ensures.spelled (planned _ _ _ _ _ _ c.in-Plan.ensures.asks done.planned refl refl refl),
+      read _ c.requires c.in-Ok.ensures.spelled (planned _ _ _ _ _ _ asks done.planned refl refl refl),
     )
     (λ left now. g.K.Keeper.restarts c.args.round.now.keeper c.args.round.now.book left keeps stands now) (c.tell_planned.ensures.part tells)
 
-pub returns-in-Plan-clause-cut : goal.returns-in-Plan-clause-cut
-returns-in-Plan-clause-cut g c = λ keeps tells stands.
-    cut_told c.refuse-in-Err-put_plan.result (IsEditLine c.args.line.now) (RepliesTo g.P.Places.tells c.args.planner.now.effort c.args.line.now) c.args.round.now.book (g.O.Sink.taken c.args.out.now)
+pub returns-in-None-clause-cut : goal.returns-in-None-clause-cut
+returns-in-None-clause-cut g c = λ keeps tells stands.
+    let asks = subst (λ (most : Option ℕ). AsksPlan c.in-Plan.end most c.in-Plan.tx.now c.in-Plan.cert.now (fields_of c.in-Ok.row)) c.in-None.is c.in-Plan.ensures.asks in
+    cut_told c.refuse-in-Err-put_plan.result (RepliesTo g.P.Places.tells c.args.planner.now.effort c.args.line.now) c.args.round.now.book (g.O.Sink.taken c.args.out.now)
     (g.O.Sink.taken c.refuse-in-Err-put_plan.new.out) g.K.Keeper.reads_as (g.K.Keeper.may_leave c.args.round.now.keeper) (IsRefusalTold (refusal.Undone c.in-Err-put_plan.fault))
     (λ told is. (
       [],
       read _ c.requires c.in-Ok.ensures.spelled
-          (refused _ (plan_due _ _ _ _ _ _ _ c.in-Plan.ensures.asks c.in-Plan.ensures.edit c.in-Err-put_plan.ensures.explained) refl is refl),
+          (refused _ (plan_due _ _ None _ _ _ _ _ asks c.in-Plan.ensures.edit c.in-Err-put_plan.ensures.explained) refl is refl),
     ))
     (λ left now. g.K.Keeper.restarts c.args.round.now.keeper c.args.round.now.book left keeps stands now) (c.refuse-in-Err-put_plan.ensures.part tells)
 
@@ -105,7 +111,7 @@ pub returns-in-Ok-write_page_file-clause-cut : goal.returns-in-Ok-write_page_fil
 returns-in-Ok-write_page_file-clause-cut g c = λ keeps tells stands.
     let pages = c.args.round.now.book in
     let whole = rw c.pages.ensures.pages at (c.in-Ok-write_page_file.ensures.whole tells) in
-    cut_last c.tell_pages.result (IsEditLine c.args.line.now) (RepliesTo g.P.Places.tells c.args.planner.now.effort c.args.line.now) pages (g.O.Sink.taken c.args.out.now) (g.O.Sink.taken c.write_page_file.new.sink)
+    cut_last c.tell_pages.result (RepliesTo g.P.Places.tells c.args.planner.now.effort c.args.line.now) pages (g.O.Sink.taken c.args.out.now) (g.O.Sink.taken c.write_page_file.new.sink)
     (g.O.Sink.taken c.tell_pages.new.out) (page_file pages) (pages_answer (length pages)) g.K.Keeper.reads_as (g.K.Keeper.may_leave c.args.round.now.keeper) whole
     ([], read _ c.requires c.in-Ok.ensures.spelled (listed c.in-List.ensures.asks refl refl refl))
     (λ left now. g.K.Keeper.restarts c.args.round.now.keeper c.args.round.now.book left keeps stands now) (c.tell_pages.ensures.part tells)
@@ -114,7 +120,7 @@ pub returns-in-Err-OutOfMemory-clause-cut : goal.returns-in-Err-OutOfMemory-clau
 returns-in-Err-OutOfMemory-clause-cut g c = λ keeps tells stands.
     let same : g.O.Sink.taken c.write_page_file.new.sink ≡ g.O.Sink.taken c.args.out.now =
     ap g.O.Sink.taken (c.write_page_file.ensures.untouched (c.in-Err-OutOfMemory.is ∙ ap Err c.in-Err-OutOfMemory.field-0-is)) in
-    cut_told c.refuse-in-Err-OutOfMemory.result (IsEditLine c.args.line.now) (RepliesTo g.P.Places.tells c.args.planner.now.effort c.args.line.now) c.args.round.now.book (g.O.Sink.taken c.args.out.now)
+    cut_told c.refuse-in-Err-OutOfMemory.result (RepliesTo g.P.Places.tells c.args.planner.now.effort c.args.line.now) c.args.round.now.book (g.O.Sink.taken c.args.out.now)
     (g.O.Sink.taken c.refuse-in-Err-OutOfMemory.new.out) g.K.Keeper.reads_as (g.K.Keeper.may_leave c.args.round.now.keeper) (IsRefusalTold (refusal.Undone undone.OutOfMemory))
     (λ told is. (
       [],
@@ -125,7 +131,7 @@ returns-in-Err-OutOfMemory-clause-cut g c = λ keeps tells stands.
 pub returns-in-List-clause-cut : goal.returns-in-List-clause-cut
 returns-in-List-clause-cut g c = λ keeps tells stands.
     let pages = c.args.round.now.book in
-    cut_front (IsEditLine c.args.line.now) (RepliesTo g.P.Places.tells c.args.planner.now.effort c.args.line.now) pages (g.O.Sink.taken c.args.out.now) (g.O.Sink.taken c.write_page_file.new.sink)
+    cut_front (RepliesTo g.P.Places.tells c.args.planner.now.effort c.args.line.now) pages (g.O.Sink.taken c.args.out.now) (g.O.Sink.taken c.write_page_file.new.sink)
     (page_file pages) (pages_answer (length pages)) g.K.Keeper.reads_as (g.K.Keeper.may_leave c.args.round.now.keeper)
     ([], read _ c.requires c.in-Ok.ensures.spelled (listed c.in-List.ensures.asks refl refl refl))
     (λ left now. g.K.Keeper.restarts c.args.round.now.keeper c.args.round.now.book left keeps stands now)
@@ -133,7 +139,7 @@ returns-in-List-clause-cut g c = λ keeps tells stands.
 
 pub returns-in-Journal-clause-cut : goal.returns-in-Journal-clause-cut
 returns-in-Journal-clause-cut g c = λ keeps tells stands.
-    cut_due c.tell_pages-in-Journal.result (IsEditLine c.args.line.now) (RepliesTo g.P.Places.tells c.args.planner.now.effort c.args.line.now) c.args.round.now.book (g.O.Sink.taken c.args.out.now)
+    cut_due c.tell_pages-in-Journal.result (RepliesTo g.P.Places.tells c.args.planner.now.effort c.args.line.now) c.args.round.now.book (g.O.Sink.taken c.args.out.now)
     (g.O.Sink.taken c.tell_pages-in-Journal.new.out) (pages_answer (length c.args.round.now.book)) g.K.Keeper.reads_as (g.K.Keeper.may_leave c.args.round.now.keeper)
     ([], read _ c.requires c.in-Ok.ensures.spelled (noted c.in-Journal.ensures.asks refl refl refl))
     (λ left now. g.K.Keeper.restarts c.args.round.now.keeper c.args.round.now.book left keeps stands now) (c.tell_pages-in-Journal.ensures.part tells)
@@ -143,9 +149,51 @@ returns-clause-cut g c = λ keeps tells stands.
     let neither =
     other_none c.line_of.result _ c.in_default.not-List c.in_default.not-Plan c.in_default.not-Journal c.line_of.ensures.asks in
     on_err c.answer_edit.result _ _
-    (cut_as (IsEdit (fields_of c.in-Ok.row)) (IsEditLine c.args.line.now) (IsEditReply (fields_of c.in-Ok.row))
+    (cut_as (IsEditReply (fields_of c.in-Ok.row))
     (RepliesTo g.P.Places.tells c.args.planner.now.effort c.args.line.now) c.args.round.now.book (g.O.Sink.taken c.args.out.now) (g.O.Sink.taken c.answer_edit.new.out) g.K.Keeper.reads_as
     (g.K.Keeper.may_leave c.answer_edit.new.round.keeper)
-    (λ after edit. record { row = fields_of c.in-Ok.row; few = c.requires; text = c.in-Ok.ensures.spelled; edit = edit })
     (λ after told is. ([], read _ c.requires c.in-Ok.ensures.spelled (edit_reply _ _ _ _ _ _ neither is))))
     (c.answer_edit.ensures.cut keeps tells stands)
+
+pub returns-in-Plan-clause-replied : goal.returns-in-Plan-clause-replied
+returns-in-Plan-clause-replied g c = λ tells.
+    let asks = subst (λ (most : Option ℕ). AsksPlan c.in-Plan.end most c.in-Plan.tx.now c.in-Plan.cert.now (fields_of c.in-Ok.row)) c.in-Some.is c.in-Plan.ensures.asks in
+    told_like c.answer_front.result _ _ _ _ _ _ _
+    (λ told sent is. read _ c.requires c.in-Ok.ensures.spelled (front_reply _ _ _ _ _ _ _ _ _ _ _ asks c.in-Plan.ensures.edit is))
+    (c.answer_front.ensures.replied tells)
+
+pub returns-in-Plan-clause-cut : goal.returns-in-Plan-clause-cut
+returns-in-Plan-clause-cut g c = λ keeps tells stands.
+    let asks = subst (λ (most : Option ℕ). AsksPlan c.in-Plan.end most c.in-Plan.tx.now c.in-Plan.cert.now (fields_of c.in-Ok.row)) c.in-Some.is c.in-Plan.ensures.asks in
+    on_err c.answer_front.result _ _
+    (cut_as (FrontRepliesTo g.P.Places.tells c.args.planner.now.effort c.in-Plan.end c.in-Some.batches c.in-Plan.tx.now c.in-Plan.cert.now)
+    (RepliesTo g.P.Places.tells c.args.planner.now.effort c.args.line.now) c.args.round.now.book (g.O.Sink.taken c.args.out.now) (g.O.Sink.taken c.answer_front.new.out) g.K.Keeper.reads_as
+    (g.K.Keeper.may_leave c.answer_front.new.round.keeper)
+    (λ after told is. (
+      is.0,
+      read _ c.requires c.in-Ok.ensures.spelled (front_reply _ _ _ _ _ _ _ _ _ _ _ asks c.in-Plan.ensures.edit is.1),
+    )))
+    (c.answer_front.ensures.cut keeps tells stands)
+
+pub returns-in-Plan-clause-any_moment : goal.returns-in-Plan-clause-any_moment
+returns-in-Plan-clause-any_moment g c = λ keeps stands.
+    let asks = subst (λ (most : Option ℕ). AsksPlan c.in-Plan.end most c.in-Plan.tx.now c.in-Plan.cert.now (fields_of c.in-Ok.row)) c.in-Some.is c.in-Plan.ensures.asks in
+    named g.K.Keeper.moment g.K.Keeper.left_since c.args.round.now.keeper c.answer_front.new.round.keeper _ _
+    (c.answer_front.ensures.any_moment keeps stands)
+    (λ left now.
+    read_as (FrontRepliesTo g.P.Places.tells c.args.planner.now.effort c.in-Plan.end c.in-Some.batches c.in-Plan.tx.now c.in-Plan.cert.now)
+    (RepliesTo g.P.Places.tells c.args.planner.now.effort c.args.line.now) c.args.round.now.book g.K.Keeper.reads_as left
+    (λ after told is. (
+      is.0,
+      read _ c.requires c.in-Ok.ensures.spelled (front_reply _ _ _ _ _ _ _ _ _ _ _ asks c.in-Plan.ensures.edit is.1),
+    )) now)
+
+pub returns-clause-any_moment : goal.returns-clause-any_moment
+returns-clause-any_moment g c = λ keeps stands.
+    let neither =
+    other_none c.line_of.result _ c.in_default.not-List c.in_default.not-Plan c.in_default.not-Journal c.line_of.ensures.asks in
+    named g.K.Keeper.moment g.K.Keeper.left_since c.args.round.now.keeper c.answer_edit.new.round.keeper _ _
+    (c.answer_edit.ensures.any_moment keeps stands)
+    (λ left now.
+    read_as (IsEditReply (fields_of c.in-Ok.row)) (RepliesTo g.P.Places.tells c.args.planner.now.effort c.args.line.now) c.args.round.now.book g.K.Keeper.reads_as left
+    (λ after told is. ([], read _ c.requires c.in-Ok.ensures.spelled (edit_reply _ _ _ _ _ _ neither is))) now)

@@ -1,12 +1,12 @@
 use Rattle.std.proofs.Common.{inl, [], List, ℕ, ◌++◌, ap, refl, rules}
-use Rattle.pocsag_edits.specs.Moments.{LeavesOnly}
-use Rattle.pocsag_edits.specs.declared.refusal.Refusal.TheVariants as refusal
-use Rattle.pocsag_edits.proofs.Moments.{started, then_on}
+use Rattle.pocsag_journal.specs.Moments.{LeavesOnly}
+use Rattle.pocsag_journal.specs.declared.refusal.Refusal.TheVariants as refusal
+use Rattle.pocsag_journal.proofs.Moments.{started, then_on}
 use Rattle.pocsag_open.specs.Ahead.{ahead_of}
 use Rattle.pocsag_open.specs.Replies.{IsRefusalTold, too_long}
-use Rattle.pocsag_open.specs.Survival.{IsEditLine, ReadsAfterLines, RepliesTo}
+use Rattle.pocsag_open.specs.Survival.{ReadsAfterLines, RepliesTo}
 use Rattle.pocsag_open.proofs.Survival.{Answered, all_answered, cut_part, none_answered, one_answered, read_next, read_now, survives_between, survives_within}
-use Rattle.pocsag_open.proofs.Telling.{told_once}
+use Rattle.pocsag_open.proofs.Told.{told_once}
 use Rattle.pocsag_open.proofs.session.run_open_kept.Goals.{in-TooLong+in_ok-refuse-in-TooLong, in-Kept+in_ok-answer_line-in-Kept}
 use Rattle.pocsag_open.proofs.session.run_open_kept.Goals as goal
 
@@ -63,7 +63,7 @@ returns-in_err-refuse-in-TooLong-clause-survives g c = λ keeps reads tells stan
     let kept : (left : List ℕ) → g.K.Keeper.may_leave c.loop.round.keeper left → g.K.Keeper.reads_as left c.loop.round.book = λ left now.
     g.K.Keeper.restarts c.loop.round.keeper c.loop.round.book left keeps (c.loop.invariant.stands stands) now in
     survives_within _ _ _ _ found.0 _ _ _ _ _ _ _ _ _ _ (c.loop.invariant.answered reads tells) found.1
-    (cut_part (IsEditLine found.0) (RepliesTo g.P.Places.tells c.args.planner.now.effort found.0) c.loop.round.book c.loop.round.book
+    (cut_part (RepliesTo g.P.Places.tells c.args.planner.now.effort found.0) c.loop.round.book c.loop.round.book
     (g.O.Sink.taken c.loop.out) (g.O.Sink.taken c.refuse.new.out) g.K.Keeper.reads_as (g.K.Keeper.may_leave c.loop.round.keeper)
     (IsRefusalTold refusal.Unknown) (λ told is. ([], too_long found.2 refl is refl)) (λ left now. inl (kept left now)) kept
     (c.in_err-refuse-in-TooLong.ensures.part tells))
@@ -78,7 +78,7 @@ returns-in_err-answer_line-in-Kept-clause-survives g c = λ keeps reads tells st
 pub returns-in_err-answer_line-in-Kept-clause-any_moment : goal.returns-in_err-answer_line-in-Kept-clause-any_moment
 returns-in_err-answer_line-in-Kept-clause-any_moment g c = λ keeps reads tells stands.
     let found = rw c.in-Kept.is at (c.in_ok-read_line.ensures.found reads) in
-    let more = rw c.as_slice.ensures.value at (c.answer_line.ensures.any_moment keeps (c.loop.invariant.stands stands)) in
+    let more = rw (c.as_slice.ensures.value, c.loop.invariant.effort) at (c.answer_line.ensures.any_moment keeps (c.loop.invariant.stands stands)) in
     then_on g.K.Keeper.moment g.K.Keeper.left_since _ c.loop.round.keeper c.answer_line.new.round.keeper _ _
     (c.loop.invariant.moments keeps reads tells stands) more
     (λ left is. read_next _ _ _ _ _ _ _ _ _ _ _ _ _ left (c.loop.invariant.answered reads tells) found.0 is)
@@ -137,7 +137,7 @@ returns-in_err-settle-clause-any_moment g c = λ keeps reads tells stands.
       | in-TooLong+in_ok-refuse-in-TooLong w ↦ rw w.round-is (c.loop.invariant.moments keeps reads tells stands)
       | in-Kept+in_ok-answer_line-in-Kept w ↦
           let found = rw w.in-Kept.is at (c.in_ok-read_line.ensures.found reads) in
-          let more = rw w.as_slice.ensures.value at (w.answer_line.ensures.any_moment keeps (c.loop.invariant.stands stands)) in
+          let more = rw (w.as_slice.ensures.value, c.loop.invariant.effort) at (w.answer_line.ensures.any_moment keeps (c.loop.invariant.stands stands)) in
           rw w.round-is
           (then_on g.K.Keeper.moment g.K.Keeper.left_since _ c.loop.round.keeper w.answer_line.new.round.keeper _ _
           (c.loop.invariant.moments keeps reads tells stands) more
@@ -201,7 +201,7 @@ loop-preserved g c = record {
         | in-TooLong+in_ok-refuse-in-TooLong w ↦ rw w.round-is (c.loop.invariant.moments keeps reads tells stands)
         | in-Kept+in_ok-answer_line-in-Kept w ↦
             let found = rw w.in-Kept.is at (c.in_ok-read_line.ensures.found reads) in
-            let more = rw w.as_slice.ensures.value at (w.answer_line.ensures.any_moment keeps (c.loop.invariant.stands stands)) in
+            let more = rw (w.as_slice.ensures.value, c.loop.invariant.effort) at (w.answer_line.ensures.any_moment keeps (c.loop.invariant.stands stands)) in
             rw w.round-is
             (then_on g.K.Keeper.moment g.K.Keeper.left_since _ c.loop.round.keeper w.answer_line.new.round.keeper _ _
             (c.loop.invariant.moments keeps reads tells stands) more

@@ -1,6 +1,6 @@
 use Rattle.std.proofs.Common.{◌≡◌, ◌++◌}
 use Rattle.std.specs.Prelude.{None}
-use Rattle.pocsag_edits.specs.Moments.{LeavesOnly}
+use Rattle.pocsag_journal.specs.Moments.{LeavesOnly}
 use Rattle.pocsag_open.specs.Ahead.{ahead_of}
 use Rattle.pocsag_open.specs.Survival.{ReadsAfterLines}
 use Rattle.pocsag_open.proofs.Survival.{Answered}

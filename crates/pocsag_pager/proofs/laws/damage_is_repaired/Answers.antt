@@ -1,4 +1,4 @@
-use Rattle.pocsag_pager.proofs.Repairing.{no_fault, repaired}
+use Rattle.pocsag_pager.proofs.Damage.{no_fault, repaired}
 use Rattle.pocsag_pager.proofs.laws.damage_is_repaired.Goals as goal
 
 pub returns-clause-whole : goal.returns-clause-whole

@@ -1,4 +1,4 @@
-use Rattle.pocsag_pager.proofs.Showing.{one_list, shown_listable}
+use Rattle.pocsag_pager.proofs.ShownPages.{one_list, shown_listable}
 use Rattle.pocsag_pager.proofs.laws.shown_pages_are_one_list.Goals as goal
 
 pub returns-clause-one : goal.returns-clause-one

@@ -2,7 +2,7 @@ use Rattle.pocsag_pager.proofs.Prelude.{◌+◌, ◌*◌, ◌≤◌, ℕ, List, 
 use Rattle.pocsag_pager.proofs.WholeWords.{next_batch}
 use Rattle.std.proofs.lemmas.Result.{err_from_is_err_and}
 use Rattle.pocsag_pager.specs.Shown.{ShowsSome}
-use Rattle.pocsag_pager.proofs.Wanting.{shows_last, shows_whole}
+use Rattle.pocsag_pager.proofs.Memory.{shows_last, shows_whole}
 use Rattle.pocsag_pager.proofs.shown.hear_batches.Goals as goal
 
 pub loop-i-preserved : goal.loop-i-preserved

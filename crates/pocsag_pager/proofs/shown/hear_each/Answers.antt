@@ -1,9 +1,9 @@
 use Rattle.pocsag_pager.proofs.Prelude.{◌≡◌, ◌+◌, ◌/◌, ◌++◌, ◌∷◌, [], ℕ, List, length, map, take, refl, sym, ap, subst, ◌∙◌, arith, append_assoc, from_be_bytes, w32, words_of, HasHeard, pager_address}
 use Rattle.std.proofs.lemmas.List.{take_all}
-use Rattle.pocsag_pager.specs.Standing.{Stands}
+use Rattle.pocsag_pager.specs.States.{Stands}
 use Rattle.pocsag_pager.proofs.WholeWords.{chunk_words, ended_at, one_more_word}
 use Rattle.pocsag_pager.specs.Shown.{ShowsSome}
-use Rattle.pocsag_pager.proofs.Wanting.{shows_all, shows_ended, wanted}
+use Rattle.pocsag_pager.proofs.Memory.{shows_all, shows_ended, wanted}
 use Rattle.std.proofs.Common.{Err}
 use Rattle.std.proofs.lemmas.Result.{err_from_is_err_and}
 use Rattle.pocsag_pager.proofs.shown.hear_each.Goals as goal

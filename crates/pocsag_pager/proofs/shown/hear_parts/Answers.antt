@@ -2,7 +2,7 @@ use Rattle.pocsag_pager.proofs.Prelude.{◌≡◌, ◌+◌, ◌*◌, ◌<◌, �
 use Rattle.std.specs.Prelude.{OnErr, OnOk}
 use Rattle.std.proofs.lemmas.Result.{err_from_is_err_and}
 use Rattle.pocsag_pager.specs.Shown.{ShowsSome}
-use Rattle.pocsag_pager.proofs.Wanting.{shows_more}
+use Rattle.pocsag_pager.proofs.Memory.{shows_more}
 use Rattle.pocsag_pager.proofs.WholeWords.{three_parts}
 use Rattle.pocsag_pager.proofs.shown.hear_parts.Goals as goal
 

@@ -1,6 +1,6 @@
 use Rattle.std.proofs.Common.{◌∙◌, inr, sym, ap}
 use Rattle.pocsag_pages.specs.PageFile.{verdict_of_rows}
-use Rattle.pocsag_pages.proofs.Judging.{no_header, bad_header, after_header}
+use Rattle.pocsag_pages.proofs.Judgements.{no_header, bad_header, after_header}
 use Rattle.pocsag_pages.proofs.file.judge_all.Goals as goal
 
 pub returns-then-not-found-clause-err : goal.returns-then-not-found-clause-err

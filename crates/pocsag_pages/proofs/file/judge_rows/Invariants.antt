@@ -1,7 +1,7 @@
 use Rattle.std.proofs.Common.{◌≡◌, ◌-◌, ◌≤◌, length}
 use Rattle.pocsag_pages.specs.Pages.{page_limit}
 use Rattle.pocsag_pages.specs.PageFile.{round_of_rows}
-use Rattle.pocsag_pages.proofs.Judging.{grown}
+use Rattle.pocsag_pages.proofs.Judgements.{grown}
 use Rattle.pocsag_pages.proofs.file.judge_rows.Given as goal
 
 -- the round is that of the pages so far and of the records that are left

@@ -1,6 +1,6 @@
 use Rattle.std.proofs.Common.{Err, inl, inr, arith, ap, ◌∙◌}
 use Rattle.std.proofs.lemmas.Result.{IfErr-weaker, err_from_is_err_and}
-use Rattle.pocsag_pages.proofs.Judging.{never_read, small_file, unread}
+use Rattle.pocsag_pages.proofs.Judgements.{never_read, small_file, unread}
 use Rattle.pocsag_pages.proofs.file.read_round.Goals as goal
 
 pub returns-clause-ok : goal.returns-clause-ok

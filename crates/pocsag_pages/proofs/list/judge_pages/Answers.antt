@@ -3,7 +3,7 @@ use Rattle.std.specs.Prelude.{None}
 use Rattle.std.proofs.lemmas.List.{drop_all}
 use Rattle.pocsag_pages.specs.Pages.{page_fault_of}
 use Rattle.pocsag_pages.specs.PageList.{first_page_fault}
-use Rattle.pocsag_pages.proofs.Growing.{draft_none, draft_push, was_new, was_there}
+use Rattle.pocsag_pages.proofs.GrownRounds.{draft_none, draft_push, was_new, was_there}
 use Rattle.pocsag_pages.proofs.PageLists.{fault_here, fault_later, taken, left, few, broken, again, fine}
 use Rattle.pocsag_pages.proofs.list.judge_pages.Goals as goal
 

@@ -1,6 +1,6 @@
 use Rattle.std.proofs.Common.{arith, false}
 use Rattle.pocsag_tree.specs.Views.{bound_tree_of}
-use Rattle.pocsag_plan.proofs.Completing.{most, nodes_few}
+use Rattle.pocsag_plan.proofs.Completed.{most, nodes_few}
 use Rattle.pocsag_plan.proofs.FrontTries.{loads_exceed, search_exceeds}
 use Rattle.pocsag_plan.proofs.attempt.attempt.Goals as goal
 

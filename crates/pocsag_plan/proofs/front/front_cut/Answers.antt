@@ -3,7 +3,7 @@ use Rattle.std.specs.Prelude.{None}
 use Rattle.std.proofs.lemmas.Result.{err_from_is_err_and}
 use Rattle.pocsag_pages.proofs.FirstPages.{first_round}
 use Rattle.pocsag_plan.specs.Attempts.{IsFit}
-use Rattle.pocsag_plan.proofs.Completing.{some_batch}
+use Rattle.pocsag_plan.proofs.Completed.{some_batch}
 use Rattle.pocsag_plan.proofs.FrontTries.{cut_of, first_has_page, first_needs, front_explained, spare_fits}
 use Rattle.pocsag_plan.proofs.front.front_cut.Goals as goal
 

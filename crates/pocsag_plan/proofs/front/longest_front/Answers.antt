@@ -3,7 +3,7 @@ use Rattle.pocsag_pages.specs.declared.page.Page.{Page}
 use Rattle.pocsag_pages.proofs.FirstPages.{first_round}
 use Rattle.pocsag_branch.specs.Found.{IsNodeLimit}
 use Rattle.pocsag_plan.specs.Attempts.{IsCut}
-use Rattle.pocsag_plan.proofs.Completing.{some_batch}
+use Rattle.pocsag_plan.proofs.Completed.{some_batch}
 use Rattle.pocsag_plan.proofs.FrontTries.{front_of, longest_of, why_of}
 use Rattle.pocsag_plan.proofs.front.longest_front.Goals as goal
 

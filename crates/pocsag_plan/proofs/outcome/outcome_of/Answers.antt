@@ -1,6 +1,6 @@
-use Rattle.std.proofs.Common.{refl, sym, ◌∙◌, arith}
+use Rattle.std.proofs.Common.{refl, arith}
 use Rattle.std.proofs.lemmas.Result.{err_from_is_err_and}
-use Rattle.pocsag_plan.proofs.Explaining.{explained}
+use Rattle.pocsag_plan.proofs.Explained.{explained}
 use Rattle.pocsag_plan.proofs.outcome.outcome_of.Goals as goal
 
 pub returns-in_err-found-in-Fewest-clause-fault : goal.returns-in_err-found-in-Fewest-clause-fault

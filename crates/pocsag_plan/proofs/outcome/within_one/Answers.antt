@@ -1,5 +1,5 @@
 use Rattle.std.proofs.Common.{◌≤◌, arith}
-use Rattle.pocsag_plan.proofs.Completing.{near_few}
+use Rattle.pocsag_plan.proofs.Completed.{near_few}
 use Rattle.pocsag_plan.proofs.outcome.within_one.Goals as goal
 
 pub overflow_add-found : goal.overflow_add-found

@@ -3,10 +3,10 @@ use Rattle.pocsag_pages.proofs.GoodPages.{apart_pages}
 use Rattle.pocsag_slots.specs.declared.step.Step.{Step}
 use Rattle.pocsag_slots.specs.Tours.{IsTourFor}
 use Rattle.pocsag_tree.specs.Views.{bound_tree_of}
-use Rattle.pocsag_batch.specs.Placing.{IsOrder}
-use Rattle.pocsag_check.proofs.Bounding.{admitted_all}
-use Rattle.pocsag_plan.proofs.Explaining.{no_worse}
-use Rattle.pocsag_plan.proofs.Completing.{found_room, most, nodes_few, some_batch, tour_for}
+use Rattle.pocsag_batch.specs.Placement.{IsOrder}
+use Rattle.pocsag_check.proofs.Bounds.{admitted_all}
+use Rattle.pocsag_plan.proofs.Explained.{no_worse}
+use Rattle.pocsag_plan.proofs.Completed.{found_room, most, nodes_few, some_batch, tour_for}
 use Rattle.pocsag_plan.proofs.plans.completed.Goals as goal
 
 pub order_of-requires : goal.order_of-requires

@@ -1,4 +1,4 @@
-use Rattle.pocsag_plan.proofs.Tallying.{gained, gained_tables}
+use Rattle.pocsag_plan.proofs.Tallies.{gained, gained_tables}
 use Rattle.pocsag_plan.proofs.tally.count_page.Goals as goal
 
 pub invariant_of-classes : goal.invariant_of-classes

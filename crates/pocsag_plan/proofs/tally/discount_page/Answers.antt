@@ -1,5 +1,5 @@
 use Rattle.pocsag_pages.specs.Pages.{IsGoodPage}
-use Rattle.pocsag_plan.proofs.Tallying.{All-here, lost, lost_tables}
+use Rattle.pocsag_plan.proofs.Tallies.{All-here, lost, lost_tables}
 use Rattle.pocsag_plan.proofs.tally.discount_page.Goals as goal
 
 pub whole_turns-turns-requires : goal.whole_turns-turns-requires

@@ -1,6 +1,6 @@
 use Rattle.std.proofs.Common.{refl}
 use Rattle.pocsag_shell.specs.Notes.{error_line}
-use Rattle.pocsag_shell.proofs.Telling.{took_prefix}
+use Rattle.pocsag_shell.proofs.Told.{took_prefix}
 use Rattle.pocsag_shell.proofs.lines.tell_fault.Goals as goal
 
 pub returns-clause-told : goal.returns-clause-told

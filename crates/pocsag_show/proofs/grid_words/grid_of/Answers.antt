@@ -1,7 +1,7 @@
 use Rattle.std.proofs.Common.{◌≡◌, ap, sym, ◌∙◌, arith, subst, drop, List, ℕ}
 use Rattle.pocsag_pages.specs.Bytes.{after_preamble}
 use Rattle.pocsag_decode.proofs.Words.{split_is}
-use Rattle.pocsag_show.specs.Taking.{IsUnderWay}
+use Rattle.pocsag_show.specs.Cells.{IsUnderWay}
 use Rattle.pocsag_show.proofs.Steps.{at_end, at_start, next_codeword, next_step}
 use Rattle.pocsag_show.proofs.grid_words.grid_of.Goals as goal
 

@@ -1,6 +1,6 @@
 use Rattle.std.proofs.Common.{length}
 use Rattle.pocsag_pages.specs.Bytes.{after_preamble}
-use Rattle.pocsag_show.specs.Taking.{IsUnderWay}
+use Rattle.pocsag_show.specs.Cells.{IsUnderWay}
 use Rattle.pocsag_show.proofs.grid_words.grid_of.Given as goal
 
 abbrev pub invariant-loop-rest : goal.invariant-loop-rest

@@ -3,7 +3,7 @@ use Rattle.pocsag_words.specs.Kinds.{kind_of}
 use Rattle.pocsag_pages.specs.Bytes.{codewords_in}
 use Rattle.pocsag_show.specs.Numbers.{numbers_in}
 use Rattle.pocsag_show.specs.Placed.{placed}
-use Rattle.pocsag_show.specs.Taking.{IsGridOf}
+use Rattle.pocsag_show.specs.Cells.{IsGridOf}
 use Rattle.pocsag_show.proofs.Texts.{all_codewords, judged_is, wanting}
 use Rattle.pocsag_show.proofs.judge.judge.Goals as goal
 

@@ -2,7 +2,7 @@ use Rattle.std.proofs.Common.{sym, subst}
 use Rattle.std.specs.Prelude.{IfOk}
 use Rattle.std.proofs.lemmas.Result.{IfOk-weaker}
 use Rattle.pocsag_show.specs.declared.view.View.{View}
-use Rattle.pocsag_show.specs.Showing.{IsTextOf}
+use Rattle.pocsag_show.specs.Shows.{IsTextOf}
 use Rattle.pocsag_show.specs.Views.{view_text}
 use Rattle.pocsag_show.proofs.Texts.{is_drawing, is_grid_text, is_place_text, kinds_whole}
 use Rattle.pocsag_show.proofs.views.shown.Goals as goal

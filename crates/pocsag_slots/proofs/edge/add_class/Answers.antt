@@ -1,5 +1,5 @@
 use Rattle.pocsag_slots.proofs.Prelude.{◌≤◌, ◌+◌, ◌-◌, ◌==◌, cond, ℕ, refl, slice_index, arith, ends_at, starts_at}
-use Rattle.pocsag_slots.proofs.Edging.{class_added, class_skipped, ends_few, none_end, none_start, part_few, starts_few}
+use Rattle.pocsag_slots.proofs.EdgeLemmas.{class_added, class_skipped, ends_few, none_end, none_start, part_few, starts_few}
 use Rattle.pocsag_slots.proofs.LoadLemmas.{count_few, load_none, loads_few}
 use Rattle.pocsag_slots.proofs.SumLemmas.{summed}
 use Rattle.pocsag_slots.proofs.edge.add_class.Goals as goal

@@ -1,7 +1,7 @@
 use Rattle.pocsag_slots.proofs.Prelude.{◌≡◌, ◌∙◌, arith, load, sym, slice_index, ends_at, starts_at}
 use Rattle.pocsag_slots.proofs.SumLemmas.{sum_below_none}
 use Rattle.pocsag_slots.proofs.edge.edges_of.Goals as goal
-use Rattle.pocsag_slots.proofs.Edging.{sixteen_zeros}
+use Rattle.pocsag_slots.proofs.EdgeLemmas.{sixteen_zeros}
 
 pub loop-number-init : goal.loop-number-init
 loop-number-init c = record {

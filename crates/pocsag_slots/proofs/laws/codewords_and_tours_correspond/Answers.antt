@@ -1,6 +1,6 @@
 use Rattle.pocsag_slots.proofs.Prelude.{map, kind_of}
 use Rattle.pocsag_slots.proofs.Fewest.{laid_list_legal}
-use Rattle.pocsag_slots.proofs.Touring.{toured}
+use Rattle.pocsag_slots.proofs.ToursOfLists.{toured}
 use Rattle.pocsag_slots.proofs.laws.codewords_and_tours_correspond.Goals as goal
 
 pub returns-clause-tour : goal.returns-clause-tour

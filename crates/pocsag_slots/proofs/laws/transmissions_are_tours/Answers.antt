@@ -1,4 +1,4 @@
-use Rattle.pocsag_slots.proofs.Touring.{toured}
+use Rattle.pocsag_slots.proofs.ToursOfLists.{toured}
 use Rattle.pocsag_slots.proofs.laws.transmissions_are_tours.Goals as goal
 
 pub returns : goal.returns

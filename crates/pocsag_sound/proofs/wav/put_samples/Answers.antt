@@ -4,8 +4,8 @@ use Rattle.std.specs.List.{flat_map}
 use Rattle.pocsag_decode.proofs.Prefixes.{after_fault, took_on}
 use Rattle.pocsag_sound.specs.Levels.{level_at}
 use Rattle.pocsag_sound.specs.Wav.{sample_bytes}
-use Rattle.pocsag_sound.specs.Writing.{samples_of}
-use Rattle.pocsag_sound.proofs.Sounding.{level_fits, none_written, pushed, still_to_write, written_more}
+use Rattle.pocsag_sound.specs.Samples.{samples_of}
+use Rattle.pocsag_sound.proofs.Sounds.{level_fits, none_written, pushed, still_to_write, written_more}
 use Rattle.pocsag_sound.proofs.wav.put_samples.Goals as goal
 
 pub loop-index-init : goal.loop-index-init

@@ -1,7 +1,7 @@
 use Rattle.std.proofs.Common.{◌≡◌, ◌≤◌, ◌++◌, length}
 use Rattle.std.specs.List.{flat_map}
 use Rattle.pocsag_sound.specs.Wav.{sample_bytes}
-use Rattle.pocsag_sound.specs.Writing.{samples_of}
+use Rattle.pocsag_sound.specs.Samples.{samples_of}
 use Rattle.pocsag_sound.proofs.wav.put_samples.Given as goal
 
 abbrev pub invariant-loop-index : goal.invariant-loop-index

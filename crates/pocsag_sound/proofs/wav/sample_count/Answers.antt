@@ -1,4 +1,4 @@
-use Rattle.pocsag_sound.proofs.Sounding.{counts_rounded}
+use Rattle.pocsag_sound.proofs.Sounds.{counts_rounded}
 use Rattle.pocsag_sound.proofs.wav.sample_count.Goals as goal
 
 pub returns-clause-count : goal.returns-clause-count

@@ -3,8 +3,8 @@ use Rattle.std.proofs.lemmas.List.{append-nil}
 use Rattle.std.specs.List.{flat_map}
 use Rattle.pocsag_decode.proofs.Prefixes.{took_on}
 use Rattle.pocsag_sound.specs.Wav.{sample_bytes, wav_header}
-use Rattle.pocsag_sound.specs.Writing.{samples_of}
-use Rattle.pocsag_sound.proofs.Sounding.{is_wav}
+use Rattle.pocsag_sound.specs.Samples.{samples_of}
+use Rattle.pocsag_sound.proofs.Sounds.{is_wav}
 use Rattle.pocsag_sound.proofs.wav.wav_bytes.Goals as goal
 
 pub returns-in_err-put_whole-clause-part : goal.returns-in_err-put_whole-clause-part

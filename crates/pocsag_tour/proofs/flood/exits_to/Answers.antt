@@ -1,5 +1,5 @@
 use Rattle.pocsag_tour.proofs.Prelude.{ℕ, ◌<◌, arith, ◌∙◌, length, length-set, refl, slice_index, [], ◌∷◌}
-use Rattle.pocsag_tour.proofs.Flooding.{enters_by, exits_low, grown_keeps, homes_start, homes_written}
+use Rattle.pocsag_tour.proofs.Floods.{enters_by, exits_low, grown_keeps, homes_start, homes_written}
 use Rattle.pocsag_tour.proofs.flood.exits_to.Goals as goal
 
 zeros_low : (q : ℕ) → slice_index (0 ∷ 0 ∷ 0 ∷ 0 ∷ 0 ∷ 0 ∷ 0 ∷ 0 ∷ 0 ∷ 0 ∷ 0 ∷ 0 ∷ 0 ∷ 0 ∷ 0 ∷ 0 ∷ []) q < 288

@@ -1,6 +1,6 @@
 use Rattle.pocsag_tour.proofs.Prelude.{arith, [], ◌∷◌}
 use Rattle.std.proofs.lemmas.List.{length-append}
-use Rattle.pocsag_tour.proofs.Flooding.{used_first, used_found, used_passed}
+use Rattle.pocsag_tour.proofs.Floods.{used_first, used_found, used_passed}
 use Rattle.pocsag_tour.proofs.flood.used_arcs.Goals as goal
 use Rattle.pocsag_tour.proofs.flood.used_arcs.Goals.{then-counts-arc-gt0, else-counts-arc-gt0}
 

@@ -1,4 +1,4 @@
-use Rattle.pocsag_tour.proofs.Refusing.{never_apart}
+use Rattle.pocsag_tour.proofs.Refused.{never_apart}
 use Rattle.pocsag_tour.proofs.laws.apart_has_no_tour.Goals as goal
 
 pub returns : goal.returns

@@ -1,4 +1,4 @@
-use Rattle.pocsag_tour.proofs.Sparing.{spare_tour}
+use Rattle.pocsag_tour.proofs.Spares.{spare_tour}
 use Rattle.pocsag_tour.proofs.laws.spare_batches_have_tours.Goals as goal
 
 pub returns : goal.returns

@@ -1,6 +1,6 @@
 use Rattle.pocsag_tour.proofs.Prelude.{◌≡◌, true, false, arith, slice_index, holds}
 use Rattle.std.proofs.lemmas.Nat.{le_or_l}
-use Rattle.pocsag_tour.proofs.Linking.{follows_all, grown_link, grown_pass, grown_start}
+use Rattle.pocsag_tour.proofs.LinkLemmas.{follows_all, grown_link, grown_pass, grown_start}
 use Rattle.pocsag_tour.proofs.links.followed.Goals as goal
 use Rattle.pocsag_tour.proofs.links.followed.Goals.{then-holds, else-holds}
 

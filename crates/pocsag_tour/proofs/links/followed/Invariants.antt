@@ -1,5 +1,5 @@
 use Rattle.pocsag_tour.proofs.Prelude.{◌≤◌, slice_index}
-use Rattle.pocsag_tour.proofs.Linking.{IsGrown}
+use Rattle.pocsag_tour.proofs.LinkLemmas.{IsGrown}
 use Rattle.pocsag_tour.proofs.links.followed.Given as goal
 
 abbrev pub invariant-loop-boundary : goal.invariant-loop-boundary

@@ -1,5 +1,5 @@
 use Rattle.pocsag_tour.proofs.Prelude.{◌+◌, slice_index, arith}
-use Rattle.pocsag_tour.proofs.Linking.{AreLinks, link_at, runs_more, runs_none}
+use Rattle.pocsag_tour.proofs.LinkLemmas.{AreLinks, link_at, runs_more, runs_none}
 use Rattle.pocsag_tour.proofs.links.link_class.Goals as goal
 
 more : (c : goal.After-link-2) → AreLinks c.args.classes.now (slice_index c.args.choice.now.early) c.args.batches c.link-2.new.links

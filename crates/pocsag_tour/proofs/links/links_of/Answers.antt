@@ -1,5 +1,5 @@
 use Rattle.pocsag_tour.proofs.Prelude.{slice_index, arith}
-use Rattle.pocsag_tour.proofs.Linking.{idles_more}
+use Rattle.pocsag_tour.proofs.LinkLemmas.{idles_more}
 use Rattle.pocsag_tour.proofs.links.links_of.Goals as goal
 
 pub loop-slot-init : goal.loop-slot-init

@@ -1,5 +1,5 @@
 use Rattle.pocsag_tour.proofs.Prelude.{slice_index}
-use Rattle.pocsag_tour.proofs.Linking.{WithIdles}
+use Rattle.pocsag_tour.proofs.LinkLemmas.{WithIdles}
 use Rattle.pocsag_tour.proofs.links.links_of.Given as goal
 
 abbrev pub invariant-loop-slot : goal.invariant-loop-slot

@@ -1,5 +1,5 @@
 use Rattle.pocsag_tour.proofs.Prelude.{slice_index}
-use Rattle.pocsag_tour.proofs.Linking.{AreLinks}
+use Rattle.pocsag_tour.proofs.LinkLemmas.{AreLinks}
 use Rattle.pocsag_tour.proofs.links.run_links.Given as goal
 
 abbrev pub invariant-loop-number : goal.invariant-loop-number

@@ -1,5 +1,5 @@
 use Rattle.pocsag_tour.proofs.Prelude.{slice_index}
-use Rattle.pocsag_tour.proofs.Linking.{all_reached}
+use Rattle.pocsag_tour.proofs.LinkLemmas.{all_reached}
 use Rattle.pocsag_tour.proofs.Tours.{no_idle_crosses, no_run_crosses}
 use Rattle.pocsag_tour.proofs.reach.reached.Goals as goal
 

@@ -1,5 +1,5 @@
 use Rattle.pocsag_tour.proofs.Prelude.{arith, slice_index, err_from_is_err_and}
-use Rattle.pocsag_tour.proofs.Existing.{closing_way_exists, way_exists}
+use Rattle.pocsag_tour.proofs.Existence.{closing_way_exists, way_exists}
 use Rattle.pocsag_tour.proofs.route.closing_way.Goals as goal
 
 pub returns-in-None-clause-refused : goal.returns-in-None-clause-refused

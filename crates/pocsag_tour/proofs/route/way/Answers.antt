@@ -1,5 +1,5 @@
 use Rattle.pocsag_tour.proofs.Prelude.{slice_index, err_from_is_err_and}
-use Rattle.pocsag_tour.proofs.Existing.{open_way_exists}
+use Rattle.pocsag_tour.proofs.Existence.{open_way_exists}
 use Rattle.pocsag_tour.proofs.route.way.Goals as goal
 
 pub returns-in_err-walk-in-Open-clause-refused : goal.returns-in_err-walk-in-Open-clause-refused

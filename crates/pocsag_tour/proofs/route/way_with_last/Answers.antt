@@ -1,5 +1,5 @@
 use Rattle.pocsag_tour.proofs.Prelude.{◌≡◌, ◌-◌, [], ◌∷◌, ◌++◌, arith, slice_index, slice_set, step_of}
-use Rattle.pocsag_tour.proofs.Joining.{balanced_without, closed_way, joined_closed}
+use Rattle.pocsag_tour.proofs.Joined.{balanced_without, closed_way, joined_closed}
 use Rattle.pocsag_tour.proofs.Walks.{less_by_set}
 use Rattle.pocsag_tour.proofs.route.way_with_last.Goals as goal
 

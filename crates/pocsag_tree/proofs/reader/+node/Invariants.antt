@@ -1,6 +1,6 @@
 use Rattle.pocsag_tree.proofs.Prelude.{◌≡◌, ◌+◌, ◌-◌, ◌*◌, ◌≤◌, ℕ, length, map, bound_tree_of, bounds_of, but_last, row_at, node_at}
 use Rattle.std.proofs.Common.{vec_len, vec_capacity}
-use Rattle.pocsag_tree.specs.Reading.{IsRowRead}
+use Rattle.pocsag_tree.specs.Parser.{IsRowRead}
 use Rattle.pocsag_tree.proofs.Rows.{with_front}
 use Rattle.pocsag_tree.proofs.reader.+node.Given as goal
 

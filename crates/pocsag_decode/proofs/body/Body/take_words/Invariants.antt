@@ -1,6 +1,6 @@
 use Rattle.std.proofs.Common.{◌≡◌, ◌%◌, [], length}
 use Rattle.pocsag_decode.specs.Carried.{carried}
-use Rattle.pocsag_decode.specs.Taking.{IsTaking}
+use Rattle.pocsag_decode.specs.Intake.{IsTaking}
 use Rattle.pocsag_decode.proofs.body.Body.take_words.Given as goal
 
 abbrev pub invariant-loop-rest : goal.invariant-loop-rest

@@ -1,7 +1,7 @@
 use Rattle.std.proofs.Common.{map, sym, ◌∙◌}
 use Rattle.pocsag_words.specs.Kinds.{kind_of}
 use Rattle.pocsag_pages.specs.Bytes.{codewords_in}
-use Rattle.pocsag_decode.proofs.Feeding.{ended_whole}
+use Rattle.pocsag_decode.proofs.Pieces.{ended_whole}
 use Rattle.pocsag_decode.proofs.Judgements.{whole_no_fault}
 use Rattle.pocsag_decode.proofs.OneFault.{answered, never_memory}
 use Rattle.pocsag_decode.proofs.Transmissions.{pages_end, whole_reads, whole_listable}

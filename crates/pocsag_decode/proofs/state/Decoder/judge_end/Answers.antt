@@ -1,5 +1,5 @@
 use Rattle.std.proofs.lemmas.Bool.{iff_false}
-use Rattle.pocsag_decode.proofs.Feeding.{short_end, no_batch_end, cut_end}
+use Rattle.pocsag_decode.proofs.Pieces.{short_end, no_batch_end, cut_end}
 use Rattle.pocsag_decode.proofs.state.Decoder.judge_end.Goals as goal
 
 pub returns-then-self-lt-PREAMBLE-clause-fault : goal.returns-then-self-lt-PREAMBLE-clause-fault

@@ -1,5 +1,5 @@
 use Rattle.std.proofs.lemmas.Bool.{iff_false}
-use Rattle.pocsag_decode.proofs.Feeding.{skips_begun, skips_alone}
+use Rattle.pocsag_decode.proofs.Pieces.{skips_begun, skips_alone}
 use Rattle.pocsag_decode.proofs.state.Decoder.skip_preamble.Goals as goal
 
 pub returns-then-not-is_empty-clause-skipped : goal.returns-then-not-is_empty-clause-skipped

@@ -1,7 +1,7 @@
 use Rattle.std.proofs.Common.{◌≡◌, ℕ, ◌≤◌, List, length, sym, ap, ◌∙◌, subst}
 use Rattle.pocsag_pages.specs.declared.page.Page.{Page}
 use Rattle.pocsag_journal.specs.Journals.{ListsPages, journal_limit}
-use Rattle.pocsag_journal.proofs.Tearing.{listed_short, put_anew}
+use Rattle.pocsag_journal.proofs.TornLines.{listed_short, put_anew}
 use Rattle.pocsag_journal.proofs.journal.Journal.write_anew.Goals as goal
 
 pub returns-in_default-clause-any_moment_err : goal.returns-in_default-clause-any_moment_err

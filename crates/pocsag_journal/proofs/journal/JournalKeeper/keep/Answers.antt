@@ -1,14 +1,14 @@
 use Rattle.std.proofs.Common.{◌≡◌, inl, ℕ, ◌≤◌, List, ◌++◌, length, sym, ap, ◌∙◌, subst}
 use Rattle.csv.specs.Records.{fields_of}
 use Rattle.csv.specs.Writing.{default_writer, row_text}
-use Rattle.pocsag_edits.specs.Keeping.{ReadsAsEither}
-use Rattle.pocsag_edits.specs.Spelling.{IsWholeLine}
-use Rattle.pocsag_edits.proofs.Moments.{goes_on}
+use Rattle.pocsag_journal.specs.Keepers.{ReadsAsEither}
+use Rattle.pocsag_journal.specs.LineTexts.{IsWholeLine}
+use Rattle.pocsag_journal.proofs.Moments.{goes_on}
 use Rattle.pocsag_journal.specs.Crashes.{RestartsAs}
 use Rattle.pocsag_journal.specs.Journals.{journal_limit}
-use Rattle.pocsag_journal.proofs.Counting.{fits_behind, sum_is}
-use Rattle.pocsag_journal.proofs.Standing.{stands_on}
-use Rattle.pocsag_journal.proofs.Tearing.{on_journal, torn_left, unwritten, written}
+use Rattle.pocsag_journal.proofs.ByteCounts.{fits_behind, sum_is}
+use Rattle.pocsag_journal.proofs.KeptPages.{stands_on}
+use Rattle.pocsag_journal.proofs.TornLines.{on_journal, torn_left, unwritten, written}
 use Rattle.pocsag_journal.proofs.journal.JournalKeeper.keep.Goals as goal
 
 pub returns-then-not-is_one_line-clause-any_moment : goal.returns-then-not-is_one_line-clause-any_moment

@@ -2,8 +2,8 @@ use Rattle.std.proofs.Common.{ℕ, List, refl, ◌∙◌, subst}
 use Rattle.pocsag_pages.specs.declared.page.Page.{Page}
 use Rattle.pocsag_journal.specs.Growth.{IsDue, small}
 use Rattle.pocsag_journal.specs.Journals.{ListsPages}
-use Rattle.pocsag_journal.specs.Keeping.{disk_of}
-use Rattle.pocsag_journal.proofs.Counting.{times_at_most}
+use Rattle.pocsag_journal.specs.Views.{disk_of}
+use Rattle.pocsag_journal.proofs.ByteCounts.{times_at_most}
 use Rattle.pocsag_journal.proofs.journal.JournalKeeper.settle.Goals as goal
 
 pub returns-then-len-saturating_mul-clause-settled : goal.returns-then-len-saturating_mul-clause-settled

@@ -1,5 +1,5 @@
 use Rattle.std.proofs.Common.{◌≡◌, ◌≤◌, List, ℕ, ◌++◌, length}
-use Rattle.pocsag_edits.specs.Spelling.{HasNoLineFeed}
+use Rattle.pocsag_journal.specs.LineTexts.{HasNoLineFeed}
 use Rattle.pocsag_open.specs.Lines.{IsSeen, between_places, line_limit}
 use Rattle.pocsag_open.proofs.lines.Lines.read_line.Given as goal
 

@@ -1,4 +1,4 @@
-use Rattle.pocsag_pages.proofs.Growing.{draft_none}
+use Rattle.pocsag_pages.proofs.GrownRounds.{draft_none}
 use Rattle.pocsag_pages.proofs.draft.Draft.new.Goals as goal
 
 pub invariant_of-result : goal.invariant_of-result

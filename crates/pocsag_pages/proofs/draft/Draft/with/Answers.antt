@@ -1,4 +1,4 @@
-use Rattle.pocsag_pages.proofs.Growing.{draft_push, was_new}
+use Rattle.pocsag_pages.proofs.GrownRounds.{draft_push, was_new}
 use Rattle.pocsag_pages.proofs.draft.Draft.with.Goals as goal
 
 pub invariant_of-result : goal.invariant_of-result

@@ -1,5 +1,4 @@
 use Rattle.std.proofs.Common.{arith, subst}
-use Rattle.pocsag_plan.specs.declared.attempt.Tried.{Tried}
 use Rattle.pocsag_plan.specs.Attempts.{IsTried}
 use Rattle.pocsag_plan.proofs.attempt.Bracket.narrowed.Goals as goal
 

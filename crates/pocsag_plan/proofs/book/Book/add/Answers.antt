@@ -5,8 +5,8 @@ use Rattle.indexmap.proofs.CallerLemmas.{insert_entry-new}
 use Rattle.pocsag_words.specs.declared.ending.End.TheVariants.{Open, Closed}
 use Rattle.pocsag_pages.specs.declared.page.Page.{Page}
 use Rattle.pocsag_plan.specs.OpenRound.{add_fault}
-use Rattle.pocsag_plan.proofs.Editing.{can_gain, grown_book, not_found, values_push}
-use Rattle.pocsag_plan.proofs.Refusing.{MayFollow, may_follow}
+use Rattle.pocsag_plan.proofs.Edits.{can_gain, grown_book, not_found, values_push}
+use Rattle.pocsag_plan.proofs.Refusals.{MayFollow, may_follow}
 use Rattle.pocsag_plan.proofs.book.Book.add.Goals as goal
 
 -- the page may follow the values of the entries

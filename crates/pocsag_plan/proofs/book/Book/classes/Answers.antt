@@ -1,5 +1,5 @@
 use Rattle.std.specs.Map.{values_of}
-use Rattle.pocsag_plan.proofs.Tallying.{open_or_idle}
+use Rattle.pocsag_plan.proofs.Tallies.{open_or_idle}
 use Rattle.pocsag_plan.proofs.book.Book.classes.Goals as goal
 
 pub returns-in-Open : goal.returns-in-Open

@@ -1,7 +1,7 @@
 use Rattle.std.proofs.Common.{◌<◌, ◌≤◌, true, false, length, sym, arith}
 use Rattle.pocsag_pages.specs.Pages.{page_limit}
-use Rattle.pocsag_plan.proofs.Editing.{there_is}
-use Rattle.pocsag_plan.proofs.Refusing.{duplicate_fault, full_fault, no_fault}
+use Rattle.pocsag_plan.proofs.Edits.{there_is}
+use Rattle.pocsag_plan.proofs.Refusals.{duplicate_fault, full_fault, no_fault}
 use Rattle.pocsag_plan.proofs.book.Book.fault_of.Goals as goal
 
 pub returns-then-contains_key : goal.returns-then-contains_key

@@ -1,4 +1,4 @@
-use Rattle.pocsag_plan.proofs.Editing.{listable_pages}
+use Rattle.pocsag_plan.proofs.Edits.{listable_pages}
 use Rattle.pocsag_plan.proofs.book.Book.pages.Goals as goal
 
 pub returns-clause-listable : goal.returns-clause-listable

@@ -1,5 +1,5 @@
 use Rattle.std.proofs.Common.{◌≡◌, ◌%◌, length}
-use Rattle.pocsag_text.specs.Packing.{packed_bits}
+use Rattle.pocsag_text.specs.Packers.{packed_bits}
 use Rattle.pocsag_text.proofs.Packs.{twenties-packed_bits}
 use Rattle.pocsag_text.proofs.packer.Packer.into_items.Goals as goal
 

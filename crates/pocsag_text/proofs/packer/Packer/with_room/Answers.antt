@@ -1,5 +1,5 @@
 use Rattle.std.proofs.Common.{refl}
-use Rattle.pocsag_text.specs.Packing.{packed_bits}
+use Rattle.pocsag_text.specs.Packers.{packed_bits}
 use Rattle.pocsag_text.specs.Bits.{high_first}
 use Rattle.pocsag_text.proofs.packer.Packer.with_room.Goals as goal
 

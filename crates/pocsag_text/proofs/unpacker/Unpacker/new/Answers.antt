@@ -1,5 +1,5 @@
 use Rattle.std.proofs.Common.{refl}
-use Rattle.pocsag_text.specs.Packing.{unpacked_bits}
+use Rattle.pocsag_text.specs.Packers.{unpacked_bits}
 use Rattle.pocsag_text.specs.Bits.{high_first}
 use Rattle.pocsag_text.proofs.unpacker.Unpacker.new.Goals as goal
 

@@ -1,0 +1,9 @@
+pub mod Ends
+pub mod Joined
+pub mod Lifts
+pub mod Once
+pub mod Polarities
+pub mod SearchLemmas
+pub mod SentBits
+pub mod Settled
+pub mod Windows

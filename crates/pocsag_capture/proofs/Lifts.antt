@@ -1,0 +1,85 @@
+-- Receptions that are lifted one behind the other.
+use Rattle.std.proofs.Common.{◌≡◌, ◌≢◌, ℕ, ◌+◌, ◌*◌, ◌%◌, ◌<◌, ◌≤◌, List, [], ◌∷◌, ◌++◌, length, map, refl, sym, ap, subst, ◌∙◌, arith}
+use Rattle.std.specs.List.{AllZip, range_with_len}
+use Rattle.std.proofs.lemmas.Bool.{le-leb, lt-leb, ne_eqb}
+use Rattle.std.proofs.lemmas.List.{append-nil, flat_map_more, map-append}
+use Rattle.std.proofs.lemmas.List.FromFn.{length-map-range_with_len, map-range_with_len_more}
+use Rattle.pocsag_pages.specs.Bytes.{body_bytes}
+use Rattle.pocsag_capture.specs.Bits.{as_sent, word_on}
+use Rattle.pocsag_capture.specs.Lifted.{AreLifted}
+use Rattle.pocsag_capture.specs.LiftedBytes.{IsLift, PutsLift, PutsLifts}
+use Rattle.pocsag_capture.specs.Receptions.{received, received_word}
+use Rattle.pocsag_capture.specs.declared.reception.Heard.{Heard}
+use Rattle.pocsag_capture.specs.declared.reception.Reception.{Reception}
+use Rattle.pocsag_capture.specs.declared.settle.Settler.{Settler}
+use Rattle.pocsag_capture.proofs.Settled.{IsSettling, begun_batch}
+
+-- ---- a word of a reception
+
+pub word_there : (bits : List ℕ) (r : Reception) (place : ℕ) → r.bit + 32 * place + 32 ≤ length bits
+    → received_word bits r place ≡ as_sent r.polarity (word_on bits (r.bit + 32 * place))
+word_there bits r place there = rw (le-leb _ _ there) refl
+
+pub word_cut : (bits : List ℕ) (r : Reception) (place : ℕ) → length bits < r.bit + 32 * place + 32 → received_word bits r place ≡ 0x7a89c197
+word_cut bits r place cut = rw (lt-leb _ _ cut) refl
+
+-- ---- the words so far
+
+abbrev pub first_words : List ℕ → Reception → ℕ → List ℕ
+first_words bits r n = map (received_word bits r) (range_with_len 0 n)
+
+pub first_long : (bits : List ℕ) (r : Reception) (n : ℕ) → length (first_words bits r n) ≡ n
+first_long bits r n = length-map-range_with_len (received_word bits r) 0 n
+
+pub first_more : (bits : List ℕ) (r : Reception) (n : ℕ) → first_words bits r (n + 1) ≡ first_words bits r n ++ received_word bits r n ∷ []
+first_more bits r n = map-range_with_len_more (received_word bits r) 0 n n (omega arith)
+
+begun_none : (n : ℕ) → n % 17 ≡ 0 → begun_batch n ≡ []
+begun_none n whole =
+    let other : n % 17 ≢ 1 = λ wrong. absurd (omega arith) in
+    rw (ne_eqb _ _ other) refl
+
+-- all of them
+pub lift_all_words : (bits : List ℕ) (h : Heard) (s : Settler) (before now : List ℕ) (place : ℕ) → place ≡ 17 * h.reception.batches
+    → h.corrected ≡ s.corrected → h.lost ≡ s.lost → IsSettling (first_words bits h.reception place) s before now → PutsLift bits h before now
+lift_all_words bits h s before now place all corrected lost f =
+    let same : first_words bits h.reception place ≡ received bits h.reception = ap (first_words bits h.reception) all in
+    let long = first_long bits h.reception place in
+    record {
+      codewords = f.codewords;
+      is = record {
+        are = f.are;
+        long = omega (arith, f.long);
+        lifted = subst (λ (l : List ℕ). AreLifted l f.codewords h.corrected h.lost) same (record {
+          mended = f.mended;
+          each = f.each;
+          kinds = f.kinds;
+          bits = corrected ∙ f.bits;
+          beyond = lost ∙ f.beyond;
+        });
+      };
+      bytes = f.bytes ∙ ap (λ (l : List ℕ). before ++ l) (ap (λ (l : List ℕ). body_bytes f.codewords ++ l)
+          (begun_none (length (first_words bits h.reception place)) (omega arith)) ∙ append-nil (body_bytes f.codewords));
+    }
+
+-- ---- one reception behind the other
+
+lifts_push : (bits : List ℕ) (hs : List Heard) (Ts : List (List ℕ)) (h : Heard) (T : List ℕ) → AllZip (IsLift bits) hs Ts → IsLift bits h T
+    → AllZip (IsLift bits) (hs ++ h ∷ []) (Ts ++ T ∷ [])
+lifts_push bits [] [] h T all here = (here, tt)
+lifts_push bits [] (V ∷ Ts) h T all here = absurd all
+lifts_push bits (g ∷ hs) [] h T all here = absurd all
+lifts_push bits (g ∷ hs) (V ∷ Ts) h T all here = (all.0, lifts_push bits hs Ts h T all.1 here)
+
+pub lifts_more : (bits : List ℕ) (found found' : List Reception) (heard heard' : List Heard) (h : Heard) (before now after : List ℕ)
+    → PutsLifts bits found heard before now → PutsLift bits h now after → heard' ≡ heard ++ h ∷ [] → found' ≡ found ++ h.reception ∷ []
+    → PutsLifts bits found' heard' before after
+lifts_more bits found found' heard heard' h before now after f g pushed taken =
+    record {
+      codewords = f.codewords ++ g.codewords ∷ [];
+      each = subst (λ (l : List Heard). AllZip (IsLift bits) l (f.codewords ++ g.codewords ∷ [])) (sym pushed)
+          (lifts_push bits heard f.codewords h g.codewords f.each g.is);
+      same = ap (map (λ (k : Heard). k.reception)) pushed ∙ map-append (λ (k : Heard). k.reception) heard (h ∷ [])
+          ∙ ap (λ (l : List Reception). l ++ h.reception ∷ []) f.same ∙ sym taken;
+      bytes = g.bytes ∙ ap (λ (l : List ℕ). l ++ body_bytes g.codewords) f.bytes ∙ flat_map_more body_bytes before f.codewords g.codewords;
+    }

@@ -1,0 +1,252 @@
+-- Words that are settled one after the other.
+use Rattle.std.proofs.Common.{◌≡◌, ◌≢◌, ℕ, ◌+◌, ◌*◌, ◌/◌, ◌%◌, ◌≤◌, ◌==◌, Bool, true, false, cond, List, [], ◌∷◌, ◌++◌, length, map, All, Option, Some, None, bit_xor, count_ones, refl, sym, ap, subst, ◌∙◌, inl, inr, arith, append_assoc, eq-eqb, if◌then◌else◌}
+use Rattle.std.specs.Int.{to_be_bytes, w32}
+use Rattle.std.specs.List.{AllZip, flat_map}
+use Rattle.std.proofs.lemmas.Bool.{cases_eq, ne_eqb}
+use Rattle.std.proofs.lemmas.Grind.{flat_map-append}
+use Rattle.std.proofs.lemmas.List.{append-nil, length-append, map-append}
+use Rattle.std.proofs.lemmas.List.Elements.{All-nil, All-push}
+use Rattle.pocsag_words.specs.Codeword.{IsCodeword}
+use Rattle.pocsag_words.specs.Kinds.{kind_of}
+use Rattle.pocsag_words.specs.declared.codeword.Kind.{Kind}
+use Rattle.pocsag_words.specs.declared.codeword.Kind.TheVariants.{Idle, Address, Message}
+use Rattle.pocsag_pages.specs.Bytes.{body_bytes, sync_word, synced, unsynced}
+use Rattle.pocsag_pages.proofs.Lengths.{unsynced_codeword, unsynced_more, unsynced_sync}
+use Rattle.pocsag_pager.specs.Shown.{IsMended, said}
+use Rattle.pocsag_capture.specs.Caught.{settled}
+use Rattle.pocsag_capture.specs.Lifted.{lost_words, mended_errors, synchronisation_errors}
+use Rattle.pocsag_capture.specs.TakenWords.{TakesWord, is_lost, stays_open, wrong_bits}
+use Rattle.pocsag_capture.specs.declared.settle.Settler.{Settler}
+
+-- whether a page is open after words
+abbrev pub open_after_all : Bool → List (Option Kind) → Bool
+open_after_all b [] = b
+open_after_all b (m ∷ ms) = open_after_all (stays_open b m) ms
+
+open_more : (b : Bool) (ms : List (Option Kind)) (m : Option Kind) → open_after_all b (ms ++ m ∷ []) ≡ stays_open (open_after_all b ms) m
+open_more b [] m = refl
+open_more b (k ∷ ms) m = open_more (stays_open b k) ms m
+
+settled_more : (b : Bool) (ms : List (Option Kind)) (m : Option Kind)
+    → settled b (ms ++ m ∷ []) ≡ settled b ms ++ settled (open_after_all b ms) (m ∷ [])
+settled_more b [] m = refl
+settled_more b (None ∷ ms) m = ap (λ (l : List Kind). Idle ∷ l) (settled_more false ms m)
+settled_more b (Some Idle ∷ ms) m = ap (λ (l : List Kind). Idle ∷ l) (settled_more false ms m)
+settled_more b (Some (Address high function) ∷ ms) m = ap (λ (l : List Kind). Address high function ∷ l) (settled_more true ms m)
+settled_more b (Some (Message bits) ∷ ms) m = ap (λ (l : List Kind). cond b (Message bits) Idle ∷ l) (settled_more b ms m)
+
+-- a message codeword that continues no page
+pub settled_orphan : (b : Bool) (k : Kind) (bits : ℕ) → b ≡ false → k ≡ Message bits → settled b (Some k ∷ []) ≡ Idle ∷ []
+settled_orphan b k bits closed message = rw (closed, message) refl
+
+pub stays_as : (b : Bool) (k : Kind) (bits : ℕ) → k ≡ Message bits → b ≡ stays_open b (Some k)
+stays_as b k bits message = rw message refl
+
+-- ---- counts
+
+sync_more : (j : ℕ) (ws : List ℕ) (w : ℕ) → synchronisation_errors j (ws ++ w ∷ [])
+    ≡ synchronisation_errors j ws + cond ((j + length ws) % 17 == 0) (count_ones (bit_xor sync_word w)) 0
+sync_more j [] w =
+    let e : j + 0 ≡ j = omega arith in
+    rw e (omega arith)
+sync_more j (v ∷ ws) w =
+    let e : j + 1 + length ws ≡ j + length (v ∷ ws) = omega arith in
+    let rest : synchronisation_errors (j + 1) (ws ++ w ∷ [])
+    ≡ synchronisation_errors (j + 1) ws + cond ((j + length (v ∷ ws)) % 17 == 0) (count_ones (bit_xor sync_word w)) 0 =
+    sync_more (j + 1) ws w
+    ∙ ap (λ (n : ℕ). synchronisation_errors (j + 1) ws + cond (n % 17 == 0) (count_ones (bit_xor sync_word w)) 0) e in
+    omega (arith, rest)
+
+errors_more : (ws : List ℕ) (ms : List (Option ℕ)) (w : ℕ) (m : Option ℕ) → AllZip IsMended ws ms
+    → mended_errors (ws ++ w ∷ []) (ms ++ m ∷ []) ≡ mended_errors ws ms + wrong_bits w m
+errors_more [] [] w None each = omega arith
+errors_more [] [] w (Some v) each = omega arith
+errors_more [] (n ∷ ms) w m each = absurd each
+errors_more (v ∷ ws) [] w m each = absurd each
+errors_more (v ∷ ws) (None ∷ ms) w m each = errors_more ws ms w m each.1
+errors_more (v ∷ ws) (Some u ∷ ms) w m each = let rest = errors_more ws ms w m each.1 in omega arith
+
+lost_more : (ms : List (Option ℕ)) (m : Option ℕ) → lost_words (ms ++ m ∷ []) ≡ lost_words ms + is_lost m
+lost_more [] None = omega arith
+lost_more [] (Some v) = omega arith
+lost_more (None ∷ ms) m = let rest = lost_more ms m in omega arith
+lost_more (Some u ∷ ms) m = lost_more ms m
+
+-- ---- bytes
+
+-- the synchronisation codeword where a batch begins
+abbrev pub sync_at : ℕ → List ℕ
+sync_at i = if i % 16 == 0 then sync_word ∷ [] else []
+
+pub synced_two : (i : ℕ) (ws vs : List ℕ) → synced i (ws ++ vs) ≡ synced i ws ++ synced (i + length ws) vs
+synced_two i [] vs = ap (λ (n : ℕ). synced n vs) (omega arith)
+synced_two i (w ∷ ws) vs =
+    let e : i + 1 + length ws ≡ i + length (w ∷ ws) = omega arith in
+    ap (λ (l : List ℕ). sync_at i ++ w ∷ l) (synced_two (i + 1) ws vs ∙ ap (λ (n : ℕ). synced (i + 1) ws ++ synced n vs) e)
+    ∙ sym (append_assoc (sync_at i) (w ∷ synced (i + 1) ws) (synced (i + length (w ∷ ws)) vs))
+
+body_push : (T : List ℕ) (w : ℕ) → body_bytes (T ++ w ∷ []) ≡ body_bytes T ++ (flat_map (to_be_bytes w32) (sync_at (length T)) ++ to_be_bytes w32 w)
+body_push T w =
+    let e : 0 + length T ≡ length T = omega arith in
+    ap (flat_map (to_be_bytes w32)) (synced_two 0 T (w ∷ []) ∙ ap (λ (n : ℕ). synced 0 T ++ synced n (w ∷ [])) e)
+    ∙ flat_map-append (to_be_bytes w32) (synced 0 T) (sync_at (length T) ++ w ∷ [])
+    ∙ ap (λ (l : List ℕ). body_bytes T ++ l) (flat_map-append (to_be_bytes w32) (sync_at (length T)) (w ∷ []) ∙ ap (λ (l : List ℕ). flat_map (to_be_bytes w32) (sync_at (length T)) ++ l) (append-nil (to_be_bytes w32 w)))
+
+-- ---- the words of a reception, of which the first were taken
+
+-- a synchronisation codeword whose batch has no codeword yet
+abbrev pub begun_batch : ℕ → List ℕ
+begun_batch place = if place % 17 == 1 then to_be_bytes w32 sync_word else []
+
+pub record IsSettling (words : List ℕ) (s : Settler) (before now : List ℕ) : Type 0 where
+  pub codewords : List ℕ
+  pub mended : List (Option ℕ)
+  pub are : All IsCodeword codewords
+  pub each : AllZip IsMended (unsynced 0 words) mended
+  pub kinds : map kind_of codewords ≡ settled false (map said mended)
+  pub open_page : s.is_open ≡ open_after_all false (map said mended)
+  pub bits : s.corrected ≡ synchronisation_errors 0 words + mended_errors (unsynced 0 words) mended
+  pub beyond : s.lost ≡ lost_words mended
+  pub long : length codewords + (length words + 16) / 17 ≡ length words
+  pub bytes : now ≡ before ++ (body_bytes codewords ++ begun_batch (length words))
+  pub few_bits : s.corrected ≤ 32 * length words
+  pub few_lost : s.lost ≤ length words
+
+pub settling_none : (s : Settler) (before : List ℕ) → s.is_open ≡ false → s.corrected ≡ 0 → s.lost ≡ 0 → IsSettling [] s before before
+settling_none s before closed none zero = record {
+  codewords = [];
+  mended = [];
+  are = All-nil IsCodeword;
+  each = tt;
+  kinds = refl;
+  open_page = closed;
+  bits = none;
+  beyond = zero;
+  long = omega arith;
+  bytes = sym (append-nil before);
+  few_bits = omega arith;
+  few_lost = omega arith;
+}
+
+mended_push : (ws : List ℕ) (ms : List (Option ℕ)) (w : ℕ) (m : Option ℕ) → AllZip IsMended ws ms → IsMended w m
+    → AllZip IsMended (ws ++ w ∷ []) (ms ++ m ∷ [])
+mended_push [] [] w m each here = (here, tt)
+mended_push [] (n ∷ ms) w m each here = absurd each
+mended_push (v ∷ ws) [] w m each here = absurd each
+mended_push (v ∷ ws) (n ∷ ms) w m each here = (each.0, mended_push ws ms w m each.1 here)
+
+-- the bytes of a codeword that is put behind those of others
+bytes_with : (T : List ℕ) (place v : ℕ) (before : List ℕ) → place % 17 ≢ 0 → length T + (place + 16) / 17 ≡ place →
+    (before ++ (body_bytes T ++ begun_batch place)) ++ to_be_bytes w32 v ≡ before ++ body_bytes (T ++ v ∷ [])
+bytes_with T place v before inside long =
+    let same : begun_batch place ≡ flat_map (to_be_bytes w32) (sync_at (length T)) =
+    elim (cases_eq (place % 17) 1) [
+      | inl one ↦
+          let first : length T % 16 ≡ 0 = omega arith in
+          rw (eq-eqb _ _ one, eq-eqb _ _ first) refl
+      | inr other ↦
+          let next : length T % 16 ≢ 0 = λ wrong. other (omega arith) in
+          rw (ne_eqb _ _ other, ne_eqb _ _ next) refl
+    ] in
+    append_assoc before (body_bytes T ++ begun_batch place) (to_be_bytes w32 v)
+    ∙ ap (λ (l : List ℕ). before ++ l)
+    (append_assoc (body_bytes T) (begun_batch place) (to_be_bytes w32 v)
+    ∙ ap (λ (l : List ℕ). body_bytes T ++ (l ++ to_be_bytes w32 v)) same ∙ sym (body_push T v))
+
+-- what one word adds to the counts
+few_mended : (w : ℕ) (m : Option ℕ) → IsMended w m → wrong_bits w m ≤ 2
+few_mended w None is = omega arith
+few_mended w (Some v) is = is.near
+
+few_lost_of : (m : Option ℕ) → is_lost m ≤ 1
+few_lost_of None = omega arith
+few_lost_of (Some v) = omega arith
+
+module _ (words : List ℕ) (s t : Settler) (before now after : List ℕ) (w : ℕ) (f : IsSettling words s before now) where
+  count_more : length (words ++ w ∷ []) ≡ length words + 1
+  count_more = omega (arith, length-append words (w ∷ []))
+
+  settling_sync : length words % 17 ≡ 0 → t.corrected ≡ s.corrected + count_ones (bit_xor sync_word w) → count_ones (bit_xor sync_word w) ≤ 32
+      → t.is_open ≡ s.is_open → t.lost ≡ s.lost → after ≡ now ++ to_be_bytes w32 sync_word → IsSettling (words ++ w ∷ []) t before after
+  settling_sync place bits few is_open lost bytes =
+      let same : unsynced 0 (words ++ w ∷ []) ≡ unsynced 0 words =
+      unsynced_more 0 words (w ∷ []) ∙ ap (λ (l : List ℕ). unsynced 0 words ++ l) (unsynced_sync (0 + length words) w (omega arith))
+      ∙ append-nil (unsynced 0 words) in
+      let here : (0 + length words) % 17 ≡ 0 = omega arith in
+      let errors : synchronisation_errors 0 (words ++ w ∷ []) ≡ synchronisation_errors 0 words + count_ones (bit_xor sync_word w) =
+      sync_more 0 words w ∙ rw (eq-eqb _ _ here) refl in
+      let one : length (words ++ w ∷ []) % 17 ≡ 1 = omega (arith, count_more) in
+      let not_one : length words % 17 ≢ 1 = λ wrong. absurd (omega arith) in
+      let none : begun_batch (length words) ≡ [] = rw (ne_eqb _ _ not_one) refl in
+      let begun : begun_batch (length (words ++ w ∷ [])) ≡ to_be_bytes w32 sync_word = rw (eq-eqb _ _ one) refl in
+      record {
+        codewords = f.codewords;
+        mended = f.mended;
+        are = f.are;
+        each = subst (λ (l : List ℕ). AllZip IsMended l f.mended) (sym same) f.each;
+        kinds = f.kinds;
+        open_page = is_open ∙ f.open_page;
+        bits = bits ∙ ap (λ (n : ℕ). n + count_ones (bit_xor sync_word w)) f.bits
+            ∙ (let e = ap (λ (l : List ℕ). mended_errors l f.mended) same in omega (arith, errors, e));
+        beyond = lost ∙ f.beyond;
+        long = omega (arith, count_more, f.long);
+        bytes = bytes ∙ ap (λ (l : List ℕ). l ++ to_be_bytes w32 sync_word) (f.bytes ∙ ap (λ (l : List ℕ). before ++ (body_bytes f.codewords ++ l)) none
+            ∙ ap (λ (l : List ℕ). before ++ l) (append-nil (body_bytes f.codewords)))
+            ∙ append_assoc before (body_bytes f.codewords) (to_be_bytes w32 sync_word)
+            ∙ ap (λ (l : List ℕ). before ++ (body_bytes f.codewords ++ l)) (sym begun);
+        few_bits = omega (arith, count_more, f.few_bits);
+        few_lost = omega (arith, count_more, f.few_lost);
+      }
+
+  settling_codeword : (v : ℕ) → length words % 17 ≢ 0 → TakesWord s t w v → after ≡ now ++ to_be_bytes w32 v
+      → IsSettling (words ++ w ∷ []) t before after
+  settling_codeword v place takes bytes =
+      let few_bits = few_mended w takes.mended takes.is_mended in
+      let few_lost = few_lost_of takes.mended in
+      let inside : (0 + length words) % 17 ≢ 0 = λ e. place (omega arith) in
+      let same : unsynced 0 (words ++ w ∷ []) ≡ unsynced 0 words ++ w ∷ [] =
+      unsynced_more 0 words (w ∷ []) ∙ ap (λ (l : List ℕ). unsynced 0 words ++ l) (unsynced_codeword (0 + length words) w inside) in
+      let errors : synchronisation_errors 0 (words ++ w ∷ []) ≡ synchronisation_errors 0 words =
+      sync_more 0 words w ∙ rw (ne_eqb _ _ inside) (omega arith) in
+      let mended_now : map said (f.mended ++ takes.mended ∷ []) ≡ map said f.mended ++ said takes.mended ∷ [] =
+      map-append said f.mended (takes.mended ∷ []) in
+      let not_one : length (words ++ w ∷ []) % 17 ≢ 1 = λ wrong. place (omega (arith, count_more)) in
+      let none : begun_batch (length (words ++ w ∷ [])) ≡ [] = rw (ne_eqb _ _ not_one) refl in
+      let one_kind : settled s.is_open (said takes.mended ∷ []) ≡ settled (open_after_all false (map said f.mended)) (said takes.mended ∷ []) =
+      ap (λ (b : Bool). settled b (said takes.mended ∷ [])) f.open_page in
+      record {
+        codewords = f.codewords ++ v ∷ [];
+        mended = f.mended ++ takes.mended ∷ [];
+        are = All-push IsCodeword f.codewords v f.are takes.is_codeword;
+        each = subst (λ (l : List ℕ). AllZip IsMended l (f.mended ++ takes.mended ∷ [])) (sym same)
+            (mended_push (unsynced 0 words) f.mended w takes.mended f.each takes.is_mended);
+        kinds = map-append kind_of f.codewords (v ∷ []) ∙ ap (λ (l : List Kind). l ++ kind_of v ∷ []) f.kinds
+            ∙ ap (λ (l : List Kind). settled false (map said f.mended) ++ l) (sym takes.kind ∙ one_kind)
+            ∙ sym (settled_more false (map said f.mended) (said takes.mended)) ∙ ap (settled false) (sym mended_now);
+        open_page = takes.open_after ∙ ap (λ (b : Bool). stays_open b (said takes.mended)) f.open_page
+            ∙ sym (open_more false (map said f.mended) (said takes.mended)) ∙ ap (open_after_all false) (sym mended_now);
+        bits = takes.bits
+            ∙ (let e = errors_more (unsynced 0 words) f.mended w takes.mended f.each in
+            let m = ap (λ (l : List ℕ). mended_errors l (f.mended ++ takes.mended ∷ [])) same in
+            omega (arith, errors, e, m, f.bits));
+        beyond = takes.beyond ∙ ap (λ (n : ℕ). n + is_lost takes.mended) f.beyond ∙ sym (lost_more f.mended takes.mended);
+        long = omega (arith, count_more, f.long, length-append f.codewords (v ∷ []));
+        bytes = bytes ∙ ap (λ (l : List ℕ). l ++ to_be_bytes w32 v) f.bytes
+            ∙ bytes_with f.codewords (length words) v before place f.long
+            ∙ ap (λ (l : List ℕ). before ++ l) (sym (append-nil (body_bytes (f.codewords ++ v ∷ [])))
+            ∙ ap (λ (l : List ℕ). body_bytes (f.codewords ++ v ∷ []) ++ l) (sym none));
+        few_bits = omega (arith, count_more, f.few_bits, takes.bits);
+        few_lost = omega (arith, count_more, f.few_lost, takes.beyond);
+      }
+
+  -- either
+  pub settling_more : (v : ℕ) → (length words % 17 ≡ 0 → v ≡ sync_word)
+      → (length words % 17 ≡ 0 → t.corrected ≡ s.corrected + count_ones (bit_xor sync_word w)) → count_ones (bit_xor sync_word w) ≤ 32
+      → (length words % 17 ≡ 0 → t.is_open ≡ s.is_open) → (length words % 17 ≡ 0 → t.lost ≡ s.lost)
+      → (length words % 17 ≢ 0 → TakesWord s t w v) → after ≡ now ++ to_be_bytes w32 v → IsSettling (words ++ w ∷ []) t before after
+  settling_more v is bits few is_open lost takes bytes =
+      elim (cases_eq (length words % 17) 0) [
+        | inl sync ↦ settling_sync sync (bits sync) few (is_open sync) (lost sync)
+            (bytes ∙ ap (λ (n : ℕ). now ++ to_be_bytes w32 n) (is sync))
+        | inr other ↦ settling_codeword v other (takes other) bytes
+      ]

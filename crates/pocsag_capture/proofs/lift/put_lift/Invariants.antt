@@ -1,0 +1,10 @@
+use Rattle.std.proofs.Common.{map}
+use Rattle.std.specs.List.{range_with_len}
+use Rattle.pocsag_capture.specs.Bits.{capture_bits}
+use Rattle.pocsag_capture.specs.Receptions.{received_word}
+use Rattle.pocsag_capture.proofs.Settled.{IsSettling}
+use Rattle.pocsag_capture.proofs.lift.put_lift.Given as goal
+
+abbrev pub invariant-loop-place : goal.invariant-loop-place
+invariant-loop-place l =
+    IsSettling (map (received_word (capture_bits l.capture) l.reception) (range_with_len 0 l.place)) l.settler l.initial.bytes.items l.bytes.items

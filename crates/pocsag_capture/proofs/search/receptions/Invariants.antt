@@ -1,0 +1,13 @@
+use Rattle.std.proofs.Common.{◌-◌, ◌^◌, ◌<◌}
+use Rattle.pocsag_capture.specs.Bits.{capture_bits}
+use Rattle.pocsag_capture.proofs.SearchLemmas.{SoFar}
+use Rattle.pocsag_capture.proofs.search.receptions.Given as goal
+
+abbrev pub invariant-loop-place : goal.invariant-loop-place
+invariant-loop-place l = record {
+  small : l.first < 2 ^ 60;
+  so_far : SoFar (capture_bits l.capture) l.first l.found.items;
+}
+
+abbrev pub decreases-loop-place : goal.decreases-loop-place
+decreases-loop-place l = 2 ^ 60 - l.first

@@ -1,0 +1,31 @@
+-- What a capture says: the pages of its receptions.
+use Rattle.std.specs.Prelude.{◌≡◌, ℕ, if◌then◌else◌, Bool, true, false, List, [], ◌∷◌, Option, Some, None}
+use Rattle.std.specs.List.{AllZip, flat_map}
+use Rattle.pocsag_words.specs.declared.codeword.Kind.{Kind}
+use Rattle.pocsag_words.specs.declared.codeword.Kind.TheVariants.{Idle, Address, Message}
+use Rattle.pocsag_pages.specs.declared.page.Page.{Page}
+use Rattle.pocsag_pages.specs.Reading.{Reads}
+use Rattle.pocsag_pager.specs.Shown.{HoldsOnceMended}
+use Rattle.pocsag_capture.specs.Bits.{capture_bits}
+use Rattle.pocsag_capture.specs.Receptions.{AreReceptions, received}
+use Rattle.pocsag_capture.specs.declared.reception.Reception.{Reception}
+
+-- What mended words say, where a page may be open before them: a word past repair counts as idle, and so does a message
+-- codeword that continues no page.
+abbrev pub settled : (is_open : Bool) → List (Option Kind) → List Kind
+settled is_open [] = []
+settled is_open (None ∷ ms) = Idle ∷ settled false ms
+settled is_open (Some Idle ∷ ms) = Idle ∷ settled false ms
+settled is_open (Some (Address high function) ∷ ms) = Address high function ∷ settled true ms
+settled is_open (Some (Message bits) ∷ ms) = (if is_open then Message bits else Idle) ∷ settled is_open ms
+
+-- These are the pages that are caught of words: what they read as, once each is mended and what is left is settled.
+abbrev pub AreCaught : (words : List ℕ) → List Page → Type 0
+AreCaught words ps = HoldsOnceMended words (λ ms. Reads (settled false ms) 0 ps)
+
+-- *Caught*: the bytes of a capture hold these receptions, and these are the pages of all of them in order.
+pub record HasCaught (capture : List ℕ) (receptions : List Reception) (ps : List Page) : Type 0 where
+  pub found : AreReceptions (capture_bits capture) 0 receptions
+  pub pages : List (List Page)
+  pub each : AllZip (λ r here. AreCaught (received (capture_bits capture) r) here) receptions pages
+  pub all : ps ≡ flat_map (λ here. here) pages

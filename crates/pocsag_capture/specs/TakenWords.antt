@@ -1,0 +1,35 @@
+-- What one word changes.
+use Rattle.std.specs.Prelude.{◌≡◌, ℕ, ◌+◌, Bool, true, false, [], ◌∷◌, Option, Some, None, bit_xor, count_ones}
+use Rattle.pocsag_words.specs.Codeword.{IsCodeword}
+use Rattle.pocsag_words.specs.Kinds.{kind_of}
+use Rattle.pocsag_words.specs.declared.codeword.Kind.{Kind}
+use Rattle.pocsag_words.specs.declared.codeword.Kind.TheVariants.{Idle, Address, Message}
+use Rattle.pocsag_pager.specs.Shown.{IsMended, said}
+use Rattle.pocsag_capture.specs.Caught.{settled}
+use Rattle.pocsag_capture.specs.declared.settle.Settler.{Settler}
+
+-- Whether a page is open after a word.
+abbrev pub stays_open : Bool → Option Kind → Bool
+stays_open is_open None = false
+stays_open is_open (Some Idle) = false
+stays_open is_open (Some (Address high function)) = true
+stays_open is_open (Some (Message bits)) = is_open
+
+-- How many bits of a word were wrong, and whether it is past repair.
+abbrev pub wrong_bits : ℕ → Option ℕ → ℕ
+wrong_bits w None = 0
+wrong_bits w (Some v) = count_ones (bit_xor v w)
+
+abbrev pub is_lost : Option ℕ → ℕ
+is_lost None = 1
+is_lost (Some v) = 0
+
+-- The word was taken and is settled as this codeword.
+pub record TakesWord (before after : Settler) (word codeword : ℕ) : Type 0 where
+  pub mended : Option ℕ
+  pub is_mended : IsMended word mended
+  pub is_codeword : IsCodeword codeword
+  pub kind : settled before.is_open (said mended ∷ []) ≡ kind_of codeword ∷ []
+  pub open_after : after.is_open ≡ stays_open before.is_open (said mended)
+  pub bits : after.corrected ≡ before.corrected + wrong_bits word mended
+  pub beyond : after.lost ≡ before.lost + is_lost mended

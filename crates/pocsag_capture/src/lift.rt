@@ -1,0 +1,182 @@
+//! Receptions as transmissions of whole bytes.
+ghost use Rattle.std.specs.Prelude.{◌≡◌, ◌⊎◌, ℕ, ◌+◌, ◌-◌, ◌*◌, ◌^◌, ◌<◌, ◌≤◌, List, [], ◌∷◌, ◌++◌, All, Some, length, map, replicate, slice_get, IfErr, IfNone, IfOk, IfSome, OnOk};
+ghost use Rattle.pocsag_words.specs.Frame.{input_limit, preamble_byte, preamble_length};
+ghost use Rattle.pocsag_pages.specs.declared.page.Page.{Page};
+ghost use Rattle.pocsag_decode.specs.Faults.{ReadsAs};
+ghost use Rattle.pocsag_capture.specs.Bits.{capture_bits};
+ghost use Rattle.pocsag_capture.specs.LiftedBytes.{ExplainsNone, ExplainsUnlifted, LiftsAll, LiftsOne, LiftsReception, PutsLift, PutsLifts};
+ghost use Rattle.pocsag_capture.specs.Receptions.{AreReceptions, behind, received_word};
+ghost use Rattle.pocsag_capture.specs.Sent.{IsCaptureOf};
+ghost use Rattle.pocsag_capture.specs.declared.reception.Heard.{Heard};
+ghost use Rattle.pocsag_capture.specs.declared.reception.Reception.{Reception};
+
+use crate::bits::word_on;
+use crate::fault::CaptureFault;
+use crate::laws::captures_show_what_was_sent;
+use crate::polarity::Polarity;
+use crate::reception::{Heard, Reception};
+use crate::search::receptions;
+use crate::settle::{BATCH, IDLE_WORD, Settler};
+use pocsag_words::{INPUT_LIMIT, PREAMBLE_BYTE, PREAMBLE_BYTES};
+use std::alloc::{AllocError, Global};
+
+/// What is lifted out of a capture.
+#[derive(Drop)]
+pub struct Lifted {
+    /// The bytes of a transmission.
+    pub bytes: Vec<u8>,
+    /// The receptions that it is lifted from.
+    pub heard: Vec<Heard>,
+}
+
+// A word of a reception by its place.
+#[inline(always)]
+fn received_word(capture: &[u8], reception: Reception, place: u64) -> u32
+    requires few { length capture.now ≤ input_limit }
+    requires place { reception.bit + 32 * place < 2 ^ 61 }
+    ensures { result ≡ received_word (capture_bits capture.now) reception place }
+{
+    let bit = reception.bit + 32 * place;
+    if bit + 32 > 8 * capture.len() as u64 {
+        return IDLE_WORD;
+    }
+    reception.polarity.sent(word_on(capture, bit))
+}
+
+// Puts the batches of a reception behind the bytes, each word as it is settled.
+fn put_lift(capture: &[u8], reception: Reception, bytes: &mut Vec<u8>) -> Result<Heard, AllocError>
+    requires few { length capture.now ≤ input_limit }
+    requires end { behind reception < 2 ^ 60 }
+    ensures lifted { IfOk result (λ heard. PutsLift (capture_bits capture.now) heard bytes.old.items bytes.new.items) }
+    ensures same { IfOk result (λ heard. heard.reception ≡ reception) }
+{
+    let mut settler = Settler {
+        is_open: false,
+        corrected: 0,
+        lost: 0,
+    };
+    for place in 0..BATCH * reception.batches {
+        let word = settler.take(place, received_word(capture, reception, place));
+        bytes.extend_from_slice(&word.to_be_bytes())?;
+    }
+    Ok(Heard {
+        reception,
+        corrected: settler.corrected,
+        lost: settler.lost,
+    })
+}
+
+// The same of receptions, one behind the other.
+fn put_lifts(
+    alloc: Global,
+    capture: &[u8],
+    found: &[Reception],
+    bytes: &mut Vec<u8>,
+) -> Result<Vec<Heard>, AllocError>
+    requires few { length capture.now ≤ input_limit }
+    requires ends { All (λ (r : Reception). behind r < 2 ^ 60) found.now }
+    ensures { IfOk result (λ heard.
+        PutsLifts (capture_bits capture.now) found.now heard.items bytes.old.items bytes.new.items) }
+{
+    let mut heard = Vec::new(alloc);
+    for reception in found {
+        heard.push(put_lift(capture, *reception, bytes)?)?;
+    }
+    Ok(heard)
+}
+
+// The bytes of a preamble.
+fn preamble(alloc: Global) -> Result<Vec<u8>, AllocError>
+    ensures { IfOk result (λ bytes. bytes.items ≡ replicate preamble_length preamble_byte) }
+{
+    Vec::from_slice(alloc, &[PREAMBLE_BYTE; PREAMBLE_BYTES])
+}
+
+// Lifts receptions out of the capture that holds them.
+fn lifted_all(alloc: Global, capture: &[u8], found: &[Reception]) -> Result<Lifted, AllocError>
+    requires few { length capture.now ≤ input_limit }
+    requires found { AreReceptions (capture_bits capture.now) 0 found.now }
+    ensures { IfOk result (LiftsAll capture.now) }
+{
+    let mut bytes = preamble(alloc)?;
+    // Behind the capture's end each word is idle: a transmission has at least one batch.
+    let silence = Reception {
+        bit: 8 * capture.len() as u64,
+        polarity: Polarity::Upright,
+        batches: 1,
+    };
+    put_lift(capture, silence, &mut bytes)?;
+    let heard = put_lifts(alloc, capture, found, &mut bytes)?;
+    Ok(Lifted { bytes, heard })
+}
+
+// Lifts one reception.
+fn lifted_one(alloc: Global, capture: &[u8], reception: Reception) -> Result<Lifted, AllocError>
+    requires few { length capture.now ≤ input_limit }
+    requires some { 0 < reception.batches }
+    requires end { behind reception < 2 ^ 60 }
+    ensures { IfOk result (λ lifted. (told : Heard) × (lifted.heard.items ≡ told ∷ [])
+        × LiftsReception capture.now reception told lifted.bytes.items) }
+{
+    let mut bytes = preamble(alloc)?;
+    let heard = put_lift(capture, reception, &mut bytes)?;
+    Ok(Lifted {
+        bytes,
+        heard: Vec::from_slice(alloc, &[heard])?,
+    })
+}
+
+// The receptions of a capture, which may be too large.
+fn receptions_in(alloc: Global, capture: &[u8]) -> Result<Vec<Reception>, CaptureFault>
+    ensures found { IfOk result (λ found. AreReceptions (capture_bits capture.now) 0 found.items) }
+    ensures few { OnOk result (length capture.now ≤ input_limit) }
+    ensures explained { IfErr result (ExplainsUnlifted capture.now) }
+{
+    if capture.len() > INPUT_LIMIT {
+        return Err(CaptureFault::TooLarge);
+    }
+    Ok(receptions(alloc, capture)?)
+}
+
+/// Lifts all transmissions out of a capture, one behind the other: the bytes are a transmission that reads as all their
+/// pages. Each word is repaired; a word past repair, and a message codeword that continues no page, become idle.
+pub fn lift_all(alloc: Global, capture: &[u8]) -> Result<Lifted, CaptureFault>
+    ensures lifted { IfOk result (LiftsAll capture.now) }
+
+    // *A capture that holds sent transmissions shows their pages*, and no others.
+    ensures sent { (pages : List Page) → IsCaptureOf (capture_bits capture.now) pages →
+        IfOk result (λ lifted. ReadsAs lifted.bytes.items pages) }
+    ensures few { OnOk result (length capture.now ≤ input_limit) }
+    ensures explained { IfErr result (ExplainsUnlifted capture.now) }
+{
+    captures_show_what_was_sent();
+    let found = receptions_in(alloc, capture)?;
+    Ok(lifted_all(alloc, capture, found.as_slice())?)
+}
+
+// The reception of a number, counted from 1.
+fn nth_of(found: &[Reception], nth: u64) -> Option<Reception>
+    ensures some { IfSome result (λ reception. (1 ≤ nth) × (slice_get found.now (nth - 1) ≡ Some reception)) }
+    ensures none { IfNone result ((nth ≡ 0) ⊎ (length found.now < nth)) }
+{
+    match nth.checked_sub(1) {
+        Some(index) => found.get(index as usize).copied(),
+        None => None,
+    }
+}
+
+/// Lifts one transmission out of a capture, counted from 1.
+pub fn lift_one(alloc: Global, capture: &[u8], nth: u64) -> Result<Lifted, CaptureFault>
+    ensures lifted { IfOk result (λ lifted. LiftsOne capture.now nth lifted.heard.items lifted.bytes.items) }
+    ensures few { OnOk result (length capture.now ≤ input_limit) }
+    ensures explained { IfErr result (ExplainsNone capture.now nth) }
+{
+    let found = receptions_in(alloc, capture)?;
+    let Some(reception) = nth_of(found.as_slice(), nth) else {
+        return Err(CaptureFault::NoSuchTransmission {
+            nth,
+            found: found.len() as u64,
+        });
+    };
+    Ok(lifted_one(alloc, capture, reception)?)
+}

@@ -1,0 +1,72 @@
+//! The words of a reception, repaired one after the other.
+ghost use Rattle.std.specs.Prelude.{◌≡◌, ◌≢◌, ◌+◌, ◌%◌, ◌^◌, ◌<◌, bit_xor, count_ones};
+ghost use Rattle.pocsag_pages.specs.Bytes.{sync_word};
+ghost use Rattle.pocsag_capture.specs.TakenWords.{TakesWord};
+
+use pocsag_words::{BATCH_WORDS, Kind, SYNC_WORD, repair};
+
+// The words of a batch, its synchronisation codeword among them.
+pub(crate) const BATCH: u64 = BATCH_WORDS as u64;
+
+/// The idle codeword.
+pub(crate) const IDLE_WORD: u32 = 0x7A89_C197;
+
+// What is known of the words so far.
+#[derive(Drop)]
+pub(crate) struct Settler {
+    // Whether the next message codeword continues a page.
+    pub(crate) is_open: bool,
+    // How many bits were wrong.
+    pub(crate) corrected: u64,
+    // How many words are past repair.
+    pub(crate) lost: u64,
+}
+
+impl Settler {
+    // Takes the word at a place, and gives the word that stands there in a transmission.
+    #[inline(always)]
+    pub(crate) fn take(&mut self, place: u64, word: u32) -> u32
+        requires corrected { self.old.corrected + 32 < 2 ^ 64 }
+        requires lost { self.old.lost + 1 < 2 ^ 64 }
+        ensures sync { place % 17 ≡ 0 → result ≡ sync_word }
+        ensures sync_bits { place % 17 ≡ 0 →
+            self.new.corrected ≡ self.old.corrected + count_ones (bit_xor sync_word word) }
+        ensures sync_open { place % 17 ≡ 0 → self.new.is_open ≡ self.old.is_open }
+        ensures sync_lost { place % 17 ≡ 0 → self.new.lost ≡ self.old.lost }
+        ensures codeword { place % 17 ≢ 0 → TakesWord self.old self.new word result }
+    {
+        if place % BATCH != 0 {
+            return self.settle(word);
+        }
+        self.corrected += u64::from((SYNC_WORD ^ word).count_ones());
+        SYNC_WORD
+    }
+
+    // Takes a word, and gives the codeword that it is settled as.
+    fn settle(&mut self, word: u32) -> u32
+        requires corrected { self.old.corrected + 32 < 2 ^ 64 }
+        requires lost { self.old.lost + 1 < 2 ^ 64 }
+        ensures { TakesWord self.old self.new word result }
+    {
+        let Some(mended) = repair(word) else {
+            self.lost += 1;
+            self.is_open = false;
+            return IDLE_WORD;
+        };
+        let number = mended.raw();
+        self.corrected += u64::from((number ^ word).count_ones());
+        match mended.kind() {
+            Kind::Idle => self.is_open = false,
+            Kind::Address {
+                high: _,
+                function: _,
+            } => self.is_open = true,
+            Kind::Message(_) => {
+                if !self.is_open {
+                    return IDLE_WORD;
+                }
+            }
+        }
+        number
+    }
+}

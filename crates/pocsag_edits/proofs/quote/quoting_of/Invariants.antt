@@ -1,7 +1,0 @@
-use Rattle.std.proofs.Common.{◌≡◌, drop}
-use Rattle.pocsag_edits.specs.declared.quote.Quoting.TheVariants as at
-use Rattle.pocsag_edits.specs.Quotes.{quoting_from}
-use Rattle.pocsag_edits.proofs.quote.quoting_of.Given as goal
-
-abbrev pub invariant-loop-byte : goal.invariant-loop-byte
-invariant-loop-byte l = quoting_from l.quoting (drop l.byte-index l.line) ≡ quoting_from at.Start l.line

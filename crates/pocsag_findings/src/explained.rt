@@ -1,0 +1,73 @@
+ghost use Rattle.std.specs.Prelude.{IfOk, string_bytes};
+ghost use Rattle.pocsag_findings.specs.Beginnings.{BeginsWith, TellsVerdict, verdict_words};
+
+use crate::drawing::drawing;
+use crate::facts::facts;
+use crate::form::Telling;
+use crate::kind::kinds_of;
+use crate::listing::findings;
+use crate::outline::{outline, summary};
+use crate::subject::Subject;
+use pocsag_pages::Round;
+use pocsag_slots::classes_of;
+use pocsag_tree::{Certificate, DEPTH_LIMIT};
+use pocsag_words::OutOfMemory;
+use std::alloc::{AllocError, Global};
+
+/// The text that explains a certificate for a round, which the checker accepts or not: why fewer batches do not suffice,
+/// or the first node that does not hold, which may stand at any depth.
+pub fn explanation(
+    alloc: Global,
+    telling: Telling,
+    round: &Round,
+    certificate: &Certificate,
+    is_shown: bool,
+) -> Result<String, OutOfMemory>
+    ensures told { IfOk result (λ text.
+        TellsVerdict telling is_shown certificate.now.end certificate.now.batches (string_bytes text)) }
+{
+    let classes = classes_of(round, certificate.end);
+    let depth = if is_shown {
+        telling.depth()
+    } else {
+        DEPTH_LIMIT
+    };
+    let found = findings(alloc, &classes, certificate, depth)?;
+    let kinds = kinds_of(alloc, round, certificate.end, &classes)?;
+    let subject = Subject::new(
+        round,
+        certificate,
+        is_shown,
+        found.as_slice(),
+        kinds.as_slice(),
+    );
+    Ok(told(alloc, telling, &subject)?)
+}
+
+fn told(alloc: Global, telling: Telling, subject: &Subject<'_>) -> Result<String, AllocError>
+    ensures { IfOk result (λ text.
+        TellsVerdict telling subject.now.is_shown subject.now.refuted.end subject.now.batches (string_bytes text)) }
+{
+    match telling {
+        Telling::Lines(_) => {
+            let mut text = first_words(alloc, subject)?;
+            let nodes = outline(alloc, subject)?;
+            text.push_str(nodes.as_str())?;
+            Ok(text)
+        }
+        Telling::Facts(depth) => facts(alloc, subject, depth),
+        Telling::Drawing => drawing(alloc, subject),
+    }
+}
+
+/// The first line of the text, or of the drawing its title.
+pub(crate) fn first_words(alloc: Global, subject: &Subject<'_>) -> Result<String, AllocError>
+    ensures { IfOk result (λ text. BeginsWith
+        (verdict_words subject.now.is_shown subject.now.refuted.end subject.now.batches) (string_bytes text)) }
+{
+    if subject.is_shown {
+        summary(alloc, subject)
+    } else {
+        format!(in alloc; "not shown")
+    }
+}

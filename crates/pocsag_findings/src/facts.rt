@@ -1,0 +1,255 @@
+//! A certificate as JSON, whose texts are fixed words and the numbers of nodes: none of them needs an escape.
+ghost use Rattle.std.specs.Prelude.{IfOk, string_bytes};
+ghost use Rattle.pocsag_findings.specs.Beginnings.{BeginsWith, verdict_members};
+
+use crate::finding::{Fact, Finding, Narrowed, Reached, Share};
+use crate::node_number::Numbering;
+use crate::sets::{FIRST_ALONE, start_slot};
+use crate::subject::Subject;
+use pocsag_slots::{CLASSES, SLOTS, Way, frame, holds, rest};
+use pocsag_words::End;
+use std::alloc::{AllocError, Global};
+use std::fmt::{self, Display, Formatter};
+
+/// The explanation as one line of JSON, with the findings no deeper than so.
+pub(crate) fn facts(alloc: Global, subject: &Subject<'_>, depth: u32) -> Result<String, AllocError>
+    ensures { IfOk result (λ text. BeginsWith
+        (verdict_members subject.now.is_shown subject.now.refuted.end subject.now.batches) (string_bytes text)) }
+{
+    let mut text = verdict(alloc, subject)?;
+    let others = other_members(alloc, subject, depth)?;
+    text.push_str(others.as_str())?;
+    Ok(text)
+}
+
+// The first members of the whole.
+fn verdict(alloc: Global, subject: &Subject<'_>) -> Result<String, AllocError>
+    ensures { IfOk result (λ text. BeginsWith
+        (verdict_members subject.now.is_shown subject.now.refuted.end subject.now.batches) (string_bytes text)) }
+{
+    let Subject {
+        is_shown,
+        batches,
+        ..
+    } = *subject;
+    let end = match subject.refuted.end {
+        End::Open => "open",
+        End::Closed => "closed",
+        End::Idle => "idle",
+    };
+    format!(in alloc; r#"{{"shown":{is_shown},"end":"{end}","batches":{batches},"#)
+}
+
+// The members after them, with the findings no deeper than so.
+fn other_members(alloc: Global, subject: &Subject<'_>, depth: u32) -> Result<String, AllocError> {
+    let Subject {
+        pages,
+        codewords,
+        room,
+        nodes,
+        findings,
+        ..
+    } = *subject;
+    let mut numbering = Numbering {
+        path: Vec::new(alloc),
+    };
+    let mut text = format!(in alloc;
+        r#""pages":{pages},"codewords":{codewords},"room":{room},"nodes":{nodes},"refused":"#
+    )?;
+    match numbering.step_to_refused(findings)? {
+        Some(_) => write!(text, "\"{numbering}\"")?,
+        None => text.push_str("null")?,
+    }
+    push_nodes(alloc, &mut text, findings, depth)?;
+    Ok(text)
+}
+
+// Adds the nodes no deeper than so; the root, which stands at depth 1, is the first.
+fn push_nodes(
+    alloc: Global,
+    text: &mut String,
+    findings: &[Finding],
+    depth: u32,
+) -> Result<(), AllocError> {
+    let mut numbering = Numbering {
+        path: Vec::new(alloc),
+    };
+    text.push_str(",\"listed\":[")?;
+    for finding in findings {
+        numbering.step(finding.depth)?;
+        if finding.depth <= depth {
+            let comma = if finding.depth > 1 { "," } else { "" };
+            let reached = ReachedFacts(finding.reached);
+            let holds = finding.holds;
+            let limits = LimitFacts(finding);
+            let fact = NodeFacts(finding);
+            write!(
+                text,
+                r#"{comma}{{"node":"{numbering}","reached":{reached},"holds":{holds},"limits":{limits},"fact":{fact}}}"#
+            )?;
+        }
+    }
+    text.push_str("]}\n")
+}
+
+// How a node is reached from the one above it.
+#[derive(Clone, Copy)]
+struct ReachedFacts(Reached);
+
+impl Display for ReachedFacts {
+    fn fmt<W: fmt::Write>(&self, f: &mut Formatter<W>) -> fmt::Result {
+        let (class, early) = match self.0 {
+            Reached::Root => return f.write_str(r#"{"by":"root"}"#),
+            Reached::Below => return f.write_str(r#"{"by":"first_case"}"#),
+            Reached::From => return f.write_str(r#"{"by":"second_case"}"#),
+            Reached::By(Way::IdleIn(slot)) => return write!(f, r#"{{"by":"idle","slot":{slot}}}"#),
+            Reached::By(Way::Early(class)) => (class, true),
+            Reached::By(Way::Late(class)) => (class, false),
+            Reached::Unreached => return f.write_str(r#"{"by":"unreached"}"#),
+        };
+        let pages = ClassFacts(class);
+        let slot = start_slot(class, early);
+        write!(f, r#"{{"by":"page","pages":{pages},"slot":{slot}}}"#)
+    }
+}
+
+// The limits of a node: how often pages may cover each slot, and how many pages start early of each class that is narrowed.
+#[derive(Clone, Copy)]
+struct LimitFacts<'a>(&'a Finding);
+
+impl Display for LimitFacts<'_> {
+    fn fmt<W: fmt::Write>(&self, f: &mut Formatter<W>) -> fmt::Result {
+        f.write_str(r#"{"cap":["#)?;
+        let mut comma = "";
+        for cap in self.0.caps.iter() {
+            write!(f, "{comma}{cap}")?;
+            comma = ",";
+        }
+        f.write_str(r#"],"classes":["#)?;
+        comma = "";
+        for narrowed in self.0.narrowed.iter() {
+            let Narrowed {
+                class,
+                pages: count,
+                lo,
+                hi,
+            } = *narrowed;
+            let pages = ClassFacts(class);
+            write!(
+                f,
+                r#"{comma}{{"pages":{pages},"count":{count},"lo":{lo},"hi":{hi}}}"#
+            )?;
+            comma = ",";
+        }
+        f.write_str("]}")
+    }
+}
+
+// What a node states.
+#[derive(Clone, Copy)]
+struct NodeFacts<'a>(&'a Finding);
+
+impl Display for NodeFacts<'_> {
+    fn fmt<W: fmt::Write>(&self, f: &mut Formatter<W>) -> fmt::Result {
+        match self.0.fact {
+            Fact::Overload { set, least, room } => {
+                write_overload(f, set, least, room, self.0.shares.as_slice())
+            }
+            Fact::Split { class, m, lo, hi } => {
+                let pages = ClassFacts(class);
+                let slot = start_slot(class, true);
+                write!(
+                    f,
+                    r#"{{"kind":"split","pages":{pages},"slot":{slot},"m":{m},"fewest":{lo},"most":{hi}}}"#
+                )
+            }
+            Fact::Cut {
+                set,
+                needed,
+                is_certain: certain,
+                ways,
+                children,
+            } => {
+                let boundaries = SetFacts(set);
+                let pages = ClassFacts(needed);
+                write!(
+                    f,
+                    r#"{{"kind":"cut","boundaries":[{boundaries}],"pages":{pages},"certain":{certain},"ways":{ways},"children":{children}}}"#
+                )
+            }
+            Fact::Close { ways, children } => {
+                write!(
+                    f,
+                    r#"{{"kind":"close","ways":{ways},"children":{children}}}"#
+                )
+            }
+            Fact::Open => f.write_str(r#"{"kind":"open"}"#),
+            Fact::Unjudged => f.write_str(r#"{"kind":"unjudged"}"#),
+        }
+    }
+}
+
+// Adds an overload, and what the pages of each class cover of its slots at the least.
+fn write_overload<W: fmt::Write>(
+    f: &mut Formatter<W>,
+    set: u16,
+    least: u64,
+    room: u64,
+    shares: &[Share],
+) -> fmt::Result {
+    let slots = SetFacts(set);
+    write!(
+        f,
+        r#"{{"kind":"overload","slots":[{slots}],"least":{least},"room":{room},"shares":["#
+    )?;
+    let mut comma = "";
+    for share in shares {
+        let pages = ClassFacts(share.class);
+        let count = share.pages;
+        let least = share.least;
+        write!(
+            f,
+            r#"{comma}{{"pages":{pages},"count":{count},"least":{least}}}"#
+        )?;
+        comma = ",";
+    }
+    f.write_str("]}")
+}
+
+// The pages of a class; no frame and no length for one that there is not. They are alone where they are address
+// codewords in a class of their own.
+#[derive(Clone, Copy)]
+struct ClassFacts(u8);
+
+impl Display for ClassFacts {
+    fn fmt<W: fmt::Write>(&self, f: &mut Formatter<W>) -> fmt::Result {
+        let class = self.0;
+        if usize::from(class) >= CLASSES {
+            return f.write_str(r#"{"frame":null,"length_modulo_16":null,"alone":false}"#);
+        }
+        let frame = frame(class);
+        let rest = rest(class);
+        let alone = class >= FIRST_ALONE;
+        write!(
+            f,
+            r#"{{"frame":{frame},"length_modulo_16":{rest},"alone":{alone}}}"#
+        )
+    }
+}
+
+// The members of a set in order.
+#[derive(Clone, Copy)]
+struct SetFacts(u16);
+
+impl Display for SetFacts {
+    fn fmt<W: fmt::Write>(&self, f: &mut Formatter<W>) -> fmt::Result {
+        let mut comma = "";
+        for member in 0..SLOTS as u8 {
+            if holds(self.0, member) {
+                write!(f, "{comma}{member}")?;
+                comma = ",";
+            }
+        }
+        Ok(())
+    }
+}

@@ -1,0 +1,99 @@
+ghost use Rattle.std.specs.Prelude.{◌≡◌, IfErr, IfOk, OnErr, OnOk};
+ghost use Rattle.csv.specs.Records.{fields_of};
+ghost use Rattle.pocsag_journal.specs.Edited.{IsAddRefused, IsAdded, IsCancelRefused, IsCancelled, IsEditRefused, IsMade, IsSent, IsSentRefused};
+ghost use Rattle.pocsag_journal.specs.Runs.{IsEdit, IsReasonFor, IsRefusedFor, sent_record};
+
+use crate::edits::{Line, line_of, spelled_count};
+use crate::refusal::Refusal;
+use csv::ByteRecord;
+use pocsag_pages::{page_of_fields, parse_address};
+use pocsag_plan::{Book, NotThere};
+use pocsag_words::OutOfMemory;
+use std::alloc::Global;
+
+/// Makes the edit of the round that a record is. It is refused for want of memory, or where the record is no edit that
+/// these pages accept; the round is then as it was.
+pub fn edit_row(alloc: Global, book: &mut Book, row: &ByteRecord) -> Result<(), Refusal>
+    ensures made { OnOk result (IsEdit (fields_of row.now) book.old book.new) }
+    ensures refused { IfErr result (IsRefusedFor (fields_of row.now) book.old) }
+    ensures reason { IfErr result (IsReasonFor (fields_of row.now) book.old) }
+    ensures unchanged { OnErr result (book.new ≡ book.old) }
+{
+    edit(alloc, book, line_of(row))
+}
+
+/// The record of the edit that takes so many first pages out.
+pub fn sent_row(alloc: Global, count: u32) -> Result<ByteRecord, OutOfMemory>
+    ensures { IfOk result (λ row. fields_of row ≡ sent_record count) }
+{
+    let count = format!(in alloc; "{count}")?;
+    Ok(ByteRecord::from_fields(alloc, &[b"sent", count.as_bytes()])?)
+}
+
+/// Makes an edit of the round, which is as it was where it is refused.
+pub(crate) fn edit(alloc: Global, book: &mut Book, line: Line<'_>) -> Result<(), Refusal>
+    ensures made { OnOk result (IsMade line.entry book.old book.new) }
+    ensures refused { IfErr result (IsEditRefused line.entry book.old) }
+    ensures unchanged { OnErr result (book.new ≡ book.old) }
+{
+    match line {
+        Line::Add {
+            address,
+            kind,
+            message,
+        } => add_fields(alloc, book, address, kind, message),
+        Line::Cancel { address } => cancel_field(book, address),
+        Line::Sent { count } => drop_sent(book, count),
+        Line::Clear => {
+            *book = Book::new(alloc);
+            Ok(())
+        }
+        _ => Err(Refusal::Unknown),
+    }
+}
+
+fn add_fields(
+    alloc: Global,
+    book: &mut Book,
+    address: &[u8],
+    kind: &[u8],
+    message: &[u8],
+) -> Result<(), Refusal>
+    ensures made { OnOk result (IsAdded address.now kind.now message.now book.old book.new) }
+    ensures refused { IfErr result (IsAddRefused address.now kind.now message.now book.old) }
+    ensures unchanged { OnErr result (book.new ≡ book.old) }
+{
+    let page = page_of_fields(alloc, address, kind, message)?;
+    book.add(page)?;
+    Ok(())
+}
+
+// What spells no address is that of no page.
+fn cancel_field(book: &mut Book, field: &[u8]) -> Result<(), Refusal>
+    ensures made { OnOk result (IsCancelled field.now book.old book.new) }
+    ensures refused { IfErr result (IsCancelRefused field.now book.old) }
+    ensures unchanged { OnErr result (book.new ≡ book.old) }
+{
+    let Some(address) = parse_address(field) else {
+        return Err(Refusal::Cancel(NotThere));
+    };
+    match book.cancel(address) {
+        Ok(_) => Ok(()),
+        Err(absent) => Err(Refusal::Cancel(absent)),
+    }
+}
+
+// What is no count is that of more pages than there are.
+fn drop_sent(book: &mut Book, field: &[u8]) -> Result<(), Refusal>
+    ensures made { OnOk result (IsSent field.now book.old book.new) }
+    ensures refused { IfErr result (IsSentRefused field.now book.old) }
+    ensures unchanged { OnErr result (book.new ≡ book.old) }
+{
+    match spelled_count(field) {
+        Some(count) if count as usize <= book.len() => {
+            book.drop_first(count as usize);
+            Ok(())
+        }
+        _ => Err(Refusal::Cancel(NotThere)),
+    }
+}

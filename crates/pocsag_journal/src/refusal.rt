@@ -1,0 +1,96 @@
+ghost use Rattle.std.specs.Prelude.{◌≡◌};
+ghost use Rattle.pocsag_journal.specs.declared.refusal.Refusal.TheVariants as refusal;
+
+use pocsag_pages::FieldFault;
+use pocsag_plan::{AddFault, NotThere, Refused};
+use pocsag_shell::FileFault;
+use std::fmt::{self, Display, Formatter};
+use thiserror::Error;
+
+/// Why what a line asks for beside an edit was not done.
+#[derive(Clone, Copy, Debug, Error)]
+pub enum UndoneFault {
+    /// One of the two files of a plan.
+    #[error(transparent)]
+    File(FileFault),
+    #[error("there are no pages")]
+    NoPages,
+    /// The search stopped: at least so many batches are needed, and one more would do.
+    #[error("search limit reached: at least {least} batches, {found} would do")]
+    SearchLimit { least: u32, found: u32 },
+    /// Not even the first page fits into the batches of a slot: it is sent in so many.
+    #[error("page 1 needs {0} batches")]
+    FirstPage(u32),
+    #[error("out of memory")]
+    OutOfMemory,
+}
+
+/// Why an edit is refused. The round is as it was.
+#[derive(Clone, Copy, Debug, Error)]
+pub enum Refusal {
+    Unknown,
+    /// A quote of the line's last field is not closed.
+    InQuotes,
+    /// A quote stands inside a field that is not in quotes, or something that is no comma behind a field's quotes.
+    StrayQuote,
+    /// The fields spell no page.
+    Field(FieldFault),
+    /// The page may not follow the others.
+    Add(AddFault),
+    Cancel(NotThere),
+    /// What was asked could not be done.
+    Undone(UndoneFault),
+}
+
+impl Display for Refusal {
+    ghost use Rattle.pocsag_journal.specs.Edited.{own_words};
+
+    ghost output = { own_words };
+
+    fn fmt<W: fmt::Write>(&self, f: &mut Formatter<W>) -> fmt::Result {
+        match self {
+            Refusal::Unknown => f.write_str("unknown edit"),
+            Refusal::InQuotes => f.write_str("the line ends inside quotes"),
+            Refusal::StrayQuote => f.write_str("a quote is out of place"),
+            Refusal::Cancel(NotThere) => f.write_str("no such page"),
+            Refusal::Field(FieldFault::OutOfMemory)
+            | Refusal::Add(AddFault::OutOfMemory)
+            | Refusal::Undone(
+                UndoneFault::OutOfMemory | UndoneFault::File(FileFault::OutOfMemory),
+            ) => f.write_str("out of memory"),
+            Refusal::Field(fault) => fault.fmt(f),
+            Refusal::Add(fault) => fault.fmt(f),
+            Refusal::Undone(fault) => fault.fmt(f),
+        }
+    }
+}
+
+impl Refusal {
+    ghost use Rattle.pocsag_journal.specs.Runs.{wants_memory};
+
+    /// Whether an edit was refused for want of memory.
+    pub fn wants_memory(self) -> bool
+        ensures { result ≡ wants_memory self }
+    {
+        matches!(
+            self,
+            Refusal::Field(FieldFault::OutOfMemory) | Refusal::Add(AddFault::OutOfMemory)
+        )
+    }
+}
+
+impl From<FieldFault> for Refusal {
+    ghost from_gives = { λ fault e. e ≡ refusal.Field fault };
+
+    fn from(fault: FieldFault) -> Refusal {
+        Refusal::Field(fault)
+    }
+}
+
+impl From<Refused> for Refusal {
+    ghost from_gives = { λ refused e. e ≡ refusal.Add refused.fault };
+
+    fn from(refused: Refused) -> Refusal {
+        Refusal::Add(refused.fault)
+    }
+}

@@ -1,0 +1,42 @@
+-- What is so where the pages of a front are taken out.
+use Rattle.std.proofs.Common.{◌≡◌, ℕ, ◌<◌, ◌^◌, List, [], ◌∷◌, arith, drop, refl, subst, sym}
+use Rattle.std.specs.Prelude.{OnErr, OnOk, Result, Ok, Err}
+use Rattle.pocsag_words.specs.declared.ending.End.{End}
+use Rattle.pocsag_pages.specs.PageFile.{Row}
+use Rattle.pocsag_pages.specs.declared.page.Page.{Page}
+use Rattle.pocsag_plan.specs.declared.search.Effort.{Effort}
+use Rattle.pocsag_journal.specs.Keepers.{ReadsAsEither}
+use Rattle.pocsag_journal.specs.Runs.{IsEdit, sent_record}
+use Rattle.pocsag_journal.proofs.Counts.{sent_edit}
+use Rattle.pocsag_open.specs.Answers.{front_answer}
+use Rattle.pocsag_open.specs.Plans.{IsFrontPlanned, PlanBytes, placed_plan}
+use Rattle.pocsag_open.specs.Replies.{front_sent}
+use Rattle.pocsag_open.specs.Survival.{FrontRepliesTo, ReadsOrReplied}
+use Rattle.pocsag_open.proofs.Survival.{either_read}
+
+pub if_ok : {X E : Type 0} (r : Result X E) (P : Type 0) → P → OnOk r P
+if_ok (Ok x) P p = p
+if_ok (Err e) P p = tt
+
+pub if_err : {X E : Type 0} (r : Result X E) (P : Type 0) → P → OnErr r P
+if_err (Ok x) P p = tt
+if_err (Err e) P p = p
+
+module _ (Tells : Type 0) (effort : Effort) (end : End) (most : ℕ) (tx cert : List ℕ) (pages after : List Page) (count batches bound : ℕ)
+    (sent : PlanBytes) (planned : IsFrontPlanned Tells effort end most pages count batches bound sent) (left_is : after ≡ drop count pages) where
+  -- they are taken out by an edit
+  pub front_edit : (row : Row) → row ≡ sent_record count → IsEdit row pages after
+  front_edit row e =
+      let small : count < 2 ^ 32 = omega (arith, planned.front.among, planned.round.few) in
+      subst (λ (r : Row). IsEdit r pages after) (sym e)
+      (subst (λ (ps : List Page). IsEdit (sent_record count) pages ps) (sym left_is) (sent_edit count pages planned.front.some small planned.front.among))
+
+  -- the reply that leaves the others
+  pub front_replied : FrontRepliesTo Tells effort end most tx cert pages after (front_answer batches count bound)
+  front_replied = (placed_plan tx cert sent ∷ [], front_sent count batches bound sent planned left_is refl refl)
+
+  -- what is read as the pages before or after
+  pub front_read : (reads_as : List ℕ → List Page → Type 0) (left : List ℕ) → ReadsAsEither reads_as pages after left →
+      ReadsOrReplied reads_as (FrontRepliesTo Tells effort end most tx cert) pages left
+  front_read reads_as left is =
+      either_read (FrontRepliesTo Tells effort end most tx cert) pages after (front_answer batches count bound) reads_as left front_replied is

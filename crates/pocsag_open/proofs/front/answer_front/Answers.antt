@@ -1,0 +1,97 @@
+use Rattle.std.proofs.Common.{◌≡◌, inr, List, ℕ, [], ◌∷◌, ◌++◌, refl, subst, sym}
+use Rattle.pocsag_journal.proofs.Moments.{named}
+use Rattle.pocsag_journal.specs.declared.refusal.Refusal.TheVariants as refusal
+use Rattle.pocsag_open.specs.Answers.{front_answer}
+use Rattle.pocsag_open.specs.Plans.{placed_plan}
+use Rattle.pocsag_open.specs.Replies.{IsRefusalTold, front_refused, front_sent}
+use Rattle.pocsag_open.specs.Survival.{FrontRepliesTo, untold}
+use Rattle.pocsag_open.proofs.Fronts.{front_edit, front_read, front_replied, if_err, if_ok}
+use Rattle.pocsag_open.proofs.Survival.{cut_part, cut_told, on_err, took_part}
+use Rattle.pocsag_open.proofs.Told.{on_ok, told_as}
+use Rattle.pocsag_open.proofs.front.answer_front.Goals as goal
+
+pub returns-in-Err-clause-replied : goal.returns-in-Err-clause-replied
+returns-in-Err-clause-replied g c = λ tells.
+    told_as c.refuse.result _ _ _ _ _ _ _ c.in-Err.ensures.same
+    (λ told is. front_refused c.in-Err.fault c.in-Err.ensures.explained refl is refl) (c.refuse.ensures.told tells)
+
+pub returns-in-Err-clause-cut : goal.returns-in-Err-clause-cut
+returns-in-Err-clause-cut g c = λ keeps tells stands.
+    cut_told c.refuse.result
+    (FrontRepliesTo g.P.Places.tells c.args.planner.now.effort c.args.asked.end c.args.asked.batches c.args.asked.tx.now c.args.asked.cert.now)
+    c.args.round.now.book (g.O.Sink.taken c.args.out.now) (g.O.Sink.taken c.refuse.new.out) g.K.Keeper.reads_as
+    (g.K.Keeper.may_leave c.args.round.now.keeper) (IsRefusalTold (refusal.Undone c.in-Err.fault))
+    (λ told is. ([], front_refused c.in-Err.fault c.in-Err.ensures.explained refl is refl))
+    (λ left now. g.K.Keeper.restarts c.args.round.now.keeper c.args.round.now.book left keeps stands now) (c.refuse.ensures.part tells)
+
+pub returns-in_err-keep-clause-cut : goal.returns-in_err-keep-clause-cut
+returns-in_err-keep-clause-cut g c = λ keeps tells stands.
+    let done = c.in-Ok.ensures.planned in
+    let edit = front_edit _ _ _ _ c.args.asked.tx.now c.args.asked.cert.now _ _ _ _ _ _ done.planned c.drop_first.ensures _ c.in-Ok.ensures.edit in
+    let only = c.keep.ensures.any_moment keeps c.args.round.now.book c.drop_first.new.self stands edit in
+    if_err c.from_residual.result _
+    (untold refl
+    (λ left now.
+    front_read _ _ _ _ c.args.asked.tx.now c.args.asked.cert.now _ _ _ _ _ _ done.planned c.drop_first.ensures g.K.Keeper.reads_as left
+    (only.each left (g.K.Keeper.counts_now c.keep.new.self (g.K.Keeper.moment c.args.round.now.keeper) left keeps only.later now))))
+
+pub returns-in_err-keep-clause-any_moment : goal.returns-in_err-keep-clause-any_moment
+returns-in_err-keep-clause-any_moment g c = λ keeps stands.
+    let done = c.in-Ok.ensures.planned in
+    let edit = front_edit _ _ _ _ c.args.asked.tx.now c.args.asked.cert.now _ _ _ _ _ _ done.planned c.drop_first.ensures _ c.in-Ok.ensures.edit in
+    named g.K.Keeper.moment g.K.Keeper.left_since c.args.round.now.keeper c.keep.new.self _ _
+    (c.keep.ensures.any_moment keeps c.args.round.now.book c.drop_first.new.self stands edit)
+    (λ left is.
+    front_read _ _ _ _ c.args.asked.tx.now c.args.asked.cert.now _ _ _ _ _ _ done.planned c.drop_first.ensures g.K.Keeper.reads_as left is)
+
+pub returns-clause-replied : goal.returns-clause-replied
+returns-clause-replied g c = λ tells.
+    let done = c.in-Ok.ensures.planned in
+    let front = c.in-Ok.sent.0 in
+    on_ok c.tell_sent.result _ _
+    (λ (told : g.O.Sink.taken c.tell_sent.new.out ≡ g.O.Sink.taken c.args.out.now ++ front_answer front.batches front.pages front.bound). record {
+      told = front_answer front.batches front.pages front.bound;
+      placed = placed_plan c.args.asked.tx.now c.args.asked.cert.now done.sent ∷ [];
+      answers = told;
+      outputs = done.placed;
+      holds = front_sent front.pages front.batches front.bound done.sent done.planned c.drop_first.ensures refl refl;
+    })
+    (c.tell_sent.ensures.told tells)
+
+pub returns-clause-stands : goal.returns-clause-stands
+returns-clause-stands g c = λ stands.
+    let done = c.in-Ok.ensures.planned in
+    let edit = front_edit _ _ _ _ c.args.asked.tx.now c.args.asked.cert.now _ _ _ _ _ _ done.planned c.drop_first.ensures _ c.in-Ok.ensures.edit in
+    if_ok c.tell_sent.result _ (c.in_ok-keep.ensures.stands c.args.round.now.book c.drop_first.new.self stands edit)
+
+pub returns-clause-cut : goal.returns-clause-cut
+returns-clause-cut g c = λ keeps tells stands.
+    let done = c.in-Ok.ensures.planned in
+    let front = c.in-Ok.sent.0 in
+    let due : List ℕ = front_answer front.batches front.pages front.bound in
+    let edit = front_edit _ _ _ _ c.args.asked.tx.now c.args.asked.cert.now _ _ _ _ _ _ done.planned c.drop_first.ensures _ c.in-Ok.ensures.edit in
+    let reply = front_replied _ _ _ _ c.args.asked.tx.now c.args.asked.cert.now _ _ _ _ _ _ done.planned c.drop_first.ensures in
+    let kept : (left : List ℕ) → g.K.Keeper.may_leave c.keep.new.self left → g.K.Keeper.reads_as left c.drop_first.new.self = λ left now.
+    g.K.Keeper.restarts c.keep.new.self c.drop_first.new.self left keeps
+    (c.in_ok-keep.ensures.stands c.args.round.now.book c.drop_first.new.self stands edit) now in
+    on_err c.tell_sent.result _ _
+    (λ took.
+    cut_part
+    (FrontRepliesTo g.P.Places.tells c.args.planner.now.effort c.args.asked.end c.args.asked.batches c.args.asked.tx.now c.args.asked.cert.now)
+    c.args.round.now.book c.drop_first.new.self (g.O.Sink.taken c.args.out.now) (g.O.Sink.taken c.tell_sent.new.out) g.K.Keeper.reads_as
+    (g.K.Keeper.may_leave c.keep.new.self) (λ (told : List ℕ). told ≡ due)
+    (λ told is.
+    subst (λ (t : List ℕ). FrontRepliesTo g.P.Places.tells c.args.planner.now.effort c.args.asked.end c.args.asked.batches
+    c.args.asked.tx.now c.args.asked.cert.now c.args.round.now.book c.drop_first.new.self t) (sym is) reply)
+    (λ left now. inr (c.drop_first.new.self, (due, reply, kept left now))) kept
+    (took_part (g.O.Sink.taken c.args.out.now) (g.O.Sink.taken c.tell_sent.new.out) due (λ (told : List ℕ). told ≡ due) refl took))
+    (c.tell_sent.ensures.part tells)
+
+pub returns-clause-any_moment : goal.returns-clause-any_moment
+returns-clause-any_moment g c = λ keeps stands.
+    let done = c.in-Ok.ensures.planned in
+    let edit = front_edit _ _ _ _ c.args.asked.tx.now c.args.asked.cert.now _ _ _ _ _ _ done.planned c.drop_first.ensures _ c.in-Ok.ensures.edit in
+    named g.K.Keeper.moment g.K.Keeper.left_since c.args.round.now.keeper c.keep.new.self _ _
+    (c.keep.ensures.any_moment keeps c.args.round.now.book c.drop_first.new.self stands edit)
+    (λ left is.
+    front_read _ _ _ _ c.args.asked.tx.now c.args.asked.cert.now _ _ _ _ _ _ done.planned c.drop_first.ensures g.K.Keeper.reads_as left is)

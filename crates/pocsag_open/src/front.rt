@@ -1,0 +1,149 @@
+//! Plans of the longest front of an open round, whose pages are taken out.
+ghost use Rattle.std.specs.Prelude.{◌≡◌, None, Some, IfErr, IfOk, OnErr, OnOk};
+ghost use Rattle.csv.specs.Records.{fields_of};
+ghost use Rattle.pocsag_shell.specs.Faults.{file_status};
+ghost use Rattle.pocsag_journal.specs.Moments.{LeavesOnly};
+ghost use Rattle.pocsag_journal.specs.Runs.{sent_record};
+ghost use Rattle.pocsag_open.specs.Plans.{ExplainsFrontUndone, IsFrontPlaced, IsFrontPlanned};
+ghost use Rattle.pocsag_open.specs.Replies.{IsFrontReply, TellsAndPlaces};
+ghost use Rattle.pocsag_open.specs.Survival.{FrontRepliesTo, IsCutShort, ReadsOrReplied};
+
+use crate::answer::{OpenRound, refuse, tell_sent};
+use crate::outputs::Places;
+use crate::round_plan::{PLAN_LIMIT, undone};
+use crate::session::Planner;
+use csv::ByteRecord;
+use pocsag_journal::{Keeper, Refusal, UndoneFault, sent_row};
+use pocsag_plan::{Book, Search, UnsentFront};
+use pocsag_shell::{FileFault, Outputs};
+use pocsag_words::{End, Sink};
+use std::alloc::Global;
+
+/// What a line asks for that asks for the plan of a front.
+#[derive(Clone, Copy)]
+pub(crate) struct FrontOrder<'a> {
+    pub tx: &'a str,
+    pub cert: &'a str,
+    pub end: End,
+    /// How many batches it may have.
+    pub batches: u32,
+}
+
+/// The batches of the plan of a front, the bound that its certificate shows, and how many pages it has.
+#[derive(Clone, Copy)]
+pub(crate) struct SentFront {
+    pub batches: u32,
+    pub bound: u32,
+    pub pages: u32,
+}
+
+/// Puts the plan of the longest front in its places, takes the pages of the front out, has that kept, and answers it; or
+/// tells why the plan is refused. It is not answered before it is kept.
+pub(crate) fn answer_front<P: Places + Drop, K: Keeper + Drop, O: Sink>(
+    alloc: Global,
+    planner: &mut Planner<P>,
+    round: &mut OpenRound<K>,
+    asked: FrontOrder<'_>,
+    out: &mut O,
+) -> Result<(), FileFault>
+    ensures replied { O.tells → OnOk result (TellsAndPlaces P.tells
+        (O.taken out.old) (O.taken out.new) (P.placed planner.old.places) (P.placed planner.new.places)
+        (IsFrontReply P.tells planner.old.effort asked.entry.end asked.entry.batches
+        asked.entry.tx.now asked.entry.cert.now round.old.book round.new.book)) }
+    ensures effort { planner.new.effort ≡ planner.old.effort }
+    ensures none_left { P.tells → P.made_for planner.new.places ≡ None }
+    ensures stands { K.stands_for round.old.keeper round.old.book →
+        OnOk result (K.stands_for round.new.keeper round.new.book) }
+    ensures cut { K.tells → O.tells → K.stands_for round.old.keeper round.old.book → OnErr result
+        (IsCutShort (FrontRepliesTo P.tells planner.old.effort asked.entry.end asked.entry.batches
+        asked.entry.tx.now asked.entry.cert.now) round.old.book
+        (O.taken out.old) (O.taken out.new) K.reads_as (K.may_leave round.new.keeper)) }
+    ensures any_moment { K.tells → K.stands_for round.old.keeper round.old.book →
+        LeavesOnly K.moment K.left_since round.old.keeper round.new.keeper
+        (ReadsOrReplied K.reads_as
+        (FrontRepliesTo P.tells planner.old.effort asked.entry.end asked.entry.batches
+        asked.entry.tx.now asked.entry.cert.now)
+        round.old.book) }
+    ensures lost { IfErr result (λ e. file_status e ≡ 3) }
+{
+    let (front, row) = match place_front(alloc, planner, &round.book, asked) {
+        Ok(sent) => sent,
+        Err(fault) => return refuse(Refusal::Undone(fault), out),
+    };
+    round.book.drop_first(front.pages as usize);
+    round.keeper.keep(alloc, &row)?;
+    tell_sent(front, out)
+}
+
+// Plans the front, writes its two outputs, and puts them in their places once both are whole. It answers the record too of
+// the edit that takes its pages out.
+fn place_front<P: Places + Drop>(
+    alloc: Global,
+    planner: &mut Planner<P>,
+    book: &Book,
+    asked: FrontOrder<'_>,
+) -> Result<(SentFront, ByteRecord), UndoneFault>
+    ensures planned { IfOk result (λ both. IsFrontPlaced P.tells planner.old.effort asked.entry.end asked.entry.batches
+        asked.entry.tx.now asked.entry.cert.now book.now both.0.pages both.0.batches both.0.bound
+        (P.placed planner.old.places) (P.placed planner.new.places)) }
+    ensures edit { IfOk result (λ both. fields_of both.1 ≡ sent_record both.0.pages) }
+    ensures explained { IfErr result
+        (ExplainsFrontUndone planner.old.effort asked.entry.end asked.entry.batches book.now) }
+    ensures same { P.tells → OnErr result (P.placed planner.new.places ≡ P.placed planner.old.places) }
+    ensures none_left { P.tells → P.made_for planner.new.places ≡ None }
+    ensures effort { planner.new.effort ≡ planner.old.effort }
+{
+    let (front, outputs) = match send_front(planner, book, asked) {
+        Ok(sent) => sent,
+        Err(fault) => {
+            planner.places.leave(asked.tx, asked.cert);
+            return Err(fault);
+        }
+    };
+    let Ok(row) = sent_row(alloc, front.pages) else {
+        planner.places.leave(asked.tx, asked.cert);
+        return Err(UndoneFault::OutOfMemory);
+    };
+    match planner.places.put(asked.tx, asked.cert, outputs) {
+        Ok(()) => Ok((front, row)),
+        Err(fault) => Err(UndoneFault::File(fault)),
+    }
+}
+
+// Makes both outputs, and writes them whole.
+fn send_front<P: Places + Drop>(
+    planner: &mut Planner<P>,
+    book: &Book,
+    asked: FrontOrder<'_>,
+) -> Result<(SentFront, Outputs<P::Output>), UndoneFault>
+    ensures planned { IfOk result (λ both. IsFrontPlanned P.tells planner.old.effort
+        asked.entry.end asked.entry.batches book.now both.0.pages both.0.batches both.0.bound
+        (P.Output.taken both.1.tx, P.Output.taken both.1.cert)) }
+    ensures explained { IfErr result
+        (ExplainsFrontUndone planner.old.effort asked.entry.end asked.entry.batches book.now) }
+    ensures made { P.tells → P.made_for planner.new.places ≡ Some (asked.entry.tx.now, asked.entry.cert.now) }
+    ensures same { P.tells → P.placed planner.new.places ≡ P.placed planner.old.places }
+    ensures effort { planner.new.effort ≡ planner.old.effort }
+{
+    let search = Search {
+        limit: PLAN_LIMIT,
+        end: asked.end,
+        effort: planner.effort,
+    };
+    let mut outputs = match planner.places.make(asked.tx, asked.cert) {
+        Ok(outputs) => outputs,
+        Err(fault) => return Err(UndoneFault::File(fault)),
+    };
+    match book.front_stream(&mut outputs.tx, &mut outputs.cert, asked.batches, search) {
+        Ok(bounded) => {
+            let front = SentFront {
+                batches: bounded.plan.batches,
+                bound: bounded.bound,
+                pages: bounded.plan.pages,
+            };
+            Ok((front, outputs))
+        }
+        Err(UnsentFront::FirstPage(needed)) => Err(UndoneFault::FirstPage(needed)),
+        Err(UnsentFront::Stream(fault)) => Err(undone(fault)),
+    }
+}

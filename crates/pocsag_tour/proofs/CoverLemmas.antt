@@ -1,0 +1,108 @@
+-- How many arcs leave a boundary and lead to it, by the loads of the slots before and after it.
+use Rattle.pocsag_tour.proofs.Prelude.{◌≡◌, ◌≢◌, ℕ, zero, suc, ◌+◌, ◌-◌, ◌%◌, ◌<◌, ◌≤◌, ◌==◌, Bool, true, false, cond, slice_index, refl, sym, ap, ◌∙◌, arith, eq-eqb, ne_eqb, Classes, load, start_of, finish_of, sum_below, arc_count, arc_from, arc_to, AreCounts, ins, IsBalanced, outs}
+use Rattle.pocsag_slots.specs.Edges.{ends_at, starts_at}
+use Rattle.pocsag_slots.proofs.EdgeLemmas.{before, load_edge}
+use Rattle.pocsag_slots.proofs.SumLemmas.{sum_below-same, sum_below-add, sum_below-bump, sum_below-zero}
+use Rattle.pocsag_tour.proofs.Geometry.{from_early, from_idle, from_late, to_early, to_idle, to_late}
+use Rattle.pocsag_words.proofs.TruthValues.{is_above, not_above}
+
+-- the counts by kind
+pub count_early : (k : Classes) (choice : ℕ → ℕ) (b c : ℕ) → c < 136 → arc_count k choice b c ≡ choice c
+unfolding arc_count
+count_early k choice b c h = rw (is_above c 136 h) refl
+
+pub count_late : (k : Classes) (choice : ℕ → ℕ) (b c : ℕ) → c < 136 → arc_count k choice b (136 + c) ≡ slice_index k.count c - choice c
+unfolding arc_count
+count_late k choice b c h =
+    let e : 136 + c - 136 ≡ c = omega arith in
+    rw (not_above (136 + c) 136 (omega arith), is_above (136 + c) 272 (omega arith), e) refl
+
+pub count_idle : (k : Classes) (choice : ℕ → ℕ) (b s : ℕ) → arc_count k choice b (272 + s) ≡ b - load k choice s
+unfolding arc_count
+count_idle k choice b s =
+    let e : 272 + s - 272 ≡ s = omega arith in
+    rw (not_above (272 + s) 136 (omega arith), not_above (272 + s) 272 (omega arith), e) refl
+
+-- a sum in two parts
+pub sum_split : (m n : ℕ) (f : ℕ → ℕ) → sum_below (n + m) f ≡ sum_below n f + sum_below m (λ a. f (n + a))
+unfolding sum_below
+sum_split zero n f = let e : n + 0 ≡ n = omega arith in rw e (omega arith)
+sum_split (suc m) n f =
+    let e : n + suc m ≡ suc (n + m) = omega arith in
+    rw e (omega (arith, sum_split m n f))
+
+abbrev no_number : ℕ → ℕ
+no_number q = 0
+
+-- a number that stands at one slot alone
+pub sum_hit : (f : ℕ → ℕ) (p : ℕ) → p < 16 → ((s : ℕ) → s < 16 → s ≢ p → f s ≡ 0) → sum_below 16 f ≡ f p
+sum_hit f p h others =
+    let grown : sum_below 16 f ≡ sum_below 16 no_number + f p =
+    sum_below-bump 16 p (f p) no_number f h (omega arith) (λ s l ne. others s l ne) in
+    let none : sum_below 16 no_number ≡ 0 = sum_below-zero 16 no_number (λ s l. refl) in
+    omega arith
+
+term_is : (x y : ℕ) (t u : Bool) → x ≡ y → t ≡ u → cond t x 0 ≡ cond u y 0
+term_is x y t u e f = rw (e, f) refl
+
+pub outs_are : (k : Classes) (choice : ℕ → ℕ) (b : ℕ) (counts : ℕ → ℕ) → AreCounts k choice b counts → (p : ℕ) → p < 16 →
+    outs counts p ≡ sum_below 136 (starts_at k choice p) + (b - load k choice p)
+unfolding outs
+outs_are k choice b counts are p h =
+    let f : ℕ → ℕ = λ (a : ℕ). cond (arc_from a == p) (counts a) 0 in
+    let one : sum_below 288 f ≡ sum_below 272 f + sum_below 16 (λ s. f (272 + s)) = sum_split 16 272 f in
+    let two : sum_below 272 f ≡ sum_below 136 f + sum_below 136 (λ c. f (136 + c)) = sum_split 136 136 f in
+    let runs : sum_below 136 (starts_at k choice p) ≡ sum_below 136 f + sum_below 136 (λ c. f (136 + c)) =
+    sum_below-same 136 (starts_at k choice p) (λ c. f c + f (136 + c)) (λ c l.
+    let x : cond (start_of c true == p) (choice c) 0 ≡ cond (arc_from c == p) (counts c) 0 =
+    term_is (choice c) (counts c) (start_of c true == p) (arc_from c == p) (sym (are c (omega arith) ∙ count_early k choice b c l))
+    (ap (λ (m : ℕ). m == p) (sym (from_early c l))) in
+    let y : cond (start_of c false == p) (slice_index k.count c - choice c) 0 ≡ cond (arc_from (136 + c) == p) (counts (136 + c)) 0 =
+    term_is (slice_index k.count c - choice c) (counts (136 + c)) (start_of c false == p) (arc_from (136 + c) == p)
+    (sym (are (136 + c) (omega arith) ∙ count_late k choice b c l)) (ap (λ (m : ℕ). m == p) (sym (from_late c l))) in
+    omega arith)
+    ∙ sum_below-add 136 f (λ c. f (136 + c)) in
+    let idle : sum_below 16 (λ s. f (272 + s)) ≡ b - load k choice p =
+    sum_hit (λ s. f (272 + s)) p h (λ s l ne. (let t : (s == p) ≡ false = ne_eqb s p ne in rw (from_idle s, t) refl))
+    ∙ (let t : (p == p) ≡ true = eq-eqb p p refl in rw (from_idle p, t) (are (272 + p) (omega arith) ∙ count_idle k choice b p)) in
+    omega arith
+
+pub ins_are : (k : Classes) (choice : ℕ → ℕ) (b : ℕ) (counts : ℕ → ℕ) → AreCounts k choice b counts → (p : ℕ) → p < 16 →
+    ins counts p ≡ sum_below 136 (ends_at k choice p) + (b - load k choice (before p))
+unfolding ins
+ins_are k choice b counts are p h =
+    let f : ℕ → ℕ = λ (a : ℕ). cond (arc_to a == p) (counts a) 0 in
+    let one : sum_below 288 f ≡ sum_below 272 f + sum_below 16 (λ s. f (272 + s)) = sum_split 16 272 f in
+    let two : sum_below 272 f ≡ sum_below 136 f + sum_below 136 (λ c. f (136 + c)) = sum_split 136 136 f in
+    let runs : sum_below 136 (ends_at k choice p) ≡ sum_below 136 f + sum_below 136 (λ c. f (136 + c)) =
+    sum_below-same 136 (ends_at k choice p) (λ c. f c + f (136 + c)) (λ c l.
+    let x : cond (finish_of c true == p) (choice c) 0 ≡ cond (arc_to c == p) (counts c) 0 =
+    term_is (choice c) (counts c) (finish_of c true == p) (arc_to c == p) (sym (are c (omega arith) ∙ count_early k choice b c l))
+    (ap (λ (m : ℕ). m == p) (sym (to_early c l))) in
+    let y : cond (finish_of c false == p) (slice_index k.count c - choice c) 0 ≡ cond (arc_to (136 + c) == p) (counts (136 + c)) 0 =
+    term_is (slice_index k.count c - choice c) (counts (136 + c)) (finish_of c false == p) (arc_to (136 + c) == p)
+    (sym (are (136 + c) (omega arith) ∙ count_late k choice b c l)) (ap (λ (m : ℕ). m == p) (sym (to_late c l))) in
+    omega arith)
+    ∙ sum_below-add 136 f (λ c. f (136 + c)) in
+    let low : before p < 16 = omega arith in
+    let around : (before p + 1) % 16 ≡ p = omega arith in
+    let idle : sum_below 16 (λ s. f (272 + s)) ≡ b - load k choice (before p) =
+    sum_hit (λ s. f (272 + s)) (before p) low
+    (λ s l ne. (let t : ((s + 1) % 16 == p) ≡ false = ne_eqb ((s + 1) % 16) p (λ e. ne (omega arith)) in rw (to_idle s, t) refl))
+    ∙ (let t : ((before p + 1) % 16 == p) ≡ true = eq-eqb ((before p + 1) % 16) p around in
+    rw (to_idle (before p), t) (are (272 + before p) (omega arith) ∙ count_idle k choice b (before p))) in
+    omega arith
+
+-- as many arcs leave each boundary as lead to it
+pub balanced_start : (k : Classes) (choice : ℕ → ℕ) (b : ℕ) (counts : ℕ → ℕ) → AreCounts k choice b counts →
+    ((slot : ℕ) → slot < 16 → load k choice slot ≤ b) → IsBalanced counts 0 0
+balanced_start k choice b counts are within q h =
+    let low : before q < 16 = omega arith in
+    omega (
+      arith,
+      outs_are k choice b counts are q h,
+      ins_are k choice b counts are q h,
+      load_edge k choice q h,
+      within q h,
+      within (before q) low,
+    )

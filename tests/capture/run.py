@@ -1,0 +1,379 @@
+#!/usr/bin/env python3
+"""Runs `decode`, `hear` and `show` with `--capture` on captures that a keyer of this script made: 2,000 with several
+transmissions at any bit and in either polarity, with noise around them and up to two wrong bits in each word; 400 with
+words past repair and ends cut off, beside a receiver of this script; cases worked by hand; refusals; and the time that
+100 MB of noise takes.
+
+It takes the binary that the gate left in crates/pocsag_app/out. The last line is 'N passed, M failed'.
+"""
+
+import csv
+import io
+import pathlib
+import random
+import resource
+import subprocess
+import sys
+
+sys.dont_write_bytecode = True
+sys.path.insert(0, str(pathlib.Path(__file__).resolve().parents[1]))
+from tally import PROGRAM, run_parts
+
+SYNC, IDLE, ONES = 0x7CD215D8, 0x7A89C197, 0xFFFFFFFF
+CAPTURES, DAMAGED = 2_000, 400
+NOISE_BYTES, NOISE_SECONDS = 100_000_000, 6.0  # on a busy host; BENCHMARKS.md has the speed
+KINDS = {0: "numeric", 1: "data1", 2: "data2", 3: "alpha"}
+
+
+# ---- the keyer
+
+
+def codeword(data):
+    """The codeword of 21 bits: ten check bits and the parity."""
+    rest = data << 10
+    for bit in range(30, 9, -1):
+        if rest >> bit & 1:
+            rest ^= 0b11101101001 << (bit - 10)
+    word = (data << 10 | rest) << 1
+    return word | word.bit_count() & 1
+
+
+def is_codeword(word):
+    return codeword(word >> 11) == word
+
+
+def items_of(function, message):
+    """The message codewords' bits, twenty of each."""
+    if function == 0:
+        bits = "".join(f"{int(digit):04b}"[::-1] for digit in message)
+        bits += "0011" * (-len(message) % 5)
+    else:
+        bits = "".join(f"{ord(char):07b}"[::-1] for char in message)
+        bits += "0" * (-len(bits) % 20)
+    return [int(bits[i : i + 20], 2) for i in range(0, len(bits), 20)]
+
+
+def words_of(pages):
+    """The words of a transmission: each page starts at the next slot of its frame, and idles fill the batches."""
+    words = []
+    for address, function, message in pages:
+        while len(words) % 16 // 2 != address % 8:
+            words.append(IDLE)
+        words.append(codeword(address >> 3 << 2 | function))
+        words += [codeword(1 << 20 | item) for item in items_of(function, message)]
+    words += [IDLE] * (-len(words) % 16)
+    return [word for i in range(0, len(words), 16) for word in (SYNC, *words[i : i + 16])]
+
+
+def some_pages(chance, most):
+    pages = []
+    for _ in range(chance.randint(1, most)):
+        # no address codeword of these is idle or synchronisation
+        address, kind = chance.randrange(0, 2_000_000), chance.choice(("tone", "numeric", "alpha"))
+        if kind == "tone":
+            pages.append((address, chance.randrange(4), ""))
+        elif kind == "numeric":
+            pages.append((address, 0, "".join(chance.choice("0123456789") for _ in range(chance.randint(1, 20)))))
+        else:
+            text = "".join(chr(chance.randint(33, 126)) for _ in range(chance.randint(1, 30)))
+            pages.append((address, 3, text))
+    return pages
+
+
+def row_of(page):
+    address, function, message = page
+    return [str(address), KINDS[function] if message else f"tone{function}", message]
+
+
+def bits_of(words):
+    return "".join(f"{word:032b}" for word in words)
+
+
+def inverted(bits):
+    return bits.translate(str.maketrans("01", "10"))
+
+
+def file_of(bits):
+    bits += "0" * (-len(bits) % 8)
+    return bytes(int(bits[i : i + 8], 2) for i in range(0, len(bits), 8))
+
+
+def flipped(chance, word, count):
+    for bit in chance.sample(range(32), count):
+        word ^= 1 << bit
+    return word
+
+
+def some_noise(chance, count):
+    return "".join(chance.choice("01") for _ in range(count))
+
+
+# ---- a receiver, bit by bit
+
+
+def sync_polarity(word):
+    wrong = (word ^ SYNC).bit_count()
+    return "upright" if wrong <= 2 else "inverted" if wrong >= 30 else None
+
+
+def polarity_at(bits, bit):
+    return sync_polarity(int(bits[bit : bit + 32], 2)) if bit + 32 <= len(bits) else None
+
+
+def first_sync(bits, bit):
+    """The first synchronisation codeword from a bit on, or nothing."""
+    window = int(bits[bit : bit + 31] or "0", 2)
+    for at in range(bit, len(bits) - 31):
+        window = (window << 1 | (bits[at + 31] == "1")) & ONES
+        if sync_polarity(window):
+            return at
+    return None
+
+
+def repaired(word):
+    """The only codeword within two bits, or nothing."""
+    if is_codeword(word):
+        return word
+    for i in range(32):
+        for j in range(i, 32):
+            near = word ^ (1 << i) ^ (1 << j if j > i else 0)
+            if is_codeword(near):
+                return near
+    return None
+
+
+def heard(bits):
+    """The transmissions of a capture, each as its bit, polarity, batches, corrected bits, lost words and pages."""
+    found, bit = [], 0
+    while (bit := first_sync(bits, bit)) is not None:
+        start, polarity, words = bit, polarity_at(bits, bit), []
+        while polarity_at(bits, bit) == polarity:
+            for place in range(17):
+                piece = bits[bit + 32 * place : bit + 32 * place + 32]
+                if len(piece) < 32:
+                    words.append(IDLE)
+                else:
+                    words.append(int(piece, 2) ^ (ONES if polarity == "inverted" else 0))
+            bit += 544
+        corrected = lost = 0
+        pages, page = [], None
+        for place, word in enumerate(words):
+            if place % 17 == 0:
+                corrected += (word ^ SYNC).bit_count()
+                continue
+            mended = repaired(word)
+            if mended is None:
+                lost, page = lost + 1, None
+                continue
+            corrected += (word ^ mended).bit_count()
+            if mended == IDLE:
+                page = None
+            elif mended >> 31:
+                if page is not None:
+                    page[2].append(mended >> 11 & 0xFFFFF)
+            else:
+                page = [8 * (mended >> 13 & 0x3FFFF) + (place % 17 - 1) // 2, mended >> 11 & 3, []]
+                pages.append(page)
+        found.append((start, polarity, len(words) // 17, corrected, lost, pages))
+    return found
+
+
+def read_row(page):
+    address, function, items = page
+    bits = "".join(f"{item:020b}" for item in items)
+    if not items:
+        return [str(address), f"tone{function}", ""]
+    if function == 0:
+        codes = [int(bits[i : i + 4][::-1], 2) for i in range(0, len(bits), 4)]
+        message = "".join("0123456789*U -]["[code] for code in codes).rstrip(" ")
+    elif function == 3:
+        codes = [int(bits[i : i + 7][::-1], 2) for i in range(0, len(bits) // 7 * 7, 7)]
+        message = "".join(map(chr, codes)).rstrip("\0")
+    else:
+        message = "".join(f"{item:05X}" for item in items)
+    return [str(address), KINDS[function], message]
+
+
+# ---- the program
+
+
+def run(words, **more):
+    return subprocess.run([str(PROGRAM), *map(str, words)], capture_output=True, timeout=110, **more)
+
+
+def rows_in(listing):
+    return list(csv.reader(io.StringIO(listing.decode("latin-1"), newline="")))[1:]
+
+
+def told_lines(found):
+    return "".join(
+        f"pocsag: transmission {k}: bit {bit}, {polarity}, batches {batches}, corrected bits {corrected}, lost words {lost}\n"
+        for k, (bit, polarity, batches, corrected, lost) in enumerate(found, 1)
+    ).encode()
+
+
+def some_capture(chance):
+    """A capture, the pages of each transmission, and what is told of each; the noise is drawn again until it is quiet."""
+    while True:
+        bits, pages, told, sent, quiet = "", [], [], [], True
+        for _ in range(chance.randint(1, 3)):
+            noise = some_noise(chance, chance.randrange(300)) + "10" * chance.randrange(40, 288)
+            some = some_pages(chance, 5)
+            words = words_of(some)
+            damaged = [flipped(chance, word, chance.randrange(3)) for word in words]
+            turned = chance.random() < 0.5
+            start = len(bits) + len(noise)
+            first = len(bits)
+            bits += inverted(noise + bits_of(damaged)) if turned else noise + bits_of(damaged)
+            quiet = quiet and first_sync(bits, first) == start
+            pages.append(some)
+            sent.append(words)
+            wrong = sum((a ^ b).bit_count() for a, b in zip(words, damaged))
+            told.append((start, "inverted" if turned else "upright", len(words) // 17, wrong, 0))
+        end = len(bits)
+        bits += some_noise(chance, chance.randrange(300))
+        if quiet and first_sync(bits, end) is None:
+            return bits, pages, told, sent
+
+
+def try_captures(tally, folder):
+    """Each capture lists what was sent, and tells where and how it was received."""
+    chance = random.Random(20261126)
+    for count in range(CAPTURES):
+        bits, pages, told, sent = some_capture(chance)
+        (folder / "air.bin").write_bytes(file_of(bits))
+        done = run(["decode", "--capture", "air.bin", "--verbose"], cwd=folder)
+        due = [row_of(page) for some in pages for page in some]
+        holds = (done.returncode, rows_in(done.stdout), done.stderr) == (0, due, told_lines(told))
+        tally.check(f"capture {count}", holds, (due, told, done))
+        if count % 10 == 0:
+            address = chance.choice(due)[0]
+            done = run(["hear", address, "air.bin", "--capture"], cwd=folder)
+            tally.check(f"capture {count} heard", rows_in(done.stdout) == [row for row in due if row[0] == address], done)
+            nth = chance.randint(1, len(sent))
+            (folder / "tx.bin").write_bytes(b"\xaa" * 72 + file_of(bits_of(sent[nth - 1])))
+            for view in ([], ["--svg"], ["--list"]):
+                done = run(["show", "air.bin", "--capture", "--nth", nth, *view], cwd=folder)
+                plain = run(["show", "tx.bin", *view], cwd=folder)
+                holds = (done.returncode, done.stdout) == (0, plain.stdout) and plain.returncode == 0
+                tally.check(f"capture {count} shown {view}", holds, (done, plain))
+
+
+def try_damaged(tally, folder):
+    """Words past repair, words that no one sent, and ends that are cut off, beside the receiver of this script."""
+    chance = random.Random(20261127)
+    for count in range(DAMAGED):
+        bits = some_noise(chance, chance.randrange(100))
+        for _ in range(chance.randint(1, 3)):
+            words = words_of(some_pages(chance, 8))
+            for place, word in enumerate(words):
+                if place % 17:
+                    words[place] = chance.choice((word, word, flipped(chance, word, chance.randrange(3, 9)), chance.getrandbits(32)))
+                else:
+                    words[place] = flipped(chance, word, chance.choice((0, 1, 2, 2, 3)))
+            bits += inverted(bits_of(words)) if chance.random() < 0.5 else bits_of(words)
+            bits += some_noise(chance, chance.choice((0, chance.randrange(200))))
+        bits = bits[: chance.randint(len(bits) // 2, len(bits)) // 8 * 8]
+        (folder / "air.bin").write_bytes(file_of(bits))
+        done = run(["decode", "--capture", "air.bin", "--verbose"], cwd=folder)
+        found = heard(bits)
+        due = [read_row(page) for one in found for page in one[5]]
+        holds = (done.returncode, rows_in(done.stdout), done.stderr) == (0, due, told_lines([one[:5] for one in found]))
+        tally.check(f"damaged capture {count}", holds, (due, found, done))
+
+
+def try_by_hand(tally, folder):
+    """Cases worked by hand."""
+    tone, more = codeword(1 << 2), codeword(1 << 20 | 0x12345)  # address 8 in frame 0
+    lost = more ^ 0b1011 << 7
+    assert repaired(lost) is None
+    batch = [SYNC, tone, more, more] + [IDLE] * 13
+
+    def listed(name, bits, due, told=None):
+        (folder / "air.bin").write_bytes(bits if isinstance(bits, bytes) else file_of(bits))
+        done = run(["decode", "--capture", "air.bin", "--verbose"], cwd=folder)
+        holds = (done.returncode, rows_in(done.stdout)) == (0, due) and (told is None or done.stderr == told_lines(told))
+        tally.check(name, holds, (due, done))
+
+    two = [["8", "numeric", numeric([0x12345, 0x12345])]]
+    one = [["8", "numeric", numeric([0x12345])]]
+    listed("nothing", b"", [], [])
+    listed("three bytes", b"\x7c\xd2\x15", [], [])
+    listed("all zeros", bytes(1_000), [], [])
+    listed("all ones", b"\xff" * 1_000, [], [])
+    listed("a preamble alone", b"\xaa" * 500, [], [])
+    listed("one batch from the first bit", bits_of(batch), two, [(0, "upright", 1, 0, 0)])
+    for offset in range(1, 9):
+        listed(f"one batch from bit {offset}", "0" * offset + bits_of(batch), two, [(offset, "upright", 1, 0, 0)])
+        listed(f"inverted from bit {offset}", inverted("0" * offset + bits_of(batch)), two, [(offset, "inverted", 1, 0, 0)])
+    ended = [SYNC, tone, more, lost, more] + [IDLE] * 12
+    listed("a word past repair ends the page", bits_of(ended), one, [(0, "upright", 1, 0, 1)])
+    gone = [SYNC, tone ^ 0b1011 << 7, more, more] + [IDLE] * 13
+    listed("an address past repair opens none", bits_of(gone), [], [(0, "upright", 1, 0, 1)])
+    orphan = [SYNC, more, tone, *[IDLE] * 14]
+    listed("a message codeword without a page", bits_of(orphan), [["8", "tone0", ""]], [(0, "upright", 1, 0, 0)])
+    goes_on = [SYNC, *[IDLE] * 14, tone, more, SYNC ^ 3, more, *[IDLE] * 15]
+    over = [["15", "numeric", numeric([0x12345, 0x12345])]]
+    listed("a page over two batches", bits_of(goes_on), over, [(0, "upright", 2, 2, 0)])
+    stops = [SYNC, *[IDLE] * 14, tone, more, SYNC ^ 7, more, *[IDLE] * 15]
+    listed("no batch without its synchronisation codeword", bits_of(stops), [["15", "numeric", numeric([0x12345])]], [(0, "upright", 1, 0, 0)])
+    turned = bits_of([SYNC, *[IDLE] * 14, tone, more]) + inverted(bits_of([SYNC, more, *[IDLE] * 15]))
+    listed("the polarity changes", turned, [["15", "numeric", numeric([0x12345])]], [(0, "upright", 1, 0, 0), (544, "inverted", 1, 0, 0)])
+    for length in range(4, 16):
+        due = [] if length < 8 else [["8", "tone0", ""]] if length < 12 else one
+        listed(f"cut off after {length} bytes", file_of(bits_of(batch))[:length], due, [(0, "upright", 1, 0, 0)])
+    for wrong in (SYNC ^ 1 << 31, SYNC ^ 0x80000001, SYNC ^ 3 << 15):
+        listed(f"{wrong:08X}", bits_of([wrong, *batch[1:]]), two, [(0, "upright", 1, (wrong ^ SYNC).bit_count(), 0)])
+    listed("three wrong bits", bits_of([SYNC ^ 7, *batch[1:]]), [], [])
+
+
+def numeric(items):
+    return read_row([0, 0, items])[2]
+
+
+def try_words(tally, folder):
+    """Refusals, standard input, and what stays as it is without --capture."""
+    bits = bits_of(words_of([(8, 0, ""), (19, 3, "ab")]))
+    (folder / "air.bin").write_bytes(file_of("1" + bits))
+    (folder / "tx.bin").write_bytes(b"\xaa" * 72 + file_of(bits))
+    piped = run(["decode", "--capture", "-"], cwd=folder, input=file_of("1" + bits))
+    tally.check("standard input", (piped.returncode, piped.stdout) == (0, b"address,kind,message\n8,tone0,\n19,alpha,ab\n"), piped)
+    plain = run(["decode", "air.bin"], cwd=folder)
+    tally.check("without --capture", (plain.returncode, plain.stderr) == (1, b"pocsag: the preamble is too short\n"), plain)
+    none = run(["show", "air.bin", "--capture", "--nth", "2"], cwd=folder)
+    told = b"pocsag: transmission 2 of 1: the capture has no such transmission\n"
+    tally.check("no second transmission", (none.returncode, none.stdout, none.stderr) == (1, b"", told), none)
+    zeroth = run(["show", "air.bin", "--capture", "--nth", "0"], cwd=folder)
+    tally.check("counted from 1", (zeroth.returncode, zeroth.stdout) == (1, b""), zeroth)
+    first, named = run(["show", "air.bin", "--capture"], cwd=folder), run(["show", "air.bin", "--capture", "--nth", 1], cwd=folder)
+    tally.check("the first without --nth", first.stdout == named.stdout == run(["show", "tx.bin"], cwd=folder).stdout, first)
+    for words in (["show", "tx.bin", "--nth", "1"], ["decode", "air.bin", "--capture", "--repair"], ["hear", "air.bin", "--capture"]):
+        done = run(words, cwd=folder)
+        tally.check(f"usage {words}", (done.returncode, done.stdout) == (2, b""), done)
+    bad = run(["hear", "2097152", "air.bin", "--capture"], cwd=folder)
+    tally.check("a bad address", (bad.returncode, bad.stderr) == (1, b"pocsag: bad address\n"), bad)
+    rows = run(["show", "air.bin", "--capture", "--rows", "9"], cwd=folder)
+    tally.check("rows behind the last", (rows.returncode, rows.stdout) == (1, b""), rows)
+    with open(folder / "huge.bin", "wb") as huge:
+        huge.truncate(300_000_000)
+    done = run(["decode", "--capture", "huge.bin"], cwd=folder)
+    tally.check("300 MB", (done.returncode, done.stderr) == (1, b"pocsag: the file is too large\n"), done)
+    (folder / "huge.bin").unlink()
+    with open("/dev/full", "wb") as full:
+        done = subprocess.run([str(PROGRAM), "decode", "--capture", "air.bin"], stdout=full, stderr=subprocess.PIPE, cwd=folder, timeout=60)
+    tally.check("a full device", (done.returncode, done.stderr) == (3, b"pocsag: cannot write\n"), done)
+
+
+def try_speed(tally, folder):
+    """100 MB of random noise."""
+    (folder / "noise.bin").write_bytes(random.Random(1).randbytes(NOISE_BYTES))
+    before = resource.getrusage(resource.RUSAGE_CHILDREN)
+    done = run(["decode", "--capture", "noise.bin"], cwd=folder)
+    after = resource.getrusage(resource.RUSAGE_CHILDREN)
+    seconds = after.ru_utime + after.ru_stime - before.ru_utime - before.ru_stime
+    tally.check(f"{NOISE_BYTES} bytes of noise", done.returncode == 0 and seconds <= NOISE_SECONDS, (done.returncode, seconds))
+    (folder / "noise.bin").unlink()
+
+
+if __name__ == "__main__":
+    sys.exit(run_parts(try_by_hand, try_words, try_captures, try_damaged, try_speed))
