@@ -2,7 +2,6 @@ pub mod Chains
 pub mod ClassLists
 pub mod FileOrders
 pub mod Layouts
-pub mod OrderExists
 pub mod OrderLaws
 pub mod Orders
 pub mod PageLists

@@ -9,7 +9,7 @@ use crate::batches::Batches;
 use crate::piece::{Piece, put_word};
 use crate::slots::Slots;
 use pocsag_slots::SLOTS;
-use pocsag_words::{DeviceFault, Sink, Word, WriteFault, same_from_kind, write_all};
+use pocsag_words::{DeviceFault, Sink, Word, WriteFault, write_all};
 
 // Writes the transmission of the codewords that come; what was taken where the device failed is a prefix
 // of the transmission of those that had come.
@@ -59,7 +59,6 @@ pub fn write_slots<S: Sink>(slots: Slots<'_>, sink: &mut S) -> Result<(), WriteF
     ensures failures { CountsFailures result (S.failures sink.old) (S.failures sink.new) }
 {
     slots.are_sayable();
-    same_from_kind();
     match write_words(slots, sink) {
         Ok(()) => Ok(()),
         Err(_) => Err(WriteFault),

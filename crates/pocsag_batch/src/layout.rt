@@ -9,12 +9,11 @@ ghost use Rattle.pocsag_slots.specs.Layout.{laid};
 ghost use Rattle.pocsag_batch.specs.Placement.{IsOrder, laid_by};
 
 use crate::batches::Batches;
-use crate::laws::orders_give_layouts;
 use crate::page_order::order_of;
 use crate::slots::Slots;
 use crate::word_list::WordList;
 use pocsag_pages::Round;
-use pocsag_slots::{Step, codewords_and_tours_correspond};
+use pocsag_slots::Step;
 use pocsag_words::{End, OutOfMemory};
 use std::alloc::Global;
 
@@ -33,8 +32,6 @@ pub fn lay_out(
         map kind_of T ≡ laid_by round.now order steps.now) }
     ensures first { IfOk result (λ T. map kind_of T ≡ laid end round.now steps.now) }
 {
-    orders_give_layouts();
-    codewords_and_tours_correspond();
     let order = order_of(alloc, round, steps, end)?;
     let words = collect(alloc, Slots::new(round, steps, &order))?;
     Ok(Batches::new(words))

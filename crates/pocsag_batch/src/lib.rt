@@ -3,7 +3,6 @@
 
 mod batches;
 mod bytes;
-mod laws;
 mod layout;
 mod order;
 mod page_order;
@@ -15,10 +14,6 @@ mod word_list;
 
 pub use batches::Batches;
 pub use bytes::{write, write_slots};
-pub use laws::{
-    file_order_exists, file_order_is_legal, file_order_is_one, orders_are_one, orders_give_layouts,
-    orders_have_places, tours_have_orders,
-};
 pub use layout::lay_out;
 pub use order::{in_order_batches, lay_in_order};
 pub use page_order::order_of;

@@ -7,7 +7,7 @@ ghost use Rattle.pocsag_batch.specs.Meanings.{IsSayable};
 use crate::word_list::idle_word;
 use pocsag_pages::{Page, Round};
 use pocsag_slots::Step;
-use pocsag_words::{Word, address_word, kinds_have_codewords, message_word};
+use pocsag_words::{Word, address_word, message_word};
 use std::marker::Model;
 
 /// An iterator over the codewords of a tour's layout, synchronisation codewords not among them: for an
@@ -58,7 +58,6 @@ impl<'a> Slots<'a> {
     {
         // A look inside makes known what the type keeps.
         let _ = self.pages.len();
-        kinds_have_codewords();
     }
 }
 

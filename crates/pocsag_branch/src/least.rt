@@ -11,7 +11,6 @@ ghost use Rattle.pocsag_branch.specs.Shape.{RefusesOneLess};
 use pocsag_check::accepted_trees_have_texts;
 use pocsag_flow::{ChooseFault, choose};
 use pocsag_slots::{Choice, Classes, all_limits, least_load, size, tours_have_codewords};
-use pocsag_tour::spare_batches_have_tours;
 use pocsag_tree::{Certificate, Tree};
 use pocsag_words::End;
 
@@ -77,7 +76,6 @@ pub fn least_certificate(classes: &Classes, end: End) -> Certificate
     ensures enough { CanBeSent classes.now end (result.batches + 1) }
 {
     accepted_trees_have_texts();
-    spare_batches_have_tours();
     tours_have_codewords();
     let least = least_of(classes);
     Certificate {

@@ -12,7 +12,6 @@ use crate::stop::{SearchFault, SearchLimit};
 use crate::task::{Stop, Task};
 use crate::unfinished::is_unfinished;
 use pocsag_slots::{Choice, Classes, tours_have_codewords};
-use pocsag_tour::spare_batches_have_tours;
 use pocsag_tree::Tree;
 use pocsag_words::End;
 use std::alloc::Global;
@@ -68,7 +67,6 @@ fn found_or_limit(
     ensures found { IfOk result (IsFound classes.now task.end task.limit) }
     ensures fault { IfErr result (IsSearchFault classes.now task.end task.limit) }
 {
-    spare_batches_have_tours();
     tours_have_codewords();
     if is_unfinished(&tree) {
         return Err(SearchFault::SearchLimit(SearchLimit {

@@ -1,28 +1,10 @@
-ghost use Rattle.std.specs.Prelude.{◌≡◌, ℕ, ◌^◌, ◌<◌, ◌≤◌, Bool, List, false};
-ghost use Rattle.pocsag_words.specs.declared.codeword.Kind.{Kind};
+ghost use Rattle.std.specs.Prelude.{◌≡◌, ℕ, ◌^◌, ◌<◌, ◌≤◌, Bool, false};
 ghost use Rattle.pocsag_words.specs.declared.ending.End.{End};
-ghost use Rattle.pocsag_pages.specs.declared.page.Page.{Page};
-ghost use Rattle.pocsag_pages.specs.Reading.{AreApart, IsLegalFor};
 ghost use Rattle.pocsag_tree.specs.Limits.{most_nodes, second_ranges};
 ghost use Rattle.pocsag_tree.specs.BoundTrees.{all_nodes, BoundTree, closed_nodes};
 ghost use Rattle.pocsag_tree.specs.CertificateText.{HasText};
 ghost use Rattle.pocsag_slots.specs.declared.class.Classes.{Classes};
-ghost use Rattle.pocsag_slots.specs.declared.limit.Limits.{Limits};
-ghost use Rattle.pocsag_slots.specs.Loads.{AreClassesOf};
-ghost use Rattle.pocsag_check.specs.Acceptance.{Accepts, AcceptsRoot, IsAccepted};
-ghost use Rattle.pocsag_check.specs.Fits.{Fits};
-
-/// The limits of an accepted node are met by no transmission.
-pub fn accepted_nodes_refute()
-    ensures { (k : Classes) (end : End) (R : List Page) (T : List Kind) (b : ℕ) (l : Limits) (t : BoundTree) →
-        AreApart R → AreClassesOf k end R → Accepts false k end b l t → Fits T end R b l → ⊥ }
-{}
-
-/// Where a tree is accepted for so many batches, each legal transmission has at least as many.
-pub fn accepted_trees_bound()
-    ensures { (k : Classes) (end : End) (R : List Page) (T : List Kind) (batches n : ℕ) (t : BoundTree) →
-        AreApart R → AreClassesOf k end R → AcceptsRoot false k end batches t → IsLegalFor end T n R → batches ≤ n }
-{}
+ghost use Rattle.pocsag_check.specs.Acceptance.{IsAccepted};
 
 /// An accepted tree can be written, where its nodes are few enough; and where no node that was not examined
 /// is accepted, it has none.

@@ -6,5 +6,5 @@ mod checker;
 mod laws;
 mod verdict;
 
-pub use laws::{accepted_nodes_refute, accepted_trees_bound, accepted_trees_have_texts};
+pub use laws::accepted_trees_have_texts;
 pub use verdict::{accepts, check, check_open};

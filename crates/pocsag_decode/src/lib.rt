@@ -20,10 +20,8 @@ mod whole;
 pub use fault::{DecodeFault, ListFault};
 pub use judge::judge_bytes;
 pub use laws::{
-    a_fault_there_stays, faults_are_one, listed_fields_are_read_back, no_fault_is_a_reading,
     page_files_are_read_back, pages_of_files_are_spellable, readings_have_no_fault,
-    readings_of_bytes_are_one, repair_restores, repaired_pages_are_heard,
-    standing_is_without_fault,
+    readings_of_bytes_are_one, repair_restores,
 };
 pub use lister::{list_sent, list_spent};
 pub use listing::{kind_of_page, list, message_of};

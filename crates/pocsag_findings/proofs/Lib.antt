@@ -1,10 +1,7 @@
-pub mod Accepted
 pub mod Beginnings
 pub mod SlotColumns
-pub mod AllHold
 pub mod Leasts
 pub mod Narrows
 pub mod Nodes
-pub mod Ordered
 pub mod Shares
 pub mod Prelude

@@ -7,9 +7,7 @@ ghost use Rattle.pocsag_flow.specs.Search.{IsLoaded, same_slot};
 use crate::fault::ChooseFault;
 use crate::network::{Network, Progress};
 use crate::way::leave;
-use pocsag_slots::{
-    CLASSES, Choice, Classes, Limits, SLOTS, class_loads_add_up, loads, with_member,
-};
+use pocsag_slots::{CLASSES, Choice, Classes, Limits, SLOTS, loads, with_member};
 
 /// A choice of starts within the limits that loads no slot above its cap, or a set of slots that every
 /// choice within the limits loads above the sum of their caps.
@@ -113,7 +111,6 @@ fn relieve(
     ensures set { IfErr result (λ fault. IsSet (set_of fault)) }
     ensures overloads { IfErr result (λ fault. Overloads classes.now limits.now (set_of fault)) }
 {
-    class_loads_add_up();
     let excess = counted[slot as usize] - limits.cap[slot as usize];
     let network = Network {
         classes,

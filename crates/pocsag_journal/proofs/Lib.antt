@@ -11,7 +11,6 @@ pub mod Moments
 pub mod Prefixes
 pub mod Quotes
 pub mod Readings
-pub mod Reasons
 pub mod Refusals
 pub mod Replays
 pub mod RowTexts

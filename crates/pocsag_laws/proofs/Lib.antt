@@ -6,3 +6,10 @@ pub mod FileRounds
 pub mod Fronts
 pub mod TestedPages
 pub mod OpenRounds
+pub mod OrderExists
+pub mod Accepted
+pub mod AllHold
+pub mod Ordered
+pub mod Reasons
+pub mod Reopened
+pub mod Refused

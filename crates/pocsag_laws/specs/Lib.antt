@@ -1,2 +1,3 @@
 pub mod FewestBatches
 pub mod OpenRounds
+pub mod Reopened

@@ -1,13 +1,46 @@
 #![tactic(auto)]
-//! Laws of the fewest batches of a round: how those of the three ends compare, that they never grow when pages are
-//! taken away, and that they take the least airtime; and that page files and open rounds hold rounds, whose own page files
-//! have the same verdict; and that captures say one thing, and noise nothing. Nothing here runs: each function is a theorem.
+//! Laws that no call needs: of codewords and certificates, of the tours and file orders of a round, of what an accepted
+//! tree bounds, of readings and journals; of the fewest batches of a round: how those of the three ends compare, that
+//! they never grow when pages are taken away, and that they take the least airtime; of page files and open rounds, which
+//! hold rounds, whose own page files have the same verdict; and of captures, which say one thing, and noise nothing.
+//! Nothing here runs: each function is a theorem.
 
+mod bound;
+mod certificate;
+mod codeword;
+mod journal;
 mod laws;
+mod order;
+mod reading;
+mod tour;
 
+pub use bound::{
+    accepted_nodes_refute, accepted_trees_bound, accepted_trees_hold,
+    tight_headlines_are_headlines, trees_that_hold_are_accepted,
+};
+pub use certificate::{no_text_begins_another, one_certificate, one_fault};
+pub use codeword::{codewords_differ, kinds_have_codewords, same_from_kind};
+pub use journal::{
+    a_journal_opens_as_its_pages, a_prefix_is_read, journals_read_as_one, lines_are_short,
+    texts_have_one_reason,
+};
 pub use laws::{
     captures_say_one_thing, ends_cost_one_batch, fewer_pages_need_no_more,
     fewest_batches_take_least_time, fronts_need_no_more, more_batches_are_enough,
     noise_shows_nothing, one_number_is_fewest, pages_of_open_rounds_are_spellable,
     stricter_ends_are_legal, verdicts_are_rounds,
+};
+pub use order::{
+    file_order_exists, file_order_is_legal, file_order_is_one, orders_are_one, orders_give_layouts,
+    orders_have_places, tours_have_orders,
+};
+pub use reading::{
+    a_fault_there_stays, faults_are_one, listed_fields_are_read_back, no_fault_is_a_reading,
+    readings_are_one, repaired_pages_are_heard, rounds_are_good, standing_is_without_fault,
+};
+pub use tour::{
+    apart_has_no_tour, class_loads_add_up, codewords_and_tours_correspond,
+    no_load_is_above_batches, no_transmission_has_fewer, sets_take_members,
+    spare_batches_have_tours, tours_are_transmissions, transmissions_are_tours,
+    unclosed_has_no_tour,
 };

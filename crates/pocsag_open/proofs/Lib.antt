@@ -1,6 +1,5 @@
 pub mod Fronts
 pub mod Plans
-pub mod Reopened
 pub mod SeenLines
 pub mod Sessions
 pub mod Survival

@@ -4,6 +4,5 @@ pub mod Faults
 pub mod KeptAnswers
 pub mod Lines
 pub mod Plans
-pub mod Reopened
 pub mod Replies
 pub mod Survival

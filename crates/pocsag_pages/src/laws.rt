@@ -1,7 +1,7 @@
-ghost use Rattle.std.specs.Prelude.{◌≡◌, ◌↔◌, ℕ, List, All, false};
+ghost use Rattle.std.specs.Prelude.{◌≡◌, ◌↔◌, ℕ, List, false};
 ghost use Rattle.pocsag_words.specs.declared.codeword.Kind.{Kind};
 ghost use Rattle.pocsag_pages.specs.declared.page.Page.{Page};
-ghost use Rattle.pocsag_pages.specs.Pages.{IsGoodPage, IsRound};
+ghost use Rattle.pocsag_pages.specs.Pages.{IsRound};
 ghost use Rattle.pocsag_pages.specs.Reading.{AreApart, Reads};
 ghost use Rattle.pocsag_pages.specs.Plain.{HasNoOrphan, pages_from};
 
@@ -10,16 +10,6 @@ ghost use Rattle.pocsag_pages.specs.Plain.{HasNoOrphan, pages_from};
 pub fn readings_are_plain()
     ensures { (ws : List Kind) (i : ℕ) (ps : List Page) →
         Reads ws i ps ↔ (HasNoOrphan false ws × (ps ≡ pages_from i ws)) }
-{}
-
-/// A list of codewords has at most one reading.
-pub fn readings_are_one()
-    ensures { (ws : List Kind) (i : ℕ) (ps qs : List Page) → Reads ws i ps → Reads ws i qs → ps ≡ qs }
-{}
-
-/// Each page of a round breaks no rule.
-pub fn rounds_are_good()
-    ensures { (R : List Page) → IsRound R → All IsGoodPage R }
 {}
 
 /// The addresses of a round are distinct.

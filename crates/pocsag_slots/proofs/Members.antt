@@ -6,7 +6,7 @@ use Rattle.std.proofs.lemmas.Nat.{or_lt, pow_pos}
 use Rattle.std.proofs.Math.Pow.{pow-lt}
 use Rattle.std.specs.Int.{bit_at}
 use Rattle.std.specs.Int.Bits.{or_add_and}
-use Rattle.pocsag_slots.specs.Sums.{AddsMember}
+use Rattle.pocsag_slots.specs.Sums.{AddsMember, SetsTakeMembers}
 
 holds_here : (set member : ℕ) → member < 16 → holds (bit_or set (1 * 2 ^ member % 65536)) member ≡ true
 unfolding holds
@@ -51,3 +51,6 @@ held_some set member held =
       | inl none ↦ absurd (let out : holds set member ≡ false = ap (λ (s : ℕ). holds s member) none ∙ holds_none member in cc)
       | inr some ↦ omega arith
     ]
+
+pub set_taking : SetsTakeMembers
+set_taking set member h = (bit_or set (1 * 2 ^ member % 65536), adds_member set member h)

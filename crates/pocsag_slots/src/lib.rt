@@ -17,11 +17,7 @@ mod way;
 pub use boundary::{finish, frame, rest, start};
 pub use class::{CLASSES, Choice, Class, Classes, SLOTS};
 pub use count::{class_of, classes_of, whole_turns};
-pub use laws::{
-    class_loads_add_up, codewords_and_tours_correspond, no_load_is_above_batches,
-    no_transmission_has_fewer, sets_take_members, tours_are_transmissions, tours_have_codewords,
-    transmissions_are_tours,
-};
+pub use laws::tours_have_codewords;
 pub use limit::{Limits, all_limits, below_split, from_split, narrow};
 pub use load::{carries, least_by_class, least_load, loads, overloads, total_cap};
 pub use set::{crosses, holds, size, touches, with_member};

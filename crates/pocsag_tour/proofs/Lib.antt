@@ -7,7 +7,6 @@ pub mod Joined
 pub mod Laps
 pub mod LinkLemmas
 pub mod Prelude
-pub mod Refused
 pub mod Spares
 pub mod Tours
 pub mod Walks

@@ -6,7 +6,6 @@ mod arc;
 mod counts;
 mod fault;
 mod flood;
-mod laws;
 mod links;
 mod outside;
 mod reach;
@@ -14,7 +13,6 @@ mod route;
 mod walk;
 
 pub use fault::TourFault;
-pub use laws::{apart_has_no_tour, spare_batches_have_tours, unclosed_has_no_tour};
 pub use outside::{has_run_outside, lies_outside};
 pub use reach::reached;
 pub use route::tour;

@@ -12,7 +12,7 @@ use crate::fault::TourFault;
 use crate::outside::lies_outside;
 use crate::reach::reached;
 use crate::walk::walk;
-use pocsag_slots::{Choice, Classes, Step, sets_take_members};
+use pocsag_slots::{Choice, Classes, Step};
 use pocsag_words::End;
 use std::alloc::{AllocError, Global};
 
@@ -47,7 +47,6 @@ fn way(alloc: Global, counts: &[u32; 288], end: End) -> Result<Vec<Step>, TourFa
     ensures way { IfOk result (λ steps. IsWay (slice_index counts.now) 0 steps.items × LastAs end steps.items) }
     ensures refused { IfErr result (NoWay (slice_index counts.now) end) }
 {
-    sets_take_members();
     match end {
         End::Open => Ok(walk(alloc, counts, 0, steps_over(counts))?),
         End::Closed | End::Idle => closing_way(alloc, counts, end),
@@ -62,7 +61,6 @@ fn closing_way(alloc: Global, counts: &[u32; 288], end: End) -> Result<Vec<Step>
     ensures way { IfOk result (λ steps. IsWay (slice_index counts.now) 0 steps.items × LastAs end steps.items) }
     ensures refused { IfErr result (NoWay (slice_index counts.now) end) }
 {
-    sets_take_members();
     match closing(counts, end) {
         Some(last) => Ok(way_with_last(alloc, counts, last)?),
         None => Err(TourFault::Unclosed),

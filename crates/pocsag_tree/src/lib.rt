@@ -3,7 +3,6 @@
 //! as bytes.
 
 mod count;
-mod laws;
 mod limits;
 mod reader;
 mod refusals;
@@ -11,7 +10,6 @@ mod shape;
 mod writer;
 
 pub use count::{depth, nodes};
-pub use laws::{no_text_begins_another, one_certificate, one_fault};
 pub use limits::{DEPTH_LIMIT, FIRST_VERSION, NODE_LIMIT, Ranges, SECOND_VERSION};
 pub use reader::read_certificate;
 pub use refusals::{CertificateFault, TreeWriteFault};

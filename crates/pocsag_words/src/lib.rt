@@ -26,7 +26,7 @@ pub use frame::{
 };
 pub use growing_sink::GrowingSink;
 pub use lanes::check_all;
-pub use laws::{codewords_differ, kinds_have_codewords, numbers_are_repaired, same_from_kind};
+pub use laws::numbers_are_repaired;
 pub use memory_sink::MemorySink;
 pub use memory_source::MemorySource;
 pub use refusal::{OutOfMemory, WriteFault};

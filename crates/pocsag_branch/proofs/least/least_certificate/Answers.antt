@@ -3,6 +3,8 @@ use Rattle.pocsag_tree.specs.declared.shape.Tree.TheVariants.{Overload}
 use Rattle.pocsag_tree.specs.BoundTrees.{all_nodes}
 use Rattle.pocsag_tree.specs.Views.{bound_tree_of}
 use Rattle.pocsag_branch.proofs.TreeEnds.{bound_tree_of-overload, has_room, least_tree, tree_bound}
+use Rattle.pocsag_slots.proofs.Members.{set_taking}
+use Rattle.pocsag_tour.proofs.Spares.{spare_tour}
 use Rattle.pocsag_branch.proofs.least.least_certificate.Goals as goal
 
 pub returns-clause-bound : goal.returns-clause-bound
@@ -29,7 +31,7 @@ returns-clause-enough c = λ R round counted.
     let k = c.args.classes.now in
     let least = c.least_of-least.result in
     let admitted = c.least_of-least.ensures.admitted in
-    let toured = c.spare_batches_have_tours.ensures k c.args.end (slice_index least.choice.early) (least.batches + 1)
+    let toured = spare_tour set_taking k c.args.end (slice_index least.choice.early) (least.batches + 1)
     (λ d h. admitted.within.most d h) (has_room k (slice_index least.choice.early) least.batches admitted) in
     let said = c.tours_have_codewords.ensures k c.args.end (slice_index least.choice.early) (least.batches + 1) toured.0 R
     (omega arith) round counted toured.1 in

@@ -3,6 +3,8 @@ use Rattle.std.proofs.lemmas.List.{append-nil}
 use Rattle.pocsag_tree.specs.Views.{bound_tree_of}
 use Rattle.pocsag_branch.specs.Shape.{one_more}
 use Rattle.pocsag_branch.proofs.TreeEnds.{closed_is, has_room, least_bound, none_unseen, some_unseen, tree_bound, tree_open, tree_whole}
+use Rattle.pocsag_slots.proofs.Members.{set_taking}
+use Rattle.pocsag_tour.proofs.Spares.{spare_tour}
 use Rattle.pocsag_branch.proofs.promised_search.found_or_limit.Goals as goal
 
 pub returns-then-is_unfinished-clause-fault : goal.returns-then-is_unfinished-clause-fault
@@ -17,7 +19,7 @@ returns-then-is_unfinished-clause-fault c =
       bound = least_bound k c.args.task.end c.args.task.batches c.requires.least;
       one_more = refl;
       sent = λ R round counted.
-          let toured = c.spare_batches_have_tours.ensures k c.args.task.end (slice_index c.args.choice.now.early)
+          let toured = spare_tour set_taking k c.args.task.end (slice_index c.args.choice.now.early)
           (c.args.task.batches + 1)
           (λ d h. c.requires.admitted.within.most d h)
           (has_room k (slice_index c.args.choice.now.early) c.args.task.batches c.requires.admitted) in

@@ -3,6 +3,7 @@ use Rattle.pocsag_flow.specs.declared.network.Network.{Network}
 use Rattle.pocsag_flow.specs.declared.network.Progress.{Progress}
 use Rattle.pocsag_slots.proofs.Members.{held_some}
 use Rattle.pocsag_flow.proofs.Ends.{given_few, overload_less, shut_overloads}
+use Rattle.pocsag_slots.proofs.LeastLemmas.{load_over}
 use Rattle.pocsag_flow.proofs.choice.relieve.Goals as goal
 
 pub returns-then-moved-eq0-clause-overloads : goal.returns-then-moved-eq0-clause-overloads
@@ -11,7 +12,7 @@ returns-then-moved-eq0-clause-overloads c =
     let before : Progress = record { early = c.args.search.now.early; reached = c.with_member-search.result; end = c.args.slot } in
     let none : c.leave-moved.result ≡ 0 = omega arith in
     rw c.overload_of.ensures.fault
-    (shut_overloads c.class_loads_add_up.ensures n before c.leave-moved.new.search c.args.slot
+    (shut_overloads load_over n before c.leave-moved.new.search c.args.slot
     (slice_index c.args.counted.now c.args.slot - slice_index c.args.limits.now.cap c.args.slot) c.leave-moved.result
     c.requires.slot c.requires.ordered c.requires.loaded.within
     (c.with_member-search.ensures.alone refl)

@@ -1,5 +1,6 @@
 use Rattle.pocsag_tour.proofs.Prelude.{arith, slice_index, err_from_is_err_and}
 use Rattle.pocsag_tour.proofs.Existence.{closing_way_exists, way_exists}
+use Rattle.pocsag_slots.proofs.Members.{set_taking}
 use Rattle.pocsag_tour.proofs.route.closing_way.Goals as goal
 
 pub returns-in-None-clause-refused : goal.returns-in-None-clause-refused
@@ -7,13 +8,13 @@ returns-in-None-clause-refused c = (
   c.requires.asks,
   c.in-None.ensures.none.0,
   c.in-None.ensures.none.1,
-  way_exists c.sets_take_members.ensures (slice_index c.args.counts.now) 0 (omega arith) c.requires.balanced c.requires.joined,
+  way_exists set_taking (slice_index c.args.counts.now) 0 (omega arith) c.requires.balanced c.requires.joined,
 )
 
 pub returns-in_err-way_with_last-in-Some-clause-refused : goal.returns-in_err-way_with_last-in-Some-clause-refused
 returns-in_err-way_with_last-in-Some-clause-refused c =
     let told = err_from_is_err_and c.from_residual.result c.from_residual.ensures.1 in
     rw (told.1, told.2)
-    (closing_way_exists c.sets_take_members.ensures (slice_index c.args.counts.now) c.args.end c.in-Some.last
+    (closing_way_exists set_taking (slice_index c.args.counts.now) c.args.end c.in-Some.last
     c.in-Some.ensures.found.0 c.in-Some.ensures.found.1
     c.requires.balanced c.requires.joined)

@@ -1,5 +1,0 @@
-use Rattle.pocsag_batch.proofs.OrderLaws.{one_order}
-use Rattle.pocsag_batch.proofs.laws.orders_are_one.Goals as goal
-
-pub returns : goal.returns
-returns c = one_order

@@ -1,5 +1,0 @@
-use Rattle.pocsag_batch.proofs.OrderLaws.{order_lays}
-use Rattle.pocsag_batch.proofs.laws.orders_give_layouts.Goals as goal
-
-pub returns : goal.returns
-returns c = order_lays

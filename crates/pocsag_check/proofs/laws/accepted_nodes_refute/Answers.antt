@@ -1,5 +1,0 @@
-use Rattle.pocsag_check.proofs.Bounds.{none_fits}
-use Rattle.pocsag_check.proofs.laws.accepted_nodes_refute.Goals as goal
-
-pub returns : goal.returns
-returns c = none_fits

@@ -1,5 +1,0 @@
-use Rattle.pocsag_check.proofs.Bounds.{bounded}
-use Rattle.pocsag_check.proofs.laws.accepted_trees_bound.Goals as goal
-
-pub returns : goal.returns
-returns c = bounded

@@ -1,5 +1,0 @@
-use Rattle.pocsag_decode.proofs.OneFault.{there_stays}
-use Rattle.pocsag_decode.proofs.laws.a_fault_there_stays.Goals as goal
-
-pub returns : goal.returns
-returns c = there_stays

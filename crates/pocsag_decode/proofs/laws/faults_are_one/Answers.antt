@@ -1,5 +1,0 @@
-use Rattle.pocsag_decode.proofs.OneFault.{one_fault}
-use Rattle.pocsag_decode.proofs.laws.faults_are_one.Goals as goal
-
-pub returns : goal.returns
-returns c = one_fault

@@ -1,5 +1,0 @@
-use Rattle.pocsag_journal.proofs.LineLengths.{line_length}
-use Rattle.pocsag_journal.proofs.laws.lines_are_short.Goals as goal
-
-pub returns : goal.returns
-returns c = line_length

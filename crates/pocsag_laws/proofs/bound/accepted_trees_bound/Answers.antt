@@ -1,0 +1,5 @@
+use Rattle.pocsag_check.proofs.Bounds.{bounded}
+use Rattle.pocsag_laws.proofs.bound.accepted_trees_bound.Goals as goal
+
+pub returns : goal.returns
+returns c = bounded

@@ -1,0 +1,11 @@
+use Rattle.pocsag_findings.proofs.Prelude.{◌-◌, arith}
+use Rattle.pocsag_slots.specs.Loads.{limits_of_all}
+use Rattle.pocsag_slots.proofs.LimitLemmas.{all_ordered}
+use Rattle.pocsag_findings.specs.declared.finding.Reached.TheVariants.{Root}
+use Rattle.pocsag_laws.proofs.Accepted.{accepts}
+use Rattle.pocsag_laws.proofs.bound.trees_that_hold_are_accepted.Goals as goal
+
+pub returns : goal.returns
+returns c = λ k end batches depth t deep a.
+    accepts t k end (batches - 1) depth (limits_of_all k (batches - 1)) 0 Root (all_ordered k (batches - 1))
+    (omega (arith, deep)) a

@@ -1,0 +1,8 @@
+use Rattle.pocsag_words.proofs.KindLemmas.{address_has_codeword, message_has_codeword}
+use Rattle.pocsag_laws.proofs.codeword.kinds_have_codewords.Goals as goal
+
+pub returns-clause-address : goal.returns-clause-address
+returns-clause-address c = address_has_codeword
+
+pub returns-clause-message : goal.returns-clause-message
+returns-clause-message c = message_has_codeword

@@ -1,0 +1,5 @@
+use Rattle.pocsag_batch.proofs.OrderLaws.{one_order}
+use Rattle.pocsag_laws.proofs.order.orders_are_one.Goals as goal
+
+pub returns : goal.returns
+returns c = one_order

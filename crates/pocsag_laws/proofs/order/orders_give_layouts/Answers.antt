@@ -1,0 +1,5 @@
+use Rattle.pocsag_batch.proofs.OrderLaws.{order_lays}
+use Rattle.pocsag_laws.proofs.order.orders_give_layouts.Goals as goal
+
+pub returns : goal.returns
+returns c = order_lays

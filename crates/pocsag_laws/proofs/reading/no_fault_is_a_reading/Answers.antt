@@ -1,0 +1,14 @@
+use Rattle.std.proofs.Common.{map, refl}
+use Rattle.pocsag_words.specs.Kinds.{kind_of}
+use Rattle.pocsag_pages.specs.Bytes.{codewords_in}
+use Rattle.pocsag_pages.specs.Plain.{pages_from}
+use Rattle.pocsag_decode.proofs.Judgements.{no_fault_whole, whole_no_fault}
+use Rattle.pocsag_decode.proofs.SentBytes.{reads_whole}
+use Rattle.pocsag_decode.proofs.Transmissions.{whole_reads}
+use Rattle.pocsag_laws.proofs.reading.no_fault_is_a_reading.Goals as goal
+
+pub returns : goal.returns
+returns c = λ X small. (
+  λ none. (pages_from 0 (map kind_of (codewords_in X)), whole_reads X (no_fault_whole X small none) _ refl),
+  λ r. whole_no_fault X (reads_whole X r.0 small r.1),
+)

@@ -1,0 +1,61 @@
+ghost use Rattle.std.specs.List.{AllByRecursion};
+ghost use Rattle.std.specs.Prelude.{List, [], length, ℕ, ◌++◌, ◌∷◌, ◌≡◌, ◌≢◌, ◌≤◌, ◌⊎◌};
+ghost use Rattle.csv.specs.Writing.{default_writer, row_text};
+ghost use Rattle.pocsag_pages.specs.declared.page.Page.{Page};
+ghost use Rattle.pocsag_pages.specs.PageFile.{Row};
+ghost use Rattle.pocsag_plan.specs.declared.search.Effort.{Effort};
+ghost use Rattle.pocsag_journal.specs.declared.refusal.Refusal.{Refusal};
+ghost use Rattle.pocsag_journal.specs.Growth.{kept_line_limit};
+ghost use Rattle.pocsag_journal.specs.Journals.{IsBadLine, IsBegun, IsLine, IsRead, ReadsFirst, journal_text};
+ghost use Rattle.pocsag_journal.specs.LineTexts.{IsUnread};
+ghost use Rattle.pocsag_journal.specs.Runs.{IsEdit, IsRun};
+ghost use Rattle.pocsag_open.specs.Plans.{PlacedPlan};
+ghost use Rattle.pocsag_open.specs.Replies.{IsSession};
+ghost use Rattle.pocsag_laws.specs.Reopened.{TellsNoMemory};
+
+use pocsag_journal::{Refusal, UndoneFault};
+use pocsag_open::Places;
+
+/// Bytes read as one list of records at most, with one torn end, and only where they begin with the first line or are a part of
+/// it; and where the records are a run, no line is bad.
+pub fn journals_read_as_one()
+    ensures one { (bytes : List ℕ) (rows others : List Row) (torn rest : List ℕ) →
+        IsRead bytes rows torn → IsRead bytes others rest → (others ≡ rows) × (rest ≡ torn) }
+    ensures begun { (bytes : List ℕ) (rows : List Row) (torn : List ℕ) → IsRead bytes rows torn → IsBegun bytes }
+    ensures good { (bytes : List ℕ) (rows : List Row) (torn : List ℕ) (pages : List Page) (line : ℕ) →
+        IsRead bytes rows torn → IsRun rows [] pages → ¬ IsBadLine bytes line }
+    ensures list { (rows : List Row) (before after other : List Page) →
+        IsRun rows before after → IsRun rows before other → after ≡ other }
+{}
+
+/// Whatever a crash leaves of a journal's text: any prefix of it reads as the first of its records. Where it has the
+/// text of some of them whole, and part of that of one more, it reads as these, or as these and the one.
+pub fn a_prefix_is_read()
+    ensures firsts { (rows : List Row) → AllByRecursion IsLine rows → (bytes rest : List ℕ) →
+        bytes ++ rest ≡ journal_text rows → ReadsFirst bytes rows }
+    ensures acknowledged { (kept rows : List Row) (part torn : List ℕ) → AllByRecursion IsLine kept →
+        IsRead (journal_text kept ++ part) rows torn → (more : List Row) × (rows ≡ kept ++ more) }
+    ensures one_more { (kept rows : List Row) (row : Row) (part rest torn : List ℕ) →
+        AllByRecursion IsLine kept → IsLine row → part ++ rest ≡ row_text default_writer row →
+        IsRead (journal_text kept ++ part) rows torn → (rows ≡ kept) ⊎ (rows ≡ kept ++ row ∷ []) }
+{}
+
+/// A line of a journal, the text of an edit that some pages accept, has at most 8,192 bytes with its line feed.
+pub fn lines_are_short()
+    ensures { (row : Row) (before after : List Page) →
+        IsEdit row before after → length (row_text default_writer row) ≤ kept_line_limit }
+{}
+
+/// A text is no record for one reason at most, want of memory aside.
+#[tactic(auto, using(crate::proofs::Reasons::one_reason))]
+pub fn texts_have_one_reason()
+    ensures { (text : List ℕ) (why other : Refusal) → IsUnread text why → IsUnread text other →
+        why ≢ Refusal.Undone UndoneFault.OutOfMemory → other ≢ Refusal.Undone UndoneFault.OutOfMemory → why ≡ other }
+{}
+
+/// `open` over the text of a journal: the session leaves the pages of the journal, unless it told that memory was wanting.
+pub fn a_journal_opens_as_its_pages<P: Places>()
+    ensures { (effort : Effort) (rows : List Row) (pages after : List Page) (told : List ℕ)
+        (placed : List PlacedPlan) → AllByRecursion IsLine rows → IsRun rows [] pages →
+        IsSession P.tells effort (journal_text rows) [] after told placed → (after ≡ pages) ⊎ TellsNoMemory told }
+{}

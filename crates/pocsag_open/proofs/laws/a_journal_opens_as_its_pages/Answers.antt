@@ -1,5 +1,0 @@
-use Rattle.pocsag_open.proofs.Reopened.{reopened}
-use Rattle.pocsag_open.proofs.laws.a_journal_opens_as_its_pages.Goals as goal
-
-pub returns : goal.returns
-returns g c = reopened g.P.Places.tells

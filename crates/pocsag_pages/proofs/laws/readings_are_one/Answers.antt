@@ -1,6 +1,0 @@
-use Rattle.std.proofs.Common.{sym, ◌∙◌}
-use Rattle.pocsag_pages.proofs.Readings.{reads_plainly}
-use Rattle.pocsag_pages.proofs.laws.readings_are_one.Goals as goal
-
-pub returns : goal.returns
-returns c = λ ws i ps qs r s. (reads_plainly r).pages ∙ sym (reads_plainly s).pages

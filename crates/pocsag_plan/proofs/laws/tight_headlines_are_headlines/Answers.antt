@@ -1,5 +1,0 @@
-use Rattle.pocsag_plan.proofs.Due.{tight}
-use Rattle.pocsag_plan.proofs.laws.tight_headlines_are_headlines.Goals as goal
-
-pub returns : goal.returns
-returns c = tight

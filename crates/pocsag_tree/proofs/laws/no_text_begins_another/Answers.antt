@@ -1,5 +1,0 @@
-use Rattle.pocsag_tree.proofs.Results.{nothing_more}
-use Rattle.pocsag_tree.proofs.laws.no_text_begins_another.Goals as goal
-
-pub returns : goal.returns
-returns c = nothing_more

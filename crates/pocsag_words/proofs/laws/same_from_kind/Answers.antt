@@ -1,5 +1,0 @@
-use Rattle.pocsag_words.proofs.KindLemmas.{same_from_kind_lem}
-use Rattle.pocsag_words.proofs.laws.same_from_kind.Goals as goal
-
-pub returns : goal.returns
-returns c = same_from_kind_lem
