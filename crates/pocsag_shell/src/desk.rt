@@ -74,25 +74,23 @@ impl<'a> Desk<'a> {
         }
         let kept = self.watch.note.try_replace(None).ok().flatten();
         let told = match (kept, self.watch.take_trouble()) {
-            (None, Some(trouble)) => self.reason(names, trouble),
+            (None, Some(Trouble { role, code })) => {
+                let place = names.place(role);
+                let told = match code.map(io::Error::from_raw_os_error) {
+                    Some(reason) => format!(in self.alloc; "{place}: {reason}"),
+                    None => {
+                        format!(in self.alloc;
+                            "{place}: the system took nothing and told no reason"
+                        )
+                    }
+                };
+                told.ok()
+            }
             (kept, _) => kept,
         };
         if let Some(told) = told {
             let _ = tell_note(self.alloc, &mut self.err(), told.as_str());
         }
-    }
-
-    // Which file the system refused and why, unless memory runs out.
-    fn reason(&self, names: Names<'_>, trouble: Trouble) -> Option<String> {
-        let place = names.place(trouble.role);
-        let told = match trouble.code {
-            Some(code) => {
-                let reason = io::Error::from_raw_os_error(code);
-                format!(in self.alloc; "{place}: {reason}")
-            }
-            None => format!(in self.alloc; "{place}: the system took nothing and told no reason"),
-        };
-        told.ok()
     }
 
     /// Ends a command: writes its fault to standard error, and the line of `--verbose` behind it. It writes nothing if standard

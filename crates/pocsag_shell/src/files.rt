@@ -35,25 +35,21 @@ const ERROR_STREAM: &str = "/proc/self/fd/2";
 const BEHIND_STREAM: &str =
     "a file is the one behind standard output or standard error; to write to standard output, give '-' in place of TX or CERT";
 
-// Opens a file for reading. It refuses a folder.
-fn open_file(desk: Desk<'_>, role: Role, path: &str) -> Result<File, FileFault> {
-    let file = desk.opened(role, fs::open(desk.rt, path))?;
-    let metadata = desk.opened(role, file.metadata())?;
-    if metadata.is_dir() {
-        desk.watch.meet(role, Some(IS_FOLDER));
-        return Err(FileFault::Device);
-    }
-    Ok(file)
-}
-
-/// Opens a file for reading, or standard input if there is no path.
+/// Opens a file for reading, or standard input if there is no path. It refuses a folder.
 pub fn open_source<'a>(
     desk: Desk<'a>,
     role: Role,
     path: Option<&str>,
 ) -> Result<ReaderSource<'a, Input<File>>, FileFault> {
     let input = match path {
-        Some(path) => Input::File(open_file(desk, role, path)?),
+        Some(path) => {
+            let file = desk.opened(role, fs::open(desk.rt, path))?;
+            if desk.opened(role, file.metadata())?.is_dir() {
+                desk.watch.meet(role, Some(IS_FOLDER));
+                return Err(FileFault::Device);
+            }
+            Input::File(file)
+        }
         None => Input::Standard(desk.rt.stdin()),
     };
     Ok(ReaderSource::new(input, role, desk.watch))

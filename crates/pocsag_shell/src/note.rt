@@ -3,13 +3,14 @@ ghost use Rattle.pocsag_shell.specs.Notes.{note_text};
 
 use crate::fault::FileFault;
 use crate::lines::put_whole;
-use pocsag_words::{OutOfMemory, Sink};
+use pocsag_words::Sink;
 use std::alloc::Global;
 
-// The line of a note. A question mark replaces each byte that would end the line or move a terminal's cursor.
+/// Writes a note as one line that begins `pocsag: `, in a single write if the sink takes all of it. A question mark
+/// replaces each byte that would end the line or move a terminal's cursor.
 #[tactic(auto, unfolding(crate::specs::Notes::note_text, crate::specs::Notes::plain))]
-fn note_line(alloc: Global, text: &str) -> Result<Vec<u8>, OutOfMemory>
-    ensures { IfOk result (λ line. line.items ≡ note_text text.now) }
+pub(crate) fn tell_note<S: Sink>(alloc: Global, err: &mut S, text: &str) -> Result<(), FileFault>
+    ensures told { S.tells → OnOk result (S.taken err.new ≡ S.taken err.old ++ note_text text.now) }
 {
     let mut line = Vec::new(alloc);
     line.extend_from_slice(b"pocsag: ")?;
@@ -18,13 +19,5 @@ fn note_line(alloc: Global, text: &str) -> Result<Vec<u8>, OutOfMemory>
         line.push(if is_control { b'?' } else { *byte })?;
     }
     line.push(b'\n')?;
-    Ok(line)
-}
-
-/// Writes a note as one line that begins `pocsag: `, in a single write if the sink takes all of it.
-pub(crate) fn tell_note<S: Sink>(alloc: Global, err: &mut S, text: &str) -> Result<(), FileFault>
-    ensures told { S.tells → OnOk result (S.taken err.new ≡ S.taken err.old ++ note_text text.now) }
-{
-    let line = note_line(alloc, text)?;
     put_whole(err, line.as_slice())
 }

@@ -9,7 +9,12 @@ use std::alloc::{AllocError, Global};
 const VERSION: &str = "0.1.0, proved by rattle-kit-13f logic dac8208d650f15bf";
 
 fn argument<'a>(alloc: Global, word: &LineWord) -> Result<Arg<'a>, AllocError> {
-    let argument = with_content(Arg::new(alloc, word.id), word.content);
+    let argument = Arg::new(alloc, word.id);
+    let argument = match word.content {
+        Content::Text => argument,
+        Content::Number => argument.value_parser(value_parser!(u32)),
+        Content::Choice(names) => argument.value_parser(names),
+    };
     let argument = match word.given {
         Given::Place => argument,
         Given::Flag => argument.long(word.id).action(ArgAction::SetTrue),
@@ -24,14 +29,6 @@ fn argument<'a>(alloc: Global, word: &LineWord) -> Result<Arg<'a>, AllocError> {
         .global(word.is_global)
         .requires_all(word.needs)?
         .conflicts_with_all(word.excludes)
-}
-
-fn with_content<'a>(argument: Arg<'a>, content: Content) -> Arg<'a> {
-    match content {
-        Content::Text => argument,
-        Content::Number => argument.value_parser(value_parser!(u32)),
-        Content::Choice(names) => argument.value_parser(names),
-    }
 }
 
 // The arguments of words.
@@ -54,15 +51,6 @@ pub fn command<'a>(alloc: Global, shape: &Shape) -> Result<Command<'a>, AllocErr
     .args(arguments)
 }
 
-// Builds commands, in the order of help.
-fn commands<'a>(alloc: Global, shapes: &[Shape]) -> Result<Vec<Command<'a>>, AllocError> {
-    let mut commands = Vec::new(alloc);
-    for shape in shapes {
-        commands.push(command(alloc, shape)?)?;
-    }
-    Ok(commands)
-}
-
 /// Builds the program. It takes what the group takes, and `--verbose`.
 pub(crate) fn program<'a, G: Group>(
     alloc: Global,
@@ -76,7 +64,10 @@ pub(crate) fn program<'a, G: Group>(
     group.add_to(&mut tables)?;
     tables.words.push(VERBOSE_FLAG)?;
     let words = arguments(alloc, tables.words.as_slice())?;
-    let commands = commands(alloc, tables.commands.as_slice())?;
+    let mut commands = Vec::new(alloc);
+    for shape in &tables.commands {
+        commands.push(command(alloc, shape)?)?;
+    }
     command(alloc, shape)?
         .version(VERSION)
         .bin_name(shape.name)?
