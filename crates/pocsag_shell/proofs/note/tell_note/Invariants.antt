@@ -4,4 +4,4 @@ use Rattle.pocsag_shell.proofs.note.tell_note.Given as goal
 
 -- the line is its front and the bytes so far
 abbrev pub invariant-loop-byte : goal.invariant-loop-byte
-invariant-loop-byte l = l.line.items ≡ codes "pocsag: " ++ map plain (take l.byte-index l.text)
+invariant-loop-byte g l = l.line.items ≡ codes "pocsag: " ++ map plain (take l.byte-index l.text)
