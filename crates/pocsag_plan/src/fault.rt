@@ -87,19 +87,3 @@ impl From<SearchFault> for PlanFault {
         }
     }
 }
-
-impl From<RoundFault> for StreamFault {
-    ghost from_gives = { λ fault e. e ≡ streaming.Round fault };
-
-    fn from(fault: RoundFault) -> StreamFault {
-        StreamFault::Round(fault)
-    }
-}
-
-impl From<PlanFault> for StreamFault {
-    ghost from_gives = { λ fault e. e ≡ streaming.Plan fault };
-
-    fn from(fault: PlanFault) -> StreamFault {
-        StreamFault::Plan(fault)
-    }
-}

@@ -55,8 +55,10 @@ pub fn plan_stream<S: Source, T: Sink, C: Sink>(
     ensures read_succeeded { OnOk result (S.failures source.new ≡ S.failures source.old) }
 {
     let effort = Effort::Fewest;
-    let bounded = bounded_stream(alloc, source, tx, cert, Search { limit, end, effort })?;
-    Ok(bounded.plan)
+    match bounded_stream(alloc, source, tx, cert, Search { limit, end, effort }) {
+        Ok(bounded) => Ok(bounded.plan),
+        Err(fault) => Err(fault),
+    }
 }
 
 /// Reads a page file up to its end, plans its round as `plan_always` does, and writes the transmission
@@ -143,10 +145,18 @@ pub fn bounded_stream<S: Source, T: Sink, C: Sink>(
     if !is_node_limit(search.limit) {
         return Err(StreamFault::Plan(PlanFault::BadLimit));
     }
-    let round = read_round(alloc, source)?;
-    let bounded = bounded_plan(alloc, &round, search)?;
-    send(&round, &bounded, tx, cert)?;
-    Ok(bounded)
+    let round = match read_round(alloc, source) {
+        Ok(round) => round,
+        Err(fault) => return Err(StreamFault::Round(fault)),
+    };
+    let bounded = match bounded_plan(alloc, &round, search) {
+        Ok(bounded) => bounded,
+        Err(fault) => return Err(StreamFault::Plan(fault)),
+    };
+    match send(&round, &bounded, tx, cert) {
+        Ok(()) => Ok(bounded),
+        Err(fault) => Err(fault),
+    }
 }
 
 /// Writes the transmission of a plan of the round whole, and then the certificate of its bound. It is handed no
