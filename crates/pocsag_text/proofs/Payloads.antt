@@ -10,7 +10,7 @@ use Rattle.pocsag_text.specs.declared.fault.TextFault.{TextFault}
 use Rattle.pocsag_text.specs.declared.fault.TextFault.TheVariants as fault
 use Rattle.pocsag_text.specs.Bits.{low_first}
 use Rattle.pocsag_text.specs.Characters.{code_or_space, is_bad_digit}
-use Rattle.pocsag_text.specs.Text.{fault_of_place, text_fault, unless, short_of, twenties, is_bad_byte, numeric_bits, alpha_bits, numeric_payload, alpha_payload}
+use Rattle.pocsag_text.specs.Text.{fault_of, fault_of_place, text_fault, unless, short_of, twenties, is_bad_byte, numeric_bits, alpha_bits, numeric_payload, alpha_payload}
 use Rattle.pocsag_text.proofs.BitLists.{length-low_first}
 use Rattle.pocsag_text.proofs.Cuts.{length-cut, length-flat_map-wide}
 
@@ -22,6 +22,12 @@ place_none : (first_bad : Option ℕ) (count : ℕ) → fault_of_place first_bad
 place_none (Some place) count h = cc
 place_none None count h =
     let t = (none_from_cond (ltb 4000 count) fault.TooLong None h).0 in (refl, grind (arith, nat_tests))
+
+-- the fault of a text, by the place of its first bad character
+pub as_fault : (is_bad : ℕ → Bool) (text : List ℕ) (first : Option ℕ) (told : Option TextFault) → first ≡ position is_bad text
+    → told ≡ fault_of first (length text) → text_fault is_bad text ≡ told
+unfolding text_fault
+as_fault is_bad text first told at is = sym (is ∙ ap (λ place. fault_of place (length text)) at)
 
 -- a text without a fault is no longer than the limit and has no bad character
 pub fault_none : (is_bad : ℕ → Bool) (text : List ℕ) → text_fault is_bad text ≡ None → (length text ≤ 4000)

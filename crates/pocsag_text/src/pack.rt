@@ -1,7 +1,7 @@
-ghost use Rattle.std.specs.Prelude.{◌≡◌, ℕ, ◌^◌, ◌<◌, ◌≤◌, ◌⊎◌, [], length, position, All, IfOk, IfErr, IsOk, OnOk};
+ghost use Rattle.std.specs.Prelude.{◌≡◌, ℕ, ◌^◌, ◌<◌, ◌≤◌, ◌⊎◌, length, position, All, IfOk, IfErr, IsOk, OnOk};
 ghost use Rattle.pocsag_text.specs.Bits.{AreItems};
 ghost use Rattle.pocsag_text.specs.Characters as numeric;
-ghost use Rattle.pocsag_text.specs.Text.{numeric_payload, alpha_payload, numeric_bits, alpha_bits, twenties, is_bad_byte, text_fault, character_limit, item_limit, fault_of};
+ghost use Rattle.pocsag_text.specs.Text.{numeric_payload, alpha_payload, numeric_bits, alpha_bits, twenties, is_bad_byte, character_limit, item_limit, fault_of};
 
 use crate::CHARACTER_LIMIT;
 use crate::character::{ALPHA_WIDTH, NUMERIC_WIDTH, SPACE_CODE, code_of, code_or_space};
@@ -29,7 +29,7 @@ pub fn pack_numeric(alloc: Global, text: &[u8]) -> Result<Vec<u32>, TextFault>
     // Memory is wanted only by a text that has a payload.
     ensures memory { result ≡ Err TextFault.OutOfMemory → IsOk (numeric_payload text.now) }
 {
-    if let Some(fault) = numeric_fault(text) {
+    if let Some(fault) = fault_of(first_bad_digit(text), text.len()) {
         return Err(fault);
     }
     Ok(numeric_items(alloc, text)?)
@@ -47,18 +47,10 @@ pub fn pack_alpha(alloc: Global, text: &[u8]) -> Result<Vec<u32>, TextFault>
     // Memory is wanted only by a text that has a payload.
     ensures memory { result ≡ Err TextFault.OutOfMemory → IsOk (alpha_payload text.now) }
 {
-    if let Some(fault) = alpha_fault(text) {
+    if let Some(fault) = fault_of(first_bad_byte(text), text.len()) {
         return Err(fault);
     }
     Ok(alpha_items(alloc, text)?)
-}
-
-/// The fault of a numeric text, if it has one.
-#[tactic(auto, unfolding(crate::specs::Text::text_fault))]
-fn numeric_fault(text: &[u8]) -> Option<TextFault>
-    ensures { result ≡ text_fault numeric.is_bad_digit text.now }
-{
-    fault_of(first_bad_digit(text), text.len())
 }
 
 /// The place of the first byte that is no numeric character.
@@ -66,14 +58,6 @@ fn first_bad_digit(text: &[u8]) -> Option<usize>
     ensures { result ≡ position numeric.is_bad_digit text.now }
 {
     text.iter().position(|byte| code_of(*byte).is_none())
-}
-
-/// The fault of an alphanumeric text, if it has one.
-#[tactic(auto, unfolding(crate::specs::Text::text_fault))]
-fn alpha_fault(text: &[u8]) -> Option<TextFault>
-    ensures { result ≡ text_fault is_bad_byte text.now }
-{
-    fault_of(first_bad_byte(text), text.len())
 }
 
 /// The place of the first byte that is no alphanumeric character.
@@ -106,21 +90,12 @@ fn numeric_items(alloc: Global, text: &[u8]) -> Result<Vec<u32>, OutOfMemory>
     ensures small { IfOk result (λ v. AreItems v.items) }
 {
     let mut packer = Packer::with_room(alloc, text.len().div_ceil(ITEM_DIGITS))?;
-    push_numeric(&mut packer, text)?;
-    Ok(packer.into_items())
-}
-
-/// Puts the bits of a numeric text into a packer that has none.
-fn push_numeric(packer: &mut Packer, text: &[u8]) -> Result<(), OutOfMemory>
-    requires few { length text.now ≤ character_limit }
-    requires empty { packer.old ≡ [] }
-    ensures { OnOk result (packer.new ≡ numeric_bits text.now) }
-{
     for byte in text {
         packer.push(NUMERIC_WIDTH, code_or_space(*byte))?;
     }
     let fill = (ITEM_DIGITS - text.len() % ITEM_DIGITS) % ITEM_DIGITS;
-    packer.push_times(NUMERIC_WIDTH, SPACE_CODE, fill)
+    packer.push_times(NUMERIC_WIDTH, SPACE_CODE, fill)?;
+    Ok(packer.into_items())
 }
 
 /// The items of an alphanumeric text.
@@ -131,20 +106,10 @@ fn alpha_items(alloc: Global, text: &[u8]) -> Result<Vec<u32>, OutOfMemory>
     ensures small { IfOk result (λ v. AreItems v.items) }
 {
     let mut packer = Packer::with_room(alloc, (ALPHA_BITS * text.len()).div_ceil(ITEM_BITS))?;
-    push_alpha(&mut packer, text)?;
-    Ok(packer.into_items())
-}
-
-/// Puts the bits of an alphanumeric text into a packer that has none.
-fn push_alpha(packer: &mut Packer, text: &[u8]) -> Result<(), OutOfMemory>
-    requires few { length text.now ≤ character_limit }
-    requires small { All (λ byte. byte < 128) text.now }
-    requires empty { packer.old ≡ [] }
-    ensures { OnOk result (packer.new ≡ alpha_bits text.now) }
-{
     for byte in text {
         packer.push(ALPHA_WIDTH, *byte)?;
     }
     let fill = (ITEM_BITS - ALPHA_BITS * text.len() % ITEM_BITS) % ITEM_BITS;
-    packer.push_times(1, 0, fill)
+    packer.push_times(1, 0, fill)?;
+    Ok(packer.into_items())
 }
