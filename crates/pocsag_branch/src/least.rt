@@ -8,9 +8,8 @@ ghost use Rattle.pocsag_branch.specs.Examined.{greatest_least};
 ghost use Rattle.pocsag_branch.specs.Found.{CanBeSent, HasPage, IsBound};
 ghost use Rattle.pocsag_branch.specs.Shape.{RefusesOneLess};
 
-use pocsag_check::accepted_trees_have_texts;
 use pocsag_flow::{ChooseFault, choose};
-use pocsag_slots::{Choice, Classes, all_limits, least_load, size, tours_have_codewords};
+use pocsag_slots::{Choice, Classes, all_limits, least_load, size};
 use pocsag_tree::{Certificate, Tree};
 use pocsag_words::End;
 
@@ -75,8 +74,6 @@ pub fn least_certificate(classes: &Classes, end: End) -> Certificate
     ensures text { HasText second_ranges result.batches (bound_tree_of result.tree) }
     ensures enough { CanBeSent classes.now end (result.batches + 1) }
 {
-    accepted_trees_have_texts();
-    tours_have_codewords();
     let least = least_of(classes);
     Certificate {
         end,

@@ -11,7 +11,7 @@ use crate::promised_root::promised_tree;
 use crate::stop::{SearchFault, SearchLimit};
 use crate::task::{Stop, Task};
 use crate::unfinished::is_unfinished;
-use pocsag_slots::{Choice, Classes, tours_have_codewords};
+use pocsag_slots::{Choice, Classes};
 use pocsag_tree::Tree;
 use pocsag_words::End;
 use std::alloc::Global;
@@ -67,7 +67,6 @@ fn found_or_limit(
     ensures found { IfOk result (IsFound classes.now task.end task.limit) }
     ensures fault { IfErr result (IsSearchFault classes.now task.end task.limit) }
 {
-    tours_have_codewords();
     if is_unfinished(&tree) {
         return Err(SearchFault::SearchLimit(SearchLimit {
             least: task.batches,

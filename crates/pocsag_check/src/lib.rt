@@ -3,8 +3,6 @@
 //! nothing of the search, and takes no memory.
 
 mod checker;
-mod laws;
 mod verdict;
 
-pub use laws::accepted_trees_have_texts;
 pub use verdict::{accepts, check, check_open};

@@ -1,16 +1,18 @@
-ghost use Rattle.std.specs.Prelude.{ℕ, ◌≤◌, false, List};
-ghost use Rattle.pocsag_words.specs.declared.codeword.Kind.{Kind};
-ghost use Rattle.pocsag_words.specs.declared.ending.End.{End};
-ghost use Rattle.pocsag_pages.specs.declared.page.Page.{Page};
+ghost use Rattle.pocsag_check.specs.Acceptance.{Accepts, AcceptsRoot, IsAccepted};
+ghost use Rattle.pocsag_check.specs.Fits.{Fits};
+ghost use Rattle.pocsag_findings.specs.Findings.{AllHold, findings_of};
 ghost use Rattle.pocsag_pages.specs.Reading.{AreApart, IsLegalFor};
-ghost use Rattle.pocsag_tree.specs.BoundTrees.{BoundTree, depth_of};
+ghost use Rattle.pocsag_pages.specs.declared.page.Page.{Page};
+ghost use Rattle.pocsag_plan.specs.BoundedHeadline.{IsHeadlineWhereTight};
+ghost use Rattle.pocsag_slots.specs.Loads.{AreClassesOf};
 ghost use Rattle.pocsag_slots.specs.declared.class.Classes.{Classes};
 ghost use Rattle.pocsag_slots.specs.declared.limit.Limits.{Limits};
-ghost use Rattle.pocsag_slots.specs.Loads.{AreClassesOf};
-ghost use Rattle.pocsag_check.specs.Acceptance.{Accepts, AcceptsRoot};
-ghost use Rattle.pocsag_check.specs.Fits.{Fits};
-ghost use Rattle.pocsag_plan.specs.BoundedHeadline.{IsHeadlineWhereTight};
-ghost use Rattle.pocsag_findings.specs.Findings.{AllHold, findings_of};
+ghost use Rattle.pocsag_tree.specs.BoundTrees.{BoundTree, depth_of, all_nodes, closed_nodes};
+ghost use Rattle.pocsag_tree.specs.CertificateText.{HasText};
+ghost use Rattle.pocsag_tree.specs.Limits.{most_nodes, second_ranges};
+ghost use Rattle.pocsag_words.specs.declared.codeword.Kind.{Kind};
+ghost use Rattle.pocsag_words.specs.declared.ending.End.{End};
+ghost use Rattle.std.specs.Prelude.{ℕ, ◌≤◌, false, List, ◌≡◌, ◌^◌, ◌<◌, Bool};
 
 /// The limits of an accepted node are met by no transmission.
 pub fn accepted_nodes_refute()
@@ -40,4 +42,14 @@ pub fn accepted_trees_hold()
 pub fn trees_that_hold_are_accepted()
     ensures { (k : Classes) (end : End) (batches depth : ℕ) (t : BoundTree) → depth_of t ≤ depth →
         AllHold (findings_of k end batches depth t) → AcceptsRoot false k end batches t }
+{}
+
+/// An accepted tree can be written, where its nodes are few enough; and where no node that was not examined
+/// is accepted, it has none.
+pub fn accepted_trees_have_texts()
+    ensures text { (takes_open : Bool) (k : Classes) (end : End) (batches : ℕ) (t : BoundTree) →
+        IsAccepted takes_open k end batches t → batches < 2 ^ 32 → all_nodes t ≤ most_nodes →
+        HasText second_ranges batches t }
+    ensures closed { (k : Classes) (end : End) (batches : ℕ) (t : BoundTree) →
+        IsAccepted false k end batches t → all_nodes t ≡ closed_nodes t }
 {}

@@ -15,7 +15,7 @@ mod reading;
 mod tour;
 
 pub use bound::{
-    accepted_nodes_refute, accepted_trees_bound, accepted_trees_hold,
+    accepted_nodes_refute, accepted_trees_bound, accepted_trees_have_texts, accepted_trees_hold,
     tight_headlines_are_headlines, trees_that_hold_are_accepted,
 };
 pub use certificate::{no_text_begins_another, one_certificate, one_fault};
@@ -41,6 +41,6 @@ pub use reading::{
 pub use tour::{
     apart_has_no_tour, class_loads_add_up, codewords_and_tours_correspond,
     no_load_is_above_batches, no_transmission_has_fewer, sets_take_members,
-    spare_batches_have_tours, tours_are_transmissions, transmissions_are_tours,
-    unclosed_has_no_tour,
+    spare_batches_have_tours, tours_are_transmissions, tours_have_codewords,
+    transmissions_are_tours, unclosed_has_no_tour,
 };

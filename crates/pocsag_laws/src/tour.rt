@@ -1,18 +1,19 @@
-ghost use Rattle.std.specs.Prelude.{ℕ, ◌<◌, List, ◌≡◌, ◌≤◌, map, All};
-ghost use Rattle.pocsag_words.specs.declared.codeword.Kind.{Kind};
-ghost use Rattle.pocsag_words.specs.declared.ending.End.{End};
-ghost use Rattle.pocsag_words.specs.Codeword.{IsCodeword};
-ghost use Rattle.pocsag_words.specs.Kinds.{kind_of};
-ghost use Rattle.pocsag_pages.specs.declared.page.Page.{Page};
+ghost use Rattle.pocsag_pages.specs.Pages.{IsRound};
 ghost use Rattle.pocsag_pages.specs.Reading.{AreApart, IsLegalFor, IsLegalList};
-ghost use Rattle.pocsag_slots.specs.declared.class.Classes.{Classes};
-ghost use Rattle.pocsag_slots.specs.declared.step.Step.{Step};
+ghost use Rattle.pocsag_pages.specs.declared.page.Page.{Page};
 ghost use Rattle.pocsag_slots.specs.Arcs.{arcs, early_in};
 ghost use Rattle.pocsag_slots.specs.Layout.{laid};
 ghost use Rattle.pocsag_slots.specs.Loads.{AreClassesOf, IsChoice, IsLeast, load, ClassLoadsAddUp};
 ghost use Rattle.pocsag_slots.specs.Sums.{SetsTakeMembers};
 ghost use Rattle.pocsag_slots.specs.Tours.{AsksForLast, IsTour};
+ghost use Rattle.pocsag_slots.specs.declared.class.Classes.{Classes};
+ghost use Rattle.pocsag_slots.specs.declared.step.Step.{Step};
 ghost use Rattle.pocsag_tour.specs.Reached.{IsApart, IsUnclosed};
+ghost use Rattle.pocsag_words.specs.Codeword.{IsCodeword};
+ghost use Rattle.pocsag_words.specs.Kinds.{kind_of};
+ghost use Rattle.pocsag_words.specs.declared.codeword.Kind.{Kind};
+ghost use Rattle.pocsag_words.specs.declared.ending.End.{End};
+ghost use Rattle.std.specs.Prelude.{ℕ, ◌<◌, List, ◌≡◌, ◌≤◌, map, All};
 
 /// The arcs of the pages and idles of a legal transmission, in order, are a tour of the choice that
 /// counts its early starts.
@@ -87,4 +88,12 @@ pub fn spare_batches_have_tours()
     ensures { (k : Classes) (end : End) (choice : ℕ → ℕ) (b : ℕ) →
         IsChoice k choice → ((slot : ℕ) → slot < 16 → load k choice slot < b) →
         (steps : List Step) × IsTour k end choice b steps }
+{}
+
+/// Every tour for a round has its codewords: there are codewords that in order say what its steps lay
+/// out, and they are a legal transmission of the round.
+pub fn tours_have_codewords()
+    ensures { (k : Classes) (end : End) (choice : ℕ → ℕ) (b : ℕ) (steps : List Step) (R : List Page) →
+        0 < b → IsRound R → AreClassesOf k end R → IsTour k end choice b steps →
+        (U : List ℕ) × (map kind_of U ≡ laid end R steps) × IsLegalList end U b R }
 {}

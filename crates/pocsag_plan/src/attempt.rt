@@ -12,7 +12,6 @@ use crate::fault::PlanFault;
 use crate::outcome::{Outcome, outcome_of};
 use crate::search::Search;
 use pocsag_branch::least_certificate;
-use pocsag_check::accepted_trees_have_texts;
 use pocsag_slots::Classes;
 use pocsag_tree::Certificate;
 use std::alloc::Global;
@@ -41,7 +40,6 @@ pub(crate) fn attempt(
     ensures fault { IfErr result (λ e. (R : List Page) → IsRound R → AreClassesOf classes.now search.end R →
         ExplainsPlan search.effort search.end R search.limit e) }
 {
-    accepted_trees_have_texts();
     let by_loads = least_certificate(classes, search.end);
     if by_loads.batches < batches {
         return Ok(Tried::Fits(None));

@@ -15,7 +15,7 @@ use crate::plans::{completed, is_node_limit};
 use crate::search::{Effort, Search};
 use crate::tally::{count_page, discount_page, no_classes};
 use pocsag_pages::{Page, Round};
-use pocsag_slots::{Classes, tours_have_codewords};
+use pocsag_slots::Classes;
 use pocsag_tree::Certificate;
 use pocsag_words::End;
 use std::alloc::Global;
@@ -60,7 +60,6 @@ pub fn longest_front(
     ensures bad_limit { IsErrOf result (NoFront.Plan PlanFault.BadLimit) ↔ (¬ IsNodeLimit search.limit) }
     ensures fault { IfErr result (ExplainsFront search round batches) }
 {
-    tours_have_codewords();
     if !is_node_limit(search.limit) {
         return Err(NoFront::Plan(PlanFault::BadLimit));
     }
@@ -96,7 +95,6 @@ fn front_cut(
     ensures limit { ¬ IsErrOf result (NoFront.Plan PlanFault.BadLimit) }
     ensures fault { IfErr result (ExplainsFront search pages.now batches) }
 {
-    tours_have_codewords();
     let mut classes = no_classes();
     recount(&mut classes, pages, 0, 1, search.end);
     let first = outcome_of(alloc, &classes, search)?;

@@ -13,9 +13,8 @@ use crate::fault::PlanFault;
 use crate::outcome::{Outcome, outcome_of};
 use crate::search::{Effort, Search};
 use pocsag_batch::{in_order_batches, order_of};
-use pocsag_check::accepted_trees_have_texts;
 use pocsag_pages::Round;
-use pocsag_slots::{Classes, classes_of, tours_have_codewords};
+use pocsag_slots::{Classes, classes_of};
 use pocsag_tree::NODE_LIMIT;
 use pocsag_words::{End, OutOfMemory};
 use std::alloc::Global;
@@ -112,8 +111,6 @@ pub(crate) fn completed(
     ensures plan { IfOk result (IsPlanFor search round.now) }
     ensures batches { IfOk result (λ bounded. bounded.plan.batches ≡ outcome.found.batches) }
 {
-    tours_have_codewords();
-    accepted_trees_have_texts();
     let Outcome {
         found,
         bound,

@@ -10,6 +10,7 @@ use Rattle.pocsag_slots.specs.Meanings.{IsSayable}
 use Rattle.pocsag_slots.proofs.Fewest.{laid_list_legal}
 use Rattle.pocsag_slots.proofs.LaidSteps.{IsServed, served_left, served_tour, some_left}
 use Rattle.pocsag_slots.proofs.FirstOfClass.{taken}
+use Rattle.pocsag_words.proofs.KindLemmas.{address_has_codeword, message_has_codeword}
 
 -- each address with a function, and each message, has a codeword
 pub record HaveCodewords : Type 0 where
@@ -75,3 +76,7 @@ tour_said have k end choice b steps R some round classes tour =
     let said : IsSayable (laid end R steps) =
     laid_sayable have end R steps (good_pages R round.good) (served_tour k end choice b steps R classes tour) in
     (said.0, said.1.kinds, laid_list_legal k end choice b steps R said.0 some classes tour said.1.codewords said.1.kinds)
+
+pub tour_worded : (k : Classes) (end : End) (choice : ℕ → ℕ) (b : ℕ) (steps : List Step) (R : List Page) → 0 < b → IsRound R →
+    AreClassesOf k end R → IsTour k end choice b steps → (U : List ℕ) × (map kind_of U ≡ laid end R steps) × IsLegalList end U b R
+tour_worded = tour_said (record { address = address_has_codeword; message = message_has_codeword })

@@ -5,6 +5,8 @@ use Rattle.pocsag_tree.specs.Views.{bound_tree_of}
 use Rattle.pocsag_branch.proofs.TreeEnds.{bound_tree_of-overload, has_room, least_tree, tree_bound}
 use Rattle.pocsag_slots.proofs.Members.{set_taking}
 use Rattle.pocsag_tour.proofs.Spares.{spare_tour}
+use Rattle.pocsag_check.proofs.Spelled.{accepted_text}
+use Rattle.pocsag_slots.proofs.Sayable.{tour_worded}
 use Rattle.pocsag_branch.proofs.least.least_certificate.Goals as goal
 
 pub returns-clause-bound : goal.returns-clause-bound
@@ -23,7 +25,7 @@ returns-clause-text c =
     let least = c.least_of-least.result in
     let small = c.least_of-least.ensures.bound in
     let tree = least_tree c.args.classes.now c.args.end least.batches 1 least.set (omega arith) c.least_of-least.ensures.refuses in
-    c.accepted_trees_have_texts.ensures.text false c.args.classes.now c.args.end least.batches (bound_tree_of (Overload least.set))
+    accepted_text false c.args.classes.now c.args.end least.batches (bound_tree_of (Overload least.set))
     tree.accepted (omega arith) (omega (arith, ap all_nodes (bound_tree_of-overload least.set)))
 
 pub returns-clause-enough : goal.returns-clause-enough
@@ -33,6 +35,6 @@ returns-clause-enough c = λ R round counted.
     let admitted = c.least_of-least.ensures.admitted in
     let toured = spare_tour set_taking k c.args.end (slice_index least.choice.early) (least.batches + 1)
     (λ d h. admitted.within.most d h) (has_room k (slice_index least.choice.early) least.batches admitted) in
-    let said = c.tours_have_codewords.ensures k c.args.end (slice_index least.choice.early) (least.batches + 1) toured.0 R
+    let said = tour_worded k c.args.end (slice_index least.choice.early) (least.batches + 1) toured.0 R
     (omega arith) round counted toured.1 in
     (said.0, said.2)

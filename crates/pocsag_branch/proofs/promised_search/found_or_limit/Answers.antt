@@ -5,6 +5,7 @@ use Rattle.pocsag_branch.specs.Shape.{one_more}
 use Rattle.pocsag_branch.proofs.TreeEnds.{closed_is, has_room, least_bound, none_unseen, some_unseen, tree_bound, tree_open, tree_whole}
 use Rattle.pocsag_slots.proofs.Members.{set_taking}
 use Rattle.pocsag_tour.proofs.Spares.{spare_tour}
+use Rattle.pocsag_slots.proofs.Sayable.{tour_worded}
 use Rattle.pocsag_branch.proofs.promised_search.found_or_limit.Goals as goal
 
 pub returns-then-is_unfinished-clause-fault : goal.returns-then-is_unfinished-clause-fault
@@ -23,7 +24,7 @@ returns-then-is_unfinished-clause-fault c =
           (c.args.task.batches + 1)
           (λ d h. c.requires.admitted.within.most d h)
           (has_room k (slice_index c.args.choice.now.early) c.args.task.batches c.requires.admitted) in
-          let said = c.tours_have_codewords.ensures k c.args.task.end (slice_index c.args.choice.now.early)
+          let said = tour_worded k c.args.task.end (slice_index c.args.choice.now.early)
           (c.args.task.batches + 1) toured.0 R
           (omega arith) round counted toured.1 in
           (said.0, said.2);

@@ -2,6 +2,7 @@ use Rattle.std.proofs.Common.{arith, false}
 use Rattle.pocsag_tree.specs.Views.{bound_tree_of}
 use Rattle.pocsag_plan.proofs.Completed.{most, nodes_few}
 use Rattle.pocsag_plan.proofs.FrontTries.{loads_exceed, search_exceeds}
+use Rattle.pocsag_check.proofs.Spelled.{accepted_closed, accepted_text}
 use Rattle.pocsag_plan.proofs.attempt.attempt.Goals as goal
 
 pub returns-then-by_loads-batches-2-clause-attempt : goal.returns-then-by_loads-batches-2-clause-attempt
@@ -20,8 +21,8 @@ returns-clause-attempt c =
     let within = is.within in
     let near = most k end limit outcome.bound outcome.found within in
     let few = nodes_few k end limit outcome.bound outcome.found within c.requires.limited
-    (c.accepted_trees_have_texts.ensures.closed k end outcome.bound (bound_tree_of outcome.found.tree) within.accepted) in
-    let text = c.accepted_trees_have_texts.ensures.text false k end outcome.bound (bound_tree_of outcome.found.tree) within.accepted
+    (accepted_closed k end outcome.bound (bound_tree_of outcome.found.tree) within.accepted) in
+    let text = accepted_text false k end outcome.bound (bound_tree_of outcome.found.tree) within.accepted
     (omega (arith, within.at_least)) few in
     search_exceeds k c.args.search c.args.batches outcome c.least_certificate-by_loads.result.batches c.least_certificate-by_loads.ensures.least
     c.if-by_loads-batches-2.false c.if-outcome-batches.false is text

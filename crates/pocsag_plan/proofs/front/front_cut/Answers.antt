@@ -5,6 +5,7 @@ use Rattle.pocsag_pages.proofs.FirstPages.{first_round}
 use Rattle.pocsag_plan.specs.Attempts.{IsFit}
 use Rattle.pocsag_plan.proofs.Completed.{some_batch}
 use Rattle.pocsag_plan.proofs.FrontTries.{cut_of, first_has_page, first_needs, front_explained, spare_fits}
+use Rattle.pocsag_slots.proofs.Sayable.{tour_worded}
 use Rattle.pocsag_plan.proofs.front.front_cut.Goals as goal
 
 pub outcome_of-requires-clause-pages : goal.outcome_of-requires-clause-pages
@@ -28,7 +29,7 @@ returns-then-first-batches-clause-fault c =
     let first = c.in_ok-first.first in
     let is = c.in_ok-first.ensures.outcome in
     let round = first_round 1 R c.requires.round (omega arith) c.requires.round.some in
-    let sent = c.tours_have_codewords.ensures k search.end (slice_index first.found.choice.early) first.found.batches first.found.steps.items
+    let sent = tour_worded k search.end (slice_index first.found.choice.early) first.found.batches first.found.steps.items
     (take 1 R) (some_batch k search.end search.limit first.bound first.found is.within) round c.recount.ensures is.within.tour in
     (c.requires.limited, first_needs k search R c.args.batches first round c.recount.ensures is c.if-first-batches.true sent.0 sent.2)
 

@@ -5,6 +5,7 @@ use Rattle.pocsag_branch.specs.Found.{IsNodeLimit}
 use Rattle.pocsag_plan.specs.Attempts.{IsCut}
 use Rattle.pocsag_plan.proofs.Completed.{some_batch}
 use Rattle.pocsag_plan.proofs.FrontTries.{front_of, longest_of, why_of}
+use Rattle.pocsag_slots.proofs.Sayable.{tour_worded}
 use Rattle.pocsag_plan.proofs.front.longest_front.Goals as goal
 
 pub returns-clause-front : goal.returns-clause-front
@@ -17,7 +18,7 @@ returns-clause-front c =
     let same : c.in-Ok.round ≡ take at.count R = cc (c.in-Ok.round-is, c.in-Ok.ensures.first) in
     let left = is.outcome in
     let found = at.outcome.found in
-    let sent = c.tours_have_codewords.ensures left.table asked.end (slice_index found.choice.early) found.batches found.steps.items (take at.count R)
+    let sent = tour_worded left.table asked.end (slice_index found.choice.early) found.batches found.steps.items (take at.count R)
     (some_batch left.table asked.end asked.limit at.outcome.bound found left.of_classes.within)
     (first_round at.count R c.pages.ensures.round is.some is.among) left.classes left.of_classes.within.tour in
     front_of asked R c.args.batches at c.in-Ok.round c.pages.ensures.round limited is same sent.0 sent.2
@@ -32,7 +33,7 @@ returns-clause-longest c = λ fewest.
     let same : c.in-Ok.round ≡ take at.count R = cc (c.in-Ok.round-is, c.in-Ok.ensures.first) in
     let left = is.outcome in
     let found = at.outcome.found in
-    let sent = c.tours_have_codewords.ensures left.table asked.end (slice_index found.choice.early) found.batches found.steps.items (take at.count R)
+    let sent = tour_worded left.table asked.end (slice_index found.choice.early) found.batches found.steps.items (take at.count R)
     (some_batch left.table asked.end asked.limit at.outcome.bound found left.of_classes.within)
     (first_round at.count R c.pages.ensures.round is.some is.among) left.classes left.of_classes.within.tour in
     longest_of asked R c.args.batches _ (front_of asked R c.args.batches at c.in-Ok.round c.pages.ensures.round limited is same sent.0 sent.2) fewest

@@ -7,6 +7,8 @@ use Rattle.pocsag_batch.specs.Placement.{IsOrder}
 use Rattle.pocsag_check.proofs.Bounds.{admitted_all}
 use Rattle.pocsag_plan.proofs.Explained.{no_worse}
 use Rattle.pocsag_plan.proofs.Completed.{found_room, most, nodes_few, some_batch, tour_for}
+use Rattle.pocsag_check.proofs.Spelled.{accepted_closed, accepted_text}
+use Rattle.pocsag_slots.proofs.Sayable.{tour_worded}
 use Rattle.pocsag_plan.proofs.plans.completed.Goals as goal
 
 pub order_of-requires : goal.order_of-requires
@@ -29,11 +31,11 @@ returns-clause-plan c =
     let is = left.within in
     let near : found.batches ≤ 1760001 = most k end limit bound found is in
     let at_least : bound ≤ found.batches = is.at_least in
-    let sent = c.tours_have_codewords.ensures k end (slice_index found.choice.early) found.batches found.steps.items R
+    let sent = tour_worded k end (slice_index found.choice.early) found.batches found.steps.items R
     (some_batch k end limit bound found is) c.pages.ensures.round counted is.tour in
     let room = found_room end R found c.pages.ensures.round sent.0 sent.2 in
     let few = nodes_few k end limit bound found is c.requires.limited
-    (c.accepted_trees_have_texts.ensures.closed k end bound (bound_tree_of found.tree) is.accepted) in
+    (accepted_closed k end bound (bound_tree_of found.tree) is.accepted) in
     record {
       plan_of = record {
         asked = refl;
@@ -53,7 +55,7 @@ returns-clause-plan c =
         at_least = at_least;
         within_one = is.within_one;
         accepted = record { table = k; counted = counted; accepted = is.accepted };
-        text = c.accepted_trees_have_texts.ensures.text false k end bound (bound_tree_of found.tree) is.accepted (omega arith) few;
+        text = accepted_text false k end bound (bound_tree_of found.tree) is.accepted (omega arith) few;
       };
       small = is.few;
       no_worse = no_worse k end R limit bound found.batches _ c.args.outcome.stopped c.pages.ensures.round counted c.requires.limited refl

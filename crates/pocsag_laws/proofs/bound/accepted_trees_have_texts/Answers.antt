@@ -1,5 +1,5 @@
 use Rattle.pocsag_check.proofs.Spelled.{accepted_closed, accepted_text}
-use Rattle.pocsag_check.proofs.laws.accepted_trees_have_texts.Goals as goal
+use Rattle.pocsag_laws.proofs.bound.accepted_trees_have_texts.Goals as goal
 
 pub returns-clause-text : goal.returns-clause-text
 returns-clause-text c = accepted_text
