@@ -29,29 +29,26 @@ CRATE = "pocsag_text"
 RENAMED = [("let mut len = text.len();", "let mut left = text.len();"), ("while len > 0 {", "while left > 0 {"),
            ("text[len - 1] != unwanted", "text[left - 1] != unwanted"), ("return len;", "return left;"),
            ("len -= 1;", "left -= 1;")]
+# What is no wrong body: its file, its pairs, and what is said of it.
 PLANTED = {
-    "a-body-that-is-right": ("src/pack.rt", [("count > CHARACTER_LIMIT", "CHARACTER_LIMIT < count")]),
-    "a-body-that-does-not-compile": ("src/character.rt", [("CODES[byte as usize]", "CODES[letter as usize]")]),
-    "a-body-that-its-proof-does-not-fit": ("src/unpack.rt", RENAMED),
-}
-WANTED = {
-    "a-body-that-is-right": "NOT REFUSED",
-    "a-body-that-does-not-compile": "BAD EDIT: it does not reach the prover",
-    "a-body-that-its-proof-does-not-fit": "BAD EDIT: only a proof file no longer fits",
+    "a-body-that-is-right": ("src/pack.rt", [("count > CHARACTER_LIMIT", "CHARACTER_LIMIT < count")], "NOT REFUSED"),
+    "a-body-that-does-not-compile": ("src/character.rt", [("CODES[byte as usize]", "CODES[letter as usize]")],
+                                     "BAD EDIT: it does not reach the prover"),
+    "a-body-that-its-proof-does-not-fit": ("src/unpack.rt", RENAMED, "BAD EDIT: only a proof file no longer fits"),
 }
 
 
 def test_rounds(tally, folder):
     """The prover refuses the wrong bodies, and what is no wrong body is named."""
     *lower, crate = below(read_crates(), CRATE).values()
-    for name, (path, pairs) in PLANTED.items():
+    for name, (path, pairs, _) in PLANTED.items():
         text = "".join(f"old: {old}\nnew: {new}\n" for old, new in pairs)
         (folder / f"{name}.edit").write_text(f"file: {path}\n{text}")
     wrong = crate.edits()[::4]
     found = {name: (holds, told) for name, holds, told in run.try_crate(crate, lower, [*wrong, *folder.glob("*.edit")])}
     for name in ("a change that is right", *(it.stem for it in wrong)):
         tally.check(name, found.get(name, (False,))[0], found.get(name))
-    for name, wanted in WANTED.items():
+    for name, (_, _, wanted) in PLANTED.items():
         holds, told = found.get(name, (None, "not tried"))
         tally.check(f"{name} is reported", holds is False and told.startswith(wanted), told)
 
@@ -117,24 +114,22 @@ def test_kept(tally, top):
         results = {it: (holds, said) for it, holds, said in run.try_crate(crates["high"], [crates["low"]], crates["high"].edits(top), kept)}
         tally.check(name, (Played.checks - before > 0, sum(holds for holds, _ in results.values())) == (checks, passed), (Played.checks - before, results))
 
-    (edits / "one.edit").write_text("file: src/lib.rt\nold: right_a\nnew: wrong\n")
-    tried("a wrong body is tried, beside a change that is right", True, 2)
-    tried("and not again", False, 1)
-    (edits / "two.edit").write_text("file: src/lib.rt\nold: right_b\nnew: fine\n")
-    tried("one more is tried", True, 2)
-    tried("what is not refused is tried again", True, 2)
-    (edits / "two.edit").unlink()
-    (top / "crates/low/specs").mkdir()
-    tried("an empty folder changes nothing", False, 1)
-    (top / "crates/low/specs/Lib.antt").write_text("-- more\n")
-    tried("a change below is", True, 2)
-    (top / "crates/high/src/lib.rt").write_text(source + "// more\n")
-    tried("a change of the crate is", True, 2)
-    (edits / "one.edit").write_text("file: src/lib.rt\nold: right_a\nnew: very_wrong\n")
-    tried("another wrong body is", True, 2)
-    (top / "crates.txt").write_text("low: \nbeside:\nhigh: low\n")
-    tried("another crate is not", True, 2)
-    tried("and not again after all", False, 1)
+    edit = "file: src/lib.rt\nold: {}\nnew: {}\n".format
+    for name, path, text, checks, passed in [
+        ("a wrong body is tried, beside a change that is right", edits / "one.edit", edit("right_a", "wrong"), True, 2),
+        ("and not again", None, "", False, 1),
+        ("one more is tried", edits / "two.edit", edit("right_b", "fine"), True, 2),
+        ("what is not refused is tried again", None, "", True, 2),
+        ("a change below is", top / "crates/low/src/lib.rt", source + "// more\n", True, 2),
+        ("a change of the crate is", top / "crates/high/src/lib.rt", source + "// more\n", True, 2),
+        ("another wrong body is", edits / "one.edit", edit("right_a", "very_wrong"), True, 2),
+        ("another crate is not", top / "crates.txt", "low: \nbeside:\nhigh: low\n", True, 2),
+        ("and not again after all", edits / "two.edit", edit("right_b", "wrong"), True, 3),
+        ("and all are kept", None, "", False, 2),
+    ]:
+        if path:
+            path.write_text(text)
+        tried(name, checks, passed)
 
 
 SMALL = {
