@@ -1,18 +1,10 @@
-ghost use Rattle.std.specs.Prelude.{◌≡◌, ℕ, ◌<◌, ◌&&◌, not, false, true, length, slice_index, IfSome, IfNone};
+ghost use Rattle.std.specs.Prelude.{◌≡◌, ℕ, ◌<◌, false, true, length, slice_index, IfSome, IfNone};
 ghost use Rattle.pocsag_slots.specs.Sums.{holds};
 ghost use Rattle.pocsag_tour.specs.Moves.{AreUsed, arc_from, arc_to, IsAmong, LeadHome, NoneEnters};
 
 use crate::arc::{ARCS, begins, ends};
 use arrayvec::ArrayVec;
 use pocsag_slots::{holds, with_member};
-
-// Whether the arc leads from a boundary outside the set to one in it.
-fn leads_in(set: u16, arc: usize) -> bool
-    requires { arc < 288 }
-    ensures { result ≡ (holds set (arc_to arc) && not (holds set (arc_from arc))) }
-{
-    holds(set, ends(arc)) && !holds(set, begins(arc))
-}
 
 // The arcs of which there are some.
 fn used_arcs(counts: &[u32; 288]) -> ArrayVec<usize, 288>
@@ -36,7 +28,7 @@ fn entering(used: &[usize], set: u16) -> Option<usize>
         holds set (arc_to (slice_index used.now k)) ≡ true → holds set (arc_from (slice_index used.now k)) ≡ true) }
 {
     for arc in used {
-        if leads_in(set, *arc) {
+        if holds(set, ends(*arc)) && !holds(set, begins(*arc)) {
             return Some(*arc);
         }
     }
