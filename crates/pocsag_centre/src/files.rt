@@ -9,8 +9,7 @@ use crate::note::{note_quote, note_record};
 use crate::order::{FrontLimit, PlanOrder, SearchOrder};
 use crate::plan::{Written, plan_round, tell_bounded};
 use crate::readback::verify_files;
-use crate::round::round_of;
-use pocsag_pages::FILE_LIMIT;
+use pocsag_pages::{FILE_LIMIT, round_of};
 use pocsag_plan::most_batches;
 use pocsag_shell::{
     Beside, Desk, FileFault, NamedFile, Outputs, Role, STANDARD, is_regular, is_regular_or_none,
@@ -187,7 +186,7 @@ fn put_written<S: Sink + Drop>(
     put_whole(&mut outputs.cert, written.certificate.as_slice())
 }
 
-// Writes the front of a page file, the rest first, once it is planned. Answers how many pages it has.
+// Plans the front of a page file, and then writes it. Answers how many pages it has.
 fn write_front<O: Sink>(
     desk: Desk<'_>,
     order: PlanOrder<'_>,
@@ -200,9 +199,7 @@ fn write_front<O: Sink>(
     };
     refuse_rest(desk, order)?;
     let front = front_at(desk, order, batches)?;
-    put_front_files(desk, order, &front)?;
-    tell_front(&front, batches, out)?;
-    Ok(front.first.bounded.plan.pages)
+    put_front_files(desk, order, batches, &front, out)
 }
 
 fn front_at(
@@ -215,11 +212,14 @@ fn front_at(
     noted(desk, order.pages, file.as_slice(), done)
 }
 
-fn put_front_files(
+// Writes the files of a front, the rest first, and tells its lines. Answers how many pages it has.
+fn put_front_files<O: Sink>(
     desk: Desk<'_>,
     order: PlanOrder<'_>,
+    batches: u32,
     front: &WrittenFront,
-) -> Result<(), FileFault> {
+    out: &mut O,
+) -> Result<u32, CentreFault> {
     if let Some(path) = order.rest {
         write_file(desk, Role::Rest, path, front.rest.as_slice())?;
     }
@@ -233,7 +233,9 @@ fn put_front_files(
     // A new file may have a second spelling among the words.
     refuse_rest(desk, order)?;
     let mut outputs = make_outputs(desk, order.pages, order.tx, order.cert)?;
-    put_written(&mut outputs, &front.first)
+    put_written(&mut outputs, &front.first)?;
+    tell_front(front, batches, out)?;
+    Ok(front.first.bounded.plan.pages)
 }
 
 // Refuses a word for the rest, or for the certificate of one page more, that names another file of the plan.

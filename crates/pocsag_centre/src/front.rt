@@ -16,9 +16,8 @@ ghost use Rattle.pocsag_shell.specs.declared.fault.FileFault.TheVariants as file
 use crate::demand::refuse_bad_limit;
 use crate::fault::CentreFault;
 use crate::plan::{Written, tell_bounded, write_plan};
-use crate::round::round_of;
 use pocsag_decode::{page_files_are_read_back, pages_of_files_are_spellable, write_page_file};
-use pocsag_pages::Page;
+use pocsag_pages::{Page, round_of};
 use pocsag_plan::{Effort, FrontPlan, Search, longest_front};
 use pocsag_shell::{FileFault, tell_numbers};
 use pocsag_tree::{Certificate, write_text};
