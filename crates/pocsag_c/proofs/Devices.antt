@@ -7,7 +7,7 @@ use Rattle.pocsag_words.specs.Frame.{input_limit}
 use Rattle.pocsag_pages.specs.PageFile.{rows_of, verdict}
 use Rattle.pocsag_pages.specs.declared.fault.RoundFault.{RoundFault}
 use Rattle.pocsag_pages.specs.declared.fault.RoundFault.TheVariants as round
-use Rattle.pocsag_pages.proofs.Judgements.{large_file, never_read, small_file}
+use Rattle.pocsag_pages.proofs.Judgements.{never_read}
 use Rattle.pocsag_tree.specs.Limits.{greatest_depth, most_nodes}
 use Rattle.pocsag_tree.specs.Parts.{Meets, Part, children, early, early_fault, field, judged, mark, node, right, short, trailing, version, whole, wrong}
 use Rattle.pocsag_tree.specs.declared.refusals.CertificateFault.{CertificateFault}
@@ -31,17 +31,9 @@ use Rattle.pocsag_receiver.specs.declared.fault.ReceiverFault.{ReceiverFault}
 use Rattle.pocsag_receiver.specs.declared.fault.ReceiverFault.TheVariants as receiver
 use Rattle.pocsag_c.specs.Statuses.{IsInMemory, IsReceivedInMemory}
 
--- a failed read is no fault of a page file
-no_read_fault : (file : List ℕ) → verdict file ≡ Err round.ReadFault → ⊥
-no_read_fault file h =
-    elim (cases_lt input_limit (length file)) [
-      | inl large ↦ let e = large_file file large in cc
-      | inr small ↦ never_read (rows_of file) (sym (small_file file (omega arith)) ∙ h)
-    ]
-
 round_in_memory : (file : List ℕ) (f : RoundFault) → ExplainsRound file f → IsInMemory (centre.Round f)
 round_in_memory file round.ReadFault (inl memory) = cc
-round_in_memory file round.ReadFault (inr is) = no_read_fault file is
+round_in_memory file round.ReadFault (inr is) = never_read file is
 round_in_memory file _ said = tt
 
 -- nor of a certificate

@@ -1,9 +1,6 @@
 -- No fault that is answered for bytes is that of a reader.
-use Rattle.std.proofs.Common.{◌≡◌, ℕ, List, length, sym, ◌∙◌, subst, inl, inr, arith}
-use Rattle.std.proofs.lemmas.Bool.{cases_lt}
-use Rattle.pocsag_words.specs.Frame.{input_limit}
-use Rattle.pocsag_pages.proofs.Judgements.{large_file, never_read, small_file}
-use Rattle.pocsag_pages.specs.PageFile.{rows_of}
+use Rattle.std.proofs.Common.{◌≡◌, ℕ, List, subst, inl, inr}
+use Rattle.pocsag_pages.proofs.Judgements.{never_read}
 use Rattle.pocsag_pages.specs.declared.fault.RoundFault.TheVariants as round
 use Rattle.pocsag_plan.specs.declared.search.Search.{Search}
 use Rattle.pocsag_centre.specs.Refusals.{ExplainsNoPlan, ExplainsRound}
@@ -14,11 +11,7 @@ use Rattle.pocsag_centre.specs.declared.fault.CentreFault.TheVariants as fault
 
 not_read : (file : List ℕ) → ExplainsRound file round.ReadFault → ⊥
 not_read file (inl memory) = cc
-not_read file (inr is) =
-    elim (cases_lt input_limit (length file)) [
-      | inl large ↦ let other = large_file file large in cc
-      | inr small ↦ never_read (rows_of file) (sym (small_file file (omega arith)) ∙ is)
-    ]
+not_read file (inr is) = never_read file is
 
 pub planned_unread : (file : List ℕ) (search : Search) (f : CentreFault) → ExplainsNoPlan file search f → f ≡ fault.Round round.ReadFault → ⊥
 planned_unread file search f said same = not_read file (subst (λ (g : CentreFault). ExplainsNoPlan file search g) same said)

@@ -1,17 +1,22 @@
 -- The idles of a frame, step by step.
-use Rattle.std.proofs.Common.{◌≡◌, ℕ, ◌+◌, ◌*◌, ◌%◌, ◌<◌, ◌≤◌, ◌==◌, Bool, true, false, List, [], ◌∷◌, ◌++◌, cond, arith, ap, sym, subst, ◌∙◌, refl, eq-eqb, drop, get_or, length, map, inl, inr}
+use Rattle.std.proofs.Common.{◌≡◌, ℕ, ◌+◌, ◌*◌, ◌%◌, ◌<◌, ◌≤◌, ◌==◌, Bool, true, false, List, [], ◌∷◌, ◌++◌, cond, arith, ap, sym, subst, ◌∙◌, refl, eq-eqb, drop, get_or, length, map, take, inl, inr}
 use Rattle.std.proofs.lemmas.Bool.{cases_lt}
 use Rattle.std.proofs.lemmas.List.{drop_more}
+use Rattle.std.proofs.lemmas.List.Elements.{All-get_or}
 use Rattle.std.proofs.lemmas.List.FromFn.{map-range_with_len_more}
+use Rattle.std.proofs.lemmas.List.Sums.{count_by_more_no, count_by_more_yes, sum_by_more}
 use Rattle.std.specs.List.{range_with_len}
 use Rattle.std.specs.List.Sorted.{IsPermutation}
 use Rattle.pocsag_pages.specs.declared.page.Page.{Page}
+use Rattle.pocsag_pages.specs.Pages.{AreGood, IsGoodPage}
+use Rattle.pocsag_pages.specs.Reading.{page_length}
+use Rattle.pocsag_pages.proofs.GoodPages.{good_pages}
 use Rattle.pocsag_slots.specs.declared.step.Step.{Step}
 use Rattle.pocsag_slots.specs.declared.step.Step.TheVariants.{Idle as Stay, Run}
 use Rattle.pocsag_slots.specs.Classes.{finish_of}
 use Rattle.pocsag_slots.specs.Tours.{idles}
 use Rattle.pocsag_centre.specs.declared.frames.FrameRoom.{FrameRoom}
-use Rattle.pocsag_centre.specs.Frames.{HasClasses, frame_row}
+use Rattle.pocsag_centre.specs.Frames.{HasClasses, frame_codewords, frame_pages, frame_row, starts_in}
 
 -- how many idles stand in the two slots of a frame, where the steps start at boundary p
 abbrev pub room_from : ℕ → ℕ → List Step → ℕ
@@ -74,3 +79,31 @@ pub all_rooms : (R : List Page) (steps : List Step) (n : ℕ) (rooms sorted : Li
 all_rooms R steps n rooms sorted low high all same =
     let eight : n ≡ 8 = omega arith in
     subst (λ (v : List FrameRoom). IsPermutation v sorted) (all ∙ ap (λ (m : ℕ). map (frame_row R steps) (range_with_len 0 m)) eight) same
+
+-- the pages of a frame and their codewords, with one page more
+module _ (frame : ℕ) (R : List Page) (i : ℕ) (p : Page) (within : i < length R) (here : p ≡ get_or R i p) where
+  abbrev long : Page → ℕ
+  long q = cond (starts_in frame q) (page_length q) 0
+
+  codewords_more : frame_codewords frame (take (i + 1) R) ≡ frame_codewords frame (take i R) + long p
+  codewords_more = sum_by_more long R i p within ∙ ap (λ (n : ℕ). frame_codewords frame (take i R) + n) (ap long (sym here))
+
+  pub counted_in : starts_in frame p ≡ true → (frame_pages frame (take (i + 1) R) ≡ frame_pages frame (take i R) + 1)
+      × (frame_codewords frame (take (i + 1) R) ≡ frame_codewords frame (take i R) + page_length p)
+  counted_in is_in = (
+    count_by_more_yes (starts_in frame) R i p within (ap (starts_in frame) (sym here) ∙ is_in),
+    codewords_more ∙ ap (λ (b : Bool). frame_codewords frame (take i R) + cond b (page_length p) 0) is_in,
+  )
+
+  pub counted_out : starts_in frame p ≡ false → (frame_pages frame (take (i + 1) R) ≡ frame_pages frame (take i R))
+      × (frame_codewords frame (take (i + 1) R) ≡ frame_codewords frame (take i R) + 0)
+  counted_out is_out = (
+    count_by_more_no (starts_in frame) R i p within (ap (starts_in frame) (sym here) ∙ is_out),
+    codewords_more ∙ ap (λ (b : Bool). frame_codewords frame (take i R) + cond b (page_length p) 0) is_out,
+  )
+
+-- a good page has 1,401 codewords at most
+pub page_short : (R : List Page) (i : ℕ) (p : Page) → i < length R → p ≡ get_or R i p → AreGood R → page_length p ≤ 1401
+page_short R i p within here good =
+    let it : IsGoodPage p = subst IsGoodPage (sym here) (All-get_or IsGoodPage R i p within (good_pages R good)) in
+    omega (arith, it.few)

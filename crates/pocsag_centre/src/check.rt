@@ -13,9 +13,9 @@ ghost use Rattle.pocsag_centre.specs.Refusals.{OrDevice};
 
 use crate::fault::CentreFault;
 use crate::lines::tell_bound;
-use crate::round::{certificate_of, round_of};
+use crate::round::certificate_of;
 use pocsag_check::check;
-use pocsag_pages::{Round, read_round};
+use pocsag_pages::{Round, read_round, round_of};
 use pocsag_shell::{FileFault, put_whole};
 use pocsag_tree::{Certificate, read_certificate};
 use pocsag_words::{End, Sink, Source};

@@ -4,8 +4,7 @@ ghost use Rattle.pocsag_pages.specs.Quotes.{first_misplaced};
 ghost use Rattle.pocsag_centre.specs.Demands.{ExplainsExpecting, ExplainsStrict, HoldsPages};
 
 use crate::fault::CentreFault;
-use crate::round::round_of;
-use pocsag_pages::quote_fault;
+use pocsag_pages::{quote_fault, round_of};
 use pocsag_plan::{Search, is_node_limit};
 use std::alloc::Global;
 

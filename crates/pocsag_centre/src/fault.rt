@@ -120,14 +120,6 @@ impl From<CertificateFault> for CentreFault {
     }
 }
 
-impl From<DecodeFault> for CentreFault {
-    ghost from_gives = { λ refused e. e ≡ fault.Transmission refused };
-
-    fn from(refused: DecodeFault) -> CentreFault {
-        CentreFault::Transmission(refused)
-    }
-}
-
 impl From<PlanFault> for CentreFault {
     ghost use Rattle.pocsag_centre.specs.Faults.{fault_of_plan};
 

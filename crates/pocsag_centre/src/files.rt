@@ -9,8 +9,7 @@ use crate::note::{note_quote, note_record};
 use crate::order::{FrontLimit, PlanOrder, SearchOrder};
 use crate::plan::{Written, plan_round, tell_bounded};
 use crate::readback::verify_files;
-use crate::round::round_of;
-use pocsag_pages::FILE_LIMIT;
+use pocsag_pages::{FILE_LIMIT, round_of};
 use pocsag_plan::most_batches;
 use pocsag_shell::{
     Beside, Desk, FileFault, NamedFile, Outputs, Role, STANDARD, is_regular, is_regular_or_none,
@@ -187,7 +186,7 @@ fn put_written<S: Sink + Drop>(
     put_whole(&mut outputs.cert, written.certificate.as_slice())
 }
 
-// Writes the front of a page file, the rest first, once it is planned. Answers how many pages it has.
+// Plans the front of a page file, and then writes it. Answers how many pages it has.
 fn write_front<O: Sink>(
     desk: Desk<'_>,
     order: PlanOrder<'_>,
@@ -199,27 +198,21 @@ fn write_front<O: Sink>(
         FrontLimit::Airtime { ms, rate } => most_batches(ms, rate)?,
     };
     refuse_rest(desk, order)?;
-    let front = front_at(desk, order, batches)?;
-    put_front_files(desk, order, &front)?;
-    tell_front(&front, batches, out)?;
-    Ok(front.first.bounded.plan.pages)
+    let file = page_file(desk, order.pages, order.search)?;
+    let done = front_file(desk.alloc, file.as_slice(), batches, order.search.search);
+    let front = noted(desk, order.pages, file.as_slice(), done)?;
+    drop(file);
+    put_front_files(desk, order, batches, &front, out)
 }
 
-fn front_at(
+// Writes the files of a front, the rest first, and tells its lines. Answers how many pages it has.
+fn put_front_files<O: Sink>(
     desk: Desk<'_>,
     order: PlanOrder<'_>,
     batches: u32,
-) -> Result<WrittenFront, CentreFault> {
-    let file = page_file(desk, order.pages, order.search)?;
-    let done = front_file(desk.alloc, file.as_slice(), batches, order.search.search);
-    noted(desk, order.pages, file.as_slice(), done)
-}
-
-fn put_front_files(
-    desk: Desk<'_>,
-    order: PlanOrder<'_>,
     front: &WrittenFront,
-) -> Result<(), FileFault> {
+    out: &mut O,
+) -> Result<u32, CentreFault> {
     if let Some(path) = order.rest {
         write_file(desk, Role::Rest, path, front.rest.as_slice())?;
     }
@@ -233,7 +226,9 @@ fn put_front_files(
     // A new file may have a second spelling among the words.
     refuse_rest(desk, order)?;
     let mut outputs = make_outputs(desk, order.pages, order.tx, order.cert)?;
-    put_written(&mut outputs, &front.first)
+    put_written(&mut outputs, &front.first)?;
+    tell_front(front, batches, out)?;
+    Ok(front.first.bounded.plan.pages)
 }
 
 // Refuses a word for the rest, or for the certificate of one page more, that names another file of the plan.

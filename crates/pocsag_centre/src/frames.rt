@@ -1,7 +1,6 @@
-ghost use Rattle.std.specs.Prelude.{◌≡◌, ◌==◌, ◌+◌, ◌*◌, ◌<◌, ◌≤◌, if◌then◌else◌, IfOk, length};
+ghost use Rattle.std.specs.Prelude.{◌≡◌, ◌==◌, ◌+◌, ◌*◌, ◌<◌, ◌≤◌, if◌then◌else◌, IfOk};
 ghost use Rattle.pocsag_pages.specs.Pages.{IsRound};
-ghost use Rattle.pocsag_pages.specs.Reading.{page_length};
-ghost use Rattle.pocsag_centre.specs.Frames.{AreByRoom, frame_codewords, HasClasses, frame_pages, frame_idles, frame_row, starts_in};
+ghost use Rattle.pocsag_centre.specs.Frames.{AreByRoom, HasClasses, frame_idles, frame_row};
 
 use pocsag_pages::{Page, Round};
 use pocsag_slots::{SLOTS, Step, finish};
@@ -44,56 +43,25 @@ pub(crate) fn frames_of(
     Ok(rooms)
 }
 
+// The frame of these pages and steps.
 fn frame_room(pages: &[Page], steps: &[Step], frame: u32) -> FrameRoom
     requires round { IsRound pages.now }
     requires classes { HasClasses steps.now }
     requires frame { frame < 8 }
     ensures { result ≡ frame_row pages.now steps.now frame }
 {
-    FrameRoom {
-        frame,
-        pages: pages_of(pages, frame),
-        codewords: codewords_told(pages, frame),
-        room: room_left(steps, frame as u8),
-    }
-}
-
-// How many pages start in the frame.
-fn pages_of(pages: &[Page], frame: u32) -> u32
-    requires { IsRound pages.now }
-    ensures { result ≡ frame_pages frame pages.now }
-{
-    let mut count = 0;
+    let (mut count, mut codewords) = (0, 0);
     for page in pages {
         if page.address % FRAME_COUNT == frame {
             count += 1;
+            codewords += 1 + page.payload.as_slice().len();
         }
     }
-    count
-}
-
-// How many codewords these pages have.
-fn codewords_told(pages: &[Page], frame: u32) -> u32
-    requires { IsRound pages.now }
-    ensures { result ≡ frame_codewords frame pages.now }
-{
-    let mut total = 0;
-    for page in pages {
-        total += codewords_at(page, frame);
-    }
-    total as u32
-}
-
-// How many codewords the page has in the frame.
-fn codewords_at(page: &Page, frame: u32) -> usize
-    requires { length page.now.payload ≤ 1400 }
-    ensures value { result ≡ (if starts_in frame page.now then page_length page.now else 0) }
-    ensures bound { result ≤ 1401 }
-{
-    if page.address % FRAME_COUNT == frame {
-        1 + page.payload.as_slice().len()
-    } else {
-        0
+    FrameRoom {
+        frame,
+        pages: count,
+        codewords: codewords as u32,
+        room: room_left(steps, frame as u8),
     }
 }
 

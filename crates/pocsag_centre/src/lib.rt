@@ -31,4 +31,4 @@ pub use plan::{
 };
 pub use readback::{run_verify, verify_files};
 pub use report::{BoundedReport, FrameReport, frames_file, report_file, run_frames, run_report};
-pub use round::{certificate_of, round_of};
+pub use round::certificate_of;

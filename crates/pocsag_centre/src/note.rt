@@ -1,4 +1,4 @@
-use csv::{ByteRecord, ReaderBuilder};
+use csv::{ByteRecord, Position, ReaderBuilder};
 use pocsag_pages::{RoundFault, quote_fault};
 use pocsag_shell::{Desk, NamedFile};
 use std::alloc::Global;
@@ -29,20 +29,24 @@ fn ends_line(byte: &u8) -> bool {
     matches!(byte, b'\r' | b'\n')
 }
 
-// The line on which the record of this number begins, and the record up to the end of that line. Each record in front of it
-// has three fields, so reading them takes little memory.
-fn record_at(alloc: Global, file: &[u8], number: u32) -> Option<(usize, &[u8])> {
+// Where a reader stands that has read so many records. Each of them has three fields, so reading them takes little memory.
+fn position_behind(alloc: Global, file: &[u8], count: u32) -> Option<Position> {
     let mut reader = ReaderBuilder::new()
         .has_headers(false)
         .flexible(true)
         .from_reader(alloc, file);
     let mut row = ByteRecord::new(alloc);
-    for _ in 0..number {
+    for _ in 0..count {
         if !reader.read_byte_record(&mut row).unwrap_or(false) {
             return None;
         }
     }
-    let position = reader.position();
+    Some(reader.position())
+}
+
+// The line on which the record of this number begins, and the record up to the end of that line.
+fn record_at(alloc: Global, file: &[u8], number: u32) -> Option<(usize, &[u8])> {
+    let position = position_behind(alloc, file, number)?;
     let rest = file.get(position.byte() as usize..)?;
     let begins = rest.iter().position(|byte| !ends_line(byte))?;
     let (passed, record) = rest.split_at(begins);

@@ -15,8 +15,8 @@ ghost use Rattle.pocsag_shell.specs.declared.fault.FileFault.TheVariants as file
 use crate::demand::refuse_bad_limit;
 use crate::fault::CentreFault;
 use crate::lines::{tell_below, tell_plan};
-use crate::round::{read_pages, round_of};
-use pocsag_pages::Round;
+use crate::round::read_pages;
+use pocsag_pages::{Round, round_of};
 use pocsag_plan::{Bounded, Effort, Search, bounded_plan, bounded_stream, send};
 use pocsag_shell::FileFault;
 use pocsag_words::{End, GrowingSink, Sink, Source};

@@ -14,10 +14,10 @@ ghost use Rattle.pocsag_centre.specs.Verification.{AreAmong, ExplainsReadback, E
 
 use crate::fault::CentreFault;
 use crate::plan::PlanFiles;
-use crate::round::{certificate_of, read_pages, round_of};
+use crate::round::{certificate_of, read_pages};
 use pocsag_check::check;
 use pocsag_decode::decode;
-use pocsag_pages::{Page, Round, leading_len, read_whole};
+use pocsag_pages::{Page, Round, leading_len, read_whole, round_of};
 use pocsag_plan::{Effort, Search};
 use pocsag_shell::put_whole;
 use pocsag_tree::Certificate;
@@ -107,7 +107,10 @@ fn read_back(alloc: Global, bytes: &[u8], round: &Round, end: End) -> Result<usi
     ensures taken { IfOk result (λ batches. IsTransmissionOf end round.now batches bytes.now) }
     ensures explained { IfErr result (ExplainsReadback end round.now bytes.now) }
 {
-    let mut sent = decode(alloc, bytes)?;
+    let mut sent = match decode(alloc, bytes) {
+        Ok(sent) => sent,
+        Err(fault) => return Err(CentreFault::Transmission(fault)),
+    };
     sent.sort_unstable_by_key(|page| page.address);
     if !are_sent(round.pages(), sent.as_slice()) {
         return Err(CentreFault::NotThePages);

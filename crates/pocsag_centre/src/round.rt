@@ -1,13 +1,11 @@
-ghost use Rattle.std.specs.Prelude.{◌≡◌, ◌⊎◌, Err, Ok, IfErr, IfOk};
-ghost use Rattle.pocsag_words.specs.SliceSource.{rest_of};
-ghost use Rattle.pocsag_pages.specs.PageFile.{verdict};
+ghost use Rattle.std.specs.Prelude.{◌≡◌, ◌⊎◌, Err, IfErr, IfOk};
 ghost use Rattle.pocsag_tree.specs.CertificateText.{IsText};
 ghost use Rattle.pocsag_tree.specs.Views.{bound_tree_of};
 ghost use Rattle.pocsag_words.specs.Devices.{HasFailed};
 ghost use Rattle.pocsag_centre.specs.Judgements.{ExplainsCertificate};
 ghost use Rattle.pocsag_centre.specs.Refusals.{ExplainsRound};
 
-use pocsag_pages::{FILE_LIMIT, Round, RoundFault, read_round, read_whole};
+use pocsag_pages::{FILE_LIMIT, RoundFault, read_whole};
 use pocsag_tree::{Certificate, CertificateFault, read_certificate};
 use pocsag_words::{SliceSource, Source};
 use std::alloc::Global;
@@ -19,26 +17,6 @@ pub(crate) fn read_pages<P: Source>(alloc: Global, pages: &mut P) -> Result<Vec<
     ensures failed { result ≡ Err RoundFault.ReadFault → HasFailed (P.failures pages.old) (P.failures pages.new) }
 {
     Ok(read_whole(alloc, pages, FILE_LIMIT)?)
-}
-
-// A source of the bytes of a page file. Where they are too many none of them is copied.
-fn page_source(pages: &[u8]) -> Result<SliceSource<'_>, RoundFault>
-    ensures rest { IfOk result (λ source. rest_of source ≡ pages.now) }
-    ensures too_large { IfErr result (λ fault. verdict pages.now ≡ Err fault) }
-{
-    if pages.len() > FILE_LIMIT {
-        return Err(RoundFault::TooLarge);
-    }
-    Ok(SliceSource::new(pages))
-}
-
-/// The round of the bytes of a page file, or their first fault.
-pub fn round_of(alloc: Global, pages: &[u8]) -> Result<Round, RoundFault>
-    ensures ok { IfOk result (λ round. verdict pages.now ≡ Ok round) }
-    ensures explained { IfErr result (ExplainsRound pages.now) }
-{
-    let mut source = page_source(pages)?;
-    read_round(alloc, &mut source)
 }
 
 /// The certificate that the bytes are a text of, or their first fault.

@@ -12,9 +12,9 @@ ghost use Rattle.pocsag_centre.specs.Refusals.{OrDevice};
 ghost use Rattle.pocsag_findings.specs.Beginnings.{TellsVerdict};
 ghost use Rattle.pocsag_explain.specs.Verdicts.{DoesNotShow, ExplainsUntold, ShowsItsBatches, TookVerdict, TookVerdictPart};
 
-use pocsag_centre::{CentreFault, CheckVerdict, certificate_of, round_of, verdict_on};
+use pocsag_centre::{CentreFault, CheckVerdict, certificate_of, verdict_on};
 use pocsag_findings::{Telling, explanation};
-use pocsag_pages::{Round, read_round};
+use pocsag_pages::{Round, read_round, round_of};
 use pocsag_shell::put_whole;
 use pocsag_tree::{Certificate, read_certificate};
 use pocsag_words::{OutOfMemory, Sink, Source};

@@ -2,6 +2,7 @@
 use Rattle.std.proofs.Common.{◌≡◌, ℕ, ◌+◌, ◌<◌, ◌≤◌, Bool, true, false, ◌⊎◌, inl, inr, List, [], ◌∷◌, ◌++◌, length, refl, sym, ap, ◌∙◌, arith}
 use Rattle.std.specs.Prelude.{Option, Some, None, Result, Ok, Err, IfOk, IfErr, if◌then◌else◌}
 use Rattle.std.proofs.Math.Seq.{append_snoc}
+use Rattle.std.proofs.lemmas.Bool.{cases_lt}
 use Rattle.std.proofs.lemmas.List.{append-nil, length-append}
 use Rattle.pocsag_pages.specs.declared.page.Page.{Page}
 use Rattle.pocsag_pages.specs.declared.fault.FieldFault.TheVariants as field
@@ -128,10 +129,10 @@ not_headed : (b : Bool) (rows : List Row) → (if b then round_of_rows rows else
 not_headed true rows h = not_grown [] 0 rows (sym (judged rows) ∙ h)
 not_headed false rows h = cc
 
-pub never_read : (rows : List Row) → verdict_of_rows rows ≡ Err fault.ReadFault → ⊥
+not_of_rows : (rows : List Row) → verdict_of_rows rows ≡ Err fault.ReadFault → ⊥
 unfolding verdict_of_rows
-never_read [] h = cc
-never_read (header ∷ rows) h = not_headed (is_header header) rows h
+not_of_rows [] h = cc
+not_of_rows (header ∷ rows) h = not_headed (is_header header) rows h
 
 -- the verdict by the header
 pub no_header : verdict_of_rows [] ≡ Err fault.BadHeader
@@ -153,6 +154,14 @@ small_file bytes h = rw (not_above input_limit (length bytes) h) refl
 pub large_file : (bytes : List ℕ) → input_limit < length bytes → verdict bytes ≡ Err fault.TooLarge
 unfolding verdict
 large_file bytes h = rw (is_above input_limit (length bytes) h) refl
+
+-- no bytes are answered by a failed read
+pub never_read : (bytes : List ℕ) → verdict bytes ≡ Err fault.ReadFault → ⊥
+never_read bytes h =
+    elim (cases_lt input_limit (length bytes)) [
+      | inl large ↦ let other = large_file bytes large in cc
+      | inr small ↦ not_of_rows (rows_of bytes) (sym (small_file bytes (omega arith)) ∙ h)
+    ]
 
 -- what is told where the bytes were not read whole
 pub unread : (bytes : List ℕ) (w : WholeFault) (e : RoundFault) → (w ≡ whole.TooLarge → input_limit < length bytes) →

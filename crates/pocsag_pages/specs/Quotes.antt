@@ -1,6 +1,6 @@
 -- Where the quotes of a page file stand. A field that begins with a quote goes on to the quote that closes it, and two quotes in
 -- it stand for one. The bytes are 34 for a quote, 44 for a comma, 13 and 10 for the end of a line.
-use Rattle.std.specs.Prelude.{ℕ, Bool, true, false, List, [], ◌∷◌, ◌+◌, ◌==◌, ◌||◌, Option, Some, None, drop, if◌then◌else◌, nat_eq, take}
+use Rattle.std.specs.Prelude.{ℕ, Bool, false, List, [], ◌∷◌, ◌+◌, ◌==◌, ◌||◌, Option, Some, None, drop, if◌then◌else◌, nat_eq, take}
 use Rattle.std.specs.Cmp.Lexicographic.{pointwise}
 use Rattle.std.specs.Option.{option_or}
 use Rattle.pocsag_pages.specs.declared.fault.QuoteFault.{QuoteFault}

@@ -1,10 +1,10 @@
 ghost use Rattle.std.specs.Prelude.{◌≡◌, ◌∷◌, [], true, false, IfOk, option_map};
-ghost use Rattle.csv.specs.Reading.{default_config, error_kind, records, stops_reader, strip_bom};
+ghost use Rattle.csv.specs.Reading.{default_config, records, strip_bom};
 ghost use Rattle.csv.specs.Records.{fields_of};
 ghost use Rattle.pocsag_pages.specs.PageFile.{only_row, rows_of};
 ghost use Rattle.pocsag_pages.specs.Rows.{StandsAt, rows_left};
 
-use csv::{ByteRecord, Error, ErrorKind, Reader, ReaderBuilder};
+use csv::{ByteRecord, ErrorKind, Reader, ReaderBuilder};
 use pocsag_words::OutOfMemory;
 use std::alloc::Global;
 
@@ -19,17 +19,8 @@ pub(crate) fn rows_reader(alloc: Global, bytes: &[u8]) -> Reader<&[u8]>
         .from_reader(alloc, bytes)
 }
 
-// What stops a reader of bytes in memory: no read of them fails, so a growth was refused.
-fn no_memory(error: Error) -> OutOfMemory
-    requires { stops_reader (error_kind error) ≡ true }
-{
-    match error.into_kind() {
-        ErrorKind::OutOfMemory | ErrorKind::Io(_) => OutOfMemory,
-        _ => unreachable!(),
-    }
-}
-
-// Reads the next record into `row`, and says whether there was one.
+// Reads the next record into `row`, and says whether there was one. No read of bytes in memory fails: what stops the reader is
+// that a growth was refused.
 pub(crate) fn next_row(
     reader: &mut Reader<&[u8]>,
     row: &mut ByteRecord,
@@ -42,7 +33,10 @@ pub(crate) fn next_row(
 {
     match reader.read_byte_record(row) {
         Ok(found) => Ok(found),
-        Err(error) => Err(no_memory(error)),
+        Err(error) => match error.into_kind() {
+            ErrorKind::OutOfMemory | ErrorKind::Io(_) => Err(OutOfMemory),
+            _ => unreachable!(),
+        },
     }
 }
 

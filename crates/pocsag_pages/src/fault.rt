@@ -2,11 +2,9 @@ ghost use Rattle.std.specs.Prelude.{◌≡◌};
 ghost use Rattle.pocsag_pages.specs.PageFile.{field_fault_of, numbered, round_fault_of};
 ghost use Rattle.pocsag_pages.specs.Quotes.{quote_record};
 ghost use Rattle.pocsag_pages.specs.declared.fault.RoundFault.TheVariants as fault;
-ghost use Rattle.pocsag_pages.specs.declared.fault.WholeFault.TheVariants as whole;
 
 use pocsag_text::TextFault;
-use pocsag_words::{DeviceFault, OutOfMemory};
-use std::alloc::{AllocError, AllocFailed};
+use pocsag_words::OutOfMemory;
 use thiserror::Error;
 
 /// Why a page may not stand in a round.
@@ -129,34 +127,10 @@ impl From<TextFault> for FieldFault {
     }
 }
 
-impl From<DeviceFault> for WholeFault {
-    ghost from_gives = { λ _ its. its ≡ whole.ReadFault };
-
-    fn from(_fault: DeviceFault) -> WholeFault {
-        WholeFault::ReadFault
-    }
-}
-
-impl From<AllocError> for WholeFault {
-    ghost from_gives = { λ _ its. its ≡ whole.OutOfMemory };
-
-    fn from(_fault: AllocError) -> WholeFault {
-        WholeFault::OutOfMemory
-    }
-}
-
 impl From<OutOfMemory> for RoundFault {
     ghost from_gives = { λ _ its. its ≡ fault.OutOfMemory };
 
     fn from(_fault: OutOfMemory) -> RoundFault {
-        RoundFault::OutOfMemory
-    }
-}
-
-impl<T: Drop> From<AllocFailed<T>> for RoundFault {
-    ghost from_gives = { λ _ its. its ≡ fault.OutOfMemory };
-
-    fn from(_fault: AllocFailed<T>) -> RoundFault {
         RoundFault::OutOfMemory
     }
 }

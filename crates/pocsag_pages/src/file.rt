@@ -2,7 +2,7 @@ ghost use Rattle.std.specs.Prelude.{◌≡◌, ◌+◌, ◌≤◌, ◌⊎◌, �
 ghost use Rattle.csv.specs.Records.{fields_of};
 ghost use Rattle.pocsag_words.specs.Devices.{HasFailed};
 ghost use Rattle.pocsag_pages.specs.Pages.{page_limit};
-ghost use Rattle.pocsag_pages.specs.PageFile.{fault_after, page_of, pages_of, round_of_rows, rows_of, verdict, verdict_of_rows};
+ghost use Rattle.pocsag_pages.specs.PageFile.{fault_after, page_of, pages_of, round_of_rows, verdict, verdict_of_rows};
 
 use crate::draft::Draft;
 use crate::fault::{FieldFault, RecordFault, RoundFault};
@@ -95,13 +95,14 @@ fn judge_all(
     judge_rows(alloc, reader, row)
 }
 
-// The round of the bytes of a page file that is not too large.
-#[tactic(auto, using(crate::proofs::WideRecords::same_verdict))]
-fn judge_file(alloc: Global, bytes: &[u8]) -> Result<Round, RoundFault>
-    ensures ok { IfOk result (λ r. verdict_of_rows (rows_of bytes.now) ≡ Ok r) }
-    ensures err { IfErr result
-        (λ e. (e ≡ RoundFault.OutOfMemory) ⊎ (verdict_of_rows (rows_of bytes.now) ≡ Err e)) }
+/// The round of the bytes of a page file, or their first fault. Where they are too many none of them is read.
+pub fn round_of(alloc: Global, bytes: &[u8]) -> Result<Round, RoundFault>
+    ensures ok { IfOk result (λ r. verdict bytes.now ≡ Ok r) }
+    ensures err { IfErr result (λ e. (e ≡ RoundFault.OutOfMemory) ⊎ (verdict bytes.now ≡ Err e)) }
 {
+    if bytes.len() > FILE_LIMIT {
+        return Err(RoundFault::TooLarge);
+    }
     let mut reader = RowReader::of(alloc, bytes);
     let mut row = ByteRecord::new(alloc);
     judge_all(alloc, &mut reader, &mut row)
@@ -118,5 +119,5 @@ pub fn read_round<S: Source>(alloc: Global, source: &mut S) -> Result<Round, Rou
     ensures failed { result ≡ Err RoundFault.ReadFault → HasFailed (S.failures source.old) (S.failures source.new) }
 {
     let bytes = read_whole(alloc, source, FILE_LIMIT)?;
-    judge_file(alloc, bytes.as_slice())
+    round_of(alloc, bytes.as_slice())
 }

@@ -22,7 +22,9 @@ fn judge_pages(alloc: Global, pages: &[Page]) -> Result<(), RoundFault>
         if let Some(fault) = page_fault(page) {
             return Err(RoundFault::Record(number, RecordFault::Page(fault)));
         }
-        let added = seen.insert(page.address)?;
+        let Ok(added) = seen.insert(page.address) else {
+            return Err(RoundFault::OutOfMemory);
+        };
         if !added {
             return Err(RoundFault::Record(number, RecordFault::DuplicateAddress));
         }

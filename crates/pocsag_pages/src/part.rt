@@ -1,5 +1,5 @@
 ghost use Rattle.std.specs.Prelude.{◌≡◌};
-ghost use Rattle.pocsag_pages.specs.Quotes.{misplaced, opened_after, part_after, part_behind, record_ends, unclosed};
+ghost use Rattle.pocsag_pages.specs.Quotes.{misplaced, opened_after, part_after, record_ends};
 
 use crate::fault::QuoteFault;
 
@@ -16,29 +16,18 @@ pub(crate) enum Part {
     AfterQuote,
 }
 
-// Where the byte behind one stands that is no quote and that no quotes stand around.
-#[tactic(auto, unfolding(crate::specs::Quotes::part_behind))]
-fn part_behind(byte: u8) -> Part
-    ensures { result ≡ part_behind byte }
-{
-    match byte {
-        b',' => Part::FieldStart,
-        b'\r' | b'\n' => Part::RecordStart,
-        _ => Part::Bare,
-    }
-}
-
 // Where the byte behind one stands.
-#[tactic(auto, unfolding(crate::specs::Quotes::part_after))]
+#[tactic(auto, unfolding(crate::specs::Quotes::part_after, crate::specs::Quotes::part_behind))]
 pub(crate) fn part_after(part: Part, byte: u8) -> Part
     ensures { result ≡ part_after part byte }
 {
-    match part {
-        Part::Quoted if byte == b'"' => Part::AfterQuote,
-        Part::Quoted => Part::Quoted,
-        Part::Bare => part_behind(byte),
-        _ if byte == b'"' => Part::Quoted,
-        _ => part_behind(byte),
+    match (part, byte) {
+        (Part::Quoted, b'"') => Part::AfterQuote,
+        (Part::Quoted, _) => Part::Quoted,
+        (Part::RecordStart | Part::FieldStart | Part::AfterQuote, b'"') => Part::Quoted,
+        (_, b',') => Part::FieldStart,
+        (_, b'\r' | b'\n') => Part::RecordStart,
+        _ => Part::Bare,
     }
 }
 
@@ -65,26 +54,15 @@ pub(crate) fn opened_after(part: Part, byte: u8, line: usize, opened: usize) -> 
 }
 
 // The fault at a byte of the record and the line, if a quote is misplaced there.
-#[tactic(auto, unfolding(crate::specs::Quotes::misplaced, crate::specs::Quotes::part_behind))]
+#[tactic(auto, unfolding(crate::specs::Quotes::misplaced))]
 pub(crate) fn misplaced(part: Part, byte: u8, number: usize, line: usize) -> Option<QuoteFault>
     ensures { result ≡ misplaced part byte number line }
 {
     match part {
         Part::Bare if byte == b'"' => Some(QuoteFault::Inside { number, line }),
-        Part::AfterQuote if byte != b'"' && matches!(part_behind(byte), Part::Bare) => {
+        Part::AfterQuote if !matches!(byte, b'"' | b',' | b'\r' | b'\n') => {
             Some(QuoteFault::Followed { number, line })
         }
-        _ => None,
-    }
-}
-
-// The fault at the end of a file, if a quote of the line is open there.
-#[tactic(auto, unfolding(crate::specs::Quotes::unclosed))]
-pub(crate) fn unclosed(part: Part, number: usize, line: usize) -> Option<QuoteFault>
-    ensures { result ≡ unclosed part number line }
-{
-    match part {
-        Part::Quoted => Some(QuoteFault::Unclosed { number, line }),
         _ => None,
     }
 }

@@ -1,8 +1,8 @@
-ghost use Rattle.std.specs.Prelude.{◌≡◌, ◌+◌, ◌<◌, ◌^◌, if◌then◌else◌};
+ghost use Rattle.std.specs.Prelude.{◌≡◌};
 ghost use Rattle.pocsag_pages.specs.Quotes.{after_mark, first_misplaced};
 
 use crate::fault::QuoteFault;
-use crate::part::{Part, misplaced, opened_after, part_after, record_ends, unclosed};
+use crate::part::{Part, misplaced, opened_after, part_after, record_ends};
 
 /// The first quote of a page file that does not stand as CSV has it: one inside a field that begins without a quote, one
 /// that closes a field of which more follows, or one that is open at the end of the file.
@@ -17,11 +17,17 @@ pub fn quote_fault(file: &[u8]) -> Option<QuoteFault>
             return Some(fault);
         }
         opened = opened_after(part, *byte, line, opened);
-        number = one_more_if(record_ends(part, *byte), number);
-        line = one_more_if(*byte == b'\n', line);
+        number += usize::from(record_ends(part, *byte));
+        line += usize::from(*byte == b'\n');
         part = part_after(part, *byte);
     }
-    unclosed(part, number, opened)
+    match part {
+        Part::Quoted => Some(QuoteFault::Unclosed {
+            number,
+            line: opened,
+        }),
+        _ => None,
+    }
 }
 
 // The bytes behind a byte order mark, if there is one.
@@ -32,12 +38,4 @@ fn behind_mark(file: &[u8]) -> &[u8]
         Some(text) => text,
         None => file,
     }
-}
-
-// The count, or where there is one more the next.
-fn one_more_if(is_more: bool, count: usize) -> usize
-    requires { count + 1 < 2 ^ 64 }
-    ensures { result ≡ if is_more then count + 1 else count }
-{
-    if is_more { count + 1 } else { count }
 }

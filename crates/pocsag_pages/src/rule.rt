@@ -24,13 +24,6 @@ pub fn is_reserved_address(address: u32) -> bool
     matches!(address, 2_007_664..=2_007_671 | 2_045_056..=2_045_063)
 }
 
-// A message where the function takes none.
-fn is_unwanted_message(function: u8, items: &[u32]) -> bool
-    ensures { result ≡ ((function == 1 || function == 2) && not (length items.now == 0)) }
-{
-    (function == 1 || function == 2) && !items.is_empty()
-}
-
 fn has_large_item(items: &[u32]) -> bool
     ensures { result ≡ list_any (nat_le (2 ^ item_width)) items.now }
 {
@@ -44,7 +37,7 @@ fn has_bad_payload(function: u8, items: &[u32]) -> bool
     if function > LAST_FUNCTION {
         return true;
     }
-    if is_unwanted_message(function, items) {
+    if (function == 1 || function == 2) && !items.is_empty() {
         return true;
     }
     if items.len() > ITEM_LIMIT {

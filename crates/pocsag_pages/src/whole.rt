@@ -27,13 +27,17 @@ pub fn read_whole<S: Source>(
     let mut bytes = Vec::new(alloc);
     let mut piece = [0u8; PIECE];
     loop {
-        let count = source.read(&mut piece)?;
+        let Ok(count) = source.read(&mut piece) else {
+            return Err(WholeFault::ReadFault);
+        };
         if count == 0 {
             return Ok(bytes);
         }
         if count > max - bytes.len() {
             return Err(WholeFault::TooLarge);
         }
-        bytes.extend_from_slice(&piece[..count])?;
+        if bytes.extend_from_slice(&piece[..count]).is_err() {
+            return Err(WholeFault::OutOfMemory);
+        }
     }
 }

@@ -13,8 +13,8 @@ are_sent-requires-clause-order c =
 
 pub returns-then-not-are_sent-clause-explained : goal.returns-then-not-are_sent-clause-explained
 returns-then-not-are_sent-clause-explained c = record {
-  pages = c.in_ok-sent.sent.items;
-  reads = c.in_ok-sent.ensures.decoded;
+  pages = c.in-Ok.sent.items;
+  reads = c.in-Ok.ensures.decoded;
   others = λ among.
       let yes = c.are_sent.ensures.1
       (same_others _ _ _ _ _ c.sort_unstable_by_key.ensures.permutation c.as_slice.ensures.value c.pages.ensures.pages among) in
@@ -23,17 +23,17 @@ returns-then-not-are_sent-clause-explained c = record {
 
 pub returns-then-not-ends_as-clause-explained : goal.returns-then-not-ends_as-clause-explained
 returns-then-not-ends_as-clause-explained c =
-    let reads : ReadsAs c.args.bytes.now c.in_ok-sent.sent.items = c.in_ok-sent.ensures.decoded in
+    let reads : ReadsAs c.args.bytes.now c.in-Ok.sent.items = c.in-Ok.ensures.decoded in
     record {
-      pages = c.in_ok-sent.sent.items;
+      pages = c.in-Ok.sent.items;
       reads = reads;
       ends = λ ends. let yes = (c.ends_as.ensures reads.codewords reads.sent).1 ends in cc;
     }
 
 pub returns-clause-taken : goal.returns-clause-taken
 returns-clause-taken c =
-    let sent = c.in_ok-sent.sent.items in
-    let reads : ReadsAs c.args.bytes.now sent = c.in_ok-sent.ensures.decoded in
+    let sent = c.in-Ok.sent.items in
+    let reads : ReadsAs c.args.bytes.now sent = c.in-Ok.ensures.decoded in
     let among = same_pages _ _ _ _ _ c.sort_unstable_by_key.ensures.permutation c.as_slice.ensures.value c.pages.ensures.pages
     (c.are_sent.ensures.0 c.if-not-are_sent.false) in
     transmission c.args.end c.args.round.now c.args.bytes.now sent reads among

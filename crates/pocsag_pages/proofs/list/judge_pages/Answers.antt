@@ -44,7 +44,7 @@ returns-then-not-added-clause-err c =
     let within = c.loop-index-test.true in
     let here = c.index-pages-index.is in
     let there =
-    was_there (take i ps) c.loop-index.seen p.address c.in_ok-added.added c.loop-index.invariant.draft c.in_ok-added.ensures.added
+    was_there (take i ps) c.loop-index.seen p.address c.in-Ok.added c.loop-index.invariant.draft c.in-Ok.ensures.added
     c.if-not-added.true in
     let f = again ps i p within here (sym c.in_default.ensures) there in
     inr (c.loop-index.invariant.rest ∙ rw (left ps i p within here) (fault_here (take i ps) _ p _ f))
@@ -58,11 +58,11 @@ loop-index-preserved c =
     let here = c.index-pages-index.is in
     let unbroken : page_fault_of p ≡ None = sym c.in_default.ensures in
     let another =
-    was_new (take i ps) c.loop-index.seen p.address c.in_ok-added.added c.loop-index.invariant.draft c.in_ok-added.ensures.added
+    was_new (take i ps) c.loop-index.seen p.address c.in-Ok.added c.loop-index.invariant.draft c.in-Ok.ensures.added
     c.if-not-added.false in
     record {
       draft =
-          rw (taken ps i p within here) (draft_push _ _ _ p c.loop-index.invariant.draft unbroken another c.in_ok-added.ensures.updates);
+          rw (taken ps i p within here) (draft_push _ _ _ p c.loop-index.invariant.draft unbroken another c.in-Ok.ensures.updates);
       rest =
           c.loop-index.invariant.rest ∙ rw (left ps i p within here, taken ps i p within here)
           (fault_later (take i ps) _ p (fine ps i p within here unbroken another));
