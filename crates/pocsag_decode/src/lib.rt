@@ -11,7 +11,6 @@ mod laws;
 mod lister;
 mod listing;
 mod open_page;
-mod page_file;
 mod repair;
 mod repaired;
 mod state;
@@ -26,8 +25,7 @@ pub use laws::{
     standing_is_without_fault,
 };
 pub use lister::{list_sent, list_spent};
-pub use listing::{kind_of_page, list, message_of};
-pub use page_file::write_page_file;
+pub use listing::{kind_of_page, list, message_of, write_page_file};
 pub use repair::repair_all;
 pub use repaired::Repaired;
 pub use state::Decoder;
