@@ -1,8 +1,8 @@
 -- Bytes that go on: their whole words, and what follows these.
-use Rattle.std.proofs.Common.{◌≡◌, ◌≢◌, ℕ, ◌+◌, ◌*◌, ◌≤◌, List, [], ◌∷◌, ◌++◌, length, take, drop, refl, sym, ap, ap₂, ◌∙◌, subst, inl, inr, arith, append_assoc, true, false, ◌==◌}
+use Rattle.std.proofs.Common.{◌≡◌, ◌≢◌, ℕ, ◌+◌, ◌-◌, ◌*◌, ◌≤◌, List, [], ◌∷◌, ◌++◌, length, get_or, take, drop, refl, sym, ap, ap₂, ◌∙◌, subst, inl, inr, arith, append_assoc, true, false, ◌==◌}
 use Rattle.std.proofs.lemmas.Bool.{eqb-true, false≢true}
 use Rattle.std.specs.Int.{from_be_bytes, w32}
-use Rattle.std.proofs.lemmas.List.{append-nil, length-append, nil_from_length, take-append-drop}
+use Rattle.std.proofs.lemmas.List.{append-nil, length-append, length-drop, nil_from_length, take-append-drop, take_all}
 use Rattle.pocsag_pages.specs.Bytes.{words_of}
 use Rattle.pocsag_pages.proofs.Lengths.{first_word, words_long}
 use Rattle.pocsag_decode.specs.declared.fault.DecodeFault.{DecodeFault}
@@ -123,6 +123,22 @@ module _ (first now : Body) (bytes rest front back : List ℕ) (t : IsTaking fir
 
 pub split_is : (n : ℕ) (l front back : List ℕ) → front ≡ take n l → back ≡ drop n l → l ≡ front ++ back
 split_is n l front back p q = sym (take-append-drop n l) ∙ ap₂ (λ (x y : List ℕ). x ++ y) (sym p) (sym q)
+
+-- the first element of a list, and the first four
+pub first_one : (l : List ℕ) → 1 ≤ length l → get_or l 0 0 ∷ [] ≡ take 1 l
+first_one [] h = absurd (omega arith)
+first_one (a ∷ l) h = refl
+
+pub first_four : (l : List ℕ) → 4 ≤ length l → get_or l 0 0 ∷ get_or l 1 0 ∷ get_or l 2 0 ∷ get_or l 3 0 ∷ [] ≡ take 4 l
+first_four [] h = absurd (omega arith)
+first_four (a ∷ []) h = absurd (omega arith)
+first_four (a ∷ b ∷ []) h = absurd (omega arith)
+first_four (a ∷ b ∷ c ∷ []) h = absurd (omega arith)
+first_four (a ∷ b ∷ c ∷ d ∷ l) h = refl
+
+-- a list is its front and what is behind it
+pub front_and_tail : (n : ℕ) (l front : List ℕ) → front ≡ take n l → l ≡ front ++ take (length l - n) (drop n l)
+front_and_tail n l front is = split_is n l front _ is (take_all (length l - n) (drop n l) (omega (arith, length-drop n l)))
 
 pub is_nil : (l : List ℕ) → true ≡ (length l == 0) → l ≡ []
 is_nil [] e = refl

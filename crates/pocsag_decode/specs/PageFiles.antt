@@ -1,12 +1,12 @@
 -- A page file of pages: their listing, but that no numeric message loses an item (the format is this project's own).
-use Rattle.std.specs.Prelude.{◌≡◌, ℕ, ◌+◌, ◌-◌, ◌*◌, ◌<◌, ◌==◌, if◌then◌else◌, List, [], ◌∷◌, ◌++◌, length, replicate, Ok}
+use Rattle.std.specs.Prelude.{◌≡◌, Bool, ℕ, ◌+◌, ◌-◌, ◌*◌, ◌<◌, ◌==◌, if◌then◌else◌, List, [], ◌∷◌, ◌++◌, length, replicate, Ok}
 use Rattle.std.specs.List.{flat_map}
 use Rattle.std.specs.Fmt.{decimal}
 use Rattle.csv.specs.Writing.{default_writer, row_text}
 use Rattle.pocsag_text.specs.Characters.{space}
 use Rattle.pocsag_text.specs.Text.{alpha_payload, numeric_payload}
 use Rattle.pocsag_pages.specs.declared.page.Page.{Page}
-use Rattle.pocsag_decode.specs.Listing.{header, kind_field, message_field}
+use Rattle.pocsag_decode.specs.Listing.{header, kind_field, message_field, record_of}
 
 -- How many numeric characters a message codeword holds (a rule of Annex 1).
 abbrev pub item_digits : ℕ
@@ -31,6 +31,14 @@ page_record p = decimal p.address ∷ kind_field p.function p.payload ∷ whole_
 -- The page file: the header and then a record for each page.
 unfoldable pub page_file : List Page → List ℕ
 page_file ps = row_text default_writer header ++ flat_map (λ p. row_text default_writer (page_record p)) ps
+
+-- The record of a page, in a page file or in a listing.
+abbrev pub record_in : Bool → Page → List (List ℕ)
+record_in for_file p = if for_file then page_record p else record_of p
+
+-- The page file of pages, or their listing.
+abbrev pub pages_text : Bool → List Page → List ℕ
+pages_text for_file ps = row_text default_writer header ++ flat_map (λ p. row_text default_writer (record_in for_file p)) ps
 
 -- A payload that a text has, with the function: none, that of a numeric text, or that of an alphanumeric text. The pages
 -- of page files, and those of an open round, have such payloads.

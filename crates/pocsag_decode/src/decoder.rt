@@ -6,10 +6,12 @@ ghost use Rattle.pocsag_pages.specs.Listable.{IsListable};
 ghost use Rattle.pocsag_decode.specs.States.{HasStopped, StandsAfter};
 
 use crate::body::Body;
+use crate::carry::Carry;
 use crate::fault::DecodeFault;
+use crate::open_page::Growing;
 use crate::state::Decoder;
 use pocsag_pages::{Page, leading_len};
-use pocsag_words::PREAMBLE_BYTES;
+use pocsag_words::{BATCH_BYTES, PREAMBLE_BYTES};
 use std::alloc::Global;
 
 // The fewest bytes AA that a transmission begins with.
@@ -23,7 +25,15 @@ impl Decoder {
         Decoder {
             has_failed: false,
             leading: 0,
-            body: Body::new(alloc),
+            body: Body {
+                place: 0,
+                carry: Carry::None,
+                growing: Growing {
+                    alloc,
+                    pages: Vec::new(alloc),
+                    current: None,
+                },
+            },
         }
     }
 
@@ -68,17 +78,18 @@ impl Decoder {
         if self.has_failed {
             return Err(DecodeFault::Failed);
         }
-        let judged = self.judge_end();
         self.has_failed = true;
-        judged?;
-        Ok(self.body.finish()?)
-    }
-
-    // How many bytes came.
-    fn size(&self) -> u64
-        ensures { result ≡ self.now.leading + size_of self.now.body.place self.now.body.carry }
-    {
-        self.leading + self.body.size()
+        if self.leading < PREAMBLE {
+            return Err(DecodeFault::ShortPreamble);
+        }
+        let size = self.body.size();
+        if size == 0 {
+            return Err(DecodeFault::NoBatch);
+        }
+        if size % (BATCH_BYTES as u64) != 0 {
+            return Err(DecodeFault::Truncated);
+        }
+        Ok(self.body.growing.finish()?)
     }
 
     // Counts the bytes AA with which the piece begins, where no other byte came before; gives the rest
@@ -94,7 +105,7 @@ impl Decoder {
             (self.new.leading ≡ leading (X ++ piece.entry.now))
             × (after_preamble (X ++ piece.entry.now) ≡ after_preamble X ++ result.now) }
     {
-        if !self.body.is_empty() {
+        if self.body.size() > 0 {
             return piece;
         }
         let count = leading_len(piece);
@@ -107,7 +118,7 @@ impl Decoder {
         ensures stands { (X : List ℕ) → StandsAfter self.old X → OnOk result (StandsAfter self.new (X ++ piece.now)) }
         ensures refused { (X : List ℕ) → StandsAfter self.old X → IfErr result (RefusesPiece X piece.now) }
     {
-        if piece.len() as u64 > u64::MAX - self.size() {
+        if piece.len() as u64 > u64::MAX - (self.leading + self.body.size()) {
             return Err(DecodeFault::TooMuch);
         }
         let rest = self.skip_preamble(piece);
@@ -118,23 +129,5 @@ impl Decoder {
             return Err(DecodeFault::ShortPreamble);
         }
         self.body.take(rest)
-    }
-
-    fn judge_end(&self) -> Result<(), DecodeFault>
-        ensures long { OnOk result (72 ≤ self.now.leading) }
-        ensures some { OnOk result (0 < size_of self.now.body.place self.now.body.carry) }
-        ensures whole { OnOk result (size_of self.now.body.place self.now.body.carry % 68 ≡ 0) }
-        ensures fault { (X : List ℕ) → StandsAfter self.now X → IfErr result (HasFaultOfEnd X) }
-    {
-        if self.leading < PREAMBLE {
-            return Err(DecodeFault::ShortPreamble);
-        }
-        if self.body.is_empty() {
-            return Err(DecodeFault::NoBatch);
-        }
-        if !self.body.is_whole() {
-            return Err(DecodeFault::Truncated);
-        }
-        Ok(())
     }
 }

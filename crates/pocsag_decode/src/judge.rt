@@ -57,24 +57,16 @@ fn judge_kind(place: u64, may: bool, codeword: u32) -> Result<bool, DecodeFault>
     }
 }
 
-// Judges the word at the place of a codeword.
-fn judge_codeword(place: u64, may: bool, number: u32) -> Result<bool, DecodeFault>
-    requires { 0 < place % 17 }
-    ensures { JudgesMore result place may (number ∷ []) }
-{
-    let Some(_) = from_raw(number) else {
-        return Err(DecodeFault::BadWord(index_at(place)));
-    };
-    judge_kind(place, may, number)
-}
-
 // Judges the word at a place, where a message codeword may follow or not.
 #[inline(always)]
 fn judge_word(place: u64, may: bool, word: u32) -> Result<bool, DecodeFault>
     ensures { JudgesMore result place may (word ∷ []) }
 {
     if place % BATCH > 0 {
-        return judge_codeword(place, may, word);
+        return match from_raw(word) {
+            Some(_) => judge_kind(place, may, word),
+            None => Err(DecodeFault::BadWord(index_at(place))),
+        };
     }
     if word != SYNC_WORD {
         return Err(DecodeFault::NoSync(place / BATCH));
@@ -111,21 +103,6 @@ fn words_in(batch: &[u8]) -> [u32; WORDS]
     numbers
 }
 
-// Whether all of these numbers, as many as the codewords of a batch, are codewords.
-fn are_codewords(numbers: &[u32]) -> bool
-    requires { length numbers.now ≡ 16 }
-    ensures { IsTrue result ↔ All IsCodeword numbers.now }
-{
-    let mut flags = [false; BATCH_CODEWORDS];
-    check_all(numbers, &mut flags);
-    for i in 0..BATCH_CODEWORDS {
-        if !flags[i] {
-            return false;
-        }
-    }
-    true
-}
-
 // Judges codewords of one batch by what they say, the first of them at this place.
 fn judge_kinds(place: u64, may: bool, codewords: &[u32]) -> Result<bool, DecodeFault>
     requires codewords { All IsCodeword codewords.now }
@@ -155,7 +132,9 @@ fn judge_batch(place: u64, may: bool, batch: &[u8]) -> Result<bool, DecodeFault>
     }
     let words = words_in(batch);
     let codewords = &words[1..];
-    if words[0] != SYNC_WORD || !are_codewords(codewords) {
+    let mut flags = [false; BATCH_CODEWORDS];
+    check_all(codewords, &mut flags);
+    if words[0] != SYNC_WORD || flags.contains(&false) {
         return judge_words(place, may, batch);
     }
     judge_kinds(place + 1, may, codewords)

@@ -11,7 +11,6 @@ mod laws;
 mod lister;
 mod listing;
 mod open_page;
-mod page_file;
 mod repair;
 mod repaired;
 mod state;
@@ -24,8 +23,7 @@ pub use laws::{
     readings_of_bytes_are_one, repair_restores,
 };
 pub use lister::{list_sent, list_spent};
-pub use listing::{kind_of_page, list, message_of};
-pub use page_file::write_page_file;
+pub use listing::{kind_of_page, list, message_of, write_page_file};
 pub use repair::repair_all;
 pub use repaired::Repaired;
 pub use state::Decoder;

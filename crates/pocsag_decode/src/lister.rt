@@ -62,19 +62,6 @@ pub(crate) struct Lister {
 }
 
 impl Lister {
-    fn new(alloc: Global) -> Result<Lister, AllocError>
-        ensures can { IfOk result CanList }
-        ensures current { IfOk result (λ l. l.current ≡ None) }
-        ensures text { IfOk result (λ l. text_in l.records ≡ row_text default_writer header) }
-    {
-        Ok(Lister {
-            alloc,
-            records: begun(alloc)?,
-            current: None,
-            room: Vec::new(alloc),
-        })
-    }
-
     // Takes one codeword more, which stands in this frame. A message codeword where no page is open is passed over.
     fn take(&mut self, frame: u32, kind: Kind) -> Result<(), AllocError>
         requires can { CanList self.old }
@@ -88,10 +75,19 @@ impl Lister {
             Kind::Idle => self.close(),
             Kind::Address { high, function } => {
                 self.close()?;
-                self.open(8 * high + frame, function);
+                let mut items = mem::replace(&mut self.room, Vec::new(self.alloc));
+                items.clear();
+                self.current = Some(OpenPage {
+                    address: 8 * high + frame,
+                    function,
+                    items,
+                });
                 Ok(())
             }
-            Kind::Message(bits) => self.extend(bits),
+            Kind::Message(bits) => match &mut self.current {
+                Some(page) => Ok(page.items.push(bits)?),
+                None => Ok(()),
+            },
         }
     }
 
@@ -120,55 +116,6 @@ impl Lister {
         Ok(())
     }
 
-    // Opens a page of no items.
-    fn open(&mut self, address: u32, function: u8)
-        requires can { CanList self.old }
-        requires function { function < 4 }
-        ensures can { CanList self.new }
-        ensures records { self.new.records ≡ self.old.records }
-        ensures current { closed self.new.current
-            ≡ record { address = address; function = function; payload = [] } ∷ [] }
-    {
-        let mut items = mem::replace(&mut self.room, Vec::new(self.alloc));
-        items.clear();
-        self.current = Some(OpenPage {
-            address,
-            function,
-            items,
-        });
-    }
-
-    // Puts an item behind those of the open page.
-    fn extend(&mut self, bits: u32) -> Result<(), AllocError>
-        requires can { CanList self.old }
-        requires fits { bits < 2 ^ 20 }
-        ensures can { OnOk result (CanList self.new) }
-        ensures reads { OnOk result ((i : ℕ) (ks : List Kind) →
-            still_listed self.old i (Kind.Message bits ∷ ks) ≡ still_listed self.new (i + 1) ks) }
-    {
-        match &mut self.current {
-            Some(page) => Ok(page.items.push(bits)?),
-            None => Ok(()),
-        }
-    }
-
-    // Takes the codewords of a batch.
-    fn take_codewords(&mut self, bytes: &[u8]) -> Result<(), AllocError>
-        requires can { CanList self.old }
-        requires long { length bytes.now ≡ 64 }
-        ensures can { OnOk result (CanList self.new) }
-        ensures reads { OnOk result ((i : ℕ) (ks : List Kind) → i % 16 ≡ 0 →
-            still_listed self.old i (map kind_of (words_of bytes.now) ++ ks) ≡ still_listed self.new (i + 16) ks) }
-    {
-        let (words, _) = bytes.as_chunks::<4>();
-        let mut slot = 0;
-        for word in words {
-            self.take(slot / 2, kind_of_number(u32::from_be_bytes(*word)))?;
-            slot += 1;
-        }
-        Ok(())
-    }
-
     // Takes a batch.
     fn take_batch(&mut self, batch: &[u8]) -> Result<(), AllocError>
         requires can { CanList self.old }
@@ -183,7 +130,13 @@ impl Lister {
             return Ok(());
         }
         let (_, codewords) = batch.split_at(4);
-        self.take_codewords(codewords)
+        let (words, _) = codewords.as_chunks::<4>();
+        let mut slot = 0;
+        for word in words {
+            self.take(slot / 2, kind_of_number(u32::from_be_bytes(*word)))?;
+            slot += 1;
+        }
+        Ok(())
     }
 }
 
@@ -222,7 +175,12 @@ pub fn list_sent<S: Sink>(alloc: Global, bytes: &[u8], sink: &mut S) -> Result<(
 {
     let (_, rest) = bytes.split_at(leading_len(bytes));
     let len = rest.len() / BATCH_BYTES * BATCH_BYTES;
-    let mut lister = Lister::new(alloc)?;
+    let mut lister = Lister {
+        alloc,
+        records: begun(alloc)?,
+        current: None,
+        room: Vec::new(alloc),
+    };
     list_batches(&mut lister, &rest[..len], sink)
 }
 

@@ -7,6 +7,7 @@ ghost use Rattle.pocsag_decode.specs.Lines.{IsReady, PutsRow, text_in};
 ghost use Rattle.pocsag_decode.specs.Faults.{TellsFailures};
 ghost use Rattle.pocsag_pages.specs.Listable.{IsListable};
 ghost use Rattle.pocsag_decode.specs.Listing.{header, hex_digit, hex_digits, kind_field, listing, message_field, record_of};
+ghost use Rattle.pocsag_decode.specs.PageFiles.{page_file, record_in, pages_text, whole_message};
 
 use crate::fault::ListFault;
 use csv::Writer;
@@ -19,6 +20,9 @@ use std::mem;
 // The most bytes of records that wait before they are written, beside those of one page: of a listing up to that length
 // want of memory writes nothing.
 const PIECE: usize = 1_048_576;
+
+// The numeric characters that a message codeword holds.
+const ITEM_CHARACTERS: usize = 5;
 
 // The most items whose room is kept.
 const KEPT_ITEMS: usize = 4_096;
@@ -34,24 +38,19 @@ fn hex_digit(digit: u32) -> u8
     }
 }
 
-fn hex_digits(item: u32) -> [u8; 5]
-    ensures { result ≡ hex_digits item }
-{
-    [
-        hex_digit(item / 65536 % 16),
-        hex_digit(item / 4096 % 16),
-        hex_digit(item / 256 % 16),
-        hex_digit(item / 16 % 16),
-        hex_digit(item % 16),
-    ]
-}
-
 fn hex_text(alloc: Global, items: &[u32]) -> Result<Vec<u8>, OutOfMemory>
     ensures { IfOk result (λ v. v.items ≡ flat_map hex_digits items.now) }
 {
     let mut text = Vec::new(alloc);
     for item in items {
-        let Ok(()) = text.extend_from_slice(&hex_digits(*item)) else {
+        let digits = [
+            hex_digit(item / 65536 % 16),
+            hex_digit(item / 4096 % 16),
+            hex_digit(item / 256 % 16),
+            hex_digit(item / 16 % 16),
+            hex_digit(item % 16),
+        ];
+        let Ok(()) = text.extend_from_slice(&digits) else {
             return Err(OutOfMemory);
         };
     }
@@ -113,14 +112,42 @@ pub(crate) fn put_record(
     }
 }
 
-fn put_page(alloc: Global, writer: &mut Writer<Vec<u8>>, page: &Page) -> Result<(), AllocError>
+// The message of a page, with the spaces that its last message codeword needs in order to be sent again.
+#[tactic(auto, unfolding(crate::specs::PageFiles::whole_message))]
+fn whole_message(alloc: Global, function: u8, items: &[u32]) -> Result<Vec<u8>, OutOfMemory>
+    requires { All (λ item. item < 2 ^ 20) items.now }
+    ensures { IfOk result (λ v. v.items ≡ whole_message function items.now) }
+{
+    if items.is_empty() {
+        return Ok(Vec::new(alloc));
+    }
+    let mut text = message_of(alloc, function, items)?;
+    if function == 0 {
+        let least = ITEM_CHARACTERS * (items.len() - 1) + 1;
+        text.resize(text.len().max(least), b' ')?;
+    }
+    Ok(text)
+}
+
+// Writes the record of a page, as a page file or as a listing has it.
+fn put_page(
+    alloc: Global,
+    writer: &mut Writer<Vec<u8>>,
+    for_file: bool,
+    page: &Page,
+) -> Result<(), AllocError>
     requires ready { IsReady writer.old }
     requires listable { IsListable page.now }
-    ensures { PutsRow result writer.old writer.new (record_of page.now) }
+    ensures { PutsRow result writer.old writer.new (record_in for_file page.now) }
 {
     let address = format!(in alloc; "{}", page.address)?;
     let items = page.payload.as_slice();
-    let Ok(message) = message_of(alloc, page.function, items) else {
+    let message = if for_file {
+        whole_message(alloc, page.function, items)
+    } else {
+        message_of(alloc, page.function, items)
+    };
+    let Ok(message) = message else {
         return Err(AllocError);
     };
     let kind = kind_of_page(page.function, items);
@@ -219,14 +246,14 @@ pub(crate) fn pour_many<S: Sink>(
     pour(alloc, writer, sink)
 }
 
-#[tactic(auto, unfolding(crate::specs::Listing::listing))]
-fn listing_of(alloc: Global, pages: &[Page]) -> Result<Vec<u8>, AllocError>
+// The page file of pages, or their listing.
+fn pages_text(alloc: Global, for_file: bool, pages: &[Page]) -> Result<Vec<u8>, AllocError>
     requires { All IsListable pages.now }
-    ensures { IfOk result (λ v. v.items ≡ listing pages.now) }
+    ensures { IfOk result (λ v. v.items ≡ pages_text for_file pages.now) }
 {
     let mut writer = begun(alloc)?;
     for page in pages {
-        put_page(alloc, &mut writer, page)?;
+        put_page(alloc, &mut writer, for_file, page)?;
     }
     match writer.into_inner() {
         Ok(text) => Ok(text),
@@ -237,6 +264,7 @@ fn listing_of(alloc: Global, pages: &[Page]) -> Result<Vec<u8>, AllocError>
 /// Writes the listing of the pages: the record `address,kind,message` and then a record for each page.
 /// The functions are at most 3 and the items below 1,048,576. After `OutOfMemory` nothing was written,
 /// after `WriteFault` a prefix.
+#[tactic(auto, unfolding(crate::specs::Listing::listing))]
 pub fn list<S: Sink>(alloc: Global, pages: &[Page], sink: &mut S) -> Result<(), ListFault>
     requires { All IsListable pages.now }
     ensures whole { S.tells → OnOk result (S.taken sink.new ≡ S.taken sink.old ++ listing pages.now) }
@@ -247,7 +275,30 @@ pub fn list<S: Sink>(alloc: Global, pages: &[Page], sink: &mut S) -> Result<(), 
     // A device's fault is answered only where that device failed.
     ensures failures { TellsFailures result ListFault.WriteFault (S.failures sink.old) (S.failures sink.new) }
 {
-    let text = listing_of(alloc, pages)?;
+    let text = pages_text(alloc, false, pages)?;
+    write_all(sink, text.as_slice())?;
+    Ok(())
+}
+
+/// Writes a page file of the pages: the listing, but that a numeric message keeps those spaces at its end that its last
+/// message codeword needs in order to be sent again. The functions are at most 3 and the items below 1,048,576. After
+/// `OutOfMemory` nothing was written, after `WriteFault` a prefix.
+#[tactic(auto, unfolding(crate::specs::PageFiles::page_file))]
+pub fn write_page_file<S: Sink>(
+    alloc: Global,
+    pages: &[Page],
+    sink: &mut S,
+) -> Result<(), ListFault>
+    requires { All IsListable pages.now }
+    ensures whole { S.tells → OnOk result (S.taken sink.new ≡ S.taken sink.old ++ page_file pages.now) }
+    ensures part { S.tells → result ≡ Err ListFault.WriteFault →
+        TookPrefix (S.taken sink.old) (S.taken sink.new) (page_file pages.now) }
+    ensures untouched { result ≡ Err ListFault.OutOfMemory → sink.new ≡ sink.old }
+
+    // A device's fault is answered only where that device failed.
+    ensures failures { TellsFailures result ListFault.WriteFault (S.failures sink.old) (S.failures sink.new) }
+{
+    let text = pages_text(alloc, true, pages)?;
     write_all(sink, text.as_slice())?;
     Ok(())
 }

@@ -21,32 +21,14 @@ pub(crate) struct OpenPage {
 // The pages of the codewords that were read.
 #[derive(Drop)]
 pub(crate) struct Growing {
-    alloc: Global,
+    pub(crate) alloc: Global,
     // Those that are finished.
-    pages: Vec<Page>,
+    pub(crate) pages: Vec<Page>,
     // The one that a message codeword would continue.
-    current: Option<OpenPage>,
+    pub(crate) current: Option<OpenPage>,
 }
 
 impl Growing {
-    pub(crate) fn new(alloc: Global) -> Growing
-        ensures pages { result.pages.items ≡ [] }
-        ensures current { result.current ≡ None }
-    {
-        Growing {
-            alloc,
-            pages: Vec::new(alloc),
-            current: None,
-        }
-    }
-
-    // Whether a message codeword may follow.
-    pub(crate) fn is_open(&self) -> bool
-        ensures { result ≡ is_some self.now.current }
-    {
-        self.current.is_some()
-    }
-
     // Takes one codeword more, which stands in this frame.
     pub(crate) fn take(&mut self, frame: u32, kind: Kind) -> Result<(), AllocError>
         requires ranges { IsInRange kind }
@@ -61,7 +43,7 @@ impl Growing {
         ensures memory { OnErr result (IsTrue (is_some self.old.current)) }
     {
         match kind {
-            Kind::Idle if !self.is_open() => Ok(()),
+            Kind::Idle if self.current.is_none() => Ok(()),
             Kind::Idle => self.close(),
             Kind::Address { high, function } => {
                 self.close()?;
@@ -72,7 +54,10 @@ impl Growing {
                 });
                 Ok(())
             }
-            Kind::Message(bits) => self.take_message(bits),
+            Kind::Message(bits) => match &mut self.current {
+                Some(page) => Ok(page.items.push(bits)?),
+                None => unreachable!(),
+            },
         }
     }
 
@@ -97,19 +82,6 @@ impl Growing {
             payload,
         })?;
         Ok(())
-    }
-
-    fn take_message(&mut self, bits: u32) -> Result<(), AllocError>
-        requires { IsTrue (is_some self.old.current) }
-        ensures reads { OnOk result ((i : ℕ) (ks : List Kind) →
-            self.old.pages.items ++ resumed i self.old.current (Kind.Message bits ∷ ks)
-            ≡ self.new.pages.items ++ resumed (i + 1) self.new.current ks) }
-        ensures current { OnOk result (is_some self.new.current ≡ true) }
-    {
-        match &mut self.current {
-            Some(page) => Ok(page.items.push(bits)?),
-            None => unreachable!(),
-        }
     }
 
     // Finishes the open page and hands all the pages out.

@@ -41,34 +41,6 @@ fn word_at(bytes: &[u8], at: usize) -> u32
     u32::from_be_bytes([bytes[at], bytes[at + 1], bytes[at + 2], bytes[at + 3]])
 }
 
-// Puts the bytes of a word from an index on.
-fn set_word(bytes: &mut [u8], at: usize, word: u32)
-    requires { at + 4 ≤ length bytes.old }
-    ensures { bytes.new ≡ take at bytes.old ++ (to_be_bytes w32 word ++ drop (at + 4) bytes.old) }
-{
-    let [first, second, third, fourth] = word.to_be_bytes();
-    bytes[at] = first;
-    bytes[at + 1] = second;
-    bytes[at + 2] = third;
-    bytes[at + 3] = fourth;
-}
-
-// The counts with those of one word more.
-fn with_word(told: Repaired, before: u32, after: u32) -> Repaired
-    requires words { told.words + 1 < 2 ^ 64 }
-    requires bits { told.bits + count_ones (bit_xor after before) < 2 ^ 64 }
-    ensures words { result.words ≡ told.words + (if after == before then 0 else 1) }
-    ensures bits { result.bits ≡ told.bits + count_ones (bit_xor after before) }
-{
-    if after == before {
-        return told;
-    }
-    Repaired {
-        words: told.words + 1,
-        bits: told.bits + u64::from((after ^ before).count_ones()),
-    }
-}
-
 /// Repairs a transmission in place, for whatever addresses it is: of the whole words after the bytes AA that stand first,
 /// each becomes the only codeword that differs from it in at most two bits, and the first of each seventeen, where the
 /// synchronisation codeword is due, that codeword. A word with more wrong bits stays as it is, and so do all other bytes.
@@ -90,8 +62,9 @@ pub fn repair_all(bytes: &mut [u8]) -> Repaired
     while bytes.len() - at >= 4 {
         let before = word_at(bytes, at);
         let after = repaired_word(place, before);
-        set_word(bytes, at, after);
-        told = with_word(told, before, after);
+        bytes[at..at + 4].copy_from_slice(&after.to_be_bytes());
+        told.words += u64::from(after != before);
+        told.bits += u64::from((after ^ before).count_ones());
         at += 4;
         place += 1;
     }

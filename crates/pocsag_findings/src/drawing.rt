@@ -3,11 +3,10 @@ ghost use Rattle.std.specs.Prelude.{ℕ, ◌++◌, IfOk, string_bytes};
 ghost use Rattle.pocsag_findings.specs.Beginnings.{BeginsWith, drawing_head, verdict_words};
 
 use crate::columns::{most_of, push_columns};
-use crate::explained::first_words;
 use crate::finding::Finding;
 use crate::lines::{Margins, push_lines};
 use crate::node_number::Numbering;
-use crate::outline::{conclusion, first_refused, write_node_line};
+use crate::outline::{conclusion, first_refused, first_words, write_node_line};
 use crate::subject::Subject;
 use std::alloc::{AllocError, Global};
 
@@ -65,19 +64,7 @@ impl Sheet {
         Ok(())
     }
 
-    // Adds the line of a node, and its columns on a scale of so many codewords.
-    fn put_node(&mut self, line: &str, most: u64, finding: &Finding) -> Result<(), AllocError> {
-        self.text.push_str("<g class='d'>\n")?;
-        self.put_words(line)?;
-        let top = self.height;
-        write!(self.text, "<g transform='translate(0 {top})'>\n")?;
-        push_columns(&mut self.text, most, finding)?;
-        self.text.push_str("</g></g>\n")?;
-        self.height = self.height.saturating_add(COLUMNS_HEIGHT);
-        Ok(())
-    }
-
-    // Adds the nodes of which columns are found, one below the other, on one scale.
+    // Adds the nodes of which columns are found, one below the other, each with its line and its columns on one scale.
     fn put_nodes(&mut self, alloc: Global, subject: &Subject<'_>) -> Result<(), AllocError> {
         let most = most_of(subject.findings);
         let mut numbering = Numbering {
@@ -88,7 +75,13 @@ impl Sheet {
             numbering.step(finding.depth)?;
             if finding.columns.len() > 0 {
                 write_node_line(&mut line, subject.refuted, &numbering, finding)?;
-                self.put_node(line.as_str(), most, finding)?;
+                self.text.push_str("<g class='d'>\n")?;
+                self.put_words(line.as_str())?;
+                let top = self.height;
+                write!(self.text, "<g transform='translate(0 {top})'>\n")?;
+                push_columns(&mut self.text, most, finding)?;
+                self.text.push_str("</g></g>\n")?;
+                self.height = self.height.saturating_add(COLUMNS_HEIGHT);
             }
         }
         Ok(())

@@ -1,12 +1,13 @@
 ghost use Rattle.std.specs.Prelude.{IfOk, string_bytes};
-ghost use Rattle.pocsag_findings.specs.Beginnings.{BeginsWith, TellsVerdict, verdict_words};
+ghost use Rattle.pocsag_findings.specs.Beginnings.{TellsVerdict};
 
 use crate::drawing::drawing;
 use crate::facts::facts;
 use crate::form::Telling;
+use crate::judgement::DRAWN_DEPTH;
 use crate::kind::kinds_of;
 use crate::listing::findings;
-use crate::outline::{outline, summary};
+use crate::outline::{first_words, outline};
 use crate::subject::Subject;
 use pocsag_pages::Round;
 use pocsag_slots::classes_of;
@@ -27,10 +28,10 @@ pub fn explanation(
         TellsVerdict telling is_shown certificate.now.end certificate.now.batches (string_bytes text)) }
 {
     let classes = classes_of(round, certificate.end);
-    let depth = if is_shown {
-        telling.depth()
-    } else {
-        DEPTH_LIMIT
+    let depth = match telling {
+        _ if !is_shown => DEPTH_LIMIT,
+        Telling::Lines(depth) | Telling::Facts(depth) => depth,
+        Telling::Drawing => DRAWN_DEPTH,
     };
     let found = findings(alloc, &classes, certificate, depth)?;
     let kinds = kinds_of(alloc, round, certificate.end, &classes)?;
@@ -57,17 +58,5 @@ fn told(alloc: Global, telling: Telling, subject: &Subject<'_>) -> Result<String
         }
         Telling::Facts(depth) => facts(alloc, subject, depth),
         Telling::Drawing => drawing(alloc, subject),
-    }
-}
-
-/// The first line of the text, or of the drawing its title.
-pub(crate) fn first_words(alloc: Global, subject: &Subject<'_>) -> Result<String, AllocError>
-    ensures { IfOk result (λ text. BeginsWith
-        (verdict_words subject.now.is_shown subject.now.refuted.end subject.now.batches) (string_bytes text)) }
-{
-    if subject.is_shown {
-        summary(alloc, subject)
-    } else {
-        format!(in alloc; "not shown")
     }
 }

@@ -40,7 +40,7 @@ fn verdict(alloc: Global, subject: &Subject<'_>) -> Result<String, AllocError>
     format!(in alloc; r#"{{"shown":{is_shown},"end":"{end}","batches":{batches},"#)
 }
 
-// The members after them, with the findings no deeper than so.
+// The members after them, with the nodes no deeper than so; the root, which stands at depth 1, is the first.
 fn other_members(alloc: Global, subject: &Subject<'_>, depth: u32) -> Result<String, AllocError> {
     let Subject {
         pages,
@@ -60,20 +60,7 @@ fn other_members(alloc: Global, subject: &Subject<'_>, depth: u32) -> Result<Str
         Some(_) => write!(text, "\"{numbering}\"")?,
         None => text.push_str("null")?,
     }
-    push_nodes(alloc, &mut text, findings, depth)?;
-    Ok(text)
-}
-
-// Adds the nodes no deeper than so; the root, which stands at depth 1, is the first.
-fn push_nodes(
-    alloc: Global,
-    text: &mut String,
-    findings: &[Finding],
-    depth: u32,
-) -> Result<(), AllocError> {
-    let mut numbering = Numbering {
-        path: Vec::new(alloc),
-    };
+    numbering.path.clear();
     text.push_str(",\"listed\":[")?;
     for finding in findings {
         numbering.step(finding.depth)?;
@@ -89,7 +76,8 @@ fn push_nodes(
             )?;
         }
     }
-    text.push_str("]}\n")
+    text.push_str("]}\n")?;
+    Ok(text)
 }
 
 // How a node is reached from the one above it.

@@ -8,13 +8,3 @@ pub enum Telling {
     /// As a drawing of its root and of the nodes right below it.
     Drawing,
 }
-
-impl Telling {
-    /// How deep the nodes are that are told.
-    pub fn depth(self) -> u32 {
-        match self {
-            Telling::Lines(depth) | Telling::Facts(depth) => depth,
-            Telling::Drawing => 2,
-        }
-    }
-}

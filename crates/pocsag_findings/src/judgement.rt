@@ -16,7 +16,7 @@ use pocsag_tree::Tree;
 use pocsag_words::{End, OutOfMemory};
 
 // How deep the nodes are of which the columns are found: the root, and the nodes right below it.
-const DRAWN_DEPTH: u32 = 2;
+pub(crate) const DRAWN_DEPTH: u32 = 2;
 
 // Whether what a node states meets the rule of its kind, for the end and so many batches.
 pub(crate) fn is_met(fact: Fact, end: End, batches: u32) -> bool
@@ -48,18 +48,6 @@ fn may_cut(classes: &Classes, limits: &Limits, set: u16, class: u8) -> bool
     (class as usize) < CLASSES && is_certain(classes, limits, set, class)
 }
 
-// What a split at m states.
-fn split_fact(limits: &Limits, class: u8, m: u16) -> Fact
-    ensures { result ≡ Split class m (slice_index limits.now.lo class) (slice_index limits.now.hi class) }
-{
-    let (lo, hi) = if (class as usize) < CLASSES {
-        (limits.lo[class as usize], limits.hi[class as usize])
-    } else {
-        (0, 0)
-    };
-    Fact::Split { class, m, lo, hi }
-}
-
 // The least load of the set of slots, as the sum of those by each class.
 fn least_of_set(classes: &Classes, limits: &Limits, set: u16) -> u64
     requires { AreInOrder classes.now limits.now }
@@ -80,18 +68,6 @@ fn column_of(inquiry: &Inquiry, limits: &Limits, slot: u8) -> Column
     }
 }
 
-// The columns of the sixteen slots under the limits.
-fn columns_of(inquiry: &Inquiry, limits: &Limits) -> Result<Vec<Column>, OutOfMemory>
-    requires { AreInOrder inquiry.now.classes.now limits.now }
-    ensures { IfOk result (λ found. found.items ≡ columns_of inquiry.now.classes.now limits.now) }
-{
-    let mut found = Vec::new(inquiry.alloc);
-    for slot in 0..SLOTS as u8 {
-        found.push(column_of(inquiry, limits, slot))?;
-    }
-    Ok(found)
-}
-
 // The columns that are found of a node below so many.
 pub(crate) fn columns_at(
     inquiry: &Inquiry,
@@ -101,11 +77,14 @@ pub(crate) fn columns_at(
     requires { AreInOrder inquiry.now.classes.now limits.now }
     ensures { IfOk result (λ found. found.items ≡ columns_at inquiry.now.classes.now limits.now above) }
 {
-    if above < DRAWN_DEPTH {
-        columns_of(inquiry, limits)
-    } else {
-        Ok(Vec::new(inquiry.alloc))
+    let mut found = Vec::new(inquiry.alloc);
+    if above >= DRAWN_DEPTH {
+        return Ok(found);
     }
+    for slot in 0..SLOTS as u8 {
+        found.push(column_of(inquiry, limits, slot))?;
+    }
+    Ok(found)
 }
 
 // What the node states under the limits. Its room for the ways is not part of a level of `put_node`.
@@ -120,7 +99,12 @@ pub(crate) fn fact_of(inquiry: &Inquiry, limits: &Limits, tree: &Tree) -> Fact
             least: least_of_set(inquiry.classes, limits, *set),
             room: total_cap(limits, *set),
         },
-        Tree::Split { class, m, .. } => split_fact(limits, *class, *m),
+        Tree::Split { class, m, .. } => Fact::Split {
+            class: *class,
+            m: *m,
+            lo: limits.lo.get(*class as usize).copied().unwrap_or(0),
+            hi: limits.hi.get(*class as usize).copied().unwrap_or(0),
+        },
         Tree::Cut {
             set,
             needed,
@@ -140,27 +124,7 @@ pub(crate) fn fact_of(inquiry: &Inquiry, limits: &Limits, tree: &Tree) -> Fact
     }
 }
 
-// The shares of the classes in the least load of the set of slots.
-fn shares_of(inquiry: &Inquiry, limits: &Limits, set: u16) -> Result<Vec<Share>, OutOfMemory>
-    requires { AreInOrder inquiry.now.classes.now limits.now }
-    ensures { IfOk result (λ found. found.items ≡ shares_of inquiry.now.classes.now limits.now set) }
-{
-    let classes = inquiry.classes;
-    let mut found = Vec::new(inquiry.alloc);
-    for class in 0..CLASSES as u8 {
-        let least = least_by_class(classes, limits, set, Class { number: class });
-        if 0 < least {
-            found.push(Share {
-                class,
-                pages: classes.count[class as usize],
-                least,
-            })?;
-        }
-    }
-    Ok(found)
-}
-
-// The shares that the node states.
+// The shares that the node states: of an overload those of the classes in the least load of its set.
 #[inline(never)]
 pub(crate) fn shares_at(
     inquiry: &Inquiry,
@@ -171,23 +135,21 @@ pub(crate) fn shares_at(
     ensures { IfOk result
         (λ found. found.items ≡ shares_at inquiry.now.classes.now limits.now (bound_tree_of tree.now)) }
 {
-    match tree {
-        Tree::Overload(set) => shares_of(inquiry, limits, *set),
-        _ => Ok(Vec::new(inquiry.alloc)),
+    let mut found = Vec::new(inquiry.alloc);
+    let Tree::Overload(set) = tree else {
+        return Ok(found);
+    };
+    for class in 0..CLASSES as u8 {
+        let least = least_by_class(inquiry.classes, limits, *set, Class { number: class });
+        if 0 < least {
+            found.push(Share {
+                class,
+                pages: inquiry.classes.count[class as usize],
+                least,
+            })?;
+        }
     }
-}
-
-// How many pages of the class start early under the limits.
-fn early_limits(inquiry: &Inquiry, limits: &Limits, class: u8) -> Narrowed
-    requires { class < 136 }
-    ensures { result ≡ early_limits inquiry.now.classes.now limits.now class }
-{
-    Narrowed {
-        class,
-        pages: inquiry.classes.count[class as usize],
-        lo: limits.lo[class as usize],
-        hi: limits.hi[class as usize],
-    }
+    Ok(found)
 }
 
 // Whether not each number of the pages may start early.
@@ -204,7 +166,12 @@ pub(crate) fn narrowed_of(inquiry: &Inquiry, limits: &Limits) -> Result<Vec<Narr
 {
     let mut found = Vec::new(inquiry.alloc);
     for number in 0..CLASSES as u8 {
-        let early = early_limits(inquiry, limits, number);
+        let early = Narrowed {
+            class: number,
+            pages: inquiry.classes.count[number as usize],
+            lo: limits.lo[number as usize],
+            hi: limits.hi[number as usize],
+        };
         if is_narrower(early) {
             found.push(early)?;
         }

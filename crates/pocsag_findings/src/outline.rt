@@ -1,5 +1,5 @@
 //! A certificate as an indented list.
-ghost use Rattle.std.specs.Prelude.{true, IfOk, string_bytes};
+ghost use Rattle.std.specs.Prelude.{IfOk, string_bytes};
 ghost use Rattle.pocsag_findings.specs.Beginnings.{BeginsWith, verdict_words};
 
 use crate::finding::Finding;
@@ -30,7 +30,7 @@ pub(crate) fn margins(indent: usize) -> Margins {
     }
 }
 
-/// What follows the first words: a line for each finding, how many nodes are not listed, and the conclusion; or, if the
+/// What follows the first words: a line for each finding and one for its limits, where they say more than those of the root, how many nodes are not listed, and the conclusion; or, if the
 /// checker does not accept the certificate, the first node that does not hold.
 pub(crate) fn outline(alloc: Global, subject: &Subject<'_>) -> Result<String, AllocError> {
     let mut text = format!(in alloc; "\n")?;
@@ -39,7 +39,22 @@ pub(crate) fn outline(alloc: Global, subject: &Subject<'_>) -> Result<String, Al
         push_lines(&mut text, margins(0), refused.as_str())?;
         return Ok(text);
     }
-    push_nodes(alloc, &mut text, subject)?;
+    let mut numbering = Numbering {
+        path: Vec::new(alloc),
+    };
+    let mut words = String::new(alloc);
+    for finding in subject.findings {
+        numbering.step(finding.depth)?;
+        let indent = (finding.depth as usize).saturating_sub(1).saturating_mul(2);
+        write_node_line(&mut words, subject.refuted, &numbering, finding)?;
+        push_lines(&mut text, margins(indent), words.as_str())?;
+        let limits = LimitWords(subject.refuted, finding);
+        words.clear();
+        write!(words, "{limits}")?;
+        if words.len() > 0 {
+            push_lines(&mut text, margins(indent.saturating_add(2)), words.as_str())?;
+        }
+    }
     let below = subject.nodes.saturating_sub(subject.findings.len() as u64);
     if below > 0 {
         let nodes = Counted(below, "node");
@@ -62,32 +77,14 @@ pub(crate) fn conclusion(alloc: Global, refuted: Refuted<'_>) -> Result<String, 
     format!(in alloc; "so {batches} {verb} not suffice{end}")
 }
 
-// Adds a line for each finding, and one for its limits, where they say more than those of the root.
-fn push_nodes(alloc: Global, text: &mut String, subject: &Subject<'_>) -> Result<(), AllocError> {
-    let mut numbering = Numbering {
-        path: Vec::new(alloc),
-    };
-    let mut words = String::new(alloc);
-    for finding in subject.findings {
-        numbering.step(finding.depth)?;
-        let indent = (finding.depth as usize).saturating_sub(1).saturating_mul(2);
-        write_node_line(&mut words, subject.refuted, &numbering, finding)?;
-        push_lines(text, margins(indent), words.as_str())?;
-        let limits = LimitWords(subject.refuted, finding);
-        words.clear();
-        write!(words, "{limits}")?;
-        if words.len() > 0 {
-            push_lines(text, margins(indent.saturating_add(2)), words.as_str())?;
-        }
-    }
-    Ok(())
-}
-
-/// What is shown, and what the round and the batches hold.
-pub(crate) fn summary(alloc: Global, subject: &Subject<'_>) -> Result<String, AllocError>
-    ensures { IfOk result (λ text.
-        BeginsWith (verdict_words true subject.now.refuted.end subject.now.batches) (string_bytes text)) }
+/// The first line of the text, or of the drawing its title: what is shown, and what the round and the batches hold.
+pub(crate) fn first_words(alloc: Global, subject: &Subject<'_>) -> Result<String, AllocError>
+    ensures { IfOk result (λ text. BeginsWith
+        (verdict_words subject.now.is_shown subject.now.refuted.end subject.now.batches) (string_bytes text)) }
 {
+    if !subject.is_shown {
+        return format!(in alloc; "not shown");
+    }
     let held = held_words(alloc, subject)?;
     let batches = subject.batches;
     let noun = if batches == 1 { "batch" } else { "batches" };

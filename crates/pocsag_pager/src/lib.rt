@@ -2,7 +2,6 @@
 //! A simulated pager: what the receiver of one address shows of a transmission, up to two wrong
 //! bits of each codeword repaired.
 
-mod address;
 mod fault;
 mod laws;
 mod pager;

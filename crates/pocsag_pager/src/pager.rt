@@ -1,10 +1,9 @@
 ghost use Rattle.std.specs.Prelude.{◌≡◌, ◌+◌, ◌<◌, ◌≤◌, drop, length, take};
 ghost use Rattle.std.specs.Int.{from_be_bytes, w32};
 
-use crate::address::fault_of_address;
 use crate::fault::PagerFault;
 use crate::turn::{Change, calls, change_at, heard_as, opens};
-use pocsag_pages::Page;
+use pocsag_pages::{LAST_ADDRESS, Page, is_reserved_address};
 use pocsag_words::{BATCH_WORDS, numbers_are_repaired};
 use std::alloc::Global;
 use std::mem;
@@ -49,14 +48,18 @@ impl Pager {
 
     /// A pager that has heard nothing yet, which takes no memory. It refuses an address above
     /// 2,097,151 (`BadAddress`) and then a reserved one (`ReservedAddress`).
+    #[tactic(auto, unfolding(crate::specs::Faults::address_fault))]
     pub fn new(alloc: Global, address: u32) -> Result<Pager, PagerFault>
         ensures stands { IfOk result (λ p. Stands p []) }
         ensures address { IfOk result (λ p. pager_address p ≡ address) }
         ensures ok { OnOk result (address_fault address ≡ None) }
         ensures err { IfErr result (λ e. address_fault address ≡ Some e) }
     {
-        if let Some(fault) = fault_of_address(address) {
-            return Err(fault);
+        if address > LAST_ADDRESS {
+            return Err(PagerFault::BadAddress);
+        }
+        if is_reserved_address(address) {
+            return Err(PagerFault::ReservedAddress);
         }
         Ok(Pager {
             alloc,

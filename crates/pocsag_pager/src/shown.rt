@@ -1,7 +1,7 @@
 ghost use Rattle.std.specs.Prelude.{◌≡◌, ◌≤◌, ◌⊎◌, ◌==◌, ◌%◌, ℕ, List, [], ◌++◌, length, filter, All, None, IfOk, IfErr, IsSome, OnErr, OnOk, MatchResult, option_to_list};
 ghost use Rattle.pocsag_words.specs.declared.ending.End.{End};
 ghost use Rattle.pocsag_pages.specs.declared.page.Page.{Page};
-ghost use Rattle.pocsag_pages.specs.Bytes.{after_preamble, bytes_of, leading, words_of};
+ghost use Rattle.pocsag_pages.specs.Bytes.{after_preamble, bytes_of, words_of};
 ghost use Rattle.pocsag_pages.specs.Pages.{IsRound};
 ghost use Rattle.pocsag_pages.specs.Reading.{IsLegalList};
 ghost use Rattle.pocsag_pager.specs.Damage.{IsDamaged};
@@ -17,15 +17,6 @@ use pocsag_pages::{Page, leading_len};
 use pocsag_words::{BATCH_BYTES, PREAMBLE_BYTES};
 use std::alloc::{AllocError, Global};
 
-// The bytes after the leading bytes AA, of which there are so many.
-fn after_leading(bytes: &[u8], count: usize) -> &[u8]
-    requires count { count ≡ leading bytes.now }
-    requires within { count ≤ length bytes.now }
-    ensures { result.now ≡ after_preamble bytes.now }
-{
-    &bytes[count..]
-}
-
 // The bytes after the preamble, which must be whole batches, at least one.
 #[tactic(auto, unfolding(crate::specs::Faults::bytes_fault))]
 fn whole_batches(bytes: &[u8]) -> Result<&[u8], PagerFault>
@@ -35,7 +26,7 @@ fn whole_batches(bytes: &[u8]) -> Result<&[u8], PagerFault>
     ensures err { IfErr result (λ e. bytes_fault bytes.now ≡ Some e) }
 {
     let count = leading_len(bytes);
-    let rest = after_leading(bytes, count);
+    let (_, rest) = bytes.split_at(count);
     if count < PREAMBLE_BYTES {
         return Err(PagerFault::ShortPreamble);
     }
@@ -86,20 +77,8 @@ fn hear_part(pager: &mut Pager, pages: &mut Vec<Page>, bytes: &[u8]) -> Result<(
     hear_each(pager, pages, bytes)
 }
 
-// Hears a batch in three parts: what is before the address's frame, the frame, and what is after it.
-fn hear_parts(pager: &mut Pager, pages: &mut Vec<Page>, batch: &[u8]) -> Result<(), PagerFault>
-    requires { length batch.now ≡ 68 }
-    ensures heard { Hears result pager.old pager.new pages.old.items pages.new.items batch.now }
-    ensures memory { WantsForPage result pager.old pages.old.items batch.now }
-{
-    let (before, rest) = batch.split_at(4 + 8 * pager.frame());
-    let (frame, after) = rest.split_at(8);
-    hear_part(pager, pages, before)?;
-    hear_each(pager, pages, frame)?;
-    hear_part(pager, pages, after)
-}
-
-// Hears a batch, or passes over it unheard if it changes nothing.
+// Hears a batch, unless it changes nothing, in three parts: what is before the address's frame, the frame, and what is
+// after it.
 #[inline(always)]
 fn hear_batch(pager: &mut Pager, pages: &mut Vec<Page>, batch: &[u8]) -> Result<(), PagerFault>
     requires { length batch.now ≡ 68 }
@@ -109,7 +88,11 @@ fn hear_batch(pager: &mut Pager, pages: &mut Vec<Page>, batch: &[u8]) -> Result<
     if pager.is_deaf_to(batch) {
         return Ok(());
     }
-    hear_parts(pager, pages, batch)
+    let (before, rest) = batch.split_at(4 + 8 * pager.frame());
+    let (frame, after) = rest.split_at(8);
+    hear_part(pager, pages, before)?;
+    hear_each(pager, pages, frame)?;
+    hear_part(pager, pages, after)
 }
 
 // What a pager that has heard nothing shows of the words of these whole batches.

@@ -51,24 +51,6 @@ pub(crate) fn calls(address: u32, word: u32) -> bool
     }
 }
 
-// The page with the bits of one more message codeword.
-fn extended(page: Page, bits: u32) -> Result<Page, AllocError>
-    ensures { IfOk result (λ p. p ≡ record page { payload = page.payload ++ bits ∷ [] }) }
-{
-    let Page {
-        address,
-        function,
-        payload,
-    } = page;
-    let mut items = payload.into_vec();
-    items.push(bits)?;
-    Ok(Page {
-        address,
-        function,
-        payload: Payload::from_vec(items),
-    })
-}
-
 // The page that is open after a word, and the page that ends at it.
 pub(crate) struct Change {
     pub(crate) kept: Option<Page>,
@@ -94,10 +76,15 @@ pub(crate) fn change_at(
     let ended = kept;
     match heard {
         Some(Kind::Message(bits)) => match ended {
-            Some(page) => Ok(Change {
-                kept: Some(extended(page, bits)?),
-                ended: None,
-            }),
+            Some(page) => {
+                let mut items = page.payload.into_vec();
+                items.push(bits)?;
+                let payload = Payload::from_vec(items);
+                Ok(Change {
+                    kept: Some(Page { payload, ..page }),
+                    ended: None,
+                })
+            }
             None => Ok(Change {
                 kept: None,
                 ended: None,

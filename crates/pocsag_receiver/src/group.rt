@@ -158,18 +158,14 @@ fn tell_heard(desk: Desk<'_>, first: u64, heard: &[Heard]) {
             polarity,
             batches,
         } = reception;
-        let polarity = polarity_name(polarity);
+        let polarity = match polarity {
+            Polarity::Upright => "upright",
+            Polarity::Inverted => "inverted",
+        };
         let line = format_args!(
             "pocsag: transmission {number}: bit {bit}, {polarity}, batches {batches}, corrected bits {corrected}, lost words {lost}\n"
         );
         let _ = tell(&mut desk.err(), line);
         number = number.saturating_add(1);
-    }
-}
-
-fn polarity_name(polarity: Polarity) -> &'static str {
-    match polarity {
-        Polarity::Upright => "upright",
-        Polarity::Inverted => "inverted",
     }
 }

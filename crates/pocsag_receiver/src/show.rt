@@ -18,14 +18,6 @@ use pocsag_show::{View, show};
 use pocsag_words::{BATCH_BYTES, Sink, Source};
 use std::alloc::Global;
 
-// How many whole batches follow the leading bytes AA.
-fn rows_in(bytes: &[u8]) -> u64
-    ensures { (codewords : List ℕ) → (sent : Sent bytes.now codewords) → result ≡ sent.batches }
-{
-    let (_, rest) = bytes.split_at(leading_len(bytes));
-    (rest.len() / BATCH_BYTES) as u64
-}
-
 // Rows of which a transmission has none are refused, once its bytes read as pages.
 fn refuse_rows(view: View, bytes: &[u8]) -> Result<(), ReceiverFault>
     ensures rows { OnOk result (HasRows view bytes.now) }
@@ -35,7 +27,8 @@ fn refuse_rows(view: View, bytes: &[u8]) -> Result<(), ReceiverFault>
     let Some(rows) = view.rows() else {
         return Ok(());
     };
-    let batches = rows_in(bytes);
+    let (_, rest) = bytes.split_at(leading_len(bytes));
+    let batches = (rest.len() / BATCH_BYTES) as u64;
     if rows.first <= batches {
         return Ok(());
     }

@@ -143,17 +143,6 @@ pub(crate) const RECEIVER_COMMANDS: &[Shape] = &[
     SHOW_SHAPE,
 ];
 
-// The rows that a word names: A-B, A- or A.
-fn named_rows(word: &str) -> Option<Rows> {
-    let (first, last) = word.split_once('-').unwrap_or((word, word));
-    let last = if last.is_empty() {
-        u64::MAX
-    } else {
-        number_of(last)?
-    };
-    Rows::new(number_of(first)?, last)
-}
-
 // The number of decimal digits alone.
 fn number_of(word: &str) -> Option<u64> {
     if word.starts_with('+') {
@@ -162,10 +151,19 @@ fn number_of(word: &str) -> Option<u64> {
     word.parse::<u64>().ok()
 }
 
-/// How `show` is asked to show a transmission; nothing where the word for the rows names none.
+/// How `show` is asked to show a transmission; the rows are A-B, A- or A. Nothing where the word for
+/// them names none.
 pub(crate) fn wanted_view(found: &ArgMatches<'_>) -> Option<View> {
     let rows = match found.get_str(ROWS) {
-        Some(word) => named_rows(word)?,
+        Some(word) => {
+            let (first, last) = word.split_once('-').unwrap_or((word, word));
+            let last = if last.is_empty() {
+                u64::MAX
+            } else {
+                number_of(last)?
+            };
+            Rows::new(number_of(first)?, last)?
+        }
         None => Rows::all(),
     };
     Some(if found.get_flag(SVG) {

@@ -1,6 +1,6 @@
-ghost use Rattle.std.specs.Prelude.{◌≡◌, ◌<◌, ◌++◌, OnOk};
+ghost use Rattle.std.specs.Prelude.{◌≡◌, ◌+◌, ◌*◌, ◌^◌, ◌<◌, ◌≤◌, ◌++◌, OnOk};
 ghost use Rattle.std.specs.List.{flat_map, range_with_len};
-ghost use Rattle.pocsag_show.specs.Drawing.{counted, frame_number, front, seen_before, slot_number, told_before};
+ghost use Rattle.pocsag_show.specs.Drawing.{axis_number, counted, front, seen_before, told_before};
 
 use crate::counts::Counts;
 use crate::picture::{CODEWORDS, FRAMES, put_counts, put_totals};
@@ -43,31 +43,26 @@ fn put_told_before(
     )
 }
 
-// Writes the numbers of the frames over the rows.
+// Writes the numbers below this one over the rows, the first of them at x, each so far from the one before.
 #[tactic(auto, unfolding(crate::specs::Drawing::axis_number))]
-fn put_frame_numbers(text: &mut Vec<u8>) -> Result<(), AllocError>
-    ensures { OnOk result (text.new.items ≡ text.old.items ++ flat_map frame_number (range_with_len 0 8)) }
+fn put_axis(
+    text: &mut Vec<u8>,
+    count: usize,
+    x: usize,
+    pitch: usize,
+    y: usize,
+) -> Result<(), AllocError>
+    requires few { count ≤ 16 }
+    requires near { x < 2 ^ 16 }
+    requires close { pitch < 2 ^ 16 }
+    ensures { OnOk result (text.new.items ≡ text.old.items
+        ++ flat_map (λ i. axis_number (x + pitch * i) y i) (range_with_len 0 count)) }
 {
-    for frame in 0..FRAMES {
-        let (x, y) = (108 + 56 * frame, 60usize);
+    for number in 0..count {
+        let x = x + pitch * number;
         put_printed(
             text,
-            format_args!("<text class='m' x='{x}' y='{y}'>{frame}</text>"),
-        )?;
-    }
-    Ok(())
-}
-
-// Writes the numbers of the slots under them.
-#[tactic(auto, unfolding(crate::specs::Drawing::axis_number))]
-fn put_slot_numbers(text: &mut Vec<u8>) -> Result<(), AllocError>
-    ensures { OnOk result (text.new.items ≡ text.old.items ++ flat_map slot_number (range_with_len 0 16)) }
-{
-    for slot in 0..CODEWORDS {
-        let (x, y) = (94 + 28 * slot, 74usize);
-        put_printed(
-            text,
-            format_args!("<text class='m' x='{x}' y='{y}'>{slot}</text>"),
+            format_args!("<text class='m' x='{x}' y='{y}'>{number}</text>"),
         )?;
     }
     Ok(())
@@ -113,8 +108,8 @@ fn put_seen_before(
         b"<text class='e' x='74' y='60'>frame</text><text class='e' x='74' y='74'>slot</text>\
         <text class='e' x='50' y='74'>batch</text>",
     )?;
-    put_frame_numbers(text)?;
-    put_slot_numbers(text)?;
+    put_axis(text, FRAMES, 108, 56, 60)?;
+    put_axis(text, CODEWORDS, 94, 28, 74)?;
     put(text, b"\n")
 }
 

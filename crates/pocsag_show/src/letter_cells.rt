@@ -1,24 +1,17 @@
-ghost use Rattle.std.specs.Prelude.{◌≡◌, ◌∷◌, [], OnOk, slice_index};
+ghost use Rattle.std.specs.Prelude.{◌≡◌, ◌+◌, ◌%◌, ◌<◌, ◌∷◌, [], OnOk, slice_index};
 ghost use Rattle.pocsag_show.specs.Grid.{letter_after};
-ghost use Rattle.pocsag_show.specs.Numbers.{capital, small};
 ghost use Rattle.pocsag_show.specs.Cells.{Took};
 
 use crate::grid::{Grid, LETTERS};
 use pocsag_words::Kind;
-use std::alloc::{AllocError, Global};
+use std::alloc::AllocError;
 
-/// The capital letter of a page with this number.
-pub(crate) fn capital_letter(number: usize) -> u8
-    ensures { result ≡ capital number }
+/// The letter of a page with this number, where A or a is the first.
+pub(crate) fn letter_of(first: u8, number: usize) -> u8
+    requires { first < 128 }
+    ensures { result ≡ first + number % 26 }
 {
-    b'A' + (number % LETTERS) as u8
-}
-
-/// Its small letter.
-pub(crate) fn small_letter(number: usize) -> u8
-    ensures { result ≡ small number }
-{
-    b'a' + (number % LETTERS) as u8
+    first + (number % LETTERS) as u8
 }
 
 /// What stands at an index of a list, or 0 behind its end.
@@ -34,24 +27,12 @@ fn letter_after(numbers: &[usize], pages: usize, kind: Kind) -> u8
 {
     match kind {
         Kind::Idle => b'.',
-        Kind::Address { .. } => capital_letter(entry_at(numbers, pages)),
-        Kind::Message(_) => small_letter(entry_at(numbers, pages.saturating_sub(1))),
+        Kind::Address { .. } => letter_of(b'A', entry_at(numbers, pages)),
+        Kind::Message(_) => letter_of(b'a', entry_at(numbers, pages.saturating_sub(1))),
     }
 }
 
 impl Grid {
-    pub(crate) fn new(alloc: Global) -> Grid
-        ensures letters { result.letters.items ≡ [] }
-        ensures starts { result.starts.items ≡ [] }
-        ensures idles { result.idles ≡ 0 }
-    {
-        Grid {
-            letters: Vec::new(alloc),
-            starts: Vec::new(alloc),
-            idles: 0,
-        }
-    }
-
     /// Takes the next codeword, of pages with these numbers.
     pub(crate) fn take(&mut self, numbers: &[usize], kind: Kind) -> Result<(), AllocError>
         ensures { OnOk result (Took numbers.now self.old self.new (kind ∷ [])) }

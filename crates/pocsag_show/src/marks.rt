@@ -3,7 +3,7 @@ ghost use Rattle.pocsag_show.specs.Marks.{head, opened, rectangle, tail};
 ghost use Rattle.pocsag_show.specs.Numbers.{turn};
 
 use crate::grid::LETTERS;
-use crate::letter_cells::{capital_letter, small_letter};
+use crate::letter_cells::letter_of;
 use crate::pieces::{put, put_printed};
 use crate::style::HUES;
 use std::alloc::AllocError;
@@ -54,7 +54,7 @@ pub(crate) fn put_head(
             "<rect class='k' x='{x}' y='{y}' width='24' height='18'/><text class='l' x='{middle}' y='{base}'>"
         ),
     )?;
-    put_label(text, capital_letter(number), number)?;
+    put_label(text, letter_of(b'A', number), number)?;
     put(text, b"</text>")
 }
 
@@ -75,7 +75,7 @@ pub(crate) fn put_tail(
         text,
         format_args!("<text class='m' x='{middle}' y='{base}'>"),
     )?;
-    put_label(text, small_letter(number), number)?;
+    put_label(text, letter_of(b'a', number), number)?;
     put(text, b"</text>")
 }
 

@@ -3,7 +3,7 @@ ghost use Rattle.std.specs.List.{flat_map};
 ghost use Rattle.pocsag_pages.specs.Listable.{IsListable};
 ghost use Rattle.pocsag_show.specs.Escapes.{escaped, told};
 
-use crate::letter_cells::capital_letter;
+use crate::letter_cells::letter_of;
 use crate::marks::put_label;
 use crate::pieces::{put, put_printed};
 use crate::placed::Placed;
@@ -31,15 +31,6 @@ fn put_escaped(text: &mut Vec<u8>, byte: u8) -> Result<(), AllocError>
     }
 }
 
-fn put_all_escaped(text: &mut Vec<u8>, message: &[u8]) -> Result<(), AllocError>
-    ensures { OnOk result (text.new.items ≡ text.old.items ++ flat_map escaped message.now) }
-{
-    for byte in message {
-        put_escaped(text, *byte)?;
-    }
-    Ok(())
-}
-
 /// Writes what is told of a page: its label, address, kind and, where it has one, message.
 #[tactic(auto, unfolding(crate::specs::Escapes::told, crate::specs::Escapes::told_message))]
 pub(crate) fn put_told(alloc: Global, text: &mut Vec<u8>, placed: &Placed) -> Result<(), AllocError>
@@ -48,7 +39,7 @@ pub(crate) fn put_told(alloc: Global, text: &mut Vec<u8>, placed: &Placed) -> Re
 {
     let page = &placed.page;
     let (address, items) = (page.address, page.payload.as_slice());
-    put_label(text, capital_letter(placed.number), placed.number)?;
+    put_label(text, letter_of(b'A', placed.number), placed.number)?;
     put_printed(text, format_args!(": address {address}, "))?;
     put(text, kind_of_page(page.function, items))?;
     if items.is_empty() {
@@ -58,5 +49,8 @@ pub(crate) fn put_told(alloc: Global, text: &mut Vec<u8>, placed: &Placed) -> Re
     let Ok(message) = message_of(alloc, page.function, items) else {
         return Err(AllocError);
     };
-    put_all_escaped(text, message.as_slice())
+    for byte in message.as_slice() {
+        put_escaped(text, *byte)?;
+    }
+    Ok(())
 }

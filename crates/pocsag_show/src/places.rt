@@ -1,19 +1,11 @@
 ghost use Rattle.std.specs.Prelude.{◌≡◌, ◌<◌, ◌^◌};
 ghost use Rattle.pocsag_show.specs.Legend.{end_row_of, first_row_of, is_drawn};
-ghost use Rattle.pocsag_show.specs.Measures.{cell_left, row_top};
+ghost use Rattle.pocsag_show.specs.Measures.{row_top};
 ghost use Rattle.pocsag_show.specs.Placed.{index_behind};
 
 use crate::picture::CODEWORDS;
 use crate::placed::Placed;
 use crate::window::Window;
-
-/// The left side of the codeword at an index.
-pub(crate) fn cell_left(index: usize) -> u128
-    ensures value { result ≡ cell_left index }
-    ensures small { result < 2 ^ 127 }
-{
-    80 + 28 * (index % CODEWORDS) as u128
-}
 
 /// The upper side of a row, where this row is drawn first.
 pub(crate) fn row_top(low: usize, row: usize) -> u128

@@ -1,12 +1,19 @@
-use Rattle.std.proofs.Common.{◌≡◌, ◌∷◌, ℕ, List, length, take, drop, get_or, replicate, sym, ap, subst, ◌∙◌, arith, Ok, false}
-use Rattle.std.proofs.lemmas.List.{drop_more, length-drop, take_all}
+use Rattle.std.proofs.Common.{◌≡◌, ◌<◌, ◌∷◌, ℕ, Bool, List, length, take, drop, get_or, replicate, refl, sym, ap, subst, ◌∙◌, arith, Ok, true, false}
+use Rattle.std.proofs.Math.Bool.{beq}
+use Rattle.std.proofs.lemmas.Bool.{true≢false}
+use Rattle.std.proofs.lemmas.List.{drop_more, get_or_default, length-drop, length-take, take_all}
 use Rattle.std.proofs.lemmas.Slice.Eq.{bytes_eq-Decides}
+use Rattle.pocsag_words.specs.Codeword.{IsCodeword}
 use Rattle.pocsag_words.specs.Kinds.{idle_word}
 use Rattle.pocsag_pages.specs.Bytes.{sync_word, words_of}
 use Rattle.pocsag_pages.proofs.Lengths.{words_long}
 use Rattle.pocsag_decode.specs.Judgements.{JudgesMore}
 use Rattle.pocsag_decode.proofs.Fine.{fine_after_sync, fine_idles}
 use Rattle.pocsag_decode.proofs.judge.judge_batch.Goals as goal
+
+set_flag : (flag : Bool) → beq flag false ≡ false → flag ≡ true
+set_flag true e = refl
+set_flag false e = absurd (true≢false e)
 
 pub returns-then-eq : goal.returns-then-eq
 returns-then-eq c =
@@ -15,7 +22,10 @@ returns-then-eq c =
     subst (JudgesMore (Ok false) c.args.place c.args.may) (sym same) (fine_idles c.args.place c.args.may c.requires.first)
 
 pub judge_kinds-requires-clause-codewords : goal.judge_kinds-requires-clause-codewords
-judge_kinds-requires-clause-codewords c = c.are_codewords.ensures.0 c.if-not-are_codewords.false
+judge_kinds-requires-clause-codewords c = λ k d h.
+    let few : k < length c.check_all.new.flags = omega (arith, length-take 16 (drop 1 c.words_in-words.result)) in
+    subst IsCodeword (get_or_default (take 16 (drop 1 c.words_in-words.result)) k 0 d h)
+    ((c.check_all.ensures k h).0 (set_flag _ (c.if-contains.ensures.cases k false (omega arith) few)))
 
 pub returns : goal.returns
 returns c =

@@ -1,4 +1,4 @@
-use Rattle.pocsag_findings.proofs.Prelude.{sym, ◌∙◌}
+use Rattle.pocsag_findings.proofs.Prelude.{refl, sym, ◌∙◌}
 use Rattle.std.proofs.Common.{rules}
 use Rattle.pocsag_findings.proofs.Narrows.{narrowed_added, narrowed_missing}
 use Rattle.pocsag_slots.proofs.WayLemmas.{joined_none}
@@ -12,9 +12,9 @@ pub loop-number-preserved : goal.loop-number-preserved
 loop-number-preserved c =
     elim c.if-is_narrower.branch [
       | then-is_narrower+in_ok-push w ↦
-          narrowed_added c.args.inquiry.now.classes.now c.args.limits.now c.loop-number.number c.early_limits-early.result c.is_narrower.result
-          c.loop-number.found.items _ c.early_limits-early.ensures c.is_narrower.ensures w.if-is_narrower.true c.loop-number.invariant (search rules)
+          narrowed_added c.args.inquiry.now.classes.now c.args.limits.now c.loop-number.number _ c.is_narrower.result
+          c.loop-number.found.items _ refl c.is_narrower.ensures w.if-is_narrower.true c.loop-number.invariant (search rules)
       | else-is_narrower w ↦
-          narrowed_missing c.args.inquiry.now.classes.now c.args.limits.now c.loop-number.number c.early_limits-early.result c.is_narrower.result
-          _ c.early_limits-early.ensures c.is_narrower.ensures w.if-is_narrower.false cc
+          narrowed_missing c.args.inquiry.now.classes.now c.args.limits.now c.loop-number.number _ c.is_narrower.result
+          _ refl c.is_narrower.ensures w.if-is_narrower.false cc
     ]

@@ -1,9 +1,24 @@
-use Rattle.std.proofs.Common.{sym, arith}
+use Rattle.std.proofs.Common.{◌≡◌, ◌/◌, ℕ, List, length, drop, ap, refl, sym, ◌∙◌, arith}
+use Rattle.pocsag_pages.specs.Bytes.{Sent, after_preamble, leading}
+use Rattle.pocsag_receiver.proofs.Received.{batches_long}
 use Rattle.pocsag_receiver.proofs.show.refuse_rows.Goals as goal
+
+-- how many batches follow the leading bytes AA
+rows_are : (bytes rest codewords : List ℕ) (n batches : ℕ) → n ≡ leading bytes → rest ≡ drop n bytes → batches ≡ length rest / 68
+    → (sent : Sent bytes codewords) → batches ≡ sent.batches
+rows_are bytes rest codewords n batches count behind is sent =
+    let after : rest ≡ after_preamble bytes = behind ∙ ap (λ (k : ℕ). drop k bytes) count in
+    let size = batches_long bytes codewords sent in
+    omega (arith, ap length after)
 
 pub returns-then-rows-batches-clause-rows : goal.returns-then-rows-batches-clause-rows
 returns-then-rows-batches-clause-rows c =
-    rw (sym c.in-Some.ensures) (λ batches reads. omega (arith, c.rows_in-batches.ensures reads.reads.codewords reads.reads.sent, reads.as_many))
+    rw (sym c.in-Some.ensures) (λ batches reads. omega (
+      arith,
+      rows_are c.args.bytes.now c.split_at.result.1.now reads.reads.codewords c.leading_len.result _ c.leading_len.ensures.value
+          c.split_at.ensures.back refl reads.reads.sent,
+      reads.as_many,
+    ))
 
 pub returns-clause-explained : goal.returns-clause-explained
 returns-clause-explained c =
@@ -13,7 +28,10 @@ returns-clause-explained c =
       reads = record {
         pages = reading.0;
         reads = reading.1;
-        as_many = sym (c.rows_in-batches.ensures reading.1.codewords reading.1.sent);
+        as_many =
+            sym
+            (rows_are c.args.bytes.now c.split_at.result.1.now reading.1.codewords c.leading_len.result _ c.leading_len.ensures.value
+            c.split_at.ensures.back refl reading.1.sent);
       };
       behind = omega arith;
     }

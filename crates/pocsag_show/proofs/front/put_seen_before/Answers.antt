@@ -23,6 +23,6 @@ returns c =
     (put_behind _ c.put_style.new.text.items (head c.height-tall.result) (counts ++ (words ++ (frames ++ slots))) _ _ c.in_ok-put_printed.ensures
     (put_behind _ c.put_printed.new.text.items counts (words ++ (frames ++ slots)) _ _ c.in_ok-put_counted.ensures
     (put_behind _ c.put_counted.new.text.items words (frames ++ slots) _ _ c.in_ok-put.ensures
-    (put_behind _ c.put.new.text.items frames slots _ _ c.in_ok-put_frame_numbers.ensures
-    (put_behind _ c.put_frame_numbers.new.text.items (flat_map slot_number (range_with_len 0 16)) (10 ∷ []) _ _
-    c.in_ok-put_slot_numbers.ensures c.put-2.ensures))))))
+    (put_behind _ c.put.new.text.items frames slots _ _ c.in_ok-put_axis.ensures
+    (put_behind _ c.put_axis.new.text.items (flat_map slot_number (range_with_len 0 16)) (10 ∷ []) _ _
+    c.in_ok-put_axis-2.ensures c.put-2.ensures))))))

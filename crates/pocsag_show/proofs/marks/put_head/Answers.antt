@@ -8,5 +8,5 @@ pub returns : goal.returns
 unfolding head head_opened
 returns c =
     three_put _ _ _ _ _ _ _ _ c.in_ok-put_printed.ensures
-    (c.in_ok-put_label.ensures ∙ ap (λ (letter : ℕ). c.put_printed.new.text.items ++ (letter ∷ turn c.args.number)) c.capital_letter.ensures)
+    (c.in_ok-put_label.ensures ∙ ap (λ (letter : ℕ). c.put_printed.new.text.items ++ (letter ∷ turn c.args.number)) c.letter_of.ensures)
     c.put.ensures

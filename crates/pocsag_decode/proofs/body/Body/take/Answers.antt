@@ -1,18 +1,58 @@
+use Rattle.std.proofs.Common.{◌≡◌, ℕ, ◌≤◌, List, [], ◌∷◌, ◌++◌, length, get_or, take, refl, sym, ap, ◌∙◌, arith}
+use Rattle.std.specs.Int.{from_be_bytes, w32}
+use Rattle.std.proofs.lemmas.List.{length-take-le}
 use Rattle.std.proofs.lemmas.Result.{err_from_is_err_and}
-use Rattle.pocsag_decode.proofs.Words.{taken, not_taken, split_is, is_nil, taking_last}
+use Rattle.pocsag_pages.specs.Bytes.{words_of}
+use Rattle.pocsag_decode.specs.Carried.{carried}
+use Rattle.pocsag_decode.proofs.Words.{first_four, first_one, front_and_tail, word_more, refused_more, taken, not_taken}
 use Rattle.pocsag_decode.proofs.body.Body.take.Goals as goal
+
+pub loop-rest-preserved-in-None-1 : goal.loop-rest-preserved-in-None-1
+loop-rest-preserved-in-None-1 c =
+    let rest = c.loop-rest.rest.now in
+    let front = take 4 rest in
+    let long : 4 ≤ length rest = c.in-None-len4-up.len_at_least in
+    let told = c.in_ok-take_word.ensures in
+    let new = c.take_word.new.self in
+    let none : carried c.loop-rest.self.carry ≡ [] = ap carried c.in-None-len4-up.is-0 in
+    let new_none : carried new.carry ≡ [] = ap carried told.carry ∙ none in
+    let four : length front ≡ 4 = length-take-le 4 rest long in
+    let whole = ap (λ (l : List ℕ). length (l ++ front)) none ∙ four in
+    let word =
+    c.from_be_bytes.ensures
+    ∙ (ap (from_be_bytes w32) (first_four rest long) ∙ ap (λ (l : List ℕ). from_be_bytes w32 (l ++ front)) (sym none)) in
+    let place = told.count.0 in
+    let now_long = ap length none in
+    let new_long = ap length new_none in
+    taken _ _ _ _ front _ c.loop-rest.invariant (front_and_tail 4 rest front refl) new (omega arith)
+    (λ Y s. word_more _ Y front _ s whole word new (told.read (words_of Y) s.read) new_none)
+
+pub returns-in_err-take_word-clause-bad : goal.returns-in_err-take_word-clause-bad
+returns-in_err-take_word-clause-bad c =
+    let rest = c.loop-rest.rest.now in
+    let front = take 4 rest in
+    let long : 4 ≤ length rest = c.in-None-len4-up.len_at_least in
+    let none : carried c.loop-rest.self.carry ≡ [] = ap carried c.in-None-len4-up.is-0 in
+    let whole = ap (λ (l : List ℕ). length (l ++ front)) none ∙ length-take-le 4 rest long in
+    let word =
+    c.from_be_bytes.ensures
+    ∙ (ap (from_be_bytes w32) (first_four rest long) ∙ ap (λ (l : List ℕ). from_be_bytes w32 (l ++ front)) (sym none)) in
+    let p = err_from_is_err_and c.from_residual.result c.from_residual.ensures.1 in
+    rw (p.1, p.2) (not_taken _ _ _ _ front _ c.loop-rest.invariant (front_and_tail 4 rest front refl) _ (λ Y s.
+    refused_more _ Y front _ s whole word _ (c.in_err-take_word.ensures.bad (words_of Y) s.read)))
 
 pub loop-rest-preserved : goal.loop-rest-preserved
 loop-rest-preserved c =
-    taken _ _ _ _ _ _ c.loop-rest.invariant
-    (split_is c.next_len.result _ _ _ c.split_at.ensures.front c.split_at.ensures.back) c.take_front.new.self
-    c.in_ok-take_front.ensures.count.0 c.in_ok-take_front.ensures.stands
+    let rest = c.loop-rest.rest.now in
+    let told = c.in_ok-take_byte.ensures in
+    taken _ _ _ _ _ _ c.loop-rest.invariant (front_and_tail 1 rest (get_or rest 0 0 ∷ []) (first_one rest c.in-len1-up.len_at_least)) c.take_byte.new.self
+    told.count.0 told.stands
 
-pub returns-in_err-take_front-clause-bad : goal.returns-in_err-take_front-clause-bad
-returns-in_err-take_front-clause-bad c =
-    let p = err_from_is_err_and c.from_residual.result c.from_residual.ensures.1 in
-    let split = split_is c.next_len.result _ _ _ c.split_at.ensures.front c.split_at.ensures.back in
-    rw (p.1, p.2) (not_taken _ _ _ _ _ _ c.loop-rest.invariant split _ c.in_err-take_front.ensures.bad)
-
-pub returns-clause-stands : goal.returns-clause-stands
-returns-clause-stands c = taking_last _ _ _ _ (is_nil _ c.loop-rest-test.ensures) c.loop-rest.invariant
+pub returns-in_err-take_byte-clause-bad : goal.returns-in_err-take_byte-clause-bad
+returns-in_err-take_byte-clause-bad c =
+    let rest = c.loop-rest.rest.now in
+    let from = c.from_residual-in_err-take_byte in
+    let p = err_from_is_err_and from.result from.ensures.1 in
+    rw (p.1, p.2)
+    (not_taken _ _ _ _ _ _ c.loop-rest.invariant (front_and_tail 1 rest (get_or rest 0 0 ∷ []) (first_one rest c.in-len1-up.len_at_least)) _
+    c.in_err-take_byte.ensures.bad)

@@ -8,15 +8,15 @@ use Rattle.pocsag_decode.proofs.Pieces.{fed_preamble, fed_body, refused_short, r
 use Rattle.pocsag_decode.proofs.Words.{is_nil, not_nil}
 use Rattle.pocsag_decode.proofs.state.Decoder.take.Goals as goal
 
-pub returns-then-piece-size-clause-refused : goal.returns-then-piece-size-clause-refused
-returns-then-piece-size-clause-refused c =
-    λ X s. too_much (let f = full_size _ X s in let e = c.size.ensures in let t = c.if-piece-size.true in omega arith)
+pub returns-then-piece-self-clause-refused : goal.returns-then-piece-self-clause-refused
+returns-then-piece-self-clause-refused c =
+    λ X s. too_much (let f = full_size _ X s in let e = c.size.ensures in let t = c.if-piece-self.true in omega arith)
 
 pub returns-then-is_empty-clause-stands : goal.returns-then-is_empty-clause-stands
 returns-then-is_empty-clause-stands c = λ X s.
     let k = c.skip_preamble-rest.ensures.skipped X s.preamble (body_size _ X s) in
     let few : length X + length c.args.piece.now < 2 ^ 64 =
-    let f = full_size _ X s in let e = c.size.ensures in let t = c.if-piece-size.false in omega arith in
+    let f = full_size _ X s in let e = c.size.ensures in let t = c.if-piece-self.false in omega arith in
     let bytes : All (λ b. b < 256) c.args.piece.now =
     All-from_get_or (λ b. b < 256) c.args.piece.now 0 (λ i h. omega (arith, (c.type_inv.piece i).fits)) in
     let rest = is_nil _ (c.if-is_empty.ensures) in
@@ -29,7 +29,7 @@ pub returns-then-self-lt-PREAMBLE-clause-refused :
 returns-then-self-lt-PREAMBLE-clause-refused c = λ X s.
     let k = c.skip_preamble-rest.ensures.skipped X s.preamble (body_size _ X s) in
     let few : length X + length c.args.piece.now < 2 ^ 64 =
-    let f = full_size _ X s in let e = c.size.ensures in let t = c.if-piece-size.false in omega arith in
+    let f = full_size _ X s in let e = c.size.ensures in let t = c.if-piece-self.false in omega arith in
     refused_short
     _ X s c.skip_preamble-rest.new.self c.args.piece.now c.skip_preamble-rest.result.now few k.1 k.0 c.if-self-lt-PREAMBLE.true
     (not_nil _ c.if-is_empty.ensures)
@@ -38,7 +38,7 @@ pub returns-clause-stands : goal.returns-clause-stands
 returns-clause-stands c = λ X s.
     let k = c.skip_preamble-rest.ensures.skipped X s.preamble (body_size _ X s) in
     let few : length X + length c.args.piece.now < 2 ^ 64 =
-    let f = full_size _ X s in let e = c.size.ensures in let t = c.if-piece-size.false in omega arith in
+    let f = full_size _ X s in let e = c.size.ensures in let t = c.if-piece-self.false in omega arith in
     let bytes : All (λ b. b < 256) c.args.piece.now =
     All-from_get_or (λ b. b < 256) c.args.piece.now 0 (λ i h. omega (arith, (c.type_inv.piece i).fits)) in
     let body : StandsIn c.skip_preamble-rest.new.self.body (after_preamble X) = rw c.skip_preamble-rest.ensures.body s.words in
@@ -51,7 +51,7 @@ pub returns-clause-refused : goal.returns-clause-refused
 returns-clause-refused c = λ X s.
     let k = c.skip_preamble-rest.ensures.skipped X s.preamble (body_size _ X s) in
     let few : length X + length c.args.piece.now < 2 ^ 64 =
-    let f = full_size _ X s in let e = c.size.ensures in let t = c.if-piece-size.false in omega arith in
+    let f = full_size _ X s in let e = c.size.ensures in let t = c.if-piece-self.false in omega arith in
     let body : StandsIn c.skip_preamble-rest.new.self.body (after_preamble X) = rw c.skip_preamble-rest.ensures.body s.words in
     IfErr-weaker _ _ _
     (λ f b. refused_body _ X s c.skip_preamble-rest.new.self c.args.piece.now c.skip_preamble-rest.result.now few k.1 k.0 f

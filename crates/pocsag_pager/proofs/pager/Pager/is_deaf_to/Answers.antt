@@ -1,4 +1,4 @@
-use Rattle.pocsag_pager.proofs.Prelude.{◌≡◌, ◌+◌, ◌*◌, ◌<◌, ◌%◌, ℕ, All, drop, length, take, subst, ◌∙◌, arith, from_be_bytes, w32, words_of}
+use Rattle.pocsag_pager.proofs.Prelude.{◌≡◌, ◌+◌, ◌*◌, ◌<◌, ◌%◌, ℕ, All, drop, length, take, subst, arith, from_be_bytes, w32, words_of}
 use Rattle.std.proofs.Common.{length-append}
 use Rattle.std.proofs.lemmas.List.Elements.{All-from_get_or}
 use Rattle.pocsag_pages.proofs.Lengths.{words_long}

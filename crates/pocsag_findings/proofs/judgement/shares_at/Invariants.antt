@@ -1,8 +1,8 @@
 use Rattle.std.specs.Prelude.{◌≡◌}
 use Rattle.pocsag_slots.specs.Sums.{joined_below}
 use Rattle.pocsag_findings.specs.Rules.{share_of}
-use Rattle.pocsag_findings.proofs.judgement.shares_of.Given as goal
+use Rattle.pocsag_findings.proofs.judgement.shares_at.Given as goal
 
 -- the shares of the classes so far
 abbrev pub invariant-loop-class : goal.invariant-loop-class
-invariant-loop-class l = l.found.items ≡ joined_below l.class (share_of l.classes l.limits l.set)
+invariant-loop-class l = l.found.items ≡ joined_below l.class (share_of l.inquiry.classes.now l.limits l.set)

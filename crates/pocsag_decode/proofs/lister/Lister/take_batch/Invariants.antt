@@ -3,7 +3,7 @@ use Rattle.std.specs.Int.{from_be_bytes, w32}
 use Rattle.pocsag_words.specs.Kinds.{kind_of}
 use Rattle.pocsag_words.specs.declared.codeword.Kind.{Kind}
 use Rattle.pocsag_decode.specs.Listers.{CanList, still_listed}
-use Rattle.pocsag_decode.proofs.lister.Lister.take_codewords.Given as goal
+use Rattle.pocsag_decode.proofs.lister.Lister.take_batch.Given as goal
 
 abbrev pub invariant-loop-word : goal.invariant-loop-word
 invariant-loop-word l = record {

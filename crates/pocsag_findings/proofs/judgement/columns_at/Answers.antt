@@ -1,5 +1,5 @@
 use Rattle.pocsag_findings.proofs.SlotColumns.{column_added}
-use Rattle.pocsag_findings.proofs.judgement.columns_of.Goals as goal
+use Rattle.pocsag_findings.proofs.judgement.columns_at.Goals as goal
 
 pub loop-slot-preserved : goal.loop-slot-preserved
 loop-slot-preserved c =

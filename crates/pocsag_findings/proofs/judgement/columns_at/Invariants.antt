@@ -1,7 +1,7 @@
 use Rattle.std.specs.Prelude.{◌≡◌, map}
 use Rattle.std.specs.List.{range_with_len}
 use Rattle.pocsag_findings.specs.Rules.{column_of}
-use Rattle.pocsag_findings.proofs.judgement.columns_of.Given as goal
+use Rattle.pocsag_findings.proofs.judgement.columns_at.Given as goal
 
 -- the columns of the slots so far
 abbrev pub invariant-loop-slot : goal.invariant-loop-slot

@@ -4,7 +4,7 @@ use Rattle.std.proofs.lemmas.Result.{err_from_is_err_and}
 use Rattle.pocsag_pager.specs.Shown.{ShowsSome}
 use Rattle.pocsag_pager.proofs.Memory.{shows_more}
 use Rattle.pocsag_pager.proofs.WholeWords.{three_parts}
-use Rattle.pocsag_pager.proofs.shown.hear_parts.Goals as goal
+use Rattle.pocsag_pager.proofs.shown.hear_batch.Goals as goal
 
 pub returns-clause-heard : goal.returns-clause-heard
 returns-clause-heard c =
