@@ -27,7 +27,7 @@ pub use laws::{
 };
 pub use lister::{list_sent, list_spent};
 pub use listing::{kind_of_page, list, message_of};
-pub use page_file::write_page_file;
+pub use page_file::{whole_message, write_page_file};
 pub use repair::repair_all;
 pub use repaired::Repaired;
 pub use state::Decoder;

@@ -6,7 +6,9 @@ ghost use Rattle.pocsag_pages.specs.declared.page.Page.{Page};
 ghost use Rattle.pocsag_journal.specs.Runs.{IsEdit, IsRun};
 ghost use Rattle.pocsag_journal.specs.Growth.{kept_line_limit};
 ghost use Rattle.pocsag_journal.specs.Journals.{IsBadLine, IsBegun, IsLine, IsRead, ReadsFirst, journal_text};
-ghost use Rattle.pocsag_journal.specs.LineTexts.{IsUnread};
+ghost use Rattle.pocsag_journal.specs.Faults.{HasNoLine};
+ghost use Rattle.pocsag_journal.specs.LineTexts.{HasNoLineFeed, IsRowText, IsUnread};
+ghost use Rattle.pocsag_journal.specs.PageLines.{HaveLines};
 ghost use Rattle.pocsag_journal.specs.declared.refusal.Refusal.{Refusal};
 
 use crate::refusal::{Refusal, UndoneFault};
@@ -39,6 +41,20 @@ pub fn a_prefix_is_read()
 pub fn lines_are_short()
     ensures { (row : Row) (before after : List Page) →
         IsEdit row before after → length (row_text default_writer row) ≤ kept_line_limit }
+{}
+
+/// A record that is read from a text without a line feed is one line, and an edit by one line leaves pages that have lines
+/// where those before it have lines. So have the pages of a journal, and all pages to which further edits by lines lead from
+/// these; of pages that have lines none is without a line.
+pub fn pages_of_lines_have_lines()
+    ensures read { (row : Row) (text : List ℕ) → IsRowText row text → HasNoLineFeed text → IsLine row }
+    ensures edit { (row : Row) (before after : List Page) →
+        IsLine row → IsEdit row before after → HaveLines before → HaveLines after }
+    ensures run { (rows : List Row) (before after : List Page) →
+        AllByRecursion IsLine rows → IsRun rows before after → HaveLines before → HaveLines after }
+    ensures journal { (bytes : List ℕ) (rows : List Row) (torn : List ℕ) (pages : List Page) →
+        IsRead bytes rows torn → IsRun rows [] pages → HaveLines pages }
+    ensures each { (pages : List Page) (number : ℕ) → HaveLines pages → ¬ HasNoLine pages number }
 {}
 
 /// A text is no record for one reason at most, want of memory aside.

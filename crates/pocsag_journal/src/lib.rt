@@ -27,7 +27,10 @@ pub use edits::{Line, line_of, record_of};
 pub use fault::JournalFault;
 pub use journal::Journal;
 pub use keeper::{Keeper, NoKeeper};
-pub use laws::{a_prefix_is_read, journals_read_as_one, lines_are_short, texts_have_one_reason};
+pub use laws::{
+    a_prefix_is_read, journals_read_as_one, lines_are_short, pages_of_lines_have_lines,
+    texts_have_one_reason,
+};
 pub use list::list_journal;
 pub use memory_disk::MemoryDisk;
 pub use refusal::{Refusal, UndoneFault};

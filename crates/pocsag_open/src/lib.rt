@@ -20,7 +20,7 @@ mod words;
 pub use answer::{OpenRound, answer_edit};
 pub use fault::OpenFault;
 pub use group::RoundGroup;
-pub use laws::a_journal_opens_as_its_pages;
+pub use laws::{a_journal_opens_as_its_pages, sessions_are_runs};
 pub use lines::LINE_LIMIT;
 pub use outputs::Places;
 pub use pocsag_journal::{Keeper, NoKeeper, Refusal, UndoneFault, edit_row};
