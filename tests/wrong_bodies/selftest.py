@@ -195,13 +195,14 @@ def clauses_kept(clauses):
 
 
 def test_narrowing(tally, _):
-    """A contract keeps one clause only where nothing that is checked beside the function rests on the others."""
+    """A contract keeps one clause, beside one that says nothing, only where nothing that is checked beside the function
+    rests on the others."""
     every = {"top": ["small", "whole", "last"]} | {it: ["small", "whole"] for it in ("low", "again", "other")}
     for clauses, changed in [
-        ([("top", "whole")], {"top": ["whole"]}),
-        ([("top", "small"), ("low", "whole")], {"top": ["small"]}),
-        ([("low", "whole")], {"low": ["whole"]}),
-        ([("low", "whole"), ("again", "whole")], {"low": ["whole"]}),
+        ([("top", "whole")], {"top": ["whole", "says_nothing"]}),
+        ([("top", "small"), ("low", "whole")], {"top": ["small", "says_nothing"]}),
+        ([("low", "whole")], {"low": ["whole", "says_nothing"]}),
+        ([("low", "whole"), ("again", "whole")], {"low": ["whole", "says_nothing"]}),
         ([("again", "whole")], {}),
         ([("u8Other::other", "whole")], {}),
         ([("top", "unknown")], {}),

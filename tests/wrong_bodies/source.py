@@ -8,6 +8,7 @@ HEAD = re.compile(r"( *)(?:pub(?:\([^)]*\))? )?(?:const |unsafe |extern \"C\" )*
 TYPE = re.compile(r"^(?:pub(?:\([^)]*\))? )?(?:struct|enum) (\w+)", re.MULTILINE)
 CALLED = re.compile(r"(\w+)(?=\s*(?:\(|::<))|(?<=::)(\w+)|(?<=[(,])\s*(\w+)(?=\s*[,)])")
 CYCLE = re.compile(r"#\[cycle\((\w+)\)\]")
+NOTHING = "    ensures says_nothing { Unit {0} }"
 
 
 class Function(typing.NamedTuple):
@@ -138,8 +139,9 @@ def reached(texts, names):
 
 
 def with_one_clause(texts, name, clause):
-    """The texts in which the function's contract keeps, of the clauses with a name that it ensures, this one, and its
-    proof file what does not answer for the others; None where it has no such clause, or no other."""
+    """The texts in which the function's contract keeps, of the clauses with a name that it ensures, this one, beside one
+    that says nothing, and its proof file what does not answer for the others; None where it has no such clause, or no
+    other. A clause that stands alone would give its goals other names, and no answer would fit."""
     path, function = all_functions(texts)[name]
     lines, kept, removed, depth = texts[path].split("\n"), [], set(), 0
     opens = next((it for it in range(function.first, function.last) if lines[it].strip() == "{"), function.first)
@@ -153,7 +155,7 @@ def with_one_clause(texts, name, clause):
             kept.append(line)
     if clause not in clauses or not removed:
         return None
-    lines[function.first:opens] = kept
+    lines[function.first:opens] = [*kept, NOTHING]
     texts = {**texts, path: "\n".join(lines)}
     answers = f"proofs/{name.replace('::', '/')}/Answers.antt"
     if answers in texts:

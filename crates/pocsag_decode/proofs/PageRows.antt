@@ -31,8 +31,8 @@ use Rattle.pocsag_decode.proofs.ListedFields.{characters_listed}
 use Rattle.pocsag_decode.proofs.Respelled.{spaced_back}
 
 -- the record of a page spells it, in short fields
-record IsBack (p : Page) : Type 0 where
-  spells : page_of (page_record p) ≡ Ok p
+pub record IsBack (p : Page) : Type 0 where
+  pub spells : page_of (page_record p) ≡ Ok p
   address : length (decimal p.address) ≤ 7
   kind : length (kind_field p.function p.payload) ≤ 7
   message : length (whole_message p.function p.payload) ≤ 4000
@@ -64,7 +64,7 @@ message_back a f (item ∷ items) low free (characters text e) =
     let same = characters_listed item items text e in
     rw same (characters_spelled a low free text (item ∷ items) e, alpha_few text (item ∷ items) e)
 
-record_back : (p : Page) → page_fault_of p ≡ None → IsSpellable p → IsBack p
+pub record_back : (p : Page) → page_fault_of p ≡ None → IsSpellable p → IsBack p
 unfolding page_of
 record_back p fine text =
     let good = good_page p fine in
@@ -82,7 +82,7 @@ others : (ps : List Page) (a : ℕ) (more : List ℕ) → AllByRecursion (λ y. 
 others [] a more h = refl
 others (p ∷ ps) a more h = rw (h.0) (others ps a more h.1)
 
-free_address : (before qs : List Page) (p : Page) → AreGood (before ++ p ∷ qs) → has_address before p.address ≡ false
+pub free_address : (before qs : List Page) (p : Page) → AreGood (before ++ p ∷ qs) → has_address before p.address ≡ false
 free_address before qs p good =
     let apart = rw (map-append (λ (q : Page). q.address) before (p ∷ qs)) at good.apart in
     let flips : (x y : ℕ) → nat_eq x y ≡ nat_eq y x = λ x y. grind (arith, nat_tests) in

@@ -23,7 +23,7 @@ pub use laws::{
     readings_of_bytes_are_one, repair_restores,
 };
 pub use lister::{list_sent, list_spent};
-pub use listing::{kind_of_page, list, message_of, write_page_file};
+pub use listing::{kind_of_page, list, message_of, whole_message, write_page_file};
 pub use repair::repair_all;
 pub use repaired::Repaired;
 pub use state::Decoder;

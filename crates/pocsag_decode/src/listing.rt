@@ -112,9 +112,9 @@ pub(crate) fn put_record(
     }
 }
 
-// The message of a page, with the spaces that its last message codeword needs in order to be sent again.
+/// The message of a page, with the spaces that its last message codeword needs in order to be sent again.
 #[tactic(auto, unfolding(crate::specs::PageFiles::whole_message))]
-fn whole_message(alloc: Global, function: u8, items: &[u32]) -> Result<Vec<u8>, OutOfMemory>
+pub fn whole_message(alloc: Global, function: u8, items: &[u32]) -> Result<Vec<u8>, OutOfMemory>
     requires { All (λ item. item < 2 ^ 20) items.now }
     ensures { IfOk result (λ v. v.items ≡ whole_message function items.now) }
 {

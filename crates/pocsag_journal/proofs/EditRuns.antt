@@ -53,3 +53,10 @@ run_parts [] more before after p = (before, refl, p)
 run_parts (r ∷ rows) more before after p =
     let h = run_parts rows more p.0 after p.2 in
     (h.0, (p.0, p.1, h.1), h.2)
+
+-- a run and another behind it are one
+pub runs_join : (rows more : List Row) (before between after : List Page) → IsRun rows before between → IsRun more between after →
+    IsRun (rows ++ more) before after
+unfolding IsRun
+runs_join [] more before between after p q = subst (λ (mid : List Page). IsRun more mid after) p q
+runs_join (r ∷ rows) more before between after p q = (p.0, p.1, runs_join rows more p.0 between after p.2 q)

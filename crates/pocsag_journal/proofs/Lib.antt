@@ -2,11 +2,14 @@ mod Beginnings
 pub mod ByteCounts
 pub mod Counts
 pub mod EditRuns
+pub mod EditedPages
+pub mod FieldLines
 pub mod Fields
 mod Kept
 pub mod KeptPages
 pub mod LineFeeds
 pub mod LineLengths
+pub mod LinedPages
 pub mod Moments
 pub mod Prefixes
 pub mod Quotes
@@ -14,7 +17,6 @@ pub mod Readings
 pub mod Refusals
 pub mod Replays
 pub mod RowTexts
-pub mod Spaces
 pub mod Strays
 pub mod TextLines
 pub mod TornLines

@@ -50,7 +50,7 @@ four_length word address name message =
     omega (arith, field_short word, field_short address, field_short name, field_short message, a, b, c, d, e)
 
 -- the fields of a page
-then_ok : {A B : Type 0} (r : Result A FieldFault) (f : A → Result B FieldFault) (b : B) → (r >>= f) ≡ Ok b →
+pub then_ok : {A B : Type 0} (r : Result A FieldFault) (f : A → Result B FieldFault) (b : B) → (r >>= f) ≡ Ok b →
     (a : A) × (r ≡ Ok a) × (f a ≡ Ok b)
 then_ok (Ok a) f b e = (a, refl, e)
 then_ok (Err fault) f b e = absurd (cc e)
@@ -140,12 +140,12 @@ fields_length address name message page e =
     (address_length address a.0 (there (address_of address) field.BadAddress a.0 a.1), names_short a.0 name message page b.2)
 
 -- what an edit asks for is done
-done : {P : Type 0} (t : Bool) (asked : Asked) (before after : List Page) → (t ≡ true → IsDone (Some asked) before after → P) →
+pub done : {P : Type 0} (t : Bool) (asked : Asked) (before after : List Page) → (t ≡ true → IsDone (Some asked) before after → P) →
     IsDone (cond t (Some asked) None) before after → P
 done true asked before after here d = here refl d
 done false asked before after here d = absurd d
 
-one_done : {P : Type 0} (t : Bool) (asked : Asked) (others : Option Asked) (before after : List Page) →
+pub one_done : {P : Type 0} (t : Bool) (asked : Asked) (others : Option Asked) (before after : List Page) →
     (t ≡ true → IsDone (Some asked) before after → P) → (IsDone others before after → P) → IsDone (cond t (Some asked) others) before after → P
 one_done true asked others before after here more d = here refl d
 one_done false asked others before after here more d = more d

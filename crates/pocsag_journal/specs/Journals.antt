@@ -106,6 +106,10 @@ pub record AddsLine (line : List ℕ) (before : List Page) (page : Page) (after 
   pub edit : IsEdit row before after
   pub behind : after ≡ before ++ page ∷ []
 
+-- Behind a text stands such a line more.
+abbrev pub PutsLine : (text later : List ℕ) (before : List Page) → Page → (after : List Page) → Type 0
+PutsLine text later before page after = (line : List ℕ) × AddsLine line before page after × (later ≡ text ++ line)
+
 -- The bytes are the journal text of a run that leads from no pages to these.
 pub record StandsFor (bytes : List ℕ) (pages : List Page) : Type 0 where
   pub rows : List Row

@@ -8,6 +8,7 @@ pub mod Keepers
 pub mod LineTexts
 pub mod MemoryDisk
 pub mod Moments
+pub mod PageLines
 pub mod Past
 pub mod Quotes
 pub mod Restarts

@@ -1,6 +1,6 @@
 ghost use Rattle.std.specs.Prelude.{◌≡◌, IfErr, IfOk, OnErr, OnOk};
 ghost use Rattle.csv.specs.Records.{fields_of};
-ghost use Rattle.pocsag_journal.specs.Edited.{IsAddRefused, IsAdded, IsCancelRefused, IsCancelled, IsEditRefused, IsMade, IsSent, IsSentRefused};
+ghost use Rattle.pocsag_journal.specs.Edited.{IsAddRefused, IsAdded, IsEditRefused, IsMade};
 ghost use Rattle.pocsag_journal.specs.Runs.{IsEdit, IsReasonFor, IsRefusedFor, sent_record};
 
 use crate::edits::{Line, line_of, spelled_count};
@@ -42,8 +42,24 @@ pub(crate) fn edit(alloc: Global, book: &mut Book, line: Line<'_>) -> Result<(),
             kind,
             message,
         } => add_fields(alloc, book, address, kind, message),
-        Line::Cancel { address } => cancel_field(book, address),
-        Line::Sent { count } => drop_sent(book, count),
+        // What spells no address is that of no page.
+        Line::Cancel { address: field } => {
+            let Some(address) = parse_address(field) else {
+                return Err(Refusal::Cancel(NotThere));
+            };
+            match book.cancel(address) {
+                Ok(_) => Ok(()),
+                Err(absent) => Err(Refusal::Cancel(absent)),
+            }
+        }
+        // What is no count is that of more pages than there are.
+        Line::Sent { count: field } => match spelled_count(field) {
+            Some(count) if count as usize <= book.len() => {
+                book.drop_first(count as usize);
+                Ok(())
+            }
+            _ => Err(Refusal::Cancel(NotThere)),
+        },
         Line::Clear => {
             *book = Book::new(alloc);
             Ok(())
@@ -63,37 +79,12 @@ fn add_fields(
     ensures refused { IfErr result (IsAddRefused address.now kind.now message.now book.old) }
     ensures unchanged { OnErr result (book.new ≡ book.old) }
 {
-    let page = page_of_fields(alloc, address, kind, message)?;
-    book.add(page)?;
-    Ok(())
-}
-
-// What spells no address is that of no page.
-fn cancel_field(book: &mut Book, field: &[u8]) -> Result<(), Refusal>
-    ensures made { OnOk result (IsCancelled field.now book.old book.new) }
-    ensures refused { IfErr result (IsCancelRefused field.now book.old) }
-    ensures unchanged { OnErr result (book.new ≡ book.old) }
-{
-    let Some(address) = parse_address(field) else {
-        return Err(Refusal::Cancel(NotThere));
+    let page = match page_of_fields(alloc, address, kind, message) {
+        Ok(page) => page,
+        Err(fault) => return Err(Refusal::Field(fault)),
     };
-    match book.cancel(address) {
-        Ok(_) => Ok(()),
-        Err(absent) => Err(Refusal::Cancel(absent)),
-    }
-}
-
-// What is no count is that of more pages than there are.
-fn drop_sent(book: &mut Book, field: &[u8]) -> Result<(), Refusal>
-    ensures made { OnOk result (IsSent field.now book.old book.new) }
-    ensures refused { IfErr result (IsSentRefused field.now book.old) }
-    ensures unchanged { OnErr result (book.new ≡ book.old) }
-{
-    match spelled_count(field) {
-        Some(count) if count as usize <= book.len() => {
-            book.drop_first(count as usize);
-            Ok(())
-        }
-        _ => Err(Refusal::Cancel(NotThere)),
+    match book.add(page) {
+        Ok(()) => Ok(()),
+        Err(refused) => Err(Refusal::Add(refused.fault)),
     }
 }

@@ -7,7 +7,7 @@ ghost use Rattle.pocsag_journal.specs.Edited.{SpellsCount};
 ghost use Rattle.pocsag_journal.specs.Runs.{asked_by_line, asked_in, asked_of};
 ghost use Rattle.pocsag_journal.specs.LineTexts.{IsRowText, IsUnread, record_text};
 
-use crate::quote::{Quoting, quoting_of, without_mark, without_return};
+use crate::quote::{Quoting, quoting_of, without_return};
 use crate::refusal::{Refusal, UndoneFault};
 use csv::ByteRecord;
 use pocsag_pages::only_row;
@@ -56,7 +56,7 @@ pub fn record_of(alloc: Global, line: &[u8]) -> Result<ByteRecord, Refusal>
     ensures refused { IfErr result (IsUnread (record_text line.now)) }
 {
     let bare = without_return(line);
-    match quoting_of(without_mark(bare)) {
+    match quoting_of(bare) {
         Quoting::Open => return Err(Refusal::InQuotes),
         Quoting::Broken => return Err(Refusal::StrayQuote),
         Quoting::Ended => return Err(Refusal::Unknown),

@@ -1,9 +1,7 @@
 ghost use Rattle.std.specs.Prelude.{◌≡◌};
 ghost use Rattle.pocsag_journal.specs.declared.fault.JournalFault.TheVariants as fault;
 
-use pocsag_pages::WholeFault;
 use pocsag_words::OutOfMemory;
-use std::alloc::AllocError;
 use thiserror::Error;
 
 /// Why a journal was not read or written.
@@ -37,27 +35,5 @@ impl From<OutOfMemory> for JournalFault {
 
     fn from(_refused: OutOfMemory) -> JournalFault {
         JournalFault::OutOfMemory
-    }
-}
-
-impl From<AllocError> for JournalFault {
-    ghost from_gives = { λ _ e. e ≡ fault.OutOfMemory };
-
-    fn from(_refused: AllocError) -> JournalFault {
-        JournalFault::OutOfMemory
-    }
-}
-
-impl From<WholeFault> for JournalFault {
-    ghost use Rattle.pocsag_journal.specs.Faults.{fault_of_reading};
-
-    ghost from_gives = { λ refused e. e ≡ fault_of_reading refused };
-
-    fn from(refused: WholeFault) -> JournalFault {
-        match refused {
-            WholeFault::ReadFault => JournalFault::ReadFault,
-            WholeFault::TooLarge => JournalFault::TooLarge,
-            WholeFault::OutOfMemory => JournalFault::OutOfMemory,
-        }
     }
 }

@@ -56,7 +56,8 @@ impl<D: Disk + Drop> Journal<D> {
         let Ok(()) = disk.replace(text.as_slice()) else {
             return Err((JournalFault::WriteFault, disk));
         };
-        let sizes = Sizes::counted(text.len());
+        let len = text.len();
+        let sizes = Sizes { len, counted: len };
         Ok(Journal { disk, sizes })
     }
 
@@ -120,7 +121,8 @@ impl<D: Disk + Drop> Keeper for Journal<D> {
         let Ok(()) = self.disk.sync() else {
             return Err(FileFault::Write);
         };
-        self.sizes = self.sizes.grown(len);
+        let counted = self.sizes.counted;
+        self.sizes = Sizes { len, counted };
         Ok(())
     }
 
@@ -129,7 +131,7 @@ impl<D: Disk + Drop> Keeper for Journal<D> {
             return Ok(true);
         }
         let len = self.sizes.len;
-        self.sizes = Sizes::counted(len);
+        self.sizes = Sizes { len, counted: len };
         let Ok(text) = text_of_pages(alloc, book.pages()) else {
             return Ok(false);
         };
@@ -139,7 +141,8 @@ impl<D: Disk + Drop> Keeper for Journal<D> {
         let Ok(()) = self.disk.replace(text.as_slice()) else {
             return Err(FileFault::Write);
         };
-        self.sizes = Sizes::counted(text.len());
+        let len = text.len();
+        self.sizes = Sizes { len, counted: len };
         Ok(true)
     }
 }

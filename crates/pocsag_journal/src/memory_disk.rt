@@ -92,23 +92,6 @@ fn put(
     Ok(())
 }
 
-// Puts more bytes behind those that are there.
-fn grow(
-    alloc: Global,
-    bytes: &mut Vec<u8>,
-    past: &mut Vec<Vec<u8>>,
-    more: &[u8],
-) -> Result<(), AllocError>
-    ensures done { OnOk result (bytes.new.items ≡ bytes.old.items ++ more.now) }
-    ensures same { OnErr result (bytes.new.items ≡ bytes.old.items) }
-    ensures time { Elapses (length past.old.items) (length past.new.items) (HeldSince past.old.items bytes.old.items)
-        (HeldSince past.new.items bytes.new.items) (λ left. left ≡ bytes.new.items) }
-{
-    let mut next = bytes.to_vec(alloc)?;
-    next.extend_from_slice(more)?;
-    put(alloc, bytes, past, next)
-}
-
 impl Disk for MemoryDisk {
     ghost use Rattle.std.specs.Prelude.{◌↔◌, ℕ, IsErr};
     ghost use Rattle.std.proofs.Common.{inl};
@@ -136,13 +119,23 @@ impl Disk for MemoryDisk {
     fn append(&mut self, line: &[u8]) -> Result<(), DeviceFault> {
         let front = &line[..line.len().min(self.bytes_left)];
         self.bytes_left -= front.len();
-        match grow(self.alloc, &mut self.bytes, &mut self.past, front) {
-            Ok(()) if front.len() == line.len() => Ok(()),
-            _ => {
-                self.failures = self.failures.saturating_add(1);
-                Err(DeviceFault)
-            }
+        // It has failed unless it is done.
+        let failures = self.failures;
+        self.failures = failures.saturating_add(1);
+        let Ok(mut next) = self.bytes.to_vec(self.alloc) else {
+            return Err(DeviceFault);
+        };
+        let Ok(()) = next.extend_from_slice(front) else {
+            return Err(DeviceFault);
+        };
+        let Ok(()) = put(self.alloc, &mut self.bytes, &mut self.past, next) else {
+            return Err(DeviceFault);
+        };
+        if front.len() < line.len() {
+            return Err(DeviceFault);
         }
+        self.failures = failures;
+        Ok(())
     }
 
     fn sync(&mut self) -> Result<(), DeviceFault>

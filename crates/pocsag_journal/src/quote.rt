@@ -41,12 +41,17 @@ impl Quoting {
     }
 }
 
-/// Where a line stands at its end.
+/// Where a line stands at its end, a byte order mark at its head passed over.
 pub fn quoting_of(line: &[u8]) -> Quoting
-    ensures { result ≡ quoting_from Quoting.Start line.now }
+    ensures { result ≡ quoting_from Quoting.Start (strip_bom line.now) }
 {
+    let text = if line.starts_with(MARK) {
+        &line[MARK.len()..]
+    } else {
+        line
+    };
     let mut quoting = Quoting::Start;
-    for byte in line {
+    for byte in text {
         quoting = quoting.after(*byte);
     }
     quoting
@@ -60,14 +65,4 @@ pub fn without_return(line: &[u8]) -> &[u8]
         Some(b'\r') => &line[..line.len() - 1],
         _ => line,
     }
-}
-
-/// The line without a byte order mark at its head.
-pub fn without_mark(line: &[u8]) -> &[u8]
-    ensures { result.now ≡ strip_bom line.now }
-{
-    if line.starts_with(MARK) {
-        return &line[MARK.len()..];
-    }
-    line
 }

@@ -1,8 +1,7 @@
 ghost use Rattle.std.specs.Prelude.{◌≡◌};
-ghost use Rattle.pocsag_journal.specs.declared.refusal.Refusal.TheVariants as refusal;
 
 use pocsag_pages::FieldFault;
-use pocsag_plan::{AddFault, NotThere, Refused};
+use pocsag_plan::{AddFault, NotThere};
 use pocsag_shell::FileFault;
 use std::fmt::{self, Display, Formatter};
 use thiserror::Error;
@@ -76,21 +75,5 @@ impl Refusal {
             self,
             Refusal::Field(FieldFault::OutOfMemory) | Refusal::Add(AddFault::OutOfMemory)
         )
-    }
-}
-
-impl From<FieldFault> for Refusal {
-    ghost from_gives = { λ fault e. e ≡ refusal.Field fault };
-
-    fn from(fault: FieldFault) -> Refusal {
-        Refusal::Field(fault)
-    }
-}
-
-impl From<Refused> for Refusal {
-    ghost from_gives = { λ refused e. e ≡ refusal.Add refused.fault };
-
-    fn from(refused: Refused) -> Refusal {
-        Refusal::Add(refused.fault)
     }
 }

@@ -1,16 +1,15 @@
-ghost use Rattle.std.specs.Prelude.{◌≡◌, ◌≤◌, ◌++◌, ℕ, List, [], length, IfErr, IfNone, IfOk, IfSome, MatchResult, OnOk};
-ghost use Rattle.csv.specs.Writing.{default_writer, row_text};
+ghost use Rattle.std.specs.Prelude.{◌≡◌, ◌≤◌, ℕ, List, [], length, IfErr, IfOk, MatchResult, OnOk};
 ghost use Rattle.pocsag_pages.specs.PageFile.{Row};
 ghost use Rattle.pocsag_pages.specs.declared.page.Page.{Page};
-ghost use Rattle.pocsag_journal.specs.Runs.{IsRun, first_record};
+ghost use Rattle.pocsag_journal.specs.Runs.{IsRun};
 ghost use Rattle.pocsag_journal.specs.Faults.{ExplainsReplay, IsTold, IsToldOf};
-ghost use Rattle.pocsag_journal.specs.Journals.{IsFirstCut, IsRead, MakesLine, Replays, ReplaysAs, journal_limit};
+ghost use Rattle.pocsag_journal.specs.Journals.{IsRead, MakesLine, Replays, ReplaysAs, journal_limit};
 
 use crate::edit::edit_row;
 use crate::fault::JournalFault;
 use crate::lines::split_line;
 use crate::text::{first_line, row_line};
-use pocsag_pages::{only_row, read_whole};
+use pocsag_pages::{WholeFault, only_row, read_whole};
 use pocsag_plan::Book;
 use pocsag_words::{OutOfMemory, Source};
 use std::alloc::Global;
@@ -46,49 +45,37 @@ pub fn read_journal<S: Source>(alloc: Global, source: &mut S) -> Result<Replayed
         (λ replayed. ReplaysAs replayed.book replayed.edits replayed.torn pages rows torn) IsToldOf }
     ensures succeeded { OnOk result (S.failures source.new ≡ S.failures source.old) }
 {
-    let bytes = read_whole(alloc, source, JOURNAL_LIMIT)?;
-    replay(alloc, bytes.as_slice())
+    match read_whole(alloc, source, JOURNAL_LIMIT) {
+        Ok(bytes) => replay(alloc, bytes.as_slice()),
+        Err(WholeFault::ReadFault) => Err(JournalFault::ReadFault),
+        Err(WholeFault::TooLarge) => Err(JournalFault::TooLarge),
+        Err(WholeFault::OutOfMemory) => Err(JournalFault::OutOfMemory),
+    }
 }
 
-// What stands behind the first line; nothing where the bytes are only a part of that.
-fn behind_first(bytes: &[u8]) -> Result<Option<&[u8]>, JournalFault>
-    ensures whole { IfOk result (λ found.
-        IfSome found (λ rest. bytes.now ≡ row_text default_writer first_record ++ rest.now)) }
-    ensures torn { IfOk result (λ found. IfNone found (IsFirstCut bytes.now)) }
-    ensures told { IfErr result (λ e. IsTold bytes.now e) }
-{
-    let first = first_line();
-    if let Some(rest) = bytes.strip_prefix(first) {
-        return Ok(Some(rest));
-    }
-    if first.starts_with(bytes) {
-        return Ok(None);
-    }
-    if bytes.starts_with(FORMAT) {
-        return Err(JournalFault::OtherVersion);
-    }
-    Err(JournalFault::NotJournal)
-}
-
-// Makes the edits of the lines, one after another.
+// Makes the edits of the lines behind the first, one after another. Bytes that are only a part of the first line have none.
 fn replay(alloc: Global, bytes: &[u8]) -> Result<Replayed, JournalFault>
     requires { length bytes.now ≤ journal_limit }
     ensures read { IfOk result (λ replayed. Replays bytes.now replayed.edits replayed.torn replayed.book) }
     ensures told { IfErr result (λ e. IsTold bytes.now e) }
 {
-    let mut book = Book::new(alloc);
-    let mut edits = 0;
-    let behind = behind_first(bytes)?;
-    let mut rest = match behind {
-        Some(rest) => rest,
-        None => {
+    let first = first_line();
+    let Some(behind) = bytes.strip_prefix(first) else {
+        if first.starts_with(bytes) {
             return Ok(Replayed {
-                book,
-                edits,
+                book: Book::new(alloc),
+                edits: 0,
                 torn: bytes.len(),
             });
         }
+        if bytes.starts_with(FORMAT) {
+            return Err(JournalFault::OtherVersion);
+        }
+        return Err(JournalFault::NotJournal);
     };
+    let mut book = Book::new(alloc);
+    let mut edits = 0;
+    let mut rest = behind;
     loop {
         let next = match split_line(rest) {
             Some(parts) => parts,

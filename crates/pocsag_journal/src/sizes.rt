@@ -1,4 +1,4 @@
-ghost use Rattle.std.specs.Prelude.{◌≡◌, ◌≤◌, ◌↔◌, IsTrue};
+ghost use Rattle.std.specs.Prelude.{◌≤◌, ◌↔◌, IsTrue};
 ghost use Rattle.pocsag_journal.specs.Growth.{IsDue};
 
 // A journal of at most so many bytes stays as it is while its round is open.
@@ -17,26 +17,6 @@ pub(crate) struct Sizes {
 }
 
 impl Sizes {
-    /// Of a journal for which that is counted now.
-    pub fn counted(len: usize) -> Sizes
-        ensures len { result.len ≡ len }
-        ensures counted { result.counted ≡ len }
-    {
-        Sizes { len, counted: len }
-    }
-
-    /// Of the journal once it has grown to so many bytes.
-    pub fn grown(self, len: usize) -> Sizes
-        requires { self.len ≤ len }
-        ensures len { result.len ≡ len }
-        ensures counted { result.counted ≡ self.counted }
-    {
-        Sizes {
-            len,
-            counted: self.counted,
-        }
-    }
-
     /// Whether it is long enough for that to be counted again.
     pub fn is_due(self) -> bool
         ensures { IsTrue result ↔ IsDue self.counted self.len }

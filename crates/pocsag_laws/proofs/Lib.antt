@@ -13,3 +13,4 @@ pub mod Ordered
 pub mod Reasons
 pub mod Reopened
 pub mod Refused
+pub mod SessionRuns

@@ -1,11 +1,11 @@
 -- What a session over the text of a journal leaves.
-use Rattle.std.proofs.Common.{◌≡◌, ◌≢◌, ◌⊎◌, inl, inr, ℕ, suc, ◌-◌, ◌≤◌, Bool, true, cond, List, [], ◌∷◌, ◌++◌, length, arith, refl, sym, ap, ◌∙◌, subst, append_assoc, append-nil, length-append}
+use Rattle.std.proofs.Common.{◌≡◌, ◌≢◌, ◌⊎◌, inl, inr, ℕ, suc, ◌-◌, ◌≤◌, true, List, [], ◌∷◌, ◌++◌, length, arith, refl, sym, ap, ◌∙◌, subst, append_assoc, length-append}
 use Rattle.std.specs.Prelude.{IfSome, Option, Some, None, codes, slice_get}
 use Rattle.std.specs.List.{AllByRecursion}
-use Rattle.std.proofs.lemmas.Bool.{cases_Bool, eqb-true, false_from_ne_true}
+use Rattle.std.proofs.lemmas.Bool.{eqb-true, false_from_ne_true}
 use Rattle.csv.specs.Machine.{line_feed}
 use Rattle.csv.specs.Reading.{strip_bom}
-use Rattle.csv.specs.Writing.{default_writer, field_text, fields_text, is_blank, needs_quotes, quoted, row_body, row_text}
+use Rattle.csv.specs.Writing.{default_writer, fields_text, is_blank, row_body, row_text}
 use Rattle.pocsag_pages.specs.PageFile.{Row}
 use Rattle.pocsag_pages.specs.declared.page.Page.{Page}
 use Rattle.pocsag_pages.specs.declared.fault.FieldFault.TheVariants as field
@@ -16,15 +16,14 @@ use Rattle.pocsag_journal.specs.Asks.{AsksPlan}
 use Rattle.pocsag_journal.specs.Edited.{own_words}
 use Rattle.pocsag_journal.specs.Quotes.{MayEnd, quoting_after, quoting_from}
 use Rattle.pocsag_journal.specs.Runs.{IsEdit, IsRun, asked_of, first_record, wants_memory}
-use Rattle.pocsag_journal.specs.LineTexts.{IsFieldText, IsLostAt, IsRowText, IsUnread, IsWholeLine, is_return, record_text, without_return}
-use Rattle.pocsag_journal.specs.LineTexts.IsFieldText.{bare, between_quotes}
-use Rattle.pocsag_journal.specs.LineTexts.IsRowText.{before, last}
+use Rattle.pocsag_journal.specs.LineTexts.{IsLostAt, IsRowText, IsUnread, IsWholeLine, is_return, record_text, without_return}
 use Rattle.pocsag_journal.specs.declared.quote.Quoting.{Quoting}
 use Rattle.pocsag_journal.specs.declared.quote.Quoting.TheVariants as at
 use Rattle.pocsag_journal.specs.declared.refusal.Refusal.{Refusal}
 use Rattle.pocsag_journal.specs.declared.refusal.Refusal.TheVariants as refusal
 use Rattle.pocsag_journal.specs.declared.refusal.UndoneFault.{UndoneFault}
 use Rattle.pocsag_journal.specs.declared.refusal.UndoneFault.TheVariants as undone
+use Rattle.pocsag_journal.proofs.FieldLines.{row_spelled}
 use Rattle.pocsag_journal.proofs.Fields.{is_word}
 use Rattle.pocsag_journal.proofs.RowTexts.{row_place, rows_are}
 use Rattle.pocsag_journal.specs.Growth.{kept_line_limit}
@@ -38,18 +37,6 @@ use Rattle.pocsag_open.specs.Plans.{PlacedPlan}
 use Rattle.pocsag_laws.specs.Reopened.{TellsNoMemory}
 use Rattle.pocsag_open.specs.Replies.{AreReplies, IsLineReply, IsRefusalTold, IsReply, IsSession, edited, listed, noted, planned, read, refused, sent_first, too_long, unread}
 use Rattle.pocsag_open.proofs.Sessions.{plan_or_heading}
-
--- what csv writes for a record is its text
-field_spelled : (f : List ℕ) → IsFieldText f (field_text default_writer f)
-field_spelled f = elim (cases_Bool (needs_quotes default_writer f)) [
-  | inl quotes ↦ subst (λ (b : Bool). IsFieldText f (cond b (quoted default_writer f) f)) (sym quotes) between_quotes
-  | inr none ↦ subst (λ (b : Bool). IsFieldText f (cond b (quoted default_writer f) f)) (sym none) (bare none)
-]
-
-row_spelled : (f : List ℕ) (rest : Row) → IsRowText (f ∷ rest) (row_body default_writer (f ∷ rest))
-unfolding fields_text
-row_spelled f [] = subst (λ (t : List ℕ). IsRowText (f ∷ []) t) (sym (append-nil (field_text default_writer f))) (last (field_spelled f))
-row_spelled f (g ∷ rest) = before (field_spelled f) (row_spelled g rest)
 
 -- the text of an edit, without its line feed
 edit_body : (row : Row) (pages after : List Page) → IsEdit row pages after → row_text default_writer row ≡ row_body default_writer row ++ line_feed ∷ []

@@ -7,11 +7,13 @@ ghost use Rattle.pocsag_plan.specs.declared.search.Effort.{Effort};
 ghost use Rattle.pocsag_journal.specs.declared.refusal.Refusal.{Refusal};
 ghost use Rattle.pocsag_journal.specs.Growth.{kept_line_limit};
 ghost use Rattle.pocsag_journal.specs.Journals.{IsBadLine, IsBegun, IsLine, IsRead, ReadsFirst, journal_text};
-ghost use Rattle.pocsag_journal.specs.LineTexts.{IsUnread};
 ghost use Rattle.pocsag_journal.specs.Runs.{IsEdit, IsRun};
 ghost use Rattle.pocsag_open.specs.Plans.{PlacedPlan};
 ghost use Rattle.pocsag_open.specs.Replies.{IsSession};
 ghost use Rattle.pocsag_laws.specs.Reopened.{TellsNoMemory};
+ghost use Rattle.pocsag_journal.specs.Faults.{HasNoLine};
+ghost use Rattle.pocsag_journal.specs.LineTexts.{HasNoLineFeed, IsRowText, IsUnread};
+ghost use Rattle.pocsag_journal.specs.PageLines.{HaveLines};
 
 use pocsag_journal::{Refusal, UndoneFault};
 use pocsag_open::Places;
@@ -46,6 +48,20 @@ pub fn lines_are_short()
         IsEdit row before after → length (row_text default_writer row) ≤ kept_line_limit }
 {}
 
+/// A record that is read from a text without a line feed is one line, and an edit by one line leaves pages that have lines
+/// where those before it have lines. So have the pages of a journal, and all pages to which further edits by lines lead from
+/// these; of pages that have lines none is without a line.
+pub fn pages_of_lines_have_lines()
+    ensures read { (row : Row) (text : List ℕ) → IsRowText row text → HasNoLineFeed text → IsLine row }
+    ensures edit { (row : Row) (before after : List Page) →
+        IsLine row → IsEdit row before after → HaveLines before → HaveLines after }
+    ensures run { (rows : List Row) (before after : List Page) →
+        AllByRecursion IsLine rows → IsRun rows before after → HaveLines before → HaveLines after }
+    ensures journal { (bytes : List ℕ) (rows : List Row) (torn : List ℕ) (pages : List Page) →
+        IsRead bytes rows torn → IsRun rows [] pages → HaveLines pages }
+    ensures each { (pages : List Page) (number : ℕ) → HaveLines pages → ¬ HasNoLine pages number }
+{}
+
 /// A text is no record for one reason at most, want of memory aside.
 #[tactic(auto, using(crate::proofs::Reasons::one_reason))]
 pub fn texts_have_one_reason()
@@ -58,4 +74,15 @@ pub fn a_journal_opens_as_its_pages<P: Places>()
     ensures { (effort : Effort) (rows : List Row) (pages after : List Page) (told : List ℕ)
         (placed : List PlacedPlan) → AllByRecursion IsLine rows → IsRun rows [] pages →
         IsSession P.tells effort (journal_text rows) [] after told placed → (after ≡ pages) ⊎ TellsNoMemory told }
+{}
+
+/// A session is a run of edits whose records are lines. So where all pages before it have lines in a journal, as no pages
+/// and those of a journal have, all pages after it have.
+pub fn sessions_are_runs<P: Places>()
+    ensures run { (effort : Effort) (input told : List ℕ) (before after : List Page) (placed : List PlacedPlan) →
+        IsSession P.tells effort input before after told placed →
+        (rows : List Row) × AllByRecursion IsLine rows × IsRun rows before after }
+    ensures lined { (effort : Effort) (input told : List ℕ) (before after : List Page)
+        (placed : List PlacedPlan) → IsSession P.tells effort input before after told placed →
+        HaveLines before → HaveLines after }
 {}

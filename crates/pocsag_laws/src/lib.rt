@@ -22,7 +22,7 @@ pub use certificate::{no_text_begins_another, one_certificate, one_fault};
 pub use codeword::{codewords_differ, kinds_have_codewords, same_from_kind};
 pub use journal::{
     a_journal_opens_as_its_pages, a_prefix_is_read, journals_read_as_one, lines_are_short,
-    texts_have_one_reason,
+    pages_of_lines_have_lines, sessions_are_runs, texts_have_one_reason,
 };
 pub use laws::{
     captures_say_one_thing, ends_cost_one_batch, fewer_pages_need_no_more,

@@ -51,14 +51,6 @@ impl From<FileFault> for OpenFault {
     }
 }
 
-impl From<RoundFault> for OpenFault {
-    ghost from_gives = { λ refused e. e ≡ fault.Round refused };
-
-    fn from(refused: RoundFault) -> OpenFault {
-        OpenFault::Round(refused)
-    }
-}
-
 impl From<JournalFault> for OpenFault {
     ghost use Rattle.pocsag_open.specs.Faults.{fault_of_journal};
 

@@ -45,9 +45,9 @@ pub(crate) struct JournalFile<'a, 'w> {
 }
 
 impl<'a, 'w> JournalFile<'a, 'w> {
-    /// Opens or makes the file and locks it, unless another program holds it. The lock goes with the file, so what
-    /// stands at the path must still be the file that is locked.
-    pub fn hold(place: JournalPlace<'a, 'w>) -> Result<JournalFile<'a, 'w>, OpenFault> {
+    /// Opens or makes the file, locks it, unless another program holds it, and reads the journal that it holds. The lock
+    /// goes with the file, so what stands at the path must still be the file that is locked.
+    pub fn hold(place: JournalPlace<'a, 'w>) -> Result<(JournalFile<'a, 'w>, Replayed), OpenFault> {
         let JournalPlace { desk, path, .. } = place;
         let is_new = Named::at(desk.rt, path).is_none();
         let mut options = OpenOptions::new();
@@ -63,13 +63,16 @@ impl<'a, 'w> JournalFile<'a, 'w> {
         if Named::at(desk.rt, path) != Some(named) {
             return Err(OpenFault::HeldByAnother);
         }
-        Ok(JournalFile {
+        let mut source = ReaderSource::new(&file, ROLE, desk.watch);
+        let replayed = read_journal(desk.alloc, &mut source)?;
+        let held = JournalFile {
             place,
             is_new,
             file,
             named,
             len: metadata.len(),
-        })
+        };
+        Ok((held, replayed))
     }
 
     /// A handle of the file where it was made, which keeps its lock.
@@ -78,13 +81,6 @@ impl<'a, 'w> JournalFile<'a, 'w> {
             return Ok(None);
         }
         Ok(Some(self.place.desk.opened(ROLE, self.file.try_clone())?))
-    }
-
-    /// What the file holds.
-    pub fn read(&self) -> Result<Replayed, OpenFault> {
-        let desk = self.place.desk;
-        let mut source = ReaderSource::new(&self.file, ROLE, desk.watch);
-        Ok(read_journal(desk.alloc, &mut source)?)
     }
 
     // That what stands at the path is the file that is held, with the bytes that it should have: another program may

@@ -61,8 +61,7 @@ fn list_on(place: JournalPlace<'_, '_>) -> Result<u8, OpenFault> {
 // journal is taken away, while it is still locked.
 fn keep_on(place: JournalPlace<'_, '_>, order: OpenOrder<'_>) -> Result<u8, OpenFault> {
     let desk = place.desk;
-    let file = JournalFile::hold(place)?;
-    let replayed = file.read()?;
+    let (file, replayed) = JournalFile::hold(place)?;
     if replayed.edits > 0 && order.pages.is_some() {
         return Err(OpenFault::HoldsEdits);
     }

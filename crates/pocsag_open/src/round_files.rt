@@ -45,22 +45,6 @@ pub(crate) struct RoundFiles<'a> {
 }
 
 impl<'a> RoundFiles<'a> {
-    // Makes both files beside their places.
-    fn make_beside(
-        &self,
-        tx: &str,
-        cert: &str,
-    ) -> Result<Outputs<WriterSink<'a, Output<File>>>, FileFault> {
-        let (desk, pages) = (self.desk, self.order.pages);
-        if !is_regular_or_none(desk.rt, tx) || !is_regular_or_none(desk.rt, cert) {
-            return Err(FileFault::Device);
-        }
-        refuse_shared(desk, pages, tx, cert)?;
-        let tx = Beside::make(desk, Role::Transmission, tx)?;
-        let cert = Beside::make(desk, Role::Certificate, cert)?;
-        make_outputs(desk, pages, tx.path(), cert.path())
-    }
-
     // Puts the files that were made beside their places there, and takes away what is not put.
     fn settle(&self, tx: &str, cert: &str, are_whole: bool) -> Result<(), FileFault> {
         // No transmission ever stands without its certificate.
@@ -94,17 +78,25 @@ impl<'a> Places for RoundFiles<'a> {
         tx: &str,
         cert: &str,
     ) -> Result<Outputs<WriterSink<'a, Output<File>>>, FileFault> {
+        let desk = self.desk;
         let OpenOrder { pages, journal, .. } = self.order;
         refuse_equal(pages, tx, cert)?;
         refuse_equal(journal, tx, cert)?;
-        refuse_one_file(self.desk.rt, journal, tx, cert)?;
+        refuse_one_file(desk.rt, journal, tx, cert)?;
         if tx == STANDARD || cert == STANDARD {
             return Err(FileFault::EqualPaths);
         }
-        if self.order.keep {
-            return self.make_beside(tx, cert);
+        if !self.order.keep {
+            return make_outputs(desk, pages, tx, cert);
         }
-        make_outputs(self.desk, pages, tx, cert)
+        // Both files are made beside their places.
+        if !is_regular_or_none(desk.rt, tx) || !is_regular_or_none(desk.rt, cert) {
+            return Err(FileFault::Device);
+        }
+        refuse_shared(desk, pages, tx, cert)?;
+        let tx = Beside::make(desk, Role::Transmission, tx)?;
+        let cert = Beside::make(desk, Role::Certificate, cert)?;
+        make_outputs(desk, pages, tx.path(), cert.path())
     }
 
     fn put(

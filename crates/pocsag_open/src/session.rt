@@ -103,7 +103,10 @@ pub(crate) fn book_of<F: Source>(alloc: Global, pages: &mut F) -> Result<Book, O
     ensures explained { F.tells → IfErr result
         (ExplainsOpening (F.held pages.old) (F.failures pages.old) (F.failures pages.new)) }
 {
-    let round = read_round(alloc, pages)?;
+    let round = match read_round(alloc, pages) {
+        Ok(round) => round,
+        Err(fault) => return Err(OpenFault::Round(fault)),
+    };
     match Book::of_round(alloc, &round) {
         Ok(book) => Ok(book),
         Err(_) => Err(OpenFault::File(FileFault::OutOfMemory)),

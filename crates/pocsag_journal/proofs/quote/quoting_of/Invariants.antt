@@ -4,4 +4,4 @@ use Rattle.pocsag_journal.specs.Quotes.{quoting_from}
 use Rattle.pocsag_journal.proofs.quote.quoting_of.Given as goal
 
 abbrev pub invariant-loop-byte : goal.invariant-loop-byte
-invariant-loop-byte l = quoting_from l.quoting (drop l.byte-index l.line) ≡ quoting_from at.Start l.line
+invariant-loop-byte l = quoting_from l.quoting (drop l.byte-index l.text) ≡ quoting_from at.Start l.text

@@ -52,12 +52,12 @@ told_of : (bytes held : List ℕ) (before after : ℕ) → bytes ≡ held → (r
 told_of bytes held before after e (Ok x) told = tt
 told_of bytes held before after e (Err f) told = told_replay held before after f (subst (λ (b : List ℕ). IsTold b f) e told)
 
-pub returns-clause-told : goal.returns-clause-told
-returns-clause-told g c = λ tells.
-    told_of c.as_slice.result.now (g.S.Source.held c.args.source.now) _ _ (c.as_slice.ensures.value ∙ c.in_ok-bytes.ensures.whole tells)
+pub returns-in-Ok-clause-told : goal.returns-in-Ok-clause-told
+returns-in-Ok-clause-told g c = λ tells.
+    told_of c.as_slice.result.now (g.S.Source.held c.args.source.now) _ _ (c.as_slice.ensures.value ∙ c.in-Ok.ensures.whole tells)
     c.replay.result c.replay.ensures.told
 
-pub returns-clause-replay : goal.returns-clause-replay
-returns-clause-replay g c = λ tells rows torn pages is run.
-    these c.as_slice.result.now (g.S.Source.held c.args.source.now) (c.as_slice.ensures.value ∙ c.in_ok-bytes.ensures.whole tells) c.replay.result
+pub returns-in-Ok-clause-replay : goal.returns-in-Ok-clause-replay
+returns-in-Ok-clause-replay g c = λ tells rows torn pages is run.
+    these c.as_slice.result.now (g.S.Source.held c.args.source.now) (c.as_slice.ensures.value ∙ c.in-Ok.ensures.whole tells) c.replay.result
     c.replay.ensures.read c.replay.ensures.told rows torn pages is run

@@ -1,19 +1,54 @@
-use Rattle.std.proofs.Common.{Bool, arith, subst}
+use Rattle.std.proofs.Common.{Bool, ℕ, List, ◌++◌, length, drop, ap, arith, subst, sym, ◌∙◌, true≢false}
+use Rattle.std.specs.Prelude.{Some, None, codes}
+use Rattle.std.proofs.lemmas.Bool.Decides.{Decides-eqb}
+use Rattle.std.proofs.lemmas.Slice.Eq.{starts_is, strip_prefix_is}
 use Rattle.pocsag_journal.specs.Journals.{MakesLine}
+use Rattle.pocsag_journal.proofs.Beginnings.{cut_of, not_begun}
 use Rattle.pocsag_journal.proofs.Replays.{made_bad, made_end, made_first, made_on, nothing_read, shorter}
 use Rattle.pocsag_journal.proofs.replay.replay.Goals as goal
 
-pub returns-in-None-clause-read : goal.returns-in-None-clause-read
-returns-in-None-clause-read c = nothing_read c.args.bytes.now c.new-book.result c.new-book.ensures (rw c.in-None.is at c.in_ok-behind.ensures.torn)
+pub returns-then-starts_with-clause-read : goal.returns-then-starts_with-clause-read
+returns-then-starts_with-clause-read c =
+    let bytes = c.args.bytes.now in
+    let line = c.first_line-first.result.now in
+    let starts = starts_is Decides-eqb line bytes c.starts_with.result c.starts_with.ensures.value in
+    nothing_read bytes c.new.result c.new.ensures
+    (cut_of bytes line (drop (length bytes) line) c.first_line-first.ensures (starts.0 c.if-starts_with.true)
+    (strip_prefix_is Decides-eqb bytes line None c.in_default.ensures.cases))
+
+pub returns-then-starts_with-2-clause-told : goal.returns-then-starts_with-2-clause-told
+returns-then-starts_with-2-clause-told c =
+    let bytes = c.args.bytes.now in
+    let line = c.first_line-first.result.now in
+    let named = starts_is Decides-eqb bytes (codes "pocsag journal,") c.starts_with-in_default.result c.starts_with-in_default.ensures.value in (
+      not_begun bytes line c.starts_with.result c.first_line-first.ensures
+          (strip_prefix_is Decides-eqb bytes line None c.in_default.ensures.cases)
+          (starts_is Decides-eqb line bytes c.starts_with.result c.starts_with.ensures.value).1 c.if-starts_with.false,
+      (drop 15 bytes, named.0 c.if-starts_with-2.true),
+    )
+
+pub returns-in_default-clause-told : goal.returns-in_default-clause-told
+returns-in_default-clause-told c =
+    let bytes = c.args.bytes.now in
+    let line = c.first_line-first.result.now in
+    let named = starts_is Decides-eqb bytes (codes "pocsag journal,") c.starts_with-in_default.result c.starts_with-in_default.ensures.value in (
+      not_begun bytes line c.starts_with.result c.first_line-first.ensures
+          (strip_prefix_is Decides-eqb bytes line None c.in_default.ensures.cases)
+          (starts_is Decides-eqb line bytes c.starts_with.result c.starts_with.ensures.value).1 c.if-starts_with.false,
+      λ h. true≢false (sym (named.1 h.0 h.1) ∙ c.if-starts_with-2.false),
+    )
 
 pub loop-parts-init : goal.loop-parts-init
 loop-parts-init c =
-    made_first c.args.bytes.now c.in-Some.rest.now c.new-book.result (rw c.in-Some.is at c.in_ok-behind.ensures.whole) c.new-book.ensures
+    made_first c.args.bytes.now c.in-Some.behind.now c.new-book.result
+    (strip_prefix_is Decides-eqb c.args.bytes.now c.first_line-first.result.now (Some c.in-Some.behind) c.in-Some.ensures.cases
+    ∙ ap (λ (l : List ℕ). l ++ c.in-Some.behind.now) c.first_line-first.ensures)
+    c.new-book.ensures
 
-pub returns-in-None-split_line-clause-read : goal.returns-in-None-split_line-clause-read
-returns-in-None-split_line-clause-read c =
+pub returns-in-None-clause-read : goal.returns-in-None-clause-read
+returns-in-None-clause-read c =
     made_end c.args.bytes.now c.loop-parts.rest.now c.loop-parts.edits c.loop-parts.book c.loop-parts.invariant
-    c.in-None-split_line.ensures.none
+    c.in-None.ensures.none
 
 pub overflow_add-result : goal.overflow_add-result
 overflow_add-result c = let few = c.loop-parts.invariant.few in let most = c.requires in omega (arith, few, most)

@@ -33,7 +33,7 @@ returns-clause-measured g c = λ tells.
     let listed : ListsPages c.in-Ok.text.items c.args.book.now =
     subst (λ (ps : List Page). ListsPages c.in-Ok.text.items ps) c.pages.ensures.pages c.in-Ok.ensures.listed in
     record {
-      all = c.counted-sizes.ensures.len ∙ c.len.ensures ∙ c.in-Ok.text.ok.0 ∙ ap length (sym same);
+      all = c.len-len.ensures ∙ c.in-Ok.text.ok.0 ∙ ap length (sym same);
       readable = subst (λ (t : List ℕ). length t ≤ journal_limit) (sym same)
           (listed_short c.in-Ok.text.items c.args.book.now listed c.pages.ensures.few);
     }

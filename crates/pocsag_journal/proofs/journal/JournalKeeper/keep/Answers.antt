@@ -82,7 +82,7 @@ returns-clause-stands g c = λ before after held edit tells.
           (subst IsWholeLine (c.as_slice.ensures.value ∙ c.in_ok-line.ensures) (c.is_one_line.ensures.0 c.if-not-is_one_line.false)) edit
           (grown ∙ ap (λ (t : List ℕ). text ++ t) c.in_ok-line.ensures);
       counted = record {
-        all = c.grown-self.ensures.len ∙ sum;
+        all = sum;
         readable = subst (λ (n : ℕ). n ≤ journal_limit) sum c.if-len-gt-JOURNAL_LIMIT.false;
       };
       safe = c.in-Ok-sync.ensures.safe tells;

@@ -14,4 +14,4 @@ returns-then-len-saturating_mul-clause-settled g c = λ tells held.
     (subst (λ (ps : List Page). ListsPages c.in-Ok.text.items ps) c.pages.ensures.pages c.in-Ok.ensures.listed)
     (times_at_most (g.D.Disk.held (disk_of c.args.self.now)) c.in-Ok.text.items c.args.self.now.sizes.len c.saturating_mul.result c.len.result
     all c.if-len-saturating_mul.true (c.len.ensures ∙ c.in-Ok.text.ok.0) c.saturating_mul.ensures)
-    refl (c.counted-self.ensures.counted ∙ all)
+    refl all

@@ -1,0 +1,92 @@
+-- A session is a run of edits whose records are lines.
+use Rattle.std.proofs.Common.{ℕ, ◌^◌, ◌<◌, ◌-◌, inl, inr, List, [], ◌∷◌, ◌++◌, length, take, drop, refl, sym, subst, arith, codes, take-append-drop}
+use Rattle.std.specs.Prelude.{slice_get}
+use Rattle.std.specs.List.{AllByRecursion}
+use Rattle.std.proofs.lemmas.Bool.{cases_Bool}
+use Rattle.csv.specs.Reading.{is_bom, strip_bom}
+use Rattle.pocsag_pages.specs.PageFile.{Row}
+use Rattle.pocsag_pages.specs.declared.page.Page.{Page}
+use Rattle.pocsag_plan.specs.declared.search.Effort.{Effort}
+use Rattle.pocsag_journal.specs.Journals.{IsLine}
+use Rattle.pocsag_journal.specs.LineTexts.{HasNoLineFeed, is_return, record_text, without_return}
+use Rattle.pocsag_journal.specs.PageLines.{HaveLines}
+use Rattle.pocsag_journal.specs.Runs.{IsRun, sent_record}
+use Rattle.pocsag_journal.proofs.EditRuns.{runs_join}
+use Rattle.pocsag_journal.proofs.FieldLines.{feedless_front, read_line, row_line}
+use Rattle.pocsag_journal.proofs.LineFeeds.{none_found}
+use Rattle.pocsag_journal.proofs.LinedPages.{decimal_feedless, run_lined}
+use Rattle.pocsag_open.specs.Lines.{AreLines}
+use Rattle.pocsag_open.specs.Plans.{PlacedPlan}
+use Rattle.pocsag_open.specs.Replies.{AreReplies, IsLineReply, IsReply, IsSession, edited, listed, noted, planned, read, refused, sent_first, too_long, unread}
+use Rattle.pocsag_open.proofs.Fronts.{front_edit}
+
+-- what a line's record is read from has no line feed
+returned_feedless : (line : List ℕ) → HasNoLineFeed line → HasNoLineFeed (without_return line)
+returned_feedless line none = elim (cases_Bool (is_return (slice_get line (length line - 1)))) [
+  | inl t ↦ rw t
+      (feedless_front (take (length line - 1) line) (drop (length line - 1) line)
+      (subst HasNoLineFeed (sym (take-append-drop (length line - 1) line)) none))
+  | inr f ↦ rw f none
+]
+
+marked_feedless : (line : List ℕ) → HasNoLineFeed line → HasNoLineFeed (strip_bom line)
+unfolding strip_bom
+marked_feedless [] none = none
+marked_feedless (a ∷ []) none = none
+marked_feedless (a ∷ b ∷ []) none = none
+marked_feedless (a ∷ b ∷ c ∷ rest) none = elim (cases_Bool (is_bom a b c)) [ inl t ↦ rw t none.1.1.1 | inr f ↦ rw f none ]
+
+text_feedless : (line : List ℕ) → HasNoLineFeed line → HasNoLineFeed (record_text line)
+text_feedless line none = marked_feedless (without_return line) (returned_feedless line none)
+
+-- a run of lines leads from these pages to those
+abbrev LineRun : (before after : List Page) → Type 0
+LineRun before after = (rows : List Row) × AllByRecursion IsLine rows × IsRun rows before after
+
+sent_line : (count : ℕ) → count < 2 ^ 64 → IsLine (sent_record count)
+sent_line count small = row_line (sent_record count) (λ e. cc e) (none_found (codes "sent") refl, (decimal_feedless count small, tt))
+
+reply_run : (Tells : Type 0) (effort : Effort) (row : Row) (before after : List Page) (told : List ℕ) (placed : List PlacedPlan) → IsLine row →
+    IsReply Tells effort row before after told placed → LineRun before after
+unfolding IsRun
+reply_run Tells effort row before after told placed line (edited edit t n) = (row ∷ [], (line, tt), (after, edit, refl))
+reply_run Tells effort row before after told placed line (listed is same t n) = ([], tt, same)
+reply_run Tells effort row before after told placed line (noted is same t n) = ([], tt, same)
+reply_run Tells effort row before after told placed line (planned end tx cert batches bound sent asks is same t n) = ([], tt, same)
+reply_run Tells effort row before after told placed line (sent_first end most tx cert count batches bound sent asks is left t n) =
+    let edit = front_edit Tells effort end most tx cert before after count batches bound sent is left (sent_record count) refl in
+    (sent_record count ∷ [], (sent_line count (omega (arith, is.front.among, is.round.few)), tt), (after, edit, refl))
+reply_run Tells effort row before after told placed line (refused why due same t n) = ([], tt, same)
+
+line_run : (Tells : Type 0) (effort : Effort) (line : List ℕ) (before after : List Page) (told : List ℕ) (placed : List PlacedPlan) →
+    HasNoLineFeed line → IsLineReply Tells effort line before after told placed → LineRun before after
+unfolding IsRun
+line_run Tells effort line before after told placed none (too_long long same t n) = ([], tt, same)
+line_run Tells effort line before after told placed none (unread why few is same t n) = ([], tt, same)
+line_run Tells effort line before after told placed none (read row few spelled reply) =
+    reply_run Tells effort row before after told placed (read_line row (record_text line) spelled (text_feedless line none)) reply
+
+all_joined : (rows more : List Row) → AllByRecursion IsLine rows → AllByRecursion IsLine more → AllByRecursion IsLine (rows ++ more)
+all_joined [] more each others = others
+all_joined (row ∷ rows) more each others = (each.0, all_joined rows more each.1 others)
+
+replies_run : (Tells : Type 0) (effort : Effort) (lines : List (List ℕ)) (bytes : List ℕ) (before after : List Page) (told : List ℕ)
+    (placed : List PlacedPlan) → AreLines lines bytes → AreReplies Tells effort lines before after told placed → LineRun before after
+unfolding AreLines AreReplies IsRun
+replies_run Tells effort [] bytes before after told placed cut replies = ([], tt, replies.0)
+replies_run Tells effort (line ∷ lines) bytes before after told placed (rest, first, cut)
+    (between, reply, more, its, others, here, next, parts, sent) =
+    let one = line_run Tells effort line before between reply its first.one here in
+    let others = replies_run Tells effort lines rest between after more others cut next in
+    (one.0 ++ others.0, all_joined one.0 others.0 one.1 others.1, runs_join one.0 others.0 before between after one.2 others.2)
+
+pub session_run : (Tells : Type 0) (effort : Effort) (input told : List ℕ) (before after : List Page) (placed : List PlacedPlan) →
+    IsSession Tells effort input before after told placed → LineRun before after
+session_run Tells effort input told before after placed session =
+    replies_run Tells effort session.lines input before after told placed session.cut session.replies
+
+pub session_lined : (Tells : Type 0) (effort : Effort) (input told : List ℕ) (before after : List Page) (placed : List PlacedPlan) →
+    IsSession Tells effort input before after told placed → HaveLines before → HaveLines after
+session_lined Tells effort input told before after placed session lined =
+    let run = session_run Tells effort input told before after placed session in
+    run_lined run.0 before after run.1 run.2 lined
