@@ -20,17 +20,6 @@ pub struct CheckInfo {
     pub place: Place,
 }
 
-// The number of an end.
-fn end_number(end: End) -> u32
-    ensures { result ≡ number_of_end end }
-{
-    match end {
-        End::Open => 0,
-        End::Closed => 1,
-        End::Idle => 2,
-    }
-}
-
 // What is told of a certificate that was judged.
 pub(crate) fn info_of_judged(judged: CheckVerdict) -> CheckInfo
     ensures end { result.end ≡ number_of_end judged.end }
@@ -38,7 +27,11 @@ pub(crate) fn info_of_judged(judged: CheckVerdict) -> CheckInfo
     ensures place { result.place ≡ nowhere }
 {
     CheckInfo {
-        end: end_number(judged.end),
+        end: match judged.end {
+            End::Open => 0,
+            End::Closed => 1,
+            End::Idle => 2,
+        },
         batches: judged.batches,
         place: NOWHERE,
     }

@@ -8,7 +8,7 @@ use crate::buffer::hand_out;
 use crate::plan::{effort_of, end_of, hand_out_both};
 use crate::refusal::{NOWHERE, Place, refusal_in_centre};
 use pocsag_centre::{WrittenCertificate, WrittenFront, front_file};
-use pocsag_plan::{Effort, Search};
+use pocsag_plan::{Bounded, Effort, Search};
 use std::alloc::Global;
 
 /// What the plan of a front tells; all but the place is 0 where there is none.
@@ -52,29 +52,6 @@ fn beyond_of(why: &Option<WrittenCertificate>) -> (&[u8], u32)
     match why {
         Some(written) => (written.bytes.as_slice(), written.bound),
         None => (&[], 0),
-    }
-}
-
-fn info_of(front: &WrittenFront) -> FrontInfo
-    ensures pages { result.pages ≡ front.now.first.bounded.plan.pages }
-    ensures left { result.left ≡ front.now.left }
-    ensures codewords { result.codewords ≡ front.now.first.bounded.plan.codewords }
-    ensures in_order { result.in_order ≡ front.now.first.bounded.plan.in_order }
-    ensures batches { result.batches ≡ front.now.first.bounded.plan.batches }
-    ensures bound { result.bound ≡ front.now.first.bounded.bound }
-    ensures beyond { result.beyond ≡ beyond_bound front.now.why }
-    ensures place { result.place ≡ nowhere }
-{
-    let plan = &front.first.bounded.plan;
-    FrontInfo {
-        pages: plan.pages,
-        left: front.left,
-        codewords: plan.codewords,
-        in_order: plan.in_order,
-        batches: plan.batches,
-        bound: front.first.bounded.bound,
-        beyond: beyond_of(&front.why).1,
-        place: NOWHERE,
     }
 }
 
@@ -201,7 +178,17 @@ pub extern "C" fn pocsag_plan_at_most(
     let effort = effort_of(always);
     match front_file(alloc, pages, batches, Search { limit, end, effort }) {
         Ok(front) => {
-            *info = info_of(&front);
+            let Bounded { plan, bound, .. } = &front.first.bounded;
+            *info = FrontInfo {
+                pages: plan.pages,
+                left: front.left,
+                codewords: plan.codewords,
+                in_order: plan.in_order,
+                batches: plan.batches,
+                bound: *bound,
+                beyond: beyond_of(&front.why).1,
+                place: NOWHERE,
+            };
             hand_out_front(
                 &front, tx, tx_len, cert, cert_len, rest, rest_len, why, why_len,
             )

@@ -49,24 +49,6 @@ const NOTHING: PlanInfo = PlanInfo {
     place: NOWHERE,
 };
 
-fn info_of(bounded: &Bounded) -> PlanInfo
-    ensures pages { result.pages ≡ bounded.now.plan.pages }
-    ensures codewords { result.codewords ≡ bounded.now.plan.codewords }
-    ensures in_order { result.in_order ≡ bounded.now.plan.in_order }
-    ensures batches { result.batches ≡ bounded.now.plan.batches }
-    ensures bound { result.bound ≡ bounded.now.bound }
-    ensures place { result.place ≡ nowhere }
-{
-    PlanInfo {
-        pages: bounded.plan.pages,
-        codewords: bounded.plan.codewords,
-        in_order: bounded.plan.in_order,
-        batches: bounded.plan.batches,
-        bound: bounded.bound,
-        place: NOWHERE,
-    }
-}
-
 // The end of a number.
 pub(crate) fn end_of(number: u32) -> Option<End>
     ensures { MatchOption result (IsNoEnd number) (λ end. number ≡ number_of_end end) }
@@ -167,7 +149,15 @@ pub extern "C" fn pocsag_plan(
     let effort = effort_of(always);
     match plan_file(alloc, pages, Search { limit, end, effort }) {
         Ok(written) => {
-            *info = info_of(&written.bounded);
+            let Bounded { plan, bound, .. } = &written.bounded;
+            *info = PlanInfo {
+                pages: plan.pages,
+                codewords: plan.codewords,
+                in_order: plan.in_order,
+                batches: plan.batches,
+                bound: *bound,
+                place: NOWHERE,
+            };
             hand_out_both(&written, tx, tx_len, cert, cert_len)
         }
         Err(fault) => {

@@ -198,18 +198,11 @@ fn write_front<O: Sink>(
         FrontLimit::Airtime { ms, rate } => most_batches(ms, rate)?,
     };
     refuse_rest(desk, order)?;
-    let front = front_at(desk, order, batches)?;
-    put_front_files(desk, order, batches, &front, out)
-}
-
-fn front_at(
-    desk: Desk<'_>,
-    order: PlanOrder<'_>,
-    batches: u32,
-) -> Result<WrittenFront, CentreFault> {
     let file = page_file(desk, order.pages, order.search)?;
     let done = front_file(desk.alloc, file.as_slice(), batches, order.search.search);
-    noted(desk, order.pages, file.as_slice(), done)
+    let front = noted(desk, order.pages, file.as_slice(), done)?;
+    drop(file);
+    put_front_files(desk, order, batches, &front, out)
 }
 
 // Writes the files of a front, the rest first, and tells its lines. Answers how many pages it has.

@@ -10,7 +10,7 @@ ghost use Rattle.pocsag_plan.specs.Headline.{RoundHeadline};
 ghost use Rattle.pocsag_plan.specs.Plans.{IsPlanFor};
 ghost use Rattle.pocsag_plan.specs.Streams.{IsOfRound};
 ghost use Rattle.pocsag_centre.specs.FrontFiles.{ExplainsFirst, ExplainsNoFront, IsPageFileOf, IsWhyWritten, why_text};
-ghost use Rattle.pocsag_centre.specs.Lines.{below_text, left_text, plan_text, undecided_text};
+ghost use Rattle.pocsag_centre.specs.Lines.{below_text, left_text, plan_text};
 ghost use Rattle.pocsag_shell.specs.declared.fault.FileFault.TheVariants as file_fault;
 
 use crate::demand::refuse_bad_limit;
@@ -148,7 +148,7 @@ fn written_why(
 
 /// Tells the counts of a front, with its bound where that is below its batches; how many pages are left; and what is shown
 /// of one page more, where that is no more than the batches that were asked for.
-#[tactic(auto, unfolding(crate::specs::Lines::left_text))]
+#[tactic(auto, unfolding(crate::specs::Lines::left_text, crate::specs::Lines::undecided_text))]
 pub(crate) fn tell_front<O: Sink>(
     front: &WrittenFront,
     batches: u32,
@@ -162,21 +162,12 @@ pub(crate) fn tell_front<O: Sink>(
 {
     tell_bounded(&front.first.bounded, out)?;
     tell_numbers(out, &[("left ", front.left as u64)], "\n")?;
-    match &front.why {
-        Some(why) => Ok(tell_undecided(batches, why.bound, out)?),
-        None => Ok(()),
-    }
-}
-
-// Tells what is shown of one page more, where that is no more than so many batches.
-#[tactic(auto, unfolding(crate::specs::Lines::undecided_text))]
-fn tell_undecided<O: Sink>(batches: u32, bound: u32, out: &mut O) -> Result<(), FileFault>
-    ensures told { O.tells → OnOk result (O.taken out.new ≡ O.taken out.old ++ undecided_text batches bound) }
-    ensures lost { IfErr result (λ e. e ≡ FileFault.Write) }
-{
-    if batches < bound {
+    let Some(why) = &front.why else {
+        return Ok(());
+    };
+    if batches < why.bound {
         return Ok(());
     }
-    let number = [("at least ", bound as u64)];
-    tell_numbers(out, &number, " batches with one page more\n")
+    let number = [("at least ", why.bound as u64)];
+    Ok(tell_numbers(out, &number, " batches with one page more\n")?)
 }

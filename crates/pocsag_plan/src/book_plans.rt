@@ -1,5 +1,5 @@
 //! The round that an open round is sent as.
-ghost use Rattle.std.specs.Prelude.{◌≡◌, ◌<◌, ◌≤◌, ◌↔◌, [], length, take, IfErr, IfOk, IfSome, IsErrOf, OnOk};
+ghost use Rattle.std.specs.Prelude.{◌≡◌, ◌<◌, ◌≤◌, ◌↔◌, [], length, take, IfErr, IfOk, IsErrOf, OnOk};
 ghost use Rattle.pocsag_pages.specs.Pages.{IsRound};
 ghost use Rattle.pocsag_tree.specs.BoundTrees.{closed_nodes};
 ghost use Rattle.pocsag_tree.specs.Views.{bound_tree_of};
@@ -8,13 +8,13 @@ ghost use Rattle.pocsag_plan.specs.BookPlans.{ExplainsBook, ExplainsBookFront, E
 ghost use Rattle.pocsag_plan.specs.Fronts.{IsFrontFor, IsLongestFront};
 ghost use Rattle.pocsag_plan.specs.Headline.{RoundHeadline};
 ghost use Rattle.pocsag_plan.specs.Plans.{IsBounded, IsNoWorse, IsPlan, IsPlanFor, NoneHasFewer};
-ghost use Rattle.pocsag_plan.specs.Streams.{fault_in, unsent_fault_in, HasHeadline, IsBeforeWriting, IsCertificate, IsSearchLimit, IsTransmission, WritesAllOf, WritesCertificatePartOf, WritesInTurn, WritesPartOf};
+ghost use Rattle.pocsag_plan.specs.Streams.{fault_in, unsent_fault_in, HasHeadline, IsCertificate, IsSearchLimit, IsTransmission, WritesAllOf, WritesCertificatePartOf, WritesInTurn, WritesPartOf};
 
 use crate::answer::Plan;
 use crate::book::Book;
 use crate::bounded::Bounded;
 use crate::fault::{NoFront, PlanFault, StreamFault, UnsentFront};
-use crate::front::{FrontPlan, longest_front};
+use crate::front::longest_front;
 use crate::plans::{counted_plan, is_node_limit};
 use crate::refusal::BookFault;
 use crate::search::{Effort, Search};
@@ -52,9 +52,13 @@ impl Book {
             return Err(BookFault::NoPages);
         }
         let alloc = self.allocator();
-        let round = self.to_round(alloc)?;
-        let bounded = counted_plan(alloc, &round, self.classes(search.end), search)?;
-        Ok((round, bounded))
+        let Ok(round) = self.to_round(alloc) else {
+            return Err(BookFault::Plan(PlanFault::OutOfMemory));
+        };
+        match counted_plan(alloc, &round, self.classes(search.end), search) {
+            Ok(bounded) => Ok((round, bounded)),
+            Err(fault) => Err(BookFault::Plan(fault)),
+        }
     }
 
     /// Plans the round of the pages, as `plan` does, over the class table that the book keeps for the end.
@@ -190,33 +194,6 @@ impl Book {
         Ok(bounded)
     }
 
-    // The longest front of a round of copies of the pages.
-    fn front(&self, batches: u32, search: Search) -> Result<FrontPlan, UnsentFront>
-        ensures front { IfOk result (λ front. IsFrontFor search self.now batches front.bounded.plan.pages) }
-        ensures first { IfOk result (λ front. front.round ≡ take front.bounded.plan.pages self.now) }
-        ensures plan { IfOk result (λ front. IsPlanFor search front.round front.bounded) }
-        ensures within { IfOk result (λ front. front.bounded.plan.batches ≤ batches) }
-        ensures round { OnOk result (IsNodeLimit search.limit × IsRound self.now) }
-        ensures explained { IfErr result (ExplainsBookFront search self.now batches) }
-        ensures unwritten { IfSome (unsent_fault_in result) IsBeforeWriting }
-    {
-        if !is_node_limit(search.limit) {
-            return Err(UnsentFront::Stream(StreamFault::Plan(PlanFault::BadLimit)));
-        }
-        if self.is_empty() {
-            return Err(UnsentFront::Stream(StreamFault::Round(RoundFault::NoPages)));
-        }
-        let alloc = self.allocator();
-        let Ok(round) = self.to_round(alloc) else {
-            return Err(UnsentFront::Stream(StreamFault::Plan(PlanFault::OutOfMemory)));
-        };
-        match longest_front(alloc, round, batches, search) {
-            Ok(front) => Ok(front),
-            Err(NoFront::Plan(fault)) => Err(UnsentFront::Stream(StreamFault::Plan(fault))),
-            Err(NoFront::FirstPage(needed)) => Err(UnsentFront::FirstPage(needed)),
-        }
-    }
-
     /// Plans the longest front of the pages that so many batches carry, as `longest_front` does, and writes its
     /// transmission whole and then its certificate; its pages are the first `plan.pages` of the book. Faults in order:
     /// `BadLimit`; `Round(NoPages)`; `FirstPage`, where not even the first page fits; `SearchLimit`; `OutOfMemory`;
@@ -245,9 +222,23 @@ impl Book {
         ensures explained { IfErr result (ExplainsBookFront search self.now batches) }
         ensures writers { WritesInTurn T.failures C.failures tx.old tx.new cert.old cert.new (unsent_fault_in result) }
     {
-        let FrontPlan { round, bounded, .. } = self.front(batches, search)?;
-        match send(&round, &bounded, tx, cert) {
-            Ok(()) => Ok(bounded),
+        if !is_node_limit(search.limit) {
+            return Err(UnsentFront::Stream(StreamFault::Plan(PlanFault::BadLimit)));
+        }
+        if self.is_empty() {
+            return Err(UnsentFront::Stream(StreamFault::Round(RoundFault::NoPages)));
+        }
+        let alloc = self.allocator();
+        let Ok(round) = self.to_round(alloc) else {
+            return Err(UnsentFront::Stream(StreamFault::Plan(PlanFault::OutOfMemory)));
+        };
+        let front = match longest_front(alloc, round, batches, search) {
+            Ok(front) => front,
+            Err(NoFront::Plan(fault)) => return Err(UnsentFront::Stream(StreamFault::Plan(fault))),
+            Err(NoFront::FirstPage(needed)) => return Err(UnsentFront::FirstPage(needed)),
+        };
+        match send(&front.round, &front.bounded, tx, cert) {
+            Ok(()) => Ok(front.bounded),
             Err(fault) => Err(UnsentFront::Stream(fault)),
         }
     }

@@ -1,6 +1,5 @@
 use crate::fault::{PlanFault, StreamFault};
 use pocsag_pages::{Page, PageFault, RoundFault};
-use pocsag_words::OutOfMemory;
 use thiserror::Error;
 
 /// Why a page is not added to an open round.
@@ -40,29 +39,6 @@ pub enum BookFault {
     /// Its round has no plan.
     #[error(transparent)]
     Plan(PlanFault),
-}
-
-impl From<OutOfMemory> for BookFault {
-    ghost use Rattle.std.specs.Prelude.{◌≡◌};
-    ghost use Rattle.pocsag_plan.specs.declared.fault.PlanFault.TheVariants as planning;
-    ghost use Rattle.pocsag_plan.specs.declared.refusal.BookFault.TheVariants as book;
-
-    ghost from_gives = { λ _ fault. fault ≡ book.Plan planning.OutOfMemory };
-
-    fn from(_fault: OutOfMemory) -> BookFault {
-        BookFault::Plan(PlanFault::OutOfMemory)
-    }
-}
-
-impl From<PlanFault> for BookFault {
-    ghost use Rattle.std.specs.Prelude.{◌≡◌};
-    ghost use Rattle.pocsag_plan.specs.declared.refusal.BookFault.TheVariants as book;
-
-    ghost from_gives = { λ fault its. its ≡ book.Plan fault };
-
-    fn from(fault: PlanFault) -> BookFault {
-        BookFault::Plan(fault)
-    }
 }
 
 impl From<BookFault> for StreamFault {
