@@ -1,10 +1,7 @@
 -- No call over bytes tells that a device failed, nor that it came too late.
-use Rattle.std.proofs.Common.{◌≡◌, ◌≢◌, ℕ, ◌==◌, ◌&&◌, ◌%◌, Bool, true, false, not, List, Option, Some, None, Result, Ok, Err, IfErr, nat_le, nat_lt, refl, sym, ◌∙◌, inl, inr, arith}
+use Rattle.std.proofs.Common.{◌≡◌, ◌≢◌, ℕ, ◌==◌, ◌&&◌, ◌%◌, Bool, true, false, not, List, Option, Some, None, Result, Ok, Err, IfErr, nat_le, nat_lt, refl, ◌∙◌, inl, inr}
 use Rattle.std.specs.Prelude.{if◌then◌else◌, length}
 use Rattle.std.specs.Option.{option_or}
-use Rattle.std.proofs.lemmas.Bool.{cases_lt}
-use Rattle.pocsag_words.specs.Frame.{input_limit}
-use Rattle.pocsag_pages.specs.PageFile.{rows_of, verdict}
 use Rattle.pocsag_pages.specs.declared.fault.RoundFault.{RoundFault}
 use Rattle.pocsag_pages.specs.declared.fault.RoundFault.TheVariants as round
 use Rattle.pocsag_pages.proofs.Judgements.{never_read}

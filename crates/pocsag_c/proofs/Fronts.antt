@@ -1,5 +1,5 @@
 -- What is told of a front, and of the pages behind it.
-use Rattle.std.proofs.Common.{◌≡◌, ◌⊎◌, ℕ, ◌+◌, ◌≤◌, List, Option, Ok, drop, length, length-drop, length-take, min, take, refl, sym, ap, ◌∙◌, subst, inl, inr, arith}
+use Rattle.std.proofs.Common.{◌≡◌, ◌⊎◌, ℕ, List, Option, Ok, drop, length, length-drop, length-take, take, refl, sym, ap, ◌∙◌, subst, inl, inr, arith}
 use Rattle.pocsag_words.specs.declared.ending.End.{End}
 use Rattle.pocsag_words.specs.declared.ending.End.TheVariants as ends
 use Rattle.std.specs.Prelude.{sum_by}
@@ -13,7 +13,7 @@ use Rattle.pocsag_plan.specs.Plans.{IsPlanFor}
 use Rattle.pocsag_plan.specs.Streams.{IsOfRound}
 use Rattle.pocsag_centre.specs.FrontFiles.{IsWhyWritten}
 use Rattle.pocsag_centre.specs.declared.front.WrittenCertificate.{WrittenCertificate}
-use Rattle.pocsag_c.specs.Answers.{IsDelivered, IsNoEnd, number_of_end}
+use Rattle.pocsag_c.specs.Answers.{IsNoEnd, number_of_end}
 use Rattle.pocsag_c.specs.Fronts.{IsBeyond, IsCountedFirst, IsFront, IsGivenIfWanted, IsPutIfWanted, IsWithoutFront, beyond_bound, beyond_bytes}
 use Rattle.pocsag_c.specs.declared.front.FrontInfo.{FrontInfo}
 

@@ -11,7 +11,6 @@ use Rattle.pocsag_plan.specs.Fronts.{IsFrontFor, IsLongestFront}
 use Rattle.pocsag_plan.specs.Headline.{RoundHeadline}
 use Rattle.pocsag_plan.specs.Streams.{IsOfRound}
 use Rattle.pocsag_plan.specs.declared.search.Effort.{Effort}
-use Rattle.pocsag_plan.specs.declared.search.Search.{Search}
 use Rattle.pocsag_centre.specs.FrontFiles.{ExplainsNoFront, IsPageFileOf, IsWhyWritten}
 use Rattle.pocsag_centre.specs.declared.fault.CentreFault.{CentreFault}
 use Rattle.pocsag_centre.specs.declared.front.WrittenCertificate.{WrittenCertificate}

@@ -1,4 +1,4 @@
-use Rattle.std.proofs.Common.{◌≡◌, ℕ, inr, refl, subst}
+use Rattle.std.proofs.Common.{inr, refl, subst}
 use Rattle.pocsag_plan.specs.declared.search.Effort.TheVariants as Effort
 use Rattle.pocsag_c.specs.Answers.{IsNoEnd}
 use Rattle.pocsag_c.proofs.Devices.{unfronted_in_memory}
