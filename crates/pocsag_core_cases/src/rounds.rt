@@ -23,7 +23,9 @@ pub fn ones(alloc: Global, address: u32, count: usize) -> Result<Page, OutOfMemo
 pub fn round_of(alloc: Global, pages: &[(u32, usize)]) -> Result<Round, RoundFault> {
     let mut list = Vec::new(alloc);
     for (address, count) in pages.iter().copied() {
-        list.push(ones(alloc, address, count)?)?;
+        if list.push(ones(alloc, address, count)?).is_err() {
+            return Err(RoundFault::OutOfMemory);
+        }
     }
     Round::from_pages(alloc, list)
 }
