@@ -30,8 +30,9 @@ pub(crate) fn margins(indent: usize) -> Margins {
     }
 }
 
-/// What follows the first words: a line for each finding and one for its limits, where they say more than those of the root, how many nodes are not listed, and the conclusion; or, if the
-/// checker does not accept the certificate, the first node that does not hold.
+/// What follows the first words: a line for each finding, and one for its limits where they say more than those of the
+/// root; how many nodes are not listed, and the conclusion. Or, if the checker does not accept the certificate, the first
+/// node that does not hold.
 pub(crate) fn outline(alloc: Global, subject: &Subject<'_>) -> Result<String, AllocError> {
     let mut text = format!(in alloc; "\n")?;
     if !subject.is_shown {
