@@ -164,7 +164,7 @@ def check_libraries(tally):
         crate, _, needed = line.partition(":")
         for library in LIBRARIES & set(needed.split()):
             crate = crate.split()[0]
-            used = any(re.search(rf"\b{library}::", file.read_text()) for file in (TOP / "crates" / crate / "src").rglob("*.rt"))
+            used = any(re.search(rf"\b{library}::|ghost use Rattle\.{library}\.", file.read_text()) for file in (TOP / "crates" / crate / "src").rglob("*.rt"))
             tally.check(f"{library} in {crate}", used, "stands in crates.txt alone")
 
 
