@@ -11,7 +11,7 @@ mod codeword;
 mod journal;
 mod laws;
 mod order;
-mod reading;
+mod readings;
 mod tour;
 
 pub use bound::{
@@ -34,7 +34,7 @@ pub use order::{
     file_order_exists, file_order_is_legal, file_order_is_one, orders_are_one, orders_give_layouts,
     orders_have_places, tours_have_orders,
 };
-pub use reading::{
+pub use readings::{
     a_fault_there_stays, faults_are_one, listed_fields_are_read_back, no_fault_is_a_reading,
     readings_are_one, repaired_pages_are_heard, rounds_are_good, standing_is_without_fault,
 };

@@ -1,5 +1,5 @@
 use Rattle.pocsag_decode.proofs.OneFault.{there_stays}
-use Rattle.pocsag_laws.proofs.reading.a_fault_there_stays.Goals as goal
+use Rattle.pocsag_laws.proofs.readings.a_fault_there_stays.Goals as goal
 
 pub returns : goal.returns
 returns c = there_stays

@@ -1,5 +1,5 @@
 use Rattle.pocsag_decode.proofs.OneFault.{one_fault}
-use Rattle.pocsag_laws.proofs.reading.faults_are_one.Goals as goal
+use Rattle.pocsag_laws.proofs.readings.faults_are_one.Goals as goal
 
 pub returns : goal.returns
 returns c = one_fault

@@ -1,6 +1,6 @@
 use Rattle.std.proofs.Common.{sym, ◌∙◌}
 use Rattle.pocsag_pages.proofs.Readings.{reads_plainly}
-use Rattle.pocsag_laws.proofs.reading.readings_are_one.Goals as goal
+use Rattle.pocsag_laws.proofs.readings.readings_are_one.Goals as goal
 
 pub returns : goal.returns
 returns c = λ ws i ps qs r s. (reads_plainly r).pages ∙ sym (reads_plainly s).pages

@@ -5,7 +5,7 @@ use Rattle.pocsag_pages.specs.Plain.{pages_from}
 use Rattle.pocsag_decode.proofs.Judgements.{no_fault_whole, whole_no_fault}
 use Rattle.pocsag_decode.proofs.SentBytes.{reads_whole}
 use Rattle.pocsag_decode.proofs.Transmissions.{whole_reads}
-use Rattle.pocsag_laws.proofs.reading.no_fault_is_a_reading.Goals as goal
+use Rattle.pocsag_laws.proofs.readings.no_fault_is_a_reading.Goals as goal
 
 pub returns : goal.returns
 returns c = λ X small. (
