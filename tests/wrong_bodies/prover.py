@@ -126,8 +126,7 @@ def copy_kept(source, target):
 
 
 class Room:
-    """A folder with a copy of the crate and of what stands below it, with what their proofs left. A crate that `rt ci` proved
-    has left no work to begin with, so this proves the functions once more that are to be changed."""
+    """A folder with a copy of the crate and of what stands below it, with what their proofs left."""
 
     def __init__(self, crate, below, top):
         self.kept, self.folder = crate.folder / "out/incremental", pathlib.Path(top) / "crates" / crate.path
@@ -142,21 +141,12 @@ class Room:
                 shutil.copytree(crate.folder / part, self.folder / part)
         self.words = kit.check_words(self.folder)
 
-    def begin(self, texts, names):
-        """Proves these functions as they are where no check of the crate left its work, and says whether they are proved."""
-        if self.kept.is_dir():
-            return True
-        said, self.kept = self.check(texts, names).said, self.folder / "kept"
-        (self.folder / "out/incremental").rename(self.kept)
-        return said.has_verdict and not said.refused()
-
     def check(self, texts, only=()):
         """Checks the copy with these texts of its sources, the whole crate or these functions and what they call, over what
         the crate's own proof left."""
         for part in (*PARTS, "out/incremental"):
             shutil.rmtree(self.folder / part, ignore_errors=True)
-        if self.kept.is_dir():
-            copy_kept(self.kept, self.folder / "out/incremental")
+        copy_kept(self.kept, self.folder / "out/incremental")
         for path, text in texts.items():
             (self.folder / path).parent.mkdir(parents=True, exist_ok=True)
             (self.folder / path).write_text(text)

@@ -1,7 +1,7 @@
 #!/usr/bin/env python3
 """Tries wrong bodies: the prover must refuse each function in which one is planted. `./test --mutations` calls this.
 
-  python3 tests/wrong_bodies/run.py CRATE..    the crates, which must be proved as they are, with what stands below
+  python3 tests/wrong_bodies/run.py CRATE..    the crates, which must be proved as they are
 
 A wrong body is a file `.edit` in crates/CRATE/must-fail or tests/wrong_bodies/CRATE: a line `file: src/x.rt`, then
 pairs of lines `old: TEXT` and `new: TEXT`, where each old text stands once in the file. The function that must be
@@ -32,7 +32,6 @@ import lanes
 import workspace
 from edits import clauses_of, narrowed, read_edits, rounds_of, unoffered
 from prover import Room
-from source import all_functions
 from tally import TOP, Tally
 
 PAGE = TOP / "tests/wrong_bodies/REFUSED.md"  # names the clause that each was refused at
@@ -163,14 +162,13 @@ def try_crate(crate, below, files, kept=None):
     yield from ((it.name, True, said) for it, said in told.items())
     plan = rounds_of([it for it in good if it not in told], texts)
     left = times_of(crate.folder / "out/incremental")
+    if plan and not left:
+        yield "as it is", False, "not proved, so nothing was tried: run ./test with the crate's name"
+        return
     if plan and not any(it.is_right for edits in plan for it in edits) and any(not edits[0].is_alone for edits in plan):
         yield "a change that is right", False, "no function was found to make it in"
     with tempfile.TemporaryDirectory(prefix="wrong-bodies-") as folder:
         room = Room(crate, below, folder) if plan else None
-        names = all_functions(texts).keys() & {name for edits in plan for edit in edits for name in edit.names()}
-        if plan and not room.begin(texts, sorted(names)):
-            yield "as it is", False, "not proved, so nothing was tried: run ./test with the crate's name"
-            return
         for edits in plan:
             for edit, it in verdicts(room, edits, texts).items():
                 yield edit.name, it.holds, it.told
