@@ -58,11 +58,11 @@ def package_file(prefix, libdir, includedir):
     return text
 
 
-def make(folder):
+def make(folder, made=MADE):
     folder.mkdir(parents=True, exist_ok=True)
     with tempfile.TemporaryDirectory() as room:
         joined = pathlib.Path(room) / "libpocsag.a"
-        join(joined, [MADE, memory_calls()])
+        join(joined, [made, memory_calls()])
         shared = pathlib.Path(room) / SONAME
         run("cc", "-shared", "-o", shared, f"-Wl,-soname,{SONAME}", f"-Wl,--version-script={HERE / 'pocsag.map'}",
             "-Wl,--whole-archive", joined, "-Wl,--no-whole-archive", "-Wl,--no-undefined", "-Wl,-z,relro,-z,now", "-lc")

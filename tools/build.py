@@ -5,7 +5,7 @@
                               the path of the one that does; `./pocsag` calls it where a source has changed
     build.py proofs [CRATE..] proves and builds these crates, or all, with what they stand on
     build.py tests CRATE..    runs the tests of these crates, where what they stand on is built, and counts them
-    build.py ci               runs `rt ci`, and takes the programs that it built
+    build.py ci               runs `rt ci`, takes the programs that it built, and builds the library for C
     build.py all              proves and builds all crates and runs their tests
     build.py CRATE..          proves and builds these crates, with what they stand on, and runs their tests
 
@@ -191,12 +191,15 @@ def run_tests(crates, names):
 
 
 def gate_of_toolchain(crates):
-    """Runs `rt ci`, which proves all crates from nothing and builds the programs, and writes down what these were built from."""
+    """Runs `rt ci`, which proves all crates from nothing and builds the programs; builds the library for C over the libraries that
+    it leaves; and writes down what these were built from."""
     with alone():
-        products = [Product(crates, name) for name, crate in crates.items() if crate.is_program]
+        products = {name: Product(crates, name) for name, crate in crates.items() if crate.is_product}
         status = subprocess.run(["rt", "ci"], cwd=TOP, stdin=subprocess.DEVNULL).returncode
-        for it in products:
-            if not status and it.path.is_file():
+        if not status:
+            static = {name: crates[name] for name in products if not crates[name].is_program}
+            run([proof(crates, it) for it in static.values()], static)
+            for it in products.values():
                 it.write_record()
     return status
 

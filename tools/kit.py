@@ -62,7 +62,7 @@ def main(verb, jobs, *words):
     os.makedirs("out", exist_ok=True)
     if crate.is_program:
         return crate.run(flags, list(words))
-    return crate.build_static(flags) if crate.is_static else crate.build_rlib(flags, anew=False)
+    return crate.build_static([*flags, *words]) if crate.is_static else crate.build_rlib(flags, anew=False)
 
 
 if __name__ == "__main__":

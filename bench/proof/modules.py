@@ -1,10 +1,11 @@
 #!/usr/bin/env python3
-"""Tells where the time of a crate's proof goes: bench/proof/modules.py CRATE [ROWS]
+"""Tells where the time of a crate's proof goes: bench/proof/modules.py CRATE [ROWS [FUNCTION..]]
 
-Checks the crate from nothing with one job, over the libraries that the build left, and prints the seconds of each kind of
-file that the check keeps, and of the functions that took longest. A check keeps each file when it is done with it, so a file
-took the time since the one before; the first of a crate has the loading of what stands below. Nothing else should run
-meanwhile. `Lts` is the table that grows with statements and locals, `Proof` the search for the goals without an answer.
+Checks the crate, or these functions and what they call, from nothing with one job, over the libraries that the build left,
+and prints the seconds of each kind of file that the check keeps, and of the functions that took longest. A check keeps each
+file when it is done with it, so a file took the time since the one before; the first of a crate has the loading of what
+stands below. Nothing else should run meanwhile. `Lts` is the table that grows with statements and locals, `Proof` the
+search for the goals without an answer.
 """
 
 import collections
@@ -24,11 +25,11 @@ KINDS = {"Answers", "Code", "Given", "Goals", "Invariants", "Key", "Kinds", "Lay
 FILE = re.compile(r"Rattle-\w+-(specs|proofs)\.(.+?)(?:\.decls)?\.oantt")
 
 
-def kept_files(crate, folder):
+def kept_files(crate, folder, functions):
     """The seconds, the megabytes and the name of each file that a check of the crate keeps, in their order."""
     if kit.script() is None:
         sys.exit("the toolchain's rt is not the script that tools/kit.py knows")
-    words = kit.check_words(TOP / "crates" / crate, folder)
+    words = [*kit.check_words(TOP / "crates" / crate, folder), *(f"--only={it}" for it in functions)]
     ran = subprocess.run(words, cwd=TOP / "crates" / crate, stdout=subprocess.PIPE, stderr=subprocess.STDOUT, text=True)
     if ran.returncode:
         sys.exit(ran.stdout)
@@ -53,7 +54,7 @@ def main(words):
     crate, rows = words[0], int(words[1]) if len(words) > 1 else 20
     kinds, owners = collections.defaultdict(lambda: [0, 0]), collections.defaultdict(collections.Counter)
     with tempfile.TemporaryDirectory() as folder:
-        for seconds, size, name in kept_files(crate, folder):
+        for seconds, size, name in kept_files(crate, folder, words[2:]):
             of, kind = owner(name)
             kinds[kind][0] += seconds
             kinds[kind][1] += size

@@ -20,10 +20,13 @@ import sys
 sys.dont_write_bytecode = True
 HERE = pathlib.Path(__file__).resolve().parent
 TOP = HERE.parents[1]
-sys.path[:0] = [str(HERE.parent), str(TOP / "clib"), str(HERE.parent / "certificates")]
+sys.path[:0] = [str(HERE.parent / it) for it in (".", "certificates", "wrong_bodies", "../clib", "../tools")]
+import kit
 import make
 import pocsag
 import trees
+import workspace
+from prover import Room
 from tally import ENDS, PROGRAM, run_parts
 
 EXAMPLES = TOP / "clib/examples"
@@ -555,18 +558,18 @@ def try_both(tally, one, other, rounds, count, seed):
 
 
 def try_other_compiler(tally, room, library):
-    """The library as the compiler that is written in Rattle makes it; what stands in the crate's `out/` stays."""
-    kept, folder = room / "kept.a", room / "other"
-    shutil.copy2(make.MADE, kept)
-    try:
-        built = subprocess.run(["rt", "lib", "--backend", "rattle"], cwd=make.CRATE, capture_output=True)
-        is_other = built.returncode == 0 and make.MADE.read_bytes() != kept.read_bytes()
-        tally.check("the other compiler makes a library", is_other, built.stdout[-2000:])
-        if not is_other:
-            return
-        make.make(folder)
-    finally:
-        shutil.copy2(kept, make.MADE)
+    """The library as the compiler that is written in Rattle makes it from a copy of the crates, since wrong bodies of them may be
+    tried meanwhile."""
+    *below, crate = workspace.below(workspace.read_crates(), make.CRATE.name).values()
+    copy, folder = Room(crate, below, room / "copy").folder, room / "other"
+    words = [sys.executable, kit.__file__, "lib", "1", "--backend", "rattle"]
+    built = subprocess.run(words, cwd=copy, stdout=subprocess.PIPE, stderr=subprocess.STDOUT, text=True)
+    made = copy / make.MADE.relative_to(make.CRATE)
+    is_other = built.returncode == 0 and made.read_bytes() != make.MADE.read_bytes()
+    tally.check("the other compiler makes a library", is_other, built.stdout[-2000:])
+    if not is_other:
+        return
+    make.make(folder, made)
     try_symbols(tally, folder)
     try_calls(tally, folder, room, [("by the other compiler", ["-O1"], [])])
     other = pocsag.Pocsag(str(folder / make.SONAME))

@@ -2,7 +2,6 @@
 
 import re
 
-from page import read_page, title_of
 from source import all_functions, function_at, functions_of, homes_of, own_name, reached, with_one_clause
 
 UNOFFERED = "\npub unoffered : Unoffered\nunoffered = Unoffered\n"  # fits nothing
@@ -13,12 +12,12 @@ class Unfit(Exception):
 
 
 class Edit:
-    """A wrong body: pairs of texts by file, the function that the prover must refuse where the edit names it, and the
-    clause that it was last refused at where that is known."""
+    """A wrong body: pairs of texts by file, and the function and the clause at which the prover must refuse it, where the edit
+    names them."""
 
-    def __init__(self, name, text, clause=None):
-        self.name, self.text, self.clause = name, text, clause
-        self.pairs, self.function, self.functions = [], None, []
+    def __init__(self, name, text):
+        self.name, self.text = name, text
+        self.pairs, self.function, self.clause, self.functions = [], None, None, []
         self.is_alone, self.is_right = False, False
         path = old = None
         for line in text.split("\n"):
@@ -26,8 +25,8 @@ class Edit:
             rest = rest.removeprefix(" ")
             if word == "file":
                 path = rest.strip()
-            elif word == "function":
-                self.function = rest.strip()
+            elif word in ("function", "clause"):
+                setattr(self, word, rest.strip())
             elif word == "old":
                 old = rest
             elif word == "new" and path and old:
@@ -129,17 +128,11 @@ def rounds_of(edits, texts):
     return [it.edits for it in rounds]
 
 
-def clauses_of(page, crate):
-    """The clauses that the page of wrong bodies names for a crate, by the edit's name as the page has it."""
-    named = ((title, re.fullmatch(r"`([\w-]+)`", goal)) for (home, title), (_, goal) in read_page(page).items() if home == crate)
-    return {title: clause[1] for title, clause in named if clause}
-
-
-def read_edits(files, texts, clauses):
-    """The edits of these files that can be planted, with their clauses, and by its name why each other cannot."""
+def read_edits(files, texts):
+    """The edits of these files that can be planted, and by its name why each other cannot."""
     good, bad = [], {}
     for file in files:
-        edit = Edit(file.stem, file.read_text(), clauses.get(title_of(file.stem)))
+        edit = Edit(file.stem, file.read_text())
         try:
             good.append(edit.look(texts))
         except Unfit as why:

@@ -1,7 +1,7 @@
 #!/usr/bin/env python3
 """Tries wrong bodies: the prover must refuse each function in which one is planted. `./test --mutations` calls this.
 
-  python3 tests/wrong_bodies/run.py CRATE..    the crates, which must be proved as they are
+  python3 tests/wrong_bodies/run.py CRATE..    the crates; what they stand on must be proved as it is
 
 A wrong body is a file `.edit` in crates/CRATE/must-fail or tests/wrong_bodies/CRATE: a line `file: src/x.rt`, then
 pairs of lines `old: TEXT` and `new: TEXT`, where each old text stands once in the file. The function that must be
@@ -30,11 +30,9 @@ HERE = pathlib.Path(__file__).resolve().parent
 sys.path[:0] = [str(HERE), str(HERE.parent), str(HERE.parents[1] / "tools")]
 import lanes
 import workspace
-from edits import clauses_of, narrowed, read_edits, rounds_of, unoffered
+from edits import narrowed, read_edits, rounds_of, unoffered
 from prover import Room
 from tally import TOP, Tally
-
-PAGE = TOP / "tests/wrong_bodies/REFUSED.md"  # names the clause that each was refused at
 
 
 def texts_of(crate):
@@ -145,8 +143,7 @@ def verdicts(room, edits, texts):
 def edits_of(crate, files):
     """The crate's texts, the edits of these files that can be planted in them, and by name why another cannot."""
     texts = texts_of(crate)
-    page = PAGE.read_text() if PAGE.is_file() else ""
-    return texts, *read_edits(files, texts, clauses_of(page, crate.name))
+    return texts, *read_edits(files, texts)
 
 
 def times_of(folder):
@@ -162,14 +159,14 @@ def try_crate(crate, below, files, kept=None):
     yield from ((it.name, True, said) for it, said in told.items())
     plan = rounds_of([it for it in good if it not in told], texts)
     left = times_of(crate.folder / "out/incremental")
-    if plan and not left:
-        yield "as it is", False, "not proved, so nothing was tried: run ./test with the crate's name"
-        return
     if plan and not any(it.is_right for edits in plan for it in edits) and any(not edits[0].is_alone for edits in plan):
         yield "a change that is right", False, "no function was found to make it in"
     with tempfile.TemporaryDirectory(prefix="wrong-bodies-") as folder:
         room = Room(crate, below, folder) if plan else None
-        for edits in plan:
+        lost = room and room.begin([it for edits in plan for it in edits], texts)
+        if lost:
+            yield "as it is", False, f"not proved, so nothing was tried: {lost}"
+        for edits in plan if not lost else ():
             for edit, it in verdicts(room, edits, texts).items():
                 yield edit.name, it.holds, it.told
                 if kept and it.holds and not edit.is_right:

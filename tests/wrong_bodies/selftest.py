@@ -19,7 +19,7 @@ import sys
 sys.dont_write_bytecode = True
 sys.path[:0] = [str(pathlib.Path(__file__).resolve().parent), str(pathlib.Path(__file__).resolve().parents[1])]
 import run
-from edits import Edit, clauses_of, narrowed
+from edits import Edit, narrowed
 from prover import Planted, Said
 from source import functions_of
 from tally import run_parts
@@ -70,6 +70,9 @@ class Played:
 
     def __init__(self, *_):
         pass
+
+    def begin(self, *_):
+        return ""
 
     def check(self, texts, _):
         Played.checks += 1
@@ -187,8 +190,7 @@ def clauses_kept(clauses):
     """The clauses that are left of each function of the small texts, where these edits are planted."""
     edits = []
     for name, clause in clauses:
-        edits.append(Edit(name, "", clause))
-        edits[-1].function = name
+        edits.append(Edit(name, f"function: {name}\nclause: {clause}"))
     texts = narrowed(SMALL, edits)
     parts = re.split(r"fn (\w+)", texts["src/lib.rt"])
     return {name: re.findall(r"ensures (\w+)", text) for name, text in zip(parts[1::2], parts[2::2])}, texts
@@ -206,15 +208,12 @@ def test_narrowing(tally, _):
         ([("again", "whole")], {}),
         ([("u8Other::other", "whole")], {}),
         ([("top", "unknown")], {}),
-        ([("top", None)], {}),
     ]:
         kept, _ = clauses_kept(clauses)
         tally.check(f"narrowed by {clauses}", kept == every | changed, kept)
     _, texts = clauses_kept([("top", "whole")])
     left = re.findall(r"^(?:pub )?(returns\S*)", texts["proofs/top/Answers.antt"], re.M)
     tally.check("answers for the clause alone", left == ["returns-then-clause-whole"] * 2, left)
-    page = "\n## `low`\n\n- `top`: a body, one\n  more (`small`); b (returns)\n- `on`: c (x, a condition of a call)\n\n## `a`\n\n- `d`: c (`e`)\n"
-    tally.check("the clauses of the page", clauses_of(page, "low") == {"a body": "small", "one more": "small"}, clauses_of(page, "low"))
 
 
 if __name__ == "__main__":
