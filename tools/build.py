@@ -28,6 +28,7 @@ from workspace import FIRST, TOP, WHOLE
 
 STATE = TOP / "out"  # never committed
 TEST_SECONDS = 3_600  # for each test: compiled with checks one of the greatest sizes takes minutes
+FUNCTIONS_FOR_JOBS = 20  # in a crate with fewer a second job gains nothing
 BASE = "pocsag_words"  # the crate that the whole build is compared with
 TAKEN = "begins with what a check kept"  # the toolchain says so where another copy of the repository has proved a crate
 NEEDS = "on four processors, with 2 GB of memory for each of them and 6 GB of disk"
@@ -97,10 +98,12 @@ def alone():
 
 
 def proof(crates, crate):
-    """The proof of a library, or the proof, build and first run of a program."""
-    verb, words = "run" if crate.is_program else "lib", ["--help"] if crate.name in WAITS else []
-    command = lambda jobs: [sys.executable, kit.__file__, verb, str(jobs), *words]
-    return lanes.Task(crate.name, command, crate.folder, crate.uses, workspace.weight(crates, crate.name))
+    """The proof of a library, or the proof, build and first run of a program. A second job would load what stands below once more,
+    which costs more than a small crate gains by it; a program has one function, `main`."""
+    verb, arguments = "run" if crate.is_program else "lib", ["--help"] if crate.name in WAITS else []
+    words = lambda jobs: [sys.executable, kit.__file__, verb, str(jobs), *arguments]
+    words = words if crate.functions >= FUNCTIONS_FOR_JOBS else words(1)
+    return lanes.Task(crate.name, words, crate.folder, crate.uses, workspace.weight(crates, crate.name))
 
 
 def tests(crate):

@@ -41,6 +41,10 @@ class Crate:
         return "\n".join(path.read_text(errors="replace") for path in sorted(self.folder.glob("src/**/*.rt")))
 
     @property
+    def functions(self):
+        return len(FUNCTION.findall(self.code()))
+
+    @property
     def has_tests(self):
         return bool(TEST.search(self.code()))
 
@@ -117,4 +121,4 @@ def above(crates, name):
 def weight(crates, name):
     """About how many processor seconds a crate's proof takes: some two for each function, and three for each crate that
     it loads."""
-    return 2 * len(FUNCTION.findall(crates[name].code())) + 3 * len(below(crates, name))
+    return 2 * crates[name].functions + 3 * len(below(crates, name))
