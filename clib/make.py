@@ -78,7 +78,7 @@ def main(words):
     if len(words) != 1 or words[0].startswith("-"):
         print(__doc__, file=sys.stderr)
         return 2
-    built = subprocess.run([sys.executable, TOP / "tools/build.py", CRATE.name])
+    built = subprocess.run([sys.executable, TOP / "tools/build.py", "proofs", CRATE.name])
     if built.returncode or not MADE.is_file():
         return 1
     make(pathlib.Path(words[0]))

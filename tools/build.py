@@ -6,8 +6,6 @@
     build.py proofs [CRATE..] proves and builds these crates, or all, with what they stand on
     build.py tests CRATE..    runs the tests of these crates, where what they stand on is built, and counts them
     build.py ci               runs `rt ci`, takes the programs that it built, and builds the library for C
-    build.py all              proves and builds all crates and runs their tests
-    build.py CRATE..          proves and builds these crates, with what they stand on, and runs their tests
 
 What an earlier call proved is not proved again. Exit status 0 where all of it stands, 3 where something does not.
 """
@@ -109,39 +107,37 @@ def proof(crates, crate):
 def tests(crate):
     """The run of a crate's tests, compiled with checks. They are proved by `rt ci` alone."""
     words = ["rt", "try", "--test", "--seconds", str(TEST_SECONDS)]
-    return lanes.Task(f"the tests of {crate.name}", words, crate.folder, (*crate.uses, crate.name))
+    return lanes.Task(f"the tests of {crate.name}", words, crate.folder)
 
 
-def run(tasks, crates):
-    """Runs tasks, among them the proofs of these crates, and shows what one that failed printed. At the end it tells how long that
-    took and, where all was proved from nothing, how many times as long processors were busy as with the lowest crate."""
+def prove(crates, names):
+    """Proves and builds these of the crates, and shows what one that failed printed. At the end it tells how long that took and,
+    where all was proved from nothing, how many times as long processors were busy as with the lowest crate."""
     if not shutil.which("rt"):
         raise Refused("the command rt of the toolchain is missing: put the folder bin of its kit into PATH (README, Install)")
     start, busy, begun = time.monotonic(), {}, []
     now = lambda: lanes.minutes(time.monotonic() - start)
-    is_new = BASE in crates and not any((it.folder / "out/incremental").exists() for it in crates.values())
+    wanted = [crates[name] for name in names]
+    is_new = BASE in names and not any((it.folder / "out/incremental").exists() for it in wanted)
 
     def tell_begun(name):
         begun.append(name)
-        say(f"{now()} {'proving' if name in crates else 'running'} {name} ({len(begun)} of {len(tasks)})")
+        say(f"{now()} proving {name} ({len(begun)} of {len(wanted)})")
 
-    held = kit.lock([it.folder for it in crates.values()])
+    held = kit.lock([it.folder for it in wanted])
     try:
-        with contextlib.closing(lanes.Lanes(tasks, tell_begun).run()) as ended:
+        with contextlib.closing(lanes.Lanes([proof(crates, it) for it in wanted], tell_begun).run()) as ended:
             for it in ended:
                 if it.status:
                     print(it.text, end="", file=sys.stderr)
                     raise Refused(f"{it.name} failed, as shown above")
-                if it.name in crates:
-                    busy[it.name] = it.busy
-                    is_new = is_new and TAKEN not in it.text
-                what = f"{'proved' if it.name in crates else 'passed'} in {lanes.minutes(it.took)}"
-                say(f"{now()} {it.name} {what}, {lanes.minutes(it.busy)} of processors")
+                busy[it.name] = it.busy
+                is_new = is_new and TAKEN not in it.text
+                say(f"{now()} {it.name} proved in {lanes.minutes(it.took)}, {lanes.minutes(it.busy)} of processors")
     finally:
         for it in held:
             os.close(it)
-    if busy:
-        say(f"proved in {now()}" + (f", {sum(busy.values()) / busy[BASE]:.1f} times {BASE}" if is_new and busy[BASE] else ""))
+    say(f"proved in {now()}" + (f", {sum(busy.values()) / busy[BASE]:.1f} times {BASE}" if is_new and busy[BASE] else ""))
 
 
 def build_program(crates, name):
@@ -163,22 +159,20 @@ def build_program(crates, name):
             return current.path
         has_first = name == WHOLE and Product(crates, FIRST).is_current()
         say(MORE if has_first else WAITS[name])
-        run([proof(wanted.crates, crate) for crate in wanted.crates.values()], wanted.crates)
+        prove(crates, wanted.crates)
         if not os.access(wanted.path, os.X_OK):
             raise Refused(f"'rt run' left no program in {wanted.path.parent.relative_to(TOP)}")
         wanted.write_record()
     return wanted.path
 
 
-def build(crates, names, tested):
-    """Proves crates with what they stand on, and runs the tests of some of them. A program or a library for C that stands as its
-    sources are is left as it is."""
-    tested = [name for name in tested if crates[name].has_tests]
-    products = {name: Product(crates, name) for name in workspace.below(crates, *names) if crates[name].is_product}
-    wanted = workspace.below(crates, *tested, *(name for name in names if name not in products or not products[name].is_current()))
+def build(crates, names):
+    """Proves crates with what they stand on. A program or a library for C that stands as its sources are is left as it is."""
+    products = {name: Product(crates, name) for name in names if crates[name].is_product}
+    wanted = workspace.below(crates, *(name for name in names if name not in products or not products[name].is_current()))
     if wanted:
         with alone():
-            run([proof(crates, crate) for crate in wanted.values()] + [tests(crates[name]) for name in tested], wanted)
+            prove(crates, wanted)
             for name in products.keys() & wanted.keys():
                 products[name].write_record()
 
@@ -200,8 +194,7 @@ def gate_of_toolchain(crates):
         products = {name: Product(crates, name) for name, crate in crates.items() if crate.is_product}
         status = subprocess.run(["rt", "ci"], cwd=TOP, stdin=subprocess.DEVNULL).returncode
         if not status:
-            static = {name: crates[name] for name in products if not crates[name].is_program}
-            run([proof(crates, it) for it in static.values()], static)
+            prove(crates, [name for name in products if not crates[name].is_program])
             for it in products.values():
                 it.write_record()
     return status
@@ -215,15 +208,13 @@ def main(words):
         if verb == "program":
             print(build_program(crates, *names or [WHOLE]))
         elif verb == "proofs":
-            build(crates, names or [*crates], [])
+            build(crates, names or [*crates])
         elif verb == "tests":
             return run_tests(crates, names)
         elif verb == "ci":
             return gate_of_toolchain(crates)
-        elif verb == "all":
-            build(crates, [*crates], [*crates])
         else:
-            build(crates, words, words)
+            raise Refused(__doc__)
     except (Refused, workspace.BadList) as why:
         say(why)
         return 3
