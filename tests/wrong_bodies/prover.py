@@ -141,21 +141,13 @@ class Room:
                 shutil.copytree(crate.folder / part, self.folder / part)
         self.words = kit.check_words(self.folder)
 
-    def begin(self, edits, texts):
-        """Where the crate's own proof left nothing, as under `rt ci`, proves what these edits need for their checks to begin with.
-        Gives what a proof printed that failed."""
-        if self.kept.is_dir():
-            return ""
-        said = self.check(texts, () if not all(it.names() for it in edits) else {name for it in edits for name in it.names()}).said
-        self.kept = (self.folder / "out/incremental").rename(self.folder / "out/kept")
-        return "" if said.has_verdict and not said.refused() else "\n".join(said.lines[-9:])
-
     def check(self, texts, only=()):
         """Checks the copy with these texts of its sources, the whole crate or these functions and what they call, over what
-        the crate's own proof left."""
-        for part in (*PARTS, "out/incremental"):
+        the crate's own proof left; where it left nothing, as under `rt ci`, over what the last check of the copy did."""
+        for part in PARTS:
             shutil.rmtree(self.folder / part, ignore_errors=True)
         if self.kept.is_dir():
+            shutil.rmtree(self.folder / "out/incremental", ignore_errors=True)
             copy_kept(self.kept, self.folder / "out/incremental")
         for path, text in texts.items():
             (self.folder / path).parent.mkdir(parents=True, exist_ok=True)

@@ -71,9 +71,6 @@ class Played:
     def __init__(self, *_):
         pass
 
-    def begin(self, *_):
-        return ""
-
     def check(self, texts, _):
         Played.checks += 1
         text = texts["src/lib.rt"]
