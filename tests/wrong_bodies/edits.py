@@ -7,6 +7,16 @@ from source import all_functions, function_at, functions_of, homes_of, own_name,
 UNOFFERED = "\npub unoffered : Unoffered\nunoffered = Unoffered\n"  # fits nothing
 
 
+def proof_folder(unit):
+    """The folder of the proof files of a function or a cycle."""
+    return f"proofs/{unit.replace('::', '/')}"
+
+
+def dotted(folder):
+    """The start of the names of the modules in a folder."""
+    return folder.replace("/", ".") + "."
+
+
 class Unfit(Exception):
     """Says why an edit cannot be planted in these sources."""
 
@@ -18,6 +28,7 @@ class Edit:
     def __init__(self, name, text):
         self.name, self.text = name, text
         self.pairs, self.function, self.clause, self.functions = [], None, None, []
+        self.added = {}  # texts of files by their paths
         self.is_alone, self.is_right = False, False
         path = old = None
         for line in text.split("\n"):
@@ -35,7 +46,7 @@ class Edit:
 
     def planted(self, texts):
         """The texts with this edit, and the place of each pair as (path, line, whole text); raises Unfit."""
-        texts, places = dict(texts), []
+        texts, places = {**texts, **self.added}, []
         for path, old, new in self.pairs:
             if path not in texts:
                 raise Unfit(f"there is no file {path}")
@@ -61,6 +72,28 @@ class Edit:
         if self.function and self.function not in [it.name for it in self.functions]:
             self.is_alone = True
         return self
+
+    def copied(self, texts, number):
+        """Plants the edit in a copy of its function that stands behind it, under a name with this number, so that any number
+        of edits of one function can be tried side by side. It stays in its place where that would not do: in the method of a
+        trait, in a function that calls itself or has a proof of its own, and where it changes more than one function."""
+        function = self.functions[0] if len(self.functions) == 1 and not self.is_alone else None
+        if not function or function.is_called_unnamed or self.function not in (None, function.name):
+            return
+        path, folder = self.pairs[0][0], proof_folder(function.unit)
+        body = "\n".join(texts[path].split("\n")[function.first:function.last + 1])
+        if f"{folder}/Proof.antt" in texts or any(old not in body for _, old, _ in self.pairs):
+            return
+        name, copy = f"{own_name(function.name)}_copy_{number}", body
+        for _, old, new in self.pairs:
+            copy = copy.replace(old, new)
+        copy = re.sub(rf"\bfn {own_name(function.name)}\b", f"fn {name}", copy, count=1)
+        self.pairs = [(path, body, f"{body}\n\n{copy}")]
+        self.functions = [function.named(name)]
+        self.function = None
+        for file in [it for it in texts if it.startswith(f"{folder}/")]:
+            mine = texts[file].replace(dotted(folder), dotted(proof_folder(self.functions[0].unit)))
+            self.added[proof_folder(self.functions[0].unit) + file.removeprefix(folder)] = mine
 
     def names(self):
         """The functions that have to be checked, or none where those are that rest on what is changed."""
@@ -88,7 +121,7 @@ def unoffered(texts, edits):
     texts, functions = dict(texts), {name: it for name, (_, it) in all_functions(texts).items()}
     named = {name for edit in edits if not edit.is_right for name in edit.names()}
     for unit in {functions[name].unit for name in named & functions.keys()}:
-        folder = f"proofs/{unit.replace('::', '/')}"
+        folder = proof_folder(unit)
         if f"{folder}/Proof.antt" not in texts:
             texts[f"{folder}/Answers.antt"] = texts.get(f"{folder}/Answers.antt", "") + UNOFFERED
     return texts
@@ -123,7 +156,9 @@ def rounds_of(edits, texts):
             rounds[-1].take(edit)
     for it in rounds:
         right = not it.edits[0].is_alone and right_change(texts, it.units)
-        if right and it.take(right):
+        if right:
+            right.copied(texts, len(edits))
+            it.take(right)
             break
     return [it.edits for it in rounds]
 
@@ -134,7 +169,8 @@ def read_edits(files, texts):
     for file in files:
         edit = Edit(file.stem, file.read_text())
         try:
-            good.append(edit.look(texts))
+            edit.look(texts).copied(texts, len(good))
+            good.append(edit)
         except Unfit as why:
             bad[edit.name] = str(why)
     return good, bad
@@ -145,9 +181,10 @@ def right_change(texts, taken):
     other of the crate, so that nothing but its own goals can be refused. None where there is no such function."""
     functions = all_functions(texts)
     names = {own_name(name) for name in functions}
+    answered = sorted(functions.items(), key=lambda it: f"{proof_folder(it[1][1].unit)}/Answers.antt" not in texts)
     # first of those with a contract, whose body begins on a line of its own
     for opening in (r"\s*\{", r".*(?:\) |-> .* )\{"):
-        for name, (path, function) in functions.items():
+        for name, (path, function) in answered:
             lines = texts[path].split("\n")[function.first:function.last + 1]
             opens = next((at for at, line in enumerate(lines) if re.fullmatch(opening, line)), None)
             if opens is None or function.unit in taken or name.startswith("tests::"):

@@ -6,11 +6,14 @@
 A wrong body is a file `.edit` in crates/CRATE/must-fail or tests/wrong_bodies/CRATE: a line `file: src/x.rt`, then
 pairs of lines `old: TEXT` and `new: TEXT`, where each old text stands once in the file. The function that must be
 refused is the one around the text; a line `function: MODULE::NAME` (as the prover prints it, less the crate) names
-another, and a line `clause: NAME` the clause that it must be refused at. The verdict on a function rests on its own body and on the contracts of what it calls, so a check tries as many
-wrong bodies as there are functions to plant them in: a round, over a copy of the crate, with what the crate's own proof
-left. A wrong body counts as refused where a goal of its own function stays open, and not because a proof file no
-longer fits. What is not refused in its round is tried alone. What others may see, and no named function
-is refused for, has a round of its own. A round also holds a change that is right, which must be proved.
+another, and a line `clause: NAME` the clause that it must be refused at.
+
+The verdict on a function rests on its own body and on the contracts of what it calls. So nearly all wrong bodies of a
+crate are tried in one check of a copy of the crate, a round, each in a copy of its function beside the right one. A
+method of a trait and a function that calls itself are changed in their place, and hold one in a round. A wrong body
+counts as refused where a goal of its own function stays open, and not because a proof file no longer fits. What is not
+refused in its round is tried alone. What others may see, and no named function is refused for, has a round of its own.
+A round also holds a change that is right, which must be proved.
 
 A wrong body that was refused is not tried again until it, its crate, what that stands on, the toolchain or these
 scripts change: out/mutations keeps what was said. The last line is 'N passed, M failed'; the status is 0 where M is 0.

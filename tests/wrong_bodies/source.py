@@ -22,6 +22,11 @@ class Function(typing.NamedTuple):
     is_shown: bool  # has a contract, so that no other function's proof looks into its body
     is_called_unnamed: bool  # a trait's method, or one that calls itself: its contract serves more than named calls
 
+    def named(self, name):
+        """The function under another name of its own."""
+        full = joined(self.name.rpartition("::")[0], name)
+        return self._replace(name=full, unit=full)
+
 
 def module_of(path):
     """The module that a source file holds, as `a::b`; empty for the crate's root."""
