@@ -91,8 +91,8 @@ class Lanes:
         return []
 
     def begin_all(self):
-        """Begins what waits for nothing more, as long as a lane is idle; gives what could not be run. Proofs share the idle lanes:
-        one with the longest chain behind it gets all but one for each of the others, and two jobs at least."""
+        """Begins what waits for nothing more, as long as a lane is idle; gives what could not be run. A task gets one lane. A proof
+        with the longest chain behind it gets the idle lanes but one for each of the others, and two jobs at least."""
         ready = [task for task in self.left.values() if self.passed.issuperset(self.names.intersection(task.waits))]
         ready.sort(key=lambda task: -self.behind[task.name])
         longest, lost = max((self.behind[it] for it in self.names - self.passed), default=0), []
@@ -100,7 +100,7 @@ class Lanes:
             idle = self.width - sum(lanes for _, _, _, lanes, _ in self.running.values())
             if idle > 0:
                 is_longest = self.behind[task.name] == longest
-                lanes = max(1, idle - others if is_longest else idle // (others + 1)) if callable(task.words) else 1
+                lanes = max(1, idle - others) if is_longest and callable(task.words) else 1
                 del self.left[task.name]
                 lost += self.begin(task, min(lanes, MOST_JOBS), max(lanes, 1 + is_longest))
         return lost
