@@ -68,6 +68,6 @@ def main(words):
 
 
 if __name__ == "__main__":
-    if not 2 <= len(sys.argv) <= 3:
+    if len(sys.argv) < 2:
         sys.exit(__doc__)
     main(sys.argv[1:])
