@@ -1,5 +1,5 @@
 -- How formatted texts begin.
-use Rattle.std.proofs.Common.{◌≡◌, ℕ, Bool, true, cond, nat_eq, List, ◌++◌, append_assoc, subst}
+use Rattle.std.proofs.Common.{◌≡◌, ℕ, Bool, true, cond, nat_eq, List, ◌++◌, ◌∙◌, append_assoc, subst}
 use Rattle.std.specs.Prelude.{Option, Some, IfSome, Result, Ok, Err, IfOk, codes}
 use Rattle.std.specs.Fmt.{decimal}
 use Rattle.pocsag_words.specs.declared.ending.End.{End}
@@ -55,3 +55,8 @@ title_words bytes (Ok s) words heading w h = (
   },
 )
 title_words bytes (Err e) words heading w h = h
+
+-- and so does a text with more behind it
+pub begins_more : (words start rest text : List ℕ) → BeginsWith words start → text ≡ start ++ rest → BeginsWith words text
+begins_more words start rest text b e =
+    record { rest = b.rest ++ rest; whole = rw (b.whole) at e ∙ append_assoc words b.rest rest }

@@ -5,3 +5,4 @@ pub mod Narrows
 pub mod Nodes
 pub mod Shares
 pub mod Prelude
+pub mod Unjudged

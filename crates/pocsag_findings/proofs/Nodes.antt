@@ -1,10 +1,16 @@
 -- The findings of a node, put behind those before it.
-use Rattle.pocsag_findings.proofs.Prelude.{◌≡◌, ℕ, ◌+◌, ◌<◌, ◌≤◌, ◌++◌, ◌∷◌, [], List, Bool, sym, ◌∙◌, arith, nat_lt, true, length, slice_index, Classes, End, Limits, Reached, Stated, Fact, Share, BoundTree, BoundTrees, split, cut, close, children_count}
+use Rattle.pocsag_findings.proofs.Prelude.{◌≡◌, ℕ, ◌+◌, ◌<◌, ◌≤◌, ◌++◌, ◌∷◌, [], List, Bool, sym, ◌∙◌, arith, nat_lt, true, length, slice_index, Classes, End, Limits, Reached, Stated, Fact, Share, BoundTree, BoundTrees, split, cut, close, children_count, Way, ap, refl, false}
 use Rattle.std.proofs.Common.{append_assoc}
+use Rattle.std.specs.Prelude.{drop}
+use Rattle.std.proofs.Math.ListN.{get_or}
+use Rattle.std.proofs.lemmas.List.{drop_more}
+use Rattle.pocsag_tree.specs.declared.shape.Tree.{Tree}
+use Rattle.pocsag_tree.specs.Views.{bound_tree_of, bounds_of}
+use Rattle.pocsag_findings.specs.declared.finding.Reached.TheVariants.{By}
 use Rattle.std.proofs.lemmas.Bool.Decides.{nat_tests}
-use Rattle.pocsag_slots.specs.Ways.{ways_across, ways_to_close}
+use Rattle.pocsag_slots.specs.Ways.{narrowed_limits, ways_across, ways_to_close}
 use Rattle.pocsag_findings.specs.Rules.{columns_at, fact_holds, fact_of, narrowed_of, shares_at}
-use Rattle.pocsag_findings.specs.Findings.{findings_below, findings_within}
+use Rattle.pocsag_findings.specs.Findings.{findings_below, findings_by, findings_within, unjudged_below}
 
 -- a node whose rule holds, where those below it are found behind it
 pub held_node : (k : Classes) (end : End) (b depth : ℕ) (l : Limits) (above : ℕ) (how : Reached) (t : BoundTree) (fact : Fact)
@@ -26,6 +32,41 @@ held_node k end b depth l above how t fact shares below old mid new h is stated 
     let listed : nat_lt above depth ≡ true = grind (arith, nat_tests) in
     let holds : fact_holds end b (fact_of k end l t) ≡ true = rw is at held in
     rw (all, first, is, stated, rest, listed, holds) (simp append_assoc)
+
+-- a node whose rule does not hold, where those below it are found behind it
+pub refused_node : (k : Classes) (end : End) (b depth : ℕ) (l : Limits) (above : ℕ) (how : Reached) (t : BoundTree) (fact : Fact)
+    (shares : List Share) (old mid new : List Stated) → above < depth → fact ≡ fact_of k end l t → shares ≡ shares_at k l t →
+    fact_holds end b fact ≡ false →
+    mid ≡ old ++ record {
+      depth = above + 1;
+      reached = how;
+      fact = fact;
+      shares = shares;
+      columns = columns_at k l above;
+      narrowed = narrowed_of k l;
+      caps = l.cap;
+      holds = fact_holds end b fact;
+    } ∷ [] →
+    new ≡ mid ++ unjudged_below depth (above + 1) t → new ≡ old ++ findings_within k end b depth l above how t
+refused_node k end b depth l above how t fact shares old mid new h is stated refused first all =
+    let listed : nat_lt above depth ≡ true = grind (arith, nat_tests) in
+    let fails : fact_holds end b (fact_of k end l t) ≡ false = rw is at refused in
+    rw (all, first, is, stated, listed, fails) (simp append_assoc)
+
+-- one child more of a node whose rule holds, where those of the children that are left follow
+pub found_child : (k : Classes) (end : End) (b depth : ℕ) (l : Limits) (above : ℕ) (ways : List Way) (children : List Tree) (i : ℕ)
+    (way some : Way) (child : Tree) (found new whole : List Stated) → i < length ways → i < length children → way ≡ get_or ways i some →
+    child ≡ get_or children i child →
+    found ++ findings_by k end b depth l above (drop i ways) (bounds_of (drop i children)) ≡ whole →
+    new ≡ found ++ findings_within k end b depth (narrowed_limits k l way b) above (By way) (bound_tree_of child) →
+    new ++ findings_by k end b depth l above (drop (i + 1) ways) (bounds_of (drop (i + 1) children)) ≡ whole
+found_child k end b depth l above ways children i way some child found new whole h g on is before all =
+    let rest : List Stated = findings_by k end b depth l above (drop (i + 1) ways) (bounds_of (drop (i + 1) children)) in
+    let one : List Stated = findings_within k end b depth (narrowed_limits k l way b) above (By way) (bound_tree_of child) in
+    let out : drop i ways ≡ way ∷ drop (i + 1) ways = rw (drop_more ways i some h, ← on) refl in
+    let left : drop i children ≡ child ∷ drop (i + 1) children = rw (drop_more children i child g, ← is) refl in
+    let both : findings_by k end b depth l above (drop i ways) (bounds_of (drop i children)) ≡ one ++ rest = rw (out, left) refl in
+    ap (λ xs. xs ++ rest) all ∙ append_assoc found one rest ∙ sym (ap (λ xs. found ++ xs) both) ∙ before
 
 -- what a rule that holds says
 pub held_split : (k : Classes) (end : End) (b : ℕ) (l : Limits) (c m : ℕ) (below from : BoundTree) →

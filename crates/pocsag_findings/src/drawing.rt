@@ -75,16 +75,21 @@ impl Sheet {
             numbering.step(finding.depth)?;
             if finding.columns.len() > 0 {
                 write_node_line(&mut line, subject.refuted, &numbering, finding)?;
-                self.text.push_str("<g class='d'>\n")?;
-                self.put_words(line.as_str())?;
-                let top = self.height;
-                write!(self.text, "<g transform='translate(0 {top})'>\n")?;
-                push_columns(&mut self.text, most, finding)?;
-                self.text.push_str("</g></g>\n")?;
-                self.height = self.height.saturating_add(COLUMNS_HEIGHT);
+                self.put_node(line.as_str(), most, finding)?;
             }
         }
         Ok(())
+    }
+
+    // Adds a node: its line, and its columns on the scale of so many codewords.
+    fn put_node(&mut self, line: &str, most: u64, finding: &Finding) -> Result<(), AllocError> {
+        self.text.push_str("<g class='d'>\n")?;
+        self.put_words(line)?;
+        let top = self.height;
+        write!(self.text, "<g transform='translate(0 {top})'>\n")?;
+        push_columns(&mut self.text, most, finding)?;
+        self.height = self.height.saturating_add(COLUMNS_HEIGHT);
+        self.text.push_str("</g></g>\n")
     }
 }
 

@@ -2,7 +2,7 @@ ghost use Rattle.std.specs.Prelude.{IfOk, string_bytes};
 ghost use Rattle.pocsag_findings.specs.Beginnings.{TellsVerdict};
 
 use crate::drawing::drawing;
-use crate::facts::facts;
+use crate::facts::{other_members, verdict};
 use crate::form::Telling;
 use crate::judgement::DRAWN_DEPTH;
 use crate::kind::kinds_of;
@@ -49,14 +49,14 @@ fn told(alloc: Global, telling: Telling, subject: &Subject<'_>) -> Result<String
     ensures { IfOk result (λ text.
         TellsVerdict telling subject.now.is_shown subject.now.refuted.end subject.now.batches (string_bytes text)) }
 {
-    match telling {
-        Telling::Lines(_) => {
-            let mut text = first_words(alloc, subject)?;
-            let nodes = outline(alloc, subject)?;
-            text.push_str(nodes.as_str())?;
-            Ok(text)
-        }
-        Telling::Facts(depth) => facts(alloc, subject, depth),
-        Telling::Drawing => drawing(alloc, subject),
-    }
+    let (mut text, others) = match telling {
+        Telling::Lines(_) => (first_words(alloc, subject)?, outline(alloc, subject)?),
+        Telling::Facts(depth) => (
+            verdict(alloc, subject)?,
+            other_members(alloc, subject, depth)?,
+        ),
+        Telling::Drawing => return drawing(alloc, subject),
+    };
+    text.push_str(others.as_str())?;
+    Ok(text)
 }

@@ -11,19 +11,8 @@ use pocsag_words::End;
 use std::alloc::{AllocError, Global};
 use std::fmt::{self, Display, Formatter};
 
-/// The explanation as one line of JSON, with the findings no deeper than so.
-pub(crate) fn facts(alloc: Global, subject: &Subject<'_>, depth: u32) -> Result<String, AllocError>
-    ensures { IfOk result (λ text. BeginsWith
-        (verdict_members subject.now.is_shown subject.now.refuted.end subject.now.batches) (string_bytes text)) }
-{
-    let mut text = verdict(alloc, subject)?;
-    let others = other_members(alloc, subject, depth)?;
-    text.push_str(others.as_str())?;
-    Ok(text)
-}
-
-// The first members of the whole.
-fn verdict(alloc: Global, subject: &Subject<'_>) -> Result<String, AllocError>
+/// The first members of the explanation as one line of JSON.
+pub(crate) fn verdict(alloc: Global, subject: &Subject<'_>) -> Result<String, AllocError>
     ensures { IfOk result (λ text. BeginsWith
         (verdict_members subject.now.is_shown subject.now.refuted.end subject.now.batches) (string_bytes text)) }
 {
@@ -40,8 +29,12 @@ fn verdict(alloc: Global, subject: &Subject<'_>) -> Result<String, AllocError>
     format!(in alloc; r#"{{"shown":{is_shown},"end":"{end}","batches":{batches},"#)
 }
 
-// The members after them, with the nodes no deeper than so; the root, which stands at depth 1, is the first.
-fn other_members(alloc: Global, subject: &Subject<'_>, depth: u32) -> Result<String, AllocError> {
+/// The members after them, with the nodes no deeper than so.
+pub(crate) fn other_members(
+    alloc: Global,
+    subject: &Subject<'_>,
+    depth: u32,
+) -> Result<String, AllocError> {
     let Subject {
         pages,
         codewords,
@@ -50,17 +43,28 @@ fn other_members(alloc: Global, subject: &Subject<'_>, depth: u32) -> Result<Str
         findings,
         ..
     } = *subject;
-    let mut numbering = Numbering {
-        path: Vec::new(alloc),
-    };
     let mut text = format!(in alloc;
         r#""pages":{pages},"codewords":{codewords},"room":{room},"nodes":{nodes},"refused":"#
     )?;
+    let mut numbering = Numbering {
+        path: Vec::new(alloc),
+    };
     match numbering.step_to_refused(findings)? {
         Some(_) => write!(text, "\"{numbering}\"")?,
         None => text.push_str("null")?,
     }
     numbering.path.clear();
+    push_listed(&mut text, &mut numbering, findings, depth)?;
+    Ok(text)
+}
+
+// Adds the nodes no deeper than so; the root, which stands at depth 1, is the first.
+fn push_listed(
+    text: &mut String,
+    numbering: &mut Numbering,
+    findings: &[Finding],
+    depth: u32,
+) -> Result<(), AllocError> {
     text.push_str(",\"listed\":[")?;
     for finding in findings {
         numbering.step(finding.depth)?;
@@ -76,8 +80,7 @@ fn other_members(alloc: Global, subject: &Subject<'_>, depth: u32) -> Result<Str
             )?;
         }
     }
-    text.push_str("]}\n")?;
-    Ok(text)
+    text.push_str("]}\n")
 }
 
 // How a node is reached from the one above it.

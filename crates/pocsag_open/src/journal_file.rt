@@ -53,11 +53,7 @@ impl<'a, 'w> JournalFile<'a, 'w> {
         let mut options = OpenOptions::new();
         options.read(true).append(true).create(true);
         let file = desk.opened(ROLE, options.open(desk.rt, path))?;
-        match file.try_lock() {
-            Ok(()) => {}
-            Err(TryLockError::WouldBlock) => return Err(OpenFault::HeldByAnother),
-            Err(TryLockError::Error(error)) => desk.opened(ROLE, Err(error))?,
-        }
+        lock(desk, &file, OpenFault::HeldByAnother)?;
         let metadata = desk.opened(ROLE, file.metadata())?;
         let named = Named::of(&metadata);
         if Named::at(desk.rt, path) != Some(named) {
@@ -117,17 +113,29 @@ impl<'a, 'w> JournalFile<'a, 'w> {
         options.append(true);
         let desk = self.place.desk;
         let mut file = desk.opened(ROLE, options.open(desk.rt, beside.path()))?;
-        match file.try_lock() {
-            Ok(()) => {}
-            Err(TryLockError::WouldBlock) => return Err(OpenFault::File(FileFault::Device)),
-            Err(TryLockError::Error(error)) => desk.opened(ROLE, Err(error))?,
-        }
+        let named = self.fill(&mut file, beside, text)?;
+        Ok((file, named))
+    }
+
+    // The same of the file that was opened.
+    fn fill(&self, file: &mut File, beside: &Beside<'_>, text: &[u8]) -> Result<Named, OpenFault> {
+        let desk = self.place.desk;
+        lock(desk, file, OpenFault::File(FileFault::Device))?;
         let named = Named::of(&desk.opened(ROLE, file.metadata())?);
         desk.written(ROLE, file.write_all(text))?;
         beside.sync(desk)?;
         self.stands()?;
         beside.put(desk)?;
-        Ok((file, named))
+        Ok(named)
+    }
+}
+
+// Locks the file, unless another program holds it.
+fn lock(desk: Desk<'_>, file: &File, where_held: OpenFault) -> Result<(), OpenFault> {
+    match file.try_lock() {
+        Ok(()) => Ok(()),
+        Err(TryLockError::WouldBlock) => Err(where_held),
+        Err(TryLockError::Error(error)) => Ok(desk.opened(ROLE, Err(error))?),
     }
 }
 

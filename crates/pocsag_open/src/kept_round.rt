@@ -3,7 +3,7 @@ use crate::fault::OpenFault;
 use crate::journal_file::{JournalFile, JournalPlace};
 use crate::round_files::{OpenOrder, RoundFiles, open_pages};
 use crate::session::{Planner, book_of, run_open_kept};
-use pocsag_journal::{Journal, Replayed, list_journal};
+use pocsag_journal::{Journal, Keeper, Replayed, list_journal};
 use pocsag_shell::{
     Desk, FileFault, Named, ReaderSource, Role, STANDARD, is_regular_or_none, open_source, path_of,
     refuse_equal, refuse_one_file, tell,
@@ -66,27 +66,29 @@ fn keep_on(place: JournalPlace<'_, '_>, order: OpenOrder<'_>) -> Result<u8, Open
         return Err(OpenFault::HoldsEdits);
     }
     let made = file.made()?;
-    let mut round = match first_round(file, replayed, order.pages) {
-        Ok(round) => round,
+    match first_round(file, replayed, order.pages) {
+        Ok(mut round) => run_on(desk, order, &mut round),
         Err(fault) => {
             if let Some(made) = made {
                 remove_made(place, &made);
             }
-            return Err(fault);
+            Err(fault)
         }
-    };
+    }
+}
+
+// Answers the lines of standard input for a round that is kept.
+fn run_on<K: Keeper + Drop>(
+    desk: Desk<'_>,
+    order: OpenOrder<'_>,
+    round: &mut OpenRound<K>,
+) -> Result<u8, OpenFault> {
     let mut planner = Planner {
         places: RoundFiles { desk, order },
         effort: order.effort,
     };
     let mut input = ReaderSource::new(desk.rt.stdin(), Role::Lines, desk.watch);
-    run_open_kept(
-        desk.alloc,
-        &mut planner,
-        &mut round,
-        &mut input,
-        &mut desk.out(),
-    )?;
+    run_open_kept(desk.alloc, &mut planner, round, &mut input, &mut desk.out())?;
     Ok(0)
 }
 

@@ -45,6 +45,18 @@ pub(crate) struct RoundFiles<'a> {
 }
 
 impl<'a> RoundFiles<'a> {
+    // Refuses the places of a plan where one is the page file, the journal or a standard stream.
+    fn refuse_taken(&self, tx: &str, cert: &str) -> Result<(), FileFault> {
+        let OpenOrder { pages, journal, .. } = self.order;
+        refuse_equal(pages, tx, cert)?;
+        refuse_equal(journal, tx, cert)?;
+        refuse_one_file(self.desk.rt, journal, tx, cert)?;
+        if tx == STANDARD || cert == STANDARD {
+            return Err(FileFault::EqualPaths);
+        }
+        Ok(())
+    }
+
     // Puts the files that were made beside their places there, and takes away what is not put.
     fn settle(&self, tx: &str, cert: &str, are_whole: bool) -> Result<(), FileFault> {
         // No transmission ever stands without its certificate.
@@ -64,6 +76,22 @@ impl<'a> RoundFiles<'a> {
     }
 }
 
+// Makes both outputs as files beside their places.
+fn make_beside<'a>(
+    desk: Desk<'a>,
+    pages: Option<&str>,
+    tx: &str,
+    cert: &str,
+) -> Result<Outputs<WriterSink<'a, Output<File>>>, FileFault> {
+    if !is_regular_or_none(desk.rt, tx) || !is_regular_or_none(desk.rt, cert) {
+        return Err(FileFault::Device);
+    }
+    refuse_shared(desk, pages, tx, cert)?;
+    let tx = Beside::make(desk, Role::Transmission, tx)?;
+    let cert = Beside::make(desk, Role::Certificate, cert)?;
+    make_outputs(desk, pages, tx.path(), cert.path())
+}
+
 impl<'a> Places for RoundFiles<'a> {
     type Output = WriterSink<'a, Output<File>>;
 
@@ -78,25 +106,12 @@ impl<'a> Places for RoundFiles<'a> {
         tx: &str,
         cert: &str,
     ) -> Result<Outputs<WriterSink<'a, Output<File>>>, FileFault> {
-        let desk = self.desk;
-        let OpenOrder { pages, journal, .. } = self.order;
-        refuse_equal(pages, tx, cert)?;
-        refuse_equal(journal, tx, cert)?;
-        refuse_one_file(desk.rt, journal, tx, cert)?;
-        if tx == STANDARD || cert == STANDARD {
-            return Err(FileFault::EqualPaths);
+        self.refuse_taken(tx, cert)?;
+        if self.order.keep {
+            make_beside(self.desk, self.order.pages, tx, cert)
+        } else {
+            make_outputs(self.desk, self.order.pages, tx, cert)
         }
-        if !self.order.keep {
-            return make_outputs(desk, pages, tx, cert);
-        }
-        // Both files are made beside their places.
-        if !is_regular_or_none(desk.rt, tx) || !is_regular_or_none(desk.rt, cert) {
-            return Err(FileFault::Device);
-        }
-        refuse_shared(desk, pages, tx, cert)?;
-        let tx = Beside::make(desk, Role::Transmission, tx)?;
-        let cert = Beside::make(desk, Role::Certificate, cert)?;
-        make_outputs(desk, pages, tx.path(), cert.path())
     }
 
     fn put(

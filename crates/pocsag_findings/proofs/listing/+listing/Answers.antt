@@ -6,7 +6,7 @@ use Rattle.pocsag_findings.specs.declared.finding.Reached.TheVariants.{Below, Fr
 use Rattle.pocsag_findings.specs.Findings.{findings_within}
 use Rattle.pocsag_findings.specs.Views.{all_stated}
 use Rattle.pocsag_findings.specs.Rules.{fact_holds}
-use Rattle.pocsag_findings.proofs.Nodes.{held_close, held_cut, held_node, split_says, two_more}
+use Rattle.pocsag_findings.proofs.Nodes.{found_child, held_close, held_cut, held_node, refused_node, split_says, two_more}
 use Rattle.pocsag_findings.proofs.listing.+listing.Goals as goal
 
 pub put_node-child_below-requires-clause-class : goal.put_node-child_below-requires-clause-class
@@ -151,3 +151,19 @@ put_node-returns-in_ok-high-in-Split t c =
     c.fact_of-fact.ensures c.in_ok-shares.ensures held c.in_ok-put_fact.ensures.put (two_more _ low high _ _ first second)
     (rw is refl))
     c.put_node-in-Split.ensures
+
+pub put_node-returns-then-not-branch : goal.put_node-returns-then-not-branch
+put_node-returns-then-not-branch t c =
+    on_ok_weaker c.put_below_unjudged.result
+    (λ all. refused_node c.args.inquiry.now.classes.now c.args.inquiry.now.end c.args.inquiry.now.batches c.args.inquiry.now.depth
+    c.args.place.now.limits c.args.place.now.above c.args.place.now.reached (bound_tree_of c.args.tree.now) _ _ _ _ _ (omega arith)
+    c.fact_of-fact.ensures c.in_ok-shares.ensures (sym c.in_ok-put_fact.ensures.holds ∙ c.if-not-branch.true)
+    c.in_ok-put_fact.ensures.put all)
+    c.put_below_unjudged.ensures
+
+pub put_each-loop-index-preserved : goal.put_each-loop-index-preserved
+put_each-loop-index-preserved t c =
+    found_child c.args.inquiry.now.classes.now c.args.inquiry.now.end c.args.inquiry.now.batches c.args.inquiry.now.depth
+    c.args.place.now.limits (c.args.place.now.above + 1) c.args.ways.now c.args.children.now c.loop-index.index _ _
+    c.index-children-index.result _ _ _ (omega arith) c.loop-index-test.true refl c.index-children-index.is c.loop-index.invariant
+    (rw (c.deref.ensures, c.in_ok-narrowed.ensures.child) at c.in_ok-put_node.ensures)

@@ -1,7 +1,7 @@
-use Rattle.std.proofs.Common.{◌≡◌, List, ℕ, [], ◌∷◌, ◌++◌, length, Err, refl, ap, subst, ◌∙◌, append_assoc}
+use Rattle.std.proofs.Common.{inl, ◌≡◌, List, ℕ, [], ◌∷◌, ◌++◌, length, Err, refl, ap, subst, ◌∙◌, append_assoc}
 use Rattle.std.specs.Prelude.{Option, None}
 use Rattle.csv.specs.Records.{fields_of}
-use Rattle.pocsag_journal.proofs.Moments.{named}
+use Rattle.pocsag_journal.proofs.Moments.{named, started}
 use Rattle.pocsag_journal.specs.Asks.{AsksPlan}
 use Rattle.pocsag_decode.specs.PageFiles.{page_file}
 use Rattle.pocsag_journal.specs.declared.refusal.Refusal.TheVariants as refusal
@@ -197,3 +197,59 @@ returns-clause-any_moment g c = λ keeps stands.
     (λ left now.
     read_as (IsEditReply (fields_of c.in-Ok.row)) (RepliesTo g.P.Places.tells c.args.planner.now.effort c.args.line.now) c.args.round.now.book g.K.Keeper.reads_as left
     (λ after told is. ([], read _ c.requires c.in-Ok.ensures.spelled (edit_reply _ _ _ _ _ _ neither is))) now)
+
+pub returns-in-Err-clause-any_moment : goal.returns-in-Err-clause-any_moment
+returns-in-Err-clause-any_moment g c = λ keeps stands.
+    started g.K.Keeper.moment g.K.Keeper.left_since c.args.round.now.keeper _
+    (λ left since.
+    inl
+    (g.K.Keeper.restarts c.args.round.now.keeper c.args.round.now.book left keeps stands
+    (g.K.Keeper.only_now c.args.round.now.keeper left keeps since)))
+
+pub returns-in-Ok-put_plan-clause-any_moment : goal.returns-in-Ok-put_plan-clause-any_moment
+returns-in-Ok-put_plan-clause-any_moment g c = λ keeps stands.
+    started g.K.Keeper.moment g.K.Keeper.left_since c.args.round.now.keeper _
+    (λ left since.
+    inl
+    (g.K.Keeper.restarts c.args.round.now.keeper c.args.round.now.book left keeps stands
+    (g.K.Keeper.only_now c.args.round.now.keeper left keeps since)))
+
+pub returns-in-None-clause-any_moment : goal.returns-in-None-clause-any_moment
+returns-in-None-clause-any_moment g c = λ keeps stands.
+    started g.K.Keeper.moment g.K.Keeper.left_since c.args.round.now.keeper _
+    (λ left since.
+    inl
+    (g.K.Keeper.restarts c.args.round.now.keeper c.args.round.now.book left keeps stands
+    (g.K.Keeper.only_now c.args.round.now.keeper left keeps since)))
+
+pub returns-in-Ok-write_page_file-clause-any_moment : goal.returns-in-Ok-write_page_file-clause-any_moment
+returns-in-Ok-write_page_file-clause-any_moment g c = λ keeps stands.
+    started g.K.Keeper.moment g.K.Keeper.left_since c.args.round.now.keeper _
+    (λ left since.
+    inl
+    (g.K.Keeper.restarts c.args.round.now.keeper c.args.round.now.book left keeps stands
+    (g.K.Keeper.only_now c.args.round.now.keeper left keeps since)))
+
+pub returns-in-Err-OutOfMemory-clause-any_moment : goal.returns-in-Err-OutOfMemory-clause-any_moment
+returns-in-Err-OutOfMemory-clause-any_moment g c = λ keeps stands.
+    started g.K.Keeper.moment g.K.Keeper.left_since c.args.round.now.keeper _
+    (λ left since.
+    inl
+    (g.K.Keeper.restarts c.args.round.now.keeper c.args.round.now.book left keeps stands
+    (g.K.Keeper.only_now c.args.round.now.keeper left keeps since)))
+
+pub returns-in-List-clause-any_moment : goal.returns-in-List-clause-any_moment
+returns-in-List-clause-any_moment g c = λ keeps stands.
+    started g.K.Keeper.moment g.K.Keeper.left_since c.args.round.now.keeper _
+    (λ left since.
+    inl
+    (g.K.Keeper.restarts c.args.round.now.keeper c.args.round.now.book left keeps stands
+    (g.K.Keeper.only_now c.args.round.now.keeper left keeps since)))
+
+pub returns-in-Journal-clause-any_moment : goal.returns-in-Journal-clause-any_moment
+returns-in-Journal-clause-any_moment g c = λ keeps stands.
+    started g.K.Keeper.moment g.K.Keeper.left_since c.args.round.now.keeper _
+    (λ left since.
+    inl
+    (g.K.Keeper.restarts c.args.round.now.keeper c.args.round.now.book left keeps stands
+    (g.K.Keeper.only_now c.args.round.now.keeper left keeps since)))

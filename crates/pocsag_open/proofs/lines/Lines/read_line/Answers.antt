@@ -1,6 +1,8 @@
-use Rattle.std.proofs.Common.{◌≢◌, [], ◌∷◌, ◌++◌, rules}
+use Rattle.std.proofs.Common.{◌≡◌, ◌≢◌, [], ◌∷◌, ◌++◌, rules, subst}
 use Rattle.csv.specs.Machine.{line_feed}
-use Rattle.pocsag_open.proofs.SeenLines.{byte_passes, no_feed_more, seen_more}
+use Rattle.pocsag_open.specs.Lines.{IsSeen}
+use Rattle.pocsag_open.specs.declared.lines.LineRead.TheVariants as found
+use Rattle.pocsag_open.proofs.SeenLines.{byte_passes, no_feed_more, seen_all, seen_kept, seen_long, seen_more}
 use Rattle.pocsag_open.proofs.lines.Lines.read_line.Goals as goal
 
 pub loop-preserved : goal.loop-preserved
@@ -18,3 +20,26 @@ loop-preserved g c = record {
         rw c.keep.ensures.ahead (byte_passes _ _ _ _ _ was.3 next),
       );
 }
+
+pub returns-in-None-clause-found : goal.returns-in-None-clause-found
+returns-in-None-clause-found g c = λ tells.
+    let was = c.loop.invariant.seen tells in
+    let next = rw c.in-None.is at c.in-Ok.ensures.next tells in
+    rw c.next_byte.ensures.kept (seen_all c.loop.found _ was.0 _ _ _ was.1 was.2 was.3 next.0 next.1)
+
+pub returns-in-Some-eq10-clause-found : goal.returns-in-Some-eq10-clause-found
+returns-in-Some-eq10-clause-found g c = λ tells.
+    let was = c.loop.invariant.seen tells in
+    let next = rw c.in-Some-eq10.is at c.in-Ok.ensures.next tells in
+    let feed : c.in-Some-eq10.field-0 ≡ line_feed = let t = c.in-Some-eq10.field-0-test in search (rules, t) in
+    let long : c.loop.found ≡ found.TooLong = let e = c.eq.ensures in let t = c.if-eq.true in search (rules, e, t) in
+    let is = subst (λ f. IsSeen f was.0 c.loop.self.line.items) long was.2 in
+    seen_long _ was.0 _ _ _ _ was.1 is was.3 next feed
+
+pub returns-in-Some-eq10-2-clause-found : goal.returns-in-Some-eq10-2-clause-found
+returns-in-Some-eq10-2-clause-found g c = λ tells.
+    let was = c.loop.invariant.seen tells in
+    let next = rw c.in-Some-eq10.is at c.in-Ok.ensures.next tells in
+    let feed : c.in-Some-eq10.field-0 ≡ line_feed = let t = c.in-Some-eq10.field-0-test in search (rules, t) in
+    let short : c.loop.found ≢ found.TooLong = let e = c.eq.ensures in let t = c.if-eq.false in search (rules, e, t) in
+    rw c.next_byte.ensures.kept (seen_kept c.loop.found _ was.0 _ _ _ _ short was.1 was.2 was.3 next feed)
