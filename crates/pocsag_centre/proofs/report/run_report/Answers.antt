@@ -1,7 +1,7 @@
 use Rattle.std.proofs.Common.{◌≡◌, ◌∙◌, Err, List, ℕ, ap, refl, subst, sym}
 use Rattle.std.proofs.lemmas.Result.{err_from_is_err_and}
 use Rattle.pocsag_pages.specs.declared.fault.RoundFault.TheVariants as round
-use Rattle.pocsag_centre.specs.Reports.{ExplainsReporting, IsReportOf}
+use Rattle.pocsag_centre.specs.Reports.{ExplainsReporting}
 use Rattle.pocsag_centre.specs.declared.fault.CentreFault.TheVariants as fault
 use Rattle.pocsag_centre.proofs.Explained.{file_is_no_round, or_device, round_or_device, same_fault}
 use Rattle.pocsag_centre.proofs.Readers.{reported_unread, reported_unwritten}
@@ -85,11 +85,3 @@ returns-in_err-answered-clause-read_failed g c = λ failed.
     let p = err_from_is_err_and c.from_residual-in_err-answered.result c.from_residual-in_err-answered.ensures.1 in
     let same : c.in_err-answered.field-0.0 ≡ fault.Round round.ReadFault = cc (p.1, p.2, failed) in
     absurd (reported_unread _ _ _ c.in_err-answered.field-0.0 c.in_err-answered.ensures.explained same)
-
-pub returns-clause-told : goal.returns-clause-told
-returns-clause-told g c = λ pages_tell out_tells. record {
-  answered = c.in_ok-answered.answered;
-  report_of = subst (λ (file : List ℕ). IsReportOf file c.args.search c.args.rate c.in_ok-answered.answered)
-      (c.as_slice.ensures.value ∙ c.in_ok-file.ensures.whole pages_tell) c.in_ok-answered.ensures.report;
-  told = c.in_ok-tell_report.ensures.told out_tells;
-}
