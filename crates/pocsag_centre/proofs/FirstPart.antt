@@ -1,5 +1,5 @@
 -- The two parts of a page file's round, and what is written of them.
-use Rattle.std.proofs.Common.{◌≡◌, ℕ, refl, ◌≤◌, List, [], ◌++◌, All, length, take, drop, min, sym, ap, subst, ◌∙◌, ◌+◌, false, arith, inl, inr}
+use Rattle.std.proofs.Common.{◌≡◌, ℕ, refl, ◌≤◌, ◌↔◌, List, [], ◌++◌, All, length, take, drop, min, sym, ap, subst, ◌∙◌, ◌+◌, false, arith, inl, inr}
 use Rattle.std.proofs.lemmas.Bool.{cases_lt}
 use Rattle.std.proofs.Math.Seq.{drop-append_seam}
 use Rattle.std.proofs.lemmas.List.{drop_all, length-drop, take_at, take_min}
@@ -31,7 +31,7 @@ use Rattle.pocsag_centre.specs.declared.fault.CentreFault.{CentreFault}
 use Rattle.pocsag_centre.specs.declared.fault.CentreFault.TheVariants as fault
 use Rattle.pocsag_centre.specs.declared.front.WrittenCertificate.{WrittenCertificate}
 use Rattle.pocsag_centre.specs.FrontFiles.{ExplainsNoFront, IsPageFileOf, IsWhyWritten}
-use Rattle.std.specs.Prelude.{IfSome, IsNone, IsOk, IsSomeAnd, None, Ok, Option, Some}
+use Rattle.std.specs.Prelude.{Err, IfSome, IsErrOf, IsNone, IsOk, IsSomeAnd, None, Ok, Option, Some}
 
 module _ (R F S : List Page) (n : ℕ) (parts : F ++ S ≡ R) (long : n ≡ length F) where
   pub first_is : F ≡ take n R
@@ -102,6 +102,11 @@ why_written search R batches count (Some c) (Some w) is none some =
         more = λ fewest. omega (arith, is.1.more fewest);
       },
     )
+
+-- A limit that is out of its range explains that no front is written.
+pub no_limit : {T : Type 0} (file : List ℕ) (search : Search) (batches : ℕ) (e : CentreFault) → e ≡ fault.BadLimit →
+    (IsErrOf {T = T} (Err e) fault.BadLimit ↔ (¬ IsNodeLimit search.limit)) → ExplainsNoFront file search batches e
+no_limit file search batches e alone bad = subst (ExplainsNoFront file search batches) (sym alone) (bad.0 (ap Err alone))
 
 -- Memory that is refused explains that no front is written.
 pub no_room : (file : List ℕ) (search : Search) (batches : ℕ) (R : List Page) (e : CentreFault) → IsNodeLimit search.limit → verdict file ≡ Ok R →

@@ -1,5 +1,5 @@
 -- What was planned and told.
-use Rattle.std.proofs.Common.{◌≡◌, ℕ, List, ◌++◌, length, Ok, Err, ap, ◌∙◌, refl, subst}
+use Rattle.std.proofs.Common.{◌≡◌, ℕ, List, ◌++◌, length, Ok, Err, ap, ◌∙◌, refl, subst, sym}
 use Rattle.std.specs.Prelude.{IfOk, OnOk, Result}
 use Rattle.pocsag_words.specs.declared.ending.End.TheVariants.{Open}
 use Rattle.pocsag_pages.specs.PageFile.{verdict}
@@ -7,6 +7,7 @@ use Rattle.pocsag_pages.specs.declared.page.Page.{Page}
 use Rattle.pocsag_tree.specs.Views.{bound_tree_of}
 use Rattle.pocsag_plan.specs.declared.bounded.Bounded.{Bounded}
 use Rattle.pocsag_plan.specs.declared.search.Search.{Search}
+use Rattle.pocsag_plan.specs.BoundedHeadline.{BoundedHeadline}
 use Rattle.pocsag_plan.specs.Headline.{Headline, RoundHeadline}
 use Rattle.pocsag_plan.specs.Plans.{IsPlanFor, IsSearchTreeFor}
 use Rattle.pocsag_plan.specs.Streams.{HeadlineOf, IsOfRound, WritesBounded}
@@ -25,6 +26,13 @@ told_plan file bounded of out out' told = record {
   told = told;
 }
 
+-- what was written of a plan is the headline of the plan that is kept beside it
+pub kept_headline : (R : List Page) (bounded : Bounded) (r : Result Written CentreFault) →
+    IfOk r (λ w. HeadlineOf R bounded w.sent.items w.certificate.items) → IfOk r (λ w. w.bounded ≡ bounded) →
+    IfOk r (λ w. HeadlineOf R w.bounded w.sent.items w.certificate.items)
+kept_headline R bounded (Ok w) says same = subst (λ (b : Bounded). HeadlineOf R b w.sent.items w.certificate.items) (sym same) says
+kept_headline R bounded (Err e) says same = tt
+
 -- the headline of a round is that of its page file, where the bound is the batches
 pub written_headline : (file : List ℕ) (search : Search) (R : List Page) → verdict file ≡ Ok R → (r : Result Written CentreFault) →
     IfOk r (λ w. HeadlineOf R w.bounded w.sent.items w.certificate.items) → IfOk r (λ w. IsPlanFor search R w.bounded) →
@@ -38,6 +46,19 @@ written_headline file search R read (Ok w) says plan = λ same. record {
       same (asked_headline search R w.bounded plan w.sent.items w.certificate.items says);
 }
 written_headline file search R read (Err e) says plan = tt
+
+-- and the headline with a bound, whatever the bound is
+pub written_bounded : (file : List ℕ) (search : Search) (R : List Page) → verdict file ≡ Ok R → (r : Result Written CentreFault) →
+    IfOk r (λ w. HeadlineOf R w.bounded w.sent.items w.certificate.items) → IfOk r (λ w. IsPlanFor search R w.bounded) →
+    IfOk r (λ w. BoundedHeadline file search.end w.bounded.plan.batches w.bounded.bound (bound_tree_of w.bounded.plan.tree) w.sent.items w.certificate.items)
+written_bounded file search R read (Ok w) says plan = record {
+  round = R;
+  read = read;
+  of_round = asked_headline search R w.bounded plan w.sent.items w.certificate.items says;
+  at_least = plan.plan_of.at_least;
+  within_one = plan.plan_of.within_one;
+}
+written_bounded file search R read (Err e) says plan = tt
 
 module _ (file : List ℕ) (search : Search) (tx tx' cert cert' : List ℕ) (bounded : Bounded)
     (of : IsOfRound file (λ round. IsPlanFor search round bounded))

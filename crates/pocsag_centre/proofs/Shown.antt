@@ -1,5 +1,6 @@
 -- What the checker's yes says of the files.
-use Rattle.std.proofs.Common.{◌≡◌, ℕ, List, ◌++◌, false, Ok}
+use Rattle.std.proofs.Common.{◌≡◌, ◌↔◌, ℕ, Bool, List, false, Ok}
+use Rattle.std.specs.Prelude.{IsFalse, IsTrue}
 use Rattle.pocsag_words.specs.declared.ending.End.{End}
 use Rattle.pocsag_pages.specs.declared.page.Page.{Page}
 use Rattle.pocsag_pages.specs.PageFile.{verdict}
@@ -7,8 +8,8 @@ use Rattle.pocsag_tree.specs.BoundTrees.{BoundTree}
 use Rattle.pocsag_tree.specs.CertificateText.{IsText}
 use Rattle.pocsag_check.specs.Acceptance.{IsAcceptedFor}
 use Rattle.pocsag_plan.specs.Plans.{NoneHasFewer}
-use Rattle.pocsag_centre.specs.Commands.{Checked, CheckedAndTold}
-use Rattle.pocsag_centre.specs.Lines.{bound_text}
+use Rattle.pocsag_centre.specs.Commands.{Checked}
+use Rattle.pocsag_centre.specs.Judgements.{IsNotShown}
 
 pub checked : (file certificate : List ℕ) (end : End) (batches : ℕ) (R : List Page) (tree : BoundTree) → verdict file ≡ Ok R →
     IsText end batches tree certificate → IsAcceptedFor false end R batches tree → NoneHasFewer end R batches →
@@ -22,6 +23,13 @@ checked file certificate end batches R tree read text accepted bound = record {
   bound = bound;
 }
 
-pub checked_told : (file certificate : List ℕ) (end : End) (batches : ℕ) → Checked file certificate end batches → (out out' : List ℕ) →
-    out' ≡ out ++ bound_text end batches → CheckedAndTold file certificate out out'
-checked_told file certificate end batches checked out out' told = record { end = end; batches = batches; checked = checked; told = told }
+pub not_accepted : (file certificate : List ℕ) (end : End) (batches : ℕ) (R : List Page) (tree : BoundTree) → verdict file ≡ Ok R →
+    IsText end batches tree certificate → (shown : Bool) → (IsTrue shown ↔ IsAcceptedFor false end R batches tree) → IsFalse shown →
+    IsNotShown file certificate end batches
+not_accepted file certificate end batches R tree read text shown accepted none = record {
+  round = R;
+  read = read;
+  tree = tree;
+  spelled = text;
+  refused = λ is. let yes : IsTrue shown = accepted.1 is in cc;
+}

@@ -2,6 +2,7 @@
 use Rattle.std.proofs.Common.{◌≡◌, ◌≢◌, ℕ, List, refl, inl, inr}
 use Rattle.std.specs.Prelude.{◌⊎◌}
 use Rattle.pocsag_tree.specs.Views.{bound_tree_of}
+use Rattle.pocsag_pages.specs.declared.fault.RoundFault.TheVariants as round
 use Rattle.pocsag_plan.specs.declared.fault.PlanFault.TheVariants as planning
 use Rattle.pocsag_plan.specs.declared.fault.StreamFault.{StreamFault}
 use Rattle.pocsag_plan.specs.declared.fault.StreamFault.TheVariants as streaming
@@ -35,6 +36,15 @@ before_writing (streaming.Plan f) other = tt
 before_writing (streaming.Round f) other = tt
 before_writing (streaming.Transmission f) other = other refl
 before_writing (streaming.Certificate f) other = other refl
+
+-- a reader's fault is one of the reader
+pub reader_lost : (e : StreamFault) → fault_of_stream e ≡ fault.Round round.ReadFault → e ≡ streaming.Round round.ReadFault
+reader_lost (streaming.Plan planning.BadLimit) same = cc
+reader_lost (streaming.Plan (planning.SearchLimit stop)) same = cc
+reader_lost (streaming.Plan planning.OutOfMemory) same = cc
+reader_lost (streaming.Round f) same = cc
+reader_lost (streaming.Transmission f) same = cc
+reader_lost (streaming.Certificate f) same = cc
 
 -- a failed write is one of the first writer or of the second
 pub writer_lost : {A B O : Type 0} (e : StreamFault) → fault_of_stream e ≡ fault.File file_fault.Write → (IsTransmission e → A) → (IsCertificate e → B) →

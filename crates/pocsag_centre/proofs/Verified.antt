@@ -1,6 +1,6 @@
 -- What was read back, and what was found in its place.
 use Rattle.std.proofs.Common.{◌≡◌, ◌≢◌, ℕ, ◌<◌, ◌≤◌, ◌==◌, ◌&&◌, Bool, true, false, eq-eqb, tests, List, length, get_or, map, refl, sym, ap, ◌∙◌, subst, inl, inr, arith}
-use Rattle.std.specs.Prelude.{◌⊎◌, Contains, IsPermutation}
+use Rattle.std.specs.Prelude.{◌⊎◌, Contains, IsPermutation, Ok}
 use Rattle.std.specs.Cmp.{ranks}
 use Rattle.std.specs.Cmp.Lexicographic.{pointwise}
 use Rattle.std.specs.Ordering.{MatchOrdering, nat_cmp, ordering_index}
@@ -13,6 +13,7 @@ use Rattle.std.proofs.lemmas.List.{get_or_default, length-map}
 use Rattle.std.proofs.lemmas.List.Sorted.{Contains-permutation, IsPermutation-sym, length_permutation}
 use Rattle.std.proofs.lemmas.List.Elements.{All-weaker}
 use Rattle.pocsag_pages.specs.declared.page.Page.{Page}
+use Rattle.pocsag_pages.specs.PageFile.{verdict}
 use Rattle.pocsag_pages.specs.Pages.{IsRound}
 use Rattle.pocsag_pages.specs.Reading.{AreApart, EndsAs, IsBatchList}
 use Rattle.pocsag_pages.proofs.GoodPages.{apart_pages}
@@ -27,7 +28,7 @@ use Rattle.pocsag_decode.specs.Faults.{ReadsAs}
 use Rattle.pocsag_plan.specs.declared.search.Search.{Search}
 use Rattle.pocsag_shell.specs.declared.fault.FileFault.TheVariants as file_fault
 use Rattle.pocsag_centre.specs.Refusals.{OrDevice}
-use Rattle.pocsag_centre.specs.Verification.{AreAmong, ExplainsVerifying, HasRival, IsTransmissionOf, OrTooLarge}
+use Rattle.pocsag_centre.specs.Verification.{AreAmong, ExplainsReadback, ExplainsVerifying, HasRival, IsTransmissionOf, OrTooLarge, Verified}
 use Rattle.pocsag_centre.specs.declared.fault.CentreFault.{CentreFault}
 use Rattle.pocsag_centre.specs.declared.fault.CentreFault.TheVariants as fault
 use Rattle.pocsag_centre.proofs.Explained.{or_device}
@@ -156,6 +157,21 @@ read_verifying file search sent certificate file' sent' certificate' f one two t
     (subst (λ (v : List ℕ). ExplainsVerifying file' search v certificate f) two
     (subst (λ (v : List ℕ). ExplainsVerifying file' search sent' v f) three said))))
 
+-- why bytes are not taken for a transmission says why they are not verified
+pub unsent_verifying : (file : List ℕ) (search : Search) (sent certificate : List ℕ) (R : List Page) → verdict file ≡ Ok R → (f : CentreFault) →
+    ExplainsReadback search.end R sent f → ExplainsVerifying file search sent certificate f
+unsent_verifying file search sent certificate R read (fault.Round f) said = absurd said
+unsent_verifying file search sent certificate R read (fault.Certificate f) said = absurd said
+unsent_verifying file search sent certificate R read fault.NotTheBound said = absurd said
+unsent_verifying file search sent certificate R read _ said = record { round = R; read = read; holds = said }
+
+pub read_verified : (file : List ℕ) (search : Search) (sent certificate file' sent' certificate' : List ℕ) → file' ≡ file → sent' ≡ sent →
+    certificate' ≡ certificate → Verified file' search sent' certificate' → Verified file search sent certificate
+read_verified file search sent certificate file' sent' certificate' one two three shows =
+    subst (λ (v : List ℕ). Verified v search sent certificate) one
+    (subst (λ (v : List ℕ). Verified file' search v certificate) two
+    (subst (λ (v : List ℕ). Verified file' search sent' v) three shows))
+
 -- a reader failed, a file is larger than is read, or memory refused its bytes
 pub whole_verifying : (file : List ℕ) (search : Search) (sent certificate : List ℕ) (w : WholeFault) →
     (w ≡ whole.TooLarge → (input_limit < length sent) ⊎ (input_limit < length certificate)) →
@@ -171,3 +187,14 @@ verified_undevised file search sent certificate f said (inl same) =
     (subst (λ (g : CentreFault). ExplainsVerifying file search sent certificate g) same said).holds
 verified_undevised file search sent certificate f said (inr same) =
     (subst (λ (g : CentreFault). ExplainsVerifying file search sent certificate g) same said).holds
+
+-- a file is not read whole for a device only where its reader failed, and never for a writer
+pub whole_failed : (w : WholeFault) → fault_of_whole w ≡ file_fault.Device → w ≡ whole.ReadFault
+whole_failed whole.ReadFault same = refl
+whole_failed whole.TooLarge same = cc
+whole_failed whole.OutOfMemory same = cc
+
+pub whole_unwritten : (w : WholeFault) → fault_of_whole w ≡ file_fault.Write → ⊥
+whole_unwritten whole.ReadFault same = cc
+whole_unwritten whole.TooLarge same = cc
+whole_unwritten whole.OutOfMemory same = cc

@@ -1,9 +1,9 @@
 use crate::check::{check_file, tell_verdict};
-use crate::demand::{refuse_bad_limit, strict_file};
+use crate::demand::refuse_bad_limit;
 use crate::fault::CentreFault;
 use crate::files::{noted, obey_plan, page_file};
 use crate::lines::tell_plan;
-use crate::order::{ReportOrder, plan_order, report_order};
+use crate::order::{ReportOrder, SearchOrder, plan_order, report_order};
 use crate::plan::{DEFAULT_SEARCH, bounded_file};
 use crate::report::{frames_file, report_file, tell_frames, tell_report};
 use crate::texts::EARLY_STRICT;
@@ -12,10 +12,8 @@ use crate::words::{
     WHY,
 };
 use clap::{ArgMatches, Error};
-use pocsag_pages::FILE_LIMIT;
 use pocsag_shell::{
-    CERT, Call, Desk, Group, Names, PAGES, Role, STANDARD, TX, Tables, path_of, read_both,
-    read_file, tell,
+    CERT, Call, Desk, Group, Names, PAGES, STANDARD, TX, Tables, path_of, read_both, tell,
 };
 use std::alloc::AllocError;
 use std::io::IsTerminal;
@@ -54,31 +52,22 @@ impl Group for Centre {
     }
 }
 
-// The words for the files of a call.
+// The words for the files of a call. A command that has not all of these words has none for the others.
 fn names_of<'a>(call: Call<'a, '_>) -> Names<'a> {
-    let found = call.found;
-    match call.name {
-        None => Names {
+    if call.name.is_none() {
+        return Names {
             pages: Some(STANDARD),
             ..Names::NONE
-        },
-        Some(PLAN) => Names {
-            pages: found.get_str(PAGES),
-            tx: found.get_str(TX),
-            cert: found.get_str(CERT),
-            rest: found.get_str(REST),
-            why: found.get_str(WHY),
-            ..Names::NONE
-        },
-        Some(CHECK) => Names {
-            pages: found.get_str(PAGES),
-            cert: found.get_str(CERT),
-            ..Names::NONE
-        },
-        Some(_) => Names {
-            pages: found.get_str(PAGES),
-            ..Names::NONE
-        },
+        };
+    }
+    let found = call.found;
+    Names {
+        pages: found.get_str(PAGES),
+        tx: found.get_str(TX),
+        cert: found.get_str(CERT),
+        rest: found.get_str(REST),
+        why: found.get_str(WHY),
+        ..Names::NONE
     }
 }
 
@@ -87,20 +76,16 @@ fn plan_input(desk: Desk<'_>, strict: bool) -> Result<u8, CentreFault> {
     if desk.rt.stdin().is_terminal() {
         let _ = tell(&mut desk.err(), AT_TERMINAL);
     }
-    let file = read_file(desk, Role::PageFile, None, FILE_LIMIT)?;
-    let done = pages_and_batches(desk, strict, file.as_slice());
-    let (pages, batches) = noted(desk, None, file.as_slice(), done)?;
-    tell_plan(pages, batches, &mut desk.out())?;
+    let asked = SearchOrder {
+        expect: None,
+        strict,
+        search: DEFAULT_SEARCH,
+    };
+    let file = page_file(desk, None, asked)?;
+    let done = bounded_file(desk.alloc, file.as_slice(), DEFAULT_SEARCH);
+    let bounded = noted(desk, None, file.as_slice(), done)?;
+    tell_plan(bounded.plan.pages, bounded.plan.batches, &mut desk.out())?;
     Ok(0)
-}
-
-// The pages and the fewest batches of a page file.
-fn pages_and_batches(desk: Desk<'_>, strict: bool, file: &[u8]) -> Result<(u32, u32), CentreFault> {
-    if strict {
-        strict_file(file)?;
-    }
-    let plan = bounded_file(desk.alloc, file, DEFAULT_SEARCH)?.plan;
-    Ok((plan.pages, plan.batches))
 }
 
 // Judges a certificate; the status is 1 where it does not show its batches.

@@ -1,10 +1,12 @@
-use Rattle.std.proofs.Common.{◌≡◌, ap}
-use Rattle.std.proofs.lemmas.Result.{err_from_is_err_and}
+use Rattle.std.proofs.Common.{◌≡◌, Err, ap, inr, subst, sym}
+use Rattle.std.proofs.lemmas.Result.{IfErr-at_err, IfErr-weaker, err_from_is_err_and}
+use Rattle.pocsag_pages.specs.declared.fault.RoundFault.TheVariants as round
 use Rattle.pocsag_shell.specs.declared.fault.FileFault.TheVariants as file_fault
 use Rattle.pocsag_centre.specs.Commands.{all}
 use Rattle.pocsag_centre.specs.Faults.{fault_of_stream}
 use Rattle.pocsag_centre.specs.declared.fault.CentreFault.TheVariants as fault
-use Rattle.pocsag_centre.proofs.Streams.{before_writing, stream_leaves, stream_unwritten, writer_lost}
+use Rattle.pocsag_centre.specs.Refusals.{ExplainsUnwritten, OrDevice}
+use Rattle.pocsag_centre.proofs.Streams.{before_writing, reader_lost, stream_leaves, stream_unwritten, writer_lost}
 use Rattle.pocsag_centre.proofs.Plans.{planned, planned_if_ok, told_planned}
 use Rattle.pocsag_centre.proofs.plan.run_plan.Goals as goal
 
@@ -47,3 +49,37 @@ returns-in_err-bounded-clause-write_failed g c = λ failed.
     let p = err_from_is_err_and c.from_residual.result c.from_residual.ensures.1 in
     let same : fault_of_stream c.in_err-bounded.field-0.0 ≡ fault.File file_fault.Write = cc (p.1, p.2, failed) in
     writer_lost c.in_err-bounded.field-0.0 same c.in_err-bounded.ensures.writers.write_failed c.in_err-bounded.ensures.writers.certificate_failed
+
+pub returns-in_err-bounded-clause-planned : goal.returns-in_err-bounded-clause-planned
+returns-in_err-bounded-clause-planned g c = λ _ _ _.
+    let p = err_from_is_err_and c.from_residual.result c.from_residual.ensures.1 in
+    rw p.1 tt
+
+pub returns-in_err-bounded-clause-told : goal.returns-in_err-bounded-clause-told
+returns-in_err-bounded-clause-told g c = λ _ _ _ _.
+    let p = err_from_is_err_and c.from_residual.result c.from_residual.ensures.1 in
+    rw p.1 tt
+
+pub returns-in_err-bounded-clause-read_failed : goal.returns-in_err-bounded-clause-read_failed
+returns-in_err-bounded-clause-read_failed g c = λ failed.
+    let p = err_from_is_err_and c.from_residual.result c.from_residual.ensures.1 in
+    let same : fault_of_stream c.in_err-bounded.field-0.0 ≡ fault.Round round.ReadFault = cc (p.1, p.2, failed) in
+    c.in_err-bounded.ensures.read_failed (ap Err (reader_lost c.in_err-bounded.field-0.0 same))
+
+pub returns-clause-refused : goal.returns-clause-refused
+returns-clause-refused g c =
+    IfErr-weaker c.tell_bounded.result _ _ (λ e lost other. absurd (other lost)) c.tell_bounded.ensures.lost
+
+pub returns-clause-explained : goal.returns-clause-explained
+returns-clause-explained g c = λ pages_tell.
+    IfErr-weaker c.tell_bounded.result _ _
+    (λ e lost. subst (OrDevice (ExplainsUnwritten (g.P.Source.held c.args.files.now.pages) c.args.search)) (sym lost) tt) c.tell_bounded.ensures.lost
+
+pub returns-clause-read_failed : goal.returns-clause-read_failed
+returns-clause-read_failed g c = λ failed.
+    let lost : fault.Round round.ReadFault ≡ fault.File file_fault.Write = IfErr-at_err _ failed c.tell_bounded.ensures.lost in
+    cc
+
+pub returns-clause-write_failed : goal.returns-clause-write_failed
+returns-clause-write_failed g c = λ failed.
+    inr (inr (IfErr-at_err _ failed c.tell_bounded.ensures.failures.1))
