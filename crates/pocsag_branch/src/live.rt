@@ -38,7 +38,7 @@ fn joined_if(set: u16, wanted: bool, member: u8) -> u16
 fn moves_of(classes: &Classes, limits: &Limits, choice: &Choice) -> [u16; 16] {
     let mut moves = [0; SLOTS];
     for slot in 0..SLOTS as u8 {
-        moves[slot as usize] = joined_if(0, true, slot);
+        moves[slot as usize] = 1 << slot;
     }
     for class in 0..CLASSES as u8 {
         if classes.count[class as usize] > 0 {
@@ -97,8 +97,8 @@ pub(crate) fn live_ways(
         let to = finish(class, true);
         let chosen = choice.early[class as usize];
         let stays = rest(class) == 0;
-        let to_early = joined_if(room, true, to);
-        let to_late = joined_if(room, true, from);
+        let to_early = room | 1 << to;
+        let to_late = room | 1 << from;
         early[class as usize] = chosen > 0 || stays || moves[from as usize] & to_early != 0;
         late[class as usize] = chosen < classes.count[class as usize]
             || stays

@@ -1,9 +1,12 @@
 -- What is sent by a plan is what the headline with its bound says.
-use Rattle.std.proofs.Common.{◌≡◌, ◌<◌, ℕ, List, length, ap, arith, refl, sym, subst, ◌∙◌, slice_index}
+use Rattle.std.proofs.Common.{◌≡◌, ◌<◌, ℕ, List, ◌++◌, length, take, ap, arith, refl, sym, subst, ◌∙◌, slice_index}
+use Rattle.std.specs.Prelude.{Ok}
+use Rattle.std.proofs.Math.Seq.{take-append_seam}
 use Rattle.pocsag_words.specs.declared.codeword.Kind.{Kind}
 use Rattle.pocsag_words.specs.declared.ending.End.{End}
 use Rattle.pocsag_pages.specs.declared.page.Page.{Page}
 use Rattle.pocsag_pages.specs.Bytes.{bytes_of}
+use Rattle.pocsag_pages.specs.PageFile.{verdict}
 use Rattle.pocsag_tree.specs.CertificateText.{written_text}
 use Rattle.pocsag_tree.specs.BoundTrees.{BoundTree}
 use Rattle.pocsag_tree.specs.Views.{bound_tree_of}
@@ -17,9 +20,10 @@ use Rattle.pocsag_plan.specs.declared.bounded.Bounded.{Bounded}
 use Rattle.pocsag_plan.specs.declared.search.Effort.TheVariants.{Fewest}
 use Rattle.pocsag_plan.specs.declared.search.Search.{Search}
 use Rattle.pocsag_plan.specs.BoundedHeadline.{BoundedHeadline, IsHeadlineWhereTight}
+use Rattle.pocsag_plan.specs.Fronts.{IsFrontFor, IsLongestFront}
 use Rattle.pocsag_plan.specs.Headline.{RoundHeadline}
 use Rattle.pocsag_plan.specs.Plans.{IsBounded, IsPlan, IsPlanFor}
-use Rattle.pocsag_plan.specs.Streams.{HasHeadline, HeadlineOf, Writes, WritesAllOf, WritesBounded, WritesCertificatePartOf, WritesPartOf}
+use Rattle.pocsag_plan.specs.Streams.{HasHeadline, HeadlineOf, IsOfRound, Writes, WritesAllOf, WritesBounded, WritesCertificatePartOf, WritesPartOf}
 
 -- What is sent for a plan of a round is what its headline says.
 module _ (R : List Page) (bounded : Bounded) (is : IsBounded bounded.plan.end R bounded.plan bounded.bound) where
@@ -122,3 +126,47 @@ module _ (search : Search) (R : List Page) (bounded : Bounded) (is : IsPlanFor s
     within_one = is.plan_of.within_one;
     fewest = is.fewest;
   }
+
+  -- and of a page file of the round
+  pub file_headline : (file : List ℕ) → verdict file ≡ Ok R → (sent certificate : List ℕ) → HeadlineOf R bounded sent certificate →
+      BoundedHeadline file search.end bounded.plan.batches bounded.bound (bound_tree_of bounded.plan.tree) sent certificate
+  file_headline file read sent certificate h = record {
+    round = R;
+    read = read;
+    of_round = asked_headline sent certificate h;
+    at_least = is.plan_of.at_least;
+    within_one = is.plan_of.within_one;
+  }
+
+-- what is so of the round of a page file carries over
+pub of_round_as : (file : List ℕ) (P Q : List Page → Type 0) → ((round : List Page) → P round → Q round) → IsOfRound file P → IsOfRound file Q
+of_round_as file P Q each is = record { round = is.round; read = is.read; holds = each is.round is.holds }
+
+-- where the bound is the batches, the headline of the round is that without a bound
+pub tight_round : (R : List Page) (end : End) (batches bound : ℕ) (tree : BoundTree) (tx tx' cert cert' : List ℕ) → bound ≡ batches →
+    WritesAllOf (RoundHeadline R end batches bound tree) tx tx' cert cert' → WritesAllOf (RoundHeadline R end batches batches tree) tx tx' cert cert'
+tight_round R end batches bound tree tx tx' cert cert' same is =
+    subst (λ (n : ℕ). WritesAllOf (RoundHeadline R end batches n tree) tx tx' cert cert') same is
+
+-- What is planned of the first pages of a book.
+module _ (search : Search) (R round F rest : List Page) (batches : ℕ) (bounded : Bounded) (same : round ≡ R) (parts : F ++ rest ≡ round)
+    (is : IsPlanFor search F bounded) where
+  first_pages : F ≡ take bounded.plan.pages R
+  first_pages = sym (ap (λ (n : ℕ). take n R) is.plan_of.pages ∙ (ap (take (length F)) (sym (parts ∙ same)) ∙ take-append_seam F rest))
+
+  pub book_front : IsFrontFor search round batches (length F) → IsFrontFor search R batches bounded.plan.pages
+  book_front front = subst (IsFrontFor search R batches) (sym is.plan_of.pages) (subst (λ (v : List Page). IsFrontFor search v batches (length F)) same front)
+
+  pub book_longest : IsLongestFront search.end round batches (length F) → IsLongestFront search.end R batches bounded.plan.pages
+  book_longest front =
+      subst (IsLongestFront search.end R batches) (sym is.plan_of.pages)
+      (subst (λ (v : List Page). IsLongestFront search.end v batches (length F)) same front)
+
+  pub first_plan : IsPlanFor search (take bounded.plan.pages R) bounded
+  first_plan = subst (λ (v : List Page). IsPlanFor search v bounded) first_pages is
+
+  pub first_headline : (sent certificate : List ℕ) → HeadlineOf F bounded sent certificate →
+      RoundHeadline (take bounded.plan.pages R) search.end bounded.plan.batches bounded.bound (bound_tree_of bounded.plan.tree) sent certificate
+  first_headline sent certificate h =
+      asked_headline search (take bounded.plan.pages R) bounded first_plan sent certificate
+      (subst (λ (v : List Page). HeadlineOf v bounded sent certificate) first_pages h)

@@ -1,6 +1,6 @@
 -- What a try of some first pages says of them.
 use Rattle.std.proofs.Common.{◌≡◌, ℕ, ◌+◌, ◌<◌, ◌≤◌, List, length, take, arith, inl, inr, refl, sym, ◌∙◌, subst, ap}
-use Rattle.std.specs.Prelude.{◌⊎◌, Option, Some, None, false}
+use Rattle.std.specs.Prelude.{◌⊎◌, ◌↔◌, Err, IsErrOf, Option, Some, None, false}
 use Rattle.std.proofs.lemmas.List.{length-take, length-take-le}
 use Rattle.pocsag_words.specs.declared.ending.End.{End}
 use Rattle.pocsag_pages.specs.declared.page.Page.{Page}
@@ -18,6 +18,7 @@ use Rattle.pocsag_branch.specs.declared.stop.SearchLimit.{SearchLimit}
 use Rattle.pocsag_branch.specs.declared.stop.SearchFault.TheVariants as searching
 use Rattle.pocsag_check.specs.Acceptance.{IsAccepted}
 use Rattle.pocsag_branch.specs.Found.{HasPage, IsBound, IsLimit, IsNodeLimit}
+use Rattle.pocsag_plan.specs.declared.fault.NoFront.{NoFront}
 use Rattle.pocsag_plan.specs.declared.fault.NoFront.TheVariants as front
 use Rattle.pocsag_plan.specs.declared.fault.PlanFault.{PlanFault}
 use Rattle.pocsag_plan.specs.declared.fault.PlanFault.TheVariants as planning
@@ -207,3 +208,8 @@ longest_of search R batches count is fewest = record {
   sent = is.sent;
   longest = λ less. elim (is.longest less) [ inl none ↦ none | inr undecided ↦ absurd (cc (undecided.0, fewest)) ];
 }
+
+-- a fault that is none of the limit's, answered by another call
+pub another_fault : {A B : Type 0} (N : Type 0) (e : NoFront) → N → (IsErrOf {T = A} (Err e) (front.Plan planning.BadLimit) → ⊥) →
+    IsErrOf {T = B} (Err e) (front.Plan planning.BadLimit) ↔ (¬ N)
+another_fault N e is other = (λ b. absurd (other (cc b)), λ no. absurd (no is))

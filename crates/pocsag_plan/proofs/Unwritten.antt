@@ -1,21 +1,32 @@
 -- What a stream says of a fault that comes before the first write, and of one of its writers.
-use Rattle.std.proofs.Common.{◌≡◌, ℕ, List, arith, refl, rules, subst, sym, ◌↔◌}
-use Rattle.std.specs.Prelude.{Ok, Err, Some, IsErrOf}
+use Rattle.std.proofs.Common.{◌≡◌, ℕ, Bool, true, false, IsTrue, List, arith, refl, rules, subst, sym, ◌↔◌}
+use Rattle.std.specs.Prelude.{Ok, Err, Some, None, Result, IsErrOf, IsOk}
+use Rattle.std.proofs.lemmas.Bool.{false≢true}
 use Rattle.pocsag_words.specs.declared.ending.End.{End}
 use Rattle.pocsag_pages.specs.declared.page.Page.{Page}
 use Rattle.pocsag_pages.specs.Pages.{IsRound}
+use Rattle.pocsag_pages.specs.PageFile.{verdict}
+use Rattle.pocsag_pages.specs.declared.fault.RoundFault.{RoundFault}
+use Rattle.pocsag_tree.specs.Views.{bound_tree_of}
 use Rattle.pocsag_branch.specs.Found.{IsNodeLimit}
-use Rattle.pocsag_plan.specs.BookPlans.{ExplainsBook, ExplainsBookStream}
+use Rattle.pocsag_plan.specs.BookPlans.{ExplainsBook, ExplainsBookFront, ExplainsBookStream}
 use Rattle.pocsag_plan.specs.FaultChains.{stream_fault_of}
 use Rattle.pocsag_plan.specs.declared.answer.Plan.{Plan}
+use Rattle.pocsag_plan.specs.declared.fault.NoFront.{NoFront}
+use Rattle.pocsag_plan.specs.declared.fault.NoFront.TheVariants as front
+use Rattle.pocsag_plan.specs.declared.fault.PlanFault.{PlanFault}
 use Rattle.pocsag_plan.specs.declared.fault.PlanFault.TheVariants as planning
 use Rattle.pocsag_plan.specs.declared.fault.StreamFault.{StreamFault}
 use Rattle.pocsag_plan.specs.declared.fault.StreamFault.TheVariants as streaming
+use Rattle.pocsag_plan.specs.declared.fault.UnsentFront.TheVariants as unsent
 use Rattle.pocsag_plan.specs.declared.refusal.BookFault.{BookFault}
 use Rattle.pocsag_plan.specs.declared.refusal.BookFault.TheVariants as book
 use Rattle.pocsag_plan.specs.declared.search.Effort.{Effort}
-use Rattle.pocsag_plan.specs.Plans.{IsBounded}
-use Rattle.pocsag_plan.specs.Streams.{IsBeforeWriting, IsCertificate, IsTransmission, IsUnsent, WritesCertificatePartOf, WritesInTurn, WritesPartOf}
+use Rattle.pocsag_plan.specs.declared.search.Effort.TheVariants.{Always}
+use Rattle.pocsag_plan.specs.declared.search.Search.{Search}
+use Rattle.pocsag_plan.specs.Fronts.{ExplainsFront, FirstNeeds, StopsAtFront}
+use Rattle.pocsag_plan.specs.Plans.{ExplainsPlan, IsBounded, MayStop}
+use Rattle.pocsag_plan.specs.Streams.{ExplainsStream, IsBeforeWriting, IsCertificate, IsSearchLimit, IsTransmission, IsUnsent, WritesCertificatePartOf, WritesInTurn, WritesPartOf}
 
 -- a fault before the first write is of neither writer
 no_transmission : (e : StreamFault) → IsBeforeWriting e → IsTransmission e → ⊥
@@ -97,3 +108,107 @@ unsent_explained effort end R limit (streaming.Certificate f) u within round = (
 pub its_own : (end : End) (R R' : List Page) (plan : Plan) (bound : ℕ) → R' ≡ R → IsBounded end R plan bound → IsBounded plan.end R' plan bound
 its_own end R R' plan bound same is =
     subst (λ (e : End). IsBounded e R' plan bound) (sym is.asked) (subst (λ (v : List Page). IsBounded end v plan bound) (sym same) is)
+
+-- where no stream was begun, nothing was written
+pub nothing_written : {T C : Type 0} (failures : T → ℕ) (certificate_failures : C → ℕ) (tx : T) (cert : C) →
+    WritesInTurn failures certificate_failures tx tx cert cert None
+nothing_written failures certificate_failures tx cert = record {
+  untouched = tt;
+  not_begun = tt;
+  write_failed = tt;
+  certificate_failed = tt;
+  write_succeeded = tt;
+  succeeded = (refl, refl);
+}
+
+-- what the test of a limit says
+pub limit_refused : (b : Bool) (limit : ℕ) → b ≡ false → (IsTrue b ↔ IsNodeLimit limit) → IsNodeLimit limit → ⊥
+limit_refused true limit is test within = absurd (cc)
+limit_refused false limit is test within = absurd (false≢true (test.1 within))
+
+pub limit_taken : (b : Bool) (limit : ℕ) → b ≡ true → (IsTrue b ↔ IsNodeLimit limit) → IsNodeLimit limit
+limit_taken true limit is test = test.0 refl
+limit_taken false limit is test = absurd (cc)
+
+-- a fault of a plan, answered by a stream of a page file of its round
+pub plan_bad_limit : {A B : Type 0} (N : Type 0) (f : PlanFault) → (IsErrOf {T = A} (Err f) planning.BadLimit ↔ (¬ N)) →
+    IsErrOf {T = B} (Err (streaming.Plan f)) (streaming.Plan planning.BadLimit) ↔ (¬ N)
+plan_bad_limit N planning.BadLimit h = (λ _. h.0 refl, λ _. refl)
+plan_bad_limit N (planning.SearchLimit stop) h = (λ b. absurd (cc), λ no. absurd (cc (h.1 no)))
+plan_bad_limit N planning.OutOfMemory h = (λ b. absurd (cc), λ no. absurd (cc (h.1 no)))
+
+pub round_bad_limit : {B : Type 0} (N : Type 0) (f : RoundFault) → N → IsErrOf {T = B} (Err (streaming.Round f)) (streaming.Plan planning.BadLimit) ↔ (¬ N)
+round_bad_limit N f is = (λ b. absurd (cc), λ no. absurd (no is))
+
+read_ok : (file : List ℕ) (R : List Page) → verdict file ≡ Ok R → IsOk (verdict file)
+read_ok file R read = subst (λ (v : Result (List Page) RoundFault). IsOk v) (sym read) (search rules)
+
+pub plan_explained : (effort : Effort) (file : List ℕ) (end : End) (R : List Page) (limit : ℕ) (f : PlanFault) → verdict file ≡ Ok R →
+    ExplainsPlan effort end R limit f → ExplainsStream effort file end limit (streaming.Plan f)
+plan_explained effort file end R limit planning.BadLimit read said = said
+plan_explained effort file end R limit (planning.SearchLimit stop) read said = (said.0, said.1, record { round = R; read = read; holds = said.2 })
+plan_explained effort file end R limit planning.OutOfMemory read said = (said, read_ok file R read)
+
+pub plan_answered : (effort : Effort) (end : End) (R : List Page) (limit : ℕ) (f : PlanFault) → ExplainsPlan effort end R limit f →
+    effort ≡ Always → IsSearchLimit (streaming.Plan f) → ⊥
+plan_answered effort end R limit planning.BadLimit said always h = h
+plan_answered effort end R limit (planning.SearchLimit stop) said always h = subst MayStop always said.0
+plan_answered effort end R limit planning.OutOfMemory said always h = h
+
+pub book_answered : (end : End) (R : List Page) (limit : ℕ) (e : StreamFault) → ExplainsBookStream Always end R limit e → IsSearchLimit e → ⊥
+book_answered end R limit (streaming.Plan planning.BadLimit) said h = h
+book_answered end R limit (streaming.Plan (planning.SearchLimit stop)) said h = said.0
+book_answered end R limit (streaming.Plan planning.OutOfMemory) said h = h
+book_answered end R limit (streaming.Round f) said h = h
+book_answered end R limit (streaming.Transmission f) said h = h
+book_answered end R limit (streaming.Certificate f) said h = h
+
+-- a fault of a writer
+pub sent_explained : (effort : Effort) (file : List ℕ) (end : End) (R : List Page) (limit : ℕ) (e : StreamFault) → IsUnsent e →
+    IsNodeLimit limit → verdict file ≡ Ok R → ExplainsStream effort file end limit e
+sent_explained effort file end R limit (streaming.Plan f) u within read = absurd u
+sent_explained effort file end R limit (streaming.Round f) u within read = absurd u
+sent_explained effort file end R limit (streaming.Transmission f) u within read = (within, read_ok file R read)
+sent_explained effort file end R limit (streaming.Certificate f) u within read = (within, read_ok file R read)
+
+pub sent_answered : (e : StreamFault) → IsUnsent e → IsSearchLimit e → ⊥
+sent_answered (streaming.Plan f) u h = u
+sent_answered (streaming.Round f) u h = u
+sent_answered (streaming.Transmission f) u h = h
+sent_answered (streaming.Certificate f) u h = h
+
+pub sent_read : {B : Type 0} (e : StreamFault) (f : RoundFault) → IsUnsent e → IsErrOf {T = B} (Err e) (streaming.Round f) → ⊥
+sent_read (streaming.Plan g) f u h = u
+sent_read (streaming.Round g) f u h = u
+sent_read (streaming.Transmission g) f u h = absurd (cc)
+sent_read (streaming.Certificate g) f u h = absurd (cc)
+
+-- a fault of a front, answered for the pages of a book
+module _ (search : Search) (R round : List Page) (batches : ℕ) (same : round ≡ R) (good : IsRound R) where
+  front_fault : (f : PlanFault) → ExplainsFront search round batches (front.Plan f) →
+      ExplainsBookFront search R batches (unsent.Stream (streaming.Plan f))
+  front_fault planning.BadLimit said = said
+  front_fault (planning.SearchLimit stop) said =
+      (said.0, said.1, good, subst (λ (v : List Page). StopsAtFront search v stop.least stop.found (bound_tree_of stop.tree)) same said.2)
+  front_fault planning.OutOfMemory said = (said, good)
+
+  pub unplanned_front : (e : NoFront) (f : PlanFault) → e ≡ front.Plan f → ExplainsFront search round batches e →
+      ExplainsBookFront search R batches (unsent.Stream (streaming.Plan f))
+  unplanned_front e f is said = front_fault f (subst (ExplainsFront search round batches) is said)
+
+  pub first_page_alone : (e : NoFront) (needed : ℕ) → e ≡ front.FirstPage needed → ExplainsFront search round batches e →
+      ExplainsBookFront search R batches (unsent.FirstPage needed)
+  first_page_alone e needed is said =
+      let first = subst (ExplainsFront search round batches) is said in
+      (first.0, good, subst (λ (v : List Page). FirstNeeds search v batches needed) same first.1)
+
+pub unsent_front : (search : Search) (R : List Page) (batches : ℕ) (e : StreamFault) → IsUnsent e → IsNodeLimit search.limit → IsRound R →
+    ExplainsBookFront search R batches (unsent.Stream e)
+unsent_front search R batches (streaming.Plan f) u within round = absurd u
+unsent_front search R batches (streaming.Round f) u within round = absurd u
+unsent_front search R batches (streaming.Transmission f) u within round = (within, round)
+unsent_front search R batches (streaming.Certificate f) u within round = (within, round)
+
+-- the fault of one call is that of another which answers it
+pub same_fault : {A B : Type 0} (e f : StreamFault) → IsErrOf {T = A} (Err e) f → IsErrOf {T = B} (Err e) f
+same_fault e f is = cc

@@ -1,6 +1,5 @@
 ghost use Rattle.std.specs.Prelude.{◌≡◌, ◌*◌, ◌≤◌, IfOk, IsErr, ◌↔◌, Some};
-ghost use Rattle.std.specs.Fmt.{WritesOnOk};
-ghost use Rattle.pocsag_plan.specs.Reports.{AreMostWithin, IsRate, IsReport, first_lines, last_lines, line_of, report_text};
+ghost use Rattle.pocsag_plan.specs.Reports.{AreMostWithin, IsRate, IsReport, report_text};
 
 use crate::airtime::Report;
 use crate::answer::Plan;
@@ -48,36 +47,17 @@ pub fn most_batches(airtime_ms: u32, rate: u32) -> Result<u32, BadRate>
 impl Display for Report {
     ghost output = { λ r. Some (report_text r) };
 
-    #[tactic(auto, unfolding(crate::specs::Reports::report_text))]
     fn fmt<W: fmt::Write>(&self, f: &mut Formatter<W>) -> fmt::Result {
-        write_first(self, f)?;
-        write_last(self, f)
+        write!(
+            f,
+            "pages {}\ncodewords {}\nin_order {}\nbatches {}\nidles {}\nbits {}\nairtime_ms {}\n",
+            self.pages,
+            self.codewords,
+            self.in_order,
+            self.batches,
+            self.idles,
+            self.bits,
+            self.airtime_ms,
+        )
     }
-}
-
-#[tactic(auto, unfolding(crate::specs::Reports::first_lines))]
-fn write_first<W: fmt::Write>(report: &Report, f: &mut Formatter<W>) -> fmt::Result
-    ensures { WritesOnOk W.write_str_gives f.old result (first_lines report.now) f.new }
-{
-    write_line(f, "pages", u64::from(report.pages))?;
-    write_line(f, "codewords", u64::from(report.codewords))?;
-    write_line(f, "in_order", u64::from(report.in_order))?;
-    write_line(f, "batches", u64::from(report.batches))
-}
-
-#[tactic(auto, unfolding(crate::specs::Reports::last_lines))]
-fn write_last<W: fmt::Write>(report: &Report, f: &mut Formatter<W>) -> fmt::Result
-    ensures { WritesOnOk W.write_str_gives f.old result (last_lines report.now) f.new }
-{
-    write_line(f, "idles", report.idles)?;
-    write_line(f, "bits", report.bits)?;
-    write_line(f, "airtime_ms", report.airtime_ms)
-}
-
-#[tactic(auto, unfolding(crate::specs::Reports::line_of))]
-fn write_line<W: fmt::Write>(f: &mut Formatter<W>, name: &str, n: u64) -> fmt::Result
-    ensures { WritesOnOk W.write_str_gives f.old result (line_of name.now n) f.new }
-{
-    f.write_str(name)?;
-    writeln!(f, " {n}")
 }

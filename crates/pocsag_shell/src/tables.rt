@@ -51,6 +51,30 @@ pub fn command<'a>(alloc: Global, shape: &Shape) -> Result<Command<'a>, AllocErr
     .args(arguments)
 }
 
+// The commands of shapes.
+fn commands<'a>(alloc: Global, shapes: &[Shape]) -> Result<Vec<Command<'a>>, AllocError> {
+    let mut commands = Vec::new(alloc);
+    for shape in shapes {
+        commands.push(command(alloc, shape)?)?;
+    }
+    Ok(commands)
+}
+
+// The program that takes the words and has the commands of the tables.
+fn program_of<'a>(
+    alloc: Global,
+    shape: &Shape,
+    tables: &Tables,
+) -> Result<Command<'a>, AllocError> {
+    let words = arguments(alloc, tables.words.as_slice())?;
+    let commands = commands(alloc, tables.commands.as_slice())?;
+    command(alloc, shape)?
+        .version(VERSION)
+        .bin_name(shape.name)?
+        .args(words)?
+        .subcommands(commands)
+}
+
 /// Builds the program. It takes what the group takes, and `--verbose`.
 pub(crate) fn program<'a, G: Group>(
     alloc: Global,
@@ -63,14 +87,5 @@ pub(crate) fn program<'a, G: Group>(
     };
     group.add_to(&mut tables)?;
     tables.words.push(VERBOSE_FLAG)?;
-    let words = arguments(alloc, tables.words.as_slice())?;
-    let mut commands = Vec::new(alloc);
-    for shape in &tables.commands {
-        commands.push(command(alloc, shape)?)?;
-    }
-    command(alloc, shape)?
-        .version(VERSION)
-        .bin_name(shape.name)?
-        .args(words)?
-        .subcommands(commands)
+    program_of(alloc, shape, &tables)
 }

@@ -2,6 +2,7 @@ use Rattle.std.proofs.Common.{ℕ, ◌+◌, ◌≤◌, ◌∙◌, arith}
 use Rattle.pocsag_slots.specs.declared.way.Way.TheVariants.{IdleIn}
 use Rattle.pocsag_tree.specs.Views.{bound_tree_of}
 use Rattle.pocsag_branch.proofs.FreeNodes.{close_freed, cut_freed, freed_before, free_row_goes_on, kept, kept_in_row, split_freed}
+use Rattle.std.proofs.lemmas.Result.{err_from_is_err_and}
 use Rattle.pocsag_branch.proofs.free_nodes.+free_nodes.Goals as goal
 
 same : (n : ℕ) → n ≤ n
@@ -82,3 +83,124 @@ free_split-returns-clause-node t c =
     c.requires.point c.in_ok-under.ensures.limits c.in_ok-over.ensures.limits
     (rw (c.deref.ensures, c.in_ok-under.ensures.classes, c.in_ok-under.ensures.task) at c.in_ok-below.ensures.node)
     (rw (c.deref-2.ensures, c.in_ok-over.ensures.classes, c.in_ok-over.ensures.task) at c.in_ok-from.ensures.node)
+
+pub free_children-returns-in_err-narrowed-clause-node : goal.free_children-returns-in_err-narrowed-clause-node
+free_children-returns-in_err-narrowed-clause-node t c =
+    let p = err_from_is_err_and c.from_residual.result c.from_residual.ensures.1 in
+    rw p.1 tt
+
+pub free_children-returns-in_err-narrowed-clause-halt : goal.free_children-returns-in_err-narrowed-clause-halt
+free_children-returns-in_err-narrowed-clause-halt t c =
+    let p = err_from_is_err_and c.from_residual.result c.from_residual.ensures.1 in
+    rw (p.1, p.2) tt
+
+pub free_children-returns-in_err-child-clause-node : goal.free_children-returns-in_err-child-clause-node
+free_children-returns-in_err-child-clause-node t c =
+    let p = err_from_is_err_and c.from_residual-in_err-child.result c.from_residual-in_err-child.ensures.1 in
+    rw p.1 tt
+
+pub free_children-returns-in_err-child-clause-halt : goal.free_children-returns-in_err-child-clause-halt
+free_children-returns-in_err-child-clause-halt t c =
+    let p = err_from_is_err_and c.from_residual-in_err-child.result c.from_residual-in_err-child.ensures.1 in
+    rw (p.1, p.2)
+    (rw (c.deref.ensures, c.in_ok-narrowed.ensures.classes, c.in_ok-narrowed.ensures.task) at c.in_err-child.ensures.halt)
+
+pub free_children-returns-in_err-push-clause-node : goal.free_children-returns-in_err-push-clause-node
+free_children-returns-in_err-push-clause-node t c =
+    let p = err_from_is_err_and c.from_residual-in_err-push.result c.from_residual-in_err-push.ensures.1 in
+    rw p.1 tt
+
+pub free_children-returns-in_err-push-clause-halt : goal.free_children-returns-in_err-push-clause-halt
+free_children-returns-in_err-push-clause-halt t c =
+    let p = err_from_is_err_and c.from_residual-in_err-push.result c.from_residual-in_err-push.ensures.1 in
+    rw (p.1, p.2) tt
+
+pub free_close-returns-in_err-children-clause-node : goal.free_close-returns-in_err-children-clause-node
+free_close-returns-in_err-children-clause-node t c =
+    let p = err_from_is_err_and c.from_residual.result c.from_residual.ensures.1 in
+    rw p.1 tt
+
+pub free_close-returns-in_err-children-clause-halt : goal.free_close-returns-in_err-children-clause-halt
+free_close-returns-in_err-children-clause-halt t c =
+    let p = err_from_is_err_and c.from_residual.result c.from_residual.ensures.1 in
+    rw (p.1, p.2) c.in_err-children.ensures.halt
+
+pub free_cut-returns-in_err-children-clause-node : goal.free_cut-returns-in_err-children-clause-node
+free_cut-returns-in_err-children-clause-node t c =
+    let p = err_from_is_err_and c.from_residual.result c.from_residual.ensures.1 in
+    rw p.1 tt
+
+pub free_cut-returns-in_err-children-clause-halt : goal.free_cut-returns-in_err-children-clause-halt
+free_cut-returns-in_err-children-clause-halt t c =
+    let p = err_from_is_err_and c.from_residual.result c.from_residual.ensures.1 in
+    rw (p.1, p.2) c.in_err-children.ensures.halt
+
+pub free_split-returns-in_err-under-clause-node : goal.free_split-returns-in_err-under-clause-node
+free_split-returns-in_err-under-clause-node t c =
+    let p = err_from_is_err_and c.from_residual.result c.from_residual.ensures.1 in
+    rw p.1 tt
+
+pub free_split-returns-in_err-under-clause-halt : goal.free_split-returns-in_err-under-clause-halt
+free_split-returns-in_err-under-clause-halt t c =
+    let p = err_from_is_err_and c.from_residual.result c.from_residual.ensures.1 in
+    rw (p.1, p.2) tt
+
+pub free_split-returns-in_err-below-clause-node : goal.free_split-returns-in_err-below-clause-node
+free_split-returns-in_err-below-clause-node t c =
+    let p = err_from_is_err_and c.from_residual-in_err-below.result c.from_residual-in_err-below.ensures.1 in
+    rw p.1 tt
+
+pub free_split-returns-in_err-below-clause-halt : goal.free_split-returns-in_err-below-clause-halt
+free_split-returns-in_err-below-clause-halt t c =
+    let p = err_from_is_err_and c.from_residual-in_err-below.result c.from_residual-in_err-below.ensures.1 in
+    rw (p.1, p.2)
+    (rw (c.deref.ensures, c.in_ok-under.ensures.classes, c.in_ok-under.ensures.task) at c.in_err-below.ensures.halt)
+
+pub free_split-returns-in_err-over-clause-node : goal.free_split-returns-in_err-over-clause-node
+free_split-returns-in_err-over-clause-node t c =
+    let p = err_from_is_err_and c.from_residual-in_err-over.result c.from_residual-in_err-over.ensures.1 in
+    rw p.1 tt
+
+pub free_split-returns-in_err-over-clause-halt : goal.free_split-returns-in_err-over-clause-halt
+free_split-returns-in_err-over-clause-halt t c =
+    let p = err_from_is_err_and c.from_residual-in_err-over.result c.from_residual-in_err-over.ensures.1 in
+    rw (p.1, p.2) tt
+
+pub free_split-returns-in_err-from-clause-node : goal.free_split-returns-in_err-from-clause-node
+free_split-returns-in_err-from-clause-node t c =
+    let p = err_from_is_err_and c.from_residual-in_err-from.result c.from_residual-in_err-from.ensures.1 in
+    rw p.1 tt
+
+pub free_split-returns-in_err-from-clause-halt : goal.free_split-returns-in_err-from-clause-halt
+free_split-returns-in_err-from-clause-halt t c =
+    let p = err_from_is_err_and c.from_residual-in_err-from.result c.from_residual-in_err-from.ensures.1 in
+    rw (p.1, p.2)
+    (rw (c.deref-2.ensures, c.in_ok-over.ensures.classes, c.in_ok-over.ensures.task) at c.in_err-from.ensures.halt)
+
+pub free_split-returns-in_err-tree-clause-node : goal.free_split-returns-in_err-tree-clause-node
+free_split-returns-in_err-tree-clause-node t c =
+    let p = err_from_is_err_and c.from_residual-in_err-tree.result c.from_residual-in_err-tree.ensures.1 in
+    rw p.1 tt
+
+pub free_split-returns-in_err-tree-clause-halt : goal.free_split-returns-in_err-tree-clause-halt
+free_split-returns-in_err-tree-clause-halt t c =
+    let p = err_from_is_err_and c.from_residual-in_err-tree.result c.from_residual-in_err-tree.ensures.1 in
+    rw (p.1, p.2) tt
+
+pub free_node-returns-in-Cut-clause-node : goal.free_node-returns-in-Cut-clause-node
+free_node-returns-in-Cut-clause-node t c = c.free_cut.ensures.node
+
+pub free_node-returns-in-Cut-clause-halt : goal.free_node-returns-in-Cut-clause-halt
+free_node-returns-in-Cut-clause-halt t c = c.free_cut.ensures.halt
+
+pub free_node-returns-in-Split-clause-node : goal.free_node-returns-in-Split-clause-node
+free_node-returns-in-Split-clause-node t c = c.free_split.ensures.node
+
+pub free_node-returns-in-Split-clause-halt : goal.free_node-returns-in-Split-clause-halt
+free_node-returns-in-Split-clause-halt t c = c.free_split.ensures.halt
+
+pub free_node-returns-in-Close-clause-node : goal.free_node-returns-in-Close-clause-node
+free_node-returns-in-Close-clause-node t c = c.free_close.ensures.node
+
+pub free_node-returns-in-Close-clause-halt : goal.free_node-returns-in-Close-clause-halt
+free_node-returns-in-Close-clause-halt t c = c.free_close.ensures.halt

@@ -1,11 +1,13 @@
-use Rattle.std.proofs.Common.{◌≡◌, ◌≤◌, Result, Ok, Err, IfOk, arith}
+use Rattle.std.proofs.Common.{◌≡◌, ◌≤◌, Result, Ok, Err, IfOk, arith, subst}
+use Rattle.std.proofs.lemmas.Result.{IfErr-weaker}
 use Rattle.pocsag_slots.specs.declared.class.Classes.{Classes}
 use Rattle.pocsag_tree.specs.declared.shape.Tree.{Tree}
 use Rattle.pocsag_tree.specs.BoundTrees.{BoundTree}
 use Rattle.pocsag_tree.specs.Views.{bound_tree_of}
 use Rattle.pocsag_branch.specs.declared.halt.Halt.{Halt}
+use Rattle.pocsag_branch.specs.declared.halt.Halt.TheVariants.{Met, Limit, OutOfMemory}
 use Rattle.pocsag_branch.specs.declared.task.Task.{Task}
-use Rattle.pocsag_branch.specs.FreeNode.{IsFreeTree}
+use Rattle.pocsag_branch.specs.FreeNode.{IsFreeTree, IsHalt}
 use Rattle.pocsag_branch.proofs.free_root.free_tree.Goals as goal
 
 same_tree : (k : Classes) (q r : Task) (t : BoundTree) → r.end ≡ q.end → r.batches ≡ q.batches → r.limit ≤ q.limit → IsFreeTree k r t →
@@ -26,3 +28,26 @@ returns-else-task-short-clause-tree c =
     within_limit c.args.classes.now c.args.task c.task_within-second.result c.tree_of_try-in-Err-Limit.result
     c.task_within-second.ensures.end c.task_within-second.ensures.batches
     (omega (arith, c.task_within-second.ensures.limit)) c.tree_of_try-in-Err-Limit.ensures.tree
+
+same_halt : (k : Classes) (q r : Task) (halt : Halt) → r.end ≡ q.end → r.batches ≡ q.batches → IsHalt k r halt → IsHalt k q halt
+same_halt k q r (Met answer) same_end same_batches h = rw same_end at (rw same_batches at h)
+same_halt k q r Limit same_end same_batches h = tt
+same_halt k q r OutOfMemory same_end same_batches h = tt
+
+pub returns-in-Ok-clause-tree : goal.returns-in-Ok-clause-tree
+returns-in-Ok-clause-tree c =
+    same_tree c.args.classes.now c.args.task c.task_within-first.result (bound_tree_of c.in-Ok.tree) c.task_within-first.ensures.end
+    c.task_within-first.ensures.batches (omega (arith, c.task_within-first.ensures.limit, c.min-short.ensures)) c.in-Ok.ensures.tree
+
+pub returns-in-Err-Met-clause-halt : goal.returns-in-Err-Met-clause-halt
+returns-in-Err-Met-clause-halt c =
+    same_halt c.args.classes.now c.args.task c.task_within-first.result (Met c.in-Err-Met.answer) c.task_within-first.ensures.end
+    c.task_within-first.ensures.batches
+    (subst (IsHalt c.args.classes.now c.task_within-first.result) c.in-Err-Met.field-0-is c.in-Err-Met.ensures.halt)
+
+pub returns-else-task-short-clause-halt : goal.returns-else-task-short-clause-halt
+returns-else-task-short-clause-halt c =
+    IfErr-weaker c.tree_of_try-in-Err-Limit.result _ _
+    (λ halt h. same_halt c.args.classes.now c.args.task c.task_within-second.result halt c.task_within-second.ensures.end
+    c.task_within-second.ensures.batches h)
+    c.tree_of_try-in-Err-Limit.ensures.halt

@@ -4,6 +4,7 @@ use Rattle.pocsag_words.specs.declared.ending.End.{End}
 use Rattle.pocsag_words.specs.declared.ending.End.TheVariants as ends
 use Rattle.pocsag_slots.specs.Tours.{AsksForLast}
 use Rattle.pocsag_branch.proofs.TreeEnds.{all_node_limits, root_closing}
+use Rattle.std.proofs.lemmas.Result.{err_from_is_err_and}
 use Rattle.pocsag_branch.proofs.free_root.tree_of_try.Goals as goal
 
 closed_or_idle : (end : End) → (end ≡ ends.Closed) ⊎ (end ≡ ends.Idle) → AsksForLast end
@@ -22,3 +23,8 @@ free_close-requires-clause-fall c =
 pub invariant_of-root : goal.invariant_of-root
 invariant_of-root c =
     record { within = rw c.all_limits.ensures.value (all_node_limits c.args.classes.now c.args.task.batches) }
+
+pub returns-in_err-tree-clause-tree : goal.returns-in_err-tree-clause-tree
+returns-in_err-tree-clause-tree c =
+    let p = err_from_is_err_and c.from_residual.result c.from_residual.ensures.1 in
+    rw p.1 tt

@@ -1,6 +1,7 @@
 use Rattle.std.proofs.Common.{arith, ◌∙◌}
 use Rattle.pocsag_slots.specs.declared.way.Way.TheVariants.{IdleIn}
 use Rattle.pocsag_branch.proofs.NodeChildren.{close_made, cut_made, row_goes_on, split_made}
+use Rattle.std.proofs.lemmas.Result.{err_from_is_err_and}
 use Rattle.pocsag_branch.proofs.promised_nodes.+promised_nodes.Goals as goal
 
 pub close_node-returns-clause-node : goal.close_node-returns-clause-node
@@ -45,3 +46,140 @@ split_node-overflow_add-made t c = omega (arith, c.requires.made, c.args.node.no
 
 pub close_node-overflow_add-made : goal.close_node-overflow_add-made
 close_node-overflow_add-made t c = omega (arith, c.requires.made, c.args.node.now.task.limited.few)
+
+pub child_nodes-returns-in_err-narrowed-clause-node : goal.child_nodes-returns-in_err-narrowed-clause-node
+child_nodes-returns-in_err-narrowed-clause-node t c =
+    let p = err_from_is_err_and c.from_residual.result c.from_residual.ensures.1 in
+    rw p.1 tt
+
+pub child_nodes-returns-in_err-narrowed-clause-stop : goal.child_nodes-returns-in_err-narrowed-clause-stop
+child_nodes-returns-in_err-narrowed-clause-stop t c =
+    let p = err_from_is_err_and c.from_residual.result c.from_residual.ensures.1 in
+    rw (p.1, p.2) tt
+
+pub child_nodes-returns-in_err-child-clause-node : goal.child_nodes-returns-in_err-child-clause-node
+child_nodes-returns-in_err-child-clause-node t c =
+    let p = err_from_is_err_and c.from_residual-in_err-child.result c.from_residual-in_err-child.ensures.1 in
+    rw p.1 tt
+
+pub child_nodes-returns-in_err-child-clause-stop : goal.child_nodes-returns-in_err-child-clause-stop
+child_nodes-returns-in_err-child-clause-stop t c =
+    let p = err_from_is_err_and c.from_residual-in_err-child.result c.from_residual-in_err-child.ensures.1 in
+    rw (p.1, p.2)
+    (rw (c.deref.ensures, c.in_ok-narrowed.ensures.classes, c.in_ok-narrowed.ensures.task) at c.in_err-child.ensures.stop)
+
+pub child_nodes-returns-in_err-push-clause-node : goal.child_nodes-returns-in_err-push-clause-node
+child_nodes-returns-in_err-push-clause-node t c =
+    let p = err_from_is_err_and c.from_residual-in_err-push.result c.from_residual-in_err-push.ensures.1 in
+    rw p.1 tt
+
+pub child_nodes-returns-in_err-push-clause-stop : goal.child_nodes-returns-in_err-push-clause-stop
+child_nodes-returns-in_err-push-clause-stop t c =
+    let p = err_from_is_err_and c.from_residual-in_err-push.result c.from_residual-in_err-push.ensures.1 in
+    rw (p.1, p.2) tt
+
+pub close_node-returns-in_err-children-clause-node : goal.close_node-returns-in_err-children-clause-node
+close_node-returns-in_err-children-clause-node t c =
+    let p = err_from_is_err_and c.from_residual.result c.from_residual.ensures.1 in
+    rw p.1 tt
+
+pub close_node-returns-in_err-children-clause-stop : goal.close_node-returns-in_err-children-clause-stop
+close_node-returns-in_err-children-clause-stop t c =
+    let p = err_from_is_err_and c.from_residual.result c.from_residual.ensures.1 in
+    rw (p.1, p.2) c.in_err-children.ensures.stop
+
+pub cut_node-returns-in_err-children-clause-node : goal.cut_node-returns-in_err-children-clause-node
+cut_node-returns-in_err-children-clause-node t c =
+    let p = err_from_is_err_and c.from_residual.result c.from_residual.ensures.1 in
+    rw p.1 tt
+
+pub cut_node-returns-in_err-children-clause-stop : goal.cut_node-returns-in_err-children-clause-stop
+cut_node-returns-in_err-children-clause-stop t c =
+    let p = err_from_is_err_and c.from_residual.result c.from_residual.ensures.1 in
+    rw (p.1, p.2) c.in_err-children.ensures.stop
+
+pub split_node-returns-in_err-under-clause-node : goal.split_node-returns-in_err-under-clause-node
+split_node-returns-in_err-under-clause-node t c =
+    let p = err_from_is_err_and c.from_residual.result c.from_residual.ensures.1 in
+    rw p.1 tt
+
+pub split_node-returns-in_err-under-clause-stop : goal.split_node-returns-in_err-under-clause-stop
+split_node-returns-in_err-under-clause-stop t c =
+    let p = err_from_is_err_and c.from_residual.result c.from_residual.ensures.1 in
+    rw (p.1, p.2) tt
+
+pub split_node-returns-in_err-below-clause-node : goal.split_node-returns-in_err-below-clause-node
+split_node-returns-in_err-below-clause-node t c =
+    let p = err_from_is_err_and c.from_residual-in_err-below.result c.from_residual-in_err-below.ensures.1 in
+    rw p.1 tt
+
+pub split_node-returns-in_err-below-clause-stop : goal.split_node-returns-in_err-below-clause-stop
+split_node-returns-in_err-below-clause-stop t c =
+    let p = err_from_is_err_and c.from_residual-in_err-below.result c.from_residual-in_err-below.ensures.1 in
+    rw (p.1, p.2)
+    (rw (c.deref.ensures, c.in_ok-under.ensures.classes, c.in_ok-under.ensures.task) at c.in_err-below.ensures.stop)
+
+pub split_node-returns-in_err-over-clause-node : goal.split_node-returns-in_err-over-clause-node
+split_node-returns-in_err-over-clause-node t c =
+    let p = err_from_is_err_and c.from_residual-in_err-over.result c.from_residual-in_err-over.ensures.1 in
+    rw p.1 tt
+
+pub split_node-returns-in_err-over-clause-stop : goal.split_node-returns-in_err-over-clause-stop
+split_node-returns-in_err-over-clause-stop t c =
+    let p = err_from_is_err_and c.from_residual-in_err-over.result c.from_residual-in_err-over.ensures.1 in
+    rw (p.1, p.2) tt
+
+pub split_node-returns-in_err-from-clause-node : goal.split_node-returns-in_err-from-clause-node
+split_node-returns-in_err-from-clause-node t c =
+    let p = err_from_is_err_and c.from_residual-in_err-from.result c.from_residual-in_err-from.ensures.1 in
+    rw p.1 tt
+
+pub split_node-returns-in_err-from-clause-stop : goal.split_node-returns-in_err-from-clause-stop
+split_node-returns-in_err-from-clause-stop t c =
+    let p = err_from_is_err_and c.from_residual-in_err-from.result c.from_residual-in_err-from.ensures.1 in
+    rw (p.1, p.2)
+    (rw (c.deref-2.ensures, c.in_ok-over.ensures.classes, c.in_ok-over.ensures.task) at c.in_err-from.ensures.stop)
+
+pub split_node-returns-in_err-tree-clause-node : goal.split_node-returns-in_err-tree-clause-node
+split_node-returns-in_err-tree-clause-node t c =
+    let p = err_from_is_err_and c.from_residual-in_err-tree.result c.from_residual-in_err-tree.ensures.1 in
+    rw p.1 tt
+
+pub split_node-returns-in_err-tree-clause-stop : goal.split_node-returns-in_err-tree-clause-stop
+split_node-returns-in_err-tree-clause-stop t c =
+    let p = err_from_is_err_and c.from_residual-in_err-tree.result c.from_residual-in_err-tree.ensures.1 in
+    rw (p.1, p.2) tt
+
+pub promised_node-returns-in_err-form-clause-node : goal.promised_node-returns-in_err-form-clause-node
+promised_node-returns-in_err-form-clause-node t c =
+    let p = err_from_is_err_and c.from_residual.result c.from_residual.ensures.1 in
+    rw p.1 tt
+
+pub promised_node-returns-in_err-form-clause-stop : goal.promised_node-returns-in_err-form-clause-stop
+promised_node-returns-in_err-form-clause-stop t c =
+    let p = err_from_is_err_and c.from_residual.result c.from_residual.ensures.1 in
+    rw (p.1, p.2) c.in_err-form.ensures.stop
+
+pub node_of_form-returns-in-Cut-clause-node : goal.node_of_form-returns-in-Cut-clause-node
+node_of_form-returns-in-Cut-clause-node t c = c.cut_node.ensures.node
+
+pub node_of_form-returns-in-Cut-clause-stop : goal.node_of_form-returns-in-Cut-clause-stop
+node_of_form-returns-in-Cut-clause-stop t c = c.cut_node.ensures.stop
+
+pub node_of_form-returns-in-Split-clause-node : goal.node_of_form-returns-in-Split-clause-node
+node_of_form-returns-in-Split-clause-node t c = c.split_node.ensures.node
+
+pub node_of_form-returns-in-Split-clause-stop : goal.node_of_form-returns-in-Split-clause-stop
+node_of_form-returns-in-Split-clause-stop t c = c.split_node.ensures.stop
+
+pub node_of_form-returns-in-Close-clause-node : goal.node_of_form-returns-in-Close-clause-node
+node_of_form-returns-in-Close-clause-node t c = c.close_node.ensures.node
+
+pub node_of_form-returns-in-Close-clause-stop : goal.node_of_form-returns-in-Close-clause-stop
+node_of_form-returns-in-Close-clause-stop t c = c.close_node.ensures.stop
+
+pub promised_node-returns-clause-node : goal.promised_node-returns-clause-node
+promised_node-returns-clause-node t c = c.node_of_form.ensures.node
+
+pub promised_node-returns-clause-stop : goal.promised_node-returns-clause-stop
+promised_node-returns-clause-stop t c = c.node_of_form.ensures.stop

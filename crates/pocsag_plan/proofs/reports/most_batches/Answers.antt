@@ -1,4 +1,4 @@
-use Rattle.std.proofs.Common.{◌≡◌, ℕ, ◌+◌, ◌-◌, ◌*◌, ◌/◌, ◌<◌, ◌≤◌, arith, inl, inr, subst, sym}
+use Rattle.std.proofs.Common.{◌≡◌, ℕ, ◌+◌, ◌-◌, ◌*◌, ◌/◌, arith, inl, inr, subst, sym}
 use Rattle.std.proofs.lemmas.Grind.{div_ceil_times}
 use Rattle.pocsag_words.specs.Frame.{airtime, transmission_bits}
 use Rattle.pocsag_plan.specs.Reports.{AreMostWithin, IsRate}

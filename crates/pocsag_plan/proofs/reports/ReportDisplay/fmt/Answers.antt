@@ -1,0 +1,7 @@
+use Rattle.std.proofs.Common.{append_assoc}
+use Rattle.pocsag_plan.specs.Reports.{first_lines, last_lines, line_of, report_text}
+use Rattle.pocsag_plan.proofs.reports.ReportDisplay.fmt.Goals as goal
+
+pub returns-clause-writes : goal.returns-clause-writes
+unfolding report_text first_lines last_lines line_of
+returns-clause-writes g c = λ plain ok. simp append_assoc (simp append_assoc at c.write.ensures.writes plain ok)
