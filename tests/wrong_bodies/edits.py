@@ -2,7 +2,7 @@
 
 import re
 
-from source import all_functions, function_at, functions_of, homes_of, own_name, reached, with_one_clause
+from source import all_functions, function_at, functions_of, homes_of, own_name, with_one_clause
 
 UNOFFERED = "\npub unoffered : Unoffered\nunoffered = Unoffered\n"  # fits nothing
 
@@ -29,7 +29,7 @@ class Edit:
         self.name, self.text = name, text
         self.pairs, self.function, self.clause, self.functions = [], None, None, []
         self.added = {}  # texts of files by their paths
-        self.is_alone, self.is_right = False, False
+        self.is_alone, self.is_right, self.is_copied = False, False, False
         path = old = None
         for line in text.split("\n"):
             word, _, rest = line.partition(":")
@@ -90,7 +90,7 @@ class Edit:
         copy = re.sub(rf"\bfn {own_name(function.name)}\b", f"fn {name}", copy, count=1)
         self.pairs = [(path, body, f"{body}\n\n{copy}")]
         self.functions = [function.named(name)]
-        self.function = None
+        self.function, self.is_copied = None, True
         for file in [it for it in texts if it.startswith(f"{folder}/")]:
             mine = texts[file].replace(dotted(folder), dotted(proof_folder(self.functions[0].unit)))
             self.added[proof_folder(self.functions[0].unit) + file.removeprefix(folder)] = mine
@@ -103,15 +103,10 @@ class Edit:
 
 
 def narrowed(texts, edits):
-    """The planted texts in which the contract of each function keeps, of the clauses with a name, the one that its
-    edit names, where nothing else that is checked beside it rests on the others."""
-    functions = {name: it for name, (_, it) in all_functions(texts).items()}
-    checked = {name for edit in edits for name in edit.names()}
+    """The planted texts in which the contract of each copy keeps, of the clauses with a name, the one that its edit names."""
     for edit in edits:
-        names = edit.names()
-        if edit.clause and len(names) == 1 and checked <= functions.keys() and not functions[names[0]].is_called_unnamed:
-            if own_name(names[0]) not in reached(texts, checked - {*names}):
-                texts = with_one_clause(texts, names[0], edit.clause) or texts
+        if edit.clause and edit.is_copied:
+            texts = with_one_clause(texts, edit.functions[0].name, edit.clause) or texts
     return texts
 
 

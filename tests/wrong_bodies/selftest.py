@@ -183,34 +183,29 @@ returns-clause-last c = three
 }
 
 
-def clauses_kept(clauses):
-    """The clauses that are left of each function of the small texts, where these edits are planted."""
-    edits = []
-    for name, clause in clauses:
-        edits.append(Edit(name, f"function: {name}\nclause: {clause}"))
-    texts = narrowed(SMALL, edits)
-    parts = re.split(r"fn (\w+)", texts["src/lib.rt"])
-    return {name: re.findall(r"ensures (\w+)", text) for name, text in zip(parts[1::2], parts[2::2])}, texts
-
-
 def test_narrowing(tally, _):
-    """A contract keeps one clause, beside one that says nothing, only where nothing that is checked beside the function
-    rests on the others."""
+    """An edit is planted in a copy of its function, whose contract keeps the clause that the edit names beside one that says nothing.
+    The method of a trait and a function that calls itself are changed in their place."""
     every = {"top": ["small", "whole", "last"]} | {it: ["small", "whole"] for it in ("low", "again", "other")}
-    for clauses, changed in [
-        ([("top", "whole")], {"top": ["whole", "says_nothing"]}),
-        ([("top", "small"), ("low", "whole")], {"top": ["small", "says_nothing"]}),
-        ([("low", "whole")], {"low": ["whole", "says_nothing"]}),
-        ([("low", "whole"), ("again", "whole")], {"low": ["whole", "says_nothing"]}),
-        ([("again", "whole")], {}),
-        ([("u8Other::other", "whole")], {}),
-        ([("top", "unknown")], {}),
+    for name, old, clause, kept in [
+        ("top", "low(a)\n", "whole", {"top_copy_7": ["whole", "says_nothing"]}),
+        ("low", "    a\n", "small", {"low_copy_7": ["small", "says_nothing"]}),
+        ("low", "    a\n", "unknown", {"low_copy_7": ["small", "whole"]}),
+        ("again", "{ again(a) }", "whole", {}),
+        ("other", "*self", "whole", {}),
     ]:
-        kept, _ = clauses_kept(clauses)
-        tally.check(f"narrowed by {clauses}", kept == every | changed, kept)
-    _, texts = clauses_kept([("top", "whole")])
-    left = re.findall(r"^(?:pub )?(returns\S*)", texts["proofs/top/Answers.antt"], re.M)
-    tally.check("answers for the clause alone", left == ["returns-then-clause-whole"] * 2, left)
+        edit = Edit(name, f"clause: {clause}\nfile: src/lib.rt\n")
+        edit.pairs = [("src/lib.rt", old, f"!{old}")]
+        edit.look(SMALL).copied(SMALL, 7)
+        texts = narrowed(edit.planted(SMALL)[0], [edit])
+        parts = re.split(r"fn (\w+)", texts["src/lib.rt"])
+        found = {it: re.findall(r"ensures (\w+)", text) for it, text in zip(parts[1::2], parts[2::2])}
+        tally.check(f"{name} narrowed to {clause}", found == every | kept, found)
+        if name == "top":
+            answers = texts["proofs/top_copy_7/Answers.antt"]
+            left = re.findall(r"^(?:pub )?(returns\S*)", answers, re.M)
+            tally.check("answers for the clause alone", left == ["returns-then-clause-whole"] * 2, left)
+            tally.check("answers of the copy", ".proofs.top_copy_7.Goals" in answers and "proofs.top.Goals" in texts["proofs/top/Answers.antt"], answers)
 
 
 if __name__ == "__main__":

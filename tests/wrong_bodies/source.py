@@ -20,7 +20,7 @@ class Function(typing.NamedTuple):
     first: int
     last: int
     is_shown: bool  # has a contract, so that no other function's proof looks into its body
-    is_called_unnamed: bool  # a trait's method, or one that calls itself: its contract serves more than named calls
+    is_called_unnamed: bool  # a trait's method, or one that calls itself: a copy of it would be another function
 
     def named(self, name):
         """The function under another name of its own."""
@@ -127,20 +127,6 @@ def called_in(text):
     argument. (A variable of the same name counts too.)"""
     code = re.sub(r"//.*|\bfn \w+", "", text)
     return {word for found in CALLED.finditer(code) for word in found.groups() if word}
-
-
-def reached(texts, names):
-    """The names that these functions, and all that they may call, may call."""
-    called = {}
-    for name, (path, it) in all_functions(texts).items():
-        body = "\n".join(texts[path].split("\n")[it.first:it.last + 1])
-        called.setdefault(own_name(name), set()).update(called_in(body))
-    seen, left = set(), {own_name(name) for name in names}
-    while left:
-        new = called.get(left.pop(), set()) - seen
-        seen |= new
-        left |= new
-    return seen
 
 
 def with_one_clause(texts, name, clause):
