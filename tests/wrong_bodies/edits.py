@@ -103,10 +103,12 @@ class Edit:
 
 
 def narrowed(texts, edits):
-    """The planted texts in which the contract of each copy keeps, of the clauses with a name, the one that its edit names."""
+    """The planted texts in which the contract of each copy, and of a function that is checked alone, keeps of the clauses with a
+    name the one that its edit names."""
     for edit in edits:
-        if edit.clause and edit.is_copied:
-            texts = with_one_clause(texts, edit.functions[0].name, edit.clause) or texts
+        names = edit.names()
+        if edit.clause and len(names) == 1 and (edit.is_copied or edit.is_alone):
+            texts = with_one_clause(texts, names[0], edit.clause) or texts
     return texts
 
 

@@ -133,7 +133,9 @@ def with_one_clause(texts, name, clause):
     """The texts in which the function's contract keeps, of the clauses with a name that it ensures, this one, beside one
     that says nothing, and its proof file what does not answer for the others; None where it has no such clause, or no
     other. A clause that stands alone would give its goals other names, and no answer would fit."""
-    path, function = all_functions(texts)[name]
+    path, function = all_functions(texts).get(name, (None, None))
+    if not function or function.is_called_unnamed:
+        return None
     lines, kept, removed, depth = texts[path].split("\n"), [], set(), 0
     opens = next((it for it in range(function.first, function.last) if lines[it].strip() == "{"), function.first)
     clauses = {found[1] for found in map(CLAUSE.match, lines[function.first:opens]) if found}
