@@ -22,8 +22,8 @@ class Unfit(Exception):
 
 
 class Edit:
-    """A wrong body: pairs of texts by file, and the function and the clause at which the prover must refuse it, where the edit
-    names them."""
+    """A wrong body: pairs of texts by file, and where the edit names them the function that the prover must refuse, and the clause
+    that it is tried against first."""
 
     def __init__(self, name, text):
         self.name, self.text = name, text

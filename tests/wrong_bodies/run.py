@@ -6,7 +6,8 @@
 A wrong body is a file `.edit` in crates/CRATE/must-fail or tests/wrong_bodies/CRATE: a line `file: src/x.rt`, then
 pairs of lines `old: TEXT` and `new: TEXT`, where each old text stands once in the file. The function that must be
 refused is the one around the text; a line `function: MODULE::NAME` (as the prover prints it, less the crate) names
-another, and a line `clause: NAME` the clause that it must be refused at.
+another, and a line `clause: NAME` the clause that it is tried against first; what that does not refuse is tried against
+the whole contract.
 
 The verdict on a function rests on its own body and on the contracts of what it calls. So nearly all wrong bodies of a
 crate are tried in one check of a copy of the crate, a round, each in a copy of its function beside the right one. A
