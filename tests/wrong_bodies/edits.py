@@ -2,9 +2,10 @@
 
 import re
 
-from source import all_functions, function_at, functions_of, homes_of, own_name, with_one_clause
+from source import all_functions, constant_at, function_at, functions_of, hollow, homes_of, joined, module_of, own_name, with_one_clause
 
 UNOFFERED = "\npub unoffered : Unoffered\nunoffered = Unoffered\n"  # fits nothing
+HOLE = "pub anything {ℓ} : {A : Type ℓ} → A\nanything = ?\n"  # stands for each proof that a check takes as given
 
 
 def proof_folder(unit):
@@ -75,22 +76,35 @@ class Edit:
 
     def copied(self, texts, number):
         """Plants the edit in a copy of its function that stands behind it, under a name with this number, so that any number
-        of edits of one function can be tried side by side. It stays in its place where that would not do: in the method of a
-        trait, in a function that calls itself or has a proof of its own, and where it changes more than one function."""
-        function = self.functions[0] if len(self.functions) == 1 and not self.is_alone else None
-        if not function or function.is_called_unnamed or self.function not in (None, function.name):
-            return
-        path, folder = self.pairs[0][0], proof_folder(function.unit)
+        of edits of one function can be tried side by side; one of a constant in a copy of the constant, for a copy of the function
+        that must be refused. It stays in its place where that would not do: in the method of a trait, in a function that calls
+        itself or has a proof of its own, where it changes more than one function, and where the function does not name the constant."""
+        if len(self.functions) == 1 and not self.is_alone and self.function in (None, self.functions[0].name):
+            self.copy(texts, number, self.pairs[0][0], self.functions[0], [(old, new) for _, old, new in self.pairs])
+        elif len(self.pairs) == 1 and not self.functions:
+            path, old, new = self.pairs[0]
+            name, item = constant_at(texts[path], texts[path].partition(old)[0].count("\n")) or (None, "")
+            place, function = all_functions(texts).get(self.function, (None, None))
+            if name and function and old in item:
+                other = f"{name}_COPY_{number}"
+                copy = re.sub(rf"\b{name}\b", other, item.replace(old, new), count=1)
+                named = other if place == path else joined("crate", module_of(path), other)
+                self.copy(texts, number, place, function, [(name, named)], [(path, item, f"{item}\n\n{copy}")])
+
+    def copy(self, texts, number, path, function, pairs, beside=()):
+        """Plants a copy of a function in which each first text of these pairs has become the second, and other pairs beside it, where a
+        copy can be made."""
+        folder, name = proof_folder(function.unit), f"{own_name(function.name)}_copy_{number}"
         body = "\n".join(texts[path].split("\n")[function.first:function.last + 1])
-        if f"{folder}/Proof.antt" in texts or any(old not in body for _, old, _ in self.pairs):
+        if function.is_called_unnamed or f"{folder}/Proof.antt" in texts or any(old not in body for old, _ in pairs):
             return
-        name, copy = f"{own_name(function.name)}_copy_{number}", body
-        for _, old, new in self.pairs:
+        copy = body
+        for old, new in pairs:
             copy = copy.replace(old, new)
         copy = re.sub(rf"\bfn {own_name(function.name)}\b", f"fn {name}", copy, count=1)
-        self.pairs = [(path, body, f"{body}\n\n{copy}")]
+        self.pairs = [*beside, (path, body, f"{body}\n\n{copy}")]
         self.functions = [function.named(name)]
-        self.function, self.is_copied = None, True
+        self.function, self.is_alone, self.is_copied = None, False, True
         for file in [it for it in texts if it.startswith(f"{folder}/")]:
             mine = texts[file].replace(dotted(folder), dotted(proof_folder(self.functions[0].unit)))
             self.added[proof_folder(self.functions[0].unit) + file.removeprefix(folder)] = mine
@@ -121,6 +135,25 @@ def unoffered(texts, edits):
         folder = proof_folder(unit)
         if f"{folder}/Proof.antt" not in texts:
             texts[f"{folder}/Answers.antt"] = texts.get(f"{folder}/Answers.antt", "") + UNOFFERED
+    return texts
+
+
+def given(texts, crate, edits):
+    """The planted texts in which each function that need not be refused has an empty body and a hole for a proof: the verdict on a
+    function rests on the contracts of what it calls, and whether those are met is another check's matter."""
+    functions = all_functions(texts)
+    tried = {functions[name][1].unit for edit in edits for name in edit.names() if name in functions}
+    root, proofs = "proofs/Lib.antt", f"Rattle.{crate}.proofs."
+    texts = {**texts, "proofs/Anything.antt": HOLE, root: texts.get(root, "") + "\npub mod Anything\n"}
+    for name, (path, function) in reversed(functions.items()):
+        if function.unit not in tried:
+            texts[path], own = hollow(texts[path], function), own_name(name)
+            for unit in (function.unit, joined(module_of(path), f"+{own}")):  # the latter where it calls itself alone
+                for file in ("Answers", "Invariants"):
+                    texts.pop(f"{proof_folder(unit)}/{file}.antt", None)
+            texts[f"{proof_folder(name)}/Proof.antt"] = (
+                f"use {proofs}{name.replace('::', '.')}.Statement.{{statement}}\nuse {proofs}Anything.{{anything}}\n\n"
+                f"pub {own}_spec : {{M : Type 1}} → statement M\n{own}_spec = anything\n")
     return texts
 
 

@@ -16,6 +16,7 @@ MINUTES = 40  # the longest that one check may take
 CHECKED = re.compile(r"checked \w+?::(\S+), \d+ of \d+")
 STATUS = re.compile(r"fn \w+?::(\S+): (.*)")
 PLACE = re.compile(r"(?:note: )?(?:\./)?((?:src|specs|proofs)/\S+?):(\d+):\d+: (.*)")
+PROVED = re.compile(r"proved|no holes|depends on a hole in .*")  # the latter two where a check may meet holes
 OWN = re.compile(r"not proved|no proof: (?!it calls|it passes|a call of)")
 SEARCHED = re.compile(r"`search` did not prove (`.*)")
 CLAUSE = re.compile(r"`(?:\w+-)?returns")  # the name of a goal that a clause asks for; in a cycle behind a function's
@@ -129,8 +130,10 @@ class Room:
     """A folder with a copy of the crate and of what stands below it, with what their proofs left."""
 
     def __init__(self, crate, below, top):
-        self.kept, self.folder = crate.folder / "out/incremental", pathlib.Path(top) / "crates" / crate.path
+        self.crate, self.folder, kept = crate.name, pathlib.Path(top) / "crates" / crate.path, crate.folder / "out/incremental"
         (self.folder / "out").mkdir(parents=True)
+        if kept.is_dir():
+            copy_kept(kept, self.folder / "out/incremental")
         (pathlib.Path(top) / "crates.txt").write_text("".join(f"{it.line}\n" for it in [*below, crate]))
         for it in below:
             for part in (*PARTS, "out/rlib"):
@@ -142,17 +145,14 @@ class Room:
         self.words = kit.check_words(self.folder)
 
     def check(self, texts, only=()):
-        """Checks the copy with these texts of its sources, the whole crate or these functions and what they call, over what
-        the crate's own proof left; where it left nothing, as under `rt ci`, over what the last check of the copy did."""
+        """Checks the copy with these texts of its sources, over what the last check of the copy left: the whole crate, or these functions
+        and what they call, which may have holes for proofs."""
         for part in PARTS:
             shutil.rmtree(self.folder / part, ignore_errors=True)
-        if self.kept.is_dir():
-            shutil.rmtree(self.folder / "out/incremental", ignore_errors=True)
-            copy_kept(self.kept, self.folder / "out/incremental")
         for path, text in texts.items():
             (self.folder / path).parent.mkdir(parents=True, exist_ok=True)
             (self.folder / path).write_text(text)
-        words = [*self.words, *(word for name in only for word in ("--only", name))]
+        words = [*self.words, *(["--allow-holes"] if only else []), *(word for name in only for word in ("--only", name))]
         how = {"cwd": self.folder, "stdin": subprocess.DEVNULL, "stdout": subprocess.PIPE, "stderr": subprocess.STDOUT}
         try:
             said = subprocess.run(words, timeout=60 * MINUTES, encoding="utf-8", errors="replace", **how).stdout

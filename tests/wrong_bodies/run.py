@@ -10,11 +10,12 @@ another, and a line `clause: NAME` the clause that it is tried against first; wh
 the whole contract.
 
 The verdict on a function rests on its own body and on the contracts of what it calls. So nearly all wrong bodies of a
-crate are tried in one check of a copy of the crate, a round, each in a copy of its function beside the right one. A
-method of a trait and a function that calls itself are changed in their place, and hold one in a round. A wrong body
-counts as refused where a goal of its own function stays open, and not because a proof file no longer fits. What is not
-refused in its round is tried alone. What others may see, and no named function is refused for, has a round of its own.
-A round also holds a change that is right, which must be proved.
+crate are tried in one check of a copy of the crate, a round, each in a copy of its function beside the right one, where
+all other functions have an empty body and a hole for a proof. A method of a trait and a function that calls itself are
+changed in their place, and hold one in a round. A wrong body counts as refused where a goal of its own function stays
+open, and not because a proof file no longer fits. What is not refused in its round is tried alone, in the crate as it is.
+What others may see, and no named function is refused for, has a round of its own. A round also holds a change that is
+right, which must be proved.
 
 A wrong body that was refused is not tried again until it, its crate, what that stands on, the toolchain or these
 scripts change: out/mutations keeps what was said. The last line is 'N passed, M failed'; the status is 0 where M is 0.
@@ -34,8 +35,8 @@ HERE = pathlib.Path(__file__).resolve().parent
 sys.path[:0] = [str(HERE), str(HERE.parent), str(HERE.parents[1] / "tools")]
 import lanes
 import workspace
-from edits import narrowed, read_edits, rounds_of, unoffered
-from prover import Room
+from edits import given, narrowed, read_edits, rounds_of, unoffered
+from prover import PROVED, Room
 from tally import TOP, Tally
 
 
@@ -86,7 +87,7 @@ def judged(seen, edit, is_alone):
     if edit.is_right:
         name = edit.functions[0].name
         status = seen.said.statuses.get(name, "not there") if name in seen.said.checked else "not checked anew"
-        return Verdict(status == "proved", f"{name}: {status}")
+        return Verdict(bool(PROVED.fullmatch(status)), f"{name}: {status}")
     named = seen.by_name(edit.function) if edit.function else None
     if edit.function and not named:
         return Verdict(False, f"BAD EDIT: no function is named {edit.function}")
@@ -111,7 +112,7 @@ def tried(room, edits, texts, is_whole=False):
         planted = edit.planted(planted)[0]
     names = [] if is_whole or not all(edit.names() for edit in edits) else [name for edit in edits for name in edit.names()]
     if names:
-        planted = unoffered(narrowed(planted, edits), edits)
+        planted = given(unoffered(narrowed(planted, edits), edits), room.crate, edits)
     seen = room.check(planted, names)
     if seen.said.has_verdict:
         return {it: judged(seen, it, len(edits) == 1) for it in edits}

@@ -4,7 +4,8 @@
   python3 tests/wrong_bodies/selftest.py             without the prover: each wrong body can be planted; with a prover that
                                                      is played, a body that spoils its round is found by halving, and what
                                                      was refused is kept until something changes; contracts are narrowed
-                                                     to the clause that is to be refused
+                                                     to the clause that is to be refused, and what need not be refused
+                                                     is emptied
   python3 tests/wrong_bodies/selftest.py --prover    with the prover: among wrong bodies of pocsag_text stand a body that is
                                                      right, one that does not compile and one that only no longer fits its
                                                      proof file, and are reported by name
@@ -19,7 +20,7 @@ import sys
 sys.dont_write_bytecode = True
 sys.path[:0] = [str(pathlib.Path(__file__).resolve().parent), str(pathlib.Path(__file__).resolve().parents[1])]
 import run
-from edits import Edit, narrowed
+from edits import Edit, given, narrowed
 from prover import Planted, Said
 from source import functions_of
 from tally import run_parts
@@ -66,7 +67,7 @@ def test_fit(tally, _):
 class Played:
     """A prover that is played: it refuses each body with `wrong` in it, and ends in silence at one with `broken`."""
 
-    checks = 0
+    checks, crate = 0, "played"
 
     def __init__(self, *_):
         pass
@@ -133,7 +134,11 @@ def test_kept(tally, top):
 
 
 SMALL = {
-    "src/lib.rt": """/// Calls `low`.
+    "src/lib.rt": """/// What `low` adds.
+pub const MORE: u8 =
+    0;
+
+/// Calls `low`.
 fn top(a: u8) -> u8
     // What it gives.
     ensures small { result ≤ a }
@@ -148,9 +153,10 @@ fn low(a: u8) -> u8
     ensures small { result ≤ a }
     ensures whole { result ≡ a }
 {
-    a
+    a + MORE
 }
 
+#[cycle(again)]
 fn again(a: u8) -> u8
     ensures small { result ≤ a }
     ensures whole { result ≡ a }
@@ -189,8 +195,8 @@ def test_narrowing(tally, _):
     every = {"top": ["small", "whole", "last"]} | {it: ["small", "whole"] for it in ("low", "again", "other")}
     for name, old, clause, kept in [
         ("top", "low(a)\n", "whole", {"top_copy_7": ["whole", "says_nothing"]}),
-        ("low", "    a\n", "small", {"low_copy_7": ["small", "says_nothing"]}),
-        ("low", "    a\n", "unknown", {"low_copy_7": ["small", "whole"]}),
+        ("low", "    a +", "small", {"low_copy_7": ["small", "says_nothing"]}),
+        ("low", "    a +", "unknown", {"low_copy_7": ["small", "whole"]}),
         ("again", "{ again(a) }", "whole", {}),
         ("other", "*self", "whole", {}),
     ]:
@@ -208,6 +214,21 @@ def test_narrowing(tally, _):
             tally.check("answers of the copy", ".proofs.top_copy_7.Goals" in answers and "proofs.top.Goals" in texts["proofs/top/Answers.antt"], answers)
 
 
+def test_copies(tally, _):
+    """An edit of a constant is planted in a copy of it, for a copy of the function that it names. All other functions are emptied, and have
+    a hole for a proof."""
+    edit = Edit("more", "function: low\nfile: src/lib.rt\nold:     0;\nnew:     1;\n")
+    edit.look(SMALL).copied(SMALL, 7)
+    texts = given(edit.planted(SMALL)[0], "small", [edit])
+    text, holes = texts["src/lib.rt"], sorted(it for it in texts if it.endswith("/Proof.antt"))
+    tally.check("a copy of the constant", "0;\n\npub const MORE_COPY_7: u8 =\n    1;\n" in text, text)
+    tally.check("which a copy of the function names", text.count("    a + MORE_COPY_7\n") == 1 and "a + MORE\n" not in text, text)
+    tally.check("the others are empty", text.count("{\n    loop {}\n}") == 3 and text.count("    {\n        loop {}\n    }") == 1, text)
+    tally.check("and call nothing", "again(" not in text.replace("fn again(", "") and "#[cycle" not in text, text)
+    tally.check("a hole for each", holes == [f"proofs/{it}/Proof.antt" for it in ("again", "low", "top", "u8Other/other")], holes)
+    tally.check("and no answers", "proofs/top/Answers.antt" not in texts, [*texts])
+
+
 if __name__ == "__main__":
-    parts = [test_rounds] if "--prover" in sys.argv else [test_fit, test_narrowing, test_halving, test_kept]
+    parts = [test_rounds] if "--prover" in sys.argv else [test_fit, test_narrowing, test_copies, test_halving, test_kept]
     sys.exit(run_parts(*parts))

@@ -5,6 +5,7 @@ import typing
 
 CLAUSE = re.compile(r" *ensures (\w+) \{")
 HEAD = re.compile(r"( *)(?:pub(?:\([^)]*\))? )?(?:const |unsafe |extern \"C\" )*fn (\w+)")
+CONSTANT = re.compile(r"(?:pub(?:\([^)]*\))? )?const (\w+):")
 TYPE = re.compile(r"^(?:pub(?:\([^)]*\))? )?(?:struct|enum) (\w+)", re.MULTILINE)
 CALLED = re.compile(r"(\w+)(?=\s*(?:\(|::<))|(?<=::)(\w+)|(?<=[(,])\s*(\w+)(?=\s*[,)])")
 CYCLE = re.compile(r"#\[cycle\((\w+)\)\]")
@@ -66,7 +67,7 @@ def owner_of(header, module, homes):
     if not is_for:
         return joined(homes.get(name, module), name)
     trait, _, arguments = of_trait.partition("<")
-    inner = [without_arguments(it) for it in re.split(r",(?![^<]*>)", arguments.rstrip("> "))]
+    inner = [without_arguments(it) for it in re.split(r",(?![^<]*>)", arguments.rstrip().removesuffix(">"))]
     return joined(module, name + trait.strip() + "".join(inner))
 
 
@@ -105,7 +106,8 @@ def functions_of(path, text, homes):
         cycle = CYCLE.search("\n".join(lines[first:number]))
         unit = joined(module, "+" + cycle[1]) if cycle else name
         is_shown = of_trait or "ensures" in "\n".join(lines[number:last])
-        calls_itself = cycle or head[2] in called_in("\n".join(lines[number + 1:last]))
+        opens = next((it for it in range(number, last) if lines[it].strip() == "{"), number)
+        calls_itself = cycle or head[2] in called_in("\n".join(lines[opens + 1:last]))
         found.append(Function(name, unit, first, last, is_shown, bool(of_trait or calls_itself)))
     return found
 
@@ -113,6 +115,28 @@ def functions_of(path, text, homes):
 def function_at(functions, line):
     """The function at a line, from 0, or None."""
     return next((it for it in functions if it.first <= line <= it.last), None)
+
+
+def constant_at(text, line):
+    """The name and the text of the constant at a line of a file, from 0, or None."""
+    lines = text.split("\n")
+    first = next((it for it in range(line, -1, -1) if not lines[it].startswith((" ", "}"))), line)
+    last = next((it for it in range(first, len(lines)) if lines[it].endswith(";")), -1)
+    found = CONSTANT.match(lines[first])
+    return (found[1], "\n".join(lines[first:last + 1])) if found and line <= last else None
+
+
+def hollow(text, function):
+    """A file's text in which the function's body does nothing, and calls nothing."""
+    lines = text.split("\n")
+    head = next(it for it in range(function.first, function.last + 1) if HEAD.match(lines[it]))
+    indent = HEAD.match(lines[head])[1]
+    notes = [it for it in lines[function.first:head] if not CYCLE.search(it)]
+    opening = [it for it in range(head, function.last) if lines[it] == indent + "{"] \
+        or [it for it in range(head, function.last + 1) if lines[it].endswith(("{", "}"))]
+    top, bracket, _ = lines[opening[0]].rpartition("{")
+    lines[function.first:function.last + 1] = [*notes, *lines[head:opening[0]], top + bracket, f"{indent}    loop {{}}", indent + "}"]
+    return "\n".join(lines)
 
 
 def all_functions(texts):

@@ -26,6 +26,10 @@ pub bound_tree_of-split : (t : Tree) (class m : ℕ) (below above : Box Tree) �
 bound_tree_of-split t class m below above is =
     ap bound_tree_of (is ∙ sym (rolls-Split class m below above)) ∙ fold-roll-Tree BoundTree bound_step (layer.Split class m below above)
 
+pub split_seen : (class m : ℕ) (below above : Box Tree) (first second : Tree) → below.value ≡ first → above.value ≡ second
+    → bound_tree_of (Split class m below above) ≡ split class m (bound_tree_of first) (bound_tree_of second)
+split_seen class m below above first second p q = rw (← p, ← q) (bound_tree_of-split _ class m below above refl)
+
 -- the text of a node with children: its head, and the texts of the children
 pub split_text : (t : Tree) (class m : ℕ) (below above : Box Tree) → t ≡ Split class m below above
     → node (bound_tree_of t) ≡ split_head class m ++ (node (bound_tree_of below.value) ++ node (bound_tree_of above.value))

@@ -1,5 +1,5 @@
 -- What reading the whole of the bytes says of the answer.
-use Rattle.pocsag_tree.proofs.Prelude.{◌≡◌, ℕ, ◌⊎◌, inl, inr, List, [], ◌∷◌, ◌++◌, Some, None, Result, Ok, Err, refl, sym, ap, subst, ◌∙◌, End, CertificateFault, BoundTree, bound_tree_of, IsText, Fails, end_at, certificate_at, all_of}
+use Rattle.pocsag_tree.proofs.Prelude.{◌≡◌, ℕ, ◌⊎◌, inl, inr, List, [], ◌∷◌, ◌++◌, Some, None, Result, Ok, Err, refl, sym, ap, subst, ◌∙◌, End, CertificateFault, BoundTree, bound_tree_of, IsText, Fails, but_last, end_at, certificate_at, all_of}
 use Rattle.std.specs.Prelude.{IfOk, IfErr}
 use Rattle.std.proofs.lemmas.List.{append-nil}
 use Rattle.pocsag_tree.specs.declared.shape.Certificate.{Certificate}
@@ -8,6 +8,7 @@ use Rattle.pocsag_tree.specs.Parts.{HasFirst}
 use Rattle.pocsag_tree.specs.Answers.{IsRefusal, AnswersTriple, AnswersFault, IsFault, HasNoFault}
 use Rattle.pocsag_tree.specs.Parser.{Gives, IsWanting}
 use Rattle.pocsag_tree.proofs.Fields.{bind_ok, ok_is}
+use Rattle.pocsag_tree.proofs.Fronts.{but_last_none}
 use Rattle.pocsag_tree.proofs.Rows.{fails_along}
 use Rattle.pocsag_tree.proofs.Texts.{certificate_takes, certificate_again}
 use Rattle.pocsag_tree.proofs.Verdicts.{HasVerdict, all_verdict, one_verdict}
@@ -55,7 +56,21 @@ fails_is fault.TooMany read h = inr (h, λ no. cc)
 pub all_ends : (e : CertificateFault) (bytes rest : List ℕ) (end : End) (batches : ℕ) (tree : BoundTree)
     → certificate_at bytes ≡ Ok (end, batches, tree, rest) → Fails e ⊥ (end_at rest) → Fails e ⊥ (all_of bytes)
 unfolding all_of
-all_ends e bytes rest end batches tree read h = fails_along e ⊥ (end_at rest) (all_of bytes) (λ f is. rw (read, is) refl) h
+all_ends e bytes rest end batches tree read h =
+    fails_along e ⊥ ⊥ (end_at rest) (all_of bytes) (λ no. no) (λ f is. rw (read, is) refl) h
+
+-- a fault of a certificate is the fault of the whole
+pub all_stops : (e : CertificateFault) (stopped : Type 0) (bytes : List ℕ) → Fails e stopped (certificate_at (but_last 0 bytes))
+    → Fails e ⊥ (all_of bytes)
+unfolding all_of
+all_stops e stopped bytes h =
+    fails_along e stopped ⊥ (certificate_at bytes) (all_of bytes) (λ no. absurd no) (λ f is. rw is refl) (rw but_last_none at h)
+
+-- a certificate, and the end behind it
+pub all_reads : (bytes rest : List ℕ) (end : End) (batches : ℕ) (tree : BoundTree)
+    → certificate_at (but_last 0 bytes) ≡ Ok (end, batches, tree, but_last 0 rest) → end_at rest ≡ Ok tt → all_of bytes ≡ Ok (end, batches, tree)
+unfolding all_of
+all_reads bytes rest end batches tree read over = rw (rw (but_last_none bytes, but_last_none rest) at read, over) refl
 
 -- reading, as the functions of the code say it
 abbrev pub IsGiven : Result Certificate CertificateFault → List ℕ → Type 0

@@ -1,6 +1,7 @@
 -- Reading one child after the other, as a loop does.
-use Rattle.pocsag_tree.proofs.Prelude.{◌≡◌, ℕ, suc, ◌-◌, ◌+◌, ◌≤◌, ◌<◌, max, List, [], ◌∷◌, ◌++◌, map, Result, Ok, Err, refl, sym, ap, ◌∙◌, arith, CertificateFault, Tree, BoundTree, BoundTrees, none, more, all_nodes, all_nodes_in, depth_of, deepest, bound_tree_of, bounds_of, ◌>>=◌, Fails, Read, Reader, row_at}
+use Rattle.pocsag_tree.proofs.Prelude.{◌≡◌, ℕ, suc, ◌-◌, ◌+◌, ◌≤◌, ◌<◌, max, List, [], ◌∷◌, ◌++◌, map, Result, Ok, Err, refl, sym, ap, ◌∙◌, arith, CertificateFault, Tree, BoundTree, BoundTrees, none, more, all_nodes, all_nodes_in, depth_of, deepest, bound_tree_of, bounds_of, but_last, length, ◌>>=◌, Fails, Read, Reader, row_at}
 use Rattle.pocsag_tree.specs.declared.refusals.CertificateFault.TheVariants as fault
+use Rattle.pocsag_tree.specs.Parser.{ReadsBy, node_then}
 use Rattle.pocsag_tree.specs.Views.{bounds_from}
 
 -- the trees, and then the row
@@ -49,25 +50,55 @@ row_fails e child front count i made bytes total lt h so_far =
     sym so_far ∙ one
 
 -- where a fault of one reading is the fault of another, so is what a function returned
-pub fails_along : {A B : Type 0} (e : CertificateFault) (stopped : Type 0) (r : Result A CertificateFault) (s : Result B CertificateFault)
-    → ((f : CertificateFault) → r ≡ Err f → s ≡ Err f) → Fails e stopped r → Fails e stopped s
-fails_along fault.ReadFault stopped r s along h = λ here. along fault.Truncated (h here)
-fails_along fault.OutOfMemory stopped r s along h = λ here. along fault.Truncated (h here)
-fails_along fault.NotCertificate stopped r s along h = along fault.NotCertificate h
-fails_along fault.Version stopped r s along h = along fault.Version h
-fails_along fault.Truncated stopped r s along h = along fault.Truncated h
-fails_along fault.Trailing stopped r s along h = along fault.Trailing h
-fails_along fault.BadTag stopped r s along h = along fault.BadTag h
-fails_along fault.BadField stopped r s along h = along fault.BadField h
-fails_along fault.TooDeep stopped r s along h = along fault.TooDeep h
-fails_along fault.TooMany stopped r s along h = along fault.TooMany h
+pub fails_along : {A B : Type 0} (e : CertificateFault) (stopped here : Type 0) (r : Result A CertificateFault) (s : Result B CertificateFault)
+    → (here → stopped) → ((f : CertificateFault) → r ≡ Err f → s ≡ Err f) → Fails e stopped r → Fails e here s
+fails_along fault.ReadFault stopped here r s so along h = λ now. along fault.Truncated (h (so now))
+fails_along fault.OutOfMemory stopped here r s so along h = λ now. along fault.Truncated (h (so now))
+fails_along fault.NotCertificate stopped here r s so along h = along fault.NotCertificate h
+fails_along fault.Version stopped here r s so along h = along fault.Version h
+fails_along fault.Truncated stopped here r s so along h = along fault.Truncated h
+fails_along fault.Trailing stopped here r s so along h = along fault.Trailing h
+fails_along fault.BadTag stopped here r s so along h = along fault.BadTag h
+fails_along fault.BadField stopped here r s so along h = along fault.BadField h
+fails_along fault.TooDeep stopped here r s so along h = along fault.TooDeep h
+fails_along fault.TooMany stopped here r s so along h = along fault.TooMany h
+
+-- a step that was read, and then what reads on behind it
+pub reads_on : {X Y Z W : Type 0} (first : List ℕ → Result Y CertificateFault) (next : Y → Result W CertificateFault)
+    (seen : X → List ℕ → Y) (view : Z → List ℕ → W) (x : X) (r : Result Z CertificateFault) (before middle after : List ℕ)
+    → ReadsBy first seen (Ok x) before middle → ReadsBy (λ bytes. next (seen x bytes)) view r middle after
+    → ReadsBy (λ bytes. first bytes >>= next) view r before after
+reads_on first next seen view x r before middle after p q = record {
+  shrinks = omega (arith, p.shrinks, q.shrinks);
+  bytes = λ k le. rw (p.bytes k (omega (arith, le, q.shrinks))) (q.bytes k le);
+}
+
+-- a step that stops reading
+pub reads_no_further : {X Y Z W : Type 0} (first : List ℕ → Result Y CertificateFault) (next : Y → Result W CertificateFault)
+    (seen : X → List ℕ → Y) (view : Z → List ℕ → W) (e : CertificateFault) (before after : List ℕ)
+    → ReadsBy first seen (Err e) before after → ReadsBy (λ bytes. first bytes >>= next) view (Err e) before after
+reads_no_further first next seen view e before after p = record {
+  shrinks = p.shrinks;
+  bytes = λ k le.
+      fails_along e (k ≡ length after) (k ≡ length after) (first (but_last k before)) (first (but_last k before) >>= next) (λ now. now)
+      (λ f is. rw is refl) (p.bytes k le);
+}
+
+-- what reads no byte
+pub reads_none : {Z W : Type 0} (view : Z → List ℕ → W) (z : Z) (bytes : List ℕ) → ReadsBy (λ rest. Ok (view z rest)) view (Ok z) bytes bytes
+reads_none view z bytes = record { shrinks = omega arith; bytes = λ k le. refl }
+
+-- a tree that was read is that which its view is
+pub reads_tree : (t : Tree) (seen : BoundTree) (made : ℕ) (bytes : List ℕ) → bound_tree_of t ≡ seen
+    → ReadsBy (λ rest. Ok (seen, made, rest)) node_then (Ok (t, made)) bytes bytes
+reads_tree t seen made bytes is = record { shrinks = omega arith; bytes = λ k le. rw is refl }
 
 pub row_ends : (e : CertificateFault) (stopped : Type 0) (child : Reader) (front : List BoundTree) (count i made : ℕ) (bytes : List ℕ)
     (total : Result (Read BoundTrees) CertificateFault)
     → i < count → Fails e stopped (child made bytes)
     → with_front front (row_at child (count - i) made bytes) ≡ total → Fails e stopped total
 row_ends e stopped child front count i made bytes total lt h so_far =
-    fails_along e stopped (child made bytes) total (λ f is. row_fails f child front count i made bytes total lt is so_far) h
+    fails_along e stopped stopped (child made bytes) total (λ now. now) (λ f is. row_fails f child front count i made bytes total lt is so_far) h
 
 pub row_is_done : (child : Reader) (front : List BoundTree) (count i made : ℕ) (bytes : List ℕ) (total : Result (Read BoundTrees) CertificateFault)
     → count ≤ i → with_front front (row_at child (count - i) made bytes) ≡ total → total ≡ Ok (bounds_from front, made, bytes)

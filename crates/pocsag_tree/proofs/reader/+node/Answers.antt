@@ -1,10 +1,11 @@
-use Rattle.pocsag_tree.proofs.Prelude.{◌≡◌, ◌∷◌, [], ◌++◌, ◌≤◌, ℕ, List, length, map, refl, arith, err_from_is_err_and, all_nodes_in, deepest, bound_tree_of, bounds_of, but_last, node_at}
+use Rattle.pocsag_tree.proofs.Prelude.{◌≡◌, ◌∷◌, [], ◌++◌, ◌≤◌, ℕ, List, length, map, refl, arith, err_from_is_err_and, all_nodes_in, deepest, bound_tree_of, bounds_of, but_last, close_at, cut_at, node_at, split_at}
 use Rattle.std.proofs.Common.{rules}
 use Rattle.std.proofs.lemmas.List.{map_push}
 use Rattle.pocsag_tree.specs.declared.refusals.CertificateFault.TheVariants as fault
+use Rattle.pocsag_tree.proofs.Counts.{bound_tree_of-close, bound_tree_of-cut, split_seen}
 use Rattle.pocsag_tree.proofs.Early.{node_is_early, node_stands, node_ends, told, row_is_early, row_ends_early, split_fails}
 use Rattle.pocsag_tree.proofs.Fronts.{but_last_all}
-use Rattle.pocsag_tree.proofs.Rows.{row_starts, row_goes_on, row_ends, row_is_done, nodes-push, deepest-push}
+use Rattle.pocsag_tree.proofs.Rows.{reads_on, reads_no_further, reads_tree, row_starts, row_goes_on, row_ends, row_is_done, nodes-push, deepest-push}
 use Rattle.pocsag_tree.proofs.reader.+node.Goals as goal
 
 pub node-returns-clause-reads : goal.node-returns-clause-reads
@@ -136,3 +137,58 @@ split-returns-in_err-below-clause-reads g t c = λ tells.
           (class.bytes k longer) (m.bytes k le)
           (rw (but_last_all k held here) (node_ends c.args.builder.ranges c.args.depth c.args.made fine.0 fine.1)));
     }
+
+-- ---- the other exits, by their steps
+
+pub split-returns-in_err-tree-clause-reads : goal.split-returns-in_err-tree-clause-reads
+unfolding split_at
+split-returns-in_err-tree-clause-reads g t c = λ tells.
+    let p = err_from_is_err_and c.from_residual-in_err-tree.result c.from_residual-in_err-tree.ensures.1 in
+    rw (p.1, p.2)
+    (reads_on _ _ _ _ _ _ _ _ _ (c.in_ok-class.ensures.reads tells)
+    (reads_on _ _ _ _ _ _ _ _ _ (c.in_ok-m.ensures.reads tells)
+    (reads_no_further _ _ _ _ _ _ _ (c.in_err-tree.ensures.reads tells))))
+
+pub split-returns-in_err-tree-2-clause-reads : goal.split-returns-in_err-tree-2-clause-reads
+unfolding split_at
+split-returns-in_err-tree-2-clause-reads g t c = λ tells.
+    let p = err_from_is_err_and c.from_residual-in_err-tree-2.result c.from_residual-in_err-tree-2.ensures.1 in
+    rw (p.1, p.2)
+    (reads_on _ _ _ _ _ _ _ _ _ (c.in_ok-class.ensures.reads tells)
+    (reads_on _ _ _ _ _ _ _ _ _ (c.in_ok-m.ensures.reads tells)
+    (reads_on _ _ _ _ _ _ _ _ _ (c.in_ok-tree.ensures.reads tells)
+    (reads_no_further _ _ _ _ _ _ _ (c.in_err-tree-2.ensures.reads tells)))))
+
+pub split-returns-clause-reads : goal.split-returns-clause-reads
+unfolding split_at
+split-returns-clause-reads g t c = λ tells.
+    reads_on _ _ _ _ _ _ _ _ _ (c.in_ok-class.ensures.reads tells)
+    (reads_on _ _ _ _ _ _ _ _ _ (c.in_ok-m.ensures.reads tells)
+    (reads_on _ _ _ _ _ _ _ _ _ (c.in_ok-tree.ensures.reads tells)
+    (reads_on _ _ _ _ _ _ _ _ _ (c.in_ok-tree-2.ensures.reads tells)
+    (reads_tree _ _ _ _ (split_seen _ _ _ _ c.in_ok-tree.tree c.in_ok-tree-2.tree (search rules) (search rules))))))
+
+pub cut-returns-in_err-children-clause-reads : goal.cut-returns-in_err-children-clause-reads
+unfolding cut_at
+cut-returns-in_err-children-clause-reads g t c = λ tells.
+    let p = err_from_is_err_and c.from_residual-in_err-children.result c.from_residual-in_err-children.ensures.1 in
+    rw (p.1, p.2)
+    (reads_on _ _ _ _ _ _ _ _ _ (c.in_ok-set.ensures.reads tells)
+    (reads_on _ _ _ _ _ _ _ _ _ (c.in_ok-needed.ensures.reads tells)
+    (reads_on _ _ _ _ _ _ _ _ _ (c.in_ok-count.ensures.reads tells)
+    (reads_no_further _ _ _ _ _ _ _ (c.in_err-children.ensures.reads tells)))))
+
+pub cut-returns-clause-reads : goal.cut-returns-clause-reads
+unfolding cut_at
+cut-returns-clause-reads g t c = λ tells.
+    reads_on _ _ _ _ _ _ _ _ _ (c.in_ok-set.ensures.reads tells)
+    (reads_on _ _ _ _ _ _ _ _ _ (c.in_ok-needed.ensures.reads tells)
+    (reads_on _ _ _ _ _ _ _ _ _ (c.in_ok-count.ensures.reads tells)
+    (reads_on _ _ _ _ _ _ _ _ _ (c.in_ok-children.ensures.reads tells) (reads_tree _ _ _ _ (bound_tree_of-cut _ _ _ _ refl)))))
+
+pub close-returns-clause-reads : goal.close-returns-clause-reads
+unfolding close_at
+close-returns-clause-reads g t c = λ tells.
+    let children = rw c.from.ensures at (c.in_ok-children.ensures.reads tells) in
+    reads_on _ _ _ _ _ _ _ _ _ (c.in_ok-count.ensures.reads tells)
+    (reads_on _ _ _ _ _ _ _ _ _ children (reads_tree _ _ _ _ (bound_tree_of-close _ _ refl)))

@@ -1,10 +1,10 @@
 use Rattle.std.proofs.Common.{◌≡◌, ℕ, ◌≤◌, List, [], ◌∷◌, ◌++◌, length, get_or, take, refl, sym, ap, ◌∙◌, arith}
 use Rattle.std.specs.Int.{from_be_bytes, w32}
-use Rattle.std.proofs.lemmas.List.{length-take-le}
+use Rattle.std.proofs.lemmas.List.{length-take-le, nil_from_length}
 use Rattle.std.proofs.lemmas.Result.{err_from_is_err_and}
 use Rattle.pocsag_pages.specs.Bytes.{words_of}
 use Rattle.pocsag_decode.specs.Carried.{carried}
-use Rattle.pocsag_decode.proofs.Words.{first_four, first_one, front_and_tail, word_more, refused_more, taken, not_taken}
+use Rattle.pocsag_decode.proofs.Words.{first_four, first_one, front_and_tail, word_more, refused_more, taken, not_taken, taking_last}
 use Rattle.pocsag_decode.proofs.body.Body.take.Goals as goal
 
 pub loop-rest-preserved-in-None-1 : goal.loop-rest-preserved-in-None-1
@@ -56,3 +56,6 @@ returns-in_err-take_byte-clause-bad c =
     rw (p.1, p.2)
     (not_taken _ _ _ _ _ _ c.loop-rest.invariant (front_and_tail 1 rest (get_or rest 0 0 ∷ []) (first_one rest c.in-len1-up.len_at_least)) _
     c.in_err-take_byte.ensures.bad)
+
+pub returns-clause-stands : goal.returns-clause-stands
+returns-clause-stands c = taking_last _ _ _ _ (nil_from_length _ (omega arith)) c.loop-rest.invariant
