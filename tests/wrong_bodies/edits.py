@@ -67,7 +67,7 @@ class Edit:
             function = function_at(functions_of(path, text, homes), line)
             if function:
                 found[function.unit] = function
-            if function and not function.is_shown or not function and not old.startswith("use "):
+            if not function and not old.startswith("use "):
                 self.is_alone = True  # others may see what it changes
         self.functions = list(found.values())
         if self.function and self.function not in [it.name for it in self.functions]:

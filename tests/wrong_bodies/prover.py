@@ -121,19 +121,12 @@ def link_or_copy(source, target):
         shutil.copy2(source, target)
 
 
-def copy_kept(source, target):
-    """Copies a folder of kept work. A check puts a new file in the place of what it proved, and writes into none of these."""
-    shutil.copytree(source, target, copy_function=lambda one, other: (link_or_copy if one.endswith(".oantt") else shutil.copy2)(one, other))
-
-
 class Room:
-    """A folder with a copy of the crate and of what stands below it, with what their proofs left."""
+    """A folder with a copy of the crate and of what stands below it, with the libraries that the proofs of those left."""
 
     def __init__(self, crate, below, top):
-        self.crate, self.folder, kept = crate.name, pathlib.Path(top) / "crates" / crate.path, crate.folder / "out/incremental"
+        self.crate, self.folder = crate.name, pathlib.Path(top) / "crates" / crate.path
         (self.folder / "out").mkdir(parents=True)
-        if kept.is_dir():
-            copy_kept(kept, self.folder / "out/incremental")
         (pathlib.Path(top) / "crates.txt").write_text("".join(f"{it.line}\n" for it in [*below, crate]))
         for it in below:
             for part in (*PARTS, "out/rlib"):

@@ -102,8 +102,6 @@ def test_kept(tally, top):
     source = "\n".join(f"fn f{it}()\n    ensures {{ a }}\n{{\n    right_{it}\n}}\n" for it in "abc")
     for name in ("low", "high"):
         (top / "crates" / name / "src").mkdir(parents=True)
-        (top / "crates" / name / "out/incremental").mkdir(parents=True)
-        (top / "crates" / name / "out/incremental/kept").write_text("")
         (top / "crates" / name / "src/lib.rt").write_text(source)
     (top / "crates.txt").write_text("low:\nhigh: low\n")
     edits = top / "tests/wrong_bodies/high"

@@ -20,7 +20,6 @@ class Function(typing.NamedTuple):
     unit: str
     first: int
     last: int
-    is_shown: bool  # has a contract, so that no other function's proof looks into its body
     is_called_unnamed: bool  # a trait's method, or one that calls itself: a copy of it would be another function
 
     def named(self, name):
@@ -105,10 +104,9 @@ def functions_of(path, text, homes):
         name = joined(owner or module, head[2])
         cycle = CYCLE.search("\n".join(lines[first:number]))
         unit = joined(module, "+" + cycle[1]) if cycle else name
-        is_shown = of_trait or "ensures" in "\n".join(lines[number:last])
         opens = next((it for it in range(number, last) if lines[it].strip() == "{"), number)
         calls_itself = cycle or head[2] in called_in("\n".join(lines[opens + 1:last]))
-        found.append(Function(name, unit, first, last, is_shown, bool(of_trait or calls_itself)))
+        found.append(Function(name, unit, first, last, bool(of_trait or calls_itself)))
     return found
 
 
