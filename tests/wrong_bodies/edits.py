@@ -141,12 +141,14 @@ def unoffered(texts, edits):
 def given(texts, crate, edits):
     """The planted texts in which each function that need not be refused has an empty body and a hole for a proof: the verdict on a
     function rests on the contracts of what it calls, and whether those are met is another check's matter."""
-    functions = all_functions(texts)
+    functions, behind = all_functions(texts), {}
     tried = {functions[name][1].unit for edit in edits for name in edit.names() if name in functions}
     root, proofs = "proofs/Lib.antt", f"Rattle.{crate}.proofs."
     texts = {**texts, "proofs/Anything.antt": HOLE, root: texts.get(root, "") + "\npub mod Anything\n"}
     for name, (path, function) in reversed(functions.items()):
-        if function.unit not in tried:
+        is_apart = function.last < behind.get(path, function.last + 1)  # an edit may put a function on the line of another
+        behind[path] = function.first
+        if is_apart and function.unit not in tried:
             texts[path], own = hollow(texts[path], function), own_name(name)
             for unit in (function.unit, joined(module_of(path), f"+{own}")):  # the latter where it calls itself alone
                 for file in ("Answers", "Invariants"):
