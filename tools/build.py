@@ -189,10 +189,12 @@ def run_tests(crates, names):
 
 def gate_of_toolchain(crates):
     """Runs `rt ci`, which proves all crates from nothing and builds the programs; builds the library for C over the libraries that
-    it leaves; and writes down what these were built from."""
+    it leaves; and writes down what these were built from. Each proof gets one job, since another would load what stands below
+    once more: that takes less of the processors, and more of the clock where the longest chain runs alone."""
     with alone():
         products = {name: Product(crates, name) for name, crate in crates.items() if crate.is_product}
-        status = subprocess.run(["rt", "ci"], cwd=TOP, stdin=subprocess.DEVNULL).returncode
+        settings = {**os.environ, "RT_JOBS": str(lanes.width())}
+        status = subprocess.run(["rt", "ci"], cwd=TOP, stdin=subprocess.DEVNULL, env=settings).returncode
         if not status:
             prove(crates, [name for name in products if not crates[name].is_program])
             for it in products.values():

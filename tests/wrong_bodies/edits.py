@@ -2,7 +2,8 @@
 
 import re
 
-from source import all_functions, constant_at, function_at, functions_of, hollow, homes_of, joined, module_of, own_name, with_one_clause
+from source import (CYCLE, REQUIRES, all_functions, constant_at, function_at, functions_of, hollow, homes_of, joined, module_of,
+                    outside_its_cycle, own_name, with_one_clause)
 
 UNOFFERED = "\npub unoffered : Unoffered\nunoffered = Unoffered\n"  # fits nothing
 HOLE = "pub anything {ℓ} : {A : Type ℓ} → A\nanything = ?\n"  # stands for each proof that a check takes as given
@@ -77,8 +78,9 @@ class Edit:
     def copied(self, texts, number):
         """Plants the edit in a copy of its function that stands behind it, under a name with this number, so that any number
         of edits of one function can be tried side by side; one of a constant in a copy of the constant, for a copy of the function
-        that must be refused. It stays in its place where that would not do: in the method of a trait, in a function that calls
-        itself or has a proof of its own, where it changes more than one function, and where the function does not name the constant."""
+        that must be refused. A copy of a function in a cycle of calls is in none, since it calls the right ones. The edit stays in
+        its place where a copy would not do: in the method of a trait, in a function that has a proof of its own, where it changes
+        more than one function, and where the function does not name the constant."""
         if len(self.functions) == 1 and not self.is_alone and self.function in (None, self.functions[0].name):
             self.copy(texts, number, self.pairs[0][0], self.functions[0], [(old, new) for _, old, new in self.pairs])
         elif len(self.pairs) == 1 and not self.functions:
@@ -94,20 +96,23 @@ class Edit:
     def copy(self, texts, number, path, function, pairs, beside=()):
         """Plants a copy of a function in which each first text of these pairs has become the second, and other pairs beside it, where a
         copy can be made."""
-        folder, name = proof_folder(function.unit), f"{own_name(function.name)}_copy_{number}"
-        body = "\n".join(texts[path].split("\n")[function.first:function.last + 1])
-        if function.is_called_unnamed or f"{folder}/Proof.antt" in texts or any(old not in body for old, _ in pairs):
+        own, body = own_name(function.name), "\n".join(texts[path].split("\n")[function.first:function.last + 1])
+        folders = function.proof_folders()
+        if function.is_of_trait or any(f"{it}/Proof.antt" in texts for it in folders) or any(old not in body for old, _ in pairs):
             return
-        copy = body
+        copy, copied = CYCLE.sub("", body), function.named(f"{own}_copy_{number}")
         for old, new in pairs:
             copy = copy.replace(old, new)
-        copy = re.sub(rf"\bfn {own_name(function.name)}\b", f"fn {name}", copy, count=1)
-        self.pairs = [*beside, (path, body, f"{body}\n\n{copy}")]
-        self.functions = [function.named(name)]
+        copy = re.sub(rf"\bfn {own}\b", f"fn {own_name(copied.name)}", copy, count=1)
+        self.pairs, self.functions = [*beside, (path, body, f"{body}\n\n{copy}")], [copied]
         self.function, self.is_alone, self.is_copied = None, False, True
-        for file in [it for it in texts if it.startswith(f"{folder}/")]:
-            mine = texts[file].replace(dotted(folder), dotted(proof_folder(self.functions[0].unit)))
-            self.added[proof_folder(self.functions[0].unit) + file.removeprefix(folder)] = mine
+        members = {own_name(name): REQUIRES.findall("\n".join(texts[place].split("\n")[it.first:it.last]))
+                   for name, (place, it) in all_functions(texts).items() if it.unit == function.unit}
+        for folder in folders:
+            for file in [it for it in texts if it.startswith(f"{folder}/")]:
+                mine = texts[file].replace(dotted(folder), dotted(proof_folder(copied.unit)))
+                mine = outside_its_cycle(mine, own, members) if "/+" in folder else mine
+                self.added[proof_folder(copied.unit) + file.removeprefix(folder)] = mine
 
     def names(self):
         """The functions that have to be checked, or none where those are that rest on what is changed."""

@@ -11,9 +11,10 @@ the whole contract.
 
 The verdict on a function rests on its own body and on the contracts of what it calls. So nearly all wrong bodies of a
 crate are tried in one check of a copy of the crate, a round, each in a copy of its function beside the right one, where
-all other functions have an empty body and a hole for a proof. A method of a trait and a function that calls itself are
-changed in their place, and hold one in a round. A wrong body counts as refused where a goal of its own function stays
-open, and not because a proof file no longer fits. What is not refused in its round is tried alone, in the crate as it is.
+all other functions have an empty body and a hole for a proof. The copy of a function in a cycle of calls calls the right
+ones, so that it is in none. A method of a trait is changed in its place, and holds one in a round. A wrong body counts as
+refused where a goal of its own function stays open, and not because a proof file no longer fits. What is not refused in
+its round is tried alone, in the crate as it is.
 What others may see, and no named function is refused for, has a round of its own. A round also holds a change that is
 right, which must be proved.
 

@@ -156,10 +156,18 @@ fn low(a: u8) -> u8
 
 #[cycle(again)]
 fn again(a: u8) -> u8
+    requires low { a ≤ 9 }
     ensures small { result ≤ a }
     ensures whole { result ≡ a }
 {
     if a == 0 { 0 } else { again(a) }
+}
+
+#[cycle(again)]
+fn beside(a: u8) -> u8
+    ensures whole { result ≡ a }
+{
+    again(a)
 }
 
 impl Other for u8 {
@@ -186,16 +194,45 @@ returns-clause-last c = three
 """,
 }
 
+SMALL["proofs/+again/Answers.antt"] = """use Rattle.small.proofs.+again.Goals as goal
+
+pub again-returns-then-again-clause-whole : goal.again-returns-then-again-clause-whole
+again-returns-then-again-clause-whole t c = one
+
+pub again-again-requires : goal.again-again-requires
+again-again-requires t c = (two, three)
+
+pub beside-returns-clause-whole : goal.beside-returns-clause-whole
+beside-returns-clause-whole t c = four
+"""
+SMALL["proofs/+again/Invariants.antt"] = """abbrev pub decreases-again : goal.decreases-again
+decreases-again l = l.a
+
+abbrev pub invariant-again-loop : goal.invariant-again-loop
+invariant-again-loop l = five
+"""
+OUTSIDE = ["""use Rattle.small.proofs.Anything.{anything}
+use Rattle.small.proofs.again_copy_7.Goals as goal
+
+pub returns-then-again-clause-whole : goal.returns-then-again-clause-whole
+returns-then-again-clause-whole c = one
+
+pub again-requires-clause-low : goal.again-requires-clause-low
+again-requires-clause-low c = anything
+""", """abbrev pub invariant-loop : goal.invariant-loop
+invariant-loop l = five
+"""]
+
 
 def test_narrowing(tally, _):
     """An edit is planted in a copy of its function, whose contract keeps the clause that the edit names beside one that says nothing.
-    The method of a trait and a function that calls itself are changed in their place."""
-    every = {"top": ["small", "whole", "last"]} | {it: ["small", "whole"] for it in ("low", "again", "other")}
+    A copy of a function in a cycle is outside it. The method of a trait is changed in its place."""
+    every = {"top": ["small", "whole", "last"], "beside": ["whole"]} | {it: ["small", "whole"] for it in ("low", "again", "other")}
     for name, old, clause, kept in [
         ("top", "low(a)\n", "whole", {"top_copy_7": ["whole", "says_nothing"]}),
         ("low", "    a +", "small", {"low_copy_7": ["small", "says_nothing"]}),
         ("low", "    a +", "unknown", {"low_copy_7": ["small", "whole"]}),
-        ("again", "{ again(a) }", "whole", {}),
+        ("again", "{ again(a) }", "whole", {"again_copy_7": ["whole", "says_nothing"]}),
         ("other", "*self", "whole", {}),
     ]:
         edit = Edit(name, f"clause: {clause}\nfile: src/lib.rt\n")
@@ -210,6 +247,10 @@ def test_narrowing(tally, _):
             left = re.findall(r"^(?:pub )?(returns\S*)", answers, re.M)
             tally.check("answers for the clause alone", left == ["returns-then-clause-whole"] * 2, left)
             tally.check("answers of the copy", ".proofs.top_copy_7.Goals" in answers and "proofs.top.Goals" in texts["proofs/top/Answers.antt"], answers)
+        if name == "again":
+            tally.check("a copy outside its cycle", texts["src/lib.rt"].count("#[cycle(again)]") == 2, texts["src/lib.rt"])
+            files = [texts[f"proofs/again_copy_7/{it}.antt"] for it in ("Answers", "Invariants")]
+            tally.check("and its proof files", files == OUTSIDE, files)
 
 
 def test_copies(tally, _):
@@ -221,9 +262,9 @@ def test_copies(tally, _):
     text, holes = texts["src/lib.rt"], sorted(it for it in texts if it.endswith("/Proof.antt"))
     tally.check("a copy of the constant", "0;\n\npub const MORE_COPY_7: u8 =\n    1;\n" in text, text)
     tally.check("which a copy of the function names", text.count("    a + MORE_COPY_7\n") == 1 and "a + MORE\n" not in text, text)
-    tally.check("the others are empty", text.count("{\n    loop {}\n}") == 3 and text.count("    {\n        loop {}\n    }") == 1, text)
+    tally.check("the others are empty", text.count("{\n    loop {}\n}") == 4 and text.count("    {\n        loop {}\n    }") == 1, text)
     tally.check("and call nothing", "again(" not in text.replace("fn again(", "") and "#[cycle" not in text, text)
-    tally.check("a hole for each", holes == [f"proofs/{it}/Proof.antt" for it in ("again", "low", "top", "u8Other/other")], holes)
+    tally.check("a hole for each", holes == [f"proofs/{it}/Proof.antt" for it in ("again", "beside", "low", "top", "u8Other/other")], holes)
     tally.check("and no answers", "proofs/top/Answers.antt" not in texts, [*texts])
 
 

@@ -4,6 +4,7 @@ import re
 import typing
 
 CLAUSE = re.compile(r" *ensures (\w+) \{")
+REQUIRES = re.compile(r"^ *requires(?: (\w+))? \{", re.MULTILINE)
 HEAD = re.compile(r"( *)(?:pub(?:\([^)]*\))? )?(?:const |unsafe |extern \"C\" )*fn (\w+)")
 CONSTANT = re.compile(r"(?:pub(?:\([^)]*\))? )?const (\w+):")
 TYPE = re.compile(r"^(?:pub(?:\([^)]*\))? )?(?:struct|enum) (\w+)", re.MULTILINE)
@@ -20,12 +21,18 @@ class Function(typing.NamedTuple):
     unit: str
     first: int
     last: int
-    is_called_unnamed: bool  # a trait's method, or one that calls itself: a copy of it would be another function
+    is_of_trait: bool
+    is_recursive: bool  # it stands in a cycle of calls, or calls itself
 
     def named(self, name):
-        """The function under another name of its own."""
+        """The function under another name of its own, which nothing calls."""
         full = joined(self.name.rpartition("::")[0], name)
-        return self._replace(name=full, unit=full)
+        return self._replace(name=full, unit=full, is_recursive=False)
+
+    def proof_folders(self):
+        """Where the proof files of the function or of its cycle may stand."""
+        alone = joined(self.name.rpartition("::")[0], f"+{own_name(self.name)}")
+        return [f"proofs/{it.replace('::', '/')}" for it in dict.fromkeys((self.unit, alone))]
 
 
 def module_of(path):
@@ -106,7 +113,7 @@ def functions_of(path, text, homes):
         unit = joined(module, "+" + cycle[1]) if cycle else name
         opens = next((it for it in range(number, last) if lines[it].strip() == "{"), number)
         calls_itself = cycle or head[2] in called_in("\n".join(lines[opens + 1:last]))
-        found.append(Function(name, unit, first, last, bool(of_trait or calls_itself)))
+        found.append(Function(name, unit, first, last, of_trait, bool(calls_itself)))
     return found
 
 
@@ -156,7 +163,7 @@ def with_one_clause(texts, name, clause):
     that says nothing, and its proof file what does not answer for the others; None where it has no such clause, or no
     other. A clause that stands alone would give its goals other names, and no answer would fit."""
     path, function = all_functions(texts).get(name, (None, None))
-    if not function or function.is_called_unnamed:
+    if not function or function.is_of_trait or function.is_recursive:
         return None
     lines, kept, removed, depth = texts[path].split("\n"), [], set(), 0
     opens = next((it for it in range(function.first, function.last) if lines[it].strip() == "{"), function.first)
@@ -178,13 +185,39 @@ def with_one_clause(texts, name, clause):
     return texts
 
 
-def without_answers(text, clauses):
-    """A proof file without the answers to the goals of these clauses."""
-    kept, is_removed = [], False
+def with_items(text, is_kept):
+    """A proof file with the items alone whose names pass."""
+    kept, is_in = [], True
     for line in text.split("\n"):
-        found = re.match(r"(?:pub )?([^\W\d][^\s:]*)(?: |$)", line)
+        found = re.match(r"(?!unfolding )(?:abbrev )?(?:pub )?([^\W\d][^\s:]*)(?: |$)", line)
         if found:
-            is_removed = found[1].rpartition("-clause-")[2] in clauses and "-clause-" in found[1]
-        if not is_removed:
+            is_in = is_kept(found[1])
+        if is_in:
             kept.append(line)
     return "\n".join(kept)
+
+
+def without_answers(text, clauses):
+    """A proof file without the answers to the goals of these clauses."""
+    return with_items(text, lambda name: "-clause-" not in name or name.rpartition("-clause-")[2] not in clauses)
+
+
+def outside_its_cycle(text, own, members):
+    """What a proof file of a cycle says of one of its functions, as a proof file of a function that is in no cycle: the names of its
+    goals then begin with no function, and an answer is not given the cycle's theorem. What a call in the cycle requires is another
+    goal, of which nothing is asked. The members are the names of the cycle's functions, each with those of its `requires`."""
+    asked = []
+
+    def is_kept(name):
+        kind, _, goal = name.partition("-")
+        owner, _, goal = goal.partition("-") if kind in ("decreases", "invariant") else (kind, "", goal)
+        call = re.fullmatch(rf"({'|'.join(members)})-requires(.*)", goal)
+        if call and owner == own:
+            asked.extend(dict.fromkeys(f"{goal}-clause-{it}" if it else goal for it in members[call[1]]))
+        return owner not in members or owner == own and bool(goal) and not call
+
+    text = re.sub(rf"(?m)^({own}-\S+(?: g)?) t c\b", r"\1 c", with_items(text, is_kept))
+    text = re.sub(rf"(?m)(^|(?<=pub )|(?<=goal\.))(decreases-|invariant-)?{own}-", r"\2", text)
+    answers = [f"\npub {it} : goal.{it}\n{it} c = anything\n" for it in dict.fromkeys(asked)]
+    start = re.search(r"use (Rattle\.\w+\.proofs\.)", text)
+    return f"use {start[1]}Anything.{{anything}}\n{text}{''.join(answers)}" if answers else text
